@@ -1,0 +1,4 @@
+pub mod Integers
+pub mod Fields
+pub mod FlatTable
+pub mod Merge

@@ -1,0 +1,130 @@
+-- Sites that take texts and pass their states on. A world is told by sets of pieces: which texts and which foreign
+-- states each site has accepted, directly or inside the states that it took, and which each message was made of. A
+-- list of pieces stands for the set of its members.
+use Rattle.std.specs.Prelude.{◌≡◌, ◌↔◌, ◌⊎◌, ℕ, ◌<◌, List, [], ◌∷◌, ◌++◌, length, replicate, slice_get, slice_set, unwrap_or}
+use Rattle.cue_lattice.specs.declared.refusal.Refusal.{Refusal}
+use Rattle.cue_lattice.specs.Refusal.{memory}
+use Rattle.cue_lattice.specs.OneOf.{OneOf}
+use Rattle.cue_lattice.specs.Question.{Refusals, OneRefuses, SameAnswers}
+
+-- What a site can accept from outside: a text, or state bytes that no site of the world sent. The same text twice is
+-- one piece.
+pub data Piece : Type 0 where
+  text : List ℕ → Piece
+  state : List ℕ → Piece
+
+-- What a language and a format of states make of texts and bytes.
+pub record Meaning : Type 1 where
+  pub IsLegal : List ℕ → Type 0  -- the text is one of the language
+  pub text_refuses : List ℕ → Refusals  -- what a legal text refuses
+  pub IsTextFault : List ℕ → Refusal → Type 0  -- why a text that is not legal may be refused
+  pub IsState : List ℕ → Type 0  -- the bytes are those of a table
+  pub state_refuses : List ℕ → Refusals  -- what that table refuses
+  pub IsStateFault : List ℕ → Refusal → Type 0  -- why other bytes may be refused
+
+-- what a piece refuses
+abbrev pub piece_refuses : Meaning → Piece → Refusals
+piece_refuses m (text t) = m.text_refuses t
+piece_refuses m (state b) = m.state_refuses b
+
+-- what a set of pieces refuses: what one of them refuses
+abbrev pub pieces_refuse : Meaning → List Piece → Refusals
+pieces_refuse m = OneRefuses (piece_refuses m)
+
+-- the piece is in the set
+abbrev pub Has : List Piece → Piece → Type 0
+Has pieces piece = OneOf (λ member. member ≡ piece) pieces
+
+-- one set of pieces, in whatever order and however often they came
+abbrev pub SamePieces : List Piece → List Piece → Type 0
+SamePieces a b = (piece : Piece) → Has a piece ↔ Has b piece
+
+-- one whole call on one site
+pub data Event : Type 0 where
+  submit : (site : ℕ) (t : List ℕ) → Event  -- a text is handed in
+  send : (site : ℕ) → Event  -- the site's state becomes the next message
+  deliver : (site message : ℕ) → Event  -- the site takes a message: late, again, in any order, or never
+  foreign : (site : ℕ) (bytes : List ℕ) → Event  -- the site is handed bytes from outside
+
+pub data Outcome : Type 0 where
+  accepted : Outcome
+  sent : ℕ → Outcome  -- the number of the message
+  refused : Refusal → Outcome
+  no_such : Outcome  -- there is no such site or message
+
+-- the set of each site and of each message
+pub record Sets : Type 0 where
+  pub sites : List (List Piece)
+  pub messages : List (List Piece)
+
+-- at the start each site has accepted nothing, and there is no message
+abbrev pub start : ℕ → Sets
+start sites = record { sites = replicate sites []; messages = [] }
+
+-- the set of a site, and of a message
+abbrev pub pieces_at : List (List Piece) → ℕ → List Piece
+pieces_at sets number = unwrap_or (slice_get sets number) []
+
+-- a site accepts more pieces
+abbrev pub add : Sets → ℕ → List Piece → Sets
+add sets site pieces =
+    record { sites = slice_set sets.sites site (pieces_at sets.sites site ++ pieces); messages = sets.messages }
+
+-- the sets after an event with this outcome
+abbrev pub after : Sets → Event → Outcome → Sets
+after sets (submit site t) accepted = add sets site (text t ∷ [])
+after sets (send site) (sent number) =
+    record { sites = sets.sites; messages = sets.messages ++ pieces_at sets.sites site ∷ [] }
+after sets (deliver site message) accepted = add sets site (pieces_at sets.messages message)
+after sets (foreign site bytes) accepted = add sets site (state bytes ∷ [])
+after sets event outcome = sets
+
+-- the sets after a whole list of events
+abbrev pub reach : Sets → List Event → List Outcome → Sets
+reach sets [] outcomes = sets
+reach sets (event ∷ events) [] = sets
+reach sets (event ∷ events) (outcome ∷ outcomes) = reach (after sets event outcome) events outcomes
+
+-- the site and the message that an event names are there
+abbrev pub IsThere : Sets → Event → Type 0
+IsThere sets (submit site t) = site < length sets.sites
+IsThere sets (send site) = site < length sets.sites
+IsThere sets (deliver site message) = (site < length sets.sites) × (message < length sets.messages)
+IsThere sets (foreign site bytes) = site < length sets.sites
+
+-- What an event may come to where they are there and memory suffices. A site's own message is never refused.
+abbrev pub IsAnswer : Meaning → Sets → Event → Outcome → Type 0
+IsAnswer m sets (submit site t) accepted = m.IsLegal t
+IsAnswer m sets (submit site t) (refused why) = m.IsTextFault t why
+IsAnswer m sets (send site) (sent number) = number ≡ length sets.messages
+IsAnswer m sets (deliver site message) accepted = Unit {0}
+IsAnswer m sets (foreign site bytes) accepted = m.IsState bytes
+IsAnswer m sets (foreign site bytes) (refused why) = m.IsStateFault bytes why
+IsAnswer m sets event outcome = ⊥
+
+-- what an event may come to
+abbrev pub IsOutcome : Meaning → Sets → Event → Outcome → Type 0
+IsOutcome m sets event outcome =
+    (IsThere sets event × (IsAnswer m sets event outcome ⊎ (outcome ≡ refused memory)))
+    ⊎ ((IsThere sets event → ⊥) × (outcome ≡ no_such))
+
+-- each event has one outcome, and one that it may have at its moment
+abbrev pub AreOutcomes : Meaning → Sets → List Event → List Outcome → Type 0
+AreOutcomes m sets [] [] = Unit {0}
+AreOutcomes m sets (event ∷ events) (outcome ∷ outcomes) =
+    IsOutcome m sets event outcome × AreOutcomes m (after sets event outcome) events outcomes
+AreOutcomes m sets events outcomes = ⊥
+
+-- R holds of each two elements at one place, and there are as many of the one as of the other
+abbrev pub AllAlong : {X Y : Type 0} → (X → Y → Type 0) → List X → List Y → Type 0
+AllAlong R [] [] = Unit {0}
+AllAlong R (x ∷ xs) (y ∷ ys) = R x y × AllAlong R xs ys
+AllAlong R xs ys = ⊥
+
+-- a site's state is the unification of exactly these pieces
+abbrev pub IsUnified : Meaning → Refusals → List Piece → Type 0
+IsUnified m refuses pieces = SameAnswers refuses (pieces_refuse m pieces)
+
+-- a message has the state bytes of the table that is the unification of exactly these pieces
+abbrev pub IsMessageOf : Meaning → List ℕ → List Piece → Type 0
+IsMessageOf m bytes pieces = m.IsState bytes × IsUnified m (m.state_refuses bytes) pieces

@@ -1,0 +1,20 @@
+//! The words that every layer of the configuration store speaks: what a refusal is, what may be unified, and what
+//! it means that something refuses a question.
+//!
+//! The definitions of the whole store's meaning stand in `specs/`: scalars, documents, paths, questions, pieces and
+//! worlds.
+#![tactic(auto)]
+
+mod memory;
+mod narrow;
+mod pair;
+mod refusal;
+mod scalar;
+mod text;
+
+pub use memory::Memory;
+pub use narrow::{Narrow, meet_all};
+pub use pair::{Pair, Side};
+pub use refusal::{Form, Kind, Refusal};
+pub use scalar::Scalar;
+pub use text::Text;
