@@ -70,6 +70,7 @@ impl FlatTable {
     pub fn meet_with(&mut self, alloc: Global, other: FlatTable) -> Result<(), Memory>
         ensures ok { OnOk result (IsMet self.old other self.new) }
         ensures err { OnErr result (self.new ≡ self.old) }
+        ensures valid { IsTable self.old → IsTable self.new }
     {
         let FlatTable { root } = other;
         let Some(right) = root else {

@@ -1,0 +1,5 @@
+pub mod Bytes
+pub mod RowParts
+pub mod RowLaws
+pub mod StateLaws
+pub mod Appends

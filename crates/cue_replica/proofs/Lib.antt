@@ -1,0 +1,4 @@
+pub mod Adding
+pub mod Along
+pub mod Events
+pub mod Runs

@@ -1,0 +1,5 @@
+use Rattle.std.proofs.Common.{◌≡◌, None, replicate}
+use Rattle.cue_replica.proofs.history.opening.Given as goal
+
+abbrev pub invariant-loop : goal.invariant-loop
+invariant-loop l = l.replicas.items ≡ replicate l.counter None

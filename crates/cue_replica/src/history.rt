@@ -1,0 +1,130 @@
+ghost use Rattle.std.specs.Prelude.{◌≡◌, ◌<◌, map, replicate, None, IfOk, vec_len, vec_capacity};
+ghost use Rattle.cue_lattice.specs.World.{Sets, AreOutcomes, AllAlong, IsUnified, start};
+ghost use Rattle.cue_flat.specs.FlatTable.{table_refuses};
+ghost use Rattle.cue_replica.specs.Flat.{flat};
+ghost use Rattle.cue_replica.specs.World.{HappensAt, Submits, Takes, Sends, Delivers, KeepsRoom, Agrees, Happens, event_of, outcome_of, reached, IsSentOf, AreEqualSites};
+
+use crate::{Event, Outcome, Replica, World};
+use cue_lattice::{Memory, Refusal};
+use std::alloc::Global;
+
+/// Hands a text to a site.
+fn submit_at(replicas: &mut [Replica], site: usize, text: &str) -> Outcome
+    ensures { HappensAt (Submits text.now) replicas.old site replicas.new result }
+{
+    if site >= replicas.len() {
+        return Outcome::NoSuch;
+    }
+    match replicas[site].submit(text) {
+        Ok(()) => Outcome::Accepted,
+        Err(why) => Outcome::Refused(why),
+    }
+}
+
+/// Hands state bytes to a site.
+fn take_at(replicas: &mut [Replica], site: usize, bytes: &[u8]) -> Outcome
+    ensures { HappensAt (Takes bytes.now) replicas.old site replicas.new result }
+{
+    if site >= replicas.len() {
+        return Outcome::NoSuch;
+    }
+    match replicas[site].take(bytes) {
+        Ok(()) => Outcome::Accepted,
+        Err(why) => Outcome::Refused(why),
+    }
+}
+/// Makes a site's state the next message.
+fn send_from(alloc: Global, replicas: &[Replica], site: usize, messages: &mut Vec<Vec<u8>>) -> Outcome
+    requires room { vec_len messages.old < vec_capacity messages.old }
+    ensures sends { Sends replicas.now site messages.old.items messages.new.items result }
+    ensures keeps { KeepsRoom messages.old messages.new }
+{
+    if site >= replicas.len() {
+        return Outcome::NoSuch;
+    }
+    let bytes = match replicas[site].state(alloc) {
+        Ok(bytes) => bytes,
+        Err(memory) => return Outcome::Refused(Refusal::from(memory)),
+    };
+    let number = messages.len();
+    messages.push(bytes).unwrap();
+    Outcome::Sent(number)
+}
+
+/// Hands a message to a site.
+fn deliver_to(replicas: &mut [Replica], site: usize, messages: &[Vec<u8>], message: usize) -> Outcome
+    ensures { Delivers messages.now message replicas.old site replicas.new result }
+{
+    if message >= messages.len() {
+        return Outcome::NoSuch;
+    }
+    take_at(replicas, site, messages[message].as_slice())
+}
+
+/// What one event does to the sites and the messages, and what it comes to.
+fn happen(
+    alloc: Global,
+    replicas: &mut [Replica],
+    messages: &mut Vec<Vec<u8>>,
+    event: &Event,
+) -> Outcome
+    requires room { vec_len messages.old < vec_capacity messages.old }
+    ensures happens { (sets : Sets) → Agrees replicas.old messages.old.items sets
+        → Happens replicas.old messages.old.items event.now replicas.new messages.new.items result sets }
+    ensures keeps { KeepsRoom messages.old messages.new }
+{
+    match event {
+        Event::Submit { site, text } => submit_at(replicas, *site, text.as_str()),
+        Event::Send { site } => send_from(alloc, replicas, *site, messages),
+        Event::Deliver { site, message } => deliver_to(replicas, *site, messages, *message),
+        Event::Foreign { site, bytes } => take_at(replicas, *site, bytes.as_slice()),
+    }
+}
+
+/// A world of new sites.
+fn opening(alloc: Global, sites: usize) -> Result<Vec<Replica>, Memory>
+    ensures { IfOk result (λ replicas. replicas.items ≡ replicate sites None) }
+{
+    let mut replicas = Vec::with_capacity(alloc, sites)?;
+    for _ in 0..sites {
+        replicas.push(Replica::new(alloc))?;
+    }
+    Ok(replicas)
+}
+
+/// What a list of events comes to among this many new sites, whatever the events are: texts handed in, states sent,
+/// messages delivered late, repeatedly, out of order or never, and bytes from outside.
+///
+/// An event that finds no memory is refused and changes nothing. `Memory` is answered, and no world, only where the
+/// lists of the world couldn't be made.
+pub fn run(alloc: Global, sites: usize, events: &[Event]) -> Result<World, Memory>
+    // Each event has an outcome that the definition of a world allows at its moment.
+    ensures outcomes { IfOk result (λ world.
+        AreOutcomes flat (start sites) (map event_of events.now) (map outcome_of world.outcomes.items)) }
+
+    // Each site's table refuses a question at a path exactly where a piece does that the site has accepted.
+    ensures unified { IfOk result (λ world.
+        AllAlong (λ replica pieces. IsUnified flat (table_refuses replica) pieces)
+        world.replicas.items (reached sites events.now world.outcomes.items).sites) }
+
+    // Each message has the state bytes of its sender's table of the moment when it was sent.
+    ensures messages { IfOk result (λ world.
+        AllAlong IsSentOf world.messages.items (reached sites events.now world.outcomes.items).messages) }
+
+    // Sites with the same set of pieces hold equal tables, and so give the same bytes, export and conflicts.
+    ensures equal { IfOk result (λ world.
+        AreEqualSites world.replicas.items (reached sites events.now world.outcomes.items).sites) }
+{
+    let mut replicas = opening(alloc, sites)?;
+    let mut messages = Vec::with_capacity(alloc, events.len())?;
+    let mut outcomes = Vec::with_capacity(alloc, events.len())?;
+    for event in events {
+        let outcome = happen(alloc, &mut replicas, &mut messages, event);
+        outcomes.push(outcome).unwrap();
+    }
+    Ok(World {
+        replicas,
+        messages,
+        outcomes,
+    })
+}

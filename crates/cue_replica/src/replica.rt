@@ -1,0 +1,110 @@
+ghost use Rattle.std.specs.Prelude.{◌≡◌, ◌⊎◌, ◌↔◌, IsTrue, IfOk, IfErr, OnOk, OnErr, None};
+ghost use Rattle.cue_lattice.specs.Refusal.{memory};
+ghost use Rattle.cue_flat.specs.FlatTable.{IsTable};
+ghost use Rattle.cue_flat_text.specs.Fragment as fragment;
+ghost use Rattle.cue_flat_codec.specs.State as state;
+ghost use Rattle.cue_flat_report.specs.Export.{IsExport};
+
+use cue_flat::FlatTable;
+use cue_flat_codec::{decode, encode};
+use cue_flat_report::Export;
+use cue_flat_text::read;
+use cue_lattice::{Memory, Refusal};
+use std::alloc::Global;
+use std::marker::Model;
+
+/// A site: it holds one table, the unification of all that it has accepted.
+///
+/// Contracts see it as that table, so that two sites with equal tables give the same answer to each call.
+#[derive(Debug, Drop)]
+pub struct Replica {
+    table: FlatTable,
+    alloc: Global,
+}
+
+impl Model for Replica {
+    ghost use Rattle.cue_flat.specs.FlatTable.{Table};
+
+    ghost Value = { Table };
+
+    ghost view = { λ replica. replica.table };
+}
+
+impl Replica {
+    ghost use Rattle.cue_replica.specs.Replica.{Adds};
+
+    /// A site that has accepted nothing.
+    pub fn new(alloc: Global) -> Replica
+        ensures { result ≡ None }
+    {
+        Replica {
+            table: FlatTable::free(),
+            alloc,
+        }
+    }
+
+    /// Accepts a text: the table then refuses what it refused and what the text refuses. A refused text changes
+    /// nothing.
+    ///
+    /// Refusals: `TooLong`, `Syntax`, `TooLarge`, `Memory`, looked for in this order.
+    pub fn submit(&mut self, text: &str) -> Result<(), Refusal>
+        ensures legal { OnOk result (fragment.IsLegal text.now) }
+        ensures ok { OnOk result (Adds self.old (fragment.fragment_refuses text.now) self.new) }
+        ensures refused { IfErr result (λ why. (why ≡ memory) ⊎ fragment.IsFault text.now why) }
+        ensures err { OnErr result (self.new ≡ self.old) }
+        ensures valid { IsTable self.old → IsTable self.new }
+    {
+        let table = read(self.alloc, text)?;
+        self.table.meet_with(self.alloc, table)?;
+        Ok(())
+    }
+
+    /// Accepts state bytes: the table then refuses what it refused and what the table of the bytes refuses. Refused
+    /// bytes change nothing.
+    ///
+    /// Refusals, all at place 0: `Version`, `NotState`, `Memory`.
+    pub fn take(&mut self, bytes: &[u8]) -> Result<(), Refusal>
+        ensures state { OnOk result (state.IsState bytes.now) }
+        ensures ok { OnOk result (Adds self.old (state.state_refuses bytes.now) self.new) }
+        ensures refused { IfErr result (λ why. (why ≡ memory) ⊎ state.IsFault bytes.now why) }
+        ensures err { OnErr result (self.new ≡ self.old) }
+        ensures valid { IsTable self.old → IsTable self.new }
+    {
+        let table = match decode(self.alloc, bytes) {
+            Ok(table) => table,
+            Err(kind) => return Err(Refusal { kind, place: 0 }),
+        };
+        self.table.meet_with(self.alloc, table)?;
+        Ok(())
+    }
+
+    /// The state bytes of the table.
+    pub fn state(&self, alloc: Global) -> Result<Vec<u8>, Memory>
+        ensures { IfOk result (λ bytes. bytes.items ≡ state.state_bytes self.now) }
+    {
+        encode(alloc, &self.table)
+    }
+
+    /// The JSON of the configuration; or, where there are any, the conflicts; or else what is incomplete.
+    pub fn export(&self, alloc: Global) -> Result<Export, Memory>
+        ensures { IfOk result (λ export. IsExport self.now export) }
+    {
+        cue_flat_report::export(alloc, &self.table)
+    }
+
+    pub fn copy(&self, alloc: Global) -> Result<Replica, Memory>
+        ensures { IfOk result (λ copied. copied ≡ self.now) }
+    {
+        Ok(Replica {
+            table: self.table.copy(alloc)?,
+            alloc,
+        })
+    }
+
+    /// Whether both sites hold the same table.
+    pub fn same(&self, other: &Replica) -> bool
+        ensures { IsTrue result ↔ (self.now ≡ other.now) }
+    {
+        self.table.same(&other.table)
+    }
+}
