@@ -1,5 +1,5 @@
 -- What the export of a flat table is.
-use Rattle.std.specs.Prelude.{◌≡◌, ◌≢◌, [], Option, None, Some, string_bytes}
+use Rattle.std.specs.Prelude.{◌≡◌, ◌≢◌, [], None, Some, string_bytes}
 use Rattle.serde_json.specs.Written.{compact_text}
 use Rattle.cue_flat.specs.FlatTable.{Table}
 use Rattle.cue_flat_report.specs.declared.outcome.Export.{Export}

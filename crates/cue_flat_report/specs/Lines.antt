@@ -1,5 +1,5 @@
 -- The lines that tell what is in the way of an export.
-use Rattle.std.specs.Prelude.{ℕ, List, [], ◌∷◌, ◌++◌, Bool, true, false, codes, if◌then◌else◌}
+use Rattle.std.specs.Prelude.{ℕ, List, [], ◌∷◌, ◌++◌, Bool, true, false, codes}
 use Rattle.cue_lattice.specs.Path.{Path}
 use Rattle.cue_flat_report.specs.declared.conflict.Conflict.{Conflict}
 use Rattle.cue_flat_report.specs.declared.gap.Gap.{Gap}

@@ -1,5 +1,5 @@
 -- What is in the way of the export of a flat table, and the document that it exports.
-use Rattle.std.specs.Prelude.{List, [], ◌∷◌, Bool, true, false, Option, None, Some, map, filter}
+use Rattle.std.specs.Prelude.{List, [], ◌∷◌, Bool, true, false, None, Some, map, filter}
 use Rattle.cue_lattice.specs.Path.{label}
 use Rattle.serde_json.specs.Data.{Data, object, number, Members, no_members, member}
 use Rattle.serde_json.specs.Find.{of_integer}

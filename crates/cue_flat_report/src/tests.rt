@@ -6,6 +6,7 @@ use super::*;
 use cue_flat::{Field, FlatTable, Integers};
 use cue_lattice::{Memory, Text};
 use std::alloc::Global;
+use std::process::Abort;
 use std::test::Fail;
 
 /// A field, for the table of a test.
@@ -27,12 +28,6 @@ fn told(alloc: Global, table: &FlatTable) -> Result<String, Memory> {
         Export::Conflicts(found) => lines(alloc, &found, &[]),
         Export::Incomplete(gaps) => lines(alloc, &[], &gaps),
     }
-}
-
-/// The text of the path of one label.
-fn label_text(alloc: Global, label: &str) -> Result<String, Memory> {
-    let path = Path::of_field(alloc, &Text::from_str(alloc, label)?)?;
-    path_text(alloc, &path)
 }
 
 #[test]
@@ -186,38 +181,50 @@ fn the_steps_of_a_path(rt: HostRuntime) -> Result<(), Fail> {
     Ok(())
 }
 
+/// Each label has this path text.
+fn check_labels(rt: &impl Abort, alloc: Global, cases: &[(&str, &str)]) -> Result<(), Memory> {
+    for (label, expected) in cases {
+        let path = Path::of_field(alloc, &Text::from_str(alloc, label)?)?;
+        let text = path_text(alloc, &path)?;
+        assert!(rt; text.as_str() == *expected, "{text}");
+    }
+    Ok(())
+}
+
 #[test]
 fn bare_labels(rt: HostRuntime) -> Result<(), Fail> {
-    let alloc = rt.alloc();
-    assert_eq!(rt; label_text(alloc, "port")?.as_str(), "port");
-    assert_eq!(rt; label_text(alloc, "_x9Z")?.as_str(), "_x9Z");
-    assert_eq!(rt; label_text(alloc, "$")?.as_str(), "$");
+    let cases = [("port", "port"), ("_x9Z", "_x9Z"), ("$", "$")];
+    check_labels(&rt, rt.alloc(), &cases)?;
     Ok(())
 }
 
 #[test]
 fn quoted_labels(rt: HostRuntime) -> Result<(), Fail> {
-    let alloc = rt.alloc();
-    assert_eq!(rt; label_text(alloc, "")?.as_str(), "\"\"");
-    assert_eq!(rt; label_text(alloc, "1")?.as_str(), "\"1\"");
-    assert_eq!(rt; label_text(alloc, "9a")?.as_str(), "\"9a\"");
-    assert_eq!(rt; label_text(alloc, "b c")?.as_str(), "\"b c\"");
-    assert_eq!(rt; label_text(alloc, "a-b")?.as_str(), "\"a-b\"");
-    assert_eq!(rt; label_text(alloc, "#A")?.as_str(), "\"#A\"");
-    assert_eq!(rt; label_text(alloc, "a.b")?.as_str(), "\"a.b\"");
-    assert_eq!(rt; label_text(alloc, "é\u{1f600}")?.as_str(), "\"é\u{1f600}\"");
+    let cases = [
+        ("", r#""""#),
+        ("1", r#""1""#),
+        ("9a", r#""9a""#),
+        ("b c", r#""b c""#),
+        ("a-b", r#""a-b""#),
+        ("#A", r##""#A""##),
+        ("a.b", r#""a.b""#),
+        ("é\u{1f600}", "\"é\u{1f600}\""),
+    ];
+    check_labels(&rt, rt.alloc(), &cases)?;
     Ok(())
 }
 
 #[test]
 fn escapes_in_labels(rt: HostRuntime) -> Result<(), Fail> {
-    let alloc = rt.alloc();
-    assert_eq!(rt; label_text(alloc, "a\"b\\c")?.as_str(), "\"a\\\"b\\\\c\"");
-    assert_eq!(rt; label_text(alloc, "\n\r\t")?.as_str(), "\"\\n\\r\\t\"");
-    assert_eq!(rt;
-        label_text(alloc, "\u{0}\u{8}\u{1b}\u{1f}\u{7f}")?.as_str(),
-        "\"\\u0000\\u0008\\u001b\\u001f\\u007f\""
-    );
-    assert_eq!(rt; label_text(alloc, "\u{80}")?.as_str(), "\"\u{80}\"");
+    let cases = [
+        ("a\"b\\c", r#""a\"b\\c""#),
+        ("\n\r\t", r#""\n\r\t""#),
+        (
+            "\u{0}\u{8}\u{1b}\u{1f}\u{7f}",
+            r#""\u0000\u0008\u001b\u001f\u007f""#,
+        ),
+        ("\u{80}", "\"\u{80}\""),
+    ];
+    check_labels(&rt, rt.alloc(), &cases)?;
     Ok(())
 }

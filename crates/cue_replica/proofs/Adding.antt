@@ -22,22 +22,23 @@ adds_met old more new added met same path question =
 
 -- the table of state bytes refuses what the bytes do
 pub state_answers : (table : Table) (bytes : List ℕ) → IsTable table → state.state_bytes table ≡ bytes → SameAnswers (table_refuses table) (state.state_refuses bytes)
-state_answers table bytes valid spelled path question =
-    (λ h. (table, valid, spelled, h),
-    λ h.
+state_answers table bytes valid spelled path question = (
+  λ h. (table, valid, spelled, h),
+  λ h.
       let one : h.0 ≡ table = one_spelling_law h.0 table h.1 valid (h.2 ∙ sym spelled) in
       let P : Table → Type 0 = λ t. table_refuses t path question in
-      subst P one h.3)
+      subst P one h.3,
+)
 
 -- a table's bytes have no fault
 pub no_state_fault : (bytes : List ℕ) (why : Refusal) → state.IsState bytes → state.IsFault bytes why → ⊥
 no_state_fault bytes why is fault =
     ⊎_elim
     (λ version.
-      let found = version.1 in
-      let both : state.mark ++ (1 ∷ state.table_bytes is.0) ≡ state.mark ++ (found.0 ∷ found.1) = is.2 ∙ found.3 in
-      let same : 1 ≡ found.0 = cc in
-      found.2 (sym same))
+    let found = version.1 in
+    let both : state.mark ++ (1 ∷ state.table_bytes is.0) ≡ state.mark ++ (found.0 ∷ found.1) = is.2 ∙ found.3 in
+    let same : 1 ≡ found.0 = cc in
+    found.2 (sym same))
     (λ other. other.2 is)
     fault.1
 
@@ -53,9 +54,10 @@ unified_more old new added pieces more unified adds same path question =
     let u = unified path question in
     let a = adds path question in
     let s = same path question in
-    let parts = one_of-append (λ (piece : Piece). piece_refuses flat piece path question) pieces more in
-    (λ h. parts.1 (⊎_elim (λ p. inl (u.0 p)) (λ p. inr (s.0 p)) (a.0 h)),
-    λ h. a.1 (⊎_elim (λ p. inl (u.1 p)) (λ p. inr (s.1 p)) (parts.0 h)))
+    let parts = one_of-append (λ (piece : Piece). piece_refuses flat piece path question) pieces more in (
+      λ h. parts.1 (⊎_elim (λ p. inl (u.0 p)) (λ p. inr (s.0 p)) (a.0 h)),
+      λ h. a.1 (⊎_elim (λ p. inl (u.1 p)) (λ p. inr (s.1 p)) (parts.0 h)),
+    )
 
 -- a set of pieces refuses what another set of the same pieces does
 one_of_same : (P : Piece → Type 0) (a b : List Piece) → ((piece : Piece) → world.Has a piece → world.Has b piece) → OneOf P a → OneOf P b

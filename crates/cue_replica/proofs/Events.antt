@@ -172,11 +172,13 @@ sends : (old : List Table) (messages new : List (Vec ℕ Global)) (site number :
 sends old messages new site number sets sent agrees =
     let here = along_at IsSiteOf old sets.sites site sent.0 [] agrees.sites sent.2 in
     let answers = state_answers sent.0 sent.1.items here.0 (sym sent.3) in
-    let is_sent : IsSentOf sent.1 (pieces_at sets.sites site) =
-        ((sent.0, here.0, sym sent.3), λ path question.
+    let is_sent : IsSentOf sent.1 (pieces_at sets.sites site) = (
+      (sent.0, here.0, sym sent.3),
+      λ path question.
           let a = answers path question in
           let u = here.1 path question in
-          (λ h. u.0 (a.1 h), λ h. a.0 (u.1 h))) in
+          (λ h. u.0 (a.1 h), λ h. a.0 (u.1 h)),
+    ) in
     let P : List (Vec ℕ Global) → Type 0 = λ m. Happens old messages (Send site) old m (Sent number) sets in
     subst P (sym sent.5) (record {
       allowed = inl (site_there old messages sets site sent.0 agrees sent.2, inl (sent.4 ∙ length-along IsSentOf messages sets.messages agrees.sent));

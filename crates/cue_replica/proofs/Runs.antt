@@ -68,9 +68,9 @@ so_far_more sites events event replicas replicas' messages messages' outcomes ou
     let R : Sets → Type 0 = λ s. Agrees replicas' messages' s in
     let more = reach_more flat (start sites) (map event_of events) (map outcome_of outcomes) (event_of event) (outcome_of outcome) so_far.allowed in
     let same : reached sites (events ++ event ∷ []) (outcomes ++ outcome ∷ []) ≡ world.after (reached sites events outcomes) (event_of event) (outcome_of outcome) =
-        ap (λ (x : List world.Event). reach (start sites) x (map outcome_of (outcomes ++ outcome ∷ []))) es
-        ∙ ap (λ (x : List world.Outcome). reach (start sites) (map event_of events ++ event_of event ∷ []) x) os
-        ∙ more in
+    ap (λ (x : List world.Event). reach (start sites) x (map outcome_of (outcomes ++ outcome ∷ []))) es
+    ∙ ap (λ (x : List world.Outcome). reach (start sites) (map event_of events ++ event_of event ∷ []) x) os
+    ∙ more in
     record {
       allowed = subst P (sym es) (subst Q (sym os) (outcomes_more flat (start sites) (map event_of events) (map outcome_of outcomes) (event_of event) (outcome_of outcome) so_far.allowed now.allowed));
       agrees = subst R (sym same) now.agrees;
@@ -89,10 +89,10 @@ equal_sites replicas sets along i j a b at_i at_j same =
     let there = along_at IsSiteOf replicas sets j b [] along at_j in
     let refuse = same_pieces_refuse (pieces_at sets i) (pieces_at sets j) same in
     tables_exact a b here.0 there.0 (λ path question.
-      let l = here.1 path question in
-      let r = there.1 path question in
-      let s = refuse path question in
-      (λ h. r.1 (s.0 (l.0 h)), λ h. l.1 (s.1 (r.0 h))))
+    let l = here.1 path question in
+    let r = there.1 path question in
+    let s = refuse path question in
+    (λ h. r.1 (s.0 (l.0 h)), λ h. l.1 (s.1 (r.0 h))))
 
 -- a list that was lent whole and comes back with as many elements
 pub lent_whole : {X : Type 0} (old new : List X) (n : ℕ) → length new ≡ length old → n ≡ length old → take n (new ++ drop (length new) old) ≡ new

@@ -34,7 +34,12 @@ fn take_at(replicas: &mut [Replica], site: usize, bytes: &[u8]) -> Outcome
     }
 }
 /// Makes a site's state the next message.
-fn send_from(alloc: Global, replicas: &[Replica], site: usize, messages: &mut Vec<Vec<u8>>) -> Outcome
+fn send_from(
+    alloc: Global,
+    replicas: &[Replica],
+    site: usize,
+    messages: &mut Vec<Vec<u8>>,
+) -> Outcome
     requires room { vec_len messages.old < vec_capacity messages.old }
     ensures sends { Sends replicas.now site messages.old.items messages.new.items result }
     ensures keeps { KeepsRoom messages.old messages.new }
@@ -52,7 +57,12 @@ fn send_from(alloc: Global, replicas: &[Replica], site: usize, messages: &mut Ve
 }
 
 /// Hands a message to a site.
-fn deliver_to(replicas: &mut [Replica], site: usize, messages: &[Vec<u8>], message: usize) -> Outcome
+fn deliver_to(
+    replicas: &mut [Replica],
+    site: usize,
+    messages: &[Vec<u8>],
+    message: usize,
+) -> Outcome
     ensures { Delivers messages.now message replicas.old site replicas.new result }
 {
     if message >= messages.len() {

@@ -6,11 +6,12 @@
 
 mod history;
 mod replica;
-
+#[cfg(test)]
+mod tests;
 mod world;
 
-pub use replica::Replica;
 pub use cue_flat_report::{Conflict, Export, Gap, Path, Step, lines};
 pub use cue_lattice::{Form, Kind, Memory, Refusal, Text};
 pub use history::run;
+pub use replica::Replica;
 pub use world::{Event, Outcome, World};

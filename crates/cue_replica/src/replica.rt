@@ -70,11 +70,11 @@ impl Replica {
         ensures err { OnErr result (self.new ≡ self.old) }
         ensures valid { IsTable self.old → IsTable self.new }
     {
-        let table = match decode(self.alloc, bytes) {
-            Ok(table) => table,
+        let taken = match decode(self.alloc, bytes) {
+            Ok(taken) => taken,
             Err(kind) => return Err(Refusal { kind, place: 0 }),
         };
-        self.table.meet_with(self.alloc, table)?;
+        self.table.meet_with(self.alloc, taken)?;
         Ok(())
     }
 

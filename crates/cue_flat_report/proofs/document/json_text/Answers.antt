@@ -1,4 +1,4 @@
-use Rattle.std.proofs.Common.{◌∙◌, ap, refl, arith, rules, FitsSigned, w64}
+use Rattle.std.proofs.Common.{◌∙◌, ap, arith, rules, FitsSigned, w64}
 use Rattle.std.proofs.lemmas.List.{take_all}
 use Rattle.std.proofs.lemmas.Int.{to_z-of_z}
 use Rattle.serde_json.specs.View.{members_view}

@@ -6,6 +6,8 @@ use Rattle.cue_replica.proofs.history.deliver_to.Goals as goal
 pub returns : goal.returns
 returns c =
     let P : List ℕ → Type 0 = λ bytes. HappensAt (Takes bytes) c.args.replicas.now c.args.site c.take_at.new.replicas c.take_at.result in
-    inr (c.index-messages-message.result,
+    inr (
+      c.index-messages-message.result,
       slice_get_read c.args.messages.now (length c.args.messages.now) c.args.message c.index-messages-message.result refl (omega arith) c.index-messages-message.is,
-      subst P c.as_slice.ensures.value c.take_at.ensures)
+      subst P c.as_slice.ensures.value c.take_at.ensures,
+    )

@@ -11,7 +11,7 @@ returns-in-Submit-clause-happens c sets agrees =
     let Q : List ℕ → Type 0 = λ t. HappensAt (Submits t) c.args.replicas.now c.in-Submit.site c.submit_at.new.replicas c.submit_at.result in
     subst P (sym c.in-Submit.is)
     (submit_happens c.args.replicas.now c.submit_at.new.replicas messages c.in-Submit.site c.in-Submit.text c.submit_at.result sets
-      (subst Q c.as_str.ensures c.submit_at.ensures) agrees)
+    (subst Q c.as_str.ensures c.submit_at.ensures) agrees)
 
 pub returns-in-Send-clause-happens : goal.returns-in-Send-clause-happens
 returns-in-Send-clause-happens c sets agrees =
@@ -27,7 +27,7 @@ returns-in-Deliver-clause-happens c sets agrees =
     let Q : List (Vec ℕ Global) → Type 0 = λ m. Delivers m c.in-Deliver.message c.args.replicas.now c.in-Deliver.site c.deliver_to.new.replicas c.deliver_to.result in
     subst P (sym c.in-Deliver.is)
     (deliver_happens c.args.replicas.now c.deliver_to.new.replicas messages c.in-Deliver.site c.in-Deliver.message c.deliver_to.result sets
-      (subst Q c.deref.ensures.value c.deliver_to.ensures) agrees)
+    (subst Q c.deref.ensures.value c.deliver_to.ensures) agrees)
 
 pub returns-in-Foreign-clause-happens : goal.returns-in-Foreign-clause-happens
 returns-in-Foreign-clause-happens c sets agrees =
@@ -36,4 +36,4 @@ returns-in-Foreign-clause-happens c sets agrees =
     let Q : List ℕ → Type 0 = λ b. HappensAt (Takes b) c.args.replicas.now c.in-Foreign.site c.take_at.new.replicas c.take_at.result in
     subst P (sym c.in-Foreign.is)
     (foreign_happens c.args.replicas.now c.take_at.new.replicas messages c.in-Foreign.site c.in-Foreign.bytes c.take_at.result sets
-      (subst Q c.as_slice.ensures.value c.take_at.ensures) agrees)
+    (subst Q c.as_slice.ensures.value c.take_at.ensures) agrees)

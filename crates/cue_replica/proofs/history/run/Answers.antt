@@ -30,11 +30,11 @@ loop-event-preserved c = record {
       let outcome = c.happen-outcome.result in
       let P : List Table → Type 0 = λ r. (sets : Sets) → Agrees r messages sets → Happens r messages event new messages' outcome sets in
       let more = so_far_more c.args.sites (take i c.args.events.now) event old new messages messages' c.loop-event.outcomes.items outcome
-          c.loop-event.invariant.so_far (subst P c.deref_mut.ensures.value c.happen-outcome.ensures.happens) in
+      c.loop-event.invariant.so_far (subst P c.deref_mut.ensures.value c.happen-outcome.ensures.happens) in
       let events_are : take (i + 1) c.args.events.now ≡ take i c.args.events.now ++ event ∷ [] =
-          take_more c.args.events.now i event c.loop-event-test.true ∙ sym (ap (λ (y : Event). take i c.args.events.now ++ y ∷ []) c.event-item.is) in
+      take_more c.args.events.now i event c.loop-event-test.true ∙ sym (ap (λ (y : Event). take i c.args.events.now ++ y ∷ []) c.event-item.is) in
       let replicas_are : take c.loop-event.replicas.len (new ++ drop (length new) old) ≡ new = lent_whole old new c.loop-event.replicas.len
-          (omega (arith, c.happen-outcome.auto.replicas, c.deref_mut.ensures.len, ap length c.deref_mut.ensures.value)) (search rules) in
+      (omega (arith, c.happen-outcome.auto.replicas, c.deref_mut.ensures.len, ap length c.deref_mut.ensures.value)) (search rules) in
       let outcomes_are : c.push.new.self.items ≡ c.loop-event.outcomes.items ++ outcome ∷ [] = search rules in
       let Q : List Event → Type 0 = λ x. IsSoFar c.args.sites x new messages' (c.loop-event.outcomes.items ++ outcome ∷ []) in
       let R : List Table → Type 0 = λ x. IsSoFar c.args.sites (take (i + 1) c.args.events.now) x messages' (c.loop-event.outcomes.items ++ outcome ∷ []) in

@@ -4,12 +4,20 @@ use Rattle.cue_replica.proofs.history.submit_at.Goals as goal
 
 pub returns-in-Ok : goal.returns-in-Ok
 returns-in-Ok c =
-    inr (get_or c.args.replicas.now c.args.site c.index-replicas-site.result, c.submit.new.self,
+    inr (
+      get_or c.args.replicas.now c.args.site c.index-replicas-site.result,
+      c.submit.new.self,
       slice_get-get_or c.args.replicas.now c.args.site c.index-replicas-site.result (omega arith),
-      refl, (c.in-Ok.ensures.legal, c.in-Ok.ensures.ok, c.in-Ok.ensures.valid))
+      refl,
+      (c.in-Ok.ensures.legal, c.in-Ok.ensures.ok, c.in-Ok.ensures.valid),
+    )
 
 pub returns-in-Err : goal.returns-in-Err
 returns-in-Err c =
-    inr (get_or c.args.replicas.now c.args.site c.index-replicas-site.result, c.submit.new.self,
+    inr (
+      get_or c.args.replicas.now c.args.site c.index-replicas-site.result,
+      c.submit.new.self,
       slice_get-get_or c.args.replicas.now c.args.site c.index-replicas-site.result (omega arith),
-      refl, (c.in-Err.ensures.err, c.in-Err.ensures.refused))
+      refl,
+      (c.in-Err.ensures.err, c.in-Err.ensures.refused),
+    )

@@ -1,0 +1,5 @@
+pub mod Words
+pub mod Fronts
+pub mod Bodies
+pub mod Lexing
+pub mod Longest

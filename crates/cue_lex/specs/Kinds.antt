@@ -1,0 +1,24 @@
+-- What the kind of a token says of what follows it.
+use Rattle.std.specs.Prelude.{Bool, true, false}
+use Rattle.cue_lex.specs.declared.token.TokenKind.{TokenKind}
+use Rattle.cue_lex.specs.declared.token.TokenKind.TheVariants as kinds
+
+abbrev pub is_minus : TokenKind → Bool
+is_minus kinds.Minus = true
+is_minus _ = false
+
+-- a line break behind such a token inserts a comma
+abbrev pub ends_line : TokenKind → Bool
+ends_line (kinds.Name name) = true
+ends_line (kinds.Definition name) = true
+ends_line (kinds.Hidden name) = true
+ends_line (kinds.Text text) = true
+ends_line (kinds.Integer n) = true
+ends_line kinds.Bottom = true
+ends_line kinds.CloseParenthesis = true
+ends_line kinds.CloseBracket = true
+ends_line kinds.CloseBrace = true
+ends_line kinds.Ellipsis = true
+ends_line kinds.Question = true
+ends_line kinds.Exclamation = true
+ends_line _ = false

@@ -1,0 +1,68 @@
+-- The tokens of a text, or its first fault.
+use Rattle.std.specs.Prelude.{ℕ, zero, suc, Bool, false, List, [], ◌∷◌, ◌++◌, Option, Some, None, Result, Ok, Err, ◌+◌, ◌-◌, length, nat_le, if◌then◌else◌}
+use Rattle.cue_lattice.specs.declared.refusal.Kind.TheVariants as refusals
+use Rattle.cue_lattice.specs.declared.refusal.Refusal.{Refusal}
+use Rattle.cue_lex.specs.declared.token.Token.{Token}
+use Rattle.cue_lex.specs.declared.token.TokenKind.TheVariants as kinds
+use Rattle.cue_lex.specs.declared.lexeme.Lexeme.{Lexeme}
+use Rattle.cue_lex.specs.declared.lexeme.Lexeme.TheVariants.{Blank, LineBreak, Word}
+use Rattle.cue_lex.specs.Lexemes.{lexeme, refused}
+use Rattle.cue_lex.specs.Kinds.{is_minus, ends_line}
+
+-- The tokens as they are written, and the line breaks between them.
+pub data Piece : Type 0 where
+  Written : Token → Piece
+  Break : Piece
+
+-- a piece in front of the others
+abbrev pub in_front : Piece → Result (List Piece) Refusal → Result (List Piece) Refusal
+in_front piece (Ok pieces) = Ok (piece ∷ pieces)
+in_front piece (Err refusal) = Err refusal
+
+-- What stands at a place, and the pieces behind it: rest takes how many further bytes belong to it, and whether a minus
+-- stands before what follows.
+abbrev pub at_place : Bool → ℕ → Result Lexeme Refusal → (Bool → ℕ → Result (List Piece) Refusal) → Result (List Piece) Refusal
+at_place minus place (Err refusal) rest = Err refusal
+at_place minus place (Ok (Blank len)) rest = rest minus (len - 1)
+at_place minus place (Ok LineBreak) rest = in_front Break (rest minus 0)
+at_place minus place (Ok (Word kind len)) rest = in_front (Written (record { kind = kind; from = place; to = place + len })) (rest (is_minus kind) (len - 1))
+
+-- The pieces of the bytes from a place on, or the first fault. The first of the bytes, as many as inside says, still
+-- belong to what stands before; minus says that the token before is a minus.
+abbrev pub pieces : Bool → ℕ → ℕ → List ℕ → Result (List Piece) Refusal
+pieces minus inside place [] = Ok []
+pieces minus (suc inside) place (b ∷ bytes) = pieces minus inside (place + 1) bytes
+pieces minus zero place (b ∷ bytes) = at_place minus place (lexeme minus place (b ∷ bytes)) (λ after inside. pieces after inside (place + 1) bytes)
+
+-- a comma that a line break inserts behind a token that ends there
+abbrev pub inserted : ℕ → Token
+inserted end = record { kind = kinds.Comma; from = end; to = end }
+
+-- where a line break behind the token inserts a comma, if it does
+abbrev pub line_end : Token → Option ℕ
+line_end token = if ends_line token.kind then Some token.to else None
+
+-- The tokens of the pieces with the inserted commas: one at the end of each token that can end a line, where a line
+-- break stands before the next token. last is that end of the token before, until a line break came.
+abbrev pub with_commas : Option ℕ → List Piece → List Token
+with_commas last [] = []
+with_commas last (Written token ∷ rest) = token ∷ with_commas (line_end token) rest
+with_commas None (Break ∷ rest) = with_commas None rest
+with_commas (Some end) (Break ∷ rest) = inserted end ∷ with_commas None rest
+
+abbrev pub commas : Option ℕ → Result (List Piece) Refusal → Result (List Token) Refusal
+commas last (Ok found) = Ok (with_commas last found)
+commas last (Err refusal) = Err refusal
+
+-- tokens in front of the others
+abbrev pub behind : List Token → Result (List Token) Refusal → Result (List Token) Refusal
+behind front (Ok found) = Ok (front ++ found)
+behind front (Err refusal) = Err refusal
+
+-- the greatest number of bytes of a text
+abbrev pub text_limit : ℕ
+text_limit = 1048576
+
+-- the tokens of a text, or its first fault
+unfoldable pub tokens : List ℕ → Result (List Token) Refusal
+tokens text = if nat_le (length text) text_limit then commas None (pieces false 0 0 text) else refused refusals.TooLong text_limit

@@ -1,0 +1,20 @@
+ghost use Rattle.std.specs.Prelude.{◌≡◌};
+ghost use Rattle.cue_lex.specs.Characters.{is_letter, is_name_part};
+
+use unicode::properties::{GeneralCategory, GeneralCategoryGroup};
+
+/// Whether a name may begin with this character: a letter of Unicode (general category Lu, Ll, Lt, Lm or Lo), `_` or `$`.
+#[tactic(auto, unfolding(crate::specs::Characters::is_letter))]
+pub fn is_letter(c: char) -> bool
+    ensures { result ≡ is_letter c }
+{
+    c == '_' || c == '$' || GeneralCategoryGroup::Letter.contains(GeneralCategory::for_char(c))
+}
+
+/// Whether a name may go on with this character: a letter, or a decimal digit of Unicode (general category Nd).
+#[tactic(auto, unfolding(crate::specs::Characters::is_name_part))]
+pub fn is_name_part(c: char) -> bool
+    ensures { result ≡ is_name_part c }
+{
+    is_letter(c) || GeneralCategory::for_char(c) == GeneralCategory::DecimalNumber
+}

@@ -1,0 +1,86 @@
+ghost use Rattle.std.specs.Prelude.{◌≡◌, ◌≤◌, ◌<◌, ◌+◌, ◌^◌, length, slice_index, not, ◌==◌, IfOk};
+ghost use Rattle.std.specs.List.{prefix_len};
+ghost use Rattle.std.specs.Str.{IsCharBoundary};
+ghost use Rattle.cue_lex.specs.Lexemes.{Gives, lexeme, len_of};
+
+use crate::TokenKind;
+use crate::integer::integer;
+use crate::mark::mark;
+use crate::name::{identifier_len, name};
+use crate::string::string;
+use cue_lattice::{Kind, Refusal};
+use std::alloc::Global;
+
+/// The greatest number of bytes of an identifier, and of the text that a string stands for.
+pub const WORD_LIMIT: usize = 65_535;
+
+/// What stands at a place of a text.
+#[derive(Drop)]
+pub enum Lexeme {
+    /// White space other than a line break, or a comment, of so many bytes.
+    Blank(usize),
+    LineBreak,
+    /// A token, and how many bytes it has.
+    Word(TokenKind, usize),
+}
+
+impl Lexeme {
+    /// How many bytes it has.
+    pub fn len(&self) -> usize
+        ensures { result ≡ len_of self.now }
+    {
+        match self {
+            Lexeme::Blank(len) => *len,
+            Lexeme::LineBreak => 1,
+            Lexeme::Word(_, len) => *len,
+        }
+    }
+}
+
+/// What stands at the front of a text that isn't empty and stands at `at`.
+#[tactic(auto, unfolding(crate::specs::Lexemes::lexeme))]
+pub fn lexeme_at(
+    alloc: Global,
+    text: &str,
+    at: usize,
+    behind_minus: bool,
+) -> Result<Lexeme, Refusal>
+    requires nonempty { 0 < length text.now }
+    requires room { at + length text.now < 2 ^ 63 }
+    ensures gives { Gives result (lexeme behind_minus at text.now) }
+    ensures some { IfOk result (λ found. 0 < len_of found) }
+    ensures boundary { IfOk result (λ found. IsCharBoundary text.now (len_of found)) }
+{
+    let bytes = text.as_bytes();
+    match bytes[0] {
+        b' ' | b'\t' | b'\r' => return Ok(Lexeme::Blank(1)),
+        b'\n' => return Ok(Lexeme::LineBreak),
+        b'"' => return string(alloc, text, at),
+        b'0'..=b'9' => return integer(bytes, at, behind_minus),
+        _ => {}
+    }
+    if bytes.starts_with(b"//") {
+        return Ok(Lexeme::Blank(line_len(bytes)));
+    }
+    if bytes.starts_with(b"_|_") {
+        return Ok(Lexeme::Word(TokenKind::Bottom, 3));
+    }
+    let len = identifier_len(text);
+    if len > 0 {
+        return name(alloc, text, len, at);
+    }
+    match mark(bytes) {
+        Some((kind, len)) => Ok(Lexeme::Word(kind, len)),
+        None => Err(Refusal {
+            kind: Kind::BadCharacter,
+            place: at as u64,
+        }),
+    }
+}
+
+/// How many bytes stand before the first line break.
+fn line_len(bytes: &[u8]) -> usize
+    ensures { result ≡ prefix_len (λ byte. not (byte == 10)) bytes.now }
+{
+    bytes.iter().take_while(|byte| **byte != b'\n').count()
+}

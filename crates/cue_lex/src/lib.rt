@@ -1,0 +1,20 @@
+//! The lexer of the CUE profile: from a text to its tokens, with the commas that line breaks insert, or to the
+//! first fault from the left.
+//!
+//! It follows the section "Lexical elements" of the CUE Language Specification, as far as the profile goes. A text is
+//! UTF-8, and places are byte offsets. Letters and digits of names are those of Unicode 18.0.
+#![tactic(auto)]
+
+mod character;
+mod integer;
+mod lexeme;
+mod lexer;
+mod mark;
+mod name;
+mod string;
+#[cfg(test)]
+mod tests;
+mod token;
+
+pub use lexer::lex;
+pub use token::{Token, TokenKind};

@@ -1,0 +1,88 @@
+ghost use Rattle.std.specs.Prelude.{◌≡◌, ◌≤◌, ◌<◌, ◌+◌, ◌^◌, ◌++◌, List, ℕ, max, length, IfOk};
+ghost use Rattle.std.specs.Str.{IsCharBoundary};
+ghost use Rattle.cue_lex.specs.Names.{run_len, word_len, signed_len, identifier_len, IsIdentifier};
+ghost use Rattle.cue_lex.specs.Lexemes.{Gives, name, len_of};
+
+use crate::TokenKind;
+use crate::character::{is_letter, is_name_part};
+use crate::lexeme::{Lexeme, WORD_LIMIT};
+use cue_lattice::{Kind, Refusal, Text};
+use std::alloc::Global;
+
+/// How many bytes the letters and digits at the front have.
+fn run_len(text: &str) -> usize
+    ensures value { result ≡ run_len text.now }
+    ensures boundary { IsCharBoundary text.now result }
+{
+    let mut len = 0;
+    let mut rest = text.chars();
+    while let Some(c) = rest.next() {
+        if !is_name_part(c) {
+            return len;
+        }
+        len += c.len_utf8();
+    }
+    len
+}
+
+/// How many bytes a letter and the letters and digits behind it have, at the front; 0 where no letter stands there.
+#[tactic(auto, unfolding(crate::specs::Names::word_len))]
+fn word_len(text: &str) -> usize
+    ensures value { result ≡ word_len text.now }
+    ensures boundary { IsCharBoundary text.now result }
+{
+    match text.chars().next() {
+        Some(c) if is_letter(c) => run_len(text),
+        _ => 0,
+    }
+}
+
+/// The same behind a sign, the sign included.
+#[tactic(auto, unfolding(crate::specs::Names::signed_len))]
+fn signed_len(text: &str, sign: &str) -> usize
+    ensures value { result ≡ signed_len sign.now text.now }
+    ensures boundary { IsCharBoundary text.now result }
+{
+    if !text.as_bytes().starts_with(sign.as_bytes()) {
+        return 0;
+    }
+    let len = word_len(&text[sign.len()..]);
+    if len > 0 { sign.len() + len } else { 0 }
+}
+
+/// How many bytes the longest identifier at the front has; 0 where none stands there.
+#[tactic(auto, unfolding(crate::specs::Names::identifier_len))]
+pub fn identifier_len(text: &str) -> usize
+    ensures value { result ≡ identifier_len text.now }
+    ensures longest { (front rest : List ℕ) → IsIdentifier front → text.now ≡ front ++ rest → length front ≤ result }
+    ensures boundary { IsCharBoundary text.now result }
+{
+    word_len(text)
+        .max(signed_len(text, "#"))
+        .max(signed_len(text, "_#"))
+}
+
+/// The identifier of this length at the front.
+#[tactic(auto, unfolding(crate::specs::Lexemes::name, crate::specs::Lexemes::name_kind))]
+pub fn name(alloc: Global, text: &str, len: usize, at: usize) -> Result<Lexeme, Refusal>
+    requires nonempty { 0 < len }
+    requires boundary { IsCharBoundary text.now len }
+    ensures gives { Gives result (name at len text.now) }
+    ensures len { IfOk result (λ found. len_of found ≡ len) }
+{
+    if len > WORD_LIMIT {
+        return Err(Refusal {
+            kind: Kind::TextTooLong,
+            place: at as u64,
+        });
+    }
+    let spelling = &text[..len];
+    let first = spelling.as_bytes()[0];
+    let copied = Text::from_str(alloc, spelling)?;
+    let kind = match first {
+        b'#' => TokenKind::Definition(copied),
+        b'_' => TokenKind::Hidden(copied),
+        _ => TokenKind::Name(copied),
+    };
+    Ok(Lexeme::Word(kind, len))
+}

@@ -1,0 +1,104 @@
+ghost use Rattle.std.specs.Prelude.{◌≡◌};
+ghost use Rattle.cue_lex.specs.Kinds.{is_minus, ends_line};
+
+use cue_lattice::Text;
+
+/// A token of a text: what it is, and from which byte to before which byte it stands. An inserted comma is empty:
+/// `from` and `to` are the end of the token before it.
+#[derive(Debug, Drop)]
+pub struct Token {
+    pub kind: TokenKind,
+    pub from: usize,
+    pub to: usize,
+}
+
+/// What a token is.
+#[derive(Debug, Drop)]
+pub enum TokenKind {
+    /// An identifier that begins with neither `#` nor `_`.
+    Name(Text),
+    /// An identifier that begins with `#`, with that sign.
+    Definition(Text),
+    /// An identifier that begins with `_`, as `_`, `_x` or `_#x`.
+    Hidden(Text),
+    /// A string, as the text that it stands for.
+    Text(Text),
+    /// An integer's magnitude. The one above `i64::MAX` stands behind a `-` only.
+    Integer(u64),
+    /// `_|_`
+    Bottom,
+    /// `{`
+    OpenBrace,
+    /// `}`
+    CloseBrace,
+    /// `[`
+    OpenBracket,
+    /// `]`
+    CloseBracket,
+    /// `(`
+    OpenParenthesis,
+    /// `)`
+    CloseParenthesis,
+    /// `:`
+    Colon,
+    /// A comma, written or inserted.
+    Comma,
+    /// `?`
+    Question,
+    /// `!`
+    Exclamation,
+    /// `|`
+    Bar,
+    /// `&`
+    Ampersand,
+    /// `*`
+    Star,
+    /// `-`
+    Minus,
+    /// `+`
+    Plus,
+    /// `<`
+    Less,
+    /// `<=`
+    AtMost,
+    /// `>`
+    Greater,
+    /// `>=`
+    AtLeast,
+    /// `!=`
+    NotEqual,
+    /// `...`
+    Ellipsis,
+}
+
+impl TokenKind {
+    pub(crate) fn is_minus(&self) -> bool
+        ensures { result ≡ is_minus self.now }
+    {
+        match self {
+            TokenKind::Minus => true,
+            _ => false,
+        }
+    }
+
+    /// Whether a line break behind the token inserts a comma.
+    pub(crate) fn ends_line(&self) -> bool
+        ensures { result ≡ ends_line self.now }
+    {
+        match self {
+            TokenKind::Name(_)
+            | TokenKind::Definition(_)
+            | TokenKind::Hidden(_)
+            | TokenKind::Text(_)
+            | TokenKind::Integer(_)
+            | TokenKind::Bottom
+            | TokenKind::CloseParenthesis
+            | TokenKind::CloseBracket
+            | TokenKind::CloseBrace
+            | TokenKind::Ellipsis
+            | TokenKind::Question
+            | TokenKind::Exclamation => true,
+            _ => false,
+        }
+    }
+}

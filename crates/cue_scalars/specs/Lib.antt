@@ -1,0 +1,4 @@
+pub mod Pairs
+pub mod ScalarLaws
+pub mod Scalars
+pub mod Values

@@ -1,0 +1,75 @@
+-- Value and default pairs, by the CUE language specification, over plain sets of scalars.
+use Rattle.std.specs.Prelude.{Bool, true, false, ◌&&◌, ◌||◌, List, [], ◌∷◌, Option, Some, None, is_some, unwrap_or, if◌then◌else◌, filter_map}
+use Rattle.std.specs.List.{list_any}
+use Rattle.cue_lattice.specs.declared.scalar.Scalar.{Scalar}
+
+-- a set of scalars: what tells its members
+abbrev pub Scalars : Type 0
+Scalars = Scalar → Bool
+
+-- the scalars that may stand, and the default where there is one: those among them that are meant where nothing is said
+pub record Pair : Type 0 where
+  pub value : Scalars
+  pub usual : Option Scalars
+
+abbrev pub meet_of : Scalars → Scalars → Scalars
+meet_of a b scalar = a scalar && b scalar
+
+abbrev pub union_of : Scalars → Scalars → Scalars
+union_of a b scalar = a scalar || b scalar
+
+-- the members of one set of the list
+abbrev pub union_all : List Scalars → Scalars
+union_all sets scalar = list_any (λ set. set scalar) sets
+
+-- the default, or the value where there is none
+abbrev pub brought : Pair → Scalars
+brought pair = unwrap_or pair.usual pair.value
+
+-- Unification `a & b`: values meet, and so do defaults, where a side without a default brings its value. There is a
+-- default where one side has one. An empty default stays a default.
+abbrev pub both : Pair → Pair → Pair
+both a b = record {
+  value = meet_of a.value b.value;
+  usual = if is_some a.usual || is_some b.usual then Some (meet_of (brought a) (brought b)) else None;
+}
+
+-- What a term of a disjunction brings as default. The first argument says whether some term is marked. If none is, each
+-- keeps its own. Otherwise a marked term brings its default, or its value where it has none, and an unmarked term loses
+-- its default.
+abbrev pub default_of : Bool → Bool × Pair → Option Scalars
+default_of false term = term.1.usual
+default_of true (true, pair) = Some (brought pair)
+default_of true (false, pair) = None
+
+-- a term, with what it brings as default
+abbrev pub term_of : Bool → Bool × Pair → Pair
+term_of any_marked term = record { value = term.1.value; usual = default_of any_marked term }
+
+-- the union of the defaults, where there is one
+abbrev pub united : List Scalars → Option Scalars
+united [] = None
+united (first ∷ defaults) = Some (union_all (first ∷ defaults))
+
+abbrev pub is_any_marked : List (Bool × Pair) → Bool
+is_any_marked terms = list_any (λ term. term.0) terms
+
+-- the values of all terms, and the union of the defaults that they bring
+abbrev pub sum_of : Bool → List (Bool × Pair) → Pair
+sum_of marked terms = record {
+  value = λ scalar. list_any (λ term. term.1.value scalar) terms;
+  usual = united (filter_map (default_of marked) terms);
+}
+
+-- two parts of a disjunction
+abbrev pub joined_usual : Option Scalars → Option Scalars → Option Scalars
+joined_usual None usual = usual
+joined_usual (Some a) None = Some a
+joined_usual (Some a) (Some b) = Some (union_of a b)
+
+abbrev pub join_of : Pair → Pair → Pair
+join_of a b = record { value = union_of a.value b.value; usual = joined_usual a.usual b.usual }
+
+-- Disjunction `a | b | ..` of marked and unmarked terms
+abbrev pub disjunction : List (Bool × Pair) → Pair
+disjunction terms = sum_of (is_any_marked terms) terms

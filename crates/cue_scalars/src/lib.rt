@@ -1,0 +1,14 @@
+//! Sets of scalars, and values with defaults as the CUE language has them.
+//!
+//! A set of scalars is its members, in one form. A value with a default is a pair of such sets, which follows the CUE
+//! language specification's rules for `&`, for `|` and for marks.
+#![tactic(auto)]
+
+mod scalar_set;
+#[cfg(test)]
+mod tests;
+mod valued;
+
+pub use cue_lattice::Scalar;
+pub use scalar_set::ScalarSet;
+pub use valued::Valued;

@@ -1,0 +1,251 @@
+ghost use Rattle.std.specs.Prelude.{◌≡◌, ◌↔◌, [], true, false, not, ◌&&◌, ◌||◌, IfOk, IfSome, IfNone, IsTrue, Ok, Some, None};
+ghost use Rattle.cue_lattice.specs.declared.scalar.Scalar.{Scalar};
+ghost use Rattle.cue_lattice.specs.declared.scalar.Scalar.TheVariants as scalars;
+ghost use Rattle.cue_scalars.specs.Scalars.{members, only_of, IsOnlyScalar, IsFirstScalar};
+
+use cue_lattice::{Memory, Narrow, Scalar, Text};
+use cue_sets::{IntSet, TextSet};
+use std::alloc::Global;
+
+/// A set of scalars.
+#[derive(Debug, Drop)]
+pub struct ScalarSet {
+    pub null: bool,
+    /// Whether false is a member.
+    pub no: bool,
+    /// Whether true is a member.
+    pub yes: bool,
+    pub ints: IntSet,
+    pub texts: TextSet,
+}
+
+impl ScalarSet {
+    /// No scalar. This takes no memory.
+    pub fn empty(alloc: Global) -> Result<ScalarSet, Memory>
+        ensures { IfOk result (λ set. (scalar : Scalar) → members set scalar ≡ false) }
+    {
+        Ok(ScalarSet {
+            null: false,
+            no: false,
+            yes: false,
+            ints: IntSet::empty(alloc)?,
+            texts: TextSet::none(alloc)?,
+        })
+    }
+
+    /// Whether a scalar is a member.
+    pub fn contains(&self, scalar: &Scalar) -> bool
+        ensures { result ≡ members self.now scalar.now }
+    {
+        match scalar {
+            Scalar::Null => self.null,
+            Scalar::Bool(false) => self.no,
+            Scalar::Bool(true) => self.yes,
+            Scalar::Int(number) => self.ints.contains(*number),
+            Scalar::Text(text) => self.texts.contains(text.as_str()),
+        }
+    }
+
+    /// Whether there is no member.
+    pub fn is_empty(&self) -> bool
+        ensures { IsTrue result ↔ ((scalar : Scalar) → members self.now scalar ≡ false) }
+    {
+        self.ints.known();
+        if self.has_plain() {
+            return false;
+        }
+        if !self.ints.is_empty() {
+            return false;
+        }
+        self.texts.is_empty()
+    }
+
+    /// The members of both sets.
+    pub fn meet(&self, alloc: Global, other: &ScalarSet) -> Result<ScalarSet, Memory>
+        ensures { IfOk result (λ met. (scalar : Scalar) →
+            members met scalar ≡ (members self.now scalar && members other.now scalar)) }
+    {
+        Ok(ScalarSet {
+            null: self.null && other.null,
+            no: self.no && other.no,
+            yes: self.yes && other.yes,
+            ints: self.ints.meet(alloc, &other.ints)?,
+            texts: self.texts.meet(alloc, &other.texts)?,
+        })
+    }
+
+    /// The members of either set.
+    pub fn union(&self, alloc: Global, other: &ScalarSet) -> Result<ScalarSet, Memory>
+        ensures { IfOk result (λ all. (scalar : Scalar) →
+            members all scalar ≡ (members self.now scalar || members other.now scalar)) }
+    {
+        Ok(ScalarSet {
+            null: self.null || other.null,
+            no: self.no || other.no,
+            yes: self.yes || other.yes,
+            ints: self.ints.union(alloc, &other.ints)?,
+            texts: self.texts.union(alloc, &other.texts)?,
+        })
+    }
+
+    /// The members of this set that the other lacks.
+    pub fn without(&self, alloc: Global, other: &ScalarSet) -> Result<ScalarSet, Memory>
+        ensures { IfOk result (λ rest. (scalar : Scalar) →
+            members rest scalar ≡ (members self.now scalar && not (members other.now scalar))) }
+    {
+        Ok(ScalarSet {
+            null: self.null && !other.null,
+            no: self.no && !other.no,
+            yes: self.yes && !other.yes,
+            ints: self.ints.without(alloc, &other.ints)?,
+            texts: self.texts.without(alloc, &other.texts)?,
+        })
+    }
+
+    /// The only member, where there is one.
+    pub fn single(&self, alloc: Global) -> Result<Option<Scalar>, Memory>
+        ensures some { IfOk result (λ found. IfSome found (IsOnlyScalar self.now)) }
+        ensures none { IfOk result (λ found. IfNone found ((scalar : Scalar) → ¬ IsOnlyScalar self.now scalar)) }
+    {
+        self.ints.known();
+        if !self.texts.is_empty() {
+            if self.has_plain() {
+                return Ok(None);
+            }
+            if !self.ints.is_empty() {
+                return Ok(None);
+            }
+            return match self.texts.single() {
+                None => Ok(None),
+                Some(text) => Ok(Some(Scalar::Text(Text::from_str(alloc, text)?))),
+            };
+        }
+        if !self.ints.is_empty() {
+            if self.has_plain() {
+                return Ok(None);
+            }
+            return match self.ints.single() {
+                None => Ok(None),
+                Some(number) => Ok(Some(Scalar::Int(number))),
+            };
+        }
+        Ok(only_plain(self.null, self.no, self.yes))
+    }
+
+    /// The first member, where there is one: in the order null, false, true, integers upwards, texts by their bytes.
+    pub fn first(&self, alloc: Global) -> Result<Option<Scalar>, Memory>
+        ensures some { IfOk result (λ found. IfSome found (IsFirstScalar self.now)) }
+        ensures none { IfOk result (λ found. IfNone found ((scalar : Scalar) → members self.now scalar ≡ false)) }
+    {
+        if self.null {
+            return Ok(Some(Scalar::Null));
+        }
+        if self.no {
+            return Ok(Some(Scalar::Bool(false)));
+        }
+        if self.yes {
+            return Ok(Some(Scalar::Bool(true)));
+        }
+        if let Some(number) = self.ints.first() {
+            return Ok(Some(Scalar::Int(number)));
+        }
+        match self.texts.first(alloc)? {
+            None => Ok(None),
+            Some(text) => Ok(Some(Scalar::Text(text))),
+        }
+    }
+
+    /// Whether null or a truth value is a member.
+    fn has_plain(&self) -> bool
+        ensures { result ≡ (self.now.null || self.now.no || self.now.yes) }
+    {
+        self.null || self.no || self.yes
+    }
+
+    /// Whether null and both truth values are members.
+    fn has_all_plain(&self) -> bool
+        ensures { result ≡ (self.now.null && self.now.no && self.now.yes) }
+    {
+        self.null && self.no && self.yes
+    }
+}
+
+/// The only one of null, false and true, where it is one.
+fn only_plain(null: bool, no: bool, yes: bool) -> Option<Scalar>
+    ensures { result ≡ only_of null no yes }
+{
+    match (null, no, yes) {
+        (true, false, false) => Some(Scalar::Null),
+        (false, true, false) => Some(Scalar::Bool(false)),
+        (false, false, true) => Some(Scalar::Bool(true)),
+        _ => None,
+    }
+}
+
+/// A set refuses the scalars that are no members, and no number outside the 64-bit range.
+impl Narrow for ScalarSet {
+    ghost use Rattle.std.specs.Prelude.{◌≡◌, ◌↔◌};
+    ghost use Rattle.cue_scalars.specs.Scalars.{RefusesScalar, IsScalarSet};
+    ghost use Rattle.cue_scalars.specs.ScalarLaws.{same_scalars};
+
+    type Question = Scalar;
+
+    ghost refuses = { RefusesScalar };
+
+    ghost is_value = { IsScalarSet };
+
+    ghost exact = { same_scalars };
+
+    fn free(alloc: Global) -> Result<ScalarSet, Memory> {
+        Ok(ScalarSet {
+            null: true,
+            no: true,
+            yes: true,
+            ints: IntSet::full(alloc)?,
+            texts: TextSet::all(alloc)?,
+        })
+    }
+
+    fn is_free(&self) -> bool {
+        if !self.has_all_plain() {
+            return false;
+        }
+        if !self.ints.is_free() {
+            return false;
+        }
+        self.texts.is_free()
+    }
+
+    fn meet(&self, alloc: Global, other: &ScalarSet) -> Result<ScalarSet, Memory> {
+        Ok(ScalarSet {
+            null: self.null && other.null,
+            no: self.no && other.no,
+            yes: self.yes && other.yes,
+            ints: Narrow::meet(&self.ints, alloc, &other.ints)?,
+            texts: Narrow::meet(&self.texts, alloc, &other.texts)?,
+        })
+    }
+
+    fn same(&self, other: &ScalarSet) -> bool {
+        self.null == other.null
+            && self.no == other.no
+            && self.yes == other.yes
+            && self.ints.same(&other.ints)
+            && self.texts.same(&other.texts)
+    }
+
+    fn copy(&self, alloc: Global) -> Result<ScalarSet, Memory> {
+        Ok(ScalarSet {
+            null: self.null,
+            no: self.no,
+            yes: self.yes,
+            ints: self.ints.copy(alloc)?,
+            texts: self.texts.copy(alloc)?,
+        })
+    }
+
+    fn known(&self) {
+        self.ints.known();
+        self.texts.known();
+    }
+}

@@ -1,0 +1,7 @@
+pub mod Combination
+pub mod Merge
+pub mod PieceLaws
+pub mod Pieces
+pub mod Sweep
+pub mod TextLaws
+pub mod Texts

@@ -1,0 +1,209 @@
+ghost use Rattle.std.specs.Prelude.{◌≡◌, ℤ, pos, ◌+ℤ◌, ◌-ℤ◌, ◌≤ℤ◌, ◌<ℤ◌, ◌≢◌, ◌↔◌, ◌&&◌, ◌||◌, not, true, false, [], ◌∷◌, IfOk, IfSome, IfNone, Ok, Some, None, IsTrue, int_le};
+ghost use Rattle.std.specs.Ordering.{int_eq};
+ghost use Rattle.cue_sets.specs.Pieces.{is_member, is_int64, IsCanonical, IsFirstMember, IsOnlyMember, least, greatest};
+ghost use Rattle.cue_sets.specs.Combination.{keeps};
+
+use crate::combination::Combination;
+use crate::pieces::{combine, has};
+use cue_lattice::{Memory, Narrow};
+use std::alloc::Global;
+use std::marker::Model;
+
+/// A set of integers of 64 bits.
+///
+/// It is kept as pieces from a first to a last number, both included, which ascend and neither overlap nor touch. So
+/// sets with equal members are equal values.
+#[derive(Debug, Drop)]
+pub struct IntSet {
+    pieces: Vec<(i64, i64)>,
+}
+
+impl Model for IntSet {
+    ghost use Rattle.std.specs.Prelude.{List, ℤ};
+    ghost use Rattle.cue_sets.specs.Pieces.{IsCanonical};
+
+    ghost Value = { List (ℤ × ℤ) };
+
+    ghost view = { λ set. set.pieces.items };
+
+    ghost invariant = { λ set. IsCanonical set.pieces.items };
+}
+
+impl IntSet {
+    /// All integers of 64 bits.
+    pub fn full(alloc: Global) -> Result<IntSet, Memory>
+        ensures { IfOk result (λ set. set ≡ (least, greatest) ∷ []) }
+    {
+        IntSet::between(alloc, i64::MIN, i64::MAX)
+    }
+
+    /// No integer. This takes no memory.
+    pub fn empty(alloc: Global) -> Result<IntSet, Memory>
+        ensures { result ≡ Ok [] }
+    {
+        Ok(IntSet {
+            pieces: Vec::new(alloc),
+        })
+    }
+
+    /// One integer.
+    pub fn one(alloc: Global, number: i64) -> Result<IntSet, Memory>
+        ensures { IfOk result (λ set. set ≡ (number, number) ∷ []) }
+    {
+        IntSet::between(alloc, number, number)
+    }
+
+    /// The integers from a number upwards, with that number.
+    pub fn at_least(alloc: Global, number: i64) -> Result<IntSet, Memory>
+        ensures { IfOk result (λ set. set ≡ (number, greatest) ∷ []) }
+    {
+        IntSet::between(alloc, number, i64::MAX)
+    }
+
+    /// The integers up to a number, with that number.
+    pub fn at_most(alloc: Global, number: i64) -> Result<IntSet, Memory>
+        ensures { IfOk result (λ set. set ≡ (least, number) ∷ []) }
+    {
+        IntSet::between(alloc, i64::MIN, number)
+    }
+
+    /// All integers of 64 bits but one.
+    pub fn but(alloc: Global, number: i64) -> Result<IntSet, Memory>
+        ensures { IfOk result (λ set. (n : ℤ) → is_member set n ≡ (is_int64 n && not (int_eq n number))) }
+    {
+        match number {
+            i64::MIN => IntSet::at_least(alloc, i64::MIN + 1),
+            i64::MAX => IntSet::at_most(alloc, i64::MAX - 1),
+            _ => {
+                let mut pieces = Vec::with_capacity(alloc, 2)?;
+                pieces.push((i64::MIN, number - 1))?;
+                pieces.push((number + 1, i64::MAX))?;
+                Ok(IntSet { pieces })
+            }
+        }
+    }
+
+    /// Whether a number is a member. This is a binary search.
+    pub fn contains(&self, number: i64) -> bool
+        ensures { result ≡ is_member self.now number }
+    {
+        has(self.pieces.as_slice(), number)
+    }
+
+    /// Whether there is no member.
+    pub fn is_empty(&self) -> bool
+        ensures { IsTrue result ↔ (self.now ≡ []) }
+    {
+        self.pieces.is_empty()
+    }
+
+    /// The members of both sets.
+    pub fn meet(&self, alloc: Global, other: &IntSet) -> Result<IntSet, Memory>
+        ensures { IfOk result (λ met. (n : ℤ) → is_member met n ≡ (is_member self.now n && is_member other.now n)) }
+    {
+        self.combined(alloc, Combination::Meet, other)
+    }
+
+    /// The members of either set.
+    pub fn union(&self, alloc: Global, other: &IntSet) -> Result<IntSet, Memory>
+        ensures { IfOk result (λ all. (n : ℤ) → is_member all n ≡ (is_member self.now n || is_member other.now n)) }
+    {
+        self.combined(alloc, Combination::Union, other)
+    }
+
+    /// The members of this set that the other lacks.
+    pub fn without(&self, alloc: Global, other: &IntSet) -> Result<IntSet, Memory>
+        ensures { IfOk result (λ rest. (n : ℤ) → is_member rest n ≡ (is_member self.now n && not (is_member other.now n))) }
+    {
+        self.combined(alloc, Combination::Without, other)
+    }
+
+    /// The only member, where there is one.
+    pub fn single(&self) -> Option<i64>
+        ensures some { IfSome result (IsOnlyMember self.now) }
+        ensures none { IfNone result ((n : ℤ) → ¬ IsOnlyMember self.now n) }
+    {
+        match self.pieces.as_slice() {
+            [(first, last)] if *first == *last => Some(*first),
+            _ => None,
+        }
+    }
+
+    /// The least member, where there is one.
+    pub fn first(&self) -> Option<i64>
+        ensures some { IfSome result (IsFirstMember self.now) }
+        ensures none { IfNone result (self.now ≡ []) }
+    {
+        match self.pieces.as_slice() {
+            [] => None,
+            [(first, _), ..] => Some(*first),
+        }
+    }
+
+    /// The pieces: each a first and a last number, ascending, with at least one number left out between neighbours.
+    pub fn pieces(&self) -> &[(i64, i64)]
+        ensures list { result.now ≡ self.now }
+        ensures canonical { IsCanonical self.now }
+    {
+        self.pieces.as_slice()
+    }
+
+    fn combined(&self, alloc: Global, how: Combination, other: &IntSet) -> Result<IntSet, Memory>
+        ensures { IfOk result (λ set. (n : ℤ) → is_member set n ≡ keeps how (is_member self.now n) (is_member other.now n)) }
+    {
+        Ok(IntSet {
+            pieces: combine(alloc, how, self.pieces.as_slice(), other.pieces.as_slice())?,
+        })
+    }
+
+    /// The integers from `first` to `last`, with both.
+    fn between(alloc: Global, first: i64, last: i64) -> Result<IntSet, Memory>
+        requires { first ≤ℤ last }
+        ensures { IfOk result (λ set. set ≡ (first, last) ∷ []) }
+    {
+        let mut pieces = Vec::with_capacity(alloc, 1)?;
+        pieces.push((first, last))?;
+        Ok(IntSet { pieces })
+    }
+}
+
+/// A set refuses the integers of 64 bits that are no members, and no other number.
+impl Narrow for IntSet {
+    ghost use Rattle.std.specs.Prelude.{◌≡◌, ℤ, List, ◌↔◌};
+    ghost use Rattle.cue_sets.specs.Pieces.{Refuses, IsCanonical};
+    ghost use Rattle.cue_sets.specs.PieceLaws.{same_pieces};
+
+    type Question = i64;
+
+    ghost refuses = { Refuses };
+
+    ghost is_value = { IsCanonical };
+
+    ghost exact = { same_pieces };
+
+    fn free(alloc: Global) -> Result<IntSet, Memory> {
+        IntSet::full(alloc)
+    }
+
+    fn is_free(&self) -> bool {
+        self.pieces.as_slice() == [(i64::MIN, i64::MAX)].as_slice()
+    }
+
+    fn meet(&self, alloc: Global, other: &IntSet) -> Result<IntSet, Memory> {
+        self.combined(alloc, Combination::Meet, other)
+    }
+
+    fn same(&self, other: &IntSet) -> bool {
+        self.pieces.as_slice() == other.pieces.as_slice()
+    }
+
+    fn copy(&self, alloc: Global) -> Result<IntSet, Memory> {
+        Ok(IntSet {
+            pieces: Vec::from_slice(alloc, self.pieces.as_slice())?,
+        })
+    }
+
+    fn known(&self) {
+        let _pieces = &self.pieces;
+    }
+}

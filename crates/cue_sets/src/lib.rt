@@ -1,0 +1,17 @@
+//! Sets of integers of 64 bits and sets of texts, each with one form for its members.
+//!
+//! A set is its members: the contract of each call says which members its answer has, and what a set lists is its one
+//! form, so that sets with equal members are equal values.
+#![tactic(auto)]
+
+mod combination;
+mod int_set;
+mod pieces;
+mod text_set;
+mod texts;
+
+pub use int_set::IntSet;
+pub use text_set::TextSet;
+
+#[cfg(test)]
+mod tests;

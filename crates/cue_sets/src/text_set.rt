@@ -1,0 +1,215 @@
+ghost use Rattle.std.specs.Prelude.{◌≡◌, ◌↔◌, ℕ, Bool, List, [], ◌∷◌, true, false, not, ◌&&◌, ◌||◌, IfOk, IfSome, IfNone, Ok, IsTrue};
+ghost use Rattle.cue_sets.specs.Combination.{keeps};
+ghost use Rattle.cue_sets.specs.Texts.{is_text_member, IsAscending, IsFirstText, IsOnlyText};
+
+use crate::combination::Combination;
+use crate::texts::{Lists, are_same, copies, has, is_member, merge, zeros, zeros_listed};
+use cue_lattice::{Memory, Narrow, Text};
+use std::alloc::Global;
+use std::marker::Model;
+
+/// A set of texts: a finite one, or all texts but finitely many.
+///
+/// It lists its members, or the texts that it lacks, strictly ascending by their bytes. So sets with equal members are
+/// equal values.
+#[derive(Debug, Drop)]
+pub struct TextSet {
+    all_but: bool,
+    texts: Vec<Text>,
+}
+
+impl Model for TextSet {
+    ghost use Rattle.std.specs.Prelude.{Bool, List, ℕ};
+    ghost use Rattle.cue_sets.specs.Texts.{IsAscending};
+
+    ghost Value = { Bool × List (List ℕ) };
+
+    ghost view = { λ set. (set.all_but, set.texts.items) };
+
+    ghost invariant = { λ set. IsAscending set.texts.items };
+}
+
+impl TextSet {
+    /// No text. This takes no memory.
+    pub fn none(alloc: Global) -> Result<TextSet, Memory>
+        ensures { result ≡ Ok (false, []) }
+    {
+        Ok(TextSet {
+            all_but: false,
+            texts: Vec::new(alloc),
+        })
+    }
+
+    /// All texts. This takes no memory.
+    pub fn all(alloc: Global) -> Result<TextSet, Memory>
+        ensures { result ≡ Ok (true, []) }
+    {
+        Ok(TextSet {
+            all_but: true,
+            texts: Vec::new(alloc),
+        })
+    }
+
+    /// One text.
+    pub fn one(alloc: Global, text: &str) -> Result<TextSet, Memory>
+        ensures { IfOk result (λ set. set ≡ (false, text.now ∷ [])) }
+    {
+        TextSet::listing(alloc, false, text)
+    }
+
+    /// All texts but one.
+    pub fn but(alloc: Global, text: &str) -> Result<TextSet, Memory>
+        ensures { IfOk result (λ set. set ≡ (true, text.now ∷ [])) }
+    {
+        TextSet::listing(alloc, true, text)
+    }
+
+    /// Whether a text is a member. This is a binary search.
+    pub fn contains(&self, text: &str) -> bool
+        ensures { result ≡ is_text_member self.now text.now }
+    {
+        is_member(self.all_but, has(self.texts.as_slice(), text))
+    }
+
+    /// Whether there is no member.
+    pub fn is_empty(&self) -> bool
+        ensures { IsTrue result ↔ (self.now ≡ (false, [])) }
+    {
+        !self.all_but && self.texts.is_empty()
+    }
+
+    /// The members of both sets.
+    pub fn meet(&self, alloc: Global, other: &TextSet) -> Result<TextSet, Memory>
+        ensures { IfOk result (λ met. (text : List ℕ) →
+            is_text_member met text ≡ (is_text_member self.now text && is_text_member other.now text)) }
+    {
+        self.combined(alloc, Combination::Meet, other)
+    }
+
+    /// The members of either set.
+    pub fn union(&self, alloc: Global, other: &TextSet) -> Result<TextSet, Memory>
+        ensures { IfOk result (λ all. (text : List ℕ) →
+            is_text_member all text ≡ (is_text_member self.now text || is_text_member other.now text)) }
+    {
+        self.combined(alloc, Combination::Union, other)
+    }
+
+    /// The members of this set that the other lacks.
+    pub fn without(&self, alloc: Global, other: &TextSet) -> Result<TextSet, Memory>
+        ensures { IfOk result (λ rest. (text : List ℕ) →
+            is_text_member rest text ≡ (is_text_member self.now text && not (is_text_member other.now text))) }
+    {
+        self.combined(alloc, Combination::Without, other)
+    }
+
+    /// The only member, where there is one.
+    pub fn single(&self) -> Option<&str>
+        ensures some { IfSome result (λ text. IsOnlyText self.now text.now) }
+        ensures none { IfNone result ((text : List ℕ) → ¬ IsOnlyText self.now text) }
+    {
+        if self.all_but {
+            return None;
+        }
+        if self.texts.len() != 1 {
+            return None;
+        }
+        Some(self.texts[0].as_str())
+    }
+
+    /// The least member by bytes, where there is one. Of all texts but some it is the first of the texts of zero, one,
+    /// two, .. characters U+0000 that the set has.
+    pub fn first(&self, alloc: Global) -> Result<Option<Text>, Memory>
+        ensures some { IfOk result (λ found. IfSome found (IsFirstText self.now)) }
+        ensures none { IfOk result (λ found. IfNone found (self.now ≡ (false, []))) }
+    {
+        if self.all_but {
+            return Ok(Some(zeros(alloc, zeros_listed(self.texts.as_slice()))?));
+        }
+        if self.texts.is_empty() {
+            return Ok(None);
+        }
+        Ok(Some(self.texts[0].copy(alloc)?))
+    }
+
+    /// Whether the set has all texts but the listed ones, and the listed texts, strictly ascending by their bytes.
+    pub fn listed(&self) -> (bool, &[Text])
+        ensures all_but { result.0 ≡ self.now.0 }
+        ensures texts { result.1.now ≡ self.now.1 }
+        ensures ascending { IsAscending self.now.1 }
+    {
+        (self.all_but, self.texts.as_slice())
+    }
+
+    fn combined(&self, alloc: Global, how: Combination, other: &TextSet) -> Result<TextSet, Memory>
+        ensures { IfOk result (λ set. (text : List ℕ) →
+            is_text_member set text ≡ keeps how (is_text_member self.now text) (is_text_member other.now text)) }
+    {
+        let lists = Lists {
+            how,
+            left_all_but: self.all_but,
+            right_all_but: other.all_but,
+        };
+        Ok(TextSet {
+            all_but: lists.all_but(),
+            texts: merge(alloc, lists, self.texts.as_slice(), other.texts.as_slice())?,
+        })
+    }
+
+    fn is_all(&self) -> bool
+        ensures all { IsTrue result ↔ (self.now ≡ (true, [])) }
+        ensures ascending { IsAscending self.now.1 }
+    {
+        self.all_but && self.texts.is_empty()
+    }
+
+    /// The set that lists one text.
+    fn listing(alloc: Global, all_but: bool, text: &str) -> Result<TextSet, Memory>
+        ensures { IfOk result (λ set. set ≡ (all_but, text.now ∷ [])) }
+    {
+        let mut texts = Vec::with_capacity(alloc, 1)?;
+        texts.push(Text::from_str(alloc, text)?)?;
+        Ok(TextSet { all_but, texts })
+    }
+}
+
+/// A set refuses the texts that are no members.
+impl Narrow for TextSet {
+    ghost use Rattle.std.specs.Prelude.{◌≡◌, ℕ, List, Bool, ◌↔◌};
+    ghost use Rattle.cue_sets.specs.Texts.{RefusesText, IsTextSet};
+    ghost use Rattle.cue_sets.specs.TextLaws.{same_texts};
+
+    type Question = Text;
+
+    ghost refuses = { RefusesText };
+
+    ghost is_value = { IsTextSet };
+
+    ghost exact = { same_texts };
+
+    fn free(alloc: Global) -> Result<TextSet, Memory> {
+        TextSet::all(alloc)
+    }
+
+    fn is_free(&self) -> bool {
+        self.is_all()
+    }
+
+    fn meet(&self, alloc: Global, other: &TextSet) -> Result<TextSet, Memory> {
+        self.combined(alloc, Combination::Meet, other)
+    }
+
+    fn same(&self, other: &TextSet) -> bool {
+        self.all_but == other.all_but && are_same(self.texts.as_slice(), other.texts.as_slice())
+    }
+
+    fn copy(&self, alloc: Global) -> Result<TextSet, Memory> {
+        Ok(TextSet {
+            all_but: self.all_but,
+            texts: copies(alloc, self.texts.as_slice())?,
+        })
+    }
+
+    fn known(&self) {
+        let _texts = &self.texts;
+    }
+}

@@ -1,0 +1,201 @@
+ghost use Rattle.std.specs.Prelude.{◌≡◌, ℕ, ◌+◌, ◌<◌, Bool, ◌↔◌, [], List, length, IfOk, IfSome, IfNone, IsTrue, true, replicate};
+ghost use Rattle.cue_sets.specs.Combination.{keeps};
+ghost use Rattle.cue_sets.specs.Merge.{lists, merged, prepended_if};
+ghost use Rattle.cue_sets.specs.Texts.{flipped, is_listed, IsAscending, IsFirstText};
+
+use crate::combination::Combination;
+use cue_lattice::{Memory, Text};
+use std::alloc::Global;
+use std::cmp::Ordering;
+
+/// Whether a text is a member of a set, by whether it is listed. `all_but` says that the set has all texts but the
+/// listed ones.
+pub(crate) fn is_member(all_but: bool, listed: bool) -> bool
+    ensures { result ≡ flipped all_but listed }
+{
+    all_but != listed
+}
+
+/// How the lists of two sets become that of their combination.
+#[derive(Clone, Copy)]
+pub(crate) struct Lists {
+    pub(crate) how: Combination,
+    /// Whether the left set has all texts but the listed ones.
+    pub(crate) left_all_but: bool,
+    /// Whether the right set has all texts but the listed ones.
+    pub(crate) right_all_but: bool,
+}
+
+impl Lists {
+    /// Whether the combination has all texts but the listed ones.
+    pub(crate) fn all_but(self) -> bool
+        ensures { result ≡ keeps self.how self.left_all_but self.right_all_but }
+    {
+        self.how.keeps(self.left_all_but, self.right_all_but)
+    }
+
+    /// Whether the combination lists a text, by which of the two sets list it.
+    fn keeps(self, in_left: bool, in_right: bool) -> bool
+        ensures { result ≡ lists self.how self.left_all_but self.right_all_but in_left in_right }
+    {
+        let kept = self.how.keeps(
+            is_member(self.left_all_but, in_left),
+            is_member(self.right_all_but, in_right),
+        );
+        is_member(self.all_but(), kept)
+    }
+}
+
+/// The least text of two ascending lists, and what comes after it.
+#[derive(Clone, Copy)]
+struct Least<'a> {
+    text: &'a Text,
+    in_left: bool,
+    in_right: bool,
+    left: &'a [Text],
+    right: &'a [Text],
+}
+
+/// The least text of two ascending lists, where one has a text.
+fn least_text<'a>(left: &'a [Text], right: &'a [Text]) -> Option<Least<'a>>
+    ensures some { IfSome result (λ next. (kept : Bool → Bool → Bool) → merged kept left.now right.now
+        ≡ prepended_if (kept next.in_left next.in_right) next.text.now (merged kept next.left.now next.right.now)) }
+    ensures shorter { IfSome result (λ next.
+        length next.left.now + length next.right.now < length left.now + length right.now) }
+    ensures none { IfNone result ((left.now ≡ []) × (right.now ≡ [])) }
+{
+    match left {
+        [] => match right {
+            [] => None,
+            [text, later @ ..] => Some(Least {
+                text,
+                in_left: false,
+                in_right: true,
+                left,
+                right: later,
+            }),
+        },
+        [on_left, left_later @ ..] => match right {
+            [] => Some(Least {
+                text: on_left,
+                in_left: true,
+                in_right: false,
+                left: left_later,
+                right,
+            }),
+            [on_right, right_later @ ..] => Some(match on_left.compare(on_right) {
+                Ordering::Less => Least {
+                    text: on_left,
+                    in_left: true,
+                    in_right: false,
+                    left: left_later,
+                    right,
+                },
+                Ordering::Equal => Least {
+                    text: on_left,
+                    in_left: true,
+                    in_right: true,
+                    left: left_later,
+                    right: right_later,
+                },
+                Ordering::Greater => Least {
+                    text: on_right,
+                    in_left: false,
+                    in_right: true,
+                    left,
+                    right: right_later,
+                },
+            }),
+        },
+    }
+}
+
+/// The list of a combination of two sets. Both lists are walked once.
+pub(crate) fn merge(
+    alloc: Global,
+    how: Lists,
+    left: &[Text],
+    right: &[Text],
+) -> Result<Vec<Text>, Memory>
+    ensures { IfOk result (λ texts.
+        texts.items ≡ merged (lists how.how how.left_all_but how.right_all_but) left.now right.now) }
+{
+    let mut texts = Vec::with_capacity(alloc, left.len() + right.len())?;
+    let (mut on_left, mut on_right) = (left, right);
+    while let Some(next) = least_text(on_left, on_right) {
+        if how.keeps(next.in_left, next.in_right) {
+            texts.push(next.text.copy(alloc)?)?;
+        }
+        on_left = next.left;
+        on_right = next.right;
+    }
+    Ok(texts)
+}
+
+/// Whether a text is listed, by a binary search.
+pub(crate) fn has(texts: &[Text], text: &str) -> bool
+    requires { IsAscending texts.now }
+    ensures { result ≡ is_listed texts.now text.now }
+{
+    texts
+        .binary_search_by(|listed| listed.as_bytes().cmp(text.as_bytes()))
+        .is_ok()
+}
+
+/// Whether two lists have the same texts in the same order.
+pub(crate) fn are_same(left: &[Text], right: &[Text]) -> bool
+    ensures { IsTrue result ↔ (left.now ≡ right.now) }
+{
+    if left.len() != right.len() {
+        return false;
+    }
+    for (index, text) in left.iter().enumerate() {
+        if !text.same(&right[index]) {
+            return false;
+        }
+    }
+    true
+}
+
+/// A list of the same texts.
+pub(crate) fn copies(alloc: Global, texts: &[Text]) -> Result<Vec<Text>, Memory>
+    ensures { IfOk result (λ copied. copied.items ≡ texts.now) }
+{
+    let mut copied = Vec::with_capacity(alloc, texts.len())?;
+    for text in texts {
+        copied.push(text.copy(alloc)?)?;
+    }
+    Ok(copied)
+}
+
+/// How many texts at the front of an ascending list are those of zero, one, two, .. characters U+0000. No text is below
+/// these, so the next of them is the least that is not listed.
+pub(crate) fn zeros_listed(texts: &[Text]) -> usize
+    requires { IsAscending texts.now }
+    ensures { IsFirstText (true, texts.now) (replicate result 0) }
+{
+    for (count, text) in texts.iter().enumerate() {
+        if !are_zeros(text.as_bytes(), count) {
+            return count;
+        }
+    }
+    texts.len()
+}
+
+/// Whether these are so many zero bytes.
+fn are_zeros(bytes: &[u8], count: usize) -> bool
+    ensures { IsTrue result ↔ (bytes.now ≡ replicate count 0) }
+{
+    bytes.len() == count && bytes.iter().all(|byte| *byte == 0)
+}
+
+/// The text of so many characters U+0000.
+pub(crate) fn zeros(alloc: Global, count: usize) -> Result<Text, Memory>
+    ensures { IfOk result (λ text. text ≡ replicate count 0) }
+{
+    let mut text = String::with_capacity(alloc, count)?;
+    for _index in 0..count {
+        text.push('\0')?;
+    }
+    Ok(Text::new(text))
+}

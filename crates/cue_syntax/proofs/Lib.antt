@@ -1,0 +1,4 @@
+pub mod Reading
+pub mod Views
+pub mod Rows
+pub mod Trees

@@ -1,0 +1,65 @@
+-- The trees of the program's values, level by level.
+use Rattle.std.proofs.Common.{◌≡◌, ◌∙◌, ap, sym, ℕ, Bool, List, Vec, Box, Global}
+use Rattle.cue_syntax.specs.declared.tree.Identifier.{Identifier}
+use Rattle.cue_syntax.specs.declared.tree.Label.{Label}
+use Rattle.cue_syntax.specs.declared.tree.Signed.{Signed}
+use Rattle.cue_syntax.specs.declared.tree.Comparison.{Comparison}
+use Rattle.cue_syntax.specs.declared.tree.Expr.{Expr}
+use Rattle.cue_syntax.specs.declared.tree.Expr.TheVariants as exprs
+use Rattle.cue_syntax.specs.declared.tree.Term.{Term}
+use Rattle.cue_syntax.specs.declared.tree.Declaration.{Declaration}
+use Rattle.cue_syntax.specs.declared.tree.Declaration.TheVariants as declarations
+use Rattle.cue_syntax.specs.declared.tree.Declaration.TheOpen.{Expr-F, Declaration-F}
+use Rattle.cue_syntax.specs.declared.tree.Declaration.TheFolds.{fold-roll-Expr, fold-roll-Declaration, fold_out-Term}
+use Rattle.cue_syntax.specs.Syntax.{Entry, Expression, Branch, entry_step, expression_step, branch_step, expression, entry_tree, branch_tree, elements, branches, entries, name, integer, text, bottom, bound, other_integer, other_text, parenthesis, struct, close, list, conjunction, disjunction, branch, ellipsis, field, definition}
+
+pub view-Name : (n : Identifier) (from : ℕ) → expression (exprs.Name n from) ≡ name n from
+view-Name n from = ap expression (sym (exprs.rolls-Name n from)) ∙ fold-roll-Expr Entry Expression Branch entry_step expression_step branch_step (Expr-F.Name n from)
+
+pub view-Integer : (n : Signed) → expression (exprs.Integer n) ≡ integer n
+view-Integer n = ap expression (sym (exprs.rolls-Integer n)) ∙ fold-roll-Expr Entry Expression Branch entry_step expression_step branch_step (Expr-F.Integer n)
+
+pub view-Text : (t : List ℕ) → expression (exprs.Text t) ≡ text t
+view-Text t = ap expression (sym (exprs.rolls-Text t)) ∙ fold-roll-Expr Entry Expression Branch entry_step expression_step branch_step (Expr-F.Text t)
+
+pub view-Bottom : expression exprs.Bottom ≡ bottom
+view-Bottom = ap expression (sym (exprs.rolls-Bottom)) ∙ fold-roll-Expr Entry Expression Branch entry_step expression_step branch_step Expr-F.Bottom
+
+pub view-Bound : (c : Comparison) (n : Signed) → expression (exprs.Bound c n) ≡ bound c n
+view-Bound c n = ap expression (sym (exprs.rolls-Bound c n)) ∙ fold-roll-Expr Entry Expression Branch entry_step expression_step branch_step (Expr-F.Bound c n)
+
+pub view-OtherInteger : (n : Signed) → expression (exprs.OtherInteger n) ≡ other_integer n
+view-OtherInteger n = ap expression (sym (exprs.rolls-OtherInteger n)) ∙ fold-roll-Expr Entry Expression Branch entry_step expression_step branch_step (Expr-F.OtherInteger n)
+
+pub view-OtherText : (t : List ℕ) → expression (exprs.OtherText t) ≡ other_text t
+view-OtherText t = ap expression (sym (exprs.rolls-OtherText t)) ∙ fold-roll-Expr Entry Expression Branch entry_step expression_step branch_step (Expr-F.OtherText t)
+
+pub view-Parenthesis : (inner : Box Expr Global) (comma : Bool) → expression (exprs.Parenthesis inner comma) ≡ parenthesis (expression inner.value) comma
+view-Parenthesis inner comma = ap expression (sym (exprs.rolls-Parenthesis inner comma)) ∙ fold-roll-Expr Entry Expression Branch entry_step expression_step branch_step (Expr-F.Parenthesis inner comma)
+
+pub view-Struct : (ds : Vec Declaration Global) (comma : Bool) → expression (exprs.Struct ds comma) ≡ struct (entries ds.items) comma
+view-Struct ds comma = ap expression (sym (exprs.rolls-Struct ds comma)) ∙ fold-roll-Expr Entry Expression Branch entry_step expression_step branch_step (Expr-F.Struct ds comma)
+
+pub view-Close : (from : ℕ) (ds : Vec Declaration Global) (inner : Bool) (comma : Bool) → expression (exprs.Close from ds inner comma) ≡ close from (entries ds.items) inner comma
+view-Close from ds inner comma = ap expression (sym (exprs.rolls-Close from ds inner comma)) ∙ fold-roll-Expr Entry Expression Branch entry_step expression_step branch_step (Expr-F.Close from ds inner comma)
+
+pub view-List : (es : Vec Expr Global) (goes_on : Bool) (comma : Bool) → expression (exprs.List es goes_on comma) ≡ list (elements es.items) goes_on comma
+view-List es goes_on comma = ap expression (sym (exprs.rolls-List es goes_on comma)) ∙ fold-roll-Expr Entry Expression Branch entry_step expression_step branch_step (Expr-F.List es goes_on comma)
+
+pub view-Conjunction : (es : Vec Expr Global) → expression (exprs.Conjunction es) ≡ conjunction (elements es.items)
+view-Conjunction es = ap expression (sym (exprs.rolls-Conjunction es)) ∙ fold-roll-Expr Entry Expression Branch entry_step expression_step branch_step (Expr-F.Conjunction es)
+
+pub view-Disjunction : (ts : Vec Term Global) → expression (exprs.Disjunction ts) ≡ disjunction (branches ts.items)
+view-Disjunction ts = ap expression (sym (exprs.rolls-Disjunction ts)) ∙ fold-roll-Expr Entry Expression Branch entry_step expression_step branch_step (Expr-F.Disjunction ts)
+
+pub view-Ellipsis : entry_tree declarations.Ellipsis ≡ ellipsis
+view-Ellipsis = ap entry_tree (sym declarations.rolls-Ellipsis) ∙ fold-roll-Declaration Entry Expression Branch entry_step expression_step branch_step Declaration-F.Ellipsis
+
+pub view-Field : (l : Label) (chain : Vec Label Global) (e : Expr) → entry_tree (declarations.Field l chain e) ≡ field l chain.items (expression e)
+view-Field l chain e = ap entry_tree (sym (declarations.rolls-Field l chain e)) ∙ fold-roll-Declaration Entry Expression Branch entry_step expression_step branch_step (Declaration-F.Field l chain e)
+
+pub view-Definition : (t : List ℕ) (from : ℕ) (chain : Vec Label Global) (e : Expr) → entry_tree (declarations.Definition t from chain e) ≡ definition t from chain.items (expression e)
+view-Definition t from chain e = ap entry_tree (sym (declarations.rolls-Definition t from chain e)) ∙ fold-roll-Declaration Entry Expression Branch entry_step expression_step branch_step (Declaration-F.Definition t from chain e)
+
+pub view-term : (t : Term) → branch_tree t ≡ branch t.marked t.from (expression t.value)
+view-term t = fold_out-Term Entry Expression Branch entry_step expression_step branch_step t

@@ -1,0 +1,90 @@
+-- The room falls at each level that opens. Within one level the functions call each other in a fixed order.
+use Rattle.std.proofs.Common.{◌≡◌, ℕ, ◌+◌, ◌*◌, ◌≤◌, false, length}
+use Rattle.cue_syntax.specs.Grammar.{AreElements, AreEntries, AreNested}
+use Rattle.cue_syntax.specs.Syntax.{elements, entries}
+use Rattle.cue_syntax.proofs.Trees.{AreTerms, AreParts, Between}
+use Rattle.cue_syntax.proofs.expression.+parser.Given as goal
+
+abbrev rank : ℕ → ℕ → ℕ
+rank room place = 16 * room + place
+
+abbrev pub decreases-braces : goal.decreases-braces
+decreases-braces l = rank l.room 0
+
+abbrev pub decreases-declarations : goal.decreases-declarations
+decreases-declarations l = rank l.room 8
+
+abbrev pub decreases-declaration : goal.decreases-declaration
+decreases-declaration l = rank l.room 7
+
+abbrev pub decreases-list : goal.decreases-list
+decreases-list l = rank l.room 0
+
+abbrev pub decreases-elements : goal.decreases-elements
+decreases-elements l = rank l.room 6
+
+abbrev pub decreases-definition : goal.decreases-definition
+decreases-definition l = rank l.room 6
+
+abbrev pub decreases-field : goal.decreases-field
+decreases-field l = rank l.room 6
+
+abbrev pub decreases-parenthesis : goal.decreases-parenthesis
+decreases-parenthesis l = rank l.room 0
+
+abbrev pub decreases-expression : goal.decreases-expression
+decreases-expression l = rank l.room 5
+
+abbrev pub decreases-term : goal.decreases-term
+decreases-term l = rank l.room 4
+
+abbrev pub decreases-conjunction : goal.decreases-conjunction
+decreases-conjunction l = rank l.room 3
+
+abbrev pub decreases-unary : goal.decreases-unary
+decreases-unary l = rank l.room 2
+
+abbrev pub decreases-close : goal.decreases-close
+decreases-close l = rank l.room 1
+
+abbrev pub invariant-expression-terms : goal.invariant-expression-terms
+invariant-expression-terms l = record {
+  shorter : length l.after.rest.now ≤ length l.cursor.rest.now;
+  terms : AreTerms l.room l.cursor.rest.now l.terms.items l.after.rest.now;
+}
+
+abbrev pub decreases-expression-terms : goal.decreases-expression-terms
+decreases-expression-terms l = length l.after.rest.now
+
+abbrev pub invariant-conjunction-parts : goal.invariant-conjunction-parts
+invariant-conjunction-parts l = record {
+  shorter : length l.after.rest.now ≤ length l.cursor.rest.now;
+  parts : AreParts l.room l.cursor.rest.now l.parts.items l.after.rest.now;
+}
+
+abbrev pub decreases-conjunction-parts : goal.decreases-conjunction-parts
+decreases-conjunction-parts l = length l.after.rest.now
+
+abbrev pub invariant-elements-elements : goal.invariant-elements-elements
+invariant-elements-elements l = record {
+  shorter : length l.rest.rest.now ≤ length l.cursor.rest.now;
+  row : AreElements l.room l.cursor.rest.now (elements l.items.items) l.comma l.rest.rest.now;
+  between : Between l.comma l.items.items;
+}
+
+abbrev pub decreases-elements-elements : goal.decreases-elements-elements
+decreases-elements-elements l = length l.rest.rest.now
+
+abbrev pub invariant-declarations-declarations : goal.invariant-declarations-declarations
+invariant-declarations-declarations l = record {
+  shorter : length l.rest.rest.now ≤ length l.cursor.rest.now;
+  row : AreEntries l.room l.cursor.rest.now (entries l.items.items) l.comma l.rest.rest.now;
+  between : Between l.comma l.items.items;
+  nested : l.top ≡ false → AreNested (entries l.items.items);
+}
+
+abbrev pub decreases-declarations-declarations : goal.decreases-declarations-declarations
+decreases-declarations-declarations l = length l.rest.rest.now
+
+abbrev pub decreases-structure : goal.decreases-structure
+decreases-structure l = rank l.room 1

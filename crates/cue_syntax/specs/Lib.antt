@@ -1,0 +1,4 @@
+pub mod Syntax
+pub mod Spelling
+pub mod Grammar
+pub mod Punctuation

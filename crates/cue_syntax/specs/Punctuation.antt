@@ -1,0 +1,20 @@
+-- The tokens that are looked for by themselves.
+use Rattle.cue_lex.specs.declared.token.TokenKind.{TokenKind}
+use Rattle.cue_lex.specs.declared.token.TokenKind.TheVariants as kinds
+use Rattle.cue_syntax.specs.declared.cursor.Punctuation.{Punctuation}
+use Rattle.cue_syntax.specs.declared.cursor.Punctuation.TheVariants as signs
+
+abbrev pub punctuation_kind : Punctuation → TokenKind
+punctuation_kind signs.Comma = kinds.Comma
+punctuation_kind signs.Colon = kinds.Colon
+punctuation_kind signs.Bar = kinds.Bar
+punctuation_kind signs.Ampersand = kinds.Ampersand
+punctuation_kind signs.Star = kinds.Star
+punctuation_kind signs.Ellipsis = kinds.Ellipsis
+punctuation_kind signs.NotEqual = kinds.NotEqual
+punctuation_kind signs.OpenParenthesis = kinds.OpenParenthesis
+punctuation_kind signs.OpenBrace = kinds.OpenBrace
+punctuation_kind signs.OpenBracket = kinds.OpenBracket
+punctuation_kind signs.CloseParenthesis = kinds.CloseParenthesis
+punctuation_kind signs.CloseBrace = kinds.CloseBrace
+punctuation_kind signs.CloseBracket = kinds.CloseBracket

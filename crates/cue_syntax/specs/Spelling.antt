@@ -1,0 +1,158 @@
+-- How a tree is spelled: the grammar as a writer of tokens.
+use Rattle.std.specs.Prelude.{◌≡◌, ℕ, Bool, true, false, List, [], ◌∷◌, ◌++◌, flat_map, codes, Option, None, Some}
+use Rattle.cue_lex.specs.declared.token.Token.{Token}
+use Rattle.cue_lex.specs.declared.token.TokenKind.{TokenKind}
+use Rattle.cue_lex.specs.declared.token.TokenKind.TheVariants as kinds
+use Rattle.cue_syntax.specs.declared.tree.Identifier.{Identifier}
+use Rattle.cue_syntax.specs.declared.tree.Identifier.TheVariants as identifiers
+use Rattle.cue_syntax.specs.declared.tree.Label.{Label}
+use Rattle.cue_syntax.specs.declared.tree.LabelName.{LabelName}
+use Rattle.cue_syntax.specs.declared.tree.LabelName.TheVariants as names
+use Rattle.cue_syntax.specs.declared.tree.Mark.{Mark}
+use Rattle.cue_syntax.specs.declared.tree.Mark.TheVariants as marks
+use Rattle.cue_syntax.specs.declared.tree.Sign.{Sign}
+use Rattle.cue_syntax.specs.declared.tree.Sign.TheVariants as signs
+use Rattle.cue_syntax.specs.declared.tree.Signed.{Signed}
+use Rattle.cue_syntax.specs.declared.tree.Comparison.{Comparison}
+use Rattle.cue_syntax.specs.declared.tree.Comparison.TheVariants as comparisons
+use Rattle.cue_syntax.specs.declared.tree.Package.{Package}
+use Rattle.cue_syntax.specs.declared.tree.File.{File}
+use Rattle.cue_syntax.specs.Syntax.{entries, Expression, name, integer, text, bottom, bound, other_integer, other_text, parenthesis, struct, close, list, conjunction, disjunction, Elements, no_elements, element, Branch, branch, Branches, no_branches, next_branch, Entry, ellipsis, field, definition, Entries, no_entries, entry}
+
+-- a token as far as a tree knows it: its kind, and the places that the tree keeps of it
+pub record Piece : Type 0 where
+  pub kind : TokenKind
+  pub places : List ℕ
+
+abbrev pub one : TokenKind → List Piece
+one kind = record { kind = kind; places = [] } ∷ []
+
+abbrev pub one_at : ℕ → TokenKind → List Piece
+one_at from kind = record { kind = kind; places = from ∷ [] } ∷ []
+
+-- the first token stands at this place too
+abbrev pub placed : ℕ → List Piece → List Piece
+placed from [] = []
+placed from (piece ∷ pieces) = record { kind = piece.kind; places = from ∷ piece.places } ∷ pieces
+
+abbrev pub comma_if : Bool → List Piece
+comma_if true = one kinds.Comma
+comma_if false = []
+
+abbrev pub star_if : Bool → List Piece
+star_if true = one kinds.Star
+star_if false = []
+
+abbrev pub identifier_kind : Identifier → TokenKind
+identifier_kind (identifiers.Plain t) = kinds.Name t
+identifier_kind (identifiers.Definition t) = kinds.Definition t
+identifier_kind (identifiers.Hidden t) = kinds.Hidden t
+
+abbrev pub comparison_kind : Comparison → TokenKind
+comparison_kind comparisons.Less = kinds.Less
+comparison_kind comparisons.AtMost = kinds.AtMost
+comparison_kind comparisons.Greater = kinds.Greater
+comparison_kind comparisons.AtLeast = kinds.AtLeast
+
+abbrev pub spell_sign : Sign → List Piece
+spell_sign signs.Absent = []
+spell_sign signs.Minus = one kinds.Minus
+spell_sign signs.Plus = one kinds.Plus
+
+abbrev pub spell_signed : Signed → List Piece
+spell_signed n = spell_sign n.sign ++ one (kinds.Integer n.magnitude)
+
+abbrev pub label_kind : LabelName → TokenKind
+label_kind (names.Plain t) = kinds.Name t
+label_kind (names.Quoted t) = kinds.Text t
+
+abbrev pub spell_mark : Mark → List Piece
+spell_mark marks.Regular = []
+spell_mark marks.Optional = one kinds.Question
+spell_mark marks.Required = one kinds.Exclamation
+
+abbrev pub spell_label : Label → List Piece
+spell_label label = one (label_kind label.name) ++ spell_mark label.mark ++ one kinds.Colon
+
+-- the `...` of a list, behind a comma where elements stand before it
+abbrev pub spell_rest : Elements → Bool → List Piece
+spell_rest es false = []
+spell_rest no_elements true = one kinds.Ellipsis
+spell_rest (element e es) true = one kinds.Comma ++ one kinds.Ellipsis
+
+abbrev mutual
+  pub spell : Expression → List Piece
+  spell (name n from) = one_at from (identifier_kind n)
+  spell (integer n) = spell_signed n
+  spell (text t) = one (kinds.Text t)
+  spell bottom = one kinds.Bottom
+  spell (bound c n) = one (comparison_kind c) ++ spell_signed n
+  spell (other_integer n) = one kinds.NotEqual ++ spell_signed n
+  spell (other_text t) = one kinds.NotEqual ++ one (kinds.Text t)
+  spell (parenthesis e comma) = one kinds.OpenParenthesis ++ spell e ++ comma_if comma ++ one kinds.CloseParenthesis
+  spell (struct es comma) = one kinds.OpenBrace ++ spell_entries es ++ comma_if comma ++ one kinds.CloseBrace
+  spell (close from es inner comma) = one_at from (kinds.Name (codes "close")) ++ one kinds.OpenParenthesis
+      ++ (one kinds.OpenBrace ++ spell_entries es ++ comma_if inner ++ one kinds.CloseBrace)
+      ++ comma_if comma ++ one kinds.CloseParenthesis
+  spell (list es goes_on comma) = one kinds.OpenBracket ++ spell_elements kinds.Comma es ++ spell_rest es goes_on ++ comma_if comma ++ one kinds.CloseBracket
+  spell (conjunction es) = spell_elements kinds.Ampersand es
+  spell (disjunction bs) = spell_branches bs
+
+  -- expressions with a sign between them
+  pub spell_elements : TokenKind → Elements → List Piece
+  spell_elements sign no_elements = []
+  spell_elements sign (element e es) = spell e ++ spell_more_elements sign es
+
+  pub spell_more_elements : TokenKind → Elements → List Piece
+  spell_more_elements sign no_elements = []
+  spell_more_elements sign (element e es) = one sign ++ spell e ++ spell_more_elements sign es
+
+  pub spell_branch : Branch → List Piece
+  spell_branch (branch marked from e) = star_if marked ++ placed from (spell e)
+
+  pub spell_branches : Branches → List Piece
+  spell_branches no_branches = []
+  spell_branches (next_branch b bs) = spell_branch b ++ spell_more_branches bs
+
+  pub spell_more_branches : Branches → List Piece
+  spell_more_branches no_branches = []
+  spell_more_branches (next_branch b bs) = one kinds.Bar ++ spell_branch b ++ spell_more_branches bs
+
+  pub spell_entry : Entry → List Piece
+  spell_entry ellipsis = one kinds.Ellipsis
+  spell_entry (field label chain e) = spell_label label ++ flat_map spell_label chain ++ spell e
+  spell_entry (definition t from chain e) = one_at from (kinds.Definition t) ++ one kinds.Colon ++ flat_map spell_label chain ++ spell e
+
+  pub spell_entries : Entries → List Piece
+  spell_entries no_entries = []
+  spell_entries (entry e es) = spell_entry e ++ spell_more_entries es
+
+  pub spell_more_entries : Entries → List Piece
+  spell_more_entries no_entries = []
+  spell_more_entries (entry e es) = one kinds.Comma ++ spell_entry e ++ spell_more_entries es
+
+abbrev pub spell_package : Option Package → List Piece
+spell_package None = []
+spell_package (Some clause) = one (kinds.Name (codes "package")) ++ one (identifier_kind clause.name) ++ comma_if clause.comma
+
+abbrev pub spell_file : File → List Piece
+spell_file file = spell_package file.package ++ spell_entries (entries file.declarations.items) ++ comma_if file.comma
+
+-- the token begins at each of the places
+abbrev pub StandsAt : Token → List ℕ → Type 0
+StandsAt token [] = Unit {0}
+StandsAt token (place ∷ places) = (token.from ≡ place) × StandsAt token places
+
+-- the tokens are these pieces, and then the rest
+abbrev pub Follows : List Token → List Piece → List Token → Type 0
+Follows tokens [] rest = tokens ≡ rest
+Follows [] (piece ∷ pieces) rest = ⊥
+Follows (token ∷ tokens) (piece ∷ pieces) rest = (token.kind ≡ piece.kind) × StandsAt token piece.places × Follows tokens pieces rest
+
+pub record Reads (tokens : List Token) (pieces : List Piece) (rest : List Token) : Type 0 where
+  pub follows : Follows tokens pieces rest
+
+-- the place is that of the first token, where one is left
+abbrev pub IsPlace : List Token → ℕ → Type 0
+IsPlace [] from = Unit {0}
+IsPlace (token ∷ tokens) from = token.from ≡ from

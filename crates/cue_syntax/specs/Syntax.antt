@@ -1,0 +1,105 @@
+-- Syntax trees, as the grammar speaks of them, and the tree that a value of the program is.
+use Rattle.std.specs.Prelude.{ℕ, Bool, List, [], ◌∷◌, map}
+use Rattle.cue_syntax.specs.declared.tree.Identifier.{Identifier}
+use Rattle.cue_syntax.specs.declared.tree.Label.{Label}
+use Rattle.cue_syntax.specs.declared.tree.Signed.{Signed}
+use Rattle.cue_syntax.specs.declared.tree.Comparison.{Comparison}
+use Rattle.cue_syntax.specs.declared.tree.Expr.{Expr, fold-Expr}
+use Rattle.cue_syntax.specs.declared.tree.Term.{Term, fold-Term}
+use Rattle.cue_syntax.specs.declared.tree.Declaration.{Declaration, fold-Declaration}
+use Rattle.cue_syntax.specs.declared.tree.Declaration.TheOpen.{Expr-F, Term-F, Declaration-F}
+
+-- A number beside a part is the place at which that part begins. The last truth values say whether a comma
+-- stands before the closing sign; that of a list before them says whether it has `...`.
+mutual
+  pub data Expression : Type 0 where
+    name : Identifier → ℕ → Expression
+    integer : Signed → Expression
+    text : List ℕ → Expression
+    bottom : Expression
+    bound : Comparison → Signed → Expression
+    other_integer : Signed → Expression
+    other_text : List ℕ → Expression
+    parenthesis : Expression → Bool → Expression
+    struct : Entries → Bool → Expression
+    close : ℕ → Entries → Bool → Bool → Expression
+    list : Elements → Bool → Bool → Expression
+    conjunction : Elements → Expression
+    disjunction : Branches → Expression
+
+  pub data Elements : Type 0 where
+    no_elements : Elements
+    element : Expression → Elements → Elements
+
+  -- a term of a disjunction: whether it is marked, and where it begins behind its mark
+  pub data Branch : Type 0 where
+    branch : Bool → ℕ → Expression → Branch
+
+  pub data Branches : Type 0 where
+    no_branches : Branches
+    next_branch : Branch → Branches → Branches
+
+  -- a declaration
+  pub data Entry : Type 0 where
+    ellipsis : Entry
+    field : Label → List Label → Expression → Entry
+    definition : List ℕ → ℕ → List Label → Expression → Entry
+
+  pub data Entries : Type 0 where
+    no_entries : Entries
+    entry : Entry → Entries → Entries
+
+abbrev pub elements_of : List Expression → Elements
+elements_of [] = no_elements
+elements_of (e ∷ es) = element e (elements_of es)
+
+abbrev pub branches_of : List Branch → Branches
+branches_of [] = no_branches
+branches_of (b ∷ bs) = next_branch b (branches_of bs)
+
+abbrev pub entries_of : List Entry → Entries
+entries_of [] = no_entries
+entries_of (e ∷ es) = entry e (entries_of es)
+
+-- one level, with the trees of what stands inside
+abbrev pub entry_step : Declaration-F Entry Expression Branch → Entry
+entry_step Declaration-F.Ellipsis = ellipsis
+entry_step (Declaration-F.Field label chain value) = field label chain.items value
+entry_step (Declaration-F.Definition t from chain value) = definition t from chain.items value
+
+abbrev pub expression_step : Expr-F Entry Expression Branch → Expression
+expression_step (Expr-F.Name n from) = name n from
+expression_step (Expr-F.Integer n) = integer n
+expression_step (Expr-F.Text t) = text t
+expression_step Expr-F.Bottom = bottom
+expression_step (Expr-F.Bound c n) = bound c n
+expression_step (Expr-F.OtherInteger n) = other_integer n
+expression_step (Expr-F.OtherText t) = other_text t
+expression_step (Expr-F.Parenthesis inner comma) = parenthesis inner.value comma
+expression_step (Expr-F.Struct es comma) = struct (entries_of es.items) comma
+expression_step (Expr-F.Close from es inner comma) = close from (entries_of es.items) inner comma
+expression_step (Expr-F.List es goes_on comma) = list (elements_of es.items) goes_on comma
+expression_step (Expr-F.Conjunction es) = conjunction (elements_of es.items)
+expression_step (Expr-F.Disjunction bs) = disjunction (branches_of bs.items)
+
+abbrev pub branch_step : Term-F Entry Expression Branch → Branch
+branch_step t = branch t.marked t.from t.value
+
+-- the trees of the program's values
+abbrev pub expression : Expr → Expression
+expression = fold-Expr Entry Expression Branch entry_step expression_step branch_step
+
+abbrev pub branch_tree : Term → Branch
+branch_tree = fold-Term Entry Expression Branch entry_step expression_step branch_step
+
+abbrev pub entry_tree : Declaration → Entry
+entry_tree = fold-Declaration Entry Expression Branch entry_step expression_step branch_step
+
+abbrev pub elements : List Expr → Elements
+elements es = elements_of (map expression es)
+
+abbrev pub branches : List Term → Branches
+branches ts = branches_of (map branch_tree ts)
+
+abbrev pub entries : List Declaration → Entries
+entries ds = entries_of (map entry_tree ds)

@@ -1,0 +1,269 @@
+ghost use Rattle.std.specs.Prelude.{◌≡◌, ◌+◌, ◌≤◌, ◌<◌, ◌∷◌, ◌↔◌, [], IfOk, IfSome, length, MatchOption, IsTrue, codes};
+ghost use Rattle.cue_syntax.specs.Spelling.{Reads, one, one_at, comma_if, IsPlace};
+ghost use Rattle.cue_syntax.specs.Punctuation.{punctuation_kind};
+
+use cue_lattice::{Form, Kind, Refusal};
+use cue_lex::{Token, TokenKind};
+
+/// The tokens that are left, and where the text ends.
+#[derive(Clone, Copy)]
+pub struct Cursor<'a> {
+    pub rest: &'a [Token],
+    /// The length of the text in bytes, the place of a refusal behind the last token.
+    pub end: usize,
+}
+
+/// What a parsing function answers: what it read, and the tokens behind it.
+pub type Parsed<'a, T> = Result<(T, Cursor<'a>), Refusal>;
+
+/// The tokens without a text that the parser looks for by themselves.
+#[derive(Clone, Copy)]
+pub enum Punctuation {
+    Comma,
+    Colon,
+    Bar,
+    Ampersand,
+    Star,
+    Ellipsis,
+    NotEqual,
+    OpenParenthesis,
+    OpenBrace,
+    OpenBracket,
+    CloseParenthesis,
+    CloseBrace,
+    CloseBracket,
+}
+
+/// Which rule of the grammar an operand or a bound follows, by its first tokens.
+#[derive(Clone, Copy)]
+pub enum Operand {
+    Parenthesis,
+    Struct,
+    List,
+    /// `close` before a parenthesis.
+    Close,
+    /// What holds no other expression.
+    Literal,
+}
+
+impl Punctuation {
+    /// Whether a token is this one.
+    fn is(self, kind: &TokenKind) -> bool
+        ensures { IsTrue result ↔ (kind.now ≡ punctuation_kind self) }
+    {
+        match (self, kind) {
+            (Punctuation::Comma, TokenKind::Comma) => true,
+            (Punctuation::Colon, TokenKind::Colon) => true,
+            (Punctuation::Bar, TokenKind::Bar) => true,
+            (Punctuation::Ampersand, TokenKind::Ampersand) => true,
+            (Punctuation::Star, TokenKind::Star) => true,
+            (Punctuation::Ellipsis, TokenKind::Ellipsis) => true,
+            (Punctuation::NotEqual, TokenKind::NotEqual) => true,
+            (Punctuation::OpenParenthesis, TokenKind::OpenParenthesis) => true,
+            (Punctuation::OpenBrace, TokenKind::OpenBrace) => true,
+            (Punctuation::OpenBracket, TokenKind::OpenBracket) => true,
+            (Punctuation::CloseParenthesis, TokenKind::CloseParenthesis) => true,
+            (Punctuation::CloseBrace, TokenKind::CloseBrace) => true,
+            (Punctuation::CloseBracket, TokenKind::CloseBracket) => true,
+            _ => false,
+        }
+    }
+}
+
+impl<'a> Cursor<'a> {
+    /// The token at hand, and the cursor behind it.
+    pub fn next(self) -> Option<(&'a Token, Cursor<'a>)>
+        ensures { MatchOption result (self.entry.rest.now ≡ []) (λ x. self.entry.rest.now ≡ x.0.now ∷ x.1.rest.now) }
+    {
+        let (token, rest) = self.rest.split_first()?;
+        Some((
+            token,
+            Cursor {
+                rest,
+                end: self.end,
+            },
+        ))
+    }
+
+    /// Whether no token is left.
+    pub fn is_at_end(self) -> bool
+        ensures { IsTrue result ↔ (self.entry.rest.now ≡ []) }
+    {
+        self.rest.is_empty()
+    }
+
+    /// Whether this token stands at hand.
+    pub fn stands(self, wanted: Punctuation) -> bool {
+        match self.next() {
+            Some((token, _)) => wanted.is(&token.kind),
+            None => false,
+        }
+    }
+
+    /// Behind this token, where it stands at hand.
+    pub fn skip(self, wanted: Punctuation) -> Option<Cursor<'a>>
+        ensures shorter { IfSome result (λ after. length after.rest.now < length self.entry.rest.now) }
+        ensures reads { IfSome result (λ after. Reads self.entry.rest.now (one (punctuation_kind wanted)) after.rest.now) }
+    {
+        let (token, after) = self.next()?;
+        if wanted.is(&token.kind) {
+            Some(after)
+        } else {
+            None
+        }
+    }
+
+    /// Behind this token, which has to stand at hand.
+    pub fn expect(self, wanted: Punctuation) -> Result<Cursor<'a>, Refusal>
+        ensures shorter { IfOk result (λ after. length after.rest.now < length self.entry.rest.now) }
+        ensures reads { IfOk result (λ after. Reads self.entry.rest.now (one (punctuation_kind wanted)) after.rest.now) }
+    {
+        self.skip(wanted).ok_or(self.syntax())
+    }
+
+    /// Whether a comma stands at hand, and the cursor behind it.
+    pub fn trailing_comma(self) -> (bool, Cursor<'a>)
+        ensures shorter { length result.1.rest.now ≤ length self.entry.rest.now }
+        ensures reads { Reads self.entry.rest.now (comma_if result.0) result.1.rest.now }
+        ensures taken { IsTrue result.0 → length result.1.rest.now < length self.entry.rest.now }
+    {
+        match self.skip(Punctuation::Comma) {
+            Some(after) => (true, after),
+            None => (false, self),
+        }
+    }
+
+    /// Where the token at hand begins, or the text ends.
+    pub fn place(self) -> usize
+        ensures { IsPlace self.entry.rest.now result }
+    {
+        match self.next() {
+            Some((token, _)) => token.from,
+            None => self.end,
+        }
+    }
+
+    /// A refusal at the token at hand.
+    pub fn refuse(self, kind: Kind) -> Refusal {
+        Refusal {
+            kind,
+            place: self.place() as u64,
+        }
+    }
+
+    /// The token at hand can't go on.
+    pub fn syntax(self) -> Refusal {
+        self.refuse(Kind::Syntax)
+    }
+
+    /// A form that the profile leaves out begins at the token at hand.
+    pub fn left_out(self, form: Form) -> Refusal {
+        self.refuse(Kind::LeftOut(form))
+    }
+
+    /// The room behind the token at hand, which opens a level. With no room left it is refused.
+    pub fn open_level(self, room: usize) -> Result<usize, Refusal>
+        ensures { IfOk result (λ left. left + 1 ≡ room) }
+    {
+        if room == 0 {
+            Err(self.refuse(Kind::Nesting))
+        } else {
+            Ok(room - 1)
+        }
+    }
+
+    /// Whether the token at hand begins an expression.
+    pub fn begins_expression(self) -> bool {
+        match self.next() {
+            Some((token, _)) => begins_expression(&token.kind),
+            None => false,
+        }
+    }
+
+    /// Which operand stands at hand.
+    pub fn operand(self) -> Operand {
+        match self.next() {
+            Some((token, after)) => match &token.kind {
+                TokenKind::OpenParenthesis => Operand::Parenthesis,
+                TokenKind::OpenBrace => Operand::Struct,
+                TokenKind::OpenBracket => Operand::List,
+                TokenKind::Name(name) => {
+                    if name.as_str() == "close" && after.stands(Punctuation::OpenParenthesis) {
+                        Operand::Close
+                    } else {
+                        Operand::Literal
+                    }
+                }
+                _ => Operand::Literal,
+            },
+            None => Operand::Literal,
+        }
+    }
+
+    /// Where the `close` at hand begins, and the cursor behind it.
+    pub fn expect_close(self) -> Parsed<'a, usize>
+        ensures shorter { IfOk result (λ r. length r.1.rest.now ≤ length self.entry.rest.now) }
+        ensures reads { IfOk result (λ r. Reads self.entry.rest.now (one_at r.0 (TokenKind.Name (codes "close"))) r.1.rest.now) }
+    {
+        let Some((token, after)) = self.next() else {
+            return Err(self.syntax());
+        };
+        match &token.kind {
+            TokenKind::Name(name) => {
+                if name.as_str() == "close" {
+                    Ok((token.from, after))
+                } else {
+                    Err(self.syntax())
+                }
+            }
+            _ => Err(self.syntax()),
+        }
+    }
+
+    /// Whether a mark stands at hand: a colon, `?` or `!`.
+    pub fn stands_mark(self) -> bool {
+        match self.next() {
+            Some((token, _)) => is_mark(&token.kind),
+            None => false,
+        }
+    }
+}
+
+fn begins_expression(kind: &TokenKind) -> bool {
+    match kind {
+        TokenKind::Name(_)
+        | TokenKind::Definition(_)
+        | TokenKind::Hidden(_)
+        | TokenKind::Text(_)
+        | TokenKind::Integer(_)
+        | TokenKind::Bottom
+        | TokenKind::OpenBrace
+        | TokenKind::OpenBracket
+        | TokenKind::OpenParenthesis
+        | TokenKind::Star
+        | TokenKind::Minus
+        | TokenKind::Plus
+        | TokenKind::Less
+        | TokenKind::AtMost
+        | TokenKind::Greater
+        | TokenKind::AtLeast
+        | TokenKind::NotEqual => true,
+        TokenKind::CloseBrace
+        | TokenKind::CloseBracket
+        | TokenKind::CloseParenthesis
+        | TokenKind::Colon
+        | TokenKind::Comma
+        | TokenKind::Question
+        | TokenKind::Exclamation
+        | TokenKind::Bar
+        | TokenKind::Ampersand
+        | TokenKind::Ellipsis => false,
+    }
+}
+
+fn is_mark(kind: &TokenKind) -> bool {
+    match kind {
+        TokenKind::Colon | TokenKind::Question | TokenKind::Exclamation => true,
+        _ => false,
+    }
+}

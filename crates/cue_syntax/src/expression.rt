@@ -1,0 +1,401 @@
+ghost use Rattle.std.specs.Prelude.{◌≡◌, ◌+◌, ◌≤◌, ◌<◌, IfOk, IsTrue, false, true, length};
+ghost use Rattle.cue_syntax.specs.Syntax.{expression, branch_tree, entry_tree, elements, entries};
+ghost use Rattle.cue_syntax.specs.Grammar.{IsUnary, IsConjunct, IsNested, AreNested, IsExpression, IsTermOf, IsEntry, AreElements, AreEntries, AreBraced};
+
+use crate::cursor::{Cursor, Operand, Parsed, Punctuation};
+use crate::label::{begins_label, label, labels, refuse_label};
+use crate::literal::{is_clause, literal};
+use crate::memory::{boxed, push};
+use crate::tree::{Declaration, Expr, Term};
+use cue_lattice::{Form, Refusal};
+use cue_lex::TokenKind;
+use std::alloc::Global;
+
+/// Declarations or elements with commas between them, and whether a comma stands behind the last one.
+#[derive(Drop)]
+pub struct Row<T> {
+    pub items: Vec<T>,
+    pub comma: bool,
+}
+
+/// An expression: a conjunction, or two or more terms joined by `|`.
+#[cycle(parser)]
+pub fn expression<'a>(alloc: Global, cursor: Cursor<'a>, room: usize) -> Parsed<'a, Expr>
+    ensures shorter { IfOk result (λ r. length r.1.rest.now ≤ length cursor.entry.rest.now) }
+    ensures spelled { IfOk result (λ r. IsExpression room cursor.entry.rest.now (expression r.0) r.1.rest.now) }
+{
+    let (first, rest) = term(alloc, cursor, room)?;
+    let Some(mut after) = rest.skip(Punctuation::Bar) else {
+        if first.marked {
+            return Err(rest.syntax());
+        }
+        return Ok((first.value, rest));
+    };
+    let mut terms = Vec::new(alloc);
+    push(&mut terms, first)?;
+    'terms: loop {
+        let (next, rest) = term(alloc, after, room)?;
+        push(&mut terms, next)?;
+        match rest.skip(Punctuation::Bar) {
+            Some(behind) => after = behind,
+            None => return Ok((Expr::Disjunction(terms), rest)),
+        }
+    }
+}
+
+/// A term of a disjunction.
+#[cycle(parser)]
+fn term<'a>(alloc: Global, cursor: Cursor<'a>, room: usize) -> Parsed<'a, Term>
+    ensures shorter { IfOk result (λ r. length r.1.rest.now ≤ length cursor.entry.rest.now) }
+    ensures spelled { IfOk result (λ r. IsTermOf room cursor.entry.rest.now (branch_tree r.0) r.1.rest.now) }
+{
+    match cursor.skip(Punctuation::Star) {
+        Some(after) => {
+            let from = after.place();
+            let (value, rest) = unary(alloc, after, room)?;
+            Ok((
+                Term {
+                    marked: true,
+                    from,
+                    value,
+                },
+                rest,
+            ))
+        }
+        None => {
+            let from = cursor.place();
+            let (value, rest) = conjunction(alloc, cursor, room)?;
+            Ok((
+                Term {
+                    marked: false,
+                    from,
+                    value,
+                },
+                rest,
+            ))
+        }
+    }
+}
+
+/// One part, or two or more parts joined by `&`.
+#[cycle(parser)]
+fn conjunction<'a>(alloc: Global, cursor: Cursor<'a>, room: usize) -> Parsed<'a, Expr>
+    ensures shorter { IfOk result (λ r. length r.1.rest.now ≤ length cursor.entry.rest.now) }
+    ensures spelled { IfOk result (λ r. IsExpression room cursor.entry.rest.now (expression r.0) r.1.rest.now) }
+    ensures conjunct { IfOk result (λ r. IsConjunct (expression r.0)) }
+{
+    let (first, rest) = unary(alloc, cursor, room)?;
+    let Some(mut after) = rest.skip(Punctuation::Ampersand) else {
+        return Ok((first, rest));
+    };
+    let mut parts = Vec::new(alloc);
+    push(&mut parts, first)?;
+    'parts: loop {
+        let (next, rest) = unary(alloc, after, room)?;
+        push(&mut parts, next)?;
+        match rest.skip(Punctuation::Ampersand) {
+            Some(behind) => after = behind,
+            None => return Ok((Expr::Conjunction(parts), rest)),
+        }
+    }
+}
+
+/// An operand or a bound.
+#[cycle(parser)]
+fn unary<'a>(alloc: Global, cursor: Cursor<'a>, room: usize) -> Parsed<'a, Expr>
+    ensures shorter { IfOk result (λ r. length r.1.rest.now ≤ length cursor.entry.rest.now) }
+    ensures spelled { IfOk result (λ r. IsExpression room cursor.entry.rest.now (expression r.0) r.1.rest.now) }
+    ensures unary { IfOk result (λ r. IsUnary (expression r.0)) }
+{
+    match cursor.operand() {
+        Operand::Parenthesis => parenthesis(alloc, cursor, room),
+        Operand::Struct => structure(alloc, cursor, room),
+        Operand::List => list(alloc, cursor, room),
+        Operand::Close => close(alloc, cursor, room),
+        Operand::Literal => literal(alloc, cursor),
+    }
+}
+
+/// An expression in parentheses.
+#[cycle(parser)]
+fn parenthesis<'a>(alloc: Global, cursor: Cursor<'a>, room: usize) -> Parsed<'a, Expr>
+    ensures shorter { IfOk result (λ r. length r.1.rest.now ≤ length cursor.entry.rest.now) }
+    ensures spelled { IfOk result (λ r. IsExpression room cursor.entry.rest.now (expression r.0) r.1.rest.now) }
+    ensures unary { IfOk result (λ r. IsUnary (expression r.0)) }
+{
+    let inside = cursor.open_level(room)?;
+    let open = cursor.expect(Punctuation::OpenParenthesis)?;
+    let (inner, last) = expression(alloc, open, inside)?;
+    let (comma, last) = last.trailing_comma();
+    let rest = last.expect(Punctuation::CloseParenthesis)?;
+    let inner = boxed(alloc, inner)?;
+    Ok((Expr::Parenthesis { inner, comma }, rest))
+}
+
+/// A struct literal.
+#[cycle(parser)]
+fn structure<'a>(alloc: Global, cursor: Cursor<'a>, room: usize) -> Parsed<'a, Expr>
+    ensures shorter { IfOk result (λ r. length r.1.rest.now ≤ length cursor.entry.rest.now) }
+    ensures spelled { IfOk result (λ r. IsExpression room cursor.entry.rest.now (expression r.0) r.1.rest.now) }
+    ensures unary { IfOk result (λ r. IsUnary (expression r.0)) }
+{
+    let (row, rest) = braces(alloc, cursor, room)?;
+    Ok((
+        Expr::Struct {
+            declarations: row.items,
+            comma: row.comma,
+        },
+        rest,
+    ))
+}
+
+/// `close` and a struct literal in parentheses.
+#[cycle(parser)]
+fn close<'a>(alloc: Global, cursor: Cursor<'a>, room: usize) -> Parsed<'a, Expr>
+    ensures shorter { IfOk result (λ r. length r.1.rest.now ≤ length cursor.entry.rest.now) }
+    ensures spelled { IfOk result (λ r. IsExpression room cursor.entry.rest.now (expression r.0) r.1.rest.now) }
+    ensures unary { IfOk result (λ r. IsUnary (expression r.0)) }
+{
+    let (from, after) = cursor.expect_close()?;
+    let inside = after.open_level(room)?;
+    let open = after.expect(Punctuation::OpenParenthesis)?;
+    if !open.stands(Punctuation::OpenBrace) && open.begins_expression() {
+        return Err(open.left_out(Form::CloseArgument));
+    }
+    let (row, last) = braces(alloc, open, inside)?;
+    let (comma, last) = last.trailing_comma();
+    let rest = last.expect(Punctuation::CloseParenthesis)?;
+    Ok((
+        Expr::Close {
+            from,
+            declarations: row.items,
+            inner_comma: row.comma,
+            comma,
+        },
+        rest,
+    ))
+}
+
+/// A list literal.
+#[cycle(parser)]
+fn list<'a>(alloc: Global, cursor: Cursor<'a>, room: usize) -> Parsed<'a, Expr>
+    ensures shorter { IfOk result (λ r. length r.1.rest.now ≤ length cursor.entry.rest.now) }
+    ensures spelled { IfOk result (λ r. IsExpression room cursor.entry.rest.now (expression r.0) r.1.rest.now) }
+    ensures unary { IfOk result (λ r. IsUnary (expression r.0)) }
+{
+    let inside = cursor.open_level(room)?;
+    let open = cursor.expect(Punctuation::OpenBracket)?;
+    let (row, last) = elements(alloc, open, inside)?;
+    if row.comma || row.items.is_empty() {
+        if let Some(after) = last.skip(Punctuation::Ellipsis) {
+            if after.begins_expression() {
+                return Err(after.left_out(Form::TypedRest));
+            }
+            let (comma, after) = after.trailing_comma();
+            let rest = after.expect(Punctuation::CloseBracket)?;
+            return Ok((
+                Expr::List {
+                    elements: row.items,
+                    ellipsis: true,
+                    comma,
+                },
+                rest,
+            ));
+        }
+    }
+    let rest = last.expect(Punctuation::CloseBracket)?;
+    Ok((
+        Expr::List {
+            elements: row.items,
+            ellipsis: false,
+            comma: row.comma,
+        },
+        rest,
+    ))
+}
+
+/// The elements of a list, up to its `...` or its end.
+#[cycle(parser)]
+fn elements<'a>(alloc: Global, cursor: Cursor<'a>, room: usize) -> Parsed<'a, Row<Expr>>
+    ensures shorter { IfOk result (λ r. length r.1.rest.now ≤ length cursor.entry.rest.now) }
+    ensures spelled { IfOk result (λ r.
+        AreElements room cursor.entry.rest.now (elements r.0.items.items) r.0.comma r.1.rest.now) }
+{
+    let mut items = Vec::new(alloc);
+    let mut comma = false;
+    let mut rest = cursor;
+    'elements: while !rest.stands(Punctuation::CloseBracket)
+        && !rest.stands(Punctuation::Ellipsis)
+    {
+        let (element, behind) = expression(alloc, rest, room)?;
+        push(&mut items, element)?;
+        (comma, rest) = behind.trailing_comma();
+        if !comma {
+            return Ok((Row { items, comma }, rest));
+        }
+    }
+    Ok((Row { items, comma }, rest))
+}
+
+/// Declarations in braces.
+#[cycle(parser)]
+fn braces<'a>(alloc: Global, cursor: Cursor<'a>, room: usize) -> Parsed<'a, Row<Declaration>>
+    ensures shorter { IfOk result (λ r. length r.1.rest.now ≤ length cursor.entry.rest.now) }
+    ensures spelled { IfOk result (λ r.
+        AreBraced room cursor.entry.rest.now (entries r.0.items.items) r.0.comma r.1.rest.now) }
+{
+    let inside = cursor.open_level(room)?;
+    let open = cursor.expect(Punctuation::OpenBrace)?;
+    let (row, last) = declarations(alloc, open, false, inside)?;
+    let rest = last.expect(Punctuation::CloseBrace)?;
+    Ok((row, rest))
+}
+
+/// Declarations, up to what can't begin another one: at the top the end, below it a `}`.
+#[cycle(parser)]
+pub fn declarations<'a>(
+    alloc: Global,
+    cursor: Cursor<'a>,
+    top: bool,
+    room: usize,
+) -> Parsed<'a, Row<Declaration>>
+    ensures shorter { IfOk result (λ r. length r.1.rest.now ≤ length cursor.entry.rest.now) }
+    ensures spelled { IfOk result (λ r.
+        AreEntries room cursor.entry.rest.now (entries r.0.items.items) r.0.comma r.1.rest.now) }
+    ensures nested { IfOk result (λ r. top ≡ false → AreNested (entries r.0.items.items)) }
+{
+    let mut items = Vec::new(alloc);
+    let mut comma = false;
+    let mut rest = cursor;
+    'declarations: while !ends_declarations(rest, top) {
+        let (item, behind) = declaration(alloc, rest, top, room)?;
+        push(&mut items, item)?;
+        (comma, rest) = behind.trailing_comma();
+        if !comma {
+            return Ok((Row { items, comma }, rest));
+        }
+    }
+    Ok((Row { items, comma }, rest))
+}
+
+fn ends_declarations(cursor: Cursor, top: bool) -> bool {
+    if top {
+        cursor.is_at_end()
+    } else {
+        cursor.stands(Punctuation::CloseBrace)
+    }
+}
+
+/// A declaration. A definition stands at the top alone.
+#[cycle(parser)]
+fn declaration<'a>(
+    alloc: Global,
+    cursor: Cursor<'a>,
+    top: bool,
+    room: usize,
+) -> Parsed<'a, Declaration>
+    ensures shorter { IfOk result (λ r. length r.1.rest.now ≤ length cursor.entry.rest.now) }
+    ensures spelled { IfOk result (λ r. IsEntry room cursor.entry.rest.now (entry_tree r.0) r.1.rest.now) }
+    ensures nested { IfOk result (λ r. top ≡ false → IsNested (entry_tree r.0)) }
+{
+    if let Some(after) = cursor.skip(Punctuation::Ellipsis) {
+        if after.begins_expression() {
+            return Err(after.left_out(Form::TypedEllipsis));
+        }
+        return Ok((Declaration::Ellipsis, after));
+    }
+    refuse_label(cursor, top)?;
+    if begins_label(cursor) {
+        return field(alloc, cursor, room);
+    }
+    if begins_definition(cursor, top) {
+        return definition(alloc, cursor, room);
+    }
+    Err(no_declaration(cursor))
+}
+
+/// Whether a definition stands at hand.
+fn begins_definition(cursor: Cursor, top: bool) -> bool
+    ensures { IsTrue result → top ≡ true }
+{
+    match cursor.next() {
+        Some((token, after)) => match &token.kind {
+            TokenKind::Definition(_) => top && after.stands(Punctuation::Colon),
+            _ => false,
+        },
+        None => false,
+    }
+}
+
+/// A field with its chain of labels.
+#[cycle(parser)]
+fn field<'a>(alloc: Global, cursor: Cursor<'a>, room: usize) -> Parsed<'a, Declaration>
+    ensures shorter { IfOk result (λ r. length r.1.rest.now ≤ length cursor.entry.rest.now) }
+    ensures spelled { IfOk result (λ r. IsEntry room cursor.entry.rest.now (entry_tree r.0) r.1.rest.now) }
+    ensures nested { IfOk result (λ r. IsNested (entry_tree r.0)) }
+{
+    let (label, after) = label(alloc, cursor)?;
+    let chain = labels(alloc, after, room)?;
+    let (value, rest) = expression(alloc, chain.after, chain.room)?;
+    Ok((
+        Declaration::Field {
+            label,
+            chain: chain.labels,
+            value,
+        },
+        rest,
+    ))
+}
+
+/// A definition with its chain of labels.
+#[cycle(parser)]
+fn definition<'a>(alloc: Global, cursor: Cursor<'a>, room: usize) -> Parsed<'a, Declaration>
+    ensures shorter { IfOk result (λ r. length r.1.rest.now ≤ length cursor.entry.rest.now) }
+    ensures spelled { IfOk result (λ r. IsEntry room cursor.entry.rest.now (entry_tree r.0) r.1.rest.now) }
+{
+    let Some((token, after)) = cursor.next() else {
+        return Err(cursor.syntax());
+    };
+    let TokenKind::Definition(name) = &token.kind else {
+        return Err(cursor.syntax());
+    };
+    let after = after.expect(Punctuation::Colon)?;
+    let name = name.copy(alloc)?;
+    let chain = labels(alloc, after, room)?;
+    let (value, rest) = expression(alloc, chain.after, chain.room)?;
+    Ok((
+        Declaration::Definition {
+            name,
+            from: token.from,
+            chain: chain.labels,
+            value,
+        },
+        rest,
+    ))
+}
+
+/// Why no declaration begins at hand.
+fn no_declaration(cursor: Cursor) -> Refusal {
+    let Some((token, _)) = cursor.next() else {
+        return cursor.syntax();
+    };
+    match &token.kind {
+        TokenKind::Name(name) => {
+            if is_clause(name) {
+                cursor.left_out(Form::Clause)
+            } else {
+                cursor.left_out(Form::Embedding)
+            }
+        }
+        TokenKind::OpenBracket | TokenKind::OpenParenthesis => {
+            cursor.left_out(Form::DynamicLabel)
+        }
+        _ => {
+            if cursor.begins_expression() {
+                cursor.left_out(Form::Embedding)
+            } else {
+                cursor.syntax()
+            }
+        }
+    }
+}

@@ -1,0 +1,120 @@
+ghost use Rattle.std.specs.Prelude.{◌≡◌, ◌+◌, ◌≤◌, ◌<◌, IfOk, length, flat_map};
+ghost use Rattle.cue_syntax.specs.Spelling.{Reads, one, spell_label, spell_mark, label_kind};
+
+use crate::cursor::{Cursor, Parsed, Punctuation};
+use crate::memory::push;
+use crate::tree::{Label, LabelName, Mark};
+use cue_lattice::{Form, Refusal};
+use cue_lex::TokenKind;
+use std::alloc::Global;
+
+/// The labels of a chain, and the room that they leave.
+#[derive(Drop)]
+pub struct Chain<'a> {
+    pub labels: Vec<Label>,
+    pub room: usize,
+    pub after: Cursor<'a>,
+}
+
+/// Whether a field begins at hand: a plain name or a string, and a mark behind it.
+pub fn begins_label(cursor: Cursor) -> bool {
+    match cursor.next() {
+        Some((token, after)) => match &token.kind {
+            TokenKind::Name(_) | TokenKind::Text(_) => after.stands_mark(),
+            _ => false,
+        },
+        None => false,
+    }
+}
+
+/// Refuses a label that the profile leaves out: a hidden one, a definition with `?` or `!`, and, where `top` is
+/// false, any definition.
+pub fn refuse_label(cursor: Cursor, top: bool) -> Result<(), Refusal> {
+    let Some((token, after)) = cursor.next() else {
+        return Ok(());
+    };
+    match &token.kind {
+        TokenKind::Hidden(_) => {
+            if after.stands_mark() {
+                return Err(cursor.left_out(Form::HiddenLabel));
+            }
+            Ok(())
+        }
+        TokenKind::Definition(_) => {
+            if !after.stands_mark() {
+                return Ok(());
+            }
+            if !after.stands(Punctuation::Colon) {
+                return Err(cursor.left_out(Form::MarkedDefinition));
+            }
+            if top {
+                return Ok(());
+            }
+            Err(cursor.left_out(Form::NestedDefinition))
+        }
+        _ => Ok(()),
+    }
+}
+
+/// A label with its mark and its colon.
+pub fn label<'a>(alloc: Global, cursor: Cursor<'a>) -> Parsed<'a, Label>
+    ensures shorter { IfOk result (λ r. length r.1.rest.now < length cursor.entry.rest.now) }
+    ensures spelled { IfOk result (λ r. Reads cursor.entry.rest.now (spell_label r.0) r.1.rest.now) }
+{
+    let (name, after) = label_name(alloc, cursor)?;
+    let (mark, after) = mark(after);
+    let after = after.expect(Punctuation::Colon)?;
+    Ok((Label { name, mark }, after))
+}
+
+fn label_name<'a>(alloc: Global, cursor: Cursor<'a>) -> Parsed<'a, LabelName>
+    ensures shorter { IfOk result (λ r. length r.1.rest.now ≤ length cursor.entry.rest.now) }
+    ensures spelled { IfOk result (λ r. Reads cursor.entry.rest.now (one (label_kind r.0)) r.1.rest.now) }
+{
+    let Some((token, after)) = cursor.next() else {
+        return Err(cursor.syntax());
+    };
+    match &token.kind {
+        TokenKind::Name(name) => Ok((LabelName::Plain(name.copy(alloc)?), after)),
+        TokenKind::Text(text) => Ok((LabelName::Quoted(text.copy(alloc)?), after)),
+        _ => Err(cursor.syntax()),
+    }
+}
+
+/// The mark before a colon.
+fn mark<'a>(cursor: Cursor<'a>) -> (Mark, Cursor<'a>)
+    ensures shorter { length result.1.rest.now ≤ length cursor.entry.rest.now }
+    ensures spelled { Reads cursor.entry.rest.now (spell_mark result.0) result.1.rest.now }
+{
+    match cursor.next() {
+        Some((token, after)) => match &token.kind {
+            TokenKind::Question => (Mark::Optional, after),
+            TokenKind::Exclamation => (Mark::Required, after),
+            _ => (Mark::Regular, cursor),
+        },
+        None => (Mark::Regular, cursor),
+    }
+}
+
+/// The labels between a first label and its value. Each opens a level.
+pub fn labels<'a>(alloc: Global, cursor: Cursor<'a>, room: usize) -> Result<Chain<'a>, Refusal>
+    ensures shorter { IfOk result (λ c. length c.after.rest.now ≤ length cursor.entry.rest.now) }
+    ensures levels { IfOk result (λ c. c.room + length c.labels.items ≡ room) }
+    ensures spelled { IfOk result (λ c. Reads cursor.entry.rest.now (flat_map spell_label c.labels.items) c.after.rest.now) }
+{
+    let mut labels = Vec::new(alloc);
+    let mut left = room;
+    let mut rest = cursor;
+    'chain: while begins_label(rest) {
+        left = rest.open_level(left)?;
+        let (label, after) = label(alloc, rest)?;
+        push(&mut labels, label)?;
+        rest = after;
+    }
+    refuse_label(rest, false)?;
+    Ok(Chain {
+        labels,
+        room: left,
+        after: rest,
+    })
+}

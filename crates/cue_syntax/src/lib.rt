@@ -1,0 +1,19 @@
+//! The parser of the CUE profile: from the tokens of a text to its tree.
+#![tactic(auto)]
+
+mod cursor;
+mod expression;
+mod file;
+mod label;
+mod literal;
+mod memory;
+mod tree;
+
+pub use file::{LEVELS, parse};
+pub use tree::{
+    Comparison, Declaration, Expr, File, Identifier, Label, LabelName, Mark, Package, Sign, Signed,
+    Term,
+};
+
+#[cfg(test)]
+mod tests;

@@ -1,0 +1,184 @@
+ghost use Rattle.std.specs.Prelude.{◌≡◌, ◌+◌, ◌≤◌, ◌<◌, ◌++◌, ◌↔◌, IfOk, IsTrue, length};
+ghost use Rattle.cue_syntax.specs.Syntax.{expression};
+ghost use Rattle.cue_syntax.specs.Spelling.{Reads, one, spell, spell_sign, spell_signed, identifier_kind, comparison_kind};
+ghost use Rattle.cue_syntax.specs.Grammar.{IsUnary, IsOperand, IsRight, IsLiteral, IsClause, IsKeyword};
+
+use crate::cursor::{Cursor, Parsed, Punctuation};
+use crate::tree::{Comparison, Expr, Identifier, Sign, Signed};
+use cue_lattice::{Form, Text};
+use cue_lex::TokenKind;
+use std::alloc::Global;
+
+/// An expression that holds no other: a name, an integer, a string, `_|_` or a bound.
+pub fn literal<'a>(alloc: Global, cursor: Cursor<'a>) -> Parsed<'a, Expr>
+    ensures shorter { IfOk result (λ r. length r.1.rest.now ≤ length cursor.entry.rest.now) }
+    ensures spelled { IfOk result (λ r. IsLiteral cursor.entry.rest.now (expression r.0) r.1.rest.now) }
+{
+    let Some((token, after)) = cursor.next() else {
+        return Err(cursor.syntax());
+    };
+    match &token.kind {
+        TokenKind::Name(_) | TokenKind::Hidden(_) | TokenKind::Definition(_) => {
+            let (name, after) = identifier(alloc, cursor)?;
+            Ok((
+                Expr::Name {
+                    name,
+                    from: token.from,
+                },
+                after,
+            ))
+        }
+        TokenKind::Text(text) => Ok((Expr::Text(text.copy(alloc)?), after)),
+        TokenKind::Bottom => Ok((Expr::Bottom, after)),
+        TokenKind::Integer(_) | TokenKind::Minus | TokenKind::Plus => {
+            let (integer, after) = signed(cursor)?;
+            Ok((Expr::Integer(integer), after))
+        }
+        TokenKind::Less | TokenKind::AtMost | TokenKind::Greater | TokenKind::AtLeast => {
+            bound(cursor)
+        }
+        TokenKind::NotEqual => other(alloc, cursor),
+        _ => Err(cursor.syntax()),
+    }
+}
+
+/// An identifier as an operand: no keyword, and no call.
+fn identifier<'a>(alloc: Global, cursor: Cursor<'a>) -> Parsed<'a, Identifier>
+    ensures shorter { IfOk result (λ r. length r.1.rest.now ≤ length cursor.entry.rest.now) }
+    ensures spelled { IfOk result (λ r. Reads cursor.entry.rest.now (one (identifier_kind r.0)) r.1.rest.now) }
+    ensures operand { IfOk result (λ r. IsOperand r.0) }
+{
+    let Some((token, after)) = cursor.next() else {
+        return Err(cursor.syntax());
+    };
+    match &token.kind {
+        TokenKind::Name(name) => {
+            if after.stands(Punctuation::OpenParenthesis) {
+                return Err(cursor.left_out(Form::Call));
+            }
+            if is_keyword(name) {
+                return Err(cursor.syntax());
+            }
+            Ok((Identifier::Plain(name.copy(alloc)?), after))
+        }
+        TokenKind::Hidden(name) => {
+            if after.stands(Punctuation::OpenParenthesis) {
+                return Err(cursor.left_out(Form::Call));
+            }
+            Ok((Identifier::Hidden(name.copy(alloc)?), after))
+        }
+        TokenKind::Definition(name) => Ok((Identifier::Definition(name.copy(alloc)?), after)),
+        _ => Err(cursor.syntax()),
+    }
+}
+
+/// Whether a plain name is kept for clauses, and no operand.
+fn is_keyword(name: &Text) -> bool
+    ensures { IsTrue result ↔ IsKeyword name.now }
+{
+    is_clause(name) || name.as_str() == "in" || name.as_str() == "package"
+}
+
+/// Whether a plain name begins a clause that the profile leaves out.
+pub fn is_clause(name: &Text) -> bool
+    ensures { IsTrue result ↔ IsClause name.now }
+{
+    name.as_str() == "let"
+        || name.as_str() == "for"
+        || name.as_str() == "if"
+        || name.as_str() == "import"
+}
+
+/// An integer with its sign.
+fn signed<'a>(cursor: Cursor<'a>) -> Parsed<'a, Signed>
+    ensures shorter { IfOk result (λ r. length r.1.rest.now ≤ length cursor.entry.rest.now) }
+    ensures spelled { IfOk result (λ r. Reads cursor.entry.rest.now (spell_signed r.0) r.1.rest.now) }
+{
+    let Some((token, after)) = cursor.next() else {
+        return Err(cursor.syntax());
+    };
+    match &token.kind {
+        TokenKind::Minus => magnitude(Sign::Minus, after),
+        TokenKind::Plus => magnitude(Sign::Plus, after),
+        _ => magnitude(Sign::Absent, cursor),
+    }
+}
+
+/// The magnitude behind a sign.
+fn magnitude<'a>(sign: Sign, cursor: Cursor<'a>) -> Parsed<'a, Signed>
+    ensures shorter { IfOk result (λ r. length r.1.rest.now ≤ length cursor.entry.rest.now) }
+    ensures spelled { IfOk result (λ r. Reads cursor.entry.rest.now (one (TokenKind.Integer r.0.magnitude)) r.1.rest.now) }
+    ensures signed { IfOk result (λ r. r.0.sign ≡ sign) }
+{
+    let Some((token, after)) = cursor.next() else {
+        return Err(cursor.syntax());
+    };
+    match &token.kind {
+        TokenKind::Integer(magnitude) => Ok((
+            Signed {
+                sign,
+                magnitude: *magnitude,
+            },
+            after,
+        )),
+        _ => Err(cursor.syntax()),
+    }
+}
+
+/// `<` and its like, and an integer.
+fn bound<'a>(cursor: Cursor<'a>) -> Parsed<'a, Expr>
+    ensures shorter { IfOk result (λ r. length r.1.rest.now ≤ length cursor.entry.rest.now) }
+    ensures spelled { IfOk result (λ r. IsLiteral cursor.entry.rest.now (expression r.0) r.1.rest.now) }
+{
+    let (comparison, after) = comparison(cursor)?;
+    if !stands_integer(after) && after.begins_expression() {
+        return Err(after.left_out(Form::Bound));
+    }
+    let (integer, rest) = signed(after)?;
+    Ok((Expr::Bound(comparison, integer), rest))
+}
+
+fn comparison<'a>(cursor: Cursor<'a>) -> Parsed<'a, Comparison>
+    ensures shorter { IfOk result (λ r. length r.1.rest.now ≤ length cursor.entry.rest.now) }
+    ensures spelled { IfOk result (λ r. Reads cursor.entry.rest.now (one (comparison_kind r.0)) r.1.rest.now) }
+{
+    let Some((token, after)) = cursor.next() else {
+        return Err(cursor.syntax());
+    };
+    match &token.kind {
+        TokenKind::Less => Ok((Comparison::Less, after)),
+        TokenKind::AtMost => Ok((Comparison::AtMost, after)),
+        TokenKind::Greater => Ok((Comparison::Greater, after)),
+        TokenKind::AtLeast => Ok((Comparison::AtLeast, after)),
+        _ => Err(cursor.syntax()),
+    }
+}
+
+/// `!=`, and an integer or a string.
+fn other<'a>(alloc: Global, cursor: Cursor<'a>) -> Parsed<'a, Expr>
+    ensures shorter { IfOk result (λ r. length r.1.rest.now ≤ length cursor.entry.rest.now) }
+    ensures spelled { IfOk result (λ r. IsLiteral cursor.entry.rest.now (expression r.0) r.1.rest.now) }
+{
+    let after = cursor.expect(Punctuation::NotEqual)?;
+    if let Some((token, rest)) = after.next() {
+        if let TokenKind::Text(text) = &token.kind {
+            return Ok((Expr::OtherText(text.copy(alloc)?), rest));
+        }
+    }
+    if !stands_integer(after) && after.begins_expression() {
+        return Err(after.left_out(Form::Bound));
+    }
+    let (integer, rest) = signed(after)?;
+    Ok((Expr::OtherInteger(integer), rest))
+}
+
+/// Whether an integer or its sign stands at hand.
+fn stands_integer(cursor: Cursor) -> bool {
+    match cursor.next() {
+        Some((token, _)) => match &token.kind {
+            TokenKind::Integer(_) | TokenKind::Minus | TokenKind::Plus => true,
+            _ => false,
+        },
+        None => false,
+    }
+}

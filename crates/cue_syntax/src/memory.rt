@@ -1,0 +1,22 @@
+ghost use Rattle.std.specs.Prelude.{◌≡◌, ◌++◌, ◌∷◌, [], OnOk, IfOk, IfErr};
+ghost use Rattle.cue_lattice.specs.Refusal.{memory};
+
+use cue_lattice::{Memory, Refusal};
+use std::alloc::Global;
+
+/// Puts a value at the end.
+pub fn push<T: Drop>(values: &mut Vec<T>, value: T) -> Result<(), Refusal>
+    ensures pushed { OnOk result (values.new.items ≡ values.old.items ++ value ∷ []) }
+    ensures memory { IfErr result (λ refusal. refusal ≡ memory) }
+{
+    values.push(value).map_err(Memory::from)?;
+    Ok(())
+}
+
+/// Puts a value into a box.
+pub fn boxed<T: Drop>(alloc: Global, value: T) -> Result<Box<T>, Refusal>
+    ensures boxed { IfOk result (λ b. b.value ≡ value) }
+    ensures memory { IfErr result (λ refusal. refusal ≡ memory) }
+{
+    Ok(Box::new(alloc, value).map_err(Memory::from)?)
+}

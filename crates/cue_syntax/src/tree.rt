@@ -1,0 +1,171 @@
+use cue_lattice::Text;
+
+/// A fragment: its package clause, if any, and its declarations.
+#[derive(Debug, Drop)]
+pub struct File {
+    pub package: Option<Package>,
+    pub declarations: Vec<Declaration>,
+    /// Whether a comma, written or inserted, stands behind the last declaration.
+    pub comma: bool,
+}
+
+/// A package clause. It says nothing of the fragment's value.
+#[derive(Debug, Drop)]
+pub struct Package {
+    pub name: Identifier,
+    /// Whether a comma, written or inserted, stands behind the name. Where none does, the text ends there.
+    pub comma: bool,
+}
+
+/// An identifier by its kind, with its sign.
+#[derive(Debug, Drop)]
+pub enum Identifier {
+    Plain(Text),
+    Definition(Text),
+    Hidden(Text),
+}
+
+/// A declaration of a fragment or of a struct.
+#[derive(Debug, Drop)]
+#[cycle(tree)]
+pub enum Declaration {
+    /// `...`
+    Ellipsis,
+    /// `label: other: value`, with a chain of further labels between the first one and the value.
+    Field {
+        label: Label,
+        chain: Vec<Label>,
+        value: Expr,
+    },
+    /// `#Name: label: value`, with a chain of labels, which may be empty, before the value.
+    Definition {
+        /// The name with its `#`.
+        name: Text,
+        /// Where the name begins, in bytes.
+        from: usize,
+        chain: Vec<Label>,
+        value: Expr,
+    },
+}
+
+/// A label with its mark. A colon follows.
+#[derive(Debug, Drop)]
+pub struct Label {
+    pub name: LabelName,
+    pub mark: Mark,
+}
+
+/// The name of a label.
+#[derive(Debug, Drop)]
+pub enum LabelName {
+    /// A plain name.
+    Plain(Text),
+    /// A string, as the text that it stands for.
+    Quoted(Text),
+}
+
+/// What stands between a label and its colon.
+#[derive(Clone, Copy, Debug, PartialEq, Eq, Hash)]
+pub enum Mark {
+    /// Nothing: a regular field.
+    Regular,
+    /// `?`
+    Optional,
+    /// `!`
+    Required,
+}
+
+/// The sign of an integer.
+#[derive(Clone, Copy, Debug, PartialEq, Eq, Hash)]
+pub enum Sign {
+    /// No sign.
+    Absent,
+    Minus,
+    Plus,
+}
+
+/// An integer as it is written.
+#[derive(Clone, Copy, Debug, PartialEq, Eq, Hash)]
+pub struct Signed {
+    pub sign: Sign,
+    pub magnitude: u64,
+}
+
+/// The comparison of a bound.
+#[derive(Clone, Copy, Debug, PartialEq, Eq, Hash)]
+pub enum Comparison {
+    /// `<`
+    Less,
+    /// `<=`
+    AtMost,
+    /// `>`
+    Greater,
+    /// `>=`
+    AtLeast,
+}
+
+/// An expression. Parentheses and trailing commas are kept.
+#[derive(Debug, Drop)]
+#[cycle(tree)]
+pub enum Expr {
+    /// An identifier, and where it begins, in bytes.
+    Name {
+        name: Identifier,
+        from: usize,
+    },
+    Integer(Signed),
+    Text(Text),
+    /// `_|_`
+    Bottom,
+    /// `<` and its like, before an integer.
+    Bound(Comparison, Signed),
+    /// `!=` before an integer.
+    OtherInteger(Signed),
+    /// `!=` before a string.
+    OtherText(Text),
+    /// An expression in parentheses.
+    Parenthesis {
+        inner: Box<Expr>,
+        /// Whether a comma stands before the closing parenthesis.
+        comma: bool,
+    },
+    /// A struct literal.
+    Struct {
+        declarations: Vec<Declaration>,
+        /// Whether a comma stands behind the last declaration.
+        comma: bool,
+    },
+    /// `close` and a struct literal in parentheses.
+    Close {
+        /// Where `close` begins, in bytes.
+        from: usize,
+        declarations: Vec<Declaration>,
+        /// Whether a comma stands behind the last declaration.
+        inner_comma: bool,
+        /// Whether a comma stands before the closing parenthesis.
+        comma: bool,
+    },
+    /// A list literal.
+    List {
+        elements: Vec<Expr>,
+        /// Whether `...` stands behind the elements.
+        ellipsis: bool,
+        /// Whether a comma stands before the closing bracket.
+        comma: bool,
+    },
+    /// Two or more parts joined by `&`.
+    Conjunction(Vec<Expr>),
+    /// Two or more terms joined by `|`.
+    Disjunction(Vec<Term>),
+}
+
+/// A term of a disjunction.
+#[derive(Debug, Drop)]
+#[cycle(tree)]
+pub struct Term {
+    /// Whether it is marked `*`, as a default.
+    pub marked: bool,
+    /// Where it begins, behind its mark, in bytes.
+    pub from: usize,
+    pub value: Expr,
+}

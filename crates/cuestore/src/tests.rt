@@ -1,0 +1,172 @@
+use crate::act::act;
+use std::alloc::Global;
+use std::io;
+use std::io::{ErrorKind, Read, Write};
+use std::process::Abort;
+use std::test::Fail;
+
+/// What a run wrote, and how it ended.
+#[derive(Drop)]
+struct Run {
+    status: u8,
+    out: Vec<u8>,
+    faults: Vec<u8>,
+}
+
+fn ran(rt: &HostRuntime, words: &[&str], mut input: &[u8]) -> Result<Run, Fail> {
+    let alloc = rt.alloc();
+    let mut owned = Vec::new(alloc);
+    for word in words {
+        owned.push(String::from_str(alloc, word)?)?;
+    }
+    let mut out = Vec::new(alloc);
+    let mut faults = Vec::new(alloc);
+    let status = act(rt, &owned, &mut input, &mut out, &mut faults);
+    Ok(Run {
+        status,
+        out,
+        faults,
+    })
+}
+
+fn assert_run(rt: &impl Abort, run: &Run, status: u8, out: &str, faults: &str) {
+    assert_eq!(rt; run.out.as_slice(), out.as_bytes());
+    assert_eq!(rt; run.faults.as_slice(), faults.as_bytes());
+    assert_eq!(rt; run.status, status);
+}
+
+#[test]
+fn exports(rt: HostRuntime) -> Result<(), Fail> {
+    for (input, status, out) in [
+        ("port: int\n---\nport: 443\n", 0, "{\"port\":443}\n"),
+        ("a: 1\n---\na: 2\n", 2, "conflict a no value\n"),
+        ("a: int\n", 3, "incomplete a not a single value\n"),
+        ("a:1\n", 1, "refused 7 Syntax at 0 in 1\n"),
+        ("", 0, "{}\n"),
+        ("a: 1\n---", 0, "{\"a\":1}\n"),
+        ("---\n---\nb: -2", 0, "{\"b\":-2}\n"),
+        ("a: 1\n---\r\nb: 2\n", 1, "refused 7 Syntax at 0 in 1\n"),
+        ("a: 1\n---\nb 2\n", 1, "refused 7 Syntax at 0 in 2\n"),
+        ("a: 1\n ---\n", 1, "refused 7 Syntax at 0 in 1\n"),
+    ] {
+        let run = ran(&rt, &["export"], input.as_bytes())?;
+        assert_run(&rt, &run, status, out, "");
+    }
+    Ok(())
+}
+
+#[test]
+fn refuses_bytes(rt: HostRuntime) -> Result<(), Fail> {
+    let free = b"\xFECUE\x01\0\0\0\0\0\0\0\0";
+    let other = b"\xFECUE\x09\0\0\0\0\0\0\0\0";
+    let run = ran(&rt, &["export"], free.as_slice())?;
+    assert_run(&rt, &run, 3, "incomplete . not a single value\n", "");
+    let run = ran(&rt, &["export"], other.as_slice())?;
+    assert_run(&rt, &run, 1, "refused 17 Version at 0 in 1\n", "");
+    let run = ran(&rt, &["export"], b"\xFE".as_slice())?;
+    assert_run(&rt, &run, 1, "refused 18 NotState at 0 in 1\n", "");
+    let run = ran(&rt, &["export"], b"a: \xFF\n".as_slice())?;
+    assert_run(&rt, &run, 1, "refused 2 BadCharacter at 3 in 1\n", "");
+    let run = ran(&rt, &["export"], b"a: 1\n---\n\xFECUE".as_slice())?;
+    assert_run(&rt, &run, 1, "refused 2 BadCharacter at 0 in 2\n", "");
+    let long = vec![in rt.alloc(); b'\n'; 1_048_577]?;
+    let run = ran(&rt, &["export"], long.as_slice())?;
+    assert_run(&rt, &run, 1, "refused 1 TooLong at 1048576 in 1\n", "");
+    Ok(())
+}
+
+fn assert_usage(rt: &HostRuntime, words: &[&str]) -> Result<(), Fail> {
+    let run = ran(rt, words, b"a: 1\n".as_slice())?;
+    assert_run(rt, &run, 1, "", "usage fault\n");
+    Ok(())
+}
+
+#[test]
+fn wants_its_words(rt: HostRuntime) -> Result<(), Fail> {
+    assert_usage(&rt, &[])?;
+    for word in ["print", "--help", "help", "-1", "--", "", "Export"] {
+        assert_usage(&rt, &[word])?;
+    }
+    for word in ["file", "--", "--help", "-h", "export"] {
+        assert_usage(&rt, &["export", word])?;
+    }
+    assert_usage(&rt, &["--", "export"])
+}
+
+/// A reader and a writer that fail.
+#[derive(Drop)]
+struct Broken;
+
+impl Read for Broken {
+    fn read(&mut self, _buf: &mut [u8]) -> io::Result<usize> {
+        Err(io::Error::from(ErrorKind::Other))
+    }
+}
+
+impl Write for Broken {
+    fn write(&mut self, _buf: &[u8]) -> io::Result<usize> {
+        Err(io::Error::from(ErrorKind::Other))
+    }
+
+    fn flush(&mut self) -> io::Result<()> {
+        Ok(())
+    }
+}
+
+/// A reader of empty lines that gives one byte at a time.
+#[derive(Drop)]
+struct Drip {
+    left: usize,
+}
+
+impl Read for Drip {
+    fn read(&mut self, buf: &mut [u8]) -> io::Result<usize> {
+        if self.left == 0 || buf.is_empty() {
+            return Ok(0);
+        }
+        buf[0] = b'\n';
+        self.left -= 1;
+        Ok(1)
+    }
+}
+
+fn export(alloc: Global) -> Result<Vec<String>, Fail> {
+    let mut words = Vec::new(alloc);
+    words.push(String::from_str(alloc, "export")?)?;
+    Ok(words)
+}
+
+#[test]
+fn tells_failing_devices(rt: HostRuntime) -> Result<(), Fail> {
+    let alloc = rt.alloc();
+    let words = export(alloc)?;
+    let mut out = Vec::new(alloc);
+    let mut faults = Vec::new(alloc);
+    assert_eq!(rt; act(&rt, &words, &mut Broken, &mut out, &mut faults), 4);
+    assert_eq!(rt; out.len(), 0);
+    assert_eq!(rt; faults.as_slice(), b"device fault\n".as_slice());
+    let mut faults = Vec::new(alloc);
+    let mut input = b"a: 1\n".as_slice();
+    assert_eq!(rt; act(&rt, &words, &mut input, &mut Broken, &mut faults), 4);
+    assert_eq!(rt; faults.as_slice(), b"device fault\n".as_slice());
+    let mut faults = Vec::new(alloc);
+    let mut input = b"a 1\n".as_slice();
+    assert_eq!(rt; act(&rt, &words, &mut input, &mut Broken, &mut faults), 4);
+    assert_eq!(rt; faults.as_slice(), b"device fault\n".as_slice());
+    Ok(())
+}
+
+#[test]
+fn reads_so_often_and_no_more(rt: HostRuntime) -> Result<(), Fail> {
+    let alloc = rt.alloc();
+    let words = export(alloc)?;
+    for (left, status, text) in [(65_535, 0, "{}\n"), (65_536, 1, "refused 21 TurnsUsed\n")] {
+        let mut out = Vec::new(alloc);
+        let mut faults = Vec::new(alloc);
+        let mut input = Drip { left };
+        assert_eq!(rt; act(&rt, &words, &mut input, &mut out, &mut faults), status);
+        assert_eq!(rt; out.as_slice(), text.as_bytes());
+        assert_eq!(rt; faults.len(), 0);
+    }
+    Ok(())
+}
