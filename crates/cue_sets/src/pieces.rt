@@ -55,7 +55,12 @@ fn ahead(rest: &[(i64, i64)], from: i64) -> &[(i64, i64)]
 }
 
 /// Goes on at `from` with numbers that are kept or not. `begun` is where the piece begins that is being made.
-fn go_on(pieces: &mut Vec<(i64, i64)>, begun: Option<i64>, from: i64, kept: bool) -> Result<Option<i64>, Memory>
+fn go_on(
+    pieces: &mut Vec<(i64, i64)>,
+    begun: Option<i64>,
+    from: i64,
+    kept: bool,
+) -> Result<Option<i64>, Memory>
     requires { IfSome begun (λ first. first <ℤ from) }
     ensures { IfOk result (λ next. (next ≡ opened begun from kept)
         × (pieces.new.items ≡ pieces.old.items ++ closed begun from kept)) }

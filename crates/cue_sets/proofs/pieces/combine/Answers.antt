@@ -36,7 +36,6 @@ loop-pieces-preserved c =
       ahead_right = IsAhead-more from next c.args.right.now c.loop-pieces.on_right.now c.ahead-on_right.result.now on i.ahead_right c.ahead-on_right.ensures.ascending c.ahead-on_right.ensures.ends c.ahead-on_right.ensures.members;
     }
 
-
 pub returns : goal.returns
 returns c =
     let last = c.min-last.result in
@@ -45,11 +44,11 @@ returns c =
     let from = to_z w64 c.loop-pieces.from-bits in
     let swept = IsSwept-both c.args.how c.args.left.now c.args.right.now c.loop-pieces.pieces.items c.loop-pieces.begun from c.loop-pieces.on_left.now c.loop-pieces.on_right.now last c.run_from-a.result.inside c.run_from-b.result.inside c.keeps.result c.go_on.new.pieces.items c.in_ok-begun.begun (greatest +ℤ pos 1) i forward (omega (arith, ints)) (λ n low high. c.run_from-a.ensures.alike n (omega (arith, ints)) (omega (arith, ints, clamps))) (λ n low high. c.run_from-b.ensures.alike n (omega (arith, ints)) (omega (arith, ints, clamps))) c.keeps.ensures c.in_ok-begun.ensures.0 c.in_ok-begun.ensures.1 (omega (arith, ints)) in
     let final : c.match-begun.pieces.items ≡ c.go_on.new.pieces.items ++ ending c.in_ok-begun.begun =
-      elim c.match-begun.branch [
-        | in-Some+in_ok-push w ↦ 
+    elim c.match-begun.branch [
+      | in-Some+in_ok-push w ↦
           let same : to_z w64 (of_z w64 w.in-Some.first) ≡ w.in-Some.first = omega (arith, ints) in
           rw (w.pieces-is, w.in_ok-push.ensures.items, w.in-Some.is) (ap (λ first. c.go_on.new.pieces.items ++ (first, greatest) ∷ []) same)
-        | in_default w ↦ rw (w.pieces-is, w.in_default.is) (sym (append-nil c.go_on.new.pieces.items))
-      ] in
+      | in_default w ↦ rw (w.pieces-is, w.in_default.is) (sym (append-nil c.go_on.new.pieces.items))
+    ] in
     let all = IsCombined-all c.args.how c.args.left.now c.args.right.now c.go_on.new.pieces.items c.in_ok-begun.begun c.match-begun.pieces.items c.requires.left c.requires.right swept final in
     record { canonical = all.0; members = all.1 }
