@@ -13,7 +13,7 @@ struct Run {
     faults: Vec<u8>,
 }
 
-fn ran(rt: &HostRuntime, words: &[&str], mut input: &[u8]) -> Result<Run, Fail> {
+fn ran<H: AllocGlobal>(rt: &H, words: &[&str], mut input: &[u8]) -> Result<Run, Fail> {
     let alloc = rt.alloc();
     let mut owned = Vec::new(alloc);
     for word in words {
@@ -75,7 +75,7 @@ fn refuses_bytes(rt: HostRuntime) -> Result<(), Fail> {
     Ok(())
 }
 
-fn assert_usage(rt: &HostRuntime, words: &[&str]) -> Result<(), Fail> {
+fn assert_usage<H: AllocGlobal + Abort>(rt: &H, words: &[&str]) -> Result<(), Fail> {
     let run = ran(rt, words, b"a: 1\n".as_slice())?;
     assert_run(rt, &run, 1, "", "usage fault\n");
     Ok(())
