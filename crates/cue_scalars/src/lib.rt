@@ -5,8 +5,6 @@
 #![tactic(auto)]
 
 mod scalar_set;
-#[cfg(test)]
-mod tests;
 mod valued;
 
 pub use cue_lattice::Scalar;
