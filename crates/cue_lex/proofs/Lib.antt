@@ -3,3 +3,4 @@ pub mod Fronts
 pub mod Bodies
 pub mod Lexing
 pub mod Longest
+pub mod LongestMark

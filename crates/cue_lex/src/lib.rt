@@ -17,4 +17,5 @@ mod tests;
 mod token;
 
 pub use lexer::lex;
+pub use mark::longest_mark;
 pub use token::{Token, TokenKind};

@@ -1,5 +1,5 @@
 ghost use Rattle.std.specs.Prelude.{◌≡◌, ◌<◌, IfSome};
-ghost use Rattle.cue_lex.specs.Marks.{mark, single_mark};
+ghost use Rattle.cue_lex.specs.Marks.{mark, single_mark, TakesTheLongest};
 ghost use Rattle.cue_lex.specs.Lexemes.{EndsAscii};
 
 use crate::TokenKind;
@@ -47,3 +47,9 @@ fn single(byte: u8) -> Option<TokenKind>
         _ => return None,
     })
 }
+
+/// Says by its contract that of all marks that stand at a place the longest is the one that `lex` takes.
+#[tactic(auto, using(crate::proofs::LongestMark::takes_the_longest))]
+pub fn longest_mark()
+    ensures { TakesTheLongest }
+{}

@@ -1,60 +1,98 @@
-//! Reads lines of a text as a JSON string, a tab and the answer that the text must get, and tells where the lexer
-//! answers otherwise. `cue_vectors FILE` reads a file, `cue_vectors` reads standard input, and
-//! `cue_vectors time FILE` lexes the whole file as one text and tells the least
-//! time of some runs, in microseconds.
+//! Reads lines of a text as a JSON string, a tab and the answer that the text must get, and tells where the lexer and
+//! the parser answer otherwise. An answer is `ok`, or the refusal's number and place, and behind a 9 its form.
+//! `cue_vectors FILE` reads a file, `cue_vectors` reads standard input. `cue_vectors lex FILE` and `cue_vectors parse
+//! FILE` take the whole file as one text and tell the least time of some runs, in microseconds; `parse` also walks the
+//! tree and tells how many expressions it has.
 #![tactic(auto)]
 
+mod size;
+
 use anyhow::{Context, anyhow};
-use cue_lattice::Kind;
+use cue_lattice::{Kind, Refusal};
 use cue_lex::lex;
+use cue_syntax::{File, parse};
 use serde_json::Value;
 use std::alloc::Global;
 use std::time::Instant;
 use std::{env, fs, io};
 
-/// How often a text is lexed for its time.
+/// How often a text is read for its time.
 const RUNS: u32 = 20;
 
-/// The lexer's refusal that an answer names, as `2 7`. None where the lexer must accept the text.
-fn lexical(answer: &str) -> Option<&str> {
-    match answer.as_bytes() {
-        [b'1'..=b'6', b' ', ..] => Some(answer),
-        _ => None,
+/// The tree of a text, or why the lexer or the parser refuses it.
+fn read(alloc: Global, text: &str) -> Result<File, Refusal> {
+    parse(alloc, &lex(alloc, text)?, text.len())
+}
+
+/// The answer that a text gets, as `ok`, `2 7` or `9 3 Call`.
+fn answer(alloc: Global, text: &str) -> anyhow::Result<String> {
+    let Err(refusal) = read(alloc, text) else {
+        return Ok(format!(in alloc; "ok")?);
+    };
+    let (number, place) = (refusal.kind.number(), refusal.place);
+    match refusal.kind {
+        Kind::Memory => Err(anyhow!("out of memory")),
+        Kind::LeftOut(form) => Ok(format!(in alloc; "{number} {place} {form}")?),
+        _ => Ok(format!(in alloc; "{number} {place}")?),
     }
 }
 
-/// What the lexer refuses a text with, as `2 7`.
-fn refusal(alloc: Global, text: &str) -> anyhow::Result<Option<String>> {
-    match lex(alloc, text) {
-        Ok(_) => Ok(None),
-        Err(refusal) if refusal.kind == Kind::Memory => Err(anyhow!("out of memory")),
-        Err(refusal) => Ok(Some(format!(in alloc; "{} {}", refusal.kind.number(), refusal.place)?)),
-    }
-}
-
-/// Where the lexer disagrees with a line, what it answers.
+/// What a line's text gets, where it isn't the answer that the line names.
 fn disagreement(alloc: Global, line: &str) -> anyhow::Result<Option<String>> {
-    let (quoted, answer) = line.split_once('\t').context("a line without a tab")?;
+    let (quoted, wanted) = line.split_once('\t').context("a line without a tab")?;
     let value = Value::from_str(alloc, quoted)?;
     let text = value.as_str().context("a text that is no JSON string")?;
-    let found = refusal(alloc, text)?;
-    let shown = found.as_ref().map_or("accepted", |found| found.as_str());
-    if shown == lexical(answer).unwrap_or("accepted") {
+    let found = answer(alloc, text)?;
+    if found.as_str() == wanted {
         return Ok(None);
     }
-    Ok(Some(format!(in alloc; "{shown}")?))
+    Ok(Some(found))
 }
 
-/// Lexes a file as one text, some times over, and tells the least time.
-fn time(rt: &HostRuntime, path: &str) -> anyhow::Result<()> {
-    let text = fs::read_to_string(rt, path)?;
+/// Lexes a text some times over, and tells the least time.
+fn time_lexer(rt: &HostRuntime, text: &str) -> anyhow::Result<()> {
     let mut least = u128::MAX;
     for _ in 0..RUNS {
         let start = Instant::now(rt)?;
-        let _found = refusal(rt.alloc(), text.as_str())?;
+        let _tokens = lex(rt.alloc(), text).ok();
         least = least.min(start.elapsed(rt)?.as_micros());
     }
     println!(rt; "{} bytes, {least} microseconds", text.len())?;
+    Ok(())
+}
+
+/// Parses the tokens of a text some times over, and tells the least time and the size of the tree.
+fn time_parser(rt: &HostRuntime, text: &str) -> anyhow::Result<()> {
+    let tokens = lex(rt.alloc(), text)
+        .ok()
+        .context("a text that the lexer refuses")?;
+    let mut least = u128::MAX;
+    let mut size = 0;
+    for _ in 0..RUNS {
+        let start = Instant::now(rt)?;
+        let file = parse(rt.alloc(), &tokens, text.len())
+            .ok()
+            .context("a text that the parser refuses")?;
+        least = least.min(start.elapsed(rt)?.as_micros());
+        size = size::of_declarations(&file.declarations);
+    }
+    println!(rt;
+        "{} bytes, {size} expressions, {least} microseconds",
+        text.len()
+    )?;
+    Ok(())
+}
+
+/// Compares each line, and tells those that get another answer.
+fn compare(rt: &HostRuntime, lines: &str) -> anyhow::Result<()> {
+    let mut wrong = 0u64;
+    for line in lines.lines() {
+        if let Some(found) = disagreement(rt.alloc(), line)? {
+            println!(rt; "{line}: {found}")?;
+            wrong = wrong.saturating_add(1);
+        }
+    }
+    println!(rt; "{} lines, {wrong} wrong", lines.lines().count())?;
     Ok(())
 }
 
@@ -62,20 +100,17 @@ fn main(rt: HostRuntime) -> anyhow::Result<()> {
     let mut words = env::args(&rt)?;
     let _program = words.next();
     let first = words.next();
-    if let (Some(_), Some(path)) = (&first, words.next()) {
-        return time(&rt, path.as_str());
+    if let (Some(what), Some(path)) = (&first, words.next()) {
+        let text = fs::read_to_string(&rt, path.as_str())?;
+        return match what.as_str() {
+            "lex" => time_lexer(&rt, text.as_str()),
+            "parse" => time_parser(&rt, text.as_str()),
+            _ => Err(anyhow!("usage: cue_vectors [FILE], or cue_vectors lex|parse FILE")),
+        };
     }
     let all = match first {
         Some(path) => fs::read_to_string(&rt, path.as_str())?,
         None => io::read_to_string(rt.alloc(), rt.stdin())?,
     };
-    let mut wrong = 0u64;
-    for line in all.as_str().lines() {
-        if let Some(found) = disagreement(rt.alloc(), line)? {
-            println!(rt; "{line}: {found}")?;
-            wrong = wrong.saturating_add(1);
-        }
-    }
-    println!(rt; "{} lines, {wrong} wrong", all.as_str().lines().count())?;
-    Ok(())
+    compare(&rt, all.as_str())
 }

@@ -1,0 +1,41 @@
+# For bench/lex.sh and bench/parse.sh: times cue_vectors on texts of 256 KiB, 512 KiB and 1 MiB. The caller has
+# `generate SHAPE SIZE`, which writes a text of that shape and at most that size.
+
+# repeat UNIT SIZE: the unit again and again, no more than SIZE bytes in all
+repeat() {
+    awk -v unit="$1" -v size="$2" 'BEGIN { n = length(unit); for (k = 0; k + n <= size; k += n) printf "%s", unit }'
+}
+
+# measure WHAT FILE: the least milliseconds of five runs of the program, each of which reads the text twenty times
+measure() {
+    local TIMEFORMAT=%3U
+    for _ in 1 2 3 4 5; do
+        { time "$program" "$1" "$2" > /dev/null; } 2>&1 | tr -d . | sed 's/^0*//; s/^$/0/'
+    done | sort -n | head -n 1
+}
+
+# growth WHAT SHAPE..: a line for each shape. Ends with 1 where a growth is above 1.20.
+growth() {
+    local what=$1 text worst=0 shape row size
+    shift
+    if [ ! -x "$program" ]; then
+        (cd crates/cue_vectors && rt run < stdin > /dev/null)
+    fi
+    text=$(mktemp)
+    trap "rm -f '$text'" EXIT
+    printf '%-12s %8s %8s %8s %8s\n' shape 256KiB 512KiB 1MiB growth
+    for shape in "$@"; do
+        row=
+        for size in 262144 524288 1048576; do
+            generate "$shape" "$size" > "$text"
+            row="$row $(wc -c < "$text") $(measure "$what" "$text")"
+        done
+        worst=$(awk -v shape="$shape" -v row="$row" -v worst="$worst" 'BEGIN {
+            split(row, r, " ")
+            growth = (r[6] / r[5]) / (r[2] / r[1])
+            printf "%-12s %8s %8s %8s %8.2f\n", shape, r[2], r[4], r[6], growth > "/dev/stderr"
+            print (growth > worst ? growth : worst)
+        }')
+    done
+    awk -v worst="$worst" 'BEGIN { exit worst > 1.20 }'
+}
