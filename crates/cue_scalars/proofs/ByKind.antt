@@ -1,10 +1,10 @@
 -- Members of a set of scalars, kind by kind.
-use Rattle.std.proofs.Common.{◌≡◌, ℕ, ◌<◌, Bool, true, false, not, ◌+◌, ◌&&◌, ◌||◌, List, [], ◌∷◌, ℤ, Option, Some, None, refl, sym, ap, ◌∙◌, subst, arith}
+use Rattle.std.proofs.Common.{◌≡◌, ℕ, ◌<◌, Bool, true, false, not, ◌+◌, ◌&&◌, ◌||◌, List, [], ◌∷◌, ℤ, refl, sym, ap, ◌∙◌, arith}
 use Rattle.std.specs.Prelude.{IfNone}
 use Rattle.std.proofs.lemmas.Bool.{false≢true}
 use Rattle.cue_lattice.specs.declared.scalar.Scalar.{Scalar}
 use Rattle.cue_lattice.specs.declared.scalar.Scalar.TheVariants as scalars
-use Rattle.cue_sets.specs.Pieces.{is_member, IsCanonical, Refuses, IsOnlyMember}
+use Rattle.cue_sets.specs.Pieces.{is_member, Refuses, IsOnlyMember}
 use Rattle.cue_sets.specs.Texts.{is_text_member, RefusesText, IsOnlyText}
 use Rattle.cue_sets.specs.TextLaws.{some_text, first_is_listed, is_listed-zeros, greatest_length, zeros}
 use Rattle.cue_scalars.specs.Scalars.{members, kind, only_of, RefusesScalar, IsOnlyScalar}

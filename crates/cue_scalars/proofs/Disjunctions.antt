@@ -1,13 +1,13 @@
 -- A disjunction in parts.
 use Rattle.std.proofs.Common.{◌≡◌, Bool, true, false, ◌||◌, List, [], ◌∷◌, ◌++◌, Option, Some, None, refl, sym, ap, ◌∙◌, ℕ, length, take, drop, get_or, arith}
-use Rattle.std.specs.Prelude.{filter_map, map}
+use Rattle.std.specs.Prelude.{filter_map}
 use Rattle.std.specs.List.{list_any, cons_option}
 use Rattle.std.proofs.lemmas.List.{append-nil, map-append, take-append-drop}
 use Rattle.std.proofs.lemmas.List.Elements.{filter_map-append}
 use Rattle.std.proofs.lemmas.List.Folds.{list_any-append}
 use mathlib.Core.Path.{fun_ext}
 use Rattle.cue_lattice.specs.declared.scalar.Scalar.{Scalar}
-use Rattle.cue_scalars.specs.Pairs.{Scalars, Pair, union_of, union_all, default_of, term_of, united, joined_usual, join_of, is_any_marked, sum_of}
+use Rattle.cue_scalars.specs.Pairs.{Scalars, Pair, default_of, term_of, united, joined_usual, join_of, is_any_marked, sum_of}
 use Rattle.cue_scalars.specs.Values.{pair_of, terms_of}
 use Rattle.cue_scalars.specs.declared.valued.Valued.{Valued}
 

@@ -1,10 +1,10 @@
 -- Laws of sets of scalars.
-use Rattle.std.proofs.Common.{◌≡◌, ℕ, Bool, true, false, ◌↔◌, List, [], ◌∷◌, refl, sym, ap, ◌∙◌, arith}
+use Rattle.std.proofs.Common.{◌≡◌, Bool, true, false, ◌↔◌, refl, sym}
 use Rattle.cue_lattice.specs.declared.scalar.Scalar.{Scalar}
 use Rattle.cue_lattice.specs.declared.scalar.Scalar.TheVariants as scalars
 use Rattle.cue_sets.specs.PieceLaws.{same_pieces}
 use Rattle.cue_sets.specs.TextLaws.{same_texts}
-use Rattle.cue_scalars.specs.Scalars.{members, IsScalarSet, RefusesScalar}
+use Rattle.cue_scalars.specs.Scalars.{IsScalarSet, RefusesScalar}
 use Rattle.cue_scalars.specs.declared.scalar_set.ScalarSet.{ScalarSet}
 
 bool_same : (a b : Bool) → (a ≡ false → b ≡ false) → (b ≡ false → a ≡ false) → a ≡ b

@@ -1,5 +1,5 @@
 -- What is kept, as a pair of plain sets of scalars.
-use Rattle.std.specs.Prelude.{Bool, List, map, Option, option_map}
+use Rattle.std.specs.Prelude.{Bool, List, map, option_map}
 use Rattle.cue_scalars.specs.Scalars.{members}
 use Rattle.cue_scalars.specs.Pairs.{Pair}
 use Rattle.cue_scalars.specs.declared.valued.Valued.{Valued}

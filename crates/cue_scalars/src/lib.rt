@@ -10,3 +10,6 @@ mod valued;
 pub use cue_lattice::Scalar;
 pub use scalar_set::ScalarSet;
 pub use valued::Valued;
+
+#[cfg(test)]
+mod tests;

@@ -1,7 +1,8 @@
-ghost use Rattle.std.specs.Prelude.{◌≡◌, ◌↔◌, [], true, false, not, ◌&&◌, ◌||◌, IfOk, IfSome, IfNone, IsTrue, Ok, Some, None};
+ghost use Rattle.std.specs.Prelude.{◌≡◌, ◌↔◌, ◌<◌, [], true, false, not, ◌&&◌, ◌||◌, IfOk, IfSome, IfNone, IsTrue, Ok, Some, None};
+ghost use Rattle.std.specs.Result.{IsOk, IsOkAnd};
 ghost use Rattle.cue_lattice.specs.declared.scalar.Scalar.{Scalar};
 ghost use Rattle.cue_lattice.specs.declared.scalar.Scalar.TheVariants as scalars;
-ghost use Rattle.cue_scalars.specs.Scalars.{members, only_of, IsOnlyScalar, IsFirstScalar};
+ghost use Rattle.cue_scalars.specs.Scalars.{members, kind, only_of, IsOnlyScalar, IsFirstScalar};
 
 use cue_lattice::{Memory, Narrow, Scalar, Text};
 use cue_sets::{IntSet, TextSet};
@@ -22,7 +23,7 @@ pub struct ScalarSet {
 impl ScalarSet {
     /// No scalar. This takes no memory.
     pub fn empty(alloc: Global) -> Result<ScalarSet, Memory>
-        ensures { IfOk result (λ set. (scalar : Scalar) → members set scalar ≡ false) }
+        ensures { IsOkAnd result (λ set. (scalar : Scalar) → members set scalar ≡ false) }
     {
         Ok(ScalarSet {
             null: false,
@@ -102,8 +103,9 @@ impl ScalarSet {
         })
     }
 
-    /// The only member, where there is one.
+    /// The only member, where there is one. This takes memory only for a text.
     pub fn single(&self, alloc: Global) -> Result<Option<Scalar>, Memory>
+        ensures given { self.now.texts ≡ (false, []) → IsOk result }
         ensures some { IfOk result (λ found. IfSome found (IsOnlyScalar self.now)) }
         ensures none { IfOk result (λ found. IfNone found ((scalar : Scalar) → ¬ IsOnlyScalar self.now scalar)) }
     {
@@ -132,8 +134,10 @@ impl ScalarSet {
         Ok(only_plain(self.null, self.no, self.yes))
     }
 
-    /// The first member, where there is one: in the order null, false, true, integers upwards, texts by their bytes.
+    /// The first member, where there is one: in the order null, false, true, integers upwards, texts by their bytes. This
+    /// takes memory only where all members are texts.
     pub fn first(&self, alloc: Global) -> Result<Option<Scalar>, Memory>
+        ensures given { (scalar : Scalar) → members self.now scalar ≡ true → kind scalar < 4 → IsOk result }
         ensures some { IfOk result (λ found. IfSome found (IsFirstScalar self.now)) }
         ensures none { IfOk result (λ found. IfNone found ((scalar : Scalar) → members self.now scalar ≡ false)) }
     {

@@ -1,6 +1,7 @@
-ghost use Rattle.std.specs.Prelude.{◌≡◌, IfOk, is_some, unwrap_or};
+ghost use Rattle.std.specs.Prelude.{◌≡◌, IfOk, IsSome, is_some, unwrap_or};
 ghost use Rattle.std.specs.List.{list_any};
 ghost use Rattle.std.specs.Option.{ForSome};
+ghost use Rattle.std.specs.Result.{IsOk};
 ghost use Rattle.cue_scalars.specs.Scalars.{members, IsWithin};
 
 use crate::ScalarSet;
@@ -42,8 +43,10 @@ impl Valued {
         Valued::sum(alloc, is_any_marked(terms), terms)
     }
 
-    /// The values, and which of them are usual: the default, or all of them where there is none.
+    /// The values, and which of them are usual: the default, or all of them where there is none. This takes memory only
+    /// where there is no default.
     pub fn settle(self, alloc: Global) -> Result<(ScalarSet, ScalarSet), Memory>
+        ensures given { IsSome self.usual → IsOk result }
         ensures value { IfOk result (λ settled. settled.0 ≡ self.value) }
         ensures usual { IfOk result (λ settled. settled.1 ≡ unwrap_or self.usual self.value) }
     {

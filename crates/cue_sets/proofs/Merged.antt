@@ -1,5 +1,5 @@
 -- What a merge of two ascending lists of texts lists.
-use Rattle.std.proofs.Common.{◌≡◌, ℕ, Bool, true, false, cond, ◌&&◌, ◌||◌, List, [], ◌∷◌, refl, sym, ap, ◌∙◌, subst}
+use Rattle.std.proofs.Common.{◌≡◌, ℕ, Bool, true, false, List, [], ◌∷◌, refl, sym, ap, ◌∙◌, subst}
 use Rattle.std.specs.Str.{bytes_eq}
 use Rattle.std.specs.declared.cmp.Ordering.{Ordering}
 use Rattle.std.specs.declared.cmp.Ordering.TheVariants.{Less, Equal, Greater}
@@ -9,7 +9,6 @@ use Rattle.cue_sets.specs.Texts.{is_listed, flipped, is_text_member, text_cmp, I
 use Rattle.cue_sets.specs.TextLaws.{reverse_cmp, same_from_equal, bytes_eq-itself, is_listed-below, IsBelowAll-lower, is_listed-before_first}
 use Rattle.cue_sets.specs.Merge.{prepended_if, right_merged, merged_at, merged_from, merged, lists}
 use Rattle.cue_sets.specs.declared.combination.Combination.{Combination}
-use Rattle.cue_sets.specs.declared.combination.Combination.TheVariants.{Meet, Union, Without}
 
 -- ---- the texts of a merge ascend
 IsBelowAll-prepended : (b : Bool) (p x : List ℕ) (xs : List (List ℕ)) → text_cmp p x ≡ Less → IsBelowAll p xs → IsBelowAll p (prepended_if b x xs)

@@ -1,9 +1,9 @@
 -- The first piece that ends at a number or later decides whether the number is a member.
-use Rattle.std.proofs.Common.{◌≡◌, ℕ, zero, suc, ◌+◌, ◌<◌, ◌≤◌, Bool, true, false, ◌&&◌, ◌||◌, List, [], ◌∷◌, length, get_or, ℤ, pos, ◌+ℤ◌, ◌≤ℤ◌, ◌<ℤ◌, refl, sym, ap, ◌∙◌, arith}
+use Rattle.std.proofs.Common.{◌≡◌, ℕ, zero, suc, ◌<◌, ◌≤◌, Bool, true, false, ◌&&◌, ◌||◌, List, [], ◌∷◌, length, get_or, ℤ, pos, ◌+ℤ◌, ◌≤ℤ◌, ◌<ℤ◌, refl, arith}
 use Rattle.std.specs.Prelude.{int_le, int_lt}
 use Rattle.std.proofs.lemmas.Int.{ints}
 use Rattle.std.specs.List.Sorted.{IsPartitionedBy, IsPartitionPoint}
-use Rattle.cue_sets.specs.Pieces.{is_within, is_member, least, AscendsFrom, IsCanonical}
+use Rattle.cue_sets.specs.Pieces.{is_member, least, AscendsFrom, IsCanonical}
 use Rattle.cue_sets.specs.PieceLaws.{is_within-above, is_member-below, le_true, lt_true}
 
 -- the pieces before `at` end below n, those from `at` on don't

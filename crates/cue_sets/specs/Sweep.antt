@@ -1,6 +1,5 @@
 -- A sweep over the numbers from the least integer upwards, which makes a list of pieces.
-use Rattle.std.specs.Prelude.{◌≡◌, Bool, true, false, ◌&&◌, ◌||◌, List, [], ◌∷◌, ◌++◌, ℤ, pos, ◌-ℤ◌, ◌+ℤ◌, ◌≤ℤ◌, ◌<ℤ◌, int_le, int_lt, Option, Some, None, unwrap_or, IfSome}
-use Rattle.cue_sets.specs.Pieces.{is_member, least, greatest, AscendsFrom, IsCanonical}
+use Rattle.std.specs.Prelude.{Bool, true, false, List, [], ◌∷◌, ℤ, pos, ◌-ℤ◌, ◌≤ℤ◌, Option, Some, None, unwrap_or}
 
 -- the first piece ends at `from` or later
 abbrev pub EndsFrom : ℤ → List (ℤ × ℤ) → Type 0

@@ -145,7 +145,7 @@ impl IntSet {
         ensures list { result.now ≡ self.now }
         ensures canonical { IsCanonical self.now }
     {
-        self.pieces.as_slice()
+        &self.pieces
     }
 
     fn combined(&self, alloc: Global, how: Combination, other: &IntSet) -> Result<IntSet, Memory>
@@ -190,7 +190,7 @@ impl Narrow for IntSet {
     }
 
     fn meet(&self, alloc: Global, other: &IntSet) -> Result<IntSet, Memory> {
-        self.combined(alloc, Combination::Meet, other)
+        IntSet::meet(self, alloc, other)
     }
 
     fn same(&self, other: &IntSet) -> bool {

@@ -195,7 +195,7 @@ impl Narrow for TextSet {
     }
 
     fn meet(&self, alloc: Global, other: &TextSet) -> Result<TextSet, Memory> {
-        self.combined(alloc, Combination::Meet, other)
+        TextSet::meet(self, alloc, other)
     }
 
     fn same(&self, other: &TextSet) -> bool {

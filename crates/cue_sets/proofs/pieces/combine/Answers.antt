@@ -1,4 +1,4 @@
-use Rattle.std.proofs.Common.{◌≡◌, ◌≤ℤ◌, ℤ, pos, ◌+ℤ◌, ◌-ℤ◌, ◌++◌, ◌∷◌, [], ap, to_z, of_z, w64, refl, sym, subst, arith, Some, None}
+use Rattle.std.proofs.Common.{◌≡◌, ◌≤ℤ◌, pos, ◌+ℤ◌, ◌-ℤ◌, ◌++◌, ◌∷◌, [], ap, to_z, of_z, w64, sym, arith}
 use Rattle.std.proofs.lemmas.Int.{ints, clamps}
 use Rattle.std.proofs.lemmas.List.{append-nil}
 use Rattle.cue_sets.specs.Pieces.{greatest}

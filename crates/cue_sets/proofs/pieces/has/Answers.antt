@@ -1,7 +1,7 @@
-use Rattle.std.proofs.Common.{◌≡◌, ℕ, ℤ, pos, rules, sym, refl, ◌∙◌, arith, to_z, of_z, w64, ltb, false}
+use Rattle.std.proofs.Common.{pos, rules, sym, refl, ◌∙◌, w64}
 use Rattle.std.specs.Prelude.{int_lt, FitsSigned, slice_index_or}
 use Rattle.std.proofs.lemmas.Bool.{le-ltb}
-use Rattle.std.proofs.lemmas.Int.{ints, to_z-of_z}
+use Rattle.std.proofs.lemmas.Int.{to_z-of_z}
 use Rattle.std.proofs.lemmas.List.Sorted.{IsPartitionPoint-from_clause}
 use Rattle.cue_sets.specs.Pieces.{least}
 use Rattle.cue_sets.proofs.Search.{IsPlace, IsPartitionedBy-ends, IsPlace-point, is_member-at, is_member-past}

@@ -1,4 +1,4 @@
-use Rattle.std.proofs.Common.{rules, sym, ◌∙◌}
+use Rattle.std.proofs.Common.{rules, ◌∙◌}
 use Rattle.std.proofs.lemmas.Fn.{always_returns_same}
 use Rattle.cue_sets.specs.Texts.{text_cmp}
 use Rattle.cue_sets.proofs.TextSearch.{is_listed-searched}

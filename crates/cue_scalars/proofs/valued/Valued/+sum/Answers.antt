@@ -1,6 +1,6 @@
-use Rattle.std.proofs.Common.{◌≡◌, [], ◌∷◌, length, ◌/◌, ap, sym, ◌∙◌, arith}
+use Rattle.std.proofs.Common.{length, ◌/◌, ap, sym, ◌∙◌}
 use Rattle.std.proofs.lemmas.Result.{IfOk-weaker}
-use Rattle.cue_scalars.specs.Pairs.{join_of, sum_of, term_of}
+use Rattle.cue_scalars.specs.Pairs.{sum_of}
 use Rattle.cue_scalars.specs.Values.{pair_of, terms_of}
 use Rattle.cue_scalars.proofs.Disjunctions.{sum_of-one, sum_of-split, one_term}
 use Rattle.cue_scalars.proofs.valued.Valued.+sum.Goals as goal

@@ -1,4 +1,4 @@
-use Rattle.std.proofs.Common.{ℤ, pos, ◌+ℤ◌, ◌-ℤ◌, to_z, of_z, w64, arith}
+use Rattle.std.proofs.Common.{arith}
 use Rattle.std.proofs.lemmas.Int.{ints}
 use Rattle.cue_sets.proofs.PieceTests.{is_member-round}
 use Rattle.cue_sets.proofs.int_set.IntSet.but.Goals as goal

@@ -1,4 +1,4 @@
-use Rattle.std.proofs.Common.{pos, to_z, of_z, w64, sym, subst, ◌∙◌, rules}
+use Rattle.std.proofs.Common.{pos, w64, sym, subst, ◌∙◌, rules}
 use Rattle.std.specs.Prelude.{FitsSigned, slice_index_or}
 use Rattle.std.proofs.lemmas.Int.{to_z-of_z}
 use Rattle.cue_sets.specs.Pieces.{least, IsCanonical, IsFirstMember}

@@ -1,4 +1,4 @@
-use Rattle.std.proofs.Common.{ℤ, pos, of_z, w64, sym, ap, ◌∙◌, subst, arith}
+use Rattle.std.proofs.Common.{ℤ, pos, of_z, w64, sym, ap, ◌∙◌, subst}
 use Rattle.cue_sets.specs.Pieces.{least, IsCanonical, IsOnlyMember}
 use Rattle.cue_sets.specs.PieceLaws.{several_in_one, several_pieces}
 use Rattle.cue_sets.proofs.int_set.IntSet.single.Goals as goal

@@ -1,4 +1,4 @@
-use Rattle.std.proofs.Common.{List, [], ◌∷◌, ℤ, ◌∙◌, subst}
+use Rattle.std.proofs.Common.{[], ◌∷◌, ◌∙◌, subst}
 use Rattle.cue_sets.specs.Pieces.{least, greatest, IsCanonical}
 use Rattle.cue_sets.specs.PieceLaws.{free_is_full}
 use Rattle.cue_sets.proofs.PieceTests.{Decides-slices}

@@ -1,4 +1,3 @@
-use Rattle.std.proofs.Common.{rules}
 use Rattle.cue_sets.specs.Merge.{lists}
 use Rattle.cue_sets.proofs.Merged.{IsAscending-merged, is_text_member-merged}
 use Rattle.cue_sets.proofs.text_set.TextSet.combined.Goals as goal

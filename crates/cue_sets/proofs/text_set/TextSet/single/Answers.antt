@@ -1,4 +1,4 @@
-use Rattle.std.proofs.Common.{◌≡◌, ℕ, List, length, false, true, ◌∙◌, sym, subst, ap, arith}
+use Rattle.std.proofs.Common.{◌≡◌, ℕ, List, length, ◌∙◌, sym, subst, ap, arith}
 use Rattle.cue_sets.specs.Texts.{IsOnlyText}
 use Rattle.cue_sets.specs.TextLaws.{all_but_several, one_listed, not_one_text}
 use Rattle.cue_sets.proofs.text_set.TextSet.single.Goals as goal
