@@ -6,7 +6,7 @@ repeat() {
     awk -v unit="$1" -v size="$2" 'BEGIN { n = length(unit); for (k = 0; k + n <= size; k += n) printf "%s", unit }'
 }
 
-# measure WHAT FILE: the least milliseconds of five runs of the program, each of which reads the text twenty times
+# measure WHAT FILE: the least milliseconds of five runs of the program, each of which reads the text many times
 measure() {
     local TIMEFORMAT=%3U
     for _ in 1 2 3 4 5; do

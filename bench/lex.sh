@@ -1,5 +1,5 @@
 #!/usr/bin/env bash
-# How long the lexer takes for texts of 256 KiB, 512 KiB and 1 MiB, in milliseconds for twenty runs, and how the time
+# How long the lexer takes for texts of 256 KiB, 512 KiB and 1 MiB, in milliseconds for 200 runs, and how the time
 # grows for each byte from the first size to the last: 1.00 is linear. It is the processor's time in the program itself,
 # without the system's for giving and taking pages, so that it does not depend on what else runs. The script ends with 1
 # where a growth is above 1.20.
