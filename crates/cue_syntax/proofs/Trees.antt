@@ -36,28 +36,33 @@ parenthesis_is is first inner third fourth = record {
   levels = omega (arith, is, inner.levels);
 }
 
-pub braced_is : {room left : ℕ} {a b c d : List Token} {es : Entries} {comma : Bool} → left + 1 ≡ room
-    → Reads a (one kinds.OpenBrace) b → AreEntries left b es comma c → AreNested es → Reads c (one kinds.CloseBrace) d
-    → AreBraced room a es comma d
-braced_is is first inner nested third = record {
-  reads = reads_then (reads_then first inner.reads) third;
+pub braced_is : {room : ℕ} {b c d : List Token} {es : Entries} {comma : Bool}
+    → AreEntries room b es comma c → AreNested es → Reads c (one kinds.CloseBrace) d
+    → AreBraced room b es comma d
+braced_is inner nested third = record {
+  reads = reads_then inner.reads third;
   right = inner.right;
   nested = nested;
   ends = inner.ends;
+  levels = inner.levels;
+}
+
+pub struct_is : {room left : ℕ} {a b c : List Token} {es : Entries} {comma : Bool} → left + 1 ≡ room → Reads a (one kinds.OpenBrace) b → AreBraced left b es comma c
+    → IsExpression room a (struct es comma) c
+struct_is is first inner = record {
+  reads = reads_then first inner.reads;
+  right = (inner.right, inner.nested, inner.ends);
   levels = omega (arith, is, inner.levels);
 }
 
-pub struct_is : {room : ℕ} {a b : List Token} {es : Entries} {comma : Bool} → AreBraced room a es comma b → IsExpression room a (struct es comma) b
-struct_is inner = record { reads = inner.reads; right = (inner.right, inner.nested, inner.ends); levels = inner.levels }
-
-pub close_is : {room left from : ℕ} {a b c d f g : List Token} {es : Entries} {inner comma : Bool} → left + 1 ≡ room
-    → Reads a (one_at from (kinds.Name (codes "close"))) b → Reads b (one kinds.OpenParenthesis) c → AreBraced left c es inner d
-    → Reads d (comma_if comma) f → Reads f (one kinds.CloseParenthesis) g
-    → IsExpression room a (close from es inner comma) g
-close_is is first second third fourth fifth = record {
-  reads = reads_then (reads_then (reads_then (reads_then first second) third.reads) fourth) fifth;
+pub close_is : {room left last from : ℕ} {a b c d f g h : List Token} {es : Entries} {inner comma : Bool} → left + 1 ≡ room → last + 1 ≡ left
+    → Reads a (one_at from (kinds.Name (codes "close"))) b → Reads b (one kinds.OpenParenthesis) c → Reads c (one kinds.OpenBrace) d → AreBraced last d es inner f
+    → Reads f (comma_if comma) g → Reads g (one kinds.CloseParenthesis) h
+    → IsExpression room a (close from es inner comma) h
+close_is is more first second brace third fourth fifth = record {
+  reads = reads_then (reads_then (reads_then (reads_then first second) (reads_then brace third.reads)) fourth) fifth;
   right = (third.right, third.nested, third.ends);
-  levels = omega (arith, is, third.levels);
+  levels = omega (arith, is, more, third.levels);
 }
 
 pub list_is : {room left : ℕ} {a b c d : List Token} {es : Elements} {comma : Bool} → left + 1 ≡ room

@@ -6,9 +6,7 @@ use Rattle.cue_syntax.specs.declared.tree.Identifier.TheVariants as identifiers
 use Rattle.cue_lex.specs.declared.token.TokenKind.TheVariants as kinds
 use Rattle.cue_syntax.specs.Spelling.{Reads, one, comma_if, spell, spell_elements, spell_branch, spell_entry, spell_entries, spell_file}
 use Rattle.cue_syntax.specs.declared.tree.Package.{Package}
-use Rattle.cue_syntax.specs.declared.tree.File.{File}
-use Rattle.cue_syntax.specs.declared.tree.Declaration.{Declaration}
-use Rattle.cue_syntax.specs.Syntax.{entries, Expression, name, integer, text, bottom, bound, other_integer, other_text, parenthesis, struct, close, list, conjunction, disjunction, Elements, no_elements, element, Branch, branch, Branches, no_branches, next_branch, Entry, ellipsis, field, definition, Entries, no_entries, entry}
+use Rattle.cue_syntax.specs.Syntax.{FileTree, Expression, name, integer, text, bottom, bound, other_integer, other_text, parenthesis, struct, close, list, conjunction, disjunction, Elements, no_elements, element, Branch, branch, Branches, no_branches, next_branch, Entry, ellipsis, field, definition, Entries, no_entries, entry}
 
 -- names that begin a clause, which is left out
 abbrev pub IsClause : List ℕ → Type 0
@@ -180,13 +178,13 @@ pub record AreEntries (room : ℕ) (tokens : List Token) (es : Entries) (comma :
   pub ends : EndsEntries comma es
   pub levels : levels_of_entries es ≤ room
 
--- declarations in braces
+-- declarations, and the brace that closes them
 pub record AreBraced (room : ℕ) (tokens : List Token) (es : Entries) (comma : Bool) (rest : List Token) : Type 0 where
-  pub reads : Reads tokens (one kinds.OpenBrace ++ spell_entries es ++ comma_if comma ++ one kinds.CloseBrace) rest
+  pub reads : Reads tokens (spell_entries es ++ comma_if comma ++ one kinds.CloseBrace) rest
   pub right : AreRightEntries es
   pub nested : AreNested es
   pub ends : EndsEntries comma es
-  pub levels : 1 + levels_of_entries es ≤ room
+  pub levels : levels_of_entries es ≤ room
 
 -- it begins with `_#`
 abbrev pub HidesDefinition : List ℕ → Type 0
@@ -199,14 +197,23 @@ IsPackageName (identifiers.Definition t) = ⊥
 IsPackageName (identifiers.Hidden t) = ¬ HidesDefinition t
 
 -- where no comma stands behind the name of a package, no declaration does
-abbrev pub IsRightPackage : Option Package → List Declaration → Type 0
-IsRightPackage None ds = ⊤
-IsRightPackage (Some clause) ds = IsPackageName clause.name × (clause.comma ≡ false → ds ≡ [])
+abbrev pub IsRightPackage : Option Package → Entries → Type 0
+IsRightPackage None es = ⊤
+IsRightPackage (Some clause) es = IsPackageName clause.name × (clause.comma ≡ false → es ≡ no_entries)
 
--- the file follows the grammar, and opens at most so many levels
-pub record IsFile (room : ℕ) (tokens : List Token) (file : File) : Type 0 where
+-- a bound on levels
+pub data Limit : Type 0 where
+  unlimited : Limit
+  at_most : ℕ → Limit
+
+abbrev pub Within : Limit → ℕ → Type 0
+Within unlimited n = ⊤
+Within (at_most m) n = n ≤ m
+
+-- the tokens are a text of the grammar that keeps within the limit, with this tree
+pub record IsFile (limit : Limit) (tokens : List Token) (file : FileTree) : Type 0 where
   pub reads : Reads tokens (spell_file file) []
-  pub clause : IsRightPackage file.package file.declarations.items
-  pub right : AreRightEntries (entries file.declarations.items)
-  pub ends : EndsEntries file.comma (entries file.declarations.items)
-  pub levels : levels_of_entries (entries file.declarations.items) ≤ room
+  pub clause : IsRightPackage file.package_clause file.declarations
+  pub right : AreRightEntries file.declarations
+  pub ends : EndsEntries file.comma file.declarations
+  pub levels : Within limit (levels_of_entries file.declarations)

@@ -16,8 +16,7 @@ use Rattle.cue_syntax.specs.declared.tree.Signed.{Signed}
 use Rattle.cue_syntax.specs.declared.tree.Comparison.{Comparison}
 use Rattle.cue_syntax.specs.declared.tree.Comparison.TheVariants as comparisons
 use Rattle.cue_syntax.specs.declared.tree.Package.{Package}
-use Rattle.cue_syntax.specs.declared.tree.File.{File}
-use Rattle.cue_syntax.specs.Syntax.{entries, Expression, name, integer, text, bottom, bound, other_integer, other_text, parenthesis, struct, close, list, conjunction, disjunction, Elements, no_elements, element, Branch, branch, Branches, no_branches, next_branch, Entry, ellipsis, field, definition, Entries, no_entries, entry}
+use Rattle.cue_syntax.specs.Syntax.{FileTree, Expression, name, integer, text, bottom, bound, other_integer, other_text, parenthesis, struct, close, list, conjunction, disjunction, Elements, no_elements, element, Branch, branch, Branches, no_branches, next_branch, Entry, ellipsis, field, definition, Entries, no_entries, entry}
 
 -- a token as far as a tree knows it: its kind, and the places that the tree keeps of it
 pub record Piece : Type 0 where
@@ -135,8 +134,8 @@ abbrev pub spell_package : Option Package → List Piece
 spell_package None = []
 spell_package (Some clause) = one (kinds.Name (codes "package")) ++ one (identifier_kind clause.name) ++ comma_if clause.comma
 
-abbrev pub spell_file : File → List Piece
-spell_file file = spell_package file.package ++ spell_entries (entries file.declarations.items) ++ comma_if file.comma
+abbrev pub spell_file : FileTree → List Piece
+spell_file file = spell_package file.package_clause ++ spell_entries file.declarations ++ comma_if file.comma
 
 -- the token begins at each of the places
 abbrev pub StandsAt : Token → List ℕ → Type 0

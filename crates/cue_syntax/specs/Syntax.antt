@@ -1,9 +1,11 @@
 -- Syntax trees, as the grammar speaks of them, and the tree that a value of the program is.
-use Rattle.std.specs.Prelude.{ℕ, Bool, List, [], ◌∷◌, map}
+use Rattle.std.specs.Prelude.{ℕ, Bool, List, [], ◌∷◌, map, Option}
 use Rattle.cue_syntax.specs.declared.tree.Identifier.{Identifier}
 use Rattle.cue_syntax.specs.declared.tree.Label.{Label}
 use Rattle.cue_syntax.specs.declared.tree.Signed.{Signed}
 use Rattle.cue_syntax.specs.declared.tree.Comparison.{Comparison}
+use Rattle.cue_syntax.specs.declared.tree.Package.{Package}
+use Rattle.cue_syntax.specs.declared.tree.File.{File}
 use Rattle.cue_syntax.specs.declared.tree.Expr.{Expr, fold-Expr}
 use Rattle.cue_syntax.specs.declared.tree.Term.{Term, fold-Term}
 use Rattle.cue_syntax.specs.declared.tree.Declaration.{Declaration, fold-Declaration}
@@ -103,3 +105,12 @@ branches ts = branches_of (map branch_tree ts)
 
 abbrev pub entries : List Declaration → Entries
 entries ds = entries_of (map entry_tree ds)
+
+-- a whole text: its package clause, if any, its declarations, and whether a comma stands behind the last one
+pub record FileTree : Type 0 where
+  pub package_clause : Option Package
+  pub declarations : Entries
+  pub comma : Bool
+
+abbrev pub file_tree : File → FileTree
+file_tree file = record { package_clause = file.package; declarations = entries file.declarations.items; comma = file.comma }

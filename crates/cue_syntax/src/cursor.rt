@@ -1,6 +1,7 @@
-ghost use Rattle.std.specs.Prelude.{◌≡◌, ◌+◌, ◌≤◌, ◌<◌, ◌∷◌, ◌↔◌, [], IfOk, IfSome, length, MatchOption, IsTrue, codes};
+ghost use Rattle.std.specs.Prelude.{◌≡◌, ◌+◌, ◌≤◌, ◌<◌, ◌∷◌, ◌↔◌, [], IfOk, IfErr, IfSome, IfNone, length, MatchOption, IsTrue, false, codes};
 ghost use Rattle.cue_syntax.specs.Spelling.{Reads, one, one_at, comma_if, IsPlace};
-ghost use Rattle.cue_syntax.specs.Punctuation.{punctuation_kind};
+ghost use Rattle.cue_syntax.specs.Punctuation.{punctuation_kind, IsOperandAt};
+ghost use Rattle.cue_syntax.specs.Viability.{at_hand, place_of, Stands, StandsSign, BeginsExpression, IsMark};
 
 use cue_lattice::{Form, Kind, Refusal};
 use cue_lex::{Token, TokenKind};
@@ -73,7 +74,8 @@ impl Punctuation {
 impl<'a> Cursor<'a> {
     /// The token at hand, and the cursor behind it.
     pub fn next(self) -> Option<(&'a Token, Cursor<'a>)>
-        ensures { MatchOption result (self.entry.rest.now ≡ []) (λ x. self.entry.rest.now ≡ x.0.now ∷ x.1.rest.now) }
+        ensures first { MatchOption result (self.entry.rest.now ≡ []) (λ x. self.entry.rest.now ≡ x.0.now ∷ x.1.rest.now) }
+        ensures end { IfSome result (λ x. x.1.end ≡ self.entry.end) }
     {
         let (token, rest) = self.rest.split_first()?;
         Some((
@@ -93,7 +95,9 @@ impl<'a> Cursor<'a> {
     }
 
     /// Whether this token stands at hand.
-    pub fn stands(self, wanted: Punctuation) -> bool {
+    pub fn stands(self, wanted: Punctuation) -> bool
+        ensures { IsTrue result ↔ StandsSign (punctuation_kind wanted) self.entry.rest.now }
+    {
         match self.next() {
             Some((token, _)) => wanted.is(&token.kind),
             None => false,
@@ -104,6 +108,8 @@ impl<'a> Cursor<'a> {
     pub fn skip(self, wanted: Punctuation) -> Option<Cursor<'a>>
         ensures shorter { IfSome result (λ after. length after.rest.now < length self.entry.rest.now) }
         ensures reads { IfSome result (λ after. Reads self.entry.rest.now (one (punctuation_kind wanted)) after.rest.now) }
+        ensures end { IfSome result (λ after. after.end ≡ self.entry.end) }
+        ensures missing { IfNone result (¬ StandsSign (punctuation_kind wanted) self.entry.rest.now) }
     {
         let (token, after) = self.next()?;
         if wanted.is(&token.kind) {
@@ -117,6 +123,9 @@ impl<'a> Cursor<'a> {
     pub fn expect(self, wanted: Punctuation) -> Result<Cursor<'a>, Refusal>
         ensures shorter { IfOk result (λ after. length after.rest.now < length self.entry.rest.now) }
         ensures reads { IfOk result (λ after. Reads self.entry.rest.now (one (punctuation_kind wanted)) after.rest.now) }
+        ensures end { IfOk result (λ after. after.end ≡ self.entry.end) }
+        ensures refused { IfErr result (λ r. r ≡ at_hand Kind.Syntax self.entry.end self.entry.rest.now) }
+        ensures missing { IfErr result (λ r. ¬ StandsSign (punctuation_kind wanted) self.entry.rest.now) }
     {
         self.skip(wanted).ok_or(self.syntax())
     }
@@ -126,6 +135,8 @@ impl<'a> Cursor<'a> {
         ensures shorter { length result.1.rest.now ≤ length self.entry.rest.now }
         ensures reads { Reads self.entry.rest.now (comma_if result.0) result.1.rest.now }
         ensures taken { IsTrue result.0 → length result.1.rest.now < length self.entry.rest.now }
+        ensures end { result.1.end ≡ self.entry.end }
+        ensures missing { result.0 ≡ false → ¬ StandsSign TokenKind.Comma self.entry.rest.now }
     {
         match self.skip(Punctuation::Comma) {
             Some(after) => (true, after),
@@ -135,7 +146,8 @@ impl<'a> Cursor<'a> {
 
     /// Where the token at hand begins, or the text ends.
     pub fn place(self) -> usize
-        ensures { IsPlace self.entry.rest.now result }
+        ensures is { IsPlace self.entry.rest.now result }
+        ensures place { result ≡ place_of self.entry.end self.entry.rest.now }
     {
         match self.next() {
             Some((token, _)) => token.from,
@@ -144,7 +156,9 @@ impl<'a> Cursor<'a> {
     }
 
     /// A refusal at the token at hand.
-    pub fn refuse(self, kind: Kind) -> Refusal {
+    pub fn refuse(self, kind: Kind) -> Refusal
+        ensures { result ≡ at_hand kind self.entry.end self.entry.rest.now }
+    {
         Refusal {
             kind,
             place: self.place() as u64,
@@ -152,18 +166,24 @@ impl<'a> Cursor<'a> {
     }
 
     /// The token at hand can't go on.
-    pub fn syntax(self) -> Refusal {
+    pub fn syntax(self) -> Refusal
+        ensures { result ≡ at_hand Kind.Syntax self.entry.end self.entry.rest.now }
+    {
         self.refuse(Kind::Syntax)
     }
 
     /// A form that the profile leaves out begins at the token at hand.
-    pub fn left_out(self, form: Form) -> Refusal {
+    pub fn left_out(self, form: Form) -> Refusal
+        ensures { result ≡ at_hand (Kind.LeftOut form) self.entry.end self.entry.rest.now }
+    {
         self.refuse(Kind::LeftOut(form))
     }
 
     /// The room behind the token at hand, which opens a level. With no room left it is refused.
     pub fn open_level(self, room: usize) -> Result<usize, Refusal>
-        ensures { IfOk result (λ left. left + 1 ≡ room) }
+        ensures left { IfOk result (λ left. left + 1 ≡ room) }
+        ensures refused { IfErr result (λ r. r ≡ at_hand Kind.Nesting self.entry.end self.entry.rest.now) }
+        ensures none { IfErr result (λ r. room ≡ 0) }
     {
         if room == 0 {
             Err(self.refuse(Kind::Nesting))
@@ -173,7 +193,9 @@ impl<'a> Cursor<'a> {
     }
 
     /// Whether the token at hand begins an expression.
-    pub fn begins_expression(self) -> bool {
+    pub fn begins_expression(self) -> bool
+        ensures { IsTrue result ↔ Stands BeginsExpression self.entry.rest.now }
+    {
         match self.next() {
             Some((token, _)) => begins_expression(&token.kind),
             None => false,
@@ -181,7 +203,9 @@ impl<'a> Cursor<'a> {
     }
 
     /// Which operand stands at hand.
-    pub fn operand(self) -> Operand {
+    pub fn operand(self) -> Operand
+        ensures { IsOperandAt result self.entry.rest.now }
+    {
         match self.next() {
             Some((token, after)) => match &token.kind {
                 TokenKind::OpenParenthesis => Operand::Parenthesis,
@@ -202,8 +226,11 @@ impl<'a> Cursor<'a> {
 
     /// Where the `close` at hand begins, and the cursor behind it.
     pub fn expect_close(self) -> Parsed<'a, usize>
-        ensures shorter { IfOk result (λ r. length r.1.rest.now ≤ length self.entry.rest.now) }
+        requires { StandsSign (TokenKind.Name (codes "close")) self.rest.now }
+        ensures shorter { IfOk result (λ r. length r.1.rest.now < length self.entry.rest.now) }
         ensures reads { IfOk result (λ r. Reads self.entry.rest.now (one_at r.0 (TokenKind.Name (codes "close"))) r.1.rest.now) }
+        ensures end { IfOk result (λ r. r.1.end ≡ self.entry.end) }
+        ensures taken { IfErr result (λ r. ⊥) }
     {
         let Some((token, after)) = self.next() else {
             return Err(self.syntax());
@@ -221,7 +248,9 @@ impl<'a> Cursor<'a> {
     }
 
     /// Whether a mark stands at hand: a colon, `?` or `!`.
-    pub fn stands_mark(self) -> bool {
+    pub fn stands_mark(self) -> bool
+        ensures { IsTrue result ↔ Stands IsMark self.entry.rest.now }
+    {
         match self.next() {
             Some((token, _)) => is_mark(&token.kind),
             None => false,
@@ -229,7 +258,9 @@ impl<'a> Cursor<'a> {
     }
 }
 
-fn begins_expression(kind: &TokenKind) -> bool {
+fn begins_expression(kind: &TokenKind) -> bool
+    ensures { IsTrue result ↔ BeginsExpression kind.now }
+{
     match kind {
         TokenKind::Name(_)
         | TokenKind::Definition(_)
@@ -261,7 +292,9 @@ fn begins_expression(kind: &TokenKind) -> bool {
     }
 }
 
-fn is_mark(kind: &TokenKind) -> bool {
+fn is_mark(kind: &TokenKind) -> bool
+    ensures { IsTrue result ↔ IsMark kind.now }
+{
     match kind {
         TokenKind::Colon | TokenKind::Question | TokenKind::Exclamation => true,
         _ => false,

@@ -1,6 +1,9 @@
-ghost use Rattle.std.specs.Prelude.{◌≡◌, ◌+◌, ◌≤◌, ◌<◌, IfOk, IsTrue, false, true, length};
+ghost use Rattle.std.specs.Prelude.{◌≡◌, ◌+◌, ◌≤◌, ◌<◌, ◌⊎◌, ◌↔◌, ◌∷◌, [], IfOk, IfErr, IsTrue, Bool, false, true, length};
 ghost use Rattle.cue_syntax.specs.Syntax.{expression, branch_tree, entry_tree, elements, entries};
 ghost use Rattle.cue_syntax.specs.Grammar.{IsUnary, IsConjunct, IsNested, AreNested, IsExpression, IsTermOf, IsEntry, AreElements, AreEntries, AreBraced};
+ghost use Rattle.cue_syntax.specs.Viability.{StandsSign, IsCallOfClose, BeginsLabel, BeginsDefinition, EndsHere, NoEntry};
+ghost use Rattle.cue_syntax.specs.Recogniser as goals;
+ghost use Rattle.cue_syntax.specs.Recogniser.{Moves, Refused, row_goal, levels_of};
 
 use crate::cursor::{Cursor, Operand, Parsed, Punctuation};
 use crate::label::{begins_label, label, labels, refuse_label};
@@ -21,8 +24,11 @@ pub struct Row<T> {
 /// An expression: a conjunction, or two or more terms joined by `|`.
 #[cycle(parser)]
 pub fn expression<'a>(alloc: Global, cursor: Cursor<'a>, room: usize) -> Parsed<'a, Expr>
-    ensures shorter { IfOk result (λ r. length r.1.rest.now ≤ length cursor.entry.rest.now) }
+    ensures shorter { IfOk result (λ r. length r.1.rest.now < length cursor.entry.rest.now) }
     ensures spelled { IfOk result (λ r. IsExpression room cursor.entry.rest.now (expression r.0) r.1.rest.now) }
+    ensures end { IfOk result (λ r. r.1.end ≡ cursor.entry.end) }
+    ensures moves { IfOk result (λ r. Moves room (goals.expression ∷ []) cursor.entry.rest.now [] r.1.rest.now) }
+    ensures refused { IfErr result (λ r. Refused room cursor.entry.end (goals.expression ∷ []) cursor.entry.rest.now r) }
 {
     let (first, rest) = term(alloc, cursor, room)?;
     let Some(mut after) = rest.skip(Punctuation::Bar) else {
@@ -46,8 +52,12 @@ pub fn expression<'a>(alloc: Global, cursor: Cursor<'a>, room: usize) -> Parsed<
 /// A term of a disjunction.
 #[cycle(parser)]
 fn term<'a>(alloc: Global, cursor: Cursor<'a>, room: usize) -> Parsed<'a, Term>
-    ensures shorter { IfOk result (λ r. length r.1.rest.now ≤ length cursor.entry.rest.now) }
+    ensures shorter { IfOk result (λ r. length r.1.rest.now < length cursor.entry.rest.now) }
     ensures spelled { IfOk result (λ r. IsTermOf room cursor.entry.rest.now (branch_tree r.0) r.1.rest.now) }
+    ensures end { IfOk result (λ r. r.1.end ≡ cursor.entry.end) }
+    ensures moves { IfOk result (λ r. Moves room (goals.term ∷ []) cursor.entry.rest.now [] r.1.rest.now) }
+    ensures refused { IfErr result (λ r. Refused room cursor.entry.end (goals.term ∷ []) cursor.entry.rest.now r) }
+    ensures marked { IfOk result (λ r. IsTrue r.0.marked ↔ StandsSign TokenKind.Star cursor.entry.rest.now) }
 {
     match cursor.skip(Punctuation::Star) {
         Some(after) => {
@@ -80,9 +90,12 @@ fn term<'a>(alloc: Global, cursor: Cursor<'a>, room: usize) -> Parsed<'a, Term>
 /// One part, or two or more parts joined by `&`.
 #[cycle(parser)]
 fn conjunction<'a>(alloc: Global, cursor: Cursor<'a>, room: usize) -> Parsed<'a, Expr>
-    ensures shorter { IfOk result (λ r. length r.1.rest.now ≤ length cursor.entry.rest.now) }
+    ensures shorter { IfOk result (λ r. length r.1.rest.now < length cursor.entry.rest.now) }
     ensures spelled { IfOk result (λ r. IsExpression room cursor.entry.rest.now (expression r.0) r.1.rest.now) }
     ensures conjunct { IfOk result (λ r. IsConjunct (expression r.0)) }
+    ensures end { IfOk result (λ r. r.1.end ≡ cursor.entry.end) }
+    ensures moves { IfOk result (λ r. Moves room (goals.unary ∷ goals.more_parts ∷ []) cursor.entry.rest.now [] r.1.rest.now) }
+    ensures refused { IfErr result (λ r. Refused room cursor.entry.end (goals.unary ∷ goals.more_parts ∷ []) cursor.entry.rest.now r) }
 {
     let (first, rest) = unary(alloc, cursor, room)?;
     let Some(mut after) = rest.skip(Punctuation::Ampersand) else {
@@ -103,9 +116,12 @@ fn conjunction<'a>(alloc: Global, cursor: Cursor<'a>, room: usize) -> Parsed<'a,
 /// An operand or a bound.
 #[cycle(parser)]
 fn unary<'a>(alloc: Global, cursor: Cursor<'a>, room: usize) -> Parsed<'a, Expr>
-    ensures shorter { IfOk result (λ r. length r.1.rest.now ≤ length cursor.entry.rest.now) }
+    ensures shorter { IfOk result (λ r. length r.1.rest.now < length cursor.entry.rest.now) }
     ensures spelled { IfOk result (λ r. IsExpression room cursor.entry.rest.now (expression r.0) r.1.rest.now) }
     ensures unary { IfOk result (λ r. IsUnary (expression r.0)) }
+    ensures end { IfOk result (λ r. r.1.end ≡ cursor.entry.end) }
+    ensures moves { IfOk result (λ r. Moves room (goals.unary ∷ []) cursor.entry.rest.now [] r.1.rest.now) }
+    ensures refused { IfErr result (λ r. Refused room cursor.entry.end (goals.unary ∷ []) cursor.entry.rest.now r) }
 {
     match cursor.operand() {
         Operand::Parenthesis => parenthesis(alloc, cursor, room),
@@ -119,9 +135,13 @@ fn unary<'a>(alloc: Global, cursor: Cursor<'a>, room: usize) -> Parsed<'a, Expr>
 /// An expression in parentheses.
 #[cycle(parser)]
 fn parenthesis<'a>(alloc: Global, cursor: Cursor<'a>, room: usize) -> Parsed<'a, Expr>
-    ensures shorter { IfOk result (λ r. length r.1.rest.now ≤ length cursor.entry.rest.now) }
+    requires { StandsSign TokenKind.OpenParenthesis cursor.rest.now }
+    ensures shorter { IfOk result (λ r. length r.1.rest.now < length cursor.entry.rest.now) }
     ensures spelled { IfOk result (λ r. IsExpression room cursor.entry.rest.now (expression r.0) r.1.rest.now) }
     ensures unary { IfOk result (λ r. IsUnary (expression r.0)) }
+    ensures end { IfOk result (λ r. r.1.end ≡ cursor.entry.end) }
+    ensures moves { IfOk result (λ r. Moves room (goals.unary ∷ []) cursor.entry.rest.now [] r.1.rest.now) }
+    ensures refused { IfErr result (λ r. Refused room cursor.entry.end (goals.unary ∷ []) cursor.entry.rest.now r) }
 {
     let inside = cursor.open_level(room)?;
     let open = cursor.expect(Punctuation::OpenParenthesis)?;
@@ -135,11 +155,17 @@ fn parenthesis<'a>(alloc: Global, cursor: Cursor<'a>, room: usize) -> Parsed<'a,
 /// A struct literal.
 #[cycle(parser)]
 fn structure<'a>(alloc: Global, cursor: Cursor<'a>, room: usize) -> Parsed<'a, Expr>
-    ensures shorter { IfOk result (λ r. length r.1.rest.now ≤ length cursor.entry.rest.now) }
+    requires { StandsSign TokenKind.OpenBrace cursor.rest.now }
+    ensures shorter { IfOk result (λ r. length r.1.rest.now < length cursor.entry.rest.now) }
     ensures spelled { IfOk result (λ r. IsExpression room cursor.entry.rest.now (expression r.0) r.1.rest.now) }
     ensures unary { IfOk result (λ r. IsUnary (expression r.0)) }
+    ensures end { IfOk result (λ r. r.1.end ≡ cursor.entry.end) }
+    ensures moves { IfOk result (λ r. Moves room (goals.unary ∷ []) cursor.entry.rest.now [] r.1.rest.now) }
+    ensures refused { IfErr result (λ r. Refused room cursor.entry.end (goals.unary ∷ []) cursor.entry.rest.now r) }
 {
-    let (row, rest) = braces(alloc, cursor, room)?;
+    let inside = cursor.open_level(room)?;
+    let open = cursor.expect(Punctuation::OpenBrace)?;
+    let (row, rest) = braces(alloc, open, inside)?;
     Ok((
         Expr::Struct {
             declarations: row.items,
@@ -152,9 +178,13 @@ fn structure<'a>(alloc: Global, cursor: Cursor<'a>, room: usize) -> Parsed<'a, E
 /// `close` and a struct literal in parentheses.
 #[cycle(parser)]
 fn close<'a>(alloc: Global, cursor: Cursor<'a>, room: usize) -> Parsed<'a, Expr>
-    ensures shorter { IfOk result (λ r. length r.1.rest.now ≤ length cursor.entry.rest.now) }
+    requires { IsCallOfClose cursor.rest.now }
+    ensures shorter { IfOk result (λ r. length r.1.rest.now < length cursor.entry.rest.now) }
     ensures spelled { IfOk result (λ r. IsExpression room cursor.entry.rest.now (expression r.0) r.1.rest.now) }
     ensures unary { IfOk result (λ r. IsUnary (expression r.0)) }
+    ensures end { IfOk result (λ r. r.1.end ≡ cursor.entry.end) }
+    ensures moves { IfOk result (λ r. Moves room (goals.unary ∷ []) cursor.entry.rest.now [] r.1.rest.now) }
+    ensures refused { IfErr result (λ r. Refused room cursor.entry.end (goals.unary ∷ []) cursor.entry.rest.now r) }
 {
     let (from, after) = cursor.expect_close()?;
     let inside = after.open_level(room)?;
@@ -162,7 +192,9 @@ fn close<'a>(alloc: Global, cursor: Cursor<'a>, room: usize) -> Parsed<'a, Expr>
     if !open.stands(Punctuation::OpenBrace) && open.begins_expression() {
         return Err(open.left_out(Form::CloseArgument));
     }
-    let (row, last) = braces(alloc, open, inside)?;
+    let brace = open.expect(Punctuation::OpenBrace)?;
+    let last = open.open_level(inside)?;
+    let (row, last) = braces(alloc, brace, last)?;
     let (comma, last) = last.trailing_comma();
     let rest = last.expect(Punctuation::CloseParenthesis)?;
     Ok((
@@ -179,9 +211,13 @@ fn close<'a>(alloc: Global, cursor: Cursor<'a>, room: usize) -> Parsed<'a, Expr>
 /// A list literal.
 #[cycle(parser)]
 fn list<'a>(alloc: Global, cursor: Cursor<'a>, room: usize) -> Parsed<'a, Expr>
-    ensures shorter { IfOk result (λ r. length r.1.rest.now ≤ length cursor.entry.rest.now) }
+    requires { StandsSign TokenKind.OpenBracket cursor.rest.now }
+    ensures shorter { IfOk result (λ r. length r.1.rest.now < length cursor.entry.rest.now) }
     ensures spelled { IfOk result (λ r. IsExpression room cursor.entry.rest.now (expression r.0) r.1.rest.now) }
     ensures unary { IfOk result (λ r. IsUnary (expression r.0)) }
+    ensures end { IfOk result (λ r. r.1.end ≡ cursor.entry.end) }
+    ensures moves { IfOk result (λ r. Moves room (goals.unary ∷ []) cursor.entry.rest.now [] r.1.rest.now) }
+    ensures refused { IfErr result (λ r. Refused room cursor.entry.end (goals.unary ∷ []) cursor.entry.rest.now r) }
 {
     let inside = cursor.open_level(room)?;
     let open = cursor.expect(Punctuation::OpenBracket)?;
@@ -220,6 +256,13 @@ fn elements<'a>(alloc: Global, cursor: Cursor<'a>, room: usize) -> Parsed<'a, Ro
     ensures shorter { IfOk result (λ r. length r.1.rest.now ≤ length cursor.entry.rest.now) }
     ensures spelled { IfOk result (λ r.
         AreElements room cursor.entry.rest.now (elements r.0.items.items) r.0.comma r.1.rest.now) }
+    ensures end { IfOk result (λ r. r.1.end ≡ cursor.entry.end) }
+    ensures moves { IfOk result (λ r. Moves (1 + room) (goals.elements ∷ []) cursor.entry.rest.now
+        (row_goal goals.elements goals.more_elements r.0.comma r.0.items.items ∷ []) r.1.rest.now) }
+    ensures last { IfOk result (λ r. r.0.comma ≡ false → ¬ StandsSign TokenKind.Comma r.1.rest.now) }
+    ensures open { IfOk result (λ r. (r.0.comma ≡ true) ⊎ (r.0.items.items ≡ []) →
+        StandsSign TokenKind.CloseBracket r.1.rest.now ⊎ StandsSign TokenKind.Ellipsis r.1.rest.now) }
+    ensures refused { IfErr result (λ r. Refused (1 + room) cursor.entry.end (goals.elements ∷ []) cursor.entry.rest.now r) }
 {
     let mut items = Vec::new(alloc);
     let mut comma = false;
@@ -237,16 +280,17 @@ fn elements<'a>(alloc: Global, cursor: Cursor<'a>, room: usize) -> Parsed<'a, Ro
     Ok((Row { items, comma }, rest))
 }
 
-/// Declarations in braces.
+/// Declarations and the brace that closes them.
 #[cycle(parser)]
 fn braces<'a>(alloc: Global, cursor: Cursor<'a>, room: usize) -> Parsed<'a, Row<Declaration>>
     ensures shorter { IfOk result (λ r. length r.1.rest.now ≤ length cursor.entry.rest.now) }
     ensures spelled { IfOk result (λ r.
         AreBraced room cursor.entry.rest.now (entries r.0.items.items) r.0.comma r.1.rest.now) }
+    ensures end { IfOk result (λ r. r.1.end ≡ cursor.entry.end) }
+    ensures moves { IfOk result (λ r. Moves (1 + room) (goals.entries false ∷ []) cursor.entry.rest.now [] r.1.rest.now) }
+    ensures refused { IfErr result (λ r. Refused (1 + room) cursor.entry.end (goals.entries false ∷ []) cursor.entry.rest.now r) }
 {
-    let inside = cursor.open_level(room)?;
-    let open = cursor.expect(Punctuation::OpenBrace)?;
-    let (row, last) = declarations(alloc, open, false, inside)?;
+    let (row, last) = declarations(alloc, cursor, false, room)?;
     let rest = last.expect(Punctuation::CloseBrace)?;
     Ok((row, rest))
 }
@@ -263,6 +307,12 @@ pub fn declarations<'a>(
     ensures spelled { IfOk result (λ r.
         AreEntries room cursor.entry.rest.now (entries r.0.items.items) r.0.comma r.1.rest.now) }
     ensures nested { IfOk result (λ r. top ≡ false → AreNested (entries r.0.items.items)) }
+    ensures end { IfOk result (λ r. r.1.end ≡ cursor.entry.end) }
+    ensures moves { IfOk result (λ r. Moves (levels_of (goals.entries top) + room) (goals.entries top ∷ []) cursor.entry.rest.now
+        (row_goal (goals.entries top) (goals.more_entries top) r.0.comma r.0.items.items ∷ []) r.1.rest.now) }
+    ensures last { IfOk result (λ r. r.0.comma ≡ false → ¬ StandsSign TokenKind.Comma r.1.rest.now) }
+    ensures open { IfOk result (λ r. (r.0.comma ≡ true) ⊎ (r.0.items.items ≡ []) → EndsHere top r.1.rest.now) }
+    ensures refused { IfErr result (λ r. Refused (levels_of (goals.entries top) + room) cursor.entry.end (goals.entries top ∷ []) cursor.entry.rest.now r) }
 {
     let mut items = Vec::new(alloc);
     let mut comma = false;
@@ -278,7 +328,9 @@ pub fn declarations<'a>(
     Ok((Row { items, comma }, rest))
 }
 
-fn ends_declarations(cursor: Cursor, top: bool) -> bool {
+fn ends_declarations(cursor: Cursor, top: bool) -> bool
+    ensures { IsTrue result ↔ EndsHere top cursor.entry.rest.now }
+{
     if top {
         cursor.is_at_end()
     } else {
@@ -294,9 +346,13 @@ fn declaration<'a>(
     top: bool,
     room: usize,
 ) -> Parsed<'a, Declaration>
-    ensures shorter { IfOk result (λ r. length r.1.rest.now ≤ length cursor.entry.rest.now) }
+    requires { ¬ EndsHere top cursor.rest.now }
+    ensures shorter { IfOk result (λ r. length r.1.rest.now < length cursor.entry.rest.now) }
     ensures spelled { IfOk result (λ r. IsEntry room cursor.entry.rest.now (entry_tree r.0) r.1.rest.now) }
     ensures nested { IfOk result (λ r. top ≡ false → IsNested (entry_tree r.0)) }
+    ensures end { IfOk result (λ r. r.1.end ≡ cursor.entry.end) }
+    ensures moves { IfOk result (λ r. Moves (levels_of (goals.entries top) + room) (goals.entries top ∷ []) cursor.entry.rest.now (goals.more_entries top ∷ []) r.1.rest.now) }
+    ensures refused { IfErr result (λ r. Refused (levels_of (goals.entries top) + room) cursor.entry.end (goals.entries top ∷ []) cursor.entry.rest.now r) }
 {
     if let Some(after) = cursor.skip(Punctuation::Ellipsis) {
         if after.begins_expression() {
@@ -316,7 +372,9 @@ fn declaration<'a>(
 
 /// Whether a definition stands at hand.
 fn begins_definition(cursor: Cursor, top: bool) -> bool
-    ensures { IsTrue result → top ≡ true }
+    ensures top { IsTrue result → top ≡ true }
+    ensures begins { IsTrue result → BeginsDefinition cursor.entry.rest.now }
+    ensures no { result ≡ false → top ≡ true → ¬ BeginsDefinition cursor.entry.rest.now }
 {
     match cursor.next() {
         Some((token, after)) => match &token.kind {
@@ -330,9 +388,15 @@ fn begins_definition(cursor: Cursor, top: bool) -> bool
 /// A field with its chain of labels.
 #[cycle(parser)]
 fn field<'a>(alloc: Global, cursor: Cursor<'a>, room: usize) -> Parsed<'a, Declaration>
-    ensures shorter { IfOk result (λ r. length r.1.rest.now ≤ length cursor.entry.rest.now) }
+    requires { BeginsLabel cursor.rest.now }
+    ensures shorter { IfOk result (λ r. length r.1.rest.now < length cursor.entry.rest.now) }
     ensures spelled { IfOk result (λ r. IsEntry room cursor.entry.rest.now (entry_tree r.0) r.1.rest.now) }
     ensures nested { IfOk result (λ r. IsNested (entry_tree r.0)) }
+    ensures end { IfOk result (λ r. r.1.end ≡ cursor.entry.end) }
+    ensures moves { IfOk result (λ r. (top : Bool) →
+        Moves (levels_of (goals.entries top) + room) (goals.entries top ∷ []) cursor.entry.rest.now (goals.more_entries top ∷ []) r.1.rest.now) }
+    ensures refused { IfErr result (λ r. (top : Bool) →
+        Refused (levels_of (goals.entries top) + room) cursor.entry.end (goals.entries top ∷ []) cursor.entry.rest.now r) }
 {
     let (label, after) = label(alloc, cursor)?;
     let chain = labels(alloc, after, room)?;
@@ -350,8 +414,12 @@ fn field<'a>(alloc: Global, cursor: Cursor<'a>, room: usize) -> Parsed<'a, Decla
 /// A definition with its chain of labels.
 #[cycle(parser)]
 fn definition<'a>(alloc: Global, cursor: Cursor<'a>, room: usize) -> Parsed<'a, Declaration>
-    ensures shorter { IfOk result (λ r. length r.1.rest.now ≤ length cursor.entry.rest.now) }
+    requires { BeginsDefinition cursor.rest.now }
+    ensures shorter { IfOk result (λ r. length r.1.rest.now < length cursor.entry.rest.now) }
     ensures spelled { IfOk result (λ r. IsEntry room cursor.entry.rest.now (entry_tree r.0) r.1.rest.now) }
+    ensures end { IfOk result (λ r. r.1.end ≡ cursor.entry.end) }
+    ensures moves { IfOk result (λ r. Moves room (goals.entries true ∷ []) cursor.entry.rest.now (goals.more_entries true ∷ []) r.1.rest.now) }
+    ensures refused { IfErr result (λ r. Refused room cursor.entry.end (goals.entries true ∷ []) cursor.entry.rest.now r) }
 {
     let Some((token, after)) = cursor.next() else {
         return Err(cursor.syntax());
@@ -375,7 +443,9 @@ fn definition<'a>(alloc: Global, cursor: Cursor<'a>, room: usize) -> Parsed<'a, 
 }
 
 /// Why no declaration begins at hand.
-fn no_declaration(cursor: Cursor) -> Refusal {
+fn no_declaration(cursor: Cursor) -> Refusal
+    ensures { NoEntry cursor.entry.end cursor.entry.rest.now result }
+{
     let Some((token, _)) = cursor.next() else {
         return cursor.syntax();
     };

@@ -1,6 +1,10 @@
-ghost use Rattle.std.specs.Prelude.{◌≡◌, ◌+◌, ◌≤◌, ◌++◌, [], ℕ, IfOk, IfSome, IsTrue, ◌↔◌, false, length};
+ghost use Rattle.std.specs.Prelude.{◌≡◌, ◌+◌, ◌≤◌, ◌⊎◌, ◌++◌, ◌∷◌, [], ℕ, IfOk, IfErr, IfSome, MatchResult, IsTrue, ◌↔◌, true, false, length};
+ghost use Rattle.cue_lattice.specs.Refusal.{memory};
 ghost use Rattle.cue_syntax.specs.Spelling.{Reads, one, identifier_kind, spell_package};
-ghost use Rattle.cue_syntax.specs.Grammar.{IsFile, IsPackageName, HidesDefinition};
+ghost use Rattle.cue_syntax.specs.Grammar.{at_most, IsFile, IsPackageName, HidesDefinition};
+ghost use Rattle.cue_syntax.specs.Syntax.{FileTree, file_tree};
+ghost use Rattle.cue_syntax.specs.Viability.{Fits, Stands, IsMark};
+ghost use Rattle.cue_syntax.specs.Recogniser.{Moves, Refused, text, package_word, package_end, entries};
 
 use crate::cursor::{Cursor, Parsed};
 use crate::expression::declarations;
@@ -19,9 +23,19 @@ pub const LEVELS: usize = 64;
 ///
 /// `Syntax`, `Nesting` and `LeftOut`, each with the place of a token or `end`, and `Memory`.
 pub fn parse(alloc: Global, tokens: &[Token], end: usize) -> Result<File, Refusal>
-    ensures spelled { IfOk result (λ file. IsFile 64 tokens.now file) }
+    ensures spelled { IfOk result (λ file. IsFile (at_most 64) tokens.now (file_tree file)) }
+    ensures refused { IfErr result (λ r. (r ≡ memory) ⊎ Fits 64 end tokens.now r) }
+    ensures accepted { (tree : FileTree) → IsFile (at_most 64) tokens.now tree →
+        MatchResult result (λ file. file_tree file ≡ tree) (λ r. r ≡ memory) }
 {
-    let cursor = Cursor { rest: tokens, end };
+    file(alloc, Cursor { rest: tokens, end })
+}
+
+/// A whole text.
+fn file(alloc: Global, cursor: Cursor) -> Result<File, Refusal>
+    ensures spelled { IfOk result (λ file. IsFile (at_most 64) cursor.entry.rest.now (file_tree file)) }
+    ensures refused { IfErr result (λ r. Refused 64 cursor.entry.end (text ∷ []) cursor.entry.rest.now r) }
+{
     let (package, rest) = package(alloc, cursor)?;
     if rest.is_at_end() {
         return Ok(File {
@@ -46,6 +60,9 @@ fn package<'a>(alloc: Global, cursor: Cursor<'a>) -> Parsed<'a, Option<Package>>
     ensures spelled { IfOk result (λ r. Reads cursor.entry.rest.now (spell_package r.0) r.1.rest.now) }
     ensures named { IfOk result (λ r. IfSome r.0 (λ clause. IsPackageName clause.name)) }
     ensures last { IfOk result (λ r. IfSome r.0 (λ clause. clause.comma ≡ false → r.1.rest.now ≡ [])) }
+    ensures end { IfOk result (λ r. r.1.end ≡ cursor.entry.end) }
+    ensures moves { IfOk result (λ r. Moves 0 (text ∷ []) cursor.entry.rest.now (entries true ∷ []) r.1.rest.now) }
+    ensures refused { IfErr result (λ r. (room : ℕ) → Refused room cursor.entry.end (text ∷ []) cursor.entry.rest.now r) }
 {
     let Some((token, after)) = cursor.next() else {
         return Ok((None, cursor));
@@ -66,8 +83,12 @@ fn package<'a>(alloc: Global, cursor: Cursor<'a>) -> Parsed<'a, Option<Package>>
 
 /// The name of a package: an identifier that begins with neither `#` nor `_#`.
 fn package_name<'a>(alloc: Global, cursor: Cursor<'a>) -> Parsed<'a, Identifier>
+    requires { ¬ Stands IsMark cursor.rest.now }
     ensures spelled { IfOk result (λ r. Reads cursor.entry.rest.now (one (identifier_kind r.0)) r.1.rest.now) }
     ensures named { IfOk result (λ r. IsPackageName r.0) }
+    ensures end { IfOk result (λ r. r.1.end ≡ cursor.entry.end) }
+    ensures moves { IfOk result (λ r. Moves 0 (package_word ∷ []) cursor.entry.rest.now (package_end ∷ []) r.1.rest.now) }
+    ensures refused { IfErr result (λ r. (room : ℕ) → Refused room cursor.entry.end (package_word ∷ []) cursor.entry.rest.now r) }
 {
     let Some((token, after)) = cursor.next() else {
         return Err(cursor.syntax());

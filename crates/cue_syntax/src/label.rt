@@ -1,5 +1,8 @@
-ghost use Rattle.std.specs.Prelude.{◌≡◌, ◌+◌, ◌≤◌, ◌<◌, IfOk, length, flat_map};
+ghost use Rattle.std.specs.Prelude.{◌≡◌, ◌+◌, ◌≤◌, ◌<◌, ◌⊎◌, ◌↔◌, ◌∷◌, [], ℕ, IfOk, IfErr, IsTrue, length, flat_map};
+ghost use Rattle.cue_lattice.specs.Refusal.{memory};
 ghost use Rattle.cue_syntax.specs.Spelling.{Reads, one, spell_label, spell_mark, label_kind};
+ghost use Rattle.cue_syntax.specs.Viability.{Stands, StandsSign, BeginsLabel, IsLabelName, RefusesLabel, MissesColon};
+ghost use Rattle.cue_syntax.specs.Recogniser.{Moves, Refused, value, chains};
 
 use crate::cursor::{Cursor, Parsed, Punctuation};
 use crate::memory::push;
@@ -17,7 +20,9 @@ pub struct Chain<'a> {
 }
 
 /// Whether a field begins at hand: a plain name or a string, and a mark behind it.
-pub fn begins_label(cursor: Cursor) -> bool {
+pub fn begins_label(cursor: Cursor) -> bool
+    ensures { IsTrue result ↔ BeginsLabel cursor.entry.rest.now }
+{
     match cursor.next() {
         Some((token, after)) => match &token.kind {
             TokenKind::Name(_) | TokenKind::Text(_) => after.stands_mark(),
@@ -29,7 +34,9 @@ pub fn begins_label(cursor: Cursor) -> bool {
 
 /// Refuses a label that the profile leaves out: a hidden one, a definition with `?` or `!`, and, where `top` is
 /// false, any definition.
-pub fn refuse_label(cursor: Cursor, top: bool) -> Result<(), Refusal> {
+pub fn refuse_label(cursor: Cursor, top: bool) -> Result<(), Refusal>
+    ensures { IfErr result (λ r. RefusesLabel top cursor.entry.end cursor.entry.rest.now r) }
+{
     let Some((token, after)) = cursor.next() else {
         return Ok(());
     };
@@ -58,8 +65,11 @@ pub fn refuse_label(cursor: Cursor, top: bool) -> Result<(), Refusal> {
 
 /// A label with its mark and its colon.
 pub fn label<'a>(alloc: Global, cursor: Cursor<'a>) -> Parsed<'a, Label>
+    requires { BeginsLabel cursor.rest.now }
     ensures shorter { IfOk result (λ r. length r.1.rest.now < length cursor.entry.rest.now) }
     ensures spelled { IfOk result (λ r. Reads cursor.entry.rest.now (spell_label r.0) r.1.rest.now) }
+    ensures end { IfOk result (λ r. r.1.end ≡ cursor.entry.end) }
+    ensures refused { IfErr result (λ r. (r ≡ memory) ⊎ MissesColon cursor.entry.end cursor.entry.rest.now r) }
 {
     let (name, after) = label_name(alloc, cursor)?;
     let (mark, after) = mark(after);
@@ -68,8 +78,11 @@ pub fn label<'a>(alloc: Global, cursor: Cursor<'a>) -> Parsed<'a, Label>
 }
 
 fn label_name<'a>(alloc: Global, cursor: Cursor<'a>) -> Parsed<'a, LabelName>
+    requires { Stands IsLabelName cursor.rest.now }
     ensures shorter { IfOk result (λ r. length r.1.rest.now ≤ length cursor.entry.rest.now) }
     ensures spelled { IfOk result (λ r. Reads cursor.entry.rest.now (one (label_kind r.0)) r.1.rest.now) }
+    ensures end { IfOk result (λ r. r.1.end ≡ cursor.entry.end) }
+    ensures memory { IfErr result (λ r. r ≡ memory) }
 {
     let Some((token, after)) = cursor.next() else {
         return Err(cursor.syntax());
@@ -85,6 +98,9 @@ fn label_name<'a>(alloc: Global, cursor: Cursor<'a>) -> Parsed<'a, LabelName>
 fn mark<'a>(cursor: Cursor<'a>) -> (Mark, Cursor<'a>)
     ensures shorter { length result.1.rest.now ≤ length cursor.entry.rest.now }
     ensures spelled { Reads cursor.entry.rest.now (spell_mark result.0) result.1.rest.now }
+    ensures end { result.1.end ≡ cursor.entry.end }
+    ensures question { result.0 ≡ Mark.Regular → ¬ StandsSign TokenKind.Question cursor.entry.rest.now }
+    ensures exclamation { result.0 ≡ Mark.Regular → ¬ StandsSign TokenKind.Exclamation cursor.entry.rest.now }
 {
     match cursor.next() {
         Some((token, after)) => match &token.kind {
@@ -101,6 +117,11 @@ pub fn labels<'a>(alloc: Global, cursor: Cursor<'a>, room: usize) -> Result<Chai
     ensures shorter { IfOk result (λ c. length c.after.rest.now ≤ length cursor.entry.rest.now) }
     ensures levels { IfOk result (λ c. c.room + length c.labels.items ≡ room) }
     ensures spelled { IfOk result (λ c. Reads cursor.entry.rest.now (flat_map spell_label c.labels.items) c.after.rest.now) }
+    ensures end { IfOk result (λ c. c.after.end ≡ cursor.entry.end) }
+    ensures whole { IfOk result (λ c. ¬ BeginsLabel c.after.rest.now) }
+    ensures moves { IfOk result (λ c.
+        Moves room (value ∷ []) cursor.entry.rest.now (value ∷ chains c.labels.items) c.after.rest.now) }
+    ensures refused { IfErr result (λ r. Refused room cursor.entry.end (value ∷ []) cursor.entry.rest.now r) }
 {
     let mut labels = Vec::new(alloc);
     let mut left = room;

@@ -7,9 +7,11 @@ mod file;
 mod label;
 mod literal;
 mod memory;
+mod spelling;
 mod tree;
 
 pub use file::{LEVELS, parse};
+pub use spelling::one_tree;
 pub use tree::{
     Comparison, Declaration, Expr, File, Identifier, Label, LabelName, Mark, Package, Sign, Signed,
     Term,

@@ -1,7 +1,9 @@
-ghost use Rattle.std.specs.Prelude.{◌≡◌, ◌+◌, ◌≤◌, ◌<◌, ◌++◌, ◌↔◌, IfOk, IsTrue, length};
+ghost use Rattle.std.specs.Prelude.{◌≡◌, ◌+◌, ◌≤◌, ◌<◌, ◌++◌, ◌∷◌, [], ◌↔◌, ℕ, IfOk, IfErr, IsTrue, length};
 ghost use Rattle.cue_syntax.specs.Syntax.{expression};
 ghost use Rattle.cue_syntax.specs.Spelling.{Reads, one, spell, spell_sign, spell_signed, identifier_kind, comparison_kind};
 ghost use Rattle.cue_syntax.specs.Grammar.{IsUnary, IsOperand, IsRight, IsLiteral, IsClause, IsKeyword};
+ghost use Rattle.cue_syntax.specs.Viability.{Stands, StandsSign, Opens, IsCallOfClose, IsIdentifier, IsComparison, BeginsInteger};
+ghost use Rattle.cue_syntax.specs.Recogniser.{Refused, Moves, unary, signed, magnitude};
 
 use crate::cursor::{Cursor, Parsed, Punctuation};
 use crate::tree::{Comparison, Expr, Identifier, Sign, Signed};
@@ -11,8 +13,13 @@ use std::alloc::Global;
 
 /// An expression that holds no other: a name, an integer, a string, `_|_` or a bound.
 pub fn literal<'a>(alloc: Global, cursor: Cursor<'a>) -> Parsed<'a, Expr>
-    ensures shorter { IfOk result (λ r. length r.1.rest.now ≤ length cursor.entry.rest.now) }
+    requires opens { ¬ Stands Opens cursor.rest.now }
+    requires call { ¬ IsCallOfClose cursor.rest.now }
+    ensures shorter { IfOk result (λ r. length r.1.rest.now < length cursor.entry.rest.now) }
     ensures spelled { IfOk result (λ r. IsLiteral cursor.entry.rest.now (expression r.0) r.1.rest.now) }
+    ensures end { IfOk result (λ r. r.1.end ≡ cursor.entry.end) }
+    ensures moves { IfOk result (λ r. Moves 0 (unary ∷ []) cursor.entry.rest.now [] r.1.rest.now) }
+    ensures refused { IfErr result (λ r. (room : ℕ) → Refused room cursor.entry.end (unary ∷ []) cursor.entry.rest.now r) }
 {
     let Some((token, after)) = cursor.next() else {
         return Err(cursor.syntax());
@@ -44,9 +51,14 @@ pub fn literal<'a>(alloc: Global, cursor: Cursor<'a>) -> Parsed<'a, Expr>
 
 /// An identifier as an operand: no keyword, and no call.
 fn identifier<'a>(alloc: Global, cursor: Cursor<'a>) -> Parsed<'a, Identifier>
-    ensures shorter { IfOk result (λ r. length r.1.rest.now ≤ length cursor.entry.rest.now) }
+    requires is { Stands IsIdentifier cursor.rest.now }
+    requires call { ¬ IsCallOfClose cursor.rest.now }
+    ensures shorter { IfOk result (λ r. length r.1.rest.now < length cursor.entry.rest.now) }
     ensures spelled { IfOk result (λ r. Reads cursor.entry.rest.now (one (identifier_kind r.0)) r.1.rest.now) }
     ensures operand { IfOk result (λ r. IsOperand r.0) }
+    ensures end { IfOk result (λ r. r.1.end ≡ cursor.entry.end) }
+    ensures moves { IfOk result (λ r. Moves 0 (unary ∷ []) cursor.entry.rest.now [] r.1.rest.now) }
+    ensures refused { IfErr result (λ r. (room : ℕ) → Refused room cursor.entry.end (unary ∷ []) cursor.entry.rest.now r) }
 {
     let Some((token, after)) = cursor.next() else {
         return Err(cursor.syntax());
@@ -91,8 +103,11 @@ pub fn is_clause(name: &Text) -> bool
 
 /// An integer with its sign.
 fn signed<'a>(cursor: Cursor<'a>) -> Parsed<'a, Signed>
-    ensures shorter { IfOk result (λ r. length r.1.rest.now ≤ length cursor.entry.rest.now) }
+    ensures shorter { IfOk result (λ r. length r.1.rest.now < length cursor.entry.rest.now) }
     ensures spelled { IfOk result (λ r. Reads cursor.entry.rest.now (spell_signed r.0) r.1.rest.now) }
+    ensures end { IfOk result (λ r. r.1.end ≡ cursor.entry.end) }
+    ensures moves { IfOk result (λ r. Moves 0 (signed ∷ []) cursor.entry.rest.now [] r.1.rest.now) }
+    ensures refused { IfErr result (λ r. (room : ℕ) → Refused room cursor.entry.end (signed ∷ []) cursor.entry.rest.now r) }
 {
     let Some((token, after)) = cursor.next() else {
         return Err(cursor.syntax());
@@ -106,9 +121,12 @@ fn signed<'a>(cursor: Cursor<'a>) -> Parsed<'a, Signed>
 
 /// The magnitude behind a sign.
 fn magnitude<'a>(sign: Sign, cursor: Cursor<'a>) -> Parsed<'a, Signed>
-    ensures shorter { IfOk result (λ r. length r.1.rest.now ≤ length cursor.entry.rest.now) }
+    ensures shorter { IfOk result (λ r. length r.1.rest.now < length cursor.entry.rest.now) }
     ensures spelled { IfOk result (λ r. Reads cursor.entry.rest.now (one (TokenKind.Integer r.0.magnitude)) r.1.rest.now) }
     ensures signed { IfOk result (λ r. r.0.sign ≡ sign) }
+    ensures end { IfOk result (λ r. r.1.end ≡ cursor.entry.end) }
+    ensures moves { IfOk result (λ r. Moves 0 (magnitude ∷ []) cursor.entry.rest.now [] r.1.rest.now) }
+    ensures refused { IfErr result (λ r. (room : ℕ) → Refused room cursor.entry.end (magnitude ∷ []) cursor.entry.rest.now r) }
 {
     let Some((token, after)) = cursor.next() else {
         return Err(cursor.syntax());
@@ -127,8 +145,12 @@ fn magnitude<'a>(sign: Sign, cursor: Cursor<'a>) -> Parsed<'a, Signed>
 
 /// `<` and its like, and an integer.
 fn bound<'a>(cursor: Cursor<'a>) -> Parsed<'a, Expr>
-    ensures shorter { IfOk result (λ r. length r.1.rest.now ≤ length cursor.entry.rest.now) }
+    requires { Stands IsComparison cursor.rest.now }
+    ensures shorter { IfOk result (λ r. length r.1.rest.now < length cursor.entry.rest.now) }
     ensures spelled { IfOk result (λ r. IsLiteral cursor.entry.rest.now (expression r.0) r.1.rest.now) }
+    ensures end { IfOk result (λ r. r.1.end ≡ cursor.entry.end) }
+    ensures moves { IfOk result (λ r. Moves 0 (unary ∷ []) cursor.entry.rest.now [] r.1.rest.now) }
+    ensures refused { IfErr result (λ r. (room : ℕ) → Refused room cursor.entry.end (unary ∷ []) cursor.entry.rest.now r) }
 {
     let (comparison, after) = comparison(cursor)?;
     if !stands_integer(after) && after.begins_expression() {
@@ -139,8 +161,11 @@ fn bound<'a>(cursor: Cursor<'a>) -> Parsed<'a, Expr>
 }
 
 fn comparison<'a>(cursor: Cursor<'a>) -> Parsed<'a, Comparison>
-    ensures shorter { IfOk result (λ r. length r.1.rest.now ≤ length cursor.entry.rest.now) }
+    requires { Stands IsComparison cursor.rest.now }
+    ensures shorter { IfOk result (λ r. length r.1.rest.now < length cursor.entry.rest.now) }
     ensures spelled { IfOk result (λ r. Reads cursor.entry.rest.now (one (comparison_kind r.0)) r.1.rest.now) }
+    ensures end { IfOk result (λ r. r.1.end ≡ cursor.entry.end) }
+    ensures taken { IfErr result (λ r. ⊥) }
 {
     let Some((token, after)) = cursor.next() else {
         return Err(cursor.syntax());
@@ -156,8 +181,12 @@ fn comparison<'a>(cursor: Cursor<'a>) -> Parsed<'a, Comparison>
 
 /// `!=`, and an integer or a string.
 fn other<'a>(alloc: Global, cursor: Cursor<'a>) -> Parsed<'a, Expr>
-    ensures shorter { IfOk result (λ r. length r.1.rest.now ≤ length cursor.entry.rest.now) }
+    requires { StandsSign TokenKind.NotEqual cursor.rest.now }
+    ensures shorter { IfOk result (λ r. length r.1.rest.now < length cursor.entry.rest.now) }
     ensures spelled { IfOk result (λ r. IsLiteral cursor.entry.rest.now (expression r.0) r.1.rest.now) }
+    ensures end { IfOk result (λ r. r.1.end ≡ cursor.entry.end) }
+    ensures moves { IfOk result (λ r. Moves 0 (unary ∷ []) cursor.entry.rest.now [] r.1.rest.now) }
+    ensures refused { IfErr result (λ r. (room : ℕ) → Refused room cursor.entry.end (unary ∷ []) cursor.entry.rest.now r) }
 {
     let after = cursor.expect(Punctuation::NotEqual)?;
     if let Some((token, rest)) = after.next() {
@@ -173,7 +202,9 @@ fn other<'a>(alloc: Global, cursor: Cursor<'a>) -> Parsed<'a, Expr>
 }
 
 /// Whether an integer or its sign stands at hand.
-fn stands_integer(cursor: Cursor) -> bool {
+fn stands_integer(cursor: Cursor) -> bool
+    ensures { IsTrue result ↔ Stands BeginsInteger cursor.entry.rest.now }
+{
     match cursor.next() {
         Some((token, _)) => match &token.kind {
             TokenKind::Integer(_) | TokenKind::Minus | TokenKind::Plus => true,

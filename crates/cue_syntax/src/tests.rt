@@ -257,6 +257,13 @@ fn close_opens_two_levels(rt: HostRuntime) -> Result<(), Fail> {
         Form::CloseArgument,
         192 + 6,
     );
+    refused(
+        &rt,
+        alloc,
+        &repeated(alloc, "a: ", 64, "close()")?,
+        Kind::Syntax,
+        192 + 6,
+    );
     accepted(&rt, alloc, &repeated(alloc, "a: ", 65, "close")?);
     Ok(())
 }

@@ -1,4 +1,4 @@
-use Rattle.std.proofs.Common.{◌≡◌, ◌∙◌, ◌++◌, [], ◌∷◌, List, sym, subst, ap, refl, inl, inr, ◌⊎◌, true, false, length, arith, rules}
+use Rattle.std.proofs.Common.{◌≡◌, ◌∙◌, ◌+◌, ◌++◌, Bool, [], ◌∷◌, List, sym, subst, ap, refl, inl, inr, ◌⊎◌, true, false, length, arith, rules}
 use Rattle.std.proofs.lemmas.List.{nil_from_length}
 use Rattle.cue_lex.specs.declared.token.TokenKind.TheVariants as kinds
 use Rattle.cue_syntax.specs.declared.tree.Expr.{Expr}
@@ -7,14 +7,20 @@ use Rattle.cue_syntax.specs.Syntax.{no_elements, parenthesis, conjunction, disju
 use Rattle.cue_syntax.specs.Grammar.{IsExpression, IsEntry, AreElements, AreEntries, AreNested}
 use Rattle.cue_syntax.proofs.Reading.{reads_one_at}
 use Rattle.cue_syntax.proofs.Rows.{nested_pushed}
-use Rattle.cue_syntax.proofs.Views.{view-Parenthesis, view-Close, view-Conjunction, view-Disjunction, view-Field, view-Definition, view-List}
-use Rattle.cue_syntax.proofs.Trees.{AreTerms, AreParts, Between, terms_first, terms_next, terms_more, between_pushed, disjunction_is, parts_first, parts_next, parts_more, conjunction_is, elements_next, entries_next, braced_is, close_is, parenthesis_is, list_is, open_list_is, field_is, definition_is}
+use Rattle.cue_syntax.proofs.Views.{view-Parenthesis, view-Struct, view-Close, view-Conjunction, view-Disjunction, view-Field, view-Definition, view-List}
+use Rattle.cue_syntax.proofs.Trees.{AreTerms, AreParts, Between, terms_first, terms_next, terms_more, between_pushed, disjunction_is, parts_first, parts_next, parts_more, conjunction_is, elements_next, entries_next, braced_is, struct_is, close_is, parenthesis_is, list_is, open_list_is, field_is, definition_is}
+use Rattle.cue_syntax.specs.Viability.{StandsSign, BeginsLabel}
+use Rattle.cue_syntax.specs.Recogniser as goals
+use Rattle.cue_syntax.specs.Recogniser.{Moves, Refused, row_goal, levels_of, unary, more_parts}
+use Rattle.cue_syntax.proofs.Stopping.{moves_then, refused_behind, refused_end, err_from, if_ok, stopped, stops_here, stops_there, left_out_here, left_out_there}
+use Rattle.cue_syntax.proofs.Labels.{label_out_entry, misses_entry}
+use Rattle.cue_syntax.proofs.Rules.{no_room, inner_comma, inner_closes, inner_halts, parenthesis_opens, parenthesis_refused, struct_moves, struct_refused, call_opens, call_paren, call_no_room, closed_halts, brace_no_room, close_moves, close_refused, unmarked_moves, marked_moves, parts_end, parts_go, part_moves, part_refused, terms_end, terms_go, term_moves, term_refused, first_moves, first_go, first_end, first_halts, first_refused, ellipsis_comma, ellipsis_closes, ellipsis_halts, typed_halts, list_opens, list_refused, row_more, element_moves, element_refused, element_next, same_tokens, row_closes, row_halts, open_ellipsis, entry_next, braces_close, braces_halt, entry_ellipsis, typed_entry_halts, chain_value, chain_value_refused, field_moves, field_refused, definition_moves, definition_refused, no_entry_refused}
 use Rattle.cue_syntax.proofs.expression.+parser.Goals as goal
-use Rattle.cue_syntax.proofs.expression.+parser.Goals.{list-then-row-via-then-row, list-then-row-via-else-row+then-is_empty}
+use Rattle.cue_syntax.proofs.expression.+parser.Goals.{list-then-row-via-then-row, list-then-row-via-else-row+then-is_empty, list-then-row+in_default, list-else-row+else-is_empty}
 
 pub braces-returns-clause-spelled : goal.braces-returns-clause-spelled
 braces-returns-clause-spelled t c =
-    braced_is c.in_ok-inside.ensures c.in_ok-open.ensures.reads c.in_ok-row.ensures.spelled (c.in_ok-row.ensures.nested refl) c.in_ok-rest.ensures.reads
+    braced_is c.in_ok-row.ensures.spelled (c.in_ok-row.ensures.nested refl) c.in_ok-rest.ensures.reads
 
 pub parenthesis-returns-clause-spelled : goal.parenthesis-returns-clause-spelled
 parenthesis-returns-clause-spelled t c =
@@ -23,13 +29,18 @@ parenthesis-returns-clause-spelled t c =
     let comma = c.trailing_comma-comma.result.0 in
     subst (λ e. IsExpression c.args.room a e b) (sym (view-Parenthesis c.in_ok-inner-2.inner comma))
     (subst (λ (e : Expr). IsExpression c.args.room a (parenthesis (expression e) comma) b) (sym c.in_ok-inner-2.ensures.boxed)
-    (parenthesis_is c.in_ok-inside.ensures c.in_ok-open.ensures.reads c.in_ok-inner.ensures.spelled c.trailing_comma-comma.ensures.reads c.in_ok-rest.ensures.reads))
+    (parenthesis_is c.in_ok-inside.ensures.left c.in_ok-open.ensures.reads c.in_ok-inner.ensures.spelled c.trailing_comma-comma.ensures.reads c.in_ok-rest.ensures.reads))
 
 pub close-returns-clause-spelled : goal.close-returns-clause-spelled
 close-returns-clause-spelled t c =
     subst (λ e. IsExpression c.args.room c.args.cursor.rest.now e c.in_ok-rest.rest.rest.now)
     (sym (view-Close c.in_ok-from.from c.in_ok-row.row.items c.in_ok-row.row.comma c.trailing_comma-comma.result.0))
-    (close_is c.in_ok-inside.ensures c.in_ok-from.ensures.reads c.in_ok-open.ensures.reads c.in_ok-row.ensures.spelled c.trailing_comma-comma.ensures.reads c.in_ok-rest.ensures.reads)
+    (close_is c.in_ok-inside.ensures.left c.in_ok-last.ensures.left c.in_ok-from.ensures.reads c.in_ok-open.ensures.reads c.in_ok-brace.ensures.reads c.in_ok-row.ensures.spelled c.trailing_comma-comma.ensures.reads c.in_ok-rest.ensures.reads)
+
+pub structure-returns-clause-spelled : goal.structure-returns-clause-spelled
+structure-returns-clause-spelled t c =
+    subst (λ e. IsExpression c.args.room c.args.cursor.rest.now e c.in_ok-row.rest.rest.now) (sym (view-Struct c.in_ok-row.row.items c.in_ok-row.row.comma))
+    (struct_is c.in_ok-inside.ensures.left c.in_ok-open.ensures.reads c.in_ok-row.ensures.spelled)
 
 pub conjunction-parts-init : goal.conjunction-parts-init
 conjunction-parts-init t c =
@@ -39,6 +50,8 @@ conjunction-parts-init t c =
       shorter = omega (arith, c.in_ok-first.ensures.shorter, c.in-Some.ensures.shorter);
       parts = subst (λ z. AreParts c.args.room c.args.cursor.rest.now z c.in-Some.after.rest.now) (sym pushed)
           (parts_first c.in_ok-first.first c.in_ok-first.ensures.spelled c.in_ok-first.ensures.unary c.in-Some.ensures.reads);
+      end = c.in-Some.ensures.end ∙ c.in_ok-first.ensures.end;
+      moves = moves_then (part_moves c.in_ok-first.ensures.moves) (parts_go c.in-Some.ensures.reads);
     }
 
 pub conjunction-parts-preserved : goal.conjunction-parts-preserved
@@ -49,6 +62,8 @@ conjunction-parts-preserved t c =
       parts = subst (λ z. AreParts c.args.room c.args.cursor.rest.now z c.in-Some-skip.behind.rest.now) (sym pushed)
           (parts_more (parts_next c.parts.parts.items c.in_ok-next.next c.parts.invariant.parts c.in_ok-next.ensures.spelled c.in_ok-next.ensures.unary)
           c.in-Some-skip.ensures.reads);
+      end = c.in-Some-skip.ensures.end ∙ c.in_ok-next.ensures.end ∙ c.parts.invariant.end;
+      moves = moves_then c.parts.invariant.moves (moves_then (part_moves c.in_ok-next.ensures.moves) (parts_go c.in-Some-skip.ensures.reads));
     }
 
 pub conjunction-returns-in-None-clause-spelled : goal.conjunction-returns-in-None-clause-spelled
@@ -68,6 +83,8 @@ expression-terms-init t c =
       shorter = omega (arith, c.in_ok-first.ensures.shorter, c.in-Some.ensures.shorter);
       terms = subst (λ z. AreTerms c.args.room c.args.cursor.rest.now z c.in-Some.after.rest.now) (sym pushed)
           (terms_first c.in_ok-first.first c.in_ok-first.ensures.spelled c.in-Some.ensures.reads);
+      end = c.in-Some.ensures.end ∙ c.in_ok-first.ensures.end;
+      moves = moves_then (first_moves c.in_ok-first.first.marked c.in_ok-first.ensures.marked.0 c.in_ok-first.ensures.marked.1 c.in_ok-first.ensures.moves) (first_go c.in_ok-first.first.marked c.in-Some.ensures.reads);
     }
 
 pub expression-terms-preserved : goal.expression-terms-preserved
@@ -77,6 +94,8 @@ expression-terms-preserved t c =
       shorter = omega (arith, c.in_ok-next.ensures.shorter, c.in-Some-skip.ensures.shorter);
       terms = subst (λ z. AreTerms c.args.room c.args.cursor.rest.now z c.in-Some-skip.behind.rest.now) (sym pushed)
           (terms_more (terms_next c.terms.terms.items c.in_ok-next.next c.terms.invariant.terms c.in_ok-next.ensures.spelled) c.in-Some-skip.ensures.reads);
+      end = c.in-Some-skip.ensures.end ∙ c.in_ok-next.ensures.end ∙ c.terms.invariant.end;
+      moves = moves_then c.terms.invariant.moves (moves_then (term_moves c.in_ok-next.ensures.moves) (terms_go c.in-Some-skip.ensures.reads));
     }
 
 pub expression-returns-in-None-clause-spelled : goal.expression-returns-in-None-clause-spelled
@@ -100,6 +119,8 @@ declarations-declarations-preserved t c =
           (between_pushed c.trailing_comma.result.0 l.items.items c.in_ok-item.item c.if-not-comma.false);
       nested = λ below. subst (λ z. AreNested (entries z)) (sym pushed)
           (nested_pushed l.items.items c.in_ok-item.item (l.invariant.nested below) (c.in_ok-item.ensures.nested below));
+      end = c.trailing_comma.ensures.end ∙ c.in_ok-item.ensures.end ∙ l.invariant.end;
+      moves = moves_then l.invariant.moves (moves_then c.in_ok-item.ensures.moves (entry_next c.args.top c.trailing_comma.result.0 c.if-not-comma.false (omega arith) c.trailing_comma.ensures.reads));
     }
 
 pub declarations-returns-then-not-comma-clause-spelled : goal.declarations-returns-then-not-comma-clause-spelled
@@ -128,6 +149,11 @@ elements-elements-preserved t c =
           (elements_next l.items.items l.comma c.in_ok-element.element c.trailing_comma.result.0 l.invariant.row l.invariant.between c.in_ok-element.ensures.spelled c.trailing_comma.ensures.reads);
       between = subst (λ z. Between c.trailing_comma.result.0 z) (sym pushed)
           (between_pushed c.trailing_comma.result.0 l.items.items c.in_ok-element.element c.if-not-comma.false);
+      end = c.trailing_comma.ensures.end ∙ c.in_ok-element.ensures.end ∙ l.invariant.end;
+      moves =
+          let close : ¬ StandsSign kinds.CloseBracket l.rest.rest.now = search rules in
+          let dots : ¬ StandsSign kinds.Ellipsis l.rest.rest.now = search rules in
+          moves_then l.invariant.moves (moves_then (element_moves close dots c.in_ok-element.ensures.moves) (element_next c.trailing_comma.result.0 c.if-not-comma.false (omega arith) c.trailing_comma.ensures.reads));
     }
 
 pub elements-returns-then-not-comma-clause-spelled : goal.elements-returns-then-not-comma-clause-spelled
@@ -148,7 +174,7 @@ definition-returns-clause-spelled t c =
     let kind : c.in-Some.token.now.kind ≡ kinds.Definition c.in_ok-name.name = search rules in
     subst (λ e. IsEntry c.args.room c.args.cursor.rest.now e c.in_ok-value.rest.rest.now)
     (sym (view-Definition c.in_ok-name.name c.in-Some.token.now.from c.in_ok-chain.chain.labels c.in_ok-value.value))
-    (definition_is c.in_ok-chain.ensures.levels (reads_one_at c.in-Some.token.now c.in-Some.ensures kind) c.in_ok-after.ensures.reads c.in_ok-chain.ensures.spelled c.in_ok-value.ensures.spelled)
+    (definition_is c.in_ok-chain.ensures.levels (reads_one_at c.in-Some.token.now c.in-Some.ensures.first kind) c.in_ok-after.ensures.reads c.in_ok-chain.ensures.spelled c.in_ok-value.ensures.spelled)
 
 pub list-returns-in-Some-clause-spelled : goal.list-returns-in-Some-clause-spelled
 list-returns-in-Some-clause-spelled t c =
@@ -162,10 +188,311 @@ list-returns-in-Some-clause-spelled t c =
     ] in
     subst (λ e. IsExpression c.args.room c.args.cursor.rest.now e c.in_ok-rest.rest.rest.now)
     (sym (view-List items true c.trailing_comma-comma.result.0))
-    (open_list_is c.in_ok-inside.ensures c.in_ok-open.ensures.reads c.in_ok-row.ensures.spelled which c.in-Some.ensures.reads c.trailing_comma-comma.ensures.reads c.in_ok-rest.ensures.reads)
+    (open_list_is c.in_ok-inside.ensures.left c.in_ok-open.ensures.reads c.in_ok-row.ensures.spelled which c.in-Some.ensures.reads c.trailing_comma-comma.ensures.reads c.in_ok-rest.ensures.reads)
 
 pub list-returns-clause-spelled : goal.list-returns-clause-spelled
 list-returns-clause-spelled t c =
     subst (λ e. IsExpression c.args.room c.args.cursor.rest.now e c.in_ok-rest-2.rest.rest.now)
     (sym (view-List c.in_ok-row.row.items false c.in_ok-row.row.comma))
-    (list_is c.in_ok-inside.ensures c.in_ok-open.ensures.reads c.in_ok-row.ensures.spelled c.in_ok-rest-2.ensures.reads)
+    (list_is c.in_ok-inside.ensures.left c.in_ok-open.ensures.reads c.in_ok-row.ensures.spelled c.in_ok-rest-2.ensures.reads)
+
+pub conjunction-returns-in_err-first-clause-refused : goal.conjunction-returns-in_err-first-clause-refused
+conjunction-returns-in_err-first-clause-refused t c =
+    err_from (λ r. Refused (c.args.room) c.args.cursor.end (unary ∷ more_parts ∷ []) c.args.cursor.rest.now r) c.from_residual.result _ c.from_residual.ensures.1
+    (part_refused c.in_err-first.ensures.refused)
+
+pub conjunction-returns-in_err-next-clause-refused : goal.conjunction-returns-in_err-next-clause-refused
+conjunction-returns-in_err-next-clause-refused t c =
+    err_from (λ r. Refused (c.args.room) c.args.cursor.end (unary ∷ more_parts ∷ []) c.args.cursor.rest.now r) c.from_residual-in_err-next.result _ c.from_residual-in_err-next.ensures.1
+    (refused_behind c.parts.invariant.moves (refused_end c.parts.invariant.end (part_refused c.in_err-next.ensures.refused)))
+
+pub conjunction-returns-in-None-clause-moves : goal.conjunction-returns-in-None-clause-moves
+conjunction-returns-in-None-clause-moves t c =
+    let lacks : ¬ StandsSign kinds.Ampersand c.in_ok-next.rest.rest.now = search rules in
+    moves_then c.parts.invariant.moves (moves_then (part_moves c.in_ok-next.ensures.moves) (parts_end lacks))
+
+pub expression-returns-in_err-first-clause-refused : goal.expression-returns-in_err-first-clause-refused
+expression-returns-in_err-first-clause-refused t c =
+    err_from (λ r. Refused (c.args.room) c.args.cursor.end (goals.expression ∷ []) c.args.cursor.rest.now r) c.from_residual.result _ c.from_residual.ensures.1
+    (first_refused c.in_err-first.ensures.refused)
+
+pub expression-returns-then-first-clause-refused : goal.expression-returns-then-first-clause-refused
+expression-returns-then-first-clause-refused t c =
+    let lacks : ¬ StandsSign kinds.Bar c.in_ok-first.rest.rest.now = search rules in
+    refused_behind (first_moves c.in_ok-first.first.marked c.in_ok-first.ensures.marked.0 c.in_ok-first.ensures.marked.1 c.in_ok-first.ensures.moves) (refused_end c.in_ok-first.ensures.end (stopped (stops_here c.syntax.ensures (first_halts c.in_ok-first.first.marked c.if-first.true lacks))))
+
+pub expression-returns-in_default-clause-moves : goal.expression-returns-in_default-clause-moves
+expression-returns-in_default-clause-moves t c =
+    let lacks : ¬ StandsSign kinds.Bar c.in_ok-first.rest.rest.now = search rules in
+    moves_then (first_moves c.in_ok-first.first.marked c.in_ok-first.ensures.marked.0 c.in_ok-first.ensures.marked.1 c.in_ok-first.ensures.moves) (first_end c.in_ok-first.first.marked c.if-first.false lacks)
+
+pub expression-returns-in_err-next-clause-refused : goal.expression-returns-in_err-next-clause-refused
+expression-returns-in_err-next-clause-refused t c =
+    err_from (λ r. Refused (c.args.room) c.args.cursor.end (goals.expression ∷ []) c.args.cursor.rest.now r) c.from_residual-in_err-next.result _ c.from_residual-in_err-next.ensures.1
+    (refused_behind c.terms.invariant.moves (refused_end c.terms.invariant.end (term_refused c.in_err-next.ensures.refused)))
+
+pub expression-returns-in-None-clause-moves : goal.expression-returns-in-None-clause-moves
+expression-returns-in-None-clause-moves t c =
+    let lacks : ¬ StandsSign kinds.Bar c.in_ok-next.rest.rest.now = search rules in
+    moves_then c.terms.invariant.moves (moves_then (term_moves c.in_ok-next.ensures.moves) (terms_end lacks))
+
+pub term-returns-in_err-value-in-Some-clause-refused : goal.term-returns-in_err-value-in-Some-clause-refused
+term-returns-in_err-value-in-Some-clause-refused t c =
+    err_from (λ r. Refused (c.args.room) c.args.cursor.end (goals.term ∷ []) c.args.cursor.rest.now r) c.from_residual.result _ c.from_residual.ensures.1
+    (refused_behind (marked_moves c.in-Some.ensures.reads) (refused_end c.in-Some.ensures.end c.in_err-value-in-Some.ensures.refused))
+
+pub term-returns-in_err-value-in-None-clause-refused : goal.term-returns-in_err-value-in-None-clause-refused
+term-returns-in_err-value-in-None-clause-refused t c =
+    let lacks : ¬ StandsSign kinds.Star c.args.cursor.rest.now = search rules in
+    err_from (λ r. Refused (c.args.room) c.args.cursor.end (goals.term ∷ []) c.args.cursor.rest.now r) c.from_residual-in_err-value-in-None.result _ c.from_residual-in_err-value-in-None.ensures.1
+    (refused_behind (unmarked_moves lacks) c.in_err-value-in-None.ensures.refused)
+
+pub term-returns-in_ok-value-in-Some-clause-moves : goal.term-returns-in_ok-value-in-Some-clause-moves
+term-returns-in_ok-value-in-Some-clause-moves t c =
+    moves_then (marked_moves c.in-Some.ensures.reads) c.in_ok-value-in-Some.ensures.moves
+
+pub parenthesis-returns-in_err-inside-clause-refused : goal.parenthesis-returns-in_err-inside-clause-refused
+parenthesis-returns-in_err-inside-clause-refused t c =
+    err_from (λ r. Refused (c.args.room) c.args.cursor.end (unary ∷ []) c.args.cursor.rest.now r) c.from_residual.result _ c.from_residual.ensures.1
+    (no_room kinds.OpenParenthesis (goals.expression ∷ goals.parenthesis ∷ []) c.requires (λ below. refl) (omega arith) c.in_err-inside.ensures.none c.in_err-inside.ensures.refused)
+
+pub parenthesis-returns-in_err-inner-clause-refused : goal.parenthesis-returns-in_err-inner-clause-refused
+parenthesis-returns-in_err-inner-clause-refused t c =
+    err_from (λ r. Refused (c.args.room) c.args.cursor.end (unary ∷ []) c.args.cursor.rest.now r) c.from_residual-in_err-inner.result _ c.from_residual-in_err-inner.ensures.1
+    (parenthesis_refused c.in_ok-inside.ensures.left c.in_ok-open.ensures.end c.in_ok-open.ensures.reads c.in_err-inner.ensures.refused)
+
+pub parenthesis-returns-in_err-rest-clause-refused : goal.parenthesis-returns-in_err-rest-clause-refused
+parenthesis-returns-in_err-rest-clause-refused t c =
+    err_from (λ r. Refused (c.args.room) c.args.cursor.end (unary ∷ []) c.args.cursor.rest.now r) c.from_residual-in_err-rest.result _ c.from_residual-in_err-rest.ensures.1
+    (refused_behind (moves_then (parenthesis_opens c.in_ok-inside.ensures.left c.in_ok-open.ensures.reads c.in_ok-inner.ensures.moves) (inner_comma c.trailing_comma-comma.result.0 (omega (arith, c.in_ok-inside.ensures.left)) c.trailing_comma-comma.ensures.reads)) (refused_end (c.trailing_comma-comma.ensures.end ∙ c.in_ok-inner.ensures.end ∙ c.in_ok-open.ensures.end)
+    (stopped (stops_here c.in_err-rest.ensures.refused (inner_halts c.trailing_comma-comma.result.0 c.trailing_comma-comma.ensures.reads c.trailing_comma-comma.ensures.missing c.in_err-rest.ensures.missing)))))
+
+pub parenthesis-returns-clause-moves : goal.parenthesis-returns-clause-moves
+parenthesis-returns-clause-moves t c =
+    moves_then (moves_then (parenthesis_opens c.in_ok-inside.ensures.left c.in_ok-open.ensures.reads c.in_ok-inner.ensures.moves) (inner_comma c.trailing_comma-comma.result.0 (omega (arith, c.in_ok-inside.ensures.left)) c.trailing_comma-comma.ensures.reads)) (inner_closes c.trailing_comma-comma.result.0 c.in_ok-rest.ensures.reads)
+
+pub structure-returns-in_err-inside-clause-refused : goal.structure-returns-in_err-inside-clause-refused
+structure-returns-in_err-inside-clause-refused t c =
+    err_from (λ r. Refused (c.args.room) c.args.cursor.end (unary ∷ []) c.args.cursor.rest.now r) c.from_residual.result _ c.from_residual.ensures.1
+    (no_room kinds.OpenBrace (goals.entries false ∷ []) c.requires (λ below. refl) (omega arith) c.in_err-inside.ensures.none c.in_err-inside.ensures.refused)
+
+pub structure-returns-in_err-row-clause-refused : goal.structure-returns-in_err-row-clause-refused
+structure-returns-in_err-row-clause-refused t c =
+    err_from (λ r. Refused (c.args.room) c.args.cursor.end (unary ∷ []) c.args.cursor.rest.now r) c.from_residual-in_err-row.result _ c.from_residual-in_err-row.ensures.1
+    (struct_refused c.in_ok-inside.inside c.in_ok-inside.ensures.left c.in_ok-open.ensures.end c.in_ok-open.ensures.reads c.in_err-row.ensures.refused)
+
+pub structure-returns-clause-moves : goal.structure-returns-clause-moves
+structure-returns-clause-moves t c =
+    struct_moves c.in_ok-inside.inside c.in_ok-inside.ensures.left c.in_ok-open.ensures.reads c.in_ok-row.ensures.moves
+
+pub close-returns-in_err-inside-clause-refused : goal.close-returns-in_err-inside-clause-refused
+close-returns-in_err-inside-clause-refused t c =
+    err_from (λ r. Refused (c.args.room) c.args.cursor.end (unary ∷ []) c.args.cursor.rest.now r) c.from_residual-in_err-inside.result _ c.from_residual-in_err-inside.ensures.1
+    (call_no_room c.in_err-inside.ensures.none c.in_ok-from.ensures.end c.requires c.in_ok-from.ensures.reads c.in_err-inside.ensures.refused)
+
+pub close-returns-then-begins_expression-clause-refused : goal.close-returns-then-begins_expression-clause-refused
+close-returns-then-begins_expression-clause-refused t c =
+    let lacks : ¬ StandsSign kinds.OpenBrace c.in_ok-open.open.rest.now = search rules in
+    refused_end (c.in_ok-open.ensures.end ∙ c.in_ok-from.ensures.end) (stopped (left_out_there c.left_out.ensures (c.begins_expression.ensures.0 c.if-begins_expression.true, lacks) (call_opens {n = 2} (omega arith) c.in_ok-from.ensures.reads c.in_ok-open.ensures.reads) (closed_halts lacks)))
+
+pub close-returns-in_err-brace-clause-refused : goal.close-returns-in_err-brace-clause-refused
+close-returns-in_err-brace-clause-refused t c =
+    err_from (λ r. Refused (c.args.room) c.args.cursor.end (unary ∷ []) c.args.cursor.rest.now r) c.from_residual-in_err-brace.result _ c.from_residual-in_err-brace.ensures.1
+    (refused_end (c.in_ok-open.ensures.end ∙ c.in_ok-from.ensures.end) (stopped (stops_there c.in_err-brace.ensures.refused (call_opens {n = 2} (omega arith) c.in_ok-from.ensures.reads c.in_ok-open.ensures.reads) (closed_halts c.in_err-brace.ensures.missing))))
+
+pub close-returns-in_err-last-clause-refused : goal.close-returns-in_err-last-clause-refused
+close-returns-in_err-last-clause-refused t c =
+    err_from (λ r. Refused (c.args.room) c.args.cursor.end (unary ∷ []) c.args.cursor.rest.now r) c.from_residual-in_err-last.result _ c.from_residual-in_err-last.ensures.1
+    (brace_no_room c.in_ok-inside.ensures.left c.in_err-last.ensures.none (c.in_ok-open.ensures.end ∙ c.in_ok-from.ensures.end) c.in_ok-from.ensures.reads c.in_ok-open.ensures.reads c.in_ok-brace.ensures.reads c.in_err-last.ensures.refused)
+
+pub close-returns-in_err-row-clause-refused : goal.close-returns-in_err-row-clause-refused
+close-returns-in_err-row-clause-refused t c =
+    err_from (λ r. Refused (c.args.room) c.args.cursor.end (unary ∷ []) c.args.cursor.rest.now r) c.from_residual-in_err-row.result _ c.from_residual-in_err-row.ensures.1
+    (close_refused c.in_ok-last.last c.in_ok-inside.ensures.left c.in_ok-last.ensures.left (c.in_ok-brace.ensures.end ∙ c.in_ok-open.ensures.end ∙ c.in_ok-from.ensures.end) c.in_ok-from.ensures.reads c.in_ok-open.ensures.reads c.in_ok-brace.ensures.reads c.in_err-row.ensures.refused)
+
+pub close-returns-in_err-rest-clause-refused : goal.close-returns-in_err-rest-clause-refused
+close-returns-in_err-rest-clause-refused t c =
+    err_from (λ r. Refused (c.args.room) c.args.cursor.end (unary ∷ []) c.args.cursor.rest.now r) c.from_residual-in_err-rest.result _ c.from_residual-in_err-rest.ensures.1
+    (refused_behind (moves_then (close_moves c.in_ok-last.last c.in_ok-inside.ensures.left c.in_ok-last.ensures.left c.in_ok-from.ensures.reads c.in_ok-open.ensures.reads c.in_ok-brace.ensures.reads c.in_ok-row.ensures.moves) (inner_comma c.trailing_comma-comma.result.0 (omega (arith, c.in_ok-inside.ensures.left)) c.trailing_comma-comma.ensures.reads)) (refused_end (c.trailing_comma-comma.ensures.end ∙ c.in_ok-row.ensures.end ∙ (c.in_ok-brace.ensures.end ∙ c.in_ok-open.ensures.end ∙ c.in_ok-from.ensures.end))
+    (stopped (stops_here c.in_err-rest.ensures.refused (inner_halts c.trailing_comma-comma.result.0 c.trailing_comma-comma.ensures.reads c.trailing_comma-comma.ensures.missing c.in_err-rest.ensures.missing)))))
+
+pub close-returns-clause-moves : goal.close-returns-clause-moves
+close-returns-clause-moves t c =
+    moves_then (moves_then (close_moves c.in_ok-last.last c.in_ok-inside.ensures.left c.in_ok-last.ensures.left c.in_ok-from.ensures.reads c.in_ok-open.ensures.reads c.in_ok-brace.ensures.reads c.in_ok-row.ensures.moves) (inner_comma c.trailing_comma-comma.result.0 (omega (arith, c.in_ok-inside.ensures.left)) c.trailing_comma-comma.ensures.reads)) (inner_closes c.trailing_comma-comma.result.0 c.in_ok-rest.ensures.reads)
+
+pub braces-returns-in_err-rest-clause-refused : goal.braces-returns-in_err-rest-clause-refused
+braces-returns-in_err-rest-clause-refused t c =
+    err_from (λ r. Refused (1 + c.args.room) c.args.cursor.end (goals.entries false ∷ []) c.args.cursor.rest.now r) c.from_residual-in_err-rest.result _ c.from_residual-in_err-rest.ensures.1
+    (refused_behind c.in_ok-row.ensures.moves (refused_end c.in_ok-row.ensures.end (stopped (stops_here c.in_err-rest.ensures.refused
+    (braces_halt c.in_ok-row.row.comma c.in_ok-row.row.items.items c.in_ok-row.ensures.last c.in_ok-row.ensures.open c.in_err-rest.ensures.missing)))))
+
+pub braces-returns-clause-moves : goal.braces-returns-clause-moves
+braces-returns-clause-moves t c =
+    moves_then c.in_ok-row.ensures.moves (braces_close c.in_ok-row.row.comma c.in_ok-row.row.items.items c.in_ok-rest.ensures.reads)
+
+pub declarations-returns-in_err-item-clause-refused : goal.declarations-returns-in_err-item-clause-refused
+declarations-returns-in_err-item-clause-refused t c =
+    err_from (λ r. Refused (levels_of (goals.entries c.args.top) + c.args.room) c.args.cursor.end (goals.entries c.args.top ∷ []) c.args.cursor.rest.now r) c.from_residual.result _ c.from_residual.ensures.1
+    (refused_behind c.declarations.invariant.moves (refused_end c.declarations.invariant.end c.in_err-item.ensures.refused))
+
+pub declarations-returns-then-not-comma-clause-moves : goal.declarations-returns-then-not-comma-clause-moves
+declarations-returns-then-not-comma-clause-moves t c =
+    let l = c.declarations in
+    let pushed : c.push.new.values.items ≡ l.items.items ++ c.in_ok-item.item ∷ [] = search rules in
+    let first = goals.entries c.args.top in
+    let more = goals.more_entries c.args.top in
+    let comma = c.trailing_comma.result.0 in
+    subst (λ z. Moves (levels_of (goals.entries c.args.top) + c.args.room) (first ∷ []) c.args.cursor.rest.now (z ∷ []) c.trailing_comma.result.1.rest.now)
+    (sym (ap (row_goal first more comma) pushed ∙ row_more first more comma l.items.items c.in_ok-item.item c.if-not-comma.true))
+    (subst (λ z. Moves (levels_of (goals.entries c.args.top) + c.args.room) (first ∷ []) c.args.cursor.rest.now (more ∷ []) z) (same_tokens comma c.if-not-comma.true c.trailing_comma.ensures.reads)
+    (moves_then l.invariant.moves c.in_ok-item.ensures.moves))
+
+pub elements-returns-in_err-element-clause-refused : goal.elements-returns-in_err-element-clause-refused
+elements-returns-in_err-element-clause-refused t c =
+    let close : ¬ StandsSign kinds.CloseBracket c.elements.rest.rest.now = search rules in
+    let dots : ¬ StandsSign kinds.Ellipsis c.elements.rest.rest.now = search rules in
+    err_from (λ r. Refused (1 + c.args.room) c.args.cursor.end (goals.elements ∷ []) c.args.cursor.rest.now r) c.from_residual.result _ c.from_residual.ensures.1
+    (refused_behind c.elements.invariant.moves (refused_end c.elements.invariant.end (element_refused close dots c.in_err-element.ensures.refused)))
+
+pub elements-returns-then-not-comma-clause-moves : goal.elements-returns-then-not-comma-clause-moves
+elements-returns-then-not-comma-clause-moves t c =
+    let l = c.elements in
+    let close : ¬ StandsSign kinds.CloseBracket c.elements.rest.rest.now = search rules in
+    let dots : ¬ StandsSign kinds.Ellipsis c.elements.rest.rest.now = search rules in
+    let pushed : c.push.new.values.items ≡ l.items.items ++ c.in_ok-element.element ∷ [] = search rules in
+    let comma = c.trailing_comma.result.0 in
+    subst (λ z. Moves (1 + c.args.room) (goals.elements ∷ []) c.args.cursor.rest.now (z ∷ []) c.trailing_comma.result.1.rest.now)
+    (sym (ap (row_goal goals.elements goals.more_elements comma) pushed ∙ row_more goals.elements goals.more_elements comma l.items.items c.in_ok-element.element c.if-not-comma.true))
+    (subst (λ z. Moves (1 + c.args.room) (goals.elements ∷ []) c.args.cursor.rest.now (goals.more_elements ∷ []) z) (same_tokens comma c.if-not-comma.true c.trailing_comma.ensures.reads)
+    (moves_then l.invariant.moves (element_moves close dots c.in_ok-element.ensures.moves)))
+
+pub list-returns-in_err-inside-clause-refused : goal.list-returns-in_err-inside-clause-refused
+list-returns-in_err-inside-clause-refused t c =
+    err_from (λ r. Refused (c.args.room) c.args.cursor.end (unary ∷ []) c.args.cursor.rest.now r) c.from_residual.result _ c.from_residual.ensures.1
+    (no_room kinds.OpenBracket (goals.elements ∷ []) c.requires (λ below. refl) (omega arith) c.in_err-inside.ensures.none c.in_err-inside.ensures.refused)
+
+pub list-returns-in_err-row-clause-refused : goal.list-returns-in_err-row-clause-refused
+list-returns-in_err-row-clause-refused t c =
+    err_from (λ r. Refused (c.args.room) c.args.cursor.end (unary ∷ []) c.args.cursor.rest.now r) c.from_residual-in_err-row.result _ c.from_residual-in_err-row.ensures.1
+    (list_refused c.in_ok-inside.inside c.in_ok-inside.ensures.left c.in_ok-open.ensures.end c.in_ok-open.ensures.reads c.in_err-row.ensures.refused)
+
+pub list-returns-then-begins_expression-clause-refused : goal.list-returns-then-begins_expression-clause-refused
+list-returns-then-begins_expression-clause-refused t c =
+    let items = c.in_ok-row.row.items in
+    let which : (c.in_ok-row.row.comma ≡ true) ⊎ (items.items ≡ []) =
+    elim c.then-row.branch [
+      | list-then-row-via-then-row w ↦ inl w.if-row.true
+      | list-then-row-via-else-row+then-is_empty w ↦
+          let zero : length items.items ≡ 0 = grind (arith, items.ok.0) in
+          inr (nil_from_length items.items zero)
+    ] in
+    let begins = c.begins_expression.ensures.0 c.if-begins_expression.true in
+    refused_behind (moves_then (list_opens c.in_ok-inside.inside c.in_ok-inside.ensures.left c.in_ok-open.ensures.reads c.in_ok-row.ensures.moves) (open_ellipsis c.in_ok-row.row.comma items.items (omega (arith, c.in_ok-inside.ensures.left)) which c.in-Some.ensures.reads)) (refused_end (c.in-Some.ensures.end ∙ c.in_ok-row.ensures.end ∙ c.in_ok-open.ensures.end) (stopped (left_out_here c.left_out.ensures begins (typed_halts begins))))
+
+pub list-returns-in_err-rest-clause-refused : goal.list-returns-in_err-rest-clause-refused
+list-returns-in_err-rest-clause-refused t c =
+    let items = c.in_ok-row.row.items in
+    let which : (c.in_ok-row.row.comma ≡ true) ⊎ (items.items ≡ []) =
+    elim c.then-row.branch [
+      | list-then-row-via-then-row w ↦ inl w.if-row.true
+      | list-then-row-via-else-row+then-is_empty w ↦
+          let zero : length items.items ≡ 0 = grind (arith, items.ok.0) in
+          inr (nil_from_length items.items zero)
+    ] in
+    err_from (λ r. Refused (c.args.room) c.args.cursor.end (unary ∷ []) c.args.cursor.rest.now r) c.from_residual-in_err-rest.result _ c.from_residual-in_err-rest.ensures.1
+    (refused_behind (moves_then (moves_then (list_opens c.in_ok-inside.inside c.in_ok-inside.ensures.left c.in_ok-open.ensures.reads c.in_ok-row.ensures.moves) (open_ellipsis c.in_ok-row.row.comma items.items (omega (arith, c.in_ok-inside.ensures.left)) which c.in-Some.ensures.reads)) (ellipsis_comma c.trailing_comma-comma.result.0 (omega (arith, c.in_ok-inside.ensures.left)) c.trailing_comma-comma.ensures.reads)) (refused_end (c.trailing_comma-comma.ensures.end ∙ c.in-Some.ensures.end ∙ c.in_ok-row.ensures.end ∙ c.in_ok-open.ensures.end)
+    (stopped (stops_here c.in_err-rest.ensures.refused (ellipsis_halts c.trailing_comma-comma.result.0 c.trailing_comma-comma.ensures.reads c.trailing_comma-comma.ensures.missing c.in_err-rest.ensures.missing)))))
+
+pub list-returns-in-Some-clause-moves : goal.list-returns-in-Some-clause-moves
+list-returns-in-Some-clause-moves t c =
+    let items = c.in_ok-row.row.items in
+    let which : (c.in_ok-row.row.comma ≡ true) ⊎ (items.items ≡ []) =
+    elim c.then-row.branch [
+      | list-then-row-via-then-row w ↦ inl w.if-row.true
+      | list-then-row-via-else-row+then-is_empty w ↦
+          let zero : length items.items ≡ 0 = grind (arith, items.ok.0) in
+          inr (nil_from_length items.items zero)
+    ] in
+    moves_then (moves_then (moves_then (list_opens c.in_ok-inside.inside c.in_ok-inside.ensures.left c.in_ok-open.ensures.reads c.in_ok-row.ensures.moves) (open_ellipsis c.in_ok-row.row.comma items.items (omega (arith, c.in_ok-inside.ensures.left)) which c.in-Some.ensures.reads)) (ellipsis_comma c.trailing_comma-comma.result.0 (omega (arith, c.in_ok-inside.ensures.left)) c.trailing_comma-comma.ensures.reads)) (ellipsis_closes c.trailing_comma-comma.result.0 c.in_ok-rest.ensures.reads)
+
+pub list-returns-in_err-rest-2-clause-refused : goal.list-returns-in_err-rest-2-clause-refused
+list-returns-in_err-rest-2-clause-refused t c =
+    let items = c.in_ok-row.row.items in
+    let shut : (c.in_ok-row.row.comma ≡ true) ⊎ (items.items ≡ []) → ⊥ =
+    elim c.if-row.branch [
+      | list-then-row+in_default w ↦ λ which. elim (c.in_ok-row.ensures.open which) [ inl e ↦ c.in_err-rest-2.ensures.missing e | inr e ↦ w.in_default.ensures.missing e ]
+      | list-else-row+else-is_empty w ↦ λ which. elim which [
+        | inl e ↦ (let f : true ≡ false = sym e ∙ w.if-row.false in cc)
+        | inr e ↦ (let none = ap length e in grind (arith, items.ok.0))
+      ]
+    ] in
+    err_from (λ r. Refused (c.args.room) c.args.cursor.end (unary ∷ []) c.args.cursor.rest.now r) c.from_residual-in_err-rest-2.result _ c.from_residual-in_err-rest-2.ensures.1
+    (refused_behind (list_opens c.in_ok-inside.inside c.in_ok-inside.ensures.left c.in_ok-open.ensures.reads c.in_ok-row.ensures.moves) (refused_end (c.in_ok-row.ensures.end ∙ c.in_ok-open.ensures.end)
+    (stopped (stops_here c.in_err-rest-2.ensures.refused (row_halts c.in_ok-row.row.comma c.in_ok-row.row.items.items c.in_ok-row.ensures.last shut c.in_err-rest-2.ensures.missing)))))
+
+pub list-returns-clause-moves : goal.list-returns-clause-moves
+list-returns-clause-moves t c =
+    moves_then (list_opens c.in_ok-inside.inside c.in_ok-inside.ensures.left c.in_ok-open.ensures.reads c.in_ok-row.ensures.moves) (row_closes c.in_ok-row.row.comma c.in_ok-row.row.items.items c.in_ok-rest-2.ensures.reads)
+
+pub declaration-returns-then-begins_expression-clause-refused : goal.declaration-returns-then-begins_expression-clause-refused
+declaration-returns-then-begins_expression-clause-refused t c =
+    let begins = c.begins_expression.ensures.0 c.if-begins_expression.true in
+    refused_behind (entry_ellipsis c.args.top (omega arith) c.in-Some.ensures.reads) (refused_end c.in-Some.ensures.end (stopped (left_out_here c.left_out.ensures begins (typed_entry_halts c.args.top begins))))
+
+pub declaration-returns-in-Some-clause-moves : goal.declaration-returns-in-Some-clause-moves
+declaration-returns-in-Some-clause-moves t c =
+    entry_ellipsis c.args.top (omega arith) c.in-Some.ensures.reads
+
+pub declaration-returns-in_err-refuse_label-clause-refused : goal.declaration-returns-in_err-refuse_label-clause-refused
+declaration-returns-in_err-refuse_label-clause-refused t c =
+    err_from (λ r. Refused (levels_of (goals.entries c.args.top) + c.args.room) c.args.cursor.end (goals.entries c.args.top ∷ []) c.args.cursor.rest.now r) c.from_residual.result _ c.from_residual.ensures.1
+    (label_out_entry c.args.top c.in_err-refuse_label.ensures)
+
+pub declaration-returns-then-begins_label-clause-moves : goal.declaration-returns-then-begins_label-clause-moves
+declaration-returns-then-begins_label-clause-moves t c =
+    if_ok c.field.result (λ x m. m c.args.top) c.field.ensures.moves
+
+pub declaration-returns-clause-refused : goal.declaration-returns-clause-refused
+declaration-returns-clause-refused t c =
+    let dots : ¬ StandsSign kinds.Ellipsis c.args.cursor.rest.now = search rules in
+    let label : ¬ BeginsLabel c.args.cursor.rest.now = search rules in
+    no_entry_refused c.args.top dots label (c.begins_definition.ensures.no c.if-begins_definition.false) c.requires c.no_declaration.ensures
+
+pub field-returns-in_err-label-clause-refused : goal.field-returns-in_err-label-clause-refused
+field-returns-in_err-label-clause-refused t c =
+    err_from (λ r. (top : Bool) → Refused (levels_of (goals.entries top) + c.args.room) c.args.cursor.end (goals.entries top ∷ []) c.args.cursor.rest.now r) c.from_residual.result _ c.from_residual.ensures.1
+    (λ top. misses_entry top c.in_err-label.ensures.refused)
+
+pub field-returns-in_err-chain-clause-refused : goal.field-returns-in_err-chain-clause-refused
+field-returns-in_err-chain-clause-refused t c =
+    err_from (λ r. (top : Bool) → Refused (levels_of (goals.entries top) + c.args.room) c.args.cursor.end (goals.entries top ∷ []) c.args.cursor.rest.now r) c.from_residual-in_err-chain.result _ c.from_residual-in_err-chain.ensures.1
+    (λ top. field_refused top c.in_ok-label.label c.in_ok-label.ensures.spelled c.in_ok-label.ensures.end c.in_err-chain.ensures.refused)
+
+pub field-returns-in_err-value-clause-refused : goal.field-returns-in_err-value-clause-refused
+field-returns-in_err-value-clause-refused t c =
+    err_from (λ r. (top : Bool) → Refused (levels_of (goals.entries top) + c.args.room) c.args.cursor.end (goals.entries top ∷ []) c.args.cursor.rest.now r) c.from_residual-in_err-value.result _ c.from_residual-in_err-value.ensures.1
+    (λ top. field_refused top c.in_ok-label.label c.in_ok-label.ensures.spelled c.in_ok-label.ensures.end (chain_value_refused c.in_ok-chain.chain.room c.in_ok-chain.chain.labels.items c.in_ok-chain.ensures.levels c.in_ok-chain.ensures.end c.in_ok-chain.ensures.moves c.in_ok-chain.ensures.whole c.in_err-value.ensures.refused))
+
+pub field-returns-clause-moves : goal.field-returns-clause-moves
+field-returns-clause-moves t c top =
+    field_moves top c.in_ok-label.label c.in_ok-label.ensures.spelled (chain_value c.in_ok-chain.chain.room c.in_ok-chain.chain.labels.items c.in_ok-chain.ensures.levels c.in_ok-chain.ensures.moves c.in_ok-chain.ensures.whole c.in_ok-value.ensures.shorter c.in_ok-value.ensures.moves)
+
+pub definition-returns-in_err-chain-clause-refused : goal.definition-returns-in_err-chain-clause-refused
+definition-returns-in_err-chain-clause-refused t c =
+    let kind : c.in-Some.token.now.kind ≡ kinds.Definition c.in_ok-name.name = search rules in
+    err_from (λ r. Refused (c.args.room) c.args.cursor.end (goals.entries true ∷ []) c.args.cursor.rest.now r) c.from_residual-in_err-chain.result _ c.from_residual-in_err-chain.ensures.1
+    (definition_refused (reads_one_at c.in-Some.token.now c.in-Some.ensures.first kind) c.in_ok-after.ensures.reads (c.in_ok-after.ensures.end ∙ c.in-Some.ensures.end) c.in_err-chain.ensures.refused)
+
+pub definition-returns-in_err-value-clause-refused : goal.definition-returns-in_err-value-clause-refused
+definition-returns-in_err-value-clause-refused t c =
+    let kind : c.in-Some.token.now.kind ≡ kinds.Definition c.in_ok-name.name = search rules in
+    err_from (λ r. Refused (c.args.room) c.args.cursor.end (goals.entries true ∷ []) c.args.cursor.rest.now r) c.from_residual-in_err-value.result _ c.from_residual-in_err-value.ensures.1
+    (definition_refused (reads_one_at c.in-Some.token.now c.in-Some.ensures.first kind) c.in_ok-after.ensures.reads (c.in_ok-after.ensures.end ∙ c.in-Some.ensures.end) (chain_value_refused c.in_ok-chain.chain.room c.in_ok-chain.chain.labels.items c.in_ok-chain.ensures.levels c.in_ok-chain.ensures.end c.in_ok-chain.ensures.moves c.in_ok-chain.ensures.whole c.in_err-value.ensures.refused))
+
+pub definition-returns-clause-moves : goal.definition-returns-clause-moves
+definition-returns-clause-moves t c =
+    let kind : c.in-Some.token.now.kind ≡ kinds.Definition c.in_ok-name.name = search rules in
+    definition_moves (reads_one_at c.in-Some.token.now c.in-Some.ensures.first kind) c.in_ok-after.ensures.reads (chain_value c.in_ok-chain.chain.room c.in_ok-chain.chain.labels.items c.in_ok-chain.ensures.levels c.in_ok-chain.ensures.moves c.in_ok-chain.ensures.whole c.in_ok-value.ensures.shorter c.in_ok-value.ensures.moves)
+
+pub close-returns-in_err-open-clause-refused : goal.close-returns-in_err-open-clause-refused
+close-returns-in_err-open-clause-refused t c = absurd (c.in_err-open.ensures.missing (call_paren c.requires c.in_ok-from.ensures.reads))

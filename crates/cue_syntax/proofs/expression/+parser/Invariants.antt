@@ -1,7 +1,9 @@
 -- The room falls at each level that opens. Within one level the functions call each other in a fixed order.
-use Rattle.std.proofs.Common.{◌≡◌, ℕ, ◌+◌, ◌*◌, ◌≤◌, false, length}
+use Rattle.std.proofs.Common.{◌≡◌, ℕ, ◌+◌, ◌*◌, ◌≤◌, false, [], ◌∷◌, length}
 use Rattle.cue_syntax.specs.Grammar.{AreElements, AreEntries, AreNested}
 use Rattle.cue_syntax.specs.Syntax.{elements, entries}
+use Rattle.cue_syntax.specs.Recogniser as goals
+use Rattle.cue_syntax.specs.Recogniser.{Moves, levels_of, expression, term, more_terms, unary, more_parts}
 use Rattle.cue_syntax.proofs.Trees.{AreTerms, AreParts, Between}
 use Rattle.cue_syntax.proofs.expression.+parser.Given as goal
 
@@ -9,7 +11,7 @@ abbrev rank : ℕ → ℕ → ℕ
 rank room place = 16 * room + place
 
 abbrev pub decreases-braces : goal.decreases-braces
-decreases-braces l = rank l.room 0
+decreases-braces l = rank l.room 9
 
 abbrev pub decreases-declarations : goal.decreases-declarations
 decreases-declarations l = rank l.room 8
@@ -51,6 +53,8 @@ abbrev pub invariant-expression-terms : goal.invariant-expression-terms
 invariant-expression-terms l = record {
   shorter : length l.after.rest.now ≤ length l.cursor.rest.now;
   terms : AreTerms l.room l.cursor.rest.now l.terms.items l.after.rest.now;
+  end : l.after.end ≡ l.cursor.end;
+  moves : Moves l.room (expression ∷ []) l.cursor.rest.now (term ∷ more_terms ∷ []) l.after.rest.now;
 }
 
 abbrev pub decreases-expression-terms : goal.decreases-expression-terms
@@ -60,6 +64,8 @@ abbrev pub invariant-conjunction-parts : goal.invariant-conjunction-parts
 invariant-conjunction-parts l = record {
   shorter : length l.after.rest.now ≤ length l.cursor.rest.now;
   parts : AreParts l.room l.cursor.rest.now l.parts.items l.after.rest.now;
+  end : l.after.end ≡ l.cursor.end;
+  moves : Moves l.room (unary ∷ more_parts ∷ []) l.cursor.rest.now (unary ∷ more_parts ∷ []) l.after.rest.now;
 }
 
 abbrev pub decreases-conjunction-parts : goal.decreases-conjunction-parts
@@ -70,6 +76,8 @@ invariant-elements-elements l = record {
   shorter : length l.rest.rest.now ≤ length l.cursor.rest.now;
   row : AreElements l.room l.cursor.rest.now (elements l.items.items) l.comma l.rest.rest.now;
   between : Between l.comma l.items.items;
+  end : l.rest.end ≡ l.cursor.end;
+  moves : Moves (1 + l.room) (goals.elements ∷ []) l.cursor.rest.now (goals.elements ∷ []) l.rest.rest.now;
 }
 
 abbrev pub decreases-elements-elements : goal.decreases-elements-elements
@@ -81,6 +89,8 @@ invariant-declarations-declarations l = record {
   row : AreEntries l.room l.cursor.rest.now (entries l.items.items) l.comma l.rest.rest.now;
   between : Between l.comma l.items.items;
   nested : l.top ≡ false → AreNested (entries l.items.items);
+  end : l.rest.end ≡ l.cursor.end;
+  moves : Moves (levels_of (goals.entries l.top) + l.room) (goals.entries l.top ∷ []) l.cursor.rest.now (goals.entries l.top ∷ []) l.rest.rest.now;
 }
 
 abbrev pub decreases-declarations-declarations : goal.decreases-declarations-declarations

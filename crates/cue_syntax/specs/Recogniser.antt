@@ -1,0 +1,347 @@
+-- A recogniser of the grammar: it takes the symbols of a text one by one, and keeps on a stack what has still to come.
+-- It tells at which symbol tokens leave the grammar. It defines nothing and no public contract speaks of it: the grammar
+-- is that of `Grammar`, and two laws say that the recogniser takes just what the grammar spells (proofs/Stuck: where it is
+-- stuck no text begins so; proofs/Viable: what it takes begins a text).
+use Rattle.std.specs.Prelude.{◌≡◌, ◌+◌, ◌⊎◌, drop, ℕ, Bool, true, false, List, [], ◌∷◌, ◌++◌, codes, Option, None, Some, nat_eq, nat_le, if◌then◌else◌, ◌||◌}
+use Rattle.std.specs.Cmp.Lexicographic.{pointwise}
+use Rattle.std.specs.List.{starts_with}
+use Rattle.cue_lex.specs.declared.token.Token.{Token}
+use Rattle.cue_lex.specs.declared.token.TokenKind.{TokenKind}
+use Rattle.cue_lex.specs.declared.token.TokenKind.TheVariants as kinds
+use Rattle.cue_lattice.specs.declared.refusal.Kind.{Kind}
+use Rattle.cue_lattice.specs.declared.refusal.Kind.TheVariants as refusals
+use Rattle.cue_lattice.specs.declared.refusal.Refusal.{Refusal}
+use Rattle.cue_lattice.specs.Refusal.{memory}
+use Rattle.cue_syntax.specs.declared.tree.Label.{Label}
+use Rattle.cue_syntax.specs.Grammar.{Limit, unlimited, at_most, Within}
+use Rattle.cue_syntax.specs.Viability.{Stands, Next, IsForm, place_of}
+
+-- what the recogniser sees: a token, or the end of the text
+pub data Symbol : Type 0 where
+  sign : TokenKind → Symbol
+  end : Symbol
+
+-- what has still to come
+pub data Goal : Type 0 where
+  text : Goal  -- a whole text
+  package_word : Goal  -- what follows a first word `package`: a name, or the mark of a label
+  package_end : Goal  -- a comma, or the end
+  entries : Bool → Goal  -- a declaration, or the end of the declarations: at the top, or in braces
+  more_entries : Bool → Goal  -- a comma, or the end of the declarations
+  mark : Goal  -- a colon, with `?` or `!` before it or not
+  colon : Goal
+  value : Goal  -- a label with its value, or an expression
+  value_name : List ℕ → Goal  -- what follows a name that begins a value
+  value_text : Goal  -- what follows a string that begins a value
+  chained : Goal  -- the end of a level that a label opened
+  expression : Goal
+  term : Goal
+  unary : Goal
+  more_parts : Goal  -- `&` and a part, any number of them
+  bar : Goal  -- `|` and a term, and any number of further ones
+  more_terms : Goal  -- `|` and a term, any number of them
+  signed : Goal
+  signed_or_text : Goal
+  magnitude : Goal
+  behind_close : Goal  -- what follows the name `close`: a parenthesis, or nothing of it
+  closed : Goal  -- the brace of `close({`
+  parenthesis : Goal  -- the end of a parenthesis, with a comma or not
+  parenthesis_end : Goal
+  elements : Goal  -- an element, `...`, or the end of a list
+  more_elements : Goal  -- a comma, or the end of a list
+  bracket : Goal  -- the end of a list, with a comma or not
+  bracket_end : Goal
+
+abbrev pub Stack : Type 0
+Stack = List Goal
+
+-- the bytes are those of the word
+abbrev pub is_word : List ℕ → List ℕ → Bool
+is_word word t = pointwise nat_eq t word
+
+abbrev pub is_keyword : List ℕ → Bool
+is_keyword t = is_word (codes "let") t || is_word (codes "for") t || is_word (codes "if") t || is_word (codes "import") t
+    || is_word (codes "in") t || is_word (codes "package") t
+
+-- how many levels are open
+abbrev pub levels_of : Goal → ℕ
+levels_of (entries false) = 1
+levels_of (more_entries false) = 1
+levels_of chained = 1
+levels_of (value_name t) = if is_keyword t then 1 else 0  -- a keyword goes on as a label alone, which opens a level
+levels_of closed = 2
+levels_of parenthesis = 1
+levels_of parenthesis_end = 1
+levels_of elements = 1
+levels_of more_elements = 1
+levels_of bracket = 1
+levels_of bracket_end = 1
+levels_of _ = 0
+
+abbrev pub depth : Stack → ℕ
+depth [] = 0
+depth (goal ∷ goals) = levels_of goal + depth goals
+
+abbrev pub fits : Limit → ℕ → Bool
+fits unlimited n = true
+fits (at_most m) n = nat_le n m
+
+-- behind a label: its mark, and then what follows the colon
+abbrev pub take_mark : Stack → TokenKind → Option Stack
+take_mark goals kinds.Colon = Some goals
+take_mark goals kinds.Question = Some (colon ∷ goals)
+take_mark goals kinds.Exclamation = Some (colon ∷ goals)
+take_mark goals _ = None
+
+-- a name as an operand
+abbrev pub take_name : Stack → List ℕ → Option Stack
+take_name goals t = if is_keyword t then None else (if is_word (codes "close") t then Some (behind_close ∷ goals) else Some goals)
+
+abbrev pub take_unary : Stack → TokenKind → Option Stack
+take_unary goals (kinds.Name t) = take_name goals t
+take_unary goals (kinds.Definition t) = Some goals
+take_unary goals (kinds.Hidden t) = Some goals
+take_unary goals (kinds.Text t) = Some goals
+take_unary goals (kinds.Integer n) = Some goals
+take_unary goals kinds.Bottom = Some goals
+take_unary goals kinds.Minus = Some (magnitude ∷ goals)
+take_unary goals kinds.Plus = Some (magnitude ∷ goals)
+take_unary goals kinds.Less = Some (signed ∷ goals)
+take_unary goals kinds.AtMost = Some (signed ∷ goals)
+take_unary goals kinds.Greater = Some (signed ∷ goals)
+take_unary goals kinds.AtLeast = Some (signed ∷ goals)
+take_unary goals kinds.NotEqual = Some (signed_or_text ∷ goals)
+take_unary goals kinds.OpenParenthesis = Some (expression ∷ parenthesis ∷ goals)
+take_unary goals kinds.OpenBrace = Some (entries false ∷ goals)
+take_unary goals kinds.OpenBracket = Some (elements ∷ goals)
+take_unary goals _ = None
+
+abbrev pub take_term : Stack → TokenKind → Option Stack
+take_term goals kinds.Star = Some (unary ∷ goals)
+take_term goals kind = take_unary (more_parts ∷ goals) kind
+
+abbrev pub take_expression : Stack → TokenKind → Option Stack
+take_expression goals kinds.Star = Some (unary ∷ bar ∷ goals)
+take_expression goals kind = take_unary (more_parts ∷ more_terms ∷ goals) kind
+
+abbrev pub take_value : Stack → TokenKind → Option Stack
+take_value goals (kinds.Name t) = Some (value_name t ∷ goals)
+take_value goals (kinds.Text t) = Some (value_text ∷ goals)
+take_value goals kind = take_expression goals kind
+
+abbrev pub take_signed : Stack → TokenKind → Option Stack
+take_signed goals (kinds.Integer n) = Some goals
+take_signed goals kinds.Minus = Some (magnitude ∷ goals)
+take_signed goals kinds.Plus = Some (magnitude ∷ goals)
+take_signed goals _ = None
+
+-- a declaration; the goals are those behind it
+abbrev pub take_entry : Bool → Stack → TokenKind → Option Stack
+take_entry top goals kinds.Ellipsis = Some goals
+take_entry top goals (kinds.Name t) = Some (mark ∷ value ∷ goals)
+take_entry top goals (kinds.Text t) = Some (mark ∷ value ∷ goals)
+take_entry true goals (kinds.Definition t) = Some (colon ∷ value ∷ goals)
+take_entry top goals _ = None
+
+-- behind an operand that begins a value
+abbrev pub take_behind_operand : Stack → Option Stack → TokenKind → Option Stack
+take_behind_operand goals behind kinds.Ampersand = Some (unary ∷ more_parts ∷ more_terms ∷ goals)
+take_behind_operand goals behind kinds.Bar = Some (term ∷ more_terms ∷ goals)
+take_behind_operand goals behind _ = behind
+
+-- behind a name that begins a value and is no label
+abbrev pub take_behind_name : List ℕ → Stack → Option Stack → TokenKind → Option Stack
+take_behind_name t goals behind kinds.OpenParenthesis =
+    if is_keyword t then None else (if is_word (codes "close") t then Some (closed ∷ more_parts ∷ more_terms ∷ goals) else behind)
+take_behind_name t goals behind kind = if is_keyword t then None else take_behind_operand goals behind kind
+
+abbrev pub take_value_name : List ℕ → Stack → Option Stack → TokenKind → Option Stack
+take_value_name t goals behind kinds.Colon = take_mark (value ∷ chained ∷ goals) kinds.Colon
+take_value_name t goals behind kinds.Question = take_mark (value ∷ chained ∷ goals) kinds.Question
+take_value_name t goals behind kinds.Exclamation = take_mark (value ∷ chained ∷ goals) kinds.Exclamation
+take_value_name t goals behind kind = take_behind_name t goals behind kind
+
+abbrev pub take_value_text : Stack → Option Stack → TokenKind → Option Stack
+take_value_text goals behind kinds.Colon = take_mark (value ∷ chained ∷ goals) kinds.Colon
+take_value_text goals behind kinds.Question = take_mark (value ∷ chained ∷ goals) kinds.Question
+take_value_text goals behind kinds.Exclamation = take_mark (value ∷ chained ∷ goals) kinds.Exclamation
+take_value_text goals behind kind = take_behind_operand goals behind kind
+
+-- it begins with `_#`
+abbrev pub hides_definition : List ℕ → Bool
+hides_definition t = starts_with nat_eq t (codes "_#")
+
+abbrev pub take_package : Stack → TokenKind → Option Stack
+take_package goals (kinds.Name t) = Some (package_end ∷ goals)
+take_package goals (kinds.Hidden t) = if hides_definition t then None else Some (package_end ∷ goals)
+take_package goals kind = take_mark (value ∷ more_entries true ∷ goals) kind
+
+abbrev pub take_text : Stack → TokenKind → Option Stack
+take_text goals (kinds.Name t) = if is_word (codes "package") t then Some (package_word ∷ goals) else Some (mark ∷ value ∷ more_entries true ∷ goals)
+take_text goals kind = take_entry true (more_entries true ∷ goals) kind
+
+abbrev pub take_element : Stack → TokenKind → Option Stack
+take_element goals kinds.CloseBracket = Some goals
+take_element goals kinds.Ellipsis = Some (bracket ∷ goals)
+take_element goals kind = take_expression (more_elements ∷ goals) kind
+
+-- One token. behind is what the goals below make of it, where the goal is over before it.
+abbrev pub take : Goal → Stack → Option Stack → TokenKind → Option Stack
+take text goals behind kind = take_text goals kind
+take package_word goals behind kind = take_package goals kind
+take package_end goals behind kinds.Comma = Some (entries true ∷ goals)
+take package_end goals behind _ = None
+take (entries false) goals behind kinds.CloseBrace = Some goals
+take (entries top) goals behind kind = take_entry top (more_entries top ∷ goals) kind
+take (more_entries top) goals behind kinds.Comma = Some (entries top ∷ goals)
+take (more_entries false) goals behind kinds.CloseBrace = Some goals
+take (more_entries top) goals behind _ = None
+take mark goals behind kind = take_mark goals kind
+take colon goals behind kinds.Colon = Some goals
+take colon goals behind _ = None
+take value goals behind kind = take_value goals kind
+take (value_name t) goals behind kind = take_value_name t goals behind kind
+take value_text goals behind kind = take_value_text goals behind kind
+take chained goals behind kind = behind
+take expression goals behind kind = take_expression goals kind
+take term goals behind kind = take_term goals kind
+take unary goals behind kind = take_unary goals kind
+take more_parts goals behind kinds.Ampersand = Some (unary ∷ more_parts ∷ goals)
+take more_parts goals behind _ = behind
+take bar goals behind kinds.Bar = Some (term ∷ more_terms ∷ goals)
+take bar goals behind _ = None
+take more_terms goals behind kinds.Bar = Some (term ∷ more_terms ∷ goals)
+take more_terms goals behind _ = behind
+take signed goals behind kind = take_signed goals kind
+take signed_or_text goals behind (kinds.Text t) = Some goals
+take signed_or_text goals behind kind = take_signed goals kind
+take magnitude goals behind (kinds.Integer n) = Some goals
+take magnitude goals behind _ = None
+take behind_close goals behind kinds.OpenParenthesis = Some (closed ∷ goals)
+take behind_close goals behind _ = behind
+take closed goals behind kinds.OpenBrace = Some (entries false ∷ parenthesis ∷ goals)
+take closed goals behind _ = None
+take parenthesis goals behind kinds.Comma = Some (parenthesis_end ∷ goals)
+take parenthesis goals behind kinds.CloseParenthesis = Some goals
+take parenthesis goals behind _ = None
+take parenthesis_end goals behind kinds.CloseParenthesis = Some goals
+take parenthesis_end goals behind _ = None
+take elements goals behind kind = take_element goals kind
+take more_elements goals behind kinds.Comma = Some (elements ∷ goals)
+take more_elements goals behind kinds.CloseBracket = Some goals
+take more_elements goals behind _ = None
+take bracket goals behind kinds.Comma = Some (bracket_end ∷ goals)
+take bracket goals behind kinds.CloseBracket = Some goals
+take bracket goals behind _ = None
+take bracket_end goals behind kinds.CloseBracket = Some goals
+take bracket_end goals behind _ = None
+
+-- The end of the text. behind says whether the goals below are over there.
+abbrev pub over : Goal → Bool → Bool
+over text behind = true
+over package_end behind = true
+over (entries true) behind = true
+over (more_entries true) behind = true
+over (value_name t) behind = if is_keyword t then false else behind
+over value_text behind = behind
+over chained behind = behind
+over more_parts behind = behind
+over more_terms behind = behind
+over behind_close behind = behind
+over _ behind = false
+
+-- the stack behind a token, if one of the grammar can follow
+abbrev pub step : Stack → TokenKind → Option Stack
+step [] kind = None
+step (goal ∷ goals) kind = take goal goals (step goals kind) kind
+
+abbrev pub is_over : Stack → Bool
+is_over [] = false
+is_over (goal ∷ goals) = over goal (is_over goals)
+
+-- Where the tokens leave the grammar, and the tokens from there on: none of them where the end of the text can't stand
+-- behind the last one. None where they are a whole text.
+abbrev pub stuck_behind : Limit → Option Stack → List Token → (Stack → Option (List Token)) → Option (List Token)
+stuck_behind limit None here further = Some here
+stuck_behind limit (Some goals) here further = if fits limit (depth goals) then further goals else Some here
+
+abbrev pub stuck : Limit → Stack → List Token → Option (List Token)
+stuck limit goals [] = if is_over goals then None else Some []
+stuck limit goals (token ∷ tokens) = stuck_behind limit (step goals token.kind) (token ∷ tokens) (λ next. stuck limit next tokens)
+
+-- the levels below count too
+abbrev pub raise : ℕ → Limit → Limit
+raise n unlimited = unlimited
+raise n (at_most m) = at_most (n + m)
+
+-- what comes behind an expression takes neither a parenthesis nor the mark of a label
+pub record Closes (below : Stack) : Type 0 where
+  pub call : step below kinds.OpenParenthesis ≡ None
+  pub colon : step below kinds.Colon ≡ None
+  pub question : step below kinds.Question ≡ None
+  pub exclamation : step below kinds.Exclamation ≡ None
+
+-- the levels that the labels of a chain open
+abbrev pub chains : List Label → Stack
+chains [] = []
+chains (label ∷ labels) = chained ∷ chains labels
+
+-- what follows a row: its first goal at the start and behind a comma, else the goal behind an item
+abbrev pub row_goal : {A : Type 0} → Goal → Goal → Bool → List A → Goal
+row_goal first more true items = first
+row_goal first more false [] = first
+row_goal first more false (item ∷ items) = more
+
+-- whatever has to come behind the goals, the tokens leave the grammar here
+abbrev pub Sticks : Limit → Stack → List Token → List Token → Type 0
+Sticks limit goals tokens here = (below : Stack) → Closes below → stuck (raise (depth below) limit) (goals ++ below) tokens ≡ Some here
+
+-- the tokens from a place on are the last of the tokens
+pub record IsEnd (tokens at : List Token) : Type 0 where
+  pub read : List Token
+  pub is : tokens ≡ read ++ at
+
+-- the tokens leave the grammar of any number of levels at a place, or at the next symbol
+pub record SticksNear (goals : Stack) (tokens at : List Token) : Type 0 where
+  pub here : List Token
+  pub sticks : Sticks unlimited goals tokens here
+  pub near : (at ≡ here) ⊎ (drop 1 at ≡ here)
+
+-- whatever has to come behind the goals, with more levels the tokens go on here
+pub record GoesOn (goals : Stack) (tokens here : List Token) (below : Stack) : Type 0 where
+  pub next : Stack
+  pub token : Token
+  pub tokens_behind : List Token
+  pub is : here ≡ token ∷ tokens_behind
+  pub goes_on : stuck unlimited (goals ++ below) tokens ≡ stuck unlimited next tokens_behind
+
+abbrev pub IsBrace : List Token → Type 0
+IsBrace here = Stands (λ s. s ≡ kinds.OpenParenthesis) here × Next (λ s. s ≡ kinds.OpenBrace) here
+
+pub record OpensNear (room : ℕ) (goals : Stack) (tokens at : List Token) : Type 0 where
+  pub here : List Token
+  pub sticks : Sticks (at_most room) goals tokens here
+  pub deeper : (below : Stack) → GoesOn goals tokens here below
+  pub near : (at ≡ here) ⊎ (drop 1 at ≡ here) ⊎ ((at ≡ drop 1 here) × IsBrace here)
+
+abbrev pub SticksBy : ℕ → Stack → List Token → Kind → List Token → Type 0
+SticksBy room goals tokens refusals.Syntax at = SticksNear goals tokens at
+SticksBy room goals tokens (refusals.LeftOut form) at = SticksNear goals tokens at × IsForm form at
+SticksBy room goals tokens refusals.Nesting at = OpensNear room goals tokens at
+SticksBy room goals tokens _ at = ⊥
+
+-- Why tokens that the goals have to read are refused, and where.
+pub record Stops (room end : ℕ) (goals : Stack) (tokens : List Token) (refusal : Refusal) : Type 0 where
+  pub at : List Token
+  pub inside : IsEnd tokens at
+  pub place : refusal.place ≡ place_of end at
+  pub by : SticksBy room goals tokens refusal.kind at
+
+-- The tokens are refused for want of memory, or because the goals can't read them.
+pub record Refused (room end : ℕ) (goals : Stack) (tokens : List Token) (refusal : Refusal) : Type 0 where
+  pub why : (refusal ≡ memory) ⊎ Stops room end goals tokens refusal
+
+-- Up to b the goals have been read as far as the next ones, within so many levels.
+pub record Moves (room : ℕ) (goals : Stack) (a : List Token) (next : Stack) (b : List Token) : Type 0 where
+  pub inside : IsEnd a b
+  pub moves : (limit : Limit) (below : Stack) → Within limit (depth below + room) → stuck limit (goals ++ below) a ≡ stuck limit (next ++ below) b
