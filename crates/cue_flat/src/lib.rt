@@ -7,6 +7,8 @@ mod field;
 mod integers;
 mod merge;
 mod table;
+#[cfg(test)]
+mod tests;
 
 pub use field::Field;
 pub use integers::Integers;

@@ -10,6 +10,8 @@ mod narrow;
 mod pair;
 mod refusal;
 mod scalar;
+#[cfg(test)]
+mod tests;
 mod text;
 
 pub use memory::Memory;

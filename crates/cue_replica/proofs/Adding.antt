@@ -1,5 +1,5 @@
 -- What a site adds to its table, against what its set of pieces gains.
-use Rattle.std.proofs.Common.{◌≡◌, ◌≢◌, ◌↔◌, ◌⊎◌, ℕ, List, [], ◌∷◌, ◌++◌, refl, sym, ◌∙◌, subst, inl, inr, ⊎_elim}
+use Rattle.std.proofs.Common.{◌≡◌, ℕ, List, [], ◌∷◌, ◌++◌, refl, sym, ◌∙◌, subst, inl, inr, ⊎_elim}
 use Rattle.cue_lattice.specs.declared.refusal.Refusal.{Refusal}
 use Rattle.cue_lattice.specs.OneOf.{OneOf}
 use Rattle.cue_lattice.specs.Question.{Refusals, SameAnswers}
@@ -7,7 +7,6 @@ use Rattle.cue_lattice.specs.World.{Piece, piece_refuses, pieces_refuse, IsUnifi
 use Rattle.cue_lattice.specs.World as world
 use Rattle.cue_lattice.proofs.OneOf.{one_of-append}
 use Rattle.cue_flat.specs.FlatTable.{Table, IsTable, table_refuses, IsMet}
-use Rattle.cue_flat_text.specs.Fragment.{fragment_refuses}
 use Rattle.cue_flat_codec.specs.State as state
 use Rattle.cue_replica.specs.Flat.{flat}
 use Rattle.cue_replica.specs.Replica.{Adds}

@@ -1,6 +1,6 @@
 -- Two lists that go along each other.
-use Rattle.std.proofs.Common.{◌≡◌, ℕ, zero, suc, ◌<◌, ◌≤◌, List, [], ◌∷◌, ◌++◌, length, Option, None, Some, refl, subst, ap, arith}
-use Rattle.std.specs.Prelude.{slice_get, slice_set, unwrap_or, replicate}
+use Rattle.std.proofs.Common.{◌≡◌, ℕ, zero, suc, ◌<◌, List, [], ◌∷◌, ◌++◌, length, Some, refl, subst, ap, arith}
+use Rattle.std.specs.Prelude.{slice_get, slice_set, unwrap_or}
 use Rattle.cue_lattice.specs.World.{AllAlong}
 
 pub length-along : {X Y : Type 0} (R : X → Y → Type 0) (xs : List X) (ys : List Y) → AllAlong R xs ys → length xs ≡ length ys

@@ -7,7 +7,7 @@ use Rattle.cue_lattice.specs.Question.{Refusals, SameAnswers}
 use Rattle.cue_lattice.specs.declared.text.Text.{Text}
 use Rattle.cue_lattice.specs.World as world
 use Rattle.cue_lattice.specs.World.{Piece, Sets, AllAlong, IsOutcome, IsAnswer, IsThere, pieces_at, pieces_refuse}
-use Rattle.cue_flat.specs.FlatTable.{Table, IsTable, table_refuses}
+use Rattle.cue_flat.specs.FlatTable.{Table, IsTable}
 use Rattle.cue_flat_text.specs.Fragment as fragment
 use Rattle.cue_flat_codec.specs.State as state
 use Rattle.cue_replica.specs.declared.world.Event.{Event}
@@ -16,7 +16,7 @@ use Rattle.cue_replica.specs.declared.world.Outcome.{Outcome}
 use Rattle.cue_replica.specs.declared.world.Outcome.TheVariants.{Accepted, Sent, Refused, NoSuch}
 use Rattle.cue_replica.specs.Flat.{flat}
 use Rattle.cue_replica.specs.Replica.{Adds}
-use Rattle.cue_replica.specs.World.{event_of, outcome_of, IsSiteOf, IsSentOf, Agrees, HappensAt, Submits, Takes, Sends, Delivers, Happens}
+use Rattle.cue_replica.specs.World.{event_of, IsSiteOf, IsSentOf, Agrees, HappensAt, Submits, Takes, Sends, Delivers, Happens}
 use Rattle.cue_replica.proofs.Adding.{state_answers, no_state_fault, one_piece, unified_more}
 use Rattle.cue_replica.proofs.Along.{length-along, along_at, along_set, along_push, set_same, found_within}
 

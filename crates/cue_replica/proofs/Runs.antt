@@ -1,16 +1,15 @@
 -- A run so far: the outcomes are allowed, and each site and message is what its set of pieces makes it.
-use Rattle.std.proofs.Common.{◌≡◌, ◌↔◌, ◌⊎◌, ℕ, zero, suc, List, [], ◌∷◌, ◌++◌, map, None, Some, Vec, Global, refl, sym, ap, ◌∙◌, subst, length, take, drop, append-nil, arith}
-use Rattle.std.specs.Prelude.{slice_get, replicate}
+use Rattle.std.proofs.Common.{◌≡◌, ℕ, zero, suc, List, [], ◌∷◌, ◌++◌, map, None, Vec, Global, refl, sym, ap, ◌∙◌, subst, length, take, drop, append-nil, arith}
+use Rattle.std.specs.Prelude.{replicate}
 use Rattle.std.proofs.lemmas.List.{take_all, drop_all}
-use Rattle.cue_lattice.specs.Question.{SameAnswers}
 use Rattle.cue_lattice.specs.World as world
 use Rattle.cue_lattice.specs.World.{Meaning, Piece, Sets, AllAlong, IsOutcome, AreOutcomes, IsUnified, SamePieces, reach, start, pieces_at, pieces_refuse}
-use Rattle.cue_flat.specs.FlatTable.{Table, IsTable, table_refuses}
+use Rattle.cue_flat.specs.FlatTable.{Table, table_refuses}
 use Rattle.cue_flat.proofs.Exact.{tables_exact}
 use Rattle.cue_replica.specs.declared.world.Event.{Event}
 use Rattle.cue_replica.specs.declared.world.Outcome.{Outcome}
 use Rattle.cue_replica.specs.Flat.{flat}
-use Rattle.cue_replica.specs.World.{event_of, outcome_of, reached, IsSiteOf, IsSentOf, Agrees, AreEqualSites, Happens}
+use Rattle.cue_replica.specs.World.{event_of, outcome_of, reached, IsSiteOf, Agrees, AreEqualSites, Happens}
 use Rattle.cue_replica.proofs.Adding.{same_pieces_refuse}
 use Rattle.cue_replica.proofs.Along.{along_at}
 

@@ -1,3 +1,4 @@
+pub mod Accepted
 pub mod Flat
 pub mod Replica
 pub mod World

@@ -1,7 +1,6 @@
 -- Worlds of sites: how the program's events, outcomes and sites stand to the definition of a world.
 use Rattle.std.specs.Prelude.{◌≡◌, ◌⊎◌, ℕ, ◌+◌, ◌<◌, ◌≤◌, List, [], ◌∷◌, ◌++◌, map, length, Some, slice_get, slice_set, Vec, vec_len, vec_capacity}
 use Rattle.std.specs.Global.{Global}
-use Rattle.cue_lattice.specs.declared.refusal.Refusal.{Refusal}
 use Rattle.cue_lattice.specs.Refusal.{memory}
 use Rattle.cue_lattice.specs.World as world
 use Rattle.cue_lattice.specs.World.{Piece, Sets, AllAlong, IsUnified, IsMessageOf, IsOutcome, AreOutcomes, SamePieces, reach, start, pieces_at}

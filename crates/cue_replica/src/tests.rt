@@ -1,4 +1,4 @@
-use crate::{Event, Export, Kind, Outcome, Refusal, Replica, Text, lines, run};
+use crate::{Event, Export, Kind, Outcome, Refusal, Replica, Text, World, lines, run};
 use std::alloc::Global;
 use std::process::Abort;
 use std::test::Fail;
@@ -25,6 +25,19 @@ fn submit(alloc: Global, site: usize, text: &str) -> Result<Event, Fail> {
         site,
         text: Text::from_str(alloc, text)?,
     })
+}
+
+/// The world after these events, where each found memory.
+fn ran(alloc: Global, sites: usize, events: &[Event]) -> Result<World, Fail> {
+    let world = run(alloc, sites, events)?;
+    for outcome in &world.outcomes {
+        if let Outcome::Refused(why) = outcome {
+            if why.kind == Kind::Memory {
+                Err(*why)?;
+            }
+        }
+    }
+    Ok(world)
 }
 
 fn assert_exports(
@@ -81,7 +94,7 @@ fn an_open_integer(rt: HostRuntime) -> Result<(), Fail> {
 #[test]
 fn an_opening_world(rt: HostRuntime) -> Result<(), Fail> {
     let alloc = rt.alloc();
-    let opening = run(alloc, 1, &[])?;
+    let opening = ran(alloc, 1, &[])?;
     assert_eq!(rt; opening.replicas.len(), 1);
     let text = exported(alloc, &opening.replicas[0])?;
     assert_eq!(rt; text.as_str(), "incomplete . not a single value\n");
@@ -153,7 +166,7 @@ fn three_sites(rt: HostRuntime) -> Result<(), Fail> {
     let texts = [(0, "a: int\n"), (1, "b: 1\n"), (2, "a: 4\n")];
     let deliveries = [(0, 2), (0, 1), (0, 1), (1, 2), (1, 0), (2, 0)];
     let events = events(alloc, &texts, &[0, 1, 2], &deliveries)?;
-    let after = run(alloc, 3, &events)?;
+    let after = ran(alloc, 3, &events)?;
     assert_eq!(rt; after.replicas.len(), 3);
     assert_eq!(rt; after.messages.len(), 3);
     assert!(rt; after.replicas[0].same(&after.replicas[1]));
@@ -171,7 +184,7 @@ fn a_message_is_of_its_moment(rt: HostRuntime) -> Result<(), Fail> {
         site: 1,
         message: 0,
     })?;
-    let after = run(alloc, 2, &events)?;
+    let after = ran(alloc, 2, &events)?;
     assert_eq!(rt; after.replicas.len(), 2);
     assert_exports(&rt, alloc, &after.replicas[0], "{\"a\":4}")?;
     assert_exports(
@@ -214,7 +227,71 @@ fn each_outcome(rt: HostRuntime) -> Result<(), Fail> {
         Outcome::Refused(not_state),
         Outcome::NoSuch,
     ];
-    let after = run(alloc, 1, &events)?;
+    let after = ran(alloc, 1, &events)?;
     assert_eq!(rt; after.outcomes.as_slice(), wanted.as_slice());
+    Ok(())
+}
+
+/// The state of `a: 1`.
+const ONE: [u8; 92] = [
+    0xFE, 0x43, 0x55, 0x45, 1, 0, 0, 0, 0, 0, 0, 0, 2, // two rows
+    0, 0, 2, 0, // the root
+    1, 0, 0, 1, 0x61, 2, 1, // a scalar at the label a
+    0, 0, 0, 0, 0, 0, 0, 0, 1, // a set of one piece
+    0, 0, 0, 0, 0, 0, 0, 1, 0, 0, 0, 0, 0, 0, 0, 1, // from 1 to 1
+    0, 0, 0, 0, 0, 0, 0, 0, 0, // no text
+    0, 0, 0, 0, 0, 0, 0, 0, 1, // the usual set is the same
+    0, 0, 0, 0, 0, 0, 0, 1, 0, 0, 0, 0, 0, 0, 0, 1, //
+    0, 0, 0, 0, 0, 0, 0, 0, 0,
+];
+
+/// The state of `a: 1` with its two rows in the other order.
+fn with_rows_swapped(alloc: Global) -> Result<Vec<u8>, Fail> {
+    let mut bytes = ONE[..13].to_vec(alloc)?;
+    bytes.extend_from_slice(&ONE[17..])?;
+    bytes.extend_from_slice(&ONE[13..17])?;
+    Ok(bytes)
+}
+
+/// The state of `a: 1` with a third row, of the label b, that refuses nothing.
+fn with_a_free_row(alloc: Global) -> Result<Vec<u8>, Fail> {
+    let mut bytes = ONE.to_vec(alloc)?;
+    bytes[12] = 3;
+    bytes.extend_from_slice(&[1, 0, 0, 1, 0x62, 0, 0])?;
+    Ok(bytes)
+}
+
+#[test]
+fn the_state_of_one_integer(rt: HostRuntime) -> Result<(), Fail> {
+    let alloc = rt.alloc();
+    let one = site(alloc, &["a: 1\n"])?;
+    assert_eq!(rt; one.state(alloc)?.as_slice(), ONE.as_slice());
+    let mut taken = Replica::new(alloc);
+    taken.take(&ONE)?;
+    assert!(rt; taken.same(&one));
+    Ok(())
+}
+
+#[test]
+fn bytes_of_no_table(rt: HostRuntime) -> Result<(), Fail> {
+    let alloc = rt.alloc();
+    let mut kept = site(alloc, &["a: int\n"])?;
+    let before = kept.copy(alloc)?;
+    let not_state = Refusal {
+        kind: Kind::NotState,
+        place: 0,
+    };
+    let version = Refusal {
+        kind: Kind::Version,
+        place: 0,
+    };
+    let swapped = with_rows_swapped(alloc)?;
+    let free_row = with_a_free_row(alloc)?;
+    let mut newer = ONE;
+    newer[4] = 9;
+    assert_eq!(rt; kept.take(&swapped), Err(not_state));
+    assert_eq!(rt; kept.take(&free_row), Err(not_state));
+    assert_eq!(rt; kept.take(&newer), Err(version));
+    assert!(rt; kept.same(&before));
     Ok(())
 }

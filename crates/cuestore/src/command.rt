@@ -1,3 +1,6 @@
+ghost use Rattle.std.specs.Prelude.{◌≡◌, length, IfOk, IfErr};
+ghost use Rattle.cuestore.specs.Stops.{IsWordFault};
+
 use crate::stop::Stop;
 use clap::Error;
 use clap::error::ErrorKind;
@@ -12,7 +15,10 @@ pub enum Command {
 }
 
 /// The command that the words behind the program's name ask for. All other words are a usage fault.
-pub fn command_of(alloc: Global, words: &[String]) -> Result<Command, Stop> {
+pub fn command_of(alloc: Global, words: &[String]) -> Result<Command, Stop>
+    ensures one { IfOk result (λ _. length words.now ≡ 1) }
+    ensures fault { IfErr result IsWordFault }
+{
     let mut all = Vec::with_capacity(alloc, 2)?;
     all.push("cuestore")?;
     for word in words {

@@ -1,3 +1,8 @@
+ghost use Rattle.std.specs.Prelude.{◌≡◌, ◌<◌, length, IsTrue, IfOk, IfErr, IfSome, OnOk, vec_len};
+ghost use Rattle.cuestore.specs.Stops.{IsReadFault};
+ghost use Rattle.std.specs.Io.KnownBytes.{IsAtEnd};
+ghost use Rattle.cuestore.specs.Reading.{HasRead};
+
 use crate::stop::Stop;
 use cue_replica::Kind;
 use std::alloc::Global;
@@ -10,18 +15,32 @@ const PIECE: usize = 65_536;
 const MAX_READS: usize = 65_536;
 
 /// Reads an input to its end.
-pub fn read_all<R: Read>(alloc: Global, input: &mut R) -> Result<Vec<u8>, Stop> {
+pub fn read_all<R: Read>(alloc: Global, input: &mut R) -> Result<Vec<u8>, Stop>
+    ensures all { IfOk result (λ all. IfSome (R.remaining input.old) (λ known. all.items ≡ known)) }
+    ensures fault { IfErr result IsReadFault }
+{
     let mut piece = vec![in alloc; 0u8; PIECE]?;
     let mut all = Vec::new(alloc);
     for _ in 0..MAX_READS {
-        let count = match input.read(&mut piece) {
-            Ok(count) => count,
-            Err(_) => return Err(Stop::Device),
-        };
-        if count == 0 {
+        if read_piece(input, &mut piece, &mut all)? {
             return Ok(all);
         }
-        all.extend_from_slice(&piece[..count])?;
     }
     Err(Stop::refused(Kind::TurnsUsed))
+}
+
+/// Reads once and keeps what was read. Answers whether that was the end.
+fn read_piece<R: Read>(input: &mut R, piece: &mut [u8], all: &mut Vec<u8>) -> Result<bool, Stop>
+    requires { 0 < length piece.old }
+    ensures read { OnOk result (HasRead (R.remaining input.old) (R.remaining input.new) all.old.items all.new.items) }
+    ensures end { IfOk result (λ ended. IsTrue ended → IsAtEnd (R.remaining input.new)) }
+    ensures more { IfOk result (λ ended. (IsTrue ended → ⊥) → vec_len all.old < vec_len all.new) }
+    ensures fault { IfErr result IsReadFault }
+{
+    let count = match input.read(piece) {
+        Ok(count) => count,
+        Err(_) => return Err(Stop::Device),
+    };
+    all.extend_from_slice(&piece[..count])?;
+    Ok(count == 0)
 }

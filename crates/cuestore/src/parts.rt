@@ -1,63 +1,47 @@
-ghost use Rattle.std.specs.Prelude.{◌<◌, ◌≤◌, length, IfSome};
+ghost use Rattle.std.specs.Prelude.{◌≡◌, ◌<◌, ◌≤◌, ◌==◌, ◌++◌, ◌↔◌, ◌∷◌, [], length, take, drop, IsTrue, MatchOption, IfSome};
+ghost use Rattle.std.specs.List.{position};
+ghost use Rattle.std.specs.Option.{option_map};
+ghost use Rattle.cuestore.specs.Parts.{lines_of, IsSeparator, IsFirstPart};
 
-/// The parts of an input that lines which are exactly `---` separate, in order: one more than there are such lines,
-/// empty ones too. A line ends with U+000A alone, and the last one may lack it.
-#[derive(Debug, Drop)]
-pub struct Parts<'a> {
-    rest: Option<&'a [u8]>,
-}
-
-impl<'a> Parts<'a> {
-    pub fn new(bytes: &'a [u8]) -> Parts<'a> {
-        Parts { rest: Some(bytes) }
-    }
-}
-
-impl<'a> Iterator for Parts<'a> {
-    type Item = &'a [u8];
-
-    ghost use Rattle.std.specs.Prelude.{◌+◌, length};
-    ghost use Rattle.std.specs.Option.{option_map_or};
-    ghost use Rattle.std.specs.Iterator.{at_most};
-
-    // Each part but the last takes a byte at least.
-    ghost remaining = { λ parts. at_most (option_map_or (λ bytes. length bytes.now + 1) parts.rest 0) };
-
-    fn next(&mut self) -> Option<&'a [u8]> {
-        let bytes = self.rest.take()?;
-        match separator(bytes) {
-            None => Some(bytes),
-            Some((from, to)) => {
-                self.rest = Some(&bytes[to..]);
-                Some(&bytes[..from])
-            }
-        }
-    }
-}
-
-/// Where the first separating line begins, and where what follows it does.
-fn separator(bytes: &[u8]) -> Option<(usize, usize)>
-    ensures { IfSome result (λ found. (found.0 < found.1) × (found.1 ≤ length bytes.now)) }
+/// Whether the line separates two parts: it is exactly `---`, with its line break or, at the end, without one.
+fn is_separator(line: &[u8]) -> bool
+    ensures { IsTrue result ↔ IsSeparator line.now }
 {
-    let mut from = 0;
-    while from < bytes.len() {
-        let to = line_end(bytes, from);
-        match &bytes[from..to] {
-            b"---" | b"---\n" => return Some((from, to)),
-            _ => from = to,
-        }
-    }
-    None
+    line == b"---\n".as_slice() || line == b"---".as_slice()
 }
 
-/// Where the line that begins here ends, behind its line break.
-fn line_end(bytes: &[u8], from: usize) -> usize
-    requires { from < length bytes.now }
-    ensures behind { from < result }
-    ensures within { result ≤ length bytes.now }
+/// Where the first line break stands.
+fn line_break(bytes: &[u8]) -> Option<usize>
+    ensures { result ≡ position (λ byte. byte == 10) bytes.now }
 {
-    match bytes[from..].iter().position(|byte| *byte == b'\n') {
-        Some(length) => from + length + 1,
-        None => bytes.len(),
+    bytes.iter().position(|byte| *byte == b'\n')
+}
+
+/// The first line, with its line break, and what follows it.
+fn first_line(bytes: &[u8]) -> (&[u8], &[u8])
+    requires { 0 < length bytes.now }
+    ensures some { 0 < length result.0.now }
+    ensures whole { bytes.now ≡ result.0.now ++ result.1.now }
+    ensures lines { lines_of bytes.now ≡ result.0.now ∷ lines_of result.1.now }
+{
+    match line_break(bytes) {
+        Some(length) => bytes.split_at(length + 1),
+        None => (bytes, &[]),
     }
+}
+
+/// The part in front of the first separating line, and what follows that line, where there is one.
+pub fn first_part(bytes: &[u8]) -> (&[u8], Option<&[u8]>)
+    ensures part { IsFirstPart bytes.now result.0.now (option_map (λ rest. rest.now) result.1) }
+    ensures less { IfSome result.1 (λ rest. length rest.now < length bytes.now) }
+{
+    let mut rest = bytes;
+    while !rest.is_empty() {
+        let (line, after) = first_line(rest);
+        if is_separator(line) {
+            return (&bytes[..bytes.len() - rest.len()], Some(after));
+        }
+        rest = after;
+    }
+    (bytes, None)
 }

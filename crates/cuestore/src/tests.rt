@@ -75,6 +75,70 @@ fn refuses_bytes(rt: HostRuntime) -> Result<(), Fail> {
     Ok(())
 }
 
+/// The state of `a: 1`.
+const ONE: [u8; 92] = [
+    0xFE, 0x43, 0x55, 0x45, 1, 0, 0, 0, 0, 0, 0, 0, 2, // two rows
+    0, 0, 2, 0, // the root
+    1, 0, 0, 1, 0x61, 2, 1, // a scalar at the label a
+    0, 0, 0, 0, 0, 0, 0, 0, 1, // a set of one piece
+    0, 0, 0, 0, 0, 0, 0, 1, 0, 0, 0, 0, 0, 0, 0, 1, // from 1 to 1
+    0, 0, 0, 0, 0, 0, 0, 0, 0, // no text
+    0, 0, 0, 0, 0, 0, 0, 0, 1, // the usual set is the same
+    0, 0, 0, 0, 0, 0, 0, 1, 0, 0, 0, 0, 0, 0, 0, 1, //
+    0, 0, 0, 0, 0, 0, 0, 0, 0,
+];
+
+/// The state of `a: 1` with its two rows in the other order.
+fn with_rows_swapped(alloc: Global) -> Result<Vec<u8>, Fail> {
+    let mut bytes = ONE[..13].to_vec(alloc)?;
+    bytes.extend_from_slice(&ONE[17..])?;
+    bytes.extend_from_slice(&ONE[13..17])?;
+    Ok(bytes)
+}
+
+/// The state of `a: 1` with a third row, of the label b, that refuses nothing.
+fn with_a_free_row(alloc: Global) -> Result<Vec<u8>, Fail> {
+    let mut bytes = ONE.to_vec(alloc)?;
+    bytes[12] = 3;
+    bytes.extend_from_slice(&[1, 0, 0, 1, 0x62, 0, 0])?;
+    Ok(bytes)
+}
+
+#[test]
+fn takes_a_state(rt: HostRuntime) -> Result<(), Fail> {
+    let run = ran(&rt, &["export"], ONE.as_slice())?;
+    assert_run(&rt, &run, 0, "{\"a\":1}\n", "");
+    let clash = b"\xFECUE\x01\0\0\0\0\0\0\0\x02\0\0\x02\0\x01\0\0\x01a\x02\x04\0\0\0\0\0\0";
+    let run = ran(&rt, &["export"], clash.as_slice())?;
+    assert_run(&rt, &run, 2, "conflict a no value\n", "");
+    Ok(())
+}
+
+#[test]
+fn refuses_a_cut_state(rt: HostRuntime) -> Result<(), Fail> {
+    for length in 1..ONE.len() {
+        let run = ran(&rt, &["export"], &ONE[..length])?;
+        assert_run(&rt, &run, 1, "refused 18 NotState at 0 in 1\n", "");
+    }
+    Ok(())
+}
+
+#[test]
+fn refuses_a_changed_state(rt: HostRuntime) -> Result<(), Fail> {
+    let alloc = rt.alloc();
+    let swapped = with_rows_swapped(alloc)?;
+    let run = ran(&rt, &["export"], &swapped)?;
+    assert_run(&rt, &run, 1, "refused 18 NotState at 0 in 1\n", "");
+    let free_row = with_a_free_row(alloc)?;
+    let run = ran(&rt, &["export"], &free_row)?;
+    assert_run(&rt, &run, 1, "refused 18 NotState at 0 in 1\n", "");
+    let mut newer = ONE;
+    newer[4] = 9;
+    let run = ran(&rt, &["export"], &newer)?;
+    assert_run(&rt, &run, 1, "refused 17 Version at 0 in 1\n", "");
+    Ok(())
+}
+
 fn assert_usage<H: AllocGlobal + Abort>(rt: &H, words: &[&str]) -> Result<(), Fail> {
     let run = ran(rt, words, b"a: 1\n".as_slice())?;
     assert_run(rt, &run, 1, "", "usage fault\n");
