@@ -1,4 +1,4 @@
--- A recogniser of the grammar: it takes the symbols of a text one by one, and keeps on a stack what has still to come.
+-- A recogniser of the grammar: it takes the tokens of a text one by one, and keeps on a stack what has still to come.
 -- It tells at which symbol tokens leave the grammar. It defines nothing and no public contract speaks of it: the grammar
 -- is that of `Grammar`, and two laws say that the recogniser takes just what the grammar spells (proofs/Stuck: where it is
 -- stuck no text begins so; proofs/Viable: what it takes begins a text).
@@ -15,11 +15,6 @@ use Rattle.cue_lattice.specs.Refusal.{memory}
 use Rattle.cue_syntax.specs.declared.tree.Label.{Label}
 use Rattle.cue_syntax.specs.Grammar.{Limit, unlimited, at_most, Within}
 use Rattle.cue_syntax.specs.Viability.{Stands, Next, IsForm, place_of}
-
--- what the recogniser sees: a token, or the end of the text
-pub data Symbol : Type 0 where
-  sign : TokenKind → Symbol
-  end : Symbol
 
 -- what has still to come
 pub data Goal : Type 0 where
