@@ -1,8 +1,7 @@
 #!/usr/bin/env bash
-# How long the lexer takes for texts of 256 KiB, 512 KiB and 1 MiB, in milliseconds for 200 runs, and how the time
-# grows for each byte from the first size to the last: 1.00 is linear. It is the processor's time in the program itself,
-# without the system's for giving and taking pages, so that it does not depend on what else runs. The script ends with 1
-# where a growth is above 1.20.
+# How long the lexer takes for texts of 256 KiB, 512 KiB and 1 MiB, in microseconds, and how the time grows for each byte
+# from the first size to the last: 1.00 is linear. The script ends with 1 where a growth is above 1.20. It wants a machine
+# that does nothing else.
 # Usage, at the top of the repository: bench/lex.sh [PROGRAM], where PROGRAM is what `rt run` makes of cue_vectors.
 set -eu
 program=${1:-crates/cue_vectors/out/cue_vectors}

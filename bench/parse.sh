@@ -1,8 +1,7 @@
 #!/usr/bin/env bash
-# How long the parser takes for the tokens of texts of 256 KiB, 512 KiB and 1 MiB, in milliseconds for twenty runs with
-# one run of the lexer and twenty walks over the tree, and how the time grows for each byte from the first size to the
-# last: 1.00 is linear. It is the processor's time in the program itself. The script ends with 1 where a growth is above
-# 1.20, or where the tree of a text is not parsed, walked and dropped.
+# How long the parser takes for the tokens of texts of 256 KiB, 512 KiB and 1 MiB, in microseconds, and how the time grows
+# for each byte from the first size to the last: 1.00 is linear. Each tree is walked and dropped too. The script ends with
+# 1 where a growth is above 1.20, or where a text is not parsed. It wants a machine that does nothing else.
 # Usage, at the top of the repository: bench/parse.sh [PROGRAM], where PROGRAM is what `rt run` makes of cue_vectors.
 set -eu
 program=${1:-crates/cue_vectors/out/cue_vectors}

@@ -8,7 +8,7 @@ ghost use Rattle.cue_syntax.specs.Recogniser.{Moves, Refused, row_goal, levels_o
 use crate::cursor::{Cursor, Operand, Parsed, Punctuation};
 use crate::label::{begins_label, label, labels, refuse_label};
 use crate::literal::{is_clause, literal};
-use crate::memory::{boxed, push};
+use crate::memory::{boxed, fitted, push};
 use crate::tree::{Declaration, Expr, Term};
 use cue_lattice::{Form, Refusal};
 use cue_lex::TokenKind;
@@ -168,7 +168,7 @@ fn structure<'a>(alloc: Global, cursor: Cursor<'a>, room: usize) -> Parsed<'a, E
     let (row, rest) = braces(alloc, open, inside)?;
     Ok((
         Expr::Struct {
-            declarations: row.items,
+            declarations: fitted(row.items),
             comma: row.comma,
         },
         rest,
@@ -200,7 +200,7 @@ fn close<'a>(alloc: Global, cursor: Cursor<'a>, room: usize) -> Parsed<'a, Expr>
     Ok((
         Expr::Close {
             from,
-            declarations: row.items,
+            declarations: fitted(row.items),
             inner_comma: row.comma,
             comma,
         },

@@ -20,3 +20,12 @@ pub fn boxed<T: Drop>(alloc: Global, value: T) -> Result<Box<T>, Refusal>
 {
     Ok(Box::new(alloc, value).map_err(Memory::from)?)
 }
+
+/// The values, with no room for more of them. Most structs have few declarations, which are large, and a text can have
+/// many structs.
+pub fn fitted<T: Drop>(mut values: Vec<T>) -> Vec<T>
+    ensures { result.items ≡ values.items }
+{
+    values.shrink_to_fit();
+    values
+}

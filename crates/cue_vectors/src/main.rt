@@ -16,11 +16,8 @@ use std::alloc::Global;
 use std::time::Instant;
 use std::{env, fs, io};
 
-/// How often a text is lexed for its time.
-const LEXER_RUNS: u32 = 200;
-
-/// How often the tokens of a text are parsed for its time.
-const PARSER_RUNS: u32 = 20;
+/// How often a text is read for its time.
+const RUNS: u32 = 20;
 
 /// The tree of a text, or why the lexer or the parser refuses it.
 fn read(alloc: Global, text: &str) -> Result<File, Refusal> {
@@ -55,7 +52,7 @@ fn disagreement(alloc: Global, line: &str) -> anyhow::Result<Option<String>> {
 /// Lexes a text some times over, and tells the least time.
 fn time_lexer(rt: &HostRuntime, text: &str) -> anyhow::Result<()> {
     let mut least = u128::MAX;
-    for _ in 0..LEXER_RUNS {
+    for _ in 0..RUNS {
         let start = Instant::now(rt)?;
         let _tokens = lex(rt.alloc(), text).ok();
         least = least.min(start.elapsed(rt)?.as_micros());
@@ -71,7 +68,7 @@ fn time_parser(rt: &HostRuntime, text: &str) -> anyhow::Result<()> {
         .context("a text that the lexer refuses")?;
     let mut least = u128::MAX;
     let mut size = 0;
-    for _ in 0..PARSER_RUNS {
+    for _ in 0..RUNS {
         let start = Instant::now(rt)?;
         let file = parse(rt.alloc(), &tokens, text.len())
             .ok()

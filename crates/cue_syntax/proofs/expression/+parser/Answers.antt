@@ -3,7 +3,7 @@ use Rattle.std.proofs.lemmas.List.{nil_from_length}
 use Rattle.cue_lex.specs.declared.token.TokenKind.TheVariants as kinds
 use Rattle.cue_syntax.specs.declared.tree.Expr.{Expr}
 use Rattle.cue_syntax.specs.declared.tree.Term.{Term}
-use Rattle.cue_syntax.specs.Syntax.{no_elements, parenthesis, conjunction, disjunction, elements, branches, entries, expression}
+use Rattle.cue_syntax.specs.Syntax.{no_elements, parenthesis, struct, close, conjunction, disjunction, elements, branches, entries, expression}
 use Rattle.cue_syntax.specs.Grammar.{IsExpression, IsEntry, AreElements, AreEntries, AreNested}
 use Rattle.cue_syntax.proofs.Reading.{reads_one_at}
 use Rattle.cue_syntax.proofs.Rows.{nested_pushed}
@@ -33,14 +33,21 @@ parenthesis-returns-clause-spelled t c =
 
 pub close-returns-clause-spelled : goal.close-returns-clause-spelled
 close-returns-clause-spelled t c =
-    subst (λ e. IsExpression c.args.room c.args.cursor.rest.now e c.in_ok-rest.rest.rest.now)
-    (sym (view-Close c.in_ok-from.from c.in_ok-row.row.items c.in_ok-row.row.comma c.trailing_comma-comma.result.0))
-    (close_is c.in_ok-inside.ensures.left c.in_ok-last.ensures.left c.in_ok-from.ensures.reads c.in_ok-open.ensures.reads c.in_ok-brace.ensures.reads c.in_ok-row.ensures.spelled c.trailing_comma-comma.ensures.reads c.in_ok-rest.ensures.reads)
+    let a = c.args.cursor.rest.now in
+    let b = c.in_ok-rest.rest.rest.now in
+    let inner = c.in_ok-row.row.comma in
+    let comma = c.trailing_comma-comma.result.0 in
+    subst (λ e. IsExpression c.args.room a e b) (sym (view-Close c.in_ok-from.from c.fitted.result inner comma))
+    (subst (λ z. IsExpression c.args.room a (close c.in_ok-from.from (entries z) inner comma) b) (sym c.fitted.ensures)
+    (close_is c.in_ok-inside.ensures.left c.in_ok-last.ensures.left c.in_ok-from.ensures.reads c.in_ok-open.ensures.reads c.in_ok-brace.ensures.reads c.in_ok-row.ensures.spelled c.trailing_comma-comma.ensures.reads c.in_ok-rest.ensures.reads))
 
 pub structure-returns-clause-spelled : goal.structure-returns-clause-spelled
 structure-returns-clause-spelled t c =
-    subst (λ e. IsExpression c.args.room c.args.cursor.rest.now e c.in_ok-row.rest.rest.now) (sym (view-Struct c.in_ok-row.row.items c.in_ok-row.row.comma))
-    (struct_is c.in_ok-inside.ensures.left c.in_ok-open.ensures.reads c.in_ok-row.ensures.spelled)
+    let a = c.args.cursor.rest.now in
+    let b = c.in_ok-row.rest.rest.now in
+    subst (λ e. IsExpression c.args.room a e b) (sym (view-Struct c.fitted.result c.in_ok-row.row.comma))
+    (subst (λ z. IsExpression c.args.room a (struct (entries z) c.in_ok-row.row.comma) b) (sym c.fitted.ensures)
+    (struct_is c.in_ok-inside.ensures.left c.in_ok-open.ensures.reads c.in_ok-row.ensures.spelled))
 
 pub conjunction-parts-init : goal.conjunction-parts-init
 conjunction-parts-init t c =
