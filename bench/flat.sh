@@ -1,7 +1,9 @@
 #!/usr/bin/env bash
 # Times the program on flat inputs, and prints how time grows where the input grows fourfold: one text of n lines, and
-# many texts of 30,000 lines with overlapping names. Each time is the processor's, the least of five runs.
+# many texts of 30,000 lines with overlapping names. Each time is the processor's, the least of five runs. The C library
+# asks for large pages, so that the machine's tables of pages are not measured.
 set -eu
+export GLIBC_TUNABLES=glibc.malloc.hugetlb=1
 top=$(cd "$(dirname "$0")/.." && pwd)
 "$top/bin/cuestore" export < /dev/null > /dev/null
 inputs=$(mktemp -d)
