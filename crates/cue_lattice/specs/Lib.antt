@@ -1,4 +1,5 @@
 pub mod OneOf
+pub mod Limits
 pub mod Refusal
 pub mod Pair
 pub mod Scalar

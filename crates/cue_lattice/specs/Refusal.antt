@@ -66,6 +66,10 @@ abbrev pub name_at : ℕ → Option (List ℕ)
 name_at zero = None
 name_at (suc n) = slice_get names n
 
--- want of memory, which is of no text
+-- the refusal for this reason, at this byte of the text
+abbrev pub refusal_at : Kind → ℕ → Refusal
+refusal_at kind place = record { kind = kind; place = place }
+
+-- out of memory, which is of no text
 abbrev pub memory : Refusal
 memory = record { kind = kinds.Memory; place = 0 }

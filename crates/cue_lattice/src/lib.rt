@@ -1,10 +1,11 @@
-//! The words that every layer of the configuration store speaks: what a refusal is, what may be unified, and what
-//! it means that something refuses a question.
+//! The words that every layer of the configuration store speaks: how large things may be, what a
+//! refusal is, what may be unified, and what it means that something refuses a question.
 //!
-//! The definitions of the whole store's meaning stand in `specs/`: scalars, documents, paths, questions, pieces and
-//! worlds.
+//! The definitions of the whole store's meaning stand in `specs/`: limits, scalars, documents,
+//! paths, questions, pieces and worlds.
 #![tactic(auto)]
 
+mod limits;
 mod memory;
 mod narrow;
 mod pair;
@@ -14,6 +15,7 @@ mod scalar;
 mod tests;
 mod text;
 
+pub use limits::{LENGTH_LIMIT, LEVEL_LIMIT, SIZE_LIMIT, STEP_LIMIT, TEXT_LIMIT, WORD_LIMIT};
 pub use memory::Memory;
 pub use narrow::{Narrow, meet_all};
 pub use pair::{Pair, Side};

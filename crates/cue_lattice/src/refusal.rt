@@ -1,6 +1,6 @@
 ghost use Rattle.std.specs.Prelude.{◌≡◌};
 ghost use Rattle.std.specs.Option.{option_map};
-ghost use Rattle.cue_lattice.specs.Refusal.{number_of, name_at};
+ghost use Rattle.cue_lattice.specs.Refusal.{number_of, name_at, refusal_at};
 
 use crate::Memory;
 use std::fmt;
@@ -18,9 +18,9 @@ pub enum Form {
     Embedding,
     /// A label in brackets or parentheses.
     DynamicLabel,
-    /// A type behind the `...` of a list.
+    /// A type after the `...` of a list.
     TypedRest,
-    /// A type behind the `...` of a struct.
+    /// A type after the `...` of a struct.
     TypedEllipsis,
     /// A bound whose argument is no literal of the kind that the profile has.
     Bound,
@@ -146,16 +146,25 @@ impl Kind {
     }
 }
 
+impl Refusal {
+    /// The refusal for this reason, at this byte of the text.
+    pub fn at(kind: Kind, place: usize) -> Refusal
+        ensures { result ≡ refusal_at kind place }
+    {
+        Refusal {
+            kind,
+            place: place as u64,
+        }
+    }
+}
+
 impl From<Memory> for Refusal {
     ghost use Rattle.cue_lattice.specs.Refusal.{memory};
 
     ghost from_gives = { λ _ refusal. refusal ≡ memory };
 
     fn from(_memory: Memory) -> Refusal {
-        Refusal {
-            kind: Kind::Memory,
-            place: 0,
-        }
+        Refusal::at(Kind::Memory, 0)
     }
 }
 
