@@ -1,0 +1,46 @@
+ghost use Rattle.std.specs.Prelude.{◌≡◌, ◌<◌, ◌++◌, OnOk, string_bytes};
+ghost use Rattle.std.specs.Char.{digit_char};
+ghost use Rattle.cue_row.specs.Quoted.{quoted, char_text};
+
+use cue_lattice::Memory;
+
+/// Writes a text between quotation marks, with the escapes of a CUE string literal.
+pub fn push_quoted(out: &mut String, text: &str) -> Result<(), Memory>
+    ensures { OnOk result (string_bytes out.new ≡ string_bytes out.old ++ quoted text.now) }
+{
+    out.push('"')?;
+    for character in text.chars() {
+        push_char(out, character)?;
+    }
+    out.push('"')?;
+    Ok(())
+}
+
+/// Writes a character as it stands between quotation marks.
+fn push_char(out: &mut String, character: char) -> Result<(), Memory>
+    ensures { OnOk result (string_bytes out.new ≡ string_bytes out.old ++ char_text character) }
+{
+    match character {
+        '"' => out.push_str("\\\"")?,
+        '\\' => out.push_str("\\\\")?,
+        '\n' => out.push_str("\\n")?,
+        '\r' => out.push_str("\\r")?,
+        '\t' => out.push_str("\\t")?,
+        '\0'..='\x1f' | '\x7f' => {
+            let code = character as u32;
+            out.push_str("\\u00")?;
+            out.push(hex_digit(code / 16))?;
+            out.push(hex_digit(code % 16))?;
+        }
+        _ => out.push(character)?,
+    }
+    Ok(())
+}
+
+/// The lower-case hexadecimal digit of a number.
+fn hex_digit(number: u32) -> char
+    requires { number < 16 }
+    ensures { result ≡ digit_char number }
+{
+    char::from_digit(number, 16).unwrap()
+}
