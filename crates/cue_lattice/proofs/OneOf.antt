@@ -1,6 +1,6 @@
 -- One of a list that is put together.
-use Rattle.std.proofs.Common.{◌≡◌, ◌↔◌, ◌⊎◌, inl, inr, ⊎_elim, ℕ, ◌+◌, ◌<◌, ◌≤◌, List, [], ◌∷◌, ◌++◌, length, take, get_or, subst, sym, ap, ◌∙◌}
-use Rattle.std.proofs.lemmas.List.{take_more, take_all}
+use Rattle.std.proofs.Common.{◌≡◌, ◌↔◌, ◌⊎◌, inl, inr, ⊎_elim, ℕ, List, [], ◌∷◌, ◌++◌, take, drop, subst, ap, ◌∙◌}
+use Rattle.std.proofs.lemmas.List.{take-append-drop}
 use Rattle.cue_lattice.specs.OneOf.{OneOf}
 
 -- one of the first or one of the others
@@ -20,15 +20,30 @@ one_of-push P xs x =
       ⊎_elim (λ g. both.1 (inl g)) (λ g. both.1 (inr (inl g))),
     )
 
--- one more element of a list that a loop goes over
-pub one_of-take_more :
-    {X : Type 0} (P : X → Type 0) (xs : List X) (i : ℕ) (x : X) → i < length xs → x ≡ get_or xs i x
-    → OneOf P (take (i + 1) xs) ↔ (OneOf P (take i xs) ⊎ P x)
-one_of-take_more {X} P xs i x within is =
-    let so : take (i + 1) xs ≡ take i xs ++ x ∷ [] = take_more xs i x within ∙ sym (ap (λ (y : X). take i xs ++ y ∷ []) is) in
-    subst (λ (l : List X). OneOf P l ↔ (OneOf P (take i xs) ⊎ P x)) (sym so) (one_of-push P (take i xs) x)
+-- one of the two parts of a list that is cut
+pub one_of-halves :
+    {X : Type 0} (P : X → Type 0) (xs : List X) (k : ℕ) (front back : List X) → front ≡ take k xs → back ≡ drop k xs
+    → OneOf P xs ↔ (OneOf P front ⊎ OneOf P back)
+one_of-halves {X} P xs k front back is_front is_back =
+    let whole : front ++ back ≡ xs = ap (λ (f : List X). f ++ back) is_front ∙ ap (λ (b : List X). take k xs ++ b) is_back ∙ take-append-drop k xs in
+    subst (λ (l : List X). OneOf P l ↔ (OneOf P front ⊎ OneOf P back)) whole (one_of-append P front back)
 
--- all of the list
-pub one_of-take_all : {X : Type 0} (P : X → Type 0) (xs : List X) (i : ℕ) → length xs ≤ i → OneOf P (take i xs) ↔ OneOf P xs
-one_of-take_all {X} P xs i h =
-    subst (λ (l : List X). OneOf P l ↔ OneOf P xs) (sym (take_all i xs h)) (λ p. p, λ p. p)
+-- a part that the other one leaves as it is stands for both
+pub one_of-as_it_was :
+    {X : Type 0} (P : X → Type 0) (xs front back : List X) (left right : X)
+    → OneOf P xs ↔ (OneOf P front ⊎ OneOf P back) → P left ↔ OneOf P front → P right ↔ OneOf P back → (P right → P left)
+    → P left ↔ OneOf P xs
+one_of-as_it_was P xs front back left right both is_left is_right kept = (
+  λ h. both.1 (inl (is_left.0 h)),
+  λ h. ⊎_elim (λ f. is_left.1 f) (λ b. kept (is_right.1 b)) (both.0 h),
+)
+
+-- what is met of both parts stands for both
+pub one_of-met :
+    {X : Type 0} (P : X → Type 0) (xs front back : List X) (left right : X) {M : Type 0}
+    → OneOf P xs ↔ (OneOf P front ⊎ OneOf P back) → P left ↔ OneOf P front → P right ↔ OneOf P back → M ↔ (P left ⊎ P right)
+    → M ↔ OneOf P xs
+one_of-met P xs front back left right both is_left is_right met = (
+  λ m. ⊎_elim (λ l. both.1 (inl (is_left.0 l))) (λ r. both.1 (inr (is_right.0 r))) (met.0 m),
+  λ h. ⊎_elim (λ f. met.1 (inl (is_left.1 f))) (λ b. met.1 (inr (is_right.1 b))) (both.0 h),
+)

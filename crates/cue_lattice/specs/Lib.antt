@@ -1,4 +1,5 @@
 pub mod OneOf
+pub mod Narrowed
 pub mod Limits
 pub mod Refusal
 pub mod Pair

@@ -17,7 +17,7 @@ mod text;
 
 pub use limits::{LENGTH_LIMIT, LEVEL_LIMIT, SIZE_LIMIT, STEP_LIMIT, TEXT_LIMIT, WORD_LIMIT};
 pub use memory::Memory;
-pub use narrow::{Narrow, meet_all};
+pub use narrow::{Narrow, Narrowed, meet_all};
 pub use pair::{Pair, Side};
 pub use refusal::{Form, Kind, Refusal};
 pub use scalar::Scalar;

@@ -1,13 +1,45 @@
 ghost use Rattle.std.specs.Prelude.{◌≡◌, ◌↔◌, ◌⊎◌, IsTrue, IfOk};
+ghost use Rattle.cue_lattice.specs.Narrowed.{IsNarrowedBy};
+ghost use Rattle.cue_lattice.specs.declared.narrow.Narrowed.TheVariants.{Unchanged};
 ghost use Rattle.cue_lattice.specs.OneOf.{OneOf};
 
 use crate::Memory;
 use std::alloc::Global;
 
+/// What a value becomes that takes another one over.
+#[derive(Debug, Drop)]
+pub enum Narrowed<N> {
+    /// It stays as it is: it refuses all that the other one refuses.
+    Unchanged,
+    /// It becomes this one, which refuses exactly what one of the two refuses.
+    To(N),
+}
+
+impl<N: Narrow> Narrowed<N> {
+    ghost use Rattle.cue_lattice.specs.Narrowed.{after};
+
+    /// The value after it took the other one over. It is copied where it stays as it is.
+    pub fn or_copy(self, alloc: Global, before: &N) -> Result<N, Memory>
+        ensures { IfOk result (λ value. value ≡ after before.now self) }
+    {
+        match self {
+            Narrowed::Unchanged => before.copy(alloc),
+            Narrowed::To(met) => Ok(met),
+        }
+    }
+
+    /// Whether the value stays as it is.
+    pub fn is_unchanged(&self) -> bool
+        ensures { IsTrue result ↔ (self.now ≡ Unchanged) }
+    {
+        matches!(self, Narrowed::Unchanged)
+    }
+}
+
 /// What may be unified. A value refuses some questions, and unification refuses what one side refuses.
 ///
 /// Values with equal answers are equal: there is one form for each answer.
-pub trait Narrow: Drop {
+pub trait Narrow: Sized + Drop {
     /// What a value may be asked. Clauses range over all of its values, and a number in it is a whole number of any
     /// size.
     type Question;
@@ -31,6 +63,24 @@ pub trait Narrow: Drop {
         ensures { IfOk result (λ met. (question : Self.Question) →
             refuses met question ↔ (refuses self.now question ⊎ refuses other.now question)) };
 
+    /// The unification with a value that is not needed any more: what this one becomes. A side that the
+    /// other leaves as it is, is kept or moved, and not made anew.
+    fn narrowed_by(&self, alloc: Global, other: Self) -> Result<Narrowed<Self>, Memory>
+        ensures { IfOk result (IsNarrowedBy refuses self.now other) }
+    {
+        if other.is_free() {
+            return Ok(Narrowed::Unchanged);
+        }
+        if self.is_free() {
+            return Ok(Narrowed::To(other));
+        }
+        let met = self.meet(alloc, &other)?;
+        if met.same(self) {
+            return Ok(Narrowed::Unchanged);
+        }
+        Ok(Narrowed::To(met))
+    }
+
     /// Whether both are one value.
     fn same(&self, other: &Self) -> bool
         ensures { IsTrue result ↔ (self.now ≡ other.now) };
@@ -49,13 +99,24 @@ pub trait Narrow: Drop {
 }
 
 /// The unification of a list: refuses exactly what one of its values refuses. Of an empty list it is free.
+///
+/// The list is halved, so that many values are unified in balance.
 pub fn meet_all<N: Narrow>(alloc: Global, values: &[N]) -> Result<N, Memory>
     ensures { IfOk result (λ met. (question : N.Question) →
         N.refuses met question ↔ OneOf (λ value. N.refuses value question) values.now) }
 {
-    let mut met = N::free(alloc)?;
-    for value in values {
-        met = met.meet(alloc, value)?;
+    let count = values.len();
+    if count == 0 {
+        return N::free(alloc);
     }
-    Ok(met)
+    if count == 1 {
+        return values[0].copy(alloc);
+    }
+    let (front, back) = values.split_at(count / 2);
+    let left = meet_all(alloc, front)?;
+    let right = meet_all(alloc, back)?;
+    match left.narrowed_by(alloc, right)? {
+        Narrowed::Unchanged => Ok(left),
+        Narrowed::To(met) => Ok(met),
+    }
 }

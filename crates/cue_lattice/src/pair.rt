@@ -1,6 +1,6 @@
 ghost use Rattle.std.specs.Prelude.{◌≡◌, ◌↔◌, ◌⊎◌, IsTrue, IfOk};
 
-use crate::{Memory, Narrow};
+use crate::{Memory, Narrow, Narrowed};
 use std::alloc::Global;
 
 /// A question to one side of a pair.
@@ -42,6 +42,19 @@ impl<A: Narrow, B: Narrow> Narrow for Pair<A, B> {
             left: self.left.meet(alloc, &other.left)?,
             right: self.right.meet(alloc, &other.right)?,
         })
+    }
+
+    fn narrowed_by(&self, alloc: Global, other: Self) -> Result<Narrowed<Self>, Memory> {
+        let Pair { left, right } = other;
+        let left = self.left.narrowed_by(alloc, left)?;
+        let right = self.right.narrowed_by(alloc, right)?;
+        if left.is_unchanged() && right.is_unchanged() {
+            return Ok(Narrowed::Unchanged);
+        }
+        Ok(Narrowed::To(Pair {
+            left: left.or_copy(alloc, &self.left)?,
+            right: right.or_copy(alloc, &self.right)?,
+        }))
     }
 
     fn same(&self, other: &Self) -> bool {
