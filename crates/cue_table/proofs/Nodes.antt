@@ -1,0 +1,107 @@
+-- What the fields of a node say of its tree.
+use Rattle.std.proofs.Common.{◌≡◌, ℕ, zero, suc, ◌<◌, ◌≤◌, Bool, true, false, nat_eq, List, [], ◌∷◌, length, get_or, drop, Option, Some, None, refl, sym, ap, subst, ◌∙◌, arith}
+use Rattle.std.specs.List.Sorted.{IsPartitionedBy, IsPartitionPoint}
+use Rattle.std.specs.declared.cmp.Ordering.TheVariants.{Less}
+use Rattle.cue_lattice.specs.Path.{label, index, step_cmp}
+use Rattle.cue_table.specs.declared.step.Step.{Step}
+use Rattle.cue_table.specs.declared.step.Step.TheVariants.{Label, Index}
+use Rattle.cue_table.specs.Steps.{step_of}
+use Rattle.cue_table.specs.Tree.{Tree, node, Children, none, child, taken, labels_of, items_of}
+use Rattle.cue_table.specs.Form.{IsBelowAll, Rise, StartsAtIndex, IsTree, AreBranches}
+use Rattle.cue_table.specs.View.{branches, tree_of}
+use Rattle.cue_table.specs.declared.node.Child.{Child}
+use Rattle.cue_table.specs.declared.node.Node.TheInside.{Inside}
+use Rattle.cue_table.proofs.Finding.{at_or_below}
+
+-- the branches of a tree in form are in form
+pub branches_form : {R Q : Type 0} (P : R → Type 0) (a : Inside R Q) (tree : Tree R) → tree_of a ≡ tree → IsTree P tree → AreBranches P (branches a.children.items)
+branches_form P a tree e h = let here : IsTree P (tree_of a) = subst (IsTree P) (sym e) h in here.1
+
+-- a node with branches is not empty
+pub taken_below :
+    {R Q : Type 0} (row : Option R) (cs : List (Child R Q)) (len : ℕ) → len ≡ length cs → false ≡ nat_eq len 0
+    → taken (node row (branches cs)) ≡ Some (node row (branches cs))
+taken_below (Some row) cs len e h = refl
+taken_below None (c ∷ cs) len e h = refl
+taken_below None [] len e h = let no : nat_eq 0 0 ≡ false = subst (λ n. nat_eq n 0 ≡ false) e (sym h) in cc
+
+-- after an index come indexes
+starts_after : {R : Type 0} (n : ℕ) (children : Children R) → IsBelowAll (index n) children → StartsAtIndex children
+starts_after n none h = tt
+starts_after n (child (label text) tree children) h = let e = h.0 in cc
+starts_after n (child (index m) tree children) h = tt
+
+-- no label stands after an index
+no_labels : {R : Type 0} (n : ℕ) (children : Children R) → IsBelowAll (index n) children → labels_of children ≡ []
+no_labels n none h = refl
+no_labels n (child (label text) tree children) h = let e = h.0 in cc
+no_labels n (child (index m) tree children) h = no_labels n children h.1
+
+-- the step is a label
+abbrev pub is_label : Step → Bool
+is_label (Label text) = true
+is_label (Index n) = false
+
+label_below : (x y : Step) → step_cmp (step_of x) (step_of y) ≡ Less → is_label y ≡ true → is_label x ≡ true
+label_below (Label l) y h e = refl
+label_below (Index m) (Index n) h e = e
+label_below (Index m) (Label l) h e = cc
+
+module _ {R Q : Type 0} where
+  -- where an index stands first, there is no label
+  pub no_labels_left :
+      (P : R → Type 0) (all rest : List (Child R Q)) (c : Child R Q) (n : ℕ) (labels : List (List ℕ × Tree R))
+      → all ≡ c ∷ rest → c.step ≡ Index n → labels_of (branches all) ≡ labels → AreBranches P (branches all) → labels ≡ []
+  no_labels_left P all rest c n labels e i v h =
+      let form : AreBranches P (branches (c ∷ rest)) = subst (λ cs. AreBranches P (branches cs)) e h in
+      let after : IsBelowAll (index n) (branches rest) = subst (λ s. IsBelowAll (step_of s) (branches rest)) i form.0 in
+      sym v ∙ ap (λ cs. labels_of (branches cs)) e ∙ ap (λ s. labels_of (child (step_of s) c.node (branches rest))) i
+      ∙ no_labels n (branches rest) after
+
+  -- labels come first
+  pub labels_first : (cs : List (Child R Q)) → Rise (branches cs) → IsPartitionedBy (λ c. is_label c.step) cs
+  labels_first [] h i j d le lt e = absurd (omega arith)
+  labels_first (c ∷ cs) h zero zero d le lt e = e
+  labels_first (c ∷ cs) h zero (suc j) d le lt e =
+      label_below c.step (get_or cs j d).step (at_or_below (step_of c.step) cs j d h.0 (omega arith)) e
+  labels_first (c ∷ cs) h (suc i) zero d le lt e = absurd (omega arith)
+  labels_first (c ∷ cs) h (suc i) (suc j) d le lt e = labels_first cs h.1 i j d (omega arith) (omega arith) e
+
+  -- the branches from a place on are in form
+  pub form_from : (P : R → Type 0) (cs : List (Child R Q)) (k : ℕ) → AreBranches P (branches cs) → AreBranches P (branches (drop k cs))
+  form_from P cs zero h = h
+  form_from P [] (suc k) h = tt
+  form_from P (c ∷ cs) (suc k) h = form_from P cs k h.3
+
+  items_skip : (c : Child R Q) (cs : List (Child R Q)) → is_label c.step ≡ true → items_of (branches (c ∷ cs)) ≡ items_of (branches cs)
+  items_skip c cs e = by c.step e
+    where
+      by : (s : Step) → is_label s ≡ true → items_of (child (step_of s) c.node (branches cs)) ≡ items_of (branches cs)
+      by (Label text) e = refl
+      by (Index n) e = cc
+
+  -- what stands after the labels is all items
+  pub items_from :
+      (cs : List (Child R Q)) (k : ℕ) → IsPartitionPoint (λ c. is_label c.step ≡ true) (λ c. is_label c.step ≡ false) cs k
+      → items_of (branches (drop k cs)) ≡ items_of (branches cs)
+  items_from cs zero p = refl
+  items_from [] (suc k) p = refl
+  items_from (c ∷ cs) (suc k) p =
+      items_from cs k (λ i d low lt. p.0 (suc i) d (omega arith) (omega arith), λ i d low lt. p.1 (suc i) d (omega arith) (omega arith))
+      ∙ sym (items_skip c cs (p.0 0 c (omega arith) (omega arith)))
+
+  starts_at : (c : Child R Q) (cs : List (Child R Q)) → is_label c.step ≡ false → StartsAtIndex (branches (c ∷ cs))
+  starts_at c cs e = by c.step e
+    where
+      by : (s : Step) → is_label s ≡ false → StartsAtIndex (child (step_of s) c.node (branches cs))
+      by (Label text) e = cc
+      by (Index n) e = tt
+
+  pub starts_from :
+      (cs : List (Child R Q)) (k : ℕ) → IsPartitionPoint (λ c. is_label c.step ≡ true) (λ c. is_label c.step ≡ false) cs k
+      → StartsAtIndex (branches (drop k cs))
+  starts_from [] zero p = tt
+  starts_from (c ∷ cs) zero p = starts_at c cs (p.1 0 c (omega arith) (omega arith))
+  starts_from [] (suc k) p = tt
+  starts_from (c ∷ cs) (suc k) p =
+      starts_from cs k (λ i d low lt. p.0 (suc i) d (omega arith) (omega arith), λ i d low lt. p.1 (suc i) d (omega arith) (omega arith))

@@ -1,0 +1,9 @@
+use Rattle.cue_table.specs.Form.{IsKept, AreBranches}
+use Rattle.cue_table.specs.View.{branches}
+use Rattle.cue_table.proofs.Nodes.{branches_form}
+use Rattle.cue_table.proofs.branch.Branch.children.Goals as goal
+
+pub new-requires : goal.new-requires
+new-requires g c =
+    let P = IsKept g.R.Narrow.refuses g.R.Narrow.is_value in
+    rw c.deref.ensures.value (branches_form P c.node.inside c.self.inside.node.now c.node.view_is c.self.invariant)

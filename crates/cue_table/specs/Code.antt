@@ -1,0 +1,86 @@
+-- Trees as stored values: each has a value of its own.
+use Rattle.std.specs.Prelude.{◌≡◌, ℕ, List, [], ◌∷◌, Option, Some, None, refl}
+use Rattle.std.proofs.Common.{ap, sym}
+use Rattle.std.specs.Coded.{Coded, coded_ℕ, coded_list, coded×}
+use base.Stored.{Gv, gnil, gnum, gcons, num}
+use Rattle.cue_lattice.specs.Path.{Step, label, index}
+use Rattle.cue_table.specs.Tree.{Tree, node, Children, none, child}
+
+abbrev head : Gv → Gv
+head gnil = gnil
+head (gnum n) = gnil
+head (gcons a b) = a
+
+abbrev tail : Gv → Gv
+tail gnil = gnil
+tail (gnum n) = gnil
+tail (gcons a b) = b
+
+abbrev pub texts : Coded (List ℕ)
+texts = coded_list coded_ℕ
+
+pub step_gv : Step → Gv
+step_gv (label text) = gcons (gnum 0) (texts.code text)
+step_gv (index number) = gcons (gnum 1) (gnum number)
+
+pub step_inj : (s t : Step) → step_gv s ≡ step_gv t → s ≡ t
+unfolding step_gv
+step_inj (label s) (label t) e = ap label (texts.inj s t (ap tail e))
+step_inj (index m) (index n) e = ap (λ g. index (num (tail g))) e
+step_inj (label s) (index n) e = cc
+step_inj (index m) (label t) e = cc
+
+abbrev pub coded_step : Coded Step
+coded_step = record { code = step_gv; inj = step_inj }
+
+row_gv : {R : Type 0} → (R → Gv) → Option R → Gv
+row_gv c None = gnil
+row_gv c (Some row) = gcons gnil (c row)
+
+row_inj : {R : Type 0} (c : Coded R) (q r : Option R) → row_gv c.code q ≡ row_gv c.code r → q ≡ r
+unfolding row_gv
+row_inj c None None e = refl
+row_inj c (Some q) (Some r) e = ap Some (c.inj q r (ap tail e))
+row_inj c None (Some r) e = cc
+row_inj c (Some q) None e = cc
+
+mutual
+  pub tree_gv : {R : Type 0} → (R → Gv) → Tree R → Gv
+  tree_gv c (node row children) = gcons (row_gv c row) (children_gv c children)
+
+  pub children_gv : {R : Type 0} → (R → Gv) → Children R → Gv
+  children_gv c none = gnil
+  children_gv c (child step tree children) = gcons (step_gv step) (gcons (tree_gv c tree) (children_gv c children))
+
+mutual
+  unfolding tree_gv children_gv
+
+  pub tree_inj : {R : Type 0} (c : Coded R) (s t : Tree R) → tree_gv c.code s ≡ tree_gv c.code t → s ≡ t
+  tree_inj c (node q cs) (node r ds) e =
+      let row = row_inj c q r (ap head e) in
+      let children = children_inj c cs ds (ap tail e) in
+      λ i. node (row i) (children i)
+
+  pub children_inj : {R : Type 0} (c : Coded R) (cs ds : Children R) → children_gv c.code cs ≡ children_gv c.code ds → cs ≡ ds
+  children_inj c none none e = refl
+  children_inj c (child s t cs) (child u v ds) e =
+      let step = step_inj s u (ap head e) in
+      let tree = tree_inj c t v (ap (λ g. head (tail g)) e) in
+      let children = children_inj c cs ds (ap (λ g. tail (tail g)) e) in
+      λ i. child (step i) (tree i) (children i)
+  children_inj c none (child u v ds) e = cc
+  children_inj c (child s t cs) none e = cc
+
+-- the code of trees, from that of rows
+abbrev pub tree_code : {R : Type 0} → Coded R → Coded (Tree R)
+tree_code c = record { code = tree_gv c.code; inj = tree_inj c }
+
+-- the codes of branches with their steps, labels or indexes
+abbrev pub children_code : {R : Type 0} → Coded R → Coded (List (Step × Tree R))
+children_code c = coded_list (coded× coded_step (tree_code c))
+
+abbrev pub labels_code : {R : Type 0} → Coded R → Coded (List (List ℕ × Tree R))
+labels_code c = coded_list (coded× texts (tree_code c))
+
+abbrev pub items_code : {R : Type 0} → Coded R → Coded (List (ℕ × Tree R))
+items_code c = coded_list (coded× coded_ℕ (tree_code c))

@@ -1,0 +1,9 @@
+pub mod Code
+pub mod Falls
+pub mod Form
+pub mod Place
+pub mod Refuses
+pub mod Size
+pub mod Steps
+pub mod Tree
+pub mod View

@@ -1,0 +1,171 @@
+//! The iterators over the branches of a place.
+ghost use Rattle.std.specs.Prelude.{◌≡◌};
+ghost use Rattle.std.specs.Iterator.{YieldsFirstBy, item_count};
+ghost use Rattle.cue_table.specs.Tree.{children_of, labels_of, items_of};
+ghost use Rattle.cue_table.specs.Form.{AreBranches, IsKept};
+ghost use Rattle.cue_table.specs.Steps.{step_of};
+ghost use Rattle.cue_table.specs.View.{branches};
+
+use crate::node::Child;
+use crate::{Branch, Step};
+use cue_lattice::Narrow;
+use std::marker::Model;
+
+/// The branches below a place, each with its step, in the order of the steps. Contracts see the list of those that are
+/// left.
+#[derive(Drop)]
+pub struct Children<'a, R: Narrow> {
+    rest: &'a [Child<R>],
+}
+
+impl<'a, R: Narrow> Model for Children<'a, R> {
+    ghost use Rattle.std.specs.Prelude.{List};
+    ghost use Rattle.cue_lattice.specs.Path.{Step};
+    ghost use Rattle.cue_table.specs.Tree.{Tree};
+    ghost use Rattle.cue_table.specs.Code.{children_code};
+
+    ghost Value = { List (Step × Tree R) };
+
+    ghost coded = { children_code R.code };
+
+    ghost use Rattle.cue_table.specs.Tree.{children_of};
+    ghost use Rattle.cue_table.specs.View.{branches};
+    ghost use Rattle.cue_table.specs.Form.{AreBranches, IsKept};
+
+    ghost view = { λ it. children_of (branches it.rest.now) };
+
+    ghost invariant = { λ it. AreBranches (IsKept R.refuses R.is_value) (branches it.rest.now) };
+}
+
+impl<'a, R: Narrow> Children<'a, R> {
+    pub(crate) fn new(rest: &'a [Child<R>]) -> Children<'a, R>
+        requires { AreBranches (IsKept R.refuses R.is_value) (branches rest.now) }
+        ensures { result ≡ children_of (branches rest.now) }
+    {
+        Children { rest }
+    }
+}
+
+impl<'a, R: Narrow> Iterator for Children<'a, R> {
+    type Item = (&'a Step, Branch<'a, R>);
+
+    ghost next_gives = { YieldsFirstBy (λ item. (step_of item.0.now, item.1)) (λ rest. rest) };
+
+    ghost remaining = { item_count (λ rest. rest) };
+
+    fn next(&mut self) -> Option<(&'a Step, Branch<'a, R>)> {
+        let (child, rest) = self.rest.split_first()?;
+        self.rest = rest;
+        Some((&child.step, Branch::new(&child.node)))
+    }
+}
+
+/// The branches at the labels below a place, in the order of the labels. Contracts see the list of those that are left.
+#[derive(Drop)]
+pub struct Labels<'a, R: Narrow> {
+    rest: &'a [Child<R>],
+}
+
+impl<'a, R: Narrow> Model for Labels<'a, R> {
+    ghost use Rattle.std.specs.Prelude.{List, ℕ};
+    ghost use Rattle.cue_table.specs.Tree.{Tree};
+    ghost use Rattle.cue_table.specs.Code.{labels_code};
+
+    ghost Value = { List (List ℕ × Tree R) };
+
+    ghost coded = { labels_code R.code };
+
+    ghost use Rattle.cue_table.specs.Tree.{labels_of};
+    ghost use Rattle.cue_table.specs.View.{branches};
+    ghost use Rattle.cue_table.specs.Form.{AreBranches, IsKept};
+
+    ghost view = { λ it. labels_of (branches it.rest.now) };
+
+    ghost invariant = { λ it. AreBranches (IsKept R.refuses R.is_value) (branches it.rest.now) };
+}
+
+impl<'a, R: Narrow> Labels<'a, R> {
+    pub(crate) fn new(rest: &'a [Child<R>]) -> Labels<'a, R>
+        requires { AreBranches (IsKept R.refuses R.is_value) (branches rest.now) }
+        ensures { result ≡ labels_of (branches rest.now) }
+    {
+        Labels { rest }
+    }
+}
+
+impl<'a, R: Narrow> Iterator for Labels<'a, R> {
+    type Item = (&'a str, Branch<'a, R>);
+
+    ghost next_gives = { YieldsFirstBy (λ item. (item.0.now, item.1)) (λ rest. rest) };
+
+    ghost remaining = { item_count (λ rest. rest) };
+
+    fn next(&mut self) -> Option<(&'a str, Branch<'a, R>)> {
+        let (child, rest) = self.rest.split_first()?;
+        match &child.step {
+            Step::Label(text) => {
+                self.rest = rest;
+                Some((text.as_str(), Branch::new(&child.node)))
+            }
+            // No label stands after an index.
+            Step::Index(_) => None,
+        }
+    }
+}
+
+/// The branches at the indexes below a place, in the order of the indexes. Contracts see the list of those that are
+/// left.
+#[derive(Drop)]
+pub struct Items<'a, R: Narrow> {
+    rest: &'a [Child<R>],
+}
+
+impl<'a, R: Narrow> Model for Items<'a, R> {
+    ghost use Rattle.std.specs.Prelude.{List, ℕ};
+    ghost use Rattle.cue_table.specs.Tree.{Tree};
+    ghost use Rattle.cue_table.specs.Code.{items_code};
+
+    ghost Value = { List (ℕ × Tree R) };
+
+    ghost coded = { items_code R.code };
+
+    ghost use Rattle.cue_table.specs.Tree.{items_of};
+    ghost use Rattle.cue_table.specs.View.{branches};
+    ghost use Rattle.cue_table.specs.Form.{AreBranches, IsKept, StartsAtIndex};
+
+    ghost view = { λ it. items_of (branches it.rest.now) };
+
+    ghost invariant = { λ it. AreBranches (IsKept R.refuses R.is_value) (branches it.rest.now)
+        × StartsAtIndex (branches it.rest.now) };
+}
+
+impl<'a, R: Narrow> Items<'a, R> {
+    pub(crate) fn new(children: &'a [Child<R>]) -> Items<'a, R>
+        requires { AreBranches (IsKept R.refuses R.is_value) (branches children.now) }
+        ensures { result ≡ items_of (branches children.now) }
+    {
+        let labels = children.partition_point(|child| matches!(&child.step, Step::Label(_)));
+        let (_, rest) = children.split_at(labels);
+        Items { rest }
+    }
+}
+
+impl<'a, R: Narrow> Iterator for Items<'a, R> {
+    type Item = (u32, Branch<'a, R>);
+
+    ghost next_gives = { YieldsFirstBy (λ item. item) (λ rest. rest) };
+
+    ghost remaining = { item_count (λ rest. rest) };
+
+    fn next(&mut self) -> Option<(u32, Branch<'a, R>)> {
+        let (child, rest) = self.rest.split_first()?;
+        match &child.step {
+            // Only indexes are left.
+            Step::Label(_) => None,
+            Step::Index(number) => {
+                self.rest = rest;
+                Some((*number, Branch::new(&child.node)))
+            }
+        }
+    }
+}

@@ -1,0 +1,106 @@
+ghost use Rattle.std.specs.Prelude.{◌≡◌, map, IfSome, MatchResult, None};
+ghost use Rattle.std.specs.Option.{option_map};
+ghost use Rattle.cue_table.specs.Tree.{empty, below, taken, find, branch_at};
+ghost use Rattle.cue_table.specs.Form.{IsTable, Rise};
+ghost use Rattle.cue_table.specs.Steps.{step_of};
+ghost use Rattle.cue_table.specs.View.{branches};
+ghost use Rattle.cue_table.specs.Place.{IsPlace};
+
+use crate::Step;
+use cue_lattice::Narrow;
+use std::alloc::Global;
+use std::marker::Model;
+
+/// A place of a table, with all that is known there and below. Contracts see it as a tree.
+#[derive(Drop)]
+#[cycle(node)]
+pub struct Node<R: Narrow> {
+    /// What is known at the place itself, unless that is nothing.
+    pub(crate) row: Option<R>,
+    /// The branches below, each at its step, in the order of the steps.
+    pub(crate) children: Vec<Child<R>>,
+}
+
+/// A branch at its step.
+#[derive(Drop)]
+#[cycle(node)]
+pub(crate) struct Child<R: Narrow> {
+    pub(crate) step: Step,
+    pub(crate) node: Node<R>,
+}
+
+impl<R: Narrow> Model for Node<R> {
+    ghost use Rattle.cue_table.specs.Tree.{Tree};
+    ghost use Rattle.cue_table.specs.Code.{tree_code};
+
+    ghost Value = { Tree R };
+
+    ghost coded = { tree_code R.code };
+
+    ghost use Rattle.cue_table.specs.View.{tree_of};
+    ghost use Rattle.cue_table.specs.Size.{tree_size};
+
+    ghost view = { tree_of };
+
+    ghost size = { tree_size };
+
+    ghost use Rattle.cue_table.specs.Falls.{branches_fall};
+
+    ghost size_decreases = { λ a h. branches_fall a.children.items };
+}
+
+impl<R: Narrow> Node<R> {
+    /// The place where nothing is known.
+    pub(crate) fn new(alloc: Global) -> Node<R>
+        ensures { result ≡ empty }
+    {
+        Node {
+            row: None,
+            children: Vec::new(alloc),
+        }
+    }
+
+    /// The place itself, where a row stands here or below.
+    pub(crate) fn taken(&self) -> Option<&Node<R>>
+        ensures { option_map (λ node. node.now) result ≡ taken self.now }
+    {
+        match &self.row {
+            Some(_) => Some(self),
+            None if self.children.is_empty() => None,
+            None => Some(self),
+        }
+    }
+
+    /// The branch at a step.
+    pub(crate) fn find(&self, step: &Step) -> Option<&Node<R>>
+        requires { Rise (below self.now) }
+        ensures { option_map (λ node. node.now) result ≡ find (step_of step.now) (below self.now) }
+    {
+        match place(&self.children, step) {
+            Ok(at) => Some(&self.children[at].node),
+            Err(_) => None,
+        }
+    }
+
+    /// The branch at a path.
+    pub(crate) fn walk(&self, steps: &[Step]) -> Option<&Node<R>>
+        requires { IsTable R.refuses R.is_value self.now }
+        ensures found { option_map (λ node. node.now) result ≡ branch_at self.now (map step_of steps.now) }
+        ensures form { IfSome result (λ node. IsTable R.refuses R.is_value node.now) }
+    {
+        let mut node = self;
+        for step in steps {
+            node = node.find(step)?;
+        }
+        Some(node)
+    }
+}
+
+/// Where the branch at a step is among the branches, or where it would stand.
+pub(crate) fn place<R: Narrow>(children: &[Child<R>], step: &Step) -> Result<usize, usize>
+    requires { Rise (branches children.now) }
+    ensures { MatchResult result (IsPlace children.now (step_of step.now))
+        (λ _. find (step_of step.now) (branches children.now) ≡ None) }
+{
+    children.binary_search_by(|child| child.step.compare(step))
+}
