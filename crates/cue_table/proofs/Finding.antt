@@ -8,8 +8,8 @@ use Rattle.std.specs.declared.cmp.Ordering.{Ordering}
 use Rattle.std.specs.declared.cmp.Ordering.TheVariants.{Less, Equal, Greater}
 use Rattle.std.specs.List.Sorted.{IsNonDecreasingBy, IsBinarySearchResult, IsSearchInRange}
 use Rattle.cue_lattice.specs.Path.{Step, step_cmp}
-use Rattle.cue_table.specs.Steps.{step_of}
-use Rattle.cue_table.specs.declared.step.Step as steps
+use Rattle.cue_row.specs.Steps.{step_of}
+use Rattle.cue_row.specs.declared.step.Step as steps
 use Rattle.cue_table.specs.Tree.{Tree, node, Children, none, child, below, find, if_equal, branch_at}
 use Rattle.cue_table.specs.Form.{IsBelowAll, Rise, IsTaken, IsTree, AreBranches}
 use Rattle.cue_table.specs.Place.{IsPlace}
@@ -76,7 +76,7 @@ module _ {R Q : Type 0} where
       ap (λ o. if_equal o c.node (find step (branches cs))) (subst (λ s. step_cmp step s ≡ Equal) e (same_step step))
   find_at (c ∷ cs) step (suc k) d a l e =
       let low : step_cmp (step_of c.step) step ≡ Less =
-          subst (λ s. step_cmp (step_of c.step) s ≡ Less) (sym e) (at_or_below (step_of c.step) cs k d a.0 (omega arith)) in
+      subst (λ s. step_cmp (step_of c.step) s ≡ Less) (sym e) (at_or_below (step_of c.step) cs k d a.0 (omega arith)) in
       ap (λ o. if_equal o c.node (find step (branches cs))) (reverse_cmp (step_of c.step) step Less low)
       ∙ find_at cs step k d a.1 (omega arith) e
 
@@ -131,10 +131,9 @@ pub walk_on :
 walk_on P tree next path k step found h l i e r =
     let cut : drop k path ≡ get_or path k step ∷ drop (suc k) path = drop-cons path k step l in
     let split : map step_of (drop k path) ≡ step_of step ∷ map step_of (drop (suc k) path) =
-        ap (map step_of) cut ∙ ap (λ s. step_of s ∷ map step_of (drop (suc k) path)) (sym i) in
+    ap (map step_of) cut ∙ ap (λ s. step_of s ∷ map step_of (drop (suc k) path)) (sym i) in
     let here : branch_at tree (step_of step ∷ map step_of (drop (suc k) path)) ≡ found =
-        sym (ap (branch_at tree) split) ∙ r in
-    (
+    sym (ap (branch_at tree) split) ∙ r in (
       (found_form P (step_of step) tree next h (sym e)).1,
       rw add-one (ap (option_and_then (λ branch. branch_at branch (map step_of (drop (suc k) path)))) e ∙ here),
     )

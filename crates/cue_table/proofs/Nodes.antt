@@ -1,11 +1,11 @@
 -- What the fields of a node say of its tree.
-use Rattle.std.proofs.Common.{◌≡◌, ℕ, zero, suc, ◌<◌, ◌≤◌, Bool, true, false, nat_eq, List, [], ◌∷◌, length, get_or, drop, Option, Some, None, refl, sym, ap, subst, ◌∙◌, arith}
+use Rattle.std.proofs.Common.{◌≡◌, ℕ, zero, suc, Bool, true, false, nat_eq, List, [], ◌∷◌, length, get_or, drop, Option, Some, None, refl, sym, ap, subst, ◌∙◌, arith}
 use Rattle.std.specs.List.Sorted.{IsPartitionedBy, IsPartitionPoint}
 use Rattle.std.specs.declared.cmp.Ordering.TheVariants.{Less}
 use Rattle.cue_lattice.specs.Path.{label, index, step_cmp}
-use Rattle.cue_table.specs.declared.step.Step.{Step}
-use Rattle.cue_table.specs.declared.step.Step.TheVariants.{Label, Index}
-use Rattle.cue_table.specs.Steps.{step_of}
+use Rattle.cue_row.specs.declared.step.Step.{Step}
+use Rattle.cue_row.specs.declared.step.Step.TheVariants.{Label, Index}
+use Rattle.cue_row.specs.Steps.{step_of}
 use Rattle.cue_table.specs.Tree.{Tree, node, Children, none, child, taken, labels_of, items_of}
 use Rattle.cue_table.specs.Form.{IsBelowAll, Rise, StartsAtIndex, IsTree, AreBranches}
 use Rattle.cue_table.specs.View.{branches, tree_of}

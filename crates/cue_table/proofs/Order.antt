@@ -1,11 +1,10 @@
 -- The order of steps.
 use Rattle.std.proofs.Common.{◌≡◌, refl, ap, rules}
-use Rattle.std.specs.Ordering.{nat_cmp, ordering_reverse}
+use Rattle.std.specs.Ordering.{ordering_reverse}
 use Rattle.std.specs.Cmp.{IsTotalOrder}
-use Rattle.std.specs.Cmp.Lexicographic.{slice_cmp}
 use Rattle.std.proofs.lemmas.Cmp.{nat_list_cmp_total, nat_cmp_total}
 use Rattle.std.proofs.lemmas.Map.Lookups.{exact_bytes}
-use Rattle.std.specs.declared.cmp.Ordering.TheVariants.{Less, Equal, Greater}
+use Rattle.std.specs.declared.cmp.Ordering.TheVariants.{Less, Equal}
 use Rattle.cue_lattice.specs.Path.{Step, label, index, step_cmp}
 
 antisymm : (x y : Step) → step_cmp x y ≡ ordering_reverse (step_cmp y x)

@@ -1,6 +1,6 @@
 -- Trees as stored values: each has a value of its own.
-use Rattle.std.specs.Prelude.{◌≡◌, ℕ, List, [], ◌∷◌, Option, Some, None, refl}
-use Rattle.std.proofs.Common.{ap, sym}
+use Rattle.std.specs.Prelude.{◌≡◌, ℕ, List, Option, Some, None, refl}
+use Rattle.std.proofs.Common.{ap}
 use Rattle.std.specs.Coded.{Coded, coded_ℕ, coded_list, coded×}
 use base.Stored.{Gv, gnil, gnum, gcons, num}
 use Rattle.cue_lattice.specs.Path.{Step, label, index}
@@ -75,9 +75,9 @@ mutual
 abbrev pub tree_code : {R : Type 0} → Coded R → Coded (Tree R)
 tree_code c = record { code = tree_gv c.code; inj = tree_inj c }
 
--- the codes of branches with their steps, labels or indexes
-abbrev pub children_code : {R : Type 0} → Coded R → Coded (List (Step × Tree R))
-children_code c = coded_list (coded× coded_step (tree_code c))
+-- the codes of branches, of those at labels and of those at indexes
+abbrev pub children_code : {R : Type 0} → Coded R → Coded (Children R)
+children_code c = record { code = children_gv c.code; inj = children_inj c }
 
 abbrev pub labels_code : {R : Type 0} → Coded R → Coded (List (List ℕ × Tree R))
 labels_code c = coded_list (coded× texts (tree_code c))

@@ -4,6 +4,6 @@ pub mod Form
 pub mod Place
 pub mod Refuses
 pub mod Size
-pub mod Steps
 pub mod Tree
 pub mod View
+pub mod Walks

@@ -1,6 +1,6 @@
 -- How contracts see the nodes of the program.
 use Rattle.std.specs.Prelude.{List, [], ◌∷◌}
-use Rattle.cue_table.specs.Steps.{step_of}
+use Rattle.cue_row.specs.Steps.{step_of}
 use Rattle.cue_table.specs.Tree.{Tree, node, Children, none, child}
 use Rattle.cue_table.specs.declared.node.Child.{Child}
 use Rattle.cue_table.specs.declared.node.Node.TheInside.{Inside}

@@ -1,13 +1,13 @@
 ghost use Rattle.std.specs.Prelude.{◌≡◌};
 ghost use Rattle.std.specs.Option.{option_map};
-ghost use Rattle.cue_table.specs.Tree.{row_of, below, find, children_of, labels_of, items_of};
+ghost use Rattle.cue_table.specs.Tree.{row_of, below, find, labels_of, items_of};
 ghost use Rattle.cue_table.specs.Form.{IsTable};
-ghost use Rattle.cue_table.specs.Steps.{step_of};
+ghost use Rattle.cue_row.specs.Steps.{step_of};
 
 use crate::iter::{Children, Items, Labels};
 use crate::node::Node;
-use crate::Step;
 use cue_lattice::Narrow;
+use cue_row::Step;
 use std::marker::Model;
 
 /// A place of a table, with all that is known there and below. Contracts see it as a tree. Its readers take no memory.
@@ -62,7 +62,7 @@ impl<'a, R: Narrow> Branch<'a, R> {
 
     /// The branches below, each with its step, in the order of the steps: labels before indexes.
     pub fn children(&self) -> Children<'a, R>
-        ensures list { result ≡ children_of (below self.now) }
+        ensures list { result ≡ below self.now }
         ensures form { IsTable R.refuses R.is_value self.now }
     {
         let node = self.node;

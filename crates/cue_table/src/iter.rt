@@ -3,36 +3,33 @@ ghost use Rattle.std.specs.Prelude.{◌≡◌};
 ghost use Rattle.std.specs.Iterator.{YieldsFirstBy, item_count};
 ghost use Rattle.cue_table.specs.Tree.{children_of, labels_of, items_of};
 ghost use Rattle.cue_table.specs.Form.{AreBranches, IsKept};
-ghost use Rattle.cue_table.specs.Steps.{step_of};
+ghost use Rattle.cue_row.specs.Steps.{step_of};
 ghost use Rattle.cue_table.specs.View.{branches};
 
+use crate::Branch;
 use crate::node::Child;
-use crate::{Branch, Step};
 use cue_lattice::Narrow;
+use cue_row::Step;
 use std::marker::Model;
 
-/// The branches below a place, each with its step, in the order of the steps. Contracts see the list of those that are
-/// left.
+/// The branches below a place, each with its step, in the order of the steps. Contracts see those that are left.
 #[derive(Drop)]
 pub struct Children<'a, R: Narrow> {
     rest: &'a [Child<R>],
 }
 
 impl<'a, R: Narrow> Model for Children<'a, R> {
-    ghost use Rattle.std.specs.Prelude.{List};
-    ghost use Rattle.cue_lattice.specs.Path.{Step};
-    ghost use Rattle.cue_table.specs.Tree.{Tree};
+    ghost use Rattle.cue_table.specs.Tree as tree;
     ghost use Rattle.cue_table.specs.Code.{children_code};
 
-    ghost Value = { List (Step × Tree R) };
+    ghost Value = { tree.Children R };
 
     ghost coded = { children_code R.code };
 
-    ghost use Rattle.cue_table.specs.Tree.{children_of};
     ghost use Rattle.cue_table.specs.View.{branches};
     ghost use Rattle.cue_table.specs.Form.{AreBranches, IsKept};
 
-    ghost view = { λ it. children_of (branches it.rest.now) };
+    ghost view = { λ it. branches it.rest.now };
 
     ghost invariant = { λ it. AreBranches (IsKept R.refuses R.is_value) (branches it.rest.now) };
 }
@@ -40,7 +37,7 @@ impl<'a, R: Narrow> Model for Children<'a, R> {
 impl<'a, R: Narrow> Children<'a, R> {
     pub(crate) fn new(rest: &'a [Child<R>]) -> Children<'a, R>
         requires { AreBranches (IsKept R.refuses R.is_value) (branches rest.now) }
-        ensures { result ≡ children_of (branches rest.now) }
+        ensures { result ≡ branches rest.now }
     {
         Children { rest }
     }
@@ -49,9 +46,9 @@ impl<'a, R: Narrow> Children<'a, R> {
 impl<'a, R: Narrow> Iterator for Children<'a, R> {
     type Item = (&'a Step, Branch<'a, R>);
 
-    ghost next_gives = { YieldsFirstBy (λ item. (step_of item.0.now, item.1)) (λ rest. rest) };
+    ghost next_gives = { YieldsFirstBy (λ item. (step_of item.0.now, item.1)) children_of };
 
-    ghost remaining = { item_count (λ rest. rest) };
+    ghost remaining = { item_count children_of };
 
     fn next(&mut self) -> Option<(&'a Step, Branch<'a, R>)> {
         let (child, rest) = self.rest.split_first()?;

@@ -1,15 +1,13 @@
-//! A table as a tree: what is known at each path of a configuration.
+//! A table as a tree: what is known at each path of a configuration, and the readers of it.
 #![tactic(auto)]
 
 mod branch;
 mod iter;
 mod node;
-mod path;
-mod step;
 mod table;
 
 pub use branch::Branch;
+pub use cue_lattice::{Memory, Narrow};
+pub use cue_row::{Path, Step};
 pub use iter::{Children, Items, Labels};
-pub use path::{MOST_STEPS, Path};
-pub use step::Step;
 pub use table::Table;

@@ -2,12 +2,12 @@ ghost use Rattle.std.specs.Prelude.{◌≡◌, map, IfSome, MatchResult, None};
 ghost use Rattle.std.specs.Option.{option_map};
 ghost use Rattle.cue_table.specs.Tree.{empty, below, taken, find, branch_at};
 ghost use Rattle.cue_table.specs.Form.{IsTable, Rise};
-ghost use Rattle.cue_table.specs.Steps.{step_of};
+ghost use Rattle.cue_row.specs.Steps.{step_of};
 ghost use Rattle.cue_table.specs.View.{branches};
 ghost use Rattle.cue_table.specs.Place.{IsPlace};
 
-use crate::Step;
 use cue_lattice::Narrow;
+use cue_row::Step;
 use std::alloc::Global;
 use std::marker::Model;
 

@@ -3,9 +3,10 @@ ghost use Rattle.std.specs.Option.{option_map, option_and_then};
 ghost use Rattle.cue_table.specs.Tree.{empty, taken, branch_at, row_at};
 ghost use Rattle.cue_table.specs.Form.{IsTable};
 
+use crate::Branch;
 use crate::node::Node;
-use crate::{Branch, Path};
 use cue_lattice::Narrow;
+use cue_row::Path;
 use std::alloc::Global;
 use std::marker::Model;
 

@@ -1,7 +1,7 @@
 use Rattle.std.proofs.Common.{rules}
 use Rattle.std.proofs.lemmas.Fn.{always_returns_same}
 use Rattle.cue_lattice.specs.Path.{step_cmp}
-use Rattle.cue_table.specs.Steps.{step_of}
+use Rattle.cue_row.specs.Steps.{step_of}
 use Rattle.cue_table.proofs.Finding.{place_searched}
 use Rattle.cue_table.proofs.node.place.Goals as goal
 

@@ -1,5 +1,4 @@
-use Rattle.cue_table.specs.Form.{IsKept, AreBranches}
-use Rattle.cue_table.specs.View.{branches}
+use Rattle.cue_table.specs.Form.{IsKept}
 use Rattle.cue_table.proofs.Nodes.{branches_form}
 use Rattle.cue_table.proofs.branch.Branch.labels.Goals as goal
 

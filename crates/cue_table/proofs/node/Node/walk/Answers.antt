@@ -1,4 +1,3 @@
-use Rattle.std.proofs.Common.{sym}
 use Rattle.cue_table.specs.Form.{IsKept}
 use Rattle.cue_table.proofs.Finding.{tree_rises, walk_on}
 use Rattle.cue_table.proofs.node.Node.walk.Goals as goal
