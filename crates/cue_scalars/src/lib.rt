@@ -10,6 +10,3 @@ mod valued;
 pub use cue_lattice::Scalar;
 pub use scalar_set::ScalarSet;
 pub use valued::Valued;
-
-#[cfg(test)]
-mod tests;

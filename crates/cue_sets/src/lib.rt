@@ -12,6 +12,3 @@ mod texts;
 
 pub use int_set::IntSet;
 pub use text_set::TextSet;
-
-#[cfg(test)]
-mod tests;

@@ -1,5 +1,5 @@
-use crate::{Scalar, ScalarSet, Valued};
 use cue_lattice::{Memory, Narrow, Pair, Text, meet_all};
+use cue_scalars::{Scalar, ScalarSet, Valued};
 use cue_sets::{IntSet, TextSet};
 use std::alloc::Global;
 use std::test::Fail;

@@ -1,0 +1,8 @@
+//! Tests of sets, sets of scalars and values with defaults, kept in a crate above them, so that none of these is
+//! proved a second time with its tests.
+#![tactic(auto)]
+
+#[cfg(test)]
+mod scalars;
+#[cfg(test)]
+mod sets;
