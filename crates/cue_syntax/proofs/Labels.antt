@@ -4,20 +4,18 @@ use Rattle.std.specs.Prelude.{if◌then◌else◌}
 use Rattle.cue_lex.specs.declared.token.Token.{Token}
 use Rattle.cue_lex.specs.declared.token.TokenKind.{TokenKind}
 use Rattle.cue_lex.specs.declared.token.TokenKind.TheVariants as kinds
-use Rattle.cue_lattice.specs.declared.refusal.Form.{Form}
-use Rattle.cue_lattice.specs.declared.refusal.Form.TheVariants as forms
-use Rattle.cue_lattice.specs.declared.refusal.Kind.TheVariants as refusals
-use Rattle.cue_lattice.specs.declared.refusal.Refusal.{Refusal}
-use Rattle.cue_lattice.specs.Refusal.{memory}
+use Rattle.cue_syntax.specs.declared.stop.Why.TheVariants as reasons
+use Rattle.cue_syntax.specs.declared.stop.Stop.{Stop}
 use Rattle.cue_syntax.specs.declared.tree.Label.{Label}
 use Rattle.cue_syntax.specs.declared.tree.LabelName.{LabelName}
 use Rattle.cue_syntax.specs.declared.tree.LabelName.TheVariants as names
 use Rattle.cue_syntax.specs.declared.tree.Mark.{Mark}
 use Rattle.cue_syntax.specs.declared.tree.Mark.TheVariants as marks
 use Rattle.cue_syntax.specs.Spelling.{Reads, one, label_kind, spell_mark, spell_label}
-use Rattle.cue_syntax.specs.Viability.{at_hand, StandsSign, IsMark, IsLabelName, BeginsLabel, LacksColon, MissesColon, RefusesLabel, IsLabelLeftOut, IsHidden, IsDefinition}
+use Rattle.cue_syntax.specs.Stops.{memory, at_hand}
+use Rattle.cue_syntax.specs.Viability.{StandsSign, IsMark, IsLabelName, BeginsLabel, LacksColon, MissesColon, RefusesLabel, IsLabelLeftOut, IsHidden, IsDefinition}
 use Rattle.cue_syntax.specs.Recogniser.{Goal, Stack, depth, levels_of, step, is_keyword, Closes, Moves, Stops, Refused, chains, value, value_name, value_text, chained, mark, colon, entries, more_entries, more_parts, more_terms}
-use Rattle.cue_syntax.proofs.Stopping.{takes, moves_then, moves_more, moves_under, Halts, halts_at, halts_unless, stopped, stops_there, left_out_here, left_out_before, opens_none, opens_before, refused_behind, refused_under, refused_end, takes_first, takes_read, alike_moves, moves_none}
+use Rattle.cue_syntax.proofs.Stopping.{takes, moves_then, moves_more, moves_under, Halts, halts_at, halts_unless, stopped, stops_here, stops_before, stops_there, opens_none, opens_before, refused_behind, refused_under, refused_end, takes_first, takes_read, alike_moves, moves_none}
 
 colon_only : (g : Stack) (j : TokenKind) → (j ≡ kinds.Colon → ⊥) → (below : Stack) → step ((colon ∷ g) ++ below) j ≡ None
 colon_only g kinds.Colon other below = absurd (other refl)
@@ -27,9 +25,9 @@ pub colon_halts : {g : Stack} {a : List Token} → ¬ StandsSign kinds.Colon a �
 colon_halts {g = g} lacks = halts_unless kinds.Colon (λ below. refl) (colon_only g) lacks
 
 -- a mark with no colon behind it
-lacks_by : {end : ℕ} {a b c : List Token} {r : Refusal} (n : LabelName) (m : Mark) → BeginsLabel a → Reads a (one (label_kind n)) b → Reads b (spell_mark m) c
+lacks_by : {end : ℕ} {a b c : List Token} {r : Stop} (n : LabelName) (m : Mark) → BeginsLabel a → Reads a (one (label_kind n)) b → Reads b (spell_mark m) c
     → (m ≡ marks.Regular → ¬ StandsSign kinds.Question b) → (m ≡ marks.Regular → ¬ StandsSign kinds.Exclamation b)
-    → ¬ StandsSign kinds.Colon c → r ≡ at_hand refusals.Syntax end c → MissesColon end a r
+    → ¬ StandsSign kinds.Colon c → r ≡ at_hand reasons.Syntax end c → MissesColon end a r
 lacks_by {a = []} n m begins name sign question exclamation lacks is = absurd begins.0
 lacks_by {a = t ∷ []} n m begins name sign question exclamation lacks is = absurd begins.1
 lacks_by {a = t ∷ u ∷ ts} {c = c} n marks.Regular begins name sign question exclamation lacks is =
@@ -45,14 +43,14 @@ lacks_by {a = t ∷ u ∷ ts} {c = c} n marks.Regular begins name sign question 
     no_mark _ is a b c = is
 lacks_by {end = end} {a = t ∷ u ∷ ts} {c = c} {r = r} n marks.Optional begins name sign question exclamation lacks is =
     let second = subst (λ z. Reads z (one kinds.Question) c) (sym name.follows.2) sign in
-    record { is = subst (λ z. r ≡ at_hand refusals.Syntax end z) (sym second.follows.2) is; lacks = (begins.0, inl second.follows.0, subst (λ z. ¬ StandsSign kinds.Colon z) (sym second.follows.2) lacks) }
+    record { is = subst (λ z. r ≡ at_hand reasons.Syntax end z) (sym second.follows.2) is; lacks = (begins.0, inl second.follows.0, subst (λ z. ¬ StandsSign kinds.Colon z) (sym second.follows.2) lacks) }
 lacks_by {end = end} {a = t ∷ u ∷ ts} {c = c} {r = r} n marks.Required begins name sign question exclamation lacks is =
     let second = subst (λ z. Reads z (one kinds.Exclamation) c) (sym name.follows.2) sign in
-    record { is = subst (λ z. r ≡ at_hand refusals.Syntax end z) (sym second.follows.2) is; lacks = (begins.0, inr second.follows.0, subst (λ z. ¬ StandsSign kinds.Colon z) (sym second.follows.2) lacks) }
+    record { is = subst (λ z. r ≡ at_hand reasons.Syntax end z) (sym second.follows.2) is; lacks = (begins.0, inr second.follows.0, subst (λ z. ¬ StandsSign kinds.Colon z) (sym second.follows.2) lacks) }
 
-pub label_lacks : {end : ℕ} {a b c : List Token} {r : Refusal} (n : LabelName) (m : Mark) → BeginsLabel a → Reads a (one (label_kind n)) b → Reads b (spell_mark m) c
+pub label_lacks : {end : ℕ} {a b c : List Token} {r : Stop} (n : LabelName) (m : Mark) → BeginsLabel a → Reads a (one (label_kind n)) b → Reads b (spell_mark m) c
     → (m ≡ marks.Regular → ¬ StandsSign kinds.Question b) → (m ≡ marks.Regular → ¬ StandsSign kinds.Exclamation b)
-    → ¬ StandsSign kinds.Colon c → r ≡ at_hand refusals.Syntax end c → MissesColon end a r
+    → ¬ StandsSign kinds.Colon c → r ≡ at_hand reasons.Syntax end c → MissesColon end a r
 label_lacks n m begins name sign question exclamation lacks is = lacks_by n m begins name sign question exclamation lacks is
 
 -- a label before a value
@@ -159,19 +157,19 @@ mark_opens (names.Quoted t) kinds.Question is = (colon ∷ value ∷ chained ∷
 mark_opens (names.Quoted t) kinds.Exclamation is = (colon ∷ value ∷ chained ∷ [], λ below. refl, omega arith)
 mark_opens n _ is = absurd is
 
-opens_at : {end : ℕ} {r : Refusal} (t u : Token) (ts : List Token) (n : LabelName) → t.kind ≡ label_kind n → IsMark u.kind → r ≡ at_hand refusals.Nesting end (t ∷ u ∷ ts)
+opens_at : {end : ℕ} {r : Stop} (t u : Token) (ts : List Token) (n : LabelName) → t.kind ≡ label_kind n → IsMark u.kind → r ≡ at_hand reasons.Nesting end (t ∷ u ∷ ts)
     → (levels_of (behind_name n) ≡ 0) ⊎ (levels_of (behind_name n) ≡ 1) → Stops 0 end (value ∷ []) (t ∷ u ∷ ts) r
 opens_at t u ts n kind sign is (inl level) =
     let m = mark_opens n u.kind sign in
     opens_before {h = behind_name n ∷ []} m.0 u is refl (takes t refl (λ below. ap (step (value ∷ below)) kind ∙ value_step n below) (omega (arith, level))) refl m.1 m.2
 opens_at t u ts n kind sign is (inr level) = opens_none (behind_name n ∷ []) t refl is (λ below. ap (step (value ∷ below)) kind ∙ value_step n below) (omega (arith, level))
 
-opens_by : {end : ℕ} {r : Refusal} (a : List Token) → BeginsLabel a → r ≡ at_hand refusals.Nesting end a → Stops 0 end (value ∷ []) a r
+opens_by : {end : ℕ} {r : Stop} (a : List Token) → BeginsLabel a → r ≡ at_hand reasons.Nesting end a → Stops 0 end (value ∷ []) a r
 opens_by [] begins is = absurd begins.0
 opens_by (t ∷ []) begins is = absurd begins.1
 opens_by (t ∷ u ∷ ts) begins is = let n = name_kind t.kind begins.0 in opens_at t u ts n.0 n.1 begins.1 is (name_levels n.0)
 
-pub opens_label : {end : ℕ} {a : List Token} {r : Refusal} → BeginsLabel a → r ≡ at_hand refusals.Nesting end a → Stops 0 end (value ∷ []) a r
+pub opens_label : {end : ℕ} {a : List Token} {r : Stop} → BeginsLabel a → r ≡ at_hand reasons.Nesting end a → Stops 0 end (value ∷ []) a r
 opens_label {a = a} begins is = opens_by a begins is
 
 -- a label that is left out
@@ -202,20 +200,19 @@ marked_is : (k : TokenKind) → (k ≡ kinds.Question) ⊎ (k ≡ kinds.Exclamat
 marked_is k (inl e) = subst IsMark (sym e) tt
 marked_is k (inr e) = subst IsMark (sym e) tt
 
-value_out : {n end : ℕ} {r : Refusal} (a : List Token) (form : Form) → r ≡ at_hand (refusals.LeftOut form) end a → IsLabelLeftOut false form a → Stops n end (value ∷ []) a r
-value_out (t ∷ u ∷ ts) forms.HiddenLabel is fits = left_out_before {free = 0} (more_parts ∷ more_terms ∷ []) is fits refl (takes t refl (λ below. hidden_value t.kind fits.0 below) (omega arith)) (marked_halts _ u ts fits.1 marks_pop)
-value_out (t ∷ u ∷ ts) forms.MarkedDefinition is fits = left_out_before {free = 0} (more_parts ∷ more_terms ∷ []) is fits refl (takes t refl (λ below. definition_value t.kind fits.0 below) (omega arith)) (marked_halts _ u ts (marked_is u.kind fits.1) marks_pop)
-value_out (t ∷ u ∷ ts) forms.NestedDefinition is fits = left_out_before {free = 0} (more_parts ∷ more_terms ∷ []) is fits.0 refl (takes t refl (λ below. definition_value t.kind fits.0.0 below) (omega arith)) (marked_halts _ u ts (subst IsMark (sym fits.0.1) tt) marks_pop)
-value_out [] forms.HiddenLabel is fits = absurd fits.0
-value_out [] forms.MarkedDefinition is fits = absurd fits.0
-value_out [] forms.NestedDefinition is fits = absurd fits.0.0
-value_out (t ∷ []) forms.HiddenLabel is fits = absurd fits.1
-value_out (t ∷ []) forms.MarkedDefinition is fits = absurd (elim fits.1 [ inl e ↦ e | inr e ↦ e ])
-value_out (t ∷ []) forms.NestedDefinition is fits = absurd fits.0.1
-value_out a _ is fits = absurd fits
+value_out : {n end : ℕ} {r : Stop} (a : List Token) → r ≡ at_hand reasons.Syntax end a → IsLabelLeftOut false a → Stops n end (value ∷ []) a r
+value_out (t ∷ u ∷ ts) is (inl fits) = stops_before {free = 0} (more_parts ∷ more_terms ∷ []) is refl (takes t refl (λ below. hidden_value t.kind fits.0 below) (omega arith)) (marked_halts _ u ts fits.1 marks_pop)
+value_out (t ∷ u ∷ ts) is (inr (inl fits)) = stops_before {free = 0} (more_parts ∷ more_terms ∷ []) is refl (takes t refl (λ below. definition_value t.kind fits.0 below) (omega arith)) (marked_halts _ u ts (marked_is u.kind fits.1) marks_pop)
+value_out (t ∷ u ∷ ts) is (inr (inr fits)) = stops_before {free = 0} (more_parts ∷ more_terms ∷ []) is refl (takes t refl (λ below. definition_value t.kind fits.0 below) (omega arith)) (marked_halts _ u ts (subst IsMark (sym fits.1) tt) marks_pop)
+value_out [] is (inl fits) = absurd fits.0
+value_out [] is (inr (inl fits)) = absurd fits.0
+value_out [] is (inr (inr fits)) = absurd fits.0
+value_out (t ∷ []) is (inl fits) = absurd fits.1
+value_out (t ∷ []) is (inr (inl fits)) = absurd (elim fits.1 [ inl e ↦ e | inr e ↦ e ])
+value_out (t ∷ []) is (inr (inr fits)) = absurd fits.1
 
-pub label_out_value : {n end : ℕ} {a : List Token} {r : Refusal} → RefusesLabel false end a r → Refused n end (value ∷ []) a r
-label_out_value {a = a} refuses = stopped (value_out a refuses.form refuses.is refuses.fits)
+pub label_out_value : {n end : ℕ} {a : List Token} {r : Stop} → RefusesLabel false end a r → Refused n end (value ∷ []) a r
+label_out_value {a = a} refuses = stopped (value_out a refuses.is refuses.fits)
 
 hidden_entry : (top : Bool) (k : TokenKind) → IsHidden k → (below : Stack) → step (entries top ∷ below) k ≡ None
 hidden_entry true (kinds.Hidden t) is below = refl
@@ -234,23 +231,22 @@ not_colon : (k : TokenKind) → (k ≡ kinds.Question) ⊎ (k ≡ kinds.Exclamat
 not_colon k (inl e) is = let h : kinds.Question ≡ kinds.Colon = sym e ∙ is in cc
 not_colon k (inr e) is = let h : kinds.Exclamation ≡ kinds.Colon = sym e ∙ is in cc
 
-entry_out : {n end : ℕ} {r : Refusal} (top : Bool) (a : List Token) (form : Form) → r ≡ at_hand (refusals.LeftOut form) end a → IsLabelLeftOut top form a → Stops n end (entries top ∷ []) a r
-entry_out top (t ∷ u ∷ ts) forms.HiddenLabel is fits = left_out_here is fits (halts_at t refl (λ below closes. hidden_entry top t.kind fits.0 below))
-entry_out true (t ∷ u ∷ ts) forms.MarkedDefinition is fits = left_out_before {free = 0} (colon ∷ value ∷ more_entries true ∷ []) is fits refl (takes t refl (λ below. definition_top t.kind fits.0 below) (omega arith))
+entry_out : {n end : ℕ} {r : Stop} (top : Bool) (a : List Token) → r ≡ at_hand reasons.Syntax end a → IsLabelLeftOut top a → Stops n end (entries top ∷ []) a r
+entry_out top (t ∷ u ∷ ts) is (inl fits) = stops_here is (halts_at t refl (λ below closes. hidden_entry top t.kind fits.0 below))
+entry_out true (t ∷ u ∷ ts) is (inr (inl fits)) = stops_before {free = 0} (colon ∷ value ∷ more_entries true ∷ []) is refl (takes t refl (λ below. definition_top t.kind fits.0 below) (omega arith))
     (colon_halts (not_colon u.kind fits.1))
-entry_out false (t ∷ u ∷ ts) forms.MarkedDefinition is fits = left_out_here is fits (halts_at t refl (λ below closes. definition_nested t.kind fits.0 below))
-entry_out true (t ∷ u ∷ ts) forms.NestedDefinition is fits = absurd (let e : true ≡ false = fits.1 in cc)
-entry_out false (t ∷ u ∷ ts) forms.NestedDefinition is fits = left_out_here is fits.0 (halts_at t refl (λ below closes. definition_nested t.kind fits.0.0 below))
-entry_out top [] forms.HiddenLabel is fits = absurd fits.0
-entry_out top [] forms.MarkedDefinition is fits = absurd fits.0
-entry_out top [] forms.NestedDefinition is fits = absurd fits.0.0
-entry_out top (t ∷ []) forms.HiddenLabel is fits = absurd fits.1
-entry_out top (t ∷ []) forms.MarkedDefinition is fits = absurd (elim fits.1 [ inl e ↦ e | inr e ↦ e ])
-entry_out top (t ∷ []) forms.NestedDefinition is fits = absurd fits.0.1
-entry_out top a _ is fits = absurd fits
+entry_out false (t ∷ u ∷ ts) is (inr (inl fits)) = stops_here is (halts_at t refl (λ below closes. definition_nested t.kind fits.0 below))
+entry_out true (t ∷ u ∷ ts) is (inr (inr fits)) = absurd (let e : true ≡ false = fits.2 in cc)
+entry_out false (t ∷ u ∷ ts) is (inr (inr fits)) = stops_here is (halts_at t refl (λ below closes. definition_nested t.kind fits.0 below))
+entry_out top [] is (inl fits) = absurd fits.0
+entry_out top [] is (inr (inl fits)) = absurd fits.0
+entry_out top [] is (inr (inr fits)) = absurd fits.0
+entry_out top (t ∷ []) is (inl fits) = absurd fits.1
+entry_out top (t ∷ []) is (inr (inl fits)) = absurd (elim fits.1 [ inl e ↦ e | inr e ↦ e ])
+entry_out top (t ∷ []) is (inr (inr fits)) = absurd fits.1
 
-pub label_out_entry : {n end : ℕ} {a : List Token} {r : Refusal} (top : Bool) → RefusesLabel top end a r → Refused n end (entries top ∷ []) a r
-label_out_entry {a = a} top refuses = stopped (entry_out top a refuses.form refuses.is refuses.fits)
+pub label_out_entry : {n end : ℕ} {a : List Token} {r : Stop} (top : Bool) → RefusesLabel top end a r → Refused n end (entries top ∷ []) a r
+label_out_entry {a = a} top refuses = stopped (entry_out top a refuses.is refuses.fits)
 
 -- a mark that has no colon
 marked_value : (n : LabelName) (k : TokenKind) → (k ≡ kinds.Question) ⊎ (k ≡ kinds.Exclamation) → (below : Stack) → step (behind_name n ∷ below) k ≡ Some (colon ∷ value ∷ chained ∷ below)
@@ -263,7 +259,7 @@ marked_entry : (g : Stack) (k : TokenKind) → (k ≡ kinds.Question) ⊎ (k ≡
 marked_entry g k (inl e) below = ap (step ((mark ∷ g) ++ below)) e
 marked_entry g k (inr e) below = ap (step ((mark ∷ g) ++ below)) e
 
-value_misses : {n end : ℕ} {r : Refusal} (a : List Token) → r ≡ at_hand refusals.Syntax end (drop 2 a) → LacksColon a → Stops n end (value ∷ []) a r
+value_misses : {n end : ℕ} {r : Stop} (a : List Token) → r ≡ at_hand reasons.Syntax end (drop 2 a) → LacksColon a → Stops n end (value ∷ []) a r
 value_misses [] is lacks = absurd lacks.0
 value_misses (t ∷ []) is lacks = absurd (elim lacks.1 [ inl e ↦ e | inr e ↦ e ])
 value_misses (t ∷ u ∷ ts) is lacks =
@@ -271,11 +267,11 @@ value_misses (t ∷ u ∷ ts) is lacks =
     stops_there {free = 1} is (moves_then {h = behind_name n.0 ∷ []} (takes t refl (λ below. ap (step (value ∷ below)) n.1 ∙ value_step n.0 below) (omega (arith, name_level n.0)))
     (takes {next = colon ∷ value ∷ chained ∷ []} u refl (λ below. marked_value n.0 u.kind lacks.1 below) (omega arith))) (colon_halts lacks.2)
 
-pub misses_value : {n end : ℕ} {a : List Token} {r : Refusal} → (r ≡ memory) ⊎ MissesColon end a r → Refused n end (value ∷ []) a r
+pub misses_value : {n end : ℕ} {a : List Token} {r : Stop} → (r ≡ memory) ⊎ MissesColon end a r → Refused n end (value ∷ []) a r
 misses_value (inl e) = record { why = inl e }
 misses_value {a = a} (inr misses) = stopped (value_misses a misses.is misses.lacks)
 
-entry_misses : {n end : ℕ} {r : Refusal} (top : Bool) (a : List Token) → r ≡ at_hand refusals.Syntax end (drop 2 a) → LacksColon a → Stops n end (entries top ∷ []) a r
+entry_misses : {n end : ℕ} {r : Stop} (top : Bool) (a : List Token) → r ≡ at_hand reasons.Syntax end (drop 2 a) → LacksColon a → Stops n end (entries top ∷ []) a r
 entry_misses top [] is lacks = absurd lacks.0
 entry_misses top (t ∷ []) is lacks = absurd (elim lacks.1 [ inl e ↦ e | inr e ↦ e ])
 entry_misses top (t ∷ u ∷ ts) is lacks =
@@ -283,10 +279,10 @@ entry_misses top (t ∷ u ∷ ts) is lacks =
     stops_there {free = depth (more_entries top ∷ [])} is (moves_then {h = mark ∷ value ∷ more_entries top ∷ []} (takes t refl (λ below. ap (step (entries top ∷ below)) n.1 ∙ entry_step top n.0 below) (omega arith))
     (takes {next = colon ∷ value ∷ more_entries top ∷ []} u refl (λ below. marked_entry (value ∷ more_entries top ∷ []) u.kind lacks.1 below) (omega arith))) (colon_halts lacks.2)
 
-pub misses_entry : {n end : ℕ} {a : List Token} {r : Refusal} (top : Bool) → (r ≡ memory) ⊎ MissesColon end a r → Refused n end (entries top ∷ []) a r
+pub misses_entry : {n end : ℕ} {a : List Token} {r : Stop} (top : Bool) → (r ≡ memory) ⊎ MissesColon end a r → Refused n end (entries top ∷ []) a r
 misses_entry top (inl e) = record { why = inl e }
 misses_entry {a = a} top (inr misses) = stopped (entry_misses top a misses.is misses.lacks)
 
-pub chain_refused : {room end other : ℕ} {a b : List Token} {r : Refusal} (left : ℕ) (ls : List Label) → left + length ls ≡ room → other ≡ end → Moves room (value ∷ []) a (value ∷ chains ls) b
+pub chain_refused : {room end other : ℕ} {a b : List Token} {r : Stop} (left : ℕ) (ls : List Label) → left + length ls ≡ room → other ≡ end → Moves room (value ∷ []) a (value ∷ chains ls) b
     → Refused left other (value ∷ []) b r → Refused room end (value ∷ []) a r
 chain_refused left ls is same first inner = refused_behind first (refused_end same (refused_under (chains ls) (omega (arith, is, chains_depth ls)) (chains_close ls) inner))

@@ -5,16 +5,16 @@ use Rattle.std.specs.Cmp.Lexicographic.{bytes_decides}
 use Rattle.cue_lex.specs.declared.token.Token.{Token}
 use Rattle.cue_lex.specs.declared.token.TokenKind.{TokenKind}
 use Rattle.cue_lex.specs.declared.token.TokenKind.TheVariants as kinds
-use Rattle.cue_lattice.specs.declared.refusal.Form.TheVariants as forms
-use Rattle.cue_lattice.specs.declared.refusal.Kind.TheVariants as refusals
-use Rattle.cue_lattice.specs.declared.refusal.Refusal.{Refusal}
+use Rattle.cue_syntax.specs.declared.stop.Why.TheVariants as reasons
+use Rattle.cue_syntax.specs.declared.stop.Stop.{Stop}
 use Rattle.cue_syntax.specs.declared.tree.Comparison.{Comparison}
 use Rattle.cue_syntax.specs.declared.tree.Comparison.TheVariants as comparisons
 use Rattle.cue_syntax.specs.Spelling.{Reads, one, comparison_kind}
 use Rattle.cue_syntax.specs.Grammar.{IsKeyword}
-use Rattle.cue_syntax.specs.Viability.{at_hand, Stands, StandsSign, BeginsInteger, IsCallOfClose, IsCallable, IsForm}
+use Rattle.cue_syntax.specs.Stops.{at_hand}
+use Rattle.cue_syntax.specs.Viability.{Stands, StandsSign, BeginsInteger, IsCallOfClose}
 use Rattle.cue_syntax.specs.Recogniser.{Stack, step, Moves, Stops, Refused, is_word, is_keyword, unary, signed, signed_or_text, behind_close}
-use Rattle.cue_syntax.proofs.Stopping.{takes, takes_read, alike_moves, moves_then, Halts, HaltsAt, halts_at, stopped, left_out_here, left_out_before}
+use Rattle.cue_syntax.proofs.Stopping.{takes, takes_read, alike_moves, moves_then, Halts, HaltsAt, halts_at, stopped, stops_here, stops_before}
 use Rattle.cue_syntax.proofs.Tokens.{signed_none, other_signed, behind_close_pops}
 
 -- words
@@ -73,26 +73,22 @@ paren_halts : (b : List Token) → StandsSign kinds.OpenParenthesis b → HaltsA
 paren_halts [] stands = absurd stands
 paren_halts (t ∷ ts) stands = λ below closes. ap (step below) stands ∙ closes.call
 
-name_callable : (k : TokenKind) {n : List ℕ} → k ≡ kinds.Name n → (n ≡ codes "close" → ⊥) → IsCallable k
-name_callable k kind other = subst IsCallable (sym kind) other
-
 call_of_name : {room end : ℕ} {b : List Token} {n : List ℕ} (t : Token) (keyword : Bool) → t.kind ≡ kinds.Name n → is_keyword n ≡ keyword → (n ≡ codes "close" → ⊥)
-    → StandsSign kinds.OpenParenthesis b → Stops room end (unary ∷ []) (t ∷ b) (at_hand (refusals.LeftOut forms.Call) end (t ∷ b))
-call_of_name {n = n} t true kind keyword other stands = left_out_here refl (name_callable t.kind kind other, stands) (keyword_halts t refl kind keyword)
-call_of_name {b = b} {n = n} t false kind keyword other stands = left_out_before [] refl (name_callable t.kind kind other, stands) refl
+    → StandsSign kinds.OpenParenthesis b → Stops room end (unary ∷ []) (t ∷ b) (at_hand reasons.Syntax end (t ∷ b))
+call_of_name {n = n} t true kind keyword other stands = stops_here refl (keyword_halts t refl kind keyword)
+call_of_name {b = b} {n = n} t false kind keyword other stands = stops_before [] refl refl
     (takes {n = 0} t refl (λ below. ap (step (unary ∷ below)) kind ∙ name_step n false keyword (word_other (codes "close") n other) below) (omega arith)) (record { at = paren_halts b stands })
 
-pub name_called : {room end : ℕ} {a b : List Token} {n : List ℕ} {r : Refusal} (t : Token) → a ≡ t ∷ b → t.kind ≡ kinds.Name n → ¬ IsCallOfClose a
-    → StandsSign kinds.OpenParenthesis b → r ≡ at_hand (refusals.LeftOut forms.Call) end a → Refused room end (unary ∷ []) a r
+pub name_called : {room end : ℕ} {a b : List Token} {n : List ℕ} {r : Stop} (t : Token) → a ≡ t ∷ b → t.kind ≡ kinds.Name n → ¬ IsCallOfClose a
+    → StandsSign kinds.OpenParenthesis b → r ≡ at_hand reasons.Syntax end a → Refused room end (unary ∷ []) a r
 name_called {room = room} {end = end} {a = a} {b = b} {n = n} t is kind other stands refused =
-    let here : Stops room end (unary ∷ []) (t ∷ b) (at_hand (refusals.LeftOut forms.Call) end (t ∷ b)) =
+    let here : Stops room end (unary ∷ []) (t ∷ b) (at_hand reasons.Syntax end (t ∷ b)) =
     call_of_name t (is_keyword n) kind refl (λ e. subst (λ z. ¬ IsCallOfClose z) is other (kind ∙ ap kinds.Name e, stands)) stands in
-    stopped (subst (λ z. Stops room end (unary ∷ []) a z) (sym refused) (subst (λ z. Stops room end (unary ∷ []) z (at_hand (refusals.LeftOut forms.Call) end z)) (sym is) here))
+    stopped (subst (λ z. Stops room end (unary ∷ []) a z) (sym refused) (subst (λ z. Stops room end (unary ∷ []) z (at_hand reasons.Syntax end z)) (sym is) here))
 
-pub hidden_called : {room end : ℕ} {a b : List Token} {n : List ℕ} {r : Refusal} (t : Token) → a ≡ t ∷ b → t.kind ≡ kinds.Hidden n
-    → StandsSign kinds.OpenParenthesis b → r ≡ at_hand (refusals.LeftOut forms.Call) end a → Refused room end (unary ∷ []) a r
-hidden_called {b = b} t is kind stands refused = stopped (left_out_before [] refused
-    (subst (λ z. IsForm forms.Call z) (sym is) (subst IsCallable (sym kind) tt, stands)) (ap (drop 1) is)
+pub hidden_called : {room end : ℕ} {a b : List Token} {n : List ℕ} {r : Stop} (t : Token) → a ≡ t ∷ b → t.kind ≡ kinds.Hidden n
+    → StandsSign kinds.OpenParenthesis b → r ≡ at_hand reasons.Syntax end a → Refused room end (unary ∷ []) a r
+hidden_called {b = b} t is kind stands refused = stopped (stops_before [] refused (ap (drop 1) is)
     (takes {n = 0} t is (λ below. ap (step (unary ∷ below)) kind) (omega arith)) (record { at = paren_halts b stands }))
 
 -- bounds

@@ -1,15 +1,21 @@
 -- What a stop of the recogniser says of the grammar.
-use Rattle.std.proofs.Common.{◌≡◌, ◌∙◌, ap, sym, subst, refl, ℕ, suc, ◌+◌, ◌-◌, ◌⊎◌, inl, inr, List, [], ◌∷◌, ◌++◌, length, drop, arith, Option, Some, None, length-append, ⊎_elim, Result, Ok, Err, IfOk, IfErr}
-use Rattle.std.specs.Prelude.{MatchResult}
+use Rattle.std.proofs.Common.{◌≡◌, ◌∙◌, ap, sym, subst, refl, ℕ, suc, ◌+◌, ◌-◌, ◌<◌, ◌≤◌, ◌⊎◌, inl, inr, List, [], ◌∷◌, ◌++◌, length, take, drop, arith, Option, Some, None, length-append}
 use Rattle.cue_lex.specs.declared.token.Token.{Token}
+use Rattle.cue_lex.specs.declared.token.TokenKind.TheVariants as kinds
 use Rattle.cue_lattice.specs.declared.refusal.Kind.{Kind}
 use Rattle.cue_lattice.specs.declared.refusal.Kind.TheVariants as refusals
 use Rattle.cue_lattice.specs.declared.refusal.Refusal.{Refusal}
 use Rattle.cue_lattice.specs.Refusal.{memory}
+use Rattle.cue_syntax.specs.declared.stop.Why.{Why}
+use Rattle.cue_syntax.specs.declared.stop.Why.TheVariants as reasons
+use Rattle.cue_syntax.specs.declared.stop.Stop.{Stop}
 use Rattle.cue_syntax.specs.declared.tree.File.{File}
+use Rattle.cue_syntax.specs.Stops as stopped
 use Rattle.cue_syntax.specs.Syntax.{FileTree, file_tree}
 use Rattle.cue_syntax.specs.Grammar.{Limit, unlimited, at_most, IsFile}
-use Rattle.cue_syntax.specs.Viability.{Begins, Leaves, LeavesNear, NestsNear, FitsAt, Fits, IsForm, IsBraceOfClose, HasNoTree, place_of}
+use Rattle.cue_syntax.specs.Viability.{Begins, Leaves, LeavesNear, HasNoTree, StandsSign, IsCallOfClose}
+use Rattle.cue_syntax.specs.Spots.{spot_of}
+use Rattle.cue_syntax.specs.Refusals.{IsBraceOfClose, NestsNear, IsKindAt, FitsAt, Fits, TellsAt, Tells}
 use Rattle.cue_syntax.specs.Recogniser.{Stack, depth, stuck, Closes, IsEnd, SticksNear, OpensNear, SticksBy, Stops, Refused, IsBrace, text}
 use Rattle.cue_syntax.proofs.Stuck.{stuck_inside, stuck_at_end, stuck_begins_none}
 use Rattle.cue_syntax.proofs.Viable.{begins, taken, fewer}
@@ -48,13 +54,42 @@ deeper_by tokens behind next k count same None is = let t = taken unlimited toke
 deeper_by tokens behind next k count same (Some here) is =
     fewer unlimited k (length tokens - length here) tokens (begins unlimited tokens here (same ∙ is)) (omega (arith, count, stuck_inside unlimited next behind here is))
 
-brace_count : {tokens : List Token} (at here : List Token) (inside : IsEnd tokens at) → IsEnd tokens here → at ≡ drop 1 here → IsBrace here → length inside.read ≡ suc (length tokens - length here)
-brace_count at [] inside end same brace = absurd brace.0
-brace_count at (t ∷ here) inside end same brace =
-    let f : at ≡ here = same in omega (arith, ap length f, ap length inside.is, length-append inside.read at, ap length end.is, length-append end.read (t ∷ here))
-
 end_count : {tokens here : List Token} (end : IsEnd tokens here) → length end.read ≡ length tokens - length here
 end_count {here = here} end = omega (arith, ap length end.is, length-append end.read here)
+
+drop_end : {tokens here : List Token} (end : IsEnd tokens here) → drop (length tokens - length here) tokens ≡ here
+drop_end {tokens = tokens} {here = here} end = subst (λ n. drop n tokens ≡ here) (end_count end) (at_drop end)
+
+-- the name of a call, and then its parenthesis
+name_count : (name : List Token) → IsCallOfClose name → length name ≡ suc (length (drop 1 name))
+name_count [] call = absurd call.0
+name_count (t ∷ name) call = omega arith
+
+name_paren : (name : List Token) → IsCallOfClose name → 0 < length (drop 1 name)
+name_paren [] call = absurd call.0
+name_paren (t ∷ []) call = absurd call.1
+name_paren (t ∷ u ∷ name) call = omega arith
+
+length_rest : (a : List Token) → 0 < length a → length a ≡ suc (length (drop 1 a))
+length_rest [] some = absurd (omega (arith, some))
+length_rest (t ∷ a) some = omega arith
+
+brace_of_close : {tokens here at : List Token} (inside : IsEnd tokens at) → IsEnd tokens here → IsBrace tokens here at
+    → (length inside.read ≡ suc (length tokens - length here)) × IsBraceOfClose (length tokens - length here) tokens
+brace_of_close {tokens = tokens} {here = here} {at = at} inside end brace =
+    let some : 0 < length here = subst (λ z. 0 < length z) brace.behind (name_paren brace.name brace.call) in
+    let rest : length here ≡ suc (length at) = length_rest here some ∙ ap (λ z. suc (length z)) (sym brace.is) in
+    let name : length brace.name ≡ suc (length here) = name_count brace.name brace.call ∙ ap (λ z. suc (length z)) brace.behind in
+    let size : length brace.name ≤ length tokens = omega (arith, ap length brace.inside.is, length-append brace.inside.read brace.name) in
+    let count : suc (length tokens - length here) ≡ length tokens - length at = omega (arith, rest, name, size) in (
+      end_count inside ∙ sym count,
+      record {
+        from = length tokens - length brace.name;
+        next = omega (arith, name, size);
+        call = subst (λ z. IsCallOfClose z) (sym (drop_end brace.inside)) brace.call;
+        brace = subst (λ z. StandsSign kinds.OpenBrace z) (sym (ap (λ n. drop n tokens) count ∙ drop_end inside)) brace.brace;
+      },
+    )
 
 nests_near : {levels : ℕ} {tokens at : List Token} (inside : IsEnd tokens at) → OpensNear levels (text ∷ []) tokens at → NestsNear levels tokens (length inside.read)
 nests_near {levels = levels} {tokens = tokens} {at = at} inside by =
@@ -69,25 +104,42 @@ nests_near {levels = levels} {tokens = tokens} {at = at} inside by =
       near = elim by.near [
         | inl e ↦ elim (near_count at by.here inside (inl e)) [ inl f ↦ inl f | inr f ↦ inr (inl f) ]
         | inr (inl e) ↦ elim (near_count at by.here inside (inr e)) [ inl f ↦ inl f | inr f ↦ inr (inl f) ]
-        | inr (inr e) ↦ inr (inr (brace_count at by.here inside end e.0 e.1, subst (λ n. IsBraceOfClose n tokens) (end_count end) (subst (λ z. IsBrace z) (sym (at_drop end)) e.1)))
+        | inr (inr e) ↦ inr (inr (brace_of_close inside end e))
       ];
     }
 
-fits_by : {tokens at : List Token} (levels : ℕ) (inside : IsEnd tokens at) (kind : Kind) → SticksBy levels (text ∷ []) tokens kind at → FitsAt levels tokens kind (length inside.read)
-fits_by levels inside refusals.Syntax by = leaves_near inside by
-fits_by levels inside (refusals.LeftOut form) by = (leaves_near inside by.0, subst (λ z. IsForm form z) (sym (at_drop inside)) by.1)
-fits_by levels inside refusals.Nesting by = nests_near inside by
-fits_by levels inside _ by = by
+-- what is told of a stop
+fits_kind : (levels : ℕ) (tokens : List Token) (kind : Kind) (j : ℕ) → LeavesNear tokens j → IsKindAt kind (spot_of (take j tokens)) (drop j tokens) → FitsAt levels tokens kind j
+fits_kind levels tokens refusals.Nesting j near is = absurd is
+fits_kind levels tokens _ j near is = (near, is)
 
-fits_stop : {levels end : ℕ} {tokens : List Token} {r : Refusal} → Stops levels end (text ∷ []) tokens r → Fits levels end tokens r
-fits_stop {end = end} {r = r} s = record {
-  j = length s.inside.read;
-  place = s.place ∙ ap (place_of end) (sym (at_drop s.inside));
-  fits = fits_by _ s.inside r.kind s.by;
-}
+told_fits : {levels end : ℕ} {tokens at : List Token} {r : Refusal} (inside : IsEnd tokens at) (why : Why) → SticksBy levels (text ∷ []) tokens why at → TellsAt end tokens (length inside.read) why r
+    → (r ≡ memory) ⊎ Fits levels end tokens r
+told_fits inside reasons.Memory by told = absurd by
+told_fits {levels = levels} {end = end} {tokens = tokens} inside reasons.Nesting by told =
+    inr (subst (λ z. Fits levels end tokens z) (sym told) (record { j = length inside.read; place = refl; fits = nests_near inside by }))
+told_fits {levels = levels} {tokens = tokens} {r = r} inside reasons.Syntax by told = elim told [
+  | inl lack ↦ inl lack
+  | inr tells ↦ inr (record { j = length inside.read; place = tells.0; fits = fits_kind levels tokens r.kind (length inside.read) (leaves_near inside by) tells.1 })
+]
 
-pub refused_fits : {levels end : ℕ} {tokens : List Token} {r : Refusal} → Refused levels end (text ∷ []) tokens r → (r ≡ memory) ⊎ Fits levels end tokens r
-refused_fits s = elim (s.why) [ inl e ↦ inl e | inr e ↦ inr (fits_stop e) ]
+stop_fits : {levels end : ℕ} {tokens : List Token} {stop : Stop} {r : Refusal} → Stops levels end (text ∷ []) tokens stop → Tells end tokens stop r → (r ≡ memory) ⊎ Fits levels end tokens r
+stop_fits {end = end} {tokens = tokens} {stop = stop} {r = r} s told =
+    told_fits s.inside stop.why s.by (subst (λ n. TellsAt end tokens n stop.why r) (ap (λ n. length tokens - n) s.left ∙ sym (end_count s.inside)) told)
+
+memory_told : (end : ℕ) (tokens : List Token) {stop : Stop} {r : Refusal} → stop ≡ stopped.memory → Tells end tokens stop r → r ≡ memory
+memory_told end tokens {r = r} is told = subst (λ z. Tells end tokens z r) is told
+
+-- A stop of the parser is told as a refusal that fits.
+pub refused_fits : {levels end : ℕ} {tokens : List Token} {stop : Stop} {r : Refusal} → Refused levels end (text ∷ []) tokens stop → Tells end tokens stop r → (r ≡ memory) ⊎ Fits levels end tokens r
+refused_fits {end = end} {tokens = tokens} s told = elim (s.why) [ inl e ↦ inl (memory_told end tokens e told) | inr e ↦ stop_fits e told ]
+
+-- A stop leaves no more tokens than there are.
+pub refused_left : {levels end : ℕ} {goals : Stack} {tokens : List Token} {stop : Stop} → Refused levels end goals tokens stop → stop.left ≤ length tokens
+refused_left {tokens = tokens} s = elim (s.why) [
+  | inl e ↦ omega (arith, ap (λ z. z.left) e)
+  | inr e ↦ omega (arith, e.left, ap length e.inside.is, length-append e.inside.read e.at)
+]
 
 -- no tree where the tokens leave the grammar
 leaves_none : {limit : Limit} {tokens : List Token} {k : ℕ} → Leaves limit tokens k → HasNoTree limit tokens
@@ -96,21 +148,18 @@ leaves_none {tokens = tokens} leaves tree is = leaves.behind (record { whole = t
 near_none : {levels : ℕ} {tokens : List Token} {j : ℕ} → LeavesNear tokens j → HasNoTree (at_most levels) tokens
 near_none near tree is = leaves_none near.leaves tree (record { reads = is.reads; clause = is.clause; right = is.right; ends = is.ends; levels = tt })
 
-fits_none : (levels : ℕ) (tokens : List Token) (kind : Kind) (j : ℕ) → FitsAt levels tokens kind j → HasNoTree (at_most levels) tokens
-fits_none levels tokens refusals.Syntax j fits = near_none fits
-fits_none levels tokens (refusals.LeftOut form) j fits = near_none fits.0
-fits_none levels tokens refusals.Nesting j fits = leaves_none fits.leaves
-fits_none levels tokens _ j fits = absurd fits
+stop_none : {levels : ℕ} {tokens at : List Token} (inside : IsEnd tokens at) (why : Why) → SticksBy levels (text ∷ []) tokens why at → HasNoTree (at_most levels) tokens
+stop_none inside reasons.Memory by = absurd by
+stop_none inside reasons.Syntax by = near_none (leaves_near inside by)
+stop_none inside reasons.Nesting by = let nests = nests_near inside by in leaves_none nests.leaves
 
-pub refused_none : {levels end : ℕ} {tokens : List Token} {r : Refusal} → Refused levels end (text ∷ []) tokens r → (r ≡ memory) ⊎ HasNoTree (at_most levels) tokens
-refused_none {levels = levels} {end = end} {tokens = tokens} {r = r} s = elim (s.why) [
-  | inl e ↦ inl e
-  | inr e ↦ (let f : Fits levels end tokens r = fits_stop e in inr (fits_none levels tokens r.kind f.j f.fits))
-]
+refused_none : {levels end : ℕ} {tokens : List Token} {stop : Stop} → Refused levels end (text ∷ []) tokens stop → (stop ≡ stopped.memory) ⊎ HasNoTree (at_most levels) tokens
+refused_none {stop = stop} s = elim (s.why) [ inl e ↦ inl e | inr e ↦ inr (stop_none e.inside stop.why e.by) ]
 
--- A tree that the tokens have is the one answered, where memory is there.
-pub tree_answered : {levels : ℕ} {tokens : List Token} (result : Result File Refusal) → IfOk result (λ file. IsFile (at_most levels) tokens (file_tree file))
-    → IfErr result (λ r. (r ≡ memory) ⊎ HasNoTree (at_most levels) tokens)
-    → (tree : FileTree) → IsFile (at_most levels) tokens tree → MatchResult result (λ file. file_tree file ≡ tree) (λ r. r ≡ memory)
-tree_answered {levels = levels} {tokens = tokens} (Ok file) found none tree is = one_tree (at_most levels) (at_most levels) tokens (file_tree file) tree found is
-tree_answered (Err r) found none tree is = ⊎_elim (λ lack. lack) (λ no_tree. absurd (no_tree tree is)) none
+-- A tree that the tokens have is the one answered.
+pub tree_answered : {levels : ℕ} {tokens : List Token} (file : File) → IsFile (at_most levels) tokens (file_tree file) → (tree : FileTree) → IsFile (at_most levels) tokens tree → file_tree file ≡ tree
+tree_answered {levels = levels} {tokens = tokens} file found tree is = one_tree (at_most levels) (at_most levels) tokens (file_tree file) tree found is
+
+-- Where the tokens have a tree, the parser stops for want of memory alone.
+pub tree_refused : {levels end : ℕ} {tokens : List Token} {stop : Stop} {r : Refusal} → Refused levels end (text ∷ []) tokens stop → Tells end tokens stop r → (tree : FileTree) → IsFile (at_most levels) tokens tree → r ≡ memory
+tree_refused {end = end} {tokens = tokens} s told tree is = elim (refused_none s) [ inl e ↦ memory_told end tokens e told | inr none ↦ absurd (none tree is) ]

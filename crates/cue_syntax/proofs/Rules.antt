@@ -3,27 +3,25 @@ use Rattle.std.proofs.Common.{◌≡◌, ◌∙◌, ap, sym, subst, refl, ℕ, �
 use Rattle.cue_lex.specs.declared.token.Token.{Token}
 use Rattle.cue_lex.specs.declared.token.TokenKind.{TokenKind}
 use Rattle.cue_lex.specs.declared.token.TokenKind.TheVariants as kinds
-use Rattle.cue_lattice.specs.declared.refusal.Form.{Form}
-use Rattle.cue_lattice.specs.declared.refusal.Form.TheVariants as forms
-use Rattle.cue_lattice.specs.declared.refusal.Kind.{Kind}
-use Rattle.cue_lattice.specs.declared.refusal.Kind.TheVariants as refusals
-use Rattle.cue_lattice.specs.declared.refusal.Refusal.{Refusal}
+use Rattle.cue_syntax.specs.declared.stop.Why.TheVariants as reasons
+use Rattle.cue_syntax.specs.declared.stop.Stop.{Stop}
 use Rattle.cue_syntax.specs.declared.tree.Label.{Label}
 use Rattle.cue_syntax.specs.Spelling.{Reads, one, one_at, comma_if, spell_label}
-use Rattle.cue_syntax.specs.Viability.{at_hand, Stands, StandsSign, IsMark, IsLabelName, BeginsLabel, BeginsDefinition, BeginsExpression, BeginsClause, IsCallOfClose, IsDefinition, EndsHere, NoEntry, IsNoEntry, IsForm}
+use Rattle.cue_syntax.specs.Stops.{at_hand}
+use Rattle.cue_syntax.specs.Viability.{Stands, StandsSign, IsMark, IsLabelName, BeginsLabel, BeginsDefinition, IsCallOfClose, IsDefinition, EndsHere}
 use Rattle.cue_syntax.specs.Recogniser.{Goal, Stack, depth, levels_of, step, Closes, Moves, Stops, Refused, chains, row_goal, value, mark, colon, entries, more_entries, more_parts, more_terms, bar, term, unary, expression, parenthesis, parenthesis_end, elements, more_elements, bracket, bracket_end, behind_close, closed}
-use Rattle.cue_syntax.proofs.Stopping.{takes, takes_read, moves_none, moves_then, moves_more, moves_under, alike_moves, Halts, HaltsAt, halts_at, halts_unless, stopped, stops_here, stops_before, left_out_here, left_out_before, opens_none, opens_behind, refused_behind, refused_under, refused_end}
+use Rattle.cue_syntax.proofs.Stopping.{takes, takes_read, moves_none, moves_then, moves_more, moves_under, alike_moves, Halts, HaltsAt, halts_at, halts_unless, stopped, stops_here, stops_before, end_self, opens_none, opens_behind, refused_behind, refused_under, refused_end}
 use Rattle.cue_syntax.proofs.Labels.{label_entry, chains_depth, chains_close, chains_over, colon_halts}
 use Rattle.cue_syntax.proofs.Values.{value_moves, value_refused}
 
 -- a sign that opens a level with no room
-no_room_at : {n end : ℕ} {g : Stack} {r : Refusal} (a : List Token) (k : TokenKind) (next : Stack) → StandsSign k a → ((below : Stack) → step (g ++ below) k ≡ Some (next ++ below)) → 0 < depth next
-    → n ≡ 0 → r ≡ at_hand refusals.Nesting end a → Stops n end g a r
+no_room_at : {n end : ℕ} {g : Stack} {r : Stop} (a : List Token) (k : TokenKind) (next : Stack) → StandsSign k a → ((below : Stack) → step (g ++ below) k ≡ Some (next ++ below)) → 0 < depth next
+    → n ≡ 0 → r ≡ at_hand reasons.Nesting end a → Stops n end g a r
 no_room_at [] k next stands taken more zero is = absurd stands
 no_room_at {g = g} (t ∷ ts) k next stands taken more zero is = opens_none next t refl is (λ below. ap (step (g ++ below)) stands ∙ taken below) (omega (arith, zero, more))
 
-pub no_room : {n end : ℕ} {g : Stack} {a : List Token} {r : Refusal} (k : TokenKind) (next : Stack) → StandsSign k a → ((below : Stack) → step (g ++ below) k ≡ Some (next ++ below)) → 0 < depth next
-    → n ≡ 0 → r ≡ at_hand refusals.Nesting end a → Refused n end g a r
+pub no_room : {n end : ℕ} {g : Stack} {a : List Token} {r : Stop} (k : TokenKind) (next : Stack) → StandsSign k a → ((below : Stack) → step (g ++ below) k ≡ Some (next ++ below)) → 0 < depth next
+    → n ≡ 0 → r ≡ at_hand reasons.Nesting end a → Refused n end g a r
 no_room {a = a} k next stands taken more zero is = stopped (no_room_at a k next stands taken more zero is)
 
 -- the end of a parenthesis
@@ -69,7 +67,7 @@ parenthesis_close below closes = record { call = refl; colon = refl; question = 
 pub parenthesis_opens : {room left : ℕ} {a b c : List Token} → left + 1 ≡ room → Reads a (one kinds.OpenParenthesis) b → Moves left (expression ∷ []) b [] c → Moves room (unary ∷ []) a (parenthesis ∷ []) c
 parenthesis_opens is reads inner = moves_then {h = expression ∷ parenthesis ∷ []} (takes_read reads (λ below. refl) (omega (arith, is))) (moves_under (parenthesis ∷ []) (omega (arith, is)) inner)
 
-pub parenthesis_refused : {room left end other : ℕ} {a b : List Token} {r : Refusal} → left + 1 ≡ room → other ≡ end → Reads a (one kinds.OpenParenthesis) b → Refused left other (expression ∷ []) b r → Refused room end (unary ∷ []) a r
+pub parenthesis_refused : {room left end other : ℕ} {a b : List Token} {r : Stop} → left + 1 ≡ room → other ≡ end → Reads a (one kinds.OpenParenthesis) b → Refused left other (expression ∷ []) b r → Refused room end (unary ∷ []) a r
 parenthesis_refused is same reads inner =
     refused_behind {h = expression ∷ parenthesis ∷ []} (takes_read reads (λ below. refl) (omega (arith, is))) (refused_end same (refused_under (parenthesis ∷ []) (omega (arith, is)) parenthesis_close inner))
 
@@ -77,7 +75,7 @@ parenthesis_refused is same reads inner =
 pub struct_moves : {room : ℕ} {a b c : List Token} (left : ℕ) → left + 1 ≡ room → Reads a (one kinds.OpenBrace) b → Moves (1 + left) (entries false ∷ []) b [] c → Moves room (unary ∷ []) a [] c
 struct_moves left is reads inner = moves_then {h = entries false ∷ []} (takes_read reads (λ below. refl) (omega (arith, is))) (moves_more (omega (arith, is)) inner)
 
-pub struct_refused : {room end other : ℕ} {a b : List Token} {r : Refusal} (left : ℕ) → left + 1 ≡ room → other ≡ end → Reads a (one kinds.OpenBrace) b → Refused (1 + left) other (entries false ∷ []) b r → Refused room end (unary ∷ []) a r
+pub struct_refused : {room end other : ℕ} {a b : List Token} {r : Stop} (left : ℕ) → left + 1 ≡ room → other ≡ end → Reads a (one kinds.OpenBrace) b → Refused (1 + left) other (entries false ∷ []) b r → Refused room end (unary ∷ []) a r
 struct_refused {room = room} {end = end} {other = other} {b = b} {r = r} left is same reads inner =
     let e : 1 + left ≡ room = omega (arith, is) in
     refused_behind {h = entries false ∷ []} (takes_read reads (λ below. refl) (omega (arith, is))) (refused_end same (subst (λ z. Refused z other (entries false ∷ []) b r) e inner))
@@ -93,7 +91,12 @@ call_at (t ∷ ts) b call reads = subst (λ z. StandsSign kinds.OpenParenthesis 
 pub call_paren : {from : ℕ} {a b : List Token} → IsCallOfClose a → Reads a (one_at from (kinds.Name (codes "close"))) b → StandsSign kinds.OpenParenthesis b
 call_paren {a = a} {b = b} call reads = call_at a b call reads
 
-pub call_no_room : {room end other from : ℕ} {a b : List Token} {r : Refusal} → room ≡ 0 → other ≡ end → IsCallOfClose a → Reads a (one_at from (kinds.Name (codes "close"))) b → r ≡ at_hand refusals.Nesting other b
+call_by : {from : ℕ} (a b c : List Token) → Reads a (one_at from (kinds.Name (codes "close"))) b → Reads b (one kinds.OpenParenthesis) c → IsCallOfClose a × (drop 1 a ≡ b)
+call_by [] b c first second = absurd first.follows
+call_by (s ∷ a) [] c first second = absurd second.follows
+call_by (s ∷ a) (t ∷ b) c first second = ((first.follows.0, subst (λ z. StandsSign kinds.OpenParenthesis z) (sym first.follows.2) second.follows.0), first.follows.2)
+
+pub call_no_room : {room end other from : ℕ} {a b : List Token} {r : Stop} → room ≡ 0 → other ≡ end → IsCallOfClose a → Reads a (one_at from (kinds.Name (codes "close"))) b → r ≡ at_hand reasons.Nesting other b
     → Refused room end (unary ∷ []) a r
 call_no_room zero same call first is =
     refused_behind {h = behind_close ∷ []} (takes_read first (λ below. refl) (omega arith)) (refused_end same (no_room kinds.OpenParenthesis (closed ∷ []) (call_paren call first) (λ below. refl) (omega arith) zero is))
@@ -105,20 +108,20 @@ closed_none _ other below = refl
 pub closed_halts : {a : List Token} → ¬ StandsSign kinds.OpenBrace a → Halts (closed ∷ []) a
 closed_halts lacks = halts_unless kinds.OpenBrace (λ below. refl) closed_none lacks
 
-pub brace_no_room : {room left end other from : ℕ} {a b c d : List Token} {r : Refusal} → left + 1 ≡ room → left ≡ 0 → other ≡ end → Reads a (one_at from (kinds.Name (codes "close"))) b → Reads b (one kinds.OpenParenthesis) c
-    → Reads c (one kinds.OpenBrace) d → r ≡ at_hand refusals.Nesting other c → Refused room end (unary ∷ []) a r
+pub brace_no_room : {room left end other from : ℕ} {a b c d : List Token} {r : Stop} → left + 1 ≡ room → left ≡ 0 → other ≡ end → Reads a (one_at from (kinds.Name (codes "close"))) b → Reads b (one kinds.OpenParenthesis) c
+    → Reads c (one kinds.OpenBrace) d → r ≡ at_hand reasons.Nesting other c → Refused room end (unary ∷ []) a r
 brace_no_room is zero same first second third refused = refused_end same (stopped (at_paren is zero first second third refused))
   where
-    at_paren : {room left end from : ℕ} {a b c d : List Token} {r : Refusal} → left + 1 ≡ room → left ≡ 0 → Reads a (one_at from (kinds.Name (codes "close"))) b → Reads b (one kinds.OpenParenthesis) c
-        → Reads c (one kinds.OpenBrace) d → r ≡ at_hand refusals.Nesting end c → Stops room end (unary ∷ []) a r
+    at_paren : {room left end from : ℕ} {a b c d : List Token} {r : Stop} → left + 1 ≡ room → left ≡ 0 → Reads a (one_at from (kinds.Name (codes "close"))) b → Reads b (one kinds.OpenParenthesis) c
+        → Reads c (one kinds.OpenBrace) d → r ≡ at_hand reasons.Nesting end c → Stops room end (unary ∷ []) a r
     at_paren {b = []} is zero first second third refused = absurd second.follows
     at_paren {b = t ∷ []} {c = []} is zero first second third refused = absurd third.follows
     at_paren {b = t ∷ []} {c = v ∷ vs} is zero first second third refused = absurd (let e : [] ≡ v ∷ vs = second.follows.2 in cc)
     at_paren {b = t ∷ u ∷ ts} {c = []} is zero first second third refused = absurd third.follows
-    at_paren {b = t ∷ u ∷ ts} {c = v ∷ vs} {d = d} is zero first second third refused =
-        let third_at = subst (λ z. Reads z (one kinds.OpenBrace) d) (sym second.follows.2) third in
+    at_paren {a = a} {b = t ∷ u ∷ ts} {c = v ∷ vs} is zero first second third refused =
+        let call = call_by a (t ∷ u ∷ ts) (v ∷ vs) first second in
         opens_behind {h = behind_close ∷ []} (closed ∷ []) t (takes_read first (λ below. refl) (omega arith)) (ap (λ z. t ∷ z) second.follows.2) refused
-        (second.follows.0, third_at.follows.0) (λ below. ap (step (behind_close ∷ below)) second.follows.0) (omega (arith, is, zero))
+        (record { name = a; inside = end_self; call = call.0; behind = call.1; is = sym second.follows.2; brace = third.follows.0 }) (λ below. ap (step (behind_close ∷ below)) second.follows.0) (omega (arith, is, zero))
 
 pub close_opens : {room left from : ℕ} {a b c d : List Token} (last : ℕ) → left + 1 ≡ room → last + 1 ≡ left → Reads a (one_at from (kinds.Name (codes "close"))) b → Reads b (one kinds.OpenParenthesis) c
     → Reads c (one kinds.OpenBrace) d → Moves room (unary ∷ []) a (entries false ∷ parenthesis ∷ []) d
@@ -128,7 +131,7 @@ pub close_moves : {room left from : ℕ} {a b c d f : List Token} (last : ℕ) �
     → Reads c (one kinds.OpenBrace) d → Moves (1 + last) (entries false ∷ []) d [] f → Moves room (unary ∷ []) a (parenthesis ∷ []) f
 close_moves last is more first second third inner = moves_then (close_opens last is more first second third) (moves_under (parenthesis ∷ []) (omega (arith, is, more)) inner)
 
-pub close_refused : {room left end other from : ℕ} {a b c d : List Token} {r : Refusal} (last : ℕ) → left + 1 ≡ room → last + 1 ≡ left → other ≡ end → Reads a (one_at from (kinds.Name (codes "close"))) b → Reads b (one kinds.OpenParenthesis) c
+pub close_refused : {room left end other from : ℕ} {a b c d : List Token} {r : Stop} (last : ℕ) → left + 1 ≡ room → last + 1 ≡ left → other ≡ end → Reads a (one_at from (kinds.Name (codes "close"))) b → Reads b (one kinds.OpenParenthesis) c
     → Reads c (one kinds.OpenBrace) d → Refused (1 + last) other (entries false ∷ []) d r → Refused room end (unary ∷ []) a r
 close_refused last is more same first second third inner = refused_behind (close_opens last is more first second third) (refused_end same (refused_under (parenthesis ∷ []) (omega (arith, is, more)) parenthesis_close inner))
 
@@ -164,7 +167,7 @@ parts_go reads = takes_read reads (λ below. refl) (omega arith)
 pub part_moves : {n : ℕ} {a b : List Token} → Moves n (unary ∷ []) a [] b → Moves n (unary ∷ more_parts ∷ []) a (more_parts ∷ []) b
 part_moves m = moves_under (more_parts ∷ []) (omega arith) m
 
-pub part_refused : {n end : ℕ} {a : List Token} {r : Refusal} → Refused n end (unary ∷ []) a r → Refused n end (unary ∷ more_parts ∷ []) a r
+pub part_refused : {n end : ℕ} {a : List Token} {r : Stop} → Refused n end (unary ∷ []) a r → Refused n end (unary ∷ more_parts ∷ []) a r
 part_refused s = refused_under (more_parts ∷ []) (omega arith) (λ below closes. record { call = closes.call; colon = closes.colon; question = closes.question; exclamation = closes.exclamation }) s
 
 terms_over : (k : TokenKind) → (k ≡ kinds.Bar → ⊥) → (below : Stack) → step (more_terms ∷ below) k ≡ step below k
@@ -184,7 +187,7 @@ terms_go reads = takes_read reads (λ below. refl) (omega arith)
 pub term_moves : {n : ℕ} {a b : List Token} → Moves n (term ∷ []) a [] b → Moves n (term ∷ more_terms ∷ []) a (more_terms ∷ []) b
 term_moves m = moves_under (more_terms ∷ []) (omega arith) m
 
-pub term_refused : {n end : ℕ} {a : List Token} {r : Refusal} → Refused n end (term ∷ []) a r → Refused n end (term ∷ more_terms ∷ []) a r
+pub term_refused : {n end : ℕ} {a : List Token} {r : Stop} → Refused n end (term ∷ []) a r → Refused n end (term ∷ more_terms ∷ []) a r
 term_refused s = refused_under (more_terms ∷ []) (omega arith) (λ below closes. record { call = closes.call; colon = closes.colon; question = closes.question; exclamation = closes.exclamation }) s
 
 -- what may follow the first term: another one has to, where it is marked
@@ -247,7 +250,7 @@ first_level : (n : ℕ) (marked : Bool) → depth (behind_first marked ∷ []) +
 first_level n true = omega arith
 first_level n false = omega arith
 
-pub first_refused : {n end : ℕ} {a : List Token} {r : Refusal} → Refused n end (term ∷ []) a r → Refused n end (expression ∷ []) a r
+pub first_refused : {n end : ℕ} {a : List Token} {r : Stop} → Refused n end (term ∷ []) a r → Refused n end (expression ∷ []) a r
 first_refused {n = n} {a = a} s =
     let f = first_here a in
     refused_behind (first_opens f.0 f.1 f.2) (refused_under (behind_first f.0 ∷ []) (first_level n f.0) (first_closes f.0) s)
@@ -283,20 +286,10 @@ ellipsis_at false (t ∷ ts) close more = λ below closes. bracket_none t.kind c
 pub ellipsis_halts : {a b : List Token} (comma : Bool) → Reads a (comma_if comma) b → (comma ≡ false → ¬ StandsSign kinds.Comma a) → ¬ StandsSign kinds.CloseBracket b → Halts (behind_ellipsis comma ∷ []) b
 ellipsis_halts {b = b} comma reads lacks close = record { at = ellipsis_at comma b close (no_comma comma reads lacks) }
 
-no_bracket : (k : TokenKind) → BeginsExpression k → (k ≡ kinds.CloseBracket → ⊥) × (k ≡ kinds.Comma → ⊥)
-no_bracket k begins = (λ e. subst BeginsExpression e begins, λ e. subst BeginsExpression e begins)
-
-pub typed_halts : {a : List Token} → Stands BeginsExpression a → Halts (bracket ∷ []) a
-typed_halts {a = a} begins = record { at = typed_at a begins }
-  where
-    typed_at : (a : List Token) → Stands BeginsExpression a → HaltsAt (bracket ∷ []) a
-    typed_at [] begins = absurd begins
-    typed_at (t ∷ ts) begins = λ below closes. bracket_none t.kind (no_bracket t.kind begins).0 (no_bracket t.kind begins).1 below
-
 pub list_opens : {room : ℕ} {a b c : List Token} {next : Stack} (left : ℕ) → left + 1 ≡ room → Reads a (one kinds.OpenBracket) b → Moves (1 + left) (elements ∷ []) b next c → Moves room (unary ∷ []) a next c
 list_opens left is reads inner = moves_then {h = elements ∷ []} (takes_read reads (λ below. refl) (omega (arith, is))) (moves_more (omega (arith, is)) inner)
 
-pub list_refused : {room end other : ℕ} {a b : List Token} {r : Refusal} (left : ℕ) → left + 1 ≡ room → other ≡ end → Reads a (one kinds.OpenBracket) b → Refused (1 + left) other (elements ∷ []) b r → Refused room end (unary ∷ []) a r
+pub list_refused : {room end other : ℕ} {a b : List Token} {r : Stop} (left : ℕ) → left + 1 ≡ room → other ≡ end → Reads a (one kinds.OpenBracket) b → Refused (1 + left) other (elements ∷ []) b r → Refused room end (unary ∷ []) a r
 list_refused {room = room} {other = other} {b = b} {r = r} left is same reads inner =
     let e : 1 + left ≡ room = omega (arith, is) in
     refused_behind {h = elements ∷ []} (takes_read reads (λ below. refl) (omega (arith, is))) (refused_end same (subst (λ z. Refused z other (elements ∷ []) b r) e inner))
@@ -329,7 +322,7 @@ element_at (t ∷ ts) close more = alike_moves (t ∷ ts) (λ below. element_ste
 pub element_moves : {room : ℕ} {a b : List Token} → ¬ StandsSign kinds.CloseBracket a → ¬ StandsSign kinds.Ellipsis a → Moves room (expression ∷ []) a [] b → Moves (1 + room) (elements ∷ []) a (more_elements ∷ []) b
 element_moves {a = a} close more inner = moves_then (element_at a close more) (moves_under (more_elements ∷ []) (omega arith) inner)
 
-pub element_refused : {room end : ℕ} {a : List Token} {r : Refusal} → ¬ StandsSign kinds.CloseBracket a → ¬ StandsSign kinds.Ellipsis a → Refused room end (expression ∷ []) a r → Refused (1 + room) end (elements ∷ []) a r
+pub element_refused : {room end : ℕ} {a : List Token} {r : Stop} → ¬ StandsSign kinds.CloseBracket a → ¬ StandsSign kinds.Ellipsis a → Refused room end (expression ∷ []) a r → Refused (1 + room) end (elements ∷ []) a r
 element_refused {a = a} close more inner =
     refused_behind (element_at a close more) (refused_under (more_elements ∷ []) (omega arith) (λ below closes. record { call = refl; colon = refl; question = refl; exclamation = refl }) inner)
 
@@ -411,17 +404,6 @@ pub entry_ellipsis : {n : ℕ} {a b : List Token} (top : Bool) → levels_of (en
 entry_ellipsis true le reads = takes_read reads (λ below. refl) (omega (arith, le))
 entry_ellipsis false le reads = takes_read reads (λ below. refl) (omega (arith, le))
 
-no_entry_comma : (top : Bool) (k : TokenKind) → BeginsExpression k → (below : Stack) → step (more_entries top ∷ below) k ≡ None
-no_entry_comma true k begins below = top_none k (λ e. subst BeginsExpression e begins) below
-no_entry_comma false k begins below = more_entries_none k (λ e. subst BeginsExpression e begins) (λ e. subst BeginsExpression e begins) below
-
-pub typed_entry_halts : {a : List Token} (top : Bool) → Stands BeginsExpression a → Halts (more_entries top ∷ []) a
-typed_entry_halts {a = a} top begins = record { at = typed_at top a begins }
-  where
-    typed_at : (top : Bool) (a : List Token) → Stands BeginsExpression a → HaltsAt (more_entries top ∷ []) a
-    typed_at top [] begins = absurd begins
-    typed_at top (t ∷ ts) begins = λ below closes. no_entry_comma top t.kind begins below
-
 -- a value behind the labels of a chain
 same_level : (top : Bool) → levels_of (more_entries top) ≡ levels_of (entries top)
 same_level true = refl
@@ -436,7 +418,7 @@ pub chain_value : {room : ℕ} {b c d : List Token} (left : ℕ) (ls : List Labe
 chain_value {d = d} left ls is first label shorter inner =
     moves_then first (moves_then (moves_under (chains ls) (omega (arith, is, chains_depth ls)) (value_moves label shorter inner)) (chains_over ls d))
 
-pub chain_value_refused : {room end other : ℕ} {b c : List Token} {r : Refusal} (left : ℕ) (ls : List Label) → left + length ls ≡ room → other ≡ end → Moves room (value ∷ []) b (value ∷ chains ls) c → ¬ BeginsLabel c
+pub chain_value_refused : {room end other : ℕ} {b c : List Token} {r : Stop} (left : ℕ) (ls : List Label) → left + length ls ≡ room → other ≡ end → Moves room (value ∷ []) b (value ∷ chains ls) c → ¬ BeginsLabel c
     → Refused left other (expression ∷ []) c r → Refused room end (value ∷ []) b r
 chain_value_refused left ls is same first label inner =
     refused_behind first (refused_end same (refused_under (chains ls) (omega (arith, is, chains_depth ls)) (chains_close ls) (value_refused label inner)))
@@ -445,7 +427,7 @@ pub field_moves : {room : ℕ} {a b d : List Token} (top : Bool) (l : Label) →
 field_moves top l reads inner =
     moves_then (label_entry top l (omega (arith, same_level top)) reads) (moves_under (more_entries top ∷ []) (omega (arith, same_level top)) inner)
 
-pub field_refused : {room end other : ℕ} {a b : List Token} {r : Refusal} (top : Bool) (l : Label) → Reads a (spell_label l) b → other ≡ end → Refused room other (value ∷ []) b r → Refused (levels_of (entries top) + room) end (entries top ∷ []) a r
+pub field_refused : {room end other : ℕ} {a b : List Token} {r : Stop} (top : Bool) (l : Label) → Reads a (spell_label l) b → other ≡ end → Refused room other (value ∷ []) b r → Refused (levels_of (entries top) + room) end (entries top ∷ []) a r
 field_refused top l reads same inner =
     refused_behind (label_entry top l (omega (arith, same_level top)) reads) (refused_end same (refused_under (more_entries top ∷ []) (omega (arith, same_level top)) (more_entries_close top) inner))
 
@@ -455,7 +437,7 @@ definition_opens first second = moves_then {h = colon ∷ value ∷ more_entries
 pub definition_moves : {room from : ℕ} {t : List ℕ} {a b c d : List Token} → Reads a (one_at from (kinds.Definition t)) b → Reads b (one kinds.Colon) c → Moves room (value ∷ []) c [] d → Moves room (entries true ∷ []) a (more_entries true ∷ []) d
 definition_moves first second inner = moves_then (definition_opens first second) (moves_under (more_entries true ∷ []) (omega arith) inner)
 
-pub definition_refused : {room end other from : ℕ} {t : List ℕ} {a b c : List Token} {r : Refusal} → Reads a (one_at from (kinds.Definition t)) b → Reads b (one kinds.Colon) c → other ≡ end → Refused room other (value ∷ []) c r
+pub definition_refused : {room end other from : ℕ} {t : List ℕ} {a b c : List Token} {r : Stop} → Reads a (one_at from (kinds.Definition t)) b → Reads b (one kinds.Colon) c → other ≡ end → Refused room other (value ∷ []) c r
     → Refused room end (entries true ∷ []) a r
 definition_refused first second same inner = refused_behind (definition_opens first second) (refused_end same (refused_under (more_entries true ∷ []) (omega arith) (more_entries_close true) inner))
 
@@ -464,25 +446,9 @@ data Near (g : Stack) (a : List Token) : Type 0 where
   here : Halts g a → Near g a
   before : (h : Stack) (n : ℕ) → Moves n g a h (drop 1 a) → Halts h (drop 1 a) → Near g a
 
-clause_label : (k : TokenKind) → BeginsClause k → IsLabelName k
-clause_label (kinds.Name t) is = tt
-clause_label _ is = absurd is
-
-clause_form : (a : List Token) → ¬ BeginsLabel a → Stands BeginsClause a → IsForm forms.Clause a
-clause_form [] label is = absurd is
-clause_form (t ∷ ts) label is = (is, λ m. label (clause_label t.kind is, m))
-
-left_out_near : {n end : ℕ} {g : Stack} {a : List Token} {r : Refusal} {form : Form} → Near g a → r ≡ at_hand (refusals.LeftOut form) end a → IsForm form a → Stops n end g a r
-left_out_near (here halts) is form = left_out_here is form halts
-left_out_near (before h n m halts) is form = left_out_before h is form refl m halts
-
-near_by : {n end : ℕ} {g : Stack} {r : Refusal} (a : List Token) → Near g a → ¬ BeginsLabel a → (kind : Kind) → r ≡ at_hand kind end a → IsNoEntry kind a → Stops n end g a r
-near_by a (here halts) label refusals.Syntax is fits = stops_here is halts
-near_by a (before h n m halts) label refusals.Syntax is fits = stops_before h is refl m halts
-near_by a near label (refusals.LeftOut forms.Clause) is fits = left_out_near near is (clause_form a label fits)
-near_by a near label (refusals.LeftOut forms.DynamicLabel) is fits = left_out_near near is fits
-near_by a near label (refusals.LeftOut forms.Embedding) is fits = left_out_near near is fits
-near_by a near label _ is fits = absurd fits
+near_by : {n end : ℕ} {g : Stack} {r : Stop} (a : List Token) → Near g a → r ≡ at_hand reasons.Syntax end a → Stops n end g a r
+near_by a (here halts) is = stops_here is halts
+near_by a (before h n m halts) is = stops_before h is refl m halts
 
 mark_none : (g : Stack) (k : TokenKind) → ¬ IsMark k → (below : Stack) → step ((mark ∷ g) ++ below) k ≡ None
 mark_none g kinds.Colon other below = absurd (other tt)
@@ -513,6 +479,6 @@ near_none false [] dots label other ends = here (record { at = λ below. refl })
 near_none true (t ∷ ts) dots label other ends = near_entry true t ts t.kind refl dots label other (λ e. let f : true ≡ false = e in cc)
 near_none false (t ∷ ts) dots label other ends = near_entry false t ts t.kind refl dots label other (λ e. ends)
 
-pub no_entry_refused : {n end : ℕ} {a : List Token} {r : Refusal} (top : Bool) → ¬ StandsSign kinds.Ellipsis a → ¬ BeginsLabel a → (top ≡ true → ¬ BeginsDefinition a) → ¬ EndsHere top a → NoEntry end a r
+pub no_entry_refused : {n end : ℕ} {a : List Token} {r : Stop} (top : Bool) → ¬ StandsSign kinds.Ellipsis a → ¬ BeginsLabel a → (top ≡ true → ¬ BeginsDefinition a) → ¬ EndsHere top a → r ≡ at_hand reasons.Syntax end a
     → Refused n end (entries top ∷ []) a r
-no_entry_refused {a = a} top dots label other ends why = stopped (near_by a (near_none top a dots label other ends) label why.kind why.is why.fits)
+no_entry_refused {a = a} top dots label other ends is = stopped (near_by a (near_none top a dots label other ends) is)

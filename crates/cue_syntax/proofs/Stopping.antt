@@ -1,17 +1,16 @@
 -- How moves and stops of the recogniser are put together.
-use Rattle.std.proofs.Common.{◌≡◌, ◌∙◌, ap, sym, subst, refl, ℕ, ◌+◌, ◌≤◌, ◌<◌, inl, inr, true, false, List, [], ◌∷◌, ◌++◌, drop, append_assoc, arith, Some, None, Result, Ok, Err, IfOk, IfErr}
+use Rattle.std.proofs.Common.{◌≡◌, ◌∙◌, ap, sym, subst, refl, ℕ, ◌+◌, ◌≤◌, ◌<◌, ◌⊎◌, inl, inr, true, false, List, [], ◌∷◌, ◌++◌, drop, append_assoc, arith, Some, None, Result, Ok, Err, IfOk, IfErr}
 use Rattle.std.specs.Prelude.{if◌then◌else◌, IsErrAnd}
 use Rattle.std.proofs.lemmas.Bool.{le-leb, lt-leb}
 use Rattle.cue_lex.specs.declared.token.Token.{Token}
 use Rattle.cue_lex.specs.declared.token.TokenKind.{TokenKind}
-use Rattle.cue_lattice.specs.declared.refusal.Form.{Form}
-use Rattle.cue_lattice.specs.declared.refusal.Kind.{Kind}
-use Rattle.cue_lattice.specs.declared.refusal.Kind.TheVariants as refusals
-use Rattle.cue_lattice.specs.declared.refusal.Refusal.{Refusal}
-use Rattle.cue_lattice.specs.Refusal.{memory}
+use Rattle.cue_syntax.specs.declared.stop.Why.{Why}
+use Rattle.cue_syntax.specs.declared.stop.Why.TheVariants as reasons
+use Rattle.cue_syntax.specs.declared.stop.Stop.{Stop}
 use Rattle.cue_syntax.specs.Grammar.{Limit, unlimited, at_most, Within}
 use Rattle.cue_syntax.specs.Spelling.{Reads, Piece}
-use Rattle.cue_syntax.specs.Viability.{at_hand, IsForm, StandsSign}
+use Rattle.cue_syntax.specs.Stops.{memory, at_hand}
+use Rattle.cue_syntax.specs.Viability.{StandsSign}
 use Rattle.cue_syntax.specs.Recogniser.{Stack, depth, fits, step, is_over, stuck, stuck_behind, Closes, IsEnd, OpensNear, SticksBy, Stops, Refused, Moves, IsBrace}
 
 pub end_self : {a : List Token} → IsEnd a a
@@ -140,87 +139,58 @@ err_from P (Ok a) x is p = absurd is
 err_from P (Err e) x is p = subst P (sym is) p
 
 -- stops
-pub stops_here : {n end : ℕ} {g : Stack} {a : List Token} {r : Refusal} → r ≡ at_hand refusals.Syntax end a → Halts g a → Stops n end g a r
+pub stops_here : {n end : ℕ} {g : Stack} {a : List Token} {r : Stop} → r ≡ at_hand reasons.Syntax end a → Halts g a → Stops n end g a r
 stops_here {n = n} {end = end} {g = g} {a = a} is halts = subst (λ z. Stops n end g a z) (sym is) (record {
   at = a;
   inside = end_self;
-  place = refl;
+  left = refl;
   by = record { here = a; sticks = halts_sticks g unlimited a halts; near = inl refl };
 })
 
 -- refused at the symbol before
-pub stops_before : {n end free : ℕ} {g : Stack} {a b : List Token} {r : Refusal} (h : Stack) → r ≡ at_hand refusals.Syntax end a → drop 1 a ≡ b → Moves free g a h b → Halts h b → Stops n end g a r
+pub stops_before : {n end free : ℕ} {g : Stack} {a b : List Token} {r : Stop} (h : Stack) → r ≡ at_hand reasons.Syntax end a → drop 1 a ≡ b → Moves free g a h b → Halts h b → Stops n end g a r
 stops_before {n = n} {end = end} {g = g} {a = a} {b = b} h is next m halts = subst (λ z. Stops n end g a z) (sym is) (record {
   at = a;
   inside = end_self;
-  place = refl;
+  left = refl;
   by = record { here = b; sticks = λ below closes. m.moves unlimited below tt ∙ halts_sticks h unlimited b halts below closes; near = inr next };
 })
 
 -- refused at a later symbol
-pub stops_there : {n end free : ℕ} {g h : Stack} {a b : List Token} {r : Refusal} → r ≡ at_hand refusals.Syntax end b → Moves free g a h b → Halts h b → Stops n end g a r
+pub stops_there : {n end free : ℕ} {g h : Stack} {a b : List Token} {r : Stop} → r ≡ at_hand reasons.Syntax end b → Moves free g a h b → Halts h b → Stops n end g a r
 stops_there {n = n} {end = end} {g = g} {h = h} {a = a} {b = b} is m halts = subst (λ z. Stops n end g a z) (sym is) (record {
   at = b;
   inside = m.inside;
-  place = refl;
+  left = refl;
   by = record { here = b; sticks = λ below closes. m.moves unlimited below tt ∙ halts_sticks h unlimited b halts below closes; near = inl refl };
 })
 
-pub left_out_here : {n end : ℕ} {g : Stack} {a : List Token} {r : Refusal} {form : Form} → r ≡ at_hand (refusals.LeftOut form) end a → IsForm form a → Halts g a → Stops n end g a r
-left_out_here {n = n} {end = end} {g = g} {a = a} is form halts = subst (λ z. Stops n end g a z) (sym is) (record {
-  at = a;
-  inside = end_self;
-  place = refl;
-  by = (record { here = a; sticks = halts_sticks g unlimited a halts; near = inl refl }, form);
-})
+near_behind : {a b here at : List Token} → IsEnd a b → (at ≡ here) ⊎ (drop 1 at ≡ here) ⊎ IsBrace b here at → (at ≡ here) ⊎ (drop 1 at ≡ here) ⊎ IsBrace a here at
+near_behind inside (inl e) = inl e
+near_behind inside (inr (inl e)) = inr (inl e)
+near_behind inside (inr (inr brace)) = inr (inr (record { name = brace.name; inside = end_then inside brace.inside; call = brace.call; behind = brace.behind; is = brace.is; brace = brace.brace }))
 
-pub left_out_there : {n end free : ℕ} {g h : Stack} {a b : List Token} {r : Refusal} {form : Form} → r ≡ at_hand (refusals.LeftOut form) end b → IsForm form b → Moves free g a h b → Halts h b → Stops n end g a r
-left_out_there {n = n} {end = end} {g = g} {h = h} {a = a} {b = b} is form m halts = subst (λ z. Stops n end g a z) (sym is) (record {
-  at = b;
-  inside = m.inside;
-  place = refl;
-  by = (record { here = b; sticks = λ below closes. m.moves unlimited below tt ∙ halts_sticks h unlimited b halts below closes; near = inl refl }, form);
-})
-
-pub left_out_before : {n end free : ℕ} {g : Stack} {a b : List Token} {r : Refusal} {form : Form} (h : Stack) → r ≡ at_hand (refusals.LeftOut form) end a → IsForm form a
-    → drop 1 a ≡ b → Moves free g a h b → Halts h b → Stops n end g a r
-left_out_before {n = n} {end = end} {g = g} {a = a} {b = b} h is form next m halts = subst (λ z. Stops n end g a z) (sym is) (record {
-  at = a;
-  inside = end_self;
-  place = refl;
-  by = (record { here = b; sticks = λ below closes. m.moves unlimited below tt ∙ halts_sticks h unlimited b halts below closes; near = inr next }, form);
-})
-
-by_behind : {n : ℕ} {g h : Stack} {a b : List Token} (at : List Token) (kind : Kind) → Moves n g a h b → SticksBy n h b kind at → SticksBy n g a kind at
-by_behind at refusals.Syntax m by = record { here = by.here; sticks = λ below closes. m.moves unlimited below tt ∙ by.sticks below closes; near = by.near }
-by_behind at (refusals.LeftOut form) m by = (record { here = by.0.here; sticks = λ below closes. m.moves unlimited below tt ∙ by.0.sticks below closes; near = by.0.near }, by.1)
-by_behind {n = n} at refusals.Nesting m by = record {
+by_behind : {n : ℕ} {g h : Stack} {a b : List Token} (at : List Token) (kind : Why) → Moves n g a h b → SticksBy n h b kind at → SticksBy n g a kind at
+by_behind at reasons.Syntax m by = record { here = by.here; sticks = λ below closes. m.moves unlimited below tt ∙ by.sticks below closes; near = by.near }
+by_behind {n = n} at reasons.Nesting m by = record {
   here = by.here;
   sticks = λ below closes. m.moves (at_most (depth below + n)) below (let e : depth below + n ≤ depth below + n = omega arith in e) ∙ by.sticks below closes;
   deeper = λ below. let d = by.deeper below in record { next = d.next; token = d.token; tokens_behind = d.tokens_behind; is = d.is; goes_on = m.moves unlimited below tt ∙ d.goes_on };
-  near = by.near;
+  near = near_behind m.inside by.near;
 }
-by_behind at _ m by = by
+by_behind at reasons.Memory m by = by
 
-pub stops_behind : {n end : ℕ} {g h : Stack} {a b : List Token} {r : Refusal} → Moves n g a h b → Stops n end h b r → Stops n end g a r
-stops_behind {r = r} m s = record { at = s.at; inside = end_then m.inside s.inside; place = s.place; by = by_behind s.at r.kind m s.by }
+pub stops_behind : {n end : ℕ} {g h : Stack} {a b : List Token} {r : Stop} → Moves n g a h b → Stops n end h b r → Stops n end g a r
+stops_behind {r = r} m s = record { at = s.at; inside = end_then m.inside s.inside; left = s.left; by = by_behind s.at r.why m s.by }
 
-by_under : {n : ℕ} (left : ℕ) (g : Stack) (a at : List Token) (kind : Kind) (under : Stack) → depth under + left ≡ n → ((below : Stack) → Closes below → Closes (under ++ below))
+by_under : {n : ℕ} (left : ℕ) (g : Stack) (a at : List Token) (kind : Why) (under : Stack) → depth under + left ≡ n → ((below : Stack) → Closes below → Closes (under ++ below))
     → SticksBy left g a kind at → SticksBy n (g ++ under) a kind at
-by_under left g a at refusals.Syntax under is close by = record {
+by_under left g a at reasons.Syntax under is close by = record {
   here = by.here;
   sticks = λ below closes. subst (λ z. stuck unlimited z a ≡ Some by.here) (sym (append_assoc g under below)) (by.sticks (under ++ below) (close below closes));
   near = by.near;
 }
-by_under left g a at (refusals.LeftOut form) under is close by = (
-  record {
-    here = by.0.here;
-    sticks = λ below closes. subst (λ z. stuck unlimited z a ≡ Some by.0.here) (sym (append_assoc g under below)) (by.0.sticks (under ++ below) (close below closes));
-    near = by.0.near;
-  },
-  by.1,
-)
-by_under {n = n} left g a at refusals.Nesting under is close by = record {
+by_under {n = n} left g a at reasons.Nesting under is close by = record {
   here = by.here;
   sticks = λ below closes.
       let e : depth (under ++ below) + left ≡ depth below + n = omega (arith, is, depth_append under below) in
@@ -235,11 +205,11 @@ by_under {n = n} left g a at refusals.Nesting under is close by = record {
   };
   near = by.near;
 }
-by_under left g a at _ under is close by = by
+by_under left g a at reasons.Memory under is close by = by
 
-pub stops_under : {n left end : ℕ} {g : Stack} {a : List Token} {r : Refusal} (under : Stack) → depth under + left ≡ n → ((below : Stack) → Closes below → Closes (under ++ below))
+pub stops_under : {n left end : ℕ} {g : Stack} {a : List Token} {r : Stop} (under : Stack) → depth under + left ≡ n → ((below : Stack) → Closes below → Closes (under ++ below))
     → Stops left end g a r → Stops n end (g ++ under) a r
-stops_under {r = r} under is close s = record { at = s.at; inside = s.inside; place = s.place; by = by_under _ _ _ s.at r.kind under is close s.by }
+stops_under {r = r} under is close s = record { at = s.at; inside = s.inside; left = s.left; by = by_under _ _ _ s.at r.why under is close s.by }
 
 -- a token that opens a level has no room
 by_nesting : {left : ℕ} {g : Stack} {a b : List Token} (next : Stack) (t : Token) → a ≡ t ∷ b
@@ -260,51 +230,51 @@ by_nesting {left = left} {g = g} {a = a} {b = b} next t is taken more = record {
   near = inl refl;
 }
 
-pub opens_none : {end left : ℕ} {g : Stack} {a b : List Token} {r : Refusal} (next : Stack) (t : Token) → a ≡ t ∷ b → r ≡ at_hand refusals.Nesting end a
+pub opens_none : {end left : ℕ} {g : Stack} {a b : List Token} {r : Stop} (next : Stack) (t : Token) → a ≡ t ∷ b → r ≡ at_hand reasons.Nesting end a
     → ((below : Stack) → step (g ++ below) t.kind ≡ Some (next ++ below)) → left < depth next → Stops left end g a r
 opens_none {end = end} {left = left} {g = g} {a = a} next t is refused taken more = subst (λ z. Stops left end g a z) (sym refused)
-    (record { at = a; inside = end_self; place = refl; by = by_nesting next t is taken more })
+    (record { at = a; inside = end_self; left = refl; by = by_nesting next t is taken more })
 
 -- a token that opens a level has no room, and the one before it is refused
-pub opens_before : {end left : ℕ} {g h : Stack} {a b c : List Token} {r : Refusal} (next : Stack) (t : Token) → r ≡ at_hand refusals.Nesting end a → drop 1 a ≡ b → Moves left g a h b
+pub opens_before : {end left : ℕ} {g h : Stack} {a b c : List Token} {r : Stop} (next : Stack) (t : Token) → r ≡ at_hand reasons.Nesting end a → drop 1 a ≡ b → Moves left g a h b
     → b ≡ t ∷ c → ((below : Stack) → step (h ++ below) t.kind ≡ Some (next ++ below)) → left < depth next → Stops left end g a r
 unfolding by_behind by_nesting
 opens_before {end = end} {left = left} {g = g} {h = h} {a = a} {b = b} next t refused second m is taken more =
-    let later : OpensNear left g a b = by_behind b refusals.Nesting m (by_nesting next t is taken more) in
+    let later : OpensNear left g a b = by_behind b reasons.Nesting m (by_nesting next t is taken more) in
     subst (λ z. Stops left end g a z) (sym refused) (record {
       at = a;
       inside = end_self;
-      place = refl;
+      left = refl;
       by = record { here = later.here; sticks = later.sticks; deeper = later.deeper; near = inr (inl second) };
     })
 
 -- the same, where the refusal is of the brace behind the parenthesis of a `close({`
-pub opens_behind : {end left : ℕ} {g h : Stack} {a b c : List Token} {r : Refusal} (next : Stack) (t : Token) → Moves left g a h b → b ≡ t ∷ c → r ≡ at_hand refusals.Nesting end c → IsBrace b
+pub opens_behind : {end left : ℕ} {g h : Stack} {a b c : List Token} {r : Stop} (next : Stack) (t : Token) → Moves left g a h b → b ≡ t ∷ c → r ≡ at_hand reasons.Nesting end c → IsBrace a b c
     → ((below : Stack) → step (h ++ below) t.kind ≡ Some (next ++ below)) → left < depth next → Stops left end g a r
 unfolding by_behind by_nesting
 opens_behind {end = end} {left = left} {g = g} {a = a} {b = b} {c = c} next t m is refused brace taken more =
-    let later : OpensNear left g a b = by_behind b refusals.Nesting m (by_nesting next t is taken more) in
+    let later : OpensNear left g a b = by_behind b reasons.Nesting m (by_nesting next t is taken more) in
     subst (λ z. Stops left end g a z) (sym refused) (record {
       at = c;
       inside = end_then m.inside (end_next t is);
-      place = refl;
-      by = record { here = later.here; sticks = later.sticks; deeper = later.deeper; near = inr (inr (ap (drop 1) (sym is), brace)) };
+      left = refl;
+      by = record { here = later.here; sticks = later.sticks; deeper = later.deeper; near = inr (inr brace) };
     })
 
 -- refusals
-pub lacks_memory : {n end : ℕ} {g : Stack} {a : List Token} {r : Refusal} → r ≡ memory → Refused n end g a r
+pub lacks_memory : {n end : ℕ} {g : Stack} {a : List Token} {r : Stop} → r ≡ memory → Refused n end g a r
 lacks_memory is = record { why = inl is }
 
-pub stopped : {n end : ℕ} {g : Stack} {a : List Token} {r : Refusal} → Stops n end g a r → Refused n end g a r
+pub stopped : {n end : ℕ} {g : Stack} {a : List Token} {r : Stop} → Stops n end g a r → Refused n end g a r
 stopped s = record { why = inr s }
 
-pub refused_behind : {n end : ℕ} {g h : Stack} {a b : List Token} {r : Refusal} → Moves n g a h b → Refused n end h b r → Refused n end g a r
+pub refused_behind : {n end : ℕ} {g h : Stack} {a b : List Token} {r : Stop} → Moves n g a h b → Refused n end h b r → Refused n end g a r
 refused_behind m s = elim (s.why) [ inl e ↦ record { why = inl e } | inr e ↦ record { why = inr (stops_behind m e) } ]
 
-pub refused_under : {n left end : ℕ} {g : Stack} {a : List Token} {r : Refusal} (under : Stack) → depth under + left ≡ n → ((below : Stack) → Closes below → Closes (under ++ below))
+pub refused_under : {n left end : ℕ} {g : Stack} {a : List Token} {r : Stop} (under : Stack) → depth under + left ≡ n → ((below : Stack) → Closes below → Closes (under ++ below))
     → Refused left end g a r → Refused n end (g ++ under) a r
 refused_under under is close s = elim (s.why) [ inl e ↦ record { why = inl e } | inr e ↦ record { why = inr (stops_under under is close e) } ]
 
 -- another name of the same end
-pub refused_end : {n end other : ℕ} {g : Stack} {a : List Token} {r : Refusal} → end ≡ other → Refused n end g a r → Refused n other g a r
+pub refused_end : {n end other : ℕ} {g : Stack} {a : List Token} {r : Stop} → end ≡ other → Refused n end g a r → Refused n other g a r
 refused_end {n = n} {g = g} {a = a} {r = r} is s = subst (λ z. Refused n z g a r) is s

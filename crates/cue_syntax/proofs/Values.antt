@@ -4,9 +4,9 @@ use Rattle.std.specs.Prelude.{if◌then◌else◌}
 use Rattle.cue_lex.specs.declared.token.Token.{Token}
 use Rattle.cue_lex.specs.declared.token.TokenKind.{TokenKind}
 use Rattle.cue_lex.specs.declared.token.TokenKind.TheVariants as kinds
-use Rattle.cue_lattice.specs.declared.refusal.Kind.{Kind}
-use Rattle.cue_lattice.specs.declared.refusal.Kind.TheVariants as refusals
-use Rattle.cue_lattice.specs.declared.refusal.Refusal.{Refusal}
+use Rattle.cue_syntax.specs.declared.stop.Why.{Why}
+use Rattle.cue_syntax.specs.declared.stop.Why.TheVariants as reasons
+use Rattle.cue_syntax.specs.declared.stop.Stop.{Stop}
 use Rattle.cue_syntax.specs.Grammar.{unlimited, at_most}
 use Rattle.cue_syntax.specs.Viability.{Stands, IsMark, IsLabelName, BeginsLabel}
 use Rattle.cue_syntax.specs.Recogniser.{Stack, depth, raise, step, stuck, is_word, is_keyword, Closes, IsEnd, SticksBy, Moves, Refused, value, value_name, value_text, expression, behind_close, more_parts, more_terms}
@@ -140,21 +140,19 @@ keyword_sticks {a = a} w below closes =
     let m : Moves 1 (value ∷ []) a (value_name w.name ∷ []) w.behind = takes w.token w.is (λ below. ap (step (value ∷ below)) w.kind) (let k = w.keyword in rw k (omega arith)) in
     m.moves unlimited below tt ∙ halts_sticks (value_name w.name ∷ []) unlimited w.behind (record { at = keyword_at w.name w.behind w.mark w.keyword }) below closes
 
-keyword_by : (n : ℕ) (a at : List Token) (kind : Kind) → BeginsKeyword a → IsEnd a at → SticksBy n (expression ∷ []) a kind at → SticksBy n (value ∷ []) a kind at
-keyword_by n a at refusals.Syntax w inside by =
+keyword_by : (n : ℕ) (a at : List Token) (kind : Why) → BeginsKeyword a → IsEnd a at → SticksBy n (expression ∷ []) a kind at → SticksBy n (value ∷ []) a kind at
+keyword_by n a at reasons.Syntax w inside by =
     record { here = w.behind; sticks = keyword_sticks w; near = inr (ap (drop 1) (keyword_near w inside (by.sticks [] nothing_closes) by.near ∙ w.is)) }
-keyword_by n a at (refusals.LeftOut form) w inside by =
-    (record { here = w.behind; sticks = keyword_sticks w; near = inr (ap (drop 1) (keyword_near w inside (by.0.sticks [] nothing_closes) by.0.near ∙ w.is)) }, by.1)
-keyword_by n a at refusals.Nesting w inside by =
+keyword_by n a at reasons.Nesting w inside by =
     let halts = expression_halts w in
     let d = by.deeper [] in
     let is : by.here ≡ a = some_inner (sym (by.sticks [] nothing_closes) ∙ halts_sticks (expression ∷ []) (raise (depth []) (at_most n)) a halts [] nothing_closes) in
     let inner : length a ≤ length d.tokens_behind = stuck_inside unlimited d.next d.tokens_behind a (sym d.goes_on ∙ halts_sticks (expression ∷ []) unlimited a halts [] nothing_closes) in
     absurd (omega (arith, inner, ap length is, ap length d.is))
-keyword_by n a at _ w inside by = by
+keyword_by n a at reasons.Memory w inside by = by
 
-pub value_refused : {n end : ℕ} {a : List Token} {r : Refusal} → ¬ BeginsLabel a → Refused n end (expression ∷ []) a r → Refused n end (value ∷ []) a r
+pub value_refused : {n end : ℕ} {a : List Token} {r : Stop} → ¬ BeginsLabel a → Refused n end (expression ∷ []) a r → Refused n end (value ∷ []) a r
 value_refused {a = a} {r = r} label s = elim (value_or a label) [
   | inl same ↦ refused_behind (moves_more (omega arith) same) s
-  | inr w ↦ elim (s.why) [ inl e ↦ record { why = inl e } | inr e ↦ record { why = inr (record { at = e.at; inside = e.inside; place = e.place; by = keyword_by _ a e.at r.kind w e.inside e.by }) } ]
+  | inr w ↦ elim (s.why) [ inl e ↦ record { why = inl e } | inr e ↦ record { why = inr (record { at = e.at; inside = e.inside; left = e.left; by = keyword_by _ a e.at r.why w e.inside e.by }) } ]
 ]

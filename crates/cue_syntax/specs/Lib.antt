@@ -5,3 +5,7 @@ pub mod Punctuation
 pub mod Viability
 pub mod Recogniser
 pub mod OneTree
+pub mod Stops
+pub mod Spots
+pub mod Forms
+pub mod Refusals

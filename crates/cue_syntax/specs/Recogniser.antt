@@ -2,19 +2,19 @@
 -- It tells at which symbol tokens leave the grammar. It defines nothing and no public contract speaks of it: the grammar
 -- is that of `Grammar`, and two laws say that the recogniser takes just what the grammar spells (proofs/Stuck: where it is
 -- stuck no text begins so; proofs/Viable: what it takes begins a text).
-use Rattle.std.specs.Prelude.{◌≡◌, ◌+◌, ◌⊎◌, drop, ℕ, Bool, true, false, List, [], ◌∷◌, ◌++◌, codes, Option, None, Some, nat_eq, nat_le, if◌then◌else◌, ◌||◌}
+use Rattle.std.specs.Prelude.{◌≡◌, ◌+◌, ◌⊎◌, drop, length, ℕ, Bool, true, false, List, [], ◌∷◌, ◌++◌, codes, Option, None, Some, nat_eq, nat_le, if◌then◌else◌, ◌||◌}
 use Rattle.std.specs.Cmp.Lexicographic.{pointwise}
 use Rattle.std.specs.List.{starts_with}
 use Rattle.cue_lex.specs.declared.token.Token.{Token}
 use Rattle.cue_lex.specs.declared.token.TokenKind.{TokenKind}
 use Rattle.cue_lex.specs.declared.token.TokenKind.TheVariants as kinds
-use Rattle.cue_lattice.specs.declared.refusal.Kind.{Kind}
-use Rattle.cue_lattice.specs.declared.refusal.Kind.TheVariants as refusals
-use Rattle.cue_lattice.specs.declared.refusal.Refusal.{Refusal}
-use Rattle.cue_lattice.specs.Refusal.{memory}
+use Rattle.cue_syntax.specs.declared.stop.Why.{Why}
+use Rattle.cue_syntax.specs.declared.stop.Why.TheVariants as reasons
+use Rattle.cue_syntax.specs.declared.stop.Stop.{Stop}
 use Rattle.cue_syntax.specs.declared.tree.Label.{Label}
+use Rattle.cue_syntax.specs.Stops.{memory}
 use Rattle.cue_syntax.specs.Grammar.{Limit, unlimited, at_most, Within}
-use Rattle.cue_syntax.specs.Viability.{Stands, Next, IsForm, place_of}
+use Rattle.cue_syntax.specs.Viability.{StandsSign, IsCallOfClose}
 
 -- what has still to come
 pub data Goal : Type 0 where
@@ -310,31 +310,36 @@ pub record GoesOn (goals : Stack) (tokens here : List Token) (below : Stack) : T
   pub is : here ≡ token ∷ tokens_behind
   pub goes_on : stuck unlimited (goals ++ below) tokens ≡ stuck unlimited next tokens_behind
 
-abbrev pub IsBrace : List Token → Type 0
-IsBrace here = Stands (λ s. s ≡ kinds.OpenParenthesis) here × Next (λ s. s ≡ kinds.OpenBrace) here
+-- a place behind the `close` and the parenthesis of a `close({`, where that parenthesis is here
+pub record IsBrace (tokens here at : List Token) : Type 0 where
+  pub name : List Token
+  pub inside : IsEnd tokens name
+  pub call : IsCallOfClose name
+  pub behind : drop 1 name ≡ here
+  pub is : at ≡ drop 1 here
+  pub brace : StandsSign kinds.OpenBrace at
 
 pub record OpensNear (room : ℕ) (goals : Stack) (tokens at : List Token) : Type 0 where
   pub here : List Token
   pub sticks : Sticks (at_most room) goals tokens here
   pub deeper : (below : Stack) → GoesOn goals tokens here below
-  pub near : (at ≡ here) ⊎ (drop 1 at ≡ here) ⊎ ((at ≡ drop 1 here) × IsBrace here)
+  pub near : (at ≡ here) ⊎ (drop 1 at ≡ here) ⊎ IsBrace tokens here at
 
-abbrev pub SticksBy : ℕ → Stack → List Token → Kind → List Token → Type 0
-SticksBy room goals tokens refusals.Syntax at = SticksNear goals tokens at
-SticksBy room goals tokens (refusals.LeftOut form) at = SticksNear goals tokens at × IsForm form at
-SticksBy room goals tokens refusals.Nesting at = OpensNear room goals tokens at
-SticksBy room goals tokens _ at = ⊥
+abbrev pub SticksBy : ℕ → Stack → List Token → Why → List Token → Type 0
+SticksBy room goals tokens reasons.Memory at = ⊥
+SticksBy room goals tokens reasons.Syntax at = SticksNear goals tokens at
+SticksBy room goals tokens reasons.Nesting at = OpensNear room goals tokens at
 
--- Why tokens that the goals have to read are refused, and where.
-pub record Stops (room end : ℕ) (goals : Stack) (tokens : List Token) (refusal : Refusal) : Type 0 where
+-- Why and where the parser stops at tokens that the goals have to read.
+pub record Stops (room end : ℕ) (goals : Stack) (tokens : List Token) (stop : Stop) : Type 0 where
   pub at : List Token
   pub inside : IsEnd tokens at
-  pub place : refusal.place ≡ place_of end at
-  pub by : SticksBy room goals tokens refusal.kind at
+  pub left : stop.left ≡ length at
+  pub by : SticksBy room goals tokens stop.why at
 
--- The tokens are refused for want of memory, or because the goals can't read them.
-pub record Refused (room end : ℕ) (goals : Stack) (tokens : List Token) (refusal : Refusal) : Type 0 where
-  pub why : (refusal ≡ memory) ⊎ Stops room end goals tokens refusal
+-- The parser stops for want of memory, or because the goals can't read the tokens.
+pub record Refused (room end : ℕ) (goals : Stack) (tokens : List Token) (stop : Stop) : Type 0 where
+  pub why : (stop ≡ memory) ⊎ Stops room end goals tokens stop
 
 -- Up to b the goals have been read as far as the next ones, within so many levels.
 pub record Moves (room : ℕ) (goals : Stack) (a : List Token) (next : Stack) (b : List Token) : Type 0 where

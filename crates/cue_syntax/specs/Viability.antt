@@ -1,15 +1,13 @@
 -- Where tokens leave the grammar, and what a refusal of the parser says of that place.
 use Rattle.std.specs.Prelude.{◌≡◌, ◌≢◌, ◌≤◌, ◌⊎◌, ℕ, suc, Bool, true, false, List, [], ◌∷◌, take, drop, length, codes, ⊤}
-use Rattle.cue_lattice.specs.declared.refusal.Form.{Form}
-use Rattle.cue_lattice.specs.declared.refusal.Form.TheVariants as forms
-use Rattle.cue_lattice.specs.declared.refusal.Kind.{Kind}
-use Rattle.cue_lattice.specs.declared.refusal.Kind.TheVariants as refusals
-use Rattle.cue_lattice.specs.declared.refusal.Refusal.{Refusal}
 use Rattle.cue_lex.specs.declared.token.Token.{Token}
 use Rattle.cue_lex.specs.declared.token.TokenKind.{TokenKind}
 use Rattle.cue_lex.specs.declared.token.TokenKind.TheVariants as kinds
+use Rattle.cue_syntax.specs.declared.stop.Stop.{Stop}
+use Rattle.cue_syntax.specs.declared.stop.Why.TheVariants as reasons
+use Rattle.cue_syntax.specs.Stops.{at_hand}
 use Rattle.cue_syntax.specs.Syntax.{FileTree}
-use Rattle.cue_syntax.specs.Grammar.{Limit, unlimited, at_most, IsFile, IsClause}
+use Rattle.cue_syntax.specs.Grammar.{Limit, unlimited, IsFile, IsClause}
 
 -- alike in their first n symbols, where the end of a text is a symbol too
 abbrev pub Alike : ℕ → List Token → List Token → Type 0
@@ -36,10 +34,6 @@ HasNoTree limit tokens = (tree : FileTree) → ¬ IsFile limit tokens tree
 abbrev pub place_of : ℕ → List Token → ℕ
 place_of end [] = end
 place_of end (token ∷ tokens) = token.from
-
--- a refusal at the symbol at hand
-abbrev pub at_hand : Kind → ℕ → List Token → Refusal
-at_hand kind end tokens = record { kind = kind; place = place_of end tokens }
 
 abbrev pub IsName : TokenKind → Type 0
 IsName (kinds.Name t) = ⊤
@@ -149,36 +143,21 @@ Opens kinds.OpenBrace = ⊤
 Opens kinds.OpenBracket = ⊤
 Opens _ = ⊥
 
--- a form that is left out begins with these tokens
-abbrev pub IsForm : Form → List Token → Type 0
-IsForm forms.HiddenLabel ts = Stands IsHidden ts × Next IsMark ts
-IsForm forms.MarkedDefinition ts = Stands IsDefinition ts × (Next (λ k. k ≡ kinds.Question) ts ⊎ Next (λ k. k ≡ kinds.Exclamation) ts)
-IsForm forms.NestedDefinition ts = Stands IsDefinition ts × Next (λ k. k ≡ kinds.Colon) ts
-IsForm forms.Clause ts = Stands BeginsClause ts × ¬ Next IsMark ts
-IsForm forms.DynamicLabel ts = Stands (λ k. k ≡ kinds.OpenBracket) ts ⊎ Stands (λ k. k ≡ kinds.OpenParenthesis) ts
-IsForm forms.Call ts = Stands IsCallable ts × Next (λ k. k ≡ kinds.OpenParenthesis) ts
-IsForm forms.CloseArgument ts = Stands BeginsExpression ts × ¬ Stands (λ k. k ≡ kinds.OpenBrace) ts
-IsForm forms.Embedding ts = Stands BeginsExpression ts
-IsForm forms.TypedEllipsis ts = Stands BeginsExpression ts
-IsForm forms.TypedRest ts = Stands BeginsExpression ts
-IsForm forms.Bound ts = Stands BeginsExpression ts
+-- a label that is left out: a hidden one, a definition with `?` or `!`, and below the top any definition
+abbrev pub IsLabelLeftOut : Bool → List Token → Type 0
+IsLabelLeftOut top ts =
+    (Stands IsHidden ts × Next IsMark ts)
+    ⊎ (Stands IsDefinition ts × (NextSign kinds.Question ts ⊎ NextSign kinds.Exclamation ts))
+    ⊎ (Stands IsDefinition ts × NextSign kinds.Colon ts × (top ≡ false))
 
--- a hidden label or a definition as a label, where the profile has none
-abbrev pub IsLabelLeftOut : Bool → Form → List Token → Type 0
-IsLabelLeftOut top forms.HiddenLabel ts = IsForm forms.HiddenLabel ts
-IsLabelLeftOut top forms.MarkedDefinition ts = IsForm forms.MarkedDefinition ts
-IsLabelLeftOut top forms.NestedDefinition ts = IsForm forms.NestedDefinition ts × (top ≡ false)
-IsLabelLeftOut top _ ts = ⊥
+-- The parser stops at a label that is left out.
+pub record RefusesLabel (top : Bool) (end : ℕ) (tokens : List Token) (stop : Stop) : Type 0 where
+  pub is : stop ≡ at_hand reasons.Syntax end tokens
+  pub fits : IsLabelLeftOut top tokens
 
--- The refusal is of a label that is left out.
-pub record RefusesLabel (top : Bool) (end : ℕ) (tokens : List Token) (refusal : Refusal) : Type 0 where
-  pub form : Form
-  pub is : refusal ≡ at_hand (refusals.LeftOut form) end tokens
-  pub fits : IsLabelLeftOut top form tokens
-
--- The refusal is of a label whose mark has no colon behind it.
-pub record MissesColon (end : ℕ) (tokens : List Token) (refusal : Refusal) : Type 0 where
-  pub is : refusal ≡ at_hand refusals.Syntax end (drop 2 tokens)
+-- The parser stops behind a label whose mark has no colon behind it.
+pub record MissesColon (end : ℕ) (tokens : List Token) (stop : Stop) : Type 0 where
+  pub is : stop ≡ at_hand reasons.Syntax end (drop 2 tokens)
   pub lacks : LacksColon tokens
 
 -- a definition as a label
@@ -190,46 +169,8 @@ abbrev pub EndsHere : Bool → List Token → Type 0
 EndsHere true ts = ts ≡ []
 EndsHere false ts = StandsSign kinds.CloseBrace ts
 
--- why no declaration begins here
-abbrev pub IsNoEntry : Kind → List Token → Type 0
-IsNoEntry refusals.Syntax ts = ⊤
-IsNoEntry (refusals.LeftOut forms.Clause) ts = Stands BeginsClause ts
-IsNoEntry (refusals.LeftOut forms.DynamicLabel) ts = IsForm forms.DynamicLabel ts
-IsNoEntry (refusals.LeftOut forms.Embedding) ts = IsForm forms.Embedding ts
-IsNoEntry _ ts = ⊥
-
-pub record NoEntry (end : ℕ) (tokens : List Token) (refusal : Refusal) : Type 0 where
-  pub kind : Kind
-  pub is : refusal ≡ at_hand kind end tokens
-  pub fits : IsNoEntry kind tokens
-
 -- The tokens leave the grammar of any number of levels behind j tokens, or behind one more.
 pub record LeavesNear (tokens : List Token) (j : ℕ) : Type 0 where
   pub k : ℕ
   pub leaves : Leaves unlimited tokens k
   pub near : (j ≡ k) ⊎ (suc j ≡ k)
-
--- the symbols behind k tokens are the parenthesis and the brace of a `close({`
-abbrev pub IsBraceOfClose : ℕ → List Token → Type 0
-IsBraceOfClose k tokens = Stands (λ s. s ≡ kinds.OpenParenthesis) (drop k tokens) × Next (λ s. s ≡ kinds.OpenBrace) (drop k tokens)
-
--- Some symbol opens a level too many, where trees of more levels go on: the one behind j tokens, the next, or the one
--- before it where that is the parenthesis of a `close({`.
-pub record NestsNear (levels : ℕ) (tokens : List Token) (j : ℕ) : Type 0 where
-  pub k : ℕ
-  pub leaves : Leaves (at_most levels) tokens k
-  pub deeper : Begins unlimited (suc k) tokens
-  pub near : (j ≡ k) ⊎ (suc j ≡ k) ⊎ ((j ≡ suc k) × IsBraceOfClose k tokens)
-
--- why the parser may refuse the tokens behind j of them
-abbrev pub FitsAt : ℕ → List Token → Kind → ℕ → Type 0
-FitsAt levels tokens refusals.Syntax j = LeavesNear tokens j
-FitsAt levels tokens (refusals.LeftOut form) j = LeavesNear tokens j × IsForm form (drop j tokens)
-FitsAt levels tokens refusals.Nesting j = NestsNear levels tokens j
-FitsAt levels tokens _ j = ⊥
-
--- The refusal says why the tokens are no text within so many levels, and where.
-pub record Fits (levels end : ℕ) (tokens : List Token) (refusal : Refusal) : Type 0 where
-  pub j : ℕ
-  pub place : refusal.place ≡ place_of end (drop j tokens)
-  pub fits : FitsAt levels tokens refusal.kind j

@@ -1,9 +1,12 @@
 ghost use Rattle.std.specs.Prelude.{◌≡◌, ◌+◌, ◌≤◌, ◌<◌, ◌∷◌, ◌↔◌, [], IfOk, IfErr, IfSome, IfNone, length, MatchOption, IsTrue, false, codes};
 ghost use Rattle.cue_syntax.specs.Spelling.{Reads, one, one_at, comma_if, IsPlace};
 ghost use Rattle.cue_syntax.specs.Punctuation.{punctuation_kind, IsOperandAt};
-ghost use Rattle.cue_syntax.specs.Viability.{at_hand, place_of, Stands, StandsSign, BeginsExpression, IsMark};
+ghost use Rattle.cue_lattice.specs.Refusal.{refusal_at};
+ghost use Rattle.cue_syntax.specs.Stops.{at_hand};
+ghost use Rattle.cue_syntax.specs.Viability.{place_of, Stands, StandsSign, BeginsExpression, IsMark};
 
-use cue_lattice::{Form, Kind, Refusal};
+use crate::stop::{Stop, Why};
+use cue_lattice::{Kind, Refusal};
 use cue_lex::{Token, TokenKind};
 
 /// The tokens that are left, and where the text ends.
@@ -15,7 +18,7 @@ pub struct Cursor<'a> {
 }
 
 /// What a parsing function answers: what it read, and the tokens behind it.
-pub type Parsed<'a, T> = Result<(T, Cursor<'a>), Refusal>;
+pub type Parsed<'a, T> = Result<(T, Cursor<'a>), Stop>;
 
 /// The tokens without a text that the parser looks for by themselves.
 #[derive(Clone, Copy)]
@@ -120,11 +123,11 @@ impl<'a> Cursor<'a> {
     }
 
     /// Behind this token, which has to stand at hand.
-    pub fn expect(self, wanted: Punctuation) -> Result<Cursor<'a>, Refusal>
+    pub fn expect(self, wanted: Punctuation) -> Result<Cursor<'a>, Stop>
         ensures shorter { IfOk result (λ after. length after.rest.now < length self.entry.rest.now) }
         ensures reads { IfOk result (λ after. Reads self.entry.rest.now (one (punctuation_kind wanted)) after.rest.now) }
         ensures end { IfOk result (λ after. after.end ≡ self.entry.end) }
-        ensures refused { IfErr result (λ r. r ≡ at_hand Kind.Syntax self.entry.end self.entry.rest.now) }
+        ensures refused { IfErr result (λ r. r ≡ at_hand Why.Syntax self.entry.end self.entry.rest.now) }
         ensures missing { IfErr result (λ r. ¬ StandsSign (punctuation_kind wanted) self.entry.rest.now) }
     {
         self.skip(wanted).ok_or(self.syntax())
@@ -157,36 +160,36 @@ impl<'a> Cursor<'a> {
 
     /// A refusal at the token at hand.
     pub fn refuse(self, kind: Kind) -> Refusal
-        ensures { result ≡ at_hand kind self.entry.end self.entry.rest.now }
+        ensures { result ≡ refusal_at kind (place_of self.entry.end self.entry.rest.now) }
     {
-        Refusal {
-            kind,
-            place: self.place() as u64,
+        Refusal::at(kind, self.place())
+    }
+
+    /// A stop at the token at hand.
+    fn stop(self, why: Why) -> Stop
+        ensures { result ≡ at_hand why self.entry.end self.entry.rest.now }
+    {
+        Stop {
+            why,
+            left: self.rest.len(),
         }
     }
 
     /// The token at hand can't go on.
-    pub fn syntax(self) -> Refusal
-        ensures { result ≡ at_hand Kind.Syntax self.entry.end self.entry.rest.now }
+    pub fn syntax(self) -> Stop
+        ensures { result ≡ at_hand Why.Syntax self.entry.end self.entry.rest.now }
     {
-        self.refuse(Kind::Syntax)
-    }
-
-    /// A form that the profile leaves out begins at the token at hand.
-    pub fn left_out(self, form: Form) -> Refusal
-        ensures { result ≡ at_hand (Kind.LeftOut form) self.entry.end self.entry.rest.now }
-    {
-        self.refuse(Kind::LeftOut(form))
+        self.stop(Why::Syntax)
     }
 
     /// The room behind the token at hand, which opens a level. With no room left it is refused.
-    pub fn open_level(self, room: usize) -> Result<usize, Refusal>
+    pub fn open_level(self, room: usize) -> Result<usize, Stop>
         ensures left { IfOk result (λ left. left + 1 ≡ room) }
-        ensures refused { IfErr result (λ r. r ≡ at_hand Kind.Nesting self.entry.end self.entry.rest.now) }
+        ensures refused { IfErr result (λ r. r ≡ at_hand Why.Nesting self.entry.end self.entry.rest.now) }
         ensures none { IfErr result (λ r. room ≡ 0) }
     {
         if room == 0 {
-            Err(self.refuse(Kind::Nesting))
+            Err(self.stop(Why::Nesting))
         } else {
             Ok(room - 1)
         }

@@ -1,16 +1,15 @@
 ghost use Rattle.std.specs.Prelude.{◌≡◌, ◌+◌, ◌≤◌, ◌<◌, ◌⊎◌, ◌↔◌, ◌∷◌, [], IfOk, IfErr, IsTrue, Bool, false, true, length};
 ghost use Rattle.cue_syntax.specs.Syntax.{expression, branch_tree, entry_tree, elements, entries};
 ghost use Rattle.cue_syntax.specs.Grammar.{IsUnary, IsConjunct, IsNested, AreNested, IsExpression, IsTermOf, IsEntry, AreElements, AreEntries, AreBraced};
-ghost use Rattle.cue_syntax.specs.Viability.{StandsSign, IsCallOfClose, BeginsLabel, BeginsDefinition, EndsHere, NoEntry};
+ghost use Rattle.cue_syntax.specs.Viability.{StandsSign, IsCallOfClose, BeginsLabel, BeginsDefinition, EndsHere};
 ghost use Rattle.cue_syntax.specs.Recogniser as goals;
 ghost use Rattle.cue_syntax.specs.Recogniser.{Moves, Refused, row_goal, levels_of};
 
 use crate::cursor::{Cursor, Operand, Parsed, Punctuation};
 use crate::label::{begins_label, label, labels, refuse_label};
-use crate::literal::{is_clause, literal};
+use crate::literal::literal;
 use crate::memory::{boxed, fitted, push};
 use crate::tree::{Declaration, Expr, Term};
-use cue_lattice::{Form, Refusal};
 use cue_lex::TokenKind;
 use std::alloc::Global;
 
@@ -189,9 +188,6 @@ fn close<'a>(alloc: Global, cursor: Cursor<'a>, room: usize) -> Parsed<'a, Expr>
     let (from, after) = cursor.expect_close()?;
     let inside = after.open_level(room)?;
     let open = after.expect(Punctuation::OpenParenthesis)?;
-    if !open.stands(Punctuation::OpenBrace) && open.begins_expression() {
-        return Err(open.left_out(Form::CloseArgument));
-    }
     let brace = open.expect(Punctuation::OpenBrace)?;
     let last = open.open_level(inside)?;
     let (row, last) = braces(alloc, brace, last)?;
@@ -224,9 +220,6 @@ fn list<'a>(alloc: Global, cursor: Cursor<'a>, room: usize) -> Parsed<'a, Expr>
     let (row, last) = elements(alloc, open, inside)?;
     if row.comma || row.items.is_empty() {
         if let Some(after) = last.skip(Punctuation::Ellipsis) {
-            if after.begins_expression() {
-                return Err(after.left_out(Form::TypedRest));
-            }
             let (comma, after) = after.trailing_comma();
             let rest = after.expect(Punctuation::CloseBracket)?;
             return Ok((
@@ -355,9 +348,6 @@ fn declaration<'a>(
     ensures refused { IfErr result (λ r. Refused (levels_of (goals.entries top) + room) cursor.entry.end (goals.entries top ∷ []) cursor.entry.rest.now r) }
 {
     if let Some(after) = cursor.skip(Punctuation::Ellipsis) {
-        if after.begins_expression() {
-            return Err(after.left_out(Form::TypedEllipsis));
-        }
         return Ok((Declaration::Ellipsis, after));
     }
     refuse_label(cursor, top)?;
@@ -367,7 +357,7 @@ fn declaration<'a>(
     if begins_definition(cursor, top) {
         return definition(alloc, cursor, room);
     }
-    Err(no_declaration(cursor))
+    Err(cursor.syntax())
 }
 
 /// Whether a definition stands at hand.
@@ -440,32 +430,4 @@ fn definition<'a>(alloc: Global, cursor: Cursor<'a>, room: usize) -> Parsed<'a, 
         },
         rest,
     ))
-}
-
-/// Why no declaration begins at hand.
-fn no_declaration(cursor: Cursor) -> Refusal
-    ensures { NoEntry cursor.entry.end cursor.entry.rest.now result }
-{
-    let Some((token, _)) = cursor.next() else {
-        return cursor.syntax();
-    };
-    match &token.kind {
-        TokenKind::Name(name) => {
-            if is_clause(name) {
-                cursor.left_out(Form::Clause)
-            } else {
-                cursor.left_out(Form::Embedding)
-            }
-        }
-        TokenKind::OpenBracket | TokenKind::OpenParenthesis => {
-            cursor.left_out(Form::DynamicLabel)
-        }
-        _ => {
-            if cursor.begins_expression() {
-                cursor.left_out(Form::Embedding)
-            } else {
-                cursor.syntax()
-            }
-        }
-    }
 }

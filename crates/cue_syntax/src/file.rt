@@ -3,11 +3,14 @@ ghost use Rattle.cue_lattice.specs.Refusal.{memory};
 ghost use Rattle.cue_syntax.specs.Spelling.{Reads, one, identifier_kind, spell_package};
 ghost use Rattle.cue_syntax.specs.Grammar.{at_most, IsFile, IsPackageName, HidesDefinition};
 ghost use Rattle.cue_syntax.specs.Syntax.{FileTree, file_tree};
-ghost use Rattle.cue_syntax.specs.Viability.{Fits, Stands, IsMark};
+ghost use Rattle.cue_syntax.specs.Refusals.{Fits};
+ghost use Rattle.cue_syntax.specs.Viability.{Stands, IsMark};
 ghost use Rattle.cue_syntax.specs.Recogniser.{Moves, Refused, text, package_word, package_end, entries};
 
 use crate::cursor::{Cursor, Parsed};
 use crate::expression::declarations;
+use crate::form::refusal;
+use crate::stop::Stop;
 use crate::tree::{File, Identifier, Package};
 use cue_lattice::{Refusal, Text};
 use cue_lex::{Token, TokenKind};
@@ -28,11 +31,14 @@ pub fn parse(alloc: Global, tokens: &[Token], end: usize) -> Result<File, Refusa
     ensures accepted { (tree : FileTree) → IsFile (at_most 64) tokens.now tree →
         MatchResult result (λ file. file_tree file ≡ tree) (λ r. r ≡ memory) }
 {
-    file(alloc, Cursor { rest: tokens, end })
+    match file(alloc, Cursor { rest: tokens, end }) {
+        Ok(file) => Ok(file),
+        Err(stop) => Err(refusal(alloc, tokens, end, stop)),
+    }
 }
 
 /// A whole text.
-fn file(alloc: Global, cursor: Cursor) -> Result<File, Refusal>
+fn file(alloc: Global, cursor: Cursor) -> Result<File, Stop>
     ensures spelled { IfOk result (λ file. IsFile (at_most 64) cursor.entry.rest.now (file_tree file)) }
     ensures refused { IfErr result (λ r. Refused 64 cursor.entry.end (text ∷ []) cursor.entry.rest.now r) }
 {

@@ -1,13 +1,13 @@
 ghost use Rattle.std.specs.Prelude.{◌≡◌, ◌+◌, ◌≤◌, ◌<◌, ◌⊎◌, ◌↔◌, ◌∷◌, [], ℕ, IfOk, IfErr, IsTrue, length, flat_map};
-ghost use Rattle.cue_lattice.specs.Refusal.{memory};
+ghost use Rattle.cue_syntax.specs.Stops.{memory};
 ghost use Rattle.cue_syntax.specs.Spelling.{Reads, one, spell_label, spell_mark, label_kind};
 ghost use Rattle.cue_syntax.specs.Viability.{Stands, StandsSign, BeginsLabel, IsLabelName, RefusesLabel, MissesColon};
 ghost use Rattle.cue_syntax.specs.Recogniser.{Moves, Refused, value, chains};
 
 use crate::cursor::{Cursor, Parsed, Punctuation};
 use crate::memory::push;
+use crate::stop::Stop;
 use crate::tree::{Label, LabelName, Mark};
-use cue_lattice::{Form, Refusal};
 use cue_lex::TokenKind;
 use std::alloc::Global;
 
@@ -34,7 +34,7 @@ pub fn begins_label(cursor: Cursor) -> bool
 
 /// Refuses a label that the profile leaves out: a hidden one, a definition with `?` or `!`, and, where `top` is
 /// false, any definition.
-pub fn refuse_label(cursor: Cursor, top: bool) -> Result<(), Refusal>
+pub fn refuse_label(cursor: Cursor, top: bool) -> Result<(), Stop>
     ensures { IfErr result (λ r. RefusesLabel top cursor.entry.end cursor.entry.rest.now r) }
 {
     let Some((token, after)) = cursor.next() else {
@@ -43,7 +43,7 @@ pub fn refuse_label(cursor: Cursor, top: bool) -> Result<(), Refusal>
     match &token.kind {
         TokenKind::Hidden(_) => {
             if after.stands_mark() {
-                return Err(cursor.left_out(Form::HiddenLabel));
+                return Err(cursor.syntax());
             }
             Ok(())
         }
@@ -52,12 +52,12 @@ pub fn refuse_label(cursor: Cursor, top: bool) -> Result<(), Refusal>
                 return Ok(());
             }
             if !after.stands(Punctuation::Colon) {
-                return Err(cursor.left_out(Form::MarkedDefinition));
+                return Err(cursor.syntax());
             }
             if top {
                 return Ok(());
             }
-            Err(cursor.left_out(Form::NestedDefinition))
+            Err(cursor.syntax())
         }
         _ => Ok(()),
     }
@@ -113,7 +113,7 @@ fn mark<'a>(cursor: Cursor<'a>) -> (Mark, Cursor<'a>)
 }
 
 /// The labels between a first label and its value. Each opens a level.
-pub fn labels<'a>(alloc: Global, cursor: Cursor<'a>, room: usize) -> Result<Chain<'a>, Refusal>
+pub fn labels<'a>(alloc: Global, cursor: Cursor<'a>, room: usize) -> Result<Chain<'a>, Stop>
     ensures shorter { IfOk result (λ c. length c.after.rest.now ≤ length cursor.entry.rest.now) }
     ensures levels { IfOk result (λ c. c.room + length c.labels.items ≡ room) }
     ensures spelled { IfOk result (λ c. Reads cursor.entry.rest.now (flat_map spell_label c.labels.items) c.after.rest.now) }

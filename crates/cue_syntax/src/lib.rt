@@ -4,10 +4,13 @@
 mod cursor;
 mod expression;
 mod file;
+mod form;
 mod label;
 mod literal;
 mod memory;
 mod spelling;
+mod spot;
+mod stop;
 mod tree;
 
 pub use file::{LEVELS, parse};

@@ -7,7 +7,7 @@ ghost use Rattle.cue_syntax.specs.Recogniser.{Refused, Moves, unary, signed, mag
 
 use crate::cursor::{Cursor, Parsed, Punctuation};
 use crate::tree::{Comparison, Expr, Identifier, Sign, Signed};
-use cue_lattice::{Form, Text};
+use cue_lattice::Text;
 use cue_lex::TokenKind;
 use std::alloc::Global;
 
@@ -66,7 +66,7 @@ fn identifier<'a>(alloc: Global, cursor: Cursor<'a>) -> Parsed<'a, Identifier>
     match &token.kind {
         TokenKind::Name(name) => {
             if after.stands(Punctuation::OpenParenthesis) {
-                return Err(cursor.left_out(Form::Call));
+                return Err(cursor.syntax());
             }
             if is_keyword(name) {
                 return Err(cursor.syntax());
@@ -75,7 +75,7 @@ fn identifier<'a>(alloc: Global, cursor: Cursor<'a>) -> Parsed<'a, Identifier>
         }
         TokenKind::Hidden(name) => {
             if after.stands(Punctuation::OpenParenthesis) {
-                return Err(cursor.left_out(Form::Call));
+                return Err(cursor.syntax());
             }
             Ok((Identifier::Hidden(name.copy(alloc)?), after))
         }
@@ -153,9 +153,6 @@ fn bound<'a>(cursor: Cursor<'a>) -> Parsed<'a, Expr>
     ensures refused { IfErr result (λ r. (room : ℕ) → Refused room cursor.entry.end (unary ∷ []) cursor.entry.rest.now r) }
 {
     let (comparison, after) = comparison(cursor)?;
-    if !stands_integer(after) && after.begins_expression() {
-        return Err(after.left_out(Form::Bound));
-    }
     let (integer, rest) = signed(after)?;
     Ok((Expr::Bound(comparison, integer), rest))
 }
@@ -194,22 +191,6 @@ fn other<'a>(alloc: Global, cursor: Cursor<'a>) -> Parsed<'a, Expr>
             return Ok((Expr::OtherText(text.copy(alloc)?), rest));
         }
     }
-    if !stands_integer(after) && after.begins_expression() {
-        return Err(after.left_out(Form::Bound));
-    }
     let (integer, rest) = signed(after)?;
     Ok((Expr::OtherInteger(integer), rest))
-}
-
-/// Whether an integer or its sign stands at hand.
-fn stands_integer(cursor: Cursor) -> bool
-    ensures { IsTrue result ↔ Stands BeginsInteger cursor.entry.rest.now }
-{
-    match cursor.next() {
-        Some((token, _)) => match &token.kind {
-            TokenKind::Integer(_) | TokenKind::Minus | TokenKind::Plus => true,
-            _ => false,
-        },
-        None => false,
-    }
 }

@@ -1,22 +1,23 @@
 ghost use Rattle.std.specs.Prelude.{◌≡◌, ◌++◌, ◌∷◌, [], OnOk, IfOk, IfErr};
-ghost use Rattle.cue_lattice.specs.Refusal.{memory};
+ghost use Rattle.cue_syntax.specs.Stops.{memory};
 
-use cue_lattice::{Memory, Refusal};
+use crate::stop::Stop;
+use cue_lattice::Memory;
 use std::alloc::Global;
 
 /// Puts a value at the end.
-pub fn push<T: Drop>(values: &mut Vec<T>, value: T) -> Result<(), Refusal>
+pub fn push<T: Drop>(values: &mut Vec<T>, value: T) -> Result<(), Stop>
     ensures pushed { OnOk result (values.new.items ≡ values.old.items ++ value ∷ []) }
-    ensures memory { IfErr result (λ refusal. refusal ≡ memory) }
+    ensures memory { IfErr result (λ stop. stop ≡ memory) }
 {
     values.push(value).map_err(Memory::from)?;
     Ok(())
 }
 
 /// Puts a value into a box.
-pub fn boxed<T: Drop>(alloc: Global, value: T) -> Result<Box<T>, Refusal>
+pub fn boxed<T: Drop>(alloc: Global, value: T) -> Result<Box<T>, Stop>
     ensures boxed { IfOk result (λ b. b.value ≡ value) }
-    ensures memory { IfErr result (λ refusal. refusal ≡ memory) }
+    ensures memory { IfErr result (λ stop. stop ≡ memory) }
 {
     Ok(Box::new(alloc, value).map_err(Memory::from)?)
 }

@@ -12,9 +12,9 @@ use Rattle.cue_syntax.proofs.Trees.{AreTerms, AreParts, Between, terms_first, te
 use Rattle.cue_syntax.specs.Viability.{StandsSign, BeginsLabel}
 use Rattle.cue_syntax.specs.Recogniser as goals
 use Rattle.cue_syntax.specs.Recogniser.{Moves, Refused, row_goal, levels_of, unary, more_parts}
-use Rattle.cue_syntax.proofs.Stopping.{moves_then, refused_behind, refused_end, err_from, if_ok, stopped, stops_here, stops_there, left_out_here, left_out_there}
+use Rattle.cue_syntax.proofs.Stopping.{moves_then, refused_behind, refused_end, err_from, if_ok, stopped, stops_here, stops_there}
 use Rattle.cue_syntax.proofs.Labels.{label_out_entry, misses_entry}
-use Rattle.cue_syntax.proofs.Rules.{no_room, inner_comma, inner_closes, inner_halts, parenthesis_opens, parenthesis_refused, struct_moves, struct_refused, call_opens, call_paren, call_no_room, closed_halts, brace_no_room, close_moves, close_refused, unmarked_moves, marked_moves, parts_end, parts_go, part_moves, part_refused, terms_end, terms_go, term_moves, term_refused, first_moves, first_go, first_end, first_halts, first_refused, ellipsis_comma, ellipsis_closes, ellipsis_halts, typed_halts, list_opens, list_refused, row_more, element_moves, element_refused, element_next, same_tokens, row_closes, row_halts, open_ellipsis, entry_next, braces_close, braces_halt, entry_ellipsis, typed_entry_halts, chain_value, chain_value_refused, field_moves, field_refused, definition_moves, definition_refused, no_entry_refused}
+use Rattle.cue_syntax.proofs.Rules.{no_room, inner_comma, inner_closes, inner_halts, parenthesis_opens, parenthesis_refused, struct_moves, struct_refused, call_opens, call_paren, call_no_room, closed_halts, brace_no_room, close_moves, close_refused, unmarked_moves, marked_moves, parts_end, parts_go, part_moves, part_refused, terms_end, terms_go, term_moves, term_refused, first_moves, first_go, first_end, first_halts, first_refused, ellipsis_comma, ellipsis_closes, ellipsis_halts, list_opens, list_refused, row_more, element_moves, element_refused, element_next, same_tokens, row_closes, row_halts, open_ellipsis, entry_next, braces_close, braces_halt, entry_ellipsis, chain_value, chain_value_refused, field_moves, field_refused, definition_moves, definition_refused, no_entry_refused}
 use Rattle.cue_syntax.proofs.expression.+parser.Goals as goal
 use Rattle.cue_syntax.proofs.expression.+parser.Goals.{list-then-row-via-then-row, list-then-row-via-else-row+then-is_empty, list-then-row+in_default, list-else-row+else-is_empty}
 
@@ -297,11 +297,6 @@ close-returns-in_err-inside-clause-refused t c =
     err_from (λ r. Refused (c.args.room) c.args.cursor.end (unary ∷ []) c.args.cursor.rest.now r) c.from_residual-in_err-inside.result _ c.from_residual-in_err-inside.ensures.1
     (call_no_room c.in_err-inside.ensures.none c.in_ok-from.ensures.end c.requires c.in_ok-from.ensures.reads c.in_err-inside.ensures.refused)
 
-pub close-returns-then-begins_expression-clause-refused : goal.close-returns-then-begins_expression-clause-refused
-close-returns-then-begins_expression-clause-refused t c =
-    let lacks : ¬ StandsSign kinds.OpenBrace c.in_ok-open.open.rest.now = search rules in
-    refused_end (c.in_ok-open.ensures.end ∙ c.in_ok-from.ensures.end) (stopped (left_out_there c.left_out.ensures (c.begins_expression.ensures.0 c.if-begins_expression.true, lacks) (call_opens {n = 2} (omega arith) c.in_ok-from.ensures.reads c.in_ok-open.ensures.reads) (closed_halts lacks)))
-
 pub close-returns-in_err-brace-clause-refused : goal.close-returns-in_err-brace-clause-refused
 close-returns-in_err-brace-clause-refused t c =
     err_from (λ r. Refused (c.args.room) c.args.cursor.end (unary ∷ []) c.args.cursor.rest.now r) c.from_residual-in_err-brace.result _ c.from_residual-in_err-brace.ensures.1
@@ -383,19 +378,6 @@ list-returns-in_err-row-clause-refused t c =
     err_from (λ r. Refused (c.args.room) c.args.cursor.end (unary ∷ []) c.args.cursor.rest.now r) c.from_residual-in_err-row.result _ c.from_residual-in_err-row.ensures.1
     (list_refused c.in_ok-inside.inside c.in_ok-inside.ensures.left c.in_ok-open.ensures.end c.in_ok-open.ensures.reads c.in_err-row.ensures.refused)
 
-pub list-returns-then-begins_expression-clause-refused : goal.list-returns-then-begins_expression-clause-refused
-list-returns-then-begins_expression-clause-refused t c =
-    let items = c.in_ok-row.row.items in
-    let which : (c.in_ok-row.row.comma ≡ true) ⊎ (items.items ≡ []) =
-    elim c.then-row.branch [
-      | list-then-row-via-then-row w ↦ inl w.if-row.true
-      | list-then-row-via-else-row+then-is_empty w ↦
-          let zero : length items.items ≡ 0 = grind (arith, items.ok.0) in
-          inr (nil_from_length items.items zero)
-    ] in
-    let begins = c.begins_expression.ensures.0 c.if-begins_expression.true in
-    refused_behind (moves_then (list_opens c.in_ok-inside.inside c.in_ok-inside.ensures.left c.in_ok-open.ensures.reads c.in_ok-row.ensures.moves) (open_ellipsis c.in_ok-row.row.comma items.items (omega (arith, c.in_ok-inside.ensures.left)) which c.in-Some.ensures.reads)) (refused_end (c.in-Some.ensures.end ∙ c.in_ok-row.ensures.end ∙ c.in_ok-open.ensures.end) (stopped (left_out_here c.left_out.ensures begins (typed_halts begins))))
-
 pub list-returns-in_err-rest-clause-refused : goal.list-returns-in_err-rest-clause-refused
 list-returns-in_err-rest-clause-refused t c =
     let items = c.in_ok-row.row.items in
@@ -441,11 +423,6 @@ pub list-returns-clause-moves : goal.list-returns-clause-moves
 list-returns-clause-moves t c =
     moves_then (list_opens c.in_ok-inside.inside c.in_ok-inside.ensures.left c.in_ok-open.ensures.reads c.in_ok-row.ensures.moves) (row_closes c.in_ok-row.row.comma c.in_ok-row.row.items.items c.in_ok-rest-2.ensures.reads)
 
-pub declaration-returns-then-begins_expression-clause-refused : goal.declaration-returns-then-begins_expression-clause-refused
-declaration-returns-then-begins_expression-clause-refused t c =
-    let begins = c.begins_expression.ensures.0 c.if-begins_expression.true in
-    refused_behind (entry_ellipsis c.args.top (omega arith) c.in-Some.ensures.reads) (refused_end c.in-Some.ensures.end (stopped (left_out_here c.left_out.ensures begins (typed_entry_halts c.args.top begins))))
-
 pub declaration-returns-in-Some-clause-moves : goal.declaration-returns-in-Some-clause-moves
 declaration-returns-in-Some-clause-moves t c =
     entry_ellipsis c.args.top (omega arith) c.in-Some.ensures.reads
@@ -463,7 +440,7 @@ pub declaration-returns-clause-refused : goal.declaration-returns-clause-refused
 declaration-returns-clause-refused t c =
     let dots : ¬ StandsSign kinds.Ellipsis c.args.cursor.rest.now = search rules in
     let label : ¬ BeginsLabel c.args.cursor.rest.now = search rules in
-    no_entry_refused c.args.top dots label (c.begins_definition.ensures.no c.if-begins_definition.false) c.requires c.no_declaration.ensures
+    no_entry_refused c.args.top dots label (c.begins_definition.ensures.no c.if-begins_definition.false) c.requires c.syntax.ensures
 
 pub field-returns-in_err-label-clause-refused : goal.field-returns-in_err-label-clause-refused
 field-returns-in_err-label-clause-refused t c =

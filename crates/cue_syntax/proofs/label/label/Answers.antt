@@ -1,5 +1,5 @@
 use Rattle.std.proofs.Common.{◌≡◌, ◌∙◌, subst, ◌⊎◌, inr}
-use Rattle.cue_lattice.specs.Refusal.{memory}
+use Rattle.cue_syntax.specs.Stops.{memory}
 use Rattle.cue_syntax.specs.Viability.{MissesColon}
 use Rattle.cue_syntax.proofs.Stopping.{err_from}
 use Rattle.cue_syntax.proofs.Labels.{label_lacks}

@@ -1,16 +1,8 @@
-use Rattle.std.proofs.Common.{arith, rules, ℕ, [], ◌∷◌}
-use Rattle.cue_syntax.specs.Viability.{Stands, BeginsInteger}
+use Rattle.std.proofs.Common.{arith, ℕ, [], ◌∷◌}
 use Rattle.cue_syntax.specs.Recogniser.{unary, Refused}
-use Rattle.cue_syntax.proofs.Stopping.{stopped, left_out_here, moves_then, moves_more, refused_behind, refused_end, err_from}
-use Rattle.cue_syntax.proofs.Literals.{comparison_moves, signed_halts}
+use Rattle.cue_syntax.proofs.Stopping.{moves_then, moves_more, refused_behind, refused_end, err_from}
+use Rattle.cue_syntax.proofs.Literals.{comparison_moves}
 use Rattle.cue_syntax.proofs.literal.bound.Goals as goal
-
-pub returns-then-begins_expression-clause-refused : goal.returns-then-begins_expression-clause-refused
-returns-then-begins_expression-clause-refused c room =
-    let lacks : ¬ Stands BeginsInteger c.in_ok-comparison.after.rest.now = search rules in
-    refused_behind (moves_more (omega arith) (comparison_moves c.in_ok-comparison.comparison c.in_ok-comparison.ensures.spelled))
-    (refused_end c.in_ok-comparison.ensures.end
-    (stopped (left_out_here c.left_out.ensures (c.begins_expression.ensures.0 c.if-begins_expression.true) (signed_halts lacks))))
 
 pub returns-in_err-integer-clause-refused : goal.returns-in_err-integer-clause-refused
 returns-in_err-integer-clause-refused c =

@@ -9,7 +9,7 @@ use Rattle.cue_syntax.proofs.literal.identifier.Goals as goal
 
 pub returns-then-stands-clause-refused : goal.returns-then-stands-clause-refused
 returns-then-stands-clause-refused c room =
-    name_called c.in-Some.token.now c.in-Some.ensures.first c.in-Name.is c.requires.call (c.stands.ensures.0 c.if-stands.true) c.left_out.ensures
+    name_called c.in-Some.token.now c.in-Some.ensures.first c.in-Name.is c.requires.call (c.stands.ensures.0 c.if-stands.true) c.syntax-then-stands.ensures
 
 pub returns-then-is_keyword-clause-refused : goal.returns-then-is_keyword-clause-refused
 returns-then-is_keyword-clause-refused c room =
@@ -17,7 +17,7 @@ returns-then-is_keyword-clause-refused c room =
 
 pub returns-then-stands-2-clause-refused : goal.returns-then-stands-2-clause-refused
 returns-then-stands-2-clause-refused c room =
-    hidden_called c.in-Some.token.now c.in-Some.ensures.first c.in-Hidden.is (c.stands-in-Hidden.ensures.0 c.if-stands-2.true) c.left_out-then-stands-2.ensures
+    hidden_called c.in-Some.token.now c.in-Some.ensures.first c.in-Hidden.is (c.stands-in-Hidden.ensures.0 c.if-stands-2.true) c.syntax-then-stands-2.ensures
 
 pub returns-in_ok-copy-in-Name-clause-moves : goal.returns-in_ok-copy-in-Name-clause-moves
 returns-in_ok-copy-in-Name-clause-moves c =

@@ -1,9 +1,9 @@
-use Rattle.std.proofs.Common.{ap, arith, rules, refl, ℕ, [], ◌∷◌, List}
+use Rattle.std.proofs.Common.{ap, arith, refl, ℕ, [], ◌∷◌, List}
 use Rattle.cue_lex.specs.declared.token.TokenKind.TheVariants as kinds
-use Rattle.cue_syntax.specs.Viability.{Stands, StandsSign, BeginsInteger}
+use Rattle.cue_syntax.specs.Viability.{StandsSign}
 use Rattle.cue_syntax.specs.Recogniser.{step, unary, signed, signed_or_text, Refused, Moves}
-use Rattle.cue_syntax.proofs.Stopping.{takes, takes_read, stopped, left_out_here, moves_then, moves_more, refused_behind, refused_end, err_from}
-use Rattle.cue_syntax.proofs.Literals.{other_moves, no_text_first, no_text_none, signed_halts}
+use Rattle.cue_syntax.proofs.Stopping.{takes, takes_read, moves_then, moves_more, refused_behind, refused_end, err_from}
+use Rattle.cue_syntax.proofs.Literals.{other_moves, no_text_first, no_text_none}
 use Rattle.cue_syntax.proofs.literal.other.Goals as goal
 use Rattle.cue_syntax.proofs.literal.other.Goals.{in-Some+in_default-kind, in_default}
 
@@ -11,19 +11,6 @@ pub returns-in-Text-clause-moves : goal.returns-in-Text-clause-moves
 returns-in-Text-clause-moves c =
     moves_then (takes_read {next = signed_or_text ∷ []} c.in_ok-after.ensures.reads (λ below. refl) (omega arith))
     (takes c.in-Some.token.now c.in-Some.ensures.first (λ below. ap (step (signed_or_text ∷ below)) c.in-Text.is) (omega arith))
-
-pub returns-then-begins_expression-clause-refused : goal.returns-then-begins_expression-clause-refused
-returns-then-begins_expression-clause-refused c room =
-    let lacks : ¬ Stands BeginsInteger c.in_ok-after.after.rest.now = search rules in
-    let text : (t : List ℕ) → StandsSign (kinds.Text t) c.in_ok-after.after.rest.now → ⊥ =
-    elim c.match-next.branch [
-      | in-Some+in_default-kind w ↦ no_text_first w.in-Some.token.now w.in-Some.ensures.first w.in_default-kind.not-Text
-      | in_default w ↦ no_text_none w.in_default.ensures.first
-    ] in
-    let m : Moves 0 (unary ∷ []) c.args.cursor.rest.now (signed ∷ []) c.in_ok-after.after.rest.now =
-    moves_then (takes_read {next = signed_or_text ∷ []} c.in_ok-after.ensures.reads (λ below. refl) (omega arith)) (other_moves text) in
-    refused_behind (moves_more (omega arith) m) (refused_end c.in_ok-after.ensures.end
-    (stopped (left_out_here c.left_out.ensures (c.begins_expression.ensures.0 c.if-begins_expression.true) (signed_halts lacks))))
 
 pub returns-in_err-integer-clause-refused : goal.returns-in_err-integer-clause-refused
 returns-in_err-integer-clause-refused c =

@@ -1,0 +1,81 @@
+-- Where a symbol stands in a text. The tokens before it tell.
+use Rattle.std.specs.Prelude.{ℕ, Bool, List, [], ◌∷◌, drop, codes, nat_eq, Option, None, Some, if◌then◌else◌}
+use Rattle.std.specs.Cmp.Lexicographic.{pointwise}
+use Rattle.cue_lex.specs.declared.token.Token.{Token}
+use Rattle.cue_lex.specs.declared.token.TokenKind.{TokenKind}
+use Rattle.cue_lex.specs.declared.token.TokenKind.TheVariants as kinds
+use Rattle.cue_syntax.specs.declared.spot.Spot.{Spot}
+use Rattle.cue_syntax.specs.declared.spot.Spot.TheVariants as spots
+use Rattle.cue_syntax.specs.declared.spot.Inside.{Inside}
+use Rattle.cue_syntax.specs.declared.spot.Inside.TheVariants as insides
+
+abbrev pub is_close : List ℕ → Bool
+is_close name = pointwise nat_eq name (codes "close")
+
+-- What is open, the innermost first. At the top of the text nothing is.
+abbrev pub innermost : List Inside → Option Inside
+innermost [] = None
+innermost (inside ∷ opened) = Some inside
+
+-- a list takes no further element after its `...`
+abbrev pub after_ellipsis : List Inside → List Inside
+after_ellipsis (insides.List ∷ opened) = insides.Rest ∷ opened
+after_ellipsis opened = opened
+
+-- what is open after a token
+abbrev pub open_after : List Inside → TokenKind → List Inside
+open_after opened kinds.OpenBrace = insides.Struct ∷ opened
+open_after opened kinds.OpenBracket = insides.List ∷ opened
+open_after opened kinds.OpenParenthesis = insides.Parenthesis ∷ opened
+open_after opened kinds.CloseBrace = drop 1 opened
+open_after opened kinds.CloseBracket = drop 1 opened
+open_after opened kinds.CloseParenthesis = drop 1 opened
+open_after opened kinds.Ellipsis = after_ellipsis opened
+open_after opened _ = opened
+
+-- after a comma: the next declaration of the text or of a struct, or the next element of a list
+abbrev pub after_comma : Option Inside → Spot
+after_comma None = spots.Top
+after_comma (Some insides.Struct) = spots.Inner
+after_comma (Some insides.List) = spots.Operand
+after_comma _ = spots.Other
+
+-- after `...`: of the text or a struct, or of a list
+abbrev pub after_dots : Option Inside → Spot
+after_dots None = spots.Ellipsis
+after_dots (Some insides.Struct) = spots.Ellipsis
+after_dots (Some insides.List) = spots.Rest
+after_dots _ = spots.Other
+
+-- after `(`: an operand, or the argument of a `close`
+abbrev pub after_parenthesis : Spot → Spot
+after_parenthesis spots.CloseName = spots.CloseArgument
+after_parenthesis _ = spots.Operand
+
+-- the spot after a token, by what is open around that token and by its own spot
+abbrev pub spot_after : Option Inside → Spot → TokenKind → Spot
+spot_after inside spot kinds.Colon = spots.Value
+spot_after inside spot kinds.OpenBrace = spots.Inner
+spot_after inside spot kinds.OpenBracket = spots.Operand
+spot_after inside spot kinds.Ampersand = spots.Operand
+spot_after inside spot kinds.Bar = spots.Operand
+spot_after inside spot kinds.Star = spots.Operand
+spot_after inside spot kinds.OpenParenthesis = after_parenthesis spot
+spot_after inside spot kinds.Comma = after_comma inside
+spot_after inside spot kinds.Ellipsis = after_dots inside
+spot_after inside spot kinds.Less = spots.Bound
+spot_after inside spot kinds.AtMost = spots.Bound
+spot_after inside spot kinds.Greater = spots.Bound
+spot_after inside spot kinds.AtLeast = spots.Bound
+spot_after inside spot kinds.NotEqual = spots.NotEqual
+spot_after inside spot (kinds.Name t) = if is_close t then spots.CloseName else spots.Other
+spot_after inside spot _ = spots.Other
+
+-- the spot after tokens, from an earlier spot on
+abbrev pub spot_from : List Inside → Spot → List Token → Spot
+spot_from opened spot [] = spot
+spot_from opened spot (token ∷ tokens) = spot_from (open_after opened token.kind) (spot_after (innermost opened) spot token.kind) tokens
+
+-- the spot of the symbol that these tokens stand before
+abbrev pub spot_of : List Token → Spot
+spot_of before = spot_from [] spots.Top before

@@ -1,0 +1,35 @@
+ghost use Rattle.std.specs.Prelude.{◌≡◌};
+ghost use Rattle.cue_syntax.specs.Stops.{memory};
+
+use cue_lattice::Memory;
+
+/// Why the parser stopped.
+#[derive(Clone, Copy)]
+pub enum Why {
+    Memory,
+    /// The tokens leave the grammar.
+    Syntax,
+    /// A token opens a level too many.
+    Nesting,
+}
+
+/// Why the parser stopped, and how many tokens were left there.
+#[derive(Clone, Copy)]
+pub struct Stop {
+    pub why: Why,
+    pub left: usize,
+}
+
+impl From<Memory> for Stop {
+    ghost use Rattle.std.specs.Prelude.{◌≡◌};
+    ghost use Rattle.cue_syntax.specs.Stops.{memory};
+
+    ghost from_gives = { λ _ stop. stop ≡ memory };
+
+    fn from(_memory: Memory) -> Stop {
+        Stop {
+            why: Why::Memory,
+            left: 0,
+        }
+    }
+}
