@@ -1,6 +1,9 @@
+pub mod Inside
 pub mod Merged
+pub mod Neighbours
 pub mod PieceTests
 pub mod Search
 pub mod Swept
 pub mod TextSearch
+pub mod Within
 pub mod Zeros

@@ -35,7 +35,7 @@ or_left_false true b e = e
 or_left_false false b e = refl
 
 -- n lies below the numbers from `from` to `last`, among them or above them
-by_place : (P : Type 0) (from last n : ℤ) → (n <ℤ from → P) → (from ≤ℤ n → n ≤ℤ last → P) → (last <ℤ n → P) → P
+pub by_place : (P : Type 0) (from last n : ℤ) → (n <ℤ from → P) → (from ≤ℤ n → n ≤ℤ last → P) → (last <ℤ n → P) → P
 by_place P from last n below among above =
     by_lt_z n from below (λ h. by_lt_z last n above (λ k. among h k))
 
@@ -134,7 +134,8 @@ keeps_none Without = refl
 wanted-outside : (how : Combination) (left right : List (ℤ × ℤ)) (n : ℤ) → is_member left n ≡ false → is_member right n ≡ false → wanted_of how left right n ≡ false
 wanted-outside how left right n l r = rw (l, r) (keeps_none how)
 
-IsAhead-none : (pieces : List (ℤ × ℤ)) → IsCanonical pieces → IsAhead least pieces pieces
+-- at the start all pieces are ahead
+pub IsAhead-none : (pieces : List (ℤ × ℤ)) → IsCanonical pieces → IsAhead least pieces pieces
 IsAhead-none pieces a = record { ascending = a; ends = ends pieces a; members = λ n h. refl } where
   ends : (pieces : List (ℤ × ℤ)) → IsCanonical pieces → EndsFrom least pieces
   ends [] a = tt

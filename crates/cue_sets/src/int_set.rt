@@ -4,7 +4,7 @@ ghost use Rattle.cue_sets.specs.Pieces.{is_member, is_int64, IsCanonical, IsFirs
 ghost use Rattle.cue_sets.specs.Combination.{keeps};
 
 use crate::combination::Combination;
-use crate::pieces::{combine, has};
+use crate::pieces::{combine, has, is_within};
 use cue_lattice::{Memory, Narrow};
 use std::alloc::Global;
 use std::marker::Model;
@@ -146,6 +146,13 @@ impl IntSet {
         ensures canonical { IsCanonical self.now }
     {
         &self.pieces
+    }
+
+    /// Whether each member is one of the other set too. This takes no memory.
+    pub fn is_within(&self, other: &IntSet) -> bool
+        ensures { IsTrue result ↔ ((n : ℤ) → is_member self.now n ≡ true → is_member other.now n ≡ true) }
+    {
+        is_within(self.pieces.as_slice(), other.pieces.as_slice())
     }
 
     fn combined(&self, alloc: Global, how: Combination, other: &IntSet) -> Result<IntSet, Memory>

@@ -1,4 +1,4 @@
-ghost use Rattle.std.specs.Prelude.{◌≡◌, ℤ, pos, ◌-ℤ◌, ◌+ℤ◌, ◌≤ℤ◌, ◌<ℤ◌, ◌++◌, IfOk, IfSome, Some, if◌then◌else◌, FitsSigned, is_some};
+ghost use Rattle.std.specs.Prelude.{◌≡◌, ℤ, pos, ◌-ℤ◌, ◌+ℤ◌, ◌≤ℤ◌, ◌<ℤ◌, ◌++◌, IfOk, IfSome, Some, if◌then◌else◌, FitsSigned, is_some, true, ◌↔◌, IsTrue};
 ghost use Rattle.cue_sets.specs.Combination.{keeps};
 ghost use Rattle.cue_sets.specs.Pieces.{is_member, IsCanonical};
 ghost use Rattle.cue_sets.specs.Sweep.{EndsFrom, closed, opened};
@@ -106,6 +106,29 @@ pub(crate) fn combine(
         pieces.push((first, i64::MAX))?;
     }
     Ok(pieces)
+}
+
+/// Whether each number of the left set is in the right one. Both are walked once.
+pub(crate) fn is_within(left: &[(i64, i64)], right: &[(i64, i64)]) -> bool
+    requires left { IsCanonical left.now }
+    requires right { IsCanonical right.now }
+    ensures { IsTrue result ↔ ((n : ℤ) → is_member left.now n ≡ true → is_member right.now n ≡ true) }
+{
+    let mut from = i64::MIN;
+    let (mut on_left, mut on_right) = (left, right);
+    'sweep: loop {
+        let (a, b) = (run_from(on_left, from), run_from(on_right, from));
+        if Combination::Without.keeps(a.inside, b.inside) {
+            return false;
+        }
+        let last = a.last.min(b.last);
+        if last == i64::MAX {
+            return true;
+        }
+        from = last + 1;
+        on_left = ahead(on_left, from);
+        on_right = ahead(on_right, from);
+    }
 }
 
 /// Whether some piece has a number, by a binary search.

@@ -3,7 +3,9 @@ ghost use Rattle.cue_sets.specs.Combination.{keeps};
 ghost use Rattle.cue_sets.specs.Texts.{is_text_member, IsAscending, IsFirstText, IsOnlyText};
 
 use crate::combination::Combination;
-use crate::texts::{Lists, are_same, copies, has, is_member, merge, zeros, zeros_listed};
+use crate::texts::{
+    Lists, are_same, ascends, copies, each_is_listed, has, is_member, merge, zeros, zeros_listed,
+};
 use cue_lattice::{Memory, Narrow, Text};
 use std::alloc::Global;
 use std::marker::Model;
@@ -138,6 +140,39 @@ impl TextSet {
         ensures ascending { IsAscending self.now.1 }
     {
         (self.all_but, self.texts.as_slice())
+    }
+
+    /// The set that has these texts, or, if `all_but` is true, all others, where they ascend strictly by their bytes.
+    /// This takes no memory.
+    pub fn from_texts(all_but: bool, texts: Vec<Text>) -> Option<TextSet>
+        ensures some { IfSome result (λ set. set ≡ (all_but, texts.items)) }
+        ensures none { IfNone result (¬ IsAscending texts.items) }
+    {
+        if !ascends(texts.as_slice()) {
+            return None;
+        }
+        Some(TextSet { all_but, texts })
+    }
+
+    /// Gives back what the set lists, as `listed` does. This takes no memory.
+    pub fn into_texts(self) -> (bool, Vec<Text>)
+        ensures all_but { result.0 ≡ self.0 }
+        ensures texts { result.1.items ≡ self.1 }
+        ensures ascending { IsAscending self.1 }
+    {
+        (self.all_but, self.texts)
+    }
+
+    /// Whether each member is one of the other set too. This takes no memory.
+    pub fn is_within(&self, other: &TextSet) -> bool
+        ensures { IsTrue result ↔
+            ((text : List ℕ) → is_text_member self.now text ≡ true → is_text_member other.now text ≡ true) }
+    {
+        let (texts, others) = (self.texts.as_slice(), other.texts.as_slice());
+        if self.all_but {
+            return other.all_but && each_is_listed(others, texts, true);
+        }
+        each_is_listed(texts, others, !other.all_but)
     }
 
     fn combined(&self, alloc: Global, how: Combination, other: &TextSet) -> Result<TextSet, Memory>

@@ -142,6 +142,33 @@ pub(crate) fn has(texts: &[Text], text: &str) -> bool
         .is_ok()
 }
 
+/// Whether each text is below the next one by its bytes.
+pub(crate) fn ascends(texts: &[Text]) -> bool
+    ensures { IsTrue result ↔ IsAscending texts.now }
+{
+    for index in 1..texts.len() {
+        match texts[index - 1].compare(&texts[index]) {
+            Ordering::Less => {}
+            Ordering::Equal | Ordering::Greater => return false,
+        }
+    }
+    true
+}
+
+/// Whether the other list has each of these texts, or, if `wanted` is false, has none of them.
+pub(crate) fn each_is_listed(texts: &[Text], others: &[Text], wanted: bool) -> bool
+    requires { IsAscending others.now }
+    ensures { IsTrue result ↔
+        ((text : List ℕ) → is_listed texts.now text ≡ true → is_listed others.now text ≡ wanted) }
+{
+    for text in texts {
+        if has(others, text.as_str()) != wanted {
+            return false;
+        }
+    }
+    true
+}
+
 /// Whether two lists have the same texts in the same order.
 pub(crate) fn are_same(left: &[Text], right: &[Text]) -> bool
     ensures { IsTrue result ↔ (left.now ≡ right.now) }
