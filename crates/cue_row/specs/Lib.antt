@@ -1,3 +1,13 @@
 pub mod Steps
 pub mod Quoted
 pub mod PathText
+pub mod Levels
+pub mod LabelSets
+pub mod LabelLaws
+pub mod Questions
+pub mod Lengths
+pub mod Forms
+pub mod Row
+pub mod RowLaws
+pub mod Kinds
+pub mod Chosen

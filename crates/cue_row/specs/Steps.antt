@@ -1,5 +1,6 @@
 -- The steps of a path.
-use Rattle.std.specs.Prelude.{ℕ, ◌≤◌, length}
+use Rattle.std.specs.Prelude.{◌≤◌, length}
+use Rattle.cue_lattice.specs.Limits.{step_limit}
 use Rattle.cue_lattice.specs.Path as paths
 use Rattle.cue_row.specs.declared.step.Step.{Step}
 use Rattle.cue_row.specs.declared.step.Step.TheVariants.{Label, Index}
@@ -9,10 +10,6 @@ abbrev pub step_of : Step → paths.Step
 step_of (Label name) = paths.label name
 step_of (Index number) = paths.index number
 
--- how many steps a path of the program has at most
-abbrev pub most_steps : ℕ
-most_steps = 64
-
--- the path is one of the program
+-- the path is one of the program: it has not too many steps
 abbrev pub IsWithinDepth : paths.Path → Type 0
-IsWithinDepth path = length path ≤ most_steps
+IsWithinDepth path = length path ≤ step_limit

@@ -1,12 +1,22 @@
 //! The row of a configuration table, the paths at which rows stand, and how paths are written.
 #![tactic(auto)]
 
+mod kind;
+mod labels;
+mod level;
 mod path;
+mod question;
 mod quoted;
+mod row;
 mod spelling;
 mod step;
 
+pub use kind::RowKind;
+pub use labels::Labels;
+pub use level::Level;
 pub use path::Path;
+pub use question::Question;
 pub use quoted::push_quoted;
+pub use row::Row;
 pub use spelling::{is_bare, path_text, push_path};
 pub use step::Step;

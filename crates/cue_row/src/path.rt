@@ -2,18 +2,16 @@ ghost use Rattle.std.specs.Prelude.{◌≡◌, ◌<◌, [], ◌∷◌, ◌++◌,
 ghost use Rattle.std.specs.Option.{OnSome};
 ghost use Rattle.std.specs.Cmp.Lexicographic.{slice_cmp};
 ghost use Rattle.cue_lattice.specs.Path.{path_cmp, step_cmp};
-ghost use Rattle.cue_row.specs.Steps.{step_of, IsWithinDepth, most_steps};
+ghost use Rattle.cue_lattice.specs.Limits.{step_limit};
+ghost use Rattle.cue_row.specs.Steps.{step_of, IsWithinDepth};
 
 use crate::Step;
-use cue_lattice::Memory;
+use cue_lattice::{Memory, STEP_LIMIT};
 use std::alloc::Global;
 use std::cmp::Ordering;
 use std::marker::Model;
 
-/// How many steps a path has at most.
-pub const MOST_STEPS: usize = 64;
-
-/// Where something stands in a configuration: the steps that lead there from the root, at most [`MOST_STEPS`] of them.
+/// Where something stands in a configuration: the steps that lead there from the root, at most [`STEP_LIMIT`] of them.
 /// Contracts see the list of them.
 #[derive(Debug, Drop)]
 pub struct Path {
@@ -34,12 +32,12 @@ impl Model for Path {
 }
 
 impl Path {
-    /// The path of these steps, or nothing where they are more than [`MOST_STEPS`].
+    /// The path of these steps, or nothing where they are more than [`STEP_LIMIT`].
     pub fn new(steps: Vec<Step>) -> Option<Path>
         ensures some { IfSome result (λ path. path ≡ map step_of steps.items) }
-        ensures none { IfNone result (most_steps < length steps.items) }
+        ensures none { IfNone result (step_limit < length steps.items) }
     {
-        if steps.len() > MOST_STEPS {
+        if steps.len() > STEP_LIMIT {
             return None;
         }
         Some(Path { steps })

@@ -1,2 +1,3 @@
 pub mod ByKind
 pub mod Disjunctions
+pub mod Within

@@ -2,7 +2,7 @@ ghost use Rattle.std.specs.Prelude.{◌≡◌, ◌↔◌, ◌<◌, [], true, fal
 ghost use Rattle.std.specs.Result.{IsOk, IsOkAnd};
 ghost use Rattle.cue_lattice.specs.declared.scalar.Scalar.{Scalar};
 ghost use Rattle.cue_lattice.specs.declared.scalar.Scalar.TheVariants as scalars;
-ghost use Rattle.cue_scalars.specs.Scalars.{members, kind, only_of, IsOnlyScalar, IsFirstScalar};
+ghost use Rattle.cue_scalars.specs.Scalars.{members, kind, only_of, IsOnlyScalar, IsFirstScalar, IsWithin};
 
 use cue_lattice::{Memory, Narrow, Scalar, Text};
 use cue_sets::{IntSet, TextSet};
@@ -157,6 +157,28 @@ impl ScalarSet {
             None => Ok(None),
             Some(text) => Ok(Some(Scalar::Text(text))),
         }
+    }
+
+    /// Whether each member is one of the other set too. This takes no memory.
+    pub fn is_within(&self, other: &ScalarSet) -> bool
+        ensures { IsTrue result ↔ IsWithin self.now other.now }
+    {
+        if !self.is_plain_within(other) {
+            return false;
+        }
+        if !self.ints.is_within(&other.ints) {
+            return false;
+        }
+        self.texts.is_within(&other.texts)
+    }
+
+    /// Whether null and the truth values that are members are members of the other set too.
+    fn is_plain_within(&self, other: &ScalarSet) -> bool
+        ensures { result ≡ ((not self.now.null || other.now.null)
+            && (not self.now.no || other.now.no)
+            && (not self.now.yes || other.now.yes)) }
+    {
+        (!self.null || other.null) && (!self.no || other.no) && (!self.yes || other.yes)
     }
 
     /// Whether null or a truth value is a member.

@@ -1,0 +1,20 @@
+-- What a row says of anything but scalars and labels.
+use Rattle.std.specs.Prelude.{◌≡◌, true, None}
+use Rattle.cue_row.specs.declared.level.Level.TheVariants.{Optional}
+use Rattle.cue_row.specs.declared.row.Row.{Row}
+
+-- it refuses no level, struct, list or length
+pub record AllowsAllForms (row : Row) : Type 0 where
+  pub level : row.level ≡ Optional
+  pub struct_ok : row.struct_ok ≡ true
+  pub list_ok : row.list_ok ≡ true
+  pub least : row.least ≡ 0
+  pub most : row.most ≡ None
+
+-- both say the same
+pub record HaveOneForm (a b : Row) : Type 0 where
+  pub level : a.level ≡ b.level
+  pub struct_ok : a.struct_ok ≡ b.struct_ok
+  pub list_ok : a.list_ok ≡ b.list_ok
+  pub least : a.least ≡ b.least
+  pub most : a.most ≡ b.most

@@ -1,0 +1,24 @@
+-- The kinds of rows: what may stand at a place.
+use Rattle.std.specs.Prelude.{◌≡◌, true, false}
+use Rattle.cue_lattice.specs.declared.scalar.Scalar.{Scalar}
+use Rattle.cue_scalars.specs.declared.scalar_set.ScalarSet.{ScalarSet}
+use Rattle.cue_scalars.specs.Scalars.{members, RefusesScalar}
+use Rattle.cue_row.specs.declared.row.Row.{Row}
+use Rattle.cue_row.specs.declared.kind.RowKind.{RowKind}
+use Rattle.cue_row.specs.declared.kind.RowKind.TheVariants as kinds
+
+-- no scalar is in the set
+abbrev pub IsEmptySet : ScalarSet → Type 0
+IsEmptySet set = (scalar : Scalar) → members set scalar ≡ false
+
+-- the set refuses no scalar
+abbrev pub IsFullSet : ScalarSet → Type 0
+IsFullSet set = (scalar : Scalar) → ¬ RefusesScalar set scalar
+
+-- which scalars, whether a struct and whether a list may stand
+abbrev pub IsKind : Row → RowKind → Type 0
+IsKind row kinds.Free = IsFullSet row.value × (row.struct_ok ≡ true) × (row.list_ok ≡ true)
+IsKind row kinds.Scalar = (¬ IsEmptySet row.value) × (row.struct_ok ≡ false) × (row.list_ok ≡ false)
+IsKind row kinds.Struct = IsEmptySet row.value × (row.struct_ok ≡ true) × (row.list_ok ≡ false)
+IsKind row kinds.List = IsEmptySet row.value × (row.struct_ok ≡ false) × (row.list_ok ≡ true)
+IsKind row kinds.Nothing = IsEmptySet row.value × (row.struct_ok ≡ false) × (row.list_ok ≡ false)

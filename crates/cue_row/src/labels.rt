@@ -1,0 +1,116 @@
+ghost use Rattle.std.specs.Prelude.{◌≡◌, ◌↔◌, ℕ, List, None, Some, Ok, IsTrue, IfOk, IfSome, IfNone};
+ghost use Rattle.std.specs.Option.{option_map};
+ghost use Rattle.cue_sets.specs.Texts.{IsAscending};
+ghost use Rattle.cue_row.specs.LabelSets.{allows_label, AreLabels};
+
+use cue_lattice::{Memory, Narrow, Text};
+use cue_sets::TextSet;
+use std::alloc::Global;
+use std::marker::Model;
+
+/// Which labels may stand directly below a place: all, or a finite set. Contracts see nothing where all may stand, and
+/// otherwise the list of those that may, strictly ascending by their bytes.
+#[derive(Debug, Drop)]
+pub struct Labels {
+    set: TextSet,
+}
+
+impl Model for Labels {
+    ghost use Rattle.std.specs.Prelude.{Option, List, ℕ};
+    ghost use Rattle.cue_row.specs.LabelSets.{labels_of, IsLabelSet};
+
+    ghost Value = { Option (List (List ℕ)) };
+
+    ghost view = { λ labels. labels_of labels.set };
+
+    ghost invariant = { λ labels. IsLabelSet labels.set };
+}
+
+impl Labels {
+    /// All labels. This takes no memory.
+    pub fn all(alloc: Global) -> Result<Labels, Memory>
+        ensures { result ≡ Ok None }
+    {
+        Ok(Labels {
+            set: TextSet::all(alloc)?,
+        })
+    }
+
+    /// These labels alone, where they ascend strictly by their bytes. This takes no memory.
+    pub fn listing(labels: Vec<Text>) -> Option<Labels>
+        ensures some { IfSome result (λ set. set ≡ Some labels.items) }
+        ensures none { IfNone result (¬ IsAscending labels.items) }
+    {
+        match TextSet::from_texts(false, labels) {
+            None => None,
+            Some(set) => Some(Labels { set }),
+        }
+    }
+
+    /// The labels that may stand, where not all may.
+    pub fn listed(&self) -> Option<&[Text]>
+        ensures list { option_map (λ labels. labels.now) result ≡ self.now }
+        ensures ascending { AreLabels self.now }
+    {
+        let (all, labels) = self.set.listed();
+        if all { None } else { Some(labels) }
+    }
+
+    /// Gives the labels back that may stand, where not all may. This takes no memory.
+    pub fn into_listed(self) -> Option<Vec<Text>>
+        ensures { option_map (λ labels. labels.items) result ≡ self }
+    {
+        let (all, labels) = self.set.into_texts();
+        if all { None } else { Some(labels) }
+    }
+
+    /// Whether a label may stand. This is a binary search.
+    pub fn allows(&self, label: &str) -> bool
+        ensures { result ≡ allows_label self.now label.now }
+    {
+        self.set.contains(label)
+    }
+}
+
+/// The labels that may not stand are refused.
+impl Narrow for Labels {
+    ghost use Rattle.std.specs.Prelude.{◌≡◌, ℕ, List, ◌↔◌};
+    ghost use Rattle.cue_row.specs.LabelSets.{RefusesLabel, AreLabels};
+    ghost use Rattle.cue_row.specs.LabelLaws.{same_labels};
+
+    type Question = Text;
+
+    ghost refuses = { RefusesLabel };
+
+    ghost is_value = { AreLabels };
+
+    ghost exact = { same_labels };
+
+    fn free(alloc: Global) -> Result<Labels, Memory> {
+        Labels::all(alloc)
+    }
+
+    fn is_free(&self) -> bool {
+        self.set.is_free()
+    }
+
+    fn meet(&self, alloc: Global, other: &Labels) -> Result<Labels, Memory> {
+        let set = Narrow::meet(&self.set, alloc, &other.set)?;
+        set.known();
+        Ok(Labels { set })
+    }
+
+    fn same(&self, other: &Labels) -> bool {
+        self.set.same(&other.set)
+    }
+
+    fn copy(&self, alloc: Global) -> Result<Labels, Memory> {
+        Ok(Labels {
+            set: self.set.copy(alloc)?,
+        })
+    }
+
+    fn known(&self) {
+        let _set = &self.set;
+    }
+}

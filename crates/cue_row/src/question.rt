@@ -1,0 +1,22 @@
+use cue_lattice::{Scalar, Text};
+
+/// What a row can be asked. In contracts a number is a whole number of any size.
+#[derive(Debug, Drop)]
+pub enum Question {
+    /// May this scalar stand?
+    MayBe(Scalar),
+    /// Is it one of the usual scalars, of which a default is chosen?
+    Usual(Scalar),
+    /// May a struct stand?
+    Struct,
+    /// May a list?
+    List,
+    /// May this label stand directly below?
+    Allows(Text),
+    /// May the level be this or less? It is asked of 0 and 1.
+    LevelAtMost(u8),
+    /// May the least length be this or less?
+    LengthAtMost(u32),
+    /// May the greatest length be this or more?
+    LengthAtLeast(u32),
+}

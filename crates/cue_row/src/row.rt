@@ -1,0 +1,143 @@
+ghost use Rattle.std.specs.Prelude.{◌≡◌, ◌↔◌, ◌⊎◌, ℕ, IsTrue};
+ghost use Rattle.cue_row.specs.Lengths.{RefusesLength};
+
+use crate::{Labels, Level, Question};
+use cue_lattice::{Memory, Narrow, Narrowed};
+use cue_scalars::ScalarSet;
+use std::alloc::Global;
+
+/// What is known of one place of a configuration. A row refuses questions, and unification refuses what one side
+/// refuses.
+#[derive(Debug, Drop)]
+pub struct Row {
+    pub level: Level,
+    /// Which scalars may stand.
+    pub value: ScalarSet,
+    /// Of which scalars a default is chosen.
+    pub usual: ScalarSet,
+    /// Whether a struct may stand.
+    pub struct_ok: bool,
+    /// Whether a list may stand.
+    pub list_ok: bool,
+    /// Which labels may stand directly below.
+    pub labels: Labels,
+    /// The least length of a list.
+    pub least: u32,
+    /// The greatest length of a list, where there is one.
+    pub most: Option<u32>,
+}
+
+/// A row refuses what its parts refuse.
+impl Narrow for Row {
+    ghost use Rattle.cue_row.specs.Row.{Refuses, IsRow};
+    ghost use Rattle.cue_row.specs.RowLaws.{same_rows};
+
+    type Question = Question;
+
+    ghost refuses = { Refuses };
+
+    ghost is_value = { IsRow };
+
+    ghost exact = { same_rows };
+
+    fn free(alloc: Global) -> Result<Row, Memory> {
+        Ok(Row {
+            level: Level::Optional,
+            value: ScalarSet::free(alloc)?,
+            usual: ScalarSet::free(alloc)?,
+            struct_ok: true,
+            list_ok: true,
+            labels: Labels::free(alloc)?,
+            least: 0,
+            most: None,
+        })
+    }
+
+    fn is_free(&self) -> bool {
+        if !self.allows_all_forms() {
+            return false;
+        }
+        if !self.value.is_free() {
+            return false;
+        }
+        if !self.usual.is_free() {
+            return false;
+        }
+        self.labels.is_free()
+    }
+
+    fn meet(&self, alloc: Global, other: &Row) -> Result<Row, Memory> {
+        Ok(Row {
+            level: self.level.greater(other.level),
+            value: Narrow::meet(&self.value, alloc, &other.value)?,
+            usual: Narrow::meet(&self.usual, alloc, &other.usual)?,
+            struct_ok: self.struct_ok && other.struct_ok,
+            list_ok: self.list_ok && other.list_ok,
+            labels: self.labels.meet(alloc, &other.labels)?,
+            least: self.least.max(other.least),
+            most: smaller(self.most, other.most),
+        })
+    }
+
+    fn same(&self, other: &Row) -> bool {
+        self.has_form_of(other)
+            && self.value.same(&other.value)
+            && self.usual.same(&other.usual)
+            && self.labels.same(&other.labels)
+    }
+
+    fn copy(&self, alloc: Global) -> Result<Row, Memory> {
+        Ok(Row {
+            level: self.level,
+            value: self.value.copy(alloc)?,
+            usual: self.usual.copy(alloc)?,
+            struct_ok: self.struct_ok,
+            list_ok: self.list_ok,
+            labels: self.labels.copy(alloc)?,
+            least: self.least,
+            most: self.most,
+        })
+    }
+
+    fn known(&self) {
+        self.value.known();
+        self.usual.known();
+        self.labels.known();
+    }
+}
+
+impl Row {
+    ghost use Rattle.cue_row.specs.Forms.{AllowsAllForms, HaveOneForm};
+
+    /// Whether the row refuses nothing but scalars and labels.
+    fn allows_all_forms(&self) -> bool
+        ensures { IsTrue result ↔ AllowsAllForms self.now }
+    {
+        self.level == Level::Optional
+            && self.struct_ok
+            && self.list_ok
+            && self.least == 0
+            && self.most.is_none()
+    }
+
+    /// Whether both rows are equal in all but scalars and labels.
+    fn has_form_of(&self, other: &Row) -> bool
+        ensures { IsTrue result ↔ HaveOneForm self.now other.now }
+    {
+        self.level == other.level
+            && self.struct_ok == other.struct_ok
+            && self.list_ok == other.list_ok
+            && self.least == other.least
+            && self.most == other.most
+    }
+}
+
+/// The smaller of two greatest lengths, where there is one.
+fn smaller(left: Option<u32>, right: Option<u32>) -> Option<u32>
+    ensures { (n : ℕ) → RefusesLength result n ↔ (RefusesLength left n ⊎ RefusesLength right n) }
+{
+    match (left, right) {
+        (None, most) | (most, None) => most,
+        (Some(left), Some(right)) => Some(left.min(right)),
+    }
+}
