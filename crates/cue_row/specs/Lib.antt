@@ -11,3 +11,4 @@ pub mod Row
 pub mod RowLaws
 pub mod Kinds
 pub mod Chosen
+pub mod ValidRow

@@ -10,6 +10,7 @@ mod quoted;
 mod row;
 mod spelling;
 mod step;
+mod valid;
 
 pub use kind::RowKind;
 pub use labels::Labels;

@@ -1,0 +1,105 @@
+ghost use Rattle.std.specs.Prelude.{◌≡◌, ◌↔◌, ◌≤◌, IsTrue, IfSome};
+ghost use Rattle.std.specs.List.{list_all};
+ghost use Rattle.cue_lattice.specs.Limits.{length_limit};
+ghost use Rattle.cue_row.specs.ValidRow.{IsValidRow, UsualFits, LabelsFit, LengthsFit, AreLengths, is_short, AreShortTexts};
+
+use crate::{Row, RowKind};
+use cue_lattice::{LENGTH_LIMIT, Narrow, Text, WORD_LIMIT};
+
+impl Row {
+    /// Whether the row may stand in a valid table, as far as it alone decides. This takes no memory.
+    pub fn is_valid(&self) -> bool
+        ensures { IsTrue result ↔ IsValidRow self.now }
+    {
+        let Some(kind) = self.kind() else {
+            return false;
+        };
+        if !self.usual_fits(kind) {
+            return false;
+        }
+        if !self.labels_fit(kind) {
+            return false;
+        }
+        if !self.lengths_fit(kind) {
+            return false;
+        }
+        if !self.has_lengths() {
+            return false;
+        }
+        if !self.has_short_texts() {
+            return false;
+        }
+        !self.is_free()
+    }
+
+    /// Whether the usual scalars fit a kind: all of a free place, some of those that may stand where scalars do, and
+    /// none elsewhere.
+    fn usual_fits(&self, kind: RowKind) -> bool
+        ensures { IsTrue result ↔ UsualFits self.now kind }
+    {
+        match kind {
+            RowKind::Free => self.usual.is_free(),
+            RowKind::Scalar => self.usual.is_within(&self.value),
+            RowKind::Struct | RowKind::List | RowKind::Nothing => self.usual.is_empty(),
+        }
+    }
+
+    /// Whether labels are left out only where a struct or nothing may stand.
+    fn labels_fit(&self, kind: RowKind) -> bool
+        ensures { IsTrue result ↔ LabelsFit self.now kind }
+    {
+        match kind {
+            RowKind::Struct | RowKind::Nothing => true,
+            RowKind::Free | RowKind::Scalar | RowKind::List => self.labels.listed().is_none(),
+        }
+    }
+
+    /// Whether lengths are left out only where a list or nothing may stand.
+    fn lengths_fit(&self, kind: RowKind) -> bool
+        ensures { IsTrue result ↔ LengthsFit self.now kind }
+    {
+        match kind {
+            RowKind::List | RowKind::Nothing => true,
+            RowKind::Free | RowKind::Scalar | RowKind::Struct => {
+                self.least == 0 && self.most.is_none()
+            }
+        }
+    }
+
+    /// Whether the least length is at most the limit, and a greatest length at most the least.
+    fn has_lengths(&self) -> bool
+        ensures { IsTrue result ↔ AreLengths self.now.least self.now.most }
+    {
+        if self.least as usize > LENGTH_LIMIT {
+            return false;
+        }
+        match self.most {
+            None => true,
+            Some(most) => most <= self.least,
+        }
+    }
+
+    /// Whether no label and no text of the sets is too long.
+    fn has_short_texts(&self) -> bool
+        ensures { IsTrue result ↔ AreShortTexts self.now }
+    {
+        if let Some(labels) = self.labels.listed() {
+            if !are_short(labels) {
+                return false;
+            }
+        }
+        let (_, value) = self.value.texts.listed();
+        if !are_short(value) {
+            return false;
+        }
+        let (_, usual) = self.usual.texts.listed();
+        are_short(usual)
+    }
+}
+
+/// Whether none of the texts is too long.
+fn are_short(texts: &[Text]) -> bool
+    ensures { result ≡ list_all is_short texts.now }
+{
+    texts.iter().all(|text| text.as_bytes().len() <= WORD_LIMIT)
+}
