@@ -11,7 +11,8 @@ use Rattle.cue_syntax.specs.declared.stop.Why.TheVariants as reasons
 use Rattle.cue_syntax.specs.declared.stop.Stop.{Stop}
 use Rattle.cue_syntax.specs.declared.tree.File.{File}
 use Rattle.cue_syntax.specs.Stops as stopped
-use Rattle.cue_syntax.specs.Syntax.{FileTree, file_tree}
+use Rattle.cue_syntax.specs.Files.{file_tree}
+use Rattle.cue_syntax.specs.Syntax.{FileTree}
 use Rattle.cue_syntax.specs.Grammar.{Limit, unlimited, at_most, IsFile}
 use Rattle.cue_syntax.specs.Viability.{Begins, Leaves, LeavesNear, HasNoTree, StandsSign, IsCallOfClose}
 use Rattle.cue_syntax.specs.Spots.{spot_of}

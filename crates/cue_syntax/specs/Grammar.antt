@@ -1,5 +1,6 @@
 -- Which trees the grammar has, and how many levels they open.
 use Rattle.std.specs.Prelude.{◌≡◌, ◌+◌, ◌≤◌, ◌⊎◌, ℕ, max, Bool, true, false, List, [], length, ◌++◌, codes, ⊤, Option, None, Some, slice_index}
+use Rattle.cue_lattice.specs.Limits.{level_limit}
 use Rattle.cue_lex.specs.declared.token.Token.{Token}
 use Rattle.cue_syntax.specs.declared.tree.Identifier.{Identifier}
 use Rattle.cue_syntax.specs.declared.tree.Identifier.TheVariants as identifiers
@@ -200,6 +201,19 @@ IsPackageName (identifiers.Hidden t) = ¬ HidesDefinition t
 abbrev pub IsRightPackage : Option Package → Entries → Type 0
 IsRightPackage None es = ⊤
 IsRightPackage (Some clause) es = IsPackageName clause.name × (clause.comma ≡ false → es ≡ no_entries)
+
+-- where no comma stands behind the name of a package, nothing stands there
+abbrev pub IsWellPackaged : Option Package → Entries → Type 0
+IsWellPackaged None es = ⊤
+IsWellPackaged (Some clause) no_entries = IsPackageName clause.name
+IsWellPackaged (Some clause) (entry e es) = IsPackageName clause.name × (clause.comma ≡ true)
+
+-- A file is well formed: it follows the grammar, and opens no more levels than a text may.
+pub record IsWellFormed (clause : Option Package) (declarations : Entries) (comma : Bool) : Type 0 where
+  pub package_clause : IsWellPackaged clause declarations
+  pub right : AreRightEntries declarations
+  pub ends : EndsEntries comma declarations
+  pub levels : levels_of_entries declarations ≤ level_limit
 
 -- a bound on levels
 pub data Limit : Type 0 where

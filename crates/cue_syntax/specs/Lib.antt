@@ -1,6 +1,7 @@
 pub mod Syntax
 pub mod Spelling
 pub mod Grammar
+pub mod Files
 pub mod Punctuation
 pub mod Viability
 pub mod Recogniser
@@ -9,3 +10,4 @@ pub mod Stops
 pub mod Spots
 pub mod Forms
 pub mod Refusals
+pub mod WellFormed

@@ -5,7 +5,6 @@ use Rattle.cue_syntax.specs.declared.tree.Label.{Label}
 use Rattle.cue_syntax.specs.declared.tree.Signed.{Signed}
 use Rattle.cue_syntax.specs.declared.tree.Comparison.{Comparison}
 use Rattle.cue_syntax.specs.declared.tree.Package.{Package}
-use Rattle.cue_syntax.specs.declared.tree.File.{File}
 use Rattle.cue_syntax.specs.declared.tree.Expr.{Expr, fold-Expr}
 use Rattle.cue_syntax.specs.declared.tree.Term.{Term, fold-Term}
 use Rattle.cue_syntax.specs.declared.tree.Declaration.{Declaration, fold-Declaration}
@@ -111,6 +110,3 @@ pub record FileTree : Type 0 where
   pub package_clause : Option Package
   pub declarations : Entries
   pub comma : Bool
-
-abbrev pub file_tree : File → FileTree
-file_tree file = record { package_clause = file.package; declarations = entries file.declarations.items; comma = file.comma }

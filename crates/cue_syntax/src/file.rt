@@ -2,7 +2,8 @@ ghost use Rattle.std.specs.Prelude.{◌≡◌, ◌+◌, ◌≤◌, ◌⊎◌, �
 ghost use Rattle.cue_lattice.specs.Refusal.{memory};
 ghost use Rattle.cue_syntax.specs.Spelling.{Reads, one, identifier_kind, spell_package};
 ghost use Rattle.cue_syntax.specs.Grammar.{at_most, IsFile, IsPackageName, HidesDefinition};
-ghost use Rattle.cue_syntax.specs.Syntax.{FileTree, file_tree};
+ghost use Rattle.cue_syntax.specs.Files.{file_tree};
+ghost use Rattle.cue_syntax.specs.Syntax.{FileTree};
 ghost use Rattle.cue_syntax.specs.Refusals.{Fits};
 ghost use Rattle.cue_syntax.specs.Viability.{Stands, IsMark};
 ghost use Rattle.cue_syntax.specs.Recogniser.{Moves, Refused, text, package_word, package_end, entries};
@@ -12,13 +13,9 @@ use crate::expression::declarations;
 use crate::form::refusal;
 use crate::stop::Stop;
 use crate::tree::{File, Identifier, Package};
-use cue_lattice::{Refusal, Text};
+use cue_lattice::{LEVEL_LIMIT, Refusal, Text};
 use cue_lex::{Token, TokenKind};
 use std::alloc::Global;
-
-/// How many levels may be open at once: of parentheses, braces and brackets, and one for each label of a chain
-/// behind its first.
-pub const LEVELS: usize = 64;
 
 /// The tree that the tokens of a text spell, by the grammar of the profile. `end` is the length of the text in bytes.
 ///
@@ -50,7 +47,7 @@ fn file(alloc: Global, cursor: Cursor) -> Result<File, Stop>
             comma: false,
         });
     }
-    let (row, rest) = declarations(alloc, rest, true, LEVELS)?;
+    let (row, rest) = declarations(alloc, rest, true, LEVEL_LIMIT)?;
     if !rest.is_at_end() {
         return Err(rest.syntax());
     }

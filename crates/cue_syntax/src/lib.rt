@@ -13,7 +13,7 @@ mod spot;
 mod stop;
 mod tree;
 
-pub use file::{LEVELS, parse};
+pub use file::parse;
 pub use spelling::one_tree;
 pub use tree::{
     Comparison, Declaration, Expr, File, Identifier, Label, LabelName, Mark, Package, Sign, Signed,

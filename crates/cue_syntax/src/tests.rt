@@ -1,4 +1,4 @@
-use crate::{LEVELS, parse};
+use crate::parse;
 use cue_lattice::{Form, Kind, Refusal};
 use cue_lex::lex;
 use std::alloc::Global;
@@ -299,9 +299,4 @@ fn long_chains(rt: HostRuntime) -> Result<(), Fail> {
     }
     accepted(&rt, alloc, &repeated(alloc, "a:1,", 40_000, "")?);
     Ok(())
-}
-
-#[test]
-fn the_limit(rt: HostRuntime) {
-    assert_eq!(rt; LEVELS, 64);
 }

@@ -1,12 +1,18 @@
+ghost use Rattle.cue_syntax.specs.Syntax.{entries};
+ghost use Rattle.cue_syntax.specs.Grammar.{IsWellFormed};
+ghost use Rattle.cue_syntax.specs.WellFormed.{well_formed_prop};
+
 use cue_lattice::Text;
 
-/// A fragment: its package clause, if any, and its declarations.
+/// A fragment: its package clause, if any, and its declarations. By its type it follows the grammar and opens at most 64
+/// levels, so that what reads it needs no premise.
 #[derive(Debug, Drop)]
 pub struct File {
     pub package: Option<Package>,
     pub declarations: Vec<Declaration>,
     /// Whether a comma, written or inserted, stands behind the last declaration.
     pub comma: bool,
+    pub ghost well_formed: { IsWellFormed «package» (entries declarations.items) comma } by { well_formed_prop «package» (entries declarations.items) comma },
 }
 
 /// A package clause. It says nothing of the fragment's value.

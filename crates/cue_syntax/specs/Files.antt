@@ -1,0 +1,6 @@
+-- The tree of a file, and what each file promises of it by its type.
+use Rattle.cue_syntax.specs.declared.tree.File.{File}
+use Rattle.cue_syntax.specs.Syntax.{FileTree, entries}
+
+abbrev pub file_tree : File → FileTree
+file_tree file = record { package_clause = file.package; declarations = entries file.declarations.items; comma = file.comma }

@@ -1,0 +1,109 @@
+-- A file has at most one proof of being well formed.
+use Rattle.std.specs.Prelude.{Bool, true, false, Option, Some, None}
+use Rattle.std.proofs.Props.{props}
+use Rattle.cue_syntax.specs.declared.tree.Identifier.{Identifier}
+use Rattle.cue_syntax.specs.declared.tree.Identifier.TheVariants as identifiers
+use Rattle.cue_syntax.specs.declared.tree.Package.{Package}
+use Rattle.cue_syntax.specs.Syntax.{Expression, name, integer, text, bottom, bound, other_integer, other_text, parenthesis, struct, close, list, conjunction, disjunction, Elements, no_elements, element, Branch, branch, Branches, no_branches, next_branch, Entry, ellipsis, field, definition, Entries, no_entries, entry}
+use Rattle.cue_syntax.specs.Grammar.{IsOperand, IsUnary, IsConjunct, IsNested, AreUnary, AreNested, TwoElements, TwoBranches, IsTerm, EndsEntries, EndsElements, IsRight, AreRight, IsRightBranch, AreRightBranches, IsRightEntry, AreRightEntries, IsPackageName, IsWellPackaged, IsWellFormed}
+
+operand_prop : (n : Identifier) → IsProp (IsOperand n)
+operand_prop (identifiers.Plain t) = hlevel
+operand_prop (identifiers.Definition t) = hlevel
+operand_prop (identifiers.Hidden t) = hlevel
+
+unary_prop : (e : Expression) → IsProp (IsUnary e)
+unary_prop (conjunction es) = hlevel
+unary_prop (disjunction bs) = hlevel
+unary_prop _ = hlevel
+
+conjunct_prop : (e : Expression) → IsProp (IsConjunct e)
+conjunct_prop (disjunction bs) = hlevel
+conjunct_prop _ = hlevel
+
+nested_entry_prop : (e : Entry) → IsProp (IsNested e)
+nested_entry_prop (definition t from chain e) = hlevel
+nested_entry_prop _ = hlevel
+
+all_unary_prop : (es : Elements) → IsProp (AreUnary es)
+all_unary_prop no_elements = hlevel
+all_unary_prop (element e es) = hlevel (unary_prop e, all_unary_prop es)
+
+nested_prop : (es : Entries) → IsProp (AreNested es)
+nested_prop no_entries = hlevel
+nested_prop (entry e es) = hlevel (nested_entry_prop e, nested_prop es)
+
+two_elements_prop : (es : Elements) → IsProp (TwoElements es)
+two_elements_prop no_elements = hlevel
+two_elements_prop (element d no_elements) = hlevel
+two_elements_prop (element d (element e es)) = hlevel
+
+two_branches_prop : (bs : Branches) → IsProp (TwoBranches bs)
+two_branches_prop no_branches = hlevel
+two_branches_prop (next_branch a no_branches) = hlevel
+two_branches_prop (next_branch a (next_branch b bs)) = hlevel
+
+term_prop : (marked : Bool) (e : Expression) → IsProp (IsTerm marked e)
+term_prop true e = unary_prop e
+term_prop false e = conjunct_prop e
+
+ends_entries_prop : (comma : Bool) (es : Entries) → IsProp (EndsEntries comma es)
+ends_entries_prop true no_entries = hlevel
+ends_entries_prop true (entry e es) = hlevel
+ends_entries_prop false es = hlevel
+
+ends_elements_prop : (comma goes_on : Bool) (es : Elements) → IsProp (EndsElements comma goes_on es)
+ends_elements_prop true false no_elements = hlevel
+ends_elements_prop true false (element e es) = hlevel
+ends_elements_prop true true es = hlevel
+ends_elements_prop false goes_on es = hlevel
+
+mutual
+  right_prop : (e : Expression) → IsProp (IsRight e)
+  right_prop (name n from) = operand_prop n
+  right_prop (integer n) = hlevel
+  right_prop (text t) = hlevel
+  right_prop bottom = hlevel
+  right_prop (bound c n) = hlevel
+  right_prop (other_integer n) = hlevel
+  right_prop (other_text t) = hlevel
+  right_prop (parenthesis e comma) = right_prop e
+  right_prop (struct es comma) = hlevel (right_entries_prop es, nested_prop es, ends_entries_prop comma es)
+  right_prop (close from es inner comma) = hlevel (right_entries_prop es, nested_prop es, ends_entries_prop inner es)
+  right_prop (list es goes_on comma) = hlevel (all_right_prop es, ends_elements_prop comma goes_on es)
+  right_prop (conjunction es) = hlevel (all_right_prop es, all_unary_prop es, two_elements_prop es)
+  right_prop (disjunction bs) = hlevel (right_branches_prop bs, two_branches_prop bs)
+
+  all_right_prop : (es : Elements) → IsProp (AreRight es)
+  all_right_prop no_elements = hlevel
+  all_right_prop (element e es) = hlevel (right_prop e, all_right_prop es)
+
+  right_branch_prop : (b : Branch) → IsProp (IsRightBranch b)
+  right_branch_prop (branch marked from e) = hlevel (right_prop e, term_prop marked e)
+
+  right_branches_prop : (bs : Branches) → IsProp (AreRightBranches bs)
+  right_branches_prop no_branches = hlevel
+  right_branches_prop (next_branch b bs) = hlevel (right_branch_prop b, right_branches_prop bs)
+
+  right_entry_prop : (e : Entry) → IsProp (IsRightEntry e)
+  right_entry_prop ellipsis = hlevel
+  right_entry_prop (field label chain e) = right_prop e
+  right_entry_prop (definition t from chain e) = right_prop e
+
+  right_entries_prop : (es : Entries) → IsProp (AreRightEntries es)
+  right_entries_prop no_entries = hlevel
+  right_entries_prop (entry e es) = hlevel (right_entry_prop e, right_entries_prop es)
+
+package_name_prop : (n : Identifier) → IsProp (IsPackageName n)
+package_name_prop (identifiers.Plain t) = hlevel
+package_name_prop (identifiers.Definition t) = hlevel
+package_name_prop (identifiers.Hidden t) = hlevel
+
+packaged_prop : (clause : Option Package) (es : Entries) → IsProp (IsWellPackaged clause es)
+packaged_prop None es = hlevel
+packaged_prop (Some clause) no_entries = package_name_prop clause.name
+packaged_prop (Some clause) (entry e es) = hlevel (props, package_name_prop clause.name)
+
+-- Well-formedness is a proposition, so that a file may promise it.
+pub well_formed_prop : (clause : Option Package) (es : Entries) (comma : Bool) → IsProp (IsWellFormed clause es comma)
+well_formed_prop clause es comma = hlevel (props, packaged_prop clause es, right_entries_prop es, ends_entries_prop comma es)
