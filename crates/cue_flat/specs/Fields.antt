@@ -4,6 +4,7 @@ use Rattle.std.specs.List.{AllByRecursion}
 use Rattle.std.specs.Ordering.{nat_cmp}
 use Rattle.std.specs.Cmp.Lexicographic.{slice_cmp}
 use Rattle.std.specs.declared.cmp.Ordering.TheVariants.{Less}
+use Rattle.cue_lattice.specs.Limits.{word_limit}
 use Rattle.cue_lattice.specs.Scalar.{IsScalar}
 use Rattle.cue_lattice.specs.OneOf.{OneOf}
 use Rattle.cue_lattice.specs.Path.{label}
@@ -20,7 +21,7 @@ IsLetter b = ((65 ≤ b) × (b ≤ 90)) ⊎ ((97 ≤ b) × (b ≤ 122))
 abbrev pub IsLetterOrDigit : ℕ → Type 0
 IsLetterOrDigit b = IsLetter b ⊎ ((48 ≤ b) × (b ≤ 57))
 
--- a letter, and letters and digits behind it
+-- a letter, and letters and digits after it
 abbrev pub IsWord : List ℕ → Type 0
 IsWord [] = ⊥
 IsWord (b ∷ bs) = IsLetter b × AllByRecursion IsLetterOrDigit bs
@@ -28,7 +29,7 @@ IsWord (b ∷ bs) = IsLetter b × AllByRecursion IsLetterOrDigit bs
 -- A flat name is such a word of at most 65,535 bytes, other than `int`.
 pub record IsName (name : List ℕ) : Type 0 where
   pub word : IsWord name
-  pub fits : length name ≤ 65535
+  pub fits : length name ≤ word_limit
   pub free : name ≢ codes "int"
 
 -- the name is one of the language, and the integer in range

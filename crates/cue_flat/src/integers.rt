@@ -17,7 +17,8 @@ impl Integers {
     /// What both sides leave.
     pub fn meet(self, other: Integers) -> Integers
         ensures refused { (question : Question) →
-            integers_refuse result question ↔ (integers_refuse self question ⊎ integers_refuse other question) }
+            integers_refuse result question
+            ↔ (integers_refuse self question ⊎ integers_refuse other question) }
         ensures valid { IsIntegers self → IsIntegers other → IsIntegers result }
     {
         match (self, other) {

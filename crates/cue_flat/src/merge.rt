@@ -1,4 +1,5 @@
-ghost use Rattle.std.specs.Prelude.{◌≡◌, ◌+◌, ◌≤◌, [], IfSome, IfNone, OnSome, IfOk, vec_len, vec_capacity};
+ghost use Rattle.std.specs.Prelude.{◌≡◌, ◌+◌, ◌≤◌, [], IfSome, IfNone, OnSome, IfOk, vec_len};
+ghost use Rattle.std.specs.Prelude.{vec_capacity};
 ghost use Rattle.std.specs.List.{AllByRecursion};
 ghost use Rattle.cue_flat.specs.Fields.{IsField};
 ghost use Rattle.cue_flat.specs.FlatTable.{AreFields};
@@ -25,8 +26,10 @@ fn compare_last(left: &[Field], right: &[Field]) -> Ordering
 fn take_greatest(left: &mut Vec<Field>, right: &mut Vec<Field>) -> Option<Field>
     requires left { AreFields left.old.items }
     requires right { AreFields right.old.items }
-    ensures taken { IfSome result (Takes left.old.items right.old.items left.new.items right.new.items) }
-    ensures fewer { OnSome result (vec_len left.new + vec_len right.new + 1 ≤ vec_len left.old + vec_len right.old) }
+    ensures taken { IfSome result
+        (Takes left.old.items right.old.items left.new.items right.new.items) }
+    ensures fewer { OnSome result
+        (vec_len left.new + vec_len right.new + 1 ≤ vec_len left.old + vec_len right.old) }
     ensures none { IfNone result ((left.old.items ≡ []) × (right.old.items ≡ [])) }
 {
     match compare_last(left, right) {

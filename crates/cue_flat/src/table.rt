@@ -10,7 +10,8 @@ use cue_lattice::Memory;
 use std::alloc::Global;
 use std::marker::Model;
 
-/// What a site knows of a flat configuration: nothing, or that it is an open struct with these fields in order.
+/// What a site knows of a flat configuration: nothing, or that it is an open struct with these
+/// fields in order.
 #[derive(Debug, Drop)]
 pub struct FlatTable {
     root: Option<Vec<Field>>,
@@ -49,7 +50,8 @@ impl FlatTable {
     /// The open struct of these fields, in whatever order and however often each name comes.
     pub fn of_fields(alloc: Global, fields: Vec<Field>) -> Result<FlatTable, Memory>
         requires { AllByRecursion IsField fields.items }
-        ensures { IfOk result (λ table. SameAnswers (table_refuses table) (fields_refuse fields.items)) }
+        ensures { IfOk result (λ table.
+            SameAnswers (table_refuses table) (fields_refuse fields.items)) }
     {
         Ok(FlatTable::from_fields(sorted(alloc, fields)?))
     }
@@ -65,8 +67,8 @@ impl FlatTable {
         }
     }
 
-    /// Unifies the other table into this one, which then refuses exactly what one of both did. After want of memory it
-    /// is as it was.
+    /// Unifies the other table into this one, which then refuses exactly what one of both did.
+    /// After `Memory` it is as it was.
     pub fn meet_with(&mut self, alloc: Global, other: FlatTable) -> Result<(), Memory>
         ensures ok { OnOk result (IsMet self.old other self.new) }
         ensures err { OnErr result (self.new ≡ self.old) }
@@ -135,5 +137,6 @@ fn same_fields(a: &[Field], b: &[Field]) -> bool
 
 /// Tables with equal answers are equal.
 pub fn equal_answers()
-    ensures { (a b : Table) → IsTable a → IsTable b → SameAnswers (table_refuses a) (table_refuses b) → a ≡ b }
+    ensures { (a b : Table) → IsTable a → IsTable b →
+        SameAnswers (table_refuses a) (table_refuses b) → a ≡ b }
 {}

@@ -1,4 +1,4 @@
--- Reading from left to right: a part is what stands in front and the bytes behind it, or None where it does not stand
+-- Reading from left to right: a part is what stands in front and the bytes after it, or None where it does not stand
 -- there.
 use Rattle.std.specs.Prelude.{◌≡◌, ◌⊎◌, ℕ, ℤ, List, [], ◌∷◌, ◌++◌, length, take, drop, Option, Some, None, nat_lt, ◌&&◌, if◌then◌else◌}
 use Rattle.std.specs.Int.{Width, w16, w64, byte_len, from_be_bytes, cast_signed}
@@ -18,7 +18,7 @@ abbrev pub ◌>>=◌ : {A B : Type 0} → Option A → (A → Option B) → Opti
 (Some x) >>= f = f x
 None >>= f = None
 
--- the bytes behind this front
+-- the bytes after this front
 unfoldable pub behind : List ℕ → List ℕ → Option (List ℕ)
 behind front bytes =
     if bytes_eq (take (length front) bytes) front then Some (drop (length front) bytes) else None

@@ -91,7 +91,7 @@ abbrev pub state_refuses : List ℕ → Refusals
 state_refuses bytes path question =
     (table : Table) × IsTable table × (state_bytes table ≡ bytes) × table_refuses table path question
 
--- a mark, and behind it the number of another version
+-- a mark, and after it the number of another version
 abbrev pub IsVersionFault : List ℕ → Type 0
 IsVersionFault bytes = (version : ℕ) × (rest : List ℕ) × (version ≢ 1) × (bytes ≡ mark ++ (version ∷ rest))
 

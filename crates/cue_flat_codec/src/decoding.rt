@@ -1,6 +1,7 @@
 //! State bytes as tables: what stands around the rows.
 
 ghost use Rattle.std.specs.Prelude.{◌≡◌, ◌⊎◌, IfOk, IfErr, IsErrOf};
+ghost use Rattle.cue_lattice.specs.Refusal.{refusal_at};
 ghost use Rattle.cue_flat.specs.FlatTable.{IsTable};
 ghost use Rattle.cue_flat_codec.specs.State.{table_bytes, state_bytes, IsVersionFault, IsFault};
 ghost use Rattle.cue_flat_codec.specs.Reading.{IsRefused, NoTable};
@@ -33,13 +34,15 @@ fn table_of(alloc: Global, bytes: &[u8]) -> Result<FlatTable, Kind>
     Ok(FlatTable::from_fields(fields))
 }
 
-/// The table that has these state bytes. Bytes of another version are refused as `Version`, others that no table has as
-/// `NotState`, and either where memory ran out as `Memory`. Room is made only for what was read.
+/// The table that has these state bytes. Bytes of another version are refused as `Version`, others
+/// that no table has as `NotState`, and either where memory ran out as `Memory`. Room is made only
+/// for what was read.
 pub fn decode(alloc: Global, bytes: &[u8]) -> Result<FlatTable, Kind>
     ensures ok { IfOk result (λ table. IsTable table × (state_bytes table ≡ bytes.now)) }
     // For another version no memory is wanted.
     ensures version { IsVersionFault bytes.now → IsErrOf result Kind.Version }
-    ensures refused { IfErr result (λ kind. (kind ≡ Kind.Memory) ⊎ IsFault bytes.now (record { kind = kind; place = 0 })) }
+    ensures refused { IfErr result (λ kind.
+        (kind ≡ Kind.Memory) ⊎ IsFault bytes.now (refusal_at kind 0)) }
 {
     let Some(rest) = behind_of(&MARK, bytes) else {
         return Err(Kind::NotState);

@@ -21,7 +21,8 @@ pub const SCALAR: [u8; 1] = [1];
 /// A row that nothing may fill: kind 4, all labels, a least length of 0, no greatest.
 pub const NOTHING: [u8; 7] = [4, 0, 0, 0, 0, 0, 0];
 
-/// In front of the ends of a set of one piece: neither null nor a truth value, and one piece of integers.
+/// In front of the ends of a set of one piece: neither null nor a truth value, and one piece of
+/// integers.
 pub const SET_FRONT: [u8; 9] = [0, 0, 0, 0, 0, 0, 0, 0, 1];
 
 /// Behind the ends of a set: only the texts that are listed, and none is.

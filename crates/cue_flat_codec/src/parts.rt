@@ -3,12 +3,14 @@
 ghost use Rattle.std.specs.Prelude.{◌≡◌, List, [], ◌∷◌};
 ghost use Rattle.std.specs.Option.{option_map};
 ghost use Rattle.std.specs.Int.{w16, w64};
-ghost use Rattle.cue_flat_codec.specs.Reading.{behind, number_at, integer_at, set_at, integers_between, scalar_at, value_at, name_at, row_at};
+ghost use Rattle.cue_flat_codec.specs.Reading.{behind, number_at, integer_at, set_at};
+ghost use Rattle.cue_flat_codec.specs.Reading.{integers_between, scalar_at, value_at, name_at};
+ghost use Rattle.cue_flat_codec.specs.Reading.{row_at};
 
 use crate::format::{LABEL, NOTHING, SCALAR, SET_END, SET_FRONT, SET_LEN, THERE};
 use cue_flat::Integers;
 
-/// The bytes behind this front.
+/// The bytes after this front.
 #[tactic(auto, unfolding(crate::specs::Reading::behind))]
 pub fn behind_of<'a>(front: &[u8], bytes: &'a [u8]) -> Option<&'a [u8]>
     ensures { option_map (λ rest. rest.now) result ≡ behind front.now bytes.now }
@@ -102,10 +104,11 @@ fn name_of(bytes: &[u8]) -> Option<(&[u8], &[u8])>
     Some(rest.split_at(len))
 }
 
-/// The row of a field, whatever its name: the name, the integers, and the bytes behind the row.
+/// The row of a field, whatever its name: the name, the integers, and the bytes after the row.
 #[tactic(auto, unfolding(crate::specs::Reading::row_at))]
 pub fn row_of(bytes: &[u8]) -> Option<(&[u8], Integers, &[u8])>
-    ensures { option_map (λ x. (record { name = x.0.now; value = x.1 }, x.2.now)) result ≡ row_at bytes.now }
+    ensures { option_map (λ x. (record { name = x.0.now; value = x.1 }, x.2.now)) result
+        ≡ row_at bytes.now }
 {
     let path = behind_of(&LABEL, bytes)?;
     let (name, rest) = name_of(path)?;

@@ -5,14 +5,15 @@ ghost use Rattle.std.specs.List.{AllByRecursion};
 ghost use Rattle.std.specs.Ordering.{nat_cmp};
 ghost use Rattle.std.specs.Cmp.Lexicographic.{slice_cmp};
 ghost use Rattle.std.specs.declared.cmp.Ordering.TheVariants.{Less};
-ghost use Rattle.cue_flat.specs.Fields.{IsLetter, IsLetterOrDigit, IsWord, IsName, IsField, AreAscending};
+ghost use Rattle.cue_flat.specs.Fields.{IsLetter, IsLetterOrDigit, IsWord, IsName, IsField};
+ghost use Rattle.cue_flat.specs.Fields.{AreAscending};
 ghost use Rattle.cue_flat.specs.FlatTable.{AreFields};
 ghost use Rattle.cue_flat_codec.specs.State.{field_bytes, fields_bytes};
 ghost use Rattle.cue_flat_codec.specs.Reading.{IsRefused, NoField, NoFields};
 
 use crate::parts::row_of;
 use cue_flat::Field;
-use cue_lattice::{Kind, Text};
+use cue_lattice::{Kind, Text, WORD_LIMIT};
 use std::alloc::Global;
 
 fn is_letter(byte: u8) -> bool
@@ -33,7 +34,7 @@ fn are_letters_or_digits(bytes: &[u8]) -> bool
     bytes.iter().all(|byte| is_letter_or_digit(*byte))
 }
 
-/// Whether the bytes are a letter, and letters and digits behind it.
+/// Whether the bytes are a letter, and letters and digits after it.
 fn is_word(bytes: &[u8]) -> bool
     ensures { IsTrue result ↔ IsWord bytes.now }
 {
@@ -47,13 +48,14 @@ fn is_word(bytes: &[u8]) -> bool
 fn is_name(bytes: &[u8]) -> bool
     ensures { IsTrue result ↔ IsName bytes.now }
 {
-    bytes.len() <= 65535 && is_word(bytes) && bytes != b"int".as_slice()
+    bytes.len() <= WORD_LIMIT && is_word(bytes) && bytes != b"int".as_slice()
 }
 
 /// Whether the name is above that of each field. The fields are in order.
 fn follows(fields: &[Field], name: &Text) -> bool
     requires { AreAscending fields.now }
-    ensures { IsTrue result ↔ AllByRecursion (λ field. slice_cmp nat_cmp field.name name.now ≡ Less) fields.now }
+    ensures { IsTrue result ↔
+        AllByRecursion (λ field. slice_cmp nat_cmp field.name name.now ≡ Less) fields.now }
 {
     match fields.last() {
         None => true,
@@ -61,7 +63,7 @@ fn follows(fields: &[Field], name: &Text) -> bool
     }
 }
 
-/// The field whose row stands in front, and the bytes behind it.
+/// The field whose row stands in front, and the bytes after it.
 fn field_of(alloc: Global, bytes: &[u8]) -> Result<(Field, &[u8]), Kind>
     ensures ok { IfOk result (λ x. (bytes.now ≡ field_bytes x.0 ++ x.1.now) × IsField x.0) }
     ensures refused { IfErr result (λ kind. IsRefused kind (NoField bytes.now)) }
@@ -83,7 +85,8 @@ fn field_of(alloc: Global, bytes: &[u8]) -> Result<(Field, &[u8]), Kind>
 
 /// The fields whose rows these are.
 pub fn fields_of(alloc: Global, bytes: &[u8]) -> Result<Vec<Field>, Kind>
-    ensures ok { IfOk result (λ fields. AreFields fields.items × (bytes.now ≡ fields_bytes fields.items)) }
+    ensures ok { IfOk result (λ fields.
+        AreFields fields.items × (bytes.now ≡ fields_bytes fields.items)) }
     ensures refused { IfErr result (λ kind. IsRefused kind (NoFields bytes.now)) }
 {
     let mut fields = Vec::new(alloc);

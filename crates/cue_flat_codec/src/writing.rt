@@ -1,9 +1,11 @@
 //! Tables as state bytes.
 
 ghost use Rattle.std.specs.Prelude.{◌≡◌, ◌++◌, ◌≤◌, ◌-◌, ◌^◌, min, length, OnOk, IfOk};
+ghost use Rattle.cue_lattice.specs.Limits.{word_limit};
 ghost use Rattle.cue_flat.specs.Fields.{IsField};
 ghost use Rattle.cue_flat.specs.FlatTable.{AreFields};
-ghost use Rattle.cue_flat_codec.specs.State.{integer_bytes, set_bytes, scalar_bytes, value_bytes, field_bytes, fields_bytes, table_bytes, state_bytes};
+ghost use Rattle.cue_flat_codec.specs.State.{integer_bytes, set_bytes, scalar_bytes, value_bytes};
+ghost use Rattle.cue_flat_codec.specs.State.{field_bytes, fields_bytes, table_bytes, state_bytes};
 
 use crate::format::{
     LABEL, MARK, NOTHING, ROOT, SCALAR, SET_END, SET_FRONT, SET_LEN, THERE, VERSION,
@@ -31,7 +33,7 @@ fn put_set(out: &mut Vec<u8>, lowest: i64, highest: i64) -> Result<(), Memory>
     Ok(())
 }
 
-/// Writes what stands behind the level of a row that only scalars may fill.
+/// Writes what stands after the level of a row that only scalars may fill.
 #[tactic(auto, unfolding(crate::specs::State::scalar_bytes))]
 fn put_scalar(out: &mut Vec<u8>, lowest: i64, highest: i64) -> Result<(), Memory>
     ensures { OnOk result (out.new.items ≡ out.old.items ++ scalar_bytes lowest highest) }
@@ -42,7 +44,7 @@ fn put_scalar(out: &mut Vec<u8>, lowest: i64, highest: i64) -> Result<(), Memory
     Ok(())
 }
 
-/// Writes what stands behind the level of a row.
+/// Writes what stands after the level of a row.
 fn put_value(out: &mut Vec<u8>, value: Integers) -> Result<(), Memory>
     ensures { OnOk result (out.new.items ≡ out.old.items ++ value_bytes value) }
 {
@@ -58,7 +60,7 @@ fn put_value(out: &mut Vec<u8>, value: Integers) -> Result<(), Memory>
 
 #[tactic(auto, unfolding(crate::specs::State::field_bytes, crate::specs::State::name_bytes))]
 fn put_field(out: &mut Vec<u8>, field: &Field) -> Result<(), Memory>
-    requires { length field.now.name ≤ 65535 }
+    requires { length field.now.name ≤ word_limit }
     ensures { OnOk result (out.new.items ≡ out.old.items ++ field_bytes field.now) }
 {
     let name = field.name.as_bytes();
@@ -83,7 +85,7 @@ fn put_fields(out: &mut Vec<u8>, fields: &[Field]) -> Result<(), Memory>
 /// How many bytes the row of a field has.
 #[tactic(auto, unfolding(crate::specs::State::field_bytes, crate::specs::State::name_bytes, crate::specs::State::scalar_bytes, crate::specs::State::set_bytes, crate::specs::State::integer_bytes))]
 fn row_len(field: &Field) -> usize
-    requires { length field.now.name ≤ 65535 }
+    requires { length field.now.name ≤ word_limit }
     ensures { result ≡ length (field_bytes field.now) }
 {
     let value = match field.value {
@@ -135,7 +137,8 @@ fn put_table(out: &mut Vec<u8>, table: &FlatTable) -> Result<(), Memory>
     Ok(())
 }
 
-/// The state bytes of a table, version 1, in a buffer that was made for them. An error says that memory ran out.
+/// The state bytes of a table, version 1, in a buffer that was made for them. An error says that
+/// memory ran out.
 pub fn encode(alloc: Global, table: &FlatTable) -> Result<Vec<u8>, Memory>
     ensures { IfOk result (λ bytes. bytes.items ≡ state_bytes table.now) }
 {

@@ -17,7 +17,8 @@ pub struct Conflict {
     pub not_allowed: bool,
 }
 
-/// The conflicts of a table, in the order of their paths: its fields in which two sides asked for different integers.
+/// The conflicts of a table, in the order of their paths: its fields in which two sides asked for
+/// different integers.
 pub fn conflicts(alloc: Global, table: &FlatTable) -> Result<Vec<Conflict>, Memory>
     ensures { IfOk result (λ found. found.items ≡ conflicts_of table.now) }
 {

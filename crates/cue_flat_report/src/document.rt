@@ -10,8 +10,8 @@ use cue_lattice::Memory;
 use serde_json::{Map, Value, put};
 use std::alloc::Global;
 
-/// Exports a table: its conflicts where there are any; otherwise what is not a single value yet; otherwise the object
-/// of all fields with their integers.
+/// Exports a table: its conflicts where there are any; otherwise what is not a single value yet;
+/// otherwise the object of all fields with their integers.
 pub fn export(alloc: Global, table: &FlatTable) -> Result<Export, Memory>
     ensures { IfOk result (λ export. IsExport table.now export) }
 {

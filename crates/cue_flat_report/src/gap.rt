@@ -15,8 +15,8 @@ pub struct Gap {
     pub missing: bool,
 }
 
-/// What is not a single value yet, in the order of paths: the root alone where nothing is known, and otherwise each
-/// field in which every integer may stand.
+/// What is not a single value yet, in the order of paths: the root alone where nothing is known,
+/// and otherwise each field in which every integer may stand.
 pub fn incomplete(alloc: Global, table: &FlatTable) -> Result<Vec<Gap>, Memory>
     ensures { IfOk result (λ gaps. gaps.items ≡ gaps_of table.now) }
 {

@@ -1,7 +1,7 @@
 //! What a flat table exports, and the lines that tell what is in its way.
 //!
-//! A table with a conflict exports nothing; neither does one in which a field has no single integer. Otherwise the
-//! export is one JSON object of all fields.
+//! A table with a conflict exports nothing; neither does one in which a field has no single
+//! integer. Otherwise the export is one JSON object of all fields.
 #![tactic(auto)]
 
 mod conflict;
@@ -13,8 +13,12 @@ mod quoted;
 mod report;
 mod spelling;
 mod step;
+#[cfg(test)]
+mod tests;
 
 pub use conflict::{Conflict, conflicts};
+pub use cue_flat::FlatTable;
+pub use cue_lattice::{Memory, Text};
 pub use document::export;
 pub use gap::{Gap, incomplete};
 pub use outcome::Export;
@@ -22,6 +26,3 @@ pub use path::Path;
 pub use report::lines;
 pub use spelling::path_text;
 pub use step::Step;
-
-#[cfg(test)]
-mod tests;

@@ -6,7 +6,8 @@ use cue_lattice::{Memory, Text};
 use std::alloc::Global;
 use std::marker::Model;
 
-/// Where something stands in a configuration: the steps that lead there from the root. Contracts see the list of them.
+/// Where something stands in a configuration: the steps that lead there from the root. Contracts
+/// see the list of them.
 #[derive(Debug, Drop)]
 pub struct Path {
     steps: Vec<Step>,

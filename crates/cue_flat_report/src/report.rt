@@ -7,8 +7,8 @@ use crate::{Conflict, Gap, Path};
 use cue_lattice::Memory;
 use std::alloc::Global;
 
-/// A line for each conflict, as `conflict a no value`, and then one for each gap, as `incomplete a missing`. Each ends
-/// with U+000A.
+/// A line for each conflict, as `conflict a no value`, and then one for each gap, as `incomplete a
+/// missing`. Each ends with U+000A.
 pub fn lines(alloc: Global, conflicts: &[Conflict], gaps: &[Gap]) -> Result<String, Memory>
     ensures { IfOk result (λ text. string_bytes text
         ≡ flat_map conflict_line conflicts.now ++ flat_map gap_line gaps.now) }
@@ -21,7 +21,8 @@ pub fn lines(alloc: Global, conflicts: &[Conflict], gaps: &[Gap]) -> Result<Stri
 
 /// Writes a line for each conflict.
 fn push_conflicts(out: &mut String, conflicts: &[Conflict]) -> Result<(), Memory>
-    ensures { OnOk result (string_bytes out.new ≡ string_bytes out.old ++ flat_map conflict_line conflicts.now) }
+    ensures { OnOk result
+        (string_bytes out.new ≡ string_bytes out.old ++ flat_map conflict_line conflicts.now) }
 {
     for conflict in conflicts {
         push_line(out, "conflict ", &conflict.path, cause(conflict))?;
@@ -31,7 +32,8 @@ fn push_conflicts(out: &mut String, conflicts: &[Conflict]) -> Result<(), Memory
 
 /// Writes a line for each gap.
 fn push_gaps(out: &mut String, gaps: &[Gap]) -> Result<(), Memory>
-    ensures { OnOk result (string_bytes out.new ≡ string_bytes out.old ++ flat_map gap_line gaps.now) }
+    ensures { OnOk result
+        (string_bytes out.new ≡ string_bytes out.old ++ flat_map gap_line gaps.now) }
 {
     for gap in gaps {
         push_line(out, "incomplete ", &gap.path, lack(gap))?;
@@ -41,7 +43,8 @@ fn push_gaps(out: &mut String, gaps: &[Gap]) -> Result<(), Memory>
 
 /// Writes one line: what it reports, where, and why.
 fn push_line(out: &mut String, what: &str, path: &Path, why: &str) -> Result<(), Memory>
-    ensures { OnOk result (string_bytes out.new ≡ string_bytes out.old ++ line what.now path.now why.now) }
+    ensures { OnOk result
+        (string_bytes out.new ≡ string_bytes out.old ++ line what.now path.now why.now) }
 {
     out.push_str(what)?;
     push_path(out, path)?;

@@ -1,6 +1,7 @@
 ghost use Rattle.std.specs.Prelude.{◌≡◌, ◌++◌, IfOk, OnOk, string_bytes};
 ghost use Rattle.std.specs.List.{flat_map};
-ghost use Rattle.cue_flat_report.specs.PathText.{dotted, is_word_byte, is_bare, step_text, path_text};
+ghost use Rattle.cue_flat_report.specs.PathText.{dotted, is_word_byte, is_bare, step_text};
+ghost use Rattle.cue_flat_report.specs.PathText.{path_text};
 ghost use Rattle.cue_flat_report.specs.Steps.{step_of};
 
 use crate::quoted::push_quoted;
@@ -9,9 +10,10 @@ use cue_lattice::Memory;
 use itoa::Buffer;
 use std::alloc::Global;
 
-/// The path as reports write it: `.` for the root, and otherwise its steps with `.` between them. An index is its
-/// decimal digits. A label is bare where it consists of ASCII letters and digits, `_` and `$`, is not empty and does
-/// not begin with a digit; otherwise it is quoted, as a CUE string literal.
+/// The path as reports write it: `.` for the root, and otherwise its steps with `.` between them.
+/// An index is its decimal digits. A label is bare where it consists of ASCII letters and digits,
+/// `_` and `$`, is not empty and does not begin with a digit; otherwise it is quoted, as a CUE
+/// string literal.
 pub fn path_text(alloc: Global, path: &Path) -> Result<String, Memory>
     ensures { IfOk result (λ text. string_bytes text ≡ path_text path.now) }
 {
@@ -22,7 +24,8 @@ pub fn path_text(alloc: Global, path: &Path) -> Result<String, Memory>
 
 /// Writes a path.
 pub fn push_path(out: &mut String, path: &Path) -> Result<(), Memory>
-    ensures { OnOk result (string_bytes out.new ≡ string_bytes out.old ++ path_text path.now) }
+    ensures { OnOk result
+        (string_bytes out.new ≡ string_bytes out.old ++ path_text path.now) }
 {
     match path.steps() {
         [] => out.push('.')?,
@@ -36,7 +39,8 @@ pub fn push_path(out: &mut String, path: &Path) -> Result<(), Memory>
 
 /// Writes a dot and the step, for each step.
 fn push_rest(out: &mut String, steps: &[Step]) -> Result<(), Memory>
-    ensures { OnOk result (string_bytes out.new ≡ string_bytes out.old ++ flat_map dotted steps.now) }
+    ensures { OnOk result
+        (string_bytes out.new ≡ string_bytes out.old ++ flat_map dotted steps.now) }
 {
     for step in steps {
         out.push('.')?;
@@ -47,7 +51,8 @@ fn push_rest(out: &mut String, steps: &[Step]) -> Result<(), Memory>
 
 /// Writes one step.
 fn push_step(out: &mut String, step: &Step) -> Result<(), Memory>
-    ensures { OnOk result (string_bytes out.new ≡ string_bytes out.old ++ step_text (step_of step.now)) }
+    ensures { OnOk result
+        (string_bytes out.new ≡ string_bytes out.old ++ step_text (step_of step.now)) }
 {
     match step {
         Step::Label(label) => {

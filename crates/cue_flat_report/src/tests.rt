@@ -2,7 +2,7 @@ ghost use Rattle.std.specs.Prelude.{◌≡◌, IfOk};
 ghost use Rattle.cue_flat.specs.Fields.{IsName, IsField};
 ghost use Rattle.cue_flat.specs.Integers.{IsIntegers};
 
-use super::*;
+use crate::{Conflict, Export, Gap, Path, Step, conflicts, export, incomplete, lines, path_text};
 use cue_flat::{Field, FlatTable, Integers};
 use cue_lattice::{Memory, Text};
 use std::alloc::Global;
@@ -156,7 +156,9 @@ fn each_kind_of_line(rt: HostRuntime) -> Result<(), Fail> {
     let text = lines(alloc, &found, &gaps)?;
     assert_eq!(rt;
         text.as_str(),
-        "conflict a no value\nconflict a label not allowed\nconflict a no value, label not allowed\nincomplete b missing\nincomplete . not a single value\n"
+        "conflict a no value\nconflict a label not allowed\n\
+        conflict a no value, label not allowed\n\
+        incomplete b missing\nincomplete . not a single value\n"
     );
     Ok(())
 }

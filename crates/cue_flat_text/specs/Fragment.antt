@@ -5,6 +5,7 @@ use Rattle.std.specs.Fmt.{signed_decimal}
 use Rattle.cue_lattice.specs.declared.refusal.Kind.{Kind}
 use Rattle.cue_lattice.specs.declared.refusal.Kind.TheVariants.{TooLong, Syntax, TooLarge}
 use Rattle.cue_lattice.specs.declared.refusal.Refusal.{Refusal}
+use Rattle.cue_lattice.specs.Limits.{text_limit}
 use Rattle.cue_lattice.specs.Question.{Refusals}
 use Rattle.cue_flat.specs.declared.integers.Integers.{Integers}
 use Rattle.cue_flat.specs.declared.integers.Integers.TheVariants.{All, One, Nothing}
@@ -53,7 +54,7 @@ fields_of (declares field ∷ lines) = field ∷ fields_of lines
 
 -- a text of the language: at most 1,048,576 bytes, and lines of which at most 32,767 declare a field
 pub record IsLegal (text : List ℕ) : Type 0 where
-  pub short : length text ≤ 1048576
+  pub short : length text ≤ text_limit
   pub lines : List Line
   pub spelled : Spells text lines
   pub few : length (fields_of lines) ≤ 32767
@@ -66,14 +67,14 @@ fragment_refuses text path question =
 -- When a kind of refusal at a place is the answer to a text: it is too long; else it is no flat text; else too many of
 -- its lines declare a field.
 abbrev pub IsFaultAt : List ℕ → Kind → ℕ → Type 0
-IsFaultAt text TooLong place = (place ≡ 1048576) × (1048576 < length text)
+IsFaultAt text TooLong place = (place ≡ text_limit) × (text_limit < length text)
 IsFaultAt text Syntax place =
-    (place ≡ 0) × (length text ≤ 1048576) × ((lines : List Line) → Spells text lines → ⊥)
+    (place ≡ 0) × (length text ≤ text_limit) × ((lines : List Line) → Spells text lines → ⊥)
 IsFaultAt text TooLarge place =
-    (place ≡ 0) × (length text ≤ 1048576)
+    (place ≡ 0) × (length text ≤ text_limit)
     × ((lines : List Line) × (Spells text lines × (32767 < length (fields_of lines))))
 IsFaultAt text kind place = ⊥
 
--- the refusal is the answer to the text, want of memory apart
+-- the refusal is the answer to the text, out of memory apart
 abbrev pub IsFault : List ℕ → Refusal → Type 0
 IsFault text refusal = IsFaultAt text refusal.kind refusal.place

@@ -1,29 +1,29 @@
-ghost use Rattle.std.specs.Prelude.{◌≡◌, ◌⊎◌, ℕ, List, length, IfOk, IfErr, MatchOption, MatchResult};
+ghost use Rattle.std.specs.Prelude.{◌≡◌, ◌⊎◌, ℕ, List, length, IfOk, IfErr, MatchOption};
+ghost use Rattle.std.specs.Prelude.{MatchResult};
 ghost use Rattle.cue_lattice.specs.Refusal.{memory};
 ghost use Rattle.cue_lattice.specs.Question.{SameAnswers};
 ghost use Rattle.cue_flat.specs.FlatTable.{table_refuses};
-ghost use Rattle.cue_flat_text.specs.Fragment.{Line as WrittenLine, Spells, fields_of, IsLegal, IsFault, fragment_refuses};
+ghost use Rattle.cue_flat_text.specs.Fragment.{Line as WrittenLine, Spells, fields_of, IsLegal};
+ghost use Rattle.cue_flat_text.specs.Fragment.{IsFault, fragment_refuses};
 
 use crate::line::Line;
 use cue_flat::{Field, FlatTable};
-use cue_lattice::{Kind, Memory, Refusal, Text};
+use cue_lattice::{Kind, Memory, Refusal, TEXT_LIMIT, Text};
 use std::alloc::Global;
-
-/// A text has at most this many bytes.
-const MAX_BYTES: usize = 1_048_576;
 
 /// At most this many lines of a text declare a field.
 const MAX_NAMED_LINES: usize = 32_767;
 
 /// The table of a flat text: an open struct of the fields that its lines declare.
 ///
-/// The text is refused, in this order, as `TooLong` at 1,048,576 where it has more than so many bytes, as `Syntax` at 0
-/// where it is not flat, as `TooLarge` at 0 where more than 32,767 of its lines declare a field, and for want of memory.
+/// The text is refused, in this order, as `TooLong` at 1,048,576 where it has more than so many
+/// bytes, as `Syntax` at 0 where it is not flat, as `TooLarge` at 0 where more than 32,767 of its
+/// lines declare a field, and as `Memory`.
 pub fn read(alloc: Global, text: &str) -> Result<FlatTable, Refusal>
     ensures table { IfOk result (λ table.
         IsLegal text.now × SameAnswers (table_refuses table) (fragment_refuses text.now)) }
     ensures fault { IfErr result (λ why. (why ≡ memory) ⊎ IsFault text.now why) }
-    // Want of memory is told of a text that has no fault.
+    // Out of memory never hides a fault.
     ensures memory_last { result ≡ Err memory → IsLegal text.now }
 {
     let named = check(text)?;
@@ -35,23 +35,14 @@ pub fn read(alloc: Global, text: &str) -> Result<FlatTable, Refusal>
 fn check(text: &str) -> Result<usize, Refusal>
     ensures { MatchResult result (λ _. IsLegal text.now) (λ why. IsFault text.now why) }
 {
-    if text.len() > MAX_BYTES {
-        return Err(Refusal {
-            kind: Kind::TooLong,
-            place: MAX_BYTES as u64,
-        });
+    if text.len() > TEXT_LIMIT {
+        return Err(Refusal::at(Kind::TooLong, TEXT_LIMIT));
     }
     let Some(named) = named_lines(text) else {
-        return Err(Refusal {
-            kind: Kind::Syntax,
-            place: 0,
-        });
+        return Err(Refusal::at(Kind::Syntax, 0));
     };
     if named > MAX_NAMED_LINES {
-        return Err(Refusal {
-            kind: Kind::TooLarge,
-            place: 0,
-        });
+        return Err(Refusal::at(Kind::TooLarge, 0));
     }
     Ok(named)
 }
@@ -59,7 +50,8 @@ fn check(text: &str) -> Result<usize, Refusal>
 /// How many lines of a flat text declare a field; none where the text is not flat.
 fn named_lines(text: &str) -> Option<usize>
     ensures { MatchOption result ((lines : List WrittenLine) → Spells text.now lines → ⊥)
-        (λ named. (lines : List WrittenLine) × (Spells text.now lines × (named ≡ length (fields_of lines)))) }
+        (λ named. (lines : List WrittenLine) ×
+        (Spells text.now lines × (named ≡ length (fields_of lines)))) }
 {
     let mut named = 0;
     for part in text.split('\n') {
@@ -73,7 +65,8 @@ fn named_lines(text: &str) -> Option<usize>
 /// The fields that the lines of a flat text declare, of which there are `named`.
 fn declared_fields(alloc: Global, text: &str, named: usize) -> Result<Vec<Field>, Memory>
     requires { (lines : List WrittenLine) × Spells text.now lines }
-    ensures { IfOk result (λ fields. (lines : List WrittenLine) → Spells text.now lines → fields.items ≡ fields_of lines) }
+    ensures { IfOk result (λ fields.
+        (lines : List WrittenLine) → Spells text.now lines → fields.items ≡ fields_of lines) }
 {
     let mut fields = Vec::with_capacity(alloc, named)?;
     for part in text.split('\n') {

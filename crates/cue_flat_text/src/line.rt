@@ -4,13 +4,12 @@ ghost use Rattle.std.specs.Fmt.{signed_decimal};
 ghost use Rattle.cue_lattice.specs.Scalar.{IsInteger};
 ghost use Rattle.cue_flat.specs.Fields.{IsName, IsWord, IsLetterOrDigit};
 ghost use Rattle.cue_flat_text.specs.Number.{HasCanonicalFront};
-ghost use Rattle.cue_flat_text.specs.Fragment.{Line as WrittenLine, IsLine, IsValue, line_text, value_text};
+ghost use Rattle.cue_flat_text.specs.Fragment.{Line as WrittenLine, IsLine, IsValue, line_text};
+ghost use Rattle.cue_flat_text.specs.Fragment.{value_text};
 ghost use Rattle.cue_flat_text.specs.Seen.{seen};
 
 use cue_flat::Integers;
-
-/// A name has at most this many bytes.
-const MAX_NAME_BYTES: usize = 65_535;
+use cue_lattice::WORD_LIMIT;
 
 /// One line of a flat text.
 #[derive(Clone, Copy, Debug, PartialEq, Eq)]
@@ -24,7 +23,8 @@ pub enum Line<'a> {
 impl<'a> Line<'a> {
     /// What a line without its line break says, where it is a line of a flat text.
     pub fn parse(text: &'a str) -> Option<Line<'a>>
-        ensures { MatchOption result ((line : WrittenLine) → IsLine line → text.now ≢ line_text line)
+        ensures { MatchOption result
+            ((line : WrittenLine) → IsLine line → text.now ≢ line_text line)
             (λ found. IsLine (seen found) × (text.now ≡ line_text (seen found))) }
     {
         if text.is_empty() {
@@ -44,7 +44,7 @@ impl<'a> Line<'a> {
 fn is_name(text: &str) -> bool
     ensures { IsTrue result ↔ IsName text.now }
 {
-    is_word(text.as_bytes()) && text.len() <= MAX_NAME_BYTES && text != "int"
+    is_word(text.as_bytes()) && text.len() <= WORD_LIMIT && text != "int"
 }
 
 fn is_word(text: &[u8]) -> bool
@@ -73,8 +73,8 @@ fn integers(text: &str) -> Option<Integers>
     Some(Integers::One(integer(text)?))
 }
 
-/// The integer that a text writes in decimal digits, where it is of 64 bits and in its one form: no plus, no leading
-/// zero, and no `-0`.
+/// The integer that a text writes in decimal digits, where it is of 64 bits and in its one form: no
+/// plus, no leading zero, and no `-0`.
 fn integer(text: &str) -> Option<i64>
     ensures { MatchOption result ((n : ℤ) → IsInteger n → text.now ≢ signed_decimal n)
         (λ n. IsInteger n × (text.now ≡ signed_decimal n)) }

@@ -13,22 +13,40 @@ pub data Piece : Type 0 where
   text : List ℕ → Piece
   state : List ℕ → Piece
 
--- What a language and a format of states make of texts and bytes.
-pub record Meaning : Type 1 where
+-- What a language and a format of states make of texts, bytes and tables. A site may one day read two versions of
+-- states, so the bytes that it reads are apart from those that it writes.
+pub record Meaning (T : Type 0) : Type 1 where
+  pub IsValid : T → Type 0  -- the table is a valid one
+  pub table_refuses : T → Refusals  -- what a table refuses
   pub IsLegal : List ℕ → Type 0  -- the text is one of the language
   pub text_refuses : List ℕ → Refusals  -- what a legal text refuses
   pub IsTextFault : List ℕ → Refusal → Type 0  -- why a text that is not legal may be refused
-  pub IsState : List ℕ → Type 0  -- the bytes are those of a table
+  pub IsState : List ℕ → Type 0  -- a site reads the bytes as those of a valid table
   pub state_refuses : List ℕ → Refusals  -- what that table refuses
   pub IsStateFault : List ℕ → Refusal → Type 0  -- why other bytes may be refused
+  pub written : T → List ℕ  -- the bytes that a site writes for a valid table
+
+-- What every meaning must keep to.
+pub record IsSound (T : Type 0) (m : Meaning T) : Type 0 where
+  -- a legal text has no fault, so that nothing but want of memory refuses it
+  pub no_text_fault : (t : List ℕ) (why : Refusal) → m.IsLegal t → m.IsTextFault t why → ⊥
+  -- the bytes of a state have none either
+  pub no_state_fault : (bytes : List ℕ) (why : Refusal) → m.IsState bytes → m.IsStateFault bytes why → ⊥
+  -- out of memory is no fault of a text or of bytes
+  pub memory_apart : (bytes : List ℕ) → (m.IsTextFault bytes memory ⊎ m.IsStateFault bytes memory) → ⊥
+  -- sites read what they write, with the same answers
+  pub reads_own : (table : T) → m.IsValid table →
+      m.IsState (m.written table) × SameAnswers (m.state_refuses (m.written table)) (m.table_refuses table)
+  -- valid tables with equal answers are equal, so that the answers tell the bytes and every report
+  pub one_table : (a b : T) → m.IsValid a → m.IsValid b → SameAnswers (m.table_refuses a) (m.table_refuses b) → a ≡ b
 
 -- what a piece refuses
-abbrev pub piece_refuses : Meaning → Piece → Refusals
+abbrev pub piece_refuses : {T : Type 0} → Meaning T → Piece → Refusals
 piece_refuses m (text t) = m.text_refuses t
 piece_refuses m (state b) = m.state_refuses b
 
 -- what a set of pieces refuses: what one of them refuses
-abbrev pub pieces_refuse : Meaning → List Piece → Refusals
+abbrev pub pieces_refuse : {T : Type 0} → Meaning T → List Piece → Refusals
 pieces_refuse m = OneRefuses (piece_refuses m)
 
 -- the piece is in the set
@@ -93,7 +111,7 @@ IsThere sets (deliver site message) = (site < length sets.sites) × (message < l
 IsThere sets (foreign site bytes) = site < length sets.sites
 
 -- What an event may come to where they are there and memory suffices. A site's own message is never refused.
-abbrev pub IsAnswer : Meaning → Sets → Event → Outcome → Type 0
+abbrev pub IsAnswer : {T : Type 0} → Meaning T → Sets → Event → Outcome → Type 0
 IsAnswer m sets (submit site t) accepted = m.IsLegal t
 IsAnswer m sets (submit site t) (refused why) = m.IsTextFault t why
 IsAnswer m sets (send site) (sent number) = number ≡ length sets.messages
@@ -103,13 +121,13 @@ IsAnswer m sets (foreign site bytes) (refused why) = m.IsStateFault bytes why
 IsAnswer m sets event outcome = ⊥
 
 -- what an event may come to
-abbrev pub IsOutcome : Meaning → Sets → Event → Outcome → Type 0
+abbrev pub IsOutcome : {T : Type 0} → Meaning T → Sets → Event → Outcome → Type 0
 IsOutcome m sets event outcome =
     (IsThere sets event × (IsAnswer m sets event outcome ⊎ (outcome ≡ refused memory)))
     ⊎ ((IsThere sets event → ⊥) × (outcome ≡ no_such))
 
 -- each event has one outcome, and one that it may have at its moment
-abbrev pub AreOutcomes : Meaning → Sets → List Event → List Outcome → Type 0
+abbrev pub AreOutcomes : {T : Type 0} → Meaning T → Sets → List Event → List Outcome → Type 0
 AreOutcomes m sets [] [] = Unit {0}
 AreOutcomes m sets (event ∷ events) (outcome ∷ outcomes) =
     IsOutcome m sets event outcome × AreOutcomes m (after sets event outcome) events outcomes
@@ -121,10 +139,10 @@ AllAlong R [] [] = Unit {0}
 AllAlong R (x ∷ xs) (y ∷ ys) = R x y × AllAlong R xs ys
 AllAlong R xs ys = ⊥
 
--- a site's state is the unification of exactly these pieces
-abbrev pub IsUnified : Meaning → Refusals → List Piece → Type 0
-IsUnified m refuses pieces = SameAnswers refuses (pieces_refuse m pieces)
+-- a site's table is valid, and the unification of exactly these pieces: it refuses what one of them refuses
+abbrev pub IsUnified : {T : Type 0} → Meaning T → T → List Piece → Type 0
+IsUnified m table pieces = m.IsValid table × SameAnswers (m.table_refuses table) (pieces_refuse m pieces)
 
--- a message has the state bytes of the table that is the unification of exactly these pieces
-abbrev pub IsMessageOf : Meaning → List ℕ → List Piece → Type 0
-IsMessageOf m bytes pieces = m.IsState bytes × IsUnified m (m.state_refuses bytes) pieces
+-- a message has the bytes that a site writes for the table that is the unification of exactly these pieces
+abbrev pub IsMessageOf : {T : Type 0} → Meaning T → List ℕ → List Piece → Type 0
+IsMessageOf {T} m bytes pieces = (table : T) × IsUnified m table pieces × (bytes ≡ m.written table)

@@ -1,4 +1,4 @@
-use crate::{Form, Kind, Memory, Refusal, Text};
+use crate::{Form, Kind, Memory, Refusal, TEXT_LIMIT, Text};
 use std::cmp::Ordering;
 use std::test::Fail;
 
@@ -42,6 +42,9 @@ fn numbers_and_names(rt: HostRuntime) {
     assert_eq!(rt; Kind::LeftOut(Form::Clause).name(), "LeftOut");
     assert_eq!(rt; Kind::name_of(25), Some("Failed"));
     assert_eq!(rt; Kind::name_of(0), None);
+    let long = Refusal::at(Kind::TooLong, TEXT_LIMIT);
+    assert_eq!(rt; long.kind, Kind::TooLong);
+    assert_eq!(rt; long.place, 1_048_576);
     let refusal = Refusal::from(Memory);
     assert_eq!(rt; refusal.kind, Kind::Memory);
     assert_eq!(rt; refusal.place, 0);

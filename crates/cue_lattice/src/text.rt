@@ -8,7 +8,8 @@ use std::cmp::Ordering;
 use std::fmt;
 use std::marker::Model;
 
-/// A text in UTF-8. Contracts see it as the list of its bytes, and texts are ordered by their bytes.
+/// A text in UTF-8. Contracts see it as the list of its bytes, and texts are ordered by their
+/// bytes.
 #[derive(Debug, Drop)]
 pub struct Text {
     string: String,

@@ -1,16 +1,13 @@
 -- What a site adds to its table, against what its set of pieces gains.
-use Rattle.std.proofs.Common.{◌≡◌, ℕ, List, [], ◌∷◌, ◌++◌, refl, sym, ◌∙◌, subst, inl, inr, ⊎_elim}
-use Rattle.cue_lattice.specs.declared.refusal.Refusal.{Refusal}
+use Rattle.std.proofs.Common.{List, [], ◌∷◌, ◌++◌, refl, sym, subst, inl, inr, ⊎_elim}
 use Rattle.cue_lattice.specs.OneOf.{OneOf}
 use Rattle.cue_lattice.specs.Question.{Refusals, SameAnswers}
 use Rattle.cue_lattice.specs.World.{Piece, piece_refuses, pieces_refuse, IsUnified}
 use Rattle.cue_lattice.specs.World as world
 use Rattle.cue_lattice.proofs.OneOf.{one_of-append}
-use Rattle.cue_flat.specs.FlatTable.{Table, IsTable, table_refuses, IsMet}
-use Rattle.cue_flat_codec.specs.State as state
-use Rattle.cue_replica.specs.Flat.{flat}
+use Rattle.cue_flat.specs.FlatTable.{table_refuses, IsMet}
+use Rattle.cue_replica.specs.Language.{Table, language}
 use Rattle.cue_replica.specs.Replica.{Adds}
-use Rattle.cue_flat_codec.proofs.StateLaws.{one_spelling_law}
 
 -- a meet with a table adds what that table refuses
 pub adds_met : (old more new : Table) (added : Refusals) → IsMet old more new → SameAnswers (table_refuses more) added → Adds old added new
@@ -19,44 +16,26 @@ adds_met old more new added met same path question =
     let s = same path question in
     (λ h. ⊎_elim (λ p. inl p) (λ p. inr (s.0 p)) (m.0 h), λ h. m.1 (⊎_elim (λ p. inl p) (λ p. inr (s.1 p)) h))
 
--- the table of state bytes refuses what the bytes do
-pub state_answers : (table : Table) (bytes : List ℕ) → IsTable table → state.state_bytes table ≡ bytes → SameAnswers (table_refuses table) (state.state_refuses bytes)
-state_answers table bytes valid spelled path question = (
-  λ h. (table, valid, spelled, h),
-  λ h.
-      let one : h.0 ≡ table = one_spelling_law h.0 table h.1 valid (h.2 ∙ sym spelled) in
-      let P : Table → Type 0 = λ t. table_refuses t path question in
-      subst P one h.3,
-)
-
--- a table's bytes have no fault
-pub no_state_fault : (bytes : List ℕ) (why : Refusal) → state.IsState bytes → state.IsFault bytes why → ⊥
-no_state_fault bytes why is fault =
-    ⊎_elim
-    (λ version.
-    let found = version.1 in
-    let both : state.mark ++ (1 ∷ state.table_bytes is.0) ≡ state.mark ++ (found.0 ∷ found.1) = is.2 ∙ found.3 in
-    let same : 1 ≡ found.0 = cc in
-    found.2 (sym same))
-    (λ other. other.2 is)
-    fault.1
-
 -- one piece alone
-pub one_piece : (piece : Piece) → SameAnswers (piece_refuses flat piece) (pieces_refuse flat (piece ∷ []))
+pub one_piece : (piece : Piece) → SameAnswers (piece_refuses language piece) (pieces_refuse language (piece ∷ []))
 one_piece piece path question = (λ h. inl h, ⊎_elim (λ h. h) (λ h. absurd h))
 
 -- more pieces for a site, by what they refuse
 pub unified_more :
-    (old new : Table) (added : Refusals) (pieces more : List Piece) → IsUnified flat (table_refuses old) pieces
-    → Adds old added new → SameAnswers added (pieces_refuse flat more) → IsUnified flat (table_refuses new) (pieces ++ more)
-unified_more old new added pieces more unified adds same path question =
-    let u = unified path question in
-    let a = adds path question in
-    let s = same path question in
-    let parts = one_of-append (λ (piece : Piece). piece_refuses flat piece path question) pieces more in (
-      λ h. parts.1 (⊎_elim (λ p. inl (u.0 p)) (λ p. inr (s.0 p)) (a.0 h)),
-      λ h. a.1 (⊎_elim (λ p. inl (u.1 p)) (λ p. inr (s.1 p)) (parts.0 h)),
-    )
+    (old new : Table) (added : Refusals) (pieces more : List Piece) → IsUnified language old pieces → Adds old added new
+    → (language.IsValid old → language.IsValid new) → SameAnswers added (pieces_refuse language more)
+    → IsUnified language new (pieces ++ more)
+unified_more old new added pieces more unified adds valid same = (
+  valid unified.0,
+  λ path question.
+      let u = unified.1 path question in
+      let a = adds path question in
+      let s = same path question in
+      let parts = one_of-append (λ (piece : Piece). piece_refuses language piece path question) pieces more in (
+        λ h. parts.1 (⊎_elim (λ p. inl (u.0 p)) (λ p. inr (s.0 p)) (a.0 h)),
+        λ h. a.1 (⊎_elim (λ p. inl (u.1 p)) (λ p. inr (s.1 p)) (parts.0 h)),
+      ),
+)
 
 -- a set of pieces refuses what another set of the same pieces does
 one_of_same : (P : Piece → Type 0) (a b : List Piece) → ((piece : Piece) → world.Has a piece → world.Has b piece) → OneOf P a → OneOf P b
@@ -68,7 +47,7 @@ one_of_same P (x ∷ a) b sub h =
     holds_at P [] x h p = absurd h
     holds_at P (y ∷ b) x h p = ⊎_elim (λ e. inl (subst P (sym e) p)) (λ k. inr (holds_at P b x k p)) h
 
-pub same_pieces_refuse : (a b : List Piece) → world.SamePieces a b → SameAnswers (pieces_refuse flat a) (pieces_refuse flat b)
+pub same_pieces_refuse : (a b : List Piece) → world.SamePieces a b → SameAnswers (pieces_refuse language a) (pieces_refuse language b)
 same_pieces_refuse a b same path question =
-    let P = λ (piece : Piece). piece_refuses flat piece path question in
+    let P = λ (piece : Piece). piece_refuses language piece path question in
     (λ h. one_of_same P a b (λ piece. (same piece).0) h, λ h. one_of_same P b a (λ piece. (same piece).1) h)

@@ -6,18 +6,16 @@ use Rattle.cue_lattice.specs.Refusal.{memory}
 use Rattle.cue_lattice.specs.Question.{Refusals, SameAnswers}
 use Rattle.cue_lattice.specs.declared.text.Text.{Text}
 use Rattle.cue_lattice.specs.World as world
-use Rattle.cue_lattice.specs.World.{Piece, Sets, AllAlong, IsOutcome, IsAnswer, IsThere, pieces_at, pieces_refuse}
-use Rattle.cue_flat.specs.FlatTable.{Table, IsTable}
-use Rattle.cue_flat_text.specs.Fragment as fragment
-use Rattle.cue_flat_codec.specs.State as state
+use Rattle.cue_lattice.specs.World.{Piece, Sets, AllAlong, IsUnified, IsOutcome, IsAnswer, IsThere, pieces_at, pieces_refuse}
 use Rattle.cue_replica.specs.declared.world.Event.{Event}
 use Rattle.cue_replica.specs.declared.world.Event.TheVariants.{Submit, Send, Deliver, Foreign}
 use Rattle.cue_replica.specs.declared.world.Outcome.{Outcome}
 use Rattle.cue_replica.specs.declared.world.Outcome.TheVariants.{Accepted, Sent, Refused, NoSuch}
-use Rattle.cue_replica.specs.Flat.{flat}
+use Rattle.cue_replica.specs.Language.{Table, language}
 use Rattle.cue_replica.specs.Replica.{Adds}
-use Rattle.cue_replica.specs.World.{event_of, IsSiteOf, IsSentOf, Agrees, HappensAt, Submits, Takes, Sends, Delivers, Happens}
-use Rattle.cue_replica.proofs.Adding.{state_answers, no_state_fault, one_piece, unified_more}
+use Rattle.cue_replica.specs.World.{event_of, IsSentOf, Agrees, HappensAt, Submits, Takes, Sends, Delivers, Happens}
+use Rattle.cue_replica.proofs.Adding.{one_piece, unified_more}
+use Rattle.cue_replica.proofs.Sound.{sound}
 use Rattle.cue_replica.proofs.Along.{length-along, along_at, along_set, along_push, set_same, found_within}
 
 after_no_such : (sets : Sets) (event : world.Event) → world.after sets event world.no_such ≡ sets
@@ -47,7 +45,7 @@ nothing_happens old new messages event outcome sets absent same none agrees =
 -- where it is refused
 refused_happens :
     (old new : List Table) (messages : List (Vec ℕ Global)) (event : Event) (why : Refusal) (sets : Sets)
-    → IsThere sets (event_of event) → (IsAnswer flat sets (event_of event) (world.refused why) ⊎ (world.refused why ≡ world.refused memory))
+    → IsThere sets (event_of event) → (IsAnswer language sets (event_of event) (world.refused why) ⊎ (world.refused why ≡ world.refused memory))
     → new ≡ old → Agrees old messages sets → Happens old messages event new messages (Refused why) sets
 refused_happens old new messages event why sets there answer same agrees =
     let Q : List Table → Type 0 = λ n. Happens old messages event n messages (Refused why) sets in
@@ -60,10 +58,10 @@ refused_happens old new messages event why sets there answer same agrees =
 site_there : (old : List Table) (messages : List (Vec ℕ Global)) (sets : Sets) (site : ℕ) (before : Table) → Agrees old messages sets → slice_get old site ≡ Some before → site < length sets.sites
 site_there old messages sets site before agrees found =
     let within = found_within old site before found in
-    omega (arith, length-along IsSiteOf old sets.sites agrees.sites)
+    omega (arith, length-along (IsUnified language) old sets.sites agrees.sites)
 
 site_absent : (old : List Table) (messages : List (Vec ℕ Global)) (sets : Sets) (site : ℕ) → Agrees old messages sets → length old ≤ site → site < length sets.sites → ⊥
-site_absent old messages sets site agrees past there = omega (arith, length-along IsSiteOf old sets.sites agrees.sites)
+site_absent old messages sets site agrees past there = omega (arith, length-along (IsUnified language) old sets.sites agrees.sites)
 
 message_absent : (old : List Table) (messages : List (Vec ℕ Global)) (sets : Sets) (message : ℕ) → Agrees old messages sets → length messages ≤ message → message < length sets.messages → ⊥
 message_absent old messages sets message agrees past there = omega (arith, length-along IsSentOf messages sets.messages agrees.sent)
@@ -71,13 +69,13 @@ message_absent old messages sets message agrees past there = omega (arith, lengt
 -- a site accepts pieces
 accepts :
     (old : List Table) (messages : List (Vec ℕ Global)) (sets : Sets) (site : ℕ) (before after : Table) (added : Refusals) (more : List Piece)
-    → Agrees old messages sets → slice_get old site ≡ Some before → Adds before added after → (IsTable before → IsTable after)
-    → SameAnswers added (pieces_refuse flat more) → Agrees (slice_set old site after) messages (world.add sets site more)
+    → Agrees old messages sets → slice_get old site ≡ Some before → Adds before added after → (language.IsValid before → language.IsValid after)
+    → SameAnswers added (pieces_refuse language more) → Agrees (slice_set old site after) messages (world.add sets site more)
 accepts old messages sets site before after added more agrees found adds valid same =
-    let here = along_at IsSiteOf old sets.sites site before [] agrees.sites found in
-    let unified = unified_more before after added (pieces_at sets.sites site) more here.1 adds same in
+    let here = along_at (IsUnified language) old sets.sites site before [] agrees.sites found in
+    let unified = unified_more before after added (pieces_at sets.sites site) more here adds valid same in
     record {
-      sites = along_set IsSiteOf old sets.sites site after (pieces_at sets.sites site ++ more) agrees.sites (valid here.0, unified);
+      sites = along_set (IsUnified language) old sets.sites site after (pieces_at sets.sites site ++ more) agrees.sites unified;
       sent = agrees.sent;
     }
 
@@ -87,7 +85,7 @@ submits :
     → Happens old messages (Submit site t) (slice_set old site after) messages outcome sets
 submits old messages site t Accepted sets before after found step agrees = record {
   allowed = inl (site_there old messages sets site before agrees found, inl step.0);
-  agrees = accepts old messages sets site before after (fragment.fragment_refuses t) (world.text t ∷ []) agrees found step.1 step.2 (one_piece (world.text t));
+  agrees = accepts old messages sets site before after (language.text_refuses t) (world.text t ∷ []) agrees found step.1 step.2 (one_piece (world.text t));
 }
 submits old messages site t (Refused why) sets before after found step agrees =
     let same : slice_set old site after ≡ old = ap (λ (x : Table). slice_set old site x) step.0 ∙ set_same old site before found in
@@ -112,7 +110,7 @@ takes_foreign :
     → Happens old messages (Foreign site bytes) (slice_set old site after) messages outcome sets
 takes_foreign old messages site bytes Accepted sets before after found step agrees = record {
   allowed = inl (site_there old messages sets site before agrees found, inl step.0);
-  agrees = accepts old messages sets site before after (state.state_refuses bytes.items) (world.state bytes.items ∷ []) agrees found step.1 step.2
+  agrees = accepts old messages sets site before after (language.state_refuses bytes.items) (world.state bytes.items ∷ []) agrees found step.1 step.2
       (one_piece (world.state bytes.items));
 }
 takes_foreign old messages site bytes (Refused why) sets before after found step agrees =
@@ -131,6 +129,21 @@ foreign_happens old new messages site bytes outcome sets (inr some) agrees =
     let P : List Table → Type 0 = λ n. Happens old messages (Foreign site bytes) n messages outcome sets in
     subst P (sym some.3) (takes_foreign old messages site bytes outcome sets some.0 some.1 some.2 some.4 agrees)
 
+-- a message is read as the unification of its pieces
+read_back :
+    (bytes : Vec ℕ Global) (pieces : List Piece) → IsSentOf bytes pieces
+    → language.IsState bytes.items × SameAnswers (language.state_refuses bytes.items) (pieces_refuse language pieces)
+read_back bytes pieces sent =
+    let own = sound.reads_own sent.0 sent.1.0 in
+    let P : List ℕ → Type 0 = λ b. language.IsState b × SameAnswers (language.state_refuses b) (pieces_refuse language pieces) in
+    subst P (sym sent.2) (
+      own.0,
+      λ path question.
+          let o = own.1 path question in
+          let u = sent.1.1 path question in
+          (λ h. u.0 (o.0 h), λ h. o.1 (u.1 h)),
+    )
+
 -- a message of the world
 takes_message :
     (old : List Table) (messages : List (Vec ℕ Global)) (site message : ℕ) (bytes : Vec ℕ Global) (outcome : Outcome) (sets : Sets) (before after : Table)
@@ -141,7 +154,8 @@ takes_message old messages site message bytes Accepted sets before after sent fo
     let within = found_within messages message bytes sent in
     record {
       allowed = inl ((site_there old messages sets site before agrees found, omega (arith, length-along IsSentOf messages sets.messages agrees.sent)), inl tt);
-      agrees = accepts old messages sets site before after (state.state_refuses bytes.items) (pieces_at sets.messages message) agrees found step.1 step.2 known.1;
+      agrees = accepts old messages sets site before after (language.state_refuses bytes.items) (pieces_at sets.messages message) agrees found step.1 step.2
+          (read_back bytes (pieces_at sets.messages message) known).1;
     }
 takes_message old messages site message bytes (Refused why) sets before after sent found step agrees =
     let known = along_at IsSentOf messages sets.messages message bytes [] agrees.sent sent in
@@ -149,7 +163,7 @@ takes_message old messages site message bytes (Refused why) sets before after se
     let same : slice_set old site after ≡ old = ap (λ (x : Table). slice_set old site x) step.0 ∙ set_same old site before found in
     refused_happens old (slice_set old site after) messages (Deliver site message) why sets
     (site_there old messages sets site before agrees found, omega (arith, length-along IsSentOf messages sets.messages agrees.sent))
-    (⊎_elim (λ e. inr (ap world.refused e)) (λ fault. absurd (no_state_fault bytes.items why known.0 fault)) step.1) same agrees
+    (⊎_elim (λ e. inr (ap world.refused e)) (λ fault. absurd (sound.no_state_fault bytes.items why (read_back bytes (pieces_at sets.messages message) known).0 fault)) step.1) same agrees
 takes_message old messages site message bytes (Sent number) sets before after sent found step agrees = absurd step
 takes_message old messages site message bytes NoSuch sets before after sent found step agrees = absurd step
 
@@ -170,15 +184,8 @@ deliver_happens old new messages site message outcome sets (inr some) agrees = d
 -- a state that is sent
 sends : (old : List Table) (messages new : List (Vec ℕ Global)) (site number : ℕ) (sets : Sets) → Sends old site messages new (Sent number) → Agrees old messages sets → Happens old messages (Send site) old new (Sent number) sets
 sends old messages new site number sets sent agrees =
-    let here = along_at IsSiteOf old sets.sites site sent.0 [] agrees.sites sent.2 in
-    let answers = state_answers sent.0 sent.1.items here.0 (sym sent.3) in
-    let is_sent : IsSentOf sent.1 (pieces_at sets.sites site) = (
-      (sent.0, here.0, sym sent.3),
-      λ path question.
-          let a = answers path question in
-          let u = here.1 path question in
-          (λ h. u.0 (a.1 h), λ h. a.0 (u.1 h)),
-    ) in
+    let here = along_at (IsUnified language) old sets.sites site sent.0 [] agrees.sites sent.2 in
+    let is_sent : IsSentOf sent.1 (pieces_at sets.sites site) = (sent.0, here, sent.3) in
     let P : List (Vec ℕ Global) → Type 0 = λ m. Happens old messages (Send site) old m (Sent number) sets in
     subst P (sym sent.5) (record {
       allowed = inl (site_there old messages sets site sent.0 agrees sent.2, inl (sent.4 ∙ length-along IsSentOf messages sets.messages agrees.sent));
@@ -192,7 +199,7 @@ pub send_happens : (old : List Table) (messages new : List (Vec ℕ Global)) (si
 send_happens old messages new site (Sent number) sets step agrees = sends old messages new site number sets step agrees
 send_happens old messages new site (Refused why) sets step agrees =
     let P : List (Vec ℕ Global) → Type 0 = λ m. Happens old messages (Send site) old m (Refused why) sets in
-    subst P (sym step.2) (refused_happens old old messages (Send site) why sets (omega (arith, step.0, length-along IsSiteOf old sets.sites agrees.sites)) (inr (ap world.refused step.1)) refl agrees)
+    subst P (sym step.2) (refused_happens old old messages (Send site) why sets (omega (arith, step.0, length-along (IsUnified language) old sets.sites agrees.sites)) (inr (ap world.refused step.1)) refl agrees)
 send_happens old messages new site NoSuch sets step agrees =
     let P : List (Vec ℕ Global) → Type 0 = λ m. Happens old messages (Send site) old m NoSuch sets in
     subst P (sym step.1) (nothing_happens old old messages (Send site) NoSuch sets (site_absent old messages sets site agrees step.0) refl refl agrees)

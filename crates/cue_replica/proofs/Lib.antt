@@ -3,3 +3,4 @@ pub mod Adding
 pub mod Along
 pub mod Events
 pub mod Runs
+pub mod Sound

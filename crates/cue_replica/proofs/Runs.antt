@@ -4,18 +4,17 @@ use Rattle.std.specs.Prelude.{replicate}
 use Rattle.std.proofs.lemmas.List.{take_all, drop_all}
 use Rattle.cue_lattice.specs.World as world
 use Rattle.cue_lattice.specs.World.{Meaning, Piece, Sets, AllAlong, IsOutcome, AreOutcomes, IsUnified, SamePieces, reach, start, pieces_at, pieces_refuse}
-use Rattle.cue_flat.specs.FlatTable.{Table, table_refuses}
-use Rattle.cue_flat.proofs.Exact.{tables_exact}
 use Rattle.cue_replica.specs.declared.world.Event.{Event}
 use Rattle.cue_replica.specs.declared.world.Outcome.{Outcome}
-use Rattle.cue_replica.specs.Flat.{flat}
-use Rattle.cue_replica.specs.World.{event_of, outcome_of, reached, IsSiteOf, Agrees, AreEqualSites, Happens}
+use Rattle.cue_replica.specs.Language.{Table, language}
+use Rattle.cue_replica.specs.World.{event_of, outcome_of, reached, Agrees, AreEqualSites, Happens}
 use Rattle.cue_replica.proofs.Adding.{same_pieces_refuse}
 use Rattle.cue_replica.proofs.Along.{along_at}
+use Rattle.cue_replica.proofs.Sound.{sound}
 
 -- one more event
 reach_more :
-    (m : Meaning) (sets : Sets) (events : List world.Event) (outcomes : List world.Outcome) (event : world.Event) (outcome : world.Outcome)
+    {T : Type 0} (m : Meaning T) (sets : Sets) (events : List world.Event) (outcomes : List world.Outcome) (event : world.Event) (outcome : world.Outcome)
     → AreOutcomes m sets events outcomes
     → reach sets (events ++ event ∷ []) (outcomes ++ outcome ∷ []) ≡ world.after (reach sets events outcomes) event outcome
 reach_more m sets [] [] event outcome are = refl
@@ -24,7 +23,7 @@ reach_more m sets (e ∷ es) [] event outcome are = absurd are
 reach_more m sets (e ∷ es) (o ∷ os) event outcome are = reach_more m (world.after sets e o) es os event outcome are.1
 
 outcomes_more :
-    (m : Meaning) (sets : Sets) (events : List world.Event) (outcomes : List world.Outcome) (event : world.Event) (outcome : world.Outcome)
+    {T : Type 0} (m : Meaning T) (sets : Sets) (events : List world.Event) (outcomes : List world.Outcome) (event : world.Event) (outcome : world.Outcome)
     → AreOutcomes m sets events outcomes → IsOutcome m (reach sets events outcomes) event outcome
     → AreOutcomes m sets (events ++ event ∷ []) (outcomes ++ outcome ∷ [])
 outcomes_more m sets [] [] event outcome are is = (is, tt)
@@ -37,11 +36,11 @@ map_push f [] x = refl
 map_push {B = B} f (y ∷ xs) x = ap (λ (ys : List B). f y ∷ ys) (map_push f xs x)
 
 pub record IsSoFar (sites : ℕ) (events : List Event) (replicas : List Table) (messages : List (Vec ℕ Global)) (outcomes : List Outcome) : Type 0 where
-  pub allowed : AreOutcomes flat (start sites) (map event_of events) (map outcome_of outcomes)
+  pub allowed : AreOutcomes language (start sites) (map event_of events) (map outcome_of outcomes)
   pub agrees : Agrees replicas messages (reached sites events outcomes)
 
 -- before the first event
-opening_agrees : (sites : ℕ) → AllAlong IsSiteOf (replicate sites None) (replicate sites [])
+opening_agrees : (sites : ℕ) → AllAlong (IsUnified language) (replicate sites None) (replicate sites [])
 opening_agrees zero = tt
 opening_agrees (suc n) = ((tt, λ path question. (λ h. h, λ h. h)), opening_agrees n)
 
@@ -62,32 +61,26 @@ so_far_more sites events event replicas replicas' messages messages' outcomes ou
     let now = happens (reached sites events outcomes) so_far.agrees in
     let es = map_push event_of events event in
     let os = map_push outcome_of outcomes outcome in
-    let P : List world.Event → Type 0 = λ x. AreOutcomes flat (start sites) x (map outcome_of (outcomes ++ outcome ∷ [])) in
-    let Q : List world.Outcome → Type 0 = λ x. AreOutcomes flat (start sites) (map event_of events ++ event_of event ∷ []) x in
+    let P : List world.Event → Type 0 = λ x. AreOutcomes language (start sites) x (map outcome_of (outcomes ++ outcome ∷ [])) in
+    let Q : List world.Outcome → Type 0 = λ x. AreOutcomes language (start sites) (map event_of events ++ event_of event ∷ []) x in
     let R : Sets → Type 0 = λ s. Agrees replicas' messages' s in
-    let more = reach_more flat (start sites) (map event_of events) (map outcome_of outcomes) (event_of event) (outcome_of outcome) so_far.allowed in
+    let more = reach_more language (start sites) (map event_of events) (map outcome_of outcomes) (event_of event) (outcome_of outcome) so_far.allowed in
     let same : reached sites (events ++ event ∷ []) (outcomes ++ outcome ∷ []) ≡ world.after (reached sites events outcomes) (event_of event) (outcome_of outcome) =
     ap (λ (x : List world.Event). reach (start sites) x (map outcome_of (outcomes ++ outcome ∷ []))) es
     ∙ ap (λ (x : List world.Outcome). reach (start sites) (map event_of events ++ event_of event ∷ []) x) os
     ∙ more in
     record {
-      allowed = subst P (sym es) (subst Q (sym os) (outcomes_more flat (start sites) (map event_of events) (map outcome_of outcomes) (event_of event) (outcome_of outcome) so_far.allowed now.allowed));
+      allowed = subst P (sym es) (subst Q (sym os) (outcomes_more language (start sites) (map event_of events) (map outcome_of outcomes) (event_of event) (outcome_of outcome) so_far.allowed now.allowed));
       agrees = subst R (sym same) now.agrees;
     }
 
--- at the end
-pub along_unified : (replicas : List Table) (sets : List (List Piece)) → AllAlong IsSiteOf replicas sets → AllAlong (λ replica pieces. IsUnified flat (table_refuses replica) pieces) replicas sets
-along_unified [] [] h = tt
-along_unified [] (y ∷ ys) h = absurd h
-along_unified (x ∷ xs) [] h = absurd h
-along_unified (x ∷ xs) (y ∷ ys) h = (h.0.1, along_unified xs ys h.1)
-
-pub equal_sites : (replicas : List Table) (sets : List (List Piece)) → AllAlong IsSiteOf replicas sets → AreEqualSites replicas sets
+-- at the end sites with the same set of pieces hold equal tables
+pub equal_sites : (replicas : List Table) (sets : List (List Piece)) → AllAlong (IsUnified language) replicas sets → AreEqualSites replicas sets
 equal_sites replicas sets along i j a b at_i at_j same =
-    let here = along_at IsSiteOf replicas sets i a [] along at_i in
-    let there = along_at IsSiteOf replicas sets j b [] along at_j in
+    let here = along_at (IsUnified language) replicas sets i a [] along at_i in
+    let there = along_at (IsUnified language) replicas sets j b [] along at_j in
     let refuse = same_pieces_refuse (pieces_at sets i) (pieces_at sets j) same in
-    tables_exact a b here.0 there.0 (λ path question.
+    sound.one_table a b here.0 there.0 (λ path question.
     let l = here.1 path question in
     let r = there.1 path question in
     let s = refuse path question in

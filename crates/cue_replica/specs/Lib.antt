@@ -1,4 +1,4 @@
 pub mod Accepted
-pub mod Flat
+pub mod Language
 pub mod Replica
 pub mod World

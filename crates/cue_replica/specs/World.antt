@@ -4,14 +4,11 @@ use Rattle.std.specs.Global.{Global}
 use Rattle.cue_lattice.specs.Refusal.{memory}
 use Rattle.cue_lattice.specs.World as world
 use Rattle.cue_lattice.specs.World.{Piece, Sets, AllAlong, IsUnified, IsMessageOf, IsOutcome, AreOutcomes, SamePieces, reach, start, pieces_at}
-use Rattle.cue_flat.specs.FlatTable.{Table, IsTable, table_refuses}
-use Rattle.cue_flat_text.specs.Fragment as fragment
-use Rattle.cue_flat_codec.specs.State as state
 use Rattle.cue_replica.specs.declared.world.Event.{Event}
 use Rattle.cue_replica.specs.declared.world.Event.TheVariants.{Submit, Send, Deliver, Foreign}
 use Rattle.cue_replica.specs.declared.world.Outcome.{Outcome}
 use Rattle.cue_replica.specs.declared.world.Outcome.TheVariants.{Accepted, Sent, Refused, NoSuch}
-use Rattle.cue_replica.specs.Flat.{flat}
+use Rattle.cue_replica.specs.Language.{Table, language}
 use Rattle.cue_replica.specs.Replica.{Adds}
 
 -- an event of the program, as the definition has it
@@ -32,17 +29,13 @@ outcome_of NoSuch = world.no_such
 abbrev pub reached : ℕ → List Event → List Outcome → Sets
 reached sites events outcomes = reach (start sites) (map event_of events) (map outcome_of outcomes)
 
--- a site's table is valid, and the unification of exactly these pieces
-abbrev pub IsSiteOf : Table → List Piece → Type 0
-IsSiteOf table pieces = IsTable table × IsUnified flat (table_refuses table) pieces
-
--- a message has the bytes of the table that is the unification of exactly these pieces
+-- a message has the bytes that a site writes for the table that is the unification of exactly these pieces
 abbrev pub IsSentOf : Vec ℕ Global → List Piece → Type 0
-IsSentOf message pieces = IsMessageOf flat message.items pieces
+IsSentOf message pieces = IsMessageOf language message.items pieces
 
 -- each site and each message is what its set of pieces makes it
 pub record Agrees (replicas : List Table) (messages : List (Vec ℕ Global)) (sets : Sets) : Type 0 where
-  pub sites : AllAlong IsSiteOf replicas sets.sites
+  pub sites : AllAlong (IsUnified language) replicas sets.sites
   pub sent : AllAlong IsSentOf messages sets.messages
 
 -- sites with the same set of pieces hold equal tables
@@ -60,21 +53,21 @@ HappensAt Step old site new outcome =
 -- a text is handed in
 abbrev pub Submits : List ℕ → Table → Table → Outcome → Type 0
 Submits text before after Accepted =
-    fragment.IsLegal text × Adds before (fragment.fragment_refuses text) after × (IsTable before → IsTable after)
-Submits text before after (Refused why) = (after ≡ before) × ((why ≡ memory) ⊎ fragment.IsFault text why)
+    language.IsLegal text × Adds before (language.text_refuses text) after × (language.IsValid before → language.IsValid after)
+Submits text before after (Refused why) = (after ≡ before) × ((why ≡ memory) ⊎ language.IsTextFault text why)
 Submits text before after outcome = ⊥
 
 -- state bytes are handed in
 abbrev pub Takes : List ℕ → Table → Table → Outcome → Type 0
 Takes bytes before after Accepted =
-    state.IsState bytes × Adds before (state.state_refuses bytes) after × (IsTable before → IsTable after)
-Takes bytes before after (Refused why) = (after ≡ before) × ((why ≡ memory) ⊎ state.IsFault bytes why)
+    language.IsState bytes × Adds before (language.state_refuses bytes) after × (language.IsValid before → language.IsValid after)
+Takes bytes before after (Refused why) = (after ≡ before) × ((why ≡ memory) ⊎ language.IsStateFault bytes why)
 Takes bytes before after outcome = ⊥
 
 -- a state is sent: it becomes the next message
 abbrev pub Sends : List Table → ℕ → List (Vec ℕ Global) → List (Vec ℕ Global) → Outcome → Type 0
 Sends replicas site old new (Sent number) =
-    (table : Table) × (bytes : Vec ℕ Global) × (slice_get replicas site ≡ Some table) × (bytes.items ≡ state.state_bytes table)
+    (table : Table) × (bytes : Vec ℕ Global) × (slice_get replicas site ≡ Some table) × (bytes.items ≡ language.written table)
     × (number ≡ length old) × (new ≡ old ++ bytes ∷ [])
 Sends replicas site old new (Refused why) = (site < length replicas) × (why ≡ memory) × (new ≡ old)
 Sends replicas site old new NoSuch = (length replicas ≤ site) × (new ≡ old)
@@ -94,5 +87,5 @@ pub record KeepsRoom (old new : Vec (Vec ℕ Global) Global) : Type 0 where
 -- What an event leaves, for all sets that agree with what was before: an outcome that the definition allows, and what
 -- agrees with the sets after it.
 pub record Happens (replicas : List Table) (messages : List (Vec ℕ Global)) (event : Event) (replicas' : List Table) (messages' : List (Vec ℕ Global)) (outcome : Outcome) (sets : Sets) : Type 0 where
-  pub allowed : IsOutcome flat sets (event_of event) (outcome_of outcome)
+  pub allowed : IsOutcome language sets (event_of event) (outcome_of outcome)
   pub agrees : Agrees replicas' messages' (world.after sets (event_of event) (outcome_of outcome))

@@ -1,8 +1,9 @@
 ghost use Rattle.std.specs.Prelude.{◌≡◌, ◌<◌, map, replicate, None, IfOk, vec_len, vec_capacity};
 ghost use Rattle.cue_lattice.specs.World.{Sets, AreOutcomes, AllAlong, IsUnified, start};
-ghost use Rattle.cue_flat.specs.FlatTable.{table_refuses};
-ghost use Rattle.cue_replica.specs.Flat.{flat};
-ghost use Rattle.cue_replica.specs.World.{HappensAt, Submits, Takes, Sends, Delivers, KeepsRoom, Agrees, Happens, event_of, outcome_of, reached, IsSentOf, AreEqualSites};
+ghost use Rattle.cue_replica.specs.Language.{language};
+ghost use Rattle.cue_replica.specs.World.{HappensAt, Submits, Takes, Sends, Delivers, KeepsRoom};
+ghost use Rattle.cue_replica.specs.World.{Agrees, Happens, event_of, outcome_of, reached, IsSentOf};
+ghost use Rattle.cue_replica.specs.World.{AreEqualSites};
 
 use crate::{Event, Outcome, Replica, World};
 use cue_lattice::{Memory, Refusal};
@@ -33,6 +34,7 @@ fn take_at(replicas: &mut [Replica], site: usize, bytes: &[u8]) -> Outcome
         Err(why) => Outcome::Refused(why),
     }
 }
+
 /// Makes a site's state the next message.
 fn send_from(
     alloc: Global,
@@ -80,7 +82,8 @@ fn happen(
 ) -> Outcome
     requires room { vec_len messages.old < vec_capacity messages.old }
     ensures happens { (sets : Sets) → Agrees replicas.old messages.old.items sets
-        → Happens replicas.old messages.old.items event.now replicas.new messages.new.items result sets }
+        → Happens replicas.old messages.old.items event.now
+        replicas.new messages.new.items result sets }
     ensures keeps { KeepsRoom messages.old messages.new }
 {
     match event {
@@ -102,28 +105,34 @@ fn opening(alloc: Global, sites: usize) -> Result<Vec<Replica>, Memory>
     Ok(replicas)
 }
 
-/// What a list of events comes to among this many new sites, whatever the events are: texts handed in, states sent,
-/// messages delivered late, repeatedly, out of order or never, and bytes from outside.
+/// What a list of events comes to among this many new sites, whatever the events are: texts handed
+/// in, states sent, messages delivered late, repeatedly, out of order or never, and bytes from
+/// outside.
 ///
-/// An event that finds no memory is refused and changes nothing. `Memory` is answered, and no world, only where the
-/// lists of the world couldn't be made.
+/// An event that finds no memory is refused and changes nothing. `Memory` is answered, and no
+/// world, only where the lists of the world couldn't be made.
 pub fn run(alloc: Global, sites: usize, events: &[Event]) -> Result<World, Memory>
     // Each event has an outcome that the definition of a world allows at its moment.
     ensures outcomes { IfOk result (λ world.
-        AreOutcomes flat (start sites) (map event_of events.now) (map outcome_of world.outcomes.items)) }
+        AreOutcomes language (start sites)
+        (map event_of events.now) (map outcome_of world.outcomes.items)) }
 
-    // Each site's table refuses a question at a path exactly where a piece does that the site has accepted.
+    // Each site's table refuses a question at a path exactly where a piece does that the site has
+    // accepted.
     ensures unified { IfOk result (λ world.
-        AllAlong (λ replica pieces. IsUnified flat (table_refuses replica) pieces)
+        AllAlong (IsUnified language)
         world.replicas.items (reached sites events.now world.outcomes.items).sites) }
 
     // Each message has the state bytes of its sender's table of the moment when it was sent.
     ensures messages { IfOk result (λ world.
-        AllAlong IsSentOf world.messages.items (reached sites events.now world.outcomes.items).messages) }
+        AllAlong IsSentOf
+        world.messages.items (reached sites events.now world.outcomes.items).messages) }
 
-    // Sites with the same set of pieces hold equal tables, and so give the same bytes, export and conflicts.
+    // Sites with the same set of pieces hold equal tables, and so give the same bytes, export and
+    // conflicts.
     ensures equal { IfOk result (λ world.
-        AreEqualSites world.replicas.items (reached sites events.now world.outcomes.items).sites) }
+        AreEqualSites
+        world.replicas.items (reached sites events.now world.outcomes.items).sites) }
 {
     let mut replicas = opening(alloc, sites)?;
     let mut messages = Vec::with_capacity(alloc, events.len())?;

@@ -1,17 +1,20 @@
 //! Sites of the configuration store, and worlds of sites.
 //!
-//! A site keeps the unification of all that it accepts and passes it on as bytes, which other sites take late,
-//! repeatedly, in any order or never. `run` says what every list of such events comes to.
+//! A site keeps the unification of all that it accepts and passes it on as bytes, which other sites
+//! take late, repeatedly, in any order or never. `run` says what every list of such events comes
+//! to.
 #![tactic(auto)]
 
 mod history;
+mod language;
 mod replica;
 #[cfg(test)]
 mod tests;
 mod world;
 
 pub use cue_flat_report::{Conflict, Export, Gap, Path, Step, lines};
-pub use cue_lattice::{Form, Kind, Memory, Refusal, Text};
+pub use cue_lattice::{Form, Kind, Memory, Refusal, TEXT_LIMIT, Text};
 pub use history::run;
+pub use language::sound_language;
 pub use replica::Replica;
 pub use world::{Event, Outcome, World};

@@ -1,21 +1,21 @@
-ghost use Rattle.std.specs.Prelude.{◌≡◌, ◌⊎◌, ◌↔◌, IsTrue, IfOk, IfErr, OnOk, OnErr, None};
-ghost use Rattle.cue_lattice.specs.Refusal.{memory};
-ghost use Rattle.cue_flat.specs.FlatTable.{IsTable};
-ghost use Rattle.cue_flat_text.specs.Fragment as fragment;
-ghost use Rattle.cue_flat_codec.specs.State as state;
+ghost use Rattle.std.specs.Prelude.{◌≡◌, ◌⊎◌, ◌↔◌, IsTrue, IfOk, IfErr, OnOk, OnErr, IsErrOf, None};
+ghost use Rattle.cue_lattice.specs.Refusal.{memory, refusal_at};
+ghost use Rattle.cue_flat_codec.specs.State.{IsVersionFault};
 ghost use Rattle.cue_flat_report.specs.Export.{IsExport};
+ghost use Rattle.cue_replica.specs.Language.{language};
 
 use cue_flat::FlatTable;
 use cue_flat_codec::{decode, encode};
 use cue_flat_report::Export;
 use cue_flat_text::read;
-use cue_lattice::{Memory, Refusal};
+use cue_lattice::{Kind, Memory, Refusal};
 use std::alloc::Global;
 use std::marker::Model;
 
 /// A site: it holds one table, the unification of all that it has accepted.
 ///
-/// Contracts see it as that table, so that two sites with equal tables give the same answer to each call.
+/// Contracts see it as that table, so that two sites with equal tables give the same answer to each
+/// call.
 #[derive(Debug, Drop)]
 pub struct Replica {
     table: FlatTable,
@@ -23,7 +23,7 @@ pub struct Replica {
 }
 
 impl Model for Replica {
-    ghost use Rattle.cue_flat.specs.FlatTable.{Table};
+    ghost use Rattle.cue_replica.specs.Language.{Table};
 
     ghost Value = { Table };
 
@@ -43,36 +43,42 @@ impl Replica {
         }
     }
 
-    /// Accepts a text: the table then refuses what it refused and what the text refuses. A refused text changes
-    /// nothing.
+    /// Accepts a text: the table then refuses what it refused and what the text refuses. A refused
+    /// text changes nothing.
     ///
     /// Refusals: `TooLong`, `Syntax`, `TooLarge`, `Memory`, looked for in this order.
     pub fn submit(&mut self, text: &str) -> Result<(), Refusal>
-        ensures legal { OnOk result (fragment.IsLegal text.now) }
-        ensures ok { OnOk result (Adds self.old (fragment.fragment_refuses text.now) self.new) }
-        ensures refused { IfErr result (λ why. (why ≡ memory) ⊎ fragment.IsFault text.now why) }
+        ensures legal { OnOk result (language.IsLegal text.now) }
+        ensures ok { OnOk result (Adds self.old (language.text_refuses text.now) self.new) }
+        ensures refused { IfErr result (λ why.
+            (why ≡ memory) ⊎ language.IsTextFault text.now why) }
+        // Out of memory never hides a fault.
+        ensures memory_last { result ≡ Err memory → language.IsLegal text.now }
         ensures err { OnErr result (self.new ≡ self.old) }
-        ensures valid { IsTable self.old → IsTable self.new }
+        ensures valid { language.IsValid self.old → language.IsValid self.new }
     {
         let table = read(self.alloc, text)?;
         self.table.meet_with(self.alloc, table)?;
         Ok(())
     }
 
-    /// Accepts state bytes: the table then refuses what it refused and what the table of the bytes refuses. Refused
-    /// bytes change nothing.
+    /// Accepts state bytes: the table then refuses what it refused and what the table of the bytes
+    /// refuses. Refused bytes change nothing.
     ///
     /// Refusals, all at place 0: `Version`, `NotState`, `Memory`.
     pub fn take(&mut self, bytes: &[u8]) -> Result<(), Refusal>
-        ensures state { OnOk result (state.IsState bytes.now) }
-        ensures ok { OnOk result (Adds self.old (state.state_refuses bytes.now) self.new) }
-        ensures refused { IfErr result (λ why. (why ≡ memory) ⊎ state.IsFault bytes.now why) }
+        ensures state { OnOk result (language.IsState bytes.now) }
+        ensures ok { OnOk result (Adds self.old (language.state_refuses bytes.now) self.new) }
+        ensures refused { IfErr result (λ why.
+            (why ≡ memory) ⊎ language.IsStateFault bytes.now why) }
+        // `Version` exactly where the bytes are of another version: for these no memory is wanted.
+        ensures version { IsVersionFault bytes.now → IsErrOf result (refusal_at Kind.Version 0) }
         ensures err { OnErr result (self.new ≡ self.old) }
-        ensures valid { IsTable self.old → IsTable self.new }
+        ensures valid { language.IsValid self.old → language.IsValid self.new }
     {
         let taken = match decode(self.alloc, bytes) {
             Ok(taken) => taken,
-            Err(kind) => return Err(Refusal { kind, place: 0 }),
+            Err(kind) => return Err(Refusal::at(kind, 0)),
         };
         self.table.meet_with(self.alloc, taken)?;
         Ok(())
@@ -80,12 +86,13 @@ impl Replica {
 
     /// The state bytes of the table.
     pub fn state(&self, alloc: Global) -> Result<Vec<u8>, Memory>
-        ensures { IfOk result (λ bytes. bytes.items ≡ state.state_bytes self.now) }
+        ensures { IfOk result (λ bytes. bytes.items ≡ language.written self.now) }
     {
         encode(alloc, &self.table)
     }
 
-    /// The JSON of the configuration; or, where there are any, the conflicts; or else what is incomplete.
+    /// The JSON of the configuration; or, where there are any, the conflicts; or else what is
+    /// incomplete.
     pub fn export(&self, alloc: Global) -> Result<Export, Memory>
         ensures { IfOk result (λ export. IsExport self.now export) }
     {

@@ -1,5 +1,2 @@
-pub mod Parts
-pub mod Reading
-pub mod Refused
+pub mod Faults
 pub mod Runs
-pub mod Stops

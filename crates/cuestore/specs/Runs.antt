@@ -1,24 +1,16 @@
 -- Whole runs of the program, on devices whose bytes are known or not.
-use Rattle.std.specs.Prelude.{◌≡◌, ◌⊎◌, ℕ, List, Option, IfSome, string_bytes}
+use Rattle.std.specs.Prelude.{◌≡◌, ◌⊎◌, ℕ, List, Option, string_bytes}
 use Rattle.std.specs.Io.KnownBytes.{Appends}
-use Rattle.cue_replica.specs.Accepted.{Table}
-use Rattle.cuestore.specs.declared.act.Reply.{Reply}
-use Rattle.cuestore.specs.Parts.{HoldsInput}
-use Rattle.cuestore.specs.Stops.{code_of, TellsExport, IsWordFault, IsReadFault}
-use Rattle.cuestore.specs.Refused.{IsInputRefused}
-use Rattle.cuestore.specs.declared.stop.Stop.{Stop}
+use Rattle.cue_program.specs.declared.Reply.{Reply}
+use Rattle.cue_program.specs.declared.Stop.{Stop}
+use Rattle.cue_program.specs.Replies.{code_of}
+use Rattle.cue_program.specs.Runs.{IsReplyFor, IsStopFor}
+use Rattle.cuestore.specs.declared.fault.Fault.{Fault}
+use Rattle.cuestore.specs.Faults.{Tells, IsWordFault}
 
--- The reply tells the export of a site that has taken the whole input. (Where the reader's bytes are known, these are
--- the input.)
-abbrev pub IsReplyFor : Option (List ℕ) → Reply → Type 0
-IsReplyFor known reply =
-    (bytes : List ℕ) × (table : Table) × IfSome known (λ all. bytes ≡ all) × HoldsInput bytes table × TellsExport table reply
-
--- What ends a run without a reply: the words, the reading, the input, or want of memory for the reply.
-abbrev pub IsStopFor : Option (List ℕ) → Stop → Type 0
-IsStopFor known stop =
-    IsWordFault stop ⊎ IsReadFault stop
-    ⊎ ((bytes : List ℕ) × IfSome known (λ all. bytes ≡ all) × IsInputRefused bytes stop)
+-- What is told of a run without a reply: of the words, or of what ended it.
+abbrev pub IsFaultFor : Option (List ℕ) → Fault → Type 0
+IsFaultFor known fault = IsWordFault fault ⊎ ((stop : Stop) × IsStopFor known stop × Tells stop fault)
 
 -- The run ends with an answer: the status is that of a reply for the input, whose text was added to the output.
 abbrev pub IsAnswered : Option (List ℕ) → Option (List ℕ) → Option (List ℕ) → ℕ → Type 0

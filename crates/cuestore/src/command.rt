@@ -1,10 +1,10 @@
 ghost use Rattle.std.specs.Prelude.{◌≡◌, length, IfOk, IfErr};
-ghost use Rattle.cuestore.specs.Stops.{IsWordFault};
+ghost use Rattle.cuestore.specs.Faults.{IsWordFault};
 
-use crate::stop::Stop;
+use crate::fault::Fault;
 use clap::Error;
 use clap::error::ErrorKind;
-use cue_replica::Kind;
+use cue_program::{Memory, Stop};
 use std::alloc::Global;
 
 /// What the program is asked to do.
@@ -14,8 +14,8 @@ pub enum Command {
     Export,
 }
 
-/// The command that the words behind the program's name ask for. All other words are a usage fault.
-pub fn command_of(alloc: Global, words: &[String]) -> Result<Command, Stop>
+/// The command that the words after the program's name ask for. All other words are a usage fault.
+pub fn command_of(alloc: Global, words: &[String]) -> Result<Command, Fault>
     ensures one { IfOk result (λ _. length words.now ≡ 1) }
     ensures fault { IfErr result IsWordFault }
 {
@@ -26,14 +26,14 @@ pub fn command_of(alloc: Global, words: &[String]) -> Result<Command, Stop>
     }
     let name = match parsed(alloc, &all) {
         Ok(name) => name,
-        Err(error) if error.kind() == ErrorKind::OutOfMemory => return Err(Stop::refused(
-            Kind::Memory,
-        )),
-        Err(_) => return Err(Stop::Usage),
+        Err(error) if error.kind() == ErrorKind::OutOfMemory => {
+            return Err(Fault::from(Stop::from(Memory)));
+        }
+        Err(_) => return Err(Fault::Usage),
     };
     match name {
         Some("export") if words.len() == 1 => Ok(Command::Export),
-        _ => Err(Stop::Usage),
+        _ => Err(Fault::Usage),
     }
 }
 

@@ -3,9 +3,7 @@
 
 mod act;
 mod command;
-mod input;
-mod parts;
-mod stop;
+mod fault;
 #[cfg(test)]
 mod tests;
 

@@ -1,11 +1,11 @@
 use Rattle.std.proofs.Common.{◌≡◌, ◌++◌, List, [], ◌∷◌, take, drop, length, ◌+◌, rules, arith, subst, sym, ap, ◌∙◌}
 use Rattle.std.proofs.lemmas.List.{take_more, take_all}
-use Rattle.cue_flat.specs.FlatTable.{Table}
+use Rattle.cue_replica.specs.Language.{Table}
 use Rattle.cue_lattice.specs.World.{Sets}
 use Rattle.cue_replica.specs.declared.world.Event.{Event}
 use Rattle.cue_replica.specs.declared.world.Outcome.{Outcome}
 use Rattle.cue_replica.specs.World.{Agrees, Happens}
-use Rattle.cue_replica.proofs.Runs.{IsSoFar, so_far_none, so_far_more, along_unified, equal_sites, lent_whole}
+use Rattle.cue_replica.proofs.Runs.{IsSoFar, so_far_none, so_far_more, equal_sites, lent_whole}
 use Rattle.cue_replica.proofs.history.run.Goals as goal
 
 pub loop-event-init : goal.loop-event-init
@@ -50,7 +50,7 @@ pub returns-clause-unified : goal.returns-clause-unified
 returns-clause-unified c =
     let P : List Event → Type 0 = λ x. IsSoFar c.args.sites x c.loop-event.replicas.items c.loop-event.messages.items c.loop-event.outcomes.items in
     let done = subst P (take_all c.loop-event.event-index c.args.events.now (omega arith)) c.loop-event.invariant.so_far in
-    along_unified c.loop-event.replicas.items _ done.agrees.sites
+    done.agrees.sites
 
 pub returns-clause-equal : goal.returns-clause-equal
 returns-clause-equal c =

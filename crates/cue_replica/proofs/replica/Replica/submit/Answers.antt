@@ -1,5 +1,5 @@
 use Rattle.std.proofs.Common.{subst}
-use Rattle.cue_flat.specs.FlatTable.{Table}
+use Rattle.cue_replica.specs.Language.{Table}
 use Rattle.cue_flat_text.specs.Fragment.{fragment_refuses}
 use Rattle.cue_replica.specs.Replica.{Adds}
 use Rattle.cue_replica.proofs.Adding.{adds_met}

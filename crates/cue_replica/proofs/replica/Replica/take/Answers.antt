@@ -1,8 +1,9 @@
 use Rattle.std.proofs.Common.{subst}
-use Rattle.cue_flat.specs.FlatTable.{Table}
+use Rattle.cue_replica.specs.Language.{Table}
 use Rattle.cue_flat_codec.specs.State.{state_refuses}
 use Rattle.cue_replica.specs.Replica.{Adds}
-use Rattle.cue_replica.proofs.Adding.{adds_met, state_answers}
+use Rattle.cue_replica.proofs.Adding.{adds_met}
+use Rattle.cue_replica.proofs.Sound.{state_answers}
 use Rattle.cue_replica.proofs.replica.Replica.take.Goals as goal
 
 pub returns-clause-ok : goal.returns-clause-ok

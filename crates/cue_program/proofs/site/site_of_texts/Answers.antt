@@ -1,0 +1,27 @@
+use Rattle.std.proofs.Common.{ℕ, List, Option, Bor, subst}
+use Rattle.std.specs.Option.{option_map}
+use Rattle.cue_program.proofs.Texts.{Submitted, submitted_none, submitted_more, submitted_not, submitted_all}
+use Rattle.cue_program.proofs.site.site_of_texts.Goals as goal
+
+pub loop-rest-preserved : goal.loop-rest-preserved
+loop-rest-preserved c =
+    let P : Option (Bor (List ℕ)) → Type 0 = λ rest. Submitted c.args.bytes.now c.loop-rest.site c.loop-rest.number (option_map (λ bytes. bytes.now) rest) in
+    submitted_more c.args.bytes.now c.in-Some.bytes.now c.first_part.result.0.now c.loop-rest.site c.submit.new.site
+    c.loop-rest.number c.saturating_add-number.result
+    (option_map (λ rest. rest.now) c.first_part.result.1) (subst P c.in-Some.is c.loop-rest.invariant) c.first_part.ensures.part
+    c.saturating_add-number.ensures c.in_default-submit.ensures.legal c.in_default-submit.ensures.adds c.submit.ensures.valid
+
+pub loop-rest-init : goal.loop-rest-init
+loop-rest-init c = rw c.new-site.ensures (submitted_none c.args.bytes.now)
+
+pub returns-in-Err-clause-refused : goal.returns-in-Err-clause-refused
+returns-in-Err-clause-refused c =
+    let P : Option (Bor (List ℕ)) → Type 0 = λ rest. Submitted c.args.bytes.now c.loop-rest.site c.loop-rest.number (option_map (λ bytes. bytes.now) rest) in
+    submitted_not c.args.bytes.now c.in-Some.bytes.now c.first_part.result.0.now c.loop-rest.site c.loop-rest.number c.saturating_add-number.result
+    (option_map (λ rest. rest.now) c.first_part.result.1) c.in-Err.stop (subst P c.in-Some.is c.loop-rest.invariant) c.first_part.ensures.part
+    c.saturating_add-number.ensures c.in-Err.ensures.refused
+
+pub returns-clause-holds : goal.returns-clause-holds
+returns-clause-holds c =
+    let P : Option (Bor (List ℕ)) → Type 0 = λ rest. Submitted c.args.bytes.now c.loop-rest.site c.loop-rest.number (option_map (λ bytes. bytes.now) rest) in
+    submitted_all c.args.bytes.now c.loop-rest.site c.loop-rest.number (subst P c.in_default.is c.loop-rest.invariant)

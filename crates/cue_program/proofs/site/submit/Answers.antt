@@ -1,0 +1,8 @@
+use Rattle.std.proofs.Common.{ℕ, List, subst}
+use Rattle.cue_replica.specs.Language.{language}
+use Rattle.cue_replica.specs.Replica.{Adds}
+use Rattle.cue_program.proofs.site.submit.Goals as goal
+
+pub returns-in-Ok-submit-clause-adds : goal.returns-in-Ok-submit-clause-adds
+returns-in-Ok-submit-clause-adds c =
+    subst (λ (t : List ℕ). Adds c.args.site.now (language.text_refuses t) c.submit.new.self) c.in-Ok.ensures c.in-Ok-submit.ensures.ok

@@ -1,0 +1,47 @@
+-- Lines of bytes, and the parts that separating lines cut them into.
+use Rattle.std.specs.Prelude.{◌≡◌, ◌≢◌, ◌⊎◌, ℕ, List, [], ◌∷◌, ◌++◌, Option, Some, None, slice_get, codes, ◌==◌, if◌then◌else◌}
+use Rattle.std.specs.List.{AllByRecursion, concat}
+use Rattle.cue_replica.specs.Accepted.{IsOfTexts, IsOfState}
+use Rattle.cue_replica.specs.Language.{Table}
+
+-- one byte more in front of the first line
+abbrev pub longer : ℕ → List (List ℕ) → List (List ℕ)
+longer b [] = (b ∷ []) ∷ []
+longer b (line ∷ lines) = (b ∷ line) ∷ lines
+
+-- The lines, each with its line break U+000A, which the last one may lack. Joined they are the bytes.
+abbrev pub lines_of : List ℕ → List (List ℕ)
+lines_of [] = []
+lines_of (b ∷ bytes) = if b == 10 then (b ∷ []) ∷ lines_of bytes else longer b (lines_of bytes)
+
+-- the line separates: it is exactly `---`
+abbrev pub IsSeparator : List ℕ → Type 0
+IsSeparator line = (line ≡ codes "---\n") ⊎ (line ≡ codes "---")
+
+-- no line of a part separates
+abbrev pub IsPart : List (List ℕ) → Type 0
+IsPart lines = AllByRecursion (λ line. IsSeparator line → ⊥) lines
+
+-- The lines are cut into parts, one more than there are separating lines, and into these lines.
+abbrev pub AreParts : List (List ℕ) → List (List ℕ) → Type 0
+AreParts lines [] = ⊥
+AreParts lines (part ∷ []) = IsPart lines × (concat lines ≡ part)
+AreParts lines (part ∷ next ∷ parts) =
+    (front back : List (List ℕ)) × (line : List ℕ) × (lines ≡ front ++ line ∷ back)
+    × IsPart front × (concat front ≡ part) × IsSeparator line × AreParts back (next ∷ parts)
+
+-- The part in front of the first separating line, and the bytes after that line, where there is one.
+abbrev pub IsFirstPart : List ℕ → List ℕ → Option (List ℕ) → Type 0
+IsFirstPart bytes part None = (part ≡ bytes) × IsPart (lines_of bytes)
+IsFirstPart bytes part (Some rest) =
+    (front : List (List ℕ)) × (line : List ℕ) × IsPart front × (concat front ≡ part) × IsSeparator line
+    × (bytes ≡ part ++ (line ++ rest)) × (lines_of bytes ≡ front ++ line ∷ lines_of rest)
+
+-- The table is valid, and the unification of the parts of the bytes, which are texts of the language.
+abbrev pub HoldsTexts : List ℕ → Table → Type 0
+HoldsTexts bytes table = (parts : List (List ℕ)) × AreParts (lines_of bytes) parts × IsOfTexts table parts
+
+-- What a new site holds that has taken an input: a state where the first byte is FE (hexadecimal), and otherwise texts.
+abbrev pub HoldsInput : List ℕ → Table → Type 0
+HoldsInput bytes table =
+    ((slice_get bytes 0 ≡ Some 254) × IsOfState table bytes) ⊎ ((slice_get bytes 0 ≢ Some 254) × HoldsTexts bytes table)

@@ -1,0 +1,49 @@
+ghost use Rattle.std.specs.Prelude.{◌≡◌, ◌<◌, ◌≤◌, ◌==◌, ◌++◌, ◌↔◌, ◌∷◌, [], length, take, drop};
+ghost use Rattle.std.specs.Prelude.{IsTrue, MatchOption, IfSome};
+ghost use Rattle.std.specs.List.{position};
+ghost use Rattle.std.specs.Option.{option_map};
+ghost use Rattle.cue_program.specs.Parts.{lines_of, IsSeparator, IsFirstPart};
+
+/// Whether the line separates two parts: it is exactly `---`, with its line break or, at the end,
+/// without one.
+fn is_separator(line: &[u8]) -> bool
+    ensures { IsTrue result ↔ IsSeparator line.now }
+{
+    line == b"---\n".as_slice() || line == b"---".as_slice()
+}
+
+/// Where the first line break stands.
+fn line_break(bytes: &[u8]) -> Option<usize>
+    ensures { result ≡ position (λ byte. byte == 10) bytes.now }
+{
+    bytes.iter().position(|byte| *byte == b'\n')
+}
+
+/// The first line, with its line break, and what follows it.
+fn first_line(bytes: &[u8]) -> (&[u8], &[u8])
+    requires { 0 < length bytes.now }
+    ensures some { 0 < length result.0.now }
+    ensures whole { bytes.now ≡ result.0.now ++ result.1.now }
+    ensures lines { lines_of bytes.now ≡ result.0.now ∷ lines_of result.1.now }
+{
+    match line_break(bytes) {
+        Some(length) => bytes.split_at(length + 1),
+        None => (bytes, &[]),
+    }
+}
+
+/// The part in front of the first separating line, and what follows that line, where there is one.
+pub fn first_part(bytes: &[u8]) -> (&[u8], Option<&[u8]>)
+    ensures part { IsFirstPart bytes.now result.0.now (option_map (λ rest. rest.now) result.1) }
+    ensures less { IfSome result.1 (λ rest. length rest.now < length bytes.now) }
+{
+    let mut rest = bytes;
+    while !rest.is_empty() {
+        let (line, after) = first_line(rest);
+        if is_separator(line) {
+            return (&bytes[..bytes.len() - rest.len()], Some(after));
+        }
+        rest = after;
+    }
+    (bytes, None)
+}

@@ -1,0 +1,93 @@
+ghost use Rattle.std.specs.Prelude.{◌≡◌, ◌↔◌, Some, IsTrue, IfOk, IfErr, OnOk, MatchResult};
+ghost use Rattle.std.specs.Prelude.{slice_get};
+ghost use Rattle.cue_replica.specs.Language.{language};
+ghost use Rattle.cue_replica.specs.Replica.{Adds};
+ghost use Rattle.cue_program.specs.Parts.{HoldsInput, HoldsTexts};
+ghost use Rattle.cue_program.specs.Refused.{IsTextRefused, IsInputRefused};
+ghost use Rattle.cue_program.specs.Stops.{IsByteFault, IsInputRefusedAs, IsPartFault};
+
+use crate::parts::first_part;
+use crate::stop::Stop;
+use cue_replica::{Kind, Refusal, Replica, TEXT_LIMIT};
+use std::alloc::Global;
+use std::str;
+
+/// The byte that begins state bytes, and no text.
+const STATE: u8 = 0xFE;
+
+/// A new site that has taken the inputs in these bytes: one state, where they begin with the byte
+/// FE (hexadecimal), and otherwise texts, which are split at lines that are exactly `---`.
+///
+/// # Errors
+///
+/// `RefusedInput` for the first input that is refused, with its number from 1.
+pub fn site_of(alloc: Global, bytes: &[u8]) -> Result<Replica, Stop>
+    ensures holds { IfOk result (HoldsInput bytes.now) }
+    ensures refused { IfErr result (IsInputRefused bytes.now) }
+{
+    if begins_a_state(bytes) {
+        let mut site = Replica::new(alloc);
+        return match site.take(bytes) {
+            Ok(()) => Ok(site),
+            Err(why) => Err(Stop::RefusedInput(why, 1)),
+        };
+    }
+    site_of_texts(alloc, bytes)
+}
+
+/// Whether the first byte is that of a state.
+fn begins_a_state(bytes: &[u8]) -> bool
+    ensures { IsTrue result ↔ (slice_get bytes.now 0 ≡ Some 254) }
+{
+    bytes.first() == Some(&STATE)
+}
+
+/// A new site that has accepted each part of these bytes as a text.
+fn site_of_texts(alloc: Global, bytes: &[u8]) -> Result<Replica, Stop>
+    ensures holds { IfOk result (HoldsTexts bytes.now) }
+    ensures refused { IfErr result (IsTextRefused bytes.now) }
+{
+    let mut site = Replica::new(alloc);
+    let mut number = 0usize;
+    let mut rest = Some(bytes);
+    while let Some(bytes) = rest {
+        number = number.saturating_add(1);
+        let (part, after) = first_part(bytes);
+        if let Err(stop) = submit(&mut site, part, number) {
+            return Err(stop);
+        }
+        rest = after;
+    }
+    Ok(site)
+}
+
+/// Hands the input of this number to a site, as a text.
+fn submit(site: &mut Replica, part: &[u8], number: usize) -> Result<(), Stop>
+    ensures legal { OnOk result (language.IsLegal part.now) }
+    ensures adds { OnOk result (Adds site.old (language.text_refuses part.now) site.new) }
+    ensures valid { language.IsValid site.old → language.IsValid site.new }
+    ensures refused { IfErr result (λ stop. (why : Refusal) ×
+        IsInputRefusedAs why number stop × IsPartFault part.now why) }
+{
+    let text = match text_of(part) {
+        Ok(text) => text,
+        Err(why) => return Err(Stop::RefusedInput(why, number)),
+    };
+    match site.submit(text) {
+        Ok(()) => Ok(()),
+        Err(why) => Err(Stop::RefusedInput(why, number)),
+    }
+}
+
+/// The text in these bytes: neither too long, nor anything but UTF-8.
+fn text_of(bytes: &[u8]) -> Result<&str, Refusal>
+    ensures { MatchResult result (λ text. text.now ≡ bytes.now) (IsByteFault bytes.now) }
+{
+    if bytes.len() > TEXT_LIMIT {
+        return Err(Refusal::at(Kind::TooLong, TEXT_LIMIT));
+    }
+    match str::from_utf8(bytes) {
+        Ok(text) => Ok(text),
+        Err(error) => Err(Refusal::at(Kind::BadCharacter, error.valid_up_to())),
+    }
+}

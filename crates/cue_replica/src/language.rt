@@ -1,0 +1,11 @@
+ghost use Rattle.cue_lattice.specs.World.{IsSound};
+ghost use Rattle.cue_replica.specs.Language.{Table, language};
+
+/// What every language of the store must keep to holds of the one that this crate takes: a legal
+/// text and the bytes of a state have no fault, so that they are never refused but for memory;
+/// sites read what they write; and a valid table is told by its answers.
+///
+/// It computes nothing: it states a law.
+pub fn sound_language()
+    ensures { IsSound Table language }
+{}

@@ -1,8 +1,0 @@
-use Rattle.std.proofs.lemmas.Result.{IfOk-weaker}
-use Rattle.cuestore.specs.Stops.{TellsExport, IsReplyTo}
-use Rattle.cuestore.proofs.act.exported.Goals as goal
-
-pub returns-clause-tells : goal.returns-clause-tells
-returns-clause-tells c =
-    IfOk-weaker c.reply_of.result (IsReplyTo c.in_ok-export.field-0) (TellsExport c.args.site.now)
-    (λ reply h. (c.in_ok-export.field-0, c.in_ok-export.ensures, h)) c.reply_of.ensures.tells
