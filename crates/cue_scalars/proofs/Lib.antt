@@ -1,3 +1,5 @@
 pub mod ByKind
+pub mod Conjunctions
 pub mod Disjunctions
+pub mod Narrowed
 pub mod Within

@@ -1,12 +1,11 @@
 -- When all members of a set of scalars are members of another.
-use Rattle.std.proofs.Common.{◌≡◌, ℕ, ℤ, Bool, true, false, not, ◌&&◌, ◌||◌, List, refl, sym, ◌∙◌}
+use Rattle.std.proofs.Common.{◌≡◌, ℕ, ℤ, Bool, true, false, not, ◌&&◌, ◌||◌, List, refl}
 use Rattle.std.proofs.lemmas.Bool.{false≢true}
-use Rattle.cue_lattice.specs.declared.scalar.Scalar.{Scalar}
 use Rattle.cue_lattice.specs.declared.scalar.Scalar.TheVariants as scalars
 use Rattle.cue_sets.specs.Pieces.{is_member}
 use Rattle.cue_sets.specs.Texts.{is_text_member}
 use Rattle.cue_scalars.specs.declared.scalar_set.ScalarSet.{ScalarSet}
-use Rattle.cue_scalars.specs.Scalars.{members, IsWithin}
+use Rattle.cue_scalars.specs.Scalars.{IsWithin}
 
 -- whether null and the truth values of the small set are in the large one
 abbrev pub plain_within : ScalarSet → ScalarSet → Bool

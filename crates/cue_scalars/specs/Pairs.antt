@@ -1,6 +1,6 @@
 -- Value and default pairs, by the CUE language specification, over plain sets of scalars.
 use Rattle.std.specs.Prelude.{Bool, true, false, ◌&&◌, ◌||◌, List, [], ◌∷◌, Option, Some, None, is_some, unwrap_or, if◌then◌else◌, filter_map}
-use Rattle.std.specs.List.{list_any}
+use Rattle.std.specs.List.{list_any, list_all}
 use Rattle.cue_lattice.specs.declared.scalar.Scalar.{Scalar}
 
 -- a set of scalars: what tells its members
@@ -32,6 +32,14 @@ abbrev pub both : Pair → Pair → Pair
 both a b = record {
   value = meet_of a.value b.value;
   usual = if is_some a.usual || is_some b.usual then Some (meet_of (brought a) (brought b)) else None;
+}
+
+-- Unification of one or more, whose order and halving do not matter: a scalar may stand where each lets it stand, and
+-- there is a default where one has one.
+abbrev pub all_of : List Pair → Pair
+all_of pairs = record {
+  value = λ scalar. list_all (λ pair. pair.value scalar) pairs;
+  usual = if list_any (λ pair. is_some pair.usual) pairs then Some (λ scalar. list_all (λ pair. brought pair scalar) pairs) else None;
 }
 
 -- What a term of a disjunction brings as default. The first argument says whether some term is marked. If none is, each

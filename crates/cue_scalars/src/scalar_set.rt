@@ -4,7 +4,7 @@ ghost use Rattle.cue_lattice.specs.declared.scalar.Scalar.{Scalar};
 ghost use Rattle.cue_lattice.specs.declared.scalar.Scalar.TheVariants as scalars;
 ghost use Rattle.cue_scalars.specs.Scalars.{members, kind, only_of, IsOnlyScalar, IsFirstScalar, IsWithin};
 
-use cue_lattice::{Memory, Narrow, Scalar, Text};
+use cue_lattice::{Memory, Narrow, Narrowed, Scalar, Text};
 use cue_sets::{IntSet, TextSet};
 use std::alloc::Global;
 
@@ -250,6 +250,29 @@ impl Narrow for ScalarSet {
             ints: Narrow::meet(&self.ints, alloc, &other.ints)?,
             texts: Narrow::meet(&self.texts, alloc, &other.texts)?,
         })
+    }
+
+    fn narrowed_by(&self, alloc: Global, other: ScalarSet) -> Result<Narrowed<ScalarSet>, Memory> {
+        let stays = self.is_plain_within(&other);
+        let ScalarSet {
+            null,
+            no,
+            yes,
+            ints,
+            texts,
+        } = other;
+        let ints = self.ints.narrowed_by(alloc, ints)?;
+        let texts = self.texts.narrowed_by(alloc, texts)?;
+        if stays && ints.is_unchanged() && texts.is_unchanged() {
+            return Ok(Narrowed::Unchanged);
+        }
+        Ok(Narrowed::To(ScalarSet {
+            null: self.null && null,
+            no: self.no && no,
+            yes: self.yes && yes,
+            ints: ints.or_copy(alloc, &self.ints)?,
+            texts: texts.or_copy(alloc, &self.texts)?,
+        }))
     }
 
     fn same(&self, other: &ScalarSet) -> bool {

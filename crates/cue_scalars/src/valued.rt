@@ -1,4 +1,4 @@
-ghost use Rattle.std.specs.Prelude.{◌≡◌, IfOk, IsSome, is_some, unwrap_or};
+ghost use Rattle.std.specs.Prelude.{◌≡◌, ◌<◌, length, map, IfOk, IsSome, is_some, unwrap_or};
 ghost use Rattle.std.specs.List.{list_any};
 ghost use Rattle.std.specs.Option.{ForSome};
 ghost use Rattle.std.specs.Result.{IsOk};
@@ -18,7 +18,7 @@ pub struct Valued {
 }
 
 impl Valued {
-    ghost use Rattle.cue_scalars.specs.Pairs.{both, disjunction, join_of, sum_of, term_of};
+    ghost use Rattle.cue_scalars.specs.Pairs.{all_of, both, disjunction, join_of, sum_of, term_of};
     ghost use Rattle.cue_scalars.specs.Values.{pair_of, terms_of};
 
     /// The unification `&`: values meet, and so do defaults, where a side without a default brings its value.
@@ -34,6 +34,28 @@ impl Valued {
             });
         }
         Ok(Valued { value, usual: None })
+    }
+
+    /// The unification of one or more. The values are halved, so that many are unified in balance.
+    pub fn and_all(alloc: Global, values: &[Valued]) -> Result<Valued, Memory>
+        requires { 0 < length values.now }
+        ensures { IfOk result (λ met. pair_of met ≡ all_of (map pair_of values.now)) }
+    {
+        let count = values.len();
+        if count == 1 {
+            return values[0].copy(alloc);
+        }
+        let (front, back) = values.split_at(count / 2);
+        let left = Valued::and_all(alloc, front)?;
+        let right = Valued::and_all(alloc, back)?;
+        left.and(alloc, &right)
+    }
+
+    /// An equal value with an equal default.
+    pub fn copy(&self, alloc: Global) -> Result<Valued, Memory>
+        ensures { IfOk result (λ copied. pair_of copied ≡ pair_of self.now) }
+    {
+        self.as_term(alloc, false, false)
     }
 
     /// The disjunction `|` of marked and unmarked terms. Of no terms it is the empty value without a default.

@@ -5,7 +5,7 @@ ghost use Rattle.cue_sets.specs.Combination.{keeps};
 
 use crate::combination::Combination;
 use crate::pieces::{combine, has, is_within};
-use cue_lattice::{Memory, Narrow};
+use cue_lattice::{Memory, Narrow, Narrowed};
 use std::alloc::Global;
 use std::marker::Model;
 
@@ -198,6 +198,16 @@ impl Narrow for IntSet {
 
     fn meet(&self, alloc: Global, other: &IntSet) -> Result<IntSet, Memory> {
         IntSet::meet(self, alloc, other)
+    }
+
+    fn narrowed_by(&self, alloc: Global, other: IntSet) -> Result<Narrowed<IntSet>, Memory> {
+        if self.is_within(&other) {
+            return Ok(Narrowed::Unchanged);
+        }
+        if other.is_within(self) {
+            return Ok(Narrowed::To(other));
+        }
+        Ok(Narrowed::To(IntSet::meet(self, alloc, &other)?))
     }
 
     fn same(&self, other: &IntSet) -> bool {

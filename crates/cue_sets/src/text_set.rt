@@ -6,7 +6,7 @@ use crate::combination::Combination;
 use crate::texts::{
     Lists, are_same, ascends, copies, each_is_listed, has, is_member, merge, zeros, zeros_listed,
 };
-use cue_lattice::{Memory, Narrow, Text};
+use cue_lattice::{Memory, Narrow, Narrowed, Text};
 use std::alloc::Global;
 use std::marker::Model;
 
@@ -231,6 +231,16 @@ impl Narrow for TextSet {
 
     fn meet(&self, alloc: Global, other: &TextSet) -> Result<TextSet, Memory> {
         TextSet::meet(self, alloc, other)
+    }
+
+    fn narrowed_by(&self, alloc: Global, other: TextSet) -> Result<Narrowed<TextSet>, Memory> {
+        if self.is_within(&other) {
+            return Ok(Narrowed::Unchanged);
+        }
+        if other.is_within(self) {
+            return Ok(Narrowed::To(other));
+        }
+        Ok(Narrowed::To(TextSet::meet(self, alloc, &other)?))
     }
 
     fn same(&self, other: &TextSet) -> bool {
