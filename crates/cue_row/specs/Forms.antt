@@ -1,5 +1,7 @@
 -- What a row says of anything but scalars and labels.
-use Rattle.std.specs.Prelude.{◌≡◌, true, None}
+use Rattle.std.specs.Prelude.{◌≡◌, ◌≤◌, ℕ, true, false, None}
+use Rattle.cue_row.specs.Levels.{level_of}
+use Rattle.cue_row.specs.Lengths.{RefusesLength}
 use Rattle.cue_row.specs.declared.level.Level.TheVariants.{Optional}
 use Rattle.cue_row.specs.declared.row.Row.{Row}
 
@@ -18,3 +20,11 @@ pub record HaveOneForm (a b : Row) : Type 0 where
   pub list_ok : a.list_ok ≡ b.list_ok
   pub least : a.least ≡ b.least
   pub most : a.most ≡ b.most
+
+-- the first refuses what the second refuses
+pub record IsFormWithin (a b : Row) : Type 0 where
+  pub level : level_of b.level ≤ level_of a.level
+  pub struct_ok : b.struct_ok ≡ false → a.struct_ok ≡ false
+  pub list_ok : b.list_ok ≡ false → a.list_ok ≡ false
+  pub least : b.least ≤ a.least
+  pub most : (n : ℕ) → RefusesLength b.most n → RefusesLength a.most n

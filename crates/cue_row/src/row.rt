@@ -1,4 +1,4 @@
-ghost use Rattle.std.specs.Prelude.{◌≡◌, ◌↔◌, ◌⊎◌, ℕ, IsTrue};
+ghost use Rattle.std.specs.Prelude.{◌≡◌, ◌↔◌, ◌⊎◌, ◌&&◌, ℕ, IsTrue};
 ghost use Rattle.cue_row.specs.Lengths.{RefusesLength};
 
 use crate::{Labels, Level, Question};
@@ -79,6 +79,31 @@ impl Narrow for Row {
         })
     }
 
+    fn narrowed_by(&self, alloc: Global, other: Row) -> Result<Narrowed<Row>, Memory> {
+        let stays = self.is_form_within(&other);
+        let level = self.level.greater(other.level);
+        let struct_ok = both(self.struct_ok, other.struct_ok);
+        let list_ok = both(self.list_ok, other.list_ok);
+        let least = self.least.max(other.least);
+        let most = smaller(self.most, other.most);
+        let value = self.value.narrowed_by(alloc, other.value)?;
+        let usual = self.usual.narrowed_by(alloc, other.usual)?;
+        let labels = self.labels.narrowed_by(alloc, other.labels)?;
+        if stays && value.is_unchanged() && usual.is_unchanged() && labels.is_unchanged() {
+            return Ok(Narrowed::Unchanged);
+        }
+        Ok(Narrowed::To(Row {
+            level,
+            value: value.or_copy(alloc, &self.value)?,
+            usual: usual.or_copy(alloc, &self.usual)?,
+            struct_ok,
+            list_ok,
+            labels: labels.or_copy(alloc, &self.labels)?,
+            least,
+            most,
+        }))
+    }
+
     fn same(&self, other: &Row) -> bool {
         self.has_form_of(other)
             && self.value.same(&other.value)
@@ -107,7 +132,7 @@ impl Narrow for Row {
 }
 
 impl Row {
-    ghost use Rattle.cue_row.specs.Forms.{AllowsAllForms, HaveOneForm};
+    ghost use Rattle.cue_row.specs.Forms.{AllowsAllForms, HaveOneForm, IsFormWithin};
 
     /// Whether the row refuses nothing but scalars and labels.
     fn allows_all_forms(&self) -> bool
@@ -120,6 +145,23 @@ impl Row {
             && self.most.is_none()
     }
 
+    /// Whether this row refuses what the other refuses of levels, structs, lists and lengths.
+    fn is_form_within(&self, other: &Row) -> bool
+        ensures { IsTrue result → IsFormWithin self.now other.now }
+    {
+        if other.level.number() > self.level.number() || other.least > self.least {
+            return false;
+        }
+        if self.struct_ok && !other.struct_ok || self.list_ok && !other.list_ok {
+            return false;
+        }
+        match (self.most, other.most) {
+            (_, None) => true,
+            (None, Some(_)) => false,
+            (Some(most), Some(other)) => most <= other,
+        }
+    }
+
     /// Whether both rows are equal in all but scalars and labels.
     fn has_form_of(&self, other: &Row) -> bool
         ensures { IsTrue result ↔ HaveOneForm self.now other.now }
@@ -130,6 +172,13 @@ impl Row {
             && self.least == other.least
             && self.most == other.most
     }
+}
+
+/// Whether both are true.
+fn both(left: bool, right: bool) -> bool
+    ensures { result ≡ (left && right) }
+{
+    left && right
 }
 
 /// The smaller of two greatest lengths, where there is one.
