@@ -8,8 +8,9 @@ use Rattle.std.proofs.lemmas.Bool.{ne_eqb, lt-leb, cases_Bool, leb-true, leb-fal
 use Rattle.std.proofs.lemmas.List.{append-nil}
 use Rattle.std.proofs.lemmas.Str.{inside_one, length-encode, drop_past_char, IsCharBoundary-after_ascii}
 use Rattle.cue_lattice.specs.declared.refusal.Refusal.{Refusal}
+use Rattle.cue_lattice.specs.Limits.{word_limit}
 use Rattle.cue_lex.specs.Strings.{body, with_front, with_escape, bad_string, escape}
-use Rattle.cue_lex.specs.Lexemes.{kept, word_limit, EndsAscii}
+use Rattle.cue_lex.specs.Lexemes.{kept, EndsAscii}
 
 pub with_front-nil : (r : Result (List ℕ × ℕ) Refusal) → with_front [] r ≡ r
 with_front-nil (Ok found) = refl
@@ -128,7 +129,8 @@ same_more decoded whole more next same is_next =
     inr (omega (arith, over, size), ⊎_elim (λ alike. let sizes = ap length alike in omega (arith, over, length-append whole more)) (λ both. let w = both.1 in omega (arith, length-append whole more)) same))
     (cases_Bool (nat_le (length decoded) word_limit))
 
-body-close : (start place : ℕ) (bytes : List ℕ) → 0 < length bytes → get_or bytes 0 0 ≡ 34 → body start 0 place bytes ≡ Ok ([], place + 1)
+-- a quote closes a string
+pub body-close : (start place : ℕ) (bytes : List ℕ) → 0 < length bytes → get_or bytes 0 0 ≡ 34 → body start 0 place bytes ≡ Ok ([], place + 1)
 body-close start place [] some quote = absurd (omega arith)
 body-close start place (b ∷ bytes) some quote = ap (λ x. body start 0 place (x ∷ bytes)) quote
 
@@ -183,7 +185,7 @@ module _ {start : ℕ} {text decoded : List ℕ} {len : ℕ} {rest : List ℕ} (
         ascii = subst (λ n. n < 128) (sym (ap (λ i. get_or text i 0) e ∙ at)) (lit< tt);
       }
 
--- a text may be cut behind an escape, since its last byte is ASCII
+-- a text may be cut after an escape, since its last byte is ASCII
 pub escape_boundary : (text : List ℕ) (width : ℕ) → IsUtf8 text → EndsAscii (drop 1 text) width → IsCharBoundary text (1 + width)
 escape_boundary text width utf8 ends =
     let size = length-drop 1 text in
@@ -193,7 +195,7 @@ escape_boundary text width utf8 ends =
     let d : width + 1 ≡ 1 + width = omega arith in
     subst (IsCharBoundary text) d (IsCharBoundary-after_ascii text width utf8 within last)
 
--- the bytes behind the first one, as a range of a slice has them
+-- the bytes after the first one, as a range of a slice has them
 pub behind_first : (text bytes : List ℕ) → bytes ≡ text → take (length bytes - 1) (drop 1 bytes) ≡ drop 1 text
 behind_first text bytes same =
     let size = length-drop 1 bytes in

@@ -24,20 +24,21 @@ starts_three a b c (x ∷ y ∷ z ∷ bytes) starts =
     let last = and_parts (nat_eq c z) true more.1 in
     (omega arith, sym (eqb-true c z last.0))
 
--- a text may be cut behind these bytes, since the last one is ASCII
+-- a text may be cut after these bytes, since the last one is ASCII
 pub boundary_three : (a b c : ℕ) (bytes : List ℕ) → IsUtf8 bytes → c < 128 → starts_with nat_eq bytes (a ∷ b ∷ c ∷ []) ≡ true → IsCharBoundary bytes 3
 boundary_three a b c bytes utf8 ascii starts =
     let front = starts_three a b c bytes starts in
     IsCharBoundary-after_ascii bytes 2 utf8 (omega arith) (omega arith)
 
--- a text may be cut behind an ASCII byte
+-- a text may be cut after an ASCII byte
 pub ends_boundary : (bytes : List ℕ) (len : ℕ) → IsUtf8 bytes → EndsAscii bytes len → IsCharBoundary bytes len
 ends_boundary bytes len utf8 ends =
     let some = ends.some in
     let e : len - 1 + 1 ≡ len = omega arith in
     subst (IsCharBoundary bytes) e (IsCharBoundary-after_ascii bytes (len - 1) utf8 (omega (arith, ends.within)) ends.ascii)
 
-literal_ascii : (b : ℕ) → is_literal_byte b ≡ true → b < 128
+-- the bytes of integer literals are ASCII
+pub literal_ascii : (b : ℕ) → is_literal_byte b ≡ true → b < 128
 literal_ascii b literal =
     ⊎_elim
     (λ alphanumeric.

@@ -1,6 +1,9 @@
+pub mod Ascii
 pub mod Words
 pub mod Fronts
 pub mod Bodies
+pub mod PlainStrings
 pub mod Lexing
 pub mod Longest
+pub mod Bottom
 pub mod LongestMark

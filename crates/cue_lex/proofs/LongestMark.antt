@@ -60,7 +60,7 @@ later : {X : Type 0} (P : X → Type 0) (front xs : List X) → OneOf P xs → O
 later P [] xs one = one
 later P (x ∷ front) xs one = inr (later P front xs one)
 
--- behind the longer marks, none of which stands at the front
+-- after the longer marks, none of which stands at the front
 single_case : (b : ℕ) (bs : List ℕ) → (found : Option TokenKind) → first_of b single_marks ≡ found
     → starts_with nat_eq (b ∷ bs) (codes "...") ≡ false → starts_with nat_eq (b ∷ bs) (codes "<=") ≡ false
     → starts_with nat_eq (b ∷ bs) (codes ">=") ≡ false → starts_with nat_eq (b ∷ bs) (codes "!=") ≡ false

@@ -11,11 +11,11 @@ is_literal_byte b = is_ascii_alphanumeric b || ((b == 95) || (b == 46))
 abbrev pub digit : ℕ → ℕ → Option ℕ
 digit base b = if nat_lt (digit_value b) base then Some (digit_value b) else None
 
--- the digits of a base, with single _ between them; behind_digit says that a digit stands before the bytes
+-- the digits of a base, with single _ between them; after_digit says that a digit stands before the bytes
 abbrev pub are_digits : ℕ → Bool → List ℕ → Bool
-are_digits base behind_digit [] = behind_digit
-are_digits base behind_digit (b ∷ bytes) =
-    if b == 95 then behind_digit && are_digits base false bytes
+are_digits base after_digit [] = after_digit
+are_digits base after_digit (b ∷ bytes) =
+    if b == 95 then after_digit && are_digits base false bytes
     else nat_lt (digit_value b) base && are_digits base true bytes
 
 -- the number with one more digit, or with a _

@@ -7,7 +7,7 @@ abbrev pub is_minus : TokenKind → Bool
 is_minus kinds.Minus = true
 is_minus _ = false
 
--- a line break behind such a token inserts a comma
+-- a line break after such a token inserts a comma
 abbrev pub ends_line : TokenKind → Bool
 ends_line (kinds.Name name) = true
 ends_line (kinds.Definition name) = true

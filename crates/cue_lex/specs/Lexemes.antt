@@ -4,7 +4,8 @@ use Rattle.std.specs.List.{starts_with, prefix_len}
 use Rattle.cue_lattice.specs.declared.refusal.Kind.{Kind}
 use Rattle.cue_lattice.specs.declared.refusal.Kind.TheVariants as refusals
 use Rattle.cue_lattice.specs.declared.refusal.Refusal.{Refusal}
-use Rattle.cue_lattice.specs.Refusal.{memory}
+use Rattle.cue_lattice.specs.Limits.{word_limit}
+use Rattle.cue_lattice.specs.Refusal.{memory, refusal_at}
 use Rattle.cue_lex.specs.declared.token.TokenKind.{TokenKind}
 use Rattle.cue_lex.specs.declared.token.TokenKind.TheVariants as kinds
 use Rattle.cue_lex.specs.declared.lexeme.Lexeme.{Lexeme}
@@ -14,21 +15,17 @@ use Rattle.cue_lex.specs.Marks.{mark}
 use Rattle.cue_lex.specs.Names.{identifier_len}
 use Rattle.cue_lex.specs.Strings.{string_text}
 
--- the greatest number of bytes of an identifier, and of the text that a string stands for
-abbrev pub word_limit : ℕ
-word_limit = 65535
-
 abbrev pub refused : {A : Type 0} → Kind → ℕ → Result A Refusal
-refused kind place = Err (record { kind = kind; place = place })
+refused kind place = Err (refusal_at kind place)
 
--- a number may be the token behind these bytes: the one above the greatest of 64 bits only behind a minus
+-- a number may be a token: the one above the greatest of 64 bits only after a minus
 abbrev pub is_in_range : Bool → ℕ → Bool
-is_in_range behind_minus n = nat_le n 9223372036854775807 || (behind_minus && (n == 9223372036854775808))
+is_in_range after_minus n = nat_le n 9223372036854775807 || (after_minus && (n == 9223372036854775808))
 
 -- a number that so many bytes spell, if they spell one
 abbrev pub number : Bool → ℕ → ℕ → Option ℕ → Result Lexeme Refusal
-number behind_minus place len None = refused refusals.BadNumber place
-number behind_minus place len (Some n) = if is_in_range behind_minus n then Ok (Word (kinds.Integer n) len) else refused refusals.IntRange place
+number after_minus place len None = refused refusals.BadNumber place
+number after_minus place len (Some n) = if is_in_range after_minus n then Ok (Word (kinds.Integer n) len) else refused refusals.IntRange place
 
 -- how many ASCII letters, ASCII digits, _ and . stand at the front
 abbrev pub literal_len : List ℕ → ℕ
@@ -36,7 +33,7 @@ literal_len bytes = prefix_len is_literal_byte bytes
 
 -- an integer, which a digit begins
 unfoldable pub integer : Bool → ℕ → List ℕ → Result Lexeme Refusal
-integer behind_minus place bytes = number behind_minus place (literal_len bytes) (literal_number (take (literal_len bytes) bytes))
+integer after_minus place bytes = number after_minus place (literal_len bytes) (literal_number (take (literal_len bytes) bytes))
 
 -- the text of a string with its end, unless it is too long
 abbrev pub kept : ℕ → Result (List ℕ × ℕ) Refusal → Result Lexeme Refusal
@@ -69,11 +66,11 @@ is_space b = ((b == 32) || (b == 9)) || (b == 13)
 
 -- What stands at the front of a text that isn't empty: white space, a comment, or the longest token, or the fault there.
 unfoldable pub lexeme : Bool → ℕ → List ℕ → Result Lexeme Refusal
-lexeme behind_minus place bytes =
+lexeme after_minus place bytes =
     if is_space (slice_index bytes 0) then Ok (Blank 1)
     else (if slice_index bytes 0 == 10 then Ok LineBreak
     else (if slice_index bytes 0 == 34 then string place bytes
-    else (if nat_le 48 (slice_index bytes 0) && nat_le (slice_index bytes 0) 57 then integer behind_minus place bytes
+    else (if nat_le 48 (slice_index bytes 0) && nat_le (slice_index bytes 0) 57 then integer after_minus place bytes
     else (if starts_with nat_eq bytes (codes "//") then Ok (Blank (prefix_len (λ b. not (b == 10)) bytes))
     else (if starts_with nat_eq bytes (codes "_|_") then Ok (Word kinds.Bottom 3)
     else (if nat_lt 0 (identifier_len bytes) then name place (identifier_len bytes) bytes

@@ -5,4 +5,5 @@ pub mod Strings
 pub mod Kinds
 pub mod Marks
 pub mod Lexemes
+pub mod Longest
 pub mod Tokens

@@ -9,11 +9,11 @@ use Rattle.cue_lex.specs.Characters.{is_letter, is_name_part}
 unfoldable pub run_len : List ℕ → ℕ
 run_len bytes = length (encode_utf8_all (take_while is_name_part (chars bytes)))
 
--- how many bytes a letter and the letters and digits behind it have, 0 where no letter stands at the front
+-- how many bytes a letter and the letters and digits after it have, 0 where no letter stands at the front
 unfoldable pub word_len : List ℕ → ℕ
 word_len bytes = if option_map_or is_letter (slice_get (chars bytes) 0) false then run_len bytes else 0
 
--- the same behind a sign, the sign included
+-- the same after a sign, the sign included
 unfoldable pub signed_len : List ℕ → List ℕ → ℕ
 signed_len sign bytes =
     if starts_with nat_eq bytes sign && nat_lt 0 (word_len (drop (length sign) bytes))
@@ -32,5 +32,5 @@ pub record IsIdentifier (spelled : List ℕ) : Type 0 where
   pub one_sign : (sign ≡ []) ⊎ ((sign ≡ codes "#") ⊎ (sign ≡ codes "_#"))
   pub characters : all_scalars (letter ∷ parts) ≡ true
   pub letter_first : is_letter letter ≡ true
-  pub parts_behind : list_all is_name_part parts ≡ true
+  pub parts_after : list_all is_name_part parts ≡ true
   pub spells : spelled ≡ sign ++ encode_utf8_all (letter ∷ parts)

@@ -1,10 +1,11 @@
 -- Strings and their escapes.
-use Rattle.std.specs.Prelude.{ℕ, zero, suc, Bool, List, [], ◌∷◌, ◌++◌, Option, Some, None, Result, Ok, Err, ◌+◌, ◌-◌, ◌*◌, ◌==◌, ◌&&◌, ◌||◌, codes, drop, encode_utf8, option_and_then, nat_eq, nat_lt, nat_le, if◌then◌else◌}
+use Rattle.std.specs.Prelude.{ℕ, zero, suc, Bool, List, [], ◌∷◌, ◌++◌, Option, Some, None, Result, Ok, Err, ◌+◌, ◌-◌, ◌*◌, ◌==◌, ◌&&◌, ◌||◌, not, codes, drop, encode_utf8, option_and_then, nat_eq, nat_lt, nat_le, if◌then◌else◌}
 use Rattle.std.specs.List.{starts_with}
 use Rattle.std.specs.Option.{option_map}
 use Rattle.std.specs.Char.{digit_value}
 use Rattle.cue_lattice.specs.declared.refusal.Kind.TheVariants as refusals
 use Rattle.cue_lattice.specs.declared.refusal.Refusal.{Refusal}
+use Rattle.cue_lattice.specs.Refusal.{refusal_at}
 
 infixl 10 ◌>>=◌
 abbrev ◌>>=◌ : {A B : Type 0} → Option A → (A → Option B) → Option B
@@ -38,7 +39,7 @@ is_between low high n = nat_le low n && nat_le n high
 abbrev pub character : ℕ → Option ℕ
 character n = if is_between 0xD800 0xDFFF n || nat_lt 0x10_FFFF n then None else Some n
 
--- what a letter behind a backslash stands for
+-- what a letter after a backslash stands for
 unfoldable pub simple_escape : ℕ → Option ℕ
 simple_escape b =
     if b == 97 then Some 0x07
@@ -60,14 +61,14 @@ pair high bytes =
     then option_and_then (λ low. if is_between 0xDC00 0xDFFF low then Some ((high - 0xD800) * 0x400 + (low - 0xDC00) + 0x1_0000, 11) else None) (four_digits (drop 2 bytes))
     else None
 
--- The character of a \u whose digits are at the front, and how many bytes stand behind its backslash. A high surrogate
--- needs a low one at once behind it, and the two are one character.
+-- The character of a \u whose digits are at the front, and how many bytes stand after its backslash. A high surrogate
+-- needs a low one at once after it, and the two are one character.
 unfoldable pub short_escape : List ℕ → Option (ℕ × ℕ)
 short_escape bytes = do
   unit ← four_digits bytes
   if is_between 0xD800 0xDBFF unit then pair unit (drop 4 bytes) else option_map (λ c. (c, 5)) (character unit)
 
--- the character of an escape whose backslash stands before the bytes, and how many bytes stand behind the backslash
+-- the character of an escape whose backslash stands before the bytes, and how many bytes stand after the backslash
 unfoldable pub escape : List ℕ → Option (ℕ × ℕ)
 escape [] = None
 escape (b ∷ bytes) =
@@ -76,7 +77,11 @@ escape (b ∷ bytes) =
     else option_map (λ c. (c, 1)) (simple_escape b))
 
 abbrev pub bad_string : ℕ → Refusal
-bad_string place = record { kind = refusals.BadString; place = place }
+bad_string place = refusal_at refusals.BadString place
+
+-- a byte that stands for itself in a string: no quote, backslash or line break
+abbrev pub is_plain : ℕ → Bool
+is_plain b = (not (b == 34) && not (b == 92)) && not (b == 10)
 
 -- more text in front of a string's
 abbrev pub with_front : List ℕ → Result (List ℕ × ℕ) Refusal → Result (List ℕ × ℕ) Refusal

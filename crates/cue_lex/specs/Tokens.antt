@@ -2,11 +2,13 @@
 use Rattle.std.specs.Prelude.{ℕ, zero, suc, Bool, false, List, [], ◌∷◌, ◌++◌, Option, Some, None, Result, Ok, Err, ◌+◌, ◌-◌, length, nat_le, if◌then◌else◌}
 use Rattle.cue_lattice.specs.declared.refusal.Kind.TheVariants as refusals
 use Rattle.cue_lattice.specs.declared.refusal.Refusal.{Refusal}
+use Rattle.cue_lattice.specs.Limits.{text_limit}
+use Rattle.cue_lattice.specs.Refusal.{refusal_at}
 use Rattle.cue_lex.specs.declared.token.Token.{Token}
 use Rattle.cue_lex.specs.declared.token.TokenKind.TheVariants as kinds
 use Rattle.cue_lex.specs.declared.lexeme.Lexeme.{Lexeme}
 use Rattle.cue_lex.specs.declared.lexeme.Lexeme.TheVariants.{Blank, LineBreak, Word}
-use Rattle.cue_lex.specs.Lexemes.{lexeme, refused}
+use Rattle.cue_lex.specs.Lexemes.{lexeme}
 use Rattle.cue_lex.specs.Kinds.{is_minus, ends_line}
 
 -- The tokens as they are written, and the line breaks between them.
@@ -19,7 +21,7 @@ abbrev pub in_front : Piece → Result (List Piece) Refusal → Result (List Pie
 in_front piece (Ok pieces) = Ok (piece ∷ pieces)
 in_front piece (Err refusal) = Err refusal
 
--- What stands at a place, and the pieces behind it: rest takes how many further bytes belong to it, and whether a minus
+-- What stands at a place, and the pieces after it: rest takes how many further bytes belong to it, and whether a minus
 -- stands before what follows.
 abbrev pub at_place : Bool → ℕ → Result Lexeme Refusal → (Bool → ℕ → Result (List Piece) Refusal) → Result (List Piece) Refusal
 at_place minus place (Err refusal) rest = Err refusal
@@ -34,11 +36,11 @@ pieces minus inside place [] = Ok []
 pieces minus (suc inside) place (b ∷ bytes) = pieces minus inside (place + 1) bytes
 pieces minus zero place (b ∷ bytes) = at_place minus place (lexeme minus place (b ∷ bytes)) (λ after inside. pieces after inside (place + 1) bytes)
 
--- a comma that a line break inserts behind a token that ends there
+-- a comma that a line break inserts after a token that ends there
 abbrev pub inserted : ℕ → Token
 inserted end = record { kind = kinds.Comma; from = end; to = end }
 
--- where a line break behind the token inserts a comma, if it does
+-- where a line break after the token inserts a comma, if it does
 abbrev pub line_end : Token → Option ℕ
 line_end token = if ends_line token.kind then Some token.to else None
 
@@ -55,14 +57,14 @@ commas last (Ok found) = Ok (with_commas last found)
 commas last (Err refusal) = Err refusal
 
 -- tokens in front of the others
-abbrev pub behind : List Token → Result (List Token) Refusal → Result (List Token) Refusal
-behind front (Ok found) = Ok (front ++ found)
-behind front (Err refusal) = Err refusal
+abbrev pub prepended : List Token → Result (List Token) Refusal → Result (List Token) Refusal
+prepended front (Ok found) = Ok (front ++ found)
+prepended front (Err refusal) = Err refusal
 
--- the greatest number of bytes of a text
-abbrev pub text_limit : ℕ
-text_limit = 1048576
+-- why a text of more bytes than the limit is refused
+abbrev pub too_long : Refusal
+too_long = refusal_at refusals.TooLong text_limit
 
 -- the tokens of a text, or its first fault
 unfoldable pub tokens : List ℕ → Result (List Token) Refusal
-tokens text = if nat_le (length text) text_limit then commas None (pieces false 0 0 text) else refused refusals.TooLong text_limit
+tokens text = if nat_le (length text) text_limit then commas None (pieces false 0 0 text) else Err too_long

@@ -1,4 +1,5 @@
-ghost use Rattle.std.specs.Prelude.{◌≡◌, ◌≤◌, ◌<◌, ◌+◌, ◌^◌, length, slice_index, nat_lt, min, Some, None, if◌then◌else◌, IfOk};
+ghost use Rattle.std.specs.Prelude.{◌≡◌, ◌≤◌, ◌<◌, ◌+◌, ◌^◌, length, slice_index, nat_lt, min};
+ghost use Rattle.std.specs.Prelude.{Some, None, if◌then◌else◌, IfOk};
 ghost use Rattle.std.specs.List.{prefix_len};
 ghost use Rattle.std.specs.Option.{option_map};
 ghost use Rattle.std.specs.Char.{digit_value};
@@ -14,25 +15,19 @@ const GREATEST: u64 = 9_223_372_036_854_775_807;
 
 /// The integer literal at the front, where a decimal digit stands there.
 #[tactic(auto, unfolding(crate::specs::Lexemes::integer))]
-pub fn integer(bytes: &[u8], at: usize, behind_minus: bool) -> Result<Lexeme, Refusal>
+pub fn integer(bytes: &[u8], at: usize, after_minus: bool) -> Result<Lexeme, Refusal>
     requires nonempty { 0 < length bytes.now }
     requires at_least { 48 ≤ slice_index bytes.now 0 }
     requires at_most { slice_index bytes.now 0 ≤ 57 }
-    ensures value { result ≡ integer behind_minus at bytes.now }
+    ensures value { result ≡ integer after_minus at bytes.now }
     ensures ends { IfOk result (λ found. EndsAscii bytes.now (len_of found)) }
 {
     let len = literal_len(bytes);
     let Some(magnitude) = magnitude(&bytes[..len]) else {
-        return Err(Refusal {
-            kind: Kind::BadNumber,
-            place: at as u64,
-        });
+        return Err(Refusal::at(Kind::BadNumber, at));
     };
-    if magnitude > GREATEST && !(behind_minus && magnitude == GREATEST + 1) {
-        return Err(Refusal {
-            kind: Kind::IntRange,
-            place: at as u64,
-        });
+    if magnitude > GREATEST && !(after_minus && magnitude == GREATEST + 1) {
+        return Err(Refusal::at(Kind::IntRange, at));
     }
     Ok(Lexeme::Word(TokenKind::Integer(magnitude), len))
 }
@@ -58,7 +53,8 @@ fn is_literal_byte(byte: u8) -> bool
     byte.is_ascii_alphanumeric() || byte == b'_' || byte == b'.'
 }
 
-/// The number that a literal spells, or `u64::MAX` where it is above that. None where it spells no number.
+/// The number that a literal spells, or `u64::MAX` where it is above that. None where it spells no
+/// number.
 #[tactic(auto, unfolding(crate::specs::Integers::literal_number))]
 fn magnitude(literal: &[u8]) -> Option<u64>
     ensures { result ≡ option_map (λ n. min n u64.MAX) (literal_number literal.now) }
@@ -73,7 +69,8 @@ fn magnitude(literal: &[u8]) -> Option<u64>
     }
 }
 
-/// The number that digits of a base spell, with single `_` between them, or `u64::MAX` where it is above that.
+/// The number that digits of a base spell, with single `_` between them, or `u64::MAX` where it is
+/// above that.
 #[tactic(auto, unfolding(crate::specs::Integers::digits_number))]
 fn digits_value(digits: &[u8], base: u8) -> Option<u64>
     requires at_least { 2 ≤ base }
@@ -81,22 +78,22 @@ fn digits_value(digits: &[u8], base: u8) -> Option<u64>
     ensures { result ≡ option_map (λ n. min n u64.MAX) (digits_number base digits.now) }
 {
     let mut value = 0u64;
-    let mut behind_digit = false;
+    let mut after_digit = false;
     for byte in digits {
         if *byte == b'_' {
-            if !behind_digit {
+            if !after_digit {
                 return None;
             }
-            behind_digit = false;
+            after_digit = false;
         } else {
             let digit = digit_of(*byte, base)?;
             value = value
                 .saturating_mul(base as u64)
                 .saturating_add(digit as u64);
-            behind_digit = true;
+            after_digit = true;
         }
     }
-    behind_digit.then_some(value)
+    after_digit.then_some(value)
 }
 
 /// What a digit of this base stands for, letters in either case.

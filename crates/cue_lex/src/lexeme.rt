@@ -11,9 +11,6 @@ use crate::string::string;
 use cue_lattice::{Kind, Refusal};
 use std::alloc::Global;
 
-/// The greatest number of bytes of an identifier, and of the text that a string stands for.
-pub const WORD_LIMIT: usize = 65_535;
-
 /// What stands at a place of a text.
 #[derive(Drop)]
 pub enum Lexeme {
@@ -39,15 +36,10 @@ impl Lexeme {
 
 /// What stands at the front of a text that isn't empty and stands at `at`.
 #[tactic(auto, unfolding(crate::specs::Lexemes::lexeme))]
-pub fn lexeme_at(
-    alloc: Global,
-    text: &str,
-    at: usize,
-    behind_minus: bool,
-) -> Result<Lexeme, Refusal>
+pub fn lexeme_at(alloc: Global, text: &str, at: usize, after_minus: bool) -> Result<Lexeme, Refusal>
     requires nonempty { 0 < length text.now }
     requires room { at + length text.now < 2 ^ 63 }
-    ensures gives { Gives result (lexeme behind_minus at text.now) }
+    ensures gives { Gives result (lexeme after_minus at text.now) }
     ensures some { IfOk result (λ found. 0 < len_of found) }
     ensures boundary { IfOk result (λ found. IsCharBoundary text.now (len_of found)) }
 {
@@ -56,7 +48,7 @@ pub fn lexeme_at(
         b' ' | b'\t' | b'\r' => return Ok(Lexeme::Blank(1)),
         b'\n' => return Ok(Lexeme::LineBreak),
         b'"' => return string(alloc, text, at),
-        b'0'..=b'9' => return integer(bytes, at, behind_minus),
+        b'0'..=b'9' => return integer(bytes, at, after_minus),
         _ => {}
     }
     if bytes.starts_with(b"//") {
@@ -71,10 +63,7 @@ pub fn lexeme_at(
     }
     match mark(bytes) {
         Some((kind, len)) => Ok(Lexeme::Word(kind, len)),
-        None => Err(Refusal {
-            kind: Kind::BadCharacter,
-            place: at as u64,
-        }),
+        None => Err(Refusal::at(Kind::BadCharacter, at)),
     }
 }
 

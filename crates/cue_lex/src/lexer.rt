@@ -1,38 +1,38 @@
-ghost use Rattle.std.specs.Prelude.{◌≡◌, ◌≢◌, ◌≤◌, ◌<◌, ◌+◌, ◌^◌, ◌++◌, ◌-◌, ℕ, Bool, List, Result, length, IfOk, IfErr, Ok, Err};
+ghost use Rattle.std.specs.Prelude.{◌≡◌, ◌≢◌, ◌≤◌, ◌<◌, ◌+◌, ◌^◌, ◌++◌, ◌-◌, ℕ, Bool, List, Result};
+ghost use Rattle.std.specs.Prelude.{length, IfOk, IfErr, Ok, Err};
+ghost use Rattle.cue_lattice.specs.Limits.{text_limit};
 ghost use Rattle.cue_lattice.specs.Refusal.{memory};
-ghost use Rattle.cue_lex.specs.Tokens.{tokens, Piece, at_place, commas, behind};
+ghost use Rattle.cue_lex.specs.Tokens.{tokens, too_long, Piece, at_place, commas, prepended};
 ghost use Rattle.cue_lex.specs.Lexemes.{len_of};
 
 use crate::lexeme::{Lexeme, lexeme_at};
 use crate::{Token, TokenKind};
-use cue_lattice::{Kind, Memory, Refusal};
+use cue_lattice::{Kind, Memory, Refusal, TEXT_LIMIT};
 use std::alloc::Global;
-
-/// The greatest number of bytes of a text.
-const TEXT_LIMIT: usize = 1_048_576;
 
 /// The tokens of a text in the order of the text, with the commas that its line breaks insert.
 ///
-/// The tokens are those of the section "Lexical elements" of the CUE Language Specification, as far as the profile has
-/// them: identifiers, integers, strings in double quotes, `_|_` and punctuation. Places are bytes of the text, which is
-/// UTF-8, and may have 1,048,576 of them. Letters and digits of names are those of Unicode 18.0.
+/// The tokens are those of the section "Lexical elements" of the CUE Language Specification, as far
+/// as the profile has them: identifiers, integers, strings in double quotes, `_|_` and punctuation.
+/// Places are bytes of the text, which is UTF-8, and may have 1,048,576 of them. Letters and digits
+/// of names are those of Unicode 18.0.
 ///
 /// # Errors
 ///
-/// The first fault from the left: `TooLong` (looked at before all others), `BadCharacter`, `BadString`, `BadNumber`,
-/// `IntRange` and `TextTooLong`, with its place; or `Memory`, where memory ran out before a fault was found.
+/// The first fault from the left: `TooLong` (looked at before all others), `BadCharacter`,
+/// `BadString`, `BadNumber`, `IntRange` and `TextTooLong`, with its place; or `Memory`, where
+/// memory ran out before a fault was found. A text that is too long is always refused as such.
 #[tactic(auto, unfolding(crate::specs::Tokens::tokens))]
 pub fn lex(alloc: Global, text: &str) -> Result<Vec<Token>, Refusal>
     // What is answered is the tokens of the text.
     ensures found { IfOk result (λ all. tokens text.now ≡ Ok all.items) }
     // A refusal is the text's first fault, unless memory ran out.
     ensures refused { IfErr result (λ refusal. refusal ≢ memory → tokens text.now ≡ Err refusal) }
+    // What is found before any memory is wanted is always told.
+    ensures long { IfErr result (λ refusal. text_limit < length text.now → refusal ≡ too_long) }
 {
     if text.len() > TEXT_LIMIT {
-        return Err(Refusal {
-            kind: Kind::TooLong,
-            place: TEXT_LIMIT as u64,
-        });
+        return Err(Refusal::at(Kind::TooLong, TEXT_LIMIT));
     }
     let mut tokens = Vec::new(alloc);
     let mut before = Before {
@@ -55,7 +55,7 @@ pub fn lex(alloc: Global, text: &str) -> Result<Vec<Token>, Refusal>
 #[derive(Clone, Copy)]
 struct Before {
     is_minus: bool,
-    /// The token's end, where a line break behind it inserts a comma.
+    /// The token's end, where a line break after it inserts a comma.
     line_end: Option<usize>,
 }
 
@@ -64,8 +64,10 @@ fn add(tokens: &mut Vec<Token>, before: Before, found: Lexeme, at: usize) -> Res
     requires { at + len_of found < 2 ^ 63 }
     // The tokens and what they say of what follows give the same tokens in all, whatever follows.
     ensures { IfOk result (λ after. (rest : Bool → ℕ → Result (List Piece) Refusal) →
-        behind tokens.old.items (commas before.line_end (at_place before.is_minus at (Ok found) rest))
-        ≡ behind tokens.new.items (commas after.line_end (rest after.is_minus (len_of found - 1)))) }
+        prepended tokens.old.items
+        (commas before.line_end (at_place before.is_minus at (Ok found) rest))
+        ≡ prepended tokens.new.items
+        (commas after.line_end (rest after.is_minus (len_of found - 1)))) }
 {
     match found {
         Lexeme::Blank(_) => Ok(before),

@@ -48,7 +48,8 @@ fn single(byte: u8) -> Option<TokenKind>
     })
 }
 
-/// Says by its contract that of all marks that stand at a place the longest is the one that `lex` takes.
+/// Says by its contract that of all marks that stand at a place the longest is the one that `lex`
+/// takes.
 #[tactic(auto, using(crate::proofs::LongestMark::takes_the_longest))]
 pub fn longest_mark()
     ensures { TakesTheLongest }

@@ -1,16 +1,42 @@
-ghost use Rattle.std.specs.Prelude.{◌≡◌, ◌≤◌, ◌<◌, ◌+◌, ◌^◌, ◌++◌, List, ℕ, max, length, IfOk};
+ghost use Rattle.std.specs.Prelude.{◌≡◌, ◌≤◌, ◌<◌, ◌+◌, ◌^◌, max, length, IfOk};
+ghost use Rattle.std.specs.List.{prefix_len};
 ghost use Rattle.std.specs.Str.{IsCharBoundary};
-ghost use Rattle.cue_lex.specs.Names.{run_len, word_len, signed_len, identifier_len, IsIdentifier};
+ghost use Rattle.cue_lex.specs.Characters.{is_ascii_part};
+ghost use Rattle.cue_lex.specs.Names.{run_len, word_len, signed_len, identifier_len};
+ghost use Rattle.cue_lex.specs.Longest.{TakesTheLongestIdentifier, TakesBottomBeforeNames};
 ghost use Rattle.cue_lex.specs.Lexemes.{Gives, name, len_of};
 
 use crate::TokenKind;
-use crate::character::{is_letter, is_name_part};
-use crate::lexeme::{Lexeme, WORD_LIMIT};
-use cue_lattice::{Kind, Refusal, Text};
+use crate::character::{is_ascii_part, is_letter, is_name_part};
+use crate::lexeme::Lexeme;
+use cue_lattice::{Kind, Refusal, Text, WORD_LIMIT};
 use std::alloc::Global;
 
 /// How many bytes the letters and digits at the front have.
 fn run_len(text: &str) -> usize
+    ensures value { result ≡ run_len text.now }
+    ensures boundary { IsCharBoundary text.now result }
+{
+    let bytes = text.as_bytes();
+    let ascii = ascii_len(bytes);
+    if ascii == bytes.len() || bytes[ascii] < 128 {
+        return ascii;
+    }
+    ascii + wide_len(&text[ascii..])
+}
+
+/// How many letters and digits of ASCII stand at the front.
+fn ascii_len(bytes: &[u8]) -> usize
+    ensures { result ≡ prefix_len is_ascii_part bytes.now }
+{
+    bytes
+        .iter()
+        .take_while(|byte| is_ascii_part(**byte))
+        .count()
+}
+
+/// How many bytes the letters and digits at the front have, character by character.
+fn wide_len(text: &str) -> usize
     ensures value { result ≡ run_len text.now }
     ensures boundary { IsCharBoundary text.now result }
 {
@@ -25,7 +51,8 @@ fn run_len(text: &str) -> usize
     len
 }
 
-/// How many bytes a letter and the letters and digits behind it have, at the front; 0 where no letter stands there.
+/// How many bytes a letter and the letters and digits after it have, at the front; 0 where no
+/// letter stands there.
 #[tactic(auto, unfolding(crate::specs::Names::word_len))]
 fn word_len(text: &str) -> usize
     ensures value { result ≡ word_len text.now }
@@ -37,7 +64,7 @@ fn word_len(text: &str) -> usize
     }
 }
 
-/// The same behind a sign, the sign included.
+/// The same after a sign, the sign included.
 #[tactic(auto, unfolding(crate::specs::Names::signed_len))]
 fn signed_len(text: &str, sign: &str) -> usize
     ensures value { result ≡ signed_len sign.now text.now }
@@ -54,7 +81,6 @@ fn signed_len(text: &str, sign: &str) -> usize
 #[tactic(auto, unfolding(crate::specs::Names::identifier_len))]
 pub fn identifier_len(text: &str) -> usize
     ensures value { result ≡ identifier_len text.now }
-    ensures longest { (front rest : List ℕ) → IsIdentifier front → text.now ≡ front ++ rest → length front ≤ result }
     ensures boundary { IsCharBoundary text.now result }
 {
     word_len(text)
@@ -71,18 +97,28 @@ pub fn name(alloc: Global, text: &str, len: usize, at: usize) -> Result<Lexeme, 
     ensures len { IfOk result (λ found. len_of found ≡ len) }
 {
     if len > WORD_LIMIT {
-        return Err(Refusal {
-            kind: Kind::TextTooLong,
-            place: at as u64,
-        });
+        return Err(Refusal::at(Kind::TextTooLong, at));
     }
     let spelling = &text[..len];
-    let first = spelling.as_bytes()[0];
-    let copied = Text::from_str(alloc, spelling)?;
-    let kind = match first {
-        b'#' => TokenKind::Definition(copied),
-        b'_' => TokenKind::Hidden(copied),
-        _ => TokenKind::Name(copied),
+    let word = Text::from_str(alloc, spelling)?;
+    let kind = match spelling.as_bytes()[0] {
+        b'#' => TokenKind::Definition(word),
+        b'_' => TokenKind::Hidden(word),
+        _ => TokenKind::Name(word),
     };
     Ok(Lexeme::Word(kind, len))
 }
+
+/// Says by its contract that where an identifier stands `lex` takes one, and that no longer one
+/// stands there.
+#[tactic(auto, using(crate::proofs::Longest::takes_the_longest_identifier))]
+pub fn longest_identifier()
+    ensures { TakesTheLongestIdentifier }
+{}
+
+/// Says by its contract that where `_|_` stands `lex` takes it, and that each identifier that
+/// stands there is shorter.
+#[tactic(auto, using(crate::proofs::Bottom::takes_bottom_before_names))]
+pub fn bottom_before_names()
+    ensures { TakesBottomBeforeNames }
+{}

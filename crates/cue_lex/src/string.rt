@@ -1,12 +1,18 @@
-ghost use Rattle.std.specs.Prelude.{◌≡◌, ◌≢◌, ◌≤◌, ◌<◌, ◌+◌, ◌-◌, ◌^◌, length, slice_index, drop, Some, None, Ok, Err, IfOk, IfErr, IfSome, string_bytes, encode_utf8, OnOk, IfNone, ℕ, nat_le, ◌++◌, if◌then◌else◌};
+ghost use Rattle.std.specs.Prelude.{◌≡◌, ◌≢◌, ◌≤◌, ◌<◌, ◌+◌, ◌-◌, ◌^◌, length, slice_index, drop};
+ghost use Rattle.std.specs.Prelude.{Some, None, Ok, Err, IfOk, IfErr, IfSome, string_bytes};
+ghost use Rattle.std.specs.Prelude.{encode_utf8, OnOk, IfNone, ℕ, nat_le, ◌++◌, if◌then◌else◌};
+ghost use Rattle.std.specs.List.{prefix_len};
 ghost use Rattle.std.specs.Str.{IsCharBoundary};
+ghost use Rattle.cue_lattice.specs.Limits.{word_limit};
 ghost use Rattle.cue_lattice.specs.Refusal.{memory};
-ghost use Rattle.cue_lex.specs.Strings.{bad_string, body, with_front, escape, short_escape, simple_escape, eight_digits, four_digits, hexadecimal};
-ghost use Rattle.cue_lex.specs.Lexemes.{Gives, string, kept, EndsAscii, len_of, word_limit};
+ghost use Rattle.cue_lex.specs.Strings.{bad_string, body, with_front, escape, short_escape};
+ghost use Rattle.cue_lex.specs.Strings.{simple_escape, eight_digits, four_digits, hexadecimal};
+ghost use Rattle.cue_lex.specs.Strings.{is_plain};
+ghost use Rattle.cue_lex.specs.Lexemes.{Gives, string, kept, EndsAscii, len_of};
 
 use crate::TokenKind;
-use crate::lexeme::{Lexeme, WORD_LIMIT};
-use cue_lattice::{Kind, Memory, Refusal, Text};
+use crate::lexeme::Lexeme;
+use cue_lattice::{Kind, Memory, Refusal, Text, WORD_LIMIT};
 use std::alloc::Global;
 
 /// The string at the front, where a `"` stands there.
@@ -22,31 +28,65 @@ pub fn string(alloc: Global, text: &str, at: usize) -> Result<Lexeme, Refusal>
     if inside.as_bytes().starts_with(b"\"\"") {
         return Err(bad_string(at));
     }
+    if let Some(plain) = plain(inside) {
+        if plain.len() > WORD_LIMIT {
+            return Err(Refusal::at(Kind::TextTooLong, at));
+        }
+        let len = plain.len() + 2;
+        let copied = Text::from_str(alloc, plain)?;
+        return Ok(Lexeme::Word(TokenKind::Text(copied), len));
+    }
     let (decoded, len) = body(alloc, inside, at)?;
     if decoded.len() > WORD_LIMIT {
-        return Err(Refusal {
-            kind: Kind::TextTooLong,
-            place: at as u64,
-        });
+        return Err(Refusal::at(Kind::TextTooLong, at));
     }
     Ok(Lexeme::Word(TokenKind::Text(Text::new(decoded)), len + 1))
+}
+
+/// What stands before the closing quote, where no escape does. None where one does, and where the
+/// string isn't closed.
+fn plain<'a>(inside: &'a str) -> Option<&'a str>
+    ensures body { IfSome result (λ plain. (start place : ℕ) →
+        body start 0 place inside.now ≡ Ok (plain.now, place + length plain.now + 1)) }
+    ensures ends { IfSome result (λ plain. EndsAscii inside.now (length plain.now + 1)) }
+{
+    let bytes = inside.as_bytes();
+    let len = plain_len(bytes);
+    if len < bytes.len() && bytes[len] == b'"' {
+        Some(&inside[..len])
+    } else {
+        None
+    }
+}
+
+/// How many bytes stand before the first quote, backslash or line break.
+fn plain_len(bytes: &[u8]) -> usize
+    ensures { result ≡ prefix_len is_plain bytes.now }
+{
+    bytes.iter().take_while(|byte| is_plain(**byte)).count()
+}
+
+/// Whether a byte of a string stands for itself: no quote, backslash or line break.
+fn is_plain(byte: u8) -> bool
+    ensures { result ≡ is_plain byte }
+{
+    byte != b'"' && byte != b'\\' && byte != b'\n'
 }
 
 fn bad_string(place: usize) -> Refusal
     ensures { result ≡ bad_string place }
 {
-    Refusal {
-        kind: Kind::BadString,
-        place: place as u64,
-    }
+    Refusal::at(Kind::BadString, place)
 }
 
-/// What the inside of a string stands for, or a longer text than is kept, and how many bytes it has with the closing
-/// quote. The string begins at `start`, and `text` follows its opening quote.
+/// What the inside of a string stands for, or a longer text than is kept, and how many bytes it has
+/// with the closing quote. The string begins at `start`, and `text` follows its opening quote.
 fn body(alloc: Global, text: &str, start: usize) -> Result<(String, usize), Refusal>
     requires { start + 1 + length text.now < 2 ^ 63 }
-    ensures ok { IfOk result (λ found. kept start (body start 0 (start + 1) text.now) ≡ kept start (Ok (string_bytes found.0, start + 1 + found.1))) }
-    ensures err { IfErr result (λ refusal. refusal ≢ memory → body start 0 (start + 1) text.now ≡ Err refusal) }
+    ensures ok { IfOk result (λ found. kept start (body start 0 (start + 1) text.now)
+        ≡ kept start (Ok (string_bytes found.0, start + 1 + found.1))) }
+    ensures err { IfErr result (λ refusal. refusal ≢ memory →
+        body start 0 (start + 1) text.now ≡ Err refusal) }
     ensures ends { IfOk result (λ found. EndsAscii text.now found.1) }
 {
     let mut decoded = String::new(alloc);
@@ -68,14 +108,17 @@ fn body(alloc: Global, text: &str, start: usize) -> Result<(String, usize), Refu
     Err(bad_string(start))
 }
 
-/// What the first character of a string's inside stands for, or the escape that it begins, and how many bytes that is.
-/// None where it begins a bad escape.
+/// What the first character of a string's inside stands for, or the escape that it begins, and how
+/// many bytes that is. None where it begins a bad escape.
 fn element(text: &str) -> Option<(char, usize)>
     requires nonempty { 0 < length text.now }
     requires no_quote { slice_index text.now 0 ≢ 34 }
     requires no_break { slice_index text.now 0 ≢ 10 }
-    ensures found { IfSome result (λ found. (start place : ℕ) → body start 0 place text.now ≡ with_front (encode_utf8 found.0) (body start 0 (place + found.1) (drop found.1 text.now))) }
-    ensures bad { IfNone result ((start place : ℕ) → body start 0 place text.now ≡ Err (bad_string place)) }
+    ensures found { IfSome result (λ found. (start place : ℕ) → body start 0 place text.now
+        ≡ with_front (encode_utf8 found.0)
+        (body start 0 (place + found.1) (drop found.1 text.now))) }
+    ensures bad { IfNone result ((start place : ℕ) →
+        body start 0 place text.now ≡ Err (bad_string place)) }
     ensures some { IfSome result (λ found. 0 < found.1) }
     ensures boundary { IfSome result (λ found. IsCharBoundary text.now found.1) }
 {
@@ -89,7 +132,9 @@ fn element(text: &str) -> Option<(char, usize)>
 
 /// Adds a character, unless the text is too long already.
 fn keep(decoded: &mut String, c: char) -> Result<(), Memory>
-    ensures { OnOk result (string_bytes decoded.new ≡ (if nat_le (length (string_bytes decoded.old)) word_limit then string_bytes decoded.old ++ encode_utf8 c else string_bytes decoded.old)) }
+    ensures { OnOk result (string_bytes decoded.new
+        ≡ (if nat_le (length (string_bytes decoded.old)) word_limit
+        then string_bytes decoded.old ++ encode_utf8 c else string_bytes decoded.old)) }
 {
     if decoded.len() <= WORD_LIMIT {
         decoded.push(c)?;
@@ -97,7 +142,7 @@ fn keep(decoded: &mut String, c: char) -> Result<(), Memory>
     Ok(())
 }
 
-/// What an escape stands for, by the bytes behind its backslash, and how many of these bytes it has.
+/// What an escape stands for, by the bytes after its backslash, and how many of these bytes it has.
 #[tactic(auto, unfolding(crate::specs::Strings::escape))]
 fn escape(bytes: &[u8]) -> Option<(char, usize)>
     ensures value { result ≡ escape bytes.now }
@@ -111,7 +156,7 @@ fn escape(bytes: &[u8]) -> Option<(char, usize)>
     }
 }
 
-/// What a single letter behind a backslash stands for.
+/// What a single letter after a backslash stands for.
 #[tactic(auto, unfolding(crate::specs::Strings::simple_escape))]
 fn simple_escape(letter: u8) -> Option<char>
     ensures value { result ≡ simple_escape letter }
@@ -132,8 +177,8 @@ fn simple_escape(letter: u8) -> Option<char>
     })
 }
 
-/// What the digits behind a `\u` stand for, with those of a second escape where the two are a surrogate pair, and how
-/// many bytes follow the backslash.
+/// What the digits after a `\u` stand for, with those of a second escape where the two are a
+/// surrogate pair, and how many bytes follow the backslash.
 #[tactic(auto, unfolding(crate::specs::Strings::short_escape))]
 fn short_escape(digits: &[u8]) -> Option<(char, usize)>
     ensures value { result ≡ short_escape digits.now }

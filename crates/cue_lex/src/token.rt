@@ -3,8 +3,8 @@ ghost use Rattle.cue_lex.specs.Kinds.{is_minus, ends_line};
 
 use cue_lattice::Text;
 
-/// A token of a text: what it is, and from which byte to before which byte it stands. An inserted comma is empty:
-/// `from` and `to` are the end of the token before it.
+/// A token of a text: what it is, and from which byte to before which byte it stands. An inserted
+/// comma is empty: `from` and `to` are the end of the token before it.
 #[derive(Debug, Drop)]
 pub struct Token {
     pub kind: TokenKind,
@@ -23,7 +23,7 @@ pub enum TokenKind {
     Hidden(Text),
     /// A string, as the text that it stands for.
     Text(Text),
-    /// An integer's magnitude. The one above `i64::MAX` stands behind a `-` only.
+    /// An integer's magnitude. The one above `i64::MAX` stands after a `-` only.
     Integer(u64),
     /// `_|_`
     Bottom,
@@ -81,7 +81,7 @@ impl TokenKind {
         }
     }
 
-    /// Whether a line break behind the token inserts a comma.
+    /// Whether a line break after the token inserts a comma.
     pub(crate) fn ends_line(&self) -> bool
         ensures { result ≡ ends_line self.now }
     {
