@@ -7,11 +7,12 @@ use Rattle.cue_lex.specs.declared.token.TokenKind.TheVariants as kinds
 use Rattle.cue_syntax.specs.declared.tree.Identifier.TheVariants as identifiers
 use Rattle.cue_syntax.specs.declared.tree.LabelName.TheVariants as names
 use Rattle.cue_syntax.specs.declared.tree.Mark.TheVariants as marks
+use Rattle.cue_syntax.specs.declared.tree.Sign.{Sign}
 use Rattle.cue_syntax.specs.declared.tree.Sign.TheVariants as signs
 use Rattle.cue_syntax.specs.declared.tree.Signed.{Signed}
 use Rattle.cue_syntax.specs.Syntax.{Expression, name, integer, text, branch, no_elements, no_branches, next_branch, no_entries}
 use Rattle.cue_syntax.specs.Spelling.{Piece, Reads, one}
-use Rattle.cue_syntax.specs.Grammar.{IsKeyword, IsOperand, Limit, unlimited, at_most}
+use Rattle.cue_syntax.specs.Grammar.{IsKeyword, IsOperand, Limit, unlimited, at_most, greatest}
 use Rattle.cue_syntax.specs.Recogniser.{Goal, Stack, is_keyword, depth, levels_of}
 use Rattle.cue_syntax.proofs.Reading.{reads_none}
 use Rattle.cue_syntax.proofs.Remaining.{under, beneath, Keeps, Valued, AUnary, Declared, MoreDeclared, Whole, Packaged, Remains, Below, Ahead}
@@ -46,6 +47,9 @@ token_of kind = record { kind = kind; from = 0; to = 0 }
 abbrev nothing_signed : Signed
 nothing_signed = record { sign = signs.Absent; magnitude = 0 }
 
+zero_in_range : (sign : Sign) → 0 ≤ greatest sign
+zero_in_range sign = omega arith
+
 abbrev number : Expression
 number = integer nothing_signed
 
@@ -59,7 +63,7 @@ number_ends rest keeps = (
   record {
     part = number;
     reads = is_one (kinds.Integer 0) rest;
-    good = (tt, tt);
+    good = (zero_in_range signs.Absent, tt);
     within = keeps_from keeps (omega arith);
   },
 )
@@ -72,7 +76,7 @@ name_ends limit n t true is keeps rest = (
     chain = record { name = names.Plain t; mark = marks.Regular } ∷ [];
     tree = number;
     reads = reads_kind first kind (reads_kind _ refl (is_one (kinds.Integer 0) rest));
-    right = tt;
+    right = zero_in_range signs.Absent;
     within = keeps_from keeps (omega arith);
   },
 )
@@ -154,7 +158,7 @@ goal_ends limit n Goal.value keeps rest = (
     chain = [];
     tree = number;
     reads = is_one (kinds.Integer 0) rest;
-    right = tt;
+    right = zero_in_range signs.Absent;
     within = keeps_from keeps (omega arith);
   },
 )
@@ -175,7 +179,7 @@ goal_ends limit n Goal.expression keeps rest = (
   record {
     part = number;
     reads = is_one (kinds.Integer 0) rest;
-    good = tt;
+    good = zero_in_range signs.Absent;
     within = keeps_from keeps (omega arith);
   },
 )
@@ -184,7 +188,7 @@ goal_ends limit n Goal.term keeps rest = (
   record {
     part = branch false 0 number;
     reads = record { follows = (refl, (refl, tt), refl) };
-    good = (tt, tt);
+    good = (zero_in_range signs.Absent, tt);
     within = keeps_from keeps (omega arith);
   },
 )
@@ -203,7 +207,7 @@ goal_ends limit n Goal.bar keeps rest = (
   record {
     part = next_branch (branch false 0 number) no_branches;
     reads = reads_kind _ refl (record { follows = (refl, (refl, tt), refl) });
-    good = (((tt, tt), tt), tt);
+    good = (((zero_in_range signs.Absent, tt), tt), tt);
     within = keeps_from keeps (omega arith);
   },
 )
@@ -216,9 +220,9 @@ goal_ends limit n Goal.more_terms keeps rest = (
     within = keeps_from keeps (omega arith);
   },
 )
-goal_ends limit n Goal.signed keeps rest = (_, record { part = nothing_signed; reads = is_one (kinds.Integer 0) rest })
-goal_ends limit n Goal.signed_or_text keeps rest = (_, inl (record { part = nothing_signed; reads = is_one (kinds.Integer 0) rest }))
-goal_ends limit n Goal.magnitude keeps rest = (_, record { part = 0; reads = is_one (kinds.Integer 0) rest })
+goal_ends limit n Goal.signed keeps rest = (_, record { part = nothing_signed; reads = is_one (kinds.Integer 0) rest; range = zero_in_range signs.Absent })
+goal_ends limit n Goal.signed_or_text keeps rest = (_, inl (record { part = nothing_signed; reads = is_one (kinds.Integer 0) rest; range = zero_in_range signs.Absent }))
+goal_ends limit n (Goal.magnitude sign) keeps rest = (_, record { part = 0; reads = is_one (kinds.Integer 0) rest; range = zero_in_range sign })
 goal_ends limit n Goal.behind_close keeps rest = (
   rest,
   λ first kind. record {

@@ -12,10 +12,11 @@ use Rattle.cue_syntax.specs.declared.tree.Sign.{Sign}
 use Rattle.cue_syntax.specs.declared.tree.Sign.TheVariants as signs
 use Rattle.cue_syntax.specs.declared.tree.Signed.{Signed}
 use Rattle.cue_syntax.specs.Spelling.{Reads, one, comma_if, label_kind, spell_sign, spell_signed, spell_mark, spell_label}
-use Rattle.cue_syntax.specs.Grammar.{Limit, Within}
+use Rattle.cue_syntax.specs.Grammar.{Limit, Within, IsInRange, greatest}
 use Rattle.cue_syntax.specs.Viability.{BeginsExpression}
 use Rattle.cue_syntax.specs.Recogniser.{Stack, step, is_over, stuck, stuck_behind, levels_of, depth, is_word, is_keyword, mark, colon, value, value_name, value_text, chained, expression, term, unary, more_parts, more_terms, signed, signed_or_text, magnitude, behind_close, closed, parenthesis, parenthesis_end, elements, more_elements, bracket, bracket_end}
 use Rattle.cue_syntax.proofs.Follow.{AtEnd, BeginsOperand, NoMark, EndsOperand}
+use Rattle.cue_syntax.proofs.Tokens.{magnitude_step}
 use Rattle.cue_syntax.proofs.Taking.{reads_split, within_less, took_token, took, same, over_close}
 use Rattle.cue_syntax.proofs.Openings.{OpensBy, OpensValue}
 
@@ -131,32 +132,32 @@ takes_name limit below {a = a} {b = b} t reads free end within = by (is_word (co
 
 -- a signed integer, for goals that take its sign or its first digits
 pub record TakesSigned (goals below : Stack) : Type 0 where
-  pub plain : (m : ℕ) → step goals (kinds.Integer m) ≡ Some below
-  pub minus : step goals kinds.Minus ≡ Some (magnitude ∷ below)
-  pub plus : step goals kinds.Plus ≡ Some (magnitude ∷ below)
+  pub plain : (m : ℕ) → m ≤ greatest signs.Absent → step goals (kinds.Integer m) ≡ Some below
+  pub minus : step goals kinds.Minus ≡ Some (magnitude signs.Minus ∷ below)
+  pub plus : step goals kinds.Plus ≡ Some (magnitude signs.Plus ∷ below)
 
-takes_sign : (limit : Limit) (goals below : Stack) → TakesSigned goals below → {a b : List Token} (s : Sign) (m : ℕ) → Reads a (spell_sign s ++ one (kinds.Integer m)) b → Within limit (depth below)
+takes_sign : (limit : Limit) (goals below : Stack) → TakesSigned goals below → {a b : List Token} (s : Sign) (m : ℕ) → Reads a (spell_sign s ++ one (kinds.Integer m)) b → m ≤ greatest s → Within limit (depth below)
     → stuck limit goals a ≡ stuck limit below b
-takes_sign limit goals below steps signs.Absent m reads within = took limit goals below reads (steps.plain m) within
-takes_sign limit goals below steps signs.Minus m reads within =
+takes_sign limit goals below steps signs.Absent m reads le within = took limit goals below reads (steps.plain m le) within
+takes_sign limit goals below steps signs.Minus m reads le within =
     let s = reads_split (one kinds.Minus) (one (kinds.Integer m)) reads in
-    took limit goals (magnitude ∷ below) s.first steps.minus (within_less limit _ (depth below) (omega arith) within) ∙ took limit (magnitude ∷ below) below s.second refl within
-takes_sign limit goals below steps signs.Plus m reads within =
+    took limit goals (magnitude signs.Minus ∷ below) s.first steps.minus (within_less limit _ (depth below) (omega arith) within) ∙ took limit (magnitude signs.Minus ∷ below) below s.second (magnitude_step signs.Minus m below le) within
+takes_sign limit goals below steps signs.Plus m reads le within =
     let s = reads_split (one kinds.Plus) (one (kinds.Integer m)) reads in
-    took limit goals (magnitude ∷ below) s.first steps.plus (within_less limit _ (depth below) (omega arith) within) ∙ took limit (magnitude ∷ below) below s.second refl within
+    took limit goals (magnitude signs.Plus ∷ below) s.first steps.plus (within_less limit _ (depth below) (omega arith) within) ∙ took limit (magnitude signs.Plus ∷ below) below s.second (magnitude_step signs.Plus m below le) within
 
-pub takes_signed : (limit : Limit) (goals below : Stack) → TakesSigned goals below → {a b : List Token} (n : Signed) → Reads a (spell_signed n) b → Within limit (depth below)
+pub takes_signed : (limit : Limit) (goals below : Stack) → TakesSigned goals below → {a b : List Token} (n : Signed) → Reads a (spell_signed n) b → IsInRange n → Within limit (depth below)
     → stuck limit goals a ≡ stuck limit below b
-takes_signed limit goals below steps n reads within = takes_sign limit goals below steps n.sign n.magnitude reads within
+takes_signed limit goals below steps n reads range within = takes_sign limit goals below steps n.sign n.magnitude reads range within
 
 pub operand_signed : (below : Stack) → TakesSigned (unary ∷ below) below
-operand_signed below = record { plain = λ m. refl; minus = refl; plus = refl }
+operand_signed below = record { plain = λ m le. magnitude_step signs.Absent m below le; minus = refl; plus = refl }
 
 pub bound_signed : (below : Stack) → TakesSigned (signed ∷ below) below
-bound_signed below = record { plain = λ m. refl; minus = refl; plus = refl }
+bound_signed below = record { plain = λ m le. magnitude_step signs.Absent m below le; minus = refl; plus = refl }
 
 pub other_signed : (below : Stack) → TakesSigned (signed_or_text ∷ below) below
-other_signed below = record { plain = λ m. refl; minus = refl; plus = refl }
+other_signed below = record { plain = λ m le. magnitude_step signs.Absent m below le; minus = refl; plus = refl }
 
 -- the mark of a label and its colon, for goals that take them
 pub record TakesMark (goals next : Stack) : Type 0 where

@@ -11,7 +11,7 @@ use Rattle.cue_syntax.specs.declared.tree.Comparison.TheVariants as comparisons
 use Rattle.cue_syntax.specs.declared.tree.Signed.{Signed}
 use Rattle.cue_syntax.specs.Syntax.{Expression, name, integer, text, bottom, bound, other_integer, other_text, parenthesis, conjunction, disjunction, Elements, no_elements, element, Branch, branch, Branches, no_branches, next_branch}
 use Rattle.cue_syntax.specs.Spelling.{Reads, one, placed, comma_if, comparison_kind, spell, spell_signed, spell_more_elements, spell_branch, spell_more_branches}
-use Rattle.cue_syntax.specs.Grammar.{Limit, Within, IsRight, IsUnary, IsConjunct, AreUnary, TwoElements, TwoBranches, IsRightBranch, AreRightBranches, levels, levels_of_elements, levels_of_branch, levels_of_branches}
+use Rattle.cue_syntax.specs.Grammar.{Limit, Within, IsRight, IsUnary, IsConjunct, AreUnary, TwoElements, TwoBranches, IsRightBranch, AreRightBranches, levels, levels_of_elements, levels_of_branch, levels_of_branches, IsInRange}
 use Rattle.cue_syntax.specs.Recogniser.{Stack, step, stuck, depth, is_keyword, entries, more_entries, mark, colon, value, chained, expression, term, unary, more_parts, bar, more_terms, signed, signed_or_text, behind_close, closed, elements, more_elements, bracket}
 use Rattle.cue_syntax.specs.Recogniser as goals
 use Rattle.cue_syntax.proofs.Follow.{HeadIs, BeginsOperand, ClosesExpression, ClosesTerm, ClosesOperand, EndsExpression, EndsTerm, EndsOperand}
@@ -69,17 +69,17 @@ comparison_step comparisons.AtMost below = refl
 comparison_step comparisons.Greater below = refl
 comparison_step comparisons.AtLeast below = refl
 
-pub bounded : (c : Comparison) (n : Signed) → TakesUnary (bound c n)
-bounded c n limit below a b reads end within =
+pub bounded : (c : Comparison) (n : Signed) → IsInRange n → TakesUnary (bound c n)
+bounded c n range limit below a b reads end within =
     let s = reads_split (one (comparison_kind c)) (spell_signed n) reads in
     took limit (unary ∷ below) (signed ∷ below) s.first (comparison_step c below) (within_less limit _ (depth below + 0) (omega arith) within)
-    ∙ takes_signed limit (signed ∷ below) below (bound_signed below) n s.second (within_less limit _ (depth below + 0) (omega arith) within)
+    ∙ takes_signed limit (signed ∷ below) below (bound_signed below) n s.second range (within_less limit _ (depth below + 0) (omega arith) within)
 
-pub other_number : (n : Signed) → TakesUnary (other_integer n)
-other_number n limit below a b reads end within =
+pub other_number : (n : Signed) → IsInRange n → TakesUnary (other_integer n)
+other_number n range limit below a b reads end within =
     let s = reads_split (one kinds.NotEqual) (spell_signed n) reads in
     took limit (unary ∷ below) (signed_or_text ∷ below) s.first refl (within_less limit _ (depth below + 0) (omega arith) within)
-    ∙ takes_signed limit (signed_or_text ∷ below) below (other_signed below) n s.second (within_less limit _ (depth below + 0) (omega arith) within)
+    ∙ takes_signed limit (signed_or_text ∷ below) below (other_signed below) n s.second range (within_less limit _ (depth below + 0) (omega arith) within)
 
 pub other_word : (t : List ℕ) → TakesUnary (other_text t)
 other_word t limit below a b reads end within =
@@ -87,8 +87,8 @@ other_word t limit below a b reads end within =
     took limit (unary ∷ below) (signed_or_text ∷ below) s.first refl (within_less limit _ (depth below + 0) (omega arith) within)
     ∙ took limit (signed_or_text ∷ below) below s.second refl (within_less limit _ (depth below + 0) (omega arith) within)
 
-pub number : (n : Signed) → TakesUnary (integer n)
-number n limit below a b reads end within = takes_signed limit (unary ∷ below) below (operand_signed below) n reads (within_less limit _ (depth below + 0) (omega arith) within)
+pub number : (n : Signed) → IsInRange n → TakesUnary (integer n)
+number n range limit below a b reads end within = takes_signed limit (unary ∷ below) below (operand_signed below) n reads range (within_less limit _ (depth below + 0) (omega arith) within)
 
 pub word : (t : List ℕ) → TakesUnary (text t)
 word t limit below a b reads end within = took limit (unary ∷ below) below reads refl (within_less limit _ (depth below + 0) (omega arith) within)

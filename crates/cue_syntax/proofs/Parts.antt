@@ -1,5 +1,5 @@
 -- What is read in parts is read as an expression.
-use Rattle.std.proofs.Common.{◌≡◌, refl, sym, ap, ℕ, ◌+◌, ◌⊎◌, inl, inr, Bool, true, false, List, [], ◌∷◌, ◌++◌, append_assoc, append-nil, codes, arith}
+use Rattle.std.proofs.Common.{◌≤◌, ◌≡◌, refl, sym, ap, ℕ, ◌+◌, ◌⊎◌, inl, inr, Bool, true, false, List, [], ◌∷◌, ◌++◌, append_assoc, append-nil, codes, arith}
 use Rattle.cue_lex.specs.declared.token.Token.{Token}
 use Rattle.cue_lex.specs.declared.token.TokenKind.TheVariants as kinds
 use Rattle.cue_syntax.specs.declared.tree.Comparison.{Comparison}
@@ -7,7 +7,7 @@ use Rattle.cue_syntax.specs.declared.tree.Identifier.TheVariants as identifiers
 use Rattle.cue_syntax.specs.declared.tree.Sign.TheVariants as signs
 use Rattle.cue_syntax.specs.Syntax.{Expression, name, integer, text, bottom, bound, other_integer, other_text, parenthesis, struct, close, list, conjunction, disjunction, Elements, no_elements, element, Branch, branch, Branches, no_branches, next_branch, Entries}
 use Rattle.cue_syntax.specs.Spelling.{Piece, Reads, IsPlace, one, comma_if, comparison_kind, spell, spell_more_elements, spell_more_branches, spell_elements, spell_rest, spell_entries}
-use Rattle.cue_syntax.specs.Grammar.{IsUnary, IsConjunct, AreRight, AreUnary, AreRightBranches, TwoBranches, levels_of_elements, levels_of_branches, Limit}
+use Rattle.cue_syntax.specs.Grammar.{IsUnary, IsConjunct, AreRight, AreUnary, AreRightBranches, TwoBranches, levels_of_elements, levels_of_branches, Limit, greatest}
 use Rattle.cue_syntax.specs.Recogniser.{is_keyword}
 use Rattle.cue_syntax.proofs.Reading.{reads_then, reads_none, reads_placed}
 use Rattle.cue_syntax.proofs.Rows.{reads_same}
@@ -147,23 +147,23 @@ pub bottom_unary : {limit : Limit} {n : ℕ} {a : List Token} (t : Token) → t.
 bottom_unary t kind keeps = record { part = bottom; reads = reads_kind t kind reads_none; good = (tt, tt); within = keeps_from keeps (omega arith) }
 
 pub signed_unary : {limit : Limit} {n : ℕ} {a b : List Token} → IsSigned a b → Keeps limit n → AUnary limit n a b
-signed_unary first keeps = record { part = integer first.part; reads = first.reads; good = (tt, tt); within = keeps_from keeps (omega arith) }
+signed_unary first keeps = record { part = integer first.part; reads = first.reads; good = (first.range, tt); within = keeps_from keeps (omega arith) }
 
-pub integer_signed : {a : List Token} (t : Token) (n : ℕ) → t.kind ≡ kinds.Integer n → IsSigned (t ∷ a) a
-integer_signed t n kind = record { part = record { sign = signs.Absent; magnitude = n }; reads = reads_kind t kind reads_none }
+pub integer_signed : {a : List Token} (t : Token) (n : ℕ) → t.kind ≡ kinds.Integer n → n ≤ greatest signs.Absent → IsSigned (t ∷ a) a
+integer_signed t n kind range = record { part = record { sign = signs.Absent; magnitude = n }; reads = reads_kind t kind reads_none; range = range }
 
-pub minus_signed : {a b : List Token} (t : Token) → t.kind ≡ kinds.Minus → Magnitude a b → IsSigned (t ∷ a) b
-minus_signed t kind first = record { part = record { sign = signs.Minus; magnitude = first.part }; reads = reads_kind t kind first.reads }
+pub minus_signed : {a b : List Token} (t : Token) → t.kind ≡ kinds.Minus → Magnitude signs.Minus a b → IsSigned (t ∷ a) b
+minus_signed t kind first = record { part = record { sign = signs.Minus; magnitude = first.part }; reads = reads_kind t kind first.reads; range = first.range }
 
-pub plus_signed : {a b : List Token} (t : Token) → t.kind ≡ kinds.Plus → Magnitude a b → IsSigned (t ∷ a) b
-plus_signed t kind first = record { part = record { sign = signs.Plus; magnitude = first.part }; reads = reads_kind t kind first.reads }
+pub plus_signed : {a b : List Token} (t : Token) → t.kind ≡ kinds.Plus → Magnitude signs.Plus a b → IsSigned (t ∷ a) b
+plus_signed t kind first = record { part = record { sign = signs.Plus; magnitude = first.part }; reads = reads_kind t kind first.reads; range = first.range }
 
 pub bound_unary : {limit : Limit} {n : ℕ} {a b : List Token} (t : Token) (c : Comparison) → t.kind ≡ comparison_kind c → IsSigned a b → Keeps limit n → AUnary limit n (t ∷ a) b
-bound_unary t c kind first keeps = record { part = bound c first.part; reads = reads_kind t kind first.reads; good = (tt, tt); within = keeps_from keeps (omega arith) }
+bound_unary t c kind first keeps = record { part = bound c first.part; reads = reads_kind t kind first.reads; good = (first.range, tt); within = keeps_from keeps (omega arith) }
 
 pub other_unary : {limit : Limit} {n : ℕ} {a b : List Token} (t : Token) → t.kind ≡ kinds.NotEqual → IsSigned a b ⊎ Spelt (List ℕ) (λ z. one (kinds.Text z)) a b → Keeps limit n
     → AUnary limit n (t ∷ a) b
-other_unary t kind (inl first) keeps = record { part = other_integer first.part; reads = reads_kind t kind first.reads; good = (tt, tt); within = keeps_from keeps (omega arith) }
+other_unary t kind (inl first) keeps = record { part = other_integer first.part; reads = reads_kind t kind first.reads; good = (first.range, tt); within = keeps_from keeps (omega arith) }
 other_unary t kind (inr first) keeps = record { part = other_text first.part; reads = reads_kind t kind first.reads; good = (tt, tt); within = keeps_from keeps (omega arith) }
 
 -- what opens levels

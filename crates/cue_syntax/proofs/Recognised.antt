@@ -14,11 +14,11 @@ use Rattle.cue_syntax.proofs.Declared.{TakesEntry, TakeEntries, FitsTop, takes_v
 mutual
   pub takes : (e : Expression) → IsRight e → Takes e
   takes (name n from) right = by_unary (name n from) right tt (named n from right)
-  takes (integer n) right = by_unary (integer n) right tt (number n)
+  takes (integer n) right = by_unary (integer n) right tt (number n right)
   takes (text t) right = by_unary (text t) right tt (word t)
   takes bottom right = by_unary bottom right tt nothing
-  takes (bound c n) right = by_unary (bound c n) right tt (bounded c n)
-  takes (other_integer n) right = by_unary (other_integer n) right tt (other_number n)
+  takes (bound c n) right = by_unary (bound c n) right tt (bounded c n right)
+  takes (other_integer n) right = by_unary (other_integer n) right tt (other_number n right)
   takes (other_text t) right = by_unary (other_text t) right tt (other_word t)
   takes (parenthesis e comma) right = by_unary (parenthesis e comma) right tt (in_parentheses e comma (takes e right))
   takes (struct es comma) right = by_unary (struct es comma) right tt (takes_struct es comma (take_entries es right.0) right)

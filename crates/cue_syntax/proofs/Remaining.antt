@@ -1,15 +1,16 @@
 -- What the goals of the recogniser have still to read.
-use Rattle.std.proofs.Common.{◌≡◌, ℕ, ◌+◌, ◌⊎◌, Bool, true, false, List, [], ◌∷◌, ◌++◌, length, flat_map, codes}
+use Rattle.std.proofs.Common.{◌≡◌, ℕ, ◌+◌, ◌≤◌, ◌⊎◌, Bool, true, false, List, [], ◌∷◌, ◌++◌, length, flat_map, codes}
 use Rattle.std.specs.Prelude.{⊤, if◌then◌else◌}
 use Rattle.cue_lex.specs.declared.token.Token.{Token}
 use Rattle.cue_lex.specs.declared.token.TokenKind.{TokenKind}
 use Rattle.cue_lex.specs.declared.token.TokenKind.TheVariants as kinds
 use Rattle.cue_syntax.specs.declared.tree.Label.{Label}
 use Rattle.cue_syntax.specs.declared.tree.Mark.{Mark}
+use Rattle.cue_syntax.specs.declared.tree.Sign.{Sign}
 use Rattle.cue_syntax.specs.declared.tree.Signed.{Signed}
 use Rattle.cue_syntax.specs.Syntax.{FileTree, Expression, Elements, Branch, Branches, next_branch, no_branches, Entry, Entries, no_entries}
 use Rattle.cue_syntax.specs.Spelling.{Piece, Reads, one, comma_if, spell_mark, spell_signed, spell_label, spell_rest, spell, spell_elements, spell_more_elements, spell_branch, spell_more_branches, spell_entry, spell_entries, spell_more_entries, spell_file}
-use Rattle.cue_syntax.specs.Grammar.{IsRight, IsUnary, IsConjunct, AreRight, AreUnary, IsRightBranch, AreRightBranches, IsRightEntry, AreRightEntries, IsNested, AreNested, EndsEntries, EndsElements, IsRightPackage, levels, levels_of_elements, levels_of_branch, levels_of_branches, levels_of_entry, levels_of_entries, Limit, Within}
+use Rattle.cue_syntax.specs.Grammar.{IsRight, IsUnary, IsConjunct, AreRight, AreUnary, IsRightBranch, AreRightBranches, IsRightEntry, AreRightEntries, IsNested, AreNested, EndsEntries, EndsElements, IsRightPackage, levels, levels_of_elements, levels_of_branch, levels_of_branches, levels_of_entry, levels_of_entries, Limit, Within, IsInRange, greatest}
 use Rattle.cue_syntax.specs.Recogniser.{Goal, Stack, is_keyword}
 
 abbrev pub inside : Bool → ℕ → ℕ
@@ -179,11 +180,17 @@ Shuts kind = Spelt Bool (λ comma. comma_if comma ++ one kind)
 abbrev pub Marked : List Token → List Token → Type 0
 Marked = Spelt Mark (λ mark. spell_mark mark ++ one kinds.Colon)
 
-abbrev pub Magnitude : List Token → List Token → Type 0
-Magnitude = Spelt ℕ (λ n. one (kinds.Integer n))
+-- the magnitude behind a sign
+pub record Magnitude (sign : Sign) (a b : List Token) : Type 0 where
+  pub part : ℕ
+  pub reads : Reads a (one (kinds.Integer part)) b
+  pub range : part ≤ greatest sign
 
-abbrev pub IsSigned : List Token → List Token → Type 0
-IsSigned = Spelt Signed spell_signed
+-- an integer with its sign
+pub record IsSigned (a b : List Token) : Type 0 where
+  pub part : Signed
+  pub reads : Reads a (spell_signed part) b
+  pub range : IsInRange part
 
 -- The tokens up to the rest are what the goal has still to read, where so many levels are open below it. What follows a
 -- first token that decides little is what makes a whole with any such token.
@@ -207,7 +214,7 @@ Remains limit n Goal.bar a b = FurtherTerms limit n a b
 Remains limit n Goal.more_terms a b = MoreTerms limit n a b
 Remains limit n Goal.signed a b = IsSigned a b
 Remains limit n Goal.signed_or_text a b = IsSigned a b ⊎ Spelt (List ℕ) (λ t. one (kinds.Text t)) a b
-Remains limit n Goal.magnitude a b = Magnitude a b
+Remains limit n (Goal.magnitude sign) a b = Magnitude sign a b
 Remains limit n Goal.behind_close a b = (first : Token) → first.kind ≡ kinds.Name (codes "close") → AUnary limit n (first ∷ a) b
 Remains limit n Goal.closed a b = Closed limit (2 + n) a b
 Remains limit n Goal.parenthesis a b = Shuts kinds.CloseParenthesis a b

@@ -1,6 +1,7 @@
 -- A token that the recogniser takes, and then what is ahead behind it, is what was ahead before it.
 use Rattle.std.proofs.Common.{◌≡◌, refl, sym, ap, subst, ◌∙◌, ℕ, inl, inr, Bool, true, false, List, ◌∷◌, codes, Option, arith}
-use Rattle.std.specs.Prelude.{None, Some, ⊤, if◌then◌else◌}
+use Rattle.std.specs.Prelude.{None, Some, ⊤, nat_le, ◌≤◌, if◌then◌else◌}
+use Rattle.std.proofs.lemmas.Bool.{leb-true}
 use Rattle.std.specs.Cmp.Lexicographic.{same_text}
 use Rattle.cue_lex.specs.declared.token.Token.{Token}
 use Rattle.cue_lex.specs.declared.token.TokenKind.{TokenKind}
@@ -8,9 +9,11 @@ use Rattle.cue_lex.specs.declared.token.TokenKind.TheVariants as kinds
 use Rattle.cue_syntax.specs.declared.tree.Comparison.TheVariants as comparisons
 use Rattle.cue_syntax.specs.declared.tree.LabelName.TheVariants as names
 use Rattle.cue_syntax.specs.declared.tree.Mark.TheVariants as marks
+use Rattle.cue_syntax.specs.declared.tree.Sign.{Sign}
+use Rattle.cue_syntax.specs.declared.tree.Sign.TheVariants as signs
 use Rattle.cue_syntax.specs.Syntax.{no_elements, no_branches}
-use Rattle.cue_syntax.specs.Grammar.{Limit}
-use Rattle.cue_syntax.specs.Recogniser.{Goal, Stack, is_word, is_keyword, take_mark, take_name, take_unary, take_term, take_expression, take_value, take_signed, take_behind_operand, take_behind_name, take_value_name, take_value_text, take}
+use Rattle.cue_syntax.specs.Grammar.{Limit, greatest}
+use Rattle.cue_syntax.specs.Recogniser.{Goal, Stack, is_word, is_keyword, take_mark, take_name, take_integer, take_unary, take_term, take_expression, take_value, take_signed, take_behind_operand, take_behind_name, take_value_name, take_value_text, take}
 use Rattle.cue_syntax.proofs.Reading.{reads_none}
 use Rattle.cue_syntax.proofs.Remaining.{beneath, Keeps, Valued, MoreParts, MoreTerms, Ahead}
 use Rattle.cue_syntax.proofs.Endings.{keeps_from, reads_kind}
@@ -45,12 +48,20 @@ name_before limit t goals w kind keeps = by_word (is_keyword w) refl (is_word (c
     by_word false is true closes = λ a ahead. (ahead.0, ahead.1 t (kind ∙ ap kinds.Name (word_is (codes "close") w closes)), ahead.2)
     by_word false is false closes = λ a ahead. (a, name_unary t w kind is keeps, ahead)
 
+integer_before : (limit : Limit) (t : Token) (n : ℕ) (sign : Sign) (goals others : Stack) → (n ≤ greatest sign → (a : List Token) → Ahead limit goals a → Ahead limit others (t ∷ a))
+    → Before limit t others (take_integer sign goals n)
+integer_before limit t n sign goals others reads = by_range (nat_le n (greatest sign)) refl
+  where
+    by_range : (fits : Bool) → nat_le n (greatest sign) ≡ fits → Before limit t others (if fits then Some goals else None)
+    by_range true fits = reads (leb-true n (greatest sign) fits)
+    by_range false fits = tt
+
 pub unary_before : (limit : Limit) (t : Token) (goals : Stack) (kind : TokenKind) → t.kind ≡ kind → Keeps limit (beneath goals) → Before limit t (Goal.unary ∷ goals) (take_unary goals kind)
 unary_before limit t goals (kinds.Name w) is keeps = name_before limit t goals w is keeps
 unary_before limit t goals (kinds.Definition w) is keeps = λ a ahead. (a, definition_unary t w is keeps, ahead)
 unary_before limit t goals (kinds.Hidden w) is keeps = λ a ahead. (a, hidden_unary t w is keeps, ahead)
 unary_before limit t goals (kinds.Text w) is keeps = λ a ahead. (a, text_unary t w is keeps, ahead)
-unary_before limit t goals (kinds.Integer n) is keeps = λ a ahead. (a, signed_unary (integer_signed t n is) keeps, ahead)
+unary_before limit t goals (kinds.Integer n) is keeps = integer_before limit t n signs.Absent goals (Goal.unary ∷ goals) (λ range a ahead. (a, signed_unary (integer_signed t n is range) keeps, ahead))
 unary_before limit t goals kinds.Bottom is keeps = λ a ahead. (a, bottom_unary t is keeps, ahead)
 unary_before limit t goals kinds.Minus is keeps = λ a ahead. (ahead.0, signed_unary (minus_signed t is ahead.1) keeps, ahead.2)
 unary_before limit t goals kinds.Plus is keeps = λ a ahead. (ahead.0, signed_unary (plus_signed t is ahead.1) keeps, ahead.2)
@@ -65,7 +76,7 @@ unary_before limit t goals kinds.OpenBracket is keeps = λ a ahead. (ahead.0, li
 unary_before limit t goals _ is keeps = tt
 
 pub signed_before : (limit : Limit) (t : Token) (goals : Stack) (kind : TokenKind) → t.kind ≡ kind → Before limit t (Goal.signed ∷ goals) (take_signed goals kind)
-signed_before limit t goals (kinds.Integer n) is = λ a ahead. (a, integer_signed t n is, ahead)
+signed_before limit t goals (kinds.Integer n) is = integer_before limit t n signs.Absent goals (Goal.signed ∷ goals) (λ range a ahead. (a, integer_signed t n is range, ahead))
 signed_before limit t goals kinds.Minus is = λ a ahead. (ahead.0, minus_signed t is ahead.1, ahead.2)
 signed_before limit t goals kinds.Plus is = λ a ahead. (ahead.0, plus_signed t is ahead.1, ahead.2)
 signed_before limit t goals _ is = tt
@@ -75,9 +86,9 @@ pub signed_or_text_before : (limit : Limit) (t : Token) (goals : Stack) (behind 
 signed_or_text_before limit t goals behind (kinds.Text w) is = λ a ahead. (a, inr (record { part = w; reads = reads_kind t is reads_none }), ahead)
 signed_or_text_before limit t goals behind kind is = through limit t (Goal.signed ∷ goals) (Goal.signed_or_text ∷ goals) (take_signed goals kind) (λ a ahead. (ahead.0, inl ahead.1, ahead.2)) (signed_before limit t goals kind is)
 
-pub magnitude_before : (limit : Limit) (t : Token) (goals : Stack) (behind : Option Stack) (kind : TokenKind) → t.kind ≡ kind → Before limit t (Goal.magnitude ∷ goals) (take Goal.magnitude goals behind kind)
-magnitude_before limit t goals behind (kinds.Integer n) is = λ a ahead. (a, record { part = n; reads = reads_kind t is reads_none }, ahead)
-magnitude_before limit t goals behind _ is = tt
+pub magnitude_before : (limit : Limit) (t : Token) (sign : Sign) (goals : Stack) (behind : Option Stack) (kind : TokenKind) → t.kind ≡ kind → Before limit t (Goal.magnitude sign ∷ goals) (take (Goal.magnitude sign) goals behind kind)
+magnitude_before limit t sign goals behind (kinds.Integer n) is = integer_before limit t n sign goals (Goal.magnitude sign ∷ goals) (λ range a ahead. (a, record { part = n; reads = reads_kind t is reads_none; range = range }, ahead))
+magnitude_before limit t sign goals behind _ is = tt
 
 -- expressions
 pub term_before : (limit : Limit) (t : Token) (goals : Stack) (kind : TokenKind) → t.kind ≡ kind → Keeps limit (beneath goals) → Before limit t (Goal.term ∷ goals) (take_term goals kind)

@@ -1,13 +1,24 @@
 -- What the goals do with each kind of token.
-use Rattle.std.proofs.Common.{◌≡◌, refl, sym, subst, ℕ, ◌⊎◌, inl, inr, List, ◌∷◌, None}
+use Rattle.std.proofs.Common.{◌≡◌, ◌≤◌, ◌<◌, ap, refl, sym, subst, ℕ, ◌⊎◌, inl, inr, List, ◌∷◌, None, Some}
+use Rattle.std.specs.Prelude.{if◌then◌else◌}
+use Rattle.std.proofs.lemmas.Bool.{le-leb, lt-leb}
 use Rattle.cue_lex.specs.declared.token.TokenKind.{TokenKind}
 use Rattle.cue_lex.specs.declared.token.TokenKind.TheVariants as kinds
+use Rattle.cue_syntax.specs.declared.tree.Sign.{Sign}
+use Rattle.cue_syntax.specs.declared.tree.Sign.TheVariants as signs
+use Rattle.cue_syntax.specs.Grammar.{greatest}
 use Rattle.cue_syntax.specs.Viability.{BeginsInteger, IsComparison, Opens}
 use Rattle.cue_syntax.specs.Recogniser.{Stack, step, magnitude, signed, signed_or_text, unary, behind_close}
 
-pub magnitude_none : (k : TokenKind) → ((n : ℕ) → k ≡ kinds.Integer n → ⊥) → (below : Stack) → step (magnitude ∷ below) k ≡ None
-magnitude_none (kinds.Integer n) lacks below = absurd (lacks n refl)
-magnitude_none _ lacks below = refl
+pub magnitude_none : (s : Sign) (k : TokenKind) → ((n : ℕ) → k ≡ kinds.Integer n → ⊥) → (below : Stack) → step (magnitude s ∷ below) k ≡ None
+magnitude_none s (kinds.Integer n) lacks below = absurd (lacks n refl)
+magnitude_none s _ lacks below = refl
+
+pub magnitude_step : (s : Sign) (n : ℕ) (below : Stack) → n ≤ greatest s → step (magnitude s ∷ below) (kinds.Integer n) ≡ Some below
+magnitude_step s n below le = ap (λ z. if z then Some below else None) (le-leb n (greatest s) le)
+
+pub magnitude_large : (s : Sign) (n : ℕ) (below : Stack) → greatest s < n → step (magnitude s ∷ below) (kinds.Integer n) ≡ None
+magnitude_large s n below large = ap (λ z. if z then Some below else None) (lt-leb n (greatest s) large)
 
 pub signed_none : (k : TokenKind) → ¬ BeginsInteger k → (below : Stack) → step (signed ∷ below) k ≡ None
 signed_none (kinds.Integer n) lacks below = absurd (lacks tt)
@@ -15,7 +26,7 @@ signed_none kinds.Minus lacks below = absurd (lacks tt)
 signed_none kinds.Plus lacks below = absurd (lacks tt)
 signed_none _ lacks below = refl
 
-pub signed_magnitude : (k : TokenKind) → (k ≡ kinds.Minus → ⊥) → (k ≡ kinds.Plus → ⊥) → (below : Stack) → step (signed ∷ below) k ≡ step (magnitude ∷ below) k
+pub signed_magnitude : (k : TokenKind) → (k ≡ kinds.Minus → ⊥) → (k ≡ kinds.Plus → ⊥) → (below : Stack) → step (signed ∷ below) k ≡ step (magnitude signs.Absent ∷ below) k
 signed_magnitude kinds.Minus minus plus below = absurd (minus refl)
 signed_magnitude kinds.Plus minus plus below = absurd (plus refl)
 signed_magnitude _ minus plus below = refl

@@ -1,31 +1,20 @@
 -- What is read by the parts of a tree is read by the tree.
-use Rattle.std.proofs.Common.{◌≡◌, ap, sym, subst, refl, ℕ, ◌+◌, ◌≤◌, ◌<◌, ◌⊎◌, ⊎_elim, Bool, true, false, List, [], ◌∷◌, ◌++◌, length, flat_map, append_assoc, append-nil, arith, codes}
+use Rattle.std.proofs.Common.{◌≡◌, ap, sym, subst, ℕ, ◌+◌, ◌≤◌, ◌<◌, ◌⊎◌, ⊎_elim, Bool, true, false, List, [], ◌∷◌, ◌++◌, length, flat_map, append_assoc, append-nil, arith, codes}
 use Rattle.std.proofs.lemmas.List.{length_push}
 use Rattle.cue_lex.specs.declared.token.Token.{Token}
 use Rattle.cue_lex.specs.declared.token.TokenKind.TheVariants as kinds
 use Rattle.cue_syntax.specs.declared.tree.Label.{Label}
-use Rattle.cue_syntax.specs.declared.tree.Signed.{Signed}
-use Rattle.cue_syntax.specs.declared.tree.Comparison.{Comparison}
 use Rattle.cue_syntax.specs.declared.tree.Expr.{Expr}
 use Rattle.cue_syntax.specs.declared.tree.Term.{Term}
 use Rattle.cue_syntax.specs.declared.tree.Declaration.{Declaration}
-use Rattle.cue_syntax.specs.Spelling.{Piece, Reads, Follows, IsPlace, one, one_at, placed, comma_if, star_if, comparison_kind, spell, spell_signed, spell_label, spell_elements, spell_rest, spell_branch, spell_branches, spell_entry, spell_entries}
+use Rattle.cue_syntax.specs.Spelling.{Piece, Reads, Follows, IsPlace, one, one_at, placed, comma_if, star_if, spell, spell_label, spell_elements, spell_rest, spell_branch, spell_branches, spell_entry, spell_entries}
 use Rattle.cue_syntax.specs.Grammar.{AreRight, IsUnary, IsTerm, AreUnary, TwoElements, TwoBranches, AreRightBranches, AreNested, EndsEntries, EndsElements, levels_of_elements, levels_of_branches, IsExpression, IsTermOf, IsEntry, IsLiteral, AreElements, AreEntries, AreBraced}
-use Rattle.cue_syntax.specs.Syntax.{Expression, Elements, no_elements, element, Entries, parenthesis, struct, close, list, conjunction, disjunction, bound, other_integer, other_text, branch, field, definition, expression, branch_tree, entry_tree, elements, branches, entries}
+use Rattle.cue_syntax.specs.Syntax.{Expression, Elements, no_elements, element, Entries, parenthesis, struct, close, list, conjunction, disjunction, branch, field, definition, expression, branch_tree, entry_tree, elements, branches, entries}
 use Rattle.cue_syntax.proofs.Reading.{reads_then, reads_none, reads_placed}
 use Rattle.cue_syntax.proofs.Rows.{reads_same, elements_pushed, right_pushed, unary_pushed, levels_pushed, branches_pushed, right_branches_pushed, levels_branches_pushed, entries_pushed, right_entries_pushed, levels_entries_pushed}
 
 pub literal_is : {room : ℕ} {a b : List Token} {e : Expression} → IsLiteral a e b → IsExpression room a e b
 literal_is l = record { reads = l.reads; right = l.right; levels = omega (arith, l.levels) }
-
-pub bound_is : {a b c : List Token} {k : Comparison} {n : Signed} → Reads a (one (comparison_kind k)) b → Reads b (spell_signed n) c → IsLiteral a (bound k n) c
-bound_is first second = record { reads = reads_then first second; right = tt; unary = tt; levels = refl }
-
-pub other_integer_is : {a b c : List Token} {n : Signed} → Reads a (one kinds.NotEqual) b → Reads b (spell_signed n) c → IsLiteral a (other_integer n) c
-other_integer_is first second = record { reads = reads_then first second; right = tt; unary = tt; levels = refl }
-
-pub other_text_is : {a b c : List Token} {t : List ℕ} → Reads a (one kinds.NotEqual) b → Reads b (one (kinds.Text t)) c → IsLiteral a (other_text t) c
-other_text_is first second = record { reads = reads_then first second; right = tt; unary = tt; levels = refl }
 
 pub parenthesis_is : {room left : ℕ} {a b c d f : List Token} {e : Expression} {comma : Bool} → left + 1 ≡ room
     → Reads a (one kinds.OpenParenthesis) b → IsExpression left b e c → Reads c (comma_if comma) d → Reads d (one kinds.CloseParenthesis) f

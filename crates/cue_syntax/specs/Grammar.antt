@@ -7,6 +7,9 @@ use Rattle.cue_syntax.specs.declared.tree.Identifier.TheVariants as identifiers
 use Rattle.cue_lex.specs.declared.token.TokenKind.TheVariants as kinds
 use Rattle.cue_syntax.specs.Spelling.{Reads, one, comma_if, spell, spell_elements, spell_branch, spell_entry, spell_entries, spell_file}
 use Rattle.cue_syntax.specs.declared.tree.Package.{Package}
+use Rattle.cue_syntax.specs.declared.tree.Sign.{Sign}
+use Rattle.cue_syntax.specs.declared.tree.Sign.TheVariants as signs
+use Rattle.cue_syntax.specs.declared.tree.Signed.{Signed}
 use Rattle.cue_syntax.specs.Syntax.{FileTree, Expression, name, integer, text, bottom, bound, other_integer, other_text, parenthesis, struct, close, list, conjunction, disjunction, Elements, no_elements, element, Branch, branch, Branches, no_branches, next_branch, Entry, ellipsis, field, definition, Entries, no_entries, entry}
 
 -- names that begin a clause, which is left out
@@ -21,6 +24,14 @@ abbrev pub IsOperand : Identifier → Type 0
 IsOperand (identifiers.Plain t) = ¬ IsKeyword t
 IsOperand (identifiers.Definition t) = ⊤
 IsOperand (identifiers.Hidden t) = ⊤
+
+-- the greatest magnitude of an integer with this sign, which has 64 bits
+abbrev pub greatest : Sign → ℕ
+greatest signs.Minus = 9223372036854775808
+greatest _ = 9223372036854775807
+
+abbrev pub IsInRange : Signed → Type 0
+IsInRange n = n.magnitude ≤ greatest n.sign
 
 -- neither a conjunction nor a disjunction
 abbrev pub IsUnary : Expression → Type 0
@@ -72,11 +83,11 @@ EndsElements _ _ _ = ⊤
 abbrev mutual
   pub IsRight : Expression → Type 0
   IsRight (name n from) = IsOperand n
-  IsRight (integer n) = ⊤
+  IsRight (integer n) = IsInRange n
   IsRight (text t) = ⊤
   IsRight bottom = ⊤
-  IsRight (bound c n) = ⊤
-  IsRight (other_integer n) = ⊤
+  IsRight (bound c n) = IsInRange n
+  IsRight (other_integer n) = IsInRange n
   IsRight (other_text t) = ⊤
   IsRight (parenthesis e comma) = IsRight e
   IsRight (struct es comma) = AreRightEntries es × AreNested es × EndsEntries comma es

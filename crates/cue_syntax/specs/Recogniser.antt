@@ -12,8 +12,10 @@ use Rattle.cue_syntax.specs.declared.stop.Why.{Why}
 use Rattle.cue_syntax.specs.declared.stop.Why.TheVariants as reasons
 use Rattle.cue_syntax.specs.declared.stop.Stop.{Stop}
 use Rattle.cue_syntax.specs.declared.tree.Label.{Label}
+use Rattle.cue_syntax.specs.declared.tree.Sign.{Sign}
+use Rattle.cue_syntax.specs.declared.tree.Sign.TheVariants as signs
 use Rattle.cue_syntax.specs.Stops.{memory}
-use Rattle.cue_syntax.specs.Grammar.{Limit, unlimited, at_most, Within}
+use Rattle.cue_syntax.specs.Grammar.{Limit, unlimited, at_most, Within, greatest}
 use Rattle.cue_syntax.specs.Viability.{StandsSign, IsCallOfClose}
 
 -- what has still to come
@@ -37,7 +39,7 @@ pub data Goal : Type 0 where
   more_terms : Goal  -- `|` and a term, any number of them
   signed : Goal
   signed_or_text : Goal
-  magnitude : Goal
+  magnitude : Sign → Goal  -- what follows a sign
   behind_close : Goal  -- what follows the name `close`: a parenthesis, or nothing of it
   closed : Goal  -- the brace of `close({`
   parenthesis : Goal  -- the end of a parenthesis, with a comma or not
@@ -92,15 +94,19 @@ take_mark goals _ = None
 abbrev pub take_name : Stack → List ℕ → Option Stack
 take_name goals t = if is_keyword t then None else (if is_word (codes "close") t then Some (behind_close ∷ goals) else Some goals)
 
+-- an integer with this sign, where it is in range
+abbrev pub take_integer : Sign → Stack → ℕ → Option Stack
+take_integer sign goals n = if nat_le n (greatest sign) then Some goals else None
+
 abbrev pub take_unary : Stack → TokenKind → Option Stack
 take_unary goals (kinds.Name t) = take_name goals t
 take_unary goals (kinds.Definition t) = Some goals
 take_unary goals (kinds.Hidden t) = Some goals
 take_unary goals (kinds.Text t) = Some goals
-take_unary goals (kinds.Integer n) = Some goals
+take_unary goals (kinds.Integer n) = take_integer signs.Absent goals n
 take_unary goals kinds.Bottom = Some goals
-take_unary goals kinds.Minus = Some (magnitude ∷ goals)
-take_unary goals kinds.Plus = Some (magnitude ∷ goals)
+take_unary goals kinds.Minus = Some (magnitude signs.Minus ∷ goals)
+take_unary goals kinds.Plus = Some (magnitude signs.Plus ∷ goals)
 take_unary goals kinds.Less = Some (signed ∷ goals)
 take_unary goals kinds.AtMost = Some (signed ∷ goals)
 take_unary goals kinds.Greater = Some (signed ∷ goals)
@@ -125,9 +131,9 @@ take_value goals (kinds.Text t) = Some (value_text ∷ goals)
 take_value goals kind = take_expression goals kind
 
 abbrev pub take_signed : Stack → TokenKind → Option Stack
-take_signed goals (kinds.Integer n) = Some goals
-take_signed goals kinds.Minus = Some (magnitude ∷ goals)
-take_signed goals kinds.Plus = Some (magnitude ∷ goals)
+take_signed goals (kinds.Integer n) = take_integer signs.Absent goals n
+take_signed goals kinds.Minus = Some (magnitude signs.Minus ∷ goals)
+take_signed goals kinds.Plus = Some (magnitude signs.Plus ∷ goals)
 take_signed goals _ = None
 
 -- a declaration; the goals are those behind it
@@ -210,8 +216,8 @@ take more_terms goals behind _ = behind
 take signed goals behind kind = take_signed goals kind
 take signed_or_text goals behind (kinds.Text t) = Some goals
 take signed_or_text goals behind kind = take_signed goals kind
-take magnitude goals behind (kinds.Integer n) = Some goals
-take magnitude goals behind _ = None
+take (magnitude sign) goals behind (kinds.Integer n) = take_integer sign goals n
+take (magnitude sign) goals behind _ = None
 take behind_close goals behind kinds.OpenParenthesis = Some (closed ∷ goals)
 take behind_close goals behind _ = behind
 take closed goals behind kinds.OpenBrace = Some (entries false ∷ parenthesis ∷ goals)

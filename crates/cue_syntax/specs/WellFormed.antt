@@ -61,11 +61,11 @@ ends_elements_prop false goes_on es = hlevel
 mutual
   right_prop : (e : Expression) → IsProp (IsRight e)
   right_prop (name n from) = operand_prop n
-  right_prop (integer n) = hlevel
+  right_prop (integer n) = hlevel props
   right_prop (text t) = hlevel
   right_prop bottom = hlevel
-  right_prop (bound c n) = hlevel
-  right_prop (other_integer n) = hlevel
+  right_prop (bound c n) = hlevel props
+  right_prop (other_integer n) = hlevel props
   right_prop (other_text t) = hlevel
   right_prop (parenthesis e comma) = right_prop e
   right_prop (struct es comma) = hlevel (right_entries_prop es, nested_prop es, ends_entries_prop comma es)

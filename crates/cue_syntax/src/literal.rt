@@ -1,7 +1,8 @@
 ghost use Rattle.std.specs.Prelude.{◌≡◌, ◌+◌, ◌≤◌, ◌<◌, ◌++◌, ◌∷◌, [], ◌↔◌, ℕ, IfOk, IfErr, IsTrue, length};
 ghost use Rattle.cue_syntax.specs.Syntax.{expression};
 ghost use Rattle.cue_syntax.specs.Spelling.{Reads, one, spell, spell_sign, spell_signed, identifier_kind, comparison_kind};
-ghost use Rattle.cue_syntax.specs.Grammar.{IsUnary, IsOperand, IsRight, IsLiteral, IsClause, IsKeyword};
+ghost use Rattle.cue_syntax.specs.Grammar as Grammar;
+ghost use Rattle.cue_syntax.specs.Grammar.{IsInRange, IsUnary, IsOperand, IsRight, IsLiteral, IsClause, IsKeyword};
 ghost use Rattle.cue_syntax.specs.Viability.{Stands, StandsSign, Opens, IsCallOfClose, IsIdentifier, IsComparison, BeginsInteger};
 ghost use Rattle.cue_syntax.specs.Recogniser.{Refused, Moves, unary, signed, magnitude};
 
@@ -105,6 +106,7 @@ pub fn is_clause(name: &Text) -> bool
 fn signed<'a>(cursor: Cursor<'a>) -> Parsed<'a, Signed>
     ensures shorter { IfOk result (λ r. length r.1.rest.now < length cursor.entry.rest.now) }
     ensures spelled { IfOk result (λ r. Reads cursor.entry.rest.now (spell_signed r.0) r.1.rest.now) }
+    ensures range { IfOk result (λ r. IsInRange r.0) }
     ensures end { IfOk result (λ r. r.1.end ≡ cursor.entry.end) }
     ensures moves { IfOk result (λ r. Moves 0 (signed ∷ []) cursor.entry.rest.now [] r.1.rest.now) }
     ensures refused { IfErr result (λ r. (room : ℕ) → Refused room cursor.entry.end (signed ∷ []) cursor.entry.rest.now r) }
@@ -119,26 +121,42 @@ fn signed<'a>(cursor: Cursor<'a>) -> Parsed<'a, Signed>
     }
 }
 
+/// The greatest magnitude of an integer with this sign. The lexer gives no greater one.
+fn greatest(sign: Sign) -> u64
+    ensures { result ≡ Grammar.greatest sign }
+{
+    match sign {
+        Sign::Minus => 9_223_372_036_854_775_808,
+        Sign::Absent | Sign::Plus => 9_223_372_036_854_775_807,
+    }
+}
+
 /// The magnitude behind a sign.
 fn magnitude<'a>(sign: Sign, cursor: Cursor<'a>) -> Parsed<'a, Signed>
     ensures shorter { IfOk result (λ r. length r.1.rest.now < length cursor.entry.rest.now) }
     ensures spelled { IfOk result (λ r. Reads cursor.entry.rest.now (one (TokenKind.Integer r.0.magnitude)) r.1.rest.now) }
     ensures signed { IfOk result (λ r. r.0.sign ≡ sign) }
     ensures end { IfOk result (λ r. r.1.end ≡ cursor.entry.end) }
-    ensures moves { IfOk result (λ r. Moves 0 (magnitude ∷ []) cursor.entry.rest.now [] r.1.rest.now) }
-    ensures refused { IfErr result (λ r. (room : ℕ) → Refused room cursor.entry.end (magnitude ∷ []) cursor.entry.rest.now r) }
+    ensures range { IfOk result (λ r. IsInRange r.0) }
+    ensures moves { IfOk result (λ r. Moves 0 (magnitude sign ∷ []) cursor.entry.rest.now [] r.1.rest.now) }
+    ensures refused { IfErr result (λ r. (room : ℕ) → Refused room cursor.entry.end (magnitude sign ∷ []) cursor.entry.rest.now r) }
 {
     let Some((token, after)) = cursor.next() else {
         return Err(cursor.syntax());
     };
     match &token.kind {
-        TokenKind::Integer(magnitude) => Ok((
-            Signed {
-                sign,
-                magnitude: *magnitude,
-            },
-            after,
-        )),
+        TokenKind::Integer(magnitude) => {
+            if *magnitude > greatest(sign) {
+                return Err(cursor.syntax());
+            }
+            Ok((
+                Signed {
+                    sign,
+                    magnitude: *magnitude,
+                },
+                after,
+            ))
+        }
         _ => Err(cursor.syntax()),
     }
 }
