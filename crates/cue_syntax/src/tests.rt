@@ -120,6 +120,10 @@ fn syntax(rt: HostRuntime) {
         ("? : 1", 0),
         ("a: (1", 5),
         ("a: (1, 2)", 7),
+        ("a: 1 -2", 5),
+        ("a: 1 & _x: 1", 9),
+        ("l: [..., len(1)]", 9),
+        ("package p(1)", 9),
     ] {
         refused(&rt, alloc, text, Kind::Syntax, place);
     }
@@ -174,6 +178,11 @@ fn forms_that_are_left_out(rt: HostRuntime) {
         ("a: for(1)", Form::Call, 3),
         ("a: close(1)", Form::CloseArgument, 9),
         ("a: close(len(1))", Form::CloseArgument, 9),
+        ("a: close((1))", Form::CloseArgument, 9),
+        ("_|_", Form::Embedding, 0),
+        ("a: {b: 1, _|_}", Form::Embedding, 10),
+        ("l: [1, len(1)]", Form::Call, 7),
+        ("a: 1 & _x(1)", Form::Call, 7),
     ] {
         left_out(&rt, alloc, text, form, place);
     }
@@ -190,6 +199,14 @@ fn levels_of_parentheses(rt: HostRuntime) -> Result<(), Fail> {
     whole.push_str(&text)?;
     whole.push_str(")")?;
     refused(&rt, alloc, &whole, Kind::Nesting, 67);
+    let brace = repeated(alloc, "(", 64, "({")?;
+    refused(
+        &rt,
+        alloc,
+        &repeated(alloc, "a: ", 1, &brace)?,
+        Kind::Nesting,
+        67,
+    );
     Ok(())
 }
 
