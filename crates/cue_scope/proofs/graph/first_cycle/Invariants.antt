@@ -1,0 +1,7 @@
+use Rattle.std.proofs.Common.{◌<◌, ℕ}
+use Rattle.cue_scope.specs.Graph.{Reaches}
+use Rattle.cue_scope.specs.Ordering.{graph_of}
+use Rattle.cue_scope.proofs.graph.first_cycle.Given as goal
+
+abbrev pub invariant-loop-node : goal.invariant-loop-node
+invariant-loop-node l = (j : ℕ) → j < l.node → ¬ Reaches (graph_of l.graph) j j

@@ -1,0 +1,14 @@
+pub mod Named
+pub mod Core
+pub mod Definitions
+pub mod Meaning
+pub mod Names
+pub mod Uses
+pub mod Graph
+pub mod Ordering
+pub mod Terms
+pub mod Limits
+pub mod Refusing
+pub mod First
+pub mod Listed
+pub mod Kept

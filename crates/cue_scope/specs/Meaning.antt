@@ -1,0 +1,91 @@
+-- What expressions and texts mean.
+use Rattle.std.specs.Prelude.{ℕ, suc, zero, true, false, cond, List, [], ◌∷◌, length, Option, None, Some, codes, slice_get}
+use Rattle.std.specs.Option.{option_map_or}
+use Rattle.std.specs.Str.{bytes_eq}
+use Rattle.cue_syntax.specs.declared.tree.Identifier.{Identifier}
+use Rattle.cue_syntax.specs.declared.tree.Identifier.TheVariants as identifiers
+use Rattle.cue_syntax.specs.declared.tree.Label.{Label}
+use Rattle.cue_syntax.specs.declared.tree.LabelName.{LabelName}
+use Rattle.cue_syntax.specs.declared.tree.LabelName.TheVariants as names
+use Rattle.cue_syntax.specs.Syntax as tree
+use Rattle.cue_syntax.specs.Syntax.{Expression, Elements, no_elements, element, Branch, branch, Branches, no_branches, next_branch, Entry, ellipsis, field, definition, Entries, no_entries, entry}
+use Rattle.cue_scope.specs.Core.{Core, null, truth, integer, text, named, top, bottom, bound, other_integer, other_text, conjunction, disjunction, struct, close, list, closed, Cores, no_cores, core, Choices, no_choices, choice, Members, no_members, member, dots}
+use Rattle.cue_scope.specs.Named.{named_of}
+use Rattle.cue_scope.specs.Definitions.{Definition, definitions, number_of}
+
+abbrev pub text_of : LabelName → List ℕ
+text_of (names.Plain t) = t
+text_of (names.Quoted t) = t
+
+-- `a: b: V` is `a: {b: V}`
+abbrev pub nested : List Label → Core → Core
+nested [] c = c
+nested (l ∷ ls) c = struct (member (text_of l.name) l.mark (nested ls c) no_members)
+
+-- a name of the language; any other has no meaning, and stands in no legal text
+abbrev pub meant_word : List ℕ → Core
+meant_word t =
+    cond (bytes_eq t (codes "true")) (truth true)
+    (cond (bytes_eq t (codes "false")) (truth false)
+    (cond (bytes_eq t (codes "null")) null
+    (option_map_or named (named_of t) bottom)))
+
+-- `meaning` says what a use of each definition means, by its number
+abbrev pub meant_name : List Definition → (ℕ → Core) → Identifier → Core
+meant_name ds meaning (identifiers.Plain t) = meant_word t
+meant_name ds meaning (identifiers.Definition t) = option_map_or meaning (number_of t ds) bottom
+meant_name ds meaning (identifiers.Hidden t) = cond (bytes_eq t (codes "_")) top bottom
+
+abbrev mutual
+  pub meant : List Definition → (ℕ → Core) → Expression → Core
+  meant ds meaning (tree.name n place) = meant_name ds meaning n
+  meant ds meaning (tree.integer n) = integer n
+  meant ds meaning (tree.text t) = text t
+  meant ds meaning tree.bottom = bottom
+  meant ds meaning (tree.bound c n) = bound c n
+  meant ds meaning (tree.other_integer n) = other_integer n
+  meant ds meaning (tree.other_text t) = other_text t
+  meant ds meaning (tree.parenthesis e comma) = meant ds meaning e
+  meant ds meaning (tree.struct es comma) = struct (meant_members ds meaning es)
+  meant ds meaning (tree.close place es inner comma) = close (meant_members ds meaning es)
+  meant ds meaning (tree.list es goes_on comma) = list (meant_elements ds meaning es) goes_on
+  meant ds meaning (tree.conjunction es) = conjunction (meant_elements ds meaning es)
+  meant ds meaning (tree.disjunction bs) = disjunction (meant_branches ds meaning bs)
+
+  pub meant_elements : List Definition → (ℕ → Core) → Elements → Cores
+  meant_elements ds meaning no_elements = no_cores
+  meant_elements ds meaning (element e es) = core (meant ds meaning e) (meant_elements ds meaning es)
+
+  pub meant_branches : List Definition → (ℕ → Core) → Branches → Choices
+  meant_branches ds meaning no_branches = no_choices
+  meant_branches ds meaning (next_branch (branch marked place e) bs) = choice marked (meant ds meaning e) (meant_branches ds meaning bs)
+
+  pub meant_members : List Definition → (ℕ → Core) → Entries → Members
+  meant_members ds meaning no_entries = no_members
+  meant_members ds meaning (entry ellipsis es) = dots (meant_members ds meaning es)
+  meant_members ds meaning (entry (field l chain e) es) = member (text_of l.name) l.mark (nested chain (meant ds meaning e)) (meant_members ds meaning es)
+  meant_members ds meaning (entry (definition t place chain e) es) = meant_members ds meaning es
+
+-- a use of a definition means its body, closed
+abbrev pub meant_use : List Definition → (ℕ → Core) → Option Definition → Core
+meant_use ds meaning None = bottom
+meant_use ds meaning (Some d) = closed (nested d.chain (meant ds meaning d.value))
+
+-- the same where chains of uses are followed through so many definitions
+pub meaning_within : ℕ → List Definition → ℕ → Core
+meaning_within zero ds i = bottom
+meaning_within (suc steps) ds i = meant_use ds (meaning_within steps ds) (slice_get ds i)
+
+-- Where no definition reaches itself, no chain of uses is longer than there are definitions.
+abbrev pub meaning : List Definition → ℕ → Core
+meaning ds i = meaning_within (length ds) ds i
+
+-- the regular declarations of a text
+abbrev pub meant_fields : List Definition → (ℕ → Core) → Entries → Members
+meant_fields ds meaning no_entries = no_members
+meant_fields ds meaning (entry (field l chain e) es) = member (text_of l.name) l.mark (nested chain (meant ds meaning e)) (meant_fields ds meaning es)
+meant_fields ds meaning (entry _ es) = meant_fields ds meaning es
+
+-- a text means the struct of its regular declarations; its package clause and a `...` at its top mean nothing
+abbrev pub meant_text : Entries → Core
+meant_text es = struct (meant_fields (definitions es) (meaning (definitions es)) es)

@@ -1,0 +1,85 @@
+-- Where names are looked up, and which are faults.
+use Rattle.std.specs.Prelude.{ℕ, Bool, false, cond, List, [], ◌∷◌, ◌++◌, codes, ◌||◌}
+use Rattle.std.specs.Option.{is_some}
+use Rattle.std.specs.Str.{bytes_eq}
+use Rattle.cue_lattice.specs.declared.refusal.Kind.{Kind}
+use Rattle.cue_lattice.specs.declared.refusal.Kind.TheVariants as kinds
+use Rattle.cue_lattice.specs.declared.refusal.Refusal.{Refusal}
+use Rattle.cue_syntax.specs.declared.tree.Identifier.{Identifier}
+use Rattle.cue_syntax.specs.declared.tree.Identifier.TheVariants as identifiers
+use Rattle.cue_syntax.specs.declared.tree.Label.{Label}
+use Rattle.cue_syntax.specs.declared.tree.LabelName.{LabelName}
+use Rattle.cue_syntax.specs.declared.tree.LabelName.TheVariants as names
+use Rattle.cue_syntax.specs.Syntax as tree
+use Rattle.cue_syntax.specs.Syntax.{Expression, Elements, no_elements, element, Branch, branch, Branches, no_branches, next_branch, Entry, ellipsis, field, definition, Entries, no_entries, entry}
+use Rattle.cue_scope.specs.Named.{named_of, is_literal}
+use Rattle.cue_scope.specs.Definitions.{Definition, definitions, number_of}
+
+-- which texts are unquoted labels of the struct literals that enclose a place
+abbrev pub Scope : Type 0
+Scope = List ℕ → Bool
+
+abbrev pub is_unquoted : List ℕ → LabelName → Bool
+is_unquoted t (names.Plain u) = bytes_eq t u
+is_unquoted t (names.Quoted u) = false
+
+-- a declaration of the struct literal has this label, unquoted; behind a chain's first label there are structs of their own
+abbrev pub has_label : List ℕ → Entries → Bool
+has_label t no_entries = false
+has_label t (entry (field l chain e) es) = is_unquoted t l.name || has_label t es
+has_label t (entry _ es) = has_label t es
+
+-- inside a struct literal of these declarations
+abbrev pub inside : Entries → Scope → Scope
+inside es scope = λ t. has_label t es || scope t
+
+-- behind the further labels of a chain, each of which stands in a struct of its own
+abbrev pub behind : List Label → Scope → Scope
+behind [] scope = scope
+behind (l ∷ ls) scope = behind ls (λ t. is_unquoted t l.name || scope t)
+
+abbrev pub refuse : Kind → ℕ → List Refusal
+refuse kind place = record { kind = kind; place = place } ∷ []
+
+-- why a name can't stand here
+abbrev pub fault_of : List Definition → Scope → Identifier → ℕ → List Refusal
+fault_of ds scope (identifiers.Plain t) place =
+    cond (is_literal t) []
+    (cond (scope t) (refuse kinds.FieldReference place)
+    (cond (is_some (named_of t)) [] (refuse kinds.UnknownName place)))
+fault_of ds scope (identifiers.Definition t) place = cond (is_some (number_of t ds)) [] (refuse kinds.UnknownName place)
+fault_of ds scope (identifiers.Hidden t) place = cond (bytes_eq t (codes "_")) [] (refuse kinds.UnknownName place)
+
+-- why `close` can't be called here
+abbrev pub fault_of_close : Scope → ℕ → List Refusal
+fault_of_close scope place = cond (scope (codes "close")) (refuse kinds.FieldReference place) []
+
+-- the faults of the names in an expression, in text order
+abbrev mutual
+  pub faults : List Definition → Scope → Expression → List Refusal
+  faults ds scope (tree.name n place) = fault_of ds scope n place
+  faults ds scope (tree.parenthesis e comma) = faults ds scope e
+  faults ds scope (tree.struct es comma) = faults_of_entries ds (inside es scope) es
+  faults ds scope (tree.close place es inner comma) = fault_of_close scope place ++ faults_of_entries ds (inside es scope) es
+  faults ds scope (tree.list es goes_on comma) = faults_of_elements ds scope es
+  faults ds scope (tree.conjunction es) = faults_of_elements ds scope es
+  faults ds scope (tree.disjunction bs) = faults_of_branches ds scope bs
+  faults ds scope _ = []
+
+  pub faults_of_elements : List Definition → Scope → Elements → List Refusal
+  faults_of_elements ds scope no_elements = []
+  faults_of_elements ds scope (element e es) = faults ds scope e ++ faults_of_elements ds scope es
+
+  pub faults_of_branches : List Definition → Scope → Branches → List Refusal
+  faults_of_branches ds scope no_branches = []
+  faults_of_branches ds scope (next_branch (branch marked place e) bs) = faults ds scope e ++ faults_of_branches ds scope bs
+
+  pub faults_of_entries : List Definition → Scope → Entries → List Refusal
+  faults_of_entries ds scope no_entries = []
+  faults_of_entries ds scope (entry ellipsis es) = faults_of_entries ds scope es
+  faults_of_entries ds scope (entry (field l chain e) es) = faults ds (behind chain scope) e ++ faults_of_entries ds scope es
+  faults_of_entries ds scope (entry (definition t place chain e) es) = faults ds (behind chain scope) e ++ faults_of_entries ds scope es
+
+-- the faults of the names in a text
+abbrev pub name_faults : Entries → List Refusal
+name_faults es = faults_of_entries (definitions es) (inside es (λ t. false)) es

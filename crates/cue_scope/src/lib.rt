@@ -1,0 +1,12 @@
+//! Names, definitions and limits: what the definitions of a text are, and in which order they can be taken.
+#![tactic(auto)]
+
+mod components;
+mod definitions;
+mod graph;
+mod memory;
+mod named;
+
+pub use definitions::{Definition, Definitions};
+pub use graph::{Order, order_of, reached};
+pub use named::{Named, is_literal};

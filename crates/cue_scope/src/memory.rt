@@ -1,0 +1,31 @@
+ghost use Rattle.std.specs.Prelude.{◌≡◌, ◌++◌, ◌∷◌, [], OnOk, IfOk, IfErr, false};
+ghost use Rattle.std.proofs.Common.{replicate};
+ghost use Rattle.cue_lattice.specs.Refusal.{memory};
+
+use cue_lattice::{Memory, Refusal};
+use std::alloc::Global;
+
+/// Puts a value at the end.
+pub fn push<T: Drop>(values: &mut Vec<T>, value: T) -> Result<(), Refusal>
+    ensures pushed { OnOk result (values.new.items ≡ values.old.items ++ value ∷ []) }
+    ensures memory { IfErr result (λ refusal. refusal ≡ memory) }
+{
+    values.push(value).map_err(Memory::from)?;
+    Ok(())
+}
+
+/// So many zeros.
+pub fn zeros(alloc: Global, count: usize) -> Result<Vec<usize>, Refusal>
+    ensures zeros { IfOk result (λ v. v.items ≡ replicate count 0) }
+    ensures memory { IfErr result (λ refusal. refusal ≡ memory) }
+{
+    Ok(vec![in alloc; 0; count].map_err(Memory::from)?)
+}
+
+/// So many times `false`.
+pub fn flags(alloc: Global, count: usize) -> Result<Vec<bool>, Refusal>
+    ensures flags { IfOk result (λ v. v.items ≡ replicate count false) }
+    ensures memory { IfErr result (λ refusal. refusal ≡ memory) }
+{
+    Ok(vec![in alloc; false; count].map_err(Memory::from)?)
+}
