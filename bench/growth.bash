@@ -22,7 +22,7 @@ growth() {
     local what=$1 text worst=0 shape row size
     shift
     if [ ! -x "$program" ]; then
-        (cd crates/cue_vectors && rt run < stdin > /dev/null)
+        (cd crates/cue_vectors && rt run -- data/parse.tsv > /dev/null)
     fi
     text=$(mktemp)
     trap "rm -f '$text'" EXIT
