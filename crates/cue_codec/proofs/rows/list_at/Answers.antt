@@ -1,0 +1,4 @@
+use Rattle.cue_codec.proofs.rows.list_at.Goals as goal
+
+pub returns-clause-ok : goal.returns-clause-ok
+returns-clause-ok c = record { item = (c.in-Some.least, c.in-Some.most); says = c.in-Ok.ensures; begins = c.in-Some.ensures.some }

@@ -1,0 +1,4 @@
+use Rattle.cue_codec.proofs.rows.struct_at.Goals as goal
+
+pub returns-clause-ok : goal.returns-clause-ok
+returns-clause-ok c = record { item = c.in_ok-labels.labels; says = c.in-Ok.ensures; begins = c.in_ok-labels.ensures.ok }

@@ -1,0 +1,5 @@
+pub mod Parts
+pub mod Reading
+pub mod RowBytes
+pub mod State
+pub mod StateRow

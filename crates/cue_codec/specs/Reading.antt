@@ -1,0 +1,70 @@
+-- What a reader promises of the bytes in front of it.
+use Rattle.std.specs.Prelude.{◌≡◌, ◌⊎◌, ℕ, ◌^◌, ◌<◌, ℤ, List, ◌++◌, length, take, drop, nat_lt, if◌then◌else◌, Option, Some, None}
+use Rattle.std.specs.Int.{Width, byte_len, from_be_bytes}
+use Rattle.std.specs.List.{AllByRecursion}
+use Rattle.std.specs.Str.{IsUtf8}
+use Rattle.cue_lattice.specs.Path.{Step, label, index}
+use Rattle.cue_lattice.specs.Scalar.{IsInteger}
+use Rattle.cue_lattice.specs.declared.refusal.Kind.{Kind}
+use Rattle.cue_lattice.specs.declared.refusal.Kind.TheVariants as kinds
+
+-- the bytes of the value stand in front, and after them the rest
+pub record Begins {X : Type 0} (is_value : X → Type 0) (code : X → List ℕ) (item : X) (bytes rest : List ℕ) : Type 0 where
+  pub value : is_value item
+  pub parts : bytes ≡ code item ++ rest
+
+-- the bytes of no value stand in front
+abbrev pub BeginsNone : {X : Type 0} → (X → Type 0) → (X → List ℕ) → List ℕ → Type 0
+BeginsNone {X} is_value code bytes = (item : X) (rest : List ℕ) → is_value item → bytes ≡ code item ++ rest → ⊥
+
+-- a number, and the bytes after it
+unfoldable pub number_at : Width → List ℕ → Option (ℕ × List ℕ)
+number_at w bytes =
+    if nat_lt (length bytes) (byte_len w)
+    then None
+    else Some (from_be_bytes w (take (byte_len w) bytes), drop (byte_len w) bytes)
+
+-- memory ran out, or this is the reason why the bytes are no state
+abbrev pub IsRefused : Kind → Type 0 → Type 0
+IsRefused kind reason = (kind ≡ kinds.Memory) ⊎ ((kind ≡ kinds.NotState) × reason)
+
+-- texts and labels have at most 65,535 bytes
+abbrev pub IsShort : List ℕ → Type 0
+IsShort text = length text < 2 ^ 16
+
+-- a text in UTF-8 of at most 65,535 bytes
+pub record IsShortText (text : List ℕ) : Type 0 where
+  pub utf8 : IsUtf8 text
+  pub short : IsShort text
+
+abbrev pub AreShortTexts : List (List ℕ) → Type 0
+AreShortTexts texts = AllByRecursion IsShortText texts
+
+-- a piece of integers of 64 bits
+abbrev pub IsPiece : ℤ × ℤ → Type 0
+IsPiece piece = IsInteger piece.0 × IsInteger piece.1
+
+abbrev pub IsShortStep : Step → Type 0
+IsShortStep (label text) = IsShort text
+IsShortStep (index number) = Unit {0}
+
+abbrev pub AreShortLabels : Option (List (List ℕ)) → Type 0
+AreShortLabels None = Unit {0}
+AreShortLabels (Some labels) = AllByRecursion IsShort labels
+
+-- no greatest length, or one of 32 bits
+abbrev pub IsMost : Option ℕ → Type 0
+IsMost None = Unit {0}
+IsMost (Some most) = most < 2 ^ 32
+
+-- a least length of 32 bits, and a greatest
+abbrev pub AreLengths : ℕ × Option ℕ → Type 0
+AreLengths lengths = (lengths.0 < 2 ^ 32) × IsMost lengths.1
+
+-- so many items
+abbrev pub AreSo : {X : Type 0} → (X → Type 0) → ℕ → List X → Type 0
+AreSo is_item count items = (length items ≡ count) × AllByRecursion is_item items
+
+-- items that a count of 8 bytes can tell
+abbrev pub AreCounted : {X : Type 0} → (X → Type 0) → List X → Type 0
+AreCounted is_item items = AllByRecursion is_item items × (length items < 2 ^ 64)

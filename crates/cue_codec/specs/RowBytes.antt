@@ -1,0 +1,108 @@
+-- The bytes of a row: its path, its level, its kind, and what the kind leaves open.
+use Rattle.std.specs.Prelude.{◌≡◌, ℕ, Bool, true, false, not, ◌&&◌, List, [], ◌∷◌, ◌++◌, Option, None}
+use Rattle.std.specs.List.{AllByRecursion}
+use Rattle.cue_lattice.specs.Path.{Path}
+use Rattle.cue_sets.specs.Pieces.{least, greatest}
+use Rattle.cue_scalars.specs.declared.scalar_set.ScalarSet.{ScalarSet}
+use Rattle.cue_row.specs.declared.level.Level.{Level}
+use Rattle.cue_row.specs.declared.row.Row.{Row}
+use Rattle.cue_row.specs.Levels.{level_of}
+use Rattle.cue_codec.specs.Parts.{set_bytes, labels_bytes, lengths_bytes, path_bytes}
+use Rattle.cue_codec.specs.Reading.{Begins, AreLengths, IsShort, AreShortLabels}
+use Rattle.cue_codec.specs.StateRow.{IsStateSet, AreStateLabels, IsStatePath}
+
+-- what a row says beside its level: anything may stand; some scalar, with the usual ones; a struct with these labels; a
+-- list of these lengths; or nothing, where labels and lengths are left out
+pub data Parts : Type 0 where
+  free : Parts
+  scalar : ScalarSet → ScalarSet → Parts
+  struct : Option (List (List ℕ)) → Parts
+  list : ℕ × Option ℕ → Parts
+  nothing : Option (List (List ℕ)) → ℕ × Option ℕ → Parts
+
+-- some scalar, and the usual ones
+unfoldable pub scalars_bytes : ScalarSet × ScalarSet → List ℕ
+scalars_bytes sets = set_bytes sets.0 ++ set_bytes sets.1
+
+-- labels and lengths
+unfoldable pub left_out_bytes : Option (List (List ℕ)) × (ℕ × Option ℕ) → List ℕ
+left_out_bytes parts = labels_bytes parts.0 ++ lengths_bytes parts.1
+
+-- the kind, and what it leaves open
+unfoldable pub parts_bytes : Parts → List ℕ
+parts_bytes free = 0 ∷ []
+parts_bytes (scalar value usual) = 1 ∷ scalars_bytes (value, usual)
+parts_bytes (struct labels) = 2 ∷ labels_bytes labels
+parts_bytes (list lengths) = 3 ∷ lengths_bytes lengths
+parts_bytes (nothing labels lengths) = 4 ∷ left_out_bytes (labels, lengths)
+
+abbrev pub is_nil : {X : Type 0} → List X → Bool
+is_nil [] = true
+is_nil (x ∷ xs) = false
+
+-- whether a set has no member
+abbrev pub is_empty_set : ScalarSet → Bool
+is_empty_set set = not set.null && (not set.no && (not set.yes && (is_nil set.ints && (not set.texts.0 && is_nil set.texts.1))))
+
+-- the kind, by whether a struct may stand, whether a list may, and whether no scalar may
+abbrev pub parts_by : Bool → Bool → Bool → Row → Parts
+parts_by true true is_empty row = free
+parts_by true false is_empty row = struct row.labels
+parts_by false true is_empty row = list (row.least, row.most)
+parts_by false false true row = nothing row.labels (row.least, row.most)
+parts_by false false false row = scalar row.value row.usual
+
+abbrev pub parts_of : Row → Parts
+parts_of row = parts_by row.struct_ok row.list_ok (is_empty_set row.value) row
+
+-- the path, the level, and what else the row says
+unfoldable pub row_bytes : Path × Row → List ℕ
+row_bytes row = path_bytes row.0 ++ (level_of row.1.level ∷ parts_bytes (parts_of row.1))
+
+abbrev pub empty_set : ScalarSet
+empty_set = record { null = false; no = false; yes = false; ints = []; texts = (false, []) }
+
+abbrev pub full_set : ScalarSet
+full_set = record { null = true; no = true; yes = true; ints = (least, greatest) ∷ []; texts = (true, []) }
+
+-- the row of a kind that says no more than this
+abbrev pub row_of : Level → Parts → Row
+row_of level free = record { level = level; value = full_set; usual = full_set; struct_ok = true; list_ok = true; labels = None; least = 0; most = None }
+row_of level (scalar value usual) = record { level = level; value = value; usual = usual; struct_ok = false; list_ok = false; labels = None; least = 0; most = None }
+row_of level (struct labels) = record { level = level; value = empty_set; usual = empty_set; struct_ok = true; list_ok = false; labels = labels; least = 0; most = None }
+row_of level (list lengths) = record { level = level; value = empty_set; usual = empty_set; struct_ok = false; list_ok = true; labels = None; least = lengths.0; most = lengths.1 }
+row_of level (nothing labels lengths) = record { level = level; value = empty_set; usual = empty_set; struct_ok = false; list_ok = false; labels = labels; least = lengths.0; most = lengths.1 }
+
+-- some scalar, and the usual ones
+pub record AreScalars (sets : ScalarSet × ScalarSet) : Type 0 where
+  pub some : is_empty_set sets.0 ≡ false
+  pub value : IsStateSet sets.0
+  pub usual : IsStateSet sets.1
+
+abbrev pub AreLeftOut : Option (List (List ℕ)) × (ℕ × Option ℕ) → Type 0
+AreLeftOut parts = AreStateLabels parts.0 × AreLengths parts.1
+
+abbrev pub IsStateParts : Parts → Type 0
+IsStateParts free = Unit {0}
+IsStateParts (scalar value usual) = AreScalars (value, usual)
+IsStateParts (struct labels) = AreStateLabels labels
+IsStateParts (list lengths) = AreLengths lengths
+IsStateParts (nothing labels lengths) = AreLeftOut (labels, lengths)
+
+-- The path is one of the program, and the row says no more than its bytes do.
+pub record IsStateRow (row : Path × Row) : Type 0 where
+  pub path : IsStatePath row.0
+  pub parts : IsStateParts (parts_of row.1)
+  pub says : row.1 ≡ row_of row.1.level (parts_of row.1)
+
+-- A part of a row was read, and the row of this level that says it was made.
+pub record Reads {X : Type 0} (made : X → Parts) (is_value : X → Type 0) (code : X → List ℕ) (level : Level) (row : Row) (bytes rest : List ℕ) : Type 0 where
+  pub item : X
+  pub says : row ≡ row_of level (made item)
+  pub begins : Begins is_value code item bytes rest
+
+-- labels and texts are not too long to be written
+pub record IsShortRow (row : Row) : Type 0 where
+  pub labels : AreShortLabels row.labels
+  pub value : AllByRecursion IsShort row.value.texts.1
+  pub usual : AllByRecursion IsShort row.usual.texts.1

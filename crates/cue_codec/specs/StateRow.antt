@@ -1,0 +1,35 @@
+-- What the parts of a row may be in a state: sets and labels in their one form, texts in UTF-8 of at most 65,535 bytes,
+-- lists that a count of 8 bytes can tell.
+use Rattle.std.specs.Prelude.{ℕ, ℤ, ◌<◌, ◌≤◌, ◌^◌, Bool, List, length, Option, Some, None}
+use Rattle.std.specs.List.{AllByRecursion}
+use Rattle.cue_lattice.specs.Limits.{step_limit}
+use Rattle.cue_lattice.specs.Path.{Step, label, index, Path}
+use Rattle.cue_sets.specs.Pieces.{IsCanonical}
+use Rattle.cue_sets.specs.Texts.{IsAscending}
+use Rattle.cue_scalars.specs.declared.scalar_set.ScalarSet.{ScalarSet}
+use Rattle.cue_codec.specs.Reading.{IsShortText, AreCounted}
+
+abbrev pub IsStateIntegers : List (ℤ × ℤ) → Type 0
+IsStateIntegers pieces = IsCanonical pieces × (length pieces < 2 ^ 64)
+
+abbrev pub AreStateTexts : List (List ℕ) → Type 0
+AreStateTexts texts = IsAscending texts × AreCounted IsShortText texts
+
+abbrev pub IsStateTexts : Bool × List (List ℕ) → Type 0
+IsStateTexts set = AreStateTexts set.1
+
+pub record IsStateSet (set : ScalarSet) : Type 0 where
+  pub ints : IsStateIntegers set.ints
+  pub texts : IsStateTexts set.texts
+
+abbrev pub AreStateLabels : Option (List (List ℕ)) → Type 0
+AreStateLabels None = Unit {0}
+AreStateLabels (Some labels) = AreStateTexts labels
+
+-- a label in UTF-8, or an index of 32 bits
+abbrev pub IsStateStep : Step → Type 0
+IsStateStep (label text) = IsShortText text
+IsStateStep (index number) = number < 2 ^ 32
+
+abbrev pub IsStatePath : Path → Type 0
+IsStatePath path = AllByRecursion IsStateStep path × (length path ≤ step_limit)

@@ -1,0 +1,118 @@
+//! The parts of a row, read from the front of the bytes.
+
+ghost use Rattle.std.specs.Prelude.{◌≡◌, ◌<◌, ◌++◌, length, IfSome, IfNone};
+ghost use Rattle.std.specs.Int.{w16, w32, w64};
+ghost use Rattle.std.specs.Option.{option_map};
+ghost use Rattle.cue_lattice.specs.Scalar.{IsInteger};
+ghost use Rattle.cue_codec.specs.Parts.{integer_bytes, piece_bytes, text_bytes, flags, most_bytes, lengths_bytes};
+ghost use Rattle.cue_codec.specs.Reading.{Begins, BeginsNone, IsPiece, IsShortText, AreLengths, IsMost, number_at};
+
+#[tactic(auto, unfolding(crate::specs::Reading::number_at))]
+fn u16_at(bytes: &[u8]) -> Option<(u16, &[u8])>
+    ensures { option_map (λ x. (x.0, x.1.now)) result ≡ number_at w16 bytes.now }
+{
+    let (number, rest) = bytes.split_first_chunk::<2>()?;
+    Some((u16::from_be_bytes(*number), rest))
+}
+
+#[tactic(auto, unfolding(crate::specs::Reading::number_at))]
+pub fn u32_at(bytes: &[u8]) -> Option<(u32, &[u8])>
+    ensures { option_map (λ x. (x.0, x.1.now)) result ≡ number_at w32 bytes.now }
+{
+    let (number, rest) = bytes.split_first_chunk::<4>()?;
+    Some((u32::from_be_bytes(*number), rest))
+}
+
+#[tactic(auto, unfolding(crate::specs::Reading::number_at))]
+pub fn u64_at(bytes: &[u8]) -> Option<(u64, &[u8])>
+    ensures { option_map (λ x. (x.0, x.1.now)) result ≡ number_at w64 bytes.now }
+{
+    let (number, rest) = bytes.split_first_chunk::<8>()?;
+    Some((u64::from_be_bytes(*number), rest))
+}
+
+fn i64_at(bytes: &[u8]) -> Option<(i64, &[u8])>
+    ensures some { IfSome result (λ x. Begins IsInteger integer_bytes x.0 bytes.now x.1.now) }
+    ensures none { IfNone result (length bytes.now < 8) }
+{
+    let (number, rest) = u64_at(bytes)?;
+    Some((number.cast_signed(), rest))
+}
+
+/// The first and the last integer of a piece.
+pub fn piece_at(bytes: &[u8]) -> Option<((i64, i64), &[u8])>
+    ensures some { IfSome result (λ x. Begins IsPiece piece_bytes x.0 bytes.now x.1.now) }
+    ensures none { IfNone result (BeginsNone IsPiece piece_bytes bytes.now) }
+{
+    let (first, rest) = i64_at(bytes)?;
+    let (last, rest) = i64_at(rest)?;
+    Some(((first, last), rest))
+}
+
+/// So many bytes, and those after them.
+fn front_at(len: usize, bytes: &[u8]) -> Option<(&[u8], &[u8])>
+    ensures some { IfSome result (λ x. (bytes.now ≡ x.0.now ++ x.1.now) × (length x.0.now ≡ len)) }
+    ensures none { IfNone result (length bytes.now < len) }
+{
+    if bytes.len() < len {
+        return None;
+    }
+    Some(bytes.split_at(len))
+}
+
+/// A text after its length.
+pub fn text_at(bytes: &[u8]) -> Option<(&str, &[u8])>
+    ensures some { IfSome result (λ x. Begins IsShortText text_bytes x.0.now bytes.now x.1.now) }
+    ensures none { IfNone result (BeginsNone IsShortText text_bytes bytes.now) }
+{
+    let (len, rest) = u16_at(bytes)?;
+    let (text, rest) = front_at(len as usize, rest)?;
+    match str::from_utf8(text) {
+        Ok(text) => Some((text, rest)),
+        Err(_) => None,
+    }
+}
+
+/// Whether null, false and true are members, by the byte that says so.
+pub fn flags_of(byte: u8) -> Option<(bool, bool, bool)>
+    ensures some { IfSome result (λ x. flags x.0 x.1 x.2 ≡ byte) }
+    ensures none { IfNone result (7 < byte) }
+{
+    match byte {
+        0 => Some((false, false, false)),
+        1 => Some((true, false, false)),
+        2 => Some((false, true, false)),
+        3 => Some((true, true, false)),
+        4 => Some((false, false, true)),
+        5 => Some((true, false, true)),
+        6 => Some((false, true, true)),
+        7 => Some((true, true, true)),
+        8..=u8::MAX => None,
+    }
+}
+
+/// The greatest length, where there is one.
+fn most_at(bytes: &[u8]) -> Option<(Option<u32>, &[u8])>
+    ensures some { IfSome result (λ x. Begins IsMost most_bytes x.0 bytes.now x.1.now) }
+    ensures none { IfNone result (BeginsNone IsMost most_bytes bytes.now) }
+{
+    let (tag, rest) = bytes.split_first()?;
+    match *tag {
+        0 => Some((None, rest)),
+        1 => {
+            let (most, rest) = u32_at(rest)?;
+            Some((Some(most), rest))
+        }
+        2..=u8::MAX => None,
+    }
+}
+
+/// The least and the greatest length.
+pub fn lengths_at(bytes: &[u8]) -> Option<((u32, Option<u32>), &[u8])>
+    ensures some { IfSome result (λ x. Begins AreLengths lengths_bytes x.0 bytes.now x.1.now) }
+    ensures none { IfNone result (BeginsNone AreLengths lengths_bytes bytes.now) }
+{
+    let (least, rest) = u32_at(bytes)?;
+    let (most, rest) = most_at(rest)?;
+    Some(((least, most), rest))
+}

@@ -1,0 +1,73 @@
+//! Rows as bytes.
+
+ghost use Rattle.std.specs.Prelude.{◌≡◌, ◌++◌, OnOk};
+ghost use Rattle.std.specs.List.{AllByRecursion};
+ghost use Rattle.cue_codec.specs.Reading.{IsShortStep};
+ghost use Rattle.cue_codec.specs.RowBytes.{parts_bytes, parts_of, row_bytes, scalars_bytes, left_out_bytes, IsShortRow};
+
+use crate::rows::is_empty;
+use crate::writing::{put_labels, put_lengths, put_path, put_set};
+use cue_lattice::Memory;
+use cue_row::{Path, Row};
+
+/// Writes some scalar, and the usual ones.
+#[tactic(auto, unfolding(crate::specs::RowBytes::scalars_bytes))]
+fn put_scalars(out: &mut Vec<u8>, row: &Row) -> Result<(), Memory>
+    requires { IsShortRow row.now }
+    ensures { OnOk result (out.new.items ≡ out.old.items ++ scalars_bytes (row.now.value, row.now.usual)) }
+{
+    put_set(out, &row.value)?;
+    put_set(out, &row.usual)
+}
+
+/// Writes the labels and the lengths that are left out.
+#[tactic(auto, unfolding(crate::specs::RowBytes::left_out_bytes))]
+fn put_left_out(out: &mut Vec<u8>, row: &Row) -> Result<(), Memory>
+    requires { IsShortRow row.now }
+    ensures { OnOk result (out.new.items ≡ out.old.items ++ left_out_bytes (row.now.labels, (row.now.least, row.now.most))) }
+{
+    put_labels(out, &row.labels)?;
+    put_lengths(out, row.least, row.most)
+}
+
+/// Writes the kind of a row, and what it leaves open.
+#[tactic(auto, unfolding(crate::specs::RowBytes::parts_bytes))]
+fn put_parts(out: &mut Vec<u8>, row: &Row) -> Result<(), Memory>
+    requires { IsShortRow row.now }
+    ensures { OnOk result (out.new.items ≡ out.old.items ++ parts_bytes (parts_of row.now)) }
+{
+    match (row.struct_ok, row.list_ok) {
+        (true, true) => {
+            out.push(0)?;
+            Ok(())
+        }
+        (true, false) => {
+            out.push(2)?;
+            put_labels(out, &row.labels)
+        }
+        (false, true) => {
+            out.push(3)?;
+            put_lengths(out, row.least, row.most)
+        }
+        (false, false) => {
+            if is_empty(&row.value) {
+                out.push(4)?;
+                return put_left_out(out, row);
+            }
+            out.push(1)?;
+            put_scalars(out, row)
+        }
+    }
+}
+
+/// Writes a row after what was written before. An error says that memory ran out; more may then have been written.
+#[tactic(auto, unfolding(crate::specs::RowBytes::row_bytes))]
+pub fn put_row(out: &mut Vec<u8>, path: &Path, row: &Row) -> Result<(), Memory>
+    requires path { AllByRecursion IsShortStep path.now }
+    requires row { IsShortRow row.now }
+    ensures { OnOk result (out.new.items ≡ out.old.items ++ row_bytes (path.now, row.now)) }
+{
+    put_path(out, path)?;
+    out.push(row.level.number())?;
+    put_parts(out, row)
+}

@@ -1,0 +1,154 @@
+//! Sets, read from the front of the bytes.
+
+ghost use Rattle.std.specs.Prelude.{◌≡◌, ℤ, ◌<◌, ◌↔◌, [], ◌∷◌, IfOk, IfErr, IfSome, IfNone, IsTrue};
+ghost use Rattle.std.specs.List.{AllByRecursion};
+ghost use Rattle.cue_sets.specs.Pieces.{is_member, IsCanonical};
+ghost use Rattle.cue_codec.specs.Parts.{bit, counted_bytes, piece_bytes, text_set_bytes, set_bytes, labels_bytes};
+ghost use Rattle.cue_codec.specs.Reading.{Begins, BeginsNone, IsRefused, IsPiece};
+ghost use Rattle.cue_codec.specs.StateRow.{IsStateIntegers, IsStateTexts, IsStateSet, AreStateLabels};
+
+use crate::lists::{pieces_at, texts_at};
+use crate::reading::flags_of;
+use cue_lattice::{Kind, Memory, Narrow};
+use cue_row::Labels;
+use cue_scalars::ScalarSet;
+use cue_sets::{IntSet, TextSet};
+use std::alloc::Global;
+
+/// The integers from `first` to `last`, with both.
+fn between(alloc: Global, piece: (i64, i64)) -> Result<IntSet, Memory>
+    requires { IsPiece piece }
+    ensures { IfOk result (λ set. (n : ℤ) → is_member set n ≡ is_member (piece ∷ []) n) }
+{
+    let above = IntSet::at_least(alloc, piece.0)?;
+    let below = IntSet::at_most(alloc, piece.1)?;
+    above.meet(alloc, &below)
+}
+
+/// The integers of all pieces. Halves are united, so that many pieces cost little more than their number.
+fn united(alloc: Global, pieces: &[(i64, i64)]) -> Result<IntSet, Memory>
+    requires { AllByRecursion IsPiece pieces.now }
+    ensures { IfOk result (λ set. (n : ℤ) → is_member set n ≡ is_member pieces.now n) }
+{
+    match pieces {
+        [] => IntSet::empty(alloc),
+        [piece] => between(alloc, *piece),
+        _ => {
+            let (left, right) = pieces.split_at(pieces.len() / 2);
+            let left = united(alloc, left)?;
+            let right = united(alloc, right)?;
+            left.union(alloc, &right)
+        }
+    }
+}
+
+/// Whether both are the same pieces in the same order.
+fn are_same(left: &[(i64, i64)], right: &[(i64, i64)]) -> bool
+    ensures { IsTrue result ↔ (left.now ≡ right.now) }
+{
+    left == right
+}
+
+/// The set of these pieces, where they are the one form of a set.
+fn set_of(alloc: Global, pieces: &[(i64, i64)]) -> Result<IntSet, Kind>
+    requires { AllByRecursion IsPiece pieces.now }
+    ensures ok { IfOk result (λ set. (set ≡ pieces.now) × IsCanonical pieces.now) }
+    ensures refused { IfErr result (λ kind. IsRefused kind (¬ IsCanonical pieces.now)) }
+{
+    let Ok(set) = united(alloc, pieces) else {
+        return Err(Kind::Memory);
+    };
+    if !are_same(set.pieces(), pieces) {
+        return Err(Kind::NotState);
+    }
+    Ok(set)
+}
+
+/// A set of integers.
+fn int_set_at(alloc: Global, bytes: &[u8]) -> Result<(IntSet, &[u8]), Kind>
+    ensures ok { IfOk result (λ x. Begins IsStateIntegers (counted_bytes piece_bytes) x.0 bytes.now x.1.now) }
+    ensures refused { IfErr result (λ kind. IsRefused kind (BeginsNone IsStateIntegers (counted_bytes piece_bytes) bytes.now)) }
+{
+    let (pieces, rest) = pieces_at(alloc, bytes)?;
+    let set = set_of(alloc, pieces.as_slice())?;
+    Ok((set, rest))
+}
+
+/// The truth value that a byte is.
+fn bit_of(byte: u8) -> Option<bool>
+    ensures some { IfSome result (λ x. bit x ≡ byte) }
+    ensures none { IfNone result (1 < byte) }
+{
+    match byte {
+        0 => Some(false),
+        1 => Some(true),
+        2..=u8::MAX => None,
+    }
+}
+
+/// A set of texts.
+fn text_set_at(alloc: Global, bytes: &[u8]) -> Result<(TextSet, &[u8]), Kind>
+    ensures ok { IfOk result (λ x. Begins IsStateTexts text_set_bytes x.0 bytes.now x.1.now) }
+    ensures refused { IfErr result (λ kind. IsRefused kind (BeginsNone IsStateTexts text_set_bytes bytes.now)) }
+{
+    let Some((tag, rest)) = bytes.split_first() else {
+        return Err(Kind::NotState);
+    };
+    let Some(all_but) = bit_of(*tag) else {
+        return Err(Kind::NotState);
+    };
+    let (texts, rest) = texts_at(alloc, rest)?;
+    let Some(set) = TextSet::from_texts(all_but, texts) else {
+        return Err(Kind::NotState);
+    };
+    set.known();
+    Ok((set, rest))
+}
+
+/// A set of scalars.
+pub fn set_at(alloc: Global, bytes: &[u8]) -> Result<(ScalarSet, &[u8]), Kind>
+    ensures ok { IfOk result (λ x. Begins IsStateSet set_bytes x.0 bytes.now x.1.now) }
+    ensures refused { IfErr result (λ kind. IsRefused kind (BeginsNone IsStateSet set_bytes bytes.now)) }
+{
+    let Some((tag, rest)) = bytes.split_first() else {
+        return Err(Kind::NotState);
+    };
+    let Some((null, no, yes)) = flags_of(*tag) else {
+        return Err(Kind::NotState);
+    };
+    let (ints, rest) = int_set_at(alloc, rest)?;
+    let (texts, rest) = text_set_at(alloc, rest)?;
+    let set = ScalarSet {
+        null,
+        no,
+        yes,
+        ints,
+        texts,
+    };
+    Ok((set, rest))
+}
+
+/// Which labels may stand: all, or the listed ones.
+pub fn labels_at(alloc: Global, bytes: &[u8]) -> Result<(Labels, &[u8]), Kind>
+    ensures ok { IfOk result (λ x. Begins AreStateLabels labels_bytes x.0 bytes.now x.1.now) }
+    ensures refused { IfErr result (λ kind. IsRefused kind (BeginsNone AreStateLabels labels_bytes bytes.now)) }
+{
+    let Some((tag, rest)) = bytes.split_first() else {
+        return Err(Kind::NotState);
+    };
+    let Some(is_listed) = bit_of(*tag) else {
+        return Err(Kind::NotState);
+    };
+    if !is_listed {
+        let Ok(labels) = Labels::all(alloc) else {
+            return Err(Kind::Memory);
+        };
+        return Ok((labels, rest));
+    }
+    let (texts, rest) = texts_at(alloc, rest)?;
+    let Some(labels) = Labels::listing(texts) else {
+        return Err(Kind::NotState);
+    };
+    labels.known();
+    Ok((labels, rest))
+}

@@ -1,0 +1,183 @@
+//! The parts of a row as bytes.
+
+ghost use Rattle.std.specs.Prelude.{◌≡◌, ◌++◌, OnOk};
+ghost use Rattle.std.specs.List.{flat_map, AllByRecursion};
+ghost use Rattle.cue_row.specs.Steps.{step_of};
+ghost use Rattle.cue_codec.specs.Parts.{integer_bytes, counted_bytes, piece_bytes, text_bytes, flags, text_set_bytes, set_bytes, labels_bytes, most_bytes, lengths_bytes, step_bytes, path_bytes};
+ghost use Rattle.cue_codec.specs.Reading.{IsShort, IsShortStep, AreShortLabels};
+
+use cue_lattice::{Memory, Text};
+use cue_row::{Labels, Path, Step};
+use cue_scalars::ScalarSet;
+use cue_sets::TextSet;
+
+#[tactic(auto, unfolding(crate::specs::Parts::integer_bytes))]
+fn put_integer(out: &mut Vec<u8>, integer: i64) -> Result<(), Memory>
+    ensures { OnOk result (out.new.items ≡ out.old.items ++ integer_bytes integer) }
+{
+    out.extend_from_slice(&integer.to_be_bytes())?;
+    Ok(())
+}
+
+#[tactic(auto, unfolding(crate::specs::Parts::piece_bytes))]
+fn put_piece(out: &mut Vec<u8>, piece: (i64, i64)) -> Result<(), Memory>
+    ensures { OnOk result (out.new.items ≡ out.old.items ++ piece_bytes piece) }
+{
+    put_integer(out, piece.0)?;
+    put_integer(out, piece.1)?;
+    Ok(())
+}
+
+#[tactic(auto, unfolding(crate::specs::Parts::text_bytes))]
+fn put_text(out: &mut Vec<u8>, text: &Text) -> Result<(), Memory>
+    requires { IsShort text.now }
+    ensures { OnOk result (out.new.items ≡ out.old.items ++ text_bytes text.now) }
+{
+    let bytes = text.as_bytes();
+    out.extend_from_slice(&(bytes.len() as u16).to_be_bytes())?;
+    out.extend_from_slice(bytes)?;
+    Ok(())
+}
+
+fn put_each_piece(out: &mut Vec<u8>, pieces: &[(i64, i64)]) -> Result<(), Memory>
+    ensures { OnOk result (out.new.items ≡ out.old.items ++ flat_map piece_bytes pieces.now) }
+{
+    for piece in pieces {
+        put_piece(out, *piece)?;
+    }
+    Ok(())
+}
+
+#[tactic(auto, unfolding(crate::specs::Parts::counted_bytes))]
+fn put_pieces(out: &mut Vec<u8>, pieces: &[(i64, i64)]) -> Result<(), Memory>
+    ensures { OnOk result (out.new.items ≡ out.old.items ++ counted_bytes piece_bytes pieces.now) }
+{
+    out.extend_from_slice(&(pieces.len() as u64).to_be_bytes())?;
+    put_each_piece(out, pieces)
+}
+
+fn put_each_text(out: &mut Vec<u8>, texts: &[Text]) -> Result<(), Memory>
+    requires { AllByRecursion IsShort texts.now }
+    ensures { OnOk result (out.new.items ≡ out.old.items ++ flat_map text_bytes texts.now) }
+{
+    for text in texts {
+        put_text(out, text)?;
+    }
+    Ok(())
+}
+
+#[tactic(auto, unfolding(crate::specs::Parts::counted_bytes))]
+fn put_texts(out: &mut Vec<u8>, texts: &[Text]) -> Result<(), Memory>
+    requires { AllByRecursion IsShort texts.now }
+    ensures { OnOk result (out.new.items ≡ out.old.items ++ counted_bytes text_bytes texts.now) }
+{
+    out.extend_from_slice(&(texts.len() as u64).to_be_bytes())?;
+    put_each_text(out, texts)
+}
+
+#[tactic(auto, unfolding(crate::specs::Parts::text_set_bytes))]
+fn put_text_set(out: &mut Vec<u8>, set: &TextSet) -> Result<(), Memory>
+    requires { AllByRecursion IsShort set.now.1 }
+    ensures { OnOk result (out.new.items ≡ out.old.items ++ text_set_bytes set.now) }
+{
+    let (all_but, texts) = set.listed();
+    out.push(u8::from(all_but))?;
+    put_texts(out, texts)
+}
+
+/// A byte that says which of null, false and true are members.
+fn flags_of(null: bool, no: bool, yes: bool) -> u8
+    ensures { result ≡ flags null no yes }
+{
+    u8::from(null) + 2 * u8::from(no) + 4 * u8::from(yes)
+}
+
+#[tactic(auto, unfolding(crate::specs::Parts::set_bytes))]
+pub fn put_set(out: &mut Vec<u8>, set: &ScalarSet) -> Result<(), Memory>
+    requires { AllByRecursion IsShort set.now.texts.1 }
+    ensures { OnOk result (out.new.items ≡ out.old.items ++ set_bytes set.now) }
+{
+    out.push(flags_of(set.null, set.no, set.yes))?;
+    put_pieces(out, set.ints.pieces())?;
+    put_text_set(out, &set.texts)
+}
+
+/// Writes which labels may stand: all, or the listed ones.
+#[tactic(auto, unfolding(crate::specs::Parts::labels_bytes))]
+pub fn put_labels(out: &mut Vec<u8>, labels: &Labels) -> Result<(), Memory>
+    requires { AreShortLabels labels.now }
+    ensures { OnOk result (out.new.items ≡ out.old.items ++ labels_bytes labels.now) }
+{
+    match labels.listed() {
+        None => {
+            out.push(0)?;
+            Ok(())
+        }
+        Some(texts) => {
+            out.push(1)?;
+            put_texts(out, texts)
+        }
+    }
+}
+
+#[tactic(auto, unfolding(crate::specs::Parts::most_bytes))]
+fn put_most(out: &mut Vec<u8>, most: Option<u32>) -> Result<(), Memory>
+    ensures { OnOk result (out.new.items ≡ out.old.items ++ most_bytes most) }
+{
+    match most {
+        None => {
+            out.push(0)?;
+        }
+        Some(most) => {
+            out.push(1)?;
+            out.extend_from_slice(&most.to_be_bytes())?;
+        }
+    }
+    Ok(())
+}
+
+#[tactic(auto, unfolding(crate::specs::Parts::lengths_bytes))]
+pub fn put_lengths(out: &mut Vec<u8>, least: u32, most: Option<u32>) -> Result<(), Memory>
+    ensures { OnOk result (out.new.items ≡ out.old.items ++ lengths_bytes (least, most)) }
+{
+    out.extend_from_slice(&least.to_be_bytes())?;
+    put_most(out, most)
+}
+
+#[tactic(auto, unfolding(crate::specs::Parts::step_bytes))]
+fn put_step(out: &mut Vec<u8>, step: &Step) -> Result<(), Memory>
+    requires { IsShortStep (step_of step.now) }
+    ensures { OnOk result (out.new.items ≡ out.old.items ++ step_bytes (step_of step.now)) }
+{
+    match step {
+        Step::Label(text) => {
+            out.push(0)?;
+            put_text(out, text)
+        }
+        Step::Index(number) => {
+            out.push(1)?;
+            out.extend_from_slice(&number.to_be_bytes())?;
+            Ok(())
+        }
+    }
+}
+
+fn put_each_step(out: &mut Vec<u8>, steps: &[Step]) -> Result<(), Memory>
+    requires { AllByRecursion (λ step. IsShortStep (step_of step)) steps.now }
+    ensures { OnOk result (out.new.items ≡ out.old.items ++ flat_map (λ step. step_bytes (step_of step)) steps.now) }
+{
+    for step in steps {
+        put_step(out, step)?;
+    }
+    Ok(())
+}
+
+#[tactic(auto, unfolding(crate::specs::Parts::path_bytes))]
+pub fn put_path(out: &mut Vec<u8>, path: &Path) -> Result<(), Memory>
+    requires { AllByRecursion IsShortStep path.now }
+    ensures { OnOk result (out.new.items ≡ out.old.items ++ path_bytes path.now) }
+{
+    let steps = path.steps();
+    out.push(steps.len() as u8)?;
+    put_each_step(out, steps)
+}
