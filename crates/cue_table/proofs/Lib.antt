@@ -1,3 +1,4 @@
 pub mod Order
+pub mod Exact
 pub mod Finding
 pub mod Nodes

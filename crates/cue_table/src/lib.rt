@@ -3,6 +3,7 @@
 
 mod branch;
 mod iter;
+mod laws;
 mod node;
 mod table;
 
@@ -10,4 +11,5 @@ pub use branch::Branch;
 pub use cue_lattice::{Memory, Narrow};
 pub use cue_row::{Path, Step};
 pub use iter::{Children, Items, Labels};
+pub use laws::equal_answers;
 pub use table::Table;
