@@ -1,14 +1,13 @@
 -- Tables with equal answers are equal.
 use Rattle.std.proofs.Common.{◌≡◌, ◌↔◌, Option, Some, None, ◌∷◌, [], refl, sym, ap, subst, ◌∙◌}
 use Rattle.std.specs.Option.{option_and_then}
-use Rattle.std.specs.Ordering.{ordering_reverse}
 use Rattle.std.specs.declared.cmp.Ordering.{Ordering}
 use Rattle.std.specs.declared.cmp.Ordering.TheVariants.{Less, Equal, Greater}
 use Rattle.cue_lattice.specs.Path.{Step, step_cmp, Path}
 use Rattle.cue_lattice.specs.Pair.{IsExact}
 use Rattle.cue_table.specs.Tree.{Tree, node, Children, none, child, row_of, if_equal, find, branch_at}
 use Rattle.cue_table.specs.Refuses.{RowRefuses, TableRefuses}
-use Rattle.cue_table.specs.Form.{IsBelowAll, IsTaken, IsRow, IsTree, AreBranches, IsKept, IsTable}
+use Rattle.cue_table.specs.Form.{IsBelowAll, IsTaken, IsRow, IsTree, AreBranches, IsKept}
 use Rattle.cue_table.proofs.Order.{step_total, equal_steps}
 use Rattle.cue_table.proofs.Finding.{reverse_cmp, same_step}
 
@@ -106,15 +105,15 @@ module _ {R Q : Type 0} (refuses : R → Q → Type 0) where
           let alike : SameBelow (child s t cs) (child s v ds) = subst (λ x. SameBelow (child s t cs) (child x v ds)) (sym steps) same in
           let above : IsBelowAll s ds = subst (λ x. IsBelowAll x ds) (sym steps) k.0 in
           let branch : t ≡ v =
-              first (λ path question. (
-                λ q. found_refuses _ _ (find_first s v ds) path question ((alike s path question).0 (found_refuses _ _ (sym (find_first s t cs)) path question q)),
-                λ q. found_refuses _ _ (find_first s t cs) path question ((alike s path question).1 (found_refuses _ _ (sym (find_first s v ds)) path question q)),
-              )) in
+          first (λ path question. (
+            λ q. found_refuses _ _ (find_first s v ds) path question ((alike s path question).0 (found_refuses _ _ (sym (find_first s t cs)) path question q)),
+            λ q. found_refuses _ _ (find_first s t cs) path question ((alike s path question).1 (found_refuses _ _ (sym (find_first s v ds)) path question q)),
+          )) in
           let rest : cs ≡ ds =
-              others (λ step path question. (
-                λ q. rest_same s t v cs ds h.0 above alike step (step_cmp step s) refl path question q,
-                λ q. rest_same s v t ds cs above h.0 (flip (child s t cs) (child s v ds) alike) step (step_cmp step s) refl path question q,
-              )) in
+          others (λ step path question. (
+            λ q. rest_same s t v cs ds h.0 above alike step (step_cmp step s) refl path question q,
+            λ q. rest_same s v t ds cs above h.0 (flip (child s t cs) (child s v ds) alike) step (step_cmp step s) refl path question q,
+          )) in
           λ i. child (steps i) (branch i) (rest i)
 
       mutual

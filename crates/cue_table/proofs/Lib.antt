@@ -1,4 +1,5 @@
 pub mod Order
 pub mod Exact
 pub mod Finding
+pub mod Meeting
 pub mod Nodes

@@ -1,5 +1,6 @@
 -- What the fields of a node say of its tree.
 use Rattle.std.proofs.Common.{◌≡◌, ℕ, zero, suc, Bool, true, false, nat_eq, List, [], ◌∷◌, length, get_or, drop, Option, Some, None, refl, sym, ap, subst, ◌∙◌, arith}
+use Rattle.std.specs.Prelude.{◌↔◌, IsTrue}
 use Rattle.std.specs.List.Sorted.{IsPartitionedBy, IsPartitionPoint}
 use Rattle.std.specs.declared.cmp.Ordering.TheVariants.{Less}
 use Rattle.cue_lattice.specs.Path.{label, index, step_cmp}
@@ -36,6 +37,12 @@ no_labels : {R : Type 0} (n : ℕ) (children : Children R) → IsBelowAll (index
 no_labels n none h = refl
 no_labels n (child (label text) tree children) h = let e = h.0 in cc
 no_labels n (child (index m) tree children) h = no_labels n children h.1
+
+step_of_same : (s t : Step) → step_of s ≡ step_of t → s ≡ t
+step_of_same (Label l) (Label m) e = let same : l ≡ m = cc in ap Label same
+step_of_same (Index l) (Index m) e = let same : l ≡ m = cc in ap Index same
+step_of_same (Label l) (Index m) e = cc
+step_of_same (Index l) (Label m) e = cc
 
 -- the step is a label
 abbrev pub is_label : Step → Bool
@@ -105,3 +112,28 @@ module _ {R Q : Type 0} where
   starts_from [] (suc k) p = tt
   starts_from (c ∷ cs) (suc k) p =
       starts_from cs k (λ i d low lt. p.0 (suc i) d (omega arith) (omega arith), λ i d low lt. p.1 (suc i) d (omega arith) (omega arith))
+
+  -- the branches tell the children that they are made of
+  pub branches_same : (cs ds : List (Child R Q)) → branches cs ≡ branches ds → cs ≡ ds
+  branches_same [] [] e = refl
+  branches_same (c ∷ cs) (d ∷ ds) e =
+      let steps : step_of c.step ≡ step_of d.step = cc in
+      let step : c.step ≡ d.step = step_of_same c.step d.step steps in
+      let tree : c.node ≡ d.node = cc in
+      let others : branches cs ≡ branches ds = cc in
+      let rest = branches_same cs ds others in
+      λ i. record { step = step i; node = tree i } ∷ rest i
+  branches_same [] (d ∷ ds) e = cc
+  branches_same (c ∷ cs) [] e = cc
+
+  -- nodes are equal where their rows and their children are
+  pub same_nodes :
+      (a b : Inside R Q) (s t : Tree R) (rows children : Bool) → tree_of a ≡ s → tree_of b ≡ t → rows ≡ true
+      → (IsTrue rows ↔ (a.row ≡ b.row)) → (IsTrue children ↔ (a.children.items ≡ b.children.items)) → IsTrue children ↔ (s ≡ t)
+  same_nodes a b s t rows children e f r h k =
+      let row : a.row ≡ b.row = h.0 r in (
+        λ c. sym e ∙ (λ i. node (row i) (branches (k.0 c i))) ∙ f,
+        λ g. let same : node a.row (branches a.children.items) ≡ node b.row (branches b.children.items) = e ∙ g ∙ sym f in
+            let inner : branches a.children.items ≡ branches b.children.items = cc in
+            k.1 (branches_same a.children.items b.children.items inner),
+      )

@@ -1,6 +1,7 @@
 pub mod Code
 pub mod Falls
 pub mod Form
+pub mod Meet
 pub mod Place
 pub mod Refuses
 pub mod Size

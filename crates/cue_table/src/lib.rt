@@ -4,6 +4,7 @@
 mod branch;
 mod iter;
 mod laws;
+mod meet;
 mod node;
 mod table;
 

@@ -1,4 +1,4 @@
-ghost use Rattle.std.specs.Prelude.{◌≡◌, map, IfSome, MatchResult, None};
+ghost use Rattle.std.specs.Prelude.{◌≡◌, ◌↔◌, map, IfOk, IfSome, IsTrue, MatchResult, None};
 ghost use Rattle.std.specs.Option.{option_map};
 ghost use Rattle.cue_table.specs.Tree.{empty, below, taken, find, branch_at};
 ghost use Rattle.cue_table.specs.Form.{IsTable, Rise};
@@ -6,7 +6,7 @@ ghost use Rattle.cue_row.specs.Steps.{step_of};
 ghost use Rattle.cue_table.specs.View.{branches};
 ghost use Rattle.cue_table.specs.Place.{IsPlace};
 
-use cue_lattice::Narrow;
+use cue_lattice::{Memory, Narrow};
 use cue_row::Step;
 use std::alloc::Global;
 use std::marker::Model;
@@ -94,6 +94,81 @@ impl<R: Narrow> Node<R> {
         }
         Some(node)
     }
+
+    /// Whether both are the same place.
+    #[cycle(same)]
+    pub(crate) fn same(&self, other: &Node<R>) -> bool
+        ensures { IsTrue result ↔ (self.now ≡ other.now) }
+    {
+        same_row(&self.row, &other.row) && same_children(&self.children, &other.children)
+    }
+
+    #[cycle(copy)]
+    pub(crate) fn copy(&self, alloc: Global) -> Result<Node<R>, Memory>
+        ensures { IfOk result (λ node. node ≡ self.now) }
+    {
+        Ok(Node {
+            row: copy_row(alloc, &self.row)?,
+            children: copy_children(alloc, &self.children)?,
+        })
+    }
+}
+
+impl<R: Narrow> Child<R> {
+    #[cycle(copy)]
+    pub(crate) fn copy(&self, alloc: Global) -> Result<Child<R>, Memory>
+        ensures { IfOk result (λ copied. copied ≡ self.now) }
+    {
+        Ok(Child {
+            step: self.step.copy(alloc)?,
+            node: self.node.copy(alloc)?,
+        })
+    }
+}
+
+fn same_row<R: Narrow>(left: &Option<R>, right: &Option<R>) -> bool
+    ensures { IsTrue result ↔ (left.now ≡ right.now) }
+{
+    match (left, right) {
+        (None, None) => true,
+        (Some(a), Some(b)) => a.same(b),
+        _ => false,
+    }
+}
+
+#[cycle(same)]
+fn same_children<R: Narrow>(left: &[Child<R>], right: &[Child<R>]) -> bool
+    ensures { IsTrue result ↔ (left.now ≡ right.now) }
+{
+    if left.len() != right.len() {
+        return false;
+    }
+    for (i, child) in left.iter().enumerate() {
+        if !child.step.same(&right[i].step) || !child.node.same(&right[i].node) {
+            return false;
+        }
+    }
+    true
+}
+
+fn copy_row<R: Narrow>(alloc: Global, row: &Option<R>) -> Result<Option<R>, Memory>
+    ensures { IfOk result (λ copied. copied ≡ row.now) }
+{
+    match row {
+        None => Ok(None),
+        Some(row) => Ok(Some(row.copy(alloc)?)),
+    }
+}
+
+#[cycle(copy)]
+fn copy_children<R: Narrow>(alloc: Global, children: &[Child<R>]) -> Result<Vec<Child<R>>, Memory>
+    ensures { IfOk result (λ copied. copied.items ≡ children.now) }
+{
+    let mut copied = Vec::with_capacity(alloc, children.len())?;
+    for child in children {
+        copied.push(child.copy(alloc)?)?;
+    }
+    Ok(copied)
 }
 
 /// Where the branch at a step is among the branches, or where it would stand.

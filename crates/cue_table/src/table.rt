@@ -1,11 +1,13 @@
-ghost use Rattle.std.specs.Prelude.{◌≡◌};
+ghost use Rattle.std.specs.Prelude.{◌≡◌, ◌↔◌, IfOk, IsTrue, OnErr, OnOk};
 ghost use Rattle.std.specs.Option.{option_map, option_and_then};
 ghost use Rattle.cue_table.specs.Tree.{empty, taken, branch_at, row_at};
 ghost use Rattle.cue_table.specs.Form.{IsTable};
+ghost use Rattle.cue_table.specs.Meet.{IsMet};
 
 use crate::Branch;
+use crate::meet::meet;
 use crate::node::Node;
-use cue_lattice::Narrow;
+use cue_lattice::{Memory, Narrow};
 use cue_row::Path;
 use std::alloc::Global;
 use std::marker::Model;
@@ -67,5 +69,44 @@ impl<R: Narrow> Table<R> {
         ensures form { IsTable R.refuses R.is_value self.now }
     {
         Branch::new(&self.root)
+    }
+
+    /// Whether both tables know the same at each path.
+    pub fn same(&self, other: &Table<R>) -> bool
+        ensures { IsTrue result ↔ (self.now ≡ other.now) }
+    {
+        self.root.same(&other.root)
+    }
+
+    pub fn copy(&self, alloc: Global) -> Result<Table<R>, Memory>
+        ensures { IfOk result (λ table. table ≡ self.now) }
+    {
+        Ok(Table {
+            alloc,
+            root: self.root.copy(alloc)?,
+        })
+    }
+
+    /// What both tables know: refuses exactly what one of both does.
+    pub fn meet(&self, alloc: Global, other: &Table<R>) -> Result<Table<R>, Memory>
+        ensures form { IfOk result (IsTable R.refuses R.is_value) }
+        ensures refused { IfOk result (IsMet R.refuses self.now other.now) }
+    {
+        Ok(Table {
+            alloc,
+            root: meet(alloc, &self.root, &other.root)?,
+        })
+    }
+
+    /// Unifies the other table into this one, which then refuses exactly what one of both did. After want of memory it
+    /// is as it was.
+    pub fn meet_with(&mut self, other: Table<R>) -> Result<(), Memory>
+        ensures form { IsTable R.refuses R.is_value self.new }
+        ensures ok { OnOk result (IsMet R.refuses self.old other self.new) }
+        ensures err { OnErr result (self.new ≡ self.old) }
+    {
+        let met = meet(self.alloc, &self.root, &other.root)?;
+        self.root = met;
+        Ok(())
     }
 }
