@@ -1,8 +1,9 @@
 #!/bin/bash
 # How long the meet, the union and the difference of two sets of 10,000, 20,000 and 40,000 pieces take, in milliseconds
-# for 1,000 of each, and how the time grows for each piece from the first size to the last: 1.00 is linear. It is the
-# processor's time in the program itself, the least of five runs, with the making of the sets taken off. The script ends
-# with 1 where a growth is above 1.20.
+# for 1,000 of each, and the unification of a list of so many sets, each of which lacks one integer (for 20 of them, as
+# it stands in the conjunction `!=0 & !=8 & ..`). Then how the time grows for each piece from the first size to the last:
+# 1.00 is linear, and a list that is unified by halves has 1.15. It is the processor's time in the program itself, the
+# least of five runs, with the making of the sets taken off. The script ends with 1 where a growth is above 1.20.
 # Usage, at the top of the repository: bench/sets.sh [PROGRAM], where PROGRAM is what `rt run` makes of bench_sets.
 set -eu
 program=${1:-crates/bench_sets/out/bench_sets}
@@ -20,11 +21,13 @@ measure() {
 
 worst=0
 printf '%-10s %8s %8s %8s %8s\n' operation 10,000 20,000 40,000 growth
-for operation in meet union without; do
+for operation in meet union without meet_all; do
     row=
+    rounds=1000
+    if [ "$operation" = meet_all ]; then rounds=20; fi
     for pieces in 10000 20000 40000; do
         making=$(measure "$operation" "$pieces" 0)
-        whole=$(measure "$operation" "$pieces" 1000)
+        whole=$(measure "$operation" "$pieces" "$rounds")
         row="$row $((whole - making))"
     done
     set -- $row

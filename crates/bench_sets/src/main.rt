@@ -1,12 +1,12 @@
 //! Combines two large sets of integers, to see how the time grows with their size.
 //!
-//! Without arguments it prints how many pieces each combination of two sets of 1,000 pieces has. With the words OP
-//! COUNT ROUNDS, where OP is `meet`, `union` or `without`, it combines two sets of COUNT pieces ROUNDS times and prints
-//! how many pieces the last answer has.
+//! Without arguments it prints how many pieces each combination of sets of 1,000 pieces has. With the words OP COUNT
+//! ROUNDS, where OP is `meet`, `union` or `without`, it combines two sets of COUNT pieces ROUNDS times and prints how
+//! many pieces the last answer has; where OP is `meet_all`, it unifies COUNT sets, each of which lacks one integer.
 #![tactic(auto)]
 
 use anyhow::Error;
-use cue_lattice::Memory;
+use cue_lattice::{Memory, meet_all};
 use cue_sets::IntSet;
 use std::alloc::Global;
 use std::{env, error, fmt};
@@ -17,7 +17,7 @@ struct Usage;
 
 impl fmt::Display for Usage {
     fn fmt<W: fmt::Write>(&self, f: &mut fmt::Formatter<W>) -> fmt::Result {
-        f.write_str("usage: bench_sets [meet|union|without COUNT ROUNDS]")
+        f.write_str("usage: bench_sets [meet|union|without|meet_all COUNT ROUNDS]")
     }
 }
 
@@ -86,6 +86,28 @@ fn count(alloc: Global, operation: Operation, pieces: u32, rounds: u32) -> Resul
     Ok(count)
 }
 
+/// How many pieces the unification of so many sets has, each of which lacks one integer.
+fn count_of_all(alloc: Global, sets: u32, rounds: u32) -> Result<usize, Memory> {
+    let mut all = Vec::new(alloc);
+    for at in 0..sets {
+        all.push(IntSet::but(alloc, i64::from(at) * 8)?)?;
+    }
+    let mut count = 0;
+    for _round in 0..rounds {
+        count = meet_all(alloc, all.as_slice())?.pieces().len();
+    }
+    Ok(count)
+}
+
+/// How many pieces the answer has that the operation of this name gives.
+fn count_named(alloc: Global, name: &str, pieces: u32, rounds: u32) -> Result<usize, Error> {
+    if name == "meet_all" {
+        return Ok(count_of_all(alloc, pieces, rounds)?);
+    }
+    let operation = Operation::named(name).ok_or(Usage)?;
+    Ok(count(alloc, operation, pieces, rounds)?)
+}
+
 fn main(rt: HostRuntime) -> Result<(), Error> {
     let mut words = Vec::new(rt.alloc());
     for word in env::args(&rt)? {
@@ -96,11 +118,12 @@ fn main(rt: HostRuntime) -> Result<(), Error> {
             let pieces = count(rt.alloc(), operation, 1000, 1)?;
             println!(rt; "{} {pieces}", operation.name())?;
         }
+        println!(rt; "meet_all {}", count_of_all(rt.alloc(), 1000, 1)?)?;
         return Ok(());
     }
-    let operation = Operation::named(words[1].as_str()).ok_or(Usage)?;
     let pieces = words[2].as_str().parse::<u32>().ok().ok_or(Usage)?;
     let rounds = words[3].as_str().parse::<u32>().ok().ok_or(Usage)?;
-    println!(rt; "{}", count(rt.alloc(), operation, pieces, rounds)?)?;
+    let count = count_named(rt.alloc(), words[1].as_str(), pieces, rounds)?;
+    println!(rt; "{count}")?;
     Ok(())
 }
