@@ -555,3 +555,26 @@ fn a_default_and_all_of_its_kind(rt: HostRuntime) -> Result<(), Fail> {
     assert!(rt; is_pair(met, value, usual));
     Ok(())
 }
+
+#[test]
+fn many_values_unified(rt: HostRuntime) -> Result<(), Fail> {
+    let alloc = rt.alloc();
+    let first = one_of_three(alloc, 1)?;
+    let values = vec![in alloc;
+        first.copy(alloc)?,
+        first,
+        without_default(between(alloc, 0, 2)?),
+    ]?;
+    let met = Valued::and_all(alloc, values.as_slice())?;
+    assert!(rt; is_pair(met, between(alloc, 1, 2)?, number(alloc, 1)?));
+    Ok(())
+}
+
+#[test]
+fn a_set_of_scalars_that_takes_another_over(rt: HostRuntime) -> Result<(), Fail> {
+    let alloc = rt.alloc();
+    let low = between(alloc, 0, 4)?;
+    let met = low.narrowed_by(alloc, between(alloc, 2, 9)?)?;
+    assert!(rt; are_same(met.or_copy(alloc, &low)?, between(alloc, 2, 4)?));
+    Ok(())
+}

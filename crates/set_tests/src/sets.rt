@@ -276,3 +276,16 @@ fn pairs_meet_side_by_side(rt: HostRuntime) -> Result<(), Fail> {
     assert!(rt; met.same(&expected));
     Ok(())
 }
+
+#[test]
+fn a_set_that_takes_another_over(rt: HostRuntime) -> Result<(), Fail> {
+    let alloc = rt.alloc();
+    let low = IntSet::at_most(alloc, 4)?;
+    let met = low.narrowed_by(alloc, IntSet::at_least(alloc, 2)?)?;
+    assert_eq!(rt; met.or_copy(alloc, &low)?.pieces(), [(2, 4)].as_slice());
+    let name = TextSet::one(alloc, "x")?;
+    let kept = name.narrowed_by(alloc, TextSet::all(alloc)?)?;
+    assert!(rt; kept.is_unchanged());
+    assert_eq!(rt; kept.or_copy(alloc, &name)?.single(), Some("x"));
+    Ok(())
+}
