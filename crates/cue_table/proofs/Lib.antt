@@ -1,4 +1,5 @@
 pub mod Order
+pub mod Adding
 pub mod Exact
 pub mod Finding
 pub mod Meeting

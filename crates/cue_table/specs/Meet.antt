@@ -1,12 +1,12 @@
 -- What unification makes of two tables.
-use Rattle.std.specs.Prelude.{◌≡◌, ◌↔◌, ◌⊎◌, ◌+◌, ◌≤◌, List, length}
+use Rattle.std.specs.Prelude.{◌≡◌, ◌↔◌, ◌⊎◌, ◌+◌, ◌≤◌, List, [], ◌∷◌, length, Some, None}
 use Rattle.std.specs.Option.{option_and_then}
 use Rattle.std.specs.declared.cmp.Ordering.TheVariants.{Less}
 use Rattle.cue_lattice.specs.Path as paths
 use Rattle.cue_lattice.specs.Path.{Path, step_cmp}
 use Rattle.cue_row.specs.Steps.{step_of}
 use Rattle.cue_table.specs.declared.node.Child.{Child}
-use Rattle.cue_table.specs.Tree.{Tree, Children, none, child, row_of, find, branch_at}
+use Rattle.cue_table.specs.Tree.{Tree, node, Children, none, child, row_of, find, branch_at}
 use Rattle.cue_table.specs.Refuses.{RowRefuses, TableRefuses}
 use Rattle.cue_table.specs.Form.{IsBelowAll, IsTaken, IsTree, AreBranches}
 use Rattle.cue_table.specs.Size.{children_size}
@@ -51,3 +51,13 @@ pub record Takes {R Q : Type 0} (refuses : R → Q → Type 0) (P : R → Type 0
   pub refused : (step : paths.Step) (path : Path) (question : Q) →
       (BranchesRefuse refuses (alone first) step path question ⊎ (BranchesRefuse refuses (branches left') step path question ⊎ BranchesRefuse refuses (branches right') step path question))
       ↔ (BranchesRefuse refuses (branches left) step path question ⊎ BranchesRefuse refuses (branches right) step path question)
+
+-- one row alone, at its path
+abbrev pub chain : {R : Type 0} → Path → R → Tree R
+chain [] row = node (Some row) none
+chain (step ∷ path) row = node None (child step (chain path row) none)
+
+-- the new table refuses what the old one did, and at the path what the row refuses
+abbrev pub IsAdded : {R Q : Type 0} → (R → Q → Type 0) → Tree R → Path → R → Tree R → Type 0
+IsAdded {R} {Q} refuses old path row new =
+    (at : Path) (question : Q) → TableRefuses refuses new at question ↔ (TableRefuses refuses old at question ⊎ ((at ≡ path) × refuses row question))

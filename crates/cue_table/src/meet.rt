@@ -1,12 +1,14 @@
 //! The unification of two places, of which both stay as they are.
-ghost use Rattle.std.specs.Prelude.{◌≡◌, ◌⊎◌, ◌+◌, ◌<◌, [], length, IfOk, IfSome, IfNone, Ok, Some};
+ghost use Rattle.std.specs.Prelude.{◌≡◌, ◌⊎◌, ◌+◌, ◌<◌, [], length, map, IfOk, IfSome, IfNone, Ok, Some};
+ghost use Rattle.cue_row.specs.Steps.{step_of};
 ghost use Rattle.cue_table.specs.Form.{AreBranches, IsKept, IsRow, IsTable, IsTaken};
-ghost use Rattle.cue_table.specs.Meet.{AreMet, IsMet, IsUnion, Takes};
+ghost use Rattle.cue_table.specs.Meet.{AreMet, IsMet, IsUnion, Takes, chain};
 ghost use Rattle.cue_table.specs.Refuses.{RowRefuses};
 ghost use Rattle.cue_table.specs.View.{branches};
 
 use crate::node::{Child, Node};
 use cue_lattice::{Memory, Narrow};
+use cue_row::Step;
 use std::alloc::Global;
 use std::cmp::Ordering;
 
@@ -125,5 +127,27 @@ fn next_child<'a, R: Narrow>(
                 Next::of(Child { step, node }, left_rest, right_rest)
             }
         },
+    }
+}
+
+/// One row alone, at its path.
+pub(crate) fn single<R: Narrow>(alloc: Global, steps: &[Step], row: R) -> Result<Node<R>, Memory>
+    ensures { IfOk result (λ node. node ≡ chain (map step_of steps.now) row) }
+{
+    match steps {
+        [] => Ok(Node {
+            row: Some(row),
+            children: Vec::new(alloc),
+        }),
+        [first, rest @ ..] => {
+            let step = first.copy(alloc)?;
+            let node = single(alloc, rest, row)?;
+            let mut children = Vec::with_capacity(alloc, 1)?;
+            children.push(Child { step, node })?;
+            Ok(Node {
+                row: None,
+                children,
+            })
+        }
     }
 }

@@ -2,10 +2,10 @@ ghost use Rattle.std.specs.Prelude.{◌≡◌, ◌↔◌, IfOk, IsTrue, OnErr, O
 ghost use Rattle.std.specs.Option.{option_map, option_and_then};
 ghost use Rattle.cue_table.specs.Tree.{empty, taken, branch_at, row_at};
 ghost use Rattle.cue_table.specs.Form.{IsTable};
-ghost use Rattle.cue_table.specs.Meet.{IsMet};
+ghost use Rattle.cue_table.specs.Meet.{IsAdded, IsMet};
 
 use crate::Branch;
-use crate::meet::meet;
+use crate::meet::{meet, single};
 use crate::node::Node;
 use cue_lattice::{Memory, Narrow};
 use cue_row::Path;
@@ -106,6 +106,23 @@ impl<R: Narrow> Table<R> {
         ensures err { OnErr result (self.new ≡ self.old) }
     {
         let met = meet(self.alloc, &self.root, &other.root)?;
+        self.root = met;
+        Ok(())
+    }
+
+    /// Unifies a row into the one at a path. After want of memory the table is as it was.
+    pub fn add(&mut self, path: &Path, row: &R) -> Result<(), Memory>
+        ensures form { IsTable R.refuses R.is_value self.new }
+        ensures ok { OnOk result (IsAdded R.refuses self.old path.now row.now self.new) }
+        ensures err { OnErr result (self.new ≡ self.old) }
+    {
+        let root = &self.root;
+        if row.is_free() {
+            return Ok(());
+        }
+        row.known();
+        let one = single(self.alloc, path.steps(), row.copy(self.alloc)?)?;
+        let met = meet(self.alloc, root, &one)?;
         self.root = met;
         Ok(())
     }
