@@ -7,8 +7,8 @@ use Rattle.cue_lattice.specs.Refusal.{memory}
 use Rattle.cue_lattice.specs.OneOf.{OneOf}
 use Rattle.cue_lattice.specs.Question.{Refusals, OneRefuses, SameAnswers}
 
--- What a site can accept from outside: a text, or state bytes that no site of the world sent. The same text twice is
--- one piece.
+-- What a site can accept from outside: a text, or state bytes handed in from outside the world. The same text twice
+-- is one piece.
 pub data Piece : Type 0 where
   text : List ℕ → Piece
   state : List ℕ → Piece

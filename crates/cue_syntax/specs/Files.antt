@@ -1,4 +1,4 @@
--- The tree of a file, and what each file promises of it by its type.
+-- The tree of a file.
 use Rattle.cue_syntax.specs.declared.tree.File.{File}
 use Rattle.cue_syntax.specs.Syntax.{FileTree, entries}
 
