@@ -13,8 +13,6 @@ mod lexer;
 mod mark;
 mod name;
 mod string;
-#[cfg(test)]
-mod tests;
 mod token;
 
 pub use cue_lattice::{Refusal, Text};

@@ -19,6 +19,3 @@ pub use tree::{
     Comparison, Declaration, Expr, File, Identifier, Label, LabelName, Mark, Package, Sign, Signed,
     Term,
 };
-
-#[cfg(test)]
-mod tests;

@@ -1,5 +1,5 @@
-use super::*;
 use cue_lattice::Kind;
+use cue_lex::{TokenKind, lex};
 use std::alloc::Global;
 use std::process::Abort;
 use std::test::Fail;
@@ -44,16 +44,15 @@ fn texts(alloc: Global, text: &str) -> Result<String, Fail> {
     let mut all = String::new(alloc);
     if let Ok(tokens) = lex(alloc, text) {
         for token in &tokens {
-            match &token.kind {
-                TokenKind::Name(spelled)
-                | TokenKind::Definition(spelled)
-                | TokenKind::Hidden(spelled)
-                | TokenKind::Text(spelled) => {
-                    all.push_str(spelled.as_str())?;
-                    all.push(';')?;
+            let spelled = match &token.kind {
+                TokenKind::Name(name) | TokenKind::Definition(name) | TokenKind::Hidden(name) => {
+                    name.as_str()
                 }
-                _ => {}
-            }
+                TokenKind::Text(text) => text.as_str(),
+                _ => continue,
+            };
+            all.push_str(spelled)?;
+            all.push(';')?;
         }
     }
     Ok(all)

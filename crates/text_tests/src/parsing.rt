@@ -1,6 +1,6 @@
-use crate::parse;
 use cue_lattice::{Form, Kind, Refusal};
 use cue_lex::lex;
+use cue_syntax::parse;
 use std::alloc::Global;
 use std::process::Abort;
 use std::test::Fail;
@@ -289,7 +289,8 @@ fn close_opens_two_levels(rt: HostRuntime) -> Result<(), Fail> {
 fn what_a_tree_keeps(rt: HostRuntime) -> Result<(), Fail> {
     let alloc = rt.alloc();
     let text = "a?: *1 | x & -2,";
-    let file = parse(alloc, &lex(alloc, text)?, text.len())?;
+    let tokens = lex(alloc, text)?;
+    let file = parse(alloc, &tokens, text.len())?;
     let shown = format!(in alloc; "{:?} {}", file.declarations, file.comma)?;
     let name =
         "Field { label: Label { name: Plain(Text { string: \"a\" }), mark: Optional }, chain: []";
