@@ -1,12 +1,12 @@
 -- What the code's tests of numbers and pieces tell.
-use Rattle.std.proofs.Common.{◌≡◌, Bool, true, false, not, ◌&&◌, ◌||◌, List, [], ◌∷◌, ℤ, pos, ◌+ℤ◌, ◌-ℤ◌, ◌≤ℤ◌, Decides, refl, ap, arith}
+use Rattle.std.proofs.Common.{◌≡◌, ◌↔◌, Bool, true, false, not, ◌&&◌, ◌||◌, IsTrue, nat_eq, List, [], ◌∷◌, length, ℤ, pos, ◌+ℤ◌, ◌-ℤ◌, ◌≤ℤ◌, ◌<ℤ◌, Decides, refl, ap, arith}
 use Rattle.std.specs.Prelude.{int_le}
 use Rattle.std.specs.Ordering.{int_eq}
 use Rattle.std.specs.Cmp.Lexicographic.{pointwise}
 use Rattle.std.proofs.lemmas.Bool.Decides.{Decides-int_eq, Decides-and, Decides-like}
 use Rattle.std.proofs.lemmas.Slice.Eq.{slice_eq-Decides}
 use Rattle.std.proofs.lemmas.Int.{ints, by_lt_z}
-use Rattle.cue_sets.specs.Pieces.{is_member, is_int64, least, greatest}
+use Rattle.cue_sets.specs.Pieces.{is_member, is_int64, least, greatest, AscendsFrom}
 use Rattle.cue_sets.specs.PieceLaws.{le_true, le_false}
 
 abbrev pub piece_eq : ℤ × ℤ → ℤ × ℤ → Bool
@@ -53,3 +53,12 @@ is_member-round number low high from to l h n =
     (λ from_here. by_lt_z number n
     (λ above. rw (le_false n low (omega (arith, ints)), le_true high n (omega (arith, ints)), le_true least n (omega (arith, ints)), eq_false n number (omega (arith, ints))) (above_kept (int_le n greatest)))
     (λ here. rw (le_false n low (omega (arith, ints)), le_false high n (omega (arith, ints)), eq_true n number (omega (arith, ints))) (left_out (int_le least n) (int_le least n && int_le n greatest))))
+
+-- behind a piece that ends at one of the last two numbers no other has room
+pub is_last :
+    (r : Bool) (from : ℤ) (piece : ℤ × ℤ) (later rest : List (ℤ × ℤ)) → rest ≡ piece ∷ later → r ≡ nat_eq (length later) 0
+    → from ≤ℤ piece.0 → piece.0 ≤ℤ piece.1 → piece.1 ≤ℤ greatest → greatest <ℤ (piece.1 +ℤ pos 2)
+    → IsTrue r ↔ AscendsFrom from rest
+is_last r from piece [] rest e is low up high end = rw (e, is) (λ h. (low, up, high, tt), λ h. refl)
+is_last r from piece (next ∷ later) rest e is low up high end =
+    rw (e, is) (λ h. absurd (grind (arith, h)), λ a. let b = a.3 in absurd (let from_next = b.0 in let up_next = b.1 in let end_next = b.2 in omega (arith, ints)))

@@ -4,7 +4,7 @@ ghost use Rattle.cue_sets.specs.Pieces.{is_member, is_int64, IsCanonical, IsFirs
 ghost use Rattle.cue_sets.specs.Combination.{keeps};
 
 use crate::combination::Combination;
-use crate::pieces::{combine, has, is_within};
+use crate::pieces::{combine, has, is_canonical, is_within};
 use cue_lattice::{Memory, Narrow, Narrowed};
 use std::alloc::Global;
 use std::marker::Model;
@@ -146,6 +146,18 @@ impl IntSet {
         ensures canonical { IsCanonical self.now }
     {
         &self.pieces
+    }
+
+    /// The set of these pieces, each a first and a last number, where they ascend, none is empty, and between neighbours
+    /// at least one number is left out. This takes no memory.
+    pub fn from_pieces(pieces: Vec<(i64, i64)>) -> Option<IntSet>
+        ensures some { IfSome result (λ set. set ≡ pieces.items) }
+        ensures none { IfNone result (¬ IsCanonical pieces.items) }
+    {
+        if !is_canonical(pieces.as_slice()) {
+            return None;
+        }
+        Some(IntSet { pieces })
     }
 
     /// Whether each member is one of the other set too. This takes no memory.

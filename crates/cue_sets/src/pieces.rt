@@ -139,3 +139,22 @@ pub(crate) fn has(pieces: &[(i64, i64)], number: i64) -> bool
     let at = pieces.partition_point(|piece| piece.1 < number);
     at < pieces.len() && pieces[at].0 <= number
 }
+
+/// Whether the pieces ascend, none of them empty and no two of them touching.
+pub(crate) fn is_canonical(pieces: &[(i64, i64)]) -> bool
+    ensures { IsTrue result ↔ IsCanonical pieces.now }
+{
+    let mut from = i64::MIN;
+    let mut rest = pieces;
+    while let Some(((first, last), later)) = rest.split_first() {
+        if *first < from || *last < *first {
+            return false;
+        }
+        let Some(next) = last.checked_add(2) else {
+            return later.is_empty();
+        };
+        from = next;
+        rest = later;
+    }
+    true
+}
