@@ -1,4 +1,4 @@
--- A row's question is one of the questions of a place.
+-- A row's question is one of the questions of a place, and each of these is asked by a row's question.
 use Rattle.cue_lattice.specs.Question as places
 use Rattle.cue_row.specs.declared.question.Question.{Question}
 use Rattle.cue_row.specs.declared.question.Question.TheVariants.{MayBe, Usual, Struct, List, Allows, LevelAtMost, LengthAtMost, LengthAtLeast}
@@ -13,3 +13,14 @@ question_of (Allows label) = places.allows label
 question_of (LevelAtMost level) = places.level_at_most level
 question_of (LengthAtMost length) = places.length_at_most length
 question_of (LengthAtLeast length) = places.length_at_least length
+
+-- the question of the program that stands for a question
+abbrev pub asked_by : places.Question → Question
+asked_by (places.may_be scalar) = MayBe scalar
+asked_by (places.usual scalar) = Usual scalar
+asked_by places.struct = Struct
+asked_by places.list = List
+asked_by (places.allows label) = Allows label
+asked_by (places.level_at_most level) = LevelAtMost level
+asked_by (places.length_at_most length) = LengthAtMost length
+asked_by (places.length_at_least length) = LengthAtLeast length

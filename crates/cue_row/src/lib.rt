@@ -16,7 +16,7 @@ pub use kind::RowKind;
 pub use labels::Labels;
 pub use level::Level;
 pub use path::Path;
-pub use question::Question;
+pub use question::{Question, one_question};
 pub use quoted::push_quoted;
 pub use row::Row;
 pub use spelling::{is_bare, path_text, push_path};

@@ -1,3 +1,8 @@
+ghost use Rattle.std.specs.Prelude.{◌≡◌};
+ghost use Rattle.cue_lattice.specs.Question as places;
+ghost use Rattle.cue_row.specs.declared.question.Question.{Question as Questions};
+ghost use Rattle.cue_row.specs.Questions.{question_of, asked_by};
+
 use cue_lattice::{Scalar, Text};
 
 /// What a row can be asked. In contracts a number is a whole number of any size.
@@ -20,3 +25,10 @@ pub enum Question {
     /// May the greatest length be this or more?
     LengthAtLeast(u32),
 }
+
+/// The questions of rows are just the questions of places: each is asked by one of these, and no two ask the same. It
+/// computes nothing: it states a law.
+pub fn one_question()
+    ensures asked { (question : places.Question) → question_of (asked_by question) ≡ question }
+    ensures back { (question : Questions) → asked_by (question_of question) ≡ question }
+{}
