@@ -5,7 +5,7 @@ use Rattle.cue_scalars.specs.declared.scalar_set.ScalarSet.{ScalarSet}
 use Rattle.cue_row.specs.declared.level.Level.{Level}
 use Rattle.cue_row.specs.declared.row.Row.{Row}
 use Rattle.cue_codec.specs.Parts.{set_bytes, labels_bytes, lengths_bytes}
-use Rattle.cue_codec.specs.Reading.{Begins, BeginsNone, AreLengths}
+use Rattle.cue_codec.specs.Reading.{Begins, BeginsNone, AreWideLengths}
 use Rattle.cue_codec.specs.StateRow.{IsStateSet, AreStateLabels}
 use Rattle.cue_codec.specs.RowBytes.{Parts, free, scalar, struct, list, nothing, scalars_bytes, left_out_bytes, parts_bytes, is_empty_set, parts_by, parts_of, row_of, AreScalars, AreLeftOut, IsStateParts, Reads}
 use Rattle.cue_codec.proofs.Codes.{OneItem}
@@ -58,12 +58,12 @@ one_left_out a b r s p q e =
 pub left_out_first : (bytes : List ℕ) → BeginsNone AreStateLabels labels_bytes bytes → BeginsNone AreLeftOut left_out_bytes bytes
 left_out_first bytes none = λ parts s h e. none parts.0 (lengths_bytes parts.1 ++ s) h.0 (e ∙ left_out_parts parts s)
 
-pub left_out_second : (bytes rest : List ℕ) (labels : Option (List (List ℕ))) → Begins AreStateLabels labels_bytes labels bytes rest → BeginsNone AreLengths lengths_bytes rest → BeginsNone AreLeftOut left_out_bytes bytes
+pub left_out_second : (bytes rest : List ℕ) (labels : Option (List (List ℕ))) → Begins AreStateLabels labels_bytes labels bytes rest → BeginsNone AreWideLengths lengths_bytes rest → BeginsNone AreLeftOut left_out_bytes bytes
 left_out_second bytes rest labels b none = λ parts s h e.
     let f = one_labels labels parts.0 rest (lengths_bytes parts.1 ++ s) b.value h.0 (sym b.parts ∙ e ∙ left_out_parts parts s) in
     none parts.1 s h.1 f.1
 
-pub left_out_found : (bytes middle rest : List ℕ) (labels : Option (List (List ℕ))) (lengths : ℕ × Option ℕ) → Begins AreStateLabels labels_bytes labels bytes middle → Begins AreLengths lengths_bytes lengths middle rest
+pub left_out_found : (bytes middle rest : List ℕ) (labels : Option (List (List ℕ))) (lengths : ℕ × Option ℕ) → Begins AreStateLabels labels_bytes labels bytes middle → Begins AreWideLengths lengths_bytes lengths middle rest
     → Begins AreLeftOut left_out_bytes (labels, lengths) bytes rest
 left_out_found bytes middle rest labels lengths a b = record {
   value = (a.value, b.value);
@@ -127,7 +127,7 @@ parts_struct bytes rest tag is same none (struct l) s h e = none l s h (tails ta
 parts_struct bytes rest tag is same none (list n) s h e = omega (arith, same, heads tag 3 rest _ (sym is ∙ e))
 parts_struct bytes rest tag is same none (nothing l n) s h e = omega (arith, same, heads tag 4 rest _ (sym is ∙ e))
 
-pub parts_list : (bytes rest : List ℕ) (tag : ℕ) → bytes ≡ tag ∷ rest → tag ≡ 3 → BeginsNone AreLengths lengths_bytes rest → BeginsNone IsStateParts parts_bytes bytes
+pub parts_list : (bytes rest : List ℕ) (tag : ℕ) → bytes ≡ tag ∷ rest → tag ≡ 3 → BeginsNone AreWideLengths lengths_bytes rest → BeginsNone IsStateParts parts_bytes bytes
 unfolding parts_bytes
 parts_list bytes rest tag is same none free s h e = omega (arith, same, heads tag 0 rest _ (sym is ∙ e))
 parts_list bytes rest tag is same none (scalar v u) s h e = omega (arith, same, heads tag 1 rest _ (sym is ∙ e))
@@ -168,7 +168,7 @@ unfolding parts_bytes
 struct_found bytes rest after tag level row is same r =
     record { item = struct r.item; says = r.says; begins = record { value = r.begins.value; parts = is ∙ ap (λ (k : ℕ). k ∷ rest) same ∙ ap (λ (x : List ℕ). 2 ∷ x) r.begins.parts } }
 
-pub list_found : (bytes rest after : List ℕ) (tag : ℕ) (level : Level) (row : Row) → bytes ≡ tag ∷ rest → tag ≡ 3 → Reads list AreLengths lengths_bytes level row rest after → Reads (λ parts. parts) IsStateParts parts_bytes level row bytes after
+pub list_found : (bytes rest after : List ℕ) (tag : ℕ) (level : Level) (row : Row) → bytes ≡ tag ∷ rest → tag ≡ 3 → Reads list AreWideLengths lengths_bytes level row rest after → Reads (λ parts. parts) IsStateParts parts_bytes level row bytes after
 unfolding parts_bytes
 list_found bytes rest after tag level row is same r =
     record { item = list r.item; says = r.says; begins = record { value = r.begins.value; parts = is ∙ ap (λ (k : ℕ). k ∷ rest) same ∙ ap (λ (x : List ℕ). 3 ∷ x) r.begins.parts } }

@@ -37,9 +37,6 @@ pub record IsShortText (text : List ℕ) : Type 0 where
   pub utf8 : IsUtf8 text
   pub short : IsShort text
 
-abbrev pub AreShortTexts : List (List ℕ) → Type 0
-AreShortTexts texts = AllByRecursion IsShortText texts
-
 -- a piece of integers of 64 bits
 abbrev pub IsPiece : ℤ × ℤ → Type 0
 IsPiece piece = IsInteger piece.0 × IsInteger piece.1
@@ -57,9 +54,9 @@ abbrev pub IsMost : Option ℕ → Type 0
 IsMost None = Unit {0}
 IsMost (Some most) = most < 2 ^ 32
 
--- a least length of 32 bits, and a greatest
-abbrev pub AreLengths : ℕ × Option ℕ → Type 0
-AreLengths lengths = (lengths.0 < 2 ^ 32) × IsMost lengths.1
+-- a least length of 32 bits, and a greatest one of as many
+abbrev pub AreWideLengths : ℕ × Option ℕ → Type 0
+AreWideLengths lengths = (lengths.0 < 2 ^ 32) × IsMost lengths.1
 
 -- so many items
 abbrev pub AreSo : {X : Type 0} → (X → Type 0) → ℕ → List X → Type 0

@@ -8,7 +8,7 @@ use Rattle.cue_row.specs.declared.level.Level.{Level}
 use Rattle.cue_row.specs.declared.row.Row.{Row}
 use Rattle.cue_row.specs.Levels.{level_of}
 use Rattle.cue_codec.specs.Parts.{set_bytes, labels_bytes, lengths_bytes, path_bytes}
-use Rattle.cue_codec.specs.Reading.{Begins, AreLengths, IsShort, AreShortLabels}
+use Rattle.cue_codec.specs.Reading.{Begins, AreWideLengths, IsShort, AreShortLabels}
 use Rattle.cue_codec.specs.StateRow.{IsStateSet, AreStateLabels, IsStatePath}
 
 -- what a row says beside its level: anything may stand; some scalar, with the usual ones; a struct with these labels; a
@@ -80,13 +80,13 @@ pub record AreScalars (sets : ScalarSet × ScalarSet) : Type 0 where
   pub usual : IsStateSet sets.1
 
 abbrev pub AreLeftOut : Option (List (List ℕ)) × (ℕ × Option ℕ) → Type 0
-AreLeftOut parts = AreStateLabels parts.0 × AreLengths parts.1
+AreLeftOut parts = AreStateLabels parts.0 × AreWideLengths parts.1
 
 abbrev pub IsStateParts : Parts → Type 0
 IsStateParts free = Unit {0}
 IsStateParts (scalar value usual) = AreScalars (value, usual)
 IsStateParts (struct labels) = AreStateLabels labels
-IsStateParts (list lengths) = AreLengths lengths
+IsStateParts (list lengths) = AreWideLengths lengths
 IsStateParts (nothing labels lengths) = AreLeftOut (labels, lengths)
 
 -- The path is one of the program, and the row says no more than its bytes do.

@@ -5,7 +5,7 @@ ghost use Rattle.std.specs.Int.{w16, w32, w64};
 ghost use Rattle.std.specs.Option.{option_map};
 ghost use Rattle.cue_lattice.specs.Scalar.{IsInteger};
 ghost use Rattle.cue_codec.specs.Parts.{integer_bytes, piece_bytes, text_bytes, flags, most_bytes, lengths_bytes};
-ghost use Rattle.cue_codec.specs.Reading.{Begins, BeginsNone, IsPiece, IsShortText, AreLengths, IsMost, number_at};
+ghost use Rattle.cue_codec.specs.Reading.{Begins, BeginsNone, IsPiece, IsShortText, AreWideLengths, IsMost, number_at};
 
 #[tactic(auto, unfolding(crate::specs::Reading::number_at))]
 fn u16_at(bytes: &[u8]) -> Option<(u16, &[u8])>
@@ -109,8 +109,8 @@ fn most_at(bytes: &[u8]) -> Option<(Option<u32>, &[u8])>
 
 /// The least and the greatest length.
 pub fn lengths_at(bytes: &[u8]) -> Option<((u32, Option<u32>), &[u8])>
-    ensures some { IfSome result (λ x. Begins AreLengths lengths_bytes x.0 bytes.now x.1.now) }
-    ensures none { IfNone result (BeginsNone AreLengths lengths_bytes bytes.now) }
+    ensures some { IfSome result (λ x. Begins AreWideLengths lengths_bytes x.0 bytes.now x.1.now) }
+    ensures none { IfNone result (BeginsNone AreWideLengths lengths_bytes bytes.now) }
 {
     let (least, rest) = u32_at(bytes)?;
     let (most, rest) = most_at(rest)?;

@@ -3,7 +3,7 @@
 ghost use Rattle.std.specs.Prelude.{◌≡◌, ◌++◌, OnOk};
 ghost use Rattle.std.specs.List.{AllByRecursion};
 ghost use Rattle.cue_codec.specs.Reading.{IsShortStep};
-ghost use Rattle.cue_codec.specs.RowBytes.{parts_bytes, parts_of, row_bytes, scalars_bytes, left_out_bytes, IsShortRow};
+ghost use Rattle.cue_codec.specs.RowBytes.{parts_bytes, parts_of, row_bytes, scalars_bytes, left_out_bytes, row_of, IsShortRow};
 
 use crate::rows::is_empty;
 use crate::writing::{put_labels, put_lengths, put_path, put_set};
@@ -60,11 +60,13 @@ fn put_parts(out: &mut Vec<u8>, row: &Row) -> Result<(), Memory>
     }
 }
 
-/// Writes a row after what was written before. An error says that memory ran out; more may then have been written.
+/// Writes a row after what was written before. The row must say no more than its bytes tell. An error says that memory ran
+/// out; more may then have been written.
 #[tactic(auto, unfolding(crate::specs::RowBytes::row_bytes))]
 pub fn put_row(out: &mut Vec<u8>, path: &Path, row: &Row) -> Result<(), Memory>
     requires path { AllByRecursion IsShortStep path.now }
     requires row { IsShortRow row.now }
+    requires says { row.now ≡ row_of row.now.level (parts_of row.now) }
     ensures { OnOk result (out.new.items ≡ out.old.items ++ row_bytes (path.now, row.now)) }
 {
     put_path(out, path)?;

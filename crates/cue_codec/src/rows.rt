@@ -2,7 +2,7 @@
 
 ghost use Rattle.std.specs.Prelude.{◌≡◌, IfOk, IfErr};
 ghost use Rattle.cue_codec.specs.Parts.{labels_bytes, lengths_bytes};
-ghost use Rattle.cue_codec.specs.Reading.{Begins, BeginsNone, IsRefused, AreLengths};
+ghost use Rattle.cue_codec.specs.Reading.{Begins, BeginsNone, IsRefused, AreWideLengths};
 ghost use Rattle.cue_codec.specs.StateRow.{AreStateLabels};
 ghost use Rattle.cue_codec.specs.RowBytes.{free, scalar, struct, list, nothing, scalars_bytes, left_out_bytes, parts_bytes, is_empty_set, empty_set, full_set, row_of, AreScalars, AreLeftOut, IsStateParts, Reads};
 
@@ -161,8 +161,8 @@ fn struct_at(alloc: Global, level: Level, bytes: &[u8]) -> Result<(Row, &[u8]), 
 
 /// A list of certain lengths.
 fn list_at(alloc: Global, level: Level, bytes: &[u8]) -> Result<(Row, &[u8]), Kind>
-    ensures ok { IfOk result (λ x. Reads list AreLengths lengths_bytes level x.0 bytes.now x.1.now) }
-    ensures refused { IfErr result (λ kind. IsRefused kind (BeginsNone AreLengths lengths_bytes bytes.now)) }
+    ensures ok { IfOk result (λ x. Reads list AreWideLengths lengths_bytes level x.0 bytes.now x.1.now) }
+    ensures refused { IfErr result (λ kind. IsRefused kind (BeginsNone AreWideLengths lengths_bytes bytes.now)) }
 {
     let Some(((least, most), rest)) = lengths_at(bytes) else {
         return Err(Kind::NotState);

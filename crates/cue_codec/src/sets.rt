@@ -1,68 +1,17 @@
 //! Sets, read from the front of the bytes.
 
-ghost use Rattle.std.specs.Prelude.{◌≡◌, ℤ, ◌<◌, ◌↔◌, [], ◌∷◌, IfOk, IfErr, IfSome, IfNone, IsTrue};
-ghost use Rattle.std.specs.List.{AllByRecursion};
-ghost use Rattle.cue_sets.specs.Pieces.{is_member, IsCanonical};
+ghost use Rattle.std.specs.Prelude.{◌≡◌, ◌<◌, IfOk, IfErr, IfSome, IfNone};
 ghost use Rattle.cue_codec.specs.Parts.{bit, counted_bytes, piece_bytes, text_set_bytes, set_bytes, labels_bytes};
-ghost use Rattle.cue_codec.specs.Reading.{Begins, BeginsNone, IsRefused, IsPiece};
+ghost use Rattle.cue_codec.specs.Reading.{Begins, BeginsNone, IsRefused};
 ghost use Rattle.cue_codec.specs.StateRow.{IsStateIntegers, IsStateTexts, IsStateSet, AreStateLabels};
 
 use crate::lists::{pieces_at, texts_at};
 use crate::reading::flags_of;
-use cue_lattice::{Kind, Memory, Narrow};
+use cue_lattice::{Kind, Narrow};
 use cue_row::Labels;
 use cue_scalars::ScalarSet;
 use cue_sets::{IntSet, TextSet};
 use std::alloc::Global;
-
-/// The integers from `first` to `last`, with both.
-fn between(alloc: Global, piece: (i64, i64)) -> Result<IntSet, Memory>
-    requires { IsPiece piece }
-    ensures { IfOk result (λ set. (n : ℤ) → is_member set n ≡ is_member (piece ∷ []) n) }
-{
-    let above = IntSet::at_least(alloc, piece.0)?;
-    let below = IntSet::at_most(alloc, piece.1)?;
-    above.meet(alloc, &below)
-}
-
-/// The integers of all pieces. Halves are united, so that many pieces cost little more than their number.
-fn united(alloc: Global, pieces: &[(i64, i64)]) -> Result<IntSet, Memory>
-    requires { AllByRecursion IsPiece pieces.now }
-    ensures { IfOk result (λ set. (n : ℤ) → is_member set n ≡ is_member pieces.now n) }
-{
-    match pieces {
-        [] => IntSet::empty(alloc),
-        [piece] => between(alloc, *piece),
-        _ => {
-            let (left, right) = pieces.split_at(pieces.len() / 2);
-            let left = united(alloc, left)?;
-            let right = united(alloc, right)?;
-            left.union(alloc, &right)
-        }
-    }
-}
-
-/// Whether both are the same pieces in the same order.
-fn are_same(left: &[(i64, i64)], right: &[(i64, i64)]) -> bool
-    ensures { IsTrue result ↔ (left.now ≡ right.now) }
-{
-    left == right
-}
-
-/// The set of these pieces, where they are the one form of a set.
-fn set_of(alloc: Global, pieces: &[(i64, i64)]) -> Result<IntSet, Kind>
-    requires { AllByRecursion IsPiece pieces.now }
-    ensures ok { IfOk result (λ set. (set ≡ pieces.now) × IsCanonical pieces.now) }
-    ensures refused { IfErr result (λ kind. IsRefused kind (¬ IsCanonical pieces.now)) }
-{
-    let Ok(set) = united(alloc, pieces) else {
-        return Err(Kind::Memory);
-    };
-    if !are_same(set.pieces(), pieces) {
-        return Err(Kind::NotState);
-    }
-    Ok(set)
-}
 
 /// A set of integers.
 fn int_set_at(alloc: Global, bytes: &[u8]) -> Result<(IntSet, &[u8]), Kind>
@@ -70,7 +19,10 @@ fn int_set_at(alloc: Global, bytes: &[u8]) -> Result<(IntSet, &[u8]), Kind>
     ensures refused { IfErr result (λ kind. IsRefused kind (BeginsNone IsStateIntegers (counted_bytes piece_bytes) bytes.now)) }
 {
     let (pieces, rest) = pieces_at(alloc, bytes)?;
-    let set = set_of(alloc, pieces.as_slice())?;
+    let Some(set) = IntSet::from_pieces(pieces) else {
+        return Err(Kind::NotState);
+    };
+    set.known();
     Ok((set, rest))
 }
 

@@ -1,7 +1,7 @@
 use Rattle.std.proofs.Common.{arith, refl, inr}
 use Rattle.std.proofs.lemmas.Result.{IfOk-weaker, IfErr-weaker}
 use Rattle.cue_codec.specs.Parts.{labels_bytes, lengths_bytes}
-use Rattle.cue_codec.specs.Reading.{BeginsNone, IsRefused, AreLengths}
+use Rattle.cue_codec.specs.Reading.{BeginsNone, IsRefused, AreWideLengths}
 use Rattle.cue_codec.specs.StateRow.{AreStateLabels}
 use Rattle.cue_codec.specs.RowBytes.{scalar, struct, list, nothing, scalars_bytes, left_out_bytes, parts_bytes, AreScalars, AreLeftOut, IsStateParts, Reads}
 use Rattle.cue_codec.proofs.Codes.{refused_so}
@@ -40,12 +40,12 @@ returns-in-2-clause-refused c =
 
 pub returns-in-3-clause-ok : goal.returns-in-3-clause-ok
 returns-in-3-clause-ok c =
-    IfOk-weaker c.list_at.result (λ x. Reads list AreLengths lengths_bytes c.args.level x.0 c.in-Some.rest.now x.1.now) (λ x. Reads (λ parts. parts) IsStateParts parts_bytes c.args.level x.0 c.args.bytes.now x.1.now)
+    IfOk-weaker c.list_at.result (λ x. Reads list AreWideLengths lengths_bytes c.args.level x.0 c.in-Some.rest.now x.1.now) (λ x. Reads (λ parts. parts) IsStateParts parts_bytes c.args.level x.0 c.args.bytes.now x.1.now)
     (λ x r. list_found c.args.bytes.now c.in-Some.rest.now x.1.now c.in-Some.tag.now c.args.level x.0 c.in-Some.ensures.cases.0 c.in-3.is r) c.list_at.ensures.ok
 
 pub returns-in-3-clause-refused : goal.returns-in-3-clause-refused
 returns-in-3-clause-refused c =
-    IfErr-weaker c.list_at.result (λ kind. IsRefused kind (BeginsNone AreLengths lengths_bytes c.in-Some.rest.now)) (λ kind. IsRefused kind (BeginsNone IsStateParts parts_bytes c.args.bytes.now))
+    IfErr-weaker c.list_at.result (λ kind. IsRefused kind (BeginsNone AreWideLengths lengths_bytes c.in-Some.rest.now)) (λ kind. IsRefused kind (BeginsNone IsStateParts parts_bytes c.args.bytes.now))
     (λ kind. refused_so kind _ _ (parts_list c.args.bytes.now c.in-Some.rest.now c.in-Some.tag.now c.in-Some.ensures.cases.0 c.in-3.is)) c.list_at.ensures.refused
 
 pub returns-in-4-clause-ok : goal.returns-in-4-clause-ok
