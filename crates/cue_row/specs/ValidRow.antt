@@ -1,8 +1,10 @@
 -- The rows that may stand in a valid table, as far as a row alone decides: what it says of its parent and of what stands
 -- below it is the table's.
-use Rattle.std.specs.Prelude.{◌≡◌, ◌≤◌, ℕ, Bool, true, List, Option, Some, None, IsTrue, length, nat_le}
-use Rattle.std.specs.List.{list_all}
+use Rattle.std.specs.Prelude.{◌≡◌, ◌≤◌, ℕ, List, Option, Some, None, length}
+use Rattle.std.specs.List.{AllByRecursion}
+use Rattle.std.specs.Str.{IsUtf8}
 use Rattle.cue_lattice.specs.Limits.{length_limit, word_limit}
+use Rattle.cue_lattice.specs.Path.{Step, label, index}
 use Rattle.cue_scalars.specs.Scalars.{IsWithin}
 use Rattle.cue_row.specs.declared.row.Row.{Row}
 use Rattle.cue_row.specs.declared.kind.RowKind.{RowKind}
@@ -40,19 +42,28 @@ abbrev pub AreLengths : ℕ → Option ℕ → Type 0
 AreLengths least None = least ≤ length_limit
 AreLengths least (Some most) = (least ≤ length_limit) × (most ≤ least)
 
--- whether a text is not too long
-abbrev pub is_short : List ℕ → Bool
-is_short text = nat_le (length text) word_limit
+-- a text in UTF-8 that is not too long
+pub record IsWord (text : List ℕ) : Type 0 where
+  pub utf8 : IsUtf8 text
+  pub short : length text ≤ word_limit
 
-abbrev pub are_short_labels : Option (List (List ℕ)) → Bool
-are_short_labels None = true
-are_short_labels (Some labels) = list_all is_short labels
+abbrev pub AreWords : List (List ℕ) → Type 0
+AreWords = AllByRecursion IsWord
 
--- no label and no text of the sets is too long
-pub record AreShortTexts (row : Row) : Type 0 where
-  pub labels : IsTrue (are_short_labels row.labels)
-  pub value : IsTrue (list_all is_short row.value.texts.1)
-  pub usual : IsTrue (list_all is_short row.usual.texts.1)
+-- a label is such a text
+abbrev pub IsWordStep : Step → Type 0
+IsWordStep (label text) = IsWord text
+IsWordStep (index number) = Unit {0}
+
+abbrev pub AreLabelWords : Option (List (List ℕ)) → Type 0
+AreLabelWords None = Unit {0}
+AreLabelWords (Some labels) = AreWords labels
+
+-- each label and each text of the sets is in UTF-8 and not too long
+pub record HasWords (row : Row) : Type 0 where
+  pub labels : AreLabelWords row.labels
+  pub value : AreWords row.value.texts.1
+  pub usual : AreWords row.usual.texts.1
 
 -- the row is of a kind, fits it, keeps the limits, and is not free
 pub record IsValidRow (row : Row) : Type 0 where
@@ -62,5 +73,5 @@ pub record IsValidRow (row : Row) : Type 0 where
   pub labels : LabelsFit row kind
   pub row_lengths : LengthsFit row kind
   pub limits : AreLengths row.least row.most
-  pub texts : AreShortTexts row
+  pub texts : HasWords row
   pub not_free : ((question : Question) → ¬ Refuses row question) → ⊥

@@ -1,9 +1,9 @@
 ghost use Rattle.std.specs.Prelude.{◌≡◌, ◌↔◌, ◌≤◌, IsTrue, IfSome};
-ghost use Rattle.std.specs.List.{list_all};
 ghost use Rattle.cue_lattice.specs.Limits.{length_limit};
-ghost use Rattle.cue_row.specs.ValidRow.{IsValidRow, UsualFits, LabelsFit, LengthsFit, AreLengths, is_short, AreShortTexts};
+ghost use Rattle.cue_row.specs.Steps.{step_of};
+ghost use Rattle.cue_row.specs.ValidRow.{IsValidRow, UsualFits, LabelsFit, LengthsFit, AreLengths, IsWord, AreWords, HasWords, IsWordStep};
 
-use crate::{Row, RowKind};
+use crate::{Row, RowKind, Step};
 use cue_lattice::{LENGTH_LIMIT, Narrow, Text, WORD_LIMIT};
 
 impl Row {
@@ -26,7 +26,7 @@ impl Row {
         if !self.has_lengths() {
             return false;
         }
-        if !self.has_short_texts() {
+        if !self.has_words() {
             return false;
         }
         !self.is_free()
@@ -79,27 +79,51 @@ impl Row {
         }
     }
 
-    /// Whether no label and no text of the sets is too long.
-    fn has_short_texts(&self) -> bool
-        ensures { IsTrue result ↔ AreShortTexts self.now }
+    /// Whether no label and no text of the sets is too long. That they are in UTF-8 is what their type says.
+    fn has_words(&self) -> bool
+        ensures { IsTrue result ↔ HasWords self.now }
     {
         if let Some(labels) = self.labels.listed() {
-            if !are_short(labels) {
+            if !are_words(labels) {
                 return false;
             }
         }
         let (_, value) = self.value.texts.listed();
-        if !are_short(value) {
+        if !are_words(value) {
             return false;
         }
         let (_, usual) = self.usual.texts.listed();
-        are_short(usual)
+        are_words(usual)
     }
 }
 
 /// Whether none of the texts is too long.
-fn are_short(texts: &[Text]) -> bool
-    ensures { result ≡ list_all is_short texts.now }
+fn are_words(texts: &[Text]) -> bool
+    ensures { IsTrue result ↔ AreWords texts.now }
 {
-    texts.iter().all(|text| text.as_bytes().len() <= WORD_LIMIT)
+    for text in texts {
+        if !is_word(text) {
+            return false;
+        }
+    }
+    true
+}
+
+/// Whether a text is not too long for a label or a decoded string.
+fn is_word(text: &Text) -> bool
+    ensures { IsTrue result ↔ IsWord text.now }
+{
+    text.as_str().len() <= WORD_LIMIT
+}
+
+impl Step {
+    /// Whether the step is none of a label that is too long, of more than [`WORD_LIMIT`] bytes.
+    pub fn is_short(&self) -> bool
+        ensures { IsTrue result ↔ IsWordStep (step_of self.now) }
+    {
+        match self {
+            Step::Label(label) => is_word(label),
+            Step::Index(_) => true,
+        }
+    }
 }
