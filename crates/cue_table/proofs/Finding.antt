@@ -104,7 +104,7 @@ module _ {R Q : Type 0} where
       (cases_lt k at))
 
 -- what is found is the branch at hand, or found further on
-found_here : {R : Type 0} (P : Tree R → Type 0) (o : Ordering) (here : Tree R) (other : Option (Tree R)) (tree : Tree R) → P here → (other ≡ Some tree → P tree) → if_equal o here other ≡ Some tree → P tree
+pub found_here : {R : Type 0} (P : Tree R → Type 0) (o : Ordering) (here : Tree R) (other : Option (Tree R)) (tree : Tree R) → P here → (other ≡ Some tree → P tree) → if_equal o here other ≡ Some tree → P tree
 found_here P Less here other tree h k e = k e
 found_here P Equal here other tree h k e = let same : here ≡ tree = cc in subst P same h
 found_here P Greater here other tree h k e = k e

@@ -1,5 +1,6 @@
 pub mod Order
 pub mod Adding
+pub mod Depth
 pub mod Exact
 pub mod Finding
 pub mod Meeting

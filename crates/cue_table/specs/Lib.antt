@@ -1,4 +1,5 @@
 pub mod Code
+pub mod Depth
 pub mod Falls
 pub mod Form
 pub mod Meet
@@ -6,5 +7,6 @@ pub mod Place
 pub mod Refuses
 pub mod Size
 pub mod Tree
+pub mod Valid
 pub mod View
 pub mod Walks

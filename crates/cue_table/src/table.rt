@@ -1,6 +1,8 @@
-ghost use Rattle.std.specs.Prelude.{◌≡◌, ◌↔◌, IfOk, IsTrue, OnErr, OnOk};
+ghost use Rattle.std.specs.Prelude.{◌≡◌, ◌↔◌, ◌≤◌, IfOk, IsTrue, OnErr, OnOk};
 ghost use Rattle.std.specs.Option.{option_map, option_and_then};
+ghost use Rattle.cue_lattice.specs.Limits.{step_limit};
 ghost use Rattle.cue_table.specs.Tree.{empty, taken, branch_at, row_at};
+ghost use Rattle.cue_table.specs.Depth.{tree_depth};
 ghost use Rattle.cue_table.specs.Form.{IsTable};
 ghost use Rattle.cue_table.specs.Meet.{IsAdded, IsMet};
 
@@ -13,7 +15,7 @@ use std::alloc::Global;
 use std::marker::Model;
 
 /// What is known at each path of a configuration. Contracts see it as a tree of rows, in the one form that it has for
-/// what it refuses.
+/// what it refuses, and with no path of more than [`cue_lattice::STEP_LIMIT`] steps.
 #[derive(Drop)]
 pub struct Table<R: Narrow> {
     alloc: Global,
@@ -32,7 +34,11 @@ impl<R: Narrow> Model for Table<R> {
 
     ghost view = { λ table. table.root };
 
-    ghost invariant = { λ table. IsTable R.refuses R.is_value table.root };
+    ghost use Rattle.std.specs.Prelude.{◌≤◌};
+    ghost use Rattle.cue_lattice.specs.Limits.{step_limit};
+    ghost use Rattle.cue_table.specs.Depth.{tree_depth};
+
+    ghost invariant = { λ table. IsTable R.refuses R.is_value table.root × (tree_depth table.root ≤ step_limit) };
 }
 
 impl<R: Narrow> Table<R> {
@@ -67,6 +73,7 @@ impl<R: Narrow> Table<R> {
     pub fn root(&self) -> Branch<R>
         ensures branch { result ≡ self.now }
         ensures form { IsTable R.refuses R.is_value self.now }
+        ensures depth { tree_depth self.now ≤ step_limit }
     {
         Branch::new(&self.root)
     }

@@ -1,0 +1,88 @@
+-- Which tables are valid: those that a site may hold, and that state bytes tell. Each rule speaks of the rows at paths.
+use Rattle.std.specs.Prelude.{◌≡◌, ◌⊎◌, ℕ, ◌<◌, [], ◌∷◌, ◌++◌, None, Some}
+use Rattle.std.specs.List.{AllByRecursion}
+use Rattle.cue_lattice.specs.Path.{Step, label, index, Path}
+use Rattle.cue_row.specs.Steps.{IsWithinDepth}
+use Rattle.cue_row.specs.Row.{Refuses, IsRow}
+use Rattle.cue_row.specs.Kinds.{IsKind}
+use Rattle.cue_row.specs.ValidRow.{IsWordStep, IsValidRow}
+use Rattle.cue_row.specs.declared.row.Row.{Row}
+use Rattle.cue_row.specs.declared.kind.RowKind.TheVariants as kinds
+use Rattle.cue_row.specs.declared.level.Level.TheVariants.{Optional}
+use Rattle.cue_table.specs.Tree.{Tree, empty, row_at}
+use Rattle.cue_table.specs.Form.{IsTable}
+
+-- the row stands at the path
+abbrev pub Stands : Tree Row → Path → Row → Type 0
+Stands tree path row = row_at tree path ≡ Some row
+
+-- the path one step further
+abbrev pub further : Path → Step → Path
+further path step = path ++ step ∷ []
+
+-- what P says of a path and its row holds of each row
+abbrev pub EachRow : (Path → Row → Type 0) → Tree Row → Type 0
+EachRow P tree = (path : Path) (row : Row) → Stands tree path row → P path row
+
+-- what P says of a row, a step and the row one step below holds of each two such rows
+abbrev pub EachBelow : (Row → Step → Row → Type 0) → Tree Row → Type 0
+EachBelow P tree =
+    (path : Path) (step : Step) (parent row : Row) → Stands tree path parent → Stands tree (further path step) row → P parent step row
+
+-- Each row is of one of the five kinds, what it says beside fits its kind, it keeps the limits, and it is not free.
+abbrev pub HasValidRows : Tree Row → Type 0
+HasValidRows = EachRow (λ path row. IsValidRow row)
+
+-- no path of a row has too many steps
+abbrev pub HasShortPaths : Tree Row → Type 0
+HasShortPaths = EachRow (λ path row. IsWithinDepth path)
+
+-- the labels on the path of a row are texts that are not too long
+abbrev pub HasWordLabels : Tree Row → Type 0
+HasWordLabels = EachRow (λ path row. AllByRecursion IsWordStep path)
+
+-- there is no row, or the one of the root is a struct that allows all labels
+abbrev pub IsOpenStruct : Row → Type 0
+IsOpenStruct row = IsKind row kinds.Struct × (row.labels ≡ None)
+
+abbrev pub HasOpenRoot : Tree Row → Type 0
+HasOpenRoot tree = (tree ≡ empty) ⊎ ((row : Row) × Stands tree [] row × IsOpenStruct row)
+
+-- the level of the root and of the elements of lists is 0
+abbrev pub HasRootLevel : Tree Row → Type 0
+HasRootLevel tree = (row : Row) → Stands tree [] row → row.level ≡ Optional
+
+abbrev pub HasElementLevels : Tree Row → Type 0
+HasElementLevels tree = (path : Path) (n : ℕ) (row : Row) → Stands tree (further path (index n)) row → row.level ≡ Optional
+
+-- above each row but the root's stands a row
+abbrev pub HasParents : Tree Row → Type 0
+HasParents tree = (path : Path) (step : Step) (row : Row) → Stands tree (further path step) row → (parent : Row) × Stands tree path parent
+
+-- Fields stand directly below structs alone and elements below lists alone, or below what allows nothing to stand.
+abbrev pub MayHold : Row → Step → Type 0
+MayHold parent (label text) = IsKind parent kinds.Struct ⊎ IsKind parent kinds.Nothing
+MayHold parent (index n) = IsKind parent kinds.List ⊎ IsKind parent kinds.Nothing
+
+abbrev pub HasFittingParents : Tree Row → Type 0
+HasFittingParents = EachBelow (λ parent step row. MayHold parent step)
+
+-- an element's index is below the least length of its list
+abbrev pub IsElement : Row → Step → Type 0
+IsElement parent (label text) = Unit {0}
+IsElement parent (index n) = n < parent.least
+
+abbrev pub HasElements : Tree Row → Type 0
+HasElements = EachBelow (λ parent step row. IsElement parent step)
+
+pub record IsValidTable (tree : Tree Row) : Type 0 where
+  pub form : IsTable Refuses IsRow tree
+  pub rows : HasValidRows tree
+  pub paths : HasShortPaths tree
+  pub labels : HasWordLabels tree
+  pub root : HasOpenRoot tree
+  pub root_level : HasRootLevel tree
+  pub element_levels : HasElementLevels tree
+  pub parents : HasParents tree
+  pub kinds : HasFittingParents tree
+  pub elements : HasElements tree
