@@ -1,0 +1,9 @@
+pub mod Written
+pub mod Once
+pub mod Unified
+pub mod ByPair
+pub mod Example
+pub mod Closing
+pub mod Fields
+pub mod Lists
+pub mod Defaults

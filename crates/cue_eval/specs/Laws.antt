@@ -1,0 +1,47 @@
+-- Laws of what expressions refuse.
+use Rattle.std.specs.Prelude.{◌↔◌, ◌⊎◌, List, ℕ, IsTrue}
+use Rattle.cue_lattice.specs.Path.{Path}
+use Rattle.cue_lattice.specs.Question.{Question, allows, SameAnswers, IsAsNarrowAs}
+use Rattle.cue_scope.specs.Core.{Core, conjunction, closed, Cores, no_cores, core, is_scalar}
+use Rattle.cue_eval.specs.Pairs.{pair}
+use Rattle.cue_eval.specs.Literals.{literals, LeaveOut}
+use Rattle.cue_eval.specs.Places.{Here, ScalarRefuses}
+use Rattle.cue_eval.specs.Refuses.{Refuses}
+
+-- `a & b`
+abbrev pub both : Core → Core → Core
+both a b = conjunction (core a (core b no_cores))
+
+-- `a & b` refuses exactly what one of both refuses
+abbrev pub IsUnification : Type 0
+IsUnification = (a b : Core) (path : Path) (question : Question) →
+    Refuses (both a b) path question ↔ (Refuses a path question ⊎ Refuses b path question)
+
+-- A place where labels are left out already is changed by no closing around it.
+abbrev pub IsClosedOnce : Type 0
+IsClosedOnce = (c : Core) (path : Path) (k l : List ℕ) →
+    Refuses c path (allows k) → LeaveOut (literals c path) l → Refuses c path (allows l)
+
+-- Closing a body twice is closing it once.
+abbrev pub IsClosedForGood : Type 0
+IsClosedForGood = (c : Core) → SameAnswers (Refuses (closed (closed c))) (Refuses (closed c))
+
+-- Parts that are closed one by one are at least as narrow as what is closed whole: each part must allow a label then.
+abbrev pub IsClosedByParts : Type 0
+IsClosedByParts = (a b : Core) → IsAsNarrowAs (Refuses (both (closed a) (closed b))) (Refuses (closed (both a b)))
+
+-- Each `&` has parts, as the grammar has it. Of what stands in terms, structs and lists nothing is asked.
+abbrev mutual
+  pub HasParts : Core → Type 0
+  HasParts (conjunction no_cores) = ⊥
+  HasParts (conjunction (core c cs)) = HasParts c × AllHaveParts cs
+  HasParts (closed c) = HasParts c
+  HasParts _ = Unit {0}
+
+  pub AllHaveParts : Cores → Type 0
+  AllHaveParts no_cores = Unit {0}
+  AllHaveParts (core c cs) = HasParts c × AllHaveParts cs
+
+-- A scalar expression refuses what its value and default refuse, at its own place alone.
+abbrev pub IsItsPair : Type 0
+IsItsPair = (c : Core) → IsTrue (is_scalar c) → HasParts c → SameAnswers (Refuses c) (Here (ScalarRefuses (pair c)))

@@ -1,0 +1,61 @@
+-- Which struct literals stand at a path of an expression, and which labels they leave out where they are closed.
+use Rattle.std.specs.Prelude.{◌≡◌, ◌≢◌, ℕ, zero, suc, Bool, true, false, ◌||◌, cond, List, [], ◌∷◌, ◌++◌}
+use Rattle.std.specs.List.{list_any}
+use Rattle.std.specs.Str.{bytes_eq}
+use Rattle.cue_lattice.specs.Path.{Path, label, index}
+use Rattle.cue_scope.specs.Core.{Core, conjunction, struct, close, list, closed, Cores, no_cores, core, Members, no_members, member, dots}
+
+-- it has a declaration of this label, with any mark
+abbrev pub declares : List ℕ → Members → Bool
+declares l no_members = false
+declares l (member k mark c ms) = bytes_eq k l || declares l ms
+declares l (dots ms) = declares l ms
+
+-- it has a `...`
+abbrev pub has_dots : Members → Bool
+has_dots no_members = false
+has_dots (member k mark c ms) = has_dots ms
+has_dots (dots ms) = true
+
+-- a struct literal stands at its own place, and below it what its declarations say
+abbrev pub with_fields : Members → (List ℕ → Path → List Members) → Path → List Members
+with_fields ms fields [] = ms ∷ []
+with_fields ms fields (label l ∷ path) = fields l path
+with_fields ms fields (index i ∷ path) = []
+
+abbrev pub with_elements : (ℕ → Path → List Members) → Path → List Members
+with_elements elements [] = []
+with_elements elements (label l ∷ path) = []
+with_elements elements (index i ∷ path) = elements i path
+
+-- the struct literals that are written at a path: by all parts of `&`, also in the bodies of definitions and in `close`
+abbrev mutual
+  pub literals : Core → Path → List Members
+  literals (conjunction cs) path = literals_of_parts cs path
+  literals (struct ms) path = with_fields ms (literals_of_field ms) path
+  literals (close ms) path = with_fields ms (literals_of_field ms) path
+  literals (list cs goes_on) path = with_elements (literals_of_element cs) path
+  literals (closed c) path = literals c path
+  literals _ path = []
+
+  pub literals_of_parts : Cores → Path → List Members
+  literals_of_parts no_cores path = []
+  literals_of_parts (core c cs) path = literals c path ++ literals_of_parts cs path
+
+  -- those at a path below a label, in each declaration of this label
+  pub literals_of_field : Members → List ℕ → Path → List Members
+  literals_of_field no_members l path = []
+  literals_of_field (member k mark c ms) l path = cond (bytes_eq k l) (literals c path) [] ++ literals_of_field ms l path
+  literals_of_field (dots ms) l path = literals_of_field ms l path
+
+  -- those at a path below an index
+  pub literals_of_element : Cores → ℕ → Path → List Members
+  literals_of_element no_cores i path = []
+  literals_of_element (core c cs) zero path = literals c path
+  literals_of_element (core c cs) (suc i) path = literals_of_element cs i path
+
+-- Some struct literals are written, none of them has a `...`, and none declares the label.
+pub record LeaveOut (written : List Members) (l : List ℕ) : Type 0 where
+  pub some : written ≢ []
+  pub without_dots : list_any has_dots written ≡ false
+  pub undeclared : list_any (declares l) written ≡ false
