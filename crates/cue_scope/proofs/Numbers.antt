@@ -38,7 +38,7 @@ told_by : (b : Bool) (P : Type 0) → Decides b P → ((b ≡ true) × P) ⊎ ((
 told_by true P h = inl (refl, h.0 refl)
 told_by false P h = inr (refl, λ p. let e : false ≡ true = h.1 p in absurd (cc))
 
-told : (xs ys : List ℕ) → ((bytes_eq xs ys ≡ true) × (xs ≡ ys)) ⊎ ((bytes_eq xs ys ≡ false) × (xs ≡ ys → ⊥))
+pub told : (xs ys : List ℕ) → ((bytes_eq xs ys ≡ true) × (xs ≡ ys)) ⊎ ((bytes_eq xs ys ≡ false) × (xs ≡ ys → ⊥))
 told xs ys = told_by (bytes_eq xs ys) (xs ≡ ys) (bytes_eq-Decides xs ys)
 
 bytes_eq_self : (xs : List ℕ) → bytes_eq xs xs ≡ true

@@ -12,3 +12,4 @@ pub mod Refusing
 pub mod First
 pub mod Listed
 pub mod Kept
+pub mod Scopes

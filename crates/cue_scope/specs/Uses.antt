@@ -40,3 +40,9 @@ abbrev mutual
 -- the definitions that each definition uses
 abbrev pub graph : List Definition → List (List ℕ)
 graph ds = map (λ d. uses ds d.value) ds
+
+-- those that the regular declarations of a text name
+abbrev pub uses_of_fields : List Definition → Entries → List ℕ
+uses_of_fields ds no_entries = []
+uses_of_fields ds (entry (field l chain e) es) = uses ds e ++ uses_of_fields ds es
+uses_of_fields ds (entry _ es) = uses_of_fields ds es

@@ -6,6 +6,8 @@ mod definitions;
 mod graph;
 mod memory;
 mod named;
+mod names;
+mod scope;
 
 pub use definitions::{Definition, Definitions};
 pub use graph::{Order, order_of, reached};
