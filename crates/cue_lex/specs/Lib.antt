@@ -2,6 +2,7 @@ pub mod Characters
 pub mod Names
 pub mod Integers
 pub mod Strings
+pub mod Spelled
 pub mod Kinds
 pub mod Marks
 pub mod Lexemes

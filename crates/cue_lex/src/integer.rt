@@ -15,7 +15,7 @@ const GREATEST: u64 = 9_223_372_036_854_775_807;
 
 /// The integer literal at the front, where a decimal digit stands there.
 #[tactic(auto, unfolding(crate::specs::Lexemes::integer))]
-pub fn integer(bytes: &[u8], at: usize, after_minus: bool) -> Result<Lexeme, Refusal>
+pub fn integer<'a>(bytes: &[u8], at: usize, after_minus: bool) -> Result<Lexeme<'a>, Refusal>
     requires nonempty { 0 < length bytes.now }
     requires at_least { 48 ≤ slice_index bytes.now 0 }
     requires at_most { slice_index bytes.now 0 ≤ 57 }

@@ -13,15 +13,15 @@ use std::alloc::Global;
 
 /// What stands at a place of a text.
 #[derive(Drop)]
-pub enum Lexeme {
+pub enum Lexeme<'a> {
     /// White space other than a line break, or a comment, of so many bytes.
     Blank(usize),
     LineBreak,
     /// A token, and how many bytes it has.
-    Word(TokenKind, usize),
+    Word(TokenKind<'a>, usize),
 }
 
-impl Lexeme {
+impl<'a> Lexeme<'a> {
     /// How many bytes it has.
     pub fn len(&self) -> usize
         ensures { result ≡ len_of self.now }
@@ -36,7 +36,12 @@ impl Lexeme {
 
 /// What stands at the front of a text that isn't empty and stands at `at`.
 #[tactic(auto, unfolding(crate::specs::Lexemes::lexeme))]
-pub fn lexeme_at(alloc: Global, text: &str, at: usize, after_minus: bool) -> Result<Lexeme, Refusal>
+pub fn lexeme_at<'a>(
+    alloc: Global,
+    text: &'a str,
+    at: usize,
+    after_minus: bool,
+) -> Result<Lexeme<'a>, Refusal>
     requires nonempty { 0 < length text.now }
     requires room { at + length text.now < 2 ^ 63 }
     ensures gives { Gives result (lexeme after_minus at text.now) }
@@ -59,7 +64,7 @@ pub fn lexeme_at(alloc: Global, text: &str, at: usize, after_minus: bool) -> Res
     }
     let len = identifier_len(text);
     if len > 0 {
-        return name(alloc, text, len, at);
+        return name(text, len, at);
     }
     match mark(bytes) {
         Some((kind, len)) => Ok(Lexeme::Word(kind, len)),

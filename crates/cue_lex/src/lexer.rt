@@ -15,7 +15,7 @@ use std::alloc::Global;
 /// The tokens are those of the section "Lexical elements" of the CUE Language Specification, as far
 /// as the profile has them: identifiers, integers, strings in double quotes, `_|_` and punctuation.
 /// Places are bytes of the text, which is UTF-8, and may have 1,048,576 of them. Letters and digits
-/// of names are those of Unicode 18.0.
+/// of names are those of Unicode 18.0. Names, and strings with no escape, are slices of the text.
 ///
 /// # Errors
 ///
@@ -23,7 +23,7 @@ use std::alloc::Global;
 /// `BadString`, `BadNumber`, `IntRange` and `TextTooLong`, with its place; or `Memory`, where
 /// memory ran out before a fault was found. A text that is too long is always refused as such.
 #[tactic(auto, unfolding(crate::specs::Tokens::tokens))]
-pub fn lex(alloc: Global, text: &str) -> Result<Vec<Token>, Refusal>
+pub fn lex<'a>(alloc: Global, text: &'a str) -> Result<Vec<Token<'a>>, Refusal>
     // What is answered is the tokens of the text.
     ensures found { IfOk result (λ all. tokens text.now ≡ Ok all.items) }
     // A refusal is the text's first fault, unless memory ran out.
@@ -60,14 +60,19 @@ struct Before {
 }
 
 /// Adds what stands at `at` to the tokens.
-fn add(tokens: &mut Vec<Token>, before: Before, found: Lexeme, at: usize) -> Result<Before, Memory>
+fn add<'a>(
+    tokens: &mut Vec<Token<'a>>,
+    before: Before,
+    found: Lexeme<'a>,
+    at: usize,
+) -> Result<Before, Memory>
     requires { at + len_of found < 2 ^ 63 }
     // The tokens and what they say of what follows give the same tokens in all, whatever follows.
     ensures { IfOk result (λ after. (rest : Bool → ℕ → Result (List Piece) Refusal) →
         prepended tokens.old.items
-        (commas before.line_end (at_place before.is_minus at (Ok found) rest))
+        (commas before.line_end (at_place before.is_minus at (Ok found.entry) rest))
         ≡ prepended tokens.new.items
-        (commas after.line_end (rest after.is_minus (len_of found - 1)))) }
+        (commas after.line_end (rest after.is_minus (len_of found.entry - 1)))) }
 {
     match found {
         Lexeme::Blank(_) => Ok(before),

@@ -3,7 +3,7 @@
 //!
 //! It follows the section "Lexical elements" of the CUE Language Specification, as far as the
 //! profile goes. A text is UTF-8, and places are byte offsets. Letters and digits of names are
-//! those of Unicode 18.0.
+//! those of Unicode 18.0. Tokens borrow their names and strings from the text.
 #![tactic(auto)]
 
 mod character;
@@ -12,11 +12,15 @@ mod lexeme;
 mod lexer;
 mod mark;
 mod name;
+mod quoted;
 mod string;
 mod token;
+mod word;
 
-pub use cue_lattice::{Refusal, Text};
+pub use cue_lattice::{Memory, Refusal, Text};
 pub use lexer::lex;
 pub use mark::longest_mark;
 pub use name::{bottom_before_names, longest_identifier};
+pub use quoted::Quoted;
 pub use token::{Token, TokenKind};
+pub use word::Word;

@@ -6,7 +6,7 @@ use crate::TokenKind;
 
 /// The longest punctuation mark at the front, and how many bytes it has.
 #[tactic(auto, unfolding(crate::specs::Marks::mark))]
-pub fn mark(bytes: &[u8]) -> Option<(TokenKind, usize)>
+pub fn mark<'a>(bytes: &[u8]) -> Option<(TokenKind<'a>, usize)>
     ensures value { result ≡ mark bytes.now }
     ensures ends { IfSome result (λ found. EndsAscii bytes.now found.1) }
 {
@@ -22,7 +22,7 @@ pub fn mark(bytes: &[u8]) -> Option<(TokenKind, usize)>
 
 /// The punctuation mark that this byte alone is.
 #[tactic(auto, unfolding(crate::specs::Marks::single_mark))]
-fn single(byte: u8) -> Option<TokenKind>
+fn single<'a>(byte: u8) -> Option<TokenKind<'a>>
     ensures value { result ≡ single_mark byte }
     ensures ascii { IfSome result (λ _. byte < 128) }
 {

@@ -4,13 +4,12 @@ ghost use Rattle.std.specs.Str.{IsCharBoundary};
 ghost use Rattle.cue_lex.specs.Characters.{is_ascii_part};
 ghost use Rattle.cue_lex.specs.Names.{run_len, word_len, signed_len, identifier_len};
 ghost use Rattle.cue_lex.specs.Longest.{TakesTheLongestIdentifier, TakesBottomBeforeNames};
-ghost use Rattle.cue_lex.specs.Lexemes.{Gives, name, len_of};
+ghost use Rattle.cue_lex.specs.Lexemes.{name, len_of};
 
-use crate::TokenKind;
 use crate::character::{is_ascii_part, is_letter, is_name_part};
 use crate::lexeme::Lexeme;
-use cue_lattice::{Kind, Refusal, Text, WORD_LIMIT};
-use std::alloc::Global;
+use crate::{TokenKind, Word};
+use cue_lattice::{Kind, Refusal, WORD_LIMIT};
 
 /// How many bytes the letters and digits at the front have.
 fn run_len(text: &str) -> usize
@@ -90,17 +89,17 @@ pub fn identifier_len(text: &str) -> usize
 
 /// The identifier of this length at the front.
 #[tactic(auto, unfolding(crate::specs::Lexemes::name, crate::specs::Lexemes::name_kind))]
-pub fn name(alloc: Global, text: &str, len: usize, at: usize) -> Result<Lexeme, Refusal>
+pub fn name<'a>(text: &'a str, len: usize, at: usize) -> Result<Lexeme<'a>, Refusal>
     requires nonempty { 0 < len }
     requires boundary { IsCharBoundary text.now len }
-    ensures gives { Gives result (name at len text.now) }
+    ensures value { result ≡ name at len text.now }
     ensures len { IfOk result (λ found. len_of found ≡ len) }
 {
     if len > WORD_LIMIT {
         return Err(Refusal::at(Kind::TextTooLong, at));
     }
     let spelling = &text[..len];
-    let word = Text::from_str(alloc, spelling)?;
+    let word = Word::new(spelling);
     let kind = match spelling.as_bytes()[0] {
         b'#' => TokenKind::Definition(word),
         b'_' => TokenKind::Hidden(word),

@@ -10,14 +10,14 @@ ghost use Rattle.cue_lex.specs.Strings.{simple_escape, eight_digits, four_digits
 ghost use Rattle.cue_lex.specs.Strings.{is_plain};
 ghost use Rattle.cue_lex.specs.Lexemes.{Gives, string, kept, EndsAscii, len_of};
 
-use crate::TokenKind;
 use crate::lexeme::Lexeme;
-use cue_lattice::{Kind, Memory, Refusal, Text, WORD_LIMIT};
+use crate::{Quoted, TokenKind};
+use cue_lattice::{Kind, Memory, Refusal, WORD_LIMIT};
 use std::alloc::Global;
 
 /// The string at the front, where a `"` stands there.
 #[tactic(auto, unfolding(crate::specs::Lexemes::string, crate::specs::Strings::string_text))]
-pub fn string(alloc: Global, text: &str, at: usize) -> Result<Lexeme, Refusal>
+pub fn string<'a>(alloc: Global, text: &'a str, at: usize) -> Result<Lexeme<'a>, Refusal>
     requires nonempty { 0 < length text.now }
     requires quoted { slice_index text.now 0 ≡ 34 }
     requires room { at + length text.now < 2 ^ 63 }
@@ -33,14 +33,14 @@ pub fn string(alloc: Global, text: &str, at: usize) -> Result<Lexeme, Refusal>
             return Err(Refusal::at(Kind::TextTooLong, at));
         }
         let len = plain.len() + 2;
-        let copied = Text::from_str(alloc, plain)?;
-        return Ok(Lexeme::Word(TokenKind::Text(copied), len));
+        return Ok(Lexeme::Word(TokenKind::Text(Quoted::plain(plain)), len));
     }
     let (decoded, len) = body(alloc, inside, at)?;
     if decoded.len() > WORD_LIMIT {
         return Err(Refusal::at(Kind::TextTooLong, at));
     }
-    Ok(Lexeme::Word(TokenKind::Text(Text::new(decoded)), len + 1))
+    let decoded = Quoted::decoded(alloc, decoded)?;
+    Ok(Lexeme::Word(TokenKind::Text(decoded), len + 1))
 }
 
 /// What stands before the closing quote, where no escape does. None where one does, and where the

@@ -1,28 +1,28 @@
 ghost use Rattle.std.specs.Prelude.{◌≡◌};
 ghost use Rattle.cue_lex.specs.Kinds.{is_minus, ends_line};
 
-use cue_lattice::Text;
+use crate::{Quoted, Word};
 
 /// A token of a text: what it is, and from which byte to before which byte it stands. An inserted
 /// comma is empty: `from` and `to` are the end of the token before it.
 #[derive(Debug, Drop)]
-pub struct Token {
-    pub kind: TokenKind,
+pub struct Token<'a> {
+    pub kind: TokenKind<'a>,
     pub from: usize,
     pub to: usize,
 }
 
-/// What a token is.
+/// What a token is. Names, and strings with no escape, are slices of the text.
 #[derive(Debug, Drop)]
-pub enum TokenKind {
+pub enum TokenKind<'a> {
     /// An identifier that begins with neither `#` nor `_`.
-    Name(Text),
+    Name(Word<'a>),
     /// An identifier that begins with `#`, with that sign.
-    Definition(Text),
+    Definition(Word<'a>),
     /// An identifier that begins with `_`, as `_`, `_x` or `_#x`.
-    Hidden(Text),
+    Hidden(Word<'a>),
     /// A string, as the text that it stands for.
-    Text(Text),
+    Text(Quoted<'a>),
     /// An integer's magnitude. The one above `i64::MAX` stands after a `-` only.
     Integer(u64),
     /// `_|_`
@@ -71,7 +71,7 @@ pub enum TokenKind {
     Ellipsis,
 }
 
-impl TokenKind {
+impl<'a> TokenKind<'a> {
     pub(crate) fn is_minus(&self) -> bool
         ensures { result ≡ is_minus self.now }
     {

@@ -21,8 +21,8 @@ pub struct Definition<'f> {
     /// Where the name begins, in bytes.
     pub from: usize,
     /// The chain of labels before the value, which may be empty.
-    pub chain: &'f [Label],
-    pub value: &'f Expr,
+    pub chain: &'f [Label<'f>],
+    pub value: &'f Expr<'f>,
 }
 
 /// The definitions of a text, numbered from 0 in its order, each with a name of its own.
@@ -39,7 +39,10 @@ impl<'f> Definitions<'f> {
     /// # Errors
     ///
     /// `Repeated` at the first definition whose name an earlier one has, and `Memory`.
-    pub fn of(alloc: Global, declarations: &'f [Declaration]) -> Result<Definitions<'f>, Refusal>
+    pub fn of(
+        alloc: Global,
+        declarations: &'f [Declaration<'f>],
+    ) -> Result<Definitions<'f>, Refusal>
         ensures all { IfOk result (λ r. listed r.list.items ≡ definitions (entries declarations.now)) }
         ensures unrepeated { OnOk result (repeats (definitions (entries declarations.now)) ≡ []) }
         ensures refused { IfErr result (λ r. (r ≡ memory) ⊎ IsRepeat (definitions (entries declarations.now)) r) }
@@ -47,20 +50,23 @@ impl<'f> Definitions<'f> {
         let mut list = Vec::new(alloc);
         let mut numbers = HashMap::new(alloc);
         for declaration in declarations {
-            if let Declaration::Definition {
-                name,
-                from,
-                chain,
-                value,
-            } = declaration
-            {
-                let definition = Definition {
-                    name: name.as_str(),
-                    from: *from,
+            match declaration {
+                Declaration::Definition {
+                    name,
+                    from,
                     chain,
                     value,
-                };
-                add(&mut list, &mut numbers, definition)?;
+                } => {
+                    let definition = Definition {
+                        name: name.as_str(),
+                        from: *from,
+                        chain,
+                        value,
+                    };
+                    add(&mut list, &mut numbers, definition)?;
+                }
+                Declaration::Field { .. } => {}
+                Declaration::Ellipsis => {}
             }
         }
         Ok(Definitions { list, numbers })

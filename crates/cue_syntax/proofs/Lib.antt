@@ -24,6 +24,7 @@ pub mod Steps
 pub mod BodySteps
 pub mod Viable
 pub mod Files
+pub mod Backwards
 pub mod Refusing
 pub mod Reader
 pub mod Cuts

@@ -119,10 +119,8 @@ told_fits : {levels end : ℕ} {tokens at : List Token} {r : Refusal} (inside : 
 told_fits inside reasons.Memory by told = absurd by
 told_fits {levels = levels} {end = end} {tokens = tokens} inside reasons.Nesting by told =
     inr (subst (λ z. Fits levels end tokens z) (sym told) (record { j = length inside.read; place = refl; fits = nests_near inside by }))
-told_fits {levels = levels} {tokens = tokens} {r = r} inside reasons.Syntax by told = elim told [
-  | inl lack ↦ inl lack
-  | inr tells ↦ inr (record { j = length inside.read; place = tells.0; fits = fits_kind levels tokens r.kind (length inside.read) (leaves_near inside by) tells.1 })
-]
+told_fits {levels = levels} {tokens = tokens} {r = r} inside reasons.Syntax by told =
+    inr (record { j = length inside.read; place = told.0; fits = fits_kind levels tokens r.kind (length inside.read) (leaves_near inside by) told.1 })
 
 stop_fits : {levels end : ℕ} {tokens : List Token} {stop : Stop} {r : Refusal} → Stops levels end (text ∷ []) tokens stop → Tells end tokens stop r → (r ≡ memory) ⊎ Fits levels end tokens r
 stop_fits {end = end} {tokens = tokens} {stop = stop} {r = r} s told =

@@ -8,6 +8,7 @@ pub mod Recogniser
 pub mod OneTree
 pub mod Stops
 pub mod Spots
+pub mod Backwards
 pub mod Forms
 pub mod Refusals
 pub mod WellFormed

@@ -53,7 +53,7 @@ abbrev pub TellsAt : ℕ → List Token → ℕ → Why → Refusal → Type 0
 TellsAt end tokens j reasons.Memory refusal = refusal ≡ memory
 TellsAt end tokens j reasons.Nesting refusal = refusal ≡ refusal_at refusals.Nesting (place_of end (drop j tokens))
 TellsAt end tokens j reasons.Syntax refusal =
-    (refusal ≡ memory) ⊎ (refusal.place ≡ place_of end (drop j tokens)) × IsKindAt refusal.kind (spot_of (take j tokens)) (drop j tokens)
+    (refusal.place ≡ place_of end (drop j tokens)) × IsKindAt refusal.kind (spot_of (take j tokens)) (drop j tokens)
 
 -- The refusal tells of the stop.
 abbrev pub Tells : ℕ → List Token → Stop → Refusal → Type 0

@@ -12,7 +12,7 @@ use cue_lex::{Token, TokenKind};
 /// The tokens that are left, and where the text ends.
 #[derive(Clone, Copy)]
 pub struct Cursor<'a> {
-    pub rest: &'a [Token],
+    pub rest: &'a [Token<'a>],
     /// The length of the text in bytes, the place of a refusal behind the last token.
     pub end: usize,
 }
@@ -76,7 +76,7 @@ impl Punctuation {
 
 impl<'a> Cursor<'a> {
     /// The token at hand, and the cursor behind it.
-    pub fn next(self) -> Option<(&'a Token, Cursor<'a>)>
+    pub fn next(self) -> Option<(&'a Token<'a>, Cursor<'a>)>
         ensures first { MatchOption result (self.entry.rest.now ≡ []) (λ x. self.entry.rest.now ≡ x.0.now ∷ x.1.rest.now) }
         ensures end { IfSome result (λ x. x.1.end ≡ self.entry.end) }
     {

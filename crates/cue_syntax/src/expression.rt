@@ -22,7 +22,7 @@ pub struct Row<T> {
 
 /// An expression: a conjunction, or two or more terms joined by `|`.
 #[cycle(parser)]
-pub fn expression<'a>(alloc: Global, cursor: Cursor<'a>, room: usize) -> Parsed<'a, Expr>
+pub fn expression<'a>(alloc: Global, cursor: Cursor<'a>, room: usize) -> Parsed<'a, Expr<'a>>
     ensures shorter { IfOk result (λ r. length r.1.rest.now < length cursor.entry.rest.now) }
     ensures spelled { IfOk result (λ r. IsExpression room cursor.entry.rest.now (expression r.0) r.1.rest.now) }
     ensures end { IfOk result (λ r. r.1.end ≡ cursor.entry.end) }
@@ -50,7 +50,7 @@ pub fn expression<'a>(alloc: Global, cursor: Cursor<'a>, room: usize) -> Parsed<
 
 /// A term of a disjunction.
 #[cycle(parser)]
-fn term<'a>(alloc: Global, cursor: Cursor<'a>, room: usize) -> Parsed<'a, Term>
+fn term<'a>(alloc: Global, cursor: Cursor<'a>, room: usize) -> Parsed<'a, Term<'a>>
     ensures shorter { IfOk result (λ r. length r.1.rest.now < length cursor.entry.rest.now) }
     ensures spelled { IfOk result (λ r. IsTermOf room cursor.entry.rest.now (branch_tree r.0) r.1.rest.now) }
     ensures end { IfOk result (λ r. r.1.end ≡ cursor.entry.end) }
@@ -88,7 +88,7 @@ fn term<'a>(alloc: Global, cursor: Cursor<'a>, room: usize) -> Parsed<'a, Term>
 
 /// One part, or two or more parts joined by `&`.
 #[cycle(parser)]
-fn conjunction<'a>(alloc: Global, cursor: Cursor<'a>, room: usize) -> Parsed<'a, Expr>
+fn conjunction<'a>(alloc: Global, cursor: Cursor<'a>, room: usize) -> Parsed<'a, Expr<'a>>
     ensures shorter { IfOk result (λ r. length r.1.rest.now < length cursor.entry.rest.now) }
     ensures spelled { IfOk result (λ r. IsExpression room cursor.entry.rest.now (expression r.0) r.1.rest.now) }
     ensures conjunct { IfOk result (λ r. IsConjunct (expression r.0)) }
@@ -114,7 +114,7 @@ fn conjunction<'a>(alloc: Global, cursor: Cursor<'a>, room: usize) -> Parsed<'a,
 
 /// An operand or a bound.
 #[cycle(parser)]
-fn unary<'a>(alloc: Global, cursor: Cursor<'a>, room: usize) -> Parsed<'a, Expr>
+fn unary<'a>(alloc: Global, cursor: Cursor<'a>, room: usize) -> Parsed<'a, Expr<'a>>
     ensures shorter { IfOk result (λ r. length r.1.rest.now < length cursor.entry.rest.now) }
     ensures spelled { IfOk result (λ r. IsExpression room cursor.entry.rest.now (expression r.0) r.1.rest.now) }
     ensures unary { IfOk result (λ r. IsUnary (expression r.0)) }
@@ -127,13 +127,13 @@ fn unary<'a>(alloc: Global, cursor: Cursor<'a>, room: usize) -> Parsed<'a, Expr>
         Operand::Struct => structure(alloc, cursor, room),
         Operand::List => list(alloc, cursor, room),
         Operand::Close => close(alloc, cursor, room),
-        Operand::Literal => literal(alloc, cursor),
+        Operand::Literal => literal(cursor),
     }
 }
 
 /// An expression in parentheses.
 #[cycle(parser)]
-fn parenthesis<'a>(alloc: Global, cursor: Cursor<'a>, room: usize) -> Parsed<'a, Expr>
+fn parenthesis<'a>(alloc: Global, cursor: Cursor<'a>, room: usize) -> Parsed<'a, Expr<'a>>
     requires { StandsSign TokenKind.OpenParenthesis cursor.rest.now }
     ensures shorter { IfOk result (λ r. length r.1.rest.now < length cursor.entry.rest.now) }
     ensures spelled { IfOk result (λ r. IsExpression room cursor.entry.rest.now (expression r.0) r.1.rest.now) }
@@ -153,7 +153,7 @@ fn parenthesis<'a>(alloc: Global, cursor: Cursor<'a>, room: usize) -> Parsed<'a,
 
 /// A struct literal.
 #[cycle(parser)]
-fn structure<'a>(alloc: Global, cursor: Cursor<'a>, room: usize) -> Parsed<'a, Expr>
+fn structure<'a>(alloc: Global, cursor: Cursor<'a>, room: usize) -> Parsed<'a, Expr<'a>>
     requires { StandsSign TokenKind.OpenBrace cursor.rest.now }
     ensures shorter { IfOk result (λ r. length r.1.rest.now < length cursor.entry.rest.now) }
     ensures spelled { IfOk result (λ r. IsExpression room cursor.entry.rest.now (expression r.0) r.1.rest.now) }
@@ -176,7 +176,7 @@ fn structure<'a>(alloc: Global, cursor: Cursor<'a>, room: usize) -> Parsed<'a, E
 
 /// `close` and a struct literal in parentheses.
 #[cycle(parser)]
-fn close<'a>(alloc: Global, cursor: Cursor<'a>, room: usize) -> Parsed<'a, Expr>
+fn close<'a>(alloc: Global, cursor: Cursor<'a>, room: usize) -> Parsed<'a, Expr<'a>>
     requires { IsCallOfClose cursor.rest.now }
     ensures shorter { IfOk result (λ r. length r.1.rest.now < length cursor.entry.rest.now) }
     ensures spelled { IfOk result (λ r. IsExpression room cursor.entry.rest.now (expression r.0) r.1.rest.now) }
@@ -206,7 +206,7 @@ fn close<'a>(alloc: Global, cursor: Cursor<'a>, room: usize) -> Parsed<'a, Expr>
 
 /// A list literal.
 #[cycle(parser)]
-fn list<'a>(alloc: Global, cursor: Cursor<'a>, room: usize) -> Parsed<'a, Expr>
+fn list<'a>(alloc: Global, cursor: Cursor<'a>, room: usize) -> Parsed<'a, Expr<'a>>
     requires { StandsSign TokenKind.OpenBracket cursor.rest.now }
     ensures shorter { IfOk result (λ r. length r.1.rest.now < length cursor.entry.rest.now) }
     ensures spelled { IfOk result (λ r. IsExpression room cursor.entry.rest.now (expression r.0) r.1.rest.now) }
@@ -245,7 +245,7 @@ fn list<'a>(alloc: Global, cursor: Cursor<'a>, room: usize) -> Parsed<'a, Expr>
 
 /// The elements of a list, up to its `...` or its end.
 #[cycle(parser)]
-fn elements<'a>(alloc: Global, cursor: Cursor<'a>, room: usize) -> Parsed<'a, Row<Expr>>
+fn elements<'a>(alloc: Global, cursor: Cursor<'a>, room: usize) -> Parsed<'a, Row<Expr<'a>>>
     ensures shorter { IfOk result (λ r. length r.1.rest.now ≤ length cursor.entry.rest.now) }
     ensures spelled { IfOk result (λ r.
         AreElements room cursor.entry.rest.now (elements r.0.items.items) r.0.comma r.1.rest.now) }
@@ -275,7 +275,7 @@ fn elements<'a>(alloc: Global, cursor: Cursor<'a>, room: usize) -> Parsed<'a, Ro
 
 /// Declarations and the brace that closes them.
 #[cycle(parser)]
-fn braces<'a>(alloc: Global, cursor: Cursor<'a>, room: usize) -> Parsed<'a, Row<Declaration>>
+fn braces<'a>(alloc: Global, cursor: Cursor<'a>, room: usize) -> Parsed<'a, Row<Declaration<'a>>>
     ensures shorter { IfOk result (λ r. length r.1.rest.now ≤ length cursor.entry.rest.now) }
     ensures spelled { IfOk result (λ r.
         AreBraced room cursor.entry.rest.now (entries r.0.items.items) r.0.comma r.1.rest.now) }
@@ -295,7 +295,7 @@ pub fn declarations<'a>(
     cursor: Cursor<'a>,
     top: bool,
     room: usize,
-) -> Parsed<'a, Row<Declaration>>
+) -> Parsed<'a, Row<Declaration<'a>>>
     ensures shorter { IfOk result (λ r. length r.1.rest.now ≤ length cursor.entry.rest.now) }
     ensures spelled { IfOk result (λ r.
         AreEntries room cursor.entry.rest.now (entries r.0.items.items) r.0.comma r.1.rest.now) }
@@ -338,7 +338,7 @@ fn declaration<'a>(
     cursor: Cursor<'a>,
     top: bool,
     room: usize,
-) -> Parsed<'a, Declaration>
+) -> Parsed<'a, Declaration<'a>>
     requires { ¬ EndsHere top cursor.rest.now }
     ensures shorter { IfOk result (λ r. length r.1.rest.now < length cursor.entry.rest.now) }
     ensures spelled { IfOk result (λ r. IsEntry room cursor.entry.rest.now (entry_tree r.0) r.1.rest.now) }
@@ -377,7 +377,7 @@ fn begins_definition(cursor: Cursor, top: bool) -> bool
 
 /// A field with its chain of labels.
 #[cycle(parser)]
-fn field<'a>(alloc: Global, cursor: Cursor<'a>, room: usize) -> Parsed<'a, Declaration>
+fn field<'a>(alloc: Global, cursor: Cursor<'a>, room: usize) -> Parsed<'a, Declaration<'a>>
     requires { BeginsLabel cursor.rest.now }
     ensures shorter { IfOk result (λ r. length r.1.rest.now < length cursor.entry.rest.now) }
     ensures spelled { IfOk result (λ r. IsEntry room cursor.entry.rest.now (entry_tree r.0) r.1.rest.now) }
@@ -388,7 +388,7 @@ fn field<'a>(alloc: Global, cursor: Cursor<'a>, room: usize) -> Parsed<'a, Decla
     ensures refused { IfErr result (λ r. (top : Bool) →
         Refused (levels_of (goals.entries top) + room) cursor.entry.end (goals.entries top ∷ []) cursor.entry.rest.now r) }
 {
-    let (label, after) = label(alloc, cursor)?;
+    let (label, after) = label(cursor)?;
     let chain = labels(alloc, after, room)?;
     let (value, rest) = expression(alloc, chain.after, chain.room)?;
     Ok((
@@ -403,7 +403,7 @@ fn field<'a>(alloc: Global, cursor: Cursor<'a>, room: usize) -> Parsed<'a, Decla
 
 /// A definition with its chain of labels.
 #[cycle(parser)]
-fn definition<'a>(alloc: Global, cursor: Cursor<'a>, room: usize) -> Parsed<'a, Declaration>
+fn definition<'a>(alloc: Global, cursor: Cursor<'a>, room: usize) -> Parsed<'a, Declaration<'a>>
     requires { BeginsDefinition cursor.rest.now }
     ensures shorter { IfOk result (λ r. length r.1.rest.now < length cursor.entry.rest.now) }
     ensures spelled { IfOk result (λ r. IsEntry room cursor.entry.rest.now (entry_tree r.0) r.1.rest.now) }
@@ -418,7 +418,7 @@ fn definition<'a>(alloc: Global, cursor: Cursor<'a>, room: usize) -> Parsed<'a, 
         return Err(cursor.syntax());
     };
     let after = after.expect(Punctuation::Colon)?;
-    let name = name.copy(alloc)?;
+    let name = name.share();
     let chain = labels(alloc, after, room)?;
     let (value, rest) = expression(alloc, chain.after, chain.room)?;
     Ok((

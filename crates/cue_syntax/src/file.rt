@@ -13,8 +13,8 @@ use crate::expression::declarations;
 use crate::form::refusal;
 use crate::stop::Stop;
 use crate::tree::{File, Identifier, Package};
-use cue_lattice::{LEVEL_LIMIT, Refusal, Text};
-use cue_lex::{Token, TokenKind};
+use cue_lattice::{LEVEL_LIMIT, Refusal};
+use cue_lex::{Token, TokenKind, Word};
 use std::alloc::Global;
 
 /// The tree that the tokens of a text spell, by the grammar of the profile. `end` is the length of the text in bytes.
@@ -22,7 +22,7 @@ use std::alloc::Global;
 /// # Errors
 ///
 /// `Syntax`, `Nesting` and `LeftOut`, each with the place of a token or `end`, and `Memory`.
-pub fn parse(alloc: Global, tokens: &[Token], end: usize) -> Result<File, Refusal>
+pub fn parse<'t>(alloc: Global, tokens: &'t [Token<'t>], end: usize) -> Result<File<'t>, Refusal>
     ensures spelled { IfOk result (λ file. IsFile (at_most 64) tokens.now (file_tree file)) }
     ensures refused { IfErr result (λ r. (r ≡ memory) ⊎ Fits 64 end tokens.now r) }
     ensures accepted { (tree : FileTree) → IsFile (at_most 64) tokens.now tree →
@@ -30,7 +30,7 @@ pub fn parse(alloc: Global, tokens: &[Token], end: usize) -> Result<File, Refusa
 {
     match file(alloc, Cursor { rest: tokens, end }) {
         Ok(file) => Ok(file),
-        Err(stop) => Err(refusal(alloc, tokens, end, stop)),
+        Err(stop) => Err(refusal(tokens, end, stop)),
     }
 }
 
@@ -39,7 +39,7 @@ fn file(alloc: Global, cursor: Cursor) -> Result<File, Stop>
     ensures spelled { IfOk result (λ file. IsFile (at_most 64) cursor.entry.rest.now (file_tree file)) }
     ensures refused { IfErr result (λ r. Refused 64 cursor.entry.end (text ∷ []) cursor.entry.rest.now r) }
 {
-    let (package, rest) = package(alloc, cursor)?;
+    let (package, rest) = package(cursor)?;
     if rest.is_at_end() {
         return Ok(File {
             package,
@@ -59,7 +59,7 @@ fn file(alloc: Global, cursor: Cursor) -> Result<File, Stop>
 }
 
 /// The package clause, where one begins the tokens.
-fn package<'a>(alloc: Global, cursor: Cursor<'a>) -> Parsed<'a, Option<Package>>
+fn package<'a>(cursor: Cursor<'a>) -> Parsed<'a, Option<Package<'a>>>
     ensures spelled { IfOk result (λ r. Reads cursor.entry.rest.now (spell_package r.0) r.1.rest.now) }
     ensures named { IfOk result (λ r. IfSome r.0 (λ clause. IsPackageName clause.name)) }
     ensures last { IfOk result (λ r. IfSome r.0 (λ clause. clause.comma ≡ false → r.1.rest.now ≡ [])) }
@@ -76,7 +76,7 @@ fn package<'a>(alloc: Global, cursor: Cursor<'a>) -> Parsed<'a, Option<Package>>
     if word.as_str() != "package" || after.stands_mark() {
         return Ok((None, cursor));
     }
-    let (name, after) = package_name(alloc, after)?;
+    let (name, after) = package_name(after)?;
     let (comma, rest) = after.trailing_comma();
     if !comma && !rest.is_at_end() {
         return Err(rest.syntax());
@@ -85,7 +85,7 @@ fn package<'a>(alloc: Global, cursor: Cursor<'a>) -> Parsed<'a, Option<Package>>
 }
 
 /// The name of a package: an identifier that begins with neither `#` nor `_#`.
-fn package_name<'a>(alloc: Global, cursor: Cursor<'a>) -> Parsed<'a, Identifier>
+fn package_name<'a>(cursor: Cursor<'a>) -> Parsed<'a, Identifier<'a>>
     requires { ¬ Stands IsMark cursor.rest.now }
     ensures spelled { IfOk result (λ r. Reads cursor.entry.rest.now (one (identifier_kind r.0)) r.1.rest.now) }
     ensures named { IfOk result (λ r. IsPackageName r.0) }
@@ -97,19 +97,19 @@ fn package_name<'a>(alloc: Global, cursor: Cursor<'a>) -> Parsed<'a, Identifier>
         return Err(cursor.syntax());
     };
     match &token.kind {
-        TokenKind::Name(name) => Ok((Identifier::Plain(name.copy(alloc)?), after)),
+        TokenKind::Name(name) => Ok((Identifier::Plain(name.share()), after)),
         TokenKind::Hidden(name) => {
             if hides_definition(name) {
                 return Err(cursor.syntax());
             }
-            Ok((Identifier::Hidden(name.copy(alloc)?), after))
+            Ok((Identifier::Hidden(name.share()), after))
         }
         _ => Err(cursor.syntax()),
     }
 }
 
 /// Whether a name begins with `_#`.
-fn hides_definition(name: &Text) -> bool
+fn hides_definition(name: &Word) -> bool
     ensures { IsTrue result ↔ HidesDefinition name.now }
 {
     let bytes = name.as_bytes();

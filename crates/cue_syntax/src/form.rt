@@ -10,10 +10,9 @@ use crate::spot::{Spot, find_spot};
 use crate::stop::{Stop, Why};
 use cue_lattice::{Form, Kind, Memory, Refusal};
 use cue_lex::{Token, TokenKind};
-use std::alloc::Global;
 
 /// What is said of the place at which the parser stopped. `end` is the length of the text in bytes.
-pub fn refusal(alloc: Global, tokens: &[Token], end: usize, stop: Stop) -> Refusal
+pub fn refusal<'t>(tokens: &'t [Token<'t>], end: usize, stop: Stop) -> Refusal
     requires { stop.left ≤ length tokens.now }
     ensures { Tells end tokens.now stop result }
 {
@@ -22,10 +21,7 @@ pub fn refusal(alloc: Global, tokens: &[Token], end: usize, stop: Stop) -> Refus
     match stop.why {
         Why::Memory => Refusal::from(Memory),
         Why::Nesting => cursor.refuse(Kind::Nesting),
-        Why::Syntax => match find_spot(alloc, before) {
-            Ok(spot) => cursor.refuse(kind(spot, cursor)),
-            Err(memory) => Refusal::from(memory),
-        },
+        Why::Syntax => cursor.refuse(kind(find_spot(before), cursor)),
     }
 }
 

@@ -14,7 +14,7 @@ use std::alloc::Global;
 /// The labels of a chain, and the room that they leave.
 #[derive(Drop)]
 pub struct Chain<'a> {
-    pub labels: Vec<Label>,
+    pub labels: Vec<Label<'a>>,
     pub room: usize,
     pub after: Cursor<'a>,
 }
@@ -64,20 +64,20 @@ pub fn refuse_label(cursor: Cursor, top: bool) -> Result<(), Stop>
 }
 
 /// A label with its mark and its colon.
-pub fn label<'a>(alloc: Global, cursor: Cursor<'a>) -> Parsed<'a, Label>
+pub fn label<'a>(cursor: Cursor<'a>) -> Parsed<'a, Label<'a>>
     requires { BeginsLabel cursor.rest.now }
     ensures shorter { IfOk result (λ r. length r.1.rest.now < length cursor.entry.rest.now) }
     ensures spelled { IfOk result (λ r. Reads cursor.entry.rest.now (spell_label r.0) r.1.rest.now) }
     ensures end { IfOk result (λ r. r.1.end ≡ cursor.entry.end) }
     ensures refused { IfErr result (λ r. (r ≡ memory) ⊎ MissesColon cursor.entry.end cursor.entry.rest.now r) }
 {
-    let (name, after) = label_name(alloc, cursor)?;
+    let (name, after) = label_name(cursor)?;
     let (mark, after) = mark(after);
     let after = after.expect(Punctuation::Colon)?;
     Ok((Label { name, mark }, after))
 }
 
-fn label_name<'a>(alloc: Global, cursor: Cursor<'a>) -> Parsed<'a, LabelName>
+fn label_name<'a>(cursor: Cursor<'a>) -> Parsed<'a, LabelName<'a>>
     requires { Stands IsLabelName cursor.rest.now }
     ensures shorter { IfOk result (λ r. length r.1.rest.now ≤ length cursor.entry.rest.now) }
     ensures spelled { IfOk result (λ r. Reads cursor.entry.rest.now (one (label_kind r.0)) r.1.rest.now) }
@@ -88,8 +88,8 @@ fn label_name<'a>(alloc: Global, cursor: Cursor<'a>) -> Parsed<'a, LabelName>
         return Err(cursor.syntax());
     };
     match &token.kind {
-        TokenKind::Name(name) => Ok((LabelName::Plain(name.copy(alloc)?), after)),
-        TokenKind::Text(text) => Ok((LabelName::Quoted(text.copy(alloc)?), after)),
+        TokenKind::Name(name) => Ok((LabelName::Plain(name.share()), after)),
+        TokenKind::Text(text) => Ok((LabelName::Quoted(text.word()), after)),
         _ => Err(cursor.syntax()),
     }
 }
@@ -128,7 +128,7 @@ pub fn labels<'a>(alloc: Global, cursor: Cursor<'a>, room: usize) -> Result<Chai
     let mut rest = cursor;
     'chain: while begins_label(rest) {
         left = rest.open_level(left)?;
-        let (label, after) = label(alloc, rest)?;
+        let (label, after) = label(rest)?;
         push(&mut labels, label)?;
         rest = after;
     }

@@ -8,12 +8,10 @@ ghost use Rattle.cue_syntax.specs.Recogniser.{Refused, Moves, unary, signed, mag
 
 use crate::cursor::{Cursor, Parsed, Punctuation};
 use crate::tree::{Comparison, Expr, Identifier, Sign, Signed};
-use cue_lattice::Text;
-use cue_lex::TokenKind;
-use std::alloc::Global;
+use cue_lex::{TokenKind, Word};
 
 /// An expression that holds no other: a name, an integer, a string, `_|_` or a bound.
-pub fn literal<'a>(alloc: Global, cursor: Cursor<'a>) -> Parsed<'a, Expr>
+pub fn literal<'a>(cursor: Cursor<'a>) -> Parsed<'a, Expr<'a>>
     requires opens { ¬ Stands Opens cursor.rest.now }
     requires call { ¬ IsCallOfClose cursor.rest.now }
     ensures shorter { IfOk result (λ r. length r.1.rest.now < length cursor.entry.rest.now) }
@@ -27,7 +25,7 @@ pub fn literal<'a>(alloc: Global, cursor: Cursor<'a>) -> Parsed<'a, Expr>
     };
     match &token.kind {
         TokenKind::Name(_) | TokenKind::Hidden(_) | TokenKind::Definition(_) => {
-            let (name, after) = identifier(alloc, cursor)?;
+            let (name, after) = identifier(cursor)?;
             Ok((
                 Expr::Name {
                     name,
@@ -36,7 +34,7 @@ pub fn literal<'a>(alloc: Global, cursor: Cursor<'a>) -> Parsed<'a, Expr>
                 after,
             ))
         }
-        TokenKind::Text(text) => Ok((Expr::Text(text.copy(alloc)?), after)),
+        TokenKind::Text(text) => Ok((Expr::Text(text.word()), after)),
         TokenKind::Bottom => Ok((Expr::Bottom, after)),
         TokenKind::Integer(_) | TokenKind::Minus | TokenKind::Plus => {
             let (integer, after) = signed(cursor)?;
@@ -45,13 +43,13 @@ pub fn literal<'a>(alloc: Global, cursor: Cursor<'a>) -> Parsed<'a, Expr>
         TokenKind::Less | TokenKind::AtMost | TokenKind::Greater | TokenKind::AtLeast => {
             bound(cursor)
         }
-        TokenKind::NotEqual => other(alloc, cursor),
+        TokenKind::NotEqual => other(cursor),
         _ => Err(cursor.syntax()),
     }
 }
 
 /// An identifier as an operand: no keyword, and no call.
-fn identifier<'a>(alloc: Global, cursor: Cursor<'a>) -> Parsed<'a, Identifier>
+fn identifier<'a>(cursor: Cursor<'a>) -> Parsed<'a, Identifier<'a>>
     requires is { Stands IsIdentifier cursor.rest.now }
     requires call { ¬ IsCallOfClose cursor.rest.now }
     ensures shorter { IfOk result (λ r. length r.1.rest.now < length cursor.entry.rest.now) }
@@ -72,28 +70,28 @@ fn identifier<'a>(alloc: Global, cursor: Cursor<'a>) -> Parsed<'a, Identifier>
             if is_keyword(name) {
                 return Err(cursor.syntax());
             }
-            Ok((Identifier::Plain(name.copy(alloc)?), after))
+            Ok((Identifier::Plain(name.share()), after))
         }
         TokenKind::Hidden(name) => {
             if after.stands(Punctuation::OpenParenthesis) {
                 return Err(cursor.syntax());
             }
-            Ok((Identifier::Hidden(name.copy(alloc)?), after))
+            Ok((Identifier::Hidden(name.share()), after))
         }
-        TokenKind::Definition(name) => Ok((Identifier::Definition(name.copy(alloc)?), after)),
+        TokenKind::Definition(name) => Ok((Identifier::Definition(name.share()), after)),
         _ => Err(cursor.syntax()),
     }
 }
 
 /// Whether a plain name is kept for clauses, and no operand.
-fn is_keyword(name: &Text) -> bool
+fn is_keyword(name: &Word) -> bool
     ensures { IsTrue result ↔ IsKeyword name.now }
 {
     is_clause(name) || name.as_str() == "in" || name.as_str() == "package"
 }
 
 /// Whether a plain name begins a clause that the profile leaves out.
-pub fn is_clause(name: &Text) -> bool
+pub fn is_clause(name: &Word) -> bool
     ensures { IsTrue result ↔ IsClause name.now }
 {
     name.as_str() == "let"
@@ -162,7 +160,7 @@ fn magnitude<'a>(sign: Sign, cursor: Cursor<'a>) -> Parsed<'a, Signed>
 }
 
 /// `<` and its like, and an integer.
-fn bound<'a>(cursor: Cursor<'a>) -> Parsed<'a, Expr>
+fn bound<'a>(cursor: Cursor<'a>) -> Parsed<'a, Expr<'a>>
     requires { Stands IsComparison cursor.rest.now }
     ensures shorter { IfOk result (λ r. length r.1.rest.now < length cursor.entry.rest.now) }
     ensures spelled { IfOk result (λ r. IsLiteral cursor.entry.rest.now (expression r.0) r.1.rest.now) }
@@ -195,7 +193,7 @@ fn comparison<'a>(cursor: Cursor<'a>) -> Parsed<'a, Comparison>
 }
 
 /// `!=`, and an integer or a string.
-fn other<'a>(alloc: Global, cursor: Cursor<'a>) -> Parsed<'a, Expr>
+fn other<'a>(cursor: Cursor<'a>) -> Parsed<'a, Expr<'a>>
     requires { StandsSign TokenKind.NotEqual cursor.rest.now }
     ensures shorter { IfOk result (λ r. length r.1.rest.now < length cursor.entry.rest.now) }
     ensures spelled { IfOk result (λ r. IsLiteral cursor.entry.rest.now (expression r.0) r.1.rest.now) }
@@ -206,7 +204,7 @@ fn other<'a>(alloc: Global, cursor: Cursor<'a>) -> Parsed<'a, Expr>
     let after = cursor.expect(Punctuation::NotEqual)?;
     if let Some((token, rest)) = after.next() {
         if let TokenKind::Text(text) = &token.kind {
-            return Ok((Expr::OtherText(text.copy(alloc)?), rest));
+            return Ok((Expr::OtherText(text.word()), rest));
         }
     }
     let (integer, rest) = signed(after)?;

@@ -1,10 +1,9 @@
-ghost use Rattle.std.specs.Prelude.{◌≡◌, OnOk, IfOk, ◌∷◌, drop, reverse};
+ghost use Rattle.std.specs.Prelude.{◌≡◌, ◌↔◌, ◌<◌, ◌^◌, List, [], ◌∷◌};
 ghost use Rattle.cue_syntax.specs.Spots as spots;
-ghost use Rattle.cue_syntax.specs.Spots.{spot_of};
+ghost use Rattle.cue_syntax.specs.Spots.{spot_of, open_after};
+ghost use Rattle.cue_syntax.specs.Backwards.{open_from, seen, Tells, ClosesFew, IsCloseName};
 
-use cue_lattice::Memory;
 use cue_lex::{Token, TokenKind};
-use std::alloc::Global;
 
 /// Where a symbol stands in a text, by the tokens before it.
 #[derive(Clone, Copy)]
@@ -43,64 +42,103 @@ pub enum Inside {
     Parenthesis,
 }
 
-/// Where the symbol after these tokens stands.
-pub fn find_spot(alloc: Global, before: &[Token]) -> Result<Spot, Memory>
-    ensures { IfOk result (λ spot. spot ≡ spot_of before.now) }
+/// Where the symbol after these tokens stands. It takes no memory: it goes back from the last token
+/// to the bracket that is open there.
+pub fn find_spot(before: &[Token]) -> Spot
+    ensures { result ≡ spot_of before.now }
 {
-    let mut opened = Vec::new(alloc);
-    let mut spot = Spot::Top;
-    let mut rest = before;
-    'tokens: while let Some((token, after)) = rest.split_first() {
-        spot = spot_after(innermost(&opened), spot, &token.kind);
-        turn(&mut opened, &token.kind)?;
-        rest = after;
-    }
-    Ok(spot)
-}
-
-/// What is open around the symbol at hand; nothing is at the top of the text.
-fn innermost(opened: &[Inside]) -> Option<Inside>
-    ensures { result ≡ spots.innermost (reverse opened.now) }
-{
-    match opened {
-        [] => None,
-        [.., inside] => Some(*inside),
+    match before.split_last() {
+        Some((last, earlier)) => spot_after(innermost(earlier), own_spot(earlier), &last.kind),
+        None => Spot::Top,
     }
 }
 
-/// What is open after a token.
-fn turn(opened: &mut Vec<Inside>, kind: &TokenKind) -> Result<(), Memory>
-    ensures { OnOk result (reverse opened.new.items ≡ spots.open_after (reverse opened.old.items) kind.now) }
+/// The spot of the symbol after these tokens, as far as a parenthesis there asks for it.
+fn own_spot(before: &[Token]) -> Spot
+    ensures { IsCloseName result ↔ IsCloseName (spot_of before.now) }
 {
-    match kind {
-        TokenKind::OpenBrace => begin(opened, Inside::Struct),
-        TokenKind::OpenBracket => begin(opened, Inside::List),
-        TokenKind::OpenParenthesis => begin(opened, Inside::Parenthesis),
-        TokenKind::CloseBrace | TokenKind::CloseBracket | TokenKind::CloseParenthesis => {
-            finish(opened);
-            Ok(())
+    match before.split_last() {
+        Some((last, _)) => spot_after(None, Spot::Other, &last.kind),
+        None => Spot::Top,
+    }
+}
+
+/// What is open after these tokens, the innermost of it; nothing is at the top of the text.
+fn innermost(before: &[Token]) -> Option<Inside>
+    ensures { result ≡ spots.innermost (open_from [] before.now) }
+{
+    let mut back = Back {
+        closed: 0,
+        has_rest: false,
+    };
+    let mut left = before.len();
+    'tokens: while left > 0 {
+        left -= 1;
+        match step_back(back, &before[left].kind) {
+            Step::Open(inside) => return Some(inside),
+            Step::Further(further) => back = further,
         }
-        TokenKind::Ellipsis => match innermost(opened) {
-            Some(Inside::List) => {
-                finish(opened);
-                begin(opened, Inside::Rest)
-            }
-            _ => Ok(()),
-        },
-        _ => Ok(()),
+    }
+    None
+}
+
+/// What is known of the brackets on the way back from a symbol.
+#[derive(Clone, Copy)]
+pub(crate) struct Back {
+    /// How many of them close on the way, and do not open on it.
+    pub closed: usize,
+    /// Whether `...` stands on the way, in the innermost bracket that is open at the symbol.
+    pub has_rest: bool,
+}
+
+/// What a token tells on the way back.
+pub(crate) enum Step {
+    /// It opens what is open at the symbol.
+    Open(Inside),
+    Further(Back),
+}
+
+/// The step back over a bracket that opens.
+fn open(back: Back, inside: Inside) -> Step
+    requires { back.closed < 2 ^ 62 }
+    ensures tells { (opened : List Inside) → Tells result opened (seen back (inside ∷ opened)) }
+    ensures few { ClosesFew result back.closed }
+{
+    if back.closed > 0 {
+        return Step::Further(Back {
+            closed: back.closed - 1,
+            has_rest: back.has_rest,
+        });
+    }
+    match inside {
+        Inside::List if back.has_rest => Step::Open(Inside::Rest),
+        _ => Step::Open(inside),
     }
 }
 
-fn begin(opened: &mut Vec<Inside>, inside: Inside) -> Result<(), Memory>
-    ensures { OnOk result (reverse opened.new.items ≡ inside ∷ reverse opened.old.items) }
+/// The step back over a token.
+fn step_back(back: Back, kind: &TokenKind) -> Step
+    requires { back.closed < 2 ^ 62 }
+    ensures tells { (opened : List Inside) → Tells result opened (seen back (open_after opened kind.now)) }
+    ensures few { ClosesFew result back.closed }
 {
-    Ok(opened.push(inside)?)
-}
-
-fn finish(opened: &mut Vec<Inside>)
-    ensures { reverse opened.new.items ≡ drop 1 (reverse opened.old.items) }
-{
-    let _closed = opened.pop();
+    let Back { closed, has_rest } = back;
+    match kind {
+        TokenKind::OpenBrace => open(back, Inside::Struct),
+        TokenKind::OpenParenthesis => open(back, Inside::Parenthesis),
+        TokenKind::OpenBracket => open(back, Inside::List),
+        TokenKind::CloseBrace | TokenKind::CloseBracket | TokenKind::CloseParenthesis => {
+            Step::Further(Back {
+                closed: closed + 1,
+                has_rest,
+            })
+        }
+        TokenKind::Ellipsis => Step::Further(Back {
+            closed,
+            has_rest: has_rest || closed == 0,
+        }),
+        _ => Step::Further(back),
+    }
 }
 
 /// Where the symbol after a token stands, by what is open around that token and by its own spot.

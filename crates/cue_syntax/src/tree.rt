@@ -2,14 +2,14 @@ ghost use Rattle.cue_syntax.specs.Syntax.{entries};
 ghost use Rattle.cue_syntax.specs.Grammar.{IsWellFormed};
 ghost use Rattle.cue_syntax.specs.WellFormed.{well_formed_prop};
 
-use cue_lattice::Text;
+use cue_lex::Word;
 
 /// A fragment: its package clause, if any, and its declarations. By its type it follows the grammar and opens at most 64
 /// levels, so that what reads it needs no premise.
 #[derive(Debug, Drop)]
-pub struct File {
-    pub package: Option<Package>,
-    pub declarations: Vec<Declaration>,
+pub struct File<'t> {
+    pub package: Option<Package<'t>>,
+    pub declarations: Vec<Declaration<'t>>,
     /// Whether a comma, written or inserted, stands behind the last declaration.
     pub comma: bool,
     pub ghost well_formed: { IsWellFormed «package» (entries declarations.items) comma } by { well_formed_prop «package» (entries declarations.items) comma },
@@ -17,57 +17,57 @@ pub struct File {
 
 /// A package clause. It says nothing of the fragment's value.
 #[derive(Debug, Drop)]
-pub struct Package {
-    pub name: Identifier,
+pub struct Package<'t> {
+    pub name: Identifier<'t>,
     /// Whether a comma, written or inserted, stands behind the name. Where none does, the text ends there.
     pub comma: bool,
 }
 
 /// An identifier by its kind, with its sign.
 #[derive(Debug, Drop)]
-pub enum Identifier {
-    Plain(Text),
-    Definition(Text),
-    Hidden(Text),
+pub enum Identifier<'t> {
+    Plain(Word<'t>),
+    Definition(Word<'t>),
+    Hidden(Word<'t>),
 }
 
 /// A declaration of a fragment or of a struct.
 #[derive(Debug, Drop)]
 #[cycle(tree)]
-pub enum Declaration {
+pub enum Declaration<'t> {
     /// `...`
     Ellipsis,
     /// `label: other: value`, with a chain of further labels between the first one and the value.
     Field {
-        label: Label,
-        chain: Vec<Label>,
-        value: Expr,
+        label: Label<'t>,
+        chain: Vec<Label<'t>>,
+        value: Expr<'t>,
     },
     /// `#Name: label: value`, with a chain of labels, which may be empty, before the value.
     Definition {
         /// The name with its `#`.
-        name: Text,
+        name: Word<'t>,
         /// Where the name begins, in bytes.
         from: usize,
-        chain: Vec<Label>,
-        value: Expr,
+        chain: Vec<Label<'t>>,
+        value: Expr<'t>,
     },
 }
 
 /// A label with its mark. A colon follows.
 #[derive(Debug, Drop)]
-pub struct Label {
-    pub name: LabelName,
+pub struct Label<'t> {
+    pub name: LabelName<'t>,
     pub mark: Mark,
 }
 
 /// The name of a label.
 #[derive(Debug, Drop)]
-pub enum LabelName {
+pub enum LabelName<'t> {
     /// A plain name.
-    Plain(Text),
+    Plain(Word<'t>),
     /// A string, as the text that it stands for.
-    Quoted(Text),
+    Quoted(Word<'t>),
 }
 
 /// What stands between a label and its colon.
@@ -113,14 +113,14 @@ pub enum Comparison {
 /// An expression. Parentheses and trailing commas are kept.
 #[derive(Debug, Drop)]
 #[cycle(tree)]
-pub enum Expr {
+pub enum Expr<'t> {
     /// An identifier, and where it begins, in bytes.
     Name {
-        name: Identifier,
+        name: Identifier<'t>,
         from: usize,
     },
     Integer(Signed),
-    Text(Text),
+    Text(Word<'t>),
     /// `_|_`
     Bottom,
     /// `<` and its like, before an integer.
@@ -128,16 +128,16 @@ pub enum Expr {
     /// `!=` before an integer.
     OtherInteger(Signed),
     /// `!=` before a string.
-    OtherText(Text),
+    OtherText(Word<'t>),
     /// An expression in parentheses.
     Parenthesis {
-        inner: Box<Expr>,
+        inner: Box<Expr<'t>>,
         /// Whether a comma stands before the closing parenthesis.
         comma: bool,
     },
     /// A struct literal.
     Struct {
-        declarations: Vec<Declaration>,
+        declarations: Vec<Declaration<'t>>,
         /// Whether a comma stands behind the last declaration.
         comma: bool,
     },
@@ -145,7 +145,7 @@ pub enum Expr {
     Close {
         /// Where `close` begins, in bytes.
         from: usize,
-        declarations: Vec<Declaration>,
+        declarations: Vec<Declaration<'t>>,
         /// Whether a comma stands behind the last declaration.
         inner_comma: bool,
         /// Whether a comma stands before the closing parenthesis.
@@ -153,25 +153,25 @@ pub enum Expr {
     },
     /// A list literal.
     List {
-        elements: Vec<Expr>,
+        elements: Vec<Expr<'t>>,
         /// Whether `...` stands behind the elements.
         ellipsis: bool,
         /// Whether a comma stands before the closing bracket.
         comma: bool,
     },
     /// Two or more parts joined by `&`.
-    Conjunction(Vec<Expr>),
+    Conjunction(Vec<Expr<'t>>),
     /// Two or more terms joined by `|`.
-    Disjunction(Vec<Term>),
+    Disjunction(Vec<Term<'t>>),
 }
 
 /// A term of a disjunction.
 #[derive(Debug, Drop)]
 #[cycle(tree)]
-pub struct Term {
+pub struct Term<'t> {
     /// Whether it is marked `*`, as a default.
     pub marked: bool,
     /// Where it begins, behind its mark, in bytes.
     pub from: usize,
-    pub value: Expr,
+    pub value: Expr<'t>,
 }

@@ -10,7 +10,7 @@ mod size;
 use anyhow::{Context, anyhow};
 use cue_lattice::{Kind, Refusal};
 use cue_lex::lex;
-use cue_syntax::{File, parse};
+use cue_syntax::parse;
 use serde_json::Value;
 use std::alloc::Global;
 use std::time::Instant;
@@ -19,14 +19,18 @@ use std::{env, fs, io};
 /// How often a text is read for its time.
 const RUNS: u32 = 20;
 
-/// The tree of a text, or why the lexer or the parser refuses it.
-fn read(alloc: Global, text: &str) -> Result<File, Refusal> {
-    parse(alloc, &lex(alloc, text)?, text.len())
+/// Why the lexer or the parser refuses a text, or None where both accept it.
+fn refusal(alloc: Global, text: &str) -> Option<Refusal> {
+    let tokens = match lex(alloc, text) {
+        Ok(tokens) => tokens,
+        Err(refusal) => return Some(refusal),
+    };
+    parse(alloc, &tokens, text.len()).err()
 }
 
 /// The answer that a text gets, as `ok`, `2 7` or `9 3 Call`.
 fn answer(alloc: Global, text: &str) -> anyhow::Result<String> {
-    let Err(refusal) = read(alloc, text) else {
+    let Some(refusal) = refusal(alloc, text) else {
         return Ok(format!(in alloc; "ok")?);
     };
     let (number, place) = (refusal.kind.number(), refusal.place);

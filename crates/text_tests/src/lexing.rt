@@ -1,6 +1,7 @@
 use cue_lattice::Kind;
-use cue_lex::{TokenKind, lex};
+use cue_lex::{Quoted, TokenKind, Word, lex};
 use std::alloc::Global;
+use std::cmp::Ordering;
 use std::process::Abort;
 use std::test::Fail;
 
@@ -72,13 +73,13 @@ fn long(alloc: Global, start: &str, unit: &str, times: u32, end: &str) -> Result
 fn line_breaks_insert_commas(rt: HostRuntime) -> Result<(), Fail> {
     let all = shown(rt.alloc(), "a: 1\nb: 2\n")?;
     let wanted = concat!(
-        "Name(Text { string: \"a\" }) 0..1\nColon 1..2\nInteger(1) 3..4\nComma 4..4\n",
-        "Name(Text { string: \"b\" }) 5..6\nColon 6..7\nInteger(2) 8..9\nComma 9..9\n"
+        "Name(\"a\") 0..1\nColon 1..2\nInteger(1) 3..4\nComma 4..4\n",
+        "Name(\"b\") 5..6\nColon 6..7\nInteger(2) 8..9\nComma 9..9\n"
     );
     assert_eq!(rt; all.as_str(), wanted);
     let all = shown(rt.alloc(), "l: [1\n2] // end\n")?;
     let wanted = concat!(
-        "Name(Text { string: \"l\" }) 0..1\nColon 1..2\nOpenBracket 3..4\nInteger(1) 4..5\nComma 5..5\n",
+        "Name(\"l\") 0..1\nColon 1..2\nOpenBracket 3..4\nInteger(1) 4..5\nComma 5..5\n",
         "Integer(2) 6..7\nCloseBracket 7..8\nComma 8..8\n"
     );
     assert_eq!(rt; all.as_str(), wanted);
@@ -123,9 +124,9 @@ fn punctuation(rt: HostRuntime) -> Result<(), Fail> {
 fn names(rt: HostRuntime) -> Result<(), Fail> {
     let all = shown(rt.alloc(), "ab #A_1 _ _x _#y $")?;
     let wanted = concat!(
-        "Name(Text { string: \"ab\" }) 0..2\nDefinition(Text { string: \"#A_1\" }) 3..7\n",
-        "Hidden(Text { string: \"_\" }) 8..9\nHidden(Text { string: \"_x\" }) 10..12\n",
-        "Hidden(Text { string: \"_#y\" }) 13..16\nName(Text { string: \"$\" }) 17..18\n"
+        "Name(\"ab\") 0..2\nDefinition(\"#A_1\") 3..7\n",
+        "Hidden(\"_\") 8..9\nHidden(\"_x\") 10..12\n",
+        "Hidden(\"_#y\") 13..16\nName(\"$\") 17..18\n"
     );
     assert_eq!(rt; all.as_str(), wanted);
     assert_eq!(rt; texts(rt.alloc(), "é٣ ñ")?.as_str(), "é٣;ñ;");
@@ -140,7 +141,7 @@ fn integers(rt: HostRuntime) -> Result<(), Fail> {
     let all = shown(rt.alloc(), "0 0x1F 0Xff 1_000 0o17 0b1_01 1é")?;
     let wanted = concat!(
         "Integer(0) 0..1\nInteger(31) 2..6\nInteger(255) 7..11\nInteger(1000) 12..17\nInteger(15) 18..22\n",
-        "Integer(5) 23..29\nInteger(1) 30..31\nName(Text { string: \"é\" }) 31..33\n"
+        "Integer(5) 23..29\nInteger(1) 30..31\nName(\"é\") 31..33\n"
     );
     assert_eq!(rt; all.as_str(), wanted);
     for bad in [
@@ -256,5 +257,29 @@ fn first_fault(rt: HostRuntime) -> Result<(), Fail> {
     refuses(&rt, rt.alloc(), "// = 01\n\"", 3, 8);
     let refusal = lex(rt.alloc(), "/");
     assert!(rt; matches!(&refusal, Err(refusal) if refusal.kind == Kind::BadCharacter));
+    Ok(())
+}
+
+#[test]
+fn words(rt: HostRuntime) -> Result<(), Fail> {
+    let alloc = rt.alloc();
+    let word = Word::new("é");
+    assert_eq!(rt; word.share().as_str(), "é");
+    assert_eq!(rt; word.as_bytes(), [0xC3, 0xA9].as_slice());
+    assert_eq!(rt; word.to_text(alloc)?.as_str(), "é");
+    assert_eq!(rt; word.compare(&Word::new("z")), Ordering::Greater);
+    assert!(rt; word.same(&Word::new("é")));
+    assert!(rt; !word.same(&Word::new("e")));
+    Ok(())
+}
+
+#[test]
+fn quoted_texts(rt: HostRuntime) -> Result<(), Fail> {
+    let alloc = rt.alloc();
+    assert_eq!(rt; Quoted::plain("ab").as_str(), "ab");
+    let decoded = Quoted::decoded(alloc, String::from_str(alloc, "a\n")?)?;
+    assert_eq!(rt; decoded.word().as_str(), "a\n");
+    let shown = format!(in alloc; "{:?} {}", decoded, Quoted::plain("b"))?;
+    assert_eq!(rt; shown.as_str(), "\"a\\n\" b");
     Ok(())
 }

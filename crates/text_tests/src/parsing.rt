@@ -292,11 +292,10 @@ fn what_a_tree_keeps(rt: HostRuntime) -> Result<(), Fail> {
     let tokens = lex(alloc, text)?;
     let file = parse(alloc, &tokens, text.len())?;
     let shown = format!(in alloc; "{:?} {}", file.declarations, file.comma)?;
-    let name =
-        "Field { label: Label { name: Plain(Text { string: \"a\" }), mark: Optional }, chain: []";
+    let name = "Field { label: Label { name: Plain(\"a\"), mark: Optional }, chain: []";
     let first =
         "Term { marked: true, from: 5, value: Integer(Signed { sign: Absent, magnitude: 1 }) }";
-    let x = "Name { name: Plain(Text { string: \"x\" }), from: 9 }";
+    let x = "Name { name: Plain(\"x\"), from: 9 }";
     let two = "Integer(Signed { sign: Minus, magnitude: 2 })";
     let second = format!(in alloc;
         "Term {{ marked: false, from: 9, value: Conjunction([{x}, {two}]) }}"

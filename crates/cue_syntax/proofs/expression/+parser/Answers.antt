@@ -178,9 +178,9 @@ field-returns-clause-spelled t c =
 
 pub definition-returns-clause-spelled : goal.definition-returns-clause-spelled
 definition-returns-clause-spelled t c =
-    let kind : c.in-Some.token.now.kind ≡ kinds.Definition c.in_ok-name.name = search rules in
+    let kind : c.in-Some.token.now.kind ≡ kinds.Definition c.share-name.result = search rules in
     subst (λ e. IsEntry c.args.room c.args.cursor.rest.now e c.in_ok-value.rest.rest.now)
-    (sym (view-Definition c.in_ok-name.name c.in-Some.token.now.from c.in_ok-chain.chain.labels c.in_ok-value.value))
+    (sym (view-Definition c.share-name.result c.in-Some.token.now.from c.in_ok-chain.chain.labels c.in_ok-value.value))
     (definition_is c.in_ok-chain.ensures.levels (reads_one_at c.in-Some.token.now c.in-Some.ensures.first kind) c.in_ok-after.ensures.reads c.in_ok-chain.ensures.spelled c.in_ok-value.ensures.spelled)
 
 pub list-returns-in-Some-clause-spelled : goal.list-returns-in-Some-clause-spelled
@@ -463,19 +463,19 @@ field-returns-clause-moves t c top =
 
 pub definition-returns-in_err-chain-clause-refused : goal.definition-returns-in_err-chain-clause-refused
 definition-returns-in_err-chain-clause-refused t c =
-    let kind : c.in-Some.token.now.kind ≡ kinds.Definition c.in_ok-name.name = search rules in
+    let kind : c.in-Some.token.now.kind ≡ kinds.Definition c.share-name.result = search rules in
     err_from (λ r. Refused (c.args.room) c.args.cursor.end (goals.entries true ∷ []) c.args.cursor.rest.now r) c.from_residual-in_err-chain.result _ c.from_residual-in_err-chain.ensures.1
     (definition_refused (reads_one_at c.in-Some.token.now c.in-Some.ensures.first kind) c.in_ok-after.ensures.reads (c.in_ok-after.ensures.end ∙ c.in-Some.ensures.end) c.in_err-chain.ensures.refused)
 
 pub definition-returns-in_err-value-clause-refused : goal.definition-returns-in_err-value-clause-refused
 definition-returns-in_err-value-clause-refused t c =
-    let kind : c.in-Some.token.now.kind ≡ kinds.Definition c.in_ok-name.name = search rules in
+    let kind : c.in-Some.token.now.kind ≡ kinds.Definition c.share-name.result = search rules in
     err_from (λ r. Refused (c.args.room) c.args.cursor.end (goals.entries true ∷ []) c.args.cursor.rest.now r) c.from_residual-in_err-value.result _ c.from_residual-in_err-value.ensures.1
     (definition_refused (reads_one_at c.in-Some.token.now c.in-Some.ensures.first kind) c.in_ok-after.ensures.reads (c.in_ok-after.ensures.end ∙ c.in-Some.ensures.end) (chain_value_refused c.in_ok-chain.chain.room c.in_ok-chain.chain.labels.items c.in_ok-chain.ensures.levels c.in_ok-chain.ensures.end c.in_ok-chain.ensures.moves c.in_ok-chain.ensures.whole c.in_err-value.ensures.refused))
 
 pub definition-returns-clause-moves : goal.definition-returns-clause-moves
 definition-returns-clause-moves t c =
-    let kind : c.in-Some.token.now.kind ≡ kinds.Definition c.in_ok-name.name = search rules in
+    let kind : c.in-Some.token.now.kind ≡ kinds.Definition c.share-name.result = search rules in
     definition_moves (reads_one_at c.in-Some.token.now c.in-Some.ensures.first kind) c.in_ok-after.ensures.reads (chain_value c.in_ok-chain.chain.room c.in_ok-chain.chain.labels.items c.in_ok-chain.ensures.levels c.in_ok-chain.ensures.moves c.in_ok-chain.ensures.whole c.in_ok-value.ensures.shorter c.in_ok-value.ensures.moves)
 
 pub close-returns-in_err-open-clause-refused : goal.close-returns-in_err-open-clause-refused

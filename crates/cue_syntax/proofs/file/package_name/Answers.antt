@@ -8,11 +8,11 @@ pub returns-then-hides_definition-clause-refused : goal.returns-then-hides_defin
 returns-then-hides_definition-clause-refused c room =
     stopped (stops_here c.syntax-then-hides_definition.ensures (package_hidden_halts c.in-Some.token.now c.in-Some.ensures.first c.in-Hidden.is (c.hides_definition.ensures.0 c.if-hides_definition.true)))
 
-pub returns-in_ok-copy-in-Name-clause-moves : goal.returns-in_ok-copy-in-Name-clause-moves
-returns-in_ok-copy-in-Name-clause-moves c = package_name_moves c.in-Some.token.now c.in-Some.ensures.first c.in-Name.is
+pub returns-in-Name-clause-moves : goal.returns-in-Name-clause-moves
+returns-in-Name-clause-moves c = package_name_moves c.in-Some.token.now c.in-Some.ensures.first c.in-Name.is
 
-pub returns-in_ok-copy-in-Hidden-clause-moves : goal.returns-in_ok-copy-in-Hidden-clause-moves
-returns-in_ok-copy-in-Hidden-clause-moves c =
+pub returns-else-hides_definition-clause-moves : goal.returns-else-hides_definition-clause-moves
+returns-else-hides_definition-clause-moves c =
     let other : ¬ HidesDefinition c.in-Hidden.name = search rules in
     package_hidden_moves c.in-Some.token.now c.in-Some.ensures.first c.in-Hidden.is other
 

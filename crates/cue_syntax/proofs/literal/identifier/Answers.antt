@@ -19,14 +19,14 @@ pub returns-then-stands-2-clause-refused : goal.returns-then-stands-2-clause-ref
 returns-then-stands-2-clause-refused c room =
     hidden_called c.in-Some.token.now c.in-Some.ensures.first c.in-Hidden.is (c.stands-in-Hidden.ensures.0 c.if-stands-2.true) c.syntax-then-stands-2.ensures
 
-pub returns-in_ok-copy-in-Name-clause-moves : goal.returns-in_ok-copy-in-Name-clause-moves
-returns-in_ok-copy-in-Name-clause-moves c =
+pub returns-else-is_keyword-clause-moves : goal.returns-else-is_keyword-clause-moves
+returns-else-is_keyword-clause-moves c =
     let keyword : ¬ IsKeyword c.in-Name.name = search rules in
     let paren : ¬ StandsSign kinds.OpenParenthesis c.in-Some.after.rest.now = search rules in
     name_moves c.in-Some.token.now c.in-Some.ensures.first c.in-Name.is keyword paren
 
-pub returns-in_ok-copy-in-Hidden-clause-moves : goal.returns-in_ok-copy-in-Hidden-clause-moves
-returns-in_ok-copy-in-Hidden-clause-moves c = takes c.in-Some.token.now c.in-Some.ensures.first (λ below. ap (step (unary ∷ below)) c.in-Hidden.is) (omega arith)
+pub returns-else-stands-2-clause-moves : goal.returns-else-stands-2-clause-moves
+returns-else-stands-2-clause-moves c = takes c.in-Some.token.now c.in-Some.ensures.first (λ below. ap (step (unary ∷ below)) c.in-Hidden.is) (omega arith)
 
-pub returns-in_ok-copy-in-Definition-clause-moves : goal.returns-in_ok-copy-in-Definition-clause-moves
-returns-in_ok-copy-in-Definition-clause-moves c = takes c.in-Some.token.now c.in-Some.ensures.first (λ below. ap (step (unary ∷ below)) c.in-Definition.is) (omega arith)
+pub returns-in-Definition-clause-moves : goal.returns-in-Definition-clause-moves
+returns-in-Definition-clause-moves c = takes c.in-Some.token.now c.in-Some.ensures.first (λ below. ap (step (unary ∷ below)) c.in-Definition.is) (omega arith)

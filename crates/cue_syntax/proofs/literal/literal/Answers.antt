@@ -8,11 +8,11 @@ use Rattle.cue_syntax.proofs.literal.literal.Goals as goal
 pub returns-in_err-integer-in-Integer-clause-refused : goal.returns-in_err-integer-in-Integer-clause-refused
 returns-in_err-integer-in-Integer-clause-refused c =
     let is = integer_begins _ c.in-Integer.is in
-    err_from (λ r. (room : ℕ) → Refused room c.args.cursor.end (unary ∷ []) c.args.cursor.rest.now r) c.from_residual-in_err-integer-in-Integer.result _ c.from_residual-in_err-integer-in-Integer.ensures.1
+    err_from (λ r. (room : ℕ) → Refused room c.args.cursor.end (unary ∷ []) c.args.cursor.rest.now r) c.from_residual.result _ c.from_residual.ensures.1
     (λ room. refused_behind (alike_at c.in-Some.token.now c.in-Some.ensures.first (λ below. unary_signed _ is below)) (c.in_err-integer-in-Integer.ensures.refused room))
 
-pub returns-in_ok-copy-in-Text-clause-moves : goal.returns-in_ok-copy-in-Text-clause-moves
-returns-in_ok-copy-in-Text-clause-moves c = takes c.in-Some.token.now c.in-Some.ensures.first (λ below. ap (step (unary ∷ below)) c.in-Text.is) (omega arith)
+pub returns-in-Text-clause-moves : goal.returns-in-Text-clause-moves
+returns-in-Text-clause-moves c = takes c.in-Some.token.now c.in-Some.ensures.first (λ below. ap (step (unary ∷ below)) c.in-Text.is) (omega arith)
 
 pub returns-in-Bottom-clause-moves : goal.returns-in-Bottom-clause-moves
 returns-in-Bottom-clause-moves c = takes c.in-Some.token.now c.in-Some.ensures.first (λ below. ap (step (unary ∷ below)) c.in-Bottom.is) (omega arith)
