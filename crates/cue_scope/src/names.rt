@@ -34,7 +34,7 @@ impl Uses {
     pub fn of<'f>(
         alloc: Global,
         definitions: &Definitions<'f>,
-        declarations: &'f [Declaration],
+        declarations: &'f [Declaration<'f>],
     ) -> Result<Uses, Refusal>
         requires { all_of definitions.now ≡ defining.definitions (tree.entries declarations.now) }
         ensures named { OnOk result (naming.name_faults (tree.entries declarations.now) ≡ []) }
@@ -62,7 +62,7 @@ pub struct Place<'a, 'f> {
 
 impl<'a, 'f> Place<'a, 'f> {
     /// The declarations of a text, which is a struct literal of its own.
-    fn file(&self, declarations: &'f [Declaration]) -> Result<Uses, Refusal>
+    fn file(&self, declarations: &'f [Declaration<'f>]) -> Result<Uses, Refusal>
         ensures named { OnOk result (naming.faults_of_entries (definitions_at self.now) (naming.inside (tree.entries declarations.now) (scope_of self.now.scope)) (tree.entries declarations.now) ≡ []) }
         ensures graph { IfOk result (λ u. graph_of u.of_definitions.items ≡ map (λ d. using.uses (definitions_at self.now) d.value) (defining.definitions (tree.entries declarations.now))) }
         ensures fields { IfOk result (λ u. u.of_fields.items ≡ using.uses_of_fields (definitions_at self.now) (tree.entries declarations.now)) }
@@ -81,7 +81,7 @@ impl<'a, 'f> Place<'a, 'f> {
     }
 
     /// The declarations of a text, from inside it.
-    fn text(&self, declarations: &'f [Declaration]) -> Result<Uses, Refusal>
+    fn text(&self, declarations: &'f [Declaration<'f>]) -> Result<Uses, Refusal>
         ensures named { OnOk result (naming.faults_of_entries (definitions_at self.now) (scope_of self.now.scope) (tree.entries declarations.now) ≡ []) }
         ensures graph { IfOk result (λ u. graph_of u.of_definitions.items ≡ map (λ d. using.uses (definitions_at self.now) d.value) (defining.definitions (tree.entries declarations.now))) }
         ensures fields { IfOk result (λ u. u.of_fields.items ≡ using.uses_of_fields (definitions_at self.now) (tree.entries declarations.now)) }
@@ -162,8 +162,8 @@ impl<'a, 'f> Place<'a, 'f> {
     pub fn value(
         &self,
         uses: &mut Vec<usize>,
-        chain: &'f [Label],
-        value: &'f Expr,
+        chain: &'f [Label<'f>],
+        value: &'f Expr<'f>,
     ) -> Result<(), Refusal>
         ensures walked { OnOk result (IsWalked (naming.faults (definitions_at self.now) (naming.behind chain.now (scope_of self.now.scope)) (tree.expression value.now)) (using.uses (definitions_at self.now) (tree.expression value.now)) uses.old.items uses.new.items) }
         ensures stopped { IfErr result (IsStopped (naming.faults (definitions_at self.now) (naming.behind chain.now (scope_of self.now.scope)) (tree.expression value.now))) }
@@ -181,7 +181,7 @@ impl<'a, 'f> Place<'a, 'f> {
 
     /// An expression.
     #[cycle(names)]
-    fn expression(&self, uses: &mut Vec<usize>, expression: &'f Expr) -> Result<(), Refusal>
+    fn expression(&self, uses: &mut Vec<usize>, expression: &'f Expr<'f>) -> Result<(), Refusal>
         ensures walked { OnOk result (IsWalked (naming.faults (definitions_at self.now) (scope_of self.now.scope) (tree.expression expression.now)) (using.uses (definitions_at self.now) (tree.expression expression.now)) uses.old.items uses.new.items) }
         ensures stopped { IfErr result (IsStopped (naming.faults (definitions_at self.now) (scope_of self.now.scope) (tree.expression expression.now))) }
     {
@@ -211,7 +211,11 @@ impl<'a, 'f> Place<'a, 'f> {
 
     /// A struct literal.
     #[cycle(names)]
-    fn literal(&self, uses: &mut Vec<usize>, declarations: &'f [Declaration]) -> Result<(), Refusal>
+    fn literal(
+        &self,
+        uses: &mut Vec<usize>,
+        declarations: &'f [Declaration<'f>],
+    ) -> Result<(), Refusal>
         ensures walked { OnOk result (IsWalked (naming.faults_of_entries (definitions_at self.now) (naming.inside (tree.entries declarations.now) (scope_of self.now.scope)) (tree.entries declarations.now)) (using.uses_of_entries (definitions_at self.now) (tree.entries declarations.now)) uses.old.items uses.new.items) }
         ensures stopped { IfErr result (IsStopped (naming.faults_of_entries (definitions_at self.now) (naming.inside (tree.entries declarations.now) (scope_of self.now.scope)) (tree.entries declarations.now))) }
     {
@@ -232,7 +236,7 @@ impl<'a, 'f> Place<'a, 'f> {
     fn declarations(
         &self,
         uses: &mut Vec<usize>,
-        declarations: &'f [Declaration],
+        declarations: &'f [Declaration<'f>],
     ) -> Result<(), Refusal>
         ensures walked { OnOk result (IsWalked (naming.faults_of_entries (definitions_at self.now) (scope_of self.now.scope) (tree.entries declarations.now)) (using.uses_of_entries (definitions_at self.now) (tree.entries declarations.now)) uses.old.items uses.new.items) }
         ensures stopped { IfErr result (IsStopped (naming.faults_of_entries (definitions_at self.now) (scope_of self.now.scope) (tree.entries declarations.now))) }
@@ -249,7 +253,7 @@ impl<'a, 'f> Place<'a, 'f> {
 
     /// The elements of a list, or the parts of a conjunction.
     #[cycle(names)]
-    fn elements(&self, uses: &mut Vec<usize>, elements: &'f [Expr]) -> Result<(), Refusal>
+    fn elements(&self, uses: &mut Vec<usize>, elements: &'f [Expr<'f>]) -> Result<(), Refusal>
         ensures walked { OnOk result (IsWalked (naming.faults_of_elements (definitions_at self.now) (scope_of self.now.scope) (tree.elements elements.now)) (using.uses_of_elements (definitions_at self.now) (tree.elements elements.now)) uses.old.items uses.new.items) }
         ensures stopped { IfErr result (IsStopped (naming.faults_of_elements (definitions_at self.now) (scope_of self.now.scope) (tree.elements elements.now))) }
     {
@@ -261,7 +265,7 @@ impl<'a, 'f> Place<'a, 'f> {
 
     /// The terms of a disjunction.
     #[cycle(names)]
-    fn terms(&self, uses: &mut Vec<usize>, terms: &'f [Term]) -> Result<(), Refusal>
+    fn terms(&self, uses: &mut Vec<usize>, terms: &'f [Term<'f>]) -> Result<(), Refusal>
         ensures walked { OnOk result (IsWalked (naming.faults_of_branches (definitions_at self.now) (scope_of self.now.scope) (tree.branches terms.now)) (using.uses_of_branches (definitions_at self.now) (tree.branches terms.now)) uses.old.items uses.new.items) }
         ensures stopped { IfErr result (IsStopped (naming.faults_of_branches (definitions_at self.now) (scope_of self.now.scope) (tree.branches terms.now))) }
     {

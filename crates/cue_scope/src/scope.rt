@@ -23,7 +23,7 @@ pub enum Scope<'a, 'f> {
     },
     /// The structs of a chain of labels, each of which has one label.
     Chain {
-        labels: &'f [Label],
+        labels: &'f [Label<'f>],
         outer: &'a Scope<'a, 'f>,
     },
 }
@@ -33,7 +33,7 @@ impl<'a, 'f> Scope<'a, 'f> {
     pub fn has(&self, name: &str) -> bool
         ensures { result ≡ scope_of self.now name.now }
     {
-        match self {
+        match *self {
             Scope::Outermost => false,
             Scope::Literal { labels, outer } => labels.contains(name) || outer.has(name),
             Scope::Chain { labels, outer } => is_among(labels, name) || outer.has(name),
@@ -66,7 +66,7 @@ fn is_among(labels: &[Label], name: &str) -> bool
 /// The unquoted labels of these declarations.
 pub fn labels_of<'f>(
     alloc: Global,
-    declarations: &'f [Declaration],
+    declarations: &'f [Declaration<'f>],
 ) -> Result<HashSet<&'f str>, Refusal>
     ensures labels { IfOk result (λ s. (t : List ℕ) → bag.contains_by (λ k. bytes_eq t k.now) s ≡ has_label t (entries declarations.now)) }
     ensures memory { IfErr result (λ r. r ≡ memory) }
