@@ -19,5 +19,5 @@ pub use path::Path;
 pub use question::{Question, one_question};
 pub use quoted::push_quoted;
 pub use row::Row;
-pub use spelling::{is_bare, path_text, push_path};
+pub use spelling::{is_bare, path_text, push_path, push_steps};
 pub use step::Step;

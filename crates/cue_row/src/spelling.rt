@@ -1,4 +1,4 @@
-ghost use Rattle.std.specs.Prelude.{◌≡◌, ◌++◌, IfOk, OnOk, string_bytes};
+ghost use Rattle.std.specs.Prelude.{◌≡◌, ◌++◌, map, IfOk, OnOk, string_bytes};
 ghost use Rattle.std.specs.List.{flat_map};
 ghost use Rattle.cue_row.specs.PathText.{dotted, is_word_byte, is_bare, step_text, path_text};
 ghost use Rattle.cue_row.specs.Steps.{step_of};
@@ -23,7 +23,15 @@ pub fn path_text(alloc: Global, path: &Path) -> Result<String, Memory>
 pub fn push_path(out: &mut String, path: &Path) -> Result<(), Memory>
     ensures { OnOk result (string_bytes out.new ≡ string_bytes out.old ++ path_text path.now) }
 {
-    match path.steps() {
+    push_steps(out, path.steps())
+}
+
+/// Writes the path of these steps, which may be more than a [`Path`] has.
+pub fn push_steps(out: &mut String, steps: &[Step]) -> Result<(), Memory>
+    ensures { OnOk result
+        (string_bytes out.new ≡ string_bytes out.old ++ path_text (map step_of steps.now)) }
+{
+    match steps {
         [] => out.push('.')?,
         [first, rest @ ..] => {
             push_step(out, first)?;

@@ -1,0 +1,39 @@
+ghost use Rattle.std.specs.Prelude.{◌≡◌, map};
+ghost use Rattle.cue_row.specs.Steps.{step_of};
+
+use cue_row::Step;
+use std::marker::Model;
+
+/// A place that is reported: the steps that lead there from the root. The element of a list at the end of the longest
+/// path of a table is one step further than a [`cue_row::Path`] leads. Contracts see the list of the steps.
+#[derive(Debug, Drop)]
+pub struct Place {
+    steps: Vec<Step>,
+}
+
+impl Model for Place {
+    ghost use Rattle.std.specs.Prelude.{map};
+    ghost use Rattle.cue_lattice.specs.Path.{Path};
+
+    ghost Value = { Path };
+
+    ghost use Rattle.cue_row.specs.Steps.{step_of};
+
+    ghost view = { λ place. map step_of place.steps.items };
+}
+
+impl Place {
+    /// The place to which these steps lead.
+    pub fn new(steps: Vec<Step>) -> Place
+        ensures { result ≡ map step_of steps.items }
+    {
+        Place { steps }
+    }
+
+    /// The steps from the root.
+    pub fn steps(&self) -> &[Step]
+        ensures { map step_of result.now ≡ self.now }
+    {
+        self.steps.as_slice()
+    }
+}

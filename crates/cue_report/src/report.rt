@@ -1,0 +1,78 @@
+ghost use Rattle.std.specs.Prelude.{◌≡◌, ◌++◌, IfOk, OnOk, string_bytes};
+ghost use Rattle.std.specs.List.{flat_map};
+ghost use Rattle.cue_report.specs.Lines.{conflict_line, gap_line, line, cause_text, lack_text};
+
+use crate::{Conflict, Gap, Place};
+use cue_lattice::Memory;
+use cue_row::push_steps;
+use std::alloc::Global;
+
+/// A line for each conflict, as `conflict a no value`, and then one for each gap, as `incomplete a
+/// missing`. Each ends with U+000A.
+pub fn lines(alloc: Global, conflicts: &[Conflict], gaps: &[Gap]) -> Result<String, Memory>
+    ensures { IfOk result (λ text. string_bytes text
+        ≡ flat_map conflict_line conflicts.now ++ flat_map gap_line gaps.now) }
+{
+    let mut out = String::new(alloc);
+    push_conflicts(&mut out, conflicts)?;
+    push_gaps(&mut out, gaps)?;
+    Ok(out)
+}
+
+/// Writes a line for each conflict.
+fn push_conflicts(out: &mut String, conflicts: &[Conflict]) -> Result<(), Memory>
+    ensures { OnOk result
+        (string_bytes out.new ≡ string_bytes out.old ++ flat_map conflict_line conflicts.now) }
+{
+    for conflict in conflicts {
+        push_line(out, "conflict ", &conflict.path, cause(conflict))?;
+    }
+    Ok(())
+}
+
+/// Writes a line for each gap.
+fn push_gaps(out: &mut String, gaps: &[Gap]) -> Result<(), Memory>
+    ensures { OnOk result
+        (string_bytes out.new ≡ string_bytes out.old ++ flat_map gap_line gaps.now) }
+{
+    for gap in gaps {
+        push_line(out, "incomplete ", &gap.path, lack(gap))?;
+    }
+    Ok(())
+}
+
+/// Writes one line: what it reports, where, and why.
+fn push_line(out: &mut String, what: &str, path: &Place, why: &str) -> Result<(), Memory>
+    ensures { OnOk result
+        (string_bytes out.new ≡ string_bytes out.old ++ line what.now path.now why.now) }
+{
+    out.push_str(what)?;
+    push_steps(out, path.steps())?;
+    out.push(' ')?;
+    out.push_str(why)?;
+    out.push('\n')?;
+    Ok(())
+}
+
+/// Why it is a conflict.
+fn cause(conflict: &Conflict) -> &'static str
+    ensures { result.now ≡ cause_text conflict.now.no_value conflict.now.not_allowed }
+{
+    match (conflict.no_value, conflict.not_allowed) {
+        (true, true) => "no value, label not allowed",
+        (true, false) => "no value",
+        (false, true) => "label not allowed",
+        (false, false) => "",
+    }
+}
+
+/// What is lacking.
+fn lack(gap: &Gap) -> &'static str
+    ensures { result.now ≡ lack_text gap.now.missing }
+{
+    if gap.missing {
+        "missing"
+    } else {
+        "not a single value"
+    }
+}
