@@ -5,3 +5,4 @@ pub mod Exact
 pub mod Finding
 pub mod Meeting
 pub mod Nodes
+pub mod Validity

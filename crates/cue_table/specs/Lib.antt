@@ -8,5 +8,6 @@ pub mod Refuses
 pub mod Size
 pub mod Tree
 pub mod Valid
+pub mod ValidWalk
 pub mod View
 pub mod Walks

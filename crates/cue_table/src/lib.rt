@@ -7,10 +7,11 @@ mod laws;
 mod meet;
 mod node;
 mod table;
+mod valid;
 
 pub use branch::Branch;
 pub use cue_lattice::{Memory, Narrow};
-pub use cue_row::{Path, Step};
+pub use cue_row::{Path, Row, Step};
 pub use iter::{Children, Items, Labels};
 pub use laws::equal_answers;
 pub use table::Table;

@@ -1,0 +1,46 @@
+use Rattle.std.proofs.Common.{sym, arith}
+use Rattle.cue_row.specs.Steps.{step_of}
+use Rattle.cue_table.specs.Tree.{below}
+use Rattle.cue_table.proofs.Validity.{sound_more, sound_first, sound_all, left_smaller, below_smaller, sound_parts, sound_whole}
+use Rattle.cue_table.proofs.valid.+is_sound.Goals as goal
+
+pub returns-then-not-has_child : goal.returns-then-not-has_child
+returns-then-not-has_child t c = (
+  λ no. absurd (cc),
+  λ h. let parts = sound_parts c.args.branch.now c.in-Some.row.now (sym c.in-Some.ensures.row) h in
+      let here = sound_first c.in-Some.row.now (below c.args.branch.now) c.loop-step.step-iterator c.next.new.self (step_of c.in-Some-2.step.now) c.in-Some-2.below c.in-Some-2.ensures.steps c.loop-step.invariant.rest parts.1 in
+      let yes = c.has_child.ensures.1 here.0 in
+      cc,
+)
+
+pub is_sound-requires : goal.is_sound-requires
+is_sound-requires t c =
+    let size = left_smaller c.loop-step.step-iterator c.next.new.self (step_of c.in-Some-2.step.now) c.in-Some-2.below c.in-Some-2.ensures.steps in
+    let less = below_smaller c.args.branch.now in
+    (omega (arith, c.decreases), tt)
+
+pub returns-then-not-is_sound : goal.returns-then-not-is_sound
+returns-then-not-is_sound t c = (
+  λ no. absurd (cc),
+  λ h. let parts = sound_parts c.args.branch.now c.in-Some.row.now (sym c.in-Some.ensures.row) h in
+      let here = sound_first c.in-Some.row.now (below c.args.branch.now) c.loop-step.step-iterator c.next.new.self (step_of c.in-Some-2.step.now) c.in-Some-2.below c.in-Some-2.ensures.steps c.loop-step.invariant.rest parts.1 in
+      let yes = c.is_sound.ensures.1 here.1 in
+      cc,
+)
+
+pub returns : goal.returns
+returns t c = (
+  λ yes. sound_whole c.args.branch.now c.in-Some.row.now (sym c.in-Some.ensures.row) (let good = c.is_valid.ensures.0 in good (cc))
+      (sound_all c.in-Some.row.now (below c.args.branch.now) c.loop-step.step-iterator c.in-None.ensures.steps.0 c.loop-step.invariant.rest),
+  λ h. cc,
+)
+
+pub loop-step-preserved : goal.loop-step-preserved
+loop-step-preserved t c =
+    let size = left_smaller c.loop-step.step-iterator c.next.new.self (step_of c.in-Some-2.step.now) c.in-Some-2.below c.in-Some-2.ensures.steps in
+    let below_is = c.is_sound.ensures.0 in
+    let child_is = c.has_child.ensures.0 in
+    record {
+      rest = sound_more c.in-Some.row.now (below c.args.branch.now) c.loop-step.step-iterator c.next.new.self (step_of c.in-Some-2.step.now) c.in-Some-2.below c.in-Some-2.ensures.steps c.loop-step.invariant.rest (child_is (cc)) (below_is (cc));
+      smaller = omega arith;
+    }

@@ -1,0 +1,15 @@
+use Rattle.std.proofs.Common.{◌≤◌, ◌↔◌}
+use Rattle.cue_table.specs.Tree.{below}
+use Rattle.cue_table.specs.Size.{tree_size, children_size}
+use Rattle.cue_table.specs.ValidWalk.{AreSound}
+use Rattle.cue_table.proofs.valid.+is_sound.Given as goal
+
+abbrev pub decreases-is_sound : goal.decreases-is_sound
+decreases-is_sound l = tree_size l.branch.now
+
+-- what is left decides the rest
+abbrev pub invariant-loop-step : goal.invariant-loop-step
+invariant-loop-step l = record {
+  rest : AreSound l.row (below l.branch) ↔ AreSound l.row l.step-iterator;
+  smaller : children_size l.step-iterator ≤ children_size (below l.branch);
+}

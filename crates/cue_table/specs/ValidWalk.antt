@@ -1,0 +1,35 @@
+-- The rules of valid tables, as a walk from a place to those below it looks at them.
+use Rattle.std.specs.Prelude.{◌≡◌, Option, Some, None}
+use Rattle.cue_lattice.specs.Path.{Step, label, index}
+use Rattle.cue_row.specs.ValidRow.{IsWordStep, IsValidRow}
+use Rattle.cue_row.specs.declared.row.Row.{Row}
+use Rattle.cue_row.specs.declared.level.Level.TheVariants.{Optional}
+use Rattle.cue_table.specs.Tree.{Tree, node, Children, none, child, row_of}
+use Rattle.cue_table.specs.Valid.{MayHold, IsElement}
+
+-- an element of a list has the level 0
+abbrev pub IsLevelAt : Step → Row → Type 0
+IsLevelAt (label text) row = Unit {0}
+IsLevelAt (index n) row = row.level ≡ Optional
+
+-- the row may stand one step below the parent
+pub record MayStand (parent : Row) (step : Step) (row : Row) : Type 0 where
+  pub word : IsWordStep step
+  pub holds : MayHold parent step
+  pub element : IsElement parent step
+  pub level : IsLevelAt step row
+
+-- there is a row, and it may stand there
+abbrev pub HasChild : Row → Step → Option Row → Type 0
+HasChild parent step None = ⊥
+HasChild parent step (Some row) = MayStand parent step row
+
+-- a valid row stands at the place and at each below it, and each may stand below its parent
+abbrev mutual
+  pub IsSound : Tree Row → Type 0
+  IsSound (node None children) = ⊥
+  IsSound (node (Some row) children) = IsValidRow row × AreSound row children
+
+  pub AreSound : Row → Children Row → Type 0
+  AreSound parent none = Unit {0}
+  AreSound parent (child step tree children) = HasChild parent step (row_of tree) × IsSound tree × AreSound parent children

@@ -1,0 +1,107 @@
+//! Which tables are valid.
+ghost use Rattle.std.specs.Prelude.{◌≡◌, ◌↔◌, ◌⊎◌, IsTrue};
+ghost use Rattle.cue_row.specs.Kinds.{IsKind};
+ghost use Rattle.cue_row.specs.declared.kind.RowKind.TheVariants.{Nothing};
+ghost use Rattle.cue_row.specs.declared.level.Level.TheVariants.{Optional};
+ghost use Rattle.cue_row.specs.Steps.{step_of};
+ghost use Rattle.cue_table.specs.Tree.{row_of, below, none};
+ghost use Rattle.cue_table.specs.Valid.{IsOpenStruct, IsValidTable, MayHold, IsElement};
+ghost use Rattle.cue_table.specs.ValidWalk.{HasChild, IsLevelAt, IsSound, MayStand};
+
+use crate::{Branch, Table};
+use cue_row::{Level, Row, RowKind, Step};
+
+impl Table<Row> {
+    /// Whether a site may hold the table, and state bytes tell it. This takes no memory.
+    pub fn is_valid(&self) -> bool
+        ensures { IsTrue result ↔ IsValidTable self.now }
+    {
+        let root = self.root();
+        match root.row() {
+            None => is_end(&root),
+            Some(row) => is_root(row) && is_sound(&root),
+        }
+    }
+}
+
+/// Whether a row may stand at the root, of all that is asked of it there alone.
+fn is_root(row: &Row) -> bool
+    ensures { IsTrue result ↔ (IsOpenStruct row.now × (row.now.level ≡ Optional)) }
+{
+    if row.labels.listed().is_some() || !row.level.same(Level::Optional) {
+        return false;
+    }
+    match row.kind() {
+        None => false,
+        Some(kind) => kind == RowKind::Struct,
+    }
+}
+
+/// Whether there is no branch below a place.
+fn is_end(branch: &Branch<Row>) -> bool
+    ensures { IsTrue result ↔ (below branch.now ≡ none) }
+{
+    let mut below = branch.children();
+    match below.next() {
+        None => true,
+        Some(_) => false,
+    }
+}
+
+/// Whether a valid row stands at the place and at each below it, and each may stand below its parent.
+fn is_sound(branch: &Branch<Row>) -> bool
+    ensures { IsTrue result ↔ IsSound branch.now }
+{
+    let Some(row) = branch.row() else {
+        return false;
+    };
+    if !row.is_valid() {
+        return false;
+    }
+    for (step, below) in branch.children() {
+        if !has_child(row, step, &below) {
+            return false;
+        }
+        if !is_sound(&below) {
+            return false;
+        }
+    }
+    true
+}
+
+/// Whether a row stands one step below a row, and may stand there.
+fn has_child(parent: &Row, step: &Step, below: &Branch<Row>) -> bool
+    ensures { IsTrue result ↔ HasChild parent.now (step_of step.now) (row_of below.now) }
+{
+    match below.row() {
+        None => false,
+        Some(row) => may_stand(parent, step, row),
+    }
+}
+
+/// Whether a row may stand one step below another.
+fn may_stand(parent: &Row, step: &Step, row: &Row) -> bool
+    ensures { IsTrue result ↔ MayStand parent.now (step_of step.now) row.now }
+{
+    if !step.is_short() {
+        return false;
+    }
+    match step {
+        Step::Label(_) => is_kind(parent, RowKind::Struct),
+        Step::Index(number) => {
+            *number < parent.least
+                && row.level.same(Level::Optional)
+                && is_kind(parent, RowKind::List)
+        }
+    }
+}
+
+/// Whether a row is of this kind, or lets nothing stand.
+fn is_kind(row: &Row, kind: RowKind) -> bool
+    ensures { IsTrue result ↔ (IsKind row.now kind ⊎ IsKind row.now Nothing) }
+{
+    match row.kind() {
+        None => false,
+        Some(found) => found == kind || found == RowKind::Nothing,
+    }
+}
