@@ -75,6 +75,16 @@ impl Path {
         compare_steps(self.steps(), other.steps())
     }
 
+    /// The path one step further.
+    pub fn then(&self, alloc: Global, step: &Step) -> Result<Path, Memory>
+        requires { length self.now < step_limit }
+        ensures { IfOk result (λ path. path ≡ self.now ++ step_of step.now ∷ []) }
+    {
+        let mut steps = copy_steps(alloc, self.steps())?;
+        steps.push(step.copy(alloc)?)?;
+        Ok(Path { steps })
+    }
+
     pub fn copy(&self, alloc: Global) -> Result<Path, Memory>
         ensures { IfOk result (λ path. path ≡ self.now) }
     {

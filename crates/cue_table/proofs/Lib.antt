@@ -3,6 +3,8 @@ pub mod Adding
 pub mod Depth
 pub mod Exact
 pub mod Finding
+pub mod Listed
+pub mod Listing
 pub mod Meeting
 pub mod Nodes
 pub mod Validity

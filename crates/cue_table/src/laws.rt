@@ -2,6 +2,7 @@
 ghost use Rattle.std.specs.Prelude.{◌≡◌};
 ghost use Rattle.cue_table.specs.Tree.{Tree};
 ghost use Rattle.cue_table.specs.Form.{IsTable};
+ghost use Rattle.cue_table.specs.Rows.{AreRows, InPathOrder};
 ghost use Rattle.cue_table.specs.Refuses.{SameRefusals, TableRefuses};
 
 use cue_lattice::Narrow;
@@ -10,4 +11,10 @@ use cue_lattice::Narrow;
 pub fn equal_answers<R: Narrow>()
     ensures { (a b : Tree R) → IsTable R.refuses R.is_value a → IsTable R.refuses R.is_value b
         → SameRefusals (TableRefuses R.refuses a) (TableRefuses R.refuses b) → a ≡ b }
+{}
+
+/// The list of a table's rows is in strict path order, and has just the rows that stand at paths.
+pub fn rows_in_order<R: Narrow>()
+    ensures order { (table : Tree R) → IsTable R.refuses R.is_value table → InPathOrder table }
+    ensures rows { (table : Tree R) → IsTable R.refuses R.is_value table → AreRows table }
 {}

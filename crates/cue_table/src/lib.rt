@@ -6,6 +6,7 @@ mod iter;
 mod laws;
 mod meet;
 mod node;
+mod rows;
 mod table;
 mod valid;
 
@@ -13,5 +14,5 @@ pub use branch::Branch;
 pub use cue_lattice::{Memory, Narrow};
 pub use cue_row::{Path, Row, Step};
 pub use iter::{Children, Items, Labels};
-pub use laws::equal_answers;
+pub use laws::{equal_answers, rows_in_order};
 pub use table::Table;

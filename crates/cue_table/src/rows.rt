@@ -1,0 +1,44 @@
+//! The rows of a table as a list.
+ghost use Rattle.std.specs.Prelude.{◌≡◌, ◌+◌, ◌≤◌, ◌++◌, length, map, IfOk, OnOk};
+ghost use Rattle.cue_lattice.specs.Limits.{step_limit};
+ghost use Rattle.cue_table.specs.Depth.{tree_depth};
+ghost use Rattle.cue_table.specs.Form.{IsTable};
+ghost use Rattle.cue_table.specs.Rows.{beyond};
+ghost use Rattle.cue_table.specs.Tree.{rows_of};
+
+use crate::{Branch, Table};
+use cue_lattice::{Memory, Narrow};
+use cue_row::Path;
+use std::alloc::Global;
+
+impl<R: Narrow> Table<R> {
+    /// The rows with their paths, in path order.
+    pub fn rows(&self, alloc: Global) -> Result<Vec<(Path, &R)>, Memory>
+        ensures rows { IfOk result (λ rows. map (λ row. (row.0, row.1.now)) rows.items ≡ rows_of self.now) }
+        ensures form { IsTable R.refuses R.is_value self.now }
+    {
+        let mut rows = Vec::new(alloc);
+        push_rows(alloc, &mut rows, &Path::root(alloc), &self.root())?;
+        Ok(rows)
+    }
+}
+
+/// Writes down the rows of a branch at a path.
+fn push_rows<'a, R: Narrow>(
+    alloc: Global,
+    rows: &mut Vec<(Path, &'a R)>,
+    path: &Path,
+    branch: &Branch<'a, R>,
+) -> Result<(), Memory>
+    requires { length path.now + tree_depth branch.now ≤ step_limit }
+    ensures { OnOk result (map (λ row. (row.0, row.1.now)) rows.new.items
+        ≡ map (λ row. (row.0, row.1.now)) rows.old.items ++ map (beyond path.now) (rows_of branch.now)) }
+{
+    if let Some(row) = branch.row() {
+        rows.push((path.copy(alloc)?, row))?;
+    }
+    for (step, below) in branch.children() {
+        push_rows(alloc, rows, &path.then(alloc, step)?, &below)?;
+    }
+    Ok(())
+}
