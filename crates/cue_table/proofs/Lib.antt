@@ -1,4 +1,6 @@
 pub mod Order
+pub mod RowLists
+pub mod Appending
 pub mod Adding
 pub mod Depth
 pub mod Exact

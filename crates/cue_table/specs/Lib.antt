@@ -5,6 +5,7 @@ pub mod Form
 pub mod Meet
 pub mod Place
 pub mod Refuses
+pub mod RowList
 pub mod Rows
 pub mod Size
 pub mod Tree

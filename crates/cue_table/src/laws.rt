@@ -1,6 +1,6 @@
 //! Laws of tables, each on a call that carries it and does nothing.
 ghost use Rattle.std.specs.Prelude.{◌≡◌};
-ghost use Rattle.cue_table.specs.Tree.{Tree};
+ghost use Rattle.cue_table.specs.Tree.{Tree, rows_of};
 ghost use Rattle.cue_table.specs.Form.{IsTable};
 ghost use Rattle.cue_table.specs.Rows.{AreRows, InPathOrder};
 ghost use Rattle.cue_table.specs.Refuses.{SameRefusals, TableRefuses};
@@ -17,4 +17,10 @@ pub fn equal_answers<R: Narrow>()
 pub fn rows_in_order<R: Narrow>()
     ensures order { (table : Tree R) → IsTable R.refuses R.is_value table → InPathOrder table }
     ensures rows { (table : Tree R) → IsTable R.refuses R.is_value table → AreRows table }
+{}
+
+/// The list of the rows of a table tells the table.
+pub fn equal_rows<R: Narrow>()
+    ensures { (a b : Tree R) → IsTable R.refuses R.is_value a → IsTable R.refuses R.is_value b
+        → rows_of a ≡ rows_of b → a ≡ b }
 {}

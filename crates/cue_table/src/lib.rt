@@ -1,6 +1,7 @@
 //! A table as a tree: what is known at each path of a configuration, and the readers of it.
 #![tactic(auto)]
 
+mod append;
 mod branch;
 mod iter;
 mod laws;
@@ -14,5 +15,5 @@ pub use branch::Branch;
 pub use cue_lattice::{Memory, Narrow};
 pub use cue_row::{Path, Row, Step};
 pub use iter::{Children, Items, Labels};
-pub use laws::{equal_answers, rows_in_order};
+pub use laws::{equal_answers, equal_rows, rows_in_order};
 pub use table::Table;

@@ -5,8 +5,10 @@ ghost use Rattle.cue_table.specs.Tree.{empty, taken, branch_at, row_at};
 ghost use Rattle.cue_table.specs.Depth.{tree_depth};
 ghost use Rattle.cue_table.specs.Form.{IsTable};
 ghost use Rattle.cue_table.specs.Meet.{IsAdded, IsMet};
+ghost use Rattle.cue_table.specs.RowList.{AppendsKept};
 
 use crate::Branch;
+use crate::append::append;
 use crate::meet::{meet, single};
 use crate::node::Node;
 use cue_lattice::{Memory, Narrow};
@@ -132,5 +134,22 @@ impl<R: Narrow> Table<R> {
         let met = meet(self.alloc, root, &one)?;
         self.root = met;
         Ok(())
+    }
+
+    /// Adds a row that stands behind all others in path order, and says whether it does: where another row stands at the
+    /// path or behind it, and where the row refuses nothing, the table is left as it is. So it is after want of memory.
+    /// This costs what the path costs, however many rows there are.
+    pub fn append(&mut self, path: &Path, row: R) -> Result<bool, Memory>
+        ensures form { IsTable R.refuses R.is_value self.new }
+        ensures appends { IfOk result (AppendsKept R.refuses self.old path.now row self.new) }
+        ensures err { OnErr result (self.new ≡ self.old) }
+    {
+        let root = &mut self.root;
+        let refuses_nothing = row.is_free();
+        if refuses_nothing {
+            return Ok(false);
+        }
+        row.known();
+        append(self.alloc, root, path.steps(), row)
     }
 }
