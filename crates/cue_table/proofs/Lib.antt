@@ -5,6 +5,7 @@ pub mod Adding
 pub mod Depth
 pub mod Exact
 pub mod Finding
+pub mod Lattice
 pub mod Listed
 pub mod Listing
 pub mod Meeting

@@ -3,6 +3,7 @@ pub mod Depth
 pub mod Falls
 pub mod Form
 pub mod Meet
+pub mod Narrower
 pub mod Place
 pub mod Refuses
 pub mod RowList

@@ -2,6 +2,7 @@
 ghost use Rattle.std.specs.Prelude.{◌≡◌};
 ghost use Rattle.cue_table.specs.Tree.{Tree, rows_of};
 ghost use Rattle.cue_table.specs.Form.{IsTable};
+ghost use Rattle.cue_table.specs.Narrower.{MeetsCommute, MeetsAssociate, MeetsRepeat, MeetsNarrow, MeetsAreWidest};
 ghost use Rattle.cue_table.specs.Rows.{AreRows, InPathOrder};
 ghost use Rattle.cue_table.specs.Refuses.{SameRefusals, TableRefuses};
 
@@ -23,4 +24,14 @@ pub fn rows_in_order<R: Narrow>()
 pub fn equal_rows<R: Narrow>()
     ensures { (a b : Tree R) → IsTable R.refuses R.is_value a → IsTable R.refuses R.is_value b
         → rows_of a ≡ rows_of b → a ≡ b }
+{}
+
+/// What `Table::meet` makes is the greatest lower bound: the order of tables, how often each comes and which are met
+/// first make no difference, the met table is at least as narrow as both, and it is the widest such table.
+pub fn meet_is_greatest_lower_bound<R: Narrow>()
+    ensures commutative { MeetsCommute R.refuses R.is_value }
+    ensures associative { MeetsAssociate R.refuses R.is_value }
+    ensures idempotent { MeetsRepeat R.refuses R.is_value }
+    ensures narrow { MeetsNarrow R.refuses }
+    ensures widest { MeetsAreWidest R.refuses }
 {}

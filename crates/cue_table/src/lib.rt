@@ -15,5 +15,5 @@ pub use branch::Branch;
 pub use cue_lattice::{Memory, Narrow};
 pub use cue_row::{Path, Row, Step};
 pub use iter::{Children, Items, Labels};
-pub use laws::{equal_answers, equal_rows, rows_in_order};
+pub use laws::{equal_answers, equal_rows, meet_is_greatest_lower_bound, rows_in_order};
 pub use table::Table;
