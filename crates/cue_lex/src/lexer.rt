@@ -56,7 +56,7 @@ pub fn lex<'a>(alloc: Global, text: &'a str) -> Result<Vec<Token<'a>>, Refusal>
 struct Before {
     is_minus: bool,
     /// The token's end, where a line break after it inserts a comma.
-    line_end: Option<usize>,
+    line_end: Option<u32>,
 }
 
 /// Adds what stands at `at` to the tokens.
@@ -66,7 +66,7 @@ fn add<'a>(
     found: Lexeme<'a>,
     at: usize,
 ) -> Result<Before, Memory>
-    requires { at + len_of found < 2 ^ 63 }
+    requires { at + len_of found ≤ text_limit }
     // The tokens and what they say of what follows give the same tokens in all, whatever follows.
     ensures { IfOk result (λ after. (rest : Bool → ℕ → Result (List Piece) Refusal) →
         prepended tokens.old.items
@@ -90,12 +90,13 @@ fn add<'a>(
             })
         }
         Lexeme::Word(kind, len) => {
-            let to = at + len;
+            let to = (at + len) as u32;
             let after = Before {
                 is_minus: kind.is_minus(),
                 line_end: kind.ends_line().then_some(to),
             };
-            tokens.push(Token { kind, from: at, to })?;
+            let from = at as u32;
+            tokens.push(Token { kind, from, to })?;
             Ok(after)
         }
     }

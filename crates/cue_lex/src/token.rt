@@ -3,13 +3,14 @@ ghost use Rattle.cue_lex.specs.Kinds.{is_minus, ends_line};
 
 use crate::{Quoted, Word};
 
-/// A token of a text: what it is, and from which byte to before which byte it stands. An inserted
-/// comma is empty: `from` and `to` are the end of the token before it.
+/// A token of a text: what it is, and from which byte to before which byte it stands. A text has at
+/// most 1,048,576 bytes. An inserted comma is empty: `from` and `to` are the end of the token before
+/// it.
 #[derive(Debug, Drop)]
 pub struct Token<'a> {
     pub kind: TokenKind<'a>,
-    pub from: usize,
-    pub to: usize,
+    pub from: u32,
+    pub to: u32,
 }
 
 /// What a token is. Names, and strings with no escape, are slices of the text.

@@ -153,7 +153,7 @@ impl<'a> Cursor<'a> {
         ensures place { result ≡ place_of self.entry.end self.entry.rest.now }
     {
         match self.next() {
-            Some((token, _)) => token.from,
+            Some((token, _)) => token.from as usize,
             None => self.end,
         }
     }
@@ -241,7 +241,7 @@ impl<'a> Cursor<'a> {
         match &token.kind {
             TokenKind::Name(name) => {
                 if name.as_str() == "close" {
-                    Ok((token.from, after))
+                    Ok((token.from as usize, after))
                 } else {
                     Err(self.syntax())
                 }

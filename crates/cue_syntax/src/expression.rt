@@ -424,7 +424,7 @@ fn definition<'a>(alloc: Global, cursor: Cursor<'a>, room: usize) -> Parsed<'a, 
     Ok((
         Declaration::Definition {
             name,
-            from: token.from,
+            from: token.from as usize,
             chain: chain.labels,
             value,
         },

@@ -29,7 +29,7 @@ pub fn literal<'a>(cursor: Cursor<'a>) -> Parsed<'a, Expr<'a>>
             Ok((
                 Expr::Name {
                     name,
-                    from: token.from,
+                    from: token.from as usize,
                 },
                 after,
             ))
