@@ -7,3 +7,4 @@ pub mod Scoping
 pub mod Walking
 pub mod LabelSets
 pub mod TextWalks
+pub mod Measuring

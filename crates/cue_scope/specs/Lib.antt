@@ -13,3 +13,4 @@ pub mod First
 pub mod Listed
 pub mod Kept
 pub mod Scopes
+pub mod Measures

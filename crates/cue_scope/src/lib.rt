@@ -4,6 +4,7 @@
 mod components;
 mod definitions;
 mod graph;
+mod measure;
 mod memory;
 mod named;
 mod names;

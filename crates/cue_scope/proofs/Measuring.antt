@@ -1,0 +1,178 @@
+-- Measures are added up over the parts of an expression.
+use Rattle.std.proofs.Common.{◌≡◌, ℕ, suc, ◌+◌, ◌*◌, ◌<◌, length, get_or, drop, arith, inl, Option, None, Some, Bool, true, false, ◌&&◌, subst, List, [], ◌∷◌, ◌++◌, refl, sym, ap, ◌∙◌, append_assoc, append-nil, Vec, Global}
+use Rattle.std.proofs.Math.Dec.{eqb, eqb-suc-zero}
+use Rattle.cue_syntax.specs.declared.tree.Label.{Label}
+use Rattle.cue_syntax.specs.declared.tree.Expr.{Expr}
+use Rattle.cue_syntax.specs.declared.tree.Term.{Term}
+use Rattle.cue_syntax.specs.declared.tree.Declaration.{Declaration}
+use Rattle.cue_syntax.specs.declared.tree.Declaration.TheVariants as declarations
+use Rattle.cue_syntax.specs.Syntax.{Entry, Elements, list, expression, elements, branches, entries, entry_tree, next_branch, entry, ellipsis, field, definition}
+use Rattle.cue_syntax.proofs.Views.{view-term, view-Ellipsis, view-Field, view-Definition}
+use Rattle.cue_scope.specs.declared.measure.Measure.{Measure}
+use Rattle.cue_scope.specs.declared.measure.Known.{Known}
+use Rattle.std.specs.Option.{option_map_or, option_to_list}
+use Rattle.cue_scope.specs.Core.{Core, bottom}
+use Rattle.cue_scope.specs.Graph.{IsIn}
+use Rattle.cue_scope.specs.Definitions.{Definition}
+use Rattle.cue_scope.specs.Kept.{all_of}
+use Rattle.cue_scope.specs.Limits.{size, depth, one_if}
+use Rattle.cue_scope.specs.Meaning.{nested, meaning, meant}
+use Rattle.cue_scope.specs.Terms.{terms}
+use Rattle.cue_scope.specs.Uses.{uses, uses_of_elements, uses_of_branches, uses_of_entries}
+use Rattle.cue_scope.specs.Measures.{Total, IsMeasured, IsUse, IsKnown, none, join, larger, as_literal, as_field, as_element, as_term, behind_labels, only_places, total_of, total, total_of_parts, total_of_elements, total_of_terms, total_of_entries}
+use Rattle.cue_scope.proofs.Nodes.{in_append_left, in_append_right}
+use Rattle.cue_scope.proofs.Walking.{at_hand}
+
+and_true : (b : Bool) → (b && true) ≡ b
+and_true true = refl
+and_true false = refl
+
+and_false : (b : Bool) → (b && false) ≡ false
+and_false true = refl
+and_false false = refl
+
+and_assoc : (a b c : Bool) → ((a && b) && c) ≡ (a && (b && c))
+and_assoc true b c = refl
+and_assoc false b c = refl
+
+pub same_total : (a b : Total) → a.scalar ≡ b.scalar → a.size ≡ b.size → a.depth ≡ b.depth → a.places ≡ b.places → a ≡ b
+same_total a b e f g h = λ i. record { scalar = e i; size = f i; depth = g i; places = h i }
+
+join_none : (t : Total) → join t none ≡ t
+join_none t = same_total (join t none) t (and_true t.scalar) (omega arith) (omega arith) (append-nil t.places)
+
+none_join : (t : Total) → join none t ≡ t
+none_join t = same_total (join none t) t refl (omega arith) (omega arith) refl
+
+join_assoc : (a b c : Total) → join (join a b) c ≡ join a (join b c)
+join_assoc a b c = same_total (join (join a b) c) (join a (join b c)) (and_assoc a.scalar b.scalar c.scalar) (omega arith) (omega arith) (append_assoc a.places b.places c.places)
+
+-- what the parts so far amount to, and what is still to come
+pub record Measuring (known : Known) (m : Measure) (all left : Total) (is : List ℕ) : Type 0 where
+  pub so_far : Total
+  pub measured : IsMeasured m so_far
+  pub sum : join so_far left ≡ all
+  pub used : IsKnown known is
+
+pub measuring_none : (known : Known) (m : Measure) (all : Total) (is : List ℕ) → IsMeasured m none → IsKnown known is → Measuring known m all all is
+measuring_none known m all is h k = record { so_far = none; measured = h; sum = none_join all; used = k }
+
+pub measuring_more : (known : Known) (m x after : Measure) (all item rest : Total) (us is : List ℕ) → Measuring known m all (join item rest) (us ++ is)
+    → ((a b : Total) → IsMeasured m a → IsMeasured x b → IsMeasured after (join a b)) → IsMeasured x item → Measuring known after all rest is
+measuring_more known m x after all item rest us is w beside h = record {
+  so_far = join w.so_far item;
+  measured = beside w.so_far item w.measured h;
+  sum = join_assoc w.so_far item rest ∙ w.sum;
+  used = λ i there. w.used i (in_append_right us is i there);
+}
+
+pub measuring_larger : (known : Known) (m after : Measure) (all rest : Total) (is : List ℕ) → Measuring known m all (larger 1 rest) is
+    → ((t : Total) → IsMeasured m t → IsMeasured after (larger 1 t)) → Measuring known after all rest is
+measuring_larger known m after all rest is w more = record {
+  so_far = larger 1 w.so_far;
+  measured = more w.so_far w.measured;
+  sum = same_total (join (larger 1 w.so_far) rest) (join w.so_far (larger 1 rest)) refl (omega arith) refl refl ∙ w.sum;
+  used = w.used;
+}
+
+pub measuring_all : (known : Known) (m : Measure) (all : Total) (is : List ℕ) → Measuring known m all none is → IsMeasured m all
+measuring_all known m all is w = subst (λ z. IsMeasured m z) (sym (join_none w.so_far) ∙ w.sum) w.measured
+
+-- what is known of the part at hand
+pub known_first : (known : Known) (m : Measure) (all left : Total) (us is : List ℕ) → Measuring known m all left (us ++ is) → IsKnown known us
+known_first known m all left us is w = λ i there. w.used i (in_append_left us is i there)
+
+no_label : (b : Bool) (n : ℕ) → (b && eqb (suc n) 0) ≡ false
+no_label b n = ap (λ z. b && z) (eqb-suc-zero n) ∙ and_false b
+
+-- a chain of labels is as many structs
+pub total_nested : (chain : List Label) (c : Core) (places : List ℕ) → total_of (nested chain c) places ≡ behind_labels (length chain) (total_of c places)
+total_nested [] c places = let b = behind_labels 0 (total_of c places) in same_total (total_of c places) b (sym (and_true (total_of c places).scalar)) (omega arith) (omega arith) refl
+total_nested (l ∷ ls) c places =
+    let before = total_nested ls c places in
+    let s : size (nested ls c) ≡ size c + 2 * length ls = ap (λ (t : Total). t.size) before in
+    let d : depth (nested ls c) ≡ depth c + length ls = ap (λ (t : Total). t.depth) before in
+    same_total (total_of (nested (l ∷ ls) c) places) (behind_labels (length (l ∷ ls)) (total_of c places)) (sym (no_label (total_of c places).scalar (length ls))) (omega arith) (omega arith) refl
+
+abbrev pub MeasuringParts : Known → Measure → List Expr → List Expr → Type 0
+MeasuringParts known m es left = let ds = all_of known.definitions.now in Measuring known m (total_of_parts ds (elements es)) (total_of_parts ds (elements left)) (uses_of_elements ds (elements left))
+
+abbrev pub MeasuringElements : Known → Measure → List Expr → List Expr → Type 0
+MeasuringElements known m es left = let ds = all_of known.definitions.now in Measuring known m (total_of_elements ds (elements es)) (total_of_elements ds (elements left)) (uses_of_elements ds (elements left))
+
+abbrev pub MeasuringTerms : Known → Measure → List Term → List Term → Type 0
+MeasuringTerms known m ts left = let ds = all_of known.definitions.now in Measuring known m (total_of_terms ds (branches ts)) (total_of_terms ds (branches left)) (uses_of_branches ds (branches left))
+
+abbrev pub MeasuringEntries : Known → Measure → List Declaration → List Declaration → Type 0
+MeasuringEntries known m es left = let ds = all_of known.definitions.now in Measuring known m (total_of_entries ds (entries es)) (total_of_entries ds (entries left)) (uses_of_entries ds (entries left))
+
+pub part_at_hand : (k : Known) (m : Measure) (es : List Expr) (i : ℕ) (e : Expr) → MeasuringParts k m es (drop i es) → i < length es → e ≡ get_or es i e
+    → Measuring k m (total_of_parts (all_of k.definitions.now) (elements es)) (join (total (all_of k.definitions.now) (expression e)) (total_of_parts (all_of k.definitions.now) (elements (drop (i + 1) es))))
+    (uses (all_of k.definitions.now) (expression e) ++ uses_of_elements (all_of k.definitions.now) (elements (drop (i + 1) es)))
+part_at_hand k m es i e w h is = subst (λ z. MeasuringParts k m es z) (at_hand es i e h is) w
+
+pub element_at_hand : (k : Known) (m : Measure) (es : List Expr) (i : ℕ) (e : Expr) → MeasuringElements k m es (drop i es) → i < length es → e ≡ get_or es i e
+    → Measuring k m (total_of_elements (all_of k.definitions.now) (elements es)) (join (as_element (total (all_of k.definitions.now) (expression e))) (total_of_elements (all_of k.definitions.now) (elements (drop (i + 1) es))))
+    (uses (all_of k.definitions.now) (expression e) ++ uses_of_elements (all_of k.definitions.now) (elements (drop (i + 1) es)))
+element_at_hand k m es i e w h is = subst (λ z. MeasuringElements k m es z) (at_hand es i e h is) w
+
+pub term_at_hand : (k : Known) (m : Measure) (ts : List Term) (i : ℕ) (t : Term) → MeasuringTerms k m ts (drop i ts) → i < length ts → t ≡ get_or ts i t
+    → Measuring k m (total_of_terms (all_of k.definitions.now) (branches ts)) (join (as_term t.from (total (all_of k.definitions.now) (expression t.value))) (total_of_terms (all_of k.definitions.now) (branches (drop (i + 1) ts))))
+    (uses (all_of k.definitions.now) (expression t.value) ++ uses_of_branches (all_of k.definitions.now) (branches (drop (i + 1) ts)))
+term_at_hand k m ts i t w h is =
+    let ds = all_of k.definitions.now in
+    subst (λ z. Measuring k m (total_of_terms ds (branches ts)) (total_of_terms ds (next_branch z (branches (drop (i + 1) ts)))) (uses_of_branches ds (next_branch z (branches (drop (i + 1) ts)))))
+    (view-term t) (subst (λ z. MeasuringTerms k m ts z) (at_hand ts i t h is) w)
+
+entry_at_hand : (k : Known) (m : Measure) (es : List Declaration) (i : ℕ) (d : Declaration) (e : Entry) → MeasuringEntries k m es (drop i es) → i < length es → d ≡ get_or es i d → entry_tree d ≡ e
+    → Measuring k m (total_of_entries (all_of k.definitions.now) (entries es)) (total_of_entries (all_of k.definitions.now) (entry e (entries (drop (i + 1) es))))
+    (uses_of_entries (all_of k.definitions.now) (entry e (entries (drop (i + 1) es))))
+entry_at_hand k m es i d e w h is same =
+    let ds = all_of k.definitions.now in
+    subst (λ z. Measuring k m (total_of_entries ds (entries es)) (total_of_entries ds (entry z (entries (drop (i + 1) es)))) (uses_of_entries ds (entry z (entries (drop (i + 1) es)))))
+    same (subst (λ z. MeasuringEntries k m es z) (at_hand es i d h is) w)
+
+pub ellipsis_at_hand : (k : Known) (m after : Measure) (es : List Declaration) (i : ℕ) (d : Declaration) → MeasuringEntries k m es (drop i es) → i < length es → d ≡ get_or es i d → d ≡ declarations.Ellipsis
+    → ((t : Total) → IsMeasured m t → IsMeasured after (larger 1 t)) → MeasuringEntries k after es (drop (i + 1) es)
+ellipsis_at_hand k m after es i d w h is same more =
+    measuring_larger k m after _ _ _ (entry_at_hand k m es i d ellipsis w h is (ap entry_tree same ∙ view-Ellipsis)) more
+
+pub field_at_hand : (k : Known) (m : Measure) (es : List Declaration) (i : ℕ) (d : Declaration) (l : Label) (chain : Vec Label Global) (e : Expr)
+    → MeasuringEntries k m es (drop i es) → i < length es → d ≡ get_or es i d → d ≡ declarations.Field l chain e
+    → Measuring k m (total_of_entries (all_of k.definitions.now) (entries es))
+    (join (as_field (behind_labels (length chain.items) (total (all_of k.definitions.now) (expression e)))) (total_of_entries (all_of k.definitions.now) (entries (drop (i + 1) es))))
+    (uses (all_of k.definitions.now) (expression e) ++ uses_of_entries (all_of k.definitions.now) (entries (drop (i + 1) es)))
+field_at_hand k m es i d l chain e w h is same =
+    let ds = all_of k.definitions.now in
+    let rest = total_of_entries ds (entries (drop (i + 1) es)) in
+    let us = uses ds (expression e) ++ uses_of_entries ds (entries (drop (i + 1) es)) in
+    subst (λ z. Measuring k m (total_of_entries ds (entries es)) (join (as_field z) rest) us)
+    (total_nested chain.items (meant ds (meaning ds) (expression e)) (terms ds (meaning ds) (expression e)))
+    (entry_at_hand k m es i d (field l chain.items (expression e)) w h is (ap entry_tree same ∙ view-Field l chain e))
+
+pub definition_at_hand : (k : Known) (m : Measure) (es : List Declaration) (i : ℕ) (d : Declaration) (t : List ℕ) (from : ℕ) (chain : Vec Label Global) (e : Expr)
+    → MeasuringEntries k m es (drop i es) → i < length es → d ≡ get_or es i d → d ≡ declarations.Definition t from chain e
+    → Measuring k m (total_of_entries (all_of k.definitions.now) (entries es))
+    (join (only_places (total (all_of k.definitions.now) (expression e))) (total_of_entries (all_of k.definitions.now) (entries (drop (i + 1) es))))
+    (uses (all_of k.definitions.now) (expression e) ++ uses_of_entries (all_of k.definitions.now) (entries (drop (i + 1) es)))
+definition_at_hand k m es i d t from chain e w h is same =
+    let ds = all_of k.definitions.now in
+    let rest = total_of_entries ds (entries (drop (i + 1) es)) in
+    let us = uses ds (expression e) ++ uses_of_entries ds (entries (drop (i + 1) es)) in
+    let now = total_of_entries ds (entry (definition t from chain.items (expression e)) (entries (drop (i + 1) es))) in
+    subst (λ z. Measuring k m (total_of_entries ds (entries es)) z us)
+    (same_total now (join (only_places (total ds (expression e))) rest) refl (omega arith) (omega arith) refl)
+    (entry_at_hand k m es i d (definition t from chain.items (expression e)) w h is (ap entry_tree same ∙ view-Definition t from chain e))
+
+-- a definition that is used has its measure
+pub use_found : (meanings : ℕ → Core) (o : Option ℕ) (number : ℕ) (m : Measure) → Some number ≡ o → IsUse m (meanings number) → IsMeasured (record m { term = None }) (total_of (option_map_or meanings o bottom) [])
+use_found meanings o number m is h =
+    subst (λ z. IsMeasured (record m { term = None }) (total_of (option_map_or meanings z bottom) [])) is (record { scalar = h.scalar; size = h.size; depth = h.depth; place = refl })
+
+pub use_listed : (o : Option ℕ) (number : ℕ) → Some number ≡ o → IsIn number (option_to_list o)
+use_listed o number is = subst (λ z. IsIn number (option_to_list z)) is (inl refl)
+
+-- a list, with 1 of its own and 1 for its `...`
+pub list_measured : (ds : List Definition) (es : Elements) (goes_on comma : Bool) (m : Measure) (own : ℕ) → own ≡ 1 + one_if goes_on → IsMeasured m (as_literal own (total_of_elements ds es)) → IsMeasured m (total ds (list es goes_on comma))
+list_measured ds es goes_on comma m own is h =
+    subst (λ z. IsMeasured m z) (same_total (as_literal own (total_of_elements ds es)) (total ds (list es goes_on comma)) refl (omega arith) refl refl) h

@@ -1,0 +1,113 @@
+-- What the checks ask of an expression, and what the program keeps of it.
+use Rattle.std.specs.Prelude.{ℕ, ◌≡◌, ◌+◌, ◌*◌, ◌&&◌, eqb, min, max, Bool, true, false, cond, List, [], ◌∷◌, ◌++◌, Option, None, Some, ◌<◌, slice_index_or, length}
+use Rattle.cue_syntax.specs.Syntax.{Expression, Elements, Branches, Entries}
+use Rattle.cue_scope.specs.declared.measure.Measure.{Measure}
+use Rattle.cue_scope.specs.declared.measure.Known.{Known}
+use Rattle.cue_scope.specs.Core.{Core, is_scalar, are_scalar, are_scalar_choices}
+use Rattle.cue_scope.specs.Definitions.{Definition}
+use Rattle.cue_scope.specs.Graph.{IsIn}
+use Rattle.cue_scope.specs.Kept.{all_of}
+use Rattle.cue_scope.specs.Limits as limits
+use Rattle.cue_scope.specs.Meaning.{meaning, meant, meant_elements, meant_branches, meant_members}
+use Rattle.cue_scope.specs.Terms.{terms, terms_of_elements, terms_of_branches, terms_of_entries}
+
+-- whether all is scalar, how large it is, how many steps its longest path has, and where its terms stand that aren't scalar
+pub record Total : Type 0 where
+  pub scalar : Bool
+  pub size : ℕ
+  pub depth : ℕ
+  pub places : List ℕ
+
+abbrev pub first_of : List ℕ → Option ℕ
+first_of [] = None
+first_of (x ∷ xs) = Some x
+
+-- sizes and depths are counted no further than just past their limits
+pub record IsMeasured (m : Measure) (t : Total) : Type 0 where
+  pub scalar : m.scalar ≡ t.scalar
+  pub size : m.size ≡ min t.size 65537
+  pub depth : m.depth ≡ min t.depth 65
+  pub place : m.term ≡ first_of t.places
+
+abbrev pub none : Total
+none = record { scalar = true; size = 0; depth = 0; places = [] }
+
+abbrev pub leaf : Bool → Total
+leaf scalar = record { scalar = scalar; size = 1; depth = 0; places = [] }
+
+abbrev pub join : Total → Total → Total
+join a b = record { scalar = a.scalar && b.scalar; size = a.size + b.size; depth = max a.depth b.depth; places = a.places ++ b.places }
+
+abbrev pub larger : ℕ → Total → Total
+larger more t = record { scalar = t.scalar; size = more + t.size; depth = t.depth; places = t.places }
+
+-- as a struct or a list of these parts
+abbrev pub as_literal : ℕ → Total → Total
+as_literal more t = record { scalar = false; size = more + t.size; depth = t.depth; places = t.places }
+
+-- as a field of a struct, of which it matters no more whether it is scalar
+abbrev pub as_field : Total → Total
+as_field t = record { scalar = true; size = 1 + t.size; depth = 1 + t.depth; places = t.places }
+
+-- as an element of a list
+abbrev pub as_element : Total → Total
+as_element t = record { scalar = true; size = t.size; depth = 1 + t.depth; places = t.places }
+
+-- as a term that begins at this place
+abbrev pub as_term : ℕ → Total → Total
+as_term place t = record { scalar = t.scalar; size = t.size; depth = t.depth; places = cond t.scalar [] (place ∷ []) ++ t.places }
+
+-- behind so many labels, each of which is in a struct of its own
+abbrev pub behind_labels : ℕ → Total → Total
+behind_labels n t = record { scalar = t.scalar && eqb n 0; size = t.size + 2 * n; depth = t.depth + n; places = t.places }
+
+abbrev pub only_places : Total → Total
+only_places t = record { scalar = true; size = 0; depth = 0; places = t.places }
+
+abbrev pub total_of : Core → List ℕ → Total
+total_of c places = record { scalar = is_scalar c; size = limits.size c; depth = limits.depth c; places = places }
+
+abbrev pub total : List Definition → Expression → Total
+total ds e = total_of (meant ds (meaning ds) e) (terms ds (meaning ds) e)
+
+abbrev pub total_of_parts : List Definition → Elements → Total
+total_of_parts ds es = record {
+  scalar = are_scalar (meant_elements ds (meaning ds) es);
+  size = limits.size_of_cores (meant_elements ds (meaning ds) es);
+  depth = limits.depth_of_cores (meant_elements ds (meaning ds) es);
+  places = terms_of_elements ds (meaning ds) es;
+}
+
+abbrev pub total_of_elements : List Definition → Elements → Total
+total_of_elements ds es = record {
+  scalar = true;
+  size = limits.size_of_cores (meant_elements ds (meaning ds) es);
+  depth = limits.depth_of_elements (meant_elements ds (meaning ds) es);
+  places = terms_of_elements ds (meaning ds) es;
+}
+
+abbrev pub total_of_terms : List Definition → Branches → Total
+total_of_terms ds bs = record {
+  scalar = are_scalar_choices (meant_branches ds (meaning ds) bs);
+  size = limits.size_of_choices (meant_branches ds (meaning ds) bs);
+  depth = limits.depth_of_choices (meant_branches ds (meaning ds) bs);
+  places = terms_of_branches ds (meaning ds) bs;
+}
+
+abbrev pub total_of_entries : List Definition → Entries → Total
+total_of_entries ds es = record {
+  scalar = true;
+  size = limits.size_of_members (meant_members ds (meaning ds) es);
+  depth = limits.depth_of_members (meant_members ds (meaning ds) es);
+  places = terms_of_entries ds (meaning ds) es;
+}
+
+-- what is known of a use of a definition
+pub record IsUse (m : Measure) (c : Core) : Type 0 where
+  pub scalar : m.scalar ≡ is_scalar c
+  pub size : m.size ≡ min (limits.size c) 65537
+  pub depth : m.depth ≡ min (limits.depth c) 65
+
+-- these definitions were measured
+abbrev pub IsKnown : Known → List ℕ → Type 0
+IsKnown known is = (i : ℕ) → IsIn i is → (i < length known.measures.now) × ((d : Measure) → IsUse (slice_index_or known.measures.now i d) (meaning (all_of known.definitions.now) i))
