@@ -1,5 +1,6 @@
 -- One row alone at its path, and what it adds to a table.
-use Rattle.std.proofs.Common.{◌≡◌, ◌↔◌, [], ◌∷◌, Some, None, refl, sym, ap, subst, ◌∙◌, inl, inr, ⊎_elim}
+use Rattle.std.specs.Prelude.{OnOk}
+use Rattle.std.proofs.Common.{◌≡◌, ◌↔◌, [], ◌∷◌, Some, None, Result, Ok, Err, refl, sym, ap, subst, ◌∙◌, inl, inr, ⊎_elim}
 use Rattle.std.specs.declared.cmp.Ordering.{Ordering}
 use Rattle.std.specs.declared.cmp.Ordering.TheVariants.{Less, Equal, Greater}
 use Rattle.cue_lattice.specs.Path.{Step, step_cmp, Path}
@@ -60,3 +61,10 @@ module _ {R Q : Type 0} (refuses : R → Q → Type 0) where
   -- a free row adds nothing
   pub free_added : (old : Tree R) (path : Path) (row : R) → ((question : Q) → ¬ refuses row question) → IsAdded refuses old path row old
   free_added old path row free at question = (λ k. inl k, ⊎_elim (λ k. k) (λ k. absurd (free question k.1)))
+
+-- the same, where the call succeeds
+pub added_ok :
+    {R Q A E : Type 0} (refuses : R → Q → Type 0) (r : Result A E) (old new one : Tree R) (path : Path) (row : R) → one ≡ chain path row
+    → OnOk r (IsMet refuses old one new) → OnOk r (IsAdded refuses old path row new)
+added_ok refuses (Ok x) old new one path row e h = met_added refuses old new one path row e h
+added_ok refuses (Err x) old new one path row e h = tt

@@ -12,7 +12,8 @@ use Rattle.cue_row.specs.Steps.{step_of}
 use Rattle.cue_row.specs.declared.step.Step as steps
 use Rattle.cue_table.specs.Tree.{Tree, node, Children, none, child, below, find, if_equal, branch_at}
 use Rattle.cue_table.specs.Form.{IsBelowAll, Rise, IsTaken, IsTree, AreBranches}
-use Rattle.cue_table.specs.Place.{IsPlace}
+use Rattle.cue_table.specs.Place.{AreBefore, IsPlace, IsGap}
+use Rattle.cue_table.specs.Plan.{past}
 use Rattle.cue_table.specs.View.{branches}
 use Rattle.cue_table.specs.declared.node.Child.{Child}
 use Rattle.cue_table.proofs.Order.{step_total, equal_steps}
@@ -87,21 +88,55 @@ module _ {R Q : Type 0} where
       none_here (step_cmp step (step_of c.step)) c.node (find step (branches cs)) (λ e. h 0 c (omega arith) e)
       (find_none cs step (λ k d l e. h (suc k) d (omega arith) e))
 
+  -- what stands before a branch is before its step
+  before_found : (cs : List (Child R Q)) (step : Step) (k : ℕ) → Rise (branches cs) → k < length cs → ((d : Child R Q) → step_of (get_or cs k d).step ≡ step) → AreBefore k step (branches cs)
+  before_found cs step zero a l e = tt
+  before_found [] step (suc k) a l e = absurd (omega arith)
+  before_found (c ∷ cs) step (suc k) a l e = (
+    subst (λ s. step_cmp (step_of c.step) s ≡ Less) (e c) (at_or_below (step_of c.step) cs k c a.0 (omega arith)),
+    before_found cs step k a.1 (omega arith) e,
+  )
+
+  -- what is below a step by place stands before it
+  before_gap : (cs : List (Child R Q)) (step : Step) (n : ℕ) → n ≤ length cs → ((k : ℕ) (d : Child R Q) → k < n → step_cmp (step_of (get_or cs k d).step) step ≡ Less) → AreBefore n step (branches cs)
+  before_gap cs step zero l h = tt
+  before_gap [] step (suc n) l h = absurd (omega arith)
+  before_gap (c ∷ cs) step (suc n) l h = (h 0 c (omega arith), before_gap cs step n (omega arith) (λ k d less. h (suc k) d (omega arith)))
+
+  -- what is above a step by place is above it
+  after_gap : (cs : List (Child R Q)) (step : Step) (n : ℕ) → ((k : ℕ) (d : Child R Q) → n ≤ k → k < length cs → step_cmp (step_of (get_or cs k d).step) step ≡ Greater) → IsBelowAll step (past n (branches cs))
+  after_gap [] step zero h = tt
+  after_gap (c ∷ cs) step zero h = (
+    reverse_cmp (step_of c.step) step Greater (h 0 c (omega arith) (omega arith)),
+    after_gap cs step zero (λ k d low less. h (suc k) d (omega arith) (omega arith)),
+  )
+  after_gap [] step (suc n) h = tt
+  after_gap (c ∷ cs) step (suc n) h = after_gap cs step n (λ k d low less. h (suc k) d (omega arith) (omega arith))
+
   -- what a binary search by the steps answers
   pub place_searched :
       (cs : List (Child R Q)) (step : Step) (r : Result ℕ ℕ) → Rise (branches cs) → IsSearchInRange r (length cs)
       → IsBinarySearchResult (λ c. step_cmp (step_of c.step) step) cs r
-      → MatchResult r (IsPlace cs step) (λ _. find step (branches cs) ≡ None)
-  place_searched cs step (Ok at) a bound found = record {
-    in_range = bound;
-    is_there = λ d. find_at cs step at d a bound (sym (equal_steps _ step (found d)));
-  }
+      → MatchResult r (IsPlace cs step) (IsGap cs step)
+  place_searched cs step (Ok at) a bound found =
+      let same : (d : Child R Q) → step_of (get_or cs at d).step ≡ step = λ d. equal_steps _ step (found d) in
+      record {
+        in_range = bound;
+        is_there = λ d. find_at cs step at d a bound (sym (same d));
+        at_step = same;
+        before = before_found cs step at a bound same;
+      }
   place_searched cs step (Err at) a bound found =
       let point = found (ranks_ascend cs step a) in
-      find_none cs step (λ k d l e. ⊎_elim
-      (λ h. let low : step_cmp (step_of (get_or cs k d).step) step ≡ Less = point.0 k d (omega arith) h in let same = reverse_cmp step _ Equal e in cc)
-      (λ h. let high : step_cmp (step_of (get_or cs k d).step) step ≡ Greater = point.1 k d h l in let same = reverse_cmp step _ Equal e in cc)
-      (cases_lt k at))
+      record {
+        in_range = bound;
+        absent = find_none cs step (λ k d l e. ⊎_elim
+            (λ h. let low : step_cmp (step_of (get_or cs k d).step) step ≡ Less = point.0 k d (omega arith) h in let same = reverse_cmp step _ Equal e in cc)
+            (λ h. let high : step_cmp (step_of (get_or cs k d).step) step ≡ Greater = point.1 k d h l in let same = reverse_cmp step _ Equal e in cc)
+            (cases_lt k at));
+        before = before_gap cs step at bound (λ k d l. point.0 k d (omega arith) l);
+        after = after_gap cs step at (λ k d low l. point.1 k d low l);
+      }
 
 -- what is found is the branch at hand, or found further on
 pub found_here : {R : Type 0} (P : Tree R → Type 0) (o : Ordering) (here : Tree R) (other : Option (Tree R)) (tree : Tree R) → P here → (other ≡ Some tree → P tree) → if_equal o here other ≡ Some tree → P tree

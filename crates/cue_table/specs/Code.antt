@@ -6,12 +6,12 @@ use base.Stored.{Gv, gnil, gnum, gcons, num}
 use Rattle.cue_lattice.specs.Path.{Step, label, index}
 use Rattle.cue_table.specs.Tree.{Tree, node, Children, none, child}
 
-abbrev head : Gv → Gv
+abbrev pub head : Gv → Gv
 head gnil = gnil
 head (gnum n) = gnil
 head (gcons a b) = a
 
-abbrev tail : Gv → Gv
+abbrev pub tail : Gv → Gv
 tail gnil = gnil
 tail (gnum n) = gnil
 tail (gcons a b) = b
@@ -33,11 +33,11 @@ step_inj (index m) (label t) e = cc
 abbrev pub coded_step : Coded Step
 coded_step = record { code = step_gv; inj = step_inj }
 
-row_gv : {R : Type 0} → (R → Gv) → Option R → Gv
+pub row_gv : {R : Type 0} → (R → Gv) → Option R → Gv
 row_gv c None = gnil
 row_gv c (Some row) = gcons gnil (c row)
 
-row_inj : {R : Type 0} (c : Coded R) (q r : Option R) → row_gv c.code q ≡ row_gv c.code r → q ≡ r
+pub row_inj : {R : Type 0} (c : Coded R) (q r : Option R) → row_gv c.code q ≡ row_gv c.code r → q ≡ r
 unfolding row_gv
 row_inj c None None e = refl
 row_inj c (Some q) (Some r) e = ap Some (c.inj q r (ap tail e))

@@ -5,6 +5,10 @@ pub mod Form
 pub mod Meet
 pub mod Narrower
 pub mod Place
+pub mod Plan
+pub mod PlanCode
+pub mod PlanFalls
+pub mod PlanView
 pub mod Refuses
 pub mod RowList
 pub mod Rows

@@ -1,16 +1,11 @@
 -- What unification makes of two tables.
-use Rattle.std.specs.Prelude.{◌≡◌, ◌↔◌, ◌⊎◌, ◌+◌, ◌≤◌, List, [], ◌∷◌, length, Some, None}
+use Rattle.std.specs.Prelude.{◌≡◌, ◌↔◌, ◌⊎◌, [], ◌∷◌, Some, None}
 use Rattle.std.specs.Option.{option_and_then}
-use Rattle.std.specs.declared.cmp.Ordering.TheVariants.{Less}
 use Rattle.cue_lattice.specs.Path as paths
 use Rattle.cue_lattice.specs.Path.{Path, step_cmp}
-use Rattle.cue_row.specs.Steps.{step_of}
-use Rattle.cue_table.specs.declared.node.Child.{Child}
 use Rattle.cue_table.specs.Tree.{Tree, node, Children, none, child, row_of, find, branch_at}
 use Rattle.cue_table.specs.Refuses.{RowRefuses, TableRefuses}
-use Rattle.cue_table.specs.Form.{IsBelowAll, IsTaken, IsTree, AreBranches}
-use Rattle.cue_table.specs.Size.{children_size}
-use Rattle.cue_table.specs.View.{branches}
+use Rattle.cue_table.specs.Form.{IsBelowAll, AreBranches}
 
 -- the third refuses exactly what one of the others refuses
 abbrev pub IsUnion : {Q : Type 0} → (Q → Type 0) → (Q → Type 0) → (Q → Type 0) → Type 0
@@ -32,25 +27,11 @@ AreMet refuses a b met =
     (step : paths.Step) (path : Path) →
     IsUnion (BranchesRefuse refuses a step path) (BranchesRefuse refuses b step path) (BranchesRefuse refuses met step path)
 
--- one branch alone
-abbrev pub alone : {R Q : Type 0} → Child R Q → Children R
-alone c = child (step_of c.step) c.node none
-
--- The first branch of the union of two lists is taken: `left'` and `right'` are left.
-pub record Takes {R Q : Type 0} (refuses : R → Q → Type 0) (P : R → Type 0) (left right left' right' : List (Child R Q)) (first : Child R Q) : Type 0 where
-  pub taken : IsTaken first.node
-  pub form : IsTree P first.node
-  pub left_form : AreBranches P (branches left')
-  pub right_form : AreBranches P (branches right')
-  pub smaller : children_size (branches left') + children_size (branches right') ≤ children_size (branches left) + children_size (branches right)
-  pub counted : length left ≤ length left' + 1
-  pub left_above : IsBelowAll (step_of first.step) (branches left')
-  pub right_above : IsBelowAll (step_of first.step) (branches right')
-  pub under : (step : paths.Step) → IsBelowAll step (branches left) → IsBelowAll step (branches right) →
-      (step_cmp step (step_of first.step) ≡ Less) × IsBelowAll step (branches left') × IsBelowAll step (branches right')
-  pub refused : (step : paths.Step) (path : Path) (question : Q) →
-      (BranchesRefuse refuses (alone first) step path question ⊎ (BranchesRefuse refuses (branches left') step path question ⊎ BranchesRefuse refuses (branches right') step path question))
-      ↔ (BranchesRefuse refuses (branches left) step path question ⊎ BranchesRefuse refuses (branches right) step path question)
+-- The third list of branches is in form, refuses what the other two do, and starts no earlier.
+pub record IsMerge {R Q : Type 0} (refuses : R → Q → Type 0) (P : R → Type 0) (left right met : Children R) : Type 0 where
+  pub form : AreBranches P met
+  pub refused : AreMet refuses left right met
+  pub above : (step : paths.Step) → IsBelowAll step left → IsBelowAll step right → IsBelowAll step met
 
 -- one row alone, at its path
 abbrev pub chain : {R : Type 0} → Path → R → Tree R

@@ -6,7 +6,7 @@ ghost use Rattle.cue_table.specs.Form.{IsKept, IsTable};
 ghost use Rattle.cue_table.specs.RowList.{Appends, last_cmp};
 ghost use Rattle.cue_table.specs.View.{branches};
 
-use crate::meet::single;
+use crate::chain::single;
 use crate::node::{Child, Node};
 use cue_lattice::{Memory, Narrow};
 use cue_row::Step;

@@ -3,10 +3,12 @@
 
 mod append;
 mod branch;
+mod chain;
+mod fill;
 mod iter;
 mod laws;
-mod meet;
 mod node;
+mod plan;
 mod rows;
 mod table;
 mod valid;

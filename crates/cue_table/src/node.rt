@@ -4,7 +4,7 @@ ghost use Rattle.cue_table.specs.Tree.{empty, below, taken, find, branch_at};
 ghost use Rattle.cue_table.specs.Form.{IsTable, Rise};
 ghost use Rattle.cue_row.specs.Steps.{step_of};
 ghost use Rattle.cue_table.specs.View.{branches};
-ghost use Rattle.cue_table.specs.Place.{IsPlace};
+ghost use Rattle.cue_table.specs.Place.{IsGap, IsPlace};
 
 use cue_lattice::{Memory, Narrow};
 use cue_row::Step;
@@ -174,8 +174,7 @@ fn copy_children<R: Narrow>(alloc: Global, children: &[Child<R>]) -> Result<Vec<
 /// Where the branch at a step is among the branches, or where it would stand.
 pub(crate) fn place<R: Narrow>(children: &[Child<R>], step: &Step) -> Result<usize, usize>
     requires { Rise (branches children.now) }
-    ensures { MatchResult result (IsPlace children.now (step_of step.now))
-        (λ _. find (step_of step.now) (branches children.now) ≡ None) }
+    ensures { MatchResult result (IsPlace children.now (step_of step.now)) (IsGap children.now (step_of step.now)) }
 {
     children.binary_search_by(|child| child.step.compare(step))
 }

@@ -9,12 +9,15 @@ ghost use Rattle.cue_table.specs.RowList.{AppendsKept};
 
 use crate::Branch;
 use crate::append::append;
-use crate::meet::{meet, single};
+use crate::chain::single;
+use crate::fill::change;
 use crate::node::Node;
+use crate::plan::planned;
 use cue_lattice::{Memory, Narrow};
 use cue_row::Path;
 use std::alloc::Global;
 use std::marker::Model;
+use std::mem;
 
 /// What is known at each path of a configuration. Contracts see it as a tree of rows, in the one form that it has for
 /// what it refuses, and with no path of more than [`cue_lattice::STEP_LIMIT`] steps.
@@ -101,10 +104,9 @@ impl<R: Narrow> Table<R> {
         ensures form { IfOk result (IsTable R.refuses R.is_value) }
         ensures refused { IfOk result (IsMet R.refuses self.now other.now) }
     {
-        Ok(Table {
-            alloc,
-            root: meet(alloc, &self.root, &other.root)?,
-        })
+        let mut met = self.copy(alloc)?;
+        met.meet_with(other.copy(alloc)?)?;
+        Ok(met)
     }
 
     /// Unifies the other table into this one, which then refuses exactly what one of both did. After want of memory it
@@ -114,8 +116,10 @@ impl<R: Narrow> Table<R> {
         ensures ok { OnOk result (IsMet R.refuses self.old other self.new) }
         ensures err { OnErr result (self.new ≡ self.old) }
     {
-        let met = meet(self.alloc, &self.root, &other.root)?;
-        self.root = met;
+        let Table { alloc: _, root } = other;
+        let plan = planned(self.alloc, &self.root, root)?;
+        let old = mem::replace(&mut self.root, Node::new(self.alloc));
+        self.root = change(old, plan);
         Ok(())
     }
 
@@ -125,15 +129,13 @@ impl<R: Narrow> Table<R> {
         ensures ok { OnOk result (IsAdded R.refuses self.old path.now row.now self.new) }
         ensures err { OnErr result (self.new ≡ self.old) }
     {
-        let root = &self.root;
+        let alloc = self.alloc;
         if row.is_free() {
             return Ok(());
         }
         row.known();
-        let one = single(self.alloc, path.steps(), row.copy(self.alloc)?)?;
-        let met = meet(self.alloc, root, &one)?;
-        self.root = met;
-        Ok(())
+        let root = single(alloc, path.steps(), row.copy(alloc)?)?;
+        self.meet_with(Table { alloc, root })
     }
 
     /// Adds a row that stands behind all others in path order, and says whether it does: where another row stands at the

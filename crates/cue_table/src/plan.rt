@@ -1,0 +1,178 @@
+//! What becomes of a place that takes another one over: found out before it changes, so that the change itself takes no
+//! memory.
+ghost use Rattle.std.specs.Prelude.{◌≡◌, ◌+◌, ◌≤◌, drop, length, IfOk};
+ghost use Rattle.cue_table.specs.Form.{AreBranches, IsKept, IsRow, IsTable};
+ghost use Rattle.cue_table.specs.Meet.{IsMerge, IsMet, IsUnion};
+ghost use Rattle.cue_table.specs.Plan.{changed, changed_below, merged, or_row, width};
+ghost use Rattle.cue_table.specs.PlanView.{HasRoom, below_of, slots_of};
+ghost use Rattle.cue_table.specs.Refuses.{RowRefuses};
+ghost use Rattle.cue_table.specs.View.{branches};
+
+use crate::node::{Child, Node, place};
+use cue_lattice::{Memory, Narrow, Narrowed};
+use std::alloc::Global;
+use std::marker::Model;
+
+/// What becomes of a place. Contracts see it as a change of a tree.
+#[derive(Drop)]
+#[cycle(plan)]
+pub(crate) struct Plan<R: Narrow> {
+    /// The row that stands there then, unless it stays as it is.
+    pub(crate) row: Option<R>,
+    /// What becomes of the branches.
+    pub(crate) below: Below<R>,
+}
+
+/// What becomes of the branches of a place.
+#[derive(Drop)]
+#[cycle(plan)]
+pub(crate) enum Below<R: Narrow> {
+    /// They stay as they are.
+    Stay,
+    /// These are the branches, where none were.
+    Take(Vec<Child<R>>),
+    /// Others stand among them then; and the room for all of them.
+    Merge(Vec<Slot<R>>, Vec<Child<R>>),
+}
+
+/// So many branches of a list stay as they are, and what comes then.
+#[derive(Drop)]
+#[cycle(plan)]
+pub(crate) enum Slot<R: Narrow> {
+    /// Nothing more.
+    Keep(usize),
+    /// A new branch.
+    Insert(usize, Child<R>),
+    /// The next branch, which changes.
+    Alter(usize, Plan<R>),
+}
+
+impl<R: Narrow> Model for Plan<R> {
+    ghost use Rattle.cue_table.specs.Plan.{Change, change_size};
+    ghost use Rattle.cue_table.specs.PlanCode.{change_code};
+
+    ghost Value = { Change R };
+
+    ghost coded = { change_code R.code };
+
+    ghost use Rattle.cue_table.specs.PlanView.{HasRoom, change_of};
+
+    ghost view = { change_of };
+
+    ghost invariant = { λ a. HasRoom a.below };
+
+    ghost size = { change_size };
+
+    ghost use Rattle.cue_table.specs.PlanFalls.{below_falls};
+
+    ghost size_decreases = { λ a h. below_falls R.Narrow a.below };
+}
+
+/// What becomes of a place that takes another one over.
+#[cycle(plan)]
+pub(crate) fn planned<R: Narrow>(
+    alloc: Global,
+    left: &Node<R>,
+    right: Node<R>,
+) -> Result<Plan<R>, Memory>
+    requires left { IsTable R.refuses R.is_value left.now }
+    requires right { IsTable R.refuses R.is_value right }
+    ensures form { IfOk result (λ plan. IsTable R.refuses R.is_value (changed plan left.now)) }
+    ensures refused { IfOk result (λ plan. IsMet R.refuses left.now right (changed plan left.now)) }
+{
+    Ok(Plan {
+        row: plan_row(alloc, &left.row, right.row)?,
+        below: plan_below(alloc, &left.children, right.children)?,
+    })
+}
+
+/// The row that stands at a place then, unless it stays as it is.
+fn plan_row<R: Narrow>(
+    alloc: Global,
+    left: &Option<R>,
+    right: Option<R>,
+) -> Result<Option<R>, Memory>
+    requires left { IsRow (IsKept R.refuses R.is_value) left.now }
+    requires right { IsRow (IsKept R.refuses R.is_value) right }
+    ensures form { IfOk result (λ row. IsRow (IsKept R.refuses R.is_value) (or_row row left.now)) }
+    ensures refused { IfOk result (λ row.
+        IsUnion (RowRefuses R.refuses left.now) (RowRefuses R.refuses right) (RowRefuses R.refuses (or_row row left.now))) }
+{
+    match (left, right) {
+        (None, row) => Ok(row),
+        (Some(_), None) => Ok(None),
+        (Some(old), Some(row)) => match old.narrowed_by(alloc, row)? {
+            Narrowed::Unchanged => Ok(None),
+            Narrowed::To(met) => {
+                met.known();
+                Ok(Some(met))
+            }
+        },
+    }
+}
+
+/// What becomes of the branches of a place.
+#[cycle(plan)]
+fn plan_below<R: Narrow>(
+    alloc: Global,
+    left: &[Child<R>],
+    right: Vec<Child<R>>,
+) -> Result<Below<R>, Memory>
+    requires left { AreBranches (IsKept R.refuses R.is_value) (branches left.now) }
+    requires right { AreBranches (IsKept R.refuses R.is_value) (branches right.items) }
+    ensures room { IfOk result HasRoom }
+    ensures union { IfOk result (λ below. IsMerge R.refuses (IsKept R.refuses R.is_value)
+        (branches left.now) (branches right.items) (changed_below (below_of below) (branches left.now))) }
+{
+    if right.is_empty() {
+        return Ok(Below::Stay);
+    }
+    if left.is_empty() {
+        return Ok(Below::Take(right));
+    }
+    let count = left.len().checked_add(right.len()).ok_or(Memory)?;
+    let room = Vec::with_capacity(alloc, count)?;
+    let slots = plan_slots(alloc, left, right)?;
+    Ok(Below::Merge(slots, room))
+}
+
+/// How the branches of two lists stand together.
+#[cycle(plan)]
+fn plan_slots<R: Narrow>(
+    alloc: Global,
+    left: &[Child<R>],
+    right: Vec<Child<R>>,
+) -> Result<Vec<Slot<R>>, Memory>
+    requires left { AreBranches (IsKept R.refuses R.is_value) (branches left.now) }
+    requires right { AreBranches (IsKept R.refuses R.is_value) (branches right.items) }
+    ensures room { IfOk result (λ slots. width (slots_of slots.items) ≤ length left.now + length right.items) }
+    ensures union { IfOk result (λ slots. IsMerge R.refuses (IsKept R.refuses R.is_value)
+        (branches left.now) (branches right.items) (merged (slots_of slots.items) (branches left.now))) }
+{
+    let mut slots = Vec::new(alloc);
+    let mut rest = left;
+    let mut others = right.into_iter();
+    while let Some(child) = others.next() {
+        match place(rest, &child.step) {
+            Ok(at) => {
+                let change = planned(alloc, &rest[at].node, child.node)?;
+                slots.push(Slot::Alter(at, change))?;
+                rest = behind(behind(rest, at), 1);
+            }
+            Err(at) => {
+                slots.push(Slot::Insert(at, child))?;
+                rest = behind(rest, at);
+            }
+        }
+    }
+    slots.push(Slot::Keep(rest.len()))?;
+    Ok(slots)
+}
+
+/// The branches behind the first ones.
+fn behind<R: Narrow>(children: &[Child<R>], count: usize) -> &[Child<R>]
+    requires { count ≤ length children.now }
+    ensures { result.now ≡ drop count children.now }
+{
+    &children[count..]
+}
