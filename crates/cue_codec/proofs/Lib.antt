@@ -1,3 +1,5 @@
+pub mod WrittenRows
+pub mod WrittenStates
 pub mod Codes
 pub mod Numbers
 pub mod RowParts

@@ -1,13 +1,13 @@
 -- The bytes of a row: its path, its level, its kind, and what the kind leaves open.
-use Rattle.std.specs.Prelude.{◌≡◌, ℕ, Bool, true, false, not, ◌&&◌, List, [], ◌∷◌, ◌++◌, Option, None}
-use Rattle.std.specs.List.{AllByRecursion}
+use Rattle.std.specs.Prelude.{◌≡◌, ℕ, ◌+◌, Bool, true, false, not, ◌&&◌, List, [], ◌∷◌, ◌++◌, length, Option, None}
+use Rattle.std.specs.List.{flat_map, AllByRecursion}
 use Rattle.cue_lattice.specs.Path.{Path}
 use Rattle.cue_sets.specs.Pieces.{least, greatest}
 use Rattle.cue_scalars.specs.declared.scalar_set.ScalarSet.{ScalarSet}
 use Rattle.cue_row.specs.declared.level.Level.{Level}
 use Rattle.cue_row.specs.declared.row.Row.{Row}
 use Rattle.cue_row.specs.Levels.{level_of}
-use Rattle.cue_codec.specs.Parts.{set_bytes, labels_bytes, lengths_bytes, path_bytes}
+use Rattle.cue_codec.specs.Parts.{set_bytes, labels_bytes, lengths_bytes, step_bytes, path_bytes}
 use Rattle.cue_codec.specs.Reading.{Begins, AreWideLengths, IsShort, AreShortLabels}
 use Rattle.cue_codec.specs.StateRow.{IsStateSet, AreStateLabels, IsStatePath}
 
@@ -106,3 +106,8 @@ pub record IsShortRow (row : Row) : Type 0 where
   pub labels : AreShortLabels row.labels
   pub value : AllByRecursion IsShort row.value.texts.1
   pub usual : AllByRecursion IsShort row.usual.texts.1
+
+-- A row whose path goes on from a place that is so many steps from the root. These steps are the bytes in front.
+unfoldable pub row_bytes_from : ℕ → List ℕ → Path × Row → List ℕ
+row_bytes_from depth steps row =
+    (depth + length row.0) ∷ (steps ++ (flat_map step_bytes row.0 ++ (level_of row.1.level ∷ parts_bytes (parts_of row.1))))

@@ -32,7 +32,7 @@ fn put_left_out(out: &mut Vec<u8>, row: &Row) -> Result<(), Memory>
 
 /// Writes the kind of a row, and what it leaves open.
 #[tactic(auto, unfolding(crate::specs::RowBytes::parts_bytes))]
-fn put_parts(out: &mut Vec<u8>, row: &Row) -> Result<(), Memory>
+pub fn put_parts(out: &mut Vec<u8>, row: &Row) -> Result<(), Memory>
     requires { IsShortRow row.now }
     ensures { OnOk result (out.new.items ≡ out.old.items ++ parts_bytes (parts_of row.now)) }
 {

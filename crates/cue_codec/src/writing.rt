@@ -144,8 +144,9 @@ pub fn put_lengths(out: &mut Vec<u8>, least: u32, most: Option<u32>) -> Result<(
     put_most(out, most)
 }
 
+/// Writes a label or an index.
 #[tactic(auto, unfolding(crate::specs::Parts::step_bytes))]
-fn put_step(out: &mut Vec<u8>, step: &Step) -> Result<(), Memory>
+pub fn put_step(out: &mut Vec<u8>, step: &Step) -> Result<(), Memory>
     requires { IsShortStep (step_of step.now) }
     ensures { OnOk result (out.new.items ≡ out.old.items ++ step_bytes (step_of step.now)) }
 {

@@ -1,0 +1,78 @@
+-- The state bytes of a table, written by a walk over its branches.
+use Rattle.std.proofs.Common.{◌≡◌, ℕ, ◌+◌, ◌-◌, ◌^◌, ◌<◌, ◌≤◌, true, List, [], ◌∷◌, ◌++◌, length, min, Option, Some, None, refl, sym, ap, subst, ◌∙◌, arith}
+use Rattle.std.specs.Prelude.{is_some}
+use Rattle.std.specs.Int.{w64, to_be_bytes}
+use Rattle.std.specs.List.{flat_map}
+use Rattle.std.specs.Option.{option_map}
+use Rattle.std.proofs.lemmas.List.{length-append}
+use Rattle.std.proofs.lemmas.List.Concat.{flat_map-cons}
+use Rattle.cue_lattice.specs.Path.{Path}
+use Rattle.cue_row.specs.declared.row.Row.{Row}
+use Rattle.cue_row.specs.Levels.{level_of}
+use Rattle.cue_table.specs.Tree.{Tree, row_of, rows_of}
+use Rattle.cue_table.specs.Valid.{IsValidTable}
+use Rattle.cue_table.specs.ValidWalk.{IsSound}
+use Rattle.cue_table.proofs.Validity.{valid_sound, valid_empty}
+use Rattle.cue_codec.specs.Parts.{step_bytes, path_bytes, counted_bytes}
+use Rattle.cue_codec.specs.RowBytes.{parts_bytes, parts_of, row_bytes, row_bytes_from}
+use Rattle.cue_codec.specs.State.{mark, state_bytes, table_bytes}
+
+-- a row takes a byte at least
+pub row_some : (row : Path × Row) → 1 ≤ length (row_bytes row)
+unfolding row_bytes path_bytes
+row_some row = omega arith
+
+-- so there are no more rows than bytes
+pub rows_few : (rows : List (Path × Row)) → length rows ≤ length (flat_map row_bytes rows)
+rows_few [] = omega arith
+rows_few (row ∷ rows) =
+    let some = row_some row in
+    let rest = rows_few rows in
+    omega (arith, ap length (flat_map-cons row_bytes row rows), length-append (row_bytes row) (flat_map row_bytes rows))
+
+-- a row from the root
+row_from_root : (row : Path × Row) → row_bytes_from 0 [] row ≡ row_bytes row
+unfolding row_bytes path_bytes row_bytes_from
+row_from_root row =
+    let count : 0 + length row.0 ≡ length row.0 = omega arith in
+    ap (λ n. n ∷ (flat_map step_bytes row.0 ++ (level_of row.1.level ∷ parts_bytes (parts_of row.1)))) count
+
+pub rows_from_root : (rows : List (Path × Row)) → flat_map (row_bytes_from 0 []) rows ≡ flat_map row_bytes rows
+rows_from_root [] = refl
+rows_from_root (row ∷ rows) =
+    flat_map-cons (row_bytes_from 0 []) row rows ∙ ap (λ t. t ++ flat_map (row_bytes_from 0 []) rows) (row_from_root row) ∙ ap (λ t. row_bytes row ++ t) (rows_from_root rows) ∙ sym (flat_map-cons row_bytes row rows)
+
+-- a state in its parts
+pub state_parts : (rows : List (Path × Row)) → state_bytes rows ≡ mark ++ (1 ∷ (to_be_bytes w64 (length rows) ++ flat_map row_bytes rows))
+unfolding state_bytes counted_bytes
+state_parts rows = refl
+
+-- the head and the rows are the state, where they fit into memory
+pub state_written :
+    (tree : Tree Row) (out rows : List ℕ) (count : ℕ) → length out < 2 ^ 64 → count ≡ min (length (rows_of tree)) (2 ^ 64 - 1) → rows ≡ flat_map (row_bytes_from 0 []) (rows_of tree) → out ≡ mark ++ (1 ∷ (to_be_bytes w64 count ++ rows))
+    → out ≡ table_bytes tree
+state_written tree out rows count fits counted written e =
+    let all : rows ≡ flat_map row_bytes (rows_of tree) = written ∙ rows_from_root (rows_of tree) in
+    let few = rows_few (rows_of tree) in
+    let same : count ≡ length (rows_of tree) = omega (arith, fits, counted, few, ap length all, ap length e, length-append mark (1 ∷ (to_be_bytes w64 count ++ rows)), length-append (to_be_bytes w64 count) rows) in
+    e ∙ ap (λ t. mark ++ (1 ∷ (to_be_bytes w64 count ++ t))) all ∙ ap (λ n. mark ++ (1 ∷ (to_be_bytes w64 n ++ flat_map row_bytes (rows_of tree)))) same ∙ sym (state_parts (rows_of tree))
+
+map_some : {A B : Type 0} (f : A → B) (r : Option A) → is_some (option_map f r) ≡ is_some r
+map_some f None = refl
+map_some f (Some x) = refl
+
+row_there : (tree : Tree Row) (row : Option Row) → row ≡ row_of tree → is_some row ≡ true → IsValidTable tree → IsSound tree
+row_there tree None e some h = cc
+row_there tree (Some row) e some h = valid_sound tree row (sym e) h
+
+-- a valid table with a row at its root is right at each place
+pub sound_root : {A : Type 0} (f : A → Row) (r : Option A) (tree root : Tree Row) → root ≡ tree → option_map f r ≡ row_of root → is_some r ≡ true → IsValidTable tree → IsSound root
+sound_root f r tree root same e some h = row_there root (option_map f r) e (map_some f r ∙ some) (subst IsValidTable (sym same) h)
+
+none_there : (tree : Tree Row) (row : Option Row) → row ≡ row_of tree → (is_some row ≡ true → ⊥) → IsValidTable tree → rows_of tree ≡ []
+none_there tree (Some row) e none h = absurd (none refl)
+none_there tree None e none h = ap rows_of (valid_empty tree (sym e) h)
+
+-- a valid table with no row at its root has none
+pub empty_root : {A : Type 0} (f : A → Row) (r : Option A) (tree root : Tree Row) → root ≡ tree → option_map f r ≡ row_of root → (is_some r ≡ true → ⊥) → IsValidTable tree → rows_of tree ≡ []
+empty_root f r tree root same e none h = none_there tree (option_map f r) (e ∙ ap row_of same) (λ some. none (sym (map_some f r) ∙ some)) h

@@ -1,0 +1,15 @@
+use Rattle.std.proofs.Common.{◌≡◌, ◌+◌, ◌-◌, ◌^◌, ◌≤◌, length, min}
+use Rattle.cue_table.specs.Tree.{below, rows_of, rows_below}
+use Rattle.cue_table.specs.Size.{tree_size, children_size}
+use Rattle.cue_codec.proofs.branches.+row_count.Given as goal
+
+abbrev pub decreases-row_count : goal.decreases-row_count
+decreases-row_count l = tree_size l.branch.now
+
+-- what was counted and what is left are all
+abbrev pub invariant-loop-below : goal.invariant-loop-below
+invariant-loop-below l = record {
+  counted : min (l.count + length (rows_below l.below-iterator)) (2 ^ 64 - 1) ≡ min (length (rows_of l.branch)) (2 ^ 64 - 1);
+  fits : l.count ≤ 2 ^ 64 - 1;
+  smaller : children_size l.below-iterator ≤ children_size (below l.branch);
+}
