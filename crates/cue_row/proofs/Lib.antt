@@ -1,3 +1,5 @@
 pub mod Free
 pub mod MetRows
 pub mod Texts
+pub mod MetSets
+pub mod MetValid

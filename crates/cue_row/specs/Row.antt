@@ -1,5 +1,5 @@
 -- What a row refuses.
-use Rattle.std.specs.Prelude.{◌≡◌, ◌<◌, false}
+use Rattle.std.specs.Prelude.{◌≡◌, ◌↔◌, ◌⊎◌, ◌<◌, false}
 use Rattle.cue_lattice.specs.Question.{Question, may_be, usual, struct, list, allows, level_at_most, length_at_most, length_at_least}
 use Rattle.cue_scalars.specs.Scalars.{RefusesScalar, IsScalarSet}
 use Rattle.cue_row.specs.declared.row.Row.{Row}
@@ -29,3 +29,7 @@ pub record IsRow (row : Row) : Type 0 where
   pub value : IsScalarSet row.value
   pub usual : IsScalarSet row.usual
   pub labels : AreLabels row.labels
+
+-- the row refuses what one of the two others refuses
+abbrev pub IsMetRow : Row → Row → Row → Type 0
+IsMetRow a b met = (question : program.Question) → Refuses met question ↔ (Refuses a question ⊎ Refuses b question)

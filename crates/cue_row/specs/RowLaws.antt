@@ -42,7 +42,8 @@ same_level Given Optional e = absurd (omega arith)
 same_level Given Required e = absurd (omega arith)
 same_level Given Given e = refl
 
-same_length : (a b : Option ℕ) → ((k : ℕ) → RefusesLength a k ↔ RefusesLength b k) → a ≡ b
+-- greatest lengths that refuse the same lengths are equal
+pub same_length : (a b : Option ℕ) → ((k : ℕ) → RefusesLength a k ↔ RefusesLength b k) → a ≡ b
 same_length None None e = refl
 same_length None (Some n) e = absurd ((e (n + 1)).1 (omega arith))
 same_length (Some m) None e = absurd ((e (m + 1)).0 (omega arith))

@@ -21,3 +21,4 @@ pub use quoted::push_quoted;
 pub use row::Row;
 pub use spelling::{is_bare, path_text, push_path, push_steps};
 pub use step::Step;
+pub use valid::valid_rows_meet;

@@ -1,6 +1,8 @@
 ghost use Rattle.std.specs.Prelude.{◌≡◌, ◌↔◌, ◌≤◌, IsTrue, IfSome};
 ghost use Rattle.cue_lattice.specs.Limits.{length_limit};
+ghost use Rattle.cue_row.specs.Row.{IsMetRow, IsRow};
 ghost use Rattle.cue_row.specs.Steps.{step_of};
+ghost use Rattle.cue_row.specs.declared.row.Row.{Row as RowValue};
 ghost use Rattle.cue_row.specs.ValidRow.{IsValidRow, UsualFits, LabelsFit, LengthsFit, AreLengths, IsWord, AreWords, HasWords, IsWordStep};
 
 use crate::{Row, RowKind, Step};
@@ -127,3 +129,9 @@ impl Step {
         }
     }
 }
+
+/// Valid rows are met to a valid row: the law of a call that does nothing.
+pub fn valid_rows_meet()
+    ensures { (a b met : RowValue) → IsRow a → IsRow b → IsRow met → IsMetRow a b met
+        → IsValidRow a → IsValidRow b → IsValidRow met }
+{}
