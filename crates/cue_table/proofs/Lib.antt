@@ -8,6 +8,7 @@ pub mod Lattice
 pub mod Listed
 pub mod Listing
 pub mod Merging
+pub mod MetTables
 pub mod Nodes
 pub mod Order
 pub mod Planning

@@ -199,7 +199,7 @@ valid_empty tree e h =
     (λ (some : (r : Row) × (row_at tree [] ≡ Some r) × IsOpenStruct r). let yes : row_of tree ≡ Some some.0 = some.1 in absurd (cc))
     h.root
 
-nothing_at : (path : Path) (row : Row) → row_at empty path ≡ Some row → ⊥
+pub nothing_at : (path : Path) (row : Row) → row_at empty path ≡ Some row → ⊥
 nothing_at [] row e = cc
 nothing_at (step ∷ path) row e = cc
 

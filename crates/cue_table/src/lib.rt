@@ -19,3 +19,4 @@ pub use cue_row::{Path, Row, Step};
 pub use iter::{Children, Items, Labels};
 pub use laws::{equal_answers, equal_rows, meet_is_greatest_lower_bound, rows_in_order};
 pub use table::Table;
+pub use valid::valid_tables_meet;

@@ -1,10 +1,14 @@
 //! Which tables are valid.
 ghost use Rattle.std.specs.Prelude.{◌≡◌, ◌↔◌, ◌⊎◌, IsTrue};
 ghost use Rattle.cue_row.specs.Kinds.{IsKind};
+ghost use Rattle.cue_row.specs.Row.{IsRow, Refuses};
+ghost use Rattle.cue_row.specs.declared.row.Row.{Row as RowValue};
 ghost use Rattle.cue_row.specs.declared.kind.RowKind.TheVariants.{Nothing};
 ghost use Rattle.cue_row.specs.declared.level.Level.TheVariants.{Optional};
 ghost use Rattle.cue_row.specs.Steps.{step_of};
-ghost use Rattle.cue_table.specs.Tree.{row_of, below, none};
+ghost use Rattle.cue_table.specs.Tree.{Tree, row_of, below, none};
+ghost use Rattle.cue_table.specs.Form.{IsTable};
+ghost use Rattle.cue_table.specs.Meet.{IsMet};
 ghost use Rattle.cue_table.specs.Valid.{IsOpenStruct, IsValidTable, MayHold, IsElement};
 ghost use Rattle.cue_table.specs.ValidWalk.{HasChild, IsLevelAt, IsSound, MayStand};
 
@@ -23,6 +27,12 @@ impl Table<Row> {
         }
     }
 }
+
+/// Valid tables are met to a valid table: the law of a call that does nothing.
+pub fn valid_tables_meet()
+    ensures { (a b met : Tree RowValue) → IsTable Refuses IsRow met → IsMet Refuses a b met
+        → IsValidTable a → IsValidTable b → IsValidTable met }
+{}
 
 /// Whether a row may stand at the root, of all that is asked of it there alone.
 fn is_root(row: &Row) -> bool
