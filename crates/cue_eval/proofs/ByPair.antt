@@ -17,11 +17,11 @@ use Rattle.cue_eval.specs.Places.{Here, ScalarRefuses, ClosingRefuses}
 use Rattle.cue_eval.specs.Refuses.{PartsRefuse}
 use Rattle.cue_eval.specs.Laws.{AllHaveParts, IsItsPair}
 
-one_false : (a b : Bool) → ((a && b) ≡ false) ↔ ((a ≡ false) ⊎ (b ≡ false))
+pub one_false : (a b : Bool) → ((a && b) ≡ false) ↔ ((a ≡ false) ⊎ (b ≡ false))
 one_false false b = (λ e. inl refl, λ h. refl)
 one_false true b = (inr, λ h. ⊎_elim (λ e. absurd (false≢true (sym e))) (λ e. e) h)
 
-both_false : (a b : Bool) → (a || b) ≡ false → (a ≡ false) × (b ≡ false)
+pub both_false : (a b : Bool) → (a || b) ≡ false → (a ≡ false) × (b ≡ false)
 both_false false b e = (refl, e)
 both_false true b e = absurd (false≢true (sym e))
 
@@ -44,7 +44,7 @@ default_brought true set value x h = refl
 default_brought false set value x h = h refl
 
 -- the default of several, or the value of all where none has one, is what all bring
-all_brought : (pairs : List Pair) (x : Scalar) → brought (all_of pairs) x ≡ list_all (λ pair. brought pair x) pairs
+pub all_brought : (pairs : List Pair) (x : Scalar) → brought (all_of pairs) x ≡ list_all (λ pair. brought pair x) pairs
 all_brought pairs x =
     default_brought (list_any (λ (pair : Pair). is_some pair.usual) pairs) (λ y. list_all (λ pair. brought pair y) pairs)
     (λ y. list_all (λ (pair : Pair). pair.value y) pairs) x (values_brought pairs x)

@@ -1,5 +1,8 @@
 pub mod Written
 pub mod Once
+pub mod Origins
+pub mod Places
+pub mod Within
 pub mod Unified
 pub mod ByPair
 pub mod Example

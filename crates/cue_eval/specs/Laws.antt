@@ -2,7 +2,7 @@
 use Rattle.std.specs.Prelude.{◌↔◌, ◌⊎◌, List, ℕ, IsTrue}
 use Rattle.cue_lattice.specs.Path.{Path}
 use Rattle.cue_lattice.specs.Question.{Question, allows, SameAnswers, IsAsNarrowAs}
-use Rattle.cue_scope.specs.Core.{Core, conjunction, closed, Cores, no_cores, core, is_scalar}
+use Rattle.cue_scope.specs.Core.{Core, conjunction, struct, closed, Cores, no_cores, core, Members, no_members, member, dots, is_scalar}
 use Rattle.cue_eval.specs.Pairs.{pair}
 use Rattle.cue_eval.specs.Literals.{literals, LeaveOut}
 use Rattle.cue_eval.specs.Places.{Here, ScalarRefuses}
@@ -16,6 +16,20 @@ both a b = conjunction (core a (core b no_cores))
 abbrev pub IsUnification : Type 0
 IsUnification = (a b : Core) (path : Path) (question : Question) →
     Refuses (both a b) path question ↔ (Refuses a path question ⊎ Refuses b path question)
+
+-- What refuses more, refuses more with b too.
+abbrev pub IsMonotone : Type 0
+IsMonotone = (a c b : Core) → IsAsNarrowAs (Refuses a) (Refuses c) → IsAsNarrowAs (Refuses (both a b)) (Refuses (both c b))
+
+-- the declarations of two struct literals as one
+abbrev pub joined : Members → Members → Members
+joined no_members ms = ms
+joined (member l mark c rest) ms = member l mark c (joined rest ms)
+joined (dots rest) ms = dots (joined rest ms)
+
+-- Declarations may stand in one struct literal or in several that are unified.
+abbrev pub IsSplitAnywhere : Type 0
+IsSplitAnywhere = (some others : Members) → SameAnswers (Refuses (struct (joined some others))) (Refuses (both (struct some) (struct others)))
 
 -- A place where labels are left out already is changed by no closing around it.
 abbrev pub IsClosedOnce : Type 0

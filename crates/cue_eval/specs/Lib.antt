@@ -5,4 +5,5 @@ pub mod Places
 pub mod Refuses
 pub mod Texts
 pub mod Laws
+pub mod Origins
 pub mod Evaluated

@@ -1,14 +1,33 @@
 //! What the definitions promise of unification, of closing and of scalar expressions.
 
-ghost use Rattle.cue_eval.specs.Laws.{IsUnification, IsClosedOnce, IsClosedForGood, IsClosedByParts, IsItsPair};
+ghost use Rattle.cue_eval.specs.Laws.{IsUnification, IsMonotone, IsSplitAnywhere, IsClosedOnce, IsClosedForGood, IsClosedByParts, IsItsPair};
+ghost use Rattle.cue_eval.specs.Origins.{ComesFromSources, PlacesAreOfKinds, LabelsAreOfStructs, LengthsAreOfLists, FieldsAreOfStructs, ElementsAreOfLists, LevelsAreOfFields, UsualIsWithin};
 
-/// `a & b` refuses exactly what one of both refuses. Closing parts one by one is at least as narrow as closing them
+/// `a & b` refuses exactly what one of both refuses, so that declarations may stand in one struct or in several. Closing parts one by one is at least as narrow as closing them
 /// together; closing twice is closing once; and a place where labels are left out already is changed by no closing
 /// around it. A scalar expression refuses what its value and its default do. It computes nothing: it states laws.
 pub fn laws_of_meaning()
     ensures unified { IsUnification }
+    ensures monotone { IsMonotone }
+    ensures split { IsSplitAnywhere }
     ensures by_parts { IsClosedByParts }
     ensures for_good { IsClosedForGood }
     ensures once { IsClosedOnce }
     ensures scalars { IsItsPair }
+{}
+
+/// What is refused at a place comes from something written there, which refuses all that its kind does. So where
+/// anything but a level is refused, nothing but scalars, nothing but a struct, or nothing but a list may stand; labels
+/// and fields belong to structs, lengths and elements to lists, levels to fields; and what may not stand isn't usual.
+/// That is what the rules of valid tables ask of kinds, parents, levels and lengths. It computes nothing: it states
+/// laws.
+pub fn laws_of_places()
+    ensures origins { ComesFromSources }
+    ensures kinds { PlacesAreOfKinds }
+    ensures labels { LabelsAreOfStructs }
+    ensures lengths { LengthsAreOfLists }
+    ensures fields { FieldsAreOfStructs }
+    ensures elements { ElementsAreOfLists }
+    ensures levels { LevelsAreOfFields }
+    ensures usual { UsualIsWithin }
 {}

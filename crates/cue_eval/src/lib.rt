@@ -3,4 +3,4 @@
 
 mod laws;
 
-pub use laws::laws_of_meaning;
+pub use laws::{laws_of_meaning, laws_of_places};

@@ -6,6 +6,8 @@ use Rattle.cue_eval.proofs.laws.laws_of_meaning.Goals as goal
 pub returns : goal.returns
 returns c = record {
   unified = unified.unification;
+  monotone = unified.monotone;
+  split = unified.split_anywhere;
   by_parts = unified.closed_by_parts;
   for_good = unified.closed_for_good;
   once = closed_once;
