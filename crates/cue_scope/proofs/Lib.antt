@@ -8,3 +8,4 @@ pub mod Walking
 pub mod LabelSets
 pub mod TextWalks
 pub mod Measuring
+pub mod Meanings

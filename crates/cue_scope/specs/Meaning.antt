@@ -72,7 +72,7 @@ meant_use ds meaning None = bottom
 meant_use ds meaning (Some d) = closed (nested d.chain (meant ds meaning d.value))
 
 -- the same where chains of uses are followed through so many definitions
-pub meaning_within : ℕ → List Definition → ℕ → Core
+unfoldable pub meaning_within : ℕ → List Definition → ℕ → Core
 meaning_within zero ds i = bottom
 meaning_within (suc steps) ds i = meant_use ds (meaning_within steps ds) (slice_get ds i)
 
