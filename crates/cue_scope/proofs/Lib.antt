@@ -9,3 +9,4 @@ pub mod LabelSets
 pub mod TextWalks
 pub mod Measuring
 pub mod Meanings
+pub mod Ordered

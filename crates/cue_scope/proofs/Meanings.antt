@@ -118,7 +118,7 @@ found_below (x ∷ xs) n h q e =
     ⊎_elim (λ t. let less = h x (inl refl) in let same = t.1 in omega (arith, same, less))
     (λ f. found_below xs n (λ i there. h i (inr there)) q (rw f.0 at e)) (eqb_tells q x)
 
-length_graph : (ds xs : List Definition) → length (map (λ x. uses ds x.value) xs) ≡ length xs
+pub length_graph : (ds xs : List Definition) → length (map (λ x. uses ds x.value) xs) ≡ length xs
 length_graph ds [] = refl
 length_graph ds (x ∷ xs) = ap suc (length_graph ds xs)
 

@@ -11,15 +11,17 @@ use Rattle.cue_syntax.proofs.Views.{view-term, view-Ellipsis, view-Field, view-D
 use Rattle.cue_scope.specs.declared.measure.Measure.{Measure}
 use Rattle.cue_scope.specs.declared.measure.Known.{Known}
 use Rattle.std.specs.Option.{option_map_or, option_to_list}
-use Rattle.cue_scope.specs.Core.{Core, bottom}
-use Rattle.cue_scope.specs.Graph.{IsIn}
+use Rattle.cue_scope.specs.Core.{Core, bottom, closed}
+use Rattle.cue_scope.specs.Graph.{IsIn, IsOrder}
 use Rattle.cue_scope.specs.Definitions.{Definition}
 use Rattle.cue_scope.specs.Kept.{all_of}
 use Rattle.cue_scope.specs.Limits.{size, depth, one_if}
-use Rattle.cue_scope.specs.Meaning.{nested, meaning, meant}
+use Rattle.cue_scope.specs.Meaning.{nested, meaning, meant, meant_use}
 use Rattle.cue_scope.specs.Terms.{terms}
-use Rattle.cue_scope.specs.Uses.{uses, uses_of_elements, uses_of_branches, uses_of_entries}
-use Rattle.cue_scope.specs.Measures.{Total, IsMeasured, IsUse, IsKnown, none, join, larger, as_literal, as_field, as_element, as_term, behind_labels, only_places, total_of, total, total_of_parts, total_of_elements, total_of_terms, total_of_entries}
+use Rattle.cue_scope.specs.Uses.{graph, uses, uses_of_elements, uses_of_branches, uses_of_entries}
+use Rattle.cue_scope.specs.Measures.{Total, IsMeasured, IsUse, IsKnown, none, join, larger, as_literal, as_field, as_element, as_term, behind_labels, only_places, total_of, total, total_of_parts, total_of_elements, total_of_terms, total_of_entries, total_of_file}
+use Rattle.cue_scope.proofs.Meanings.{meaning_is}
+use Rattle.std.specs.Prelude.{slice_get}
 use Rattle.cue_scope.proofs.Nodes.{in_append_left, in_append_right}
 use Rattle.cue_scope.proofs.Walking.{at_hand}
 
@@ -176,3 +178,55 @@ use_listed o number is = subst (λ z. IsIn number (option_to_list z)) is (inl re
 pub list_measured : (ds : List Definition) (es : Elements) (goes_on comma : Bool) (m : Measure) (own : ℕ) → own ≡ 1 + one_if goes_on → IsMeasured m (as_literal own (total_of_elements ds es)) → IsMeasured m (total ds (list es goes_on comma))
 list_measured ds es goes_on comma m own is h =
     subst (λ z. IsMeasured m z) (same_total (as_literal own (total_of_elements ds es)) (total ds (list es goes_on comma)) refl (omega arith) refl refl) h
+
+abbrev pub MeasuringFile : Known → Measure → List Declaration → List Declaration → Type 0
+MeasuringFile known m es left = let ds = all_of known.definitions.now in Measuring known m (total_of_file ds (entries es)) (total_of_file ds (entries left)) (uses_of_entries ds (entries left))
+
+in_file : (k : Known) (m : Measure) (es : List Declaration) (i : ℕ) (d : Declaration) (e : Entry) → MeasuringFile k m es (drop i es) → i < length es → d ≡ get_or es i d → entry_tree d ≡ e
+    → Measuring k m (total_of_file (all_of k.definitions.now) (entries es)) (total_of_file (all_of k.definitions.now) (entry e (entries (drop (i + 1) es))))
+    (uses_of_entries (all_of k.definitions.now) (entry e (entries (drop (i + 1) es))))
+in_file k m es i d e w h is same =
+    let ds = all_of k.definitions.now in
+    subst (λ z. Measuring k m (total_of_file ds (entries es)) (total_of_file ds (entry z (entries (drop (i + 1) es)))) (uses_of_entries ds (entry z (entries (drop (i + 1) es)))))
+    same (subst (λ z. MeasuringFile k m es z) (at_hand es i d h is) w)
+
+pub ellipsis_in_file : (k : Known) (m : Measure) (es : List Declaration) (i : ℕ) (d : Declaration) → MeasuringFile k m es (drop i es) → i < length es → d ≡ get_or es i d → d ≡ declarations.Ellipsis → MeasuringFile k m es (drop (i + 1) es)
+ellipsis_in_file k m es i d w h is same = in_file k m es i d ellipsis w h is (ap entry_tree same ∙ view-Ellipsis)
+
+pub field_in_file : (k : Known) (m : Measure) (es : List Declaration) (i : ℕ) (d : Declaration) (l : Label) (chain : Vec Label Global) (e : Expr)
+    → MeasuringFile k m es (drop i es) → i < length es → d ≡ get_or es i d → d ≡ declarations.Field l chain e
+    → Measuring k m (total_of_file (all_of k.definitions.now) (entries es))
+    (join (as_field (behind_labels (length chain.items) (total (all_of k.definitions.now) (expression e)))) (total_of_file (all_of k.definitions.now) (entries (drop (i + 1) es))))
+    (uses (all_of k.definitions.now) (expression e) ++ uses_of_entries (all_of k.definitions.now) (entries (drop (i + 1) es)))
+field_in_file k m es i d l chain e w h is same =
+    let ds = all_of k.definitions.now in
+    let rest = total_of_file ds (entries (drop (i + 1) es)) in
+    let us = uses ds (expression e) ++ uses_of_entries ds (entries (drop (i + 1) es)) in
+    subst (λ z. Measuring k m (total_of_file ds (entries es)) (join (as_field z) rest) us)
+    (total_nested chain.items (meant ds (meaning ds) (expression e)) (terms ds (meaning ds) (expression e)))
+    (in_file k m es i d (field l chain.items (expression e)) w h is (ap entry_tree same ∙ view-Field l chain e))
+
+pub definition_in_file : (k : Known) (m : Measure) (es : List Declaration) (i : ℕ) (d : Declaration) (t : List ℕ) (from : ℕ) (chain : Vec Label Global) (e : Expr)
+    → MeasuringFile k m es (drop i es) → i < length es → d ≡ get_or es i d → d ≡ declarations.Definition t from chain e
+    → Measuring k m (total_of_file (all_of k.definitions.now) (entries es))
+    (join (only_places (total (all_of k.definitions.now) (expression e))) (total_of_file (all_of k.definitions.now) (entries (drop (i + 1) es))))
+    (uses (all_of k.definitions.now) (expression e) ++ uses_of_entries (all_of k.definitions.now) (entries (drop (i + 1) es)))
+definition_in_file k m es i d t from chain e w h is same =
+    let ds = all_of k.definitions.now in
+    let rest = total_of_file ds (entries (drop (i + 1) es)) in
+    let us = uses ds (expression e) ++ uses_of_entries ds (entries (drop (i + 1) es)) in
+    let now = total_of_file ds (entry (definition t from chain.items (expression e)) (entries (drop (i + 1) es))) in
+    subst (λ z. Measuring k m (total_of_file ds (entries es)) z us)
+    (same_total now (join (only_places (total ds (expression e))) rest) refl (omega arith) (omega arith) refl)
+    (in_file k m es i d (definition t from chain.items (expression e)) w h is (ap entry_tree same ∙ view-Definition t from chain e))
+
+-- a definition that was measured in its place among the others
+pub definition_measured : (ds : List Definition) (order : List ℕ) (i : ℕ) (d : Definition) (m : Measure) → IsOrder (graph ds) order → i < length ds → slice_get ds i ≡ Some d
+    → IsMeasured m (larger 1 (behind_labels (length d.chain) (total ds d.value))) → IsUse m (meaning ds i)
+definition_measured ds order i d m o inside is h =
+    let places = terms ds (meaning ds) d.value in
+    let c = nested d.chain (meant ds (meaning ds) d.value) in
+    let nest = total_nested d.chain (meant ds (meaning ds) d.value) places in
+    let here = subst (λ z. IsMeasured m (larger 1 z)) (sym nest) h in
+    let means : meaning ds i ≡ closed c = meaning_is ds order o i inside ∙ ap (λ z. meant_use ds (meaning ds) z) is in
+    subst (λ z. IsUse m z) (sym means) (record { scalar = here.scalar; size = here.size; depth = here.depth })

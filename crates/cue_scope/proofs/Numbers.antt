@@ -1,6 +1,8 @@
 -- The number of a definition, after one more was put behind the others.
-use Rattle.std.proofs.Common.{◌≡◌, ℕ, suc, ◌+◌, ◌⊎◌, inl, inr, ⊎_elim, subst, Bool, true, false, cond, Option, None, Some, List, [], ◌∷◌, ◌++◌, length, refl, sym, ap, ◌∙◌, arith}
-use Rattle.std.specs.Option.{is_some}
+use Rattle.std.proofs.Common.{◌≡◌, ℕ, suc, ◌+◌, ◌<◌, get_or, ◌⊎◌, inl, inr, ⊎_elim, subst, Bool, true, false, cond, Option, None, Some, List, [], ◌∷◌, ◌++◌, length, refl, sym, ap, ◌∙◌, arith}
+use Rattle.std.specs.Prelude.{slice_get}
+use Rattle.std.specs.Option.{is_some, option_map}
+use Rattle.std.proofs.lemmas.Option.{slice_get-map, slice_get_read}
 use Rattle.std.specs.List.{position_from}
 use Rattle.std.specs.Str.{bytes_eq}
 use Rattle.std.specs.Bool.{Decides}
@@ -73,3 +75,7 @@ length_listed (x ∷ ds) = ap suc (length_listed ds)
 pub none_of : (o : Option ℕ) → is_some o ≡ false → o ≡ None
 none_of None h = refl
 none_of (Some x) h = absurd (cc)
+
+-- the definition at an index
+pub listed_at : (xs : List code.Definition) (i : ℕ) (x : code.Definition) → i < length xs → x ≡ get_or xs i x → slice_get (listed xs) i ≡ Some (definition_of x)
+listed_at xs i x h is = slice_get-map definition_of xs i ∙ ap (option_map definition_of) (slice_get_read xs (length xs) i x refl h is)

@@ -1,14 +1,17 @@
 -- What the checks ask of an expression, and what the program keeps of it.
-use Rattle.std.specs.Prelude.{ℕ, ◌≡◌, ◌+◌, ◌*◌, ◌&&◌, eqb, min, max, Bool, true, false, cond, List, [], ◌∷◌, ◌++◌, Option, None, Some, ◌<◌, slice_index_or, length}
+use Rattle.std.specs.Prelude.{ℕ, ◌≡◌, ◌+◌, ◌*◌, ◌&&◌, eqb, min, max, Bool, true, false, cond, List, [], ◌∷◌, ◌++◌, Option, None, Some, ◌<◌, ◌≤◌, slice_index_or, length}
+use Rattle.cue_lattice.specs.declared.refusal.Kind.{Kind}
+use Rattle.cue_lattice.specs.declared.refusal.Kind.TheVariants as kinds
 use Rattle.cue_syntax.specs.Syntax.{Expression, Elements, Branches, Entries}
 use Rattle.cue_scope.specs.declared.measure.Measure.{Measure}
 use Rattle.cue_scope.specs.declared.measure.Known.{Known}
 use Rattle.cue_scope.specs.Core.{Core, is_scalar, are_scalar, are_scalar_choices}
 use Rattle.cue_scope.specs.Definitions.{Definition}
+use Rattle.cue_scope.specs.First.{IsFirst}
 use Rattle.cue_scope.specs.Graph.{IsIn}
 use Rattle.cue_scope.specs.Kept.{all_of}
 use Rattle.cue_scope.specs.Limits as limits
-use Rattle.cue_scope.specs.Meaning.{meaning, meant, meant_elements, meant_branches, meant_members}
+use Rattle.cue_scope.specs.Meaning.{meaning, meant, meant_elements, meant_branches, meant_members, meant_fields}
 use Rattle.cue_scope.specs.Terms.{terms, terms_of_elements, terms_of_branches, terms_of_entries}
 
 -- whether all is scalar, how large it is, how many steps its longest path has, and where its terms stand that aren't scalar
@@ -101,6 +104,28 @@ total_of_entries ds es = record {
   depth = limits.depth_of_members (meant_members ds (meaning ds) es);
   places = terms_of_entries ds (meaning ds) es;
 }
+
+-- the regular declarations of a text; all of its terms count, those in definitions too
+abbrev pub total_of_file : List Definition → Entries → Total
+total_of_file ds es = record {
+  scalar = true;
+  size = limits.size_of_members (meant_fields ds (meaning ds) es);
+  depth = limits.depth_of_members (meant_fields ds (meaning ds) es);
+  places = terms_of_entries ds (meaning ds) es;
+}
+
+-- it passes the checks on terms, sizes and paths
+pub record IsWithin (t : Total) : Type 0 where
+  pub places : t.places ≡ []
+  pub size : t.size ≤ 65536
+  pub depth : t.depth ≤ 64
+
+-- the first of these checks that it fails
+abbrev pub IsBeyond : Total → Kind → ℕ → Type 0
+IsBeyond t kinds.NotScalar place = IsFirst place t.places
+IsBeyond t kinds.TooLarge place = (t.places ≡ []) × (65536 < t.size) × (place ≡ 0)
+IsBeyond t kinds.TooDeep place = (t.places ≡ []) × (t.size ≤ 65536) × (64 < t.depth) × (place ≡ 0)
+IsBeyond t _ place = ⊥
 
 -- what is known of a use of a definition
 pub record IsUse (m : Measure) (c : Core) : Type 0 where

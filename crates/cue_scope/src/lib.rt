@@ -8,6 +8,7 @@ mod measure;
 mod memory;
 mod named;
 mod names;
+mod resolved;
 mod scope;
 
 pub use definitions::{Definition, Definitions};

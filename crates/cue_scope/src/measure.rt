@@ -1,12 +1,14 @@
-ghost use Rattle.std.specs.Prelude.{◌≡◌, [], ℕ, true, length};
+ghost use Rattle.std.specs.Prelude.{◌≡◌, [], ℕ, List, true, length, ◌<◌, IfErr, OnOk};
 ghost use Rattle.cue_syntax.specs.Syntax as tree;
 ghost use Rattle.cue_scope.specs.Kept.{all_of};
 ghost use Rattle.cue_scope.specs.Meaning as meaning;
 ghost use Rattle.cue_scope.specs.Measures as totals;
 ghost use Rattle.cue_scope.specs.Measures.{Total, IsMeasured, IsKnown};
 ghost use Rattle.cue_scope.specs.Uses as using;
+ghost use Rattle.cue_scope.specs.Graph.{IsOrder, targets};
 
 use crate::definitions::Definitions;
+use cue_lattice::{Kind, Refusal};
 use cue_syntax::{Declaration, Expr, Identifier, Label, Term};
 
 /// The greatest size of a text, and one more: a size that isn't counted further.
@@ -144,6 +146,27 @@ impl Measure {
         }
     }
 
+    /// Whether it passes the checks on terms, sizes and paths.
+    ///
+    /// # Errors
+    ///
+    /// `NotScalar`, `TooLarge` or `TooDeep`, the first that is.
+    pub fn check(self) -> Result<(), Refusal>
+        ensures within { OnOk result ((t : Total) → IsMeasured self t → totals.IsWithin t) }
+        ensures beyond { IfErr result (λ r. (t : Total) → IsMeasured self t → totals.IsBeyond t r.kind r.place) }
+    {
+        if let Some(place) = self.term {
+            return Err(Refusal::at(Kind::NotScalar, place));
+        }
+        if self.size >= LARGE {
+            return Err(Refusal::at(Kind::TooLarge, 0));
+        }
+        if self.depth >= DEEP {
+            return Err(Refusal::at(Kind::TooDeep, 0));
+        }
+        Ok(())
+    }
+
     /// Of its terms that aren't scalar alone.
     pub fn only_terms(self) -> Measure
         ensures { (t : Total) → IsMeasured self t → IsMeasured result (totals.only_places t) }
@@ -192,6 +215,35 @@ impl<'a, 'f> Known<'a, 'f> {
                 },
             },
         }
+    }
+
+    /// A use of a definition, by its number.
+    pub fn definition(&self, number: usize) -> Measure
+        requires { number < length (all_of self.now.definitions.now) }
+        ensures { (order : List ℕ) → IsOrder (using.graph (all_of self.now.definitions.now)) order → IsKnown self.now (targets (using.graph (all_of self.now.definitions.now)) number) → totals.IsUse result (meaning.meaning (all_of self.now.definitions.now) number) }
+    {
+        let definition = &self.definitions.all()[number];
+        let value = self.expression(definition.value);
+        value.behind(definition.chain).larger(1)
+    }
+
+    /// The regular declarations of a text, with the terms of its definitions.
+    pub fn file(&self, declarations: &[Declaration]) -> Measure
+        ensures { IsKnown self.now (using.uses_of_entries (all_of self.now.definitions.now) (tree.entries declarations.now)) → IsMeasured result (totals.total_of_file (all_of self.now.definitions.now) (tree.entries declarations.now)) }
+    {
+        let mut all = Measure::none();
+        for declaration in declarations {
+            match declaration {
+                Declaration::Ellipsis => {}
+                Declaration::Field { chain, value, .. } => {
+                    all = all.beside(self.expression(value).behind(chain).field());
+                }
+                Declaration::Definition { value, .. } => {
+                    all = all.beside(self.expression(value).only_terms());
+                }
+            }
+        }
+        all
     }
 
     /// An expression.

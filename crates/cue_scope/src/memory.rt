@@ -1,7 +1,8 @@
-ghost use Rattle.std.specs.Prelude.{◌≡◌, ◌++◌, ◌∷◌, [], OnOk, IfOk, IfErr, false};
+ghost use Rattle.std.specs.Prelude.{◌≡◌, ◌++◌, ◌∷◌, [], OnOk, IfOk, IfErr, false, length};
 ghost use Rattle.std.proofs.Common.{replicate};
 ghost use Rattle.cue_lattice.specs.Refusal.{memory};
 
+use crate::measure::Measure;
 use cue_lattice::{Memory, Refusal};
 use std::alloc::Global;
 
@@ -28,4 +29,12 @@ pub fn flags(alloc: Global, count: usize) -> Result<Vec<bool>, Refusal>
     ensures memory { IfErr result (λ refusal. refusal ≡ memory) }
 {
     Ok(vec![in alloc; false; count].map_err(Memory::from)?)
+}
+
+/// So many times the measure of nothing.
+pub fn unmeasured(alloc: Global, count: usize) -> Result<Vec<Measure>, Refusal>
+    ensures length { IfOk result (λ v. length v.items ≡ count) }
+    ensures memory { IfErr result (λ refusal. refusal ≡ memory) }
+{
+    Ok(vec![in alloc; Measure::none(); count].map_err(Memory::from)?)
 }
