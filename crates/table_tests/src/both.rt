@@ -1,0 +1,129 @@
+//! What is asked of the tree and of the plain list, for rows of any type.
+use crate::plain::{Entry, Plain};
+use cue_lattice::{Memory, Narrow};
+use cue_row::Path;
+use cue_table::Table;
+use std::alloc::Global;
+use std::cmp::Ordering;
+
+/// The tree of these rows, added one after the other.
+pub fn tree<R: Narrow>(alloc: Global, rows: &[Entry<R>]) -> Result<Table<R>, Memory> {
+    let mut made = Table::new(alloc);
+    for entry in rows {
+        made.add(&entry.path, &entry.row)?;
+    }
+    Ok(made)
+}
+
+/// The plain list of these rows.
+pub fn plain<R: Narrow>(alloc: Global, rows: &[Entry<R>]) -> Result<Plain<R>, Memory> {
+    Plain::new(alloc).add_all(alloc, rows)
+}
+
+/// Whether the tree lists exactly the rows of the plain list.
+fn has_rows<R: Narrow>(alloc: Global, tree: &Table<R>, plain: &Plain<R>) -> Result<bool, Memory> {
+    let rows = tree.rows(alloc)?;
+    if rows.len() != plain.entries.len() {
+        return Ok(false);
+    }
+    for (i, entry) in plain.entries.iter().enumerate() {
+        let (path, row) = &rows[i];
+        if path.compare(&entry.path) != Ordering::Equal || !row.same(&entry.row) {
+            return Ok(false);
+        }
+    }
+    Ok(true)
+}
+
+/// Whether both tell the same row at a path.
+pub fn agree_at<R: Narrow>(tree: &Table<R>, plain: &Plain<R>, path: &Path) -> bool {
+    match (tree.row(path), plain.row(path)) {
+        (None, None) => true,
+        (Some(mine), Some(theirs)) => mine.same(theirs),
+        _ => false,
+    }
+}
+
+/// Whether these rows make the same table both ways, which a copy is equal to, and which is made again by its rows in
+/// path order.
+pub fn adds<R: Narrow>(alloc: Global, rows: &[Entry<R>]) -> Result<bool, Memory> {
+    let tree = tree(alloc, rows)?;
+    let plain = plain(alloc, rows)?;
+    for entry in rows {
+        if !agree_at(&tree, &plain, &entry.path) {
+            return Ok(false);
+        }
+    }
+    let mut again = Table::new(alloc);
+    for entry in &plain.entries {
+        if !again.append(&entry.path, entry.row.copy(alloc)?)? {
+            return Ok(false);
+        }
+    }
+    let copied = tree.copy(alloc)?;
+    Ok(copied.same(&tree) && again.same(&tree) && has_rows(alloc, &tree, &plain)?)
+}
+
+/// Whether the unification of two tables is that of the plain lists, both ways round and in place.
+pub fn meets<R: Narrow>(
+    alloc: Global,
+    left: &[Entry<R>],
+    right: &[Entry<R>],
+) -> Result<bool, Memory> {
+    let mut mine = tree(alloc, left)?;
+    let theirs = tree(alloc, right)?;
+    let wanted = plain(alloc, left)?.add_all(alloc, right)?;
+    let met = mine.meet(alloc, &theirs)?;
+    let turned = theirs.meet(alloc, &mine)?;
+    mine.meet_with(theirs)?;
+    Ok(met.same(&turned) && mine.same(&met) && has_rows(alloc, &met, &wanted)?)
+}
+
+/// Whether the tree tells two tables apart as the plain list does.
+pub fn tells_apart<R: Narrow>(
+    alloc: Global,
+    left: &[Entry<R>],
+    right: &[Entry<R>],
+) -> Result<bool, Memory> {
+    let trees = tree(alloc, left)?.same(&tree(alloc, right)?);
+    Ok(trees == plain(alloc, left)?.same(&plain(alloc, right)?))
+}
+
+/// Whether each call that is refused leaves the table as it was.
+pub fn stays<R: Narrow>(
+    alloc: Global,
+    left: &[Entry<R>],
+    right: &[Entry<R>],
+) -> Result<bool, Memory> {
+    let mut mine = tree(alloc, left)?;
+    let mut before = tree(alloc, left)?;
+    for entry in right {
+        if mine.add(&entry.path, &entry.row).is_ok() {
+            before.add(&entry.path, &entry.row)?;
+        } else if !mine.same(&before) {
+            return Ok(false);
+        }
+    }
+    let mut mine = tree(alloc, left)?;
+    let before = tree(alloc, left)?;
+    let refused = mine.meet_with(tree(alloc, right)?).is_err();
+    Ok(!refused || mine.same(&before))
+}
+
+/// The labels and the indexes below a path, each with a comma, where something stands there.
+pub fn below<R: Narrow>(alloc: Global, rows: &[Entry<R>], path: &Path) -> Result<String, Memory> {
+    let mut out = String::new(alloc);
+    let tree = tree(alloc, rows)?;
+    let Some(branch) = tree.branch(path) else {
+        return Ok(out);
+    };
+    for (label, _) in branch.labels() {
+        out.push_str(label)?;
+        out.push(',')?;
+    }
+    for (index, lower) in branch.items() {
+        out.push(if index == 0 { '0' } else { '1' })?;
+        out.push(if lower.row().is_some() { ',' } else { ';' })?;
+    }
+    Ok(out)
+}

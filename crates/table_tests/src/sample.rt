@@ -1,0 +1,137 @@
+//! Lists of rows for the tests of tables.
+use crate::plain::Entry;
+use cue_lattice::{Memory, Narrow, Text};
+use cue_row::{Labels, Level, Path, Row, Step};
+use cue_scalars::ScalarSet;
+use cue_sets::{IntSet, TextSet};
+use std::alloc::Global;
+
+/// A path of one-letter labels and one-digit indexes: `a1b` is the label `a`, the index 1 and the label `b`.
+pub fn path(alloc: Global, word: &str) -> Result<Path, Memory> {
+    let mut steps = Vec::new(alloc);
+    for byte in word.as_bytes() {
+        let step = match *byte {
+            b'0'..=b'9' => Step::Index(u32::from(*byte - b'0')),
+            _ => {
+                let mut label = String::new(alloc);
+                label.push(char::from(*byte))?;
+                Step::Label(Text::new(label))
+            }
+        };
+        steps.push(step)?;
+    }
+    Ok(Path::new(steps).unwrap_or(Path::root(alloc)))
+}
+
+/// The set of some integers, from the first to the last.
+fn between(alloc: Global, first: i64, last: i64) -> Result<ScalarSet, Memory> {
+    let low = IntSet::at_least(alloc, first)?;
+    let high = IntSet::at_most(alloc, last)?;
+    Ok(ScalarSet {
+        null: false,
+        no: false,
+        yes: false,
+        ints: low.meet(alloc, &high)?,
+        texts: TextSet::none(alloc)?,
+    })
+}
+
+/// The row of a field that is one of these integers, from the first to the last, of which some are usual.
+fn integers(alloc: Global, value: (i64, i64), usual: (i64, i64)) -> Result<Row, Memory> {
+    Ok(Row {
+        level: Level::Given,
+        value: between(alloc, value.0, value.1)?,
+        usual: between(alloc, usual.0, usual.1)?,
+        struct_ok: false,
+        list_ok: false,
+        labels: Labels::all(alloc)?,
+        least: 0,
+        most: None,
+    })
+}
+
+/// The row of a place where no scalar may stand.
+fn compound(alloc: Global, level: Level, struct_ok: bool, list_ok: bool) -> Result<Row, Memory> {
+    Ok(Row {
+        level,
+        value: ScalarSet::empty(alloc)?,
+        usual: ScalarSet::empty(alloc)?,
+        struct_ok,
+        list_ok,
+        labels: Labels::all(alloc)?,
+        least: 0,
+        most: None,
+    })
+}
+
+/// An open struct in which only these one-letter labels may stand.
+fn closed(alloc: Global, letters: &str) -> Result<Row, Memory> {
+    let mut labels = Vec::new(alloc);
+    for letter in letters.chars() {
+        let mut label = String::new(alloc);
+        label.push(letter)?;
+        labels.push(Text::new(label))?;
+    }
+    let mut row = compound(alloc, Level::Given, true, false)?;
+    if let Some(labels) = Labels::listing(labels) {
+        row.labels = labels;
+    }
+    Ok(row)
+}
+
+/// A list of this least and greatest length.
+fn list(alloc: Global, least: u32, most: Option<u32>) -> Result<Row, Memory> {
+    let mut row = compound(alloc, Level::Given, false, true)?;
+    row.least = least;
+    row.most = most;
+    Ok(row)
+}
+
+/// A row by its name.
+fn row(alloc: Global, name: &str) -> Result<Row, Memory> {
+    match name {
+        "one" => integers(alloc, (1, 1), (1, 1)),
+        "two" => integers(alloc, (2, 2), (2, 2)),
+        "small" => integers(alloc, (0, 9), (0, 9)),
+        "usual" => integers(alloc, (0, 9), (1, 1)),
+        "struct" => compound(alloc, Level::Given, true, false),
+        "optional" => compound(alloc, Level::Optional, true, false),
+        "required" => compound(alloc, Level::Required, true, false),
+        "nothing" => compound(alloc, Level::Given, false, false),
+        "closed" => closed(alloc, "ab"),
+        "narrow" => closed(alloc, "bc"),
+        "list" => list(alloc, 2, None),
+        "pair" => list(alloc, 2, Some(2)),
+        "single" => list(alloc, 1, Some(1)),
+        _ => Row::free(alloc),
+    }
+}
+
+/// The rows of some tables, each as its path and its name.
+pub const TABLES: [&str; 12] = [
+    "b=free",
+    "=optional",
+    "=optional a=one",
+    "a=two =optional",
+    "=optional b=small a=small c=struct",
+    "=optional a=usual b=required ba=one",
+    "=optional b=closed ba=one bb=struct bba=two",
+    "=optional b=narrow bc=one bb=struct bbb=usual bba=one",
+    "=optional c=list c1=one c0=small c1=small",
+    "=optional c=pair c0=struct c0d=one",
+    "=optional c=single d=nothing da=one b=free",
+    "e=free fgh=one fg1=two f=optional fga=two",
+];
+
+/// The rows that a text names, as those of [`TABLES`].
+pub fn rows(alloc: Global, text: &str) -> Result<Vec<Entry<Row>>, Memory> {
+    let mut rows = Vec::new(alloc);
+    for word in text.split(' ') {
+        let (place, name) = word.split_once('=').unwrap_or((word, "free"));
+        rows.push(Entry {
+            path: path(alloc, place)?,
+            row: row(alloc, name)?,
+        })?;
+    }
+    Ok(rows)
+}

@@ -1,0 +1,63 @@
+//! Each list of rows through the tree and through the plain list.
+use crate::both::{adds, below, meets, stays, tells_apart};
+use crate::sample::{TABLES, path, rows};
+use std::test::Fail;
+
+#[test]
+fn adds_rows_as_the_plain_list_does(rt: HostRuntime) -> Result<(), Fail> {
+    for text in TABLES {
+        assert!(rt; adds(rt.alloc(), &rows(rt.alloc(), text)?)?, "{text}");
+    }
+    Ok(())
+}
+
+#[test]
+fn meets_each_two_tables(rt: HostRuntime) -> Result<(), Fail> {
+    let alloc = rt.alloc();
+    for left in TABLES {
+        for right in TABLES {
+            assert!(rt;
+                meets(alloc, &rows(alloc, left)?, &rows(alloc, right)?)?,
+                "{left}, {right}"
+            );
+        }
+    }
+    Ok(())
+}
+
+#[test]
+fn tells_tables_apart_as_the_plain_lists(rt: HostRuntime) -> Result<(), Fail> {
+    let alloc = rt.alloc();
+    for left in TABLES {
+        for right in TABLES {
+            assert!(rt; tells_apart(alloc, &rows(alloc, left)?, &rows(alloc, right)?)?);
+        }
+    }
+    Ok(())
+}
+
+#[test]
+fn stays_as_it_was_where_memory_is_refused(rt: HostRuntime) -> Result<(), Fail> {
+    let alloc = rt.alloc();
+    let left = rows(alloc, TABLES[6])?;
+    let right = rows(alloc, TABLES[7])?;
+    assert!(rt; stays(alloc, &left, &right)?);
+    Ok(())
+}
+
+#[test]
+fn walks_branches(rt: HostRuntime) -> Result<(), Fail> {
+    let alloc = rt.alloc();
+    let places = [
+        (4, "", "a,b,c,"),
+        (4, "a", ""),
+        (11, "fg", "a,h,1,"),
+        (11, "e", ""),
+        (8, "c", "0,1,"),
+    ];
+    for (table, place, wanted) in places {
+        let rows = rows(alloc, TABLES[table])?;
+        assert_eq!(rt; below(alloc, &rows, &path(alloc, place)?)?.as_str(), wanted);
+    }
+    Ok(())
+}
