@@ -2,13 +2,15 @@
 #![tactic(auto)]
 
 mod conflict;
+mod demand;
 mod gap;
 mod place;
 mod report;
 
-pub use conflict::Conflict;
+pub use conflict::{Conflict, conflicts};
 pub use cue_lattice::Memory;
-pub use cue_row::path_text;
+pub use cue_row::{Row, path_text};
+pub use cue_table::Table;
 pub use gap::Gap;
 pub use place::Place;
 pub use report::lines;

@@ -1,0 +1,327 @@
+-- The conflicts that a search finds are those of the table.
+use Rattle.std.proofs.Common.{◌≡◌, ◌↔◌, ◌⊎◌, inl, inr, ⊎_elim, ℕ, Bool, true, false, ◌||◌, List, [], ◌∷◌, ◌++◌, map, Option, None, Some, refl, sym, ap, subst, ◌∙◌}
+use Rattle.std.specs.Bool.{IsTrue}
+use Rattle.std.specs.List.{AllByRecursion}
+use Rattle.std.proofs.lemmas.Bool.{false≢true}
+use Rattle.std.specs.declared.cmp.Ordering.{Ordering}
+use Rattle.std.specs.declared.cmp.Ordering.TheVariants.{Less, Equal, Greater}
+use Rattle.cue_lattice.specs.OneOf.{OneOf}
+use Rattle.cue_lattice.specs.Path as paths
+use Rattle.cue_lattice.specs.Path.{label, step_cmp, Path}
+use Rattle.cue_lattice.specs.Question.{Refusals, level_at_most}
+use Rattle.cue_row.specs.declared.row.Row.{Row}
+use Rattle.cue_row.specs.Row.{Refuses, IsRow}
+use Rattle.cue_table.specs.Form as form
+use Rattle.cue_table.specs.Form.{IsTree, AreBranches, IsBelowAll, IsKept, IsTable}
+use Rattle.cue_table.specs.Tree.{Tree, node, Children, none, child, row_of, below, if_equal, find}
+use Rattle.cue_report.specs.Answers.{IsDemanded, HasNoValue, IsNotAllowed}
+use Rattle.cue_report.specs.Listing.{Lists, IsConflict, AreConflicts, IsRising}
+use Rattle.cue_report.specs.Search.{under, only_if, has_no_value, is_demanded, is_refused, conflict_here, conflicts_in, conflicts_below}
+use Rattle.cue_report.specs.declared.conflict.Conflict.{Conflict}
+use Rattle.cue_report.proofs.Empty.{same_truth}
+use Rattle.cue_report.proofs.Rows.{NoValueAt, no_value_is, some_value}
+use Rattle.cue_report.proofs.Order.{reverse_cmp, same_step, equal_steps, all_append, all_map, all_from, one_left, one_right, one_map, AreBefore, AreBehind, rising_append, rising_lifted, lifted_before, lifted_behind}
+use Rattle.cue_report.proofs.Descent.{Told, open_below, row_below, demanded_down, demanded_up, barred_down, barred_up, first_demanded, first_refused, root_allowed}
+
+-- the label of the place is refused: at the root as is told, and below as the tree refuses it
+abbrev pub IsBarred : Bool → Refusals → Path → Type 0
+IsBarred not_allowed refuses [] = IsTrue not_allowed
+IsBarred not_allowed refuses (step ∷ path) = IsNotAllowed refuses (step ∷ path)
+
+-- a conflict at a place of a tree, of which the place above refuses the label or not
+pub record IsConflictIn (not_allowed : Bool) (tree : Tree Row) (conflict : Conflict) : Type 0 where
+  pub demanded : IsDemanded (Told tree) conflict.path
+  pub no_value : IsTrue conflict.no_value ↔ HasNoValue (Told tree) conflict.path
+  pub barred : IsTrue conflict.not_allowed ↔ IsBarred not_allowed (Told tree) conflict.path
+  pub cause : IsTrue (conflict.no_value || conflict.not_allowed)
+
+abbrev both_ways : {A B C : Type 0} → A ↔ B → B ↔ C → A ↔ C
+both_ways e f = (λ a. f.0 (e.0 a), λ c. e.1 (f.1 c))
+
+-- what the rows below a branch say of values
+value_below : (tree inner : Tree Row) (step : paths.Step) (path : Path) → find step (below tree) ≡ Some inner → HasNoValue (Told tree) (step ∷ path) ↔ HasNoValue (Told inner) path
+value_below tree inner step path f =
+    let same = row_below tree inner step path f in
+    (λ h. subst NoValueAt same h, λ h. subst NoValueAt (sym same) h)
+
+barred_below : (tree inner : Tree Row) (step : paths.Step) (path : Path) → find step (below tree) ≡ Some inner → IsBarred (is_refused (row_of tree) step) (Told inner) path ↔ IsNotAllowed (Told tree) (step ∷ path)
+barred_below tree inner step [] f = first_refused tree step
+barred_below tree inner step (next ∷ path) f = (λ h. barred_up tree inner step f (next ∷ path) h, λ h. barred_down tree inner step f next path h)
+
+-- a conflict of a branch is one of the tree
+conflict_up :
+    (not_allowed : Bool) (tree inner : Tree Row) (step : paths.Step) (conflict : Conflict) → find step (below tree) ≡ Some inner
+    → is_demanded (row_of tree) step (row_of inner) ≡ true → IsConflictIn (is_refused (row_of tree) step) inner conflict
+    → IsConflictIn not_allowed tree (under (step ∷ []) conflict)
+conflict_up not_allowed tree inner step conflict f d h = record {
+  demanded = demanded_up tree inner step f conflict.path ((first_demanded tree inner step f).0 d) h.demanded;
+  no_value = let same = value_below tree inner step conflict.path f in both_ways h.no_value (same.1, same.0);
+  barred = both_ways h.barred (barred_below tree inner step conflict.path f);
+  cause = h.cause;
+}
+
+-- and the other way round
+conflict_down :
+    (not_allowed : Bool) (tree inner : Tree Row) (step : paths.Step) (conflict : Conflict) (path : Path) → conflict.path ≡ step ∷ path → find step (below tree) ≡ Some inner
+    → IsConflictIn not_allowed tree conflict
+    → (is_demanded (row_of tree) step (row_of inner) ≡ true) × IsConflictIn (is_refused (row_of tree) step) inner (record conflict { path = path })
+conflict_down not_allowed tree inner step conflict path e f h =
+    let demanded : IsDemanded (Told tree) (step ∷ path) = subst (IsDemanded (Told tree)) e h.demanded in
+    let value : IsTrue conflict.no_value ↔ HasNoValue (Told tree) (step ∷ path) = subst (λ p. IsTrue conflict.no_value ↔ HasNoValue (Told tree) p) e h.no_value in
+    let barred : IsTrue conflict.not_allowed ↔ IsNotAllowed (Told tree) (step ∷ path) = subst (λ p. IsTrue conflict.not_allowed ↔ IsBarred not_allowed (Told tree) p) e h.barred in
+    let same = barred_below tree inner step path f in (
+      (first_demanded tree inner step f).1 (demanded [] path step refl),
+      record {
+        demanded = demanded_down tree inner step f path demanded;
+        no_value = both_ways value (value_below tree inner step path f);
+        barred = both_ways barred (same.1, same.0);
+        cause = h.cause;
+      },
+    )
+
+-- where no branch is, there is no conflict
+either : (a b : Bool) → (a || b) ≡ true → (a ≡ true) ⊎ (b ≡ true)
+either true b h = inl refl
+either false b h = inr h
+
+conflict_stands : (not_allowed : Bool) (tree : Tree Row) (step : paths.Step) (conflict : Conflict) (path : Path) → conflict.path ≡ step ∷ path → find step (below tree) ≡ None → IsConflictIn not_allowed tree conflict → ⊥
+conflict_stands not_allowed tree step conflict path e f h =
+    let demanded : IsDemanded (Told tree) (step ∷ path) = subst (IsDemanded (Told tree)) e h.demanded in
+    let value : IsTrue conflict.no_value → HasNoValue (Told tree) (step ∷ path) = subst (λ p. IsTrue conflict.no_value → HasNoValue (Told tree) p) e h.no_value.0 in
+    let barred : IsTrue conflict.not_allowed → IsNotAllowed (Told tree) (step ∷ path) = subst (λ p. IsTrue conflict.not_allowed → IsBarred not_allowed (Told tree) p) e h.barred.0 in
+    ⊎_elim (λ v. no_value (value v)) (λ b. not_there demanded (barred b)) (either conflict.no_value conflict.not_allowed h.cause)
+  where
+    no_value : HasNoValue (Told tree) (step ∷ path) → ⊥
+    no_value (inl n) = open_below tree step path _ f n.1
+    no_value (inr n) = ⊎_elim (λ r. open_below tree step path _ f r) (λ r. open_below tree step path _ f r) (n.1 0)
+
+    not_there : IsDemanded (Told tree) (step ∷ path) → IsNotAllowed (Told tree) (step ∷ path) → ⊥
+    not_there d (above, text, g, r) =
+        let P : Path → Type 0 = λ p. Told tree p (level_at_most 0) in
+        open_below tree step path (level_at_most 0) f (subst P (sym g) (d above [] (label text) g))
+
+-- ---- at the place itself
+here_sound : (not_allowed : Bool) (tree : Tree Row) → form.IsRow IsRow (row_of tree) → AllByRecursion (IsConflictIn not_allowed tree) (conflict_here (has_no_value (row_of tree)) not_allowed)
+here_sound not_allowed tree r = cases (has_no_value (row_of tree) || not_allowed) refl where
+  none_before : (before after : Path) (step : paths.Step) → [] ≡ before ++ step ∷ after → ⊥
+  none_before [] after step e = cc
+  none_before (x ∷ before) after step e = cc
+
+  cases : (b : Bool) → (has_no_value (row_of tree) || not_allowed) ≡ b → AllByRecursion (IsConflictIn not_allowed tree) (only_if b (record { path = []; no_value = has_no_value (row_of tree); not_allowed = not_allowed } ∷ []))
+  cases false e = tt
+  cases true e = (
+    record {
+      demanded = λ before after step g. absurd (none_before before after step g);
+      no_value = value tree r;
+      barred = (λ h. h, λ h. h);
+      cause = e;
+    },
+    tt,
+  ) where
+    value : (t : Tree Row) → form.IsRow IsRow (row_of t) → IsTrue (has_no_value (row_of t)) ↔ HasNoValue (Told t) []
+    value (node row children) r = no_value_is row r
+
+here_complete :
+    (not_allowed : Bool) (tree : Tree Row) (conflict : Conflict) → form.IsRow IsRow (row_of tree) → conflict.path ≡ [] → IsConflictIn not_allowed tree conflict
+    → OneOf (λ y. y ≡ conflict) (conflict_here (has_no_value (row_of tree)) not_allowed)
+here_complete not_allowed (node row children) conflict r e h =
+    let value : IsTrue conflict.no_value ↔ NoValueAt row = subst (λ p. IsTrue conflict.no_value ↔ HasNoValue (Told (node row children)) p) e h.no_value in
+    let barred : IsTrue conflict.not_allowed ↔ IsTrue not_allowed = subst (λ p. IsTrue conflict.not_allowed ↔ IsBarred not_allowed (Told (node row children)) p) e h.barred in
+    let is = no_value_is row r in
+    let v : has_no_value row ≡ conflict.no_value = same_truth _ _ (λ b. value.1 (is.0 b)) (λ b. is.1 (value.0 b)) in
+    let a : not_allowed ≡ conflict.not_allowed = same_truth _ _ (λ b. barred.1 b) (λ b. barred.0 b) in
+    let same : conflict ≡ conflict = refl in
+    subst (λ b. OneOf (λ y. y ≡ conflict) (only_if b (record { path = []; no_value = has_no_value row; not_allowed = not_allowed } ∷ []))) (sym (ap (λ b. b || not_allowed) v ∙ ap (λ b. conflict.no_value || b) a ∙ h.cause))
+    (inl (λ i. record { path = sym e i; no_value = v i; not_allowed = a i }))
+
+-- ---- below it
+row_form : (tree : Tree Row) → IsTable Refuses IsRow tree → form.IsRow IsRow (row_of tree)
+row_form (node None children) h = tt
+row_form (node (Some row) children) h = h.0.0
+
+found_first : (step : paths.Step) (tree : Tree Row) (children : Children Row) → find step (child step tree children) ≡ Some tree
+found_first step tree children = ap (λ o. if_equal o tree (find step children)) (same_step step)
+
+-- a branch further on is found too
+found_later : (next step : paths.Step) (here tree : Tree Row) (children : Children Row) → IsBelowAll next children → find step children ≡ Some tree → find step (child next here children) ≡ Some tree
+found_later next step here tree children b f =
+    ap (λ o. if_equal o here (find step children)) (reverse_cmp next step Less (before children b f)) ∙ f
+  where
+    take : (o : Ordering) (cs : Children Row) (s : paths.Step) (t : Tree Row) → step_cmp step s ≡ o → step_cmp next s ≡ Less → (find step cs ≡ Some tree → step_cmp next step ≡ Less) → if_equal o t (find step cs) ≡ Some tree → step_cmp next step ≡ Less
+    take Less cs s t e b k f = k f
+    take Equal cs s t e b k f = subst (λ x. step_cmp next x ≡ Less) (sym (equal_steps step s e)) b
+    take Greater cs s t e b k f = k f
+
+    before : (cs : Children Row) → IsBelowAll next cs → find step cs ≡ Some tree → step_cmp next step ≡ Less
+    before none b f = cc
+    before (child s t cs) b f = take (step_cmp step s) cs s t refl b.0 (before cs b.1) f
+
+-- which branches of a tree these are
+abbrev pub AreAmong : Tree Row → Children Row → Type 0
+AreAmong whole children = (step : paths.Step) (inner : Tree Row) → find step children ≡ Some inner → find step (below whole) ≡ Some inner
+
+mutual
+  sound_in : (not_allowed : Bool) (tree : Tree Row) → IsTable Refuses IsRow tree → AllByRecursion (IsConflictIn not_allowed tree) (conflicts_in not_allowed tree)
+  sound_in not_allowed (node row children) h =
+      all_append (IsConflictIn not_allowed (node row children)) (conflict_here (has_no_value row) not_allowed) (conflicts_below row children)
+      (here_sound not_allowed (node row children) (row_form (node row children) h))
+      (sound_below not_allowed (node row children) children h.1 (λ step inner f. f))
+
+  sound_below :
+      (not_allowed : Bool) (whole : Tree Row) (children : Children Row) → AreBranches (IsKept Refuses IsRow) children → AreAmong whole children
+      → AllByRecursion (IsConflictIn not_allowed whole) (conflicts_below (row_of whole) children)
+  sound_below not_allowed whole none h m = tt
+  sound_below not_allowed whole (child step tree children) h m =
+      let inner : List Conflict = conflicts_in (is_refused (row_of whole) step) tree in
+      let found : find step (below whole) ≡ Some tree = m step tree (found_first step tree children) in
+      let first : AllByRecursion (IsConflictIn not_allowed whole) (only_if (is_demanded (row_of whole) step (row_of tree)) (map (under (step ∷ [])) inner)) =
+      only_when (is_demanded (row_of whole) step (row_of tree)) (map (under (step ∷ [])) inner) (λ d.
+      all_map (IsConflictIn (is_refused (row_of whole) step) tree) (IsConflictIn not_allowed whole) (under (step ∷ [])) inner
+      (λ conflict k. conflict_up not_allowed whole tree step conflict found d k) (sound_in (is_refused (row_of whole) step) tree h.2)) in
+      all_append (IsConflictIn not_allowed whole) (only_if (is_demanded (row_of whole) step (row_of tree)) (map (under (step ∷ [])) inner)) (conflicts_below (row_of whole) children)
+      first (sound_below not_allowed whole children h.3 (λ next branch f. m next branch (found_later step next tree branch children h.0 f)))
+    where
+      only_when : (b : Bool) (xs : List Conflict) → (b ≡ true → AllByRecursion (IsConflictIn not_allowed whole) xs) → AllByRecursion (IsConflictIn not_allowed whole) (only_if b xs)
+      only_when true xs k = k refl
+      only_when false xs k = tt
+
+-- ---- all are found
+found_cases : {X : Type 0} (o : Option X) → (o ≡ None) ⊎ ((x : X) × (o ≡ Some x))
+found_cases None = inl refl
+found_cases (Some x) = inr (x, refl)
+
+only_one : (b : Bool) (P : Conflict → Type 0) (xs : List Conflict) → b ≡ true → OneOf P xs → OneOf P (only_if b xs)
+only_one b P xs e h = subst (λ c. OneOf P (only_if c xs)) (sym e) h
+
+-- the conflict stands at the first branch or at a later one
+taken :
+    (row : Option Row) (next : paths.Step) (tree : Tree Row) (children : Children Row) (step : paths.Step) (inner : Tree Row) (conflict : Conflict) (o : Ordering)
+    → step_cmp step next ≡ o → if_equal o tree (find step children) ≡ Some inner
+    → is_demanded row step (row_of inner) ≡ true → IsConflictIn (is_refused row step) inner conflict
+    → (find step children ≡ Some inner → OneOf (λ y. y ≡ under (step ∷ []) conflict) (conflicts_below row children))
+    → (IsConflictIn (is_refused row next) tree conflict → OneOf (λ y. y ≡ conflict) (conflicts_in (is_refused row next) tree))
+    → OneOf (λ y. y ≡ under (step ∷ []) conflict) (conflicts_below row (child next tree children))
+taken row next tree children step inner conflict Less e g d k later first =
+    one_right (λ y. y ≡ under (step ∷ []) conflict) (only_if (is_demanded row next (row_of tree)) (map (under (next ∷ [])) (conflicts_in (is_refused row next) tree)))
+    (conflicts_below row children) (later g)
+taken row next tree children step inner conflict Greater e g d k later first =
+    one_right (λ y. y ≡ under (step ∷ []) conflict) (only_if (is_demanded row next (row_of tree)) (map (under (next ∷ [])) (conflicts_in (is_refused row next) tree)))
+    (conflicts_below row children) (later g)
+taken row next tree children step inner conflict Equal e g d k later first =
+    let same : step ≡ next = equal_steps step next e in
+    let tree_is : inner ≡ tree = cc in
+    let asked : is_demanded row next (row_of tree) ≡ true = subst (λ s. is_demanded row s (row_of tree) ≡ true) same (subst (λ t. is_demanded row step (row_of t) ≡ true) tree_is d) in
+    let inside : IsConflictIn (is_refused row next) tree conflict = subst (λ s. IsConflictIn (is_refused row s) tree conflict) same (subst (λ t. IsConflictIn (is_refused row step) t conflict) tree_is k) in
+    let found : List Conflict = conflicts_in (is_refused row next) tree in
+    one_left (λ y. y ≡ under (step ∷ []) conflict) (only_if (is_demanded row next (row_of tree)) (map (under (next ∷ [])) found)) (conflicts_below row children)
+    (only_one (is_demanded row next (row_of tree)) (λ y. y ≡ under (step ∷ []) conflict) (map (under (next ∷ [])) found) asked
+    (subst (λ s. OneOf (λ y. y ≡ under (s ∷ []) conflict) (map (under (next ∷ [])) found)) (sym same)
+    (one_map (λ y. y ≡ conflict) (λ y. y ≡ under (next ∷ []) conflict) (under (next ∷ [])) found (λ y f. ap (under (next ∷ [])) f) (first inside))))
+
+mutual
+  complete_in : (not_allowed : Bool) (tree : Tree Row) (conflict : Conflict) (path : Path) → conflict.path ≡ path → IsTable Refuses IsRow tree → IsConflictIn not_allowed tree conflict → OneOf (λ y. y ≡ conflict) (conflicts_in not_allowed tree)
+  complete_in not_allowed (node row children) conflict [] e h k =
+      one_left (λ y. y ≡ conflict) (conflict_here (has_no_value row) not_allowed) (conflicts_below row children)
+      (here_complete not_allowed (node row children) conflict (row_form (node row children) h) e k)
+  complete_in not_allowed (node row children) conflict (step ∷ path) e h k =
+      ⊎_elim (λ f. absurd (conflict_stands not_allowed (node row children) step conflict path e f k)) (λ found.
+      let tree : Tree Row = node row children in
+      let below_it = conflict_down not_allowed tree found.0 step conflict path e found.1 k in
+      one_right (λ y. y ≡ conflict) (conflict_here (has_no_value row) not_allowed) (conflicts_below row children)
+      (subst (λ p. OneOf (λ y. y ≡ record conflict { path = p }) (conflicts_below row children)) (sym e)
+      (complete_below row children step found.0 (record conflict { path = path }) h.1 found.1 below_it.0 below_it.1)))
+      (found_cases (find step children))
+
+  complete_below :
+      (row : Option Row) (children : Children Row) (step : paths.Step) (inner : Tree Row) (conflict : Conflict) → AreBranches (IsKept Refuses IsRow) children
+      → find step children ≡ Some inner → is_demanded row step (row_of inner) ≡ true → IsConflictIn (is_refused row step) inner conflict
+      → OneOf (λ y. y ≡ under (step ∷ []) conflict) (conflicts_below row children)
+  complete_below row none step inner conflict h f d k = cc
+  complete_below row (child next tree children) step inner conflict h f d k =
+      taken row next tree children step inner conflict (step_cmp step next) refl f d k
+      (λ g. complete_below row children step inner conflict h.3 g d k)
+      (λ inside. complete_in (is_refused row next) tree conflict conflict.path refl h.2 inside)
+
+-- ---- in the order of their paths
+abbrev place_of : Conflict → Path
+place_of conflict = conflict.path
+
+below_behind : (low : paths.Step) (row : Option Row) (children : Children Row) → IsBelowAll low children → AreBehind place_of low (conflicts_below row children)
+below_behind low row none h = tt
+below_behind low row (child step tree children) h =
+    all_append _ (only_if (is_demanded row step (row_of tree)) (map (under (step ∷ [])) (conflicts_in (is_refused row step) tree))) (conflicts_below row children)
+    (when (is_demanded row step (row_of tree)) (map (under (step ∷ [])) (conflicts_in (is_refused row step) tree))
+    (lifted_behind place_of (under (step ∷ [])) step (λ x. refl) low (conflicts_in (is_refused row step) tree) h.0))
+    (below_behind low row children h.1)
+  where
+    when : (b : Bool) (xs : List Conflict) → AreBehind place_of low xs → AreBehind place_of low (only_if b xs)
+    when true xs k = k
+    when false xs k = tt
+
+-- the path of the place itself is before all below
+root_first : (row : Option Row) (children : Children Row) → AllByRecursion (λ y. paths.path_cmp [] (place_of y) ≡ Less) (conflicts_below row children)
+root_first row none = tt
+root_first row (child step tree children) =
+    all_append _ (only_if (is_demanded row step (row_of tree)) (map (under (step ∷ [])) (conflicts_in (is_refused row step) tree))) (conflicts_below row children)
+    (when (is_demanded row step (row_of tree)) (conflicts_in (is_refused row step) tree)) (root_first row children)
+  where
+    each : (xs : List Conflict) → AllByRecursion (λ y. paths.path_cmp [] (place_of y) ≡ Less) (map (under (step ∷ [])) xs)
+    each [] = tt
+    each (x ∷ xs) = (refl, each xs)
+
+    when : (b : Bool) (xs : List Conflict) → AllByRecursion (λ y. paths.path_cmp [] (place_of y) ≡ Less) (only_if b (map (under (step ∷ [])) xs))
+    when true xs = each xs
+    when false xs = tt
+
+mutual
+  rising_in : (not_allowed : Bool) (tree : Tree Row) → IsTable Refuses IsRow tree → IsRising place_of (conflicts_in not_allowed tree)
+  rising_in not_allowed (node row children) h =
+      with_here (has_no_value row || not_allowed) (record { path = []; no_value = has_no_value row; not_allowed = not_allowed }) (conflicts_below row children)
+      refl (rising_below row children h.1) (root_first row children)
+    where
+      with_here : (b : Bool) (x : Conflict) (xs : List Conflict) → place_of x ≡ [] → IsRising place_of xs → AllByRecursion (λ y. paths.path_cmp [] (place_of y) ≡ Less) xs → IsRising place_of (only_if b (x ∷ []) ++ xs)
+      with_here true x xs e k f = (subst (λ p. AllByRecursion (λ y. paths.path_cmp p (place_of y) ≡ Less) xs) (sym e) f, k)
+      with_here false x xs e k f = k
+
+  rising_below : (row : Option Row) (children : Children Row) → AreBranches (IsKept Refuses IsRow) children → IsRising place_of (conflicts_below row children)
+  rising_below row none h = tt
+  rising_below row (child step tree children) h =
+      joined (is_demanded row step (row_of tree)) (conflicts_in (is_refused row step) tree) (conflicts_below row children)
+      (rising_in (is_refused row step) tree h.2) (rising_below row children h.3) (below_behind step row children h.0)
+    where
+      joined : (b : Bool) (xs ys : List Conflict) → IsRising place_of xs → IsRising place_of ys → AreBehind place_of step ys → IsRising place_of (only_if b (map (under (step ∷ [])) xs) ++ ys)
+      joined true xs ys k l f =
+          rising_append place_of (map (under (step ∷ [])) xs) ys (rising_lifted place_of (under (step ∷ [])) step (λ x. refl) xs k) l
+          (lifted_before place_of (under (step ∷ [])) step (λ x. refl) xs ys f)
+      joined false xs ys k l f = l
+
+-- ---- the whole table
+at_root : (refuses : Refusals) (path : Path) → IsBarred false refuses path ↔ IsNotAllowed refuses path
+at_root refuses [] = (λ h. absurd (false≢true h), λ h. absurd (root_allowed refuses h))
+at_root refuses (step ∷ path) = (λ h. h, λ h. h)
+
+-- what a search from the root finds are the conflicts of the table
+pub conflicts_found : (tree : Tree Row) → IsTable Refuses IsRow tree → AreConflicts (Told tree) (conflicts_in false tree)
+conflicts_found tree h = record {
+  sound = all_from (IsConflictIn false tree) (IsConflict (Told tree)) (conflicts_in false tree)
+      (λ x k. record { demanded = k.demanded; no_value = k.no_value; not_allowed = both_ways k.barred (at_root (Told tree) x.path); cause = k.cause })
+      (sound_in false tree h);
+  complete = λ x k. complete_in false tree x x.path refl h
+      (let same = at_root (Told tree) x.path in record { demanded = k.demanded; no_value = k.no_value; barred = both_ways k.not_allowed (same.1, same.0); cause = k.cause });
+  rising = rising_in false tree h;
+}
+
+-- the place of the root is the whole path
+pub under_root : (xs : List Conflict) → map (under []) xs ≡ xs
+under_root [] = refl
+under_root (x ∷ xs) = ap (λ ys. x ∷ ys) (under_root xs)
+
+-- a search that began with nothing has found these
+pub from_nothing :
+    (tree root : Tree Row) (before after : List Conflict) (path : Path) → IsTable Refuses IsRow tree → root ≡ tree → before ≡ [] → path ≡ []
+    → after ≡ before ++ map (under path) (conflicts_in false root) → AreConflicts (Told tree) after
+from_nothing tree root before after path h r b p e =
+    let found : after ≡ conflicts_in false tree =
+    e ∙ ap (λ t. before ++ map (under path) (conflicts_in false t)) r ∙ ap (λ xs. xs ++ map (under path) (conflicts_in false tree)) b
+    ∙ ap (λ q. map (under q) (conflicts_in false tree)) p ∙ under_root (conflicts_in false tree) in
+    subst (AreConflicts (Told tree)) (sym found) (conflicts_found tree h)

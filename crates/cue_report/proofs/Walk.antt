@@ -1,0 +1,123 @@
+-- The walk of a search over the branches of a place.
+use Rattle.std.proofs.Common.{◌≡◌, ◌↔◌, ℕ, ◌+◌, ◌-◌, ◌<◌, ◌≤◌, Bool, true, false, not, ◌||◌, List, [], ◌∷◌, ◌++◌, length, take, map, Option, None, Some, refl, sym, ap, subst, ◌∙◌, arith, Bor, append_assoc, length-append}
+use Rattle.std.proofs.lemmas.List.{append-nil, map-append, map_push, take_all, take-append-le}
+use Rattle.cue_lattice.specs.Path as paths
+use Rattle.cue_lattice.specs.Path.{Path}
+use Rattle.cue_row.specs.declared.row.Row.{Row}
+use Rattle.cue_row.specs.declared.step.Step.{Step}
+use Rattle.cue_table.specs.Tree.{Tree, node, Children, none, child, row_of, below, children_of}
+use Rattle.cue_table.specs.Size.{tree_size, children_size}
+use Rattle.cue_table.specs.Walks.{first_child}
+use Rattle.cue_report.specs.declared.conflict.Conflict.{Conflict}
+use Rattle.cue_report.specs.Search.{under, only_if, has_no_value, conflict_here, is_demanded, is_refused, conflicts_in, conflicts_below}
+use Rattle.cue_report.proofs.Trails.{shown}
+
+-- what is seen from a place is seen from the place above
+pub under_further : (path : Path) (step : paths.Step) (xs : List Conflict) → map (under (path ++ step ∷ [])) xs ≡ map (under path) (map (under (step ∷ [])) xs)
+under_further path step [] = refl
+under_further path step (x ∷ xs) =
+    let e : (path ++ step ∷ []) ++ x.path ≡ path ++ step ∷ x.path = append_assoc path (step ∷ []) x.path in
+    let first : under (path ++ step ∷ []) x ≡ under path (under (step ∷ []) x) = ap (λ (p : Path). record x { path = p }) e in
+    ap (λ y. y ∷ map (under (path ++ step ∷ [])) xs) first ∙ ap (λ ys. under path (under (step ∷ []) x) ∷ ys) (under_further path step xs)
+
+-- Of the branches of a place, some are left to be looked at.
+pub record IsWalking (row : Option Row) (all rest : Children Row) (before after : List Conflict) (steps now : List (Bor Step)) : Type 0 where
+  pub same : now ≡ steps
+  pub found : after ++ map (under (map shown steps)) (conflicts_below row rest) ≡ before ++ map (under (map shown steps)) (conflicts_below row all)
+  pub small : children_size rest ≤ children_size all
+
+-- the last step is taken back
+pub popped : {A : Type 0} (xs old new : List A) (x : A) (n : ℕ) → old ≡ xs ++ x ∷ [] → n ≡ length old → new ≡ take (n - 1) old → new ≡ xs
+popped xs old new x n e l h =
+    let long : length old ≡ length xs + 1 = ap length e ∙ length-append xs (x ∷ []) in
+    let k : n - 1 ≡ length xs = omega arith in
+    h ∙ ap (λ m. take m old) k ∙ ap (take (length xs)) e ∙ take-append-le (length xs) xs (x ∷ []) (omega arith) ∙ take_all (length xs) xs (omega arith)
+
+rearranged : (before after found new tail : List Conflict) (path : Path) → before ≡ after ++ map (under path) (found ++ new) → tail ≡ after ++ map (under path) found → tail ++ map (under path) new ≡ before
+rearranged before after found new tail path b t =
+    ap (λ xs. xs ++ map (under path) new) t ∙ append_assoc after (map (under path) found) (map (under path) new)
+    ∙ ap (λ xs. after ++ xs) (sym (map-append (under path) found new)) ∙ sym b
+
+-- the next branch is looked at
+pub walked_in :
+    (row : Option Row) (all rest rest' : Children Row) (step : paths.Step) (tree : Tree Row) (before after after' : List Conflict) (steps now pushed now' : List (Bor Step)) (x : Bor Step)
+    → IsWalking row all rest before after steps now → children_of rest ≡ (step, tree) ∷ children_of rest' → is_demanded row step (row_of tree) ≡ true
+    → shown x ≡ step → pushed ≡ now ++ x ∷ []
+    → after' ≡ after ++ map (under (map shown pushed)) (conflicts_in (is_refused row step) tree) → now' ≡ now
+    → IsWalking row all rest' before after' steps now'
+walked_in row all rest rest' step tree before after after' steps now pushed now' x w c d s p a n =
+    let split : rest ≡ child step tree rest' = first_child rest rest' step tree c in
+    let inner : List Conflict = conflicts_in (is_refused row step) tree in
+    let path : Path = map shown steps in
+    let trail : map shown pushed ≡ path ++ step ∷ [] =
+    ap (map shown) p ∙ map_push shown now x ∙ ap (λ z. map shown now ++ z ∷ []) s ∙ ap (λ zs. map shown zs ++ step ∷ []) w.same in
+    let found : before ++ map (under path) (conflicts_below row all) ≡ after ++ map (under path) (map (under (step ∷ [])) inner ++ conflicts_below row rest') =
+    sym w.found ∙ ap (λ cs. after ++ map (under path) (conflicts_below row cs)) split
+    ∙ ap (λ b. after ++ map (under path) (only_if b (map (under (step ∷ [])) inner) ++ conflicts_below row rest')) d in
+    let tail : after' ≡ after ++ map (under path) (map (under (step ∷ [])) inner) =
+    a ∙ ap (λ q. after ++ map (under q) inner) trail ∙ ap (λ xs. after ++ xs) (under_further path step inner) in
+    record {
+      same = n ∙ w.same;
+      found = rearranged _ after (map (under (step ∷ [])) inner) (conflicts_below row rest') after' path found tail;
+      small = let size : children_size rest ≡ tree_size tree + children_size rest' = ap children_size split in omega (arith, w.small);
+    }
+
+-- or passed over
+pub walked_past :
+    (row : Option Row) (all rest rest' : Children Row) (step : paths.Step) (tree : Tree Row) (before after : List Conflict) (steps now : List (Bor Step))
+    → IsWalking row all rest before after steps now → children_of rest ≡ (step, tree) ∷ children_of rest' → is_demanded row step (row_of tree) ≡ false
+    → IsWalking row all rest' before after steps now
+walked_past row all rest rest' step tree before after steps now w c d =
+    let split : rest ≡ child step tree rest' = first_child rest rest' step tree c in
+    let path : Path = map shown steps in
+    record {
+      same = w.same;
+      found = sym (ap (λ cs. after ++ map (under path) (conflicts_below row cs)) split
+          ∙ ap (λ b. after ++ map (under path) (only_if b (map (under (step ∷ [])) (conflicts_in (is_refused row step) tree)) ++ conflicts_below row rest')) d)
+          ∙ w.found;
+      small = let size : children_size rest ≡ tree_size tree + children_size rest' = ap children_size split in omega (arith, w.small);
+    }
+
+-- each branch that is looked at is smaller than the place
+pub inner_smaller :
+    (tree : Tree Row) (rest rest' : Children Row) (step : paths.Step) (inner : Tree Row) → children_size rest ≤ children_size (below tree)
+    → children_of rest ≡ (step, inner) ∷ children_of rest' → tree_size inner < tree_size tree
+inner_smaller (node row children) rest rest' step inner s c =
+    let size : children_size rest ≡ tree_size inner + children_size rest' = ap children_size (first_child rest rest' step inner c) in
+    omega arith
+
+none_left : (rest : Children Row) → children_of rest ≡ [] → rest ≡ none
+none_left none e = refl
+none_left (child step tree rest) e = cc
+
+-- all branches were looked at
+walked :
+    (tree : Tree Row) (rest : Children Row) (not_allowed : Bool) (start before after : List Conflict) (steps now : List (Bor Step))
+    → IsWalking (row_of tree) (below tree) rest before after steps now → children_of rest ≡ []
+    → before ≡ start ++ map (under (map shown steps)) (conflict_here (has_no_value (row_of tree)) not_allowed)
+    → after ≡ start ++ map (under (map shown steps)) (conflicts_in not_allowed tree)
+walked (node row children) rest not_allowed start before after steps now w e b =
+    let path : Path = map shown steps in
+    let here : List Conflict = conflict_here (has_no_value row) not_allowed in
+    sym (append-nil after) ∙ ap (λ cs. after ++ map (under path) (conflicts_below row cs)) (sym (none_left rest e)) ∙ w.found
+    ∙ ap (λ xs. xs ++ map (under path) (conflicts_below row children)) b
+    ∙ append_assoc start (map (under path) here) (map (under path) (conflicts_below row children))
+    ∙ ap (λ xs. start ++ xs) (sym (map-append (under path) here (conflicts_below row children)))
+
+-- what the code asks of a step, by the rows that it has
+pub demand_is : (above above' row row' : Option Row) (step : paths.Step) (found wanted : Bool) → found ≡ is_demanded above step row → above ≡ above' → row ≡ row' → found ≡ wanted → is_demanded above' step row' ≡ wanted
+demand_is above above' row row' step found wanted f a r w = sym (ap (λ q. is_demanded q step row') a) ∙ sym (ap (λ q. is_demanded above step q) r) ∙ sym f ∙ w
+
+pub refusal_is : (above above' : Option Row) (step : paths.Step) (found : Bool) → found ≡ is_refused above step → above ≡ above' → found ≡ is_refused above' step
+refusal_is above above' step found f a = f ∙ ap (λ q. is_refused q step) a
+
+-- the same, from where the search was before it looked at the place itself
+pub walked_from :
+    (tree : Tree Row) (rest : Children Row) (not_allowed : Bool) (start before after : List Conflict) (steps now : List (Bor Step)) (path : Path)
+    → IsWalking (row_of tree) (below tree) rest before after steps now → children_of rest ≡ [] → map shown steps ≡ path
+    → before ≡ start ++ map (under path) (conflict_here (has_no_value (row_of tree)) not_allowed)
+    → after ≡ start ++ map (under path) (conflicts_in not_allowed tree)
+walked_from tree rest not_allowed start before after steps now path w e p b =
+    walked tree rest not_allowed start before after steps now w e
+    (b ∙ ap (λ q. start ++ map (under q) (conflict_here (has_no_value (row_of tree)) not_allowed)) (sym p))
+    ∙ ap (λ q. start ++ map (under q) (conflicts_in not_allowed tree)) p

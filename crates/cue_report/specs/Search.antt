@@ -1,0 +1,85 @@
+-- How the lists of a report are found, place by place.
+use Rattle.std.specs.Prelude.{ℕ, ℤ, Bool, true, false, not, ◌&&◌, ◌||◌, List, [], ◌∷◌, ◌++◌, map, nat_lt, Option, None, Some}
+use Rattle.cue_lattice.specs.Path as paths
+use Rattle.cue_lattice.specs.Path.{label, index, Path}
+use Rattle.cue_scalars.specs.declared.scalar_set.ScalarSet.{ScalarSet}
+use Rattle.cue_row.specs.LabelSets.{allows_label}
+use Rattle.cue_row.specs.Steps.{step_of}
+use Rattle.cue_row.specs.declared.level.Level.{Level}
+use Rattle.cue_row.specs.declared.level.Level.TheVariants.{Optional, Required, Given}
+use Rattle.cue_row.specs.declared.row.Row.{Row}
+use Rattle.cue_table.specs.Tree.{Tree, node, Children, none, child, row_of}
+use Rattle.cue_report.specs.declared.conflict.Conflict.{Conflict}
+
+abbrev pub is_nil : {X : Type 0} → List X → Bool
+is_nil [] = true
+is_nil (x ∷ xs) = false
+
+-- whether no scalar is in the set
+abbrev pub is_empty_set : ScalarSet → Bool
+is_empty_set set = not (set.null || set.no || set.yes) && (is_nil set.ints && (not set.texts.0 && is_nil set.texts.1))
+
+-- whether the least length is above the greatest
+abbrev pub is_above : ℕ → Option ℕ → Bool
+is_above least None = false
+is_above least (Some most) = nat_lt most least
+
+-- whether no value may stand
+abbrev pub lacks_value : Row → Bool
+lacks_value row =
+    (row.list_ok && is_above row.least row.most) || (not row.list_ok && (not row.struct_ok && is_empty_set row.value))
+
+abbrev pub has_no_value : Option Row → Bool
+has_no_value None = false
+has_no_value (Some row) = lacks_value row
+
+-- whether a field is required or there
+abbrev pub is_wanted : Level → Bool
+is_wanted Optional = false
+is_wanted Required = true
+is_wanted Given = true
+
+abbrev pub has_level : Option Row → Bool
+has_level None = false
+has_level (Some row) = is_wanted row.level
+
+-- whether each list is longer than n
+abbrev pub is_longer : Option Row → ℕ → Bool
+is_longer None n = false
+is_longer (Some row) n = nat_lt n row.least
+
+-- whether the step from one place to the next is demanded, by the rows of both
+abbrev pub is_demanded : Option Row → paths.Step → Option Row → Bool
+is_demanded above (label text) row = has_level row
+is_demanded above (index n) row = is_longer above n
+
+-- whether the place above refuses the label of the step
+abbrev pub is_refused : Option Row → paths.Step → Bool
+is_refused None step = false
+is_refused (Some row) (label text) = not (allows_label row.labels text)
+is_refused (Some row) (index n) = false
+
+-- the conflict of a path, seen from a place above it
+abbrev pub under : Path → Conflict → Conflict
+under path conflict = record conflict { path = path ++ conflict.path }
+
+-- the list, or nothing
+abbrev pub only_if : {X : Type 0} → Bool → List X → List X
+only_if true xs = xs
+only_if false xs = []
+
+-- the conflict at a place itself, by its two causes
+abbrev pub conflict_here : Bool → Bool → List Conflict
+conflict_here no_value not_allowed =
+    only_if (no_value || not_allowed) (record { path = []; no_value = no_value; not_allowed = not_allowed } ∷ [])
+
+-- the conflicts at a place and below, of which the place above refuses the label or not
+abbrev mutual
+  pub conflicts_in : Bool → Tree Row → List Conflict
+  conflicts_in not_allowed (node row children) = conflict_here (has_no_value row) not_allowed ++ conflicts_below row children
+
+  pub conflicts_below : Option Row → Children Row → List Conflict
+  conflicts_below row none = []
+  conflicts_below row (child step tree children) =
+      only_if (is_demanded row step (row_of tree)) (map (under (step ∷ [])) (conflicts_in (is_refused row step) tree))
+      ++ conflicts_below row children

@@ -1,0 +1,52 @@
+ghost use Rattle.std.specs.Prelude.{◌≡◌};
+ghost use Rattle.std.specs.Option.{option_map};
+ghost use Rattle.cue_row.specs.Row.{IsRow};
+ghost use Rattle.cue_row.specs.Steps.{step_of};
+ghost use Rattle.cue_report.specs.Search as search;
+
+use cue_row::{Level, Row, Step};
+
+/// Whether no value may stand at a place: no scalar, struct or list, or a list of no length.
+pub(crate) fn lacks_value(row: &Row) -> bool
+    requires { IsRow row.now }
+    ensures { result ≡ search.lacks_value row.now }
+{
+    if row.list_ok {
+        return match row.most {
+            None => false,
+            Some(most) => most < row.least,
+        };
+    }
+    !row.struct_ok && row.value.is_empty()
+}
+
+/// Whether the step from one place to the next is demanded: to a field that is required or there, or to an element
+/// that each list has.
+pub(crate) fn is_demanded(above: Option<&Row>, step: &Step, row: Option<&Row>) -> bool
+    ensures { result ≡ search.is_demanded (option_map (λ row. row.now) above.entry) (step_of step.now)
+        (option_map (λ row. row.now) row.entry) }
+{
+    match step {
+        Step::Label(_) => match row {
+            None => false,
+            Some(row) => match row.level {
+                Level::Optional => false,
+                Level::Required | Level::Given => true,
+            },
+        },
+        Step::Index(number) => match above {
+            None => false,
+            Some(above) => *number < above.least,
+        },
+    }
+}
+
+/// Whether a place does not allow the label of a step.
+pub(crate) fn is_refused(above: Option<&Row>, step: &Step) -> bool
+    ensures { result ≡ search.is_refused (option_map (λ row. row.now) above.entry) (step_of step.now) }
+{
+    match (above, step) {
+        (Some(row), Step::Label(label)) => !row.labels.allows(label.as_str()),
+        _ => false,
+    }
+}
