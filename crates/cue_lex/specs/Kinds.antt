@@ -2,9 +2,10 @@
 use Rattle.std.specs.Prelude.{Bool, true, false}
 use Rattle.cue_lex.specs.declared.token.TokenKind.{TokenKind}
 use Rattle.cue_lex.specs.declared.token.TokenKind.TheVariants as kinds
+use Rattle.cue_lex.specs.declared.punctuation.Punctuation.TheVariants as points
 
 abbrev pub is_minus : TokenKind → Bool
-is_minus kinds.Minus = true
+is_minus (kinds.Mark points.Minus) = true
 is_minus _ = false
 
 -- a line break after such a token inserts a comma
@@ -15,10 +16,10 @@ ends_line (kinds.Hidden name) = true
 ends_line (kinds.Text text) = true
 ends_line (kinds.Integer n) = true
 ends_line kinds.Bottom = true
-ends_line kinds.CloseParenthesis = true
-ends_line kinds.CloseBracket = true
-ends_line kinds.CloseBrace = true
-ends_line kinds.Ellipsis = true
-ends_line kinds.Question = true
-ends_line kinds.Exclamation = true
+ends_line (kinds.Mark points.CloseParenthesis) = true
+ends_line (kinds.Mark points.CloseBracket) = true
+ends_line (kinds.Mark points.CloseBrace) = true
+ends_line (kinds.Mark points.Ellipsis) = true
+ends_line (kinds.Mark points.Question) = true
+ends_line (kinds.Mark points.Exclamation) = true
 ends_line _ = false

@@ -6,6 +6,7 @@ use Rattle.cue_lattice.specs.declared.refusal.Kind.TheVariants as refusals
 use Rattle.cue_lattice.specs.declared.refusal.Refusal.{Refusal}
 use Rattle.cue_lattice.specs.Limits.{word_limit}
 use Rattle.cue_lattice.specs.Refusal.{memory, refusal_at}
+use Rattle.cue_lex.specs.declared.punctuation.Punctuation.{Punctuation}
 use Rattle.cue_lex.specs.declared.token.TokenKind.{TokenKind}
 use Rattle.cue_lex.specs.declared.token.TokenKind.TheVariants as kinds
 use Rattle.cue_lex.specs.declared.lexeme.Lexeme.{Lexeme}
@@ -56,9 +57,9 @@ unfoldable pub name : ℕ → ℕ → List ℕ → Result Lexeme Refusal
 name place len bytes = if nat_le len word_limit then Ok (Word (name_kind (take len bytes)) len) else refused refusals.TextTooLong place
 
 -- punctuation, if there is some
-abbrev pub punctuation : ℕ → Option (TokenKind × ℕ) → Result Lexeme Refusal
+abbrev pub punctuation : ℕ → Option (Punctuation × ℕ) → Result Lexeme Refusal
 punctuation place None = refused refusals.BadCharacter place
-punctuation place (Some (kind, len)) = Ok (Word kind len)
+punctuation place (Some (mark, len)) = Ok (Word (kinds.Mark mark) len)
 
 -- white space on a line
 abbrev pub is_space : ℕ → Bool

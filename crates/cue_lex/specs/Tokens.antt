@@ -6,6 +6,7 @@ use Rattle.cue_lattice.specs.Limits.{text_limit}
 use Rattle.cue_lattice.specs.Refusal.{refusal_at}
 use Rattle.cue_lex.specs.declared.token.Token.{Token}
 use Rattle.cue_lex.specs.declared.token.TokenKind.TheVariants as kinds
+use Rattle.cue_lex.specs.declared.punctuation.Punctuation.TheVariants as points
 use Rattle.cue_lex.specs.declared.lexeme.Lexeme.{Lexeme}
 use Rattle.cue_lex.specs.declared.lexeme.Lexeme.TheVariants.{Blank, LineBreak, Word}
 use Rattle.cue_lex.specs.Lexemes.{lexeme}
@@ -38,7 +39,7 @@ pieces minus zero place (b ∷ bytes) = at_place minus place (lexeme minus place
 
 -- a comma that a line break inserts after a token that ends there
 abbrev pub inserted : ℕ → Token
-inserted end = record { kind = kinds.Comma; from = end; to = end }
+inserted end = record { kind = (kinds.Mark points.Comma); from = end; to = end }
 
 -- where a line break after the token inserts a comma, if it does
 abbrev pub line_end : Token → Option ℕ

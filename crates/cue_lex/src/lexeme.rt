@@ -67,7 +67,7 @@ pub fn lexeme_at<'a>(
         return name(text, len, at);
     }
     match mark(bytes) {
-        Some((kind, len)) => Ok(Lexeme::Word(kind, len)),
+        Some((mark, len)) => Ok(Lexeme::Word(TokenKind::Mark(mark), len)),
         None => Err(Refusal::at(Kind::BadCharacter, at)),
     }
 }

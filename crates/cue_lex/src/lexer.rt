@@ -6,7 +6,7 @@ ghost use Rattle.cue_lex.specs.Tokens.{tokens, too_long, Piece, at_place, commas
 ghost use Rattle.cue_lex.specs.Lexemes.{len_of};
 
 use crate::lexeme::{Lexeme, lexeme_at};
-use crate::{Token, TokenKind};
+use crate::{Punctuation, Token, TokenKind};
 use cue_lattice::{Kind, Memory, Refusal, TEXT_LIMIT};
 use std::alloc::Global;
 
@@ -79,7 +79,7 @@ fn add<'a>(
         Lexeme::LineBreak => {
             if let Some(end) = before.line_end {
                 tokens.push(Token {
-                    kind: TokenKind::Comma,
+                    kind: TokenKind::Mark(Punctuation::Comma),
                     from: end,
                     to: end,
                 })?;

@@ -1,7 +1,7 @@
 ghost use Rattle.std.specs.Prelude.{◌≡◌};
 ghost use Rattle.cue_lex.specs.Kinds.{is_minus, ends_line};
 
-use crate::{Quoted, Word};
+use crate::{Punctuation, Quoted, Word};
 
 /// A token of a text: what it is, and from which byte to before which byte it stands. A text has at
 /// most 1,048,576 bytes. An inserted comma is empty: `from` and `to` are the end of the token before
@@ -28,48 +28,7 @@ pub enum TokenKind<'a> {
     Integer(u64),
     /// `_|_`
     Bottom,
-    /// `{`
-    OpenBrace,
-    /// `}`
-    CloseBrace,
-    /// `[`
-    OpenBracket,
-    /// `]`
-    CloseBracket,
-    /// `(`
-    OpenParenthesis,
-    /// `)`
-    CloseParenthesis,
-    /// `:`
-    Colon,
-    /// A comma, written or inserted.
-    Comma,
-    /// `?`
-    Question,
-    /// `!`
-    Exclamation,
-    /// `|`
-    Bar,
-    /// `&`
-    Ampersand,
-    /// `*`
-    Star,
-    /// `-`
-    Minus,
-    /// `+`
-    Plus,
-    /// `<`
-    Less,
-    /// `<=`
-    AtMost,
-    /// `>`
-    Greater,
-    /// `>=`
-    AtLeast,
-    /// `!=`
-    NotEqual,
-    /// `...`
-    Ellipsis,
+    Mark(Punctuation),
 }
 
 impl<'a> TokenKind<'a> {
@@ -77,7 +36,7 @@ impl<'a> TokenKind<'a> {
         ensures { result ≡ is_minus self.now }
     {
         match self {
-            TokenKind::Minus => true,
+            TokenKind::Mark(Punctuation::Minus) => true,
             _ => false,
         }
     }
@@ -93,12 +52,14 @@ impl<'a> TokenKind<'a> {
             | TokenKind::Text(_)
             | TokenKind::Integer(_)
             | TokenKind::Bottom
-            | TokenKind::CloseParenthesis
-            | TokenKind::CloseBracket
-            | TokenKind::CloseBrace
-            | TokenKind::Ellipsis
-            | TokenKind::Question
-            | TokenKind::Exclamation => true,
+            | TokenKind::Mark(
+                Punctuation::CloseParenthesis
+                | Punctuation::CloseBracket
+                | Punctuation::CloseBrace
+                | Punctuation::Ellipsis
+                | Punctuation::Question
+                | Punctuation::Exclamation,
+            ) => true,
             _ => false,
         }
     }

@@ -4,6 +4,7 @@ use Rattle.std.specs.Option.{option_map}
 use Rattle.cue_lattice.specs.declared.refusal.Kind.{Kind}
 use Rattle.cue_lattice.specs.declared.refusal.Kind.TheVariants as kinds
 use Rattle.cue_lattice.specs.declared.refusal.Refusal.{Refusal}
+use Rattle.cue_lattice.specs.Limits.{size_limit, step_limit}
 use Rattle.cue_syntax.specs.Syntax.{Entries}
 use Rattle.cue_scope.specs.Definitions.{Definition, definitions, repeats}
 use Rattle.cue_scope.specs.Names.{name_faults}
@@ -36,12 +37,12 @@ pub record HasScalarTerms (es : Entries) : Type 0 where
 -- moreover, the text isn't too large
 pub record IsSmall (es : Entries) : Type 0 where
   pub scalar : HasScalarTerms es
-  pub size : size (meant_text es) ≤ 65536
+  pub size : size (meant_text es) ≤ size_limit
 
 -- A text that passes each check.
 pub record IsLegal (es : Entries) : Type 0 where
   pub small : IsSmall es
-  pub depth : depth (meant_text es) ≤ 64
+  pub depth : depth (meant_text es) ≤ step_limit
 
 -- the first definition in text order that reaches itself has this place
 pub record IsCycleAt (ds : List Definition) (at : ℕ) : Type 0 where
@@ -56,8 +57,8 @@ RefusesAs es kinds.UnknownName place = IsUnrepeated es × IsFirst (record { kind
 RefusesAs es kinds.FieldReference place = IsUnrepeated es × IsFirst (record { kind = kinds.FieldReference; place = place }) (name_faults es)
 RefusesAs es kinds.Cycle place = IsNamed es × IsCycleAt (definitions es) place
 RefusesAs es kinds.NotScalar place = IsOrdered es × IsFirst place (bad_terms es)
-RefusesAs es kinds.TooLarge place = HasScalarTerms es × (65536 < size (meant_text es)) × (place ≡ 0)
-RefusesAs es kinds.TooDeep place = IsSmall es × (64 < depth (meant_text es)) × (place ≡ 0)
+RefusesAs es kinds.TooLarge place = HasScalarTerms es × (size_limit < size (meant_text es)) × (place ≡ 0)
+RefusesAs es kinds.TooDeep place = IsSmall es × (step_limit < depth (meant_text es)) × (place ≡ 0)
 RefusesAs es _ place = ⊥
 
 abbrev pub Refuses : Entries → Refusal → Type 0

@@ -87,7 +87,7 @@ impl<'f> Definitions<'f> {
     }
 }
 
-/// Puts a definition behind the others.
+/// Puts a definition after the others.
 fn add<'f>(
     list: &mut Vec<Definition<'f>>,
     numbers: &mut HashMap<&'f str, usize>,

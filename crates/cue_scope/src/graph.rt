@@ -77,7 +77,7 @@ fn place(alloc: Global, graph: &[Vec<usize>], nodes: &[usize]) -> Result<Placed,
     Ok(Placed { order, ranks })
 }
 
-/// Puts a node behind the others.
+/// Puts a node after the others.
 fn add(order: &mut Vec<usize>, ranks: &mut Vec<usize>, node: usize) -> Result<(), Refusal>
     requires { node < vec_len ranks.old }
     ensures order { OnOk result (order.new.items ≡ order.old.items ++ node ∷ []) }

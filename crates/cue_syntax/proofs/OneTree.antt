@@ -9,12 +9,13 @@ use Rattle.cue_syntax.specs.Spelling.{Reads, one, comma_if, identifier_kind, spe
 use Rattle.cue_syntax.specs.Grammar.{IsRight, AreRight, IsRightBranch, AreRightBranches, IsRightEntry, AreRightEntries, EndsEntries, Limit, IsFile}
 use Rattle.cue_syntax.specs.OneTree.{NoTwoTrees}
 use Rattle.cue_syntax.specs.Syntax.{FileTree, Expression, name, integer, text, bottom, bound, other_integer, other_text, parenthesis, struct, close, list, conjunction, disjunction, Elements, no_elements, element, Branch, branch, Branches, no_branches, next_branch, Entry, ellipsis, field, definition, Entries, no_entries, entry}
-use Rattle.cue_syntax.proofs.Reader.{is_mark, is_name, is_comma, first, behind, behind_comma, identifier_at, identifier_of, is_clause, reader, read_file, as_file, size_of_entries}
-use Rattle.cue_syntax.proofs.Reading.{reads_then}
-use Rattle.cue_syntax.proofs.Cuts.{cut, headed, head_first, head_behind, ends_text, comma_seen, comma_behind, entries_row}
-use Rattle.cue_syntax.proofs.Known.{Knows, KnowsBranch, KnowsEntry, AreKnown, AreKnownBranches, AreKnownEntries, entries_known}
-use Rattle.cue_syntax.proofs.KnownOperands.{name_answers, integer_answers, text_answers, bottom_answers, bound_answers, other_integer_answers, other_text_answers, parenthesis_answers, struct_answers, close_answers, list_answers}
-use Rattle.cue_syntax.proofs.Joins.{operand_knows, conjunction_knows, disjunction_knows, branch_knows, ellipsis_knows, field_knows, definition_knows}
+use Rattle.cue_syntax.proofs.PartsByTheirTokens.{is_mark, is_name, is_comma, first, behind, behind_comma, identifier_at, identifier_of, is_clause}
+use Rattle.cue_syntax.proofs.ReaderOfTrees.{reader, read_file, as_file, size_of_entries}
+use Rattle.cue_syntax.proofs.ReadingsJoin.{reads_then}
+use Rattle.cue_syntax.proofs.ReadingsCut.{cut, headed, head_first, head_behind, ends_text, comma_seen, comma_behind, entries_row}
+use Rattle.cue_syntax.proofs.ReadsRows.{Knows, KnowsBranch, KnowsEntry, AreKnown, AreKnownBranches, AreKnownEntries, entries_known}
+use Rattle.cue_syntax.proofs.ReadsOperands.{name_answers, integer_answers, text_answers, bottom_answers, bound_answers, other_integer_answers, other_text_answers, parenthesis_answers, struct_answers, close_answers, list_answers}
+use Rattle.cue_syntax.proofs.ReadsExpressions.{operand_knows, conjunction_knows, disjunction_knows, branch_knows, ellipsis_knows, field_knows, definition_knows}
 
 mutual
   knows : (e : Expression) → IsRight e → Knows e

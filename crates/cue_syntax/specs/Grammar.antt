@@ -5,6 +5,7 @@ use Rattle.cue_lex.specs.declared.token.Token.{Token}
 use Rattle.cue_syntax.specs.declared.tree.Identifier.{Identifier}
 use Rattle.cue_syntax.specs.declared.tree.Identifier.TheVariants as identifiers
 use Rattle.cue_lex.specs.declared.token.TokenKind.TheVariants as kinds
+use Rattle.cue_lex.specs.declared.punctuation.Punctuation.TheVariants as points
 use Rattle.cue_syntax.specs.Spelling.{Reads, one, comma_if, spell, spell_elements, spell_branch, spell_entry, spell_entries, spell_file}
 use Rattle.cue_syntax.specs.declared.tree.Package.{Package}
 use Rattle.cue_syntax.specs.declared.tree.Sign.{Sign}
@@ -70,7 +71,7 @@ abbrev pub IsTerm : Bool → Expression → Type 0
 IsTerm true e = IsUnary e
 IsTerm false e = IsConjunct e
 
--- a comma stands behind something
+-- a comma stands after something
 abbrev pub EndsEntries : Bool → Entries → Type 0
 EndsEntries true no_entries = ⊥
 EndsEntries _ _ = ⊤
@@ -117,7 +118,7 @@ abbrev mutual
   AreRightEntries (entry e es) = IsRightEntry e × AreRightEntries es
 
 -- how many levels a tree opens at its deepest place: one for each parenthesis, brace and bracket, and one for each
--- label of a chain behind the first
+-- label of a chain after the first
 abbrev mutual
   pub levels : Expression → ℕ
   levels (name n from) = 0
@@ -179,7 +180,7 @@ pub record IsLiteral (tokens : List Token) (e : Expression) (rest : List Token) 
 
 -- elements and then a comma, where the truth value says that one follows
 pub record AreElements (room : ℕ) (tokens : List Token) (es : Elements) (comma : Bool) (rest : List Token) : Type 0 where
-  pub reads : Reads tokens (spell_elements kinds.Comma es ++ comma_if comma) rest
+  pub reads : Reads tokens (spell_elements (kinds.Mark points.Comma) es ++ comma_if comma) rest
   pub right : AreRight es
   pub ends : EndsElements comma false es
   pub levels : levels_of_elements es ≤ room
@@ -192,7 +193,7 @@ pub record AreEntries (room : ℕ) (tokens : List Token) (es : Entries) (comma :
 
 -- declarations, and the brace that closes them
 pub record AreBraced (room : ℕ) (tokens : List Token) (es : Entries) (comma : Bool) (rest : List Token) : Type 0 where
-  pub reads : Reads tokens (spell_entries es ++ comma_if comma ++ one kinds.CloseBrace) rest
+  pub reads : Reads tokens (spell_entries es ++ comma_if comma ++ one (kinds.Mark points.CloseBrace)) rest
   pub right : AreRightEntries es
   pub nested : AreNested es
   pub ends : EndsEntries comma es
@@ -208,12 +209,12 @@ IsPackageName (identifiers.Plain t) = ⊤
 IsPackageName (identifiers.Definition t) = ⊥
 IsPackageName (identifiers.Hidden t) = ¬ HidesDefinition t
 
--- where no comma stands behind the name of a package, no declaration does
+-- where no comma stands after the name of a package, no declaration does
 abbrev pub IsRightPackage : Option Package → Entries → Type 0
 IsRightPackage None es = ⊤
 IsRightPackage (Some clause) es = IsPackageName clause.name × (clause.comma ≡ false → es ≡ no_entries)
 
--- where no comma stands behind the name of a package, nothing stands there
+-- where no comma stands after the name of a package, nothing stands there
 abbrev pub IsWellPackaged : Option Package → Entries → Type 0
 IsWellPackaged None es = ⊤
 IsWellPackaged (Some clause) no_entries = IsPackageName clause.name

@@ -2,7 +2,7 @@ pub mod Syntax
 pub mod Spelling
 pub mod Grammar
 pub mod Files
-pub mod Punctuation
+pub mod Operands
 pub mod Viability
 pub mod Recogniser
 pub mod OneTree

@@ -8,6 +8,7 @@ use Rattle.std.specs.List.{starts_with}
 use Rattle.cue_lex.specs.declared.token.Token.{Token}
 use Rattle.cue_lex.specs.declared.token.TokenKind.{TokenKind}
 use Rattle.cue_lex.specs.declared.token.TokenKind.TheVariants as kinds
+use Rattle.cue_lex.specs.declared.punctuation.Punctuation.TheVariants as points
 use Rattle.cue_syntax.specs.declared.stop.Why.{Why}
 use Rattle.cue_syntax.specs.declared.stop.Why.TheVariants as reasons
 use Rattle.cue_syntax.specs.declared.stop.Stop.{Stop}
@@ -83,11 +84,11 @@ abbrev pub fits : Limit → ℕ → Bool
 fits unlimited n = true
 fits (at_most m) n = nat_le n m
 
--- behind a label: its mark, and then what follows the colon
+-- after a label: its mark, and then what follows the colon
 abbrev pub take_mark : Stack → TokenKind → Option Stack
-take_mark goals kinds.Colon = Some goals
-take_mark goals kinds.Question = Some (colon ∷ goals)
-take_mark goals kinds.Exclamation = Some (colon ∷ goals)
+take_mark goals (kinds.Mark points.Colon) = Some goals
+take_mark goals (kinds.Mark points.Question) = Some (colon ∷ goals)
+take_mark goals (kinds.Mark points.Exclamation) = Some (colon ∷ goals)
 take_mark goals _ = None
 
 -- a name as an operand
@@ -105,24 +106,24 @@ take_unary goals (kinds.Hidden t) = Some goals
 take_unary goals (kinds.Text t) = Some goals
 take_unary goals (kinds.Integer n) = take_integer signs.Absent goals n
 take_unary goals kinds.Bottom = Some goals
-take_unary goals kinds.Minus = Some (magnitude signs.Minus ∷ goals)
-take_unary goals kinds.Plus = Some (magnitude signs.Plus ∷ goals)
-take_unary goals kinds.Less = Some (signed ∷ goals)
-take_unary goals kinds.AtMost = Some (signed ∷ goals)
-take_unary goals kinds.Greater = Some (signed ∷ goals)
-take_unary goals kinds.AtLeast = Some (signed ∷ goals)
-take_unary goals kinds.NotEqual = Some (signed_or_text ∷ goals)
-take_unary goals kinds.OpenParenthesis = Some (expression ∷ parenthesis ∷ goals)
-take_unary goals kinds.OpenBrace = Some (entries false ∷ goals)
-take_unary goals kinds.OpenBracket = Some (elements ∷ goals)
+take_unary goals (kinds.Mark points.Minus) = Some (magnitude signs.Minus ∷ goals)
+take_unary goals (kinds.Mark points.Plus) = Some (magnitude signs.Plus ∷ goals)
+take_unary goals (kinds.Mark points.Less) = Some (signed ∷ goals)
+take_unary goals (kinds.Mark points.AtMost) = Some (signed ∷ goals)
+take_unary goals (kinds.Mark points.Greater) = Some (signed ∷ goals)
+take_unary goals (kinds.Mark points.AtLeast) = Some (signed ∷ goals)
+take_unary goals (kinds.Mark points.NotEqual) = Some (signed_or_text ∷ goals)
+take_unary goals (kinds.Mark points.OpenParenthesis) = Some (expression ∷ parenthesis ∷ goals)
+take_unary goals (kinds.Mark points.OpenBrace) = Some (entries false ∷ goals)
+take_unary goals (kinds.Mark points.OpenBracket) = Some (elements ∷ goals)
 take_unary goals _ = None
 
 abbrev pub take_term : Stack → TokenKind → Option Stack
-take_term goals kinds.Star = Some (unary ∷ goals)
+take_term goals (kinds.Mark points.Star) = Some (unary ∷ goals)
 take_term goals kind = take_unary (more_parts ∷ goals) kind
 
 abbrev pub take_expression : Stack → TokenKind → Option Stack
-take_expression goals kinds.Star = Some (unary ∷ bar ∷ goals)
+take_expression goals (kinds.Mark points.Star) = Some (unary ∷ bar ∷ goals)
 take_expression goals kind = take_unary (more_parts ∷ more_terms ∷ goals) kind
 
 abbrev pub take_value : Stack → TokenKind → Option Stack
@@ -132,40 +133,40 @@ take_value goals kind = take_expression goals kind
 
 abbrev pub take_signed : Stack → TokenKind → Option Stack
 take_signed goals (kinds.Integer n) = take_integer signs.Absent goals n
-take_signed goals kinds.Minus = Some (magnitude signs.Minus ∷ goals)
-take_signed goals kinds.Plus = Some (magnitude signs.Plus ∷ goals)
+take_signed goals (kinds.Mark points.Minus) = Some (magnitude signs.Minus ∷ goals)
+take_signed goals (kinds.Mark points.Plus) = Some (magnitude signs.Plus ∷ goals)
 take_signed goals _ = None
 
--- a declaration; the goals are those behind it
+-- a declaration; the goals are those after it
 abbrev pub take_entry : Bool → Stack → TokenKind → Option Stack
-take_entry top goals kinds.Ellipsis = Some goals
+take_entry top goals (kinds.Mark points.Ellipsis) = Some goals
 take_entry top goals (kinds.Name t) = Some (mark ∷ value ∷ goals)
 take_entry top goals (kinds.Text t) = Some (mark ∷ value ∷ goals)
 take_entry true goals (kinds.Definition t) = Some (colon ∷ value ∷ goals)
 take_entry top goals _ = None
 
--- behind an operand that begins a value
+-- after an operand that begins a value
 abbrev pub take_behind_operand : Stack → Option Stack → TokenKind → Option Stack
-take_behind_operand goals behind kinds.Ampersand = Some (unary ∷ more_parts ∷ more_terms ∷ goals)
-take_behind_operand goals behind kinds.Bar = Some (term ∷ more_terms ∷ goals)
+take_behind_operand goals behind (kinds.Mark points.Ampersand) = Some (unary ∷ more_parts ∷ more_terms ∷ goals)
+take_behind_operand goals behind (kinds.Mark points.Bar) = Some (term ∷ more_terms ∷ goals)
 take_behind_operand goals behind _ = behind
 
--- behind a name that begins a value and is no label
+-- after a name that begins a value and is no label
 abbrev pub take_behind_name : List ℕ → Stack → Option Stack → TokenKind → Option Stack
-take_behind_name t goals behind kinds.OpenParenthesis =
+take_behind_name t goals behind (kinds.Mark points.OpenParenthesis) =
     if is_keyword t then None else (if is_word (codes "close") t then Some (closed ∷ more_parts ∷ more_terms ∷ goals) else behind)
 take_behind_name t goals behind kind = if is_keyword t then None else take_behind_operand goals behind kind
 
 abbrev pub take_value_name : List ℕ → Stack → Option Stack → TokenKind → Option Stack
-take_value_name t goals behind kinds.Colon = take_mark (value ∷ chained ∷ goals) kinds.Colon
-take_value_name t goals behind kinds.Question = take_mark (value ∷ chained ∷ goals) kinds.Question
-take_value_name t goals behind kinds.Exclamation = take_mark (value ∷ chained ∷ goals) kinds.Exclamation
+take_value_name t goals behind (kinds.Mark points.Colon) = take_mark (value ∷ chained ∷ goals) (kinds.Mark points.Colon)
+take_value_name t goals behind (kinds.Mark points.Question) = take_mark (value ∷ chained ∷ goals) (kinds.Mark points.Question)
+take_value_name t goals behind (kinds.Mark points.Exclamation) = take_mark (value ∷ chained ∷ goals) (kinds.Mark points.Exclamation)
 take_value_name t goals behind kind = take_behind_name t goals behind kind
 
 abbrev pub take_value_text : Stack → Option Stack → TokenKind → Option Stack
-take_value_text goals behind kinds.Colon = take_mark (value ∷ chained ∷ goals) kinds.Colon
-take_value_text goals behind kinds.Question = take_mark (value ∷ chained ∷ goals) kinds.Question
-take_value_text goals behind kinds.Exclamation = take_mark (value ∷ chained ∷ goals) kinds.Exclamation
+take_value_text goals behind (kinds.Mark points.Colon) = take_mark (value ∷ chained ∷ goals) (kinds.Mark points.Colon)
+take_value_text goals behind (kinds.Mark points.Question) = take_mark (value ∷ chained ∷ goals) (kinds.Mark points.Question)
+take_value_text goals behind (kinds.Mark points.Exclamation) = take_mark (value ∷ chained ∷ goals) (kinds.Mark points.Exclamation)
 take_value_text goals behind kind = take_behind_operand goals behind kind
 
 -- it begins with `_#`
@@ -182,23 +183,23 @@ take_text goals (kinds.Name t) = if is_word (codes "package") t then Some (packa
 take_text goals kind = take_entry true (more_entries true ∷ goals) kind
 
 abbrev pub take_element : Stack → TokenKind → Option Stack
-take_element goals kinds.CloseBracket = Some goals
-take_element goals kinds.Ellipsis = Some (bracket ∷ goals)
+take_element goals (kinds.Mark points.CloseBracket) = Some goals
+take_element goals (kinds.Mark points.Ellipsis) = Some (bracket ∷ goals)
 take_element goals kind = take_expression (more_elements ∷ goals) kind
 
 -- One token. behind is what the goals below make of it, where the goal is over before it.
 abbrev pub take : Goal → Stack → Option Stack → TokenKind → Option Stack
 take text goals behind kind = take_text goals kind
 take package_word goals behind kind = take_package goals kind
-take package_end goals behind kinds.Comma = Some (entries true ∷ goals)
+take package_end goals behind (kinds.Mark points.Comma) = Some (entries true ∷ goals)
 take package_end goals behind _ = None
-take (entries false) goals behind kinds.CloseBrace = Some goals
+take (entries false) goals behind (kinds.Mark points.CloseBrace) = Some goals
 take (entries top) goals behind kind = take_entry top (more_entries top ∷ goals) kind
-take (more_entries top) goals behind kinds.Comma = Some (entries top ∷ goals)
-take (more_entries false) goals behind kinds.CloseBrace = Some goals
+take (more_entries top) goals behind (kinds.Mark points.Comma) = Some (entries top ∷ goals)
+take (more_entries false) goals behind (kinds.Mark points.CloseBrace) = Some goals
 take (more_entries top) goals behind _ = None
 take mark goals behind kind = take_mark goals kind
-take colon goals behind kinds.Colon = Some goals
+take colon goals behind (kinds.Mark points.Colon) = Some goals
 take colon goals behind _ = None
 take value goals behind kind = take_value goals kind
 take (value_name t) goals behind kind = take_value_name t goals behind kind
@@ -207,34 +208,34 @@ take chained goals behind kind = behind
 take expression goals behind kind = take_expression goals kind
 take term goals behind kind = take_term goals kind
 take unary goals behind kind = take_unary goals kind
-take more_parts goals behind kinds.Ampersand = Some (unary ∷ more_parts ∷ goals)
+take more_parts goals behind (kinds.Mark points.Ampersand) = Some (unary ∷ more_parts ∷ goals)
 take more_parts goals behind _ = behind
-take bar goals behind kinds.Bar = Some (term ∷ more_terms ∷ goals)
+take bar goals behind (kinds.Mark points.Bar) = Some (term ∷ more_terms ∷ goals)
 take bar goals behind _ = None
-take more_terms goals behind kinds.Bar = Some (term ∷ more_terms ∷ goals)
+take more_terms goals behind (kinds.Mark points.Bar) = Some (term ∷ more_terms ∷ goals)
 take more_terms goals behind _ = behind
 take signed goals behind kind = take_signed goals kind
 take signed_or_text goals behind (kinds.Text t) = Some goals
 take signed_or_text goals behind kind = take_signed goals kind
 take (magnitude sign) goals behind (kinds.Integer n) = take_integer sign goals n
 take (magnitude sign) goals behind _ = None
-take behind_close goals behind kinds.OpenParenthesis = Some (closed ∷ goals)
+take behind_close goals behind (kinds.Mark points.OpenParenthesis) = Some (closed ∷ goals)
 take behind_close goals behind _ = behind
-take closed goals behind kinds.OpenBrace = Some (entries false ∷ parenthesis ∷ goals)
+take closed goals behind (kinds.Mark points.OpenBrace) = Some (entries false ∷ parenthesis ∷ goals)
 take closed goals behind _ = None
-take parenthesis goals behind kinds.Comma = Some (parenthesis_end ∷ goals)
-take parenthesis goals behind kinds.CloseParenthesis = Some goals
+take parenthesis goals behind (kinds.Mark points.Comma) = Some (parenthesis_end ∷ goals)
+take parenthesis goals behind (kinds.Mark points.CloseParenthesis) = Some goals
 take parenthesis goals behind _ = None
-take parenthesis_end goals behind kinds.CloseParenthesis = Some goals
+take parenthesis_end goals behind (kinds.Mark points.CloseParenthesis) = Some goals
 take parenthesis_end goals behind _ = None
 take elements goals behind kind = take_element goals kind
-take more_elements goals behind kinds.Comma = Some (elements ∷ goals)
-take more_elements goals behind kinds.CloseBracket = Some goals
+take more_elements goals behind (kinds.Mark points.Comma) = Some (elements ∷ goals)
+take more_elements goals behind (kinds.Mark points.CloseBracket) = Some goals
 take more_elements goals behind _ = None
-take bracket goals behind kinds.Comma = Some (bracket_end ∷ goals)
-take bracket goals behind kinds.CloseBracket = Some goals
+take bracket goals behind (kinds.Mark points.Comma) = Some (bracket_end ∷ goals)
+take bracket goals behind (kinds.Mark points.CloseBracket) = Some goals
 take bracket goals behind _ = None
-take bracket_end goals behind kinds.CloseBracket = Some goals
+take bracket_end goals behind (kinds.Mark points.CloseBracket) = Some goals
 take bracket_end goals behind _ = None
 
 -- The end of the text. behind says whether the goals below are over there.
@@ -251,7 +252,7 @@ over more_terms behind = behind
 over behind_close behind = behind
 over _ behind = false
 
--- the stack behind a token, if one of the grammar can follow
+-- the stack after a token, if one of the grammar can follow
 abbrev pub step : Stack → TokenKind → Option Stack
 step [] kind = None
 step (goal ∷ goals) kind = take goal goals (step goals kind) kind
@@ -261,7 +262,7 @@ is_over [] = false
 is_over (goal ∷ goals) = over goal (is_over goals)
 
 -- Where the tokens leave the grammar, and the tokens from there on: none of them where the end of the text can't stand
--- behind the last one. None where they are a whole text.
+-- after the last one. None where they are a whole text.
 abbrev pub stuck_behind : Limit → Option Stack → List Token → (Stack → Option (List Token)) → Option (List Token)
 stuck_behind limit None here further = Some here
 stuck_behind limit (Some goals) here further = if fits limit (depth goals) then further goals else Some here
@@ -275,25 +276,25 @@ abbrev pub raise : ℕ → Limit → Limit
 raise n unlimited = unlimited
 raise n (at_most m) = at_most (n + m)
 
--- what comes behind an expression takes neither a parenthesis nor the mark of a label
+-- what comes after an expression takes neither a parenthesis nor the mark of a label
 pub record Closes (below : Stack) : Type 0 where
-  pub call : step below kinds.OpenParenthesis ≡ None
-  pub colon : step below kinds.Colon ≡ None
-  pub question : step below kinds.Question ≡ None
-  pub exclamation : step below kinds.Exclamation ≡ None
+  pub call : step below (kinds.Mark points.OpenParenthesis) ≡ None
+  pub colon : step below (kinds.Mark points.Colon) ≡ None
+  pub question : step below (kinds.Mark points.Question) ≡ None
+  pub exclamation : step below (kinds.Mark points.Exclamation) ≡ None
 
 -- the levels that the labels of a chain open
 abbrev pub chains : List Label → Stack
 chains [] = []
 chains (label ∷ labels) = chained ∷ chains labels
 
--- what follows a row: its first goal at the start and behind a comma, else the goal behind an item
+-- what follows a row: its first goal at the start and after a comma, else the goal after an item
 abbrev pub row_goal : {A : Type 0} → Goal → Goal → Bool → List A → Goal
 row_goal first more true items = first
 row_goal first more false [] = first
 row_goal first more false (item ∷ items) = more
 
--- whatever has to come behind the goals, the tokens leave the grammar here
+-- whatever has to come after the goals, the tokens leave the grammar here
 abbrev pub Sticks : Limit → Stack → List Token → List Token → Type 0
 Sticks limit goals tokens here = (below : Stack) → Closes below → stuck (raise (depth below) limit) (goals ++ below) tokens ≡ Some here
 
@@ -308,7 +309,7 @@ pub record SticksNear (goals : Stack) (tokens at : List Token) : Type 0 where
   pub sticks : Sticks unlimited goals tokens here
   pub near : (at ≡ here) ⊎ (drop 1 at ≡ here)
 
--- whatever has to come behind the goals, with more levels the tokens go on here
+-- whatever has to come after the goals, with more levels the tokens go on here
 pub record GoesOn (goals : Stack) (tokens here : List Token) (below : Stack) : Type 0 where
   pub next : Stack
   pub token : Token
@@ -316,14 +317,14 @@ pub record GoesOn (goals : Stack) (tokens here : List Token) (below : Stack) : T
   pub is : here ≡ token ∷ tokens_behind
   pub goes_on : stuck unlimited (goals ++ below) tokens ≡ stuck unlimited next tokens_behind
 
--- a place behind the `close` and the parenthesis of a `close({`, where that parenthesis is here
+-- a place after the `close` and the parenthesis of a `close({`, where that parenthesis is here
 pub record IsBrace (tokens here at : List Token) : Type 0 where
   pub name : List Token
   pub inside : IsEnd tokens name
   pub call : IsCallOfClose name
   pub behind : drop 1 name ≡ here
   pub is : at ≡ drop 1 here
-  pub brace : StandsSign kinds.OpenBrace at
+  pub brace : StandsSign (kinds.Mark points.OpenBrace) at
 
 pub record OpensNear (room : ℕ) (goals : Stack) (tokens at : List Token) : Type 0 where
   pub here : List Token

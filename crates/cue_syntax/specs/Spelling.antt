@@ -3,6 +3,7 @@ use Rattle.std.specs.Prelude.{◌≡◌, ℕ, Bool, true, false, List, [], ◌�
 use Rattle.cue_lex.specs.declared.token.Token.{Token}
 use Rattle.cue_lex.specs.declared.token.TokenKind.{TokenKind}
 use Rattle.cue_lex.specs.declared.token.TokenKind.TheVariants as kinds
+use Rattle.cue_lex.specs.declared.punctuation.Punctuation.TheVariants as points
 use Rattle.cue_syntax.specs.declared.tree.Identifier.{Identifier}
 use Rattle.cue_syntax.specs.declared.tree.Identifier.TheVariants as identifiers
 use Rattle.cue_syntax.specs.declared.tree.Label.{Label}
@@ -35,11 +36,11 @@ placed from [] = []
 placed from (piece ∷ pieces) = record { kind = piece.kind; places = from ∷ piece.places } ∷ pieces
 
 abbrev pub comma_if : Bool → List Piece
-comma_if true = one kinds.Comma
+comma_if true = one (kinds.Mark points.Comma)
 comma_if false = []
 
 abbrev pub star_if : Bool → List Piece
-star_if true = one kinds.Star
+star_if true = one (kinds.Mark points.Star)
 star_if false = []
 
 abbrev pub identifier_kind : Identifier → TokenKind
@@ -48,15 +49,15 @@ identifier_kind (identifiers.Definition t) = kinds.Definition t
 identifier_kind (identifiers.Hidden t) = kinds.Hidden t
 
 abbrev pub comparison_kind : Comparison → TokenKind
-comparison_kind comparisons.Less = kinds.Less
-comparison_kind comparisons.AtMost = kinds.AtMost
-comparison_kind comparisons.Greater = kinds.Greater
-comparison_kind comparisons.AtLeast = kinds.AtLeast
+comparison_kind comparisons.Less = (kinds.Mark points.Less)
+comparison_kind comparisons.AtMost = (kinds.Mark points.AtMost)
+comparison_kind comparisons.Greater = (kinds.Mark points.Greater)
+comparison_kind comparisons.AtLeast = (kinds.Mark points.AtLeast)
 
 abbrev pub spell_sign : Sign → List Piece
 spell_sign signs.Absent = []
-spell_sign signs.Minus = one kinds.Minus
-spell_sign signs.Plus = one kinds.Plus
+spell_sign signs.Minus = one (kinds.Mark points.Minus)
+spell_sign signs.Plus = one (kinds.Mark points.Plus)
 
 abbrev pub spell_signed : Signed → List Piece
 spell_signed n = spell_sign n.sign ++ one (kinds.Integer n.magnitude)
@@ -67,17 +68,17 @@ label_kind (names.Quoted t) = kinds.Text t
 
 abbrev pub spell_mark : Mark → List Piece
 spell_mark marks.Regular = []
-spell_mark marks.Optional = one kinds.Question
-spell_mark marks.Required = one kinds.Exclamation
+spell_mark marks.Optional = one (kinds.Mark points.Question)
+spell_mark marks.Required = one (kinds.Mark points.Exclamation)
 
 abbrev pub spell_label : Label → List Piece
-spell_label label = one (label_kind label.name) ++ spell_mark label.mark ++ one kinds.Colon
+spell_label label = one (label_kind label.name) ++ spell_mark label.mark ++ one (kinds.Mark points.Colon)
 
--- the `...` of a list, behind a comma where elements stand before it
+-- the `...` of a list, after a comma where elements stand before it
 abbrev pub spell_rest : Elements → Bool → List Piece
 spell_rest es false = []
-spell_rest no_elements true = one kinds.Ellipsis
-spell_rest (element e es) true = one kinds.Comma ++ one kinds.Ellipsis
+spell_rest no_elements true = one (kinds.Mark points.Ellipsis)
+spell_rest (element e es) true = one (kinds.Mark points.Comma) ++ one (kinds.Mark points.Ellipsis)
 
 abbrev mutual
   pub spell : Expression → List Piece
@@ -86,15 +87,15 @@ abbrev mutual
   spell (text t) = one (kinds.Text t)
   spell bottom = one kinds.Bottom
   spell (bound c n) = one (comparison_kind c) ++ spell_signed n
-  spell (other_integer n) = one kinds.NotEqual ++ spell_signed n
-  spell (other_text t) = one kinds.NotEqual ++ one (kinds.Text t)
-  spell (parenthesis e comma) = one kinds.OpenParenthesis ++ spell e ++ comma_if comma ++ one kinds.CloseParenthesis
-  spell (struct es comma) = one kinds.OpenBrace ++ spell_entries es ++ comma_if comma ++ one kinds.CloseBrace
-  spell (close from es inner comma) = one_at from (kinds.Name (codes "close")) ++ one kinds.OpenParenthesis
-      ++ (one kinds.OpenBrace ++ spell_entries es ++ comma_if inner ++ one kinds.CloseBrace)
-      ++ comma_if comma ++ one kinds.CloseParenthesis
-  spell (list es goes_on comma) = one kinds.OpenBracket ++ spell_elements kinds.Comma es ++ spell_rest es goes_on ++ comma_if comma ++ one kinds.CloseBracket
-  spell (conjunction es) = spell_elements kinds.Ampersand es
+  spell (other_integer n) = one (kinds.Mark points.NotEqual) ++ spell_signed n
+  spell (other_text t) = one (kinds.Mark points.NotEqual) ++ one (kinds.Text t)
+  spell (parenthesis e comma) = one (kinds.Mark points.OpenParenthesis) ++ spell e ++ comma_if comma ++ one (kinds.Mark points.CloseParenthesis)
+  spell (struct es comma) = one (kinds.Mark points.OpenBrace) ++ spell_entries es ++ comma_if comma ++ one (kinds.Mark points.CloseBrace)
+  spell (close from es inner comma) = one_at from (kinds.Name (codes "close")) ++ one (kinds.Mark points.OpenParenthesis)
+      ++ (one (kinds.Mark points.OpenBrace) ++ spell_entries es ++ comma_if inner ++ one (kinds.Mark points.CloseBrace))
+      ++ comma_if comma ++ one (kinds.Mark points.CloseParenthesis)
+  spell (list es goes_on comma) = one (kinds.Mark points.OpenBracket) ++ spell_elements (kinds.Mark points.Comma) es ++ spell_rest es goes_on ++ comma_if comma ++ one (kinds.Mark points.CloseBracket)
+  spell (conjunction es) = spell_elements (kinds.Mark points.Ampersand) es
   spell (disjunction bs) = spell_branches bs
 
   -- expressions with a sign between them
@@ -115,12 +116,12 @@ abbrev mutual
 
   pub spell_more_branches : Branches → List Piece
   spell_more_branches no_branches = []
-  spell_more_branches (next_branch b bs) = one kinds.Bar ++ spell_branch b ++ spell_more_branches bs
+  spell_more_branches (next_branch b bs) = one (kinds.Mark points.Bar) ++ spell_branch b ++ spell_more_branches bs
 
   pub spell_entry : Entry → List Piece
-  spell_entry ellipsis = one kinds.Ellipsis
+  spell_entry ellipsis = one (kinds.Mark points.Ellipsis)
   spell_entry (field label chain e) = spell_label label ++ flat_map spell_label chain ++ spell e
-  spell_entry (definition t from chain e) = one_at from (kinds.Definition t) ++ one kinds.Colon ++ flat_map spell_label chain ++ spell e
+  spell_entry (definition t from chain e) = one_at from (kinds.Definition t) ++ one (kinds.Mark points.Colon) ++ flat_map spell_label chain ++ spell e
 
   pub spell_entries : Entries → List Piece
   spell_entries no_entries = []
@@ -128,7 +129,7 @@ abbrev mutual
 
   pub spell_more_entries : Entries → List Piece
   spell_more_entries no_entries = []
-  spell_more_entries (entry e es) = one kinds.Comma ++ spell_entry e ++ spell_more_entries es
+  spell_more_entries (entry e es) = one (kinds.Mark points.Comma) ++ spell_entry e ++ spell_more_entries es
 
 abbrev pub spell_package : Option Package → List Piece
 spell_package None = []

@@ -4,6 +4,7 @@ use Rattle.std.specs.Cmp.Lexicographic.{pointwise}
 use Rattle.cue_lex.specs.declared.token.Token.{Token}
 use Rattle.cue_lex.specs.declared.token.TokenKind.{TokenKind}
 use Rattle.cue_lex.specs.declared.token.TokenKind.TheVariants as kinds
+use Rattle.cue_lex.specs.declared.punctuation.Punctuation.TheVariants as points
 use Rattle.cue_syntax.specs.declared.spot.Spot.{Spot}
 use Rattle.cue_syntax.specs.declared.spot.Spot.TheVariants as spots
 use Rattle.cue_syntax.specs.declared.spot.Inside.{Inside}
@@ -24,13 +25,13 @@ after_ellipsis opened = opened
 
 -- what is open after a token
 abbrev pub open_after : List Inside → TokenKind → List Inside
-open_after opened kinds.OpenBrace = insides.Struct ∷ opened
-open_after opened kinds.OpenBracket = insides.List ∷ opened
-open_after opened kinds.OpenParenthesis = insides.Parenthesis ∷ opened
-open_after opened kinds.CloseBrace = drop 1 opened
-open_after opened kinds.CloseBracket = drop 1 opened
-open_after opened kinds.CloseParenthesis = drop 1 opened
-open_after opened kinds.Ellipsis = after_ellipsis opened
+open_after opened (kinds.Mark points.OpenBrace) = insides.Struct ∷ opened
+open_after opened (kinds.Mark points.OpenBracket) = insides.List ∷ opened
+open_after opened (kinds.Mark points.OpenParenthesis) = insides.Parenthesis ∷ opened
+open_after opened (kinds.Mark points.CloseBrace) = drop 1 opened
+open_after opened (kinds.Mark points.CloseBracket) = drop 1 opened
+open_after opened (kinds.Mark points.CloseParenthesis) = drop 1 opened
+open_after opened (kinds.Mark points.Ellipsis) = after_ellipsis opened
 open_after opened _ = opened
 
 -- after a comma: the next declaration of the text or of a struct, or the next element of a list
@@ -54,20 +55,20 @@ after_parenthesis _ = spots.Operand
 
 -- the spot after a token, by what is open around that token and by its own spot
 abbrev pub spot_after : Option Inside → Spot → TokenKind → Spot
-spot_after inside spot kinds.Colon = spots.Value
-spot_after inside spot kinds.OpenBrace = spots.Inner
-spot_after inside spot kinds.OpenBracket = spots.Operand
-spot_after inside spot kinds.Ampersand = spots.Operand
-spot_after inside spot kinds.Bar = spots.Operand
-spot_after inside spot kinds.Star = spots.Operand
-spot_after inside spot kinds.OpenParenthesis = after_parenthesis spot
-spot_after inside spot kinds.Comma = after_comma inside
-spot_after inside spot kinds.Ellipsis = after_dots inside
-spot_after inside spot kinds.Less = spots.Bound
-spot_after inside spot kinds.AtMost = spots.Bound
-spot_after inside spot kinds.Greater = spots.Bound
-spot_after inside spot kinds.AtLeast = spots.Bound
-spot_after inside spot kinds.NotEqual = spots.NotEqual
+spot_after inside spot (kinds.Mark points.Colon) = spots.Value
+spot_after inside spot (kinds.Mark points.OpenBrace) = spots.Inner
+spot_after inside spot (kinds.Mark points.OpenBracket) = spots.Operand
+spot_after inside spot (kinds.Mark points.Ampersand) = spots.Operand
+spot_after inside spot (kinds.Mark points.Bar) = spots.Operand
+spot_after inside spot (kinds.Mark points.Star) = spots.Operand
+spot_after inside spot (kinds.Mark points.OpenParenthesis) = after_parenthesis spot
+spot_after inside spot (kinds.Mark points.Comma) = after_comma inside
+spot_after inside spot (kinds.Mark points.Ellipsis) = after_dots inside
+spot_after inside spot (kinds.Mark points.Less) = spots.Bound
+spot_after inside spot (kinds.Mark points.AtMost) = spots.Bound
+spot_after inside spot (kinds.Mark points.Greater) = spots.Bound
+spot_after inside spot (kinds.Mark points.AtLeast) = spots.Bound
+spot_after inside spot (kinds.Mark points.NotEqual) = spots.NotEqual
 spot_after inside spot (kinds.Name t) = if is_close t then spots.CloseName else spots.Other
 spot_after inside spot _ = spots.Other
 

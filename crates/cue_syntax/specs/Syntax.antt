@@ -32,7 +32,7 @@ mutual
     no_elements : Elements
     element : Expression → Elements → Elements
 
-  -- a term of a disjunction: whether it is marked, and where it begins behind its mark
+  -- a term of a disjunction: whether it is marked, and where it begins after its mark
   pub data Branch : Type 0 where
     branch : Bool → ℕ → Expression → Branch
 
@@ -105,7 +105,7 @@ branches ts = branches_of (map branch_tree ts)
 abbrev pub entries : List Declaration → Entries
 entries ds = entries_of (map entry_tree ds)
 
--- a whole text: its package clause, if any, its declarations, and whether a comma stands behind the last one
+-- a whole text: its package clause, if any, its declarations, and whether a comma stands after the last one
 pub record FileTree : Type 0 where
   pub package_clause : Option Package
   pub declarations : Entries

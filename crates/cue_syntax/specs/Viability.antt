@@ -3,6 +3,7 @@ use Rattle.std.specs.Prelude.{◌≡◌, ◌≢◌, ◌≤◌, ◌⊎◌, ℕ, s
 use Rattle.cue_lex.specs.declared.token.Token.{Token}
 use Rattle.cue_lex.specs.declared.token.TokenKind.{TokenKind}
 use Rattle.cue_lex.specs.declared.token.TokenKind.TheVariants as kinds
+use Rattle.cue_lex.specs.declared.punctuation.Punctuation.TheVariants as points
 use Rattle.cue_syntax.specs.declared.stop.Stop.{Stop}
 use Rattle.cue_syntax.specs.declared.stop.Why.TheVariants as reasons
 use Rattle.cue_syntax.specs.Stops.{at_hand}
@@ -20,7 +21,7 @@ pub record Begins (limit : Limit) (n : ℕ) (tokens : List Token) : Type 0 where
   pub alike : Alike n tokens whole
   pub is : IsFile limit whole tree
 
--- Behind k tokens the tokens leave the grammar: those k begin a text, and with the next symbol they begin none.
+-- After k tokens the tokens leave the grammar: those k begin a text, and with the next symbol they begin none.
 pub record Leaves (limit : Limit) (tokens : List Token) (k : ℕ) : Type 0 where
   pub inside : k ≤ length tokens
   pub before : Begins limit k tokens
@@ -40,9 +41,9 @@ IsName (kinds.Name t) = ⊤
 IsName _ = ⊥
 
 abbrev pub IsMark : TokenKind → Type 0
-IsMark kinds.Colon = ⊤
-IsMark kinds.Question = ⊤
-IsMark kinds.Exclamation = ⊤
+IsMark (kinds.Mark points.Colon) = ⊤
+IsMark (kinds.Mark points.Question) = ⊤
+IsMark (kinds.Mark points.Exclamation) = ⊤
 IsMark _ = ⊥
 
 abbrev pub IsIdentifier : TokenKind → Type 0
@@ -52,17 +53,17 @@ IsIdentifier (kinds.Hidden t) = ⊤
 IsIdentifier _ = ⊥
 
 abbrev pub IsComparison : TokenKind → Type 0
-IsComparison kinds.Less = ⊤
-IsComparison kinds.AtMost = ⊤
-IsComparison kinds.Greater = ⊤
-IsComparison kinds.AtLeast = ⊤
+IsComparison (kinds.Mark points.Less) = ⊤
+IsComparison (kinds.Mark points.AtMost) = ⊤
+IsComparison (kinds.Mark points.Greater) = ⊤
+IsComparison (kinds.Mark points.AtLeast) = ⊤
 IsComparison _ = ⊥
 
 -- an integer with its sign begins so
 abbrev pub BeginsInteger : TokenKind → Type 0
 BeginsInteger (kinds.Integer n) = ⊤
-BeginsInteger kinds.Minus = ⊤
-BeginsInteger kinds.Plus = ⊤
+BeginsInteger (kinds.Mark points.Minus) = ⊤
+BeginsInteger (kinds.Mark points.Plus) = ⊤
 BeginsInteger _ = ⊥
 
 -- an expression of the whole language can begin so
@@ -73,17 +74,17 @@ BeginsExpression (kinds.Hidden t) = ⊤
 BeginsExpression (kinds.Text t) = ⊤
 BeginsExpression (kinds.Integer n) = ⊤
 BeginsExpression kinds.Bottom = ⊤
-BeginsExpression kinds.OpenBrace = ⊤
-BeginsExpression kinds.OpenBracket = ⊤
-BeginsExpression kinds.OpenParenthesis = ⊤
-BeginsExpression kinds.Star = ⊤
-BeginsExpression kinds.Minus = ⊤
-BeginsExpression kinds.Plus = ⊤
-BeginsExpression kinds.Less = ⊤
-BeginsExpression kinds.AtMost = ⊤
-BeginsExpression kinds.Greater = ⊤
-BeginsExpression kinds.AtLeast = ⊤
-BeginsExpression kinds.NotEqual = ⊤
+BeginsExpression (kinds.Mark points.OpenBrace) = ⊤
+BeginsExpression (kinds.Mark points.OpenBracket) = ⊤
+BeginsExpression (kinds.Mark points.OpenParenthesis) = ⊤
+BeginsExpression (kinds.Mark points.Star) = ⊤
+BeginsExpression (kinds.Mark points.Minus) = ⊤
+BeginsExpression (kinds.Mark points.Plus) = ⊤
+BeginsExpression (kinds.Mark points.Less) = ⊤
+BeginsExpression (kinds.Mark points.AtMost) = ⊤
+BeginsExpression (kinds.Mark points.Greater) = ⊤
+BeginsExpression (kinds.Mark points.AtLeast) = ⊤
+BeginsExpression (kinds.Mark points.NotEqual) = ⊤
 BeginsExpression _ = ⊥
 
 abbrev pub IsCallable : TokenKind → Type 0
@@ -128,48 +129,48 @@ IsLabelName _ = ⊥
 abbrev pub BeginsLabel : List Token → Type 0
 BeginsLabel ts = Stands IsLabelName ts × Next IsMark ts
 
--- a label, a `?` or `!` behind it, and then no colon
+-- a label, a `?` or `!` after it, and then no colon
 abbrev pub LacksColon : List Token → Type 0
-LacksColon ts = Stands IsLabelName ts × (NextSign kinds.Question ts ⊎ NextSign kinds.Exclamation ts) × ¬ StandsSign kinds.Colon (drop 2 ts)
+LacksColon ts = Stands IsLabelName ts × (NextSign (kinds.Mark points.Question) ts ⊎ NextSign (kinds.Mark points.Exclamation) ts) × ¬ StandsSign (kinds.Mark points.Colon) (drop 2 ts)
 
 -- `close` and a parenthesis
 abbrev pub IsCallOfClose : List Token → Type 0
-IsCallOfClose ts = StandsSign (kinds.Name (codes "close")) ts × NextSign kinds.OpenParenthesis ts
+IsCallOfClose ts = StandsSign (kinds.Name (codes "close")) ts × NextSign (kinds.Mark points.OpenParenthesis) ts
 
 -- a parenthesis, a brace or a bracket opens
 abbrev pub Opens : TokenKind → Type 0
-Opens kinds.OpenParenthesis = ⊤
-Opens kinds.OpenBrace = ⊤
-Opens kinds.OpenBracket = ⊤
+Opens (kinds.Mark points.OpenParenthesis) = ⊤
+Opens (kinds.Mark points.OpenBrace) = ⊤
+Opens (kinds.Mark points.OpenBracket) = ⊤
 Opens _ = ⊥
 
 -- a label that is left out: a hidden one, a definition with `?` or `!`, and below the top any definition
 abbrev pub IsLabelLeftOut : Bool → List Token → Type 0
 IsLabelLeftOut top ts =
     (Stands IsHidden ts × Next IsMark ts)
-    ⊎ (Stands IsDefinition ts × (NextSign kinds.Question ts ⊎ NextSign kinds.Exclamation ts))
-    ⊎ (Stands IsDefinition ts × NextSign kinds.Colon ts × (top ≡ false))
+    ⊎ (Stands IsDefinition ts × (NextSign (kinds.Mark points.Question) ts ⊎ NextSign (kinds.Mark points.Exclamation) ts))
+    ⊎ (Stands IsDefinition ts × NextSign (kinds.Mark points.Colon) ts × (top ≡ false))
 
 -- The parser stops at a label that is left out.
 pub record RefusesLabel (top : Bool) (end : ℕ) (tokens : List Token) (stop : Stop) : Type 0 where
   pub is : stop ≡ at_hand reasons.Syntax end tokens
   pub fits : IsLabelLeftOut top tokens
 
--- The parser stops behind a label whose mark has no colon behind it.
+-- The parser stops after a label whose mark has no colon after it.
 pub record MissesColon (end : ℕ) (tokens : List Token) (stop : Stop) : Type 0 where
   pub is : stop ≡ at_hand reasons.Syntax end (drop 2 tokens)
   pub lacks : LacksColon tokens
 
 -- a definition as a label
 abbrev pub BeginsDefinition : List Token → Type 0
-BeginsDefinition ts = Stands IsDefinition ts × NextSign kinds.Colon ts
+BeginsDefinition ts = Stands IsDefinition ts × NextSign (kinds.Mark points.Colon) ts
 
 -- declarations end here: at the top at the end of the text, else at a brace
 abbrev pub EndsHere : Bool → List Token → Type 0
 EndsHere true ts = ts ≡ []
-EndsHere false ts = StandsSign kinds.CloseBrace ts
+EndsHere false ts = StandsSign (kinds.Mark points.CloseBrace) ts
 
--- The tokens leave the grammar of any number of levels behind j tokens, or behind one more.
+-- The tokens leave the grammar of any number of levels after j tokens, or after one more.
 pub record LeavesNear (tokens : List Token) (j : ℕ) : Type 0 where
   pub k : ℕ
   pub leaves : Leaves unlimited tokens k

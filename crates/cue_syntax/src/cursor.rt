@@ -1,42 +1,26 @@
-ghost use Rattle.std.specs.Prelude.{◌≡◌, ◌+◌, ◌≤◌, ◌<◌, ◌∷◌, ◌↔◌, [], IfOk, IfErr, IfSome, IfNone, length, MatchOption, IsTrue, false, codes};
+ghost use Rattle.std.specs.Prelude.{◌≡◌, ◌+◌, ◌≤◌, ◌<◌, ◌∷◌, ◌↔◌, [], IfOk, IfErr, IfSome, IfNone};
+ghost use Rattle.std.specs.Prelude.{length, MatchOption, IsTrue, false, codes};
 ghost use Rattle.cue_syntax.specs.Spelling.{Reads, one, one_at, comma_if, IsPlace};
-ghost use Rattle.cue_syntax.specs.Punctuation.{punctuation_kind, IsOperandAt};
+ghost use Rattle.cue_syntax.specs.Operands.{IsOperandAt};
 ghost use Rattle.cue_lattice.specs.Refusal.{refusal_at};
 ghost use Rattle.cue_syntax.specs.Stops.{at_hand};
-ghost use Rattle.cue_syntax.specs.Viability.{place_of, Stands, StandsSign, BeginsExpression, IsMark};
+ghost use Rattle.cue_syntax.specs.Viability.{place_of, Stands, StandsSign, BeginsExpression};
+ghost use Rattle.cue_syntax.specs.Viability.{IsMark};
 
 use crate::stop::{Stop, Why};
 use cue_lattice::{Kind, Refusal};
-use cue_lex::{Token, TokenKind};
+use cue_lex::{Punctuation, Token, TokenKind};
 
 /// The tokens that are left, and where the text ends.
 #[derive(Clone, Copy)]
 pub struct Cursor<'a> {
     pub rest: &'a [Token<'a>],
-    /// The length of the text in bytes, the place of a refusal behind the last token.
+    /// The length of the text in bytes, the place of a refusal after the last token.
     pub end: usize,
 }
 
-/// What a parsing function answers: what it read, and the tokens behind it.
+/// What a parsing function answers: what it read, and the tokens after it.
 pub type Parsed<'a, T> = Result<(T, Cursor<'a>), Stop>;
-
-/// The tokens without a text that the parser looks for by themselves.
-#[derive(Clone, Copy)]
-pub enum Punctuation {
-    Comma,
-    Colon,
-    Bar,
-    Ampersand,
-    Star,
-    Ellipsis,
-    NotEqual,
-    OpenParenthesis,
-    OpenBrace,
-    OpenBracket,
-    CloseParenthesis,
-    CloseBrace,
-    CloseBracket,
-}
 
 /// Which rule of the grammar an operand or a bound follows, by its first tokens.
 #[derive(Clone, Copy)]
@@ -50,34 +34,11 @@ pub enum Operand {
     Literal,
 }
 
-impl Punctuation {
-    /// Whether a token is this one.
-    fn is(self, kind: &TokenKind) -> bool
-        ensures { IsTrue result ↔ (kind.now ≡ punctuation_kind self) }
-    {
-        match (self, kind) {
-            (Punctuation::Comma, TokenKind::Comma) => true,
-            (Punctuation::Colon, TokenKind::Colon) => true,
-            (Punctuation::Bar, TokenKind::Bar) => true,
-            (Punctuation::Ampersand, TokenKind::Ampersand) => true,
-            (Punctuation::Star, TokenKind::Star) => true,
-            (Punctuation::Ellipsis, TokenKind::Ellipsis) => true,
-            (Punctuation::NotEqual, TokenKind::NotEqual) => true,
-            (Punctuation::OpenParenthesis, TokenKind::OpenParenthesis) => true,
-            (Punctuation::OpenBrace, TokenKind::OpenBrace) => true,
-            (Punctuation::OpenBracket, TokenKind::OpenBracket) => true,
-            (Punctuation::CloseParenthesis, TokenKind::CloseParenthesis) => true,
-            (Punctuation::CloseBrace, TokenKind::CloseBrace) => true,
-            (Punctuation::CloseBracket, TokenKind::CloseBracket) => true,
-            _ => false,
-        }
-    }
-}
-
 impl<'a> Cursor<'a> {
-    /// The token at hand, and the cursor behind it.
+    /// The token at hand, and the cursor after it.
     pub fn next(self) -> Option<(&'a Token<'a>, Cursor<'a>)>
-        ensures first { MatchOption result (self.entry.rest.now ≡ []) (λ x. self.entry.rest.now ≡ x.0.now ∷ x.1.rest.now) }
+        ensures first { MatchOption result (self.entry.rest.now ≡ []) (λ x. self.entry.rest.now
+            ≡ x.0.now ∷ x.1.rest.now) }
         ensures end { IfSome result (λ x. x.1.end ≡ self.entry.end) }
     {
         let (token, rest) = self.rest.split_first()?;
@@ -99,47 +60,53 @@ impl<'a> Cursor<'a> {
 
     /// Whether this token stands at hand.
     pub fn stands(self, wanted: Punctuation) -> bool
-        ensures { IsTrue result ↔ StandsSign (punctuation_kind wanted) self.entry.rest.now }
+        ensures { IsTrue result ↔ StandsSign (TokenKind.Mark wanted) self.entry.rest.now }
     {
         match self.next() {
-            Some((token, _)) => wanted.is(&token.kind),
+            Some((token, _)) => is(&token.kind, wanted),
             None => false,
         }
     }
 
-    /// Behind this token, where it stands at hand.
+    /// After this token, where it stands at hand.
     pub fn skip(self, wanted: Punctuation) -> Option<Cursor<'a>>
-        ensures shorter { IfSome result (λ after. length after.rest.now < length self.entry.rest.now) }
-        ensures reads { IfSome result (λ after. Reads self.entry.rest.now (one (punctuation_kind wanted)) after.rest.now) }
+        ensures shorter { IfSome result (λ after.
+            length after.rest.now < length self.entry.rest.now) }
+        ensures reads { IfSome result (λ after.
+            Reads self.entry.rest.now (one (TokenKind.Mark wanted)) after.rest.now) }
         ensures end { IfSome result (λ after. after.end ≡ self.entry.end) }
-        ensures missing { IfNone result (¬ StandsSign (punctuation_kind wanted) self.entry.rest.now) }
+        ensures missing { IfNone result (¬ StandsSign (TokenKind.Mark wanted) self.entry.rest.now) }
     {
         let (token, after) = self.next()?;
-        if wanted.is(&token.kind) {
+        if is(&token.kind, wanted) {
             Some(after)
         } else {
             None
         }
     }
 
-    /// Behind this token, which has to stand at hand.
+    /// After this token, which has to stand at hand.
     pub fn expect(self, wanted: Punctuation) -> Result<Cursor<'a>, Stop>
         ensures shorter { IfOk result (λ after. length after.rest.now < length self.entry.rest.now) }
-        ensures reads { IfOk result (λ after. Reads self.entry.rest.now (one (punctuation_kind wanted)) after.rest.now) }
+        ensures reads { IfOk result (λ after.
+            Reads self.entry.rest.now (one (TokenKind.Mark wanted)) after.rest.now) }
         ensures end { IfOk result (λ after. after.end ≡ self.entry.end) }
-        ensures refused { IfErr result (λ r. r ≡ at_hand Why.Syntax self.entry.end self.entry.rest.now) }
-        ensures missing { IfErr result (λ r. ¬ StandsSign (punctuation_kind wanted) self.entry.rest.now) }
+        ensures refused { IfErr result (λ r.
+            r ≡ at_hand Why.Syntax self.entry.end self.entry.rest.now) }
+        ensures missing { IfErr result (λ r.
+            ¬ StandsSign (TokenKind.Mark wanted) self.entry.rest.now) }
     {
         self.skip(wanted).ok_or(self.syntax())
     }
 
-    /// Whether a comma stands at hand, and the cursor behind it.
+    /// Whether a comma stands at hand, and the cursor after it.
     pub fn trailing_comma(self) -> (bool, Cursor<'a>)
         ensures shorter { length result.1.rest.now ≤ length self.entry.rest.now }
         ensures reads { Reads self.entry.rest.now (comma_if result.0) result.1.rest.now }
         ensures taken { IsTrue result.0 → length result.1.rest.now < length self.entry.rest.now }
         ensures end { result.1.end ≡ self.entry.end }
-        ensures missing { result.0 ≡ false → ¬ StandsSign TokenKind.Comma self.entry.rest.now }
+        ensures missing { result.0 ≡ false → ¬ StandsSign (TokenKind.Mark Punctuation.Comma)
+            self.entry.rest.now }
     {
         match self.skip(Punctuation::Comma) {
             Some(after) => (true, after),
@@ -182,10 +149,11 @@ impl<'a> Cursor<'a> {
         self.stop(Why::Syntax)
     }
 
-    /// The room behind the token at hand, which opens a level. With no room left it is refused.
+    /// The room after the token at hand, which opens a level. With no room left it is refused.
     pub fn open_level(self, room: usize) -> Result<usize, Stop>
         ensures left { IfOk result (λ left. left + 1 ≡ room) }
-        ensures refused { IfErr result (λ r. r ≡ at_hand Why.Nesting self.entry.end self.entry.rest.now) }
+        ensures refused { IfErr result (λ r.
+            r ≡ at_hand Why.Nesting self.entry.end self.entry.rest.now) }
         ensures none { IfErr result (λ r. room ≡ 0) }
     {
         if room == 0 {
@@ -211,9 +179,9 @@ impl<'a> Cursor<'a> {
     {
         match self.next() {
             Some((token, after)) => match &token.kind {
-                TokenKind::OpenParenthesis => Operand::Parenthesis,
-                TokenKind::OpenBrace => Operand::Struct,
-                TokenKind::OpenBracket => Operand::List,
+                TokenKind::Mark(Punctuation::OpenParenthesis) => Operand::Parenthesis,
+                TokenKind::Mark(Punctuation::OpenBrace) => Operand::Struct,
+                TokenKind::Mark(Punctuation::OpenBracket) => Operand::List,
                 TokenKind::Name(name) => {
                     if name.as_str() == "close" && after.stands(Punctuation::OpenParenthesis) {
                         Operand::Close
@@ -227,11 +195,12 @@ impl<'a> Cursor<'a> {
         }
     }
 
-    /// Where the `close` at hand begins, and the cursor behind it.
+    /// Where the `close` at hand begins, and the cursor after it.
     pub fn expect_close(self) -> Parsed<'a, usize>
         requires { StandsSign (TokenKind.Name (codes "close")) self.rest.now }
         ensures shorter { IfOk result (λ r. length r.1.rest.now < length self.entry.rest.now) }
-        ensures reads { IfOk result (λ r. Reads self.entry.rest.now (one_at r.0 (TokenKind.Name (codes "close"))) r.1.rest.now) }
+        ensures reads { IfOk result (λ r.
+            Reads self.entry.rest.now (one_at r.0 (TokenKind.Name (codes "close"))) r.1.rest.now) }
         ensures end { IfOk result (λ r. r.1.end ≡ self.entry.end) }
         ensures taken { IfErr result (λ r. ⊥) }
     {
@@ -261,6 +230,16 @@ impl<'a> Cursor<'a> {
     }
 }
 
+/// Whether a token is this mark.
+fn is(kind: &TokenKind, wanted: Punctuation) -> bool
+    ensures { IsTrue result ↔ (kind.now ≡ TokenKind.Mark wanted) }
+{
+    match kind {
+        TokenKind::Mark(mark) => *mark == wanted,
+        _ => false,
+    }
+}
+
 fn begins_expression(kind: &TokenKind) -> bool
     ensures { IsTrue result ↔ BeginsExpression kind.now }
 {
@@ -271,27 +250,31 @@ fn begins_expression(kind: &TokenKind) -> bool
         | TokenKind::Text(_)
         | TokenKind::Integer(_)
         | TokenKind::Bottom
-        | TokenKind::OpenBrace
-        | TokenKind::OpenBracket
-        | TokenKind::OpenParenthesis
-        | TokenKind::Star
-        | TokenKind::Minus
-        | TokenKind::Plus
-        | TokenKind::Less
-        | TokenKind::AtMost
-        | TokenKind::Greater
-        | TokenKind::AtLeast
-        | TokenKind::NotEqual => true,
-        TokenKind::CloseBrace
-        | TokenKind::CloseBracket
-        | TokenKind::CloseParenthesis
-        | TokenKind::Colon
-        | TokenKind::Comma
-        | TokenKind::Question
-        | TokenKind::Exclamation
-        | TokenKind::Bar
-        | TokenKind::Ampersand
-        | TokenKind::Ellipsis => false,
+        | TokenKind::Mark(
+            Punctuation::OpenBrace
+            | Punctuation::OpenBracket
+            | Punctuation::OpenParenthesis
+            | Punctuation::Star
+            | Punctuation::Minus
+            | Punctuation::Plus
+            | Punctuation::Less
+            | Punctuation::AtMost
+            | Punctuation::Greater
+            | Punctuation::AtLeast
+            | Punctuation::NotEqual,
+        ) => true,
+        TokenKind::Mark(
+            Punctuation::CloseBrace
+            | Punctuation::CloseBracket
+            | Punctuation::CloseParenthesis
+            | Punctuation::Colon
+            | Punctuation::Comma
+            | Punctuation::Question
+            | Punctuation::Exclamation
+            | Punctuation::Bar
+            | Punctuation::Ampersand
+            | Punctuation::Ellipsis,
+        ) => false,
     }
 }
 
@@ -299,7 +282,8 @@ fn is_mark(kind: &TokenKind) -> bool
     ensures { IsTrue result ↔ IsMark kind.now }
 {
     match kind {
-        TokenKind::Colon | TokenKind::Question | TokenKind::Exclamation => true,
+        TokenKind::Mark(Punctuation::Colon | Punctuation::Question | Punctuation::Exclamation) =>
+            true,
         _ => false,
     }
 }

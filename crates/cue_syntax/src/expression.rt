@@ -1,19 +1,23 @@
-ghost use Rattle.std.specs.Prelude.{◌≡◌, ◌+◌, ◌≤◌, ◌<◌, ◌⊎◌, ◌↔◌, ◌∷◌, [], IfOk, IfErr, IsTrue, Bool, false, true, length};
+ghost use Rattle.std.specs.Prelude.{◌≡◌, ◌+◌, ◌≤◌, ◌<◌, ◌⊎◌, ◌↔◌, ◌∷◌, [], IfOk, IfErr, IsTrue};
+ghost use Rattle.std.specs.Prelude.{Bool, false, true, length};
 ghost use Rattle.cue_syntax.specs.Syntax.{expression, branch_tree, entry_tree, elements, entries};
-ghost use Rattle.cue_syntax.specs.Grammar.{IsUnary, IsConjunct, IsNested, AreNested, IsExpression, IsTermOf, IsEntry, AreElements, AreEntries, AreBraced};
-ghost use Rattle.cue_syntax.specs.Viability.{StandsSign, IsCallOfClose, BeginsLabel, BeginsDefinition, EndsHere};
+ghost use Rattle.cue_syntax.specs.Grammar.{IsUnary, IsConjunct, IsNested, AreNested, IsExpression};
+ghost use Rattle.cue_syntax.specs.Grammar.{IsTermOf, IsEntry, AreElements, AreEntries, AreBraced};
+ghost use Rattle.cue_syntax.specs.Viability.{StandsSign, IsCallOfClose, BeginsLabel};
+ghost use Rattle.cue_syntax.specs.Viability.{BeginsDefinition, EndsHere};
 ghost use Rattle.cue_syntax.specs.Recogniser as goals;
 ghost use Rattle.cue_syntax.specs.Recogniser.{Moves, Refused, row_goal, levels_of};
 
-use crate::cursor::{Cursor, Operand, Parsed, Punctuation};
+use crate::cursor::{Cursor, Operand, Parsed};
 use crate::label::{begins_label, label, labels, refuse_label};
 use crate::literal::literal;
 use crate::memory::{boxed, fitted, push};
 use crate::tree::{Declaration, Expr, Term};
-use cue_lex::TokenKind;
+use cue_lex::{Punctuation, TokenKind};
 use std::alloc::Global;
 
-/// Declarations or elements with commas between them, and whether a comma stands behind the last one.
+/// Declarations or elements with commas between them, and whether a comma stands after the last
+/// one.
 #[derive(Drop)]
 pub struct Row<T> {
     pub items: Vec<T>,
@@ -24,10 +28,13 @@ pub struct Row<T> {
 #[cycle(parser)]
 pub fn expression<'a>(alloc: Global, cursor: Cursor<'a>, room: usize) -> Parsed<'a, Expr<'a>>
     ensures shorter { IfOk result (λ r. length r.1.rest.now < length cursor.entry.rest.now) }
-    ensures spelled { IfOk result (λ r. IsExpression room cursor.entry.rest.now (expression r.0) r.1.rest.now) }
+    ensures spelled { IfOk result (λ r. IsExpression room cursor.entry.rest.now (expression r.0)
+        r.1.rest.now) }
     ensures end { IfOk result (λ r. r.1.end ≡ cursor.entry.end) }
-    ensures moves { IfOk result (λ r. Moves room (goals.expression ∷ []) cursor.entry.rest.now [] r.1.rest.now) }
-    ensures refused { IfErr result (λ r. Refused room cursor.entry.end (goals.expression ∷ []) cursor.entry.rest.now r) }
+    ensures moves { IfOk result (λ r. Moves room (goals.expression ∷ []) cursor.entry.rest.now []
+        r.1.rest.now) }
+    ensures refused { IfErr result (λ r. Refused room cursor.entry.end (goals.expression ∷ [])
+        cursor.entry.rest.now r) }
 {
     let (first, rest) = term(alloc, cursor, room)?;
     let Some(mut after) = rest.skip(Punctuation::Bar) else {
@@ -52,11 +59,15 @@ pub fn expression<'a>(alloc: Global, cursor: Cursor<'a>, room: usize) -> Parsed<
 #[cycle(parser)]
 fn term<'a>(alloc: Global, cursor: Cursor<'a>, room: usize) -> Parsed<'a, Term<'a>>
     ensures shorter { IfOk result (λ r. length r.1.rest.now < length cursor.entry.rest.now) }
-    ensures spelled { IfOk result (λ r. IsTermOf room cursor.entry.rest.now (branch_tree r.0) r.1.rest.now) }
+    ensures spelled { IfOk result (λ r. IsTermOf room cursor.entry.rest.now (branch_tree r.0)
+        r.1.rest.now) }
     ensures end { IfOk result (λ r. r.1.end ≡ cursor.entry.end) }
-    ensures moves { IfOk result (λ r. Moves room (goals.term ∷ []) cursor.entry.rest.now [] r.1.rest.now) }
-    ensures refused { IfErr result (λ r. Refused room cursor.entry.end (goals.term ∷ []) cursor.entry.rest.now r) }
-    ensures marked { IfOk result (λ r. IsTrue r.0.marked ↔ StandsSign TokenKind.Star cursor.entry.rest.now) }
+    ensures moves { IfOk result (λ r. Moves room (goals.term ∷ []) cursor.entry.rest.now []
+        r.1.rest.now) }
+    ensures refused { IfErr result (λ r. Refused room cursor.entry.end (goals.term ∷ [])
+        cursor.entry.rest.now r) }
+    ensures marked { IfOk result (λ r. IsTrue r.0.marked
+        ↔ StandsSign (TokenKind.Mark Punctuation.Star) cursor.entry.rest.now) }
 {
     match cursor.skip(Punctuation::Star) {
         Some(after) => {
@@ -90,11 +101,14 @@ fn term<'a>(alloc: Global, cursor: Cursor<'a>, room: usize) -> Parsed<'a, Term<'
 #[cycle(parser)]
 fn conjunction<'a>(alloc: Global, cursor: Cursor<'a>, room: usize) -> Parsed<'a, Expr<'a>>
     ensures shorter { IfOk result (λ r. length r.1.rest.now < length cursor.entry.rest.now) }
-    ensures spelled { IfOk result (λ r. IsExpression room cursor.entry.rest.now (expression r.0) r.1.rest.now) }
+    ensures spelled { IfOk result (λ r. IsExpression room cursor.entry.rest.now (expression r.0)
+        r.1.rest.now) }
     ensures conjunct { IfOk result (λ r. IsConjunct (expression r.0)) }
     ensures end { IfOk result (λ r. r.1.end ≡ cursor.entry.end) }
-    ensures moves { IfOk result (λ r. Moves room (goals.unary ∷ goals.more_parts ∷ []) cursor.entry.rest.now [] r.1.rest.now) }
-    ensures refused { IfErr result (λ r. Refused room cursor.entry.end (goals.unary ∷ goals.more_parts ∷ []) cursor.entry.rest.now r) }
+    ensures moves { IfOk result (λ r. Moves room (goals.unary ∷ goals.more_parts ∷ [])
+        cursor.entry.rest.now [] r.1.rest.now) }
+    ensures refused { IfErr result (λ r.
+        Refused room cursor.entry.end (goals.unary ∷ goals.more_parts ∷ []) cursor.entry.rest.now r) }
 {
     let (first, rest) = unary(alloc, cursor, room)?;
     let Some(mut after) = rest.skip(Punctuation::Ampersand) else {
@@ -116,11 +130,14 @@ fn conjunction<'a>(alloc: Global, cursor: Cursor<'a>, room: usize) -> Parsed<'a,
 #[cycle(parser)]
 fn unary<'a>(alloc: Global, cursor: Cursor<'a>, room: usize) -> Parsed<'a, Expr<'a>>
     ensures shorter { IfOk result (λ r. length r.1.rest.now < length cursor.entry.rest.now) }
-    ensures spelled { IfOk result (λ r. IsExpression room cursor.entry.rest.now (expression r.0) r.1.rest.now) }
+    ensures spelled { IfOk result (λ r. IsExpression room cursor.entry.rest.now (expression r.0)
+        r.1.rest.now) }
     ensures unary { IfOk result (λ r. IsUnary (expression r.0)) }
     ensures end { IfOk result (λ r. r.1.end ≡ cursor.entry.end) }
-    ensures moves { IfOk result (λ r. Moves room (goals.unary ∷ []) cursor.entry.rest.now [] r.1.rest.now) }
-    ensures refused { IfErr result (λ r. Refused room cursor.entry.end (goals.unary ∷ []) cursor.entry.rest.now r) }
+    ensures moves { IfOk result (λ r. Moves room (goals.unary ∷ []) cursor.entry.rest.now []
+        r.1.rest.now) }
+    ensures refused { IfErr result (λ r. Refused room cursor.entry.end (goals.unary ∷ [])
+        cursor.entry.rest.now r) }
 {
     match cursor.operand() {
         Operand::Parenthesis => parenthesis(alloc, cursor, room),
@@ -134,13 +151,16 @@ fn unary<'a>(alloc: Global, cursor: Cursor<'a>, room: usize) -> Parsed<'a, Expr<
 /// An expression in parentheses.
 #[cycle(parser)]
 fn parenthesis<'a>(alloc: Global, cursor: Cursor<'a>, room: usize) -> Parsed<'a, Expr<'a>>
-    requires { StandsSign TokenKind.OpenParenthesis cursor.rest.now }
+    requires { StandsSign (TokenKind.Mark Punctuation.OpenParenthesis) cursor.rest.now }
     ensures shorter { IfOk result (λ r. length r.1.rest.now < length cursor.entry.rest.now) }
-    ensures spelled { IfOk result (λ r. IsExpression room cursor.entry.rest.now (expression r.0) r.1.rest.now) }
+    ensures spelled { IfOk result (λ r. IsExpression room cursor.entry.rest.now (expression r.0)
+        r.1.rest.now) }
     ensures unary { IfOk result (λ r. IsUnary (expression r.0)) }
     ensures end { IfOk result (λ r. r.1.end ≡ cursor.entry.end) }
-    ensures moves { IfOk result (λ r. Moves room (goals.unary ∷ []) cursor.entry.rest.now [] r.1.rest.now) }
-    ensures refused { IfErr result (λ r. Refused room cursor.entry.end (goals.unary ∷ []) cursor.entry.rest.now r) }
+    ensures moves { IfOk result (λ r. Moves room (goals.unary ∷ []) cursor.entry.rest.now []
+        r.1.rest.now) }
+    ensures refused { IfErr result (λ r. Refused room cursor.entry.end (goals.unary ∷ [])
+        cursor.entry.rest.now r) }
 {
     let inside = cursor.open_level(room)?;
     let open = cursor.expect(Punctuation::OpenParenthesis)?;
@@ -154,13 +174,16 @@ fn parenthesis<'a>(alloc: Global, cursor: Cursor<'a>, room: usize) -> Parsed<'a,
 /// A struct literal.
 #[cycle(parser)]
 fn structure<'a>(alloc: Global, cursor: Cursor<'a>, room: usize) -> Parsed<'a, Expr<'a>>
-    requires { StandsSign TokenKind.OpenBrace cursor.rest.now }
+    requires { StandsSign (TokenKind.Mark Punctuation.OpenBrace) cursor.rest.now }
     ensures shorter { IfOk result (λ r. length r.1.rest.now < length cursor.entry.rest.now) }
-    ensures spelled { IfOk result (λ r. IsExpression room cursor.entry.rest.now (expression r.0) r.1.rest.now) }
+    ensures spelled { IfOk result (λ r. IsExpression room cursor.entry.rest.now (expression r.0)
+        r.1.rest.now) }
     ensures unary { IfOk result (λ r. IsUnary (expression r.0)) }
     ensures end { IfOk result (λ r. r.1.end ≡ cursor.entry.end) }
-    ensures moves { IfOk result (λ r. Moves room (goals.unary ∷ []) cursor.entry.rest.now [] r.1.rest.now) }
-    ensures refused { IfErr result (λ r. Refused room cursor.entry.end (goals.unary ∷ []) cursor.entry.rest.now r) }
+    ensures moves { IfOk result (λ r. Moves room (goals.unary ∷ []) cursor.entry.rest.now []
+        r.1.rest.now) }
+    ensures refused { IfErr result (λ r. Refused room cursor.entry.end (goals.unary ∷ [])
+        cursor.entry.rest.now r) }
 {
     let inside = cursor.open_level(room)?;
     let open = cursor.expect(Punctuation::OpenBrace)?;
@@ -179,11 +202,14 @@ fn structure<'a>(alloc: Global, cursor: Cursor<'a>, room: usize) -> Parsed<'a, E
 fn close<'a>(alloc: Global, cursor: Cursor<'a>, room: usize) -> Parsed<'a, Expr<'a>>
     requires { IsCallOfClose cursor.rest.now }
     ensures shorter { IfOk result (λ r. length r.1.rest.now < length cursor.entry.rest.now) }
-    ensures spelled { IfOk result (λ r. IsExpression room cursor.entry.rest.now (expression r.0) r.1.rest.now) }
+    ensures spelled { IfOk result (λ r. IsExpression room cursor.entry.rest.now (expression r.0)
+        r.1.rest.now) }
     ensures unary { IfOk result (λ r. IsUnary (expression r.0)) }
     ensures end { IfOk result (λ r. r.1.end ≡ cursor.entry.end) }
-    ensures moves { IfOk result (λ r. Moves room (goals.unary ∷ []) cursor.entry.rest.now [] r.1.rest.now) }
-    ensures refused { IfErr result (λ r. Refused room cursor.entry.end (goals.unary ∷ []) cursor.entry.rest.now r) }
+    ensures moves { IfOk result (λ r. Moves room (goals.unary ∷ []) cursor.entry.rest.now []
+        r.1.rest.now) }
+    ensures refused { IfErr result (λ r. Refused room cursor.entry.end (goals.unary ∷ [])
+        cursor.entry.rest.now r) }
 {
     let (from, after) = cursor.expect_close()?;
     let inside = after.open_level(room)?;
@@ -207,13 +233,16 @@ fn close<'a>(alloc: Global, cursor: Cursor<'a>, room: usize) -> Parsed<'a, Expr<
 /// A list literal.
 #[cycle(parser)]
 fn list<'a>(alloc: Global, cursor: Cursor<'a>, room: usize) -> Parsed<'a, Expr<'a>>
-    requires { StandsSign TokenKind.OpenBracket cursor.rest.now }
+    requires { StandsSign (TokenKind.Mark Punctuation.OpenBracket) cursor.rest.now }
     ensures shorter { IfOk result (λ r. length r.1.rest.now < length cursor.entry.rest.now) }
-    ensures spelled { IfOk result (λ r. IsExpression room cursor.entry.rest.now (expression r.0) r.1.rest.now) }
+    ensures spelled { IfOk result (λ r. IsExpression room cursor.entry.rest.now (expression r.0)
+        r.1.rest.now) }
     ensures unary { IfOk result (λ r. IsUnary (expression r.0)) }
     ensures end { IfOk result (λ r. r.1.end ≡ cursor.entry.end) }
-    ensures moves { IfOk result (λ r. Moves room (goals.unary ∷ []) cursor.entry.rest.now [] r.1.rest.now) }
-    ensures refused { IfErr result (λ r. Refused room cursor.entry.end (goals.unary ∷ []) cursor.entry.rest.now r) }
+    ensures moves { IfOk result (λ r. Moves room (goals.unary ∷ []) cursor.entry.rest.now []
+        r.1.rest.now) }
+    ensures refused { IfErr result (λ r. Refused room cursor.entry.end (goals.unary ∷ [])
+        cursor.entry.rest.now r) }
 {
     let inside = cursor.open_level(room)?;
     let open = cursor.expect(Punctuation::OpenBracket)?;
@@ -252,10 +281,13 @@ fn elements<'a>(alloc: Global, cursor: Cursor<'a>, room: usize) -> Parsed<'a, Ro
     ensures end { IfOk result (λ r. r.1.end ≡ cursor.entry.end) }
     ensures moves { IfOk result (λ r. Moves (1 + room) (goals.elements ∷ []) cursor.entry.rest.now
         (row_goal goals.elements goals.more_elements r.0.comma r.0.items.items ∷ []) r.1.rest.now) }
-    ensures last { IfOk result (λ r. r.0.comma ≡ false → ¬ StandsSign TokenKind.Comma r.1.rest.now) }
+    ensures last { IfOk result (λ r. r.0.comma ≡ false
+        → ¬ StandsSign (TokenKind.Mark Punctuation.Comma) r.1.rest.now) }
     ensures open { IfOk result (λ r. (r.0.comma ≡ true) ⊎ (r.0.items.items ≡ []) →
-        StandsSign TokenKind.CloseBracket r.1.rest.now ⊎ StandsSign TokenKind.Ellipsis r.1.rest.now) }
-    ensures refused { IfErr result (λ r. Refused (1 + room) cursor.entry.end (goals.elements ∷ []) cursor.entry.rest.now r) }
+        StandsSign (TokenKind.Mark Punctuation.CloseBracket) r.1.rest.now
+        ⊎ StandsSign (TokenKind.Mark Punctuation.Ellipsis) r.1.rest.now) }
+    ensures refused { IfErr result (λ r. Refused (1 + room) cursor.entry.end (goals.elements ∷ [])
+        cursor.entry.rest.now r) }
 {
     let mut items = Vec::new(alloc);
     let mut comma = false;
@@ -280,8 +312,10 @@ fn braces<'a>(alloc: Global, cursor: Cursor<'a>, room: usize) -> Parsed<'a, Row<
     ensures spelled { IfOk result (λ r.
         AreBraced room cursor.entry.rest.now (entries r.0.items.items) r.0.comma r.1.rest.now) }
     ensures end { IfOk result (λ r. r.1.end ≡ cursor.entry.end) }
-    ensures moves { IfOk result (λ r. Moves (1 + room) (goals.entries false ∷ []) cursor.entry.rest.now [] r.1.rest.now) }
-    ensures refused { IfErr result (λ r. Refused (1 + room) cursor.entry.end (goals.entries false ∷ []) cursor.entry.rest.now r) }
+    ensures moves { IfOk result (λ r.
+        Moves (1 + room) (goals.entries false ∷ []) cursor.entry.rest.now [] r.1.rest.now) }
+    ensures refused { IfErr result (λ r. Refused (1 + room) cursor.entry.end (goals.entries false ∷
+        []) cursor.entry.rest.now r) }
 {
     let (row, last) = declarations(alloc, cursor, false, room)?;
     let rest = last.expect(Punctuation::CloseBrace)?;
@@ -301,11 +335,16 @@ pub fn declarations<'a>(
         AreEntries room cursor.entry.rest.now (entries r.0.items.items) r.0.comma r.1.rest.now) }
     ensures nested { IfOk result (λ r. top ≡ false → AreNested (entries r.0.items.items)) }
     ensures end { IfOk result (λ r. r.1.end ≡ cursor.entry.end) }
-    ensures moves { IfOk result (λ r. Moves (levels_of (goals.entries top) + room) (goals.entries top ∷ []) cursor.entry.rest.now
-        (row_goal (goals.entries top) (goals.more_entries top) r.0.comma r.0.items.items ∷ []) r.1.rest.now) }
-    ensures last { IfOk result (λ r. r.0.comma ≡ false → ¬ StandsSign TokenKind.Comma r.1.rest.now) }
-    ensures open { IfOk result (λ r. (r.0.comma ≡ true) ⊎ (r.0.items.items ≡ []) → EndsHere top r.1.rest.now) }
-    ensures refused { IfErr result (λ r. Refused (levels_of (goals.entries top) + room) cursor.entry.end (goals.entries top ∷ []) cursor.entry.rest.now r) }
+    ensures moves { IfOk result (λ r. Moves (levels_of (goals.entries top) + room) (goals.entries
+        top ∷ []) cursor.entry.rest.now
+        (row_goal (goals.entries top) (goals.more_entries top) r.0.comma r.0.items.items ∷ [])
+        r.1.rest.now) }
+    ensures last { IfOk result (λ r. r.0.comma ≡ false
+        → ¬ StandsSign (TokenKind.Mark Punctuation.Comma) r.1.rest.now) }
+    ensures open { IfOk result (λ r. (r.0.comma ≡ true) ⊎ (r.0.items.items ≡ [])
+        → EndsHere top r.1.rest.now) }
+    ensures refused { IfErr result (λ r. Refused (levels_of (goals.entries top) + room)
+        cursor.entry.end (goals.entries top ∷ []) cursor.entry.rest.now r) }
 {
     let mut items = Vec::new(alloc);
     let mut comma = false;
@@ -341,11 +380,14 @@ fn declaration<'a>(
 ) -> Parsed<'a, Declaration<'a>>
     requires { ¬ EndsHere top cursor.rest.now }
     ensures shorter { IfOk result (λ r. length r.1.rest.now < length cursor.entry.rest.now) }
-    ensures spelled { IfOk result (λ r. IsEntry room cursor.entry.rest.now (entry_tree r.0) r.1.rest.now) }
+    ensures spelled { IfOk result (λ r. IsEntry room cursor.entry.rest.now (entry_tree r.0)
+        r.1.rest.now) }
     ensures nested { IfOk result (λ r. top ≡ false → IsNested (entry_tree r.0)) }
     ensures end { IfOk result (λ r. r.1.end ≡ cursor.entry.end) }
-    ensures moves { IfOk result (λ r. Moves (levels_of (goals.entries top) + room) (goals.entries top ∷ []) cursor.entry.rest.now (goals.more_entries top ∷ []) r.1.rest.now) }
-    ensures refused { IfErr result (λ r. Refused (levels_of (goals.entries top) + room) cursor.entry.end (goals.entries top ∷ []) cursor.entry.rest.now r) }
+    ensures moves { IfOk result (λ r. Moves (levels_of (goals.entries top) + room) (goals.entries
+        top ∷ []) cursor.entry.rest.now (goals.more_entries top ∷ []) r.1.rest.now) }
+    ensures refused { IfErr result (λ r. Refused (levels_of (goals.entries top) + room)
+        cursor.entry.end (goals.entries top ∷ []) cursor.entry.rest.now r) }
 {
     if let Some(after) = cursor.skip(Punctuation::Ellipsis) {
         return Ok((Declaration::Ellipsis, after));
@@ -380,13 +422,16 @@ fn begins_definition(cursor: Cursor, top: bool) -> bool
 fn field<'a>(alloc: Global, cursor: Cursor<'a>, room: usize) -> Parsed<'a, Declaration<'a>>
     requires { BeginsLabel cursor.rest.now }
     ensures shorter { IfOk result (λ r. length r.1.rest.now < length cursor.entry.rest.now) }
-    ensures spelled { IfOk result (λ r. IsEntry room cursor.entry.rest.now (entry_tree r.0) r.1.rest.now) }
+    ensures spelled { IfOk result (λ r. IsEntry room cursor.entry.rest.now (entry_tree r.0)
+        r.1.rest.now) }
     ensures nested { IfOk result (λ r. IsNested (entry_tree r.0)) }
     ensures end { IfOk result (λ r. r.1.end ≡ cursor.entry.end) }
     ensures moves { IfOk result (λ r. (top : Bool) →
-        Moves (levels_of (goals.entries top) + room) (goals.entries top ∷ []) cursor.entry.rest.now (goals.more_entries top ∷ []) r.1.rest.now) }
+        Moves (levels_of (goals.entries top) + room) (goals.entries top ∷ []) cursor.entry.rest.now
+        (goals.more_entries top ∷ []) r.1.rest.now) }
     ensures refused { IfErr result (λ r. (top : Bool) →
-        Refused (levels_of (goals.entries top) + room) cursor.entry.end (goals.entries top ∷ []) cursor.entry.rest.now r) }
+        Refused (levels_of (goals.entries top) + room) cursor.entry.end (goals.entries top ∷ [])
+        cursor.entry.rest.now r) }
 {
     let (label, after) = label(cursor)?;
     let chain = labels(alloc, after, room)?;
@@ -406,10 +451,13 @@ fn field<'a>(alloc: Global, cursor: Cursor<'a>, room: usize) -> Parsed<'a, Decla
 fn definition<'a>(alloc: Global, cursor: Cursor<'a>, room: usize) -> Parsed<'a, Declaration<'a>>
     requires { BeginsDefinition cursor.rest.now }
     ensures shorter { IfOk result (λ r. length r.1.rest.now < length cursor.entry.rest.now) }
-    ensures spelled { IfOk result (λ r. IsEntry room cursor.entry.rest.now (entry_tree r.0) r.1.rest.now) }
+    ensures spelled { IfOk result (λ r. IsEntry room cursor.entry.rest.now (entry_tree r.0)
+        r.1.rest.now) }
     ensures end { IfOk result (λ r. r.1.end ≡ cursor.entry.end) }
-    ensures moves { IfOk result (λ r. Moves room (goals.entries true ∷ []) cursor.entry.rest.now (goals.more_entries true ∷ []) r.1.rest.now) }
-    ensures refused { IfErr result (λ r. Refused room cursor.entry.end (goals.entries true ∷ []) cursor.entry.rest.now r) }
+    ensures moves { IfOk result (λ r. Moves room (goals.entries true ∷ []) cursor.entry.rest.now
+        (goals.more_entries true ∷ []) r.1.rest.now) }
+    ensures refused { IfErr result (λ r. Refused room cursor.entry.end (goals.entries true ∷ [])
+        cursor.entry.rest.now r) }
 {
     let Some((token, after)) = cursor.next() else {
         return Err(cursor.syntax());

@@ -1,4 +1,6 @@
-ghost use Rattle.std.specs.Prelude.{◌≡◌, ◌+◌, ◌≤◌, ◌⊎◌, ◌++◌, ◌∷◌, [], ℕ, IfOk, IfErr, IfSome, MatchResult, IsTrue, ◌↔◌, true, false, length};
+ghost use Rattle.std.specs.Prelude.{◌≡◌, ◌+◌, ◌≤◌, ◌⊎◌, ◌++◌, ◌∷◌, [], ℕ, IfOk, IfErr, IfSome};
+ghost use Rattle.std.specs.Prelude.{MatchResult, IsTrue, ◌↔◌, true, false, length};
+ghost use Rattle.cue_lattice.specs.Limits.{level_limit};
 ghost use Rattle.cue_lattice.specs.Refusal.{memory};
 ghost use Rattle.cue_syntax.specs.Spelling.{Reads, one, identifier_kind, spell_package};
 ghost use Rattle.cue_syntax.specs.Grammar.{at_most, IsFile, IsPackageName, HidesDefinition};
@@ -6,7 +8,8 @@ ghost use Rattle.cue_syntax.specs.Files.{file_tree};
 ghost use Rattle.cue_syntax.specs.Syntax.{FileTree};
 ghost use Rattle.cue_syntax.specs.Refusals.{Fits};
 ghost use Rattle.cue_syntax.specs.Viability.{Stands, IsMark};
-ghost use Rattle.cue_syntax.specs.Recogniser.{Moves, Refused, text, package_word, package_end, entries};
+ghost use Rattle.cue_syntax.specs.Recogniser.{Moves, Refused, text, package_word, package_end};
+ghost use Rattle.cue_syntax.specs.Recogniser.{entries};
 
 use crate::cursor::{Cursor, Parsed};
 use crate::expression::declarations;
@@ -17,15 +20,16 @@ use cue_lattice::{LEVEL_LIMIT, Refusal};
 use cue_lex::{Token, TokenKind, Word};
 use std::alloc::Global;
 
-/// The tree that the tokens of a text spell, by the grammar of the profile. `end` is the length of the text in bytes.
+/// The tree that the tokens of a text spell, by the grammar of the profile. `end` is the length of
+/// the text in bytes.
 ///
 /// # Errors
 ///
 /// `Syntax`, `Nesting` and `LeftOut`, each with the place of a token or `end`, and `Memory`.
 pub fn parse<'t>(alloc: Global, tokens: &'t [Token<'t>], end: usize) -> Result<File<'t>, Refusal>
-    ensures spelled { IfOk result (λ file. IsFile (at_most 64) tokens.now (file_tree file)) }
-    ensures refused { IfErr result (λ r. (r ≡ memory) ⊎ Fits 64 end tokens.now r) }
-    ensures accepted { (tree : FileTree) → IsFile (at_most 64) tokens.now tree →
+    ensures spelled { IfOk result (λ file. IsFile (at_most level_limit) tokens.now (file_tree file)) }
+    ensures refused { IfErr result (λ r. (r ≡ memory) ⊎ Fits level_limit end tokens.now r) }
+    ensures accepted { (tree : FileTree) → IsFile (at_most level_limit) tokens.now tree →
         MatchResult result (λ file. file_tree file ≡ tree) (λ r. r ≡ memory) }
 {
     match file(alloc, Cursor { rest: tokens, end }) {
@@ -36,8 +40,10 @@ pub fn parse<'t>(alloc: Global, tokens: &'t [Token<'t>], end: usize) -> Result<F
 
 /// A whole text.
 fn file(alloc: Global, cursor: Cursor) -> Result<File, Stop>
-    ensures spelled { IfOk result (λ file. IsFile (at_most 64) cursor.entry.rest.now (file_tree file)) }
-    ensures refused { IfErr result (λ r. Refused 64 cursor.entry.end (text ∷ []) cursor.entry.rest.now r) }
+    ensures spelled { IfOk result (λ file. IsFile (at_most level_limit) cursor.entry.rest.now
+        (file_tree file)) }
+    ensures refused { IfErr result (λ r. Refused level_limit cursor.entry.end (text ∷ [])
+        cursor.entry.rest.now r) }
 {
     let (package, rest) = package(cursor)?;
     if rest.is_at_end() {
@@ -60,12 +66,16 @@ fn file(alloc: Global, cursor: Cursor) -> Result<File, Stop>
 
 /// The package clause, where one begins the tokens.
 fn package<'a>(cursor: Cursor<'a>) -> Parsed<'a, Option<Package<'a>>>
-    ensures spelled { IfOk result (λ r. Reads cursor.entry.rest.now (spell_package r.0) r.1.rest.now) }
+    ensures spelled { IfOk result (λ r. Reads cursor.entry.rest.now (spell_package r.0)
+        r.1.rest.now) }
     ensures named { IfOk result (λ r. IfSome r.0 (λ clause. IsPackageName clause.name)) }
-    ensures last { IfOk result (λ r. IfSome r.0 (λ clause. clause.comma ≡ false → r.1.rest.now ≡ [])) }
+    ensures last { IfOk result (λ r. IfSome r.0 (λ clause. clause.comma ≡ false → r.1.rest.now
+        ≡ [])) }
     ensures end { IfOk result (λ r. r.1.end ≡ cursor.entry.end) }
-    ensures moves { IfOk result (λ r. Moves 0 (text ∷ []) cursor.entry.rest.now (entries true ∷ []) r.1.rest.now) }
-    ensures refused { IfErr result (λ r. (room : ℕ) → Refused room cursor.entry.end (text ∷ []) cursor.entry.rest.now r) }
+    ensures moves { IfOk result (λ r. Moves 0 (text ∷ []) cursor.entry.rest.now (entries true ∷ [])
+        r.1.rest.now) }
+    ensures refused { IfErr result (λ r. (room : ℕ) → Refused room cursor.entry.end (text ∷ [])
+        cursor.entry.rest.now r) }
 {
     let Some((token, after)) = cursor.next() else {
         return Ok((None, cursor));
@@ -87,11 +97,14 @@ fn package<'a>(cursor: Cursor<'a>) -> Parsed<'a, Option<Package<'a>>>
 /// The name of a package: an identifier that begins with neither `#` nor `_#`.
 fn package_name<'a>(cursor: Cursor<'a>) -> Parsed<'a, Identifier<'a>>
     requires { ¬ Stands IsMark cursor.rest.now }
-    ensures spelled { IfOk result (λ r. Reads cursor.entry.rest.now (one (identifier_kind r.0)) r.1.rest.now) }
+    ensures spelled { IfOk result (λ r. Reads cursor.entry.rest.now (one (identifier_kind r.0))
+        r.1.rest.now) }
     ensures named { IfOk result (λ r. IsPackageName r.0) }
     ensures end { IfOk result (λ r. r.1.end ≡ cursor.entry.end) }
-    ensures moves { IfOk result (λ r. Moves 0 (package_word ∷ []) cursor.entry.rest.now (package_end ∷ []) r.1.rest.now) }
-    ensures refused { IfErr result (λ r. (room : ℕ) → Refused room cursor.entry.end (package_word ∷ []) cursor.entry.rest.now r) }
+    ensures moves { IfOk result (λ r. Moves 0 (package_word ∷ []) cursor.entry.rest.now (package_end
+        ∷ []) r.1.rest.now) }
+    ensures refused { IfErr result (λ r. (room : ℕ) → Refused room cursor.entry.end (package_word ∷
+        []) cursor.entry.rest.now r) }
 {
     let Some((token, after)) = cursor.next() else {
         return Err(cursor.syntax());

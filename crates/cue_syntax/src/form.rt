@@ -1,15 +1,17 @@
 ghost use Rattle.std.specs.Prelude.{◌≡◌, ◌≤◌, ◌⊎◌, MatchOption, IfOk, IsTrue, ◌↔◌, length};
 ghost use Rattle.cue_lattice.specs.Refusal.{memory, refusal_at};
-ghost use Rattle.cue_syntax.specs.Viability.{Stands, NextSign, StandsSign, Next, IsMark, IsHidden, IsDefinition, IsCallable, BeginsClause, BeginsInteger};
-ghost use Rattle.cue_syntax.specs.Forms.{IsAt, HasNoForm, IsOfDeclaration, IsText, SeesLabel, SeesDynamicLabel, NextMark};
+ghost use Rattle.cue_syntax.specs.Viability.{Stands, NextSign, StandsSign, Next, IsMark, IsHidden};
+ghost use Rattle.cue_syntax.specs.Viability.{IsDefinition, IsCallable, BeginsClause, BeginsInteger};
+ghost use Rattle.cue_syntax.specs.Forms.{IsAt, HasNoForm, IsOfDeclaration, IsText, SeesLabel};
+ghost use Rattle.cue_syntax.specs.Forms.{SeesDynamicLabel, NextMark};
 ghost use Rattle.cue_syntax.specs.Refusals.{Tells, IsKindAt};
 
-use crate::cursor::{Cursor, Punctuation};
+use crate::cursor::Cursor;
 use crate::literal::is_clause;
 use crate::spot::{Spot, find_spot};
 use crate::stop::{Stop, Why};
 use cue_lattice::{Form, Kind, Memory, Refusal};
-use cue_lex::{Token, TokenKind};
+use cue_lex::{Punctuation, Token, TokenKind};
 
 /// What is said of the place at which the parser stopped. `end` is the length of the text in bytes.
 pub fn refusal<'t>(tokens: &'t [Token<'t>], end: usize, stop: Stop) -> Refusal
@@ -37,7 +39,8 @@ fn kind(spot: Spot, cursor: Cursor) -> Kind
 
 /// The form that the profile leaves out and that stands at a spot, if one does.
 fn form(spot: Spot, cursor: Cursor) -> Option<Form>
-    ensures { MatchOption result (HasNoForm spot cursor.entry.rest.now) (λ form. IsAt form spot cursor.entry.rest.now) }
+    ensures { MatchOption result (HasNoForm spot cursor.entry.rest.now) (λ form.
+        IsAt form spot cursor.entry.rest.now) }
 {
     match spot {
         Spot::Top => declaration_form(cursor, Spot::Top),
@@ -92,7 +95,8 @@ fn form(spot: Spot, cursor: Cursor) -> Option<Form>
 /// The form that stands where a declaration begins.
 fn declaration_form(cursor: Cursor, spot: Spot) -> Option<Form>
     requires { IsOfDeclaration spot }
-    ensures { MatchOption result (HasNoForm spot cursor.entry.rest.now) (λ form. IsAt form spot cursor.entry.rest.now) }
+    ensures { MatchOption result (HasNoForm spot cursor.entry.rest.now) (λ form.
+        IsAt form spot cursor.entry.rest.now) }
 {
     if begins_hidden_label(cursor) {
         return Some(Form::HiddenLabel);
@@ -123,7 +127,8 @@ fn declaration_form(cursor: Cursor, spot: Spot) -> Option<Form>
 
 /// The form that stands after the colon of a field or a definition.
 fn value_form(cursor: Cursor) -> Option<Form>
-    ensures { MatchOption result (HasNoForm Spot.Value cursor.entry.rest.now) (λ form. IsAt form Spot.Value cursor.entry.rest.now) }
+    ensures { MatchOption result (HasNoForm Spot.Value cursor.entry.rest.now) (λ form.
+        IsAt form Spot.Value cursor.entry.rest.now) }
 {
     if begins_hidden_label(cursor) {
         return Some(Form::HiddenLabel);
@@ -142,7 +147,8 @@ fn value_form(cursor: Cursor) -> Option<Form>
 
 /// Whether a hidden name and a mark stand at hand.
 fn begins_hidden_label(cursor: Cursor) -> bool
-    ensures { IsTrue result ↔ Stands IsHidden cursor.entry.rest.now × Next IsMark cursor.entry.rest.now }
+    ensures { IsTrue result ↔ Stands IsHidden cursor.entry.rest.now
+        × Next IsMark cursor.entry.rest.now }
 {
     match cursor.next() {
         Some((token, after)) => match &token.kind {
@@ -155,7 +161,8 @@ fn begins_hidden_label(cursor: Cursor) -> bool
 
 /// Whether a definition and `?` or `!` stand at hand.
 fn begins_marked_definition(cursor: Cursor) -> bool
-    ensures { IsTrue result ↔ Stands IsDefinition cursor.entry.rest.now × NextMark cursor.entry.rest.now }
+    ensures { IsTrue result ↔ Stands IsDefinition cursor.entry.rest.now
+        × NextMark cursor.entry.rest.now }
 {
     match cursor.next() {
         Some((token, after)) => match &token.kind {
@@ -168,7 +175,8 @@ fn begins_marked_definition(cursor: Cursor) -> bool
 
 /// Whether a definition and a colon stand at hand.
 fn begins_definition(cursor: Cursor) -> bool
-    ensures { IsTrue result ↔ Stands IsDefinition cursor.entry.rest.now × NextSign TokenKind.Colon cursor.entry.rest.now }
+    ensures { IsTrue result ↔ Stands IsDefinition cursor.entry.rest.now
+        × NextSign (TokenKind.Mark Punctuation.Colon) cursor.entry.rest.now }
 {
     match cursor.next() {
         Some((token, after)) => match &token.kind {
@@ -217,7 +225,8 @@ fn begins_dynamic_label(cursor: Cursor) -> bool
 
 /// Whether a call of anything but `close` begins at hand.
 fn begins_call(cursor: Cursor) -> bool
-    ensures { IsTrue result ↔ Stands IsCallable cursor.entry.rest.now × NextSign TokenKind.OpenParenthesis cursor.entry.rest.now }
+    ensures { IsTrue result ↔ Stands IsCallable cursor.entry.rest.now
+        × NextSign (TokenKind.Mark Punctuation.OpenParenthesis) cursor.entry.rest.now }
 {
     match cursor.next() {
         Some((token, after)) => match &token.kind {
@@ -237,7 +246,7 @@ fn stands_integer(cursor: Cursor) -> bool
 {
     match cursor.next() {
         Some((token, _)) => match &token.kind {
-            TokenKind::Integer(_) | TokenKind::Minus | TokenKind::Plus => true,
+            TokenKind::Integer(_) | TokenKind::Mark(Punctuation::Minus | Punctuation::Plus) => true,
             _ => false,
         },
         None => false,

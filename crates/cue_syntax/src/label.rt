@@ -1,14 +1,16 @@
-ghost use Rattle.std.specs.Prelude.{◌≡◌, ◌+◌, ◌≤◌, ◌<◌, ◌⊎◌, ◌↔◌, ◌∷◌, [], ℕ, IfOk, IfErr, IsTrue, length, flat_map};
+ghost use Rattle.std.specs.Prelude.{◌≡◌, ◌+◌, ◌≤◌, ◌<◌, ◌⊎◌, ◌↔◌, ◌∷◌, [], ℕ, IfOk, IfErr, IsTrue};
+ghost use Rattle.std.specs.Prelude.{length, flat_map};
 ghost use Rattle.cue_syntax.specs.Stops.{memory};
 ghost use Rattle.cue_syntax.specs.Spelling.{Reads, one, spell_label, spell_mark, label_kind};
-ghost use Rattle.cue_syntax.specs.Viability.{Stands, StandsSign, BeginsLabel, IsLabelName, RefusesLabel, MissesColon};
+ghost use Rattle.cue_syntax.specs.Viability.{Stands, StandsSign, BeginsLabel, IsLabelName};
+ghost use Rattle.cue_syntax.specs.Viability.{RefusesLabel, MissesColon};
 ghost use Rattle.cue_syntax.specs.Recogniser.{Moves, Refused, value, chains};
 
-use crate::cursor::{Cursor, Parsed, Punctuation};
+use crate::cursor::{Cursor, Parsed};
 use crate::memory::push;
 use crate::stop::Stop;
 use crate::tree::{Label, LabelName, Mark};
-use cue_lex::TokenKind;
+use cue_lex::{Punctuation, TokenKind};
 use std::alloc::Global;
 
 /// The labels of a chain, and the room that they leave.
@@ -19,7 +21,7 @@ pub struct Chain<'a> {
     pub after: Cursor<'a>,
 }
 
-/// Whether a field begins at hand: a plain name or a string, and a mark behind it.
+/// Whether a field begins at hand: a plain name or a string, and a mark after it.
 pub fn begins_label(cursor: Cursor) -> bool
     ensures { IsTrue result ↔ BeginsLabel cursor.entry.rest.now }
 {
@@ -32,8 +34,8 @@ pub fn begins_label(cursor: Cursor) -> bool
     }
 }
 
-/// Refuses a label that the profile leaves out: a hidden one, a definition with `?` or `!`, and, where `top` is
-/// false, any definition.
+/// Refuses a label that the profile leaves out: a hidden one, a definition with `?` or `!`, and,
+/// where `top` is false, any definition.
 pub fn refuse_label(cursor: Cursor, top: bool) -> Result<(), Stop>
     ensures { IfErr result (λ r. RefusesLabel top cursor.entry.end cursor.entry.rest.now r) }
 {
@@ -69,7 +71,8 @@ pub fn label<'a>(cursor: Cursor<'a>) -> Parsed<'a, Label<'a>>
     ensures shorter { IfOk result (λ r. length r.1.rest.now < length cursor.entry.rest.now) }
     ensures spelled { IfOk result (λ r. Reads cursor.entry.rest.now (spell_label r.0) r.1.rest.now) }
     ensures end { IfOk result (λ r. r.1.end ≡ cursor.entry.end) }
-    ensures refused { IfErr result (λ r. (r ≡ memory) ⊎ MissesColon cursor.entry.end cursor.entry.rest.now r) }
+    ensures refused { IfErr result (λ r. (r ≡ memory)
+        ⊎ MissesColon cursor.entry.end cursor.entry.rest.now r) }
 {
     let (name, after) = label_name(cursor)?;
     let (mark, after) = mark(after);
@@ -80,7 +83,8 @@ pub fn label<'a>(cursor: Cursor<'a>) -> Parsed<'a, Label<'a>>
 fn label_name<'a>(cursor: Cursor<'a>) -> Parsed<'a, LabelName<'a>>
     requires { Stands IsLabelName cursor.rest.now }
     ensures shorter { IfOk result (λ r. length r.1.rest.now ≤ length cursor.entry.rest.now) }
-    ensures spelled { IfOk result (λ r. Reads cursor.entry.rest.now (one (label_kind r.0)) r.1.rest.now) }
+    ensures spelled { IfOk result (λ r. Reads cursor.entry.rest.now (one (label_kind r.0))
+        r.1.rest.now) }
     ensures end { IfOk result (λ r. r.1.end ≡ cursor.entry.end) }
     ensures memory { IfErr result (λ r. r ≡ memory) }
 {
@@ -99,13 +103,15 @@ fn mark<'a>(cursor: Cursor<'a>) -> (Mark, Cursor<'a>)
     ensures shorter { length result.1.rest.now ≤ length cursor.entry.rest.now }
     ensures spelled { Reads cursor.entry.rest.now (spell_mark result.0) result.1.rest.now }
     ensures end { result.1.end ≡ cursor.entry.end }
-    ensures question { result.0 ≡ Mark.Regular → ¬ StandsSign TokenKind.Question cursor.entry.rest.now }
-    ensures exclamation { result.0 ≡ Mark.Regular → ¬ StandsSign TokenKind.Exclamation cursor.entry.rest.now }
+    ensures question { result.0 ≡ Mark.Regular → ¬ StandsSign (TokenKind.Mark Punctuation.Question)
+        cursor.entry.rest.now }
+    ensures exclamation { result.0 ≡ Mark.Regular
+        → ¬ StandsSign (TokenKind.Mark Punctuation.Exclamation) cursor.entry.rest.now }
 {
     match cursor.next() {
         Some((token, after)) => match &token.kind {
-            TokenKind::Question => (Mark::Optional, after),
-            TokenKind::Exclamation => (Mark::Required, after),
+            TokenKind::Mark(Punctuation::Question) => (Mark::Optional, after),
+            TokenKind::Mark(Punctuation::Exclamation) => (Mark::Required, after),
             _ => (Mark::Regular, cursor),
         },
         None => (Mark::Regular, cursor),
@@ -116,12 +122,15 @@ fn mark<'a>(cursor: Cursor<'a>) -> (Mark, Cursor<'a>)
 pub fn labels<'a>(alloc: Global, cursor: Cursor<'a>, room: usize) -> Result<Chain<'a>, Stop>
     ensures shorter { IfOk result (λ c. length c.after.rest.now ≤ length cursor.entry.rest.now) }
     ensures levels { IfOk result (λ c. c.room + length c.labels.items ≡ room) }
-    ensures spelled { IfOk result (λ c. Reads cursor.entry.rest.now (flat_map spell_label c.labels.items) c.after.rest.now) }
+    ensures spelled { IfOk result (λ c.
+        Reads cursor.entry.rest.now (flat_map spell_label c.labels.items) c.after.rest.now) }
     ensures end { IfOk result (λ c. c.after.end ≡ cursor.entry.end) }
     ensures whole { IfOk result (λ c. ¬ BeginsLabel c.after.rest.now) }
     ensures moves { IfOk result (λ c.
-        Moves room (value ∷ []) cursor.entry.rest.now (value ∷ chains c.labels.items) c.after.rest.now) }
-    ensures refused { IfErr result (λ r. Refused room cursor.entry.end (value ∷ []) cursor.entry.rest.now r) }
+        Moves room (value ∷ []) cursor.entry.rest.now (value ∷ chains c.labels.items)
+        c.after.rest.now) }
+    ensures refused { IfErr result (λ r.
+        Refused room cursor.entry.end (value ∷ []) cursor.entry.rest.now r) }
 {
     let mut labels = Vec::new(alloc);
     let mut left = room;

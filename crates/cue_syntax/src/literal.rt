@@ -1,24 +1,31 @@
-ghost use Rattle.std.specs.Prelude.{◌≡◌, ◌+◌, ◌≤◌, ◌<◌, ◌++◌, ◌∷◌, [], ◌↔◌, ℕ, IfOk, IfErr, IsTrue, length};
+ghost use Rattle.std.specs.Prelude.{◌≡◌, ◌+◌, ◌≤◌, ◌<◌, ◌++◌, ◌∷◌, [], ◌↔◌, ℕ, IfOk, IfErr, IsTrue};
+ghost use Rattle.std.specs.Prelude.{length};
 ghost use Rattle.cue_syntax.specs.Syntax.{expression};
-ghost use Rattle.cue_syntax.specs.Spelling.{Reads, one, spell, spell_sign, spell_signed, identifier_kind, comparison_kind};
+ghost use Rattle.cue_syntax.specs.Spelling.{Reads, one, spell, spell_sign, spell_signed};
+ghost use Rattle.cue_syntax.specs.Spelling.{identifier_kind, comparison_kind};
 ghost use Rattle.cue_syntax.specs.Grammar as Grammar;
-ghost use Rattle.cue_syntax.specs.Grammar.{IsInRange, IsUnary, IsOperand, IsRight, IsLiteral, IsClause, IsKeyword};
-ghost use Rattle.cue_syntax.specs.Viability.{Stands, StandsSign, Opens, IsCallOfClose, IsIdentifier, IsComparison, BeginsInteger};
+ghost use Rattle.cue_syntax.specs.Grammar.{IsInRange, IsUnary, IsOperand, IsRight, IsLiteral};
+ghost use Rattle.cue_syntax.specs.Grammar.{IsClause, IsKeyword};
+ghost use Rattle.cue_syntax.specs.Viability.{Stands, StandsSign, Opens, IsCallOfClose};
+ghost use Rattle.cue_syntax.specs.Viability.{IsIdentifier, IsComparison, BeginsInteger};
+ghost use Rattle.cue_syntax.specs.Operands.{IsBeginning, IsSign};
 ghost use Rattle.cue_syntax.specs.Recogniser.{Refused, Moves, unary, signed, magnitude};
 
-use crate::cursor::{Cursor, Parsed, Punctuation};
+use crate::cursor::{Cursor, Parsed};
 use crate::tree::{Comparison, Expr, Identifier, Sign, Signed};
-use cue_lex::{TokenKind, Word};
+use cue_lex::{Punctuation, TokenKind, Word};
 
 /// An expression that holds no other: a name, an integer, a string, `_|_` or a bound.
 pub fn literal<'a>(cursor: Cursor<'a>) -> Parsed<'a, Expr<'a>>
     requires opens { ¬ Stands Opens cursor.rest.now }
     requires call { ¬ IsCallOfClose cursor.rest.now }
     ensures shorter { IfOk result (λ r. length r.1.rest.now < length cursor.entry.rest.now) }
-    ensures spelled { IfOk result (λ r. IsLiteral cursor.entry.rest.now (expression r.0) r.1.rest.now) }
+    ensures spelled { IfOk result (λ r. IsLiteral cursor.entry.rest.now (expression r.0)
+        r.1.rest.now) }
     ensures end { IfOk result (λ r. r.1.end ≡ cursor.entry.end) }
     ensures moves { IfOk result (λ r. Moves 0 (unary ∷ []) cursor.entry.rest.now [] r.1.rest.now) }
-    ensures refused { IfErr result (λ r. (room : ℕ) → Refused room cursor.entry.end (unary ∷ []) cursor.entry.rest.now r) }
+    ensures refused { IfErr result (λ r. (room : ℕ) → Refused room cursor.entry.end (unary ∷ [])
+        cursor.entry.rest.now r) }
 {
     let Some((token, after)) = cursor.next() else {
         return Err(cursor.syntax());
@@ -36,16 +43,54 @@ pub fn literal<'a>(cursor: Cursor<'a>) -> Parsed<'a, Expr<'a>>
         }
         TokenKind::Text(text) => Ok((Expr::Text(text.word()), after)),
         TokenKind::Bottom => Ok((Expr::Bottom, after)),
-        TokenKind::Integer(_) | TokenKind::Minus | TokenKind::Plus => {
-            let (integer, after) = signed(cursor)?;
-            Ok((Expr::Integer(integer), after))
-        }
-        TokenKind::Less | TokenKind::AtMost | TokenKind::Greater | TokenKind::AtLeast => {
-            bound(cursor)
-        }
-        TokenKind::NotEqual => other(cursor),
-        _ => Err(cursor.syntax()),
+        TokenKind::Integer(_) => integer(cursor),
+        TokenKind::Mark(mark) => match literal_of(*mark) {
+            Beginning::Integer => integer(cursor),
+            Beginning::Bound => bound(cursor),
+            Beginning::NotEqual => other(cursor),
+            Beginning::Nothing => Err(cursor.syntax()),
+        },
     }
+}
+
+/// Which literal a mark begins.
+pub(crate) enum Beginning {
+    /// An integer, by its sign.
+    Integer,
+    /// `<` and its like, and an integer.
+    Bound,
+    /// `!=`, and an integer or a string.
+    NotEqual,
+    Nothing,
+}
+
+fn literal_of(mark: Punctuation) -> Beginning
+    ensures { IsBeginning result mark }
+{
+    match mark {
+        Punctuation::Minus | Punctuation::Plus => Beginning::Integer,
+        Punctuation::Less => Beginning::Bound,
+        Punctuation::AtMost => Beginning::Bound,
+        Punctuation::Greater => Beginning::Bound,
+        Punctuation::AtLeast => Beginning::Bound,
+        Punctuation::NotEqual => Beginning::NotEqual,
+        _ => Beginning::Nothing,
+    }
+}
+
+/// An integer as an expression.
+fn integer<'a>(cursor: Cursor<'a>) -> Parsed<'a, Expr<'a>>
+    requires { Stands BeginsInteger cursor.rest.now }
+    ensures shorter { IfOk result (λ r. length r.1.rest.now < length cursor.entry.rest.now) }
+    ensures spelled { IfOk result (λ r. IsLiteral cursor.entry.rest.now (expression r.0)
+        r.1.rest.now) }
+    ensures end { IfOk result (λ r. r.1.end ≡ cursor.entry.end) }
+    ensures moves { IfOk result (λ r. Moves 0 (unary ∷ []) cursor.entry.rest.now [] r.1.rest.now) }
+    ensures refused { IfErr result (λ r. (room : ℕ) → Refused room cursor.entry.end (unary ∷ [])
+        cursor.entry.rest.now r) }
+{
+    let (integer, after) = signed(cursor)?;
+    Ok((Expr::Integer(integer), after))
 }
 
 /// An identifier as an operand: no keyword, and no call.
@@ -53,11 +98,13 @@ fn identifier<'a>(cursor: Cursor<'a>) -> Parsed<'a, Identifier<'a>>
     requires is { Stands IsIdentifier cursor.rest.now }
     requires call { ¬ IsCallOfClose cursor.rest.now }
     ensures shorter { IfOk result (λ r. length r.1.rest.now < length cursor.entry.rest.now) }
-    ensures spelled { IfOk result (λ r. Reads cursor.entry.rest.now (one (identifier_kind r.0)) r.1.rest.now) }
+    ensures spelled { IfOk result (λ r. Reads cursor.entry.rest.now (one (identifier_kind r.0))
+        r.1.rest.now) }
     ensures operand { IfOk result (λ r. IsOperand r.0) }
     ensures end { IfOk result (λ r. r.1.end ≡ cursor.entry.end) }
     ensures moves { IfOk result (λ r. Moves 0 (unary ∷ []) cursor.entry.rest.now [] r.1.rest.now) }
-    ensures refused { IfErr result (λ r. (room : ℕ) → Refused room cursor.entry.end (unary ∷ []) cursor.entry.rest.now r) }
+    ensures refused { IfErr result (λ r. (room : ℕ) → Refused room cursor.entry.end (unary ∷ [])
+        cursor.entry.rest.now r) }
 {
     let Some((token, after)) = cursor.next() else {
         return Err(cursor.syntax());
@@ -107,15 +154,27 @@ fn signed<'a>(cursor: Cursor<'a>) -> Parsed<'a, Signed>
     ensures range { IfOk result (λ r. IsInRange r.0) }
     ensures end { IfOk result (λ r. r.1.end ≡ cursor.entry.end) }
     ensures moves { IfOk result (λ r. Moves 0 (signed ∷ []) cursor.entry.rest.now [] r.1.rest.now) }
-    ensures refused { IfErr result (λ r. (room : ℕ) → Refused room cursor.entry.end (signed ∷ []) cursor.entry.rest.now r) }
+    ensures refused { IfErr result (λ r. (room : ℕ) → Refused room cursor.entry.end (signed ∷ [])
+        cursor.entry.rest.now r) }
 {
     let Some((token, after)) = cursor.next() else {
         return Err(cursor.syntax());
     };
-    match &token.kind {
-        TokenKind::Minus => magnitude(Sign::Minus, after),
-        TokenKind::Plus => magnitude(Sign::Plus, after),
-        _ => magnitude(Sign::Absent, cursor),
+    match sign_of(&token.kind) {
+        Sign::Minus => magnitude(Sign::Minus, after),
+        Sign::Plus => magnitude(Sign::Plus, after),
+        Sign::Absent => magnitude(Sign::Absent, cursor),
+    }
+}
+
+/// The sign that a token is.
+fn sign_of(kind: &TokenKind) -> Sign
+    ensures { IsSign result kind.now }
+{
+    match kind {
+        TokenKind::Mark(Punctuation::Minus) => Sign::Minus,
+        TokenKind::Mark(Punctuation::Plus) => Sign::Plus,
+        _ => Sign::Absent,
     }
 }
 
@@ -129,15 +188,18 @@ fn greatest(sign: Sign) -> u64
     }
 }
 
-/// The magnitude behind a sign.
+/// The magnitude after a sign.
 fn magnitude<'a>(sign: Sign, cursor: Cursor<'a>) -> Parsed<'a, Signed>
     ensures shorter { IfOk result (λ r. length r.1.rest.now < length cursor.entry.rest.now) }
-    ensures spelled { IfOk result (λ r. Reads cursor.entry.rest.now (one (TokenKind.Integer r.0.magnitude)) r.1.rest.now) }
+    ensures spelled { IfOk result (λ r.
+        Reads cursor.entry.rest.now (one (TokenKind.Integer r.0.magnitude)) r.1.rest.now) }
     ensures signed { IfOk result (λ r. r.0.sign ≡ sign) }
     ensures end { IfOk result (λ r. r.1.end ≡ cursor.entry.end) }
     ensures range { IfOk result (λ r. IsInRange r.0) }
-    ensures moves { IfOk result (λ r. Moves 0 (magnitude sign ∷ []) cursor.entry.rest.now [] r.1.rest.now) }
-    ensures refused { IfErr result (λ r. (room : ℕ) → Refused room cursor.entry.end (magnitude sign ∷ []) cursor.entry.rest.now r) }
+    ensures moves { IfOk result (λ r. Moves 0 (magnitude sign ∷ []) cursor.entry.rest.now []
+        r.1.rest.now) }
+    ensures refused { IfErr result (λ r. (room : ℕ) → Refused room cursor.entry.end (magnitude sign
+        ∷ []) cursor.entry.rest.now r) }
 {
     let Some((token, after)) = cursor.next() else {
         return Err(cursor.syntax());
@@ -163,10 +225,12 @@ fn magnitude<'a>(sign: Sign, cursor: Cursor<'a>) -> Parsed<'a, Signed>
 fn bound<'a>(cursor: Cursor<'a>) -> Parsed<'a, Expr<'a>>
     requires { Stands IsComparison cursor.rest.now }
     ensures shorter { IfOk result (λ r. length r.1.rest.now < length cursor.entry.rest.now) }
-    ensures spelled { IfOk result (λ r. IsLiteral cursor.entry.rest.now (expression r.0) r.1.rest.now) }
+    ensures spelled { IfOk result (λ r. IsLiteral cursor.entry.rest.now (expression r.0)
+        r.1.rest.now) }
     ensures end { IfOk result (λ r. r.1.end ≡ cursor.entry.end) }
     ensures moves { IfOk result (λ r. Moves 0 (unary ∷ []) cursor.entry.rest.now [] r.1.rest.now) }
-    ensures refused { IfErr result (λ r. (room : ℕ) → Refused room cursor.entry.end (unary ∷ []) cursor.entry.rest.now r) }
+    ensures refused { IfErr result (λ r. (room : ℕ) → Refused room cursor.entry.end (unary ∷ [])
+        cursor.entry.rest.now r) }
 {
     let (comparison, after) = comparison(cursor)?;
     let (integer, rest) = signed(after)?;
@@ -176,7 +240,8 @@ fn bound<'a>(cursor: Cursor<'a>) -> Parsed<'a, Expr<'a>>
 fn comparison<'a>(cursor: Cursor<'a>) -> Parsed<'a, Comparison>
     requires { Stands IsComparison cursor.rest.now }
     ensures shorter { IfOk result (λ r. length r.1.rest.now < length cursor.entry.rest.now) }
-    ensures spelled { IfOk result (λ r. Reads cursor.entry.rest.now (one (comparison_kind r.0)) r.1.rest.now) }
+    ensures spelled { IfOk result (λ r. Reads cursor.entry.rest.now (one (comparison_kind r.0))
+        r.1.rest.now) }
     ensures end { IfOk result (λ r. r.1.end ≡ cursor.entry.end) }
     ensures taken { IfErr result (λ r. ⊥) }
 {
@@ -184,22 +249,24 @@ fn comparison<'a>(cursor: Cursor<'a>) -> Parsed<'a, Comparison>
         return Err(cursor.syntax());
     };
     match &token.kind {
-        TokenKind::Less => Ok((Comparison::Less, after)),
-        TokenKind::AtMost => Ok((Comparison::AtMost, after)),
-        TokenKind::Greater => Ok((Comparison::Greater, after)),
-        TokenKind::AtLeast => Ok((Comparison::AtLeast, after)),
+        TokenKind::Mark(Punctuation::Less) => Ok((Comparison::Less, after)),
+        TokenKind::Mark(Punctuation::AtMost) => Ok((Comparison::AtMost, after)),
+        TokenKind::Mark(Punctuation::Greater) => Ok((Comparison::Greater, after)),
+        TokenKind::Mark(Punctuation::AtLeast) => Ok((Comparison::AtLeast, after)),
         _ => Err(cursor.syntax()),
     }
 }
 
 /// `!=`, and an integer or a string.
 fn other<'a>(cursor: Cursor<'a>) -> Parsed<'a, Expr<'a>>
-    requires { StandsSign TokenKind.NotEqual cursor.rest.now }
+    requires { StandsSign (TokenKind.Mark Punctuation.NotEqual) cursor.rest.now }
     ensures shorter { IfOk result (λ r. length r.1.rest.now < length cursor.entry.rest.now) }
-    ensures spelled { IfOk result (λ r. IsLiteral cursor.entry.rest.now (expression r.0) r.1.rest.now) }
+    ensures spelled { IfOk result (λ r. IsLiteral cursor.entry.rest.now (expression r.0)
+        r.1.rest.now) }
     ensures end { IfOk result (λ r. r.1.end ≡ cursor.entry.end) }
     ensures moves { IfOk result (λ r. Moves 0 (unary ∷ []) cursor.entry.rest.now [] r.1.rest.now) }
-    ensures refused { IfErr result (λ r. (room : ℕ) → Refused room cursor.entry.end (unary ∷ []) cursor.entry.rest.now r) }
+    ensures refused { IfErr result (λ r. (room : ℕ) → Refused room cursor.entry.end (unary ∷ [])
+        cursor.entry.rest.now r) }
 {
     let after = cursor.expect(Punctuation::NotEqual)?;
     if let Some((token, rest)) = after.next() {

@@ -22,8 +22,8 @@ pub fn boxed<T: Drop>(alloc: Global, value: T) -> Result<Box<T>, Stop>
     Ok(Box::new(alloc, value).map_err(Memory::from)?)
 }
 
-/// The values, with no room for more of them. Most structs have few declarations, which are large, and a text can have
-/// many structs.
+/// The values, with no room for more of them. Most structs have few declarations, which are large,
+/// and a text can have many structs.
 pub fn fitted<T: Drop>(mut values: Vec<T>) -> Vec<T>
     ensures { result.items ≡ values.items }
 {

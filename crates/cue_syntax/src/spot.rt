@@ -3,7 +3,7 @@ ghost use Rattle.cue_syntax.specs.Spots as spots;
 ghost use Rattle.cue_syntax.specs.Spots.{spot_of, open_after};
 ghost use Rattle.cue_syntax.specs.Backwards.{open_from, seen, Tells, ClosesFew, IsCloseName};
 
-use cue_lex::{Token, TokenKind};
+use cue_lex::{Punctuation, Token, TokenKind};
 
 /// Where a symbol stands in a text, by the tokens before it.
 #[derive(Clone, Copy)]
@@ -119,21 +119,24 @@ fn open(back: Back, inside: Inside) -> Step
 /// The step back over a token.
 fn step_back(back: Back, kind: &TokenKind) -> Step
     requires { back.closed < 2 ^ 62 }
-    ensures tells { (opened : List Inside) → Tells result opened (seen back (open_after opened kind.now)) }
+    ensures tells { (opened : List Inside)
+        → Tells result opened (seen back (open_after opened kind.now)) }
     ensures few { ClosesFew result back.closed }
 {
     let Back { closed, has_rest } = back;
     match kind {
-        TokenKind::OpenBrace => open(back, Inside::Struct),
-        TokenKind::OpenParenthesis => open(back, Inside::Parenthesis),
-        TokenKind::OpenBracket => open(back, Inside::List),
-        TokenKind::CloseBrace | TokenKind::CloseBracket | TokenKind::CloseParenthesis => {
+        TokenKind::Mark(Punctuation::OpenBrace) => open(back, Inside::Struct),
+        TokenKind::Mark(Punctuation::OpenParenthesis) => open(back, Inside::Parenthesis),
+        TokenKind::Mark(Punctuation::OpenBracket) => open(back, Inside::List),
+        TokenKind::Mark(
+            Punctuation::CloseBrace | Punctuation::CloseBracket | Punctuation::CloseParenthesis,
+        ) => {
             Step::Further(Back {
                 closed: closed + 1,
                 has_rest,
             })
         }
-        TokenKind::Ellipsis => Step::Further(Back {
+        TokenKind::Mark(Punctuation::Ellipsis) => Step::Further(Back {
             closed,
             has_rest: has_rest || closed == 0,
         }),
@@ -146,30 +149,33 @@ fn spot_after(inside: Option<Inside>, spot: Spot, kind: &TokenKind) -> Spot
     ensures { result ≡ spots.spot_after inside spot kind.now }
 {
     match kind {
-        TokenKind::Colon => Spot::Value,
-        TokenKind::OpenBrace => Spot::Inner,
-        TokenKind::OpenBracket | TokenKind::Ampersand | TokenKind::Bar | TokenKind::Star => {
-            Spot::Operand
-        }
-        TokenKind::OpenParenthesis => match spot {
+        TokenKind::Mark(Punctuation::Colon) => Spot::Value,
+        TokenKind::Mark(Punctuation::OpenBrace) => Spot::Inner,
+        TokenKind::Mark(
+            Punctuation::OpenBracket
+            | Punctuation::Ampersand
+            | Punctuation::Bar
+            | Punctuation::Star,
+        ) => { Spot::Operand }
+        TokenKind::Mark(Punctuation::OpenParenthesis) => match spot {
             Spot::CloseName => Spot::CloseArgument,
             _ => Spot::Operand,
         },
-        TokenKind::Comma => match inside {
+        TokenKind::Mark(Punctuation::Comma) => match inside {
             None => Spot::Top,
             Some(Inside::Struct) => Spot::Inner,
             Some(Inside::List) => Spot::Operand,
             _ => Spot::Other,
         },
-        TokenKind::Ellipsis => match inside {
+        TokenKind::Mark(Punctuation::Ellipsis) => match inside {
             None | Some(Inside::Struct) => Spot::Ellipsis,
             Some(Inside::List) => Spot::Rest,
             _ => Spot::Other,
         },
-        TokenKind::Less | TokenKind::AtMost | TokenKind::Greater | TokenKind::AtLeast => {
-            Spot::Bound
-        }
-        TokenKind::NotEqual => Spot::NotEqual,
+        TokenKind::Mark(
+            Punctuation::Less | Punctuation::AtMost | Punctuation::Greater | Punctuation::AtLeast,
+        ) => { Spot::Bound }
+        TokenKind::Mark(Punctuation::NotEqual) => Spot::NotEqual,
         TokenKind::Name(name) => {
             if name.as_str() == "close" {
                 Spot::CloseName

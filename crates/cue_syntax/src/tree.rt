@@ -4,13 +4,13 @@ ghost use Rattle.cue_syntax.specs.WellFormed.{well_formed_prop};
 
 use cue_lex::Word;
 
-/// A fragment: its package clause, if any, and its declarations. By its type it follows the grammar and opens at most 64
-/// levels, so that what reads it needs no premise.
+/// A fragment: its package clause, if any, and its declarations. By its type it follows the grammar
+/// and opens at most 64 levels, so that what reads it needs no premise.
 #[derive(Debug, Drop)]
 pub struct File<'t> {
     pub package: Option<Package<'t>>,
     pub declarations: Vec<Declaration<'t>>,
-    /// Whether a comma, written or inserted, stands behind the last declaration.
+    /// Whether a comma, written or inserted, stands after the last declaration.
     pub comma: bool,
     pub ghost well_formed: { IsWellFormed «package» (entries declarations.items) comma } by { well_formed_prop «package» (entries declarations.items) comma },
 }
@@ -19,7 +19,8 @@ pub struct File<'t> {
 #[derive(Debug, Drop)]
 pub struct Package<'t> {
     pub name: Identifier<'t>,
-    /// Whether a comma, written or inserted, stands behind the name. Where none does, the text ends there.
+    /// Whether a comma, written or inserted, stands after the name. Where none does, the text ends
+    /// there.
     pub comma: bool,
 }
 
@@ -138,7 +139,7 @@ pub enum Expr<'t> {
     /// A struct literal.
     Struct {
         declarations: Vec<Declaration<'t>>,
-        /// Whether a comma stands behind the last declaration.
+        /// Whether a comma stands after the last declaration.
         comma: bool,
     },
     /// `close` and a struct literal in parentheses.
@@ -146,7 +147,7 @@ pub enum Expr<'t> {
         /// Where `close` begins, in bytes.
         from: usize,
         declarations: Vec<Declaration<'t>>,
-        /// Whether a comma stands behind the last declaration.
+        /// Whether a comma stands after the last declaration.
         inner_comma: bool,
         /// Whether a comma stands before the closing parenthesis.
         comma: bool,
@@ -154,7 +155,7 @@ pub enum Expr<'t> {
     /// A list literal.
     List {
         elements: Vec<Expr<'t>>,
-        /// Whether `...` stands behind the elements.
+        /// Whether `...` stands after the elements.
         ellipsis: bool,
         /// Whether a comma stands before the closing bracket.
         comma: bool,
@@ -171,7 +172,7 @@ pub enum Expr<'t> {
 pub struct Term<'t> {
     /// Whether it is marked `*`, as a default.
     pub marked: bool,
-    /// Where it begins, behind its mark, in bytes.
+    /// Where it begins, after its mark, in bytes.
     pub from: usize,
     pub value: Expr<'t>,
 }

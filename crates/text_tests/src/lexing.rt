@@ -73,14 +73,15 @@ fn long(alloc: Global, start: &str, unit: &str, times: u32, end: &str) -> Result
 fn line_breaks_insert_commas(rt: HostRuntime) -> Result<(), Fail> {
     let all = shown(rt.alloc(), "a: 1\nb: 2\n")?;
     let wanted = concat!(
-        "Name(\"a\") 0..1\nColon 1..2\nInteger(1) 3..4\nComma 4..4\n",
-        "Name(\"b\") 5..6\nColon 6..7\nInteger(2) 8..9\nComma 9..9\n"
+        "Name(\"a\") 0..1\nMark(Colon) 1..2\nInteger(1) 3..4\nMark(Comma) 4..4\n",
+        "Name(\"b\") 5..6\nMark(Colon) 6..7\nInteger(2) 8..9\nMark(Comma) 9..9\n"
     );
     assert_eq!(rt; all.as_str(), wanted);
     let all = shown(rt.alloc(), "l: [1\n2] // end\n")?;
     let wanted = concat!(
-        "Name(\"l\") 0..1\nColon 1..2\nOpenBracket 3..4\nInteger(1) 4..5\nComma 5..5\n",
-        "Integer(2) 6..7\nCloseBracket 7..8\nComma 8..8\n"
+        "Name(\"l\") 0..1\nMark(Colon) 1..2\nMark(OpenBracket) 3..4\nInteger(1) 4..5\n",
+        "Mark(Comma) 5..5\n",
+        "Integer(2) 6..7\nMark(CloseBracket) 7..8\nMark(Comma) 8..8\n"
     );
     assert_eq!(rt; all.as_str(), wanted);
     Ok(())
@@ -111,10 +112,14 @@ fn which_tokens_end_a_line(rt: HostRuntime) -> Result<(), Fail> {
 fn punctuation(rt: HostRuntime) -> Result<(), Fail> {
     let all = shown(rt.alloc(), "{}[]():,?!|&*-+<>...<=>=!=_|_")?;
     let wanted = concat!(
-        "OpenBrace 0..1\nCloseBrace 1..2\nOpenBracket 2..3\nCloseBracket 3..4\nOpenParenthesis 4..5\n",
-        "CloseParenthesis 5..6\nColon 6..7\nComma 7..8\nQuestion 8..9\nExclamation 9..10\nBar 10..11\n",
-        "Ampersand 11..12\nStar 12..13\nMinus 13..14\nPlus 14..15\nLess 15..16\nGreater 16..17\n",
-        "Ellipsis 17..20\nAtMost 20..22\nAtLeast 22..24\nNotEqual 24..26\nBottom 26..29\n"
+        "Mark(OpenBrace) 0..1\nMark(CloseBrace) 1..2\nMark(OpenBracket) 2..3\n",
+        "Mark(CloseBracket) 3..4\nMark(OpenParenthesis) 4..5\n",
+        "Mark(CloseParenthesis) 5..6\nMark(Colon) 6..7\nMark(Comma) 7..8\n",
+        "Mark(Question) 8..9\nMark(Exclamation) 9..10\nMark(Bar) 10..11\n",
+        "Mark(Ampersand) 11..12\nMark(Star) 12..13\nMark(Minus) 13..14\nMark(Plus) 14..15\n",
+        "Mark(Less) 15..16\nMark(Greater) 16..17\n",
+        "Mark(Ellipsis) 17..20\nMark(AtMost) 20..22\nMark(AtLeast) 22..24\n",
+        "Mark(NotEqual) 24..26\nBottom 26..29\n"
     );
     assert_eq!(rt; all.as_str(), wanted);
     Ok(())

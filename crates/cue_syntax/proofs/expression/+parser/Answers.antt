@@ -1,20 +1,22 @@
 use Rattle.std.proofs.Common.{◌≡◌, ◌∙◌, ◌+◌, ◌++◌, Bool, [], ◌∷◌, List, sym, subst, ap, refl, inl, inr, ◌⊎◌, true, false, length, arith, rules}
 use Rattle.std.proofs.lemmas.List.{nil_from_length}
 use Rattle.cue_lex.specs.declared.token.TokenKind.TheVariants as kinds
+use Rattle.cue_lex.specs.declared.punctuation.Punctuation.TheVariants as points
 use Rattle.cue_syntax.specs.declared.tree.Expr.{Expr}
 use Rattle.cue_syntax.specs.declared.tree.Term.{Term}
 use Rattle.cue_syntax.specs.Syntax.{no_elements, parenthesis, struct, close, conjunction, disjunction, elements, branches, entries, expression}
 use Rattle.cue_syntax.specs.Grammar.{IsExpression, IsEntry, AreElements, AreEntries, AreNested}
-use Rattle.cue_syntax.proofs.Reading.{reads_one_at}
-use Rattle.cue_syntax.proofs.Rows.{nested_pushed}
+use Rattle.cue_syntax.proofs.ReadingsJoin.{reads_one_at}
+use Rattle.cue_syntax.proofs.RowsGrow.{nested_pushed}
 use Rattle.cue_syntax.proofs.Views.{view-Parenthesis, view-Struct, view-Close, view-Conjunction, view-Disjunction, view-Field, view-Definition, view-List}
-use Rattle.cue_syntax.proofs.Trees.{AreTerms, AreParts, Between, terms_first, terms_next, terms_more, between_pushed, disjunction_is, parts_first, parts_next, parts_more, conjunction_is, elements_next, entries_next, braced_is, struct_is, close_is, parenthesis_is, list_is, open_list_is, field_is, definition_is}
+use Rattle.cue_syntax.proofs.PartsMakeTrees.{AreTerms, AreParts, Between, terms_first, terms_next, terms_more, between_pushed, disjunction_is, parts_first, parts_next, parts_more, conjunction_is, elements_next, entries_next, braced_is, struct_is, close_is, parenthesis_is, list_is, open_list_is, field_is, definition_is}
 use Rattle.cue_syntax.specs.Viability.{StandsSign, BeginsLabel}
 use Rattle.cue_syntax.specs.Recogniser as goals
 use Rattle.cue_syntax.specs.Recogniser.{Moves, Refused, row_goal, levels_of, unary, more_parts}
-use Rattle.cue_syntax.proofs.Stopping.{moves_then, refused_behind, refused_end, err_from, if_ok, stopped, stops_here, stops_there}
-use Rattle.cue_syntax.proofs.Labels.{label_out_entry, misses_entry}
-use Rattle.cue_syntax.proofs.Rules.{no_room, inner_comma, inner_closes, inner_halts, parenthesis_opens, parenthesis_refused, struct_moves, struct_refused, call_opens, call_paren, call_no_room, closed_halts, brace_no_room, close_moves, close_refused, unmarked_moves, marked_moves, parts_end, parts_go, part_moves, part_refused, terms_end, terms_go, term_moves, term_refused, first_moves, first_go, first_end, first_halts, first_refused, ellipsis_comma, ellipsis_closes, ellipsis_halts, list_opens, list_refused, row_more, element_moves, element_refused, element_next, same_tokens, row_closes, row_halts, open_ellipsis, entry_next, braces_close, braces_halt, entry_ellipsis, chain_value, chain_value_refused, field_moves, field_refused, definition_moves, definition_refused, no_entry_refused}
+use Rattle.cue_syntax.proofs.MovesAndStops.{moves_then, refused_behind, refused_end, err_from, if_ok, stopped, stops_here, stops_there}
+use Rattle.cue_syntax.proofs.MovesOverLabels.{label_out_entry, misses_entry}
+use Rattle.cue_syntax.proofs.MovesOverOperands.{no_room, inner_comma, inner_closes, inner_halts, parenthesis_opens, parenthesis_refused, struct_moves, struct_refused, call_opens, call_paren, call_no_room, closed_halts, brace_no_room, close_moves, close_refused, unmarked_moves, marked_moves, parts_end, parts_go, part_moves, part_refused, terms_end, terms_go, term_moves, term_refused, first_moves, first_go, first_end, first_halts, first_refused}
+use Rattle.cue_syntax.proofs.MovesOverRows.{ellipsis_comma, ellipsis_closes, ellipsis_halts, list_opens, list_refused, row_more, element_moves, element_refused, element_next, same_tokens, row_closes, row_halts, open_ellipsis, entry_next, braces_close, braces_halt, entry_ellipsis, chain_value, chain_value_refused, field_moves, field_refused, definition_moves, definition_refused, no_entry_refused}
 use Rattle.cue_syntax.proofs.expression.+parser.Goals as goal
 use Rattle.cue_syntax.proofs.expression.+parser.Goals.{list-then-row-via-then-row, list-then-row-via-else-row+then-is_empty, list-then-row+in_default, list-else-row+else-is_empty}
 
@@ -158,8 +160,8 @@ elements-elements-preserved t c =
           (between_pushed c.trailing_comma.result.0 l.items.items c.in_ok-element.element c.if-not-comma.false);
       end = c.trailing_comma.ensures.end ∙ c.in_ok-element.ensures.end ∙ l.invariant.end;
       moves =
-          let close : ¬ StandsSign kinds.CloseBracket l.rest.rest.now = search rules in
-          let dots : ¬ StandsSign kinds.Ellipsis l.rest.rest.now = search rules in
+          let close : ¬ StandsSign (kinds.Mark points.CloseBracket) l.rest.rest.now = search rules in
+          let dots : ¬ StandsSign (kinds.Mark points.Ellipsis) l.rest.rest.now = search rules in
           moves_then l.invariant.moves (moves_then (element_moves close dots c.in_ok-element.ensures.moves) (element_next c.trailing_comma.result.0 c.if-not-comma.false (omega arith) c.trailing_comma.ensures.reads));
     }
 
@@ -215,7 +217,7 @@ conjunction-returns-in_err-next-clause-refused t c =
 
 pub conjunction-returns-in-None-clause-moves : goal.conjunction-returns-in-None-clause-moves
 conjunction-returns-in-None-clause-moves t c =
-    let lacks : ¬ StandsSign kinds.Ampersand c.in_ok-next.rest.rest.now = search rules in
+    let lacks : ¬ StandsSign (kinds.Mark points.Ampersand) c.in_ok-next.rest.rest.now = search rules in
     moves_then c.parts.invariant.moves (moves_then (part_moves c.in_ok-next.ensures.moves) (parts_end lacks))
 
 pub expression-returns-in_err-first-clause-refused : goal.expression-returns-in_err-first-clause-refused
@@ -225,12 +227,12 @@ expression-returns-in_err-first-clause-refused t c =
 
 pub expression-returns-then-first-clause-refused : goal.expression-returns-then-first-clause-refused
 expression-returns-then-first-clause-refused t c =
-    let lacks : ¬ StandsSign kinds.Bar c.in_ok-first.rest.rest.now = search rules in
+    let lacks : ¬ StandsSign (kinds.Mark points.Bar) c.in_ok-first.rest.rest.now = search rules in
     refused_behind (first_moves c.in_ok-first.first.marked c.in_ok-first.ensures.marked.0 c.in_ok-first.ensures.marked.1 c.in_ok-first.ensures.moves) (refused_end c.in_ok-first.ensures.end (stopped (stops_here c.syntax.ensures (first_halts c.in_ok-first.first.marked c.if-first.true lacks))))
 
 pub expression-returns-in_default-clause-moves : goal.expression-returns-in_default-clause-moves
 expression-returns-in_default-clause-moves t c =
-    let lacks : ¬ StandsSign kinds.Bar c.in_ok-first.rest.rest.now = search rules in
+    let lacks : ¬ StandsSign (kinds.Mark points.Bar) c.in_ok-first.rest.rest.now = search rules in
     moves_then (first_moves c.in_ok-first.first.marked c.in_ok-first.ensures.marked.0 c.in_ok-first.ensures.marked.1 c.in_ok-first.ensures.moves) (first_end c.in_ok-first.first.marked c.if-first.false lacks)
 
 pub expression-returns-in_err-next-clause-refused : goal.expression-returns-in_err-next-clause-refused
@@ -240,7 +242,7 @@ expression-returns-in_err-next-clause-refused t c =
 
 pub expression-returns-in-None-clause-moves : goal.expression-returns-in-None-clause-moves
 expression-returns-in-None-clause-moves t c =
-    let lacks : ¬ StandsSign kinds.Bar c.in_ok-next.rest.rest.now = search rules in
+    let lacks : ¬ StandsSign (kinds.Mark points.Bar) c.in_ok-next.rest.rest.now = search rules in
     moves_then c.terms.invariant.moves (moves_then (term_moves c.in_ok-next.ensures.moves) (terms_end lacks))
 
 pub term-returns-in_err-value-in-Some-clause-refused : goal.term-returns-in_err-value-in-Some-clause-refused
@@ -250,7 +252,7 @@ term-returns-in_err-value-in-Some-clause-refused t c =
 
 pub term-returns-in_err-value-in-None-clause-refused : goal.term-returns-in_err-value-in-None-clause-refused
 term-returns-in_err-value-in-None-clause-refused t c =
-    let lacks : ¬ StandsSign kinds.Star c.args.cursor.rest.now = search rules in
+    let lacks : ¬ StandsSign (kinds.Mark points.Star) c.args.cursor.rest.now = search rules in
     err_from (λ r. Refused (c.args.room) c.args.cursor.end (goals.term ∷ []) c.args.cursor.rest.now r) c.from_residual-in_err-value-in-None.result _ c.from_residual-in_err-value-in-None.ensures.1
     (refused_behind (unmarked_moves lacks) c.in_err-value-in-None.ensures.refused)
 
@@ -261,7 +263,7 @@ term-returns-in_ok-value-in-Some-clause-moves t c =
 pub parenthesis-returns-in_err-inside-clause-refused : goal.parenthesis-returns-in_err-inside-clause-refused
 parenthesis-returns-in_err-inside-clause-refused t c =
     err_from (λ r. Refused (c.args.room) c.args.cursor.end (unary ∷ []) c.args.cursor.rest.now r) c.from_residual.result _ c.from_residual.ensures.1
-    (no_room kinds.OpenParenthesis (goals.expression ∷ goals.parenthesis ∷ []) c.requires (λ below. refl) (omega arith) c.in_err-inside.ensures.none c.in_err-inside.ensures.refused)
+    (no_room (kinds.Mark points.OpenParenthesis) (goals.expression ∷ goals.parenthesis ∷ []) c.requires (λ below. refl) (omega arith) c.in_err-inside.ensures.none c.in_err-inside.ensures.refused)
 
 pub parenthesis-returns-in_err-inner-clause-refused : goal.parenthesis-returns-in_err-inner-clause-refused
 parenthesis-returns-in_err-inner-clause-refused t c =
@@ -281,7 +283,7 @@ parenthesis-returns-clause-moves t c =
 pub structure-returns-in_err-inside-clause-refused : goal.structure-returns-in_err-inside-clause-refused
 structure-returns-in_err-inside-clause-refused t c =
     err_from (λ r. Refused (c.args.room) c.args.cursor.end (unary ∷ []) c.args.cursor.rest.now r) c.from_residual.result _ c.from_residual.ensures.1
-    (no_room kinds.OpenBrace (goals.entries false ∷ []) c.requires (λ below. refl) (omega arith) c.in_err-inside.ensures.none c.in_err-inside.ensures.refused)
+    (no_room (kinds.Mark points.OpenBrace) (goals.entries false ∷ []) c.requires (λ below. refl) (omega arith) c.in_err-inside.ensures.none c.in_err-inside.ensures.refused)
 
 pub structure-returns-in_err-row-clause-refused : goal.structure-returns-in_err-row-clause-refused
 structure-returns-in_err-row-clause-refused t c =
@@ -351,16 +353,16 @@ declarations-returns-then-not-comma-clause-moves t c =
 
 pub elements-returns-in_err-element-clause-refused : goal.elements-returns-in_err-element-clause-refused
 elements-returns-in_err-element-clause-refused t c =
-    let close : ¬ StandsSign kinds.CloseBracket c.elements.rest.rest.now = search rules in
-    let dots : ¬ StandsSign kinds.Ellipsis c.elements.rest.rest.now = search rules in
+    let close : ¬ StandsSign (kinds.Mark points.CloseBracket) c.elements.rest.rest.now = search rules in
+    let dots : ¬ StandsSign (kinds.Mark points.Ellipsis) c.elements.rest.rest.now = search rules in
     err_from (λ r. Refused (1 + c.args.room) c.args.cursor.end (goals.elements ∷ []) c.args.cursor.rest.now r) c.from_residual.result _ c.from_residual.ensures.1
     (refused_behind c.elements.invariant.moves (refused_end c.elements.invariant.end (element_refused close dots c.in_err-element.ensures.refused)))
 
 pub elements-returns-then-not-comma-clause-moves : goal.elements-returns-then-not-comma-clause-moves
 elements-returns-then-not-comma-clause-moves t c =
     let l = c.elements in
-    let close : ¬ StandsSign kinds.CloseBracket c.elements.rest.rest.now = search rules in
-    let dots : ¬ StandsSign kinds.Ellipsis c.elements.rest.rest.now = search rules in
+    let close : ¬ StandsSign (kinds.Mark points.CloseBracket) c.elements.rest.rest.now = search rules in
+    let dots : ¬ StandsSign (kinds.Mark points.Ellipsis) c.elements.rest.rest.now = search rules in
     let pushed : c.push.new.values.items ≡ l.items.items ++ c.in_ok-element.element ∷ [] = search rules in
     let comma = c.trailing_comma.result.0 in
     subst (λ z. Moves (1 + c.args.room) (goals.elements ∷ []) c.args.cursor.rest.now (z ∷ []) c.trailing_comma.result.1.rest.now)
@@ -371,7 +373,7 @@ elements-returns-then-not-comma-clause-moves t c =
 pub list-returns-in_err-inside-clause-refused : goal.list-returns-in_err-inside-clause-refused
 list-returns-in_err-inside-clause-refused t c =
     err_from (λ r. Refused (c.args.room) c.args.cursor.end (unary ∷ []) c.args.cursor.rest.now r) c.from_residual.result _ c.from_residual.ensures.1
-    (no_room kinds.OpenBracket (goals.elements ∷ []) c.requires (λ below. refl) (omega arith) c.in_err-inside.ensures.none c.in_err-inside.ensures.refused)
+    (no_room (kinds.Mark points.OpenBracket) (goals.elements ∷ []) c.requires (λ below. refl) (omega arith) c.in_err-inside.ensures.none c.in_err-inside.ensures.refused)
 
 pub list-returns-in_err-row-clause-refused : goal.list-returns-in_err-row-clause-refused
 list-returns-in_err-row-clause-refused t c =
@@ -438,7 +440,7 @@ declaration-returns-then-begins_label-clause-moves t c =
 
 pub declaration-returns-clause-refused : goal.declaration-returns-clause-refused
 declaration-returns-clause-refused t c =
-    let dots : ¬ StandsSign kinds.Ellipsis c.args.cursor.rest.now = search rules in
+    let dots : ¬ StandsSign (kinds.Mark points.Ellipsis) c.args.cursor.rest.now = search rules in
     let label : ¬ BeginsLabel c.args.cursor.rest.now = search rules in
     no_entry_refused c.args.top dots label (c.begins_definition.ensures.no c.if-begins_definition.false) c.requires c.syntax.ensures
 

@@ -4,7 +4,7 @@ use Rattle.cue_syntax.specs.Grammar.{AreElements, AreEntries, AreNested}
 use Rattle.cue_syntax.specs.Syntax.{elements, entries}
 use Rattle.cue_syntax.specs.Recogniser as goals
 use Rattle.cue_syntax.specs.Recogniser.{Moves, levels_of, expression, term, more_terms, unary, more_parts}
-use Rattle.cue_syntax.proofs.Trees.{AreTerms, AreParts, Between}
+use Rattle.cue_syntax.proofs.PartsMakeTrees.{AreTerms, AreParts, Between}
 use Rattle.cue_syntax.proofs.expression.+parser.Given as goal
 
 abbrev rank : ℕ → ℕ → ℕ

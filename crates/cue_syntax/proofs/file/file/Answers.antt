@@ -1,7 +1,7 @@
 use Rattle.std.proofs.Common.{◌≡◌, ◌∙◌, [], ◌∷◌, arith, rules}
 use Rattle.cue_syntax.specs.Recogniser.{Refused, text}
-use Rattle.cue_syntax.proofs.Stopping.{err_from, moves_then, moves_more, refused_behind, refused_end, stopped, stops_here}
-use Rattle.cue_syntax.proofs.Rules.{top_halts}
+use Rattle.cue_syntax.proofs.MovesAndStops.{err_from, moves_then, moves_more, refused_behind, refused_end, stopped, stops_here}
+use Rattle.cue_syntax.proofs.MovesOverRows.{top_halts}
 use Rattle.cue_syntax.proofs.file.file.Goals as goal
 
 pub returns-in_err-row-clause-refused : goal.returns-in_err-row-clause-refused

@@ -1,7 +1,7 @@
 use Rattle.std.proofs.Common.{◌≡◌, ◌∙◌, ◌⊎◌, inl, inr, ℕ, true, [], ◌∷◌, codes, arith, rules}
 use Rattle.cue_syntax.specs.Recogniser.{Refused, text}
-use Rattle.cue_syntax.proofs.Stopping.{err_from, moves_then, moves_more, refused_behind, refused_end, stopped, stops_here}
-use Rattle.cue_syntax.proofs.Files.{text_package, package_comma, package_end_halts}
+use Rattle.cue_syntax.proofs.MovesAndStops.{err_from, moves_then, moves_more, refused_behind, refused_end, stopped, stops_here}
+use Rattle.cue_syntax.proofs.MovesOverTexts.{text_package, package_comma, package_end_halts}
 use Rattle.cue_syntax.proofs.file.package.Goals as goal
 use Rattle.cue_syntax.proofs.file.package.Goals.{else-not-comma-via-then-not-comma+else-not-is_at_end, else-not-comma-via-else-not-comma}
 

@@ -1,7 +1,7 @@
 use Rattle.std.proofs.Common.{rules}
 use Rattle.cue_syntax.specs.Grammar.{HidesDefinition}
-use Rattle.cue_syntax.proofs.Stopping.{stopped, stops_here}
-use Rattle.cue_syntax.proofs.Files.{package_name_moves, package_hidden_moves, package_hidden_halts, package_halts}
+use Rattle.cue_syntax.proofs.MovesAndStops.{stopped, stops_here}
+use Rattle.cue_syntax.proofs.MovesOverTexts.{package_name_moves, package_hidden_moves, package_hidden_halts, package_halts}
 use Rattle.cue_syntax.proofs.file.package_name.Goals as goal
 
 pub returns-then-hides_definition-clause-refused : goal.returns-then-hides_definition-clause-refused

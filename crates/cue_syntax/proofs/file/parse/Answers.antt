@@ -1,4 +1,4 @@
-use Rattle.cue_syntax.proofs.Refusing.{refused_fits, refused_left, tree_answered, tree_refused}
+use Rattle.cue_syntax.proofs.RefusalsFit.{refused_fits, refused_left, tree_answered, tree_refused}
 use Rattle.cue_syntax.proofs.file.parse.Goals as goal
 
 pub refusal-requires : goal.refusal-requires

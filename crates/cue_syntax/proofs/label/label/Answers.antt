@@ -1,8 +1,8 @@
 use Rattle.std.proofs.Common.{◌≡◌, ◌∙◌, subst, ◌⊎◌, inr}
 use Rattle.cue_syntax.specs.Stops.{memory}
 use Rattle.cue_syntax.specs.Viability.{MissesColon}
-use Rattle.cue_syntax.proofs.Stopping.{err_from}
-use Rattle.cue_syntax.proofs.Labels.{label_lacks}
+use Rattle.cue_syntax.proofs.MovesAndStops.{err_from}
+use Rattle.cue_syntax.proofs.MovesOverLabels.{label_lacks}
 use Rattle.cue_syntax.proofs.label.label.Goals as goal
 
 pub returns-in_err-after-clause-refused : goal.returns-in_err-after-clause-refused

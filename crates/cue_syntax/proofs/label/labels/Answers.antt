@@ -1,9 +1,9 @@
 use Rattle.std.proofs.Common.{◌≡◌, ◌∙◌, ◌++◌, [], ◌∷◌, length, ap, sym, subst, arith, rules}
 use Rattle.std.proofs.lemmas.List.{length-append}
 use Rattle.cue_syntax.specs.Recogniser.{Moves, Refused, value, chains}
-use Rattle.cue_syntax.proofs.Rows.{labels_push}
-use Rattle.cue_syntax.proofs.Stopping.{err_from, stopped}
-use Rattle.cue_syntax.proofs.Labels.{chain_next, chain_refused, opens_label, label_out_value, misses_value}
+use Rattle.cue_syntax.proofs.RowsGrow.{labels_push}
+use Rattle.cue_syntax.proofs.MovesAndStops.{err_from, stopped}
+use Rattle.cue_syntax.proofs.MovesOverLabels.{chain_next, chain_refused, opens_label, label_out_value, misses_value}
 use Rattle.cue_syntax.proofs.label.labels.Goals as goal
 
 pub chain-preserved : goal.chain-preserved

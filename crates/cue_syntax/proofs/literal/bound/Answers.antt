@@ -1,7 +1,7 @@
 use Rattle.std.proofs.Common.{arith, ℕ, [], ◌∷◌}
 use Rattle.cue_syntax.specs.Recogniser.{unary, Refused}
-use Rattle.cue_syntax.proofs.Stopping.{moves_then, moves_more, refused_behind, refused_end, err_from}
-use Rattle.cue_syntax.proofs.Literals.{comparison_moves}
+use Rattle.cue_syntax.proofs.MovesAndStops.{moves_then, moves_more, refused_behind, refused_end, err_from}
+use Rattle.cue_syntax.proofs.MovesOverLiterals.{comparison_moves}
 use Rattle.cue_syntax.proofs.literal.bound.Goals as goal
 
 pub returns-in_err-integer-clause-refused : goal.returns-in_err-integer-clause-refused

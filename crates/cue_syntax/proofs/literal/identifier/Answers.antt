@@ -1,10 +1,11 @@
 use Rattle.std.proofs.Common.{ap, arith, rules, ◌∷◌}
 use Rattle.cue_lex.specs.declared.token.TokenKind.TheVariants as kinds
+use Rattle.cue_lex.specs.declared.punctuation.Punctuation.TheVariants as points
 use Rattle.cue_syntax.specs.Viability.{StandsSign}
 use Rattle.cue_syntax.specs.Grammar.{IsKeyword}
 use Rattle.cue_syntax.specs.Recogniser.{step, unary}
-use Rattle.cue_syntax.proofs.Stopping.{takes, stopped, stops_here}
-use Rattle.cue_syntax.proofs.Literals.{name_moves, keyword_halts, keyword_is, name_called, hidden_called}
+use Rattle.cue_syntax.proofs.MovesAndStops.{takes, stopped, stops_here}
+use Rattle.cue_syntax.proofs.MovesOverLiterals.{name_moves, keyword_halts, keyword_is, name_called, hidden_called}
 use Rattle.cue_syntax.proofs.literal.identifier.Goals as goal
 
 pub returns-then-stands-clause-refused : goal.returns-then-stands-clause-refused
@@ -22,7 +23,7 @@ returns-then-stands-2-clause-refused c room =
 pub returns-else-is_keyword-clause-moves : goal.returns-else-is_keyword-clause-moves
 returns-else-is_keyword-clause-moves c =
     let keyword : ¬ IsKeyword c.in-Name.name = search rules in
-    let paren : ¬ StandsSign kinds.OpenParenthesis c.in-Some.after.rest.now = search rules in
+    let paren : ¬ StandsSign (kinds.Mark points.OpenParenthesis) c.in-Some.after.rest.now = search rules in
     name_moves c.in-Some.token.now c.in-Some.ensures.first c.in-Name.is keyword paren
 
 pub returns-else-stands-2-clause-moves : goal.returns-else-stands-2-clause-moves

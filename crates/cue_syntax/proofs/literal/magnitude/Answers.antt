@@ -1,6 +1,6 @@
 use Rattle.std.proofs.Common.{arith}
-use Rattle.cue_syntax.proofs.Stopping.{takes, stopped, stops_here, halts_at}
-use Rattle.cue_syntax.proofs.Tokens.{magnitude_none, magnitude_step, magnitude_large}
+use Rattle.cue_syntax.proofs.MovesAndStops.{takes, stopped, stops_here, halts_at}
+use Rattle.cue_syntax.proofs.GoalsAtTokens.{magnitude_none, magnitude_step, magnitude_large}
 use Rattle.cue_syntax.specs.Recogniser.{step, magnitude}
 use Rattle.std.proofs.Common.{◌∙◌, ap, ◌∷◌}
 use Rattle.cue_syntax.proofs.literal.magnitude.Goals as goal

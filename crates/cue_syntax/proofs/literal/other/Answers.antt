@@ -2,8 +2,8 @@ use Rattle.std.proofs.Common.{ap, arith, refl, ℕ, [], ◌∷◌, List}
 use Rattle.cue_lex.specs.declared.token.TokenKind.TheVariants as kinds
 use Rattle.cue_syntax.specs.Viability.{StandsSign}
 use Rattle.cue_syntax.specs.Recogniser.{step, unary, signed, signed_or_text, Refused, Moves}
-use Rattle.cue_syntax.proofs.Stopping.{takes, takes_read, moves_then, moves_more, refused_behind, refused_end, err_from}
-use Rattle.cue_syntax.proofs.Literals.{other_moves, no_text_first, no_text_none}
+use Rattle.cue_syntax.proofs.MovesAndStops.{takes, takes_read, moves_then, moves_more, refused_behind, refused_end, err_from}
+use Rattle.cue_syntax.proofs.MovesOverLiterals.{other_moves, no_text_first, no_text_none}
 use Rattle.cue_syntax.proofs.literal.other.Goals as goal
 use Rattle.cue_syntax.proofs.literal.other.Goals.{in-Some+in_default-kind, in_default}
 

@@ -1,6 +1,6 @@
 use Rattle.std.proofs.Common.{◌∙◌, ap}
 use Rattle.cue_syntax.specs.Spots.{spot_after}
-use Rattle.cue_syntax.proofs.Backwards.{spot_by_last}
+use Rattle.cue_syntax.proofs.SpotByTheLastToken.{spot_by_last}
 use Rattle.cue_syntax.proofs.spot.find_spot.Goals as goal
 
 pub returns-in-Some : goal.returns-in-Some

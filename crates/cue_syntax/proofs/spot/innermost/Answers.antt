@@ -1,6 +1,6 @@
 use Rattle.std.proofs.Common.{◌∙◌, ◌-◌, [], take, sym, arith}
 use Rattle.cue_syntax.specs.Backwards.{open_from}
-use Rattle.cue_syntax.proofs.Backwards.{seen_last}
+use Rattle.cue_syntax.proofs.SpotByTheLastToken.{seen_last}
 use Rattle.cue_syntax.proofs.spot.innermost.Goals as goal
 
 pub returns-in-Open : goal.returns-in-Open

@@ -1,0 +1,220 @@
+-- What is read in parts is read as declarations, a list or a text.
+use Rattle.std.proofs.Common.{◌≡◌, refl, sym, ap, subst, ◌∙◌, ℕ, ◌+◌, Bool, true, false, List, [], ◌∷◌, ◌++◌, flat_map, append_assoc, append-nil, codes, arith}
+use Rattle.std.specs.Prelude.{None, Some}
+use Rattle.cue_lex.specs.declared.token.Token.{Token}
+use Rattle.cue_lex.specs.declared.token.TokenKind.TheVariants as kinds
+use Rattle.cue_lex.specs.declared.punctuation.Punctuation.TheVariants as points
+use Rattle.cue_syntax.specs.declared.tree.Identifier.{Identifier}
+use Rattle.cue_syntax.specs.declared.tree.Label.{Label}
+use Rattle.cue_syntax.specs.declared.tree.LabelName.{LabelName}
+use Rattle.cue_syntax.specs.declared.tree.Mark.{Mark}
+use Rattle.cue_syntax.specs.Syntax.{Expression, Elements, no_elements, element, Entry, ellipsis, field, definition, Entries, no_entries, entry}
+use Rattle.cue_syntax.specs.Spelling.{Reads, one, comma_if, identifier_kind, label_kind, spell, spell_mark, spell_label, spell_elements, spell_more_elements, spell_rest, spell_entry, spell_entries, spell_more_entries}
+use Rattle.cue_syntax.specs.Grammar.{AreRight, AreRightEntries, IsNested, EndsEntries, EndsElements, IsPackageName, levels_of_elements, levels_of_entries, Limit}
+use Rattle.cue_syntax.proofs.ReadingsJoin.{reads_then, reads_none}
+use Rattle.cue_syntax.proofs.RowsGrow.{reads_same}
+use Rattle.cue_syntax.proofs.StillToRead.{Keeps, AnExpression, Valued, IsAllowed, AnEntry, closing, NestedIn, Declared, MoreDeclared, Listed, rest_behind, MoreListed, Closed, Whole, Packaged, Shuts, Marked}
+use Rattle.cue_syntax.proofs.EachStackEnds.{keeps_from, keeps_both, reads_kind}
+use Rattle.cue_syntax.proofs.ExpressionsByParts.{three}
+
+-- labels
+pub mark_then : {a b : List Token} (t : Token) (m : Mark) → Reads (t ∷ a) (spell_mark m) a → Reads a (one (kinds.Mark points.Colon)) b → Marked (t ∷ a) b
+mark_then t m first colon = record { part = m; reads = reads_then first colon }
+
+pub expression_value : {limit : Limit} {n : ℕ} {a b : List Token} → AnExpression limit n a b → Valued limit n a b
+expression_value first = record { chain = []; tree = first.part; reads = first.reads; right = first.good; within = keeps_from first.within (omega arith) }
+
+label_reads : {a b c : List Token} (t : Token) (label : LabelName) (m : Mark) (chain : List Label) (e : Expression) → t.kind ≡ label_kind label
+    → Reads a (spell_mark m ++ one (kinds.Mark points.Colon)) b → Reads b (flat_map spell_label chain ++ spell e) c
+    → Reads (t ∷ a) (spell_label (record { name = label; mark = m }) ++ flat_map spell_label chain ++ spell e) c
+label_reads t label m chain e kind first second =
+    reads_kind t kind (reads_same (three (spell_mark m ++ one (kinds.Mark points.Colon)) (flat_map spell_label chain) (spell e)) (reads_then first second))
+
+pub chained_value : {limit : Limit} {n : ℕ} {a b c : List Token} (t : Token) (label : LabelName) → t.kind ≡ label_kind label → Marked a b → Valued limit (1 + n) b c
+    → Valued limit n (t ∷ a) c
+chained_value t label kind mark value = record {
+  chain = record { name = label; mark = mark.part } ∷ value.chain;
+  tree = value.tree;
+  reads = label_reads t label mark.part value.chain value.tree kind mark.reads value.reads;
+  right = value.right;
+  within = keeps_from value.within (omega arith);
+}
+
+-- declarations
+allowed : (top : Bool) (e : Entry) → IsNested e → IsAllowed top e
+allowed true e nested = tt
+allowed false e nested = nested
+
+pub field_entry : (top : Bool) {limit : Limit} {n : ℕ} {a b c : List Token} (t : Token) (label : LabelName) → t.kind ≡ label_kind label → Marked a b → Valued limit n b c
+    → AnEntry top limit n (t ∷ a) c
+field_entry top t label kind mark value = record {
+  part = field (record { name = label; mark = mark.part }) value.chain value.tree;
+  reads = label_reads t label mark.part value.chain value.tree kind mark.reads value.reads;
+  good = (value.right, allowed top (field (record { name = label; mark = mark.part }) value.chain value.tree) tt);
+  within = keeps_from value.within (omega arith);
+}
+
+pub definition_entry : {limit : Limit} {n : ℕ} {a b c : List Token} (t : Token) (word : List ℕ) → t.kind ≡ kinds.Definition word → Reads a (one (kinds.Mark points.Colon)) b → Valued limit n b c
+    → AnEntry true limit n (t ∷ a) c
+definition_entry {a = a} {c = c} t word kind colon value = record {
+  part = definition word t.from value.chain value.tree;
+  reads = record { follows = (kind, (refl, tt), behind.follows) };
+  good = (value.right, tt);
+  within = keeps_from value.within (omega arith);
+}
+  where
+    behind : Reads a (one (kinds.Mark points.Colon) ++ flat_map spell_label value.chain ++ spell value.tree) c
+    behind = reads_same (three (one (kinds.Mark points.Colon)) (flat_map spell_label value.chain) (spell value.tree)) (reads_then colon value.reads)
+
+pub ellipsis_entry : (top : Bool) {limit : Limit} {n : ℕ} {a : List Token} (t : Token) → t.kind ≡ (kinds.Mark points.Ellipsis) → Keeps limit n → AnEntry top limit n (t ∷ a) a
+ellipsis_entry top t kind keeps = record { part = ellipsis; reads = reads_kind t kind reads_none; good = (tt, allowed top ellipsis tt); within = keeps_from keeps (omega arith) }
+
+nested_next : (top : Bool) (e : Entry) (es : Entries) → IsAllowed top e → NestedIn top es → NestedIn top (entry e es)
+nested_next true e es first more = tt
+nested_next false e es first more = (first, more)
+
+ends_next : (comma : Bool) (e : Entry) (es : Entries) → EndsEntries comma (entry e es)
+ends_next true e es = tt
+ends_next false e es = tt
+
+pub entry_entries : {top : Bool} {limit : Limit} {n : ℕ} {a b c : List Token} → AnEntry top limit n a b → MoreDeclared top limit n b c → Declared top limit n a c
+entry_entries {top = top} first more = record {
+  tree = entry first.part more.tree;
+  comma = more.comma;
+  reads = reads_same (three (spell_entry first.part) (spell_more_entries more.tree) (comma_if more.comma ++ closing top)) (reads_then first.reads more.reads);
+  right = (first.good.0, more.right);
+  nested = nested_next top first.part more.tree first.good.1 more.nested;
+  ends = ends_next more.comma first.part more.tree;
+  within = keeps_both first.within more.within (omega arith);
+}
+
+pub comma_entries : {top : Bool} {limit : Limit} {n : ℕ} {a b : List Token} (t : Token) → t.kind ≡ (kinds.Mark points.Comma) → Declared top limit n a b → MoreDeclared top limit n (t ∷ a) b
+comma_entries {top} {limit} {n} {a} {b} t kind more = by_entries more.tree more.comma more.reads more.right more.nested more.ends more.within
+  where
+    by_entries : (es : Entries) (comma : Bool) → Reads a (spell_entries es ++ (comma_if comma ++ closing top)) b → AreRightEntries es → NestedIn top es → EndsEntries comma es
+        → Keeps limit (levels_of_entries es + n) → MoreDeclared top limit n (t ∷ a) b
+    by_entries no_entries true reads right nested ends within = absurd ends
+    by_entries no_entries false reads right nested ends within = record { tree = no_entries; comma = true; reads = reads_kind t kind reads; right = tt; nested = nested; within = within }
+    by_entries (entry e es) comma reads right nested ends within = record { tree = entry e es; comma = comma; reads = reads_kind t kind reads; right = right; nested = nested; within = within }
+
+pub brace_entries : {limit : Limit} {n : ℕ} {a : List Token} (t : Token) → t.kind ≡ (kinds.Mark points.CloseBrace) → Keeps limit n → Declared false limit n (t ∷ a) a
+brace_entries t kind keeps = record { tree = no_entries; comma = false; reads = reads_kind t kind reads_none; right = tt; nested = tt; ends = tt; within = keeps_from keeps (omega arith) }
+
+pub brace_more : {limit : Limit} {n : ℕ} {a : List Token} (t : Token) → t.kind ≡ (kinds.Mark points.CloseBrace) → Keeps limit n → MoreDeclared false limit n (t ∷ a) a
+brace_more t kind keeps = record { tree = no_entries; comma = false; reads = reads_kind t kind reads_none; right = tt; nested = tt; within = keeps_from keeps (omega arith) }
+
+pub brace_closed : (n : ℕ) {limit : Limit} {a b c : List Token} (t : Token) → t.kind ≡ (kinds.Mark points.OpenBrace) → Declared false limit (1 + (1 + n)) a b → Shuts (kinds.Mark points.CloseParenthesis) b c
+    → Closed limit (2 + n) (t ∷ a) c
+brace_closed n t kind first shuts = record {
+  tree = first.tree;
+  inner = first.comma;
+  comma = shuts.part;
+  reads = reads_kind t kind (reads_same (sym (outer first.tree first.comma shuts.part)) (reads_then first.reads shuts.reads));
+  right = first.right;
+  nested = first.nested;
+  ends = first.ends;
+  within = keeps_from first.within (omega arith);
+}
+  where
+    outer : (es : Entries) (inner comma : Bool) → spell_entries es ++ (comma_if inner ++ (one (kinds.Mark points.CloseBrace) ++ (comma_if comma ++ one (kinds.Mark points.CloseParenthesis))))
+        ≡ (spell_entries es ++ (comma_if inner ++ one (kinds.Mark points.CloseBrace))) ++ (comma_if comma ++ one (kinds.Mark points.CloseParenthesis))
+    outer es inner comma =
+        sym (append_assoc (spell_entries es) (comma_if inner ++ one (kinds.Mark points.CloseBrace)) (comma_if comma ++ one (kinds.Mark points.CloseParenthesis))
+        ∙ ap (λ z. spell_entries es ++ z) (append_assoc (comma_if inner) (one (kinds.Mark points.CloseBrace)) (comma_if comma ++ one (kinds.Mark points.CloseParenthesis))))
+
+-- lists
+ends_elements : (comma goes_on : Bool) (e : Expression) (es : Elements) → EndsElements comma goes_on (element e es)
+ends_elements true true e es = tt
+ends_elements true false e es = tt
+ends_elements false true e es = tt
+ends_elements false false e es = tt
+
+rest_is : (goes_on : Bool) (e : Expression) (es : Elements) → rest_behind goes_on ≡ spell_rest (element e es) goes_on
+rest_is true e es = refl
+rest_is false e es = refl
+
+pub element_elements : {limit : Limit} {n : ℕ} {a b c : List Token} → AnExpression limit n a b → MoreListed limit n b c → Listed limit n a c
+element_elements {a = a} {c = c} first more = record {
+  tree = element first.part more.tree;
+  goes_on = more.goes_on;
+  comma = more.comma;
+  reads = subst (λ z. Reads a (spell first.part ++ spell_more_elements (kinds.Mark points.Comma) more.tree ++ (z ++ (comma_if more.comma ++ one (kinds.Mark points.CloseBracket)))) c)
+      (rest_is more.goes_on first.part more.tree)
+      (reads_same (three (spell first.part) (spell_more_elements (kinds.Mark points.Comma) more.tree) (rest_behind more.goes_on ++ (comma_if more.comma ++ one (kinds.Mark points.CloseBracket))))
+      (reads_then first.reads more.reads));
+  right = (first.good, more.right);
+  ends = ends_elements more.comma more.goes_on first.part more.tree;
+  within = keeps_both first.within more.within (omega arith);
+}
+
+pub ellipsis_elements : {limit : Limit} {n : ℕ} {a b : List Token} (t : Token) → t.kind ≡ (kinds.Mark points.Ellipsis) → Shuts (kinds.Mark points.CloseBracket) a b → Keeps limit n → Listed limit n (t ∷ a) b
+ellipsis_elements t kind shuts keeps = record {
+  tree = no_elements;
+  goes_on = true;
+  comma = shuts.part;
+  reads = reads_kind t kind shuts.reads;
+  right = tt;
+  ends = open_ends shuts.part;
+  within = keeps_from keeps (omega arith);
+}
+  where
+    open_ends : (comma : Bool) → EndsElements comma true no_elements
+    open_ends true = tt
+    open_ends false = tt
+
+pub bracket_elements : {limit : Limit} {n : ℕ} {a : List Token} (t : Token) → t.kind ≡ (kinds.Mark points.CloseBracket) → Keeps limit n → Listed limit n (t ∷ a) a
+bracket_elements t kind keeps = record { tree = no_elements; goes_on = false; comma = false; reads = reads_kind t kind reads_none; right = tt; ends = tt; within = keeps_from keeps (omega arith) }
+
+pub bracket_more : {limit : Limit} {n : ℕ} {a : List Token} (t : Token) → t.kind ≡ (kinds.Mark points.CloseBracket) → Keeps limit n → MoreListed limit n (t ∷ a) a
+bracket_more t kind keeps = record { tree = no_elements; goes_on = false; comma = false; reads = reads_kind t kind reads_none; right = tt; within = keeps_from keeps (omega arith) }
+
+pub comma_elements : {limit : Limit} {n : ℕ} {a b : List Token} (t : Token) → t.kind ≡ (kinds.Mark points.Comma) → Listed limit n a b → MoreListed limit n (t ∷ a) b
+comma_elements {limit} {n} {a} {b} t kind more = by_elements more.tree more.goes_on more.comma more.reads more.right more.ends more.within
+  where
+    by_elements : (es : Elements) (goes_on comma : Bool) → Reads a (spell_elements (kinds.Mark points.Comma) es ++ (spell_rest es goes_on ++ (comma_if comma ++ one (kinds.Mark points.CloseBracket)))) b → AreRight es
+        → EndsElements comma goes_on es → Keeps limit (levels_of_elements es + n) → MoreListed limit n (t ∷ a) b
+    by_elements no_elements false true reads right ends within = absurd ends
+    by_elements no_elements false false reads right ends within = record { tree = no_elements; goes_on = false; comma = true; reads = reads_kind t kind reads; right = tt; within = within }
+    by_elements no_elements true comma reads right ends within = record { tree = no_elements; goes_on = true; comma = comma; reads = reads_kind t kind reads; right = tt; within = within }
+    by_elements (element e es) goes_on comma reads right ends within = record {
+      tree = element e es;
+      goes_on = goes_on;
+      comma = comma;
+      reads = reads_kind t kind (subst (λ z. Reads a (spell e ++ spell_more_elements (kinds.Mark points.Comma) es ++ (z ++ (comma_if comma ++ one (kinds.Mark points.CloseBracket)))) b) (sym (rest_is goes_on e es)) reads);
+      right = right;
+      within = within;
+    }
+
+-- texts
+pub entries_whole : {limit : Limit} {n : ℕ} {a b : List Token} → Declared true limit n a b → Whole limit n a b
+entries_whole first = record {
+  tree = record { package_clause = None; declarations = first.tree; comma = first.comma };
+  reads = reads_same (ap (λ z. spell_entries first.tree ++ z) (append-nil (comma_if first.comma))) first.reads;
+  clause = tt;
+  right = first.right;
+  ends = first.ends;
+  within = first.within;
+}
+
+pub comma_package : {limit : Limit} {n : ℕ} {a b : List Token} (t : Token) → t.kind ≡ (kinds.Mark points.Comma) → Declared true limit n a b → Packaged limit n (t ∷ a) b
+comma_package t kind first = record {
+  comma = true;
+  tree = first.tree;
+  last = first.comma;
+  reads = reads_kind t kind (reads_same (ap (λ z. spell_entries first.tree ++ z) (append-nil (comma_if first.comma))) first.reads);
+  parted = λ e. absurd (let f : true ≡ false = e in cc);
+  right = first.right;
+  ends = first.ends;
+  within = first.within;
+}
+
+pub package_whole : {limit : Limit} {n : ℕ} {a b : List Token} (first t : Token) (called : Identifier) → first.kind ≡ kinds.Name (codes "package") → t.kind ≡ identifier_kind called
+    → IsPackageName called → Packaged limit n a b → Whole limit n (first ∷ t ∷ a) b
+package_whole first t called word kind right packaged = record {
+  tree = record { package_clause = Some (record { name = called; comma = packaged.comma }); declarations = packaged.tree; comma = packaged.last };
+  reads = reads_kind first word (reads_kind t kind (reads_same (three (comma_if packaged.comma) (spell_entries packaged.tree) (comma_if packaged.last)) packaged.reads));
+  clause = (right, packaged.parted);
+  right = packaged.right;
+  ends = packaged.ends;
+  within = packaged.within;
+}

@@ -1,0 +1,67 @@
+-- What the goals do with each kind of token.
+use Rattle.std.proofs.Common.{◌≡◌, ◌∙◌, ◌≤◌, ◌<◌, ap, refl, subst, ℕ, List, ◌∷◌, None, Some}
+use Rattle.std.specs.Prelude.{if◌then◌else◌}
+use Rattle.std.proofs.lemmas.Bool.{le-leb, lt-leb}
+use Rattle.cue_lex.specs.declared.token.TokenKind.{TokenKind}
+use Rattle.cue_lex.specs.declared.token.TokenKind.TheVariants as kinds
+use Rattle.cue_lex.specs.declared.punctuation.Punctuation.{Punctuation}
+use Rattle.cue_lex.specs.declared.punctuation.Punctuation.TheVariants as points
+use Rattle.cue_syntax.specs.declared.tree.Sign.{Sign}
+use Rattle.cue_syntax.specs.declared.tree.Sign.TheVariants as signs
+use Rattle.cue_syntax.specs.Grammar.{greatest}
+use Rattle.cue_syntax.specs.Viability.{BeginsInteger, IsComparison, Opens}
+use Rattle.cue_syntax.specs.Recogniser.{Stack, step, magnitude, signed, signed_or_text, unary, behind_close}
+
+pub magnitude_none : (s : Sign) (k : TokenKind) → ((n : ℕ) → k ≡ kinds.Integer n → ⊥) → (below : Stack) → step (magnitude s ∷ below) k ≡ None
+magnitude_none s (kinds.Integer n) lacks below = absurd (lacks n refl)
+magnitude_none s _ lacks below = refl
+
+pub magnitude_step : (s : Sign) (n : ℕ) (below : Stack) → n ≤ greatest s → step (magnitude s ∷ below) (kinds.Integer n) ≡ Some below
+magnitude_step s n below le = ap (λ z. if z then Some below else None) (le-leb n (greatest s) le)
+
+pub magnitude_large : (s : Sign) (n : ℕ) (below : Stack) → greatest s < n → step (magnitude s ∷ below) (kinds.Integer n) ≡ None
+magnitude_large s n below large = ap (λ z. if z then Some below else None) (lt-leb n (greatest s) large)
+
+pub signed_none : (k : TokenKind) → ¬ BeginsInteger k → (below : Stack) → step (signed ∷ below) k ≡ None
+signed_none (kinds.Integer n) lacks below = absurd (lacks tt)
+signed_none (kinds.Mark points.Minus) lacks below = absurd (lacks tt)
+signed_none (kinds.Mark points.Plus) lacks below = absurd (lacks tt)
+signed_none _ lacks below = refl
+
+pub signed_magnitude : (k : TokenKind) → (k ≡ (kinds.Mark points.Minus) → ⊥) → (k ≡ (kinds.Mark points.Plus) → ⊥) → (below : Stack) → step (signed ∷ below) k ≡ step (magnitude signs.Absent ∷ below) k
+signed_magnitude (kinds.Mark points.Minus) minus plus below = absurd (minus refl)
+signed_magnitude (kinds.Mark points.Plus) minus plus below = absurd (plus refl)
+signed_magnitude _ minus plus below = refl
+
+pub other_signed : (k : TokenKind) → ((t : List ℕ) → k ≡ kinds.Text t → ⊥) → (below : Stack) → step (signed_or_text ∷ below) k ≡ step (signed ∷ below) k
+other_signed (kinds.Text t) lacks below = absurd (lacks t refl)
+other_signed _ lacks below = refl
+
+pub unary_signed : (k : TokenKind) → BeginsInteger k → (below : Stack) → step (unary ∷ below) k ≡ step (signed ∷ below) k
+unary_signed (kinds.Integer n) is below = refl
+unary_signed (kinds.Mark points.Minus) is below = refl
+unary_signed (kinds.Mark points.Plus) is below = refl
+unary_signed _ is below = absurd is
+
+-- A mark that begins no operand.
+pub mark_none : {k : TokenKind} (mark : Punctuation) → k ≡ kinds.Mark mark → ¬ Opens k → ¬ BeginsInteger (kinds.Mark mark) → ¬ IsComparison (kinds.Mark mark) → (mark ≡ points.NotEqual → ⊥)
+    → (below : Stack) → step (unary ∷ below) k ≡ None
+mark_none mark is opens integer comparison other below =
+    ap (step (unary ∷ below)) is ∙ mark_alone mark (subst (λ z. ¬ Opens z) is opens) integer comparison other below
+  where
+    mark_alone : (m : Punctuation) → ¬ Opens (kinds.Mark m) → ¬ BeginsInteger (kinds.Mark m) → ¬ IsComparison (kinds.Mark m) → (m ≡ points.NotEqual → ⊥) → (below : Stack) → step (unary ∷ below) (kinds.Mark m) ≡ None
+    mark_alone points.Minus o i c e below = absurd (i tt)
+    mark_alone points.Plus o i c e below = absurd (i tt)
+    mark_alone points.Less o i c e below = absurd (c tt)
+    mark_alone points.AtMost o i c e below = absurd (c tt)
+    mark_alone points.Greater o i c e below = absurd (c tt)
+    mark_alone points.AtLeast o i c e below = absurd (c tt)
+    mark_alone points.NotEqual o i c e below = absurd (e refl)
+    mark_alone points.OpenParenthesis o i c e below = absurd (o tt)
+    mark_alone points.OpenBrace o i c e below = absurd (o tt)
+    mark_alone points.OpenBracket o i c e below = absurd (o tt)
+    mark_alone _ o i c e below = refl
+
+pub behind_close_pops : (k : TokenKind) → (k ≡ (kinds.Mark points.OpenParenthesis) → ⊥) → (below : Stack) → step (behind_close ∷ below) k ≡ step below k
+behind_close_pops (kinds.Mark points.OpenParenthesis) lacks below = absurd (lacks refl)
+behind_close_pops _ lacks below = refl

@@ -1,0 +1,280 @@
+-- How moves and stops of the recogniser are put together.
+use Rattle.std.proofs.Common.{◌≡◌, ◌∙◌, ap, sym, subst, refl, ℕ, ◌+◌, ◌≤◌, ◌<◌, ◌⊎◌, inl, inr, true, false, List, [], ◌∷◌, ◌++◌, drop, append_assoc, arith, Some, None, Result, Ok, Err, IfOk, IfErr}
+use Rattle.std.specs.Prelude.{if◌then◌else◌, IsErrAnd}
+use Rattle.std.proofs.lemmas.Bool.{le-leb, lt-leb}
+use Rattle.cue_lex.specs.declared.token.Token.{Token}
+use Rattle.cue_lex.specs.declared.token.TokenKind.{TokenKind}
+use Rattle.cue_syntax.specs.declared.stop.Why.{Why}
+use Rattle.cue_syntax.specs.declared.stop.Why.TheVariants as reasons
+use Rattle.cue_syntax.specs.declared.stop.Stop.{Stop}
+use Rattle.cue_syntax.specs.Grammar.{Limit, unlimited, at_most, Within}
+use Rattle.cue_syntax.specs.Spelling.{Reads, Piece}
+use Rattle.cue_syntax.specs.Stops.{memory, at_hand}
+use Rattle.cue_syntax.specs.Viability.{StandsSign}
+use Rattle.cue_syntax.specs.Recogniser.{Stack, depth, fits, step, is_over, stuck, stuck_behind, Closes, IsEnd, OpensNear, SticksBy, Stops, Refused, Moves, IsBrace}
+
+pub end_self : {a : List Token} → IsEnd a a
+end_self = record { read = []; is = refl }
+
+pub end_next : {a b : List Token} (t : Token) → a ≡ t ∷ b → IsEnd a b
+end_next t is = record { read = t ∷ []; is = is }
+
+pub end_then : {a b c : List Token} → IsEnd a b → IsEnd b c → IsEnd a c
+end_then {c = c} x y = record { read = x.read ++ y.read; is = x.is ∙ ap (λ z. x.read ++ z) y.is ∙ sym (append_assoc x.read y.read c) }
+
+pub depth_append : (a b : Stack) → depth (a ++ b) ≡ depth a + depth b
+depth_append [] b = omega arith
+depth_append (g ∷ a) b = omega (arith, depth_append a b)
+
+within_le : (limit : Limit) (m n : ℕ) → m ≤ n → Within limit n → Within limit m
+within_le unlimited m n le within = tt
+within_le (at_most k) m n le within = omega arith
+
+fits_within : (limit : Limit) (n : ℕ) → Within limit n → fits limit n ≡ true
+fits_within unlimited n within = refl
+fits_within (at_most m) n within = le-leb n m within
+
+-- moves
+pub moves_then : {n : ℕ} {g h k : Stack} {a b c : List Token} → Moves n g a h b → Moves n h b k c → Moves n g a k c
+moves_then x y = record { inside = end_then x.inside y.inside; moves = λ limit below within. x.moves limit below within ∙ y.moves limit below within }
+
+pub moves_none : {n : ℕ} {g : Stack} {a : List Token} → Moves n g a g a
+moves_none = record { inside = end_self; moves = λ limit below within. refl }
+
+pub moves_meet : {n : ℕ} {g k : Stack} {a b : List Token} (h : Stack) → Moves n g a h b → Moves n k a h b → Moves n g a k a
+moves_meet h x y = record { inside = record { read = []; is = refl }; moves = λ limit below within. x.moves limit below within ∙ sym (y.moves limit below within) }
+
+pub moves_under : {n left : ℕ} {g h : Stack} {a b : List Token} (under : Stack) → depth under + left ≡ n → Moves left g a h b → Moves n (g ++ under) a (h ++ under) b
+moves_under {n = n} {left = left} {g = g} {h = h} {a = a} {b = b} under is m = record {
+  inside = m.inside;
+  moves = λ limit below within.
+      let w : Within limit (depth (under ++ below) + left) = within_le limit _ _ (omega (arith, is, depth_append under below)) within in
+      subst (λ z. stuck limit z a ≡ stuck limit ((h ++ under) ++ below) b) (sym (append_assoc g under below))
+      (subst (λ z. stuck limit (g ++ (under ++ below)) a ≡ stuck limit z b) (sym (append_assoc h under below)) (m.moves limit (under ++ below) w));
+}
+
+pub moves_more : {n left : ℕ} {g h : Stack} {a b : List Token} → left ≤ n → Moves left g a h b → Moves n g a h b
+moves_more le m = record { inside = m.inside; moves = λ limit below within. m.moves limit below (within_le limit _ _ (omega (arith, le)) within) }
+
+step_taken : (limit : Limit) (goals next : Stack) (t : Token) (b : List Token) → step goals t.kind ≡ Some next → Within limit (depth next)
+    → stuck limit goals (t ∷ b) ≡ stuck limit next b
+step_taken limit goals next t b is within =
+    ap (λ z. stuck_behind limit z (t ∷ b) (λ g. stuck limit g b)) is
+    ∙ ap (λ z. if z then stuck limit next b else Some (t ∷ b)) (fits_within limit (depth next) within)
+
+-- a token is taken
+pub takes : {n : ℕ} {g next : Stack} {a b : List Token} (t : Token) → a ≡ t ∷ b → ((below : Stack) → step (g ++ below) t.kind ≡ Some (next ++ below)) → depth next ≤ n
+    → Moves n g a next b
+takes {n = n} {g = g} {next = next} {a = a} {b = b} t is taken le = record {
+  inside = end_next t is;
+  moves = λ limit below within.
+      ap (stuck limit (g ++ below)) is
+      ∙ step_taken limit (g ++ below) (next ++ below) t b (taken below) (within_le limit _ _ (omega (arith, le, depth_append next below)) within);
+}
+
+pub takes_read : {n : ℕ} {g next : Stack} {a b : List Token} {piece : Piece} → Reads a (piece ∷ []) b → ((below : Stack) → step (g ++ below) piece.kind ≡ Some (next ++ below)) → depth next ≤ n
+    → Moves n g a next b
+takes_read {a = []} reads taken le = absurd reads.follows
+takes_read {g = g} {next = next} {a = t ∷ ts} reads taken le =
+    takes t (ap (λ z. t ∷ z) reads.follows.2) (λ below. ap (step (g ++ below)) reads.follows.0 ∙ taken below) le
+
+-- the first of several tokens
+pub takes_first : {n : ℕ} {g next : Stack} {a b : List Token} {piece : Piece} {pieces : List Piece} → Reads a (piece ∷ pieces) b → ((below : Stack) → step (g ++ below) piece.kind ≡ Some (next ++ below))
+    → depth next ≤ n → (c : List Token) × Moves n g a next c × Reads c pieces b
+takes_first {a = []} reads taken le = absurd reads.follows
+takes_first {g = g} {a = t ∷ ts} reads taken le =
+    (ts, takes t refl (λ below. ap (step (g ++ below)) reads.follows.0 ∙ taken below) le, record { follows = reads.follows.2 })
+
+-- the goals do the same with the symbol at hand
+abbrev pub Alike : Stack → Stack → List Token → Type 0
+Alike g h [] = (below : Stack) → is_over (g ++ below) ≡ is_over (h ++ below)
+Alike g h (t ∷ ts) = (below : Stack) → step (g ++ below) t.kind ≡ step (h ++ below) t.kind
+
+pub alike_moves : {n : ℕ} {g h : Stack} (a : List Token) → Alike g h a → Moves n g a h a
+alike_moves [] alike = record { inside = end_self; moves = λ limit below within. ap (λ z. if z then None else Some []) (alike below) }
+alike_moves (t ∷ ts) alike = record { inside = end_self; moves = λ limit below within. ap (λ z. stuck_behind limit z (t ∷ ts) (λ g. stuck limit g ts)) (alike below) }
+
+-- the goals take no symbol at hand
+abbrev pub HaltsAt : Stack → List Token → Type 0
+HaltsAt g [] = (below : Stack) → is_over (g ++ below) ≡ false
+HaltsAt g (t ∷ ts) = (below : Stack) → Closes below → step (g ++ below) t.kind ≡ None
+
+pub record Halts (g : Stack) (a : List Token) : Type 0 where
+  pub at : HaltsAt g a
+
+sticks_at : (g : Stack) (limit : Limit) (a : List Token) → HaltsAt g a → (below : Stack) → Closes below → stuck limit (g ++ below) a ≡ Some a
+sticks_at g limit [] halts below closes = ap (λ z. if z then None else Some []) (halts below)
+sticks_at g limit (t ∷ ts) halts below closes = ap (λ z. stuck_behind limit z (t ∷ ts) (λ g. stuck limit g ts)) (halts below closes)
+
+pub halts_sticks : (g : Stack) (limit : Limit) (a : List Token) → Halts g a → (below : Stack) → Closes below → stuck limit (g ++ below) a ≡ Some a
+halts_sticks g limit a halts below closes = sticks_at g limit a halts.at below closes
+
+pub halts_at : {g : Stack} {a b : List Token} (t : Token) → a ≡ t ∷ b → ((below : Stack) → Closes below → step (g ++ below) t.kind ≡ None) → Halts g a
+halts_at {g = g} t is halts = record { at = subst (λ z. HaltsAt g z) (sym is) halts }
+
+pub alike_at : {n : ℕ} {g h : Stack} {a b : List Token} (t : Token) → a ≡ t ∷ b → ((below : Stack) → step (g ++ below) t.kind ≡ step (h ++ below) t.kind) → Moves n g a h a
+alike_at {g = g} {h = h} {a = a} t is alike = alike_moves a (subst (λ z. Alike g h z) (sym is) alike)
+
+unless_at : (g : Stack) (k : TokenKind) (a : List Token) → ((below : Stack) → is_over (g ++ below) ≡ false)
+    → ((j : TokenKind) → (j ≡ k → ⊥) → (below : Stack) → step (g ++ below) j ≡ None) → ¬ StandsSign k a → HaltsAt g a
+unless_at g k [] over none lacks = over
+unless_at g k (t ∷ ts) over none lacks = λ below closes. none t.kind lacks below
+
+-- no symbol but this one is taken
+pub halts_unless : {g : Stack} {a : List Token} (k : TokenKind) → ((below : Stack) → is_over (g ++ below) ≡ false)
+    → ((j : TokenKind) → (j ≡ k → ⊥) → (below : Stack) → step (g ++ below) j ≡ None) → ¬ StandsSign k a → Halts g a
+halts_unless {g = g} {a = a} k over none lacks = record { at = unless_at g k a over none lacks }
+
+-- the results of a call
+pub if_ok : {A E : Type 0} {P Q : A → Type 0} (r : Result A E) → ((x : A) → P x → Q x) → IfOk r P → IfOk r Q
+if_ok (Ok x) f p = f x p
+if_ok (Err e) f p = tt
+
+pub if_err : {A E : Type 0} {P Q : E → Type 0} (r : Result A E) → ((x : E) → P x → Q x) → IfErr r P → IfErr r Q
+if_err (Ok x) f p = tt
+if_err (Err e) f p = f e p
+
+pub err_from : {A E : Type 0} (P : E → Type 0) (r : Result A E) (x : E) → IsErrAnd r (λ e. e ≡ x) → P x → IfErr r P
+err_from P (Ok a) x is p = absurd is
+err_from P (Err e) x is p = subst P (sym is) p
+
+-- stops
+pub stops_here : {n end : ℕ} {g : Stack} {a : List Token} {r : Stop} → r ≡ at_hand reasons.Syntax end a → Halts g a → Stops n end g a r
+stops_here {n = n} {end = end} {g = g} {a = a} is halts = subst (λ z. Stops n end g a z) (sym is) (record {
+  at = a;
+  inside = end_self;
+  left = refl;
+  by = record { here = a; sticks = halts_sticks g unlimited a halts; near = inl refl };
+})
+
+-- refused at the symbol before
+pub stops_before : {n end free : ℕ} {g : Stack} {a b : List Token} {r : Stop} (h : Stack) → r ≡ at_hand reasons.Syntax end a → drop 1 a ≡ b → Moves free g a h b → Halts h b → Stops n end g a r
+stops_before {n = n} {end = end} {g = g} {a = a} {b = b} h is next m halts = subst (λ z. Stops n end g a z) (sym is) (record {
+  at = a;
+  inside = end_self;
+  left = refl;
+  by = record { here = b; sticks = λ below closes. m.moves unlimited below tt ∙ halts_sticks h unlimited b halts below closes; near = inr next };
+})
+
+-- refused at a later symbol
+pub stops_there : {n end free : ℕ} {g h : Stack} {a b : List Token} {r : Stop} → r ≡ at_hand reasons.Syntax end b → Moves free g a h b → Halts h b → Stops n end g a r
+stops_there {n = n} {end = end} {g = g} {h = h} {a = a} {b = b} is m halts = subst (λ z. Stops n end g a z) (sym is) (record {
+  at = b;
+  inside = m.inside;
+  left = refl;
+  by = record { here = b; sticks = λ below closes. m.moves unlimited below tt ∙ halts_sticks h unlimited b halts below closes; near = inl refl };
+})
+
+near_behind : {a b here at : List Token} → IsEnd a b → (at ≡ here) ⊎ (drop 1 at ≡ here) ⊎ IsBrace b here at → (at ≡ here) ⊎ (drop 1 at ≡ here) ⊎ IsBrace a here at
+near_behind inside (inl e) = inl e
+near_behind inside (inr (inl e)) = inr (inl e)
+near_behind inside (inr (inr brace)) = inr (inr (record { name = brace.name; inside = end_then inside brace.inside; call = brace.call; behind = brace.behind; is = brace.is; brace = brace.brace }))
+
+by_behind : {n : ℕ} {g h : Stack} {a b : List Token} (at : List Token) (kind : Why) → Moves n g a h b → SticksBy n h b kind at → SticksBy n g a kind at
+by_behind at reasons.Syntax m by = record { here = by.here; sticks = λ below closes. m.moves unlimited below tt ∙ by.sticks below closes; near = by.near }
+by_behind {n = n} at reasons.Nesting m by = record {
+  here = by.here;
+  sticks = λ below closes. m.moves (at_most (depth below + n)) below (let e : depth below + n ≤ depth below + n = omega arith in e) ∙ by.sticks below closes;
+  deeper = λ below. let d = by.deeper below in record { next = d.next; token = d.token; tokens_behind = d.tokens_behind; is = d.is; goes_on = m.moves unlimited below tt ∙ d.goes_on };
+  near = near_behind m.inside by.near;
+}
+by_behind at reasons.Memory m by = by
+
+pub stops_behind : {n end : ℕ} {g h : Stack} {a b : List Token} {r : Stop} → Moves n g a h b → Stops n end h b r → Stops n end g a r
+stops_behind {r = r} m s = record { at = s.at; inside = end_then m.inside s.inside; left = s.left; by = by_behind s.at r.why m s.by }
+
+by_under : {n : ℕ} (left : ℕ) (g : Stack) (a at : List Token) (kind : Why) (under : Stack) → depth under + left ≡ n → ((below : Stack) → Closes below → Closes (under ++ below))
+    → SticksBy left g a kind at → SticksBy n (g ++ under) a kind at
+by_under left g a at reasons.Syntax under is close by = record {
+  here = by.here;
+  sticks = λ below closes. subst (λ z. stuck unlimited z a ≡ Some by.here) (sym (append_assoc g under below)) (by.sticks (under ++ below) (close below closes));
+  near = by.near;
+}
+by_under {n = n} left g a at reasons.Nesting under is close by = record {
+  here = by.here;
+  sticks = λ below closes.
+      let e : depth (under ++ below) + left ≡ depth below + n = omega (arith, is, depth_append under below) in
+      subst (λ z. stuck (at_most (depth below + n)) z a ≡ Some by.here) (sym (append_assoc g under below))
+      (subst (λ z. stuck (at_most z) (g ++ (under ++ below)) a ≡ Some by.here) e (by.sticks (under ++ below) (close below closes)));
+  deeper = λ below. let d = by.deeper (under ++ below) in record {
+    next = d.next;
+    token = d.token;
+    tokens_behind = d.tokens_behind;
+    is = d.is;
+    goes_on = subst (λ z. stuck unlimited z a ≡ stuck unlimited d.next d.tokens_behind) (sym (append_assoc g under below)) d.goes_on;
+  };
+  near = by.near;
+}
+by_under left g a at reasons.Memory under is close by = by
+
+pub stops_under : {n left end : ℕ} {g : Stack} {a : List Token} {r : Stop} (under : Stack) → depth under + left ≡ n → ((below : Stack) → Closes below → Closes (under ++ below))
+    → Stops left end g a r → Stops n end (g ++ under) a r
+stops_under {r = r} under is close s = record { at = s.at; inside = s.inside; left = s.left; by = by_under _ _ _ s.at r.why under is close s.by }
+
+-- a token that opens a level has no room
+by_nesting : {left : ℕ} {g : Stack} {a b : List Token} (next : Stack) (t : Token) → a ≡ t ∷ b
+    → ((below : Stack) → step (g ++ below) t.kind ≡ Some (next ++ below)) → left < depth next → OpensNear left g a a
+by_nesting {left = left} {g = g} {a = a} {b = b} next t is taken more = record {
+  here = a;
+  sticks = λ below closes. subst (λ z. stuck (at_most (depth below + left)) (g ++ below) z ≡ Some z) (sym is)
+      (ap (λ z. stuck_behind (at_most (depth below + left)) z (t ∷ b) (λ h. stuck (at_most (depth below + left)) h b)) (taken below)
+      ∙ ap (λ z. if z then stuck (at_most (depth below + left)) (next ++ below) b else Some (t ∷ b))
+      (lt-leb (depth (next ++ below)) (depth below + left) (omega (arith, more, depth_append next below))));
+  deeper = λ below. record {
+    next = next ++ below;
+    token = t;
+    tokens_behind = b;
+    is = is;
+    goes_on = ap (stuck unlimited (g ++ below)) is ∙ step_taken unlimited (g ++ below) (next ++ below) t b (taken below) tt;
+  };
+  near = inl refl;
+}
+
+pub opens_none : {end left : ℕ} {g : Stack} {a b : List Token} {r : Stop} (next : Stack) (t : Token) → a ≡ t ∷ b → r ≡ at_hand reasons.Nesting end a
+    → ((below : Stack) → step (g ++ below) t.kind ≡ Some (next ++ below)) → left < depth next → Stops left end g a r
+opens_none {end = end} {left = left} {g = g} {a = a} next t is refused taken more = subst (λ z. Stops left end g a z) (sym refused)
+    (record { at = a; inside = end_self; left = refl; by = by_nesting next t is taken more })
+
+-- a token that opens a level has no room, and the one before it is refused
+pub opens_before : {end left : ℕ} {g h : Stack} {a b c : List Token} {r : Stop} (next : Stack) (t : Token) → r ≡ at_hand reasons.Nesting end a → drop 1 a ≡ b → Moves left g a h b
+    → b ≡ t ∷ c → ((below : Stack) → step (h ++ below) t.kind ≡ Some (next ++ below)) → left < depth next → Stops left end g a r
+unfolding by_behind by_nesting
+opens_before {end = end} {left = left} {g = g} {h = h} {a = a} {b = b} next t refused second m is taken more =
+    let later : OpensNear left g a b = by_behind b reasons.Nesting m (by_nesting next t is taken more) in
+    subst (λ z. Stops left end g a z) (sym refused) (record {
+      at = a;
+      inside = end_self;
+      left = refl;
+      by = record { here = later.here; sticks = later.sticks; deeper = later.deeper; near = inr (inl second) };
+    })
+
+-- the same, where the refusal is of the brace after the parenthesis of a `close({`
+pub opens_behind : {end left : ℕ} {g h : Stack} {a b c : List Token} {r : Stop} (next : Stack) (t : Token) → Moves left g a h b → b ≡ t ∷ c → r ≡ at_hand reasons.Nesting end c → IsBrace a b c
+    → ((below : Stack) → step (h ++ below) t.kind ≡ Some (next ++ below)) → left < depth next → Stops left end g a r
+unfolding by_behind by_nesting
+opens_behind {end = end} {left = left} {g = g} {a = a} {b = b} {c = c} next t m is refused brace taken more =
+    let later : OpensNear left g a b = by_behind b reasons.Nesting m (by_nesting next t is taken more) in
+    subst (λ z. Stops left end g a z) (sym refused) (record {
+      at = c;
+      inside = end_then m.inside (end_next t is);
+      left = refl;
+      by = record { here = later.here; sticks = later.sticks; deeper = later.deeper; near = inr (inr brace) };
+    })
+
+-- refusals
+pub lacks_memory : {n end : ℕ} {g : Stack} {a : List Token} {r : Stop} → r ≡ memory → Refused n end g a r
+lacks_memory is = record { why = inl is }
+
+pub stopped : {n end : ℕ} {g : Stack} {a : List Token} {r : Stop} → Stops n end g a r → Refused n end g a r
+stopped s = record { why = inr s }
+
+pub refused_behind : {n end : ℕ} {g h : Stack} {a b : List Token} {r : Stop} → Moves n g a h b → Refused n end h b r → Refused n end g a r
+refused_behind m s = elim (s.why) [ inl e ↦ record { why = inl e } | inr e ↦ record { why = inr (stops_behind m e) } ]
+
+pub refused_under : {n left end : ℕ} {g : Stack} {a : List Token} {r : Stop} (under : Stack) → depth under + left ≡ n → ((below : Stack) → Closes below → Closes (under ++ below))
+    → Refused left end g a r → Refused n end (g ++ under) a r
+refused_under under is close s = elim (s.why) [ inl e ↦ record { why = inl e } | inr e ↦ record { why = inr (stops_under under is close e) } ]
+
+-- another name of the same end
+pub refused_end : {n end other : ℕ} {g : Stack} {a : List Token} {r : Stop} → end ≡ other → Refused n end g a r → Refused n other g a r
+refused_end {n = n} {g = g} {a = a} {r = r} is s = subst (λ z. Refused n z g a r) is s

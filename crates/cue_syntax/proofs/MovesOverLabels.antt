@@ -1,0 +1,289 @@
+-- How the recogniser goes through labels.
+use Rattle.std.proofs.Common.{◌≡◌, ◌∙◌, ap, sym, subst, refl, ℕ, ◌+◌, ◌≤◌, ◌<◌, ◌⊎◌, inl, inr, Bool, true, false, List, [], ◌∷◌, ◌++◌, length, drop, arith, Some, None}
+use Rattle.std.specs.Prelude.{if◌then◌else◌}
+use Rattle.cue_lex.specs.declared.token.Token.{Token}
+use Rattle.cue_lex.specs.declared.token.TokenKind.{TokenKind}
+use Rattle.cue_lex.specs.declared.token.TokenKind.TheVariants as kinds
+use Rattle.cue_lex.specs.declared.punctuation.Punctuation.TheVariants as points
+use Rattle.cue_syntax.specs.declared.stop.Why.TheVariants as reasons
+use Rattle.cue_syntax.specs.declared.stop.Stop.{Stop}
+use Rattle.cue_syntax.specs.declared.tree.Label.{Label}
+use Rattle.cue_syntax.specs.declared.tree.LabelName.{LabelName}
+use Rattle.cue_syntax.specs.declared.tree.LabelName.TheVariants as names
+use Rattle.cue_syntax.specs.declared.tree.Mark.{Mark}
+use Rattle.cue_syntax.specs.declared.tree.Mark.TheVariants as marks
+use Rattle.cue_syntax.specs.Spelling.{Reads, one, label_kind, spell_mark, spell_label}
+use Rattle.cue_syntax.specs.Stops.{memory, at_hand}
+use Rattle.cue_syntax.specs.Viability.{StandsSign, IsMark, IsLabelName, BeginsLabel, LacksColon, MissesColon, RefusesLabel, IsLabelLeftOut, IsHidden, IsDefinition}
+use Rattle.cue_syntax.specs.Recogniser.{Goal, Stack, depth, levels_of, step, is_keyword, Closes, Moves, Stops, Refused, chains, value, value_name, value_text, chained, mark, colon, entries, more_entries, more_parts, more_terms}
+use Rattle.cue_syntax.proofs.MovesAndStops.{takes, moves_then, moves_more, moves_under, Halts, halts_at, halts_unless, stopped, stops_here, stops_before, stops_there, opens_none, opens_before, refused_behind, refused_under, refused_end, takes_first, takes_read, alike_moves, moves_none}
+
+colon_only : (g : Stack) (j : TokenKind) → (j ≡ (kinds.Mark points.Colon) → ⊥) → (below : Stack) → step ((colon ∷ g) ++ below) j ≡ None
+colon_only g (kinds.Mark points.Colon) other below = absurd (other refl)
+colon_only g _ other below = refl
+
+pub colon_halts : {g : Stack} {a : List Token} → ¬ StandsSign (kinds.Mark points.Colon) a → Halts (colon ∷ g) a
+colon_halts {g = g} lacks = halts_unless (kinds.Mark points.Colon) (λ below. refl) (colon_only g) lacks
+
+-- a mark with no colon after it
+lacks_by : {end : ℕ} {a b c : List Token} {r : Stop} (n : LabelName) (m : Mark) → BeginsLabel a → Reads a (one (label_kind n)) b → Reads b (spell_mark m) c
+    → (m ≡ marks.Regular → ¬ StandsSign (kinds.Mark points.Question) b) → (m ≡ marks.Regular → ¬ StandsSign (kinds.Mark points.Exclamation) b)
+    → ¬ StandsSign (kinds.Mark points.Colon) c → r ≡ at_hand reasons.Syntax end c → MissesColon end a r
+lacks_by {a = []} n m begins name sign question exclamation lacks is = absurd begins.0
+lacks_by {a = t ∷ []} n m begins name sign question exclamation lacks is = absurd begins.1
+lacks_by {a = t ∷ u ∷ ts} {c = c} n marks.Regular begins name sign question exclamation lacks is =
+    let same : u ∷ ts ≡ c = name.follows.2 ∙ sign.follows in
+    absurd (no_mark u.kind begins.1 (λ e. subst (λ z. ¬ StandsSign (kinds.Mark points.Colon) z) (sym same) lacks e)
+    (λ e. subst (λ z. ¬ StandsSign (kinds.Mark points.Question) z) (sym name.follows.2) (question refl) e)
+    (λ e. subst (λ z. ¬ StandsSign (kinds.Mark points.Exclamation) z) (sym name.follows.2) (exclamation refl) e))
+  where
+    no_mark : (k : TokenKind) → IsMark k → (k ≡ (kinds.Mark points.Colon) → ⊥) → (k ≡ (kinds.Mark points.Question) → ⊥) → (k ≡ (kinds.Mark points.Exclamation) → ⊥) → ⊥
+    no_mark (kinds.Mark points.Colon) is a b c = a refl
+    no_mark (kinds.Mark points.Question) is a b c = b refl
+    no_mark (kinds.Mark points.Exclamation) is a b c = c refl
+    no_mark _ is a b c = is
+lacks_by {end = end} {a = t ∷ u ∷ ts} {c = c} {r = r} n marks.Optional begins name sign question exclamation lacks is =
+    let second = subst (λ z. Reads z (one (kinds.Mark points.Question)) c) (sym name.follows.2) sign in
+    record { is = subst (λ z. r ≡ at_hand reasons.Syntax end z) (sym second.follows.2) is; lacks = (begins.0, inl second.follows.0, subst (λ z. ¬ StandsSign (kinds.Mark points.Colon) z) (sym second.follows.2) lacks) }
+lacks_by {end = end} {a = t ∷ u ∷ ts} {c = c} {r = r} n marks.Required begins name sign question exclamation lacks is =
+    let second = subst (λ z. Reads z (one (kinds.Mark points.Exclamation)) c) (sym name.follows.2) sign in
+    record { is = subst (λ z. r ≡ at_hand reasons.Syntax end z) (sym second.follows.2) is; lacks = (begins.0, inr second.follows.0, subst (λ z. ¬ StandsSign (kinds.Mark points.Colon) z) (sym second.follows.2) lacks) }
+
+pub label_lacks : {end : ℕ} {a b c : List Token} {r : Stop} (n : LabelName) (m : Mark) → BeginsLabel a → Reads a (one (label_kind n)) b → Reads b (spell_mark m) c
+    → (m ≡ marks.Regular → ¬ StandsSign (kinds.Mark points.Question) b) → (m ≡ marks.Regular → ¬ StandsSign (kinds.Mark points.Exclamation) b)
+    → ¬ StandsSign (kinds.Mark points.Colon) c → r ≡ at_hand reasons.Syntax end c → MissesColon end a r
+label_lacks n m begins name sign question exclamation lacks is = lacks_by n m begins name sign question exclamation lacks is
+
+-- a label before a value
+level_of_name : (t : List ℕ) (keyword : Bool) → is_keyword t ≡ keyword → levels_of (value_name t) ≤ 1
+level_of_name t true is = let e : levels_of (value_name t) ≡ 1 = ap (λ z. if z then 1 else 0) is in omega arith
+level_of_name t false is = let e : levels_of (value_name t) ≡ 0 = ap (λ z. if z then 1 else 0) is in omega arith
+
+-- what follows the name of a label that begins a value
+abbrev behind_name : LabelName → Goal
+behind_name (names.Plain t) = value_name t
+behind_name (names.Quoted t) = value_text
+
+name_level : (n : LabelName) → levels_of (behind_name n) ≤ 1
+name_level (names.Plain t) = level_of_name t (is_keyword t) refl
+name_level (names.Quoted t) = omega arith
+
+value_step : (n : LabelName) (below : Stack) → step (value ∷ below) (label_kind n) ≡ Some (behind_name n ∷ below)
+value_step (names.Plain t) below = refl
+value_step (names.Quoted t) below = refl
+
+abbrev behind_mark : Mark → Stack → Stack
+behind_mark marks.Regular goals = goals
+behind_mark marks.Optional goals = colon ∷ goals
+behind_mark marks.Required goals = colon ∷ goals
+
+value_mark : {a b : List Token} (n : LabelName) (m : Mark) → Reads a (spell_mark m ++ one (kinds.Mark points.Colon)) b → Moves 1 (behind_name n ∷ []) a (value ∷ chained ∷ []) b
+value_mark (names.Plain t) marks.Regular reads = takes_read reads (λ below. refl) (omega arith)
+value_mark (names.Quoted t) marks.Regular reads = takes_read reads (λ below. refl) (omega arith)
+value_mark (names.Plain t) marks.Optional reads = let s = takes_first {n = 1} {g = value_name t ∷ []} {next = colon ∷ value ∷ chained ∷ []} reads (λ below. refl) (omega arith) in moves_then s.1 (takes_read s.2 (λ below. refl) (omega arith))
+value_mark (names.Quoted t) marks.Optional reads = let s = takes_first {n = 1} {g = value_text ∷ []} {next = colon ∷ value ∷ chained ∷ []} reads (λ below. refl) (omega arith) in moves_then s.1 (takes_read s.2 (λ below. refl) (omega arith))
+value_mark (names.Plain t) marks.Required reads = let s = takes_first {n = 1} {g = value_name t ∷ []} {next = colon ∷ value ∷ chained ∷ []} reads (λ below. refl) (omega arith) in moves_then s.1 (takes_read s.2 (λ below. refl) (omega arith))
+value_mark (names.Quoted t) marks.Required reads = let s = takes_first {n = 1} {g = value_text ∷ []} {next = colon ∷ value ∷ chained ∷ []} reads (λ below. refl) (omega arith) in moves_then s.1 (takes_read s.2 (λ below. refl) (omega arith))
+
+pub label_value : {a b : List Token} (l : Label) → Reads a (spell_label l) b → Moves 1 (value ∷ []) a (value ∷ chained ∷ []) b
+label_value l reads =
+    let s = takes_first {n = 1} {g = value ∷ []} {next = behind_name l.name ∷ []} reads (λ below. value_step l.name below) (omega (arith, name_level l.name)) in
+    moves_then s.1 (value_mark l.name l.mark s.2)
+
+-- a label before a declaration's value
+entry_mark : {n : ℕ} {a b : List Token} (top : Bool) (m : Mark) → depth (more_entries top ∷ []) ≤ n → Reads a (spell_mark m ++ one (kinds.Mark points.Colon)) b → Moves n (mark ∷ value ∷ more_entries top ∷ []) a (value ∷ more_entries top ∷ []) b
+entry_mark top marks.Regular le reads = takes_read reads (λ below. refl) (omega (arith, le))
+entry_mark {n = n} top marks.Optional le reads = let s = takes_first {n = n} {g = mark ∷ value ∷ more_entries top ∷ []} {next = colon ∷ value ∷ more_entries top ∷ []} reads (λ below. refl) (omega (arith, le)) in moves_then s.1 (takes_read s.2 (λ below. refl) (omega (arith, le)))
+entry_mark {n = n} top marks.Required le reads = let s = takes_first {n = n} {g = mark ∷ value ∷ more_entries top ∷ []} {next = colon ∷ value ∷ more_entries top ∷ []} reads (λ below. refl) (omega (arith, le)) in moves_then s.1 (takes_read s.2 (λ below. refl) (omega (arith, le)))
+
+entry_step : (top : Bool) (n : LabelName) (below : Stack) → step (entries top ∷ below) (label_kind n) ≡ Some (mark ∷ value ∷ more_entries top ∷ below)
+entry_step true (names.Plain t) below = refl
+entry_step true (names.Quoted t) below = refl
+entry_step false (names.Plain t) below = refl
+entry_step false (names.Quoted t) below = refl
+
+pub label_entry : {n : ℕ} {a b : List Token} (top : Bool) (l : Label) → depth (more_entries top ∷ []) ≤ n → Reads a (spell_label l) b → Moves n (entries top ∷ []) a (value ∷ more_entries top ∷ []) b
+label_entry {n = n} top l le reads =
+    let s = takes_first {n = n} {g = entries top ∷ []} {next = mark ∷ value ∷ more_entries top ∷ []} reads (λ below. entry_step top l.name below) (omega (arith, le)) in
+    moves_then s.1 (entry_mark top l.mark le s.2)
+
+-- chains
+pub chains_pushed : (ls : List Label) (l : Label) → chains (ls ++ l ∷ []) ≡ chained ∷ chains ls
+chains_pushed [] l = refl
+chains_pushed (k ∷ ls) l = ap (λ z. chained ∷ z) (chains_pushed ls l)
+
+pub chains_depth : (ls : List Label) → depth (chains ls) ≡ length ls
+chains_depth [] = refl
+chains_depth (k ∷ ls) = omega (arith, chains_depth ls)
+
+pub chains_close : (ls : List Label) (below : Stack) → Closes below → Closes (chains ls ++ below)
+chains_close [] below closes = closes
+chains_close (k ∷ ls) below closes =
+    let inner = chains_close ls below closes in record { call = inner.call; colon = inner.colon; question = inner.question; exclamation = inner.exclamation }
+
+pub chains_over : {n : ℕ} (ls : List Label) (a : List Token) → Moves n (chains ls) a [] a
+chains_over [] a = moves_none
+chains_over (k ∷ ls) a = moves_then (pop a) (chains_over ls a)
+  where
+    pop : {n : ℕ} {g : Stack} (a : List Token) → Moves n (chained ∷ g) a g a
+    pop [] = alike_moves [] (λ below. refl)
+    pop (t ∷ ts) = alike_moves (t ∷ ts) (λ below. refl)
+
+pub chain_next : {room : ℕ} {a b c : List Token} (left : ℕ) (ls : List Label) (l : Label) → left + 1 + length ls ≡ room → Moves room (value ∷ []) a (value ∷ chains ls) b → Reads b (spell_label l) c
+    → Moves room (value ∷ []) a (value ∷ chains (ls ++ l ∷ [])) c
+chain_next {room = room} {a = a} {b = b} {c = c} left ls l is first second =
+    subst (λ z. Moves room (value ∷ []) a (value ∷ z) c) (sym (chains_pushed ls l))
+    (moves_then first (moves_under {left = left + 1} (chains ls) (omega (arith, is, chains_depth ls)) (moves_more (omega arith) (label_value l second))))
+
+-- a label that has no room
+name_kind : (k : TokenKind) → IsLabelName k → (n : LabelName) × (k ≡ label_kind n)
+name_kind (kinds.Name t) is = (names.Plain t, refl)
+name_kind (kinds.Text t) is = (names.Quoted t, refl)
+name_kind _ is = absurd is
+
+name_levels : (n : LabelName) → (levels_of (behind_name n) ≡ 0) ⊎ (levels_of (behind_name n) ≡ 1)
+name_levels (names.Plain t) = by (is_keyword t) refl
+  where
+    by : (keyword : Bool) → is_keyword t ≡ keyword → (levels_of (value_name t) ≡ 0) ⊎ (levels_of (value_name t) ≡ 1)
+    by true is = inr (ap (λ z. if z then 1 else 0) is)
+    by false is = inl (ap (λ z. if z then 1 else 0) is)
+name_levels (names.Quoted t) = inl refl
+
+mark_opens : (n : LabelName) (k : TokenKind) → IsMark k → (next : Stack) × ((below : Stack) → step (behind_name n ∷ below) k ≡ Some (next ++ below)) × (0 < depth next)
+mark_opens (names.Plain t) (kinds.Mark points.Colon) is = (value ∷ chained ∷ [], λ below. refl, omega arith)
+mark_opens (names.Plain t) (kinds.Mark points.Question) is = (colon ∷ value ∷ chained ∷ [], λ below. refl, omega arith)
+mark_opens (names.Plain t) (kinds.Mark points.Exclamation) is = (colon ∷ value ∷ chained ∷ [], λ below. refl, omega arith)
+mark_opens (names.Quoted t) (kinds.Mark points.Colon) is = (value ∷ chained ∷ [], λ below. refl, omega arith)
+mark_opens (names.Quoted t) (kinds.Mark points.Question) is = (colon ∷ value ∷ chained ∷ [], λ below. refl, omega arith)
+mark_opens (names.Quoted t) (kinds.Mark points.Exclamation) is = (colon ∷ value ∷ chained ∷ [], λ below. refl, omega arith)
+mark_opens n _ is = absurd is
+
+opens_at : {end : ℕ} {r : Stop} (t u : Token) (ts : List Token) (n : LabelName) → t.kind ≡ label_kind n → IsMark u.kind → r ≡ at_hand reasons.Nesting end (t ∷ u ∷ ts)
+    → (levels_of (behind_name n) ≡ 0) ⊎ (levels_of (behind_name n) ≡ 1) → Stops 0 end (value ∷ []) (t ∷ u ∷ ts) r
+opens_at t u ts n kind sign is (inl level) =
+    let m = mark_opens n u.kind sign in
+    opens_before {h = behind_name n ∷ []} m.0 u is refl (takes t refl (λ below. ap (step (value ∷ below)) kind ∙ value_step n below) (omega (arith, level))) refl m.1 m.2
+opens_at t u ts n kind sign is (inr level) = opens_none (behind_name n ∷ []) t refl is (λ below. ap (step (value ∷ below)) kind ∙ value_step n below) (omega (arith, level))
+
+opens_by : {end : ℕ} {r : Stop} (a : List Token) → BeginsLabel a → r ≡ at_hand reasons.Nesting end a → Stops 0 end (value ∷ []) a r
+opens_by [] begins is = absurd begins.0
+opens_by (t ∷ []) begins is = absurd begins.1
+opens_by (t ∷ u ∷ ts) begins is = let n = name_kind t.kind begins.0 in opens_at t u ts n.0 n.1 begins.1 is (name_levels n.0)
+
+pub opens_label : {end : ℕ} {a : List Token} {r : Stop} → BeginsLabel a → r ≡ at_hand reasons.Nesting end a → Stops 0 end (value ∷ []) a r
+opens_label {a = a} begins is = opens_by a begins is
+
+-- a label that is left out
+marked_halts : (g : Stack) (u : Token) (ts : List Token) → IsMark u.kind → ((k : TokenKind) → IsMark k → (below : Stack) → step (g ++ below) k ≡ step below k) → Halts g (u ∷ ts)
+marked_halts g u ts is pops = record { at = λ below closes. pops u.kind is below ∙ closed u.kind is below closes }
+  where
+    closed : (k : TokenKind) → IsMark k → (below : Stack) → Closes below → step below k ≡ None
+    closed (kinds.Mark points.Colon) is below closes = closes.colon
+    closed (kinds.Mark points.Question) is below closes = closes.question
+    closed (kinds.Mark points.Exclamation) is below closes = closes.exclamation
+    closed _ is below closes = absurd is
+
+marks_pop : (k : TokenKind) → IsMark k → (below : Stack) → step (more_parts ∷ more_terms ∷ below) k ≡ step below k
+marks_pop (kinds.Mark points.Colon) is below = refl
+marks_pop (kinds.Mark points.Question) is below = refl
+marks_pop (kinds.Mark points.Exclamation) is below = refl
+marks_pop _ is below = absurd is
+
+hidden_value : (k : TokenKind) → IsHidden k → (below : Stack) → step (value ∷ below) k ≡ Some (more_parts ∷ more_terms ∷ below)
+hidden_value (kinds.Hidden t) is below = refl
+hidden_value _ is below = absurd is
+
+definition_value : (k : TokenKind) → IsDefinition k → (below : Stack) → step (value ∷ below) k ≡ Some (more_parts ∷ more_terms ∷ below)
+definition_value (kinds.Definition t) is below = refl
+definition_value _ is below = absurd is
+
+marked_is : (k : TokenKind) → (k ≡ (kinds.Mark points.Question)) ⊎ (k ≡ (kinds.Mark points.Exclamation)) → IsMark k
+marked_is k (inl e) = subst IsMark (sym e) tt
+marked_is k (inr e) = subst IsMark (sym e) tt
+
+value_out : {n end : ℕ} {r : Stop} (a : List Token) → r ≡ at_hand reasons.Syntax end a → IsLabelLeftOut false a → Stops n end (value ∷ []) a r
+value_out (t ∷ u ∷ ts) is (inl fits) = stops_before {free = 0} (more_parts ∷ more_terms ∷ []) is refl (takes t refl (λ below. hidden_value t.kind fits.0 below) (omega arith)) (marked_halts _ u ts fits.1 marks_pop)
+value_out (t ∷ u ∷ ts) is (inr (inl fits)) = stops_before {free = 0} (more_parts ∷ more_terms ∷ []) is refl (takes t refl (λ below. definition_value t.kind fits.0 below) (omega arith)) (marked_halts _ u ts (marked_is u.kind fits.1) marks_pop)
+value_out (t ∷ u ∷ ts) is (inr (inr fits)) = stops_before {free = 0} (more_parts ∷ more_terms ∷ []) is refl (takes t refl (λ below. definition_value t.kind fits.0 below) (omega arith)) (marked_halts _ u ts (subst IsMark (sym fits.1) tt) marks_pop)
+value_out [] is (inl fits) = absurd fits.0
+value_out [] is (inr (inl fits)) = absurd fits.0
+value_out [] is (inr (inr fits)) = absurd fits.0
+value_out (t ∷ []) is (inl fits) = absurd fits.1
+value_out (t ∷ []) is (inr (inl fits)) = absurd (elim fits.1 [ inl e ↦ e | inr e ↦ e ])
+value_out (t ∷ []) is (inr (inr fits)) = absurd fits.1
+
+pub label_out_value : {n end : ℕ} {a : List Token} {r : Stop} → RefusesLabel false end a r → Refused n end (value ∷ []) a r
+label_out_value {a = a} refuses = stopped (value_out a refuses.is refuses.fits)
+
+hidden_entry : (top : Bool) (k : TokenKind) → IsHidden k → (below : Stack) → step (entries top ∷ below) k ≡ None
+hidden_entry true (kinds.Hidden t) is below = refl
+hidden_entry false (kinds.Hidden t) is below = refl
+hidden_entry top _ is below = absurd is
+
+definition_nested : (k : TokenKind) → IsDefinition k → (below : Stack) → step (entries false ∷ below) k ≡ None
+definition_nested (kinds.Definition t) is below = refl
+definition_nested _ is below = absurd is
+
+definition_top : (k : TokenKind) → IsDefinition k → (below : Stack) → step (entries true ∷ below) k ≡ Some (colon ∷ value ∷ more_entries true ∷ below)
+definition_top (kinds.Definition t) is below = refl
+definition_top _ is below = absurd is
+
+not_colon : (k : TokenKind) → (k ≡ (kinds.Mark points.Question)) ⊎ (k ≡ (kinds.Mark points.Exclamation)) → k ≡ (kinds.Mark points.Colon) → ⊥
+not_colon k (inl e) is = let h : (kinds.Mark points.Question) ≡ (kinds.Mark points.Colon) = sym e ∙ is in cc
+not_colon k (inr e) is = let h : (kinds.Mark points.Exclamation) ≡ (kinds.Mark points.Colon) = sym e ∙ is in cc
+
+entry_out : {n end : ℕ} {r : Stop} (top : Bool) (a : List Token) → r ≡ at_hand reasons.Syntax end a → IsLabelLeftOut top a → Stops n end (entries top ∷ []) a r
+entry_out top (t ∷ u ∷ ts) is (inl fits) = stops_here is (halts_at t refl (λ below closes. hidden_entry top t.kind fits.0 below))
+entry_out true (t ∷ u ∷ ts) is (inr (inl fits)) = stops_before {free = 0} (colon ∷ value ∷ more_entries true ∷ []) is refl (takes t refl (λ below. definition_top t.kind fits.0 below) (omega arith))
+    (colon_halts (not_colon u.kind fits.1))
+entry_out false (t ∷ u ∷ ts) is (inr (inl fits)) = stops_here is (halts_at t refl (λ below closes. definition_nested t.kind fits.0 below))
+entry_out true (t ∷ u ∷ ts) is (inr (inr fits)) = absurd (let e : true ≡ false = fits.2 in cc)
+entry_out false (t ∷ u ∷ ts) is (inr (inr fits)) = stops_here is (halts_at t refl (λ below closes. definition_nested t.kind fits.0 below))
+entry_out top [] is (inl fits) = absurd fits.0
+entry_out top [] is (inr (inl fits)) = absurd fits.0
+entry_out top [] is (inr (inr fits)) = absurd fits.0
+entry_out top (t ∷ []) is (inl fits) = absurd fits.1
+entry_out top (t ∷ []) is (inr (inl fits)) = absurd (elim fits.1 [ inl e ↦ e | inr e ↦ e ])
+entry_out top (t ∷ []) is (inr (inr fits)) = absurd fits.1
+
+pub label_out_entry : {n end : ℕ} {a : List Token} {r : Stop} (top : Bool) → RefusesLabel top end a r → Refused n end (entries top ∷ []) a r
+label_out_entry {a = a} top refuses = stopped (entry_out top a refuses.is refuses.fits)
+
+-- a mark that has no colon
+marked_value : (n : LabelName) (k : TokenKind) → (k ≡ (kinds.Mark points.Question)) ⊎ (k ≡ (kinds.Mark points.Exclamation)) → (below : Stack) → step (behind_name n ∷ below) k ≡ Some (colon ∷ value ∷ chained ∷ below)
+marked_value (names.Plain t) k (inl e) below = ap (step (value_name t ∷ below)) e
+marked_value (names.Plain t) k (inr e) below = ap (step (value_name t ∷ below)) e
+marked_value (names.Quoted t) k (inl e) below = ap (step (value_text ∷ below)) e
+marked_value (names.Quoted t) k (inr e) below = ap (step (value_text ∷ below)) e
+
+marked_entry : (g : Stack) (k : TokenKind) → (k ≡ (kinds.Mark points.Question)) ⊎ (k ≡ (kinds.Mark points.Exclamation)) → (below : Stack) → step ((mark ∷ g) ++ below) k ≡ Some ((colon ∷ g) ++ below)
+marked_entry g k (inl e) below = ap (step ((mark ∷ g) ++ below)) e
+marked_entry g k (inr e) below = ap (step ((mark ∷ g) ++ below)) e
+
+value_misses : {n end : ℕ} {r : Stop} (a : List Token) → r ≡ at_hand reasons.Syntax end (drop 2 a) → LacksColon a → Stops n end (value ∷ []) a r
+value_misses [] is lacks = absurd lacks.0
+value_misses (t ∷ []) is lacks = absurd (elim lacks.1 [ inl e ↦ e | inr e ↦ e ])
+value_misses (t ∷ u ∷ ts) is lacks =
+    let n = name_kind t.kind lacks.0 in
+    stops_there {free = 1} is (moves_then {h = behind_name n.0 ∷ []} (takes t refl (λ below. ap (step (value ∷ below)) n.1 ∙ value_step n.0 below) (omega (arith, name_level n.0)))
+    (takes {next = colon ∷ value ∷ chained ∷ []} u refl (λ below. marked_value n.0 u.kind lacks.1 below) (omega arith))) (colon_halts lacks.2)
+
+pub misses_value : {n end : ℕ} {a : List Token} {r : Stop} → (r ≡ memory) ⊎ MissesColon end a r → Refused n end (value ∷ []) a r
+misses_value (inl e) = record { why = inl e }
+misses_value {a = a} (inr misses) = stopped (value_misses a misses.is misses.lacks)
+
+entry_misses : {n end : ℕ} {r : Stop} (top : Bool) (a : List Token) → r ≡ at_hand reasons.Syntax end (drop 2 a) → LacksColon a → Stops n end (entries top ∷ []) a r
+entry_misses top [] is lacks = absurd lacks.0
+entry_misses top (t ∷ []) is lacks = absurd (elim lacks.1 [ inl e ↦ e | inr e ↦ e ])
+entry_misses top (t ∷ u ∷ ts) is lacks =
+    let n = name_kind t.kind lacks.0 in
+    stops_there {free = depth (more_entries top ∷ [])} is (moves_then {h = mark ∷ value ∷ more_entries top ∷ []} (takes t refl (λ below. ap (step (entries top ∷ below)) n.1 ∙ entry_step top n.0 below) (omega arith))
+    (takes {next = colon ∷ value ∷ more_entries top ∷ []} u refl (λ below. marked_entry (value ∷ more_entries top ∷ []) u.kind lacks.1 below) (omega arith))) (colon_halts lacks.2)
+
+pub misses_entry : {n end : ℕ} {a : List Token} {r : Stop} (top : Bool) → (r ≡ memory) ⊎ MissesColon end a r → Refused n end (entries top ∷ []) a r
+misses_entry top (inl e) = record { why = inl e }
+misses_entry {a = a} top (inr misses) = stopped (entry_misses top a misses.is misses.lacks)
+
+pub chain_refused : {room end other : ℕ} {a b : List Token} {r : Stop} (left : ℕ) (ls : List Label) → left + length ls ≡ room → other ≡ end → Moves room (value ∷ []) a (value ∷ chains ls) b
+    → Refused left other (value ∷ []) b r → Refused room end (value ∷ []) a r
+chain_refused left ls is same first inner = refused_behind first (refused_end same (refused_under (chains ls) (omega (arith, is, chains_depth ls)) (chains_close ls) inner))

@@ -1,0 +1,254 @@
+-- How the recogniser goes through operands and terms: parentheses, structs, `close`, conjunctions and disjunctions.
+use Rattle.std.proofs.Common.{◌≡◌, ◌∙◌, ap, sym, subst, refl, ℕ, ◌+◌, ◌≤◌, ◌<◌, Bool, true, false, List, [], ◌∷◌, ◌++◌, drop, codes, arith, Some, None}
+use Rattle.cue_lex.specs.declared.token.Token.{Token}
+use Rattle.cue_lex.specs.declared.token.TokenKind.{TokenKind}
+use Rattle.cue_lex.specs.declared.token.TokenKind.TheVariants as kinds
+use Rattle.cue_lex.specs.declared.punctuation.Punctuation.TheVariants as points
+use Rattle.cue_syntax.specs.declared.stop.Why.TheVariants as reasons
+use Rattle.cue_syntax.specs.declared.stop.Stop.{Stop}
+use Rattle.cue_syntax.specs.Spelling.{Reads, one, one_at, comma_if}
+use Rattle.cue_syntax.specs.Stops.{at_hand}
+use Rattle.cue_syntax.specs.Viability.{StandsSign, IsCallOfClose}
+use Rattle.cue_syntax.specs.Recogniser.{Goal, Stack, depth, step, Closes, Moves, Stops, Refused, entries, more_parts, more_terms, bar, term, unary, expression, parenthesis, parenthesis_end, behind_close, closed}
+use Rattle.cue_syntax.proofs.MovesAndStops.{takes_read, moves_none, moves_then, moves_more, moves_under, alike_moves, Halts, HaltsAt, halts_unless, stopped, end_self, opens_none, opens_behind, refused_behind, refused_under, refused_end}
+
+-- a sign that opens a level with no room
+no_room_at : {n end : ℕ} {g : Stack} {r : Stop} (a : List Token) (k : TokenKind) (next : Stack) → StandsSign k a → ((below : Stack) → step (g ++ below) k ≡ Some (next ++ below)) → 0 < depth next
+    → n ≡ 0 → r ≡ at_hand reasons.Nesting end a → Stops n end g a r
+no_room_at [] k next stands taken more zero is = absurd stands
+no_room_at {g = g} (t ∷ ts) k next stands taken more zero is = opens_none next t refl is (λ below. ap (step (g ++ below)) stands ∙ taken below) (omega (arith, zero, more))
+
+pub no_room : {n end : ℕ} {g : Stack} {a : List Token} {r : Stop} (k : TokenKind) (next : Stack) → StandsSign k a → ((below : Stack) → step (g ++ below) k ≡ Some (next ++ below)) → 0 < depth next
+    → n ≡ 0 → r ≡ at_hand reasons.Nesting end a → Refused n end g a r
+no_room {a = a} k next stands taken more zero is = stopped (no_room_at a k next stands taken more zero is)
+
+-- the end of a parenthesis
+abbrev pub behind_inner : Bool → Goal
+behind_inner true = parenthesis_end
+behind_inner false = parenthesis
+
+pub inner_comma : {n : ℕ} {a b : List Token} (comma : Bool) → 1 ≤ n → Reads a (comma_if comma) b → Moves n (parenthesis ∷ []) a (behind_inner comma ∷ []) b
+inner_comma true le reads = takes_read reads (λ below. refl) (omega arith)
+inner_comma {n = n} {a = a} false le reads = subst (λ z. Moves n (parenthesis ∷ []) a (parenthesis ∷ []) z) reads.follows moves_none
+
+pub inner_closes : {n : ℕ} {a b : List Token} (comma : Bool) → Reads a (one (kinds.Mark points.CloseParenthesis)) b → Moves n (behind_inner comma ∷ []) a [] b
+inner_closes true reads = takes_read reads (λ below. refl) (omega arith)
+inner_closes false reads = takes_read reads (λ below. refl) (omega arith)
+
+inner_none : (k : TokenKind) → (k ≡ (kinds.Mark points.CloseParenthesis) → ⊥) → (k ≡ (kinds.Mark points.Comma) → ⊥) → (below : Stack) → step (parenthesis ∷ below) k ≡ None
+inner_none (kinds.Mark points.CloseParenthesis) a b below = absurd (a refl)
+inner_none (kinds.Mark points.Comma) a b below = absurd (b refl)
+inner_none _ a b below = refl
+
+inner_end_none : (k : TokenKind) → (k ≡ (kinds.Mark points.CloseParenthesis) → ⊥) → (below : Stack) → step (parenthesis_end ∷ below) k ≡ None
+inner_end_none (kinds.Mark points.CloseParenthesis) a below = absurd (a refl)
+inner_end_none _ a below = refl
+
+inner_at : (comma : Bool) (a : List Token) → ¬ StandsSign (kinds.Mark points.CloseParenthesis) a → (comma ≡ false → ¬ StandsSign (kinds.Mark points.Comma) a) → HaltsAt (behind_inner comma ∷ []) a
+inner_at true [] close more = λ below. refl
+inner_at false [] close more = λ below. refl
+inner_at true (t ∷ ts) close more = λ below closes. inner_end_none t.kind close below
+inner_at false (t ∷ ts) close more = λ below closes. inner_none t.kind close (more refl) below
+
+-- after a comma that was looked for: where none was, none stands
+pub no_comma : {a b : List Token} (comma : Bool) → Reads a (comma_if comma) b → (comma ≡ false → ¬ StandsSign (kinds.Mark points.Comma) a) → comma ≡ false → ¬ StandsSign (kinds.Mark points.Comma) b
+no_comma true reads lacks is = absurd (let e : true ≡ false = is in cc)
+no_comma false reads lacks is = subst (λ z. ¬ StandsSign (kinds.Mark points.Comma) z) reads.follows (lacks refl)
+
+pub inner_halts : {a b : List Token} (comma : Bool) → Reads a (comma_if comma) b → (comma ≡ false → ¬ StandsSign (kinds.Mark points.Comma) a) → ¬ StandsSign (kinds.Mark points.CloseParenthesis) b → Halts (behind_inner comma ∷ []) b
+inner_halts {b = b} comma reads lacks close = record { at = inner_at comma b close (no_comma comma reads lacks) }
+
+pub parenthesis_close : (below : Stack) → Closes below → Closes (parenthesis ∷ below)
+parenthesis_close below closes = record { call = refl; colon = refl; question = refl; exclamation = refl }
+
+-- a parenthesis, up to its expression
+pub parenthesis_opens : {room left : ℕ} {a b c : List Token} → left + 1 ≡ room → Reads a (one (kinds.Mark points.OpenParenthesis)) b → Moves left (expression ∷ []) b [] c → Moves room (unary ∷ []) a (parenthesis ∷ []) c
+parenthesis_opens is reads inner = moves_then {h = expression ∷ parenthesis ∷ []} (takes_read reads (λ below. refl) (omega (arith, is))) (moves_under (parenthesis ∷ []) (omega (arith, is)) inner)
+
+pub parenthesis_refused : {room left end other : ℕ} {a b : List Token} {r : Stop} → left + 1 ≡ room → other ≡ end → Reads a (one (kinds.Mark points.OpenParenthesis)) b → Refused left other (expression ∷ []) b r → Refused room end (unary ∷ []) a r
+parenthesis_refused is same reads inner =
+    refused_behind {h = expression ∷ parenthesis ∷ []} (takes_read reads (λ below. refl) (omega (arith, is))) (refused_end same (refused_under (parenthesis ∷ []) (omega (arith, is)) parenthesis_close inner))
+
+-- a struct
+pub struct_moves : {room : ℕ} {a b c : List Token} (left : ℕ) → left + 1 ≡ room → Reads a (one (kinds.Mark points.OpenBrace)) b → Moves (1 + left) (entries false ∷ []) b [] c → Moves room (unary ∷ []) a [] c
+struct_moves left is reads inner = moves_then {h = entries false ∷ []} (takes_read reads (λ below. refl) (omega (arith, is))) (moves_more (omega (arith, is)) inner)
+
+pub struct_refused : {room end other : ℕ} {a b : List Token} {r : Stop} (left : ℕ) → left + 1 ≡ room → other ≡ end → Reads a (one (kinds.Mark points.OpenBrace)) b → Refused (1 + left) other (entries false ∷ []) b r → Refused room end (unary ∷ []) a r
+struct_refused {room = room} {end = end} {other = other} {b = b} {r = r} left is same reads inner =
+    let e : 1 + left ≡ room = omega (arith, is) in
+    refused_behind {h = entries false ∷ []} (takes_read reads (λ below. refl) (omega (arith, is))) (refused_end same (subst (λ z. Refused z other (entries false ∷ []) b r) e inner))
+
+-- `close`
+pub call_opens : {n from : ℕ} {a b c : List Token} → 2 ≤ n → Reads a (one_at from (kinds.Name (codes "close"))) b → Reads b (one (kinds.Mark points.OpenParenthesis)) c → Moves n (unary ∷ []) a (closed ∷ []) c
+call_opens le first second = moves_then {h = behind_close ∷ []} (takes_read first (λ below. refl) (omega arith)) (takes_read second (λ below. refl) (omega (arith, le)))
+
+call_at : {from : ℕ} (a b : List Token) → IsCallOfClose a → Reads a (one_at from (kinds.Name (codes "close"))) b → StandsSign (kinds.Mark points.OpenParenthesis) b
+call_at [] b call reads = absurd call.0
+call_at (t ∷ ts) b call reads = subst (λ z. StandsSign (kinds.Mark points.OpenParenthesis) z) reads.follows.2 call.1
+
+pub call_paren : {from : ℕ} {a b : List Token} → IsCallOfClose a → Reads a (one_at from (kinds.Name (codes "close"))) b → StandsSign (kinds.Mark points.OpenParenthesis) b
+call_paren {a = a} {b = b} call reads = call_at a b call reads
+
+call_by : {from : ℕ} (a b c : List Token) → Reads a (one_at from (kinds.Name (codes "close"))) b → Reads b (one (kinds.Mark points.OpenParenthesis)) c → IsCallOfClose a × (drop 1 a ≡ b)
+call_by [] b c first second = absurd first.follows
+call_by (s ∷ a) [] c first second = absurd second.follows
+call_by (s ∷ a) (t ∷ b) c first second = ((first.follows.0, subst (λ z. StandsSign (kinds.Mark points.OpenParenthesis) z) (sym first.follows.2) second.follows.0), first.follows.2)
+
+pub call_no_room : {room end other from : ℕ} {a b : List Token} {r : Stop} → room ≡ 0 → other ≡ end → IsCallOfClose a → Reads a (one_at from (kinds.Name (codes "close"))) b → r ≡ at_hand reasons.Nesting other b
+    → Refused room end (unary ∷ []) a r
+call_no_room zero same call first is =
+    refused_behind {h = behind_close ∷ []} (takes_read first (λ below. refl) (omega arith)) (refused_end same (no_room (kinds.Mark points.OpenParenthesis) (closed ∷ []) (call_paren call first) (λ below. refl) (omega arith) zero is))
+
+closed_none : (k : TokenKind) → (k ≡ (kinds.Mark points.OpenBrace) → ⊥) → (below : Stack) → step (closed ∷ below) k ≡ None
+closed_none (kinds.Mark points.OpenBrace) other below = absurd (other refl)
+closed_none _ other below = refl
+
+pub closed_halts : {a : List Token} → ¬ StandsSign (kinds.Mark points.OpenBrace) a → Halts (closed ∷ []) a
+closed_halts lacks = halts_unless (kinds.Mark points.OpenBrace) (λ below. refl) closed_none lacks
+
+pub brace_no_room : {room left end other from : ℕ} {a b c d : List Token} {r : Stop} → left + 1 ≡ room → left ≡ 0 → other ≡ end → Reads a (one_at from (kinds.Name (codes "close"))) b → Reads b (one (kinds.Mark points.OpenParenthesis)) c
+    → Reads c (one (kinds.Mark points.OpenBrace)) d → r ≡ at_hand reasons.Nesting other c → Refused room end (unary ∷ []) a r
+brace_no_room is zero same first second third refused = refused_end same (stopped (at_paren is zero first second third refused))
+  where
+    at_paren : {room left end from : ℕ} {a b c d : List Token} {r : Stop} → left + 1 ≡ room → left ≡ 0 → Reads a (one_at from (kinds.Name (codes "close"))) b → Reads b (one (kinds.Mark points.OpenParenthesis)) c
+        → Reads c (one (kinds.Mark points.OpenBrace)) d → r ≡ at_hand reasons.Nesting end c → Stops room end (unary ∷ []) a r
+    at_paren {b = []} is zero first second third refused = absurd second.follows
+    at_paren {b = t ∷ []} {c = []} is zero first second third refused = absurd third.follows
+    at_paren {b = t ∷ []} {c = v ∷ vs} is zero first second third refused = absurd (let e : [] ≡ v ∷ vs = second.follows.2 in cc)
+    at_paren {b = t ∷ u ∷ ts} {c = []} is zero first second third refused = absurd third.follows
+    at_paren {a = a} {b = t ∷ u ∷ ts} {c = v ∷ vs} is zero first second third refused =
+        let call = call_by a (t ∷ u ∷ ts) (v ∷ vs) first second in
+        opens_behind {h = behind_close ∷ []} (closed ∷ []) t (takes_read first (λ below. refl) (omega arith)) (ap (λ z. t ∷ z) second.follows.2) refused
+        (record { name = a; inside = end_self; call = call.0; behind = call.1; is = sym second.follows.2; brace = third.follows.0 }) (λ below. ap (step (behind_close ∷ below)) second.follows.0) (omega (arith, is, zero))
+
+pub close_opens : {room left from : ℕ} {a b c d : List Token} (last : ℕ) → left + 1 ≡ room → last + 1 ≡ left → Reads a (one_at from (kinds.Name (codes "close"))) b → Reads b (one (kinds.Mark points.OpenParenthesis)) c
+    → Reads c (one (kinds.Mark points.OpenBrace)) d → Moves room (unary ∷ []) a (entries false ∷ parenthesis ∷ []) d
+close_opens last is more first second third = moves_then {h = closed ∷ []} (call_opens (omega (arith, is, more)) first second) (takes_read third (λ below. refl) (omega (arith, is, more)))
+
+pub close_moves : {room left from : ℕ} {a b c d f : List Token} (last : ℕ) → left + 1 ≡ room → last + 1 ≡ left → Reads a (one_at from (kinds.Name (codes "close"))) b → Reads b (one (kinds.Mark points.OpenParenthesis)) c
+    → Reads c (one (kinds.Mark points.OpenBrace)) d → Moves (1 + last) (entries false ∷ []) d [] f → Moves room (unary ∷ []) a (parenthesis ∷ []) f
+close_moves last is more first second third inner = moves_then (close_opens last is more first second third) (moves_under (parenthesis ∷ []) (omega (arith, is, more)) inner)
+
+pub close_refused : {room left end other from : ℕ} {a b c d : List Token} {r : Stop} (last : ℕ) → left + 1 ≡ room → last + 1 ≡ left → other ≡ end → Reads a (one_at from (kinds.Name (codes "close"))) b → Reads b (one (kinds.Mark points.OpenParenthesis)) c
+    → Reads c (one (kinds.Mark points.OpenBrace)) d → Refused (1 + last) other (entries false ∷ []) d r → Refused room end (unary ∷ []) a r
+close_refused last is more same first second third inner = refused_behind (close_opens last is more first second third) (refused_end same (refused_under (parenthesis ∷ []) (omega (arith, is, more)) parenthesis_close inner))
+
+-- terms
+not_star : (k : TokenKind) → (k ≡ (kinds.Mark points.Star) → ⊥) → (below : Stack) → step (term ∷ below) k ≡ step (unary ∷ more_parts ∷ below) k
+not_star (kinds.Mark points.Star) other below = absurd (other refl)
+not_star _ other below = refl
+
+term_at : {n : ℕ} (a : List Token) → ¬ StandsSign (kinds.Mark points.Star) a → Moves n (term ∷ []) a (unary ∷ more_parts ∷ []) a
+term_at [] lacks = alike_moves [] (λ below. refl)
+term_at (t ∷ ts) lacks = alike_moves (t ∷ ts) (λ below. not_star t.kind lacks below)
+
+pub unmarked_moves : {n : ℕ} {a : List Token} → ¬ StandsSign (kinds.Mark points.Star) a → Moves n (term ∷ []) a (unary ∷ more_parts ∷ []) a
+unmarked_moves {a = a} lacks = term_at a lacks
+
+pub marked_moves : {n : ℕ} {a b : List Token} → Reads a (one (kinds.Mark points.Star)) b → Moves n (term ∷ []) a (unary ∷ []) b
+marked_moves reads = takes_read reads (λ below. refl) (omega arith)
+
+parts_over : (k : TokenKind) → (k ≡ (kinds.Mark points.Ampersand) → ⊥) → (below : Stack) → step (more_parts ∷ below) k ≡ step below k
+parts_over (kinds.Mark points.Ampersand) other below = absurd (other refl)
+parts_over _ other below = refl
+
+parts_at : {n : ℕ} (a : List Token) → ¬ StandsSign (kinds.Mark points.Ampersand) a → Moves n (more_parts ∷ []) a [] a
+parts_at [] lacks = alike_moves [] (λ below. refl)
+parts_at (t ∷ ts) lacks = alike_moves (t ∷ ts) (λ below. parts_over t.kind lacks below)
+
+pub parts_end : {n : ℕ} {a : List Token} → ¬ StandsSign (kinds.Mark points.Ampersand) a → Moves n (more_parts ∷ []) a [] a
+parts_end {a = a} lacks = parts_at a lacks
+
+pub parts_go : {n : ℕ} {a b : List Token} → Reads a (one (kinds.Mark points.Ampersand)) b → Moves n (more_parts ∷ []) a (unary ∷ more_parts ∷ []) b
+parts_go reads = takes_read reads (λ below. refl) (omega arith)
+
+pub part_moves : {n : ℕ} {a b : List Token} → Moves n (unary ∷ []) a [] b → Moves n (unary ∷ more_parts ∷ []) a (more_parts ∷ []) b
+part_moves m = moves_under (more_parts ∷ []) (omega arith) m
+
+pub part_refused : {n end : ℕ} {a : List Token} {r : Stop} → Refused n end (unary ∷ []) a r → Refused n end (unary ∷ more_parts ∷ []) a r
+part_refused s = refused_under (more_parts ∷ []) (omega arith) (λ below closes. record { call = closes.call; colon = closes.colon; question = closes.question; exclamation = closes.exclamation }) s
+
+terms_over : (k : TokenKind) → (k ≡ (kinds.Mark points.Bar) → ⊥) → (below : Stack) → step (more_terms ∷ below) k ≡ step below k
+terms_over (kinds.Mark points.Bar) other below = absurd (other refl)
+terms_over _ other below = refl
+
+terms_at : {n : ℕ} (a : List Token) → ¬ StandsSign (kinds.Mark points.Bar) a → Moves n (more_terms ∷ []) a [] a
+terms_at [] lacks = alike_moves [] (λ below. refl)
+terms_at (t ∷ ts) lacks = alike_moves (t ∷ ts) (λ below. terms_over t.kind lacks below)
+
+pub terms_end : {n : ℕ} {a : List Token} → ¬ StandsSign (kinds.Mark points.Bar) a → Moves n (more_terms ∷ []) a [] a
+terms_end {a = a} lacks = terms_at a lacks
+
+pub terms_go : {n : ℕ} {a b : List Token} → Reads a (one (kinds.Mark points.Bar)) b → Moves n (more_terms ∷ []) a (term ∷ more_terms ∷ []) b
+terms_go reads = takes_read reads (λ below. refl) (omega arith)
+
+pub term_moves : {n : ℕ} {a b : List Token} → Moves n (term ∷ []) a [] b → Moves n (term ∷ more_terms ∷ []) a (more_terms ∷ []) b
+term_moves m = moves_under (more_terms ∷ []) (omega arith) m
+
+pub term_refused : {n end : ℕ} {a : List Token} {r : Stop} → Refused n end (term ∷ []) a r → Refused n end (term ∷ more_terms ∷ []) a r
+term_refused s = refused_under (more_terms ∷ []) (omega arith) (λ below closes. record { call = closes.call; colon = closes.colon; question = closes.question; exclamation = closes.exclamation }) s
+
+-- what may follow the first term: another one has to, where it is marked
+abbrev pub behind_first : Bool → Goal
+behind_first true = bar
+behind_first false = more_terms
+
+first_step : (k : TokenKind) → (k ≡ (kinds.Mark points.Star) → ⊥) → (below : Stack) → step (expression ∷ below) k ≡ step (term ∷ more_terms ∷ below) k
+first_step (kinds.Mark points.Star) other below = absurd (other refl)
+first_step _ other below = refl
+
+first_at : {n : ℕ} (a : List Token) → ¬ StandsSign (kinds.Mark points.Star) a → Moves n (expression ∷ []) a (term ∷ more_terms ∷ []) a
+first_at [] lacks = alike_moves [] (λ below. refl)
+first_at (t ∷ ts) lacks = alike_moves (t ∷ ts) (λ below. first_step t.kind lacks below)
+
+first_marked : {n : ℕ} (a : List Token) → StandsSign (kinds.Mark points.Star) a → Moves n (expression ∷ []) a (term ∷ bar ∷ []) a
+first_marked [] stands = absurd stands
+first_marked (t ∷ ts) stands = alike_moves (t ∷ ts) (λ below. ap (step (expression ∷ below)) stands ∙ sym (ap (step (term ∷ bar ∷ below)) stands))
+
+pub first_opens : {n : ℕ} {a : List Token} (marked : Bool) → (marked ≡ true → StandsSign (kinds.Mark points.Star) a) → (StandsSign (kinds.Mark points.Star) a → marked ≡ true) → Moves n (expression ∷ []) a (term ∷ behind_first marked ∷ []) a
+first_opens {a = a} true is si = first_marked a (is refl)
+first_opens {a = a} false is si = first_at a (λ s. let e : false ≡ true = si s in cc)
+
+pub first_moves : {n : ℕ} {a b : List Token} (marked : Bool) → (marked ≡ true → StandsSign (kinds.Mark points.Star) a) → (StandsSign (kinds.Mark points.Star) a → marked ≡ true) → Moves n (term ∷ []) a [] b → Moves n (expression ∷ []) a (behind_first marked ∷ []) b
+first_moves marked is si m = moves_then (first_opens marked is si) (moves_under (behind_first marked ∷ []) (level marked) m)
+  where
+    level : {n : ℕ} (marked : Bool) → depth (behind_first marked ∷ []) + n ≡ n
+    level true = omega arith
+    level false = omega arith
+
+pub first_go : {n : ℕ} {a b : List Token} (marked : Bool) → Reads a (one (kinds.Mark points.Bar)) b → Moves n (behind_first marked ∷ []) a (term ∷ more_terms ∷ []) b
+first_go true reads = takes_read reads (λ below. refl) (omega arith)
+first_go false reads = takes_read reads (λ below. refl) (omega arith)
+
+pub first_end : {n : ℕ} {a : List Token} (marked : Bool) → marked ≡ false → ¬ StandsSign (kinds.Mark points.Bar) a → Moves n (behind_first marked ∷ []) a [] a
+first_end {a = a} true is lacks = absurd (let e : true ≡ false = is in cc)
+first_end {a = a} false is lacks = terms_at a lacks
+
+bar_none : (k : TokenKind) → (k ≡ (kinds.Mark points.Bar) → ⊥) → (below : Stack) → step (bar ∷ below) k ≡ None
+bar_none (kinds.Mark points.Bar) other below = absurd (other refl)
+bar_none _ other below = refl
+
+pub first_halts : {a : List Token} (marked : Bool) → marked ≡ true → ¬ StandsSign (kinds.Mark points.Bar) a → Halts (behind_first marked ∷ []) a
+first_halts true is lacks = halts_unless (kinds.Mark points.Bar) (λ below. refl) bar_none lacks
+first_halts false is lacks = absurd (let e : false ≡ true = is in cc)
+
+first_of : (k : TokenKind) → (marked : Bool) × (marked ≡ true → k ≡ (kinds.Mark points.Star)) × (k ≡ (kinds.Mark points.Star) → marked ≡ true)
+first_of (kinds.Mark points.Star) = (true, λ e. refl, λ e. refl)
+first_of k = (false, λ e. let f : false ≡ true = e in cc, λ e. let f : k ≡ (kinds.Mark points.Star) = e in cc)
+
+first_here : (a : List Token) → (marked : Bool) × (marked ≡ true → StandsSign (kinds.Mark points.Star) a) × (StandsSign (kinds.Mark points.Star) a → marked ≡ true)
+first_here [] = (false, λ e. (let f : false ≡ true = e in cc), λ e. absurd e)
+first_here (t ∷ ts) = first_of t.kind
+
+first_closes : (marked : Bool) (below : Stack) → Closes below → Closes (behind_first marked ∷ below)
+first_closes true below closes = record { call = refl; colon = refl; question = refl; exclamation = refl }
+first_closes false below closes = record { call = closes.call; colon = closes.colon; question = closes.question; exclamation = closes.exclamation }
+
+first_level : (n : ℕ) (marked : Bool) → depth (behind_first marked ∷ []) + n ≡ n
+first_level n true = omega arith
+first_level n false = omega arith
+
+pub first_refused : {n end : ℕ} {a : List Token} {r : Stop} → Refused n end (term ∷ []) a r → Refused n end (expression ∷ []) a r
+first_refused {n = n} {a = a} s =
+    let f = first_here a in
+    refused_behind (first_opens f.0 f.1 f.2) (refused_under (behind_first f.0 ∷ []) (first_level n f.0) (first_closes f.0) s)

@@ -1,0 +1,245 @@
+-- How the recogniser goes through lists and declarations.
+use Rattle.std.proofs.Common.{◌≡◌, ap, subst, refl, ℕ, ◌+◌, ◌≤◌, ◌<◌, ◌⊎◌, inl, inr, Bool, true, false, List, [], ◌∷◌, ◌++◌, length, drop, arith, None}
+use Rattle.cue_lex.specs.declared.token.Token.{Token}
+use Rattle.cue_lex.specs.declared.token.TokenKind.{TokenKind}
+use Rattle.cue_lex.specs.declared.token.TokenKind.TheVariants as kinds
+use Rattle.cue_lex.specs.declared.punctuation.Punctuation.TheVariants as points
+use Rattle.cue_syntax.specs.declared.stop.Why.TheVariants as reasons
+use Rattle.cue_syntax.specs.declared.stop.Stop.{Stop}
+use Rattle.cue_syntax.specs.declared.tree.Label.{Label}
+use Rattle.cue_syntax.specs.Spelling.{Reads, one, one_at, comma_if, spell_label}
+use Rattle.cue_syntax.specs.Stops.{at_hand}
+use Rattle.cue_syntax.specs.Viability.{Stands, StandsSign, IsMark, IsLabelName, BeginsLabel, BeginsDefinition, IsDefinition, EndsHere}
+use Rattle.cue_syntax.specs.Recogniser.{Goal, Stack, levels_of, step, Closes, Moves, Stops, Refused, chains, row_goal, value, mark, colon, entries, more_entries, unary, expression, elements, more_elements, bracket, bracket_end}
+use Rattle.cue_syntax.proofs.MovesAndStops.{takes, takes_read, moves_none, moves_then, moves_more, moves_under, alike_moves, Halts, HaltsAt, halts_at, stopped, stops_here, stops_before, refused_behind, refused_under, refused_end}
+use Rattle.cue_syntax.proofs.MovesOverLabels.{label_entry, chains_depth, chains_close, chains_over, colon_halts}
+use Rattle.cue_syntax.proofs.ValuesAreExpressions.{value_moves, value_refused}
+use Rattle.cue_syntax.proofs.MovesOverOperands.{no_comma}
+
+-- lists
+abbrev pub behind_ellipsis : Bool → Goal
+behind_ellipsis true = bracket_end
+behind_ellipsis false = bracket
+
+pub ellipsis_comma : {n : ℕ} {a b : List Token} (comma : Bool) → 1 ≤ n → Reads a (comma_if comma) b → Moves n (bracket ∷ []) a (behind_ellipsis comma ∷ []) b
+ellipsis_comma true le reads = takes_read reads (λ below. refl) (omega arith)
+ellipsis_comma {n = n} {a = a} false le reads = subst (λ z. Moves n (bracket ∷ []) a (bracket ∷ []) z) reads.follows moves_none
+
+pub ellipsis_closes : {n : ℕ} {a b : List Token} (comma : Bool) → Reads a (one (kinds.Mark points.CloseBracket)) b → Moves n (behind_ellipsis comma ∷ []) a [] b
+ellipsis_closes true reads = takes_read reads (λ below. refl) (omega arith)
+ellipsis_closes false reads = takes_read reads (λ below. refl) (omega arith)
+
+bracket_none : (k : TokenKind) → (k ≡ (kinds.Mark points.CloseBracket) → ⊥) → (k ≡ (kinds.Mark points.Comma) → ⊥) → (below : Stack) → step (bracket ∷ below) k ≡ None
+bracket_none (kinds.Mark points.CloseBracket) a b below = absurd (a refl)
+bracket_none (kinds.Mark points.Comma) a b below = absurd (b refl)
+bracket_none _ a b below = refl
+
+bracket_end_none : (k : TokenKind) → (k ≡ (kinds.Mark points.CloseBracket) → ⊥) → (below : Stack) → step (bracket_end ∷ below) k ≡ None
+bracket_end_none (kinds.Mark points.CloseBracket) a below = absurd (a refl)
+bracket_end_none _ a below = refl
+
+ellipsis_at : (comma : Bool) (a : List Token) → ¬ StandsSign (kinds.Mark points.CloseBracket) a → (comma ≡ false → ¬ StandsSign (kinds.Mark points.Comma) a) → HaltsAt (behind_ellipsis comma ∷ []) a
+ellipsis_at true [] close more = λ below. refl
+ellipsis_at false [] close more = λ below. refl
+ellipsis_at true (t ∷ ts) close more = λ below closes. bracket_end_none t.kind close below
+ellipsis_at false (t ∷ ts) close more = λ below closes. bracket_none t.kind close (more refl) below
+
+pub ellipsis_halts : {a b : List Token} (comma : Bool) → Reads a (comma_if comma) b → (comma ≡ false → ¬ StandsSign (kinds.Mark points.Comma) a) → ¬ StandsSign (kinds.Mark points.CloseBracket) b → Halts (behind_ellipsis comma ∷ []) b
+ellipsis_halts {b = b} comma reads lacks close = record { at = ellipsis_at comma b close (no_comma comma reads lacks) }
+
+pub list_opens : {room : ℕ} {a b c : List Token} {next : Stack} (left : ℕ) → left + 1 ≡ room → Reads a (one (kinds.Mark points.OpenBracket)) b → Moves (1 + left) (elements ∷ []) b next c → Moves room (unary ∷ []) a next c
+list_opens left is reads inner = moves_then {h = elements ∷ []} (takes_read reads (λ below. refl) (omega (arith, is))) (moves_more (omega (arith, is)) inner)
+
+pub list_refused : {room end other : ℕ} {a b : List Token} {r : Stop} (left : ℕ) → left + 1 ≡ room → other ≡ end → Reads a (one (kinds.Mark points.OpenBracket)) b → Refused (1 + left) other (elements ∷ []) b r → Refused room end (unary ∷ []) a r
+list_refused {room = room} {other = other} {b = b} {r = r} left is same reads inner =
+    let e : 1 + left ≡ room = omega (arith, is) in
+    refused_behind {h = elements ∷ []} (takes_read reads (λ below. refl) (omega (arith, is))) (refused_end same (subst (λ z. Refused z other (elements ∷ []) b r) e inner))
+
+-- the goal after a row
+pub row_first : {A : Type 0} (first more : Goal) (comma : Bool) (xs : List A) → (comma ≡ true) ⊎ (xs ≡ []) → row_goal first more comma xs ≡ first
+row_first first more true xs free = refl
+row_first first more false [] free = refl
+row_first first more false (x ∷ xs) free = absurd (elim free [ inl e ↦ (let f : false ≡ true = e in cc) | inr e ↦ (let f : x ∷ xs ≡ [] = e in cc) ])
+
+pub row_more : {A : Type 0} (first more : Goal) (comma : Bool) (xs : List A) (x : A) → comma ≡ false → row_goal first more comma (xs ++ x ∷ []) ≡ more
+row_more first more true xs x is = absurd (let e : true ≡ false = is in cc)
+row_more first more false [] x is = refl
+row_more first more false (y ∷ ys) x is = refl
+
+row_or : {A : Type 0} (first more : Goal) (comma : Bool) (xs : List A) → (row_goal first more comma xs ≡ first) × ((comma ≡ true) ⊎ (xs ≡ [])) ⊎ (row_goal first more comma xs ≡ more) × (comma ≡ false)
+row_or first more true xs = inl (refl, inl refl)
+row_or first more false [] = inl (refl, inr refl)
+row_or first more false (x ∷ xs) = inr (refl, refl)
+
+element_step : (k : TokenKind) → (k ≡ (kinds.Mark points.CloseBracket) → ⊥) → (k ≡ (kinds.Mark points.Ellipsis) → ⊥) → (below : Stack) → step (elements ∷ below) k ≡ step (expression ∷ more_elements ∷ below) k
+element_step (kinds.Mark points.CloseBracket) a b below = absurd (a refl)
+element_step (kinds.Mark points.Ellipsis) a b below = absurd (b refl)
+element_step _ a b below = refl
+
+element_at : {n : ℕ} (a : List Token) → ¬ StandsSign (kinds.Mark points.CloseBracket) a → ¬ StandsSign (kinds.Mark points.Ellipsis) a → Moves n (elements ∷ []) a (expression ∷ more_elements ∷ []) a
+element_at [] close more = alike_moves [] (λ below. refl)
+element_at (t ∷ ts) close more = alike_moves (t ∷ ts) (λ below. element_step t.kind close more below)
+
+pub element_moves : {room : ℕ} {a b : List Token} → ¬ StandsSign (kinds.Mark points.CloseBracket) a → ¬ StandsSign (kinds.Mark points.Ellipsis) a → Moves room (expression ∷ []) a [] b → Moves (1 + room) (elements ∷ []) a (more_elements ∷ []) b
+element_moves {a = a} close more inner = moves_then (element_at a close more) (moves_under (more_elements ∷ []) (omega arith) inner)
+
+pub element_refused : {room end : ℕ} {a : List Token} {r : Stop} → ¬ StandsSign (kinds.Mark points.CloseBracket) a → ¬ StandsSign (kinds.Mark points.Ellipsis) a → Refused room end (expression ∷ []) a r → Refused (1 + room) end (elements ∷ []) a r
+element_refused {a = a} close more inner =
+    refused_behind (element_at a close more) (refused_under (more_elements ∷ []) (omega arith) (λ below closes. record { call = refl; colon = refl; question = refl; exclamation = refl }) inner)
+
+pub element_next : {n : ℕ} {a b : List Token} (comma : Bool) → comma ≡ true → 1 ≤ n → Reads a (comma_if comma) b → Moves n (more_elements ∷ []) a (elements ∷ []) b
+element_next true is le reads = takes_read reads (λ below. refl) (omega arith)
+element_next false is le reads = absurd (let e : false ≡ true = is in cc)
+
+-- a row that ends where no comma stands
+pub same_tokens : {a b : List Token} (comma : Bool) → comma ≡ false → Reads a (comma_if comma) b → a ≡ b
+same_tokens false is reads = reads.follows
+same_tokens true is reads = absurd (let e : true ≡ false = is in cc)
+
+more_elements_none : (k : TokenKind) → (k ≡ (kinds.Mark points.CloseBracket) → ⊥) → (k ≡ (kinds.Mark points.Comma) → ⊥) → (below : Stack) → step (more_elements ∷ below) k ≡ None
+more_elements_none (kinds.Mark points.CloseBracket) a b below = absurd (a refl)
+more_elements_none (kinds.Mark points.Comma) a b below = absurd (b refl)
+more_elements_none _ a b below = refl
+
+more_elements_at : (a : List Token) → ¬ StandsSign (kinds.Mark points.CloseBracket) a → ¬ StandsSign (kinds.Mark points.Comma) a → HaltsAt (more_elements ∷ []) a
+more_elements_at [] close more = λ below. refl
+more_elements_at (t ∷ ts) close more = λ below closes. more_elements_none t.kind close more below
+
+pub row_closes : {n : ℕ} {A : Type 0} {a b : List Token} (comma : Bool) (xs : List A) → Reads a (one (kinds.Mark points.CloseBracket)) b → Moves n (row_goal elements more_elements comma xs ∷ []) a [] b
+row_closes true xs reads = takes_read reads (λ below. refl) (omega arith)
+row_closes false [] reads = takes_read reads (λ below. refl) (omega arith)
+row_closes false (x ∷ xs) reads = takes_read reads (λ below. refl) (omega arith)
+
+pub row_halts : {A : Type 0} {a : List Token} (comma : Bool) (xs : List A) → (comma ≡ false → ¬ StandsSign (kinds.Mark points.Comma) a) → ((comma ≡ true) ⊎ (xs ≡ []) → ⊥) → ¬ StandsSign (kinds.Mark points.CloseBracket) a
+    → Halts (row_goal elements more_elements comma xs ∷ []) a
+row_halts {a = a} true xs lacks free close = absurd (free (inl refl))
+row_halts {a = a} false [] lacks free close = absurd (free (inr refl))
+row_halts {a = a} false (x ∷ xs) lacks free close = record { at = more_elements_at a close (lacks refl) }
+
+pub open_ellipsis : {n : ℕ} {A : Type 0} {a b : List Token} (comma : Bool) (xs : List A) → 1 ≤ n → (comma ≡ true) ⊎ (xs ≡ []) → Reads a (one (kinds.Mark points.Ellipsis)) b → Moves n (row_goal elements more_elements comma xs ∷ []) a (bracket ∷ []) b
+open_ellipsis true xs le free reads = takes_read reads (λ below. refl) (omega (arith, le))
+open_ellipsis false [] le free reads = takes_read reads (λ below. refl) (omega (arith, le))
+open_ellipsis false (x ∷ xs) le free reads = absurd (elim free [ inl e ↦ (let f : false ≡ true = e in cc) | inr e ↦ (let f : x ∷ xs ≡ [] = e in cc) ])
+
+-- declarations
+pub entry_next : {n : ℕ} {a b : List Token} (top comma : Bool) → comma ≡ true → levels_of (entries top) ≤ n → Reads a (comma_if comma) b → Moves n (more_entries top ∷ []) a (entries top ∷ []) b
+entry_next true true is le reads = takes_read reads (λ below. refl) (omega (arith, le))
+entry_next false true is le reads = takes_read reads (λ below. refl) (omega (arith, le))
+entry_next top false is le reads = absurd (let e : false ≡ true = is in cc)
+
+pub braces_close : {n : ℕ} {A : Type 0} {a b : List Token} (comma : Bool) (xs : List A) → Reads a (one (kinds.Mark points.CloseBrace)) b → Moves n (row_goal (entries false) (more_entries false) comma xs ∷ []) a [] b
+braces_close true xs reads = takes_read reads (λ below. refl) (omega arith)
+braces_close false [] reads = takes_read reads (λ below. refl) (omega arith)
+braces_close false (x ∷ xs) reads = takes_read reads (λ below. refl) (omega arith)
+
+more_entries_none : (k : TokenKind) → (k ≡ (kinds.Mark points.CloseBrace) → ⊥) → (k ≡ (kinds.Mark points.Comma) → ⊥) → (below : Stack) → step (more_entries false ∷ below) k ≡ None
+more_entries_none (kinds.Mark points.CloseBrace) a b below = absurd (a refl)
+more_entries_none (kinds.Mark points.Comma) a b below = absurd (b refl)
+more_entries_none _ a b below = refl
+
+more_entries_at : (a : List Token) → ¬ StandsSign (kinds.Mark points.CloseBrace) a → ¬ StandsSign (kinds.Mark points.Comma) a → HaltsAt (more_entries false ∷ []) a
+more_entries_at [] close more = λ below. refl
+more_entries_at (t ∷ ts) close more = λ below closes. more_entries_none t.kind close more below
+
+pub braces_halt : {A : Type 0} {a : List Token} (comma : Bool) (xs : List A) → (comma ≡ false → ¬ StandsSign (kinds.Mark points.Comma) a) → ((comma ≡ true) ⊎ (xs ≡ []) → EndsHere false a) → ¬ StandsSign (kinds.Mark points.CloseBrace) a
+    → Halts (row_goal (entries false) (more_entries false) comma xs ∷ []) a
+braces_halt {a = a} true xs lacks free close = absurd (close (free (inl refl)))
+braces_halt {a = a} false [] lacks free close = absurd (close (free (inr refl)))
+braces_halt {a = a} false (x ∷ xs) lacks free close = record { at = more_entries_at a close (lacks refl) }
+
+top_none : (k : TokenKind) → (k ≡ (kinds.Mark points.Comma) → ⊥) → (below : Stack) → step (more_entries true ∷ below) k ≡ None
+top_none (kinds.Mark points.Comma) a below = absurd (a refl)
+top_none _ a below = refl
+
+top_at : (a : List Token) → (a ≡ [] → ⊥) → ¬ StandsSign (kinds.Mark points.Comma) a → HaltsAt (more_entries true ∷ []) a
+top_at [] some more = absurd (some refl)
+top_at (t ∷ ts) some more = λ below closes. top_none t.kind more below
+
+pub top_halts : {A : Type 0} {a : List Token} (comma : Bool) (xs : List A) → (comma ≡ false → ¬ StandsSign (kinds.Mark points.Comma) a) → ((comma ≡ true) ⊎ (xs ≡ []) → EndsHere true a) → (a ≡ [] → ⊥)
+    → Halts (row_goal (entries true) (more_entries true) comma xs ∷ []) a
+top_halts {a = a} true xs lacks free some = absurd (some (free (inl refl)))
+top_halts {a = a} false [] lacks free some = absurd (some (free (inr refl)))
+top_halts {a = a} false (x ∷ xs) lacks free some = record { at = top_at a some (lacks refl) }
+
+pub entry_ellipsis : {n : ℕ} {a b : List Token} (top : Bool) → levels_of (entries top) ≤ n → Reads a (one (kinds.Mark points.Ellipsis)) b → Moves n (entries top ∷ []) a (more_entries top ∷ []) b
+entry_ellipsis true le reads = takes_read reads (λ below. refl) (omega (arith, le))
+entry_ellipsis false le reads = takes_read reads (λ below. refl) (omega (arith, le))
+
+-- a value after the labels of a chain
+same_level : (top : Bool) → levels_of (more_entries top) ≡ levels_of (entries top)
+same_level true = refl
+same_level false = refl
+
+more_entries_close : (top : Bool) (below : Stack) → Closes below → Closes (more_entries top ∷ below)
+more_entries_close true below closes = record { call = refl; colon = refl; question = refl; exclamation = refl }
+more_entries_close false below closes = record { call = refl; colon = refl; question = refl; exclamation = refl }
+
+pub chain_value : {room : ℕ} {b c d : List Token} (left : ℕ) (ls : List Label) → left + length ls ≡ room → Moves room (value ∷ []) b (value ∷ chains ls) c → ¬ BeginsLabel c → length d < length c
+    → Moves left (expression ∷ []) c [] d → Moves room (value ∷ []) b [] d
+chain_value {d = d} left ls is first label shorter inner =
+    moves_then first (moves_then (moves_under (chains ls) (omega (arith, is, chains_depth ls)) (value_moves label shorter inner)) (chains_over ls d))
+
+pub chain_value_refused : {room end other : ℕ} {b c : List Token} {r : Stop} (left : ℕ) (ls : List Label) → left + length ls ≡ room → other ≡ end → Moves room (value ∷ []) b (value ∷ chains ls) c → ¬ BeginsLabel c
+    → Refused left other (expression ∷ []) c r → Refused room end (value ∷ []) b r
+chain_value_refused left ls is same first label inner =
+    refused_behind first (refused_end same (refused_under (chains ls) (omega (arith, is, chains_depth ls)) (chains_close ls) (value_refused label inner)))
+
+pub field_moves : {room : ℕ} {a b d : List Token} (top : Bool) (l : Label) → Reads a (spell_label l) b → Moves room (value ∷ []) b [] d → Moves (levels_of (entries top) + room) (entries top ∷ []) a (more_entries top ∷ []) d
+field_moves top l reads inner =
+    moves_then (label_entry top l (omega (arith, same_level top)) reads) (moves_under (more_entries top ∷ []) (omega (arith, same_level top)) inner)
+
+pub field_refused : {room end other : ℕ} {a b : List Token} {r : Stop} (top : Bool) (l : Label) → Reads a (spell_label l) b → other ≡ end → Refused room other (value ∷ []) b r → Refused (levels_of (entries top) + room) end (entries top ∷ []) a r
+field_refused top l reads same inner =
+    refused_behind (label_entry top l (omega (arith, same_level top)) reads) (refused_end same (refused_under (more_entries top ∷ []) (omega (arith, same_level top)) (more_entries_close top) inner))
+
+pub definition_opens : {n from : ℕ} {t : List ℕ} {a b c : List Token} → Reads a (one_at from (kinds.Definition t)) b → Reads b (one (kinds.Mark points.Colon)) c → Moves n (entries true ∷ []) a (value ∷ more_entries true ∷ []) c
+definition_opens first second = moves_then {h = colon ∷ value ∷ more_entries true ∷ []} (takes_read first (λ below. refl) (omega arith)) (takes_read second (λ below. refl) (omega arith))
+
+pub definition_moves : {room from : ℕ} {t : List ℕ} {a b c d : List Token} → Reads a (one_at from (kinds.Definition t)) b → Reads b (one (kinds.Mark points.Colon)) c → Moves room (value ∷ []) c [] d → Moves room (entries true ∷ []) a (more_entries true ∷ []) d
+definition_moves first second inner = moves_then (definition_opens first second) (moves_under (more_entries true ∷ []) (omega arith) inner)
+
+pub definition_refused : {room end other from : ℕ} {t : List ℕ} {a b c : List Token} {r : Stop} → Reads a (one_at from (kinds.Definition t)) b → Reads b (one (kinds.Mark points.Colon)) c → other ≡ end → Refused room other (value ∷ []) c r
+    → Refused room end (entries true ∷ []) a r
+definition_refused first second same inner = refused_behind (definition_opens first second) (refused_end same (refused_under (more_entries true ∷ []) (omega arith) (more_entries_close true) inner))
+
+-- where no declaration begins
+data Near (g : Stack) (a : List Token) : Type 0 where
+  here : Halts g a → Near g a
+  before : (h : Stack) (n : ℕ) → Moves n g a h (drop 1 a) → Halts h (drop 1 a) → Near g a
+
+near_by : {n end : ℕ} {g : Stack} {r : Stop} (a : List Token) → Near g a → r ≡ at_hand reasons.Syntax end a → Stops n end g a r
+near_by a (here halts) is = stops_here is halts
+near_by a (before h n m halts) is = stops_before h is refl m halts
+
+mark_none : (g : Stack) (k : TokenKind) → ¬ IsMark k → (below : Stack) → step ((mark ∷ g) ++ below) k ≡ None
+mark_none g (kinds.Mark points.Colon) other below = absurd (other tt)
+mark_none g (kinds.Mark points.Question) other below = absurd (other tt)
+mark_none g (kinds.Mark points.Exclamation) other below = absurd (other tt)
+mark_none g _ other below = refl
+
+mark_at : (g : Stack) (a : List Token) → ¬ Stands IsMark a → HaltsAt (mark ∷ g) a
+mark_at g [] other = λ below. refl
+mark_at g (t ∷ ts) other = λ below closes. mark_none g t.kind other below
+
+near_entry : (top : Bool) (t : Token) (ts : List Token) (k : TokenKind) → t.kind ≡ k → (k ≡ (kinds.Mark points.Ellipsis) → ⊥) → ¬ (IsLabelName k × Stands IsMark ts) → (top ≡ true → ¬ (IsDefinition k × StandsSign (kinds.Mark points.Colon) ts))
+    → (top ≡ false → k ≡ (kinds.Mark points.CloseBrace) → ⊥) → Near (entries top ∷ []) (t ∷ ts)
+near_entry true t ts (kinds.Name n) is dots label other close = before (mark ∷ value ∷ more_entries true ∷ []) 0 (takes t refl (λ below. ap (step (entries true ∷ below)) is) (omega arith)) (record { at = mark_at (value ∷ more_entries true ∷ []) ts (λ m. label (tt, m)) })
+near_entry true t ts (kinds.Text n) is dots label other close = before (mark ∷ value ∷ more_entries true ∷ []) 0 (takes t refl (λ below. ap (step (entries true ∷ below)) is) (omega arith)) (record { at = mark_at (value ∷ more_entries true ∷ []) ts (λ m. label (tt, m)) })
+near_entry true t ts (kinds.Definition n) is dots label other close = before (colon ∷ value ∷ more_entries true ∷ []) 0 (takes t refl (λ below. ap (step (entries true ∷ below)) is) (omega arith)) (colon_halts (λ m. other refl (tt, m)))
+near_entry true t ts (kinds.Mark points.Ellipsis) is dots label other close = absurd (dots refl)
+near_entry true t ts k is dots label other close = here (halts_at t refl (λ below closes. ap (step (entries true ∷ below)) is))
+near_entry false t ts (kinds.Name n) is dots label other close = before (mark ∷ value ∷ more_entries false ∷ []) 1 (takes t refl (λ below. ap (step (entries false ∷ below)) is) (omega arith)) (record { at = mark_at (value ∷ more_entries false ∷ []) ts (λ m. label (tt, m)) })
+near_entry false t ts (kinds.Text n) is dots label other close = before (mark ∷ value ∷ more_entries false ∷ []) 1 (takes t refl (λ below. ap (step (entries false ∷ below)) is) (omega arith)) (record { at = mark_at (value ∷ more_entries false ∷ []) ts (λ m. label (tt, m)) })
+near_entry false t ts (kinds.Mark points.Ellipsis) is dots label other close = absurd (dots refl)
+near_entry false t ts (kinds.Mark points.CloseBrace) is dots label other close = absurd (close refl refl)
+near_entry false t ts k is dots label other close = here (halts_at t refl (λ below closes. ap (step (entries false ∷ below)) is))
+
+near_none : (top : Bool) (a : List Token) → ¬ StandsSign (kinds.Mark points.Ellipsis) a → ¬ BeginsLabel a → (top ≡ true → ¬ BeginsDefinition a) → ¬ EndsHere top a → Near (entries top ∷ []) a
+near_none true [] dots label other ends = absurd (ends refl)
+near_none false [] dots label other ends = here (record { at = λ below. refl })
+near_none true (t ∷ ts) dots label other ends = near_entry true t ts t.kind refl dots label other (λ e. let f : true ≡ false = e in cc)
+near_none false (t ∷ ts) dots label other ends = near_entry false t ts t.kind refl dots label other (λ e. ends)
+
+pub no_entry_refused : {n end : ℕ} {a : List Token} {r : Stop} (top : Bool) → ¬ StandsSign (kinds.Mark points.Ellipsis) a → ¬ BeginsLabel a → (top ≡ true → ¬ BeginsDefinition a) → ¬ EndsHere top a → r ≡ at_hand reasons.Syntax end a
+    → Refused n end (entries top ∷ []) a r
+no_entry_refused {a = a} top dots label other ends is = stopped (near_by a (near_none top a dots label other ends) is)

@@ -1,0 +1,279 @@
+-- What is read by the parts of a tree is read by the tree.
+use Rattle.std.proofs.Common.{◌≡◌, ap, sym, subst, ℕ, ◌+◌, ◌≤◌, ◌<◌, ◌⊎◌, ⊎_elim, Bool, true, false, List, [], ◌∷◌, ◌++◌, length, flat_map, append_assoc, append-nil, arith, codes}
+use Rattle.std.proofs.lemmas.List.{length_push}
+use Rattle.cue_lex.specs.declared.token.Token.{Token}
+use Rattle.cue_lex.specs.declared.token.TokenKind.TheVariants as kinds
+use Rattle.cue_lex.specs.declared.punctuation.Punctuation.TheVariants as points
+use Rattle.cue_syntax.specs.declared.tree.Label.{Label}
+use Rattle.cue_syntax.specs.declared.tree.Expr.{Expr}
+use Rattle.cue_syntax.specs.declared.tree.Term.{Term}
+use Rattle.cue_syntax.specs.declared.tree.Declaration.{Declaration}
+use Rattle.cue_syntax.specs.Spelling.{Piece, Reads, Follows, IsPlace, one, one_at, placed, comma_if, star_if, spell, spell_label, spell_elements, spell_rest, spell_branch, spell_branches, spell_entry, spell_entries}
+use Rattle.cue_syntax.specs.Grammar.{AreRight, IsUnary, IsTerm, AreUnary, TwoElements, TwoBranches, AreRightBranches, AreNested, EndsEntries, EndsElements, levels_of_elements, levels_of_branches, IsExpression, IsTermOf, IsEntry, IsLiteral, AreElements, AreEntries, AreBraced}
+use Rattle.cue_syntax.specs.Syntax.{Expression, Elements, no_elements, element, Entries, parenthesis, struct, close, list, conjunction, disjunction, branch, field, definition, expression, branch_tree, entry_tree, elements, branches, entries}
+use Rattle.cue_syntax.proofs.ReadingsJoin.{reads_then, reads_none, reads_placed}
+use Rattle.cue_syntax.proofs.RowsGrow.{reads_same, elements_pushed, right_pushed, unary_pushed, levels_pushed, branches_pushed, right_branches_pushed, levels_branches_pushed, entries_pushed, right_entries_pushed, levels_entries_pushed}
+
+pub literal_is : {room : ℕ} {a b : List Token} {e : Expression} → IsLiteral a e b → IsExpression room a e b
+literal_is l = record { reads = l.reads; right = l.right; levels = omega (arith, l.levels) }
+
+pub parenthesis_is : {room left : ℕ} {a b c d f : List Token} {e : Expression} {comma : Bool} → left + 1 ≡ room
+    → Reads a (one (kinds.Mark points.OpenParenthesis)) b → IsExpression left b e c → Reads c (comma_if comma) d → Reads d (one (kinds.Mark points.CloseParenthesis)) f
+    → IsExpression room a (parenthesis e comma) f
+parenthesis_is is first inner third fourth = record {
+  reads = reads_then (reads_then (reads_then first inner.reads) third) fourth;
+  right = inner.right;
+  levels = omega (arith, is, inner.levels);
+}
+
+pub braced_is : {room : ℕ} {b c d : List Token} {es : Entries} {comma : Bool}
+    → AreEntries room b es comma c → AreNested es → Reads c (one (kinds.Mark points.CloseBrace)) d
+    → AreBraced room b es comma d
+braced_is inner nested third = record {
+  reads = reads_then inner.reads third;
+  right = inner.right;
+  nested = nested;
+  ends = inner.ends;
+  levels = inner.levels;
+}
+
+pub struct_is : {room left : ℕ} {a b c : List Token} {es : Entries} {comma : Bool} → left + 1 ≡ room → Reads a (one (kinds.Mark points.OpenBrace)) b → AreBraced left b es comma c
+    → IsExpression room a (struct es comma) c
+struct_is is first inner = record {
+  reads = reads_then first inner.reads;
+  right = (inner.right, inner.nested, inner.ends);
+  levels = omega (arith, is, inner.levels);
+}
+
+pub close_is : {room left last from : ℕ} {a b c d f g h : List Token} {es : Entries} {inner comma : Bool} → left + 1 ≡ room → last + 1 ≡ left
+    → Reads a (one_at from (kinds.Name (codes "close"))) b → Reads b (one (kinds.Mark points.OpenParenthesis)) c → Reads c (one (kinds.Mark points.OpenBrace)) d → AreBraced last d es inner f
+    → Reads f (comma_if comma) g → Reads g (one (kinds.Mark points.CloseParenthesis)) h
+    → IsExpression room a (close from es inner comma) h
+close_is is more first second brace third fourth fifth = record {
+  reads = reads_then (reads_then (reads_then (reads_then first second) (reads_then brace third.reads)) fourth) fifth;
+  right = (third.right, third.nested, third.ends);
+  levels = omega (arith, is, more, third.levels);
+}
+
+pub list_is : {room left : ℕ} {a b c d : List Token} {es : Elements} {comma : Bool} → left + 1 ≡ room
+    → Reads a (one (kinds.Mark points.OpenBracket)) b → AreElements left b es comma c → Reads c (one (kinds.Mark points.CloseBracket)) d
+    → IsExpression room a (list es false comma) d
+list_is {a = a} {d = d} {es = es} {comma = comma} is first second third = record {
+  reads = reads_same
+      (ap (λ z. ((one (kinds.Mark points.OpenBracket) ++ z) ++ comma_if comma) ++ one (kinds.Mark points.CloseBracket)) (sym (append-nil (spell_elements (kinds.Mark points.Comma) es))))
+      (reads_then (reads_then first second.reads) third);
+  right = (second.right, second.ends);
+  levels = omega (arith, is, second.levels);
+}
+
+ends_open : (comma : Bool) (es : Elements) → EndsElements comma true es
+ends_open true no_elements = tt
+ends_open true (element e es) = tt
+ends_open false es = tt
+
+-- elements after which `...` may stand
+pub rest_reads : {left : ℕ} {b c d : List Token} (es : Elements) (comma : Bool) → AreElements left b es comma c → (comma ≡ true) ⊎ (es ≡ no_elements)
+    → Reads c (one (kinds.Mark points.Ellipsis)) d → Reads b (spell_elements (kinds.Mark points.Comma) es ++ spell_rest es true) d
+rest_reads no_elements false inner which second = reads_then inner.reads second
+rest_reads no_elements true inner which second = absurd inner.ends
+rest_reads (element e es) true inner which second =
+    reads_same (append_assoc (spell_elements (kinds.Mark points.Comma) (element e es)) (one (kinds.Mark points.Comma)) (one (kinds.Mark points.Ellipsis))) (reads_then inner.reads second)
+rest_reads (element e es) false inner which second = absurd (⊎_elim (λ (w : false ≡ true). cc) (λ (w : element e es ≡ no_elements). cc) which)
+
+pub open_list_is : {room left : ℕ} {a b c d f g : List Token} {es : Elements} {comma last : Bool} → left + 1 ≡ room
+    → Reads a (one (kinds.Mark points.OpenBracket)) b → AreElements left b es comma c → (comma ≡ true) ⊎ (es ≡ no_elements)
+    → Reads c (one (kinds.Mark points.Ellipsis)) d → Reads d (comma_if last) f → Reads f (one (kinds.Mark points.CloseBracket)) g
+    → IsExpression room a (list es true last) g
+open_list_is {es = es} {comma = comma} {last = last} is first second which third fourth fifth = record {
+  reads = reads_same
+      (ap (λ z. (z ++ comma_if last) ++ one (kinds.Mark points.CloseBracket)) (sym (append_assoc (one (kinds.Mark points.OpenBracket)) (spell_elements (kinds.Mark points.Comma) es) (spell_rest es true))))
+      (reads_then (reads_then (reads_then first (rest_reads es comma second which third)) fourth) fifth);
+  right = (second.right, ends_open last es);
+  levels = omega (arith, is, second.levels);
+}
+
+pub field_is : {room left : ℕ} {a b c d : List Token} {l : Label} {chain : List Label} {e : Expression} → left + length chain ≡ room
+    → Reads a (spell_label l) b → Reads b (flat_map spell_label chain) c → IsExpression left c e d
+    → IsEntry room a (field l chain e) d
+field_is is first second third = record {
+  reads = reads_then (reads_then first second) third.reads;
+  right = third.right;
+  levels = omega (arith, is, third.levels);
+}
+
+pub definition_is : {room left from : ℕ} {a b c d f : List Token} {t : List ℕ} {chain : List Label} {e : Expression} → left + length chain ≡ room
+    → Reads a (one_at from (kinds.Definition t)) b → Reads b (one (kinds.Mark points.Colon)) c → Reads c (flat_map spell_label chain) d → IsExpression left d e f
+    → IsEntry room a (definition t from chain e) f
+definition_is is first second third fourth = record {
+  reads = reads_then (reads_then (reads_then first second) third) fourth.reads;
+  right = fourth.right;
+  levels = omega (arith, is, fourth.levels);
+}
+
+-- what a row of terms keeps while it grows: a sign stands after its last
+pub record AreTerms (room : ℕ) (a : List Token) (ts : List Term) (b : List Token) : Type 0 where
+  pub reads : Reads a (spell_branches (branches ts) ++ one (kinds.Mark points.Bar)) b
+  pub right : AreRightBranches (branches ts)
+  pub levels : levels_of_branches (branches ts) ≤ room
+  pub some : 0 < length ts
+
+pub record AreAllTerms (room : ℕ) (a : List Token) (ts : List Term) (b : List Token) : Type 0 where
+  pub reads : Reads a (spell_branches (branches ts)) b
+  pub right : AreRightBranches (branches ts)
+  pub levels : levels_of_branches (branches ts) ≤ room
+  pub some : 0 < length ts
+  pub two : TwoBranches (branches ts)
+
+two_branches : (y : Term) (ys : List Term) (x : Term) → TwoBranches (branches ((y ∷ ys) ++ x ∷ []))
+two_branches y [] x = tt
+two_branches y (z ∷ zs) x = tt
+
+pub terms_first : {room : ℕ} {a b c : List Token} (t : Term) → IsTermOf room a (branch_tree t) b → Reads b (one (kinds.Mark points.Bar)) c → AreTerms room a (t ∷ []) c
+terms_first t first second = record {
+  reads = reads_then (reads_same (sym (append-nil (spell_branch (branch_tree t)))) first.reads) second;
+  right = (first.right, tt);
+  levels = omega (arith, first.levels);
+  some = omega arith;
+}
+
+pub terms_next : {room : ℕ} {a b c : List Token} (ts : List Term) (t : Term) → AreTerms room a ts b → IsTermOf room b (branch_tree t) c → AreAllTerms room a (ts ++ t ∷ []) c
+terms_next [] t first second = absurd (let h : 0 < 0 = first.some in omega arith)
+terms_next (y ∷ ys) t first second = record {
+  reads = reads_same (branches_pushed y ys t) (reads_then first.reads second.reads);
+  right = right_branches_pushed (y ∷ ys) t first.right second.right;
+  levels = levels_branches_pushed _ (y ∷ ys) t first.levels second.levels;
+  some = omega arith;
+  two = two_branches y ys t;
+}
+
+pub terms_more : {room : ℕ} {a b c : List Token} {ts : List Term} → AreAllTerms room a ts b → Reads b (one (kinds.Mark points.Bar)) c → AreTerms room a ts c
+terms_more first second = record { reads = reads_then first.reads second; right = first.right; levels = first.levels; some = first.some }
+
+pub disjunction_is : {room : ℕ} {a b : List Token} {ts : List Term} → AreAllTerms room a ts b → IsExpression room a (disjunction (branches ts)) b
+disjunction_is all = record { reads = all.reads; right = (all.right, all.two); levels = all.levels }
+
+-- the parts of a conjunction likewise
+pub record AreParts (room : ℕ) (a : List Token) (es : List Expr) (b : List Token) : Type 0 where
+  pub reads : Reads a (spell_elements (kinds.Mark points.Ampersand) (elements es) ++ one (kinds.Mark points.Ampersand)) b
+  pub right : AreRight (elements es)
+  pub unary : AreUnary (elements es)
+  pub levels : levels_of_elements (elements es) ≤ room
+  pub some : 0 < length es
+
+pub record AreAllParts (room : ℕ) (a : List Token) (es : List Expr) (b : List Token) : Type 0 where
+  pub reads : Reads a (spell_elements (kinds.Mark points.Ampersand) (elements es)) b
+  pub right : AreRight (elements es)
+  pub unary : AreUnary (elements es)
+  pub levels : levels_of_elements (elements es) ≤ room
+  pub some : 0 < length es
+  pub two : TwoElements (elements es)
+
+two_elements : (y : Expr) (ys : List Expr) (x : Expr) → TwoElements (elements ((y ∷ ys) ++ x ∷ []))
+two_elements y [] x = tt
+two_elements y (z ∷ zs) x = tt
+
+pub parts_first : {room : ℕ} {a b c : List Token} (e : Expr) → IsExpression room a (expression e) b → IsUnary (expression e) → Reads b (one (kinds.Mark points.Ampersand)) c
+    → AreParts room a (e ∷ []) c
+parts_first e first unary second = record {
+  reads = reads_then (reads_same (sym (append-nil (spell (expression e)))) first.reads) second;
+  right = (first.right, tt);
+  unary = (unary, tt);
+  levels = omega (arith, first.levels);
+  some = omega arith;
+}
+
+pub parts_next : {room : ℕ} {a b c : List Token} (es : List Expr) (e : Expr) → AreParts room a es b → IsExpression room b (expression e) c → IsUnary (expression e)
+    → AreAllParts room a (es ++ e ∷ []) c
+parts_next [] e first second unary = absurd (let h : 0 < 0 = first.some in omega arith)
+parts_next (y ∷ ys) e first second unary = record {
+  reads = reads_same (elements_pushed (kinds.Mark points.Ampersand) y ys e) (reads_then first.reads second.reads);
+  right = right_pushed (y ∷ ys) e first.right second.right;
+  unary = unary_pushed (y ∷ ys) e first.unary unary;
+  levels = levels_pushed _ (y ∷ ys) e first.levels second.levels;
+  some = omega arith;
+  two = two_elements y ys e;
+}
+
+pub parts_more : {room : ℕ} {a b c : List Token} {es : List Expr} → AreAllParts room a es b → Reads b (one (kinds.Mark points.Ampersand)) c → AreParts room a es c
+parts_more first second = record { reads = reads_then first.reads second; right = first.right; unary = first.unary; levels = first.levels; some = first.some }
+
+pub conjunction_is : {room : ℕ} {a b : List Token} {es : List Expr} → AreAllParts room a es b → IsExpression room a (conjunction (elements es)) b
+conjunction_is all = record { reads = all.reads; right = (all.right, all.unary, all.two); levels = all.levels }
+
+-- a comma stands exactly after something
+abbrev pub Between : {A : Type 0} → Bool → List A → Type 0
+Between true xs = 0 < length xs
+Between false xs = xs ≡ []
+
+pub between_pushed : {A : Type 0} (comma : Bool) (xs : List A) (x : A) → comma ≡ true → Between comma (xs ++ x ∷ [])
+between_pushed comma xs x is = subst (λ b. Between b (xs ++ x ∷ [])) (sym is) (let h : 0 < length (xs ++ x ∷ []) = omega (arith, length_push xs x) in h)
+
+ends_after : (comma : Bool) (xs : List Expr) (x : Expr) → EndsElements comma false (elements (xs ++ x ∷ []))
+ends_after true [] x = tt
+ends_after true (y ∷ ys) x = tt
+ends_after false [] x = tt
+ends_after false (y ∷ ys) x = tt
+
+element_reads : {room : ℕ} {a b c : List Token} (xs : List Expr) (comma : Bool) (x : Expr) → AreElements room a (elements xs) comma b → Between comma xs
+    → IsExpression room b (expression x) c → Reads a (spell_elements (kinds.Mark points.Comma) (elements (xs ++ x ∷ []))) c
+element_reads [] true x first between second = absurd (let h : 0 < 0 = between in omega arith)
+element_reads [] false x first between second = reads_same (sym (append-nil (spell (expression x)))) (reads_then first.reads second.reads)
+element_reads (y ∷ ys) true x first between second = reads_same (elements_pushed (kinds.Mark points.Comma) y ys x) (reads_then first.reads second.reads)
+element_reads (y ∷ ys) false x first between second = absurd (let e : (y ∷ ys) ≡ [] = between in cc)
+
+pub elements_next : {room : ℕ} {a b c d : List Token} (xs : List Expr) (comma : Bool) (x : Expr) (then : Bool) → AreElements room a (elements xs) comma b
+    → Between comma xs → IsExpression room b (expression x) c → Reads c (comma_if then) d → AreElements room a (elements (xs ++ x ∷ [])) then d
+elements_next xs comma x then first between second third = record {
+  reads = reads_then (element_reads xs comma x first between second) third;
+  right = right_pushed xs x first.right second.right;
+  ends = ends_after then xs x;
+  levels = levels_pushed _ xs x first.levels second.levels;
+}
+
+pub elements_none : {room : ℕ} {a : List Token} → AreElements room a (elements []) false a
+elements_none = record { reads = reads_none; right = tt; ends = tt; levels = omega arith }
+
+ends_entries_after : (comma : Bool) (xs : List Declaration) (x : Declaration) → EndsEntries comma (entries (xs ++ x ∷ []))
+ends_entries_after true [] x = tt
+ends_entries_after true (y ∷ ys) x = tt
+ends_entries_after false [] x = tt
+ends_entries_after false (y ∷ ys) x = tt
+
+entry_reads : {room : ℕ} {a b c : List Token} (xs : List Declaration) (comma : Bool) (x : Declaration) → AreEntries room a (entries xs) comma b → Between comma xs
+    → IsEntry room b (entry_tree x) c → Reads a (spell_entries (entries (xs ++ x ∷ []))) c
+entry_reads [] true x first between second = absurd (let h : 0 < 0 = between in omega arith)
+entry_reads [] false x first between second = reads_same (sym (append-nil (spell_entry (entry_tree x)))) (reads_then first.reads second.reads)
+entry_reads (y ∷ ys) true x first between second = reads_same (entries_pushed y ys x) (reads_then first.reads second.reads)
+entry_reads (y ∷ ys) false x first between second = absurd (let e : (y ∷ ys) ≡ [] = between in cc)
+
+pub entries_next : {room : ℕ} {a b c d : List Token} (xs : List Declaration) (comma : Bool) (x : Declaration) (then : Bool) → AreEntries room a (entries xs) comma b
+    → Between comma xs → IsEntry room b (entry_tree x) c → Reads c (comma_if then) d → AreEntries room a (entries (xs ++ x ∷ [])) then d
+entries_next xs comma x then first between second third = record {
+  reads = reads_then (entry_reads xs comma x first between second) third;
+  right = right_entries_pushed xs x first.right second.right;
+  ends = ends_entries_after then xs x;
+  levels = levels_entries_pushed _ xs x first.levels second.levels;
+}
+
+pub entries_none : {room : ℕ} {a : List Token} → AreEntries room a (entries []) false a
+entries_none = record { reads = reads_none; right = tt; ends = tt; levels = omega arith }
+
+follows_unplaced : (a b : List Token) (p : List Piece) (from : ℕ) → Follows a (placed from p) b → Follows a p b
+follows_unplaced a b [] from follows = follows
+follows_unplaced [] b (x ∷ p) from follows = follows
+follows_unplaced (t ∷ a) b (x ∷ p) from follows = (follows.0, follows.1.1, follows.2)
+
+pub unmarked_is : {room from : ℕ} {a b : List Token} {e : Expression} → IsTermOf room a (branch false from e) b → IsExpression room a e b
+unmarked_is {from = from} t = record {
+  reads = record { follows = follows_unplaced _ _ _ from t.reads.follows };
+  right = t.right.0;
+  levels = t.levels;
+}
+
+pub term_is : {room : ℕ} {a b c : List Token} {e : Expression} (marked : Bool) (from : ℕ) → Reads a (star_if marked) b → IsPlace b from → IsExpression room b e c → IsTerm marked e
+    → IsTermOf room a (branch marked from e) c
+term_is marked from first place second fits = record {
+  reads = reads_then first (reads_placed from place second.reads);
+  right = (second.right, fits);
+  levels = second.levels;
+}

@@ -1,0 +1,136 @@
+-- How the recogniser takes one token, and where a goal lets the next token pass to those below.
+use Rattle.std.proofs.Common.{◌≡◌, ◌≤◌, ◌∙◌, ap, sym, refl, subst, ℕ, true, List, [], ◌∷◌, ◌++◌, None, Some, if◌then◌else◌, le_trans, le-leb}
+use Rattle.cue_lex.specs.declared.token.Token.{Token}
+use Rattle.cue_lex.specs.declared.token.TokenKind.{TokenKind}
+use Rattle.cue_lex.specs.declared.token.TokenKind.TheVariants as kinds
+use Rattle.cue_lex.specs.declared.punctuation.Punctuation.TheVariants as points
+use Rattle.cue_syntax.specs.Spelling.{Piece, Reads, Follows, one, placed}
+use Rattle.cue_syntax.specs.Grammar.{Limit, unlimited, at_most, Within}
+use Rattle.cue_syntax.specs.Recogniser.{Stack, step, is_over, stuck, stuck_behind, depth, fits, behind_close, more_parts, more_terms, chained}
+use Rattle.cue_syntax.proofs.WhatMayFollow.{AtEnd, HeadIs, Opens, ClosesExpression, ClosesTerm, ClosesOperand, EndsExpression, EndsTerm, EndsOperand}
+
+-- tokens that are read by two rows of pieces, split between them
+pub record Split (a : List Token) (p q : List Piece) (c : List Token) : Type 0 where
+  pub between : List Token
+  pub first : Reads a p between
+  pub second : Reads between q c
+
+split : (a c : List Token) (p q : List Piece) → Follows a (p ++ q) c → Split a p q c
+split a c [] q f = record { between = a; first = record { follows = refl }; second = record { follows = f } }
+split [] c (x ∷ p) q f = absurd f
+split (t ∷ a) c (x ∷ p) q f = let s = split a c p q f.2 in record {
+  between = s.between;
+  first = record { follows = (f.0, f.1, s.first.follows) };
+  second = s.second;
+}
+
+pub reads_split : {a c : List Token} (p q : List Piece) → Reads a (p ++ q) c → Split a p q c
+reads_split p q reads = split _ _ p q reads.follows
+
+follows_unplaced : (a b : List Token) (p : List Piece) (from : ℕ) → Follows a (placed from p) b → Follows a p b
+follows_unplaced a b [] from follows = follows
+follows_unplaced [] b (x ∷ p) from follows = follows
+follows_unplaced (t ∷ a) b (x ∷ p) from follows = (follows.0, follows.1.1, follows.2)
+
+pub reads_unplaced : {a b : List Token} (from : ℕ) (p : List Piece) → Reads a (placed from p) b → Reads a p b
+reads_unplaced from p reads = record { follows = follows_unplaced _ _ p from reads.follows }
+
+-- what stands before a token that is so
+before : (P : TokenKind → Type 0) (a b : List Token) (p : List Piece) → Follows a p b → HeadIs P p → AtEnd P b → AtEnd P a
+before P a b [] follows head end = subst (AtEnd P) (sym follows) end
+before P [] b (x ∷ p) follows head end = absurd follows
+before P (t ∷ a) b (x ∷ p) follows head end = subst P (sym follows.0) head
+
+pub at_end_before : {a b : List Token} (P : TokenKind → Type 0) (p : List Piece) → Reads a p b → HeadIs P p → AtEnd P b → AtEnd P a
+at_end_before P p reads head end = before P _ _ p reads.follows head end
+
+begin : (P : TokenKind → Type 0) (a b : List Token) (p : List Piece) → Follows a p b → Opens P p → AtEnd P a
+begin P a b [] follows opens = absurd opens
+begin P [] b (x ∷ p) follows opens = absurd follows
+begin P (t ∷ a) b (x ∷ p) follows opens = subst P (sym follows.0) opens
+
+pub begins : {a b : List Token} (P : TokenKind → Type 0) (p : List Piece) → Reads a p b → Opens P p → AtEnd P a
+begins P p reads opens = begin P _ _ p reads.follows opens
+
+pub opens_append : (P : TokenKind → Type 0) (p q : List Piece) → Opens P p → Opens P (p ++ q)
+opens_append P [] q opens = absurd opens
+opens_append P (x ∷ p) q opens = opens
+
+pub opens_placed : (P : TokenKind → Type 0) (from : ℕ) (p : List Piece) → Opens P p → Opens P (placed from p)
+opens_placed P from [] opens = opens
+opens_placed P from (x ∷ p) opens = opens
+
+-- the ends, from the narrowest to the widest
+closes_term : (k : TokenKind) → ClosesExpression k → ClosesTerm k
+closes_term (kinds.Mark points.Bar) is = tt
+closes_term _ is = is
+
+closes_operand : (k : TokenKind) → ClosesTerm k → ClosesOperand k
+closes_operand (kinds.Mark points.Ampersand) is = tt
+closes_operand _ is = is
+
+pub ends_term : (a : List Token) → EndsExpression a → EndsTerm a
+ends_term [] end = tt
+ends_term (t ∷ a) end = closes_term t.kind end
+
+pub ends_operand : (a : List Token) → EndsTerm a → EndsOperand a
+ends_operand [] end = tt
+ends_operand (t ∷ a) end = closes_operand t.kind end
+
+-- limits
+pub within_less : (limit : Limit) (m n : ℕ) → m ≤ n → Within limit n → Within limit m
+within_less unlimited m n less within = tt
+within_less (at_most l) m n less within = le_trans less within
+
+pub fits_is : (limit : Limit) (n : ℕ) → Within limit n → fits limit n ≡ true
+fits_is unlimited n within = refl
+fits_is (at_most l) n within = le-leb n l within
+
+-- a token that the goals take
+pub took_token : (limit : Limit) (goals next : Stack) (t : Token) (ts : List Token) → step goals t.kind ≡ Some next → Within limit (depth next)
+    → stuck limit goals (t ∷ ts) ≡ stuck limit next ts
+took_token limit goals next t ts is within =
+    ap (λ s. stuck_behind limit s (t ∷ ts) (λ n. stuck limit n ts)) is
+    ∙ ap (λ f. if f then stuck limit next ts else Some (t ∷ ts)) (fits_is limit (depth next) within)
+
+took_follows : (limit : Limit) (goals next : Stack) (a b : List Token) (k : TokenKind) → Follows a (one k) b → step goals k ≡ Some next → Within limit (depth next)
+    → stuck limit goals a ≡ stuck limit next b
+took_follows limit goals next [] b k follows is within = absurd follows
+took_follows limit goals next (t ∷ a) b k follows is within =
+    took_token limit goals next t a (ap (step goals) follows.0 ∙ is) within ∙ ap (stuck limit next) follows.2
+
+pub took : (limit : Limit) (goals next : Stack) {a b : List Token} {k : TokenKind} → Reads a (one k) b → step goals k ≡ Some next → Within limit (depth next)
+    → stuck limit goals a ≡ stuck limit next b
+took limit goals next reads is within = took_follows limit goals next _ _ _ reads.follows is within
+
+-- goals that take the next token alike
+pub same : (limit : Limit) (goals others : Stack) (P : TokenKind → Type 0) → is_over goals ≡ is_over others → ((k : TokenKind) → P k → step goals k ≡ step others k)
+    → (rest : List Token) → AtEnd P rest → stuck limit goals rest ≡ stuck limit others rest
+same limit goals others P over steps [] end = ap (λ o. if o then None else Some []) over
+same limit goals others P over steps (t ∷ ts) end = ap (λ s. stuck_behind limit s (t ∷ ts) (λ n. stuck limit n ts)) (steps t.kind end)
+
+-- goals that are over before the next token
+close_step : (below : Stack) (k : TokenKind) → ClosesOperand k → step (behind_close ∷ below) k ≡ step below k
+close_step below (kinds.Mark points.OpenParenthesis) end = absurd end
+close_step below _ end = refl
+
+pub over_close : (limit : Limit) (below : Stack) (rest : List Token) → EndsOperand rest → stuck limit (behind_close ∷ below) rest ≡ stuck limit below rest
+over_close limit below = same limit (behind_close ∷ below) below ClosesOperand refl (close_step below)
+
+parts_step : (below : Stack) (k : TokenKind) → ClosesTerm k → step (more_parts ∷ below) k ≡ step below k
+parts_step below (kinds.Mark points.Ampersand) end = absurd end
+parts_step below _ end = refl
+
+pub over_parts : (limit : Limit) (below : Stack) (rest : List Token) → EndsTerm rest → stuck limit (more_parts ∷ below) rest ≡ stuck limit below rest
+over_parts limit below = same limit (more_parts ∷ below) below ClosesTerm refl (parts_step below)
+
+terms_step : (below : Stack) (k : TokenKind) → ClosesExpression k → step (more_terms ∷ below) k ≡ step below k
+terms_step below (kinds.Mark points.Bar) end = absurd end
+terms_step below _ end = refl
+
+pub over_terms : (limit : Limit) (below : Stack) (rest : List Token) → EndsExpression rest → stuck limit (more_terms ∷ below) rest ≡ stuck limit below rest
+over_terms limit below = same limit (more_terms ∷ below) below ClosesExpression refl (terms_step below)
+
+pub over_chained : (limit : Limit) (below : Stack) (rest : List Token) → stuck limit (chained ∷ below) rest ≡ stuck limit below rest
+over_chained limit below [] = refl
+over_chained limit below (t ∷ ts) = refl
