@@ -42,7 +42,7 @@ one_number w limit wide m n r s lm ln e =
 
 -- ---- as many items
 
-list_step : {X : Type 0} (code : X → List ℕ) (x : X) (xs : List X) (r : List ℕ) → flat_map code (x ∷ xs) ++ r ≡ code x ++ (flat_map code xs ++ r)
+pub list_step : {X : Type 0} (code : X → List ℕ) (x : X) (xs : List X) (r : List ℕ) → flat_map code (x ∷ xs) ++ r ≡ code x ++ (flat_map code xs ++ r)
 list_step code x xs r = ap (λ (t : List ℕ). t ++ r) (flat_map-cons code x xs) ∙ append_assoc (code x) (flat_map code xs) r
 
 pub one_list : {X : Type 0} (v : X → Type 0) (code : X → List ℕ) → OneItem v code → (xs ys : List X) (r s : List ℕ) → AllByRecursion v xs → AllByRecursion v ys → length xs ≡ length ys

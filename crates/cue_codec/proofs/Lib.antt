@@ -2,9 +2,11 @@ pub mod WrittenRows
 pub mod WrittenStates
 pub mod Codes
 pub mod Numbers
+pub mod ReadStates
 pub mod RowParts
 pub mod SetLaws
 pub mod StatePaths
 pub mod StateRows
 pub mod StateSets
+pub mod ValidRows
 pub mod WrittenPaths

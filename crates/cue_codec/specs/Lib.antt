@@ -1,3 +1,4 @@
+pub mod Decoding
 pub mod Parts
 pub mod Reading
 pub mod RowBytes

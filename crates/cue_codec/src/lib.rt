@@ -1,7 +1,8 @@
-//! The rows of state bytes, version 1, written and read exactly.
+//! State bytes, version 1: the bytes of a valid table, written and read exactly.
 #![tactic(auto)]
 
 mod branches;
+mod decoding;
 mod encoding;
 mod lists;
 mod paths;
@@ -13,7 +14,8 @@ mod sets;
 mod spelling;
 mod writing;
 
+pub use decoding::decode;
 pub use encoding::encode;
 pub use row_reader::RowReader;
 pub use row_writing::put_row;
-pub use spelling::{one_row_spelling, one_state_spelling};
+pub use spelling::{one_row_spelling, one_state_spelling, one_table_spelling};

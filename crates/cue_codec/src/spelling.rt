@@ -1,11 +1,13 @@
-//! What the format promises of two rows, and of two lists of rows.
+//! What the format promises of two rows, of two lists of rows, and of two tables.
 
-ghost use Rattle.std.specs.Prelude.{◌≡◌, ℕ, List, ◌++◌};
+ghost use Rattle.std.specs.Prelude.{◌≡◌, ◌<◌, ◌^◌, ℕ, List, ◌++◌, length};
 ghost use Rattle.cue_lattice.specs.Path.{Path};
 ghost use Rattle.cue_row.specs.declared.row.Row.{Row};
 ghost use Rattle.cue_codec.specs.Reading.{AreCounted};
 ghost use Rattle.cue_codec.specs.RowBytes.{row_bytes, IsStateRow};
-ghost use Rattle.cue_codec.specs.State.{state_bytes};
+ghost use Rattle.cue_codec.specs.State.{state_bytes, table_bytes};
+ghost use Rattle.cue_table.specs.Tree.{Tree};
+ghost use Rattle.cue_table.specs.Valid.{IsValidTable};
 
 /// The bytes of a row in front tell the row and what stands after it. It computes nothing: it states a law.
 pub fn one_row_spelling()
@@ -17,4 +19,10 @@ pub fn one_row_spelling()
 pub fn one_state_spelling()
     ensures { (a b : List (Path × Row)) → AreCounted IsStateRow a → AreCounted IsStateRow b →
         state_bytes a ≡ state_bytes b → a ≡ b }
+{}
+
+/// No two valid tables share bytes, of any number that a memory can hold. It computes nothing: it states a law.
+pub fn one_table_spelling()
+    ensures { (a b : Tree Row) → IsValidTable a → IsValidTable b → length (table_bytes a) < 2 ^ 64 →
+        table_bytes a ≡ table_bytes b → a ≡ b }
 {}

@@ -1,0 +1,40 @@
+-- Which bytes are refused, and why.
+use Rattle.std.specs.Prelude.{◌≡◌, ◌⊎◌, ℕ, List, [], ◌∷◌, ◌++◌, length}
+use Rattle.std.specs.List.{flat_map, AllByRecursion}
+use Rattle.cue_lattice.specs.declared.refusal.Kind.{Kind}
+use Rattle.cue_lattice.specs.declared.refusal.Kind.TheVariants as kinds
+use Rattle.cue_row.specs.declared.row.Row.{Row}
+use Rattle.cue_row.specs.Row.{Refuses, IsRow}
+use Rattle.cue_table.specs.Tree.{Tree, rows_of}
+use Rattle.cue_table.specs.Form.{IsTable}
+use Rattle.cue_table.specs.Valid.{IsValidTable}
+use Rattle.cue_codec.specs.RowBytes.{row_bytes, IsStateRow}
+use Rattle.cue_codec.specs.State.{mark, table_bytes}
+
+-- the mark, and after it a version that is not known
+abbrev pub IsOtherVersion : List ℕ → Type 0
+IsOtherVersion bytes = (version : ℕ) × (rest : List ℕ) × (bytes ≡ mark ++ (version ∷ rest)) × ¬ (version ≡ 1)
+
+-- the bytes of no valid table
+abbrev pub IsNoState : List ℕ → Type 0
+IsNoState bytes = (tree : Tree Row) → IsValidTable tree → ¬ (table_bytes tree ≡ bytes)
+
+-- The version is not known; or it is, or there is none, and no valid table has these bytes.
+abbrev pub IsRejected : List ℕ → Kind → Type 0
+IsRejected bytes kind =
+    ((kind ≡ kinds.Version) × IsOtherVersion bytes) ⊎ ((kind ≡ kinds.NotState) × ¬ IsOtherVersion bytes × IsNoState bytes)
+
+-- memory ran out, or the bytes are rejected
+abbrev pub IsUndecoded : List ℕ → Kind → Type 0
+IsUndecoded bytes kind = (kind ≡ kinds.Memory) ⊎ IsRejected bytes kind
+
+-- the table has so many rows, and these bytes are theirs
+pub record AreReadRows (count : ℕ) (bytes : List ℕ) (tree : Tree Row) : Type 0 where
+  pub form : IsTable Refuses IsRow tree
+  pub rows : AllByRecursion IsStateRow (rows_of tree)
+  pub counted : length (rows_of tree) ≡ count
+  pub parts : bytes ≡ flat_map row_bytes (rows_of tree)
+
+-- no table has so many rows of these bytes
+abbrev pub NoRows : ℕ → List ℕ → Type 0
+NoRows count bytes = (tree : Tree Row) → ¬ AreReadRows count bytes tree

@@ -1,0 +1,100 @@
+//! State bytes as tables.
+
+ghost use Rattle.std.specs.Prelude.{◌≡◌, ◌<◌, ◌^◌, ◌∷◌, ◌++◌, ℕ, List, IfOk, IfErr, IfSome, IfNone};
+ghost use Rattle.std.specs.Int.{w64, to_be_bytes};
+ghost use Rattle.cue_table.specs.Valid.{IsValidTable};
+ghost use Rattle.cue_codec.specs.Reading.{IsRefused};
+ghost use Rattle.cue_codec.specs.State.{mark, table_bytes};
+ghost use Rattle.cue_codec.specs.Decoding.{AreReadRows, NoRows, IsUndecoded, IsRejected};
+
+use crate::reading::u64_at;
+use crate::row_reader::RowReader;
+use cue_lattice::Kind;
+use cue_row::Row;
+use cue_table::Table;
+use std::alloc::Global;
+
+/// What stands after this byte.
+fn after(byte: u8, bytes: &[u8]) -> Option<&[u8]>
+    ensures some { IfSome result (λ rest. bytes.now ≡ byte ∷ rest.now) }
+    ensures none { IfNone result ((rest : List ℕ) → ¬ (bytes.now ≡ byte ∷ rest)) }
+{
+    let (first, rest) = bytes.split_first()?;
+    if *first != byte {
+        return None;
+    }
+    Some(rest)
+}
+
+/// What stands after the bytes with which every state begins.
+fn after_mark(bytes: &[u8]) -> Option<&[u8]>
+    ensures some { IfSome result (λ rest. bytes.now ≡ mark ++ rest.now) }
+    ensures none { IfNone result ((rest : List ℕ) → ¬ (bytes.now ≡ mark ++ rest)) }
+{
+    let rest = after(0xfe, bytes)?;
+    let rest = after(0x43, rest)?;
+    let rest = after(0x55, rest)?;
+    after(0x45, rest)
+}
+
+/// How many rows there are, and the bytes after the head.
+fn head_at(bytes: &[u8]) -> Result<(u64, &[u8]), Kind>
+    ensures ok { IfOk result (λ x. bytes.now ≡ mark ++ (1 ∷ (to_be_bytes w64 x.0 ++ x.1.now))) }
+    ensures small { IfOk result (λ x. x.0 < 2 ^ 64) }
+    ensures refused { IfErr result (IsRejected bytes.now) }
+{
+    let Some(rest) = after_mark(bytes) else {
+        return Err(Kind::NotState);
+    };
+    let Some((version, rest)) = rest.split_first() else {
+        return Err(Kind::NotState);
+    };
+    if *version != 1 {
+        return Err(Kind::Version);
+    }
+    let Some((count, rest)) = u64_at(rest) else {
+        return Err(Kind::NotState);
+    };
+    Ok((count, rest))
+}
+
+/// The table of so many rows, where their bytes are all there are. Each row is added behind the others as it is read, so
+/// that the table costs what its bytes cost.
+fn rows_at(alloc: Global, count: u64, bytes: &[u8]) -> Result<Table<Row>, Kind>
+    ensures ok { IfOk result (AreReadRows count bytes.now) }
+    ensures refused { IfErr result (λ kind. IsRefused kind (NoRows count bytes.now)) }
+{
+    let mut table = Table::new(alloc);
+    let mut reader = RowReader::new(bytes);
+    let mut left = count;
+    while left > 0 {
+        let (path, row) = reader.read(alloc)?;
+        let Ok(is_added) = table.append(&path, row) else {
+            return Err(Kind::Memory);
+        };
+        if !is_added {
+            return Err(Kind::NotState);
+        }
+        left -= 1;
+    }
+    if !reader.is_at_end() {
+        return Err(Kind::NotState);
+    }
+    Ok(table)
+}
+
+/// The valid table whose state bytes these are. They are refused as `Version` where they begin with the mark and a version
+/// that is not known, as `NotState` where they do not and no valid table has them, and as `Memory` where memory ran out.
+/// Room is made only for what was read, never for what a count claims.
+pub fn decode(alloc: Global, bytes: &[u8]) -> Result<Table<Row>, Kind>
+    ensures valid { IfOk result IsValidTable }
+    ensures bytes { IfOk result (λ table. table_bytes table ≡ bytes.now) }
+    ensures refused { IfErr result (IsUndecoded bytes.now) }
+{
+    let (count, rest) = head_at(bytes)?;
+    let table = rows_at(alloc, count, rest)?;
+    if !table.is_valid() {
+        return Err(Kind::NotState);
+    }
+    Ok(table)
+}
