@@ -1,5 +1,5 @@
 -- States read from their bytes: what is missing where they are refused.
-use Rattle.std.proofs.Common.{◌≡◌, ◌⊎◌, ℕ, ◌+◌, ◌^◌, ◌<◌, ◌≤◌, Bool, true, false, List, [], ◌∷◌, ◌++◌, append_assoc, length, get_or, drop, Option, Some, None, inl, inr, ⊎_elim, refl, sym, ap, subst, ◌∙◌, arith}
+use Rattle.std.proofs.Common.{◌≡◌, ℕ, ◌+◌, ◌^◌, ◌<◌, ◌≤◌, true, false, List, [], ◌∷◌, ◌++◌, append_assoc, length, drop, Some, None, inl, inr, ⊎_elim, refl, sym, ap, subst, ◌∙◌, arith}
 use Rattle.std.specs.Int.{w64, to_be_bytes}
 use Rattle.std.specs.List.{flat_map, AllByRecursion}
 use Rattle.std.proofs.lemmas.List.{append-nil, length-append}
@@ -8,17 +8,16 @@ use Rattle.cue_lattice.specs.declared.refusal.Kind.{Kind}
 use Rattle.cue_lattice.specs.declared.refusal.Kind.TheVariants as kinds
 use Rattle.cue_lattice.specs.Path.{Path}
 use Rattle.cue_row.specs.declared.row.Row.{Row}
-use Rattle.cue_row.specs.declared.question.Question.{Question}
 use Rattle.cue_row.specs.Row.{Refuses, IsRow}
 use Rattle.cue_row.specs.RowLaws.{same_rows}
 use Rattle.cue_table.specs.Tree.{Tree, rows_of, row_at}
-use Rattle.cue_table.specs.Form.{IsTable, IsKept}
-use Rattle.cue_table.specs.RowList.{AreBefore, AreRising, AppendsKept}
+use Rattle.cue_table.specs.Form.{IsKept}
+use Rattle.cue_table.specs.RowList.{AreRising, AppendsKept}
 use Rattle.cue_table.specs.Valid.{IsValidTable}
 use Rattle.cue_table.proofs.Appending.{all_right}
 use Rattle.cue_table.proofs.Depth.{kept_at}
 use Rattle.cue_table.proofs.RowLists.{all_weaker, rows_rise, rows_stand, front_before, same_lists}
-use Rattle.cue_codec.specs.Reading.{Begins, BeginsNone, IsRefused, AreSo, number_at}
+use Rattle.cue_codec.specs.Reading.{Begins, BeginsNone, IsRefused, number_at}
 use Rattle.cue_codec.specs.RowBytes.{row_bytes, IsStateRow}
 use Rattle.cue_codec.specs.State.{mark, table_bytes}
 use Rattle.cue_codec.specs.Decoding.{IsOtherVersion, IsNoState, IsRejected, IsUndecoded, AreReadRows, NoRows}

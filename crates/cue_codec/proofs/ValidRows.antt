@@ -1,22 +1,21 @@
 -- The rows of valid tables are rows that their bytes tell.
-use Rattle.std.proofs.Common.{◌≡◌, ◌↔◌, ℕ, ◌+◌, ◌^◌, ◌<◌, ◌≤◌, ℤ, ◌≤ℤ◌, Bool, true, false, not, ◌&&◌, ◌||◌, List, [], ◌∷◌, ◌++◌, length, map, Option, Some, None, refl, sym, ap, subst, ◌∙◌, arith}
+use Rattle.std.proofs.Common.{◌≡◌, ◌↔◌, ℕ, ◌^◌, ◌<◌, ◌≤◌, ℤ, Bool, true, false, not, ◌&&◌, ◌||◌, List, [], ◌∷◌, length, map, Option, Some, None, refl, sym, ap, subst, ◌∙◌, arith}
 use Rattle.std.specs.Int.{w64, to_be_bytes}
 use Rattle.std.specs.List.{flat_map, AllByRecursion}
 use Rattle.std.proofs.lemmas.Bool.{false≢true}
 use Rattle.std.proofs.lemmas.Int.{ints}
 use Rattle.std.proofs.lemmas.List.{length-append}
 use Rattle.std.proofs.lemmas.List.Concat.{flat_map-cons}
-use Rattle.cue_lattice.specs.Limits.{step_limit, length_limit}
+use Rattle.cue_lattice.specs.Limits.{step_limit}
 use Rattle.cue_lattice.specs.Path.{Step, label, index, Path}
 use Rattle.cue_lattice.specs.declared.scalar.Scalar.{Scalar}
 use Rattle.cue_lattice.specs.declared.scalar.Scalar.TheVariants as scalars
-use Rattle.cue_sets.specs.Pieces.{least, greatest, is_member, is_within}
+use Rattle.cue_sets.specs.Pieces as pieces
 use Rattle.cue_sets.specs.PieceLaws.{is_within-inside}
 use Rattle.cue_sets.specs.Texts.{IsAscending}
 use Rattle.cue_scalars.specs.declared.scalar_set.ScalarSet.{ScalarSet}
-use Rattle.cue_scalars.specs.Scalars.{members, RefusesScalar, IsScalarSet}
+use Rattle.cue_scalars.specs.Scalars.{RefusesScalar, IsScalarSet}
 use Rattle.cue_scalars.specs.ScalarLaws.{same_scalars}
-use Rattle.cue_row.specs.declared.level.Level.{Level}
 use Rattle.cue_row.specs.declared.row.Row.{Row}
 use Rattle.cue_row.specs.declared.kind.RowKind.{RowKind}
 use Rattle.cue_row.specs.declared.kind.RowKind.TheVariants as kinds
@@ -24,17 +23,17 @@ use Rattle.cue_row.specs.Levels.{level_of}
 use Rattle.cue_row.specs.LabelSets.{AreLabels}
 use Rattle.cue_row.specs.Row.{Refuses, IsRow}
 use Rattle.cue_row.specs.Kinds.{IsEmptySet, IsFullSet, IsKind}
-use Rattle.cue_row.specs.ValidRow.{UsualFits, LabelsFit, LengthsFit, AreLengths, IsWord, AreWords, IsWordStep, AreLabelWords, HasWords, IsValidRow}
+use Rattle.cue_row.specs.ValidRow.{UsualFits, LabelsFit, LengthsFit, AreLengths, AreWords, AreLabelWords, HasWords, IsValidRow}
 use Rattle.cue_table.specs.Tree.{Tree, node, Children, none, child, row_of, row_at, behind, rows_of, rows_below}
-use Rattle.cue_table.specs.Form.{IsTable, IsKept}
+use Rattle.cue_table.specs.Form.{IsKept}
 use Rattle.cue_table.specs.Valid.{IsValidTable}
-use Rattle.cue_table.specs.ValidWalk.{IsSound, AreSound, HasChild, MayStand}
+use Rattle.cue_table.specs.ValidWalk.{IsSound, AreSound, HasChild}
 use Rattle.cue_table.proofs.Depth.{kept_at}
 use Rattle.cue_table.proofs.RowLists.{all_append, all_map, all_weaker, all_both, rows_stand}
 use Rattle.cue_table.proofs.Validity.{valid_sound, valid_empty}
 use Rattle.cue_codec.specs.Parts.{counted_bytes, piece_bytes, text_bytes, text_set_bytes, set_bytes, labels_bytes, lengths_bytes, path_bytes}
-use Rattle.cue_codec.specs.Reading.{IsShortText, AreWideLengths, IsMost}
-use Rattle.cue_codec.specs.StateRow.{IsStateIntegers, AreStateTexts, IsStateSet, AreStateLabels, IsStateStep, IsStatePath}
+use Rattle.cue_codec.specs.Reading.{IsShortText, AreWideLengths}
+use Rattle.cue_codec.specs.StateRow.{AreStateTexts, IsStateSet, AreStateLabels, IsStateStep, IsStatePath}
 use Rattle.cue_codec.specs.RowBytes.{Parts, free, scalar, struct, list, nothing, scalars_bytes, left_out_bytes, parts_bytes, is_nil, is_empty_set, parts_by, parts_of, row_bytes, empty_set, full_set, row_of as made_row, IsStateParts, IsStateRow}
 use Rattle.cue_codec.proofs.Numbers.{length-piece_bytes, text_some}
 
@@ -54,7 +53,7 @@ full_refuses : (q : Scalar) → RefusesScalar full_set q → ⊥
 full_refuses scalars.Null r = cc
 full_refuses (scalars.Bool false) r = cc
 full_refuses (scalars.Bool true) r = cc
-full_refuses (scalars.Int n) r = false≢true (sym r.1 ∙ ap (λ b. b || false) (is_within-inside (least, greatest) n r.0.0 r.0.1))
+full_refuses (scalars.Int n) r = false≢true (sym r.1 ∙ ap (λ b. b || false) (is_within-inside (pieces.least, pieces.greatest) n r.0.0 r.0.1))
 full_refuses (scalars.Text text) r = cc
 
 full_is : (v : ScalarSet) → IsScalarSet v → IsFullSet v → v ≡ full_set
@@ -90,10 +89,10 @@ empty_by_test v e =
     let null = not_true v.null a.0 in
     let no = not_true v.no b.0 in
     let yes = not_true v.yes c.0 in
-    let pieces = nil_true v.ints d.0 in
+    let integers = nil_true v.ints d.0 in
     let all_but = not_true v.texts.0 f.0 in
     let texts = nil_true v.texts.1 f.1 in
-    λ i. record { null = null i; no = no i; yes = yes i; ints = pieces i; texts = (all_but i, texts i) }
+    λ i. record { null = null i; no = no i; yes = yes i; ints = integers i; texts = (all_but i, texts i) }
 
 some_by_test : (v : ScalarSet) → (IsEmptySet v → ⊥) → is_empty_set v ≡ false
 some_by_test v some = by (is_empty_set v) refl
@@ -115,8 +114,8 @@ few_counted code some xs = omega (arith, few_items code some xs, length-append (
 few_texts : (texts : List (List ℕ)) → length texts ≤ length (counted_bytes text_bytes texts)
 few_texts texts = few_counted text_bytes text_some texts
 
-few_pieces : (pieces : List (ℤ × ℤ)) → length pieces ≤ length (counted_bytes piece_bytes pieces)
-few_pieces pieces = few_counted piece_bytes (λ p. omega (arith, length-piece_bytes p)) pieces
+few_pieces : (all : List (ℤ × ℤ)) → length all ≤ length (counted_bytes piece_bytes all)
+few_pieces all = few_counted piece_bytes (λ p. omega (arith, length-piece_bytes p)) all
 
 short_words : (texts : List (List ℕ)) → AreWords texts → AllByRecursion IsShortText texts
 short_words [] h = tt

@@ -1,7 +1,7 @@
 use Rattle.std.proofs.Common.{◌<◌, ◌^◌, length, sym, ◌∙◌, arith}
 use Rattle.std.proofs.lemmas.Bool.{false≢true}
 use Rattle.std.proofs.lemmas.Result.{err_from_is_err_and}
-use Rattle.cue_codec.proofs.ReadStates.{undecoded_head, undecoded_rows, undecoded_table, decoded_bytes}
+use Rattle.cue_codec.proofs.ReadStates.{undecoded_rows, undecoded_table, decoded_bytes}
 use Rattle.cue_codec.proofs.decoding.decode.Goals as goal
 
 pub returns-clause-bytes : goal.returns-clause-bytes
