@@ -10,3 +10,6 @@ pub mod TextWalks
 pub mod Measuring
 pub mod Meanings
 pub mod Ordered
+pub mod Inside
+pub mod Faults
+pub mod Resolving

@@ -14,3 +14,4 @@ pub mod Listed
 pub mod Kept
 pub mod Scopes
 pub mod Measures
+pub mod Resolving

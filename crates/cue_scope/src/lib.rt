@@ -14,3 +14,4 @@ mod scope;
 pub use definitions::{Definition, Definitions};
 pub use graph::{Order, order_of, reached};
 pub use named::{Named, is_literal};
+pub use resolved::{Resolved, resolve};

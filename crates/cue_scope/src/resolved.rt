@@ -1,16 +1,80 @@
-ghost use Rattle.std.specs.Prelude.{◌≡◌, ◌<◌, ◌↔◌, ℕ, List, length, slice_index_or, filter, IfOk, IfErr, OnOk, true, false};
+ghost use Rattle.std.specs.Prelude.{◌≡◌, ◌<◌, ◌⊎◌, ℕ, List, length, slice_index_or, IfOk, IfErr, OnOk};
 ghost use Rattle.cue_lattice.specs.Refusal.{memory};
+ghost use Rattle.cue_syntax.specs.Syntax.{entries};
+ghost use Rattle.cue_scope.specs.Definitions as defining;
 ghost use Rattle.cue_scope.specs.Graph as graphs;
 ghost use Rattle.cue_scope.specs.Kept.{all_of};
 ghost use Rattle.cue_scope.specs.Meaning as meaning;
+ghost use Rattle.cue_scope.specs.Measures as totals;
 ghost use Rattle.cue_scope.specs.Measures.{IsUse};
+ghost use Rattle.cue_scope.specs.Ordering.{graph_of};
+ghost use Rattle.cue_scope.specs.Refusing.{IsLegal, Refuses, IsCycleAt};
+ghost use Rattle.cue_scope.specs.Resolving.{IsReachedOrder, IsResolved, size_of, order_of, scalar_at};
 ghost use Rattle.cue_scope.specs.Uses as using;
 
 use crate::definitions::Definitions;
+use crate::graph::{Order, order_of, reached};
 use crate::measure::{Known, Measure};
-use crate::memory::unmeasured;
-use cue_lattice::Refusal;
+use crate::memory::{push, unmeasured};
+use crate::names::Uses;
+use cue_lattice::{Kind, Refusal};
+use cue_syntax::{Declaration, File};
 use std::alloc::Global;
+
+/// A legal text: its declarations, and of its definitions what evaluation needs.
+#[derive(Drop)]
+pub struct Resolved<'f> {
+    declarations: &'f [Declaration<'f>],
+    definitions: Definitions<'f>,
+    measures: Vec<Measure>,
+    order: Vec<usize>,
+    size: usize,
+}
+
+/// Checks a text: its names, its definitions, the terms of its disjunctions and its limits.
+///
+/// # Errors
+///
+/// The first of these checks that the text fails: `Repeated`; `FieldReference` and `UnknownName`,
+/// by the first name; `Cycle`; `NotScalar`; `TooLarge`; `TooDeep`. Each comes with the place that it
+/// names. And `Memory`.
+pub fn resolve<'f>(alloc: Global, file: &'f File<'f>) -> Result<Resolved<'f>, Refusal>
+    ensures legal { OnOk result (IsLegal (entries file.now.declarations.items)) }
+    ensures resolved { IfOk result (IsResolved (entries file.now.declarations.items)) }
+    ensures refused { IfErr result (λ r. (r ≡ memory) ⊎ Refuses (entries file.now.declarations.items) r) }
+{
+    let declarations = file.declarations.as_slice();
+    let definitions = Definitions::of(alloc, declarations)?;
+    let uses = Uses::of(alloc, &definitions, declarations)?;
+    let order = ordered(alloc, &definitions, &uses)?;
+    let measures = measures_of(alloc, &definitions, &order)?;
+    let whole = measure(&definitions, &measures, declarations);
+    whole.check()?;
+    let order = kept(alloc, &uses.of_definitions, &uses.of_fields, &order)?;
+    Ok(Resolved {
+        declarations,
+        definitions,
+        measures,
+        order,
+        size: whole.size,
+    })
+}
+
+/// The definitions in an order in which each comes after those that it uses.
+fn ordered(alloc: Global, definitions: &Definitions, uses: &Uses) -> Result<Vec<usize>, Refusal>
+    requires { graph_of uses.now.of_definitions.items ≡ using.graph (all_of definitions.now) }
+    ensures acyclic { OnOk result (graphs.IsAcyclic (using.graph (all_of definitions.now))) }
+    ensures ordered { IfOk result (λ v. graphs.IsOrder (using.graph (all_of definitions.now)) v.items) }
+    ensures refused { IfErr result (λ r. (r ≡ memory) ⊎ ((r.kind ≡ Kind.Cycle) × IsCycleAt (all_of definitions.now) r.place)) }
+{
+    match order_of(alloc, &uses.of_definitions)? {
+        Order::Ordered(order) => Ok(order),
+        Order::Cycle(number) => {
+            let definition = &definitions.all()[number];
+            Err(Refusal::at(Kind::Cycle, definition.from))
+        }
+    }
+}
 
 /// The measures of the definitions, taken in an order in which each comes after those that it uses.
 fn measures_of(
@@ -33,4 +97,79 @@ fn measures_of(
         measures[*number] = measure;
     }
     Ok(measures)
+}
+
+/// The measure of the struct that a text means, with the terms of its definitions.
+fn measure(definitions: &Definitions, measures: &[Measure], declarations: &[Declaration]) -> Measure
+    requires length { length measures.now ≡ length (all_of definitions.now) }
+    requires measured { (i : ℕ) (d : Measure) → i < length (all_of definitions.now) → IsUse (slice_index_or measures.now i d) (meaning.meaning (all_of definitions.now) i) }
+    ensures { totals.IsMeasured result (totals.as_literal 1 (totals.total_of_file (all_of definitions.now) (entries declarations.now))) }
+{
+    let known = Known {
+        definitions,
+        measures,
+    };
+    known.file(declarations).literal(1)
+}
+
+/// Those nodes of an order that are reached from some nodes.
+fn kept(
+    alloc: Global,
+    graph: &[Vec<usize>],
+    from: &[usize],
+    order: &[usize],
+) -> Result<Vec<usize>, Refusal>
+    requires closed { graphs.IsClosed (graph_of graph.now) }
+    requires inside { (i : ℕ) → graphs.IsIn i from.now → i < length graph.now }
+    requires ordered { graphs.IsOrder (graph_of graph.now) order.now }
+    ensures kept { IfOk result (λ v. IsReachedOrder (graph_of graph.now) from.now v.items) }
+    ensures memory { IfErr result (λ r. r ≡ memory) }
+{
+    let reached = reached(alloc, graph, from)?;
+    let mut kept = Vec::new(alloc);
+    for number in order {
+        if reached[*number] {
+            push(&mut kept, *number)?;
+        }
+    }
+    Ok(kept)
+}
+
+impl<'f> Resolved<'f> {
+    /// The declarations of the text. The regular ones are those of the struct that it means.
+    pub fn declarations(&self) -> &'f [Declaration<'f>]
+        ensures { result.now ≡ self.now.declarations.now }
+    {
+        self.declarations
+    }
+
+    /// The definitions of the text.
+    pub fn definitions(&self) -> &Definitions<'f>
+        ensures { result.now ≡ self.now.definitions }
+    {
+        &self.definitions
+    }
+
+    /// The numbers of the definitions that the regular declarations reach, each after those that it
+    /// uses.
+    pub fn order(&self) -> &[usize]
+        ensures { result.now ≡ order_of self.now }
+    {
+        &self.order
+    }
+
+    /// Whether the body of a definition is scalar, by its number.
+    pub fn is_scalar(&self, number: usize) -> bool
+        requires { number < length self.now.measures.items }
+        ensures { (d : Measure) → result ≡ scalar_at self.now number d }
+    {
+        self.measures[number].scalar
+    }
+
+    /// The size of the struct that the text means, at most 65,536.
+    pub fn size(&self) -> u64
+        ensures { result ≡ size_of self.now }
+    {
+        self.size as u64
+    }
 }

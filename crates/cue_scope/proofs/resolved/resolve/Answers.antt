@@ -1,0 +1,90 @@
+use Rattle.std.proofs.Common.{arith, ◌≡◌, ◌<◌, length, inr, refl, sym, ap, ◌∙◌, subst}
+use Rattle.std.proofs.lemmas.Result.{err_from_is_err_and}
+use Rattle.cue_syntax.specs.Syntax.{entries}
+use Rattle.cue_scope.specs.declared.resolved.Resolved.{Resolved}
+use Rattle.cue_scope.specs.Core.{is_scalar}
+use Rattle.cue_scope.specs.Definitions.{definitions}
+use Rattle.cue_scope.specs.Graph.{IsAcyclic, IsClosed}
+use Rattle.cue_scope.specs.Kept.{all_of}
+use Rattle.cue_scope.specs.Meaning.{meaning}
+use Rattle.cue_scope.specs.Measures.{IsMeasured, as_literal, total_of_file}
+use Rattle.cue_scope.specs.Ordering.{graph_of}
+use Rattle.cue_scope.specs.Refusing.{IsLegal}
+use Rattle.cue_scope.specs.Resolving.{IsResolved, IsReachedOrder}
+use Rattle.cue_scope.specs.Uses.{graph, uses_of_fields}
+use Rattle.cue_scope.proofs.Inside.{closed_graph, fields_below, below_is}
+use Rattle.cue_scope.proofs.Meanings.{length_graph}
+use Rattle.cue_scope.proofs.Nodes.{length_graph_of}
+use Rattle.cue_scope.proofs.Resolving.{refuses_stopped, refuses_beyond, ordered_text, legal_text, text_total}
+use Rattle.cue_scope.proofs.resolved.resolve.Goals as goal
+
+pub returns-in_err-uses-clause-refused : goal.returns-in_err-uses-clause-refused
+returns-in_err-uses-clause-refused c =
+    let p = err_from_is_err_and c.from_residual-in_err-uses.result c.from_residual-in_err-uses.ensures.1 in
+    let es = entries c.as_slice-declarations.result.now in
+    let refused = refuses_stopped es c.in_err-uses.field-0.0 c.in_ok-definitions.ensures.unrepeated c.in_err-uses.ensures.refused in
+    rw (p.1, p.2, ← c.as_slice-declarations.ensures.value) refused
+
+pub returns-in_err-check-clause-refused : goal.returns-in_err-check-clause-refused
+returns-in_err-check-clause-refused c =
+    let p = err_from_is_err_and c.from_residual-in_err-check.result c.from_residual-in_err-check.ensures.1 in
+    let es = entries c.as_slice-declarations.result.now in
+    let all = c.in_ok-definitions.ensures.all in
+    let measured = subst (λ z. IsMeasured c.measure-whole.result (as_literal 1 (total_of_file z es))) all c.measure-whole.ensures in
+    let acyclic = subst (λ z. IsAcyclic (graph z)) all c.in_ok-order.ensures.acyclic in
+    let ordered = ordered_text es c.in_ok-definitions.ensures.unrepeated c.in_ok-uses.ensures.named acyclic in
+    let refused = refuses_beyond es c.in_err-check.field-0.0 ordered (c.in_err-check.ensures.beyond (text_total es) measured) in
+    rw (p.1, p.2, ← c.as_slice-declarations.ensures.value) (inr refused)
+
+pub kept-requires-clause-closed : goal.kept-requires-clause-closed
+kept-requires-clause-closed c =
+    let ds = all_of c.in_ok-definitions.definitions in
+    let same : graph_of c.deref-3.result.now ≡ graph ds = ap graph_of c.deref-3.ensures.value ∙ c.in_ok-uses.ensures.graph in
+    subst (λ z. IsClosed z) (sym same) (closed_graph ds)
+
+pub kept-requires-clause-inside : goal.kept-requires-clause-inside
+kept-requires-clause-inside c = λ i there.
+    let ds = all_of c.in_ok-definitions.definitions in
+    let es = entries c.as_slice-declarations.result.now in
+    let same : graph_of c.deref-3.result.now ≡ graph ds = ap graph_of c.deref-3.ensures.value ∙ c.in_ok-uses.ensures.graph in
+    let used = rw (c.deref-4.ensures.value, c.in_ok-uses.ensures.fields) at there in
+    let below : i < length ds = below_is (length ds) (uses_of_fields ds es) (fields_below ds es) i used in
+    let l = ap length same in let a = length_graph ds ds in let b = length_graph_of c.deref-3.result.now in
+    omega arith
+
+pub returns-clause-legal : goal.returns-clause-legal
+returns-clause-legal c =
+    let es = entries c.as_slice-declarations.result.now in
+    let all = c.in_ok-definitions.ensures.all in
+    let measured = subst (λ z. IsMeasured c.measure-whole.result (as_literal 1 (total_of_file z es))) all c.measure-whole.ensures in
+    let acyclic = subst (λ z. IsAcyclic (graph z)) all c.in_ok-order.ensures.acyclic in
+    let ordered = ordered_text es c.in_ok-definitions.ensures.unrepeated c.in_ok-uses.ensures.named acyclic in
+    subst (λ z. IsLegal (entries z)) c.as_slice-declarations.ensures.value (legal_text es ordered (c.in_ok-check.ensures.within (text_total es) measured))
+
+pub returns-clause-resolved : goal.returns-clause-resolved
+returns-clause-resolved c =
+    let es = entries c.as_slice-declarations.result.now in
+    let ds = all_of c.in_ok-definitions.definitions in
+    let all = c.in_ok-definitions.ensures.all in
+    let measured = subst (λ z. IsMeasured c.measure-whole.result (as_literal 1 (total_of_file z es))) all c.measure-whole.ensures in
+    let within = c.in_ok-check.ensures.within (text_total es) measured in
+    let edges : graph_of c.deref-3.result.now ≡ graph (definitions es) = ap graph_of c.deref-3.ensures.value ∙ c.in_ok-uses.ensures.graph ∙ ap graph all in
+    let starts : c.deref-4.result.now ≡ uses_of_fields (definitions es) es = c.deref-4.ensures.value ∙ c.in_ok-uses.ensures.fields ∙ ap (λ z. uses_of_fields z es) all in
+    let kept = subst (λ z. IsReachedOrder z (uses_of_fields (definitions es) es) c.in_ok-order-2.order.items) edges
+    (subst (λ z. IsReachedOrder (graph_of c.deref-3.result.now) z c.in_ok-order-2.order.items) starts c.in_ok-order-2.ensures.kept) in
+    let counted : c.measure-whole.result.size ≡ (text_total es).size = let e = measured.size in let f = within.size in omega arith in
+    let found : Resolved = record {
+      declarations = c.as_slice-declarations.result;
+      definitions = c.in_ok-definitions.definitions;
+      measures = c.in_ok-measures.measures;
+      order = c.in_ok-order-2.order;
+      size = c.measure-whole.result.size;
+    } in
+    subst (λ z. IsResolved (entries z) found) c.as_slice-declarations.ensures.value (record {
+      declared = refl;
+      defined = all;
+      measured = c.in_ok-measures.ensures.length ∙ ap length all;
+      scalar = λ i d h. (c.in_ok-measures.ensures.measured i d (subst (λ z. i < length z) (sym all) h)).scalar ∙ ap (λ z. is_scalar (meaning z i)) all;
+      order = kept;
+      size = counted;
+    })
