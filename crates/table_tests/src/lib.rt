@@ -10,3 +10,5 @@ mod plain;
 mod sample;
 #[cfg(test)]
 mod tables;
+#[cfg(test)]
+mod valid;

@@ -103,6 +103,8 @@ fn row(alloc: Global, name: &str) -> Result<Row, Memory> {
         "list" => list(alloc, 2, None),
         "pair" => list(alloc, 2, Some(2)),
         "single" => list(alloc, 1, Some(1)),
+        "short" => list(alloc, 2, Some(1)),
+        "wide" => list(alloc, 2, Some(3)),
         _ => Row::free(alloc),
     }
 }
