@@ -5,6 +5,7 @@ pub mod Places
 pub mod Within
 pub mod Unified
 pub mod ByPair
+pub mod Integers
 pub mod Example
 pub mod Closing
 pub mod Fields

@@ -58,14 +58,14 @@ abbrev pub integer_alone : ℤ → Scalars
 integer_alone a = integers (λ n. int_eq n a)
 
 abbrev pub text_alone : List ℕ → Scalars
-text_alone a = texts (λ t. bytes_eq t a)
+text_alone a = texts (λ t. bytes_eq a t)
 
 -- `!=` and an integer, or a text: all others of its kind
 abbrev pub other_integers : ℤ → Scalars
 other_integers a = integers (λ n. not (int_eq n a))
 
 abbrev pub other_texts : List ℕ → Scalars
-other_texts a = texts (λ t. not (bytes_eq t a))
+other_texts a = texts (λ t. not (bytes_eq a t))
 
 -- `<`, `<=`, `>` or `>=` and an integer
 abbrev pub bounded : Comparison → ℤ → Scalars

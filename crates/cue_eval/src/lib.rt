@@ -1,6 +1,11 @@
-//! Evaluation: what expressions and texts refuse at each place.
+//! Evaluation: what expressions and texts refuse at each place, and the scalars that a text writes.
 #![tactic(auto)]
 
 mod laws;
+mod scalars;
 
 pub use laws::{laws_of_meaning, laws_of_places};
+pub use scalars::{
+    bounded, integer_alone, integer_of, named_set, nothing, null_alone, other_integers,
+    other_texts, text_alone, truth_alone,
+};
