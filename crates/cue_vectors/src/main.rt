@@ -1,8 +1,9 @@
-//! Reads lines of a text as a JSON string, a tab and the answer that the text must get, and tells where the lexer and
-//! the parser answer otherwise. An answer is `ok`, or the refusal's number and place, and after a 9 its form.
-//! `cue_vectors FILE` reads a file, `cue_vectors` reads standard input. `cue_vectors lex FILE` and `cue_vectors parse
-//! FILE` take the whole file as one text and tell the least time of some runs, in microseconds; `parse` also walks the
-//! tree and tells how many expressions it has.
+//! Reads lines of a text as a JSON string, a tab and the answer that the text must get, and tells
+//! where the lexer and the parser answer otherwise. An answer is `ok`, or the refusal's number and
+//! place, and after a 9 its form. `cue_vectors FILE` reads a file, `cue_vectors` reads standard
+//! input. `cue_vectors lex FILE` and `cue_vectors parse FILE` take the whole file as one text and
+//! tell the least time of some runs, in microseconds; `parse` also walks the tree and tells how
+//! many expressions it has.
 #![tactic(auto)]
 
 mod size;

@@ -145,8 +145,8 @@ fn names(rt: HostRuntime) -> Result<(), Fail> {
 fn integers(rt: HostRuntime) -> Result<(), Fail> {
     let all = shown(rt.alloc(), "0 0x1F 0Xff 1_000 0o17 0b1_01 1é")?;
     let wanted = concat!(
-        "Integer(0) 0..1\nInteger(31) 2..6\nInteger(255) 7..11\nInteger(1000) 12..17\nInteger(15) 18..22\n",
-        "Integer(5) 23..29\nInteger(1) 30..31\nName(\"é\") 31..33\n"
+        "Integer(0) 0..1\nInteger(31) 2..6\nInteger(255) 7..11\nInteger(1000) 12..17\n",
+        "Integer(15) 18..22\nInteger(5) 23..29\nInteger(1) 30..31\nName(\"é\") 31..33\n"
     );
     assert_eq!(rt; all.as_str(), wanted);
     for bad in [

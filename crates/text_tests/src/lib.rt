@@ -1,5 +1,5 @@
-//! Tests of the lexer and the parser, kept in a crate above them, so that neither of these is proved a second time
-//! with its tests.
+//! Tests of the lexer and the parser, kept in a crate above them, so that neither of these is
+//! proved a second time with its tests.
 #![tactic(auto)]
 
 #[cfg(test)]
