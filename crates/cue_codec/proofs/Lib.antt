@@ -9,4 +9,3 @@ pub mod StatePaths
 pub mod StateRows
 pub mod StateSets
 pub mod ValidRows
-pub mod WrittenPaths

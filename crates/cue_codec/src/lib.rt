@@ -16,6 +16,4 @@ mod writing;
 
 pub use decoding::decode;
 pub use encoding::encode;
-pub use row_reader::RowReader;
-pub use row_writing::put_row;
 pub use spelling::{one_row_spelling, one_state_spelling, one_table_spelling};

@@ -1,14 +1,12 @@
-//! Rows as bytes.
+//! What a row says, as bytes.
 
 ghost use Rattle.std.specs.Prelude.{◌≡◌, ◌++◌, OnOk};
-ghost use Rattle.std.specs.List.{AllByRecursion};
-ghost use Rattle.cue_codec.specs.Reading.{IsShortStep};
-ghost use Rattle.cue_codec.specs.RowBytes.{parts_bytes, parts_of, row_bytes, scalars_bytes, left_out_bytes, row_of, IsShortRow};
+ghost use Rattle.cue_codec.specs.RowBytes.{parts_bytes, parts_of, scalars_bytes, left_out_bytes, IsShortRow};
 
 use crate::rows::is_empty;
-use crate::writing::{put_labels, put_lengths, put_path, put_set};
+use crate::writing::{put_labels, put_lengths, put_set};
 use cue_lattice::Memory;
-use cue_row::{Path, Row};
+use cue_row::Row;
 
 /// Writes some scalar, and the usual ones.
 #[tactic(auto, unfolding(crate::specs::RowBytes::scalars_bytes))]
@@ -58,18 +56,4 @@ pub fn put_parts(out: &mut Vec<u8>, row: &Row) -> Result<(), Memory>
             put_scalars(out, row)
         }
     }
-}
-
-/// Writes a row after what was written before. The row must say no more than its bytes tell. An error says that memory ran
-/// out; more may then have been written.
-#[tactic(auto, unfolding(crate::specs::RowBytes::row_bytes))]
-pub fn put_row(out: &mut Vec<u8>, path: &Path, row: &Row) -> Result<(), Memory>
-    requires path { AllByRecursion IsShortStep path.now }
-    requires row { IsShortRow row.now }
-    requires says { row.now ≡ row_of row.now.level (parts_of row.now) }
-    ensures { OnOk result (out.new.items ≡ out.old.items ++ row_bytes (path.now, row.now)) }
-{
-    put_path(out, path)?;
-    out.push(row.level.number())?;
-    put_parts(out, row)
 }

@@ -3,11 +3,11 @@
 ghost use Rattle.std.specs.Prelude.{◌≡◌, ◌++◌, OnOk};
 ghost use Rattle.std.specs.List.{flat_map, AllByRecursion};
 ghost use Rattle.cue_row.specs.Steps.{step_of};
-ghost use Rattle.cue_codec.specs.Parts.{integer_bytes, counted_bytes, piece_bytes, text_bytes, flags, text_set_bytes, set_bytes, labels_bytes, most_bytes, lengths_bytes, step_bytes, path_bytes};
+ghost use Rattle.cue_codec.specs.Parts.{integer_bytes, counted_bytes, piece_bytes, text_bytes, flags, text_set_bytes, set_bytes, labels_bytes, most_bytes, lengths_bytes, step_bytes};
 ghost use Rattle.cue_codec.specs.Reading.{IsShort, IsShortStep, AreShortLabels};
 
 use cue_lattice::{Memory, Text};
-use cue_row::{Labels, Path, Step};
+use cue_row::{Labels, Step};
 use cue_scalars::ScalarSet;
 use cue_sets::TextSet;
 
@@ -161,24 +161,4 @@ pub fn put_step(out: &mut Vec<u8>, step: &Step) -> Result<(), Memory>
             Ok(())
         }
     }
-}
-
-fn put_each_step(out: &mut Vec<u8>, steps: &[Step]) -> Result<(), Memory>
-    requires { AllByRecursion (λ step. IsShortStep (step_of step)) steps.now }
-    ensures { OnOk result (out.new.items ≡ out.old.items ++ flat_map (λ step. step_bytes (step_of step)) steps.now) }
-{
-    for step in steps {
-        put_step(out, step)?;
-    }
-    Ok(())
-}
-
-#[tactic(auto, unfolding(crate::specs::Parts::path_bytes))]
-pub fn put_path(out: &mut Vec<u8>, path: &Path) -> Result<(), Memory>
-    requires { AllByRecursion IsShortStep path.now }
-    ensures { OnOk result (out.new.items ≡ out.old.items ++ path_bytes path.now) }
-{
-    let steps = path.steps();
-    out.push(steps.len() as u8)?;
-    put_each_step(out, steps)
 }
