@@ -20,15 +20,16 @@ Stands tree path row = row_at tree path ≡ Some row
 abbrev pub further : Path → Step → Path
 further path step = path ++ step ∷ []
 
--- what P says of a path and its row holds of each row
+-- P holds of each row and its path
 abbrev pub EachRow : (Path → Row → Type 0) → Tree Row → Type 0
 EachRow P tree = (path : Path) (row : Row) → Stands tree path row → P path row
 
--- what P says of a row, a step and the row one step below holds of each two such rows
+-- P holds of each two rows of which one stands one step below the other, and of that step
 abbrev pub EachBelow : (Row → Step → Row → Type 0) → Tree Row → Type 0
 EachBelow P tree =
     (path : Path) (step : Step) (parent row : Row) → Stands tree path parent → Stands tree (further path step) row → P parent step row
 
+-- ---- the rules
 -- Each row is of one of the five kinds, what it says beside fits its kind, it keeps the limits, and it is not free.
 abbrev pub HasValidRows : Tree Row → Type 0
 HasValidRows = EachRow (λ path row. IsValidRow row)
@@ -37,14 +38,15 @@ HasValidRows = EachRow (λ path row. IsValidRow row)
 abbrev pub HasShortPaths : Tree Row → Type 0
 HasShortPaths = EachRow (λ path row. IsWithinDepth path)
 
--- the labels on the path of a row are texts that are not too long
+-- the labels on the path of a row are in UTF-8 and not too long
 abbrev pub HasWordLabels : Tree Row → Type 0
 HasWordLabels = EachRow (λ path row. AllByRecursion IsWordStep path)
 
--- there is no row, or the one of the root is a struct that allows all labels
+-- a struct that allows all labels
 abbrev pub IsOpenStruct : Row → Type 0
 IsOpenStruct row = IsKind row kinds.Struct × (row.labels ≡ None)
 
+-- there is no row, or an open struct stands at the root
 abbrev pub HasOpenRoot : Tree Row → Type 0
 HasOpenRoot tree = (tree ≡ empty) ⊎ ((row : Row) × Stands tree [] row × IsOpenStruct row)
 
@@ -75,6 +77,7 @@ IsElement parent (index n) = n < parent.least
 abbrev pub HasElements : Tree Row → Type 0
 HasElements = EachBelow (λ parent step row. IsElement parent step)
 
+-- A valid table: its rows are kept in their one form, each at one path, and none is free; and it keeps the rules above.
 pub record IsValidTable (tree : Tree Row) : Type 0 where
   pub form : IsTable Refuses IsRow tree
   pub rows : HasValidRows tree
