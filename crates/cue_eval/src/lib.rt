@@ -3,6 +3,8 @@
 
 mod laws;
 mod scalars;
+#[cfg(test)]
+mod tests;
 
 pub use laws::{laws_of_meaning, laws_of_places};
 pub use scalars::{
