@@ -1,8 +1,12 @@
 -- Laws of what expressions refuse.
-use Rattle.std.specs.Prelude.{◌↔◌, ◌⊎◌, List, ℕ, IsTrue}
+use Rattle.std.specs.Prelude.{◌≡◌, ◌<◌, ◌↔◌, ◌⊎◌, List, ℕ, IsTrue, length, slice_get}
 use Rattle.cue_lattice.specs.Path.{Path}
 use Rattle.cue_lattice.specs.Question.{Question, allows, SameAnswers, IsAsNarrowAs}
 use Rattle.cue_scope.specs.Core.{Core, conjunction, struct, closed, Cores, no_cores, core, Members, no_members, member, dots, is_scalar}
+use Rattle.cue_scope.specs.Definitions.{Definition}
+use Rattle.cue_scope.specs.Graph.{IsOrder}
+use Rattle.cue_scope.specs.Uses.{graph}
+use Rattle.cue_scope.specs.Meaning.{meaning, meant_use}
 use Rattle.cue_eval.specs.Pairs.{pair}
 use Rattle.cue_eval.specs.Literals.{literals, LeaveOut}
 use Rattle.cue_eval.specs.Places.{Here, ScalarRefuses}
@@ -11,6 +15,11 @@ use Rattle.cue_eval.specs.Refuses.{Refuses}
 -- `a & b`
 abbrev pub both : Core → Core → Core
 both a b = conjunction (core a (core b no_cores))
+
+-- Where definitions can be ordered by use, a use of one means its body, closed.
+abbrev pub UsesAreClosedBodies : Type 0
+UsesAreClosedBodies = (ds : List Definition) (order : List ℕ) → IsOrder (graph ds) order → (i : ℕ) → i < length ds →
+    meaning ds i ≡ meant_use ds (meaning ds) (slice_get ds i)
 
 -- `a & b` refuses exactly what one of both refuses
 abbrev pub IsUnification : Type 0

@@ -1,13 +1,14 @@
 //! What the definitions promise of unification, of closing and of scalar expressions.
 
-ghost use Rattle.cue_eval.specs.Laws.{IsUnification, IsMonotone, IsSplitAnywhere, IsClosedOnce, IsClosedForGood, IsClosedByParts, IsItsPair};
+ghost use Rattle.cue_eval.specs.Laws.{UsesAreClosedBodies, IsUnification, IsMonotone, IsSplitAnywhere, IsClosedOnce, IsClosedForGood, IsClosedByParts, IsItsPair};
 ghost use Rattle.cue_eval.specs.Origins.{ComesFromSources, PlacesAreOfKinds, LabelsAreOfStructs, LengthsAreOfLists, FieldsAreOfStructs, ElementsAreOfLists, LevelsAreOfFields, UsualIsWithin};
 
-/// `a & b` refuses exactly what one of both refuses, so that declarations may stand in one struct or in several.
-/// Closing parts one by one is at least as narrow as closing them together; closing twice is closing once; and a place
-/// where labels are left out already is changed by no closing around it. A scalar expression refuses what its value and
-/// its default do. It computes nothing: it states laws.
+/// A use of a definition means its body, closed. `a & b` refuses exactly what one of both refuses, so that
+/// declarations may stand in one struct or in several. Closing parts one by one is at least as narrow as closing them
+/// together; closing twice is closing once; and a place where labels are left out already is changed by no closing
+/// around it. A scalar expression refuses what its value and its default do. It computes nothing: it states laws.
 pub fn laws_of_meaning()
+    ensures uses { UsesAreClosedBodies }
     ensures unified { IsUnification }
     ensures monotone { IsMonotone }
     ensures split { IsSplitAnywhere }
