@@ -15,25 +15,25 @@ use std::collections::HashMap;
 
 /// `#Name: label: value`: a definition of a text.
 #[derive(Debug, Drop)]
-pub struct Definition<'f> {
+pub struct Definition<'f, 't> {
     /// The name with its `#`.
     pub name: &'f str,
     /// Where the name begins, in bytes.
     pub from: usize,
     /// The chain of labels before the value, which may be empty.
-    pub chain: &'f [Label<'f>],
-    pub value: &'f Expr<'f>,
+    pub chain: &'f [Label<'t>],
+    pub value: &'f Expr<'t>,
 }
 
 /// The definitions of a text, numbered from 0 in its order, each with a name of its own.
 #[derive(Drop)]
-pub struct Definitions<'f> {
-    list: Vec<Definition<'f>>,
+pub struct Definitions<'f, 't> {
+    list: Vec<Definition<'f, 't>>,
     numbers: HashMap<&'f str, usize>,
     ghost numbered: { (name : List ℕ) → hash.get_by (λ k. bytes_eq name k.now) numbers ≡ number_of name (listed list.items) },
 }
 
-impl<'f> Definitions<'f> {
+impl<'f, 't> Definitions<'f, 't> {
     /// The definitions among the declarations of a text.
     ///
     /// # Errors
@@ -41,8 +41,8 @@ impl<'f> Definitions<'f> {
     /// `Repeated` at the first definition whose name an earlier one has, and `Memory`.
     pub fn of(
         alloc: Global,
-        declarations: &'f [Declaration<'f>],
-    ) -> Result<Definitions<'f>, Refusal>
+        declarations: &'f [Declaration<'t>],
+    ) -> Result<Definitions<'f, 't>, Refusal>
         ensures all { IfOk result (λ r. listed r.list.items ≡ definitions (entries declarations.now)) }
         ensures unrepeated { OnOk result (repeats (definitions (entries declarations.now)) ≡ []) }
         ensures refused { IfErr result (λ r. (r ≡ memory) ⊎ IsRepeat (definitions (entries declarations.now)) r) }
@@ -80,7 +80,7 @@ impl<'f> Definitions<'f> {
     }
 
     /// All of them, in order.
-    pub fn all(&self) -> &[Definition<'f>]
+    pub fn all(&self) -> &[Definition<'f, 't>]
         ensures { listed result.now ≡ listed self.now.list.items }
     {
         &self.list
@@ -88,10 +88,10 @@ impl<'f> Definitions<'f> {
 }
 
 /// Puts a definition after the others.
-fn add<'f>(
-    list: &mut Vec<Definition<'f>>,
+fn add<'f, 't>(
+    list: &mut Vec<Definition<'f, 't>>,
     numbers: &mut HashMap<&'f str, usize>,
-    definition: Definition<'f>,
+    definition: Definition<'f, 't>,
 ) -> Result<(), Refusal>
     requires { (name : List ℕ) → hash.get_by (λ k. bytes_eq name k.now) numbers.old ≡ number_of name (listed list.old.items) }
     ensures added { OnOk result (listed list.new.items ≡ listed list.old.items ++ definition_of definition.entry ∷ []) }

@@ -182,12 +182,12 @@ impl Measure {
 
 /// What is known of definitions: the measure of a use of each, as far as they were measured.
 #[derive(Clone, Copy, Drop)]
-pub struct Known<'a, 'f> {
-    pub definitions: &'a Definitions<'f>,
+pub struct Known<'a, 'f, 't> {
+    pub definitions: &'a Definitions<'f, 't>,
     pub measures: &'a [Measure],
 }
 
-impl<'a, 'f> Known<'a, 'f> {
+impl<'a, 'f, 't> Known<'a, 'f, 't> {
     /// A name.
     fn name(&self, name: &Identifier) -> Measure
         ensures { IsKnown self.now (using.uses_of_name (all_of self.now.definitions.now) name.now) → IsMeasured result (totals.total_of (meaning.meant_name (all_of self.now.definitions.now) (meaning.meaning (all_of self.now.definitions.now)) name.now) []) }

@@ -31,10 +31,10 @@ impl Uses {
     ///
     /// `FieldReference` or `UnknownName` at the first name that can't stand where it does, and
     /// `Memory`.
-    pub fn of<'f>(
+    pub fn of<'f, 't>(
         alloc: Global,
-        definitions: &Definitions<'f>,
-        declarations: &'f [Declaration<'f>],
+        definitions: &Definitions<'f, 't>,
+        declarations: &'f [Declaration<'t>],
     ) -> Result<Uses, Refusal>
         requires { all_of definitions.now ≡ defining.definitions (tree.entries declarations.now) }
         ensures named { OnOk result (naming.name_faults (tree.entries declarations.now) ≡ []) }
@@ -54,15 +54,15 @@ impl Uses {
 /// A place in a text, from where names are looked up. Each look-up puts the number of the
 /// definition that a name uses behind those that were used before.
 #[derive(Clone, Copy, Drop)]
-pub struct Place<'a, 'f> {
+pub struct Place<'a, 'f, 't> {
     pub alloc: Global,
-    pub definitions: &'a Definitions<'f>,
-    pub scope: Scope<'a, 'f>,
+    pub definitions: &'a Definitions<'f, 't>,
+    pub scope: Scope<'a, 'f, 't>,
 }
 
-impl<'a, 'f> Place<'a, 'f> {
+impl<'a, 'f, 't> Place<'a, 'f, 't> {
     /// The declarations of a text, which is a struct literal of its own.
-    fn file(&self, declarations: &'f [Declaration<'f>]) -> Result<Uses, Refusal>
+    fn file(&self, declarations: &'f [Declaration<'t>]) -> Result<Uses, Refusal>
         ensures named { OnOk result (naming.faults_of_entries (definitions_at self.now) (naming.inside (tree.entries declarations.now) (scope_of self.now.scope)) (tree.entries declarations.now) ≡ []) }
         ensures graph { IfOk result (λ u. graph_of u.of_definitions.items ≡ map (λ d. using.uses (definitions_at self.now) d.value) (defining.definitions (tree.entries declarations.now))) }
         ensures fields { IfOk result (λ u. u.of_fields.items ≡ using.uses_of_fields (definitions_at self.now) (tree.entries declarations.now)) }
@@ -81,7 +81,7 @@ impl<'a, 'f> Place<'a, 'f> {
     }
 
     /// The declarations of a text, from inside it.
-    fn text(&self, declarations: &'f [Declaration<'f>]) -> Result<Uses, Refusal>
+    fn text(&self, declarations: &'f [Declaration<'t>]) -> Result<Uses, Refusal>
         ensures named { OnOk result (naming.faults_of_entries (definitions_at self.now) (scope_of self.now.scope) (tree.entries declarations.now) ≡ []) }
         ensures graph { IfOk result (λ u. graph_of u.of_definitions.items ≡ map (λ d. using.uses (definitions_at self.now) d.value) (defining.definitions (tree.entries declarations.now))) }
         ensures fields { IfOk result (λ u. u.of_fields.items ≡ using.uses_of_fields (definitions_at self.now) (tree.entries declarations.now)) }
@@ -162,8 +162,8 @@ impl<'a, 'f> Place<'a, 'f> {
     pub fn value(
         &self,
         uses: &mut Vec<usize>,
-        chain: &'f [Label<'f>],
-        value: &'f Expr<'f>,
+        chain: &'f [Label<'t>],
+        value: &'f Expr<'t>,
     ) -> Result<(), Refusal>
         ensures walked { OnOk result (IsWalked (naming.faults (definitions_at self.now) (naming.behind chain.now (scope_of self.now.scope)) (tree.expression value.now)) (using.uses (definitions_at self.now) (tree.expression value.now)) uses.old.items uses.new.items) }
         ensures stopped { IfErr result (IsStopped (naming.faults (definitions_at self.now) (naming.behind chain.now (scope_of self.now.scope)) (tree.expression value.now))) }
@@ -181,7 +181,7 @@ impl<'a, 'f> Place<'a, 'f> {
 
     /// An expression.
     #[cycle(names)]
-    fn expression(&self, uses: &mut Vec<usize>, expression: &'f Expr<'f>) -> Result<(), Refusal>
+    fn expression(&self, uses: &mut Vec<usize>, expression: &'f Expr<'t>) -> Result<(), Refusal>
         ensures walked { OnOk result (IsWalked (naming.faults (definitions_at self.now) (scope_of self.now.scope) (tree.expression expression.now)) (using.uses (definitions_at self.now) (tree.expression expression.now)) uses.old.items uses.new.items) }
         ensures stopped { IfErr result (IsStopped (naming.faults (definitions_at self.now) (scope_of self.now.scope) (tree.expression expression.now))) }
     {
@@ -214,7 +214,7 @@ impl<'a, 'f> Place<'a, 'f> {
     fn literal(
         &self,
         uses: &mut Vec<usize>,
-        declarations: &'f [Declaration<'f>],
+        declarations: &'f [Declaration<'t>],
     ) -> Result<(), Refusal>
         ensures walked { OnOk result (IsWalked (naming.faults_of_entries (definitions_at self.now) (naming.inside (tree.entries declarations.now) (scope_of self.now.scope)) (tree.entries declarations.now)) (using.uses_of_entries (definitions_at self.now) (tree.entries declarations.now)) uses.old.items uses.new.items) }
         ensures stopped { IfErr result (IsStopped (naming.faults_of_entries (definitions_at self.now) (naming.inside (tree.entries declarations.now) (scope_of self.now.scope)) (tree.entries declarations.now))) }
@@ -236,7 +236,7 @@ impl<'a, 'f> Place<'a, 'f> {
     fn declarations(
         &self,
         uses: &mut Vec<usize>,
-        declarations: &'f [Declaration<'f>],
+        declarations: &'f [Declaration<'t>],
     ) -> Result<(), Refusal>
         ensures walked { OnOk result (IsWalked (naming.faults_of_entries (definitions_at self.now) (scope_of self.now.scope) (tree.entries declarations.now)) (using.uses_of_entries (definitions_at self.now) (tree.entries declarations.now)) uses.old.items uses.new.items) }
         ensures stopped { IfErr result (IsStopped (naming.faults_of_entries (definitions_at self.now) (scope_of self.now.scope) (tree.entries declarations.now))) }
@@ -253,7 +253,7 @@ impl<'a, 'f> Place<'a, 'f> {
 
     /// The elements of a list, or the parts of a conjunction.
     #[cycle(names)]
-    fn elements(&self, uses: &mut Vec<usize>, elements: &'f [Expr<'f>]) -> Result<(), Refusal>
+    fn elements(&self, uses: &mut Vec<usize>, elements: &'f [Expr<'t>]) -> Result<(), Refusal>
         ensures walked { OnOk result (IsWalked (naming.faults_of_elements (definitions_at self.now) (scope_of self.now.scope) (tree.elements elements.now)) (using.uses_of_elements (definitions_at self.now) (tree.elements elements.now)) uses.old.items uses.new.items) }
         ensures stopped { IfErr result (IsStopped (naming.faults_of_elements (definitions_at self.now) (scope_of self.now.scope) (tree.elements elements.now))) }
     {
@@ -265,7 +265,7 @@ impl<'a, 'f> Place<'a, 'f> {
 
     /// The terms of a disjunction.
     #[cycle(names)]
-    fn terms(&self, uses: &mut Vec<usize>, terms: &'f [Term<'f>]) -> Result<(), Refusal>
+    fn terms(&self, uses: &mut Vec<usize>, terms: &'f [Term<'t>]) -> Result<(), Refusal>
         ensures walked { OnOk result (IsWalked (naming.faults_of_branches (definitions_at self.now) (scope_of self.now.scope) (tree.branches terms.now)) (using.uses_of_branches (definitions_at self.now) (tree.branches terms.now)) uses.old.items uses.new.items) }
         ensures stopped { IfErr result (IsStopped (naming.faults_of_branches (definitions_at self.now) (scope_of self.now.scope) (tree.branches terms.now))) }
     {

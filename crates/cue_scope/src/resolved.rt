@@ -23,9 +23,9 @@ use std::alloc::Global;
 
 /// A legal text: its declarations, and of its definitions what evaluation needs.
 #[derive(Drop)]
-pub struct Resolved<'f> {
-    declarations: &'f [Declaration<'f>],
-    definitions: Definitions<'f>,
+pub struct Resolved<'f, 't> {
+    declarations: &'f [Declaration<'t>],
+    definitions: Definitions<'f, 't>,
     measures: Vec<Measure>,
     order: Vec<usize>,
     size: usize,
@@ -38,7 +38,7 @@ pub struct Resolved<'f> {
 /// The first of these checks that the text fails: `Repeated`; `FieldReference` and `UnknownName`,
 /// by the first name; `Cycle`; `NotScalar`; `TooLarge`; `TooDeep`. Each comes with the place that it
 /// names. And `Memory`.
-pub fn resolve<'f>(alloc: Global, file: &'f File<'f>) -> Result<Resolved<'f>, Refusal>
+pub fn resolve<'f, 't>(alloc: Global, file: &'f File<'t>) -> Result<Resolved<'f, 't>, Refusal>
     ensures legal { OnOk result (IsLegal (entries file.now.declarations.items)) }
     ensures resolved { IfOk result (IsResolved (entries file.now.declarations.items)) }
     ensures refused { IfErr result (λ r. (r ≡ memory) ⊎ Refuses (entries file.now.declarations.items) r) }
@@ -135,16 +135,16 @@ fn kept(
     Ok(kept)
 }
 
-impl<'f> Resolved<'f> {
+impl<'f, 't> Resolved<'f, 't> {
     /// The declarations of the text. The regular ones are those of the struct that it means.
-    pub fn declarations(&self) -> &'f [Declaration<'f>]
+    pub fn declarations(&self) -> &'f [Declaration<'t>]
         ensures { result.now ≡ self.now.declarations.now }
     {
         self.declarations
     }
 
     /// The definitions of the text.
-    pub fn definitions(&self) -> &Definitions<'f>
+    pub fn definitions(&self) -> &Definitions<'f, 't>
         ensures { result.now ≡ self.now.definitions }
     {
         &self.definitions

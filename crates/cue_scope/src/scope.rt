@@ -13,22 +13,22 @@ use std::collections::HashSet;
 
 /// The struct literals that enclose a place in a text, from the innermost one outwards.
 #[derive(Clone, Copy, Drop)]
-pub enum Scope<'a, 'f> {
+pub enum Scope<'a, 'f, 't> {
     /// Nothing encloses the place.
     Outermost,
     /// A struct literal, of which these are the unquoted labels.
     Literal {
         labels: &'a HashSet<&'f str>,
-        outer: &'a Scope<'a, 'f>,
+        outer: &'a Scope<'a, 'f, 't>,
     },
     /// The structs of a chain of labels, each of which has one label.
     Chain {
-        labels: &'f [Label<'f>],
-        outer: &'a Scope<'a, 'f>,
+        labels: &'f [Label<'t>],
+        outer: &'a Scope<'a, 'f, 't>,
     },
 }
 
-impl<'a, 'f> Scope<'a, 'f> {
+impl<'a, 'f, 't> Scope<'a, 'f, 't> {
     /// Whether an enclosing struct has this label, unquoted.
     pub fn has(&self, name: &str) -> bool
         ensures { result ≡ scope_of self.now name.now }
@@ -64,9 +64,9 @@ fn is_among(labels: &[Label], name: &str) -> bool
 }
 
 /// The unquoted labels of these declarations.
-pub fn labels_of<'f>(
+pub fn labels_of<'f, 't>(
     alloc: Global,
-    declarations: &'f [Declaration<'f>],
+    declarations: &'f [Declaration<'t>],
 ) -> Result<HashSet<&'f str>, Refusal>
     ensures labels { IfOk result (λ s. (t : List ℕ) → bag.contains_by (λ k. bytes_eq t k.now) s ≡ has_label t (entries declarations.now)) }
     ensures memory { IfErr result (λ r. r ≡ memory) }
