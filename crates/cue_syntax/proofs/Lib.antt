@@ -27,6 +27,7 @@ pub mod ValuesAreExpressions
 pub mod MovesOverOperands
 pub mod MovesOverRows
 pub mod MovesOverTexts
+pub mod TextsBeginSo
 pub mod SpotByTheLastToken
 pub mod RefusalsFit
 -- One tree: no two trees share a spelling.

@@ -7,6 +7,9 @@ ghost use Rattle.cue_syntax.specs.Viability.{StandsSign, IsCallOfClose, BeginsLa
 ghost use Rattle.cue_syntax.specs.Viability.{BeginsDefinition, EndsHere};
 ghost use Rattle.cue_syntax.specs.Recogniser as goals;
 ghost use Rattle.cue_syntax.specs.Recogniser.{Moves, Refused, row_goal, levels_of};
+ghost use Rattle.std.specs.Prelude.{MatchResult};
+ghost use Rattle.cue_syntax.specs.Operands.{BeginsEntry};
+ghost use Rattle.cue_syntax.specs.Stops.{memory};
 
 use crate::cursor::{Cursor, Operand, Parsed};
 use crate::label::{begins_label, label, labels, refuse_label};
@@ -345,6 +348,7 @@ pub fn declarations<'a>(
         → EndsHere top r.1.rest.now) }
     ensures refused { IfErr result (λ r. Refused (levels_of (goals.entries top) + room)
         cursor.entry.end (goals.entries top ∷ []) cursor.entry.rest.now r) }
+    ensures begins { IfErr result (λ r. r ≡ memory → BeginsEntry cursor.entry.rest.now) }
 {
     let mut items = Vec::new(alloc);
     let mut comma = false;
@@ -388,6 +392,8 @@ fn declaration<'a>(
         top ∷ []) cursor.entry.rest.now (goals.more_entries top ∷ []) r.1.rest.now) }
     ensures refused { IfErr result (λ r. Refused (levels_of (goals.entries top) + room)
         cursor.entry.end (goals.entries top ∷ []) cursor.entry.rest.now r) }
+    ensures begins { MatchResult result (λ r. BeginsEntry cursor.entry.rest.now)
+        (λ r. r ≡ memory → BeginsEntry cursor.entry.rest.now) }
 {
     if let Some(after) = cursor.skip(Punctuation::Ellipsis) {
         return Ok((Declaration::Ellipsis, after));

@@ -8,6 +8,8 @@ ghost use Rattle.cue_syntax.specs.Files.{file_tree};
 ghost use Rattle.cue_syntax.specs.Syntax.{FileTree};
 ghost use Rattle.cue_syntax.specs.Refusals.{Fits};
 ghost use Rattle.cue_syntax.specs.Viability.{Stands, IsMark};
+ghost use Rattle.cue_syntax.specs.Operands.{BeginsText};
+ghost use Rattle.cue_syntax.specs.Stops as stops;
 ghost use Rattle.cue_syntax.specs.Recogniser.{Moves, Refused, text, package_word, package_end};
 ghost use Rattle.cue_syntax.specs.Recogniser.{entries};
 
@@ -29,6 +31,8 @@ use std::alloc::Global;
 pub fn parse<'t>(alloc: Global, tokens: &'t [Token<'t>], end: usize) -> Result<File<'t>, Refusal>
     ensures spelled { IfOk result (λ file. IsFile (at_most level_limit) tokens.now (file_tree file)) }
     ensures refused { IfErr result (λ r. (r ≡ memory) ⊎ Fits level_limit end tokens.now r) }
+    // Want of memory never hides that a text begins wrongly.
+    ensures begins { IfErr result (λ r. r ≡ memory → BeginsText tokens.now) }
     ensures accepted { (tree : FileTree) → IsFile (at_most level_limit) tokens.now tree →
         MatchResult result (λ file. file_tree file ≡ tree) (λ r. r ≡ memory) }
 {
@@ -44,6 +48,7 @@ fn file(alloc: Global, cursor: Cursor) -> Result<File, Stop>
         (file_tree file)) }
     ensures refused { IfErr result (λ r. Refused level_limit cursor.entry.end (text ∷ [])
         cursor.entry.rest.now r) }
+    ensures begins { IfErr result (λ r. r ≡ stops.memory → BeginsText cursor.entry.rest.now) }
 {
     let (package, rest) = package(cursor)?;
     if rest.is_at_end() {
@@ -76,6 +81,9 @@ fn package<'a>(cursor: Cursor<'a>) -> Parsed<'a, Option<Package<'a>>>
         r.1.rest.now) }
     ensures refused { IfErr result (λ r. (room : ℕ) → Refused room cursor.entry.end (text ∷ [])
         cursor.entry.rest.now r) }
+    ensures begins { MatchResult result
+        (λ r. (r.1.rest.now ≡ cursor.entry.rest.now) ⊎ BeginsText cursor.entry.rest.now)
+        (λ r. BeginsText cursor.entry.rest.now) }
 {
     let Some((token, after)) = cursor.next() else {
         return Ok((None, cursor));

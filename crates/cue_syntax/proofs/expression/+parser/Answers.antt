@@ -11,6 +11,9 @@ use Rattle.cue_syntax.proofs.RowsGrow.{nested_pushed}
 use Rattle.cue_syntax.proofs.Views.{view-Parenthesis, view-Struct, view-Close, view-Conjunction, view-Disjunction, view-Field, view-Definition, view-List}
 use Rattle.cue_syntax.proofs.PartsMakeTrees.{AreTerms, AreParts, Between, terms_first, terms_next, terms_more, between_pushed, disjunction_is, parts_first, parts_next, parts_more, conjunction_is, elements_next, entries_next, braced_is, struct_is, close_is, parenthesis_is, list_is, open_list_is, field_is, definition_is}
 use Rattle.cue_syntax.specs.Viability.{StandsSign, BeginsLabel}
+use Rattle.cue_syntax.specs.Operands.{BeginsEntry}
+use Rattle.cue_syntax.specs.Stops.{memory}
+use Rattle.cue_syntax.proofs.TextsBeginSo.{begun, begins_always, no_memory, read_stands, refused_so}
 use Rattle.cue_syntax.specs.Recogniser as goals
 use Rattle.cue_syntax.specs.Recogniser.{Moves, Refused, row_goal, levels_of, unary, more_parts}
 use Rattle.cue_syntax.proofs.MovesAndStops.{moves_then, refused_behind, refused_end, err_from, if_ok, stopped, stops_here, stops_there}
@@ -129,6 +132,7 @@ declarations-declarations-preserved t c =
       nested = λ below. subst (λ z. AreNested (entries z)) (sym pushed)
           (nested_pushed l.items.items c.in_ok-item.item (l.invariant.nested below) (c.in_ok-item.ensures.nested below));
       end = c.trailing_comma.ensures.end ∙ c.in_ok-item.ensures.end ∙ l.invariant.end;
+      begins = inr (begun l.rest.rest.now c.args.cursor.rest.now l.invariant.begins c.in_ok-item.ensures.begins);
       moves = moves_then l.invariant.moves (moves_then c.in_ok-item.ensures.moves (entry_next c.args.top c.trailing_comma.result.0 c.if-not-comma.false (omega arith) c.trailing_comma.ensures.reads));
     }
 
@@ -424,6 +428,37 @@ list-returns-in_err-rest-2-clause-refused t c =
 pub list-returns-clause-moves : goal.list-returns-clause-moves
 list-returns-clause-moves t c =
     moves_then (list_opens c.in_ok-inside.inside c.in_ok-inside.ensures.left c.in_ok-open.ensures.reads c.in_ok-row.ensures.moves) (row_closes c.in_ok-row.row.comma c.in_ok-row.row.items.items c.in_ok-rest-2.ensures.reads)
+
+pub declarations-returns-in_err-item-clause-begins : goal.declarations-returns-in_err-item-clause-begins
+declarations-returns-in_err-item-clause-begins t c =
+    err_from (λ r. r ≡ memory → BeginsEntry c.args.cursor.rest.now) c.from_residual.result _ c.from_residual.ensures.1
+    (λ lacks. begun c.declarations.rest.rest.now c.args.cursor.rest.now c.declarations.invariant.begins (c.in_err-item.ensures.begins lacks))
+
+pub declarations-returns-in_err-push-clause-begins : goal.declarations-returns-in_err-push-clause-begins
+declarations-returns-in_err-push-clause-begins t c =
+    err_from (λ r. r ≡ memory → BeginsEntry c.args.cursor.rest.now) c.from_residual-in_err-push.result _ c.from_residual-in_err-push.ensures.1
+    (λ lacks. begun c.declarations.rest.rest.now c.args.cursor.rest.now c.declarations.invariant.begins c.in_ok-item.ensures.begins)
+
+pub declaration-returns-in-Some-clause-begins : goal.declaration-returns-in-Some-clause-begins
+declaration-returns-in-Some-clause-begins t c = inl (read_stands _ _ _ c.in-Some.ensures.reads)
+
+pub declaration-returns-in_err-refuse_label-clause-begins : goal.declaration-returns-in_err-refuse_label-clause-begins
+declaration-returns-in_err-refuse_label-clause-begins t c =
+    refused_so (λ r. BeginsEntry c.args.cursor.rest.now) (λ r. r ≡ memory → BeginsEntry c.args.cursor.rest.now) c.from_residual.result c.from_residual.ensures.0
+    (err_from (λ r. r ≡ memory → BeginsEntry c.args.cursor.rest.now) c.from_residual.result _ c.from_residual.ensures.1
+    (λ lacks. no_memory c.args.cursor.end c.args.cursor.rest.now c.in_err-refuse_label.ensures.is lacks))
+
+pub declaration-returns-then-begins_label-clause-begins : goal.declaration-returns-then-begins_label-clause-begins
+declaration-returns-then-begins_label-clause-begins t c =
+    let label : BeginsLabel c.args.cursor.rest.now = search rules in
+    begins_always c.field.result (BeginsEntry c.args.cursor.rest.now) (inr (inl label))
+
+pub declaration-returns-then-begins_definition-clause-begins : goal.declaration-returns-then-begins_definition-clause-begins
+declaration-returns-then-begins_definition-clause-begins t c =
+    begins_always c.definition.result (BeginsEntry c.args.cursor.rest.now) (inr (inr (c.begins_definition.ensures.begins c.if-begins_definition.true)))
+
+pub declaration-returns-clause-begins : goal.declaration-returns-clause-begins
+declaration-returns-clause-begins t c = λ lacks. no_memory c.args.cursor.end c.args.cursor.rest.now c.syntax.ensures lacks
 
 pub declaration-returns-in-Some-clause-moves : goal.declaration-returns-in-Some-clause-moves
 declaration-returns-in-Some-clause-moves t c =

@@ -1,7 +1,8 @@
 -- The room falls at each level that opens. Within one level the functions call each other in a fixed order.
-use Rattle.std.proofs.Common.{◌≡◌, ℕ, ◌+◌, ◌*◌, ◌≤◌, false, [], ◌∷◌, length}
+use Rattle.std.proofs.Common.{◌≡◌, ◌⊎◌, ℕ, ◌+◌, ◌*◌, ◌≤◌, false, [], ◌∷◌, length}
 use Rattle.cue_syntax.specs.Grammar.{AreElements, AreEntries, AreNested}
 use Rattle.cue_syntax.specs.Syntax.{elements, entries}
+use Rattle.cue_syntax.specs.Operands.{BeginsEntry}
 use Rattle.cue_syntax.specs.Recogniser as goals
 use Rattle.cue_syntax.specs.Recogniser.{Moves, levels_of, expression, term, more_terms, unary, more_parts}
 use Rattle.cue_syntax.proofs.PartsMakeTrees.{AreTerms, AreParts, Between}
@@ -91,6 +92,7 @@ invariant-declarations-declarations l = record {
   nested : l.top ≡ false → AreNested (entries l.items.items);
   end : l.rest.end ≡ l.cursor.end;
   moves : Moves (levels_of (goals.entries l.top) + l.room) (goals.entries l.top ∷ []) l.cursor.rest.now (goals.entries l.top ∷ []) l.rest.rest.now;
+  begins : (l.rest.rest.now ≡ l.cursor.rest.now) ⊎ BeginsEntry l.cursor.rest.now;
 }
 
 abbrev pub decreases-declarations-declarations : goal.decreases-declarations-declarations
