@@ -1,0 +1,236 @@
+//! Unifies tables of many rows, to see how the cost grows with their size.
+//!
+//! Without arguments it prints how many rows come of small tables. With the words WORK SHAPE ROWS ROUNDS it does the
+//! work on a table of so many rows, and prints whether the last row is there. WORK is `fragments` (tables of 30 new
+//! rows each, as many as ROUNDS, are unified into it, one after the other), `equal` (it is unified with an equal one, at
+//! most once) or `disjoint` (with one of as many rows that lie between its own, at most once). With no rounds the tables
+//! are only made. SHAPE is `wide` (all rows under one parent) or `deep` (all rows under one parent 61 levels down).
+#![tactic(auto)]
+
+use anyhow::Error;
+use cue_lattice::{Memory, Narrow, Text};
+use cue_row::{Labels, Level};
+use cue_scalars::ScalarSet;
+use cue_sets::{IntSet, TextSet};
+use cue_table::{Path, Row, Step, Table};
+use std::alloc::Global;
+use std::{env, error, fmt};
+
+/// The words are not WORK SHAPE ROWS ROUNDS.
+#[derive(Debug, Clone, Copy)]
+struct Usage;
+
+impl fmt::Display for Usage {
+    fn fmt<W: fmt::Write>(&self, f: &mut fmt::Formatter<W>) -> fmt::Result {
+        f.write_str("usage: bench_table [fragments|equal|disjoint wide|deep ROWS ROUNDS]")
+    }
+}
+
+impl error::Error for Usage {}
+
+/// Where the parent of all rows is.
+#[derive(Clone, Copy)]
+enum Shape {
+    Wide,
+    Deep,
+}
+
+impl Shape {
+    fn named(name: &str) -> Option<Shape> {
+        match name {
+            "wide" => Some(Shape::Wide),
+            "deep" => Some(Shape::Deep),
+            _ => None,
+        }
+    }
+
+    fn levels(self) -> usize {
+        match self {
+            Shape::Wide => 0,
+            Shape::Deep => 61,
+        }
+    }
+}
+
+/// What is done with a table.
+#[derive(Clone, Copy)]
+enum Work {
+    Fragments,
+    Equal,
+    Disjoint,
+}
+
+impl Work {
+    fn named(name: &str) -> Option<Work> {
+        match name {
+            "fragments" => Some(Work::Fragments),
+            "equal" => Some(Work::Equal),
+            "disjoint" => Some(Work::Disjoint),
+            _ => None,
+        }
+    }
+}
+
+/// Fields with numbers, from the first on and so far apart.
+#[derive(Clone, Copy)]
+struct Fields {
+    first: u32,
+    apart: u32,
+    count: u32,
+}
+
+/// The path of a numbered field.
+fn path(alloc: Global, shape: Shape, number: u32) -> Result<Path, Memory> {
+    let mut steps = Vec::new(alloc);
+    for _level in 0..shape.levels() {
+        steps.push(Step::Label(Text::from_str(alloc, "level")?))?;
+    }
+    steps.push(Step::Label(Text::new(format!(in alloc; "f{number:010}")?)))?;
+    Ok(Path::new(steps).unwrap_or(Path::root(alloc)))
+}
+
+/// The table that has the row at each of the fields.
+fn table<R: Narrow>(
+    alloc: Global,
+    shape: Shape,
+    fields: Fields,
+    row: &R,
+) -> Result<Table<R>, Memory> {
+    let mut made = Table::new(alloc);
+    let mut number = fields.first;
+    for _ in 0..fields.count {
+        let _is_last = made.append(&path(alloc, shape, number)?, row.copy(alloc)?)?;
+        number = number.saturating_add(fields.apart);
+    }
+    Ok(made)
+}
+
+/// The tables that are unified into one of so many rows, whose fields have the even numbers.
+fn parts(work: Work, rows: u32, round: u32) -> Fields {
+    match work {
+        Work::Fragments => Fields {
+            first: round.saturating_mul(2).saturating_add(1),
+            apart: rows / 30 * 2,
+            count: 30,
+        },
+        Work::Equal => Fields {
+            first: 0,
+            apart: 2,
+            count: rows,
+        },
+        Work::Disjoint => Fields {
+            first: 1,
+            apart: 2,
+            count: rows,
+        },
+    }
+}
+
+/// The table of so many rows, with the others unified into it.
+fn unified<R: Narrow>(
+    alloc: Global,
+    work: Work,
+    shape: Shape,
+    rows: u32,
+    rounds: u32,
+    row: &R,
+) -> Result<Table<R>, Memory> {
+    let mut made = table(alloc, shape, parts(Work::Equal, rows, 0), row)?;
+    let mut others = Vec::new(alloc);
+    let count = match work {
+        Work::Fragments => 1000,
+        Work::Equal | Work::Disjoint => 1,
+    };
+    for round in 0..count {
+        others.push(table(alloc, shape, parts(work, rows, round), row)?)?;
+    }
+    let mut left = rounds;
+    for other in others {
+        if left > 0 {
+            made.meet_with(other)?;
+            left -= 1;
+        }
+    }
+    Ok(made)
+}
+
+/// The row of a field that has this number as its value.
+fn number_row(alloc: Global, number: i64) -> Result<Row, Memory> {
+    Ok(Row {
+        level: Level::Given,
+        value: integer(alloc, number)?,
+        usual: integer(alloc, number)?,
+        struct_ok: false,
+        list_ok: false,
+        labels: Labels::all(alloc)?,
+        least: 0,
+        most: None,
+    })
+}
+
+/// The set of one integer.
+fn integer(alloc: Global, number: i64) -> Result<ScalarSet, Memory> {
+    Ok(ScalarSet {
+        null: false,
+        no: false,
+        yes: false,
+        ints: IntSet::one(alloc, number)?,
+        texts: TextSet::none(alloc)?,
+    })
+}
+
+/// How many rows the table has.
+fn count<R: Narrow>(alloc: Global, table: &Table<R>) -> Result<usize, Memory> {
+    Ok(table.rows(alloc)?.len())
+}
+
+/// Whether the field is there.
+fn is_there<R: Narrow>(
+    alloc: Global,
+    shape: Shape,
+    number: u32,
+    table: &Table<R>,
+) -> Result<bool, Memory> {
+    Ok(table.row(&path(alloc, shape, number)?).is_some())
+}
+
+/// How many rows small tables have, a line for each work.
+fn samples<R: Narrow>(alloc: Global, shape: Shape, row: &R) -> Result<String, Memory> {
+    let fragments = unified(alloc, Work::Fragments, shape, 60, 2, row)?;
+    let equal = unified(alloc, Work::Equal, shape, 60, 1, row)?;
+    let disjoint = unified(alloc, Work::Disjoint, shape, 60, 1, row)?;
+    let first = count(alloc, &fragments)?;
+    let second = count(alloc, &equal)?;
+    let third = count(alloc, &disjoint)?;
+    Ok(format!(in alloc; "{first}\n{second}\n{third}")?)
+}
+
+/// What is asked for in words, and what came of it.
+fn asked<R: Narrow>(alloc: Global, words: &[String], row: &R) -> Result<bool, Error> {
+    if words.len() < 5 {
+        return Err(Usage.into());
+    }
+    let work = Work::named(words[1].as_str()).ok_or(Usage)?;
+    let shape = Shape::named(words[2].as_str()).ok_or(Usage)?;
+    let rows = words[3].as_str().parse::<u32>().ok().ok_or(Usage)?;
+    let rounds = words[4].as_str().parse::<u32>().ok().ok_or(Usage)?;
+    let made = unified(alloc, work, shape, rows, rounds, row)?;
+    Ok(is_there(alloc, shape, 0, &made)?)
+}
+
+fn main(rt: HostRuntime) -> Result<(), Error> {
+    let alloc = rt.alloc();
+    let row = number_row(alloc, 7)?;
+    let mut words = Vec::new(alloc);
+    for word in env::args(&rt)? {
+        words.push(word)?;
+    }
+    if words.len() > 1 {
+        let found = asked(alloc, &words, &row)?;
+        println!(rt; "{found}")?;
+        return Ok(());
+    }
+    println!(rt; "{}", samples(alloc, Shape::Wide, &row)?)?;
+    println!(rt; "{}", samples(alloc, Shape::Deep, &row)?)?;
+    Ok(())
+}
