@@ -96,7 +96,8 @@ fn plan_row<R: Narrow>(
     requires right { IsRow (IsKept R.refuses R.is_value) right }
     ensures form { IfOk result (λ row. IsRow (IsKept R.refuses R.is_value) (or_row row left.now)) }
     ensures refused { IfOk result (λ row.
-        IsUnion (RowRefuses R.refuses left.now) (RowRefuses R.refuses right) (RowRefuses R.refuses (or_row row left.now))) }
+        IsUnion (RowRefuses R.refuses left.now) (RowRefuses R.refuses right)
+        (RowRefuses R.refuses (or_row row left.now))) }
 {
     match (left, right) {
         (None, row) => Ok(row),
@@ -122,7 +123,8 @@ fn plan_below<R: Narrow>(
     requires right { AreBranches (IsKept R.refuses R.is_value) (branches right.items) }
     ensures room { IfOk result HasRoom }
     ensures union { IfOk result (λ below. IsMerge R.refuses (IsKept R.refuses R.is_value)
-        (branches left.now) (branches right.items) (changed_below (below_of below) (branches left.now))) }
+        (branches left.now) (branches right.items)
+        (changed_below (below_of below) (branches left.now))) }
 {
     if right.is_empty() {
         return Ok(Below::Stay);
@@ -147,7 +149,8 @@ fn plan_slots<R: Narrow>(
     requires right { AreBranches (IsKept R.refuses R.is_value) (branches right.items) }
     ensures room { IfOk result (λ slots. width (slots_of slots.items) ≤ length left.now + length right.items) }
     ensures union { IfOk result (λ slots. IsMerge R.refuses (IsKept R.refuses R.is_value)
-        (branches left.now) (branches right.items) (merged (slots_of slots.items) (branches left.now))) }
+        (branches left.now) (branches right.items)
+        (merged (slots_of slots.items) (branches left.now))) }
 {
     let mut slots = Vec::new(alloc);
     let mut rest = left;
