@@ -28,7 +28,8 @@ pub fn row_count(branch: &Branch<Row>) -> u64
     count
 }
 
-/// Writes the row of a place that is so many steps from the root. These steps were written before, as `steps`.
+/// Writes the row of a place that is so many steps from the root. These steps were written before,
+/// as `steps`.
 #[tactic(auto, unfolding(crate::specs::RowBytes::row_bytes_from))]
 fn put_own_row(out: &mut Vec<u8>, depth: u8, steps: &[u8], row: &Row) -> Result<(), Memory>
     requires { IsShortRow row.now }
@@ -40,8 +41,8 @@ fn put_own_row(out: &mut Vec<u8>, depth: u8, steps: &[u8], row: &Row) -> Result<
     put_parts(out, row)
 }
 
-/// Writes the rows of a branch that is so many steps from the root. These steps were written before, as `steps`, and
-/// afterwards stand there again. The recursion is as deep as the branch.
+/// Writes the rows of a branch that is so many steps from the root. These steps were written
+/// before, as `steps`, and afterwards stand there again. The recursion is as deep as the branch.
 pub fn put_branch(
     out: &mut Vec<u8>,
     depth: u8,

@@ -58,8 +58,8 @@ fn head_at(bytes: &[u8]) -> Result<(u64, &[u8]), Kind>
     Ok((count, rest))
 }
 
-/// The table of so many rows, where their bytes are all there are. Each row is added behind the others as it is read, so
-/// that the table costs what its bytes cost.
+/// The table of so many rows, where their bytes are all there are. Each row is added behind the
+/// others as it is read, so that the table costs what its bytes cost.
 fn rows_at(alloc: Global, count: u64, bytes: &[u8]) -> Result<Table<Row>, Kind>
     ensures ok { IfOk result (AreReadRows count bytes.now) }
     ensures refused { IfErr result (λ kind. IsRefused kind (NoRows count bytes.now)) }
@@ -83,9 +83,10 @@ fn rows_at(alloc: Global, count: u64, bytes: &[u8]) -> Result<Table<Row>, Kind>
     Ok(table)
 }
 
-/// The valid table whose state bytes these are. They are refused as `Version` where they begin with the mark and a version
-/// that is not known, as `NotState` where they do not and no valid table has them, and as `Memory` where memory ran out.
-/// Room is made only for what was read, never for what a count claims.
+/// The valid table whose state bytes these are. They are refused as `Version` where they begin with
+/// the mark and a version that is not known, as `NotState` where they do not and no valid table has
+/// them, and as `Memory` where memory ran out. Room is made only for what was read, never for what
+/// a count claims.
 pub fn decode(alloc: Global, bytes: &[u8]) -> Result<Table<Row>, Kind>
     ensures valid { IfOk result IsValidTable }
     ensures bytes { IfOk result (λ table. table_bytes table ≡ bytes.now) }

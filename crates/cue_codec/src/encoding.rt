@@ -16,8 +16,8 @@ pub const MARK: [u8; 4] = [0xfe, 0x43, 0x55, 0x45];
 /// The version of the format.
 pub const VERSION: u8 = 1;
 
-/// The state bytes of a valid table, version 1. They are written a row at a time, branch by branch. An error says that
-/// memory ran out.
+/// The state bytes of a valid table, version 1. They are written a row at a time, branch by branch.
+/// An error says that memory ran out.
 pub fn encode(alloc: Global, table: &Table<Row>) -> Result<Vec<u8>, Memory>
     requires { IsValidTable table.now }
     ensures { IfOk result (λ bytes. bytes.items ≡ table_bytes table.now) }

@@ -13,8 +13,8 @@ use cue_row::Step;
 use std::alloc::Global;
 use std::cmp::Ordering;
 
-/// Hangs a row in that stands behind all others of a place, and says whether it does. The recursion is as deep as the
-/// path, and goes along the last branches alone.
+/// Hangs a row in that stands behind all others of a place, and says whether it does. The recursion
+/// is as deep as the path, and goes along the last branches alone.
 pub(crate) fn append<R: Narrow>(
     alloc: Global,
     node: &mut Node<R>,
