@@ -1,0 +1,52 @@
+#!/bin/bash
+# How many instructions it takes to resolve a text that was parsed, in thousands, at three sizes of it: chains of
+# definitions that nothing uses, by their number; definitions that use the one before twice, by their number, where
+# nothing uses the last one and where a field does (from the 14th on that is too large); fields with integers, and fields
+# that use one definition; and 60 structs one in the other, by the fields of each, whose values are names. The making,
+# lexing and parsing of the text are taken off. The last column is the exponent of growth from the first size to the last:
+# 1.00 is linear. At the end the longest chain that a text can have is resolved and dropped on a stack of 8 MiB. The
+# script ends with 1 where a growth is above 1.15 or the chain fails. It takes some minutes.
+# Usage, at the top of the repository: bench/scope.sh [PROGRAM], where PROGRAM is what `rt run` makes of bench_scope. It
+# wants valgrind.
+set -eu
+program=${1:-crates/bench_scope/out/bench_scope}
+if [ ! -x "$program" ]; then
+    (cd crates/bench_scope && rt run > /dev/null)
+fi
+
+# the instructions of a run: SHAPE COUNT ROUNDS
+instructions() {
+    valgrind --tool=callgrind --callgrind-out-file=/dev/null "$program" "$@" 2>&1 > /dev/null |
+        awk '/Collected/ { print $4 }'
+}
+
+# a line: SHAPE COUNT COUNT COUNT, where the last count is four times the first
+worst=0
+measure() {
+    local shape=$1 row= count making whole growth
+    shift
+    for count in "$@"; do
+        making=$(instructions "$shape" "$count" 0)
+        whole=$(instructions "$shape" "$count" 1)
+        row="$row $count $((whole - making))"
+    done
+    set -- $row
+    growth=$(awk -v a="$2" -v b="$6" 'BEGIN { printf "%.2f", log(b / a) / log(4) }')
+    worst=$(awk -v g="$growth" -v w="$worst" 'BEGIN { print (g > 1.15) ? 1 : w }')
+    printf '%-8s %7s %9s %7s %9s %7s %9s %7s\n' "$shape" "$1" "$(($2 / 1000))" "$3" "$(($4 / 1000))" \
+        "$5" "$(($6 / 1000))" "$growth"
+}
+
+printf '%-8s %7s %9s %7s %9s %7s %9s %7s\n' shape n of_n 2n of_2n 4n of_4n growth
+measure chain 17500 35000 70000
+measure doubled 15 30 60
+measure reached 4 8 16
+measure wide 7500 15000 30000
+measure uses 5000 10000 20000
+measure nested 125 250 500
+
+printf 'reached, to the 13th, the 14th and the 17th: '
+(for count in 13 14 17; do "$program" reached "$count" 1; done) | paste -s -d '|' | sed 's/|/, /g'
+printf 'the longest chain: '
+(ulimit -s 8192 && "$program" chain 74897 1) || worst=1
+exit "$worst"
