@@ -1,0 +1,275 @@
+//! Writes and reads large states, to see how the cost grows with their size.
+//!
+//! Without arguments it prints how many bytes the states of small tables have. With the words WORK
+//! SHAPE COUNT ROUNDS it makes a table and its state, does the work so many times and prints how
+//! many bytes the state has. WORK is `encode`, `decode` or `copy` (the bytes alone are copied).
+//! SHAPE is one of these:
+//! - `wide`: COUNT fields, each with an integer, at the top.
+//! - `deep`: COUNT such fields under a parent 61 levels down.
+//! - `texts`: one field, which may be one of COUNT texts.
+#![tactic(auto)]
+
+use anyhow::Error;
+use cue_codec::{decode, encode};
+use cue_lattice::{Kind, Memory, Narrow, Text};
+use cue_row::{Labels, Level};
+use cue_scalars::ScalarSet;
+use cue_sets::{IntSet, TextSet};
+use cue_table::{Path, Row, Step, Table};
+use std::alloc::Global;
+use std::{env, error, fmt};
+
+/// Why nothing is measured.
+#[derive(Debug, Clone, Copy)]
+enum Fault {
+    /// The words are not WORK SHAPE COUNT ROUNDS.
+    Usage,
+    /// The table that was made is not valid.
+    Invalid,
+    /// The state of the table is refused.
+    Refused(Kind),
+}
+
+impl fmt::Display for Fault {
+    fn fmt<W: fmt::Write>(&self, f: &mut fmt::Formatter<W>) -> fmt::Result {
+        match self {
+            Fault::Usage => {
+                f.write_str("usage: bench_codec [encode|decode|copy wide|deep|texts COUNT ROUNDS]")
+            }
+            Fault::Invalid => f.write_str("the table is not valid"),
+            Fault::Refused(kind) => f.write_str(kind.name()),
+        }
+    }
+}
+
+impl error::Error for Fault {}
+
+/// What is done with a state.
+#[derive(Clone, Copy)]
+enum Work {
+    Encode,
+    Decode,
+    Copy,
+}
+
+impl Work {
+    fn named(name: &str) -> Option<Work> {
+        match name {
+            "encode" => Some(Work::Encode),
+            "decode" => Some(Work::Decode),
+            "copy" => Some(Work::Copy),
+            _ => None,
+        }
+    }
+}
+
+/// What a table is like.
+#[derive(Clone, Copy)]
+enum Shape {
+    Wide,
+    Deep,
+    Texts,
+}
+
+impl Shape {
+    const ALL: [Shape; 3] = [Shape::Wide, Shape::Deep, Shape::Texts];
+
+    fn name(self) -> &'static str {
+        match self {
+            Shape::Wide => "wide",
+            Shape::Deep => "deep",
+            Shape::Texts => "texts",
+        }
+    }
+
+    fn named(name: &str) -> Option<Shape> {
+        match name {
+            "wide" => Some(Shape::Wide),
+            "deep" => Some(Shape::Deep),
+            "texts" => Some(Shape::Texts),
+            _ => None,
+        }
+    }
+
+    /// How many levels down the parent of the fields is.
+    fn levels(self) -> usize {
+        match self {
+            Shape::Wide => 0,
+            Shape::Deep => 61,
+            Shape::Texts => 0,
+        }
+    }
+}
+
+/// The path of the parent that is so many levels down.
+fn parent(alloc: Global, levels: usize) -> Result<Vec<Step>, Memory> {
+    let mut steps = Vec::new(alloc);
+    for _ in 0..levels {
+        steps.push(Step::Label(Text::from_str(alloc, "l")?))?;
+    }
+    Ok(steps)
+}
+
+/// The path that has these steps.
+fn path(alloc: Global, steps: Vec<Step>) -> Path {
+    Path::new(steps).unwrap_or(Path::root(alloc))
+}
+
+/// The path of a numbered field whose parent is so many levels down.
+fn field(alloc: Global, levels: usize, number: u32) -> Result<Path, Memory> {
+    let mut steps = parent(alloc, levels)?;
+    steps.push(Step::Label(Text::new(format!(in alloc; "f{number:08}")?)))?;
+    Ok(path(alloc, steps))
+}
+
+/// The table of so many fields with equal rows, whose parent is so many levels down.
+fn table<R: Narrow>(
+    alloc: Global,
+    levels: usize,
+    fields: u32,
+    outer: &R,
+    row: &R,
+) -> Result<Table<R>, Memory> {
+    let mut made = Table::new(alloc);
+    let _is_last = made.append(&Path::root(alloc), outer.copy(alloc)?)?;
+    for level in 0..levels {
+        let steps = parent(alloc, level.saturating_add(1))?;
+        let _is_last = made.append(&path(alloc, steps), outer.copy(alloc)?)?;
+    }
+    for number in 0..fields {
+        let _is_last = made.append(&field(alloc, levels, number)?, row.copy(alloc)?)?;
+    }
+    Ok(made)
+}
+
+/// The row of a struct that allows all labels.
+fn open_struct(alloc: Global) -> Result<Row, Memory> {
+    Ok(Row {
+        level: Level::Optional,
+        value: ScalarSet::empty(alloc)?,
+        usual: ScalarSet::empty(alloc)?,
+        struct_ok: true,
+        list_ok: false,
+        labels: Labels::all(alloc)?,
+        least: 0,
+        most: None,
+    })
+}
+
+/// The row of a field that has one of these scalars.
+fn scalar(alloc: Global, value: ScalarSet) -> Result<Row, Memory> {
+    Ok(Row {
+        level: Level::Given,
+        usual: value.copy(alloc)?,
+        value,
+        struct_ok: false,
+        list_ok: false,
+        labels: Labels::all(alloc)?,
+        least: 0,
+        most: None,
+    })
+}
+
+/// The set of one integer.
+fn integer(alloc: Global, number: i64) -> Result<ScalarSet, Memory> {
+    Ok(ScalarSet {
+        null: false,
+        no: false,
+        yes: false,
+        ints: IntSet::one(alloc, number)?,
+        texts: TextSet::none(alloc)?,
+    })
+}
+
+/// The set of so many texts.
+fn texts(alloc: Global, count: u32) -> Result<ScalarSet, Memory> {
+    let mut list = Vec::new(alloc);
+    for number in 0..count {
+        list.push(Text::new(format!(in alloc; "t{number:08}")?))?;
+    }
+    Ok(ScalarSet {
+        null: false,
+        no: false,
+        yes: false,
+        ints: IntSet::empty(alloc)?,
+        texts: match TextSet::from_texts(false, list) {
+            Some(set) => set,
+            None => TextSet::none(alloc)?,
+        },
+    })
+}
+
+/// The table of this shape with so many fields or texts.
+fn shaped(alloc: Global, shape: Shape, count: u32) -> Result<Table<Row>, Memory> {
+    let (fields, value) = match shape {
+        Shape::Wide | Shape::Deep => (count, integer(alloc, 7)?),
+        Shape::Texts => (1, texts(alloc, count)?),
+    };
+    let outer = open_struct(alloc)?;
+    let row = scalar(alloc, value)?;
+    table(alloc, shape.levels(), fields, &outer, &row)
+}
+
+/// Reads a state.
+fn read(alloc: Global, bytes: &[u8]) -> Result<(), Error> {
+    match decode(alloc, bytes) {
+        Ok(_table) => Ok(()),
+        Err(kind) => Err(Fault::Refused(kind).into()),
+    }
+}
+
+/// Does the work so many times, and says how many bytes the state has.
+fn measured(
+    alloc: Global,
+    work: Work,
+    shape: Shape,
+    count: u32,
+    rounds: u32,
+) -> Result<usize, Error> {
+    let table = shaped(alloc, shape, count)?;
+    if !table.is_valid() {
+        return Err(Fault::Invalid.into());
+    }
+    let bytes = encode(alloc, &table)?;
+    for _ in 0..rounds {
+        match work {
+            Work::Encode => {
+                let _state = encode(alloc, &table)?;
+            }
+            Work::Decode => read(alloc, &bytes)?,
+            Work::Copy => {
+                let _state = Vec::from_slice(alloc, &bytes)?;
+            }
+        }
+    }
+    Ok(bytes.len())
+}
+
+/// What is asked for in words, and what came of it.
+fn asked(alloc: Global, words: &[String]) -> Result<usize, Error> {
+    if words.len() < 5 {
+        return Err(Fault::Usage.into());
+    }
+    let work = Work::named(words[1].as_str()).ok_or(Fault::Usage)?;
+    let shape = Shape::named(words[2].as_str()).ok_or(Fault::Usage)?;
+    let count = words[3].as_str().parse::<u32>().ok().ok_or(Fault::Usage)?;
+    let rounds = words[4].as_str().parse::<u32>().ok().ok_or(Fault::Usage)?;
+    measured(alloc, work, shape, count, rounds)
+}
+
+fn main(rt: HostRuntime) -> Result<(), Error> {
+    let alloc = rt.alloc();
+    let mut words = Vec::new(alloc);
+    for word in env::args(&rt)? {
+        words.push(word)?;
+    }
+    if words.len() > 1 {
+        println!(rt; "{}", asked(alloc, &words)?)?;
+        return Ok(());
+    }
+    for shape in Shape::ALL {
+        let bytes = measured(alloc, Work::Decode, shape, 3, 1)?;
+        println!(rt; "{} {bytes}", shape.name())?;
+    }
+    Ok(())
+}
