@@ -1,5 +1,5 @@
 -- One step down from the root: what a table refuses below is what the branch refuses.
-use Rattle.std.proofs.Common.{◌≡◌, ◌↔◌, ◌⊎◌, inl, inr, ⊎_elim, ℕ, Bool, true, false, List, [], ◌∷◌, ◌++◌, Option, None, Some, refl, sym, ap, subst, ◌∙◌}
+use Rattle.std.proofs.Common.{◌≡◌, ◌↔◌, ℕ, false, List, [], ◌∷◌, ◌++◌, Option, None, Some, refl, sym, ap, subst, ◌∙◌}
 use Rattle.std.specs.Bool.{IsTrue}
 use Rattle.std.specs.Option.{option_and_then}
 use Rattle.std.proofs.lemmas.Bool.{false≢true}
@@ -9,8 +9,9 @@ use Rattle.cue_lattice.specs.Question.{Question, Refusals, allows, level_at_most
 use Rattle.cue_row.specs.declared.row.Row.{Row}
 use Rattle.cue_row.specs.Row as rows
 use Rattle.cue_table.specs.Refuses.{TableRefuses}
-use Rattle.cue_table.specs.Tree.{Tree, node, row_of, below, find, branch_at, row_at}
+use Rattle.cue_table.specs.Tree.{Tree, empty, row_of, below, find, branch_at, row_at}
 use Rattle.cue_report.specs.Answers.{further, IsStepDemanded, IsDemanded, IsNotAllowed}
+use Rattle.cue_report.specs.GapSearch.{IsBarred}
 use Rattle.cue_report.specs.Search.{is_demanded, is_refused}
 use Rattle.cue_report.proofs.Rows.{RefusedAt, level_is, longer_is, refused_is, index_allowed}
 
@@ -24,6 +25,18 @@ row_below tree inner step path f = ap (λ found. option_and_then row_of (option_
 
 no_row_below : (tree : Tree Row) (step : paths.Step) (path : Path) → find step (below tree) ≡ None → row_at tree (step ∷ path) ≡ None
 no_row_below tree step path f = ap (λ found. option_and_then row_of (option_and_then (λ branch. branch_at branch path) found)) f
+
+-- what stands below the step of a tree is what stands in the branch
+abbrev pub IsSeen : Tree Row → Tree Row → paths.Step → Type 0
+IsSeen tree inner step = (path : Path) → row_at tree (step ∷ path) ≡ row_at inner path
+
+pub seen : (tree inner : Tree Row) (step : paths.Step) → find step (below tree) ≡ Some inner → IsSeen tree inner step
+seen tree inner step f path = row_below tree inner step path f
+
+-- where there is no branch, it is as if there were one without rows
+pub seen_empty : (tree : Tree Row) (step : paths.Step) → find step (below tree) ≡ None → IsSeen tree empty step
+seen_empty tree step f [] = no_row_below tree step [] f
+seen_empty tree step f (next ∷ path) = no_row_below tree step (next ∷ path) f
 
 -- where there is no branch, nothing is refused
 pub open_below : (tree : Tree Row) (step : paths.Step) (path : Path) (question : Question) → find step (below tree) ≡ None → Told tree (step ∷ path) question → ⊥
@@ -39,15 +52,12 @@ not_nil : (p : Path) (s : paths.Step) → [] ≡ p ++ s ∷ [] → ⊥
 not_nil [] s e = cc
 not_nil (x ∷ p) s e = cc
 
-module _ (tree inner : Tree Row) (step : paths.Step) (found : find step (below tree) ≡ Some inner) where
+module _ (tree inner : Tree Row) (step : paths.Step) (same : IsSeen tree inner step) where
   pub down : (path : Path) (question : Question) → Told tree (step ∷ path) question → Told inner path question
-  down path question h = let P : Option Row → Type 0 = λ row. RefusedAt row question in subst P (row_below tree inner step path found) h
+  down path question h = let P : Option Row → Type 0 = λ row. RefusedAt row question in subst P (same path) h
 
   pub up : (path : Path) (question : Question) → Told inner path question → Told tree (step ∷ path) question
-  up path question h = let P : Option Row → Type 0 = λ row. RefusedAt row question in subst P (sym (row_below tree inner step path found)) h
-
-  own_row : row_at tree (step ∷ []) ≡ row_of inner
-  own_row = row_below tree inner step [] found
+  up path question h = let P : Option Row → Type 0 = λ row. RefusedAt row question in subst P (sym (same path)) h
 
   step_down : (before : Path) (next : paths.Step) → IsStepDemanded (Told tree) (step ∷ before) next → IsStepDemanded (Told inner) before next
   step_down before (label text) h = down (before ++ label text ∷ []) (level_at_most 0) h
@@ -82,12 +92,11 @@ module _ (tree inner : Tree Row) (step : paths.Step) (found : find step (below t
   barred_up path (above, text, e, r) = (step ∷ above, text, ap (λ p. step ∷ p) e, up above (allows text) r)
 
 -- whether the first step is demanded is what the rows say
-pub first_demanded : (tree inner : Tree Row) (step : paths.Step) → find step (below tree) ≡ Some inner → IsTrue (is_demanded (row_of tree) step (row_of inner)) ↔ IsStepDemanded (Told tree) [] step
-first_demanded tree inner (label text) f =
+pub first_demanded : (tree inner : Tree Row) (step : paths.Step) → IsSeen tree inner step → IsTrue (is_demanded (row_of tree) step (row_of inner)) ↔ IsStepDemanded (Told tree) [] step
+first_demanded tree inner (label text) same =
     let P : Option Row → Type 0 = λ row. RefusedAt row (level_at_most 0) in
-    let same = row_below tree inner (label text) [] f in
-    (λ h. subst P (sym same) ((level_is (row_of inner)).0 h), λ h. (level_is (row_of inner)).1 (subst P same h))
-first_demanded tree inner (index n) f = longer_is (row_of tree) n
+    (λ h. subst P (sym (same [])) ((level_is (row_of inner)).0 h), λ h. (level_is (row_of inner)).1 (subst P (same []) h))
+first_demanded tree inner (index n) same = longer_is (row_of tree) n
 
 -- and whether its label is refused
 pub first_refused : (tree : Tree Row) (step : paths.Step) → IsTrue (is_refused (row_of tree) step) ↔ IsNotAllowed (Told tree) (step ∷ [])
@@ -118,6 +127,16 @@ first_refused tree (index n) = (
   none : IsNotAllowed (Told tree) (index n ∷ []) → ⊥
   none (above, m, e, r) = cases above m e
 
+-- the label of a place below is refused, seen from the branch
+pub barred_below : (tree inner : Tree Row) (step : paths.Step) (path : Path) → IsSeen tree inner step → IsBarred (is_refused (row_of tree) step) (Told inner) path ↔ IsNotAllowed (Told tree) (step ∷ path)
+barred_below tree inner step [] same = first_refused tree step
+barred_below tree inner step (next ∷ path) same = (λ h. barred_up tree inner step same (next ∷ path) h, λ h. barred_down tree inner step same next path h)
+
 -- the root has no label
 pub root_allowed : (refuses : Refusals) → IsNotAllowed refuses [] → ⊥
 root_allowed refuses (above, text, e, r) = not_nil above (label text) e
+
+-- seen from the root
+pub at_root : (refuses : Refusals) (path : Path) → IsBarred false refuses path ↔ IsNotAllowed refuses path
+at_root refuses [] = (λ h. absurd (false≢true h), λ h. absurd (root_allowed refuses h))
+at_root refuses (step ∷ path) = (λ h. h, λ h. h)

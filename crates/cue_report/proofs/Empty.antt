@@ -10,17 +10,17 @@ use Rattle.cue_sets.specs.Pieces.{least, greatest, is_member, IsInt64, IsCanonic
 use Rattle.cue_sets.specs.PieceLaws.{first_is_least}
 use Rattle.cue_sets.specs.Texts.{is_text_member}
 use Rattle.cue_sets.specs.TextLaws.{first_is_listed, is_listed-zeros, greatest_length, zeros}
-use Rattle.cue_scalars.specs.Scalars.{members, IsScalarSet, RefusesScalar}
+use Rattle.cue_scalars.specs.Scalars.{IsScalarSet, RefusesScalar}
 use Rattle.cue_scalars.specs.declared.scalar_set.ScalarSet.{ScalarSet}
 use Rattle.cue_row.specs.Kinds.{IsEmptySet}
 use Rattle.cue_row.specs.declared.row.Row.{Row}
 use Rattle.cue_report.specs.Search.{is_nil, is_empty_set, lacks_value}
 
-integer_from : (n : ℤ) → least ≤ℤ n → n ≤ℤ greatest → IsInteger n
+pub integer_from : (n : ℤ) → least ≤ℤ n → n ≤ℤ greatest → IsInteger n
 integer_from (pos n) a b = omega (arith, ints)
 integer_from (negsuc n) a b = omega (arith, ints)
 
-int64_from : (n : ℤ) → IsInteger n → IsInt64 n
+pub int64_from : (n : ℤ) → IsInteger n → IsInt64 n
 int64_from (pos n) h = (omega (arith, ints), omega (arith, ints))
 int64_from (negsuc n) h = (omega (arith, ints), omega (arith, ints))
 

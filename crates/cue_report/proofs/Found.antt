@@ -1,32 +1,27 @@
 -- The conflicts that a search finds are those of the table.
-use Rattle.std.proofs.Common.{◌≡◌, ◌↔◌, ◌⊎◌, inl, inr, ⊎_elim, ℕ, Bool, true, false, ◌||◌, List, [], ◌∷◌, ◌++◌, map, Option, None, Some, refl, sym, ap, subst, ◌∙◌}
+use Rattle.std.proofs.Common.{◌≡◌, ◌↔◌, ◌⊎◌, inl, inr, ⊎_elim, Bool, true, false, ◌||◌, List, [], ◌∷◌, ◌++◌, map, Option, None, Some, refl, sym, ap, subst, ◌∙◌}
 use Rattle.std.specs.Bool.{IsTrue}
 use Rattle.std.specs.List.{AllByRecursion}
-use Rattle.std.proofs.lemmas.Bool.{false≢true}
 use Rattle.std.specs.declared.cmp.Ordering.{Ordering}
 use Rattle.std.specs.declared.cmp.Ordering.TheVariants.{Less, Equal, Greater}
 use Rattle.cue_lattice.specs.OneOf.{OneOf}
 use Rattle.cue_lattice.specs.Path as paths
 use Rattle.cue_lattice.specs.Path.{label, step_cmp, Path}
-use Rattle.cue_lattice.specs.Question.{Refusals, level_at_most}
+use Rattle.cue_lattice.specs.Question.{level_at_most}
 use Rattle.cue_row.specs.declared.row.Row.{Row}
 use Rattle.cue_row.specs.Row.{Refuses, IsRow}
 use Rattle.cue_table.specs.Form as form
 use Rattle.cue_table.specs.Form.{IsTree, AreBranches, IsBelowAll, IsKept, IsTable}
 use Rattle.cue_table.specs.Tree.{Tree, node, Children, none, child, row_of, below, if_equal, find}
 use Rattle.cue_report.specs.Answers.{IsDemanded, HasNoValue, IsNotAllowed}
-use Rattle.cue_report.specs.Listing.{Lists, IsConflict, AreConflicts, IsRising}
+use Rattle.cue_report.specs.GapSearch.{IsBarred}
+use Rattle.cue_report.specs.Listing.{IsConflict, AreConflicts, IsRising}
 use Rattle.cue_report.specs.Search.{under, only_if, has_no_value, is_demanded, is_refused, conflict_here, conflicts_in, conflicts_below}
 use Rattle.cue_report.specs.declared.conflict.Conflict.{Conflict}
 use Rattle.cue_report.proofs.Empty.{same_truth}
-use Rattle.cue_report.proofs.Rows.{NoValueAt, no_value_is, some_value}
-use Rattle.cue_report.proofs.Order.{reverse_cmp, same_step, equal_steps, all_append, all_map, all_from, one_left, one_right, one_map, AreBefore, AreBehind, rising_append, rising_lifted, lifted_before, lifted_behind}
-use Rattle.cue_report.proofs.Descent.{Told, open_below, row_below, demanded_down, demanded_up, barred_down, barred_up, first_demanded, first_refused, root_allowed}
-
--- the label of the place is refused: at the root as is told, and below as the tree refuses it
-abbrev pub IsBarred : Bool → Refusals → Path → Type 0
-IsBarred not_allowed refuses [] = IsTrue not_allowed
-IsBarred not_allowed refuses (step ∷ path) = IsNotAllowed refuses (step ∷ path)
+use Rattle.cue_report.proofs.Rows.{NoValueAt, no_value_is}
+use Rattle.cue_report.proofs.Order.{reverse_cmp, same_step, equal_steps, all_append, all_map, all_from, one_left, one_right, one_map, AreBehind, rising_append, rising_lifted, lifted_before, lifted_behind}
+use Rattle.cue_report.proofs.Descent.{Told, open_below, row_below, seen, demanded_down, demanded_up, barred_below, first_demanded, at_root}
 
 -- a conflict at a place of a tree, of which the place above refuses the label or not
 pub record IsConflictIn (not_allowed : Bool) (tree : Tree Row) (conflict : Conflict) : Type 0 where
@@ -44,19 +39,15 @@ value_below tree inner step path f =
     let same = row_below tree inner step path f in
     (λ h. subst NoValueAt same h, λ h. subst NoValueAt (sym same) h)
 
-barred_below : (tree inner : Tree Row) (step : paths.Step) (path : Path) → find step (below tree) ≡ Some inner → IsBarred (is_refused (row_of tree) step) (Told inner) path ↔ IsNotAllowed (Told tree) (step ∷ path)
-barred_below tree inner step [] f = first_refused tree step
-barred_below tree inner step (next ∷ path) f = (λ h. barred_up tree inner step f (next ∷ path) h, λ h. barred_down tree inner step f next path h)
-
 -- a conflict of a branch is one of the tree
 conflict_up :
     (not_allowed : Bool) (tree inner : Tree Row) (step : paths.Step) (conflict : Conflict) → find step (below tree) ≡ Some inner
     → is_demanded (row_of tree) step (row_of inner) ≡ true → IsConflictIn (is_refused (row_of tree) step) inner conflict
     → IsConflictIn not_allowed tree (under (step ∷ []) conflict)
 conflict_up not_allowed tree inner step conflict f d h = record {
-  demanded = demanded_up tree inner step f conflict.path ((first_demanded tree inner step f).0 d) h.demanded;
+  demanded = demanded_up tree inner step (seen tree inner step f) conflict.path ((first_demanded tree inner step (seen tree inner step f)).0 d) h.demanded;
   no_value = let same = value_below tree inner step conflict.path f in both_ways h.no_value (same.1, same.0);
-  barred = both_ways h.barred (barred_below tree inner step conflict.path f);
+  barred = both_ways h.barred (barred_below tree inner step conflict.path (seen tree inner step f));
   cause = h.cause;
 }
 
@@ -69,10 +60,10 @@ conflict_down not_allowed tree inner step conflict path e f h =
     let demanded : IsDemanded (Told tree) (step ∷ path) = subst (IsDemanded (Told tree)) e h.demanded in
     let value : IsTrue conflict.no_value ↔ HasNoValue (Told tree) (step ∷ path) = subst (λ p. IsTrue conflict.no_value ↔ HasNoValue (Told tree) p) e h.no_value in
     let barred : IsTrue conflict.not_allowed ↔ IsNotAllowed (Told tree) (step ∷ path) = subst (λ p. IsTrue conflict.not_allowed ↔ IsBarred not_allowed (Told tree) p) e h.barred in
-    let same = barred_below tree inner step path f in (
-      (first_demanded tree inner step f).1 (demanded [] path step refl),
+    let same = barred_below tree inner step path (seen tree inner step f) in (
+      (first_demanded tree inner step (seen tree inner step f)).1 (demanded [] path step refl),
       record {
-        demanded = demanded_down tree inner step f path demanded;
+        demanded = demanded_down tree inner step (seen tree inner step f) path demanded;
         no_value = both_ways value (value_below tree inner step path f);
         barred = both_ways barred (same.1, same.0);
         cause = h.cause;
@@ -139,11 +130,11 @@ row_form : (tree : Tree Row) → IsTable Refuses IsRow tree → form.IsRow IsRow
 row_form (node None children) h = tt
 row_form (node (Some row) children) h = h.0.0
 
-found_first : (step : paths.Step) (tree : Tree Row) (children : Children Row) → find step (child step tree children) ≡ Some tree
+pub found_first : (step : paths.Step) (tree : Tree Row) (children : Children Row) → find step (child step tree children) ≡ Some tree
 found_first step tree children = ap (λ o. if_equal o tree (find step children)) (same_step step)
 
 -- a branch further on is found too
-found_later : (next step : paths.Step) (here tree : Tree Row) (children : Children Row) → IsBelowAll next children → find step children ≡ Some tree → find step (child next here children) ≡ Some tree
+pub found_later : (next step : paths.Step) (here tree : Tree Row) (children : Children Row) → IsBelowAll next children → find step children ≡ Some tree → find step (child next here children) ≡ Some tree
 found_later next step here tree children b f =
     ap (λ o. if_equal o here (find step children)) (reverse_cmp next step Less (before children b f)) ∙ f
   where
@@ -186,7 +177,7 @@ mutual
       only_when false xs k = tt
 
 -- ---- all are found
-found_cases : {X : Type 0} (o : Option X) → (o ≡ None) ⊎ ((x : X) × (o ≡ Some x))
+pub found_cases : {X : Type 0} (o : Option X) → (o ≡ None) ⊎ ((x : X) × (o ≡ Some x))
 found_cases None = inl refl
 found_cases (Some x) = inr (x, refl)
 
@@ -296,10 +287,6 @@ mutual
       joined false xs ys k l f = l
 
 -- ---- the whole table
-at_root : (refuses : Refusals) (path : Path) → IsBarred false refuses path ↔ IsNotAllowed refuses path
-at_root refuses [] = (λ h. absurd (false≢true h), λ h. absurd (root_allowed refuses h))
-at_root refuses (step ∷ path) = (λ h. h, λ h. h)
-
 -- what a search from the root finds are the conflicts of the table
 pub conflicts_found : (tree : Tree Row) → IsTable Refuses IsRow tree → AreConflicts (Told tree) (conflicts_in false tree)
 conflicts_found tree h = record {

@@ -1,6 +1,10 @@
+pub mod Choice
 pub mod Descent
 pub mod Empty
 pub mod Found
+pub mod FoundGaps
+pub mod GapWalk
+pub mod Open
 pub mod Order
 pub mod Rows
 pub mod Texts

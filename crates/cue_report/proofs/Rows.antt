@@ -1,11 +1,10 @@
 -- What the row at a place says of the questions there.
-use Rattle.std.proofs.Common.{◌≡◌, ◌↔◌, ◌⊎◌, inl, inr, ⊎_elim, ℕ, ◌<◌, ◌≤◌, Bool, true, false, not, ◌&&◌, ◌||◌, List, [], ◌∷◌, nat_lt, Option, None, Some, refl, sym, ap, subst, ◌∙◌, arith}
+use Rattle.std.proofs.Common.{◌≡◌, ◌↔◌, ◌⊎◌, inl, inr, ⊎_elim, ℕ, ◌<◌, Bool, true, false, not, ◌&&◌, ◌||◌, List, [], nat_lt, Option, None, Some, refl, sym, ap, ◌∙◌, arith}
 use Rattle.std.specs.Bool.{IsTrue}
 use Rattle.std.proofs.lemmas.Bool.{false≢true}
 use Rattle.std.proofs.lemmas.Bool.Decides.{nat_tests}
-use Rattle.cue_lattice.specs.Path as paths
 use Rattle.cue_lattice.specs.Path.{label, index, Path}
-use Rattle.cue_lattice.specs.Question.{Question, struct, list, allows, level_at_most, length_at_most, length_at_least}
+use Rattle.cue_lattice.specs.Question.{Question, allows, level_at_most, length_at_most}
 use Rattle.cue_row.specs.declared.level.Level.{Level}
 use Rattle.cue_row.specs.declared.level.Level.TheVariants.{Optional, Required, Given}
 use Rattle.cue_row.specs.declared.row.Row.{Row}
@@ -16,8 +15,8 @@ use Rattle.cue_row.specs.Row as rows
 use Rattle.cue_row.specs.Row.{IsRow}
 use Rattle.cue_table.specs.Form as form
 use Rattle.cue_table.specs.Refuses.{RowRefuses}
-use Rattle.cue_report.specs.Answers.{HasNoScalar, HasNoLength, HasNoValue}
-use Rattle.cue_report.specs.Search.{is_empty_set, is_above, lacks_value, has_no_value, is_wanted, has_level, is_longer, is_refused}
+use Rattle.cue_report.specs.Answers.{HasNoValue}
+use Rattle.cue_report.specs.Search.{is_empty_set, is_above, has_no_value, is_wanted, has_level, is_longer, is_refused}
 use Rattle.cue_report.proofs.Empty.{refused_empty, empty_refused}
 
 -- what the row at a place refuses, where there is one

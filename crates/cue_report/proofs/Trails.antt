@@ -17,3 +17,10 @@ trail_more xs i item copied old new h is c e n =
     ∙ ap (λ s. map shown (take i xs) ++ step_of s ∷ []) c
     ∙ ap (λ s. map shown (take i xs) ++ shown s ∷ []) is
     ∙ sym (map_more shown xs i item h)
+
+-- the copies of the steps, and an element behind them
+pub element_trail :
+    (copies after : List Step) (held now : List (Bor Step)) (x : Step) → map step_of copies ≡ map shown held → held ≡ now → after ≡ copies ++ x ∷ []
+    → map step_of after ≡ map shown now ++ step_of x ∷ []
+element_trail copies after held now x c h a =
+    ap (map step_of) a ∙ map_push step_of copies x ∙ ap (λ ys. ys ++ step_of x ∷ []) c ∙ ap (λ zs. map shown zs ++ step_of x ∷ []) h

@@ -1,5 +1,5 @@
 -- The walk of a search over the branches of a place.
-use Rattle.std.proofs.Common.{◌≡◌, ◌↔◌, ℕ, ◌+◌, ◌-◌, ◌<◌, ◌≤◌, Bool, true, false, not, ◌||◌, List, [], ◌∷◌, ◌++◌, length, take, map, Option, None, Some, refl, sym, ap, subst, ◌∙◌, arith, Bor, append_assoc, length-append}
+use Rattle.std.proofs.Common.{◌≡◌, ℕ, ◌+◌, ◌-◌, ◌<◌, ◌≤◌, Bool, true, false, List, [], ◌∷◌, ◌++◌, length, take, map, Option, refl, sym, ap, ◌∙◌, arith, Bor, append_assoc, length-append}
 use Rattle.std.proofs.lemmas.List.{append-nil, map-append, map_push, take_all, take-append-le}
 use Rattle.cue_lattice.specs.Path as paths
 use Rattle.cue_lattice.specs.Path.{Path}
@@ -86,7 +86,7 @@ inner_smaller (node row children) rest rest' step inner s c =
     let size : children_size rest ≡ tree_size inner + children_size rest' = ap children_size (first_child rest rest' step inner c) in
     omega arith
 
-none_left : (rest : Children Row) → children_of rest ≡ [] → rest ≡ none
+pub none_left : (rest : Children Row) → children_of rest ≡ [] → rest ≡ none
 none_left none e = refl
 none_left (child step tree rest) e = cc
 

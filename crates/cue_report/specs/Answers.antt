@@ -1,5 +1,5 @@
 -- What is demanded of a configuration and what is in the way of its export, told by what is refused at each path.
-use Rattle.std.specs.Prelude.{◌≡◌, ◌⊎◌, ◌+◌, ℕ, List, [], ◌∷◌, ◌++◌}
+use Rattle.std.specs.Prelude.{◌≡◌, ◌⊎◌, ℕ, List, [], ◌∷◌, ◌++◌}
 use Rattle.cue_lattice.specs.declared.scalar.Scalar.{Scalar}
 use Rattle.cue_lattice.specs.Path.{Step, label, index, Path}
 use Rattle.cue_lattice.specs.Question.{Refusals, may_be, struct, list, allows, level_at_most, length_at_most, length_at_least}

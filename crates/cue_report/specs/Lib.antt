@@ -1,4 +1,6 @@
 pub mod Answers
+pub mod GapSearch
+pub mod Gaps
 pub mod Lines
 pub mod Listing
 pub mod Search

@@ -8,6 +8,7 @@ ghost use Rattle.cue_report.specs.Trail.{trail};
 
 use crate::Place;
 use crate::demand::{is_demanded, is_refused, lacks_value};
+use crate::place::copied;
 use cue_lattice::Memory;
 use cue_row::{Row, Step};
 use cue_table::{Branch, Table};
@@ -89,23 +90,12 @@ impl<'a> Search<'a> {
         ensures found { OnOk result (self.new.found.items ≡ self.old.found.items
             ++ (record { path = trail self.old; no_value = no_value; not_allowed = not_allowed } ∷ [])) }
     {
-        let path = self.place()?;
+        let path = Place::new(copied(self.alloc, &self.steps)?);
         self.found.push(Conflict {
             path,
             no_value,
             not_allowed,
         })?;
         Ok(())
-    }
-
-    /// The place at hand.
-    fn place(&self) -> Result<Place, Memory>
-        ensures { IfOk result (λ place. place ≡ trail self.now) }
-    {
-        let mut steps = Vec::with_capacity(self.alloc, self.steps.len())?;
-        for step in &self.steps {
-            steps.push(step.copy(self.alloc)?)?;
-        }
-        Ok(Place::new(steps))
     }
 }

@@ -11,6 +11,6 @@ pub use conflict::{Conflict, conflicts};
 pub use cue_lattice::Memory;
 pub use cue_row::{Row, path_text};
 pub use cue_table::Table;
-pub use gap::Gap;
+pub use gap::{Gap, incomplete};
 pub use place::Place;
 pub use report::lines;

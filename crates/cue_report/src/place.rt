@@ -1,7 +1,9 @@
-ghost use Rattle.std.specs.Prelude.{◌≡◌, map};
+ghost use Rattle.std.specs.Prelude.{◌≡◌, map, IfOk};
 ghost use Rattle.cue_row.specs.Steps.{step_of};
 
+use cue_lattice::Memory;
 use cue_row::Step;
+use std::alloc::Global;
 use std::marker::Model;
 
 /// A place that is reported: the steps that lead there from the root. The element of a list at the end of the longest
@@ -36,4 +38,15 @@ impl Place {
     {
         self.steps.as_slice()
     }
+}
+
+/// Copies of the steps.
+pub(crate) fn copied(alloc: Global, steps: &[&Step]) -> Result<Vec<Step>, Memory>
+    ensures { IfOk result (λ copies. map step_of copies.items ≡ map (λ step. step_of step.now) steps.now) }
+{
+    let mut copies = Vec::with_capacity(alloc, steps.len())?;
+    for step in steps {
+        copies.push(step.copy(alloc)?)?;
+    }
+    Ok(copies)
 }

@@ -1,7 +1,7 @@
 //! What stands in the way of an export, as lines.
 use crate::sample::Place::{Closed, Integers, List, Nothing, Struct};
 use crate::sample::{Place, table};
-use cue_report::{Memory, conflicts, lines};
+use cue_report::{Memory, conflicts, incomplete, lines};
 use cue_row::Level;
 use cue_row::Level::{Given, Optional, Required};
 use std::alloc::Global;
@@ -93,5 +93,51 @@ fn conflicts_stand_in_path_order(rt: HostRuntime) -> Result<(), Fail> {
         text.as_str(),
         "conflict a no value\nconflict a.b no value\nconflict b no value\n"
     );
+    Ok(())
+}
+
+/// The lines of the gaps of the table with these places.
+fn lacking(alloc: Global, places: &[(&str, Level, Place)]) -> Result<String, Memory> {
+    let table = table(alloc, places)?;
+    let gaps = incomplete(alloc, &table)?;
+    lines(alloc, &[], &gaps)
+}
+
+#[test]
+fn below_a_missing_field_is_looked_at(rt: HostRuntime) -> Result<(), Fail> {
+    let text = lacking(
+        rt.alloc(),
+        &[("a", Required, Struct), ("ab", Given, Integers(1, 2))],
+    )?;
+    assert_eq!(rt;
+        text.as_str(),
+        "incomplete a missing\nincomplete a.b not a single value\n"
+    );
+    Ok(())
+}
+
+#[test]
+fn free_elements_are_gaps(rt: HostRuntime) -> Result<(), Fail> {
+    let places = [
+        ("l", Given, List(3, None)),
+        ("l1", Optional, Integers(1, 1)),
+    ];
+    let text = lacking(rt.alloc(), &places)?;
+    assert_eq!(rt;
+        text.as_str(),
+        "incomplete l.0 not a single value\nincomplete l.2 not a single value\n"
+    );
+    Ok(())
+}
+
+#[test]
+fn a_conflict_is_no_gap(rt: HostRuntime) -> Result<(), Fail> {
+    let places = [
+        ("v", Given, Closed("x")),
+        ("vx", Required, Nothing),
+        ("vz", Given, Integers(1, 2)),
+    ];
+    let text = lacking(rt.alloc(), &places)?;
+    assert_eq!(rt; text.as_str(), "");
     Ok(())
 }

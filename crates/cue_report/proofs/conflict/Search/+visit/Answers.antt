@@ -5,7 +5,7 @@ use Rattle.cue_table.specs.Size.{children_size}
 use Rattle.cue_report.specs.Search.{under, has_no_value, conflict_here, conflicts_in, conflicts_below}
 use Rattle.cue_report.specs.Trail.{trail}
 use Rattle.cue_report.proofs.Trails.{shown}
-use Rattle.cue_report.proofs.Walk.{IsWalking, popped, walked_in, walked_past, inner_smaller, walked_from, demand_is, refusal_is}
+use Rattle.cue_report.proofs.Walk.{popped, walked_in, walked_past, inner_smaller, walked_from, demand_is, refusal_is}
 use Rattle.cue_report.proofs.conflict.Search.+visit.Goals as goal
 
 pub loop-step-init : goal.loop-step-init

@@ -1,7 +1,7 @@
 use Rattle.std.proofs.Common.{◌≡◌, take, map}
 use Rattle.cue_row.specs.Steps.{step_of}
 use Rattle.cue_report.proofs.Trails.{shown}
-use Rattle.cue_report.proofs.conflict.Search.place.Given as goal
+use Rattle.cue_report.proofs.place.copied.Given as goal
 
 abbrev pub invariant-loop-step : goal.invariant-loop-step
-invariant-loop-step l = map step_of l.steps.items ≡ map shown (take l.step-index l.step-items)
+invariant-loop-step l = map step_of l.copies.items ≡ map shown (take l.step-index l.steps)

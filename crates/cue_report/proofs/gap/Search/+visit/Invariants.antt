@@ -1,0 +1,10 @@
+use Rattle.cue_table.specs.Size.{tree_size}
+use Rattle.cue_report.proofs.GapWalk.{IsOver}
+use Rattle.cue_report.proofs.gap.Search.+visit.Given as goal
+
+abbrev pub decreases-visit : goal.decreases-visit
+decreases-visit l = tree_size l.branch.now
+
+abbrev pub invariant-loop-step : goal.invariant-loop-step
+invariant-loop-step l =
+    IsOver l.not_allowed l.branch l.step-iterator l.next l.fn.self.gaps.items l.self.gaps.items l.fn.self.steps.items l.self.steps.items

@@ -1,0 +1,78 @@
+-- How the gaps of a table are found, place by place.
+use Rattle.std.specs.Prelude.{◌≡◌, ◌↔◌, ◌⊎◌, ℕ, zero, suc, ◌+◌, ◌-◌, Bool, false, List, [], ◌∷◌, ◌++◌, map, Option, None, Some, IsTrue}
+use Rattle.cue_lattice.specs.Path as paths
+use Rattle.cue_lattice.specs.Path.{label, index, Path}
+use Rattle.cue_lattice.specs.Question.{Refusals}
+use Rattle.cue_row.specs.declared.row.Row.{Row}
+use Rattle.cue_row.specs.Row as rows
+use Rattle.cue_table.specs.Refuses.{RowRefuses, TableRefuses}
+use Rattle.cue_table.specs.Tree.{Tree, row_at}
+use Rattle.cue_report.specs.Answers.{IsDemanded, HasNoValue, IsNotAllowed}
+use Rattle.cue_report.specs.Gaps.{IsMissing, IsFree, HasNoChoice}
+use Rattle.cue_report.specs.Listing.{Lists}
+use Rattle.cue_report.specs.declared.gap.Gap.{Gap}
+
+-- what is refused at the place of a row, whatever its path
+abbrev pub AtPlace : Option Row → Refusals
+AtPlace row path = RowRefuses rows.RowRefuses row
+
+-- no single value is told
+abbrev pub IsOpenAt : Option Row → Type 0
+IsOpenAt row = IsFree (AtPlace row) [] ⊎ HasNoChoice (AtPlace row) []
+
+-- a gap, where the label is allowed, that is missing or not
+pub record IsGapAt (row : Option Row) (missing : Bool) : Type 0 where
+  pub has_value : ¬ HasNoValue (AtPlace row) []
+  pub missing_is : IsTrue missing ↔ IsMissing (AtPlace row) []
+  pub cause : IsMissing (AtPlace row) [] ⊎ IsOpenAt row
+
+-- the label of the place is refused: at the root as is told, and below as the tree refuses it
+abbrev pub IsBarred : Bool → Refusals → Path → Type 0
+IsBarred not_allowed refuses [] = IsTrue not_allowed
+IsBarred not_allowed refuses (step ∷ path) = IsNotAllowed refuses (step ∷ path)
+
+-- a gap in a tree, of which the place above refuses the label or not
+pub record IsGapIn (not_allowed : Bool) (tree : Tree Row) (gap : Gap) : Type 0 where
+  pub demanded : IsDemanded (TableRefuses rows.RowRefuses tree) gap.path
+  pub allowed : ¬ IsBarred not_allowed (TableRefuses rows.RowRefuses tree) gap.path
+  pub lacking : IsGapAt (row_at tree gap.path) gap.missing
+
+-- a gap at a place itself
+pub record IsGapHere (not_allowed : Bool) (row : Option Row) (gap : Gap) : Type 0 where
+  pub here : gap.path ≡ []
+  pub allowed : not_allowed ≡ false
+  pub lacking : IsGapAt row gap.missing
+
+-- the gap of a path, seen from a place above it
+abbrev pub above : Path → Gap → Gap
+above path gap = record gap { path = path ++ gap.path }
+
+-- To what was found before, a search at a path adds exactly those of which P holds, in the order of their paths.
+pub record Adds (P : Gap → Type 0) (path : Path) (before after : List Gap) : Type 0 where
+  pub found : List Gap
+  pub lists : Lists (λ gap. gap.path) P found
+  pub is : after ≡ before ++ map (above path) found
+
+-- how many elements each list has
+abbrev pub least_at : Option Row → ℕ
+least_at None = 0
+least_at (Some row) = row.least
+
+-- a place where anything may stand
+abbrev pub free_at : Path → Gap
+free_at path = record { path = path; missing = false }
+
+-- so many free elements, from the first on
+abbrev pub free_elements : ℕ → ℕ → List Gap
+free_elements first zero = []
+free_elements first (suc count) = free_elements first count ++ free_at (index (first + count) ∷ []) ∷ []
+
+-- the free elements from the next on that are before the step
+abbrev pub free_before : ℕ → paths.Step → List Gap
+free_before next (label text) = []
+free_before next (index n) = free_elements next (n - next)
+
+-- the first element that is not looked at, after the step was
+abbrev pub next_after : ℕ → paths.Step → ℕ
+next_after next (label text) = next
+next_after next (index n) = n + 1
