@@ -14,6 +14,14 @@ const INTEGER: [u8; 92] = [
     0,
 ];
 
+/// The state of `port: 443`.
+const PORT: [u8; 95] = [
+    0xfe, 0x43, 0x55, 0x45, 1, 0, 0, 0, 0, 0, 0, 0, 2, 0, 0, 2, 0, 1, 0, 0, 4, 0x70, 0x6f, 0x72,
+    0x74, 2, 1, 0, 0, 0, 0, 0, 0, 0, 0, 1, 0, 0, 0, 0, 0, 0, 1, 0xbb, 0, 0, 0, 0, 0, 0, 1, 0xbb, 0,
+    0, 0, 0, 0, 0, 0, 0, 0, 0, 0, 0, 0, 0, 0, 0, 0, 1, 0, 0, 0, 0, 0, 0, 1, 0xbb, 0, 0, 0, 0, 0, 0,
+    1, 0xbb, 0, 0, 0, 0, 0, 0, 0, 0, 0,
+];
+
 /// The state of a conflict at `a`: an open struct at the root, and nothing.
 const CONFLICT: [u8; 30] = [
     0xfe, 0x43, 0x55, 0x45, 1, 0, 0, 0, 0, 0, 0, 0, 2, 0, 0, 2, 0, 1, 0, 0, 1, 0x61, 2, 4, 0, 0, 0,
@@ -61,6 +69,7 @@ fn states_are_written_as_they_were_read(rt: HostRuntime) -> Result<(), Fail> {
     let alloc = rt.alloc();
     assert!(rt; is_kept(alloc, &EMPTY)?);
     assert!(rt; is_kept(alloc, &INTEGER)?);
+    assert!(rt; is_kept(alloc, &PORT)?);
     assert!(rt; is_kept(alloc, &CONFLICT)?);
     assert!(rt; is_kept(alloc, &LIST)?);
     Ok(())
