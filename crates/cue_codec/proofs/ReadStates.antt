@@ -141,7 +141,7 @@ undecoded_head bytes kind h = inr h
 pub undecoded_rows :
     (bytes rest : List ℕ) (count : ℕ) (kind : Kind) → bytes ≡ mark ++ (1 ∷ (to_be_bytes w64 count ++ rest)) → count < 2 ^ 64 → length bytes < 2 ^ 64 → IsRefused kind (NoRows count rest) → IsUndecoded bytes kind
 undecoded_rows bytes rest count kind e lt fits refused =
-    ⊎_elim (λ memory. inl memory)
+    ⊎_elim (λ memory. inl (memory, known_version bytes (to_be_bytes w64 count ++ rest) e))
     (λ reason. inr (inr (reason.0, known_version bytes (to_be_bytes w64 count ++ rest) e, λ tree h is. reason.1 tree (valid_read bytes rest count tree e lt fits h is)))) refused
 
 -- where the rows that were read are no valid table, no valid table has the bytes

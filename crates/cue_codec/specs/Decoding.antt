@@ -24,9 +24,9 @@ abbrev pub IsRejected : List ℕ → Kind → Type 0
 IsRejected bytes kind =
     ((kind ≡ kinds.Version) × IsOtherVersion bytes) ⊎ ((kind ≡ kinds.NotState) × ¬ IsOtherVersion bytes × IsNoState bytes)
 
--- memory ran out, or the bytes are rejected
+-- memory ran out while the rows were read, and so not where the version is not known; or the bytes are rejected
 abbrev pub IsUndecoded : List ℕ → Kind → Type 0
-IsUndecoded bytes kind = (kind ≡ kinds.Memory) ⊎ IsRejected bytes kind
+IsUndecoded bytes kind = ((kind ≡ kinds.Memory) × ¬ IsOtherVersion bytes) ⊎ IsRejected bytes kind
 
 -- the table has so many rows, and these bytes are theirs
 pub record AreReadRows (count : ℕ) (bytes : List ℕ) (tree : Tree Row) : Type 0 where

@@ -83,8 +83,8 @@ fn rows_at(alloc: Global, count: u64, bytes: &[u8]) -> Result<Table<Row>, Kind>
     Ok(table)
 }
 
-/// The valid table whose state bytes these are. They are refused as `Version` where they begin with
-/// the mark and a version that is not known, as `NotState` where they do not and no valid table has
+/// The valid table whose state bytes these are. They are refused as `Version` exactly where they
+/// begin with the mark and a version that is not known; else as `NotState` where no valid table has
 /// them, and as `Memory` where memory ran out. Room is made only for what was read, never for what
 /// a count claims.
 pub fn decode(alloc: Global, bytes: &[u8]) -> Result<Table<Row>, Kind>

@@ -14,6 +14,9 @@ mod sets;
 mod spelling;
 mod writing;
 
+pub use cue_lattice::{Kind, Memory};
+pub use cue_row::Row;
+pub use cue_table::Table;
 pub use decoding::decode;
 pub use encoding::encode;
 pub use spelling::{one_row_spelling, one_state_spelling, one_table_spelling};
