@@ -1,5 +1,6 @@
 pub mod Choice
 pub mod Descent
+pub mod Documents
 pub mod Empty
 pub mod Found
 pub mod FoundGaps

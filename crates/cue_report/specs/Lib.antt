@@ -1,4 +1,5 @@
 pub mod Answers
+pub mod Export
 pub mod GapSearch
 pub mod Gaps
 pub mod Lines

@@ -131,7 +131,7 @@ impl<'a> Search<'a> {
 }
 
 /// How many elements each list has at a place.
-fn least_of(row: Option<&Row>) -> u32
+pub(crate) fn least_of(row: Option<&Row>) -> u32
     ensures { result ≡ least_at (option_map (λ row. row.now) row.entry) }
 {
     match row {

@@ -1,9 +1,11 @@
-//! What is in the way of the export of a configuration, and the lines that tell it.
+//! The export of a configuration, what is in its way, and the lines that tell it.
 #![tactic(auto)]
 
 mod conflict;
 mod demand;
+mod document;
 mod gap;
+mod outcome;
 mod place;
 mod report;
 
@@ -11,6 +13,8 @@ pub use conflict::{Conflict, conflicts};
 pub use cue_lattice::Memory;
 pub use cue_row::{Row, path_text};
 pub use cue_table::Table;
+pub use document::export;
 pub use gap::{Gap, incomplete};
+pub use outcome::Export;
 pub use place::Place;
 pub use report::lines;
