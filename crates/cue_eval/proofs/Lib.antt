@@ -3,6 +3,7 @@ pub mod Once
 pub mod Origins
 pub mod Places
 pub mod Within
+pub mod Depth
 pub mod Unified
 pub mod ByPair
 pub mod Integers

@@ -121,7 +121,7 @@ levels_of_fields c path k h =
     (ends_in_label c path k h, level_source o.source k o.asked)
 
 -- what is refused further down by closing is at a struct
-closed_below : (c : Core) (path : Path) (question : Question) → ClosingRefuses (literals c path) question → Refuses c path questions.list
+pub closed_below : (c : Core) (path : Path) (question : Question) → ClosingRefuses (literals c path) question → Refuses c path questions.list
 closed_below c path (allows l) out = struct_written c path out.some questions.list tt
 closed_below c path _ out = absurd out
 

@@ -1,11 +1,12 @@
 -- Where answers come from: what is written at a place refuses all that its kind does, so that a place is of one kind.
-use Rattle.std.specs.Prelude.{◌⊎◌, ◌<◌, ℕ, Bool, false, List, [], ◌∷◌, ◌++◌}
+use Rattle.std.specs.Prelude.{◌⊎◌, ◌<◌, ◌≤◌, ℕ, Bool, false, List, [], ◌∷◌, ◌++◌, length}
 use Rattle.cue_lattice.specs.Path.{Path, label, index}
 use Rattle.cue_lattice.specs.declared.scalar.Scalar.{Scalar}
 use Rattle.cue_lattice.specs.Question as questions
 use Rattle.cue_lattice.specs.Question.{Question, may_be, usual, allows, level_at_most, length_at_most, length_at_least}
 use Rattle.cue_syntax.specs.declared.tree.Mark.{Mark}
 use Rattle.cue_scope.specs.Core.{Core, Members}
+use Rattle.cue_scope.specs.Limits.{depth}
 use Rattle.cue_eval.specs.Pairs.{pair}
 use Rattle.cue_eval.specs.Places.{ScalarRefuses, StructRefuses, ListRefuses, MarkRefuses, ClosingRefuses}
 use Rattle.cue_eval.specs.Refuses.{Refuses}
@@ -71,6 +72,10 @@ EndsInLabel (step ∷ next ∷ path) = EndsInLabel (next ∷ path)
 -- levels above 0 are those of fields, and none is above 2
 abbrev pub LevelsAreOfFields : Type 0
 LevelsAreOfFields = (c : Core) (path : Path) (k : ℕ) → Refuses c path (level_at_most k) → EndsInLabel path × (k < 2)
+
+-- what is refused stands at a path with no more steps than the expression is deep
+abbrev pub PathsAreWithinDepth : Type 0
+PathsAreWithinDepth = (c : Core) (path : Path) (question : Question) → Refuses c path question → length path ≤ depth c
 
 -- What may not stand isn't usual.
 abbrev pub UsualIsWithin : Type 0

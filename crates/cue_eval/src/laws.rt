@@ -1,7 +1,7 @@
 //! What the definitions promise of unification, of closing and of scalar expressions.
 
 ghost use Rattle.cue_eval.specs.Laws.{UsesAreClosedBodies, IsUnification, IsMonotone, IsSplitAnywhere, IsClosedOnce, IsClosedForGood, IsClosedByParts, IsItsPair};
-ghost use Rattle.cue_eval.specs.Origins.{ComesFromSources, PlacesAreOfKinds, LabelsAreOfStructs, LengthsAreOfLists, FieldsAreOfStructs, ElementsAreOfLists, LevelsAreOfFields, UsualIsWithin};
+ghost use Rattle.cue_eval.specs.Origins.{ComesFromSources, PlacesAreOfKinds, LabelsAreOfStructs, LengthsAreOfLists, FieldsAreOfStructs, ElementsAreOfLists, LevelsAreOfFields, PathsAreWithinDepth, UsualIsWithin};
 
 /// A use of a definition means its body, closed. `a & b` refuses exactly what one of both refuses, so that
 /// declarations may stand in one struct or in several. Closing parts one by one is at least as narrow as closing them
@@ -20,9 +20,9 @@ pub fn laws_of_meaning()
 
 /// What is refused at a place comes from something written there, which refuses all that its kind does. So where
 /// anything but a level is refused, nothing but scalars, nothing but a struct, or nothing but a list may stand; labels
-/// and fields belong to structs, lengths and elements to lists, levels to fields; and what may not stand isn't usual.
-/// That is what the rules of valid tables ask of kinds, parents, levels and lengths. It computes nothing: it states
-/// laws.
+/// and fields belong to structs, lengths and elements to lists, levels to fields; no path has more steps than the
+/// expression is deep; and what may not stand isn't usual. That is what the rules of valid tables ask of kinds, parents,
+/// levels, lengths and paths. It computes nothing: it states laws.
 pub fn laws_of_places()
     ensures origins { ComesFromSources }
     ensures kinds { PlacesAreOfKinds }
@@ -31,5 +31,6 @@ pub fn laws_of_places()
     ensures fields { FieldsAreOfStructs }
     ensures elements { ElementsAreOfLists }
     ensures levels { LevelsAreOfFields }
+    ensures depths { PathsAreWithinDepth }
     ensures usual { UsualIsWithin }
 {}
