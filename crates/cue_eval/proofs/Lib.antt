@@ -6,6 +6,8 @@ pub mod Within
 pub mod Depth
 pub mod Unified
 pub mod ByPair
+pub mod Own
+pub mod Adding
 pub mod Integers
 pub mod Example
 pub mod Closing

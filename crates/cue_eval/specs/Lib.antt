@@ -4,6 +4,7 @@ pub mod Literals
 pub mod Places
 pub mod Refuses
 pub mod Texts
+pub mod Closing
 pub mod Laws
 pub mod Origins
 pub mod Evaluated

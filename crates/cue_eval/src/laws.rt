@@ -1,6 +1,7 @@
 //! What the definitions promise of unification, of closing and of scalar expressions.
 
 ghost use Rattle.cue_eval.specs.Laws.{UsesAreClosedBodies, IsUnification, IsMonotone, IsSplitAnywhere, IsClosedOnce, IsClosedForGood, IsClosedByParts, IsItsPair};
+ghost use Rattle.cue_eval.specs.Closing.{AreOwnOrUsed, UsedAreClosed, IsClosedByOwn};
 ghost use Rattle.cue_eval.specs.Origins.{ComesFromSources, PlacesAreOfKinds, LabelsAreOfStructs, LengthsAreOfLists, FieldsAreOfStructs, ElementsAreOfLists, LevelsAreOfFields, PathsAreWithinDepth, UsualIsWithin};
 
 /// A use of a definition means its body, closed. `a & b` refuses exactly what one of both refuses, so that
@@ -33,4 +34,14 @@ pub fn laws_of_places()
     ensures levels { LevelsAreOfFields }
     ensures depths { PathsAreWithinDepth }
     ensures usual { UsualIsWithin }
+{}
+
+/// What closing adds to an expression: where labels are left out already it adds nothing (`laws_of_meaning`), and
+/// elsewhere it leaves out what the expression's own struct literals don't declare, where there are some and none, also
+/// in the definitions that it names, has a `...`. So evaluation closes a body by walking what it writes itself. It
+/// computes nothing: it states laws.
+pub fn laws_of_closing()
+    ensures written { AreOwnOrUsed }
+    ensures used { UsedAreClosed }
+    ensures closed { IsClosedByOwn }
 {}
