@@ -99,14 +99,21 @@ module _ {R Q : Type 0} (refuses : R → Q → Type 0) where
   refused_depth : (tree : Tree R) (path : Path) (question : Q) → TableRefuses refuses tree path question → length path ≤ tree_depth tree
   refused_depth tree path question h = let row = refusing_row (row_at tree path) question h in row_depth tree path row.0 row.1
 
+  -- where nothing is refused at paths longer than n, the table is not deeper
+  pub refusals_depth :
+      (is_value : R → Type 0) (tree : Tree R) (n : ℕ) → IsTree (IsKept refuses is_value) tree
+      → ((path : Path) (question : Q) → TableRefuses refuses tree path question → length path ≤ n) → tree_depth tree ≤ n
+  refusals_depth is_value tree n h short = depth_rows (IsKept refuses is_value) n tree h (λ path row e.
+      ⊎_elim
+      (λ (far : n < length path). absurd ((kept_at (IsKept refuses is_value) tree path row h e).1 (λ question r.
+      let here : TableRefuses refuses tree path question = rw e r in
+      let d = short path question here in absurd (omega arith))))
+      (λ (near : length path ≤ n). near)
+      (cases_lt n (length path)))
+
   -- the met table is not deeper than both
   pub met_depth :
       (is_value : R → Type 0) (a b met : Tree R) (n : ℕ) → IsTree (IsKept refuses is_value) met → IsMet refuses a b met
       → tree_depth a ≤ n → tree_depth b ≤ n → tree_depth met ≤ n
-  met_depth is_value a b met n h m p q = depth_rows (IsKept refuses is_value) n met h (λ path row e.
-      ⊎_elim
-      (λ (far : n < length path). absurd ((kept_at (IsKept refuses is_value) met path row h e).1 (λ question r.
-      let here : TableRefuses refuses met path question = rw e r in
-      ⊎_elim (λ k. let d = refused_depth a path question k in absurd (omega arith)) (λ k. let d = refused_depth b path question k in absurd (omega arith)) ((m path question).0 here))))
-      (λ (near : length path ≤ n). near)
-      (cases_lt n (length path)))
+  met_depth is_value a b met n h m p q = refusals_depth is_value met n h (λ path question r.
+      ⊎_elim (λ k. let d = refused_depth a path question k in omega arith) (λ k. let d = refused_depth b path question k in omega arith) ((m path question).0 r))

@@ -1,5 +1,6 @@
 pub mod Adding
 pub mod Appending
+pub mod ByHalves
 pub mod Depth
 pub mod Exact
 pub mod Filling

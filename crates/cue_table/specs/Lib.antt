@@ -2,6 +2,7 @@ pub mod Code
 pub mod Depth
 pub mod Falls
 pub mod Form
+pub mod Many
 pub mod Meet
 pub mod Narrower
 pub mod Place

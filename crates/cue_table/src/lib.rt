@@ -7,6 +7,7 @@ mod chain;
 mod fill;
 mod iter;
 mod laws;
+mod many;
 mod node;
 mod plan;
 mod rows;

@@ -1,20 +1,22 @@
-ghost use Rattle.std.specs.Prelude.{◌≡◌, ◌↔◌, ◌≤◌, IfOk, IsTrue, OnErr, OnOk};
+ghost use Rattle.std.specs.Prelude.{◌≡◌, ◌↔◌, ◌<◌, ◌≤◌, IfOk, IsTrue, OnErr, OnOk};
 ghost use Rattle.std.specs.Option.{option_map, option_and_then};
 ghost use Rattle.cue_lattice.specs.Limits.{step_limit};
+ghost use Rattle.cue_row.specs.Steps.{step_of};
 ghost use Rattle.cue_table.specs.Tree.{empty, taken, branch_at, row_at};
 ghost use Rattle.cue_table.specs.Depth.{tree_depth};
 ghost use Rattle.cue_table.specs.Form.{IsTable};
+ghost use Rattle.cue_table.specs.Many.{under};
 ghost use Rattle.cue_table.specs.Meet.{IsAdded, IsMet};
 ghost use Rattle.cue_table.specs.RowList.{AppendsKept};
 
 use crate::Branch;
 use crate::append::append;
-use crate::chain::single;
+use crate::chain::{one_branch, single};
 use crate::fill::change;
 use crate::node::Node;
 use crate::plan::planned;
 use cue_lattice::{Memory, Narrow};
-use cue_row::Path;
+use cue_row::{Path, Step};
 use std::alloc::Global;
 use std::marker::Model;
 use std::mem;
@@ -153,5 +155,18 @@ impl<R: Narrow> Table<R> {
         }
         row.known();
         append(self.alloc, root, path.steps(), row)
+    }
+
+    /// The table one step further from the root.
+    pub(crate) fn under(self, alloc: Global, step: Step) -> Result<Table<R>, Memory>
+        requires { tree_depth self < step_limit }
+        ensures { IfOk result (λ table. table ≡ under (step_of step) self) }
+    {
+        let Table { alloc: _, root } = self;
+        if root.taken().is_none() {
+            return Ok(Table::new(alloc));
+        }
+        let root = one_branch(alloc, step, root)?;
+        Ok(Table { alloc, root })
     }
 }

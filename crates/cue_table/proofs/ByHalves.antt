@@ -1,0 +1,162 @@
+-- Many tables as one: by halves, and below steps.
+use Rattle.std.specs.Prelude.{IfOk}
+use Rattle.std.specs.Option.{is_some, option_map}
+use Rattle.std.proofs.Common.{◌≡◌, ◌↔◌, ℕ, ◌-◌, ◌+◌, ◌<◌, ◌≤◌, Bool, false, not, Option, Some, None, Result, Ok, Err, refl, take-add, List, [], ◌∷◌, ◌++◌, append_assoc, map, length, take, drop, subst, sym, ap, ◌∙◌, inl, inr, ⊎_elim, arith}
+use Rattle.cue_lattice.proofs.OneOf.{one_of-append}
+use Rattle.std.proofs.lemmas.List.{append-nil}
+use Rattle.std.specs.declared.cmp.Ordering.{Ordering}
+use Rattle.std.specs.declared.cmp.Ordering.TheVariants.{Less, Equal, Greater}
+use Rattle.cue_lattice.specs.Limits.{step_limit}
+use Rattle.cue_lattice.specs.OneOf.{OneOf}
+use Rattle.cue_lattice.specs.Path.{Step, step_cmp, Path}
+use Rattle.cue_row.specs.Steps.{step_of}
+use Rattle.cue_row.specs.declared.step.Step as program
+use Rattle.cue_table.specs.Tree.{Tree, node, none, child, empty, taken, find}
+use Rattle.cue_table.specs.Depth.{tree_depth}
+use Rattle.cue_table.specs.Form.{IsTaken, IsTree}
+use Rattle.cue_table.specs.Refuses.{TableRefuses}
+use Rattle.cue_table.specs.Meet.{IsMet}
+use Rattle.cue_table.specs.Many.{IsOfBranches, IsUnified, under}
+use Rattle.cue_table.proofs.Order.{equal_steps}
+use Rattle.cue_table.proofs.Finding.{same_step}
+use Rattle.cue_table.proofs.Exact.{find_first, find_before, find_past, found_refuses}
+
+-- what is seen of something is something
+pub is_there : {T U : Type 0} (f : T → U) (seen : Option T) (tree : Option U) (is_none : Bool) → is_none ≡ false → is_some seen ≡ not is_none → option_map f seen ≡ tree → tree ≡ None → ⊥
+is_there f None tree is_none e h k n = cc
+is_there f (Some x) tree is_none e h k n = cc
+
+module _ {R : Type 0} where
+  -- a table that is given for a step, below it
+  abbrev pub hung : program.Step × Tree R → Tree R
+  hung one = under (step_of one.0) one.1
+
+  -- a tree with a row stands below the step
+  pub under_taken : (step : Step) (tree : Tree R) → (taken tree ≡ None → ⊥) → (node None (child step tree none) ≡ under step tree) × IsTaken tree
+  under_taken step (node (Some row) children) h = (refl, tt)
+  under_taken step (node None none) h = absurd (h refl)
+  under_taken step (node None (child next tree children)) h = (refl, tt)
+
+  -- what is left to hang in
+  pub hung_more :
+      (now next all : List (Tree R)) (rest left : List (program.Step × Tree R)) (one : program.Step × Tree R) (below : Tree R) → rest ≡ one ∷ left
+      → below ≡ hung one → next ≡ now ++ below ∷ [] → now ++ map hung rest ≡ all → next ++ map hung left ≡ all
+  hung_more now next all rest left one below e h k so_far =
+      ap (λ ts. ts ++ map hung left) k ∙ append_assoc now (below ∷ []) (map hung left)
+      ∙ (λ i. now ++ h i ∷ map hung left) ∙ ap (λ ts. now ++ map hung ts) (sym e) ∙ so_far
+
+  pub hung_end : (now all : List (Tree R)) (rest : List (program.Step × Tree R)) → length rest ≡ 0 → now ++ map hung rest ≡ all → now ≡ all
+  hung_end now all [] e h = sym (append-nil now) ∙ h
+  hung_end now all (one ∷ rest) e h = cc
+
+  -- one branch alone is in form, and one step deeper
+  pub under_form :
+      (P : R → Type 0) (step : Step) (tree above : Tree R) → above ≡ node None (child step tree none) → (taken tree ≡ None → ⊥)
+      → IsTree P tree → tree_depth tree < step_limit → IsTree P above × (tree_depth above ≤ step_limit)
+  under_form P step tree above e h form low =
+      let deep : tree_depth (node None (child step tree none)) ≤ step_limit = omega arith in
+      subst (λ t. IsTree P t × (tree_depth t ≤ step_limit)) (sym e) ((tt, (tt, (under_taken step tree h).1, form, tt)), deep)
+
+module _ {R Q : Type 0} (refuses : R → Q → Type 0) where
+  -- the table without rows refuses nothing
+  pub free : (path : Path) (question : Q) → ¬ TableRefuses refuses empty path question
+  free [] question h = h
+  free (step ∷ path) question h = h
+
+  pub unified_none : IsUnified refuses [] empty
+  unified_none path question = (free path question, λ h. absurd h)
+
+  -- the first of no tables
+  pub unified_end : (tables : List (Tree R)) → length tables ≡ 0 → IsUnified refuses (take 1 tables) empty
+  unified_end [] e = unified_none
+  unified_end (table ∷ tables) e = cc
+
+  pub unified_one : (table : Tree R) → IsUnified refuses (table ∷ []) table
+  unified_one table path question = (λ h. inl h, ⊎_elim (λ h. h) (λ h. absurd h))
+
+  -- the front of a list and then the other tables
+  pub unified_both :
+      (front back : List (Tree R)) (left right met : Tree R) → IsUnified refuses front left → IsUnified refuses back right → IsMet refuses left right met
+      → IsUnified refuses (front ++ back) met
+  unified_both front back left right met h k both path question =
+      let parts = one_of-append (λ table. TableRefuses refuses table path question) front back in (
+        λ r. parts.1 (⊎_elim (λ x. inl ((h path question).0 x)) (λ x. inr ((k path question).0 x)) ((both path question).0 r)),
+        λ r. (both path question).1 (⊎_elim (λ x. inl ((h path question).1 x)) (λ x. inr ((k path question).1 x)) (parts.0 r)),
+      )
+
+  -- the first tables of a list, and then more
+  pub unified_more :
+      (tables rest : List (Tree R)) (half count : ℕ) (left right met : Tree R) → half ≤ count → rest ≡ drop half tables
+      → IsUnified refuses (take half tables) left → IsUnified refuses (take (count - half) rest) right → IsMet refuses left right met
+      → IsUnified refuses (take count tables) met
+  unified_more tables rest half count left right met few is h k both =
+      let sum : half + (count - half) ≡ count = omega (arith, few) in
+      let whole : take half tables ++ take (count - half) rest ≡ take count tables =
+      ap (λ ts. take half tables ++ take (count - half) ts) is ∙ sym (take-add half (count - half) tables) ∙ ap (λ n. take n tables) sum in
+      subst (λ ts. IsUnified refuses ts met) whole (unified_both (take half tables) (take (count - half) rest) left right met h k both)
+
+  -- one branch alone refuses at its step what the branch does
+  one_branch :
+      (step : Step) (tree : Tree R) (at : Step) (path : Path) (question : Q) → (o : Ordering) → step_cmp at step ≡ o
+      → TableRefuses refuses (node None (child step tree none)) (at ∷ path) question ↔ ((step ≡ at) × TableRefuses refuses tree path question)
+  one_branch step tree at path question Less e = (
+    λ h. absurd (found_refuses refuses (find at (child step tree none)) None (find_before at step tree none e) path question h),
+    λ h. let no : step_cmp at at ≡ Less = subst (λ s. step_cmp at s ≡ Less) h.0 e in let yes = same_step at in cc,
+  )
+  one_branch step tree at path question Greater e = (
+    λ h. absurd (found_refuses refuses (find at (child step tree none)) None (find_past at step tree none e) path question h),
+    λ h. let no : step_cmp at at ≡ Greater = subst (λ s. step_cmp at s ≡ Greater) h.0 e in let yes = same_step at in cc,
+  )
+  one_branch step tree at path question Equal e =
+      let same : at ≡ step = equal_steps at step e in
+      let found : find at (child step tree none) ≡ Some tree = ap (λ s. find s (child step tree none)) same ∙ find_first step tree none in (
+        λ h. (sym same, found_refuses refuses (find at (child step tree none)) (Some tree) found path question h),
+        λ h. found_refuses refuses (Some tree) (find at (child step tree none)) (sym found) path question h.1,
+      )
+
+  under_root : (step : Step) (tree : Tree R) (question : Q) → ¬ TableRefuses refuses (under step tree) [] question
+  under_root step (node None none) question h = h
+  under_root step (node None (child next tree children)) question h = h
+  under_root step (node (Some row) children) question h = h
+
+  under_step :
+      (step : Step) (tree : Tree R) (at : Step) (path : Path) (question : Q)
+      → TableRefuses refuses (under step tree) (at ∷ path) question ↔ ((step ≡ at) × TableRefuses refuses tree path question)
+  under_step step (node None none) at path question = (λ h. absurd h, λ h. absurd (free path question h.1))
+  under_step step (node None (child next tree children)) at path question =
+      one_branch step (node None (child next tree children)) at path question (step_cmp at step) refl
+  under_step step (node (Some row) children) at path question = one_branch step (node (Some row) children) at path question (step_cmp at step) refl
+
+  none_at_root : (given : List (program.Step × Tree R)) (question : Q) → ¬ OneOf (λ table. TableRefuses refuses table [] question) (map hung given)
+  none_at_root [] question h = h
+  none_at_root (one ∷ given) question h = ⊎_elim (under_root (step_of one.0) one.1 question) (none_at_root given question) h
+
+  one_below :
+      (given : List (program.Step × Tree R)) (at : Step) (path : Path) (question : Q)
+      → OneOf (λ table. TableRefuses refuses table (at ∷ path) question) (map hung given)
+      ↔ OneOf (λ one. (step_of one.0 ≡ at) × TableRefuses refuses one.1 path question) given
+  one_below [] at path question = (λ h. h, λ h. h)
+  one_below (one ∷ given) at path question =
+      let here = under_step (step_of one.0) one.1 at path question in
+      let rest = one_below given at path question in (
+        ⊎_elim (λ h. inl (here.0 h)) (λ h. inr (rest.0 h)),
+        ⊎_elim (λ h. inl (here.1 h)) (λ h. inr (rest.1 h)),
+      )
+
+  -- what is given, each below its step and then unified
+  pub branches_given : (given : List (program.Step × Tree R)) (tables : List (Tree R)) (met : Tree R) → tables ≡ map hung given → IsUnified refuses tables met → IsOfBranches refuses given met
+  branches_given given tables met e h =
+      let all : IsUnified refuses (map hung given) met = subst (λ ts. IsUnified refuses ts met) e h in
+      record {
+        root = λ question r. none_at_root given question ((all [] question).0 r);
+        below = λ at path question.
+            let one = one_below given at path question in
+            (λ r. one.0 ((all (at ∷ path) question).0 r), λ r. (all (at ∷ path) question).1 (one.1 r));
+      }
+
+-- the same, where the call succeeds
+pub branches_ok :
+    {R Q E : Type 0} (refuses : R → Q → Type 0) (r : Result (Tree R) E) (given : List (program.Step × Tree R)) (tables : List (Tree R)) → tables ≡ map hung given
+    → IfOk r (IsUnified refuses tables) → IfOk r (IsOfBranches refuses given)
+branches_ok refuses (Ok met) given tables e h = branches_given refuses given tables met e h
+branches_ok refuses (Err x) given tables e h = tt

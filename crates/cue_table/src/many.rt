@@ -1,0 +1,66 @@
+//! Many tables as one.
+ghost use Rattle.std.specs.Prelude.{◌≡◌, ◌<◌, drop, take, All, IfOk, OnOk};
+ghost use Rattle.std.specs.Vec.Iter.{into_iter_items};
+ghost use Rattle.cue_lattice.specs.Limits.{step_limit};
+ghost use Rattle.cue_row.specs.Steps.{step_of};
+ghost use Rattle.cue_table.specs.Depth.{tree_depth};
+ghost use Rattle.cue_table.specs.Form.{IsTable};
+ghost use Rattle.cue_table.specs.Many.{IsOfBranches, IsUnified};
+
+use crate::Table;
+use cue_lattice::{Memory, Narrow};
+use cue_row::Step;
+use std::alloc::Global;
+use std::vec::IntoIter;
+
+impl<R: Narrow> Table<R> {
+    /// What the tables of a list know together: refuses exactly what one of them does. Of an empty list it is the table
+    /// without rows. The tables are taken over and not copied, and unified by halves.
+    pub fn unified(alloc: Global, tables: Vec<Table<R>>) -> Result<Table<R>, Memory>
+        ensures form { IfOk result (IsTable R.refuses R.is_value) }
+        ensures refused { IfOk result (IsUnified R.refuses tables.items) }
+    {
+        let count = tables.len();
+        let mut rest = tables.into_iter();
+        next_unified(alloc, &mut rest, count)
+    }
+
+    /// The table of branches that are given in any order: it knows nothing at the root, and below a step what the tables
+    /// given for this step know together. The tables are taken over and not copied, and unified by halves.
+    pub fn of_branches(alloc: Global, branches: Vec<(Step, Table<R>)>) -> Result<Table<R>, Memory>
+        requires { All (λ one. tree_depth one.1 < step_limit) branches.items }
+        ensures form { IfOk result (IsTable R.refuses R.is_value) }
+        ensures refused { IfOk result (IsOfBranches R.refuses branches.items) }
+    {
+        let mut tables = Vec::with_capacity(alloc, branches.len())?;
+        for (step, table) in branches {
+            tables.push(table.under(alloc, step)?)?;
+        }
+        Table::unified(alloc, tables)
+    }
+}
+
+/// What the next tables of a list know together.
+fn next_unified<R: Narrow>(
+    alloc: Global,
+    rest: &mut IntoIter<Table<R>, Global>,
+    count: usize,
+) -> Result<Table<R>, Memory>
+    ensures form { IfOk result (IsTable R.refuses R.is_value) }
+    ensures refused { IfOk result (IsUnified R.refuses (take count (into_iter_items rest.old))) }
+    ensures rest { OnOk result (into_iter_items rest.new ≡ drop count (into_iter_items rest.old)) }
+{
+    if count == 0 {
+        return Ok(Table::new(alloc));
+    }
+    if count == 1 {
+        return match rest.next() {
+            None => Ok(Table::new(alloc)),
+            Some(table) => Ok(table),
+        };
+    }
+    let half = count / 2;
+    let mut met = next_unified(alloc, rest, half)?;
+    met.meet_with(next_unified(alloc, rest, count - half)?)?;
+    Ok(met)
+}
