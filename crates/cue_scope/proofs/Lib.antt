@@ -13,3 +13,4 @@ pub mod Ordered
 pub mod Inside
 pub mod Faults
 pub mod Resolving
+pub mod Kept

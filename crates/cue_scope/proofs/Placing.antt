@@ -37,7 +37,7 @@ blocked g ranks i h inside zero_rank none =
     cc
 
 -- a node of the new order is the new one, or one of the old order
-pushed-at : (order : List ℕ) (node k : ℕ) → k < length (order ++ node ∷ []) → ((k < length order) × (get_or (order ++ node ∷ []) k 0 ≡ get_or order k 0)) ⊎ ((k ≡ length order) × (get_or (order ++ node ∷ []) k 0 ≡ node))
+pub pushed-at : (order : List ℕ) (node k : ℕ) → k < length (order ++ node ∷ []) → ((k < length order) × (get_or (order ++ node ∷ []) k 0 ≡ get_or order k 0)) ⊎ ((k ≡ length order) × (get_or (order ++ node ∷ []) k 0 ≡ node))
 pushed-at [] node zero h = inr (refl, refl)
 pushed-at [] node (suc k) h = absurd (omega arith)
 pushed-at (x ∷ order) node zero h = inl (omega arith, refl)

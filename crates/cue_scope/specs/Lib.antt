@@ -1,10 +1,12 @@
 pub mod Named
 pub mod Core
 pub mod Definitions
+pub mod Files
 pub mod Meaning
 pub mod Names
 pub mod Uses
 pub mod Graph
+pub mod Reached
 pub mod Ordering
 pub mod Terms
 pub mod Limits

@@ -1,7 +1,9 @@
 ghost use Rattle.std.specs.Prelude.{◌≡◌, ◌<◌, ◌⊎◌, ℕ, List, length, slice_index_or, IfOk, IfErr, OnOk};
 ghost use Rattle.cue_lattice.specs.Refusal.{memory};
 ghost use Rattle.cue_syntax.specs.Syntax.{entries};
+ghost use Rattle.cue_scope.specs.Core as core;
 ghost use Rattle.cue_scope.specs.Definitions as defining;
+ghost use Rattle.cue_scope.specs.Files.{entries_of};
 ghost use Rattle.cue_scope.specs.Graph as graphs;
 ghost use Rattle.cue_scope.specs.Kept.{all_of};
 ghost use Rattle.cue_scope.specs.Meaning as meaning;
@@ -9,7 +11,8 @@ ghost use Rattle.cue_scope.specs.Measures as totals;
 ghost use Rattle.cue_scope.specs.Measures.{IsUse};
 ghost use Rattle.cue_scope.specs.Ordering.{graph_of};
 ghost use Rattle.cue_scope.specs.Refusing.{IsLegal, Refuses, IsCycleAt};
-ghost use Rattle.cue_scope.specs.Resolving.{IsReachedOrder, IsResolved, size_of, order_of, scalar_at};
+ghost use Rattle.cue_scope.specs.Limits as limits;
+ghost use Rattle.cue_scope.specs.Reached.{IsReachedOrder};
 ghost use Rattle.cue_scope.specs.Uses as using;
 
 use crate::definitions::Definitions;
@@ -20,15 +23,35 @@ use crate::names::Uses;
 use cue_lattice::{Kind, Refusal};
 use cue_syntax::{Declaration, File};
 use std::alloc::Global;
+use std::marker::Model;
 
-/// A legal text: its declarations, and of its definitions what evaluation needs.
+/// A legal text, and what evaluation needs of its definitions. Contracts see it as the file that it
+/// is of, which follows the grammar and is legal by this type.
 #[derive(Drop)]
 pub struct Resolved<'f, 't> {
-    declarations: &'f [Declaration<'t>],
+    file: &'f File<'t>,
     definitions: Definitions<'f, 't>,
     measures: Vec<Measure>,
     order: Vec<usize>,
     size: usize,
+}
+
+impl<'f, 't> Model for Resolved<'f, 't> {
+    ghost use Rattle.cue_syntax.specs.declared.tree.File.{File};
+    ghost use Rattle.cue_syntax.specs.contracts.tree.File as whole;
+    ghost use Rattle.std.specs.Coded.{codes};
+    ghost use Rattle.std.specs.Prelude.{[]};
+    ghost use mir.Syntax.{named};
+
+    ghost Value = { File };
+
+    ghost coded = { Prim.hlevel (codes, (whole.the_row (record { mir = named 0; lft = [] })).coded) };
+
+    ghost use Rattle.cue_scope.specs.Resolving.{IsResolved};
+
+    ghost view = { λ resolved. resolved.file.now };
+
+    ghost invariant = { IsResolved };
 }
 
 /// Checks a text: its names, its definitions, the terms of its disjunctions and its limits.
@@ -39,9 +62,9 @@ pub struct Resolved<'f, 't> {
 /// by the first name; `Cycle`; `NotScalar`; `TooLarge`; `TooDeep`. Each comes with the place that it
 /// names. And `Memory`.
 pub fn resolve<'f, 't>(alloc: Global, file: &'f File<'t>) -> Result<Resolved<'f, 't>, Refusal>
-    ensures legal { OnOk result (IsLegal (entries file.now.declarations.items)) }
-    ensures resolved { IfOk result (IsResolved (entries file.now.declarations.items)) }
-    ensures refused { IfErr result (λ r. (r ≡ memory) ⊎ Refuses (entries file.now.declarations.items) r) }
+    ensures legal { OnOk result (IsLegal (entries_of file.now)) }
+    ensures resolved { IfOk result (λ r. r ≡ file.now) }
+    ensures refused { IfErr result (λ r. (r ≡ memory) ⊎ Refuses (entries_of file.now) r) }
 {
     let declarations = file.declarations.as_slice();
     let definitions = Definitions::of(alloc, declarations)?;
@@ -52,7 +75,7 @@ pub fn resolve<'f, 't>(alloc: Global, file: &'f File<'t>) -> Result<Resolved<'f,
     whole.check()?;
     let order = kept(alloc, &uses.of_definitions, &uses.of_fields, &order)?;
     Ok(Resolved {
-        declarations,
+        file,
         definitions,
         measures,
         order,
@@ -136,39 +159,41 @@ fn kept(
 }
 
 impl<'f, 't> Resolved<'f, 't> {
-    /// The declarations of the text. The regular ones are those of the struct that it means.
+    /// The declarations of the text, which is legal. The regular ones are those of the struct that
+    /// it means.
     pub fn declarations(&self) -> &'f [Declaration<'t>]
-        ensures { result.now ≡ self.now.declarations.now }
+        ensures declarations { result.now ≡ self.now.declarations.items }
+        ensures legal { IsLegal (entries_of self.now) }
     {
-        self.declarations
+        self.file.declarations.as_slice()
     }
 
     /// The definitions of the text.
     pub fn definitions(&self) -> &Definitions<'f, 't>
-        ensures { result.now ≡ self.now.definitions }
+        ensures { all_of result.now ≡ defining.definitions (entries_of self.now) }
     {
         &self.definitions
     }
 
-    /// The numbers of the definitions that the regular declarations reach, each after those that it
-    /// uses.
+    /// The numbers of the definitions that the regular declarations reach, each once, after those
+    /// that it uses.
     pub fn order(&self) -> &[usize]
-        ensures { result.now ≡ order_of self.now }
+        ensures { let ds = defining.definitions (entries_of self.now) in IsReachedOrder (using.graph ds) (using.uses_of_fields ds (entries_of self.now)) result.now }
     {
         &self.order
     }
 
     /// Whether the body of a definition is scalar, by its number.
     pub fn is_scalar(&self, number: usize) -> bool
-        requires { number < length self.now.measures.items }
-        ensures { (d : Measure) → result ≡ scalar_at self.now number d }
+        requires { number < length (defining.definitions (entries_of self.now)) }
+        ensures { result ≡ core.is_scalar (meaning.meaning (defining.definitions (entries_of self.now)) number) }
     {
         self.measures[number].scalar
     }
 
     /// The size of the struct that the text means, at most 65,536.
     pub fn size(&self) -> u64
-        ensures { result ≡ size_of self.now }
+        ensures { result ≡ limits.size (meaning.meant_text (entries_of self.now)) }
     {
         self.size as u64
     }

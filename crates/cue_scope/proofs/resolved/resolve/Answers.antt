@@ -1,7 +1,7 @@
 use Rattle.std.proofs.Common.{arith, ◌≡◌, ◌<◌, length, inr, refl, sym, ap, ◌∙◌, subst}
 use Rattle.std.proofs.lemmas.Result.{err_from_is_err_and}
 use Rattle.cue_syntax.specs.Syntax.{entries}
-use Rattle.cue_scope.specs.declared.resolved.Resolved.{Resolved}
+use Rattle.cue_scope.specs.declared.resolved.Resolved.TheInside.{Inside}
 use Rattle.cue_scope.specs.Core.{is_scalar}
 use Rattle.cue_scope.specs.Definitions.{definitions}
 use Rattle.cue_scope.specs.Graph.{IsAcyclic, IsClosed}
@@ -10,7 +10,8 @@ use Rattle.cue_scope.specs.Meaning.{meaning}
 use Rattle.cue_scope.specs.Measures.{IsMeasured, as_literal, total_of_file}
 use Rattle.cue_scope.specs.Ordering.{graph_of}
 use Rattle.cue_scope.specs.Refusing.{IsLegal}
-use Rattle.cue_scope.specs.Resolving.{IsResolved, IsReachedOrder}
+use Rattle.cue_scope.specs.Reached.{IsReachedOrder}
+use Rattle.cue_scope.specs.Resolving.{Keeps}
 use Rattle.cue_scope.specs.Uses.{graph, uses_of_fields}
 use Rattle.cue_scope.proofs.Inside.{closed_graph, fields_below, below_is}
 use Rattle.cue_scope.proofs.Meanings.{length_graph}
@@ -61,27 +62,28 @@ returns-clause-legal c =
     let ordered = ordered_text es c.in_ok-definitions.ensures.unrepeated c.in_ok-uses.ensures.named acyclic in
     subst (λ z. IsLegal (entries z)) c.as_slice-declarations.ensures.value (legal_text es ordered (c.in_ok-check.ensures.within (text_total es) measured))
 
-pub returns-clause-resolved : goal.returns-clause-resolved
-returns-clause-resolved c =
+pub invariant_of-result : goal.invariant_of-result
+invariant_of-result c =
     let es = entries c.as_slice-declarations.result.now in
-    let ds = all_of c.in_ok-definitions.definitions in
     let all = c.in_ok-definitions.ensures.all in
     let measured = subst (λ z. IsMeasured c.measure-whole.result (as_literal 1 (total_of_file z es))) all c.measure-whole.ensures in
     let within = c.in_ok-check.ensures.within (text_total es) measured in
+    let acyclic = subst (λ z. IsAcyclic (graph z)) all c.in_ok-order.ensures.acyclic in
+    let ordered = ordered_text es c.in_ok-definitions.ensures.unrepeated c.in_ok-uses.ensures.named acyclic in
     let edges : graph_of c.deref-3.result.now ≡ graph (definitions es) = ap graph_of c.deref-3.ensures.value ∙ c.in_ok-uses.ensures.graph ∙ ap graph all in
     let starts : c.deref-4.result.now ≡ uses_of_fields (definitions es) es = c.deref-4.ensures.value ∙ c.in_ok-uses.ensures.fields ∙ ap (λ z. uses_of_fields z es) all in
     let kept = subst (λ z. IsReachedOrder z (uses_of_fields (definitions es) es) c.in_ok-order-2.order.items) edges
     (subst (λ z. IsReachedOrder (graph_of c.deref-3.result.now) z c.in_ok-order-2.order.items) starts c.in_ok-order-2.ensures.kept) in
     let counted : c.measure-whole.result.size ≡ (text_total es).size = let e = measured.size in let f = within.size in omega arith in
-    let found : Resolved = record {
-      declarations = c.as_slice-declarations.result;
+    let found : Inside = record {
+      file = c.args.file;
       definitions = c.in_ok-definitions.definitions;
       measures = c.in_ok-measures.measures;
       order = c.in_ok-order-2.order;
       size = c.measure-whole.result.size;
     } in
-    subst (λ z. IsResolved (entries z) found) c.as_slice-declarations.ensures.value (record {
-      declared = refl;
+    subst (λ z. Keeps found (entries z)) c.as_slice-declarations.ensures.value (record {
+      legal = legal_text es ordered within;
       defined = all;
       measured = c.in_ok-measures.ensures.length ∙ ap length all;
       scalar = λ i d h. (c.in_ok-measures.ensures.measured i d (subst (λ z. i < length z) (sym all) h)).scalar ∙ ap (λ z. is_scalar (meaning z i)) all;
