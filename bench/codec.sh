@@ -5,19 +5,11 @@
 # table that it made. The column `growth` is the exponent of growth for each byte from the first size to the last: 1.00 is
 # linear. Then, at the last size, the instructions for each byte, and how many times those of a copy of the bytes they
 # are. At the end a table of 160,000 fields. The script ends with 1 where a growth is above 1.15. It takes some minutes.
-# Usage, at the top of the repository: bench/codec.sh [PROGRAM], where PROGRAM is what `rt run` makes of bench_codec. It
-# wants valgrind.
+# Usage, at the top of the repository: bench/codec.sh [PROGRAM], where PROGRAM is what `rt run` makes of bench_tables.
+# It wants valgrind.
 set -eu
-program=${1:-crates/bench_codec/out/bench_codec}
-if [ ! -x "$program" ]; then
-    (cd crates/bench_codec && rt run > /dev/null)
-fi
-
-# the instructions of a run: WORK SHAPE COUNT ROUNDS
-instructions() {
-    valgrind --tool=callgrind --callgrind-out-file=/dev/null "$program" "$@" 2>&1 > /dev/null |
-        awk '/Collected/ { print $4 }'
-}
+. bench/instructions.sh
+program=${1:-$(built bench_tables)}
 
 # the bytes of the state, and the instructions of encode, decode and copy: SHAPE COUNT
 costs() {

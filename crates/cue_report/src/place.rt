@@ -1,8 +1,9 @@
-ghost use Rattle.std.specs.Prelude.{◌≡◌, map, IfOk};
+ghost use Rattle.std.specs.Prelude.{◌≡◌, map, string_bytes, IfOk};
+ghost use Rattle.cue_row.specs.PathText.{path_text};
 ghost use Rattle.cue_row.specs.Steps.{step_of};
 
 use cue_lattice::Memory;
-use cue_row::Step;
+use cue_row::{Step, push_steps};
 use std::alloc::Global;
 use std::marker::Model;
 
@@ -37,6 +38,15 @@ impl Place {
         ensures { map step_of result.now ≡ self.now }
     {
         self.steps.as_slice()
+    }
+
+    /// The place as reports write it, in the way of [`cue_row::path_text`].
+    pub fn to_text(&self, alloc: Global) -> Result<String, Memory>
+        ensures { IfOk result (λ text. string_bytes text ≡ path_text self.now) }
+    {
+        let mut out = String::new(alloc);
+        push_steps(&mut out, self.steps())?;
+        Ok(out)
     }
 }
 

@@ -1,5 +1,5 @@
 //! What an export comes to.
-use crate::sample::Place::{Integers, List, Nothing, Struct};
+use crate::sample::Place::{Default, Integers, List, Nothing, Null, Struct, Text, Truth};
 use crate::sample::{Place, table};
 use cue_report::{Export, Memory, export, lines};
 use cue_row::Level;
@@ -68,6 +68,22 @@ fn no_integer_is_chosen_of_two(rt: HostRuntime) -> Result<(), Fail> {
     assert_eq!(rt;
         text.as_str(),
         "incomplete a not a single value\nincomplete b missing\n"
+    );
+    Ok(())
+}
+
+#[test]
+fn each_kind_of_scalar_is_exported(rt: HostRuntime) -> Result<(), Fail> {
+    let places = [
+        ("a", Given, Null),
+        ("b", Given, Truth(true)),
+        ("c", Given, Text("x\n")),
+        ("d", Given, Default(1, 3, 2)),
+    ];
+    let text = exported(rt.alloc(), &places)?;
+    assert_eq!(rt;
+        text.as_str(),
+        "{\"a\":null,\"b\":true,\"c\":\"x\\n\",\"d\":2}"
     );
     Ok(())
 }

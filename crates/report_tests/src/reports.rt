@@ -1,14 +1,15 @@
 //! What stands in the way of an export, as lines.
+use crate::sample;
 use crate::sample::Place::{Closed, Integers, List, Nothing, Struct};
-use crate::sample::{Place, table};
-use cue_report::{Memory, conflicts, incomplete, lines};
+use crate::sample::{path, table};
+use cue_report::{Memory, Place, conflicts, incomplete, lines, path_text};
 use cue_row::Level;
 use cue_row::Level::{Given, Optional, Required};
 use std::alloc::Global;
 use std::test::Fail;
 
 /// The lines of the conflicts of the table with these places.
-fn told(alloc: Global, places: &[(&str, Level, Place)]) -> Result<String, Memory> {
+fn told(alloc: Global, places: &[(&str, Level, sample::Place)]) -> Result<String, Memory> {
     let table = table(alloc, places)?;
     let found = conflicts(alloc, &table)?;
     lines(alloc, &found, &[])
@@ -97,7 +98,7 @@ fn conflicts_stand_in_path_order(rt: HostRuntime) -> Result<(), Fail> {
 }
 
 /// The lines of the gaps of the table with these places.
-fn lacking(alloc: Global, places: &[(&str, Level, Place)]) -> Result<String, Memory> {
+fn lacking(alloc: Global, places: &[(&str, Level, sample::Place)]) -> Result<String, Memory> {
     let table = table(alloc, places)?;
     let gaps = incomplete(alloc, &table)?;
     lines(alloc, &[], &gaps)
@@ -139,5 +140,17 @@ fn a_conflict_is_no_gap(rt: HostRuntime) -> Result<(), Fail> {
     ];
     let text = lacking(rt.alloc(), &places)?;
     assert_eq!(rt; text.as_str(), "");
+    Ok(())
+}
+
+#[test]
+fn paths_are_told_step_by_step(rt: HostRuntime) -> Result<(), Fail> {
+    let alloc = rt.alloc();
+    let root = path_text(alloc, &path(alloc, "")?)?;
+    assert_eq!(rt; root.as_str(), ".");
+    let below = path_text(alloc, &path(alloc, "a1b")?)?;
+    assert_eq!(rt; below.as_str(), "a.1.b");
+    let place = Place::new(path(alloc, "a1b")?.into_steps());
+    assert_eq!(rt; place.to_text(alloc)?.as_str(), "a.1.b");
     Ok(())
 }

@@ -2,12 +2,12 @@
 use cue_lattice::{Memory, Narrow, Text};
 use cue_row::{Labels, Level, Path, Row, Step};
 use cue_scalars::ScalarSet;
-use cue_sets::IntSet;
+use cue_sets::{IntSet, TextSet};
 use cue_table::Table;
 use std::alloc::Global;
 
 /// A path of one-letter labels and one-digit indexes: `a1b` is the label `a`, the index 1 and the label `b`.
-fn path(alloc: Global, word: &str) -> Result<Path, Memory> {
+pub fn path(alloc: Global, word: &str) -> Result<Path, Memory> {
     let mut steps = Vec::new(alloc);
     for letter in word.chars() {
         match letter.to_digit(10) {
@@ -33,6 +33,11 @@ pub enum Place<'a> {
     List(u32, Option<u32>),
     /// All integers from the first to the last.
     Integers(i64, i64),
+    /// All integers from the first to the last, of which the third is the default.
+    Default(i64, i64, i64),
+    Null,
+    Truth(bool),
+    Text(&'a str),
     /// Nothing.
     Nothing,
 }
@@ -76,6 +81,36 @@ fn integers(alloc: Global, first: i64, last: i64) -> Result<Row, Memory> {
     Ok(row)
 }
 
+/// The integers from the first to the last, of which one is usual.
+fn default(alloc: Global, first: i64, last: i64, usual: i64) -> Result<Row, Memory> {
+    let mut row = integers(alloc, first, last)?;
+    row.usual.ints = IntSet::one(alloc, usual)?;
+    Ok(row)
+}
+
+fn null(alloc: Global) -> Result<Row, Memory> {
+    let mut row = compound(alloc, false, false)?;
+    row.value.null = true;
+    row.usual.null = true;
+    Ok(row)
+}
+
+fn truth(alloc: Global, truth: bool) -> Result<Row, Memory> {
+    let mut row = compound(alloc, false, false)?;
+    row.value.no = !truth;
+    row.value.yes = truth;
+    row.usual.no = !truth;
+    row.usual.yes = truth;
+    Ok(row)
+}
+
+fn text(alloc: Global, text: &str) -> Result<Row, Memory> {
+    let mut row = compound(alloc, false, false)?;
+    row.value.texts = TextSet::one(alloc, text)?;
+    row.usual.texts = TextSet::one(alloc, text)?;
+    Ok(row)
+}
+
 fn list(alloc: Global, least: u32, most: Option<u32>) -> Result<Row, Memory> {
     let mut row = compound(alloc, false, true)?;
     row.least = least;
@@ -89,6 +124,10 @@ fn row(alloc: Global, level: Level, place: Place) -> Result<Row, Memory> {
         Place::Closed(letters) => closed(alloc, letters)?,
         Place::List(least, most) => list(alloc, least, most)?,
         Place::Integers(first, last) => integers(alloc, first, last)?,
+        Place::Default(first, last, usual) => default(alloc, first, last, usual)?,
+        Place::Null => null(alloc)?,
+        Place::Truth(value) => truth(alloc, value)?,
+        Place::Text(value) => text(alloc, value)?,
         Place::Nothing => compound(alloc, false, false)?,
     };
     row.level = level;

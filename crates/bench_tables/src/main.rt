@@ -1,17 +1,20 @@
-//! Writes and reads large states, to see how the cost grows with their size.
+//! Writes, reads and reports on large tables, to see how the cost grows with their size.
 //!
 //! Without arguments it prints how many bytes the states of small tables have. With the words WORK
 //! SHAPE COUNT ROUNDS it makes a table and its state, does the work so many times and prints how
-//! many bytes the state has. WORK is `encode`, `decode` or `copy` (the bytes alone are copied).
-//! SHAPE is one of these:
+//! many bytes the state has. WORK is `encode`, `decode`, `copy` (the bytes alone are copied),
+//! `conflicts`, `incomplete` or `export`. SHAPE is one of these:
 //! - `wide`: COUNT fields, each with an integer, at the top.
 //! - `deep`: COUNT such fields under a parent 61 levels down.
 //! - `texts`: one field, which may be one of COUNT texts.
+//! - `open`: COUNT fields at the top, each of which may be any integer.
+//! - `clashing`: COUNT fields at the top, in each of which nothing may stand.
 #![tactic(auto)]
 
 use anyhow::Error;
 use cue_codec::{decode, encode};
 use cue_lattice::{Kind, Memory, Narrow, Text};
+use cue_report::{conflicts, export, incomplete};
 use cue_row::{Labels, Level};
 use cue_scalars::ScalarSet;
 use cue_sets::{IntSet, TextSet};
@@ -33,9 +36,7 @@ enum Fault {
 impl fmt::Display for Fault {
     fn fmt<W: fmt::Write>(&self, f: &mut fmt::Formatter<W>) -> fmt::Result {
         match self {
-            Fault::Usage => {
-                f.write_str("usage: bench_codec [encode|decode|copy wide|deep|texts COUNT ROUNDS]")
-            }
+            Fault::Usage => f.write_str("usage: bench_tables [WORK SHAPE COUNT ROUNDS]"),
             Fault::Invalid => f.write_str("the table is not valid"),
             Fault::Refused(kind) => f.write_str(kind.name()),
         }
@@ -44,12 +45,15 @@ impl fmt::Display for Fault {
 
 impl error::Error for Fault {}
 
-/// What is done with a state.
+/// What is done with a table or its state.
 #[derive(Clone, Copy)]
 enum Work {
     Encode,
     Decode,
     Copy,
+    Conflicts,
+    Incomplete,
+    Export,
 }
 
 impl Work {
@@ -58,6 +62,9 @@ impl Work {
             "encode" => Some(Work::Encode),
             "decode" => Some(Work::Decode),
             "copy" => Some(Work::Copy),
+            "conflicts" => Some(Work::Conflicts),
+            "incomplete" => Some(Work::Incomplete),
+            "export" => Some(Work::Export),
             _ => None,
         }
     }
@@ -69,16 +76,26 @@ enum Shape {
     Wide,
     Deep,
     Texts,
+    Open,
+    Clashing,
 }
 
 impl Shape {
-    const ALL: [Shape; 3] = [Shape::Wide, Shape::Deep, Shape::Texts];
+    const ALL: [Shape; 5] = [
+        Shape::Wide,
+        Shape::Deep,
+        Shape::Texts,
+        Shape::Open,
+        Shape::Clashing,
+    ];
 
     fn name(self) -> &'static str {
         match self {
             Shape::Wide => "wide",
             Shape::Deep => "deep",
             Shape::Texts => "texts",
+            Shape::Open => "open",
+            Shape::Clashing => "clashing",
         }
     }
 
@@ -87,6 +104,8 @@ impl Shape {
             "wide" => Some(Shape::Wide),
             "deep" => Some(Shape::Deep),
             "texts" => Some(Shape::Texts),
+            "open" => Some(Shape::Open),
+            "clashing" => Some(Shape::Clashing),
             _ => None,
         }
     }
@@ -94,9 +113,8 @@ impl Shape {
     /// How many levels down the parent of the fields is.
     fn levels(self) -> usize {
         match self {
-            Shape::Wide => 0,
             Shape::Deep => 61,
-            Shape::Texts => 0,
+            Shape::Wide | Shape::Texts | Shape::Open | Shape::Clashing => 0,
         }
     }
 }
@@ -127,11 +145,12 @@ fn table<R: Narrow>(
     alloc: Global,
     levels: usize,
     fields: u32,
+    root: &R,
     outer: &R,
     row: &R,
 ) -> Result<Table<R>, Memory> {
     let mut made = Table::new(alloc);
-    let _is_last = made.append(&Path::root(alloc), outer.copy(alloc)?)?;
+    let _is_last = made.append(&Path::root(alloc), root.copy(alloc)?)?;
     for level in 0..levels {
         let steps = parent(alloc, level.saturating_add(1))?;
         let _is_last = made.append(&path(alloc, steps), outer.copy(alloc)?)?;
@@ -143,9 +162,9 @@ fn table<R: Narrow>(
 }
 
 /// The row of a struct that allows all labels.
-fn open_struct(alloc: Global) -> Result<Row, Memory> {
+fn open_struct(alloc: Global, level: Level) -> Result<Row, Memory> {
     Ok(Row {
-        level: Level::Optional,
+        level,
         value: ScalarSet::empty(alloc)?,
         usual: ScalarSet::empty(alloc)?,
         struct_ok: true,
@@ -170,13 +189,13 @@ fn scalar(alloc: Global, value: ScalarSet) -> Result<Row, Memory> {
     })
 }
 
-/// The set of one integer.
-fn integer(alloc: Global, number: i64) -> Result<ScalarSet, Memory> {
+/// The members of a set of integers.
+fn integers(alloc: Global, ints: IntSet) -> Result<ScalarSet, Memory> {
     Ok(ScalarSet {
         null: false,
         no: false,
         yes: false,
-        ints: IntSet::one(alloc, number)?,
+        ints,
         texts: TextSet::none(alloc)?,
     })
 }
@@ -202,12 +221,15 @@ fn texts(alloc: Global, count: u32) -> Result<ScalarSet, Memory> {
 /// The table of this shape with so many fields or texts.
 fn shaped(alloc: Global, shape: Shape, count: u32) -> Result<Table<Row>, Memory> {
     let (fields, value) = match shape {
-        Shape::Wide | Shape::Deep => (count, integer(alloc, 7)?),
+        Shape::Wide | Shape::Deep => (count, integers(alloc, IntSet::one(alloc, 7)?)?),
+        Shape::Open => (count, integers(alloc, IntSet::full(alloc)?)?),
+        Shape::Clashing => (count, ScalarSet::empty(alloc)?),
         Shape::Texts => (1, texts(alloc, count)?),
     };
-    let outer = open_struct(alloc)?;
+    let root = open_struct(alloc, Level::Optional)?;
+    let outer = open_struct(alloc, Level::Given)?;
     let row = scalar(alloc, value)?;
-    table(alloc, shape.levels(), fields, &outer, &row)
+    table(alloc, shape.levels(), fields, &root, &outer, &row)
 }
 
 /// Reads a state.
@@ -239,6 +261,15 @@ fn measured(
             Work::Decode => read(alloc, &bytes)?,
             Work::Copy => {
                 let _state = Vec::from_slice(alloc, &bytes)?;
+            }
+            Work::Conflicts => {
+                let _found = conflicts(alloc, &table)?;
+            }
+            Work::Incomplete => {
+                let _gaps = incomplete(alloc, &table)?;
+            }
+            Work::Export => {
+                let _export = export(alloc, &table)?;
             }
         }
     }

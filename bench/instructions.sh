@@ -1,0 +1,26 @@
+# What the scripts that count instructions have in common; they read it by `.`.
+
+# the program of a crate, built where it is not there: CRATE
+built() {
+    local program=crates/$1/out/$1
+    if [ ! -x "$program" ]; then
+        (cd "crates/$1" && rt run > /dev/null)
+    fi
+    echo "$program"
+}
+
+# the instructions of a run of $program with these words
+instructions() {
+    valgrind --tool=callgrind --callgrind-out-file=/dev/null "$program" "$@" 2>&1 > /dev/null |
+        awk '/Collected/ { print $4 }'
+}
+
+# the exponent of growth where four times the size costs so much more: COST COST
+growth_of() {
+    awk -v a="$1" -v b="$2" 'BEGIN { printf "%.2f", log(b / a) / log(4) }'
+}
+
+# whether a growth is above 1.15: GROWTH
+is_steep() {
+    awk -v growth="$1" 'BEGIN { exit !(growth > 1.15) }'
+}
