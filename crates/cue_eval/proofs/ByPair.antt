@@ -81,7 +81,7 @@ together first pairs questions.struct = each_refuses first pairs
 together first pairs questions.list = each_refuses first pairs
 together first pairs _ = (λ h. none_refuses (first ∷ pairs) h, λ h. absurd h)
 
-both_true : (a b : Bool) → IsTrue (a && b) → IsTrue a × IsTrue b
+pub both_true : (a b : Bool) → IsTrue (a && b) → IsTrue a × IsTrue b
 both_true true b h = (refl, h)
 both_true false b h = absurd (false≢true h)
 

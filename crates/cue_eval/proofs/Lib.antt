@@ -9,6 +9,7 @@ pub mod ByPair
 pub mod Own
 pub mod Adding
 pub mod Integers
+pub mod Pairing
 pub mod Example
 pub mod Closing
 pub mod Fields

@@ -1,5 +1,6 @@
 pub mod Sets
 pub mod Pairs
+pub mod Known
 pub mod Literals
 pub mod Places
 pub mod Refuses

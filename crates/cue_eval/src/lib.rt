@@ -2,6 +2,7 @@
 #![tactic(auto)]
 
 mod laws;
+mod pair;
 mod scalars;
 #[cfg(test)]
 mod tests;

@@ -1,0 +1,41 @@
+use Rattle.std.proofs.Common.{rules, subst, sym, drop, ◌+◌, ◌∷◌, arith}
+use denote.Param.Weighed.{most, at_most}
+use Rattle.std.proofs.Common.{◌≤◌}
+use Rattle.cue_syntax.specs.declared.tree.Expr.{size-Expr}
+use Rattle.cue_syntax.specs.declared.tree.Term.{size-Term}
+use Rattle.cue_syntax.specs.declared.tree.Declaration.TheViews.{size_is-Term}
+use Rattle.cue_syntax.specs.Syntax.{branches}
+use Rattle.cue_scope.proofs.Walking.{at_hand}
+use Rattle.cue_eval.proofs.Pairing.{PairingParts, PairingTerms, part_can, part_more, term_can, term_more}
+use Rattle.cue_eval.proofs.pair.Pairs.+pair.Goals as goal
+
+pub conjunction-pair-requires : goal.conjunction-pair-requires
+conjunction-pair-requires t c =
+    let can = part_can c.args.self.now _ c.args.parts.now _ c.part-item.result _ c.loop-part.invariant (at_hand c.args.parts.now c.loop-part.part-index c.part-item.result c.loop-part-test.true c.part-item.is) in (
+      let among : size-Expr c.part-item.result ≤ most (λ e. size-Expr e) c.args.parts.now =
+          subst (λ e. size-Expr e ≤ most (λ x. size-Expr x) c.args.parts.now) (sym c.part-item.is) (at_most (λ e. size-Expr e) c.args.parts.now c.loop-part.part-index c.part-item.result c.loop-part-test.true) in
+          omega (arith, c.decreases, among),
+      can,
+    )
+
+pub conjunction-loop-part-preserved : goal.conjunction-loop-part-preserved
+conjunction-loop-part-preserved t c =
+    subst (λ xs. PairingParts c.args.self.now xs c.args.parts.now (drop (c.loop-part.part-index + 1) c.args.parts.now)) (sym c.in_ok-push.ensures.items)
+    (part_more c.args.self.now _ c.args.parts.now _ c.part-item.result _ c.in_ok-pair.pair c.loop-part.invariant
+    (at_hand c.args.parts.now c.loop-part.part-index c.part-item.result c.loop-part-test.true c.part-item.is) c.in_ok-pair.ensures)
+
+pub disjunction-pair-requires : goal.disjunction-pair-requires
+disjunction-pair-requires t c =
+    let can = term_can c.args.self.now _ c.args.terms.now _ c.term-item.result _ c.loop-term.invariant (at_hand c.args.terms.now c.loop-term.term-index c.term-item.result c.loop-term-test.true c.term-item.is) in (
+      let among : size-Term c.term-item.result ≤ most (λ e. size-Term e) c.args.terms.now =
+          subst (λ e. size-Term e ≤ most (λ x. size-Term x) c.args.terms.now) (sym c.term-item.is) (at_most (λ e. size-Term e) c.args.terms.now c.loop-term.term-index c.term-item.result c.loop-term-test.true) in
+          let own = size_is-Term c.term-item.result in
+          omega (arith, c.decreases, among, own),
+      can,
+    )
+
+pub disjunction-loop-term-preserved : goal.disjunction-loop-term-preserved
+disjunction-loop-term-preserved t c =
+    subst (λ xs. PairingTerms c.args.self.now xs c.args.terms.now (branches (drop (c.loop-term.term-index + 1) c.args.terms.now))) (sym c.in_ok-push.ensures.items)
+    (term_more c.args.self.now _ c.args.terms.now _ c.term-item.result _ c.in_ok-pair.pair c.loop-term.invariant
+    (at_hand c.args.terms.now c.loop-term.term-index c.term-item.result c.loop-term-test.true c.term-item.is) c.in_ok-pair.ensures)

@@ -1,0 +1,127 @@
+//! The value and the default of scalar expressions.
+ghost use Rattle.std.specs.Prelude.{◌≡◌, ◌<◌, length, IfOk};
+ghost use Rattle.cue_scalars.specs.Pairs as joining;
+ghost use Rattle.cue_scalars.specs.Values.{pair_of};
+ghost use Rattle.cue_syntax.specs.Syntax as tree;
+ghost use Rattle.cue_scope.specs.Meaning.{meant_word};
+ghost use Rattle.cue_eval.specs.Known.{named_core, core_of, parts_of, choices_of, IsPairable, ArePairable, ArePairableTerms, IsPairableName};
+ghost use Rattle.cue_eval.specs.Pairs.{pair, pairs_of, terms_of};
+
+use crate::scalars::{
+    bounded, integer_alone, integer_of, named_set, nothing, null_alone, other_integers,
+    other_texts, text_alone, truth_alone,
+};
+use cue_lattice::Memory;
+use cue_scalars::Valued;
+use cue_scope::{Definitions, Named};
+use cue_syntax::{Expr, Identifier, Term};
+use std::alloc::Global;
+
+/// The definitions of a text, and the value and default of those that are scalar, as far as they are known.
+#[derive(Clone, Copy, Drop)]
+pub(crate) struct Pairs<'a, 'f, 't> {
+    pub alloc: Global,
+    pub definitions: &'a Definitions<'f, 't>,
+    /// By the numbers of the definitions.
+    pub pairs: &'a [Option<Valued>],
+}
+
+impl<'a, 'f, 't> Pairs<'a, 'f, 't> {
+    /// The value and the default of a scalar expression.
+    #[cycle(pair)]
+    pub(crate) fn pair(&self, expression: &Expr) -> Result<Valued, Memory>
+        requires { IsPairable self.now (tree.expression expression.now) }
+        ensures { IfOk result (λ valued. pair_of valued ≡ pair (core_of self.now (tree.expression expression.now))) }
+    {
+        match expression {
+            Expr::Name { name, .. } => self.name(name),
+            Expr::Integer(written) => integer_alone(self.alloc, integer_of(*written)),
+            Expr::Text(text) => text_alone(self.alloc, text.as_str()),
+            Expr::Bottom => nothing(self.alloc),
+            Expr::Bound(comparison, written) => bounded(
+                self.alloc,
+                *comparison,
+                integer_of(*written),
+            ),
+            Expr::OtherInteger(written) => other_integers(self.alloc, integer_of(*written)),
+            Expr::OtherText(text) => other_texts(self.alloc, text.as_str()),
+            Expr::Parenthesis { inner, .. } => self.pair(inner),
+            Expr::Conjunction(parts) => self.conjunction(parts),
+            Expr::Disjunction(terms) => self.disjunction(terms),
+            Expr::Struct { .. } => nothing(self.alloc),
+            Expr::Close { .. } => nothing(self.alloc),
+            Expr::List { .. } => nothing(self.alloc),
+        }
+    }
+
+    /// Parts that are joined by `&`.
+    #[cycle(pair)]
+    fn conjunction(&self, parts: &[Expr]) -> Result<Valued, Memory>
+        requires some { 0 < length parts.now }
+        requires parts { ArePairable self.now (tree.elements parts.now) }
+        ensures { IfOk result (λ valued. pair_of valued ≡ joining.all_of (pairs_of (parts_of self.now (tree.elements parts.now)))) }
+    {
+        let mut pairs = Vec::new(self.alloc);
+        for part in parts {
+            let pair = self.pair(part)?;
+            pairs.push(pair)?;
+        }
+        Valued::and_all(self.alloc, &pairs)
+    }
+
+    /// Terms that are joined by `|`.
+    #[cycle(pair)]
+    fn disjunction(&self, terms: &[Term]) -> Result<Valued, Memory>
+        requires { ArePairableTerms self.now (tree.branches terms.now) }
+        ensures { IfOk result (λ valued. pair_of valued ≡ joining.disjunction (terms_of (choices_of self.now (tree.branches terms.now)))) }
+    {
+        let mut pairs = Vec::new(self.alloc);
+        for term in terms {
+            let pair = self.pair(&term.value)?;
+            pairs.push((term.marked, pair))?;
+        }
+        Valued::or(self.alloc, &pairs)
+    }
+
+    /// A name.
+    fn name(&self, name: &Identifier) -> Result<Valued, Memory>
+        requires { IsPairableName self.now name.now }
+        ensures { IfOk result (λ valued. pair_of valued ≡ pair (named_core self.now name.now)) }
+    {
+        match name {
+            Identifier::Plain(name) => word(self.alloc, name.as_str()),
+            Identifier::Definition(name) => self.used(name.as_str()),
+            Identifier::Hidden(_) => nothing(self.alloc),
+        }
+    }
+
+    /// A use of a definition.
+    fn used(&self, name: &str) -> Result<Valued, Memory>
+        requires { IsPairableName self.now (Identifier.Definition name.now) }
+        ensures { IfOk result (λ valued. pair_of valued ≡ pair (named_core self.now (Identifier.Definition name.now))) }
+    {
+        match self.definitions.number(name) {
+            None => nothing(self.alloc),
+            Some(number) => match self.pairs.get(number) {
+                None => nothing(self.alloc),
+                Some(None) => nothing(self.alloc),
+                Some(Some(pair)) => pair.copy(self.alloc),
+            },
+        }
+    }
+}
+
+/// A name of a scalar, or of a set of scalars; any other has no meaning.
+fn word(alloc: Global, name: &str) -> Result<Valued, Memory>
+    ensures { IfOk result (λ valued. pair_of valued ≡ pair (meant_word name.now)) }
+{
+    match name {
+        "true" => truth_alone(alloc, true),
+        "false" => truth_alone(alloc, false),
+        "null" => null_alone(alloc),
+        _ => match Named::of(name) {
+            None => nothing(alloc),
+            Some(set) => named_set(alloc, set),
+        },
+    }
+}
