@@ -1,10 +1,10 @@
 //! Unifies tables of many rows, to see how the cost grows with their size.
 //!
 //! Without arguments it prints how many rows come of small tables. With the words WORK SHAPE ROWS ROUNDS it does the
-//! work on a table of so many rows, and prints whether the last row is there. WORK is `fragments` (tables of 30 new
-//! rows each, as many as ROUNDS, are unified into it, one after the other), `equal` (it is unified with an equal one, at
-//! most once) or `disjoint` (with one of as many rows that lie between its own, at most once). With no rounds the tables
-//! are only made. SHAPE is `wide` (all rows under one parent) or `deep` (all rows under one parent 61 levels down).
+//! work on a table of so many rows, and prints whether the first row is there. WORK is `fragments` (tables of 30 new
+//! rows each, as many as ROUNDS, are unified into it, one after the other), `known` (tables of 30 rows that it has
+//! already), `equal` (it is unified with an equal one, at most once) or `disjoint` (with one of as many rows that lie
+//! between its own, at most once). With no rounds the tables are only made. SHAPE is `wide` (all rows under one parent) or `deep` (all rows under one parent 61 levels down).
 #![tactic(auto)]
 
 use anyhow::Error;
@@ -22,7 +22,7 @@ struct Usage;
 
 impl fmt::Display for Usage {
     fn fmt<W: fmt::Write>(&self, f: &mut fmt::Formatter<W>) -> fmt::Result {
-        f.write_str("usage: bench_table [fragments|equal|disjoint wide|deep ROWS ROUNDS]")
+        f.write_str("usage: bench_table [fragments|known|equal|disjoint wide|deep ROWS ROUNDS]")
     }
 }
 
@@ -56,6 +56,7 @@ impl Shape {
 #[derive(Clone, Copy)]
 enum Work {
     Fragments,
+    Known,
     Equal,
     Disjoint,
 }
@@ -64,6 +65,7 @@ impl Work {
     fn named(name: &str) -> Option<Work> {
         match name {
             "fragments" => Some(Work::Fragments),
+            "known" => Some(Work::Known),
             "equal" => Some(Work::Equal),
             "disjoint" => Some(Work::Disjoint),
             _ => None,
@@ -113,6 +115,11 @@ fn parts(work: Work, rows: u32, round: u32) -> Fields {
             apart: rows / 30 * 2,
             count: 30,
         },
+        Work::Known => Fields {
+            first: round.saturating_mul(2),
+            apart: rows / 30 * 2,
+            count: 30,
+        },
         Work::Equal => Fields {
             first: 0,
             apart: 2,
@@ -138,7 +145,7 @@ fn unified<R: Narrow>(
     let mut made = table(alloc, shape, parts(Work::Equal, rows, 0), row)?;
     let mut others = Vec::new(alloc);
     let count = match work {
-        Work::Fragments => 1000,
+        Work::Fragments | Work::Known => 1000,
         Work::Equal | Work::Disjoint => 1,
     };
     for round in 0..count {
@@ -197,12 +204,14 @@ fn is_there<R: Narrow>(
 /// How many rows small tables have, a line for each work.
 fn samples<R: Narrow>(alloc: Global, shape: Shape, row: &R) -> Result<String, Memory> {
     let fragments = unified(alloc, Work::Fragments, shape, 60, 2, row)?;
+    let known = unified(alloc, Work::Known, shape, 60, 2, row)?;
     let equal = unified(alloc, Work::Equal, shape, 60, 1, row)?;
     let disjoint = unified(alloc, Work::Disjoint, shape, 60, 1, row)?;
     let first = count(alloc, &fragments)?;
-    let second = count(alloc, &equal)?;
-    let third = count(alloc, &disjoint)?;
-    Ok(format!(in alloc; "{first}\n{second}\n{third}")?)
+    let second = count(alloc, &known)?;
+    let third = count(alloc, &equal)?;
+    let fourth = count(alloc, &disjoint)?;
+    Ok(format!(in alloc; "{first}\n{second}\n{third}\n{fourth}")?)
 }
 
 /// What is asked for in words, and what came of it.

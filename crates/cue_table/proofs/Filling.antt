@@ -11,7 +11,7 @@ use Rattle.cue_table.specs.View.{branches}
 use Rattle.cue_table.proofs.Planning.{past_drop}
 
 module _ {R : Type 0} where
-  join_none : (a : Children R) → join a none ≡ a
+  pub join_none : (a : Children R) → join a none ≡ a
   join_none none = refl
   join_none (child s t a) = ap (child s t) (join_none a)
 
@@ -43,14 +43,14 @@ module _ {R Q : Type 0} where
   }
 
   -- so many branches moved over
-  moved :
+  pub moved :
       (n : ℕ) (made rest : List (Child R Q)) (more : Children R)
       → join (branches (made ++ take n rest)) more ≡ join (branches made) (join (front n (branches rest)) more)
   moved n made rest more =
       ap (λ x. join x more) (branches_join made (take n rest)) ∙ join_assoc (branches made) (branches (take n rest)) more
       ∙ ap (λ x. join (branches made) (join x more)) (branches_take n rest)
 
-  one_more : (made : List (Child R Q)) (c : Child R Q) (more : Children R) → join (branches (made ++ c ∷ [])) more ≡ join (branches made) (child (step_of c.step) c.node more)
+  pub one_more : (made : List (Child R Q)) (c : Child R Q) (more : Children R) → join (branches (made ++ c ∷ [])) more ≡ join (branches made) (child (step_of c.step) c.node more)
   one_more made c more = ap (λ x. join x more) (branches_join made (c ∷ [])) ∙ join_assoc (branches made) (branches (c ∷ [])) more
 
   pub fills_keep :

@@ -1,4 +1,5 @@
 pub mod Adding
+pub mod Amending
 pub mod Appending
 pub mod ByHalves
 pub mod Depth

@@ -75,6 +75,13 @@ width (keep n slots) = n + width slots
 width (insert n step tree slots) = n + 1 + width slots
 width (alter n next slots) = n + 1 + width slots
 
+-- no new branch is among them
+abbrev pub IsAmending : {R : Type 0} → Slots R → Type 0
+IsAmending done = Unit {0}
+IsAmending (keep n slots) = IsAmending slots
+IsAmending (insert n step tree slots) = ⊥
+IsAmending (alter n next slots) = IsAmending slots
+
 abbrev mutual
   -- how many changes there are, by which a recursion over them ends
   pub change_size : {R : Type 0} → Change R → ℕ

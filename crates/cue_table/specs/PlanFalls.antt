@@ -6,7 +6,7 @@ use Rattle.cue_lattice.specs.declared.narrow.Narrow.{Ghosts}
 use Rattle.cue_table.specs.Plan.{slots_size, branches_size}
 use Rattle.cue_table.specs.PlanView.{slots_of, below_of}
 use Rattle.cue_table.specs.declared.plan.Below.{Below}
-use Rattle.cue_table.specs.declared.plan.Below.TheVariants.{Stay, Take, Merge}
+use Rattle.cue_table.specs.declared.plan.Below.TheVariants.{Stay, Take, Amend, Merge}
 use Rattle.cue_table.specs.declared.plan.Slot.{Slot}
 use Rattle.cue_table.specs.declared.plan.Slot.TheVariants.{Keep, Insert, Alter}
 use Rattle.cue_table.specs.declared.plan.Plan.TheDeep.{deep-Below, deep-Slot}
@@ -21,4 +21,5 @@ module _ {R Q : Type 0} (narrow : Ghosts R Q) where
   pub below_falls : (b : Below R Q) → max (deep-Below R Q narrow b) 0 ≤ branches_size (below_of b) + 1
   below_falls Stay = omega arith
   below_falls (Take children) = omega arith
+  below_falls (Amend slots) = omega (arith, slots_fall slots.items)
   below_falls (Merge slots room) = omega (arith, slots_fall slots.items)

@@ -1,45 +1,112 @@
 //! A change of a place, as it was planned. It takes no memory, and moves what stays.
-ghost use Rattle.std.specs.Prelude.{◌≡◌, ◌+◌, ◌≤◌, ◌++◌, take, drop};
+ghost use Rattle.std.specs.Prelude.{◌≡◌, ◌+◌, ◌≤◌, ◌++◌, length, min, take, drop};
 ghost use Rattle.std.specs.Vec.{vec_len, vec_capacity};
 ghost use Rattle.std.specs.Vec.Iter.{into_iter_items};
-ghost use Rattle.cue_table.specs.Plan.{changed, changed_below, merged, width};
-ghost use Rattle.cue_table.specs.PlanView.{HasRoom, below_of, slots_of};
+ghost use Rattle.cue_table.specs.Tree.{Children};
+ghost use Rattle.cue_table.specs.Plan.{Slots, done, IsAmending, changed, changed_below, first_changed, merged, width};
+ghost use Rattle.cue_table.specs.PlanView.{HasRoom, amended, below_of, slot_before, slots_of};
 ghost use Rattle.cue_table.specs.View.{branches};
 
 use crate::node::{Child, Node};
 use crate::plan::{Below, Plan, Slot};
 use cue_lattice::Narrow;
 use std::alloc::Global;
+use std::mem;
 use std::vec::IntoIter;
 
 /// The place after a change.
 #[cycle(fill)]
-pub(crate) fn change<R: Narrow>(old: Node<R>, plan: Plan<R>) -> Node<R>
+pub(crate) fn change<R: Narrow>(alloc: Global, old: Node<R>, plan: Plan<R>) -> Node<R>
     ensures { result ≡ changed plan old }
 {
     let Plan { row, below } = plan;
     Node {
         row: row.or(old.row),
-        children: change_below(old.children, below),
+        children: change_below(alloc, old.children, below),
     }
 }
 
 /// Its branches.
 #[cycle(fill)]
-fn change_below<R: Narrow>(old: Vec<Child<R>>, below: Below<R>) -> Vec<Child<R>>
+fn change_below<R: Narrow>(alloc: Global, old: Vec<Child<R>>, below: Below<R>) -> Vec<Child<R>>
     requires { HasRoom below }
     ensures { branches result.items ≡ changed_below (below_of below) (branches old.items) }
 {
     match below {
         Below::Stay => old,
         Below::Take(children) => children,
-        Below::Merge(slots, room) => merge(old, slots, room),
+        Below::Amend(slots) => amend(alloc, old, slots),
+        Below::Merge(slots, room) => merge(alloc, old, slots, room),
     }
+}
+
+/// The branches of a list, some of which change where they stand.
+#[cycle(fill)]
+fn amend<R: Narrow>(alloc: Global, mut old: Vec<Child<R>>, slots: Vec<Slot<R>>) -> Vec<Child<R>>
+    requires { IsAmending (slots_of slots.items) }
+    ensures { branches result.items ≡ merged (slots_of slots.items) (branches old.items) }
+{
+    let mut at = 0;
+    let mut others = slots.into_iter();
+    while let Some(slot) = others.next() {
+        at = amend_next(alloc, &mut old, at, slot);
+    }
+    old.truncate(at);
+    old
+}
+
+/// Goes on from a place of a list as a slot says, and gives the place behind.
+#[cycle(fill)]
+fn amend_next<R: Narrow>(
+    alloc: Global,
+    children: &mut Vec<Child<R>>,
+    at: usize,
+    slot: Slot<R>,
+) -> usize
+    requires inside { at ≤ length children.old.items }
+    requires amends { IsAmending (slot_before slot done) }
+    ensures inside { result ≤ length children.new.items }
+    ensures amends { (others : Slots R) → amended result (merged others) children.new.items
+        ≡ amended at (merged (slot_before slot others)) children.old.items }
+{
+    match slot {
+        Slot::Keep(count) => further(at, count, children.len()),
+        Slot::Insert(_, _) => at,
+        Slot::Alter(count, plan) => {
+            let here = further(at, count, children.len());
+            alter(alloc, children, here, plan)
+        }
+    }
+}
+
+/// Changes the branch at a place of a list, if there is one, and gives the place behind it.
+#[cycle(fill)]
+fn alter<R: Narrow>(alloc: Global, children: &mut Vec<Child<R>>, at: usize, plan: Plan<R>) -> usize
+    requires { at ≤ length children.old.items }
+    ensures inside { result ≤ length children.new.items }
+    ensures altered { (others : Children R → Children R) → amended result others children.new.items
+        ≡ amended at (first_changed (changed plan) others) children.old.items }
+{
+    if at >= children.len() {
+        return at;
+    }
+    let child = &mut children[at];
+    let node = mem::replace(&mut child.node, Node::new(alloc));
+    child.node = change(alloc, node, plan);
+    at + 1
+}
+
+/// So many places further, but not past the end.
+fn further(at: usize, count: usize, end: usize) -> usize
+    ensures { result ≡ min (at + count) end }
+{
+    at.saturating_add(count).min(end)
 }
 
 /// The branches of a list, and others among them. The room is for all of them.
 #[cycle(fill)]
 fn merge<R: Narrow>(
+    alloc: Global,
     old: Vec<Child<R>>,
     slots: Vec<Slot<R>>,
     mut room: Vec<Child<R>>,
@@ -60,7 +127,7 @@ fn merge<R: Narrow>(
             Slot::Alter(count, plan) => {
                 keep(&mut room, &mut rest, count);
                 if let Some(Child { step, node }) = rest.next() {
-                    let node = change(node, plan);
+                    let node = change(alloc, node, plan);
                     room.push_reserved(Child { step, node });
                 }
             }

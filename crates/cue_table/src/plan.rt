@@ -1,9 +1,9 @@
 //! What becomes of a place that takes another one over: found out before it changes, so that the change itself takes no
 //! memory.
-ghost use Rattle.std.specs.Prelude.{◌≡◌, ◌+◌, ◌≤◌, drop, length, IfOk};
+ghost use Rattle.std.specs.Prelude.{◌≡◌, ◌+◌, ◌≤◌, drop, length, IfOk, IsTrue};
 ghost use Rattle.cue_table.specs.Form.{AreBranches, IsKept, IsRow, IsTable};
 ghost use Rattle.cue_table.specs.Meet.{IsMerge, IsMet, IsUnion};
-ghost use Rattle.cue_table.specs.Plan.{changed, changed_below, merged, or_row, width};
+ghost use Rattle.cue_table.specs.Plan.{IsAmending, changed, changed_below, merged, or_row, width};
 ghost use Rattle.cue_table.specs.PlanView.{HasRoom, below_of, slots_of};
 ghost use Rattle.cue_table.specs.Refuses.{RowRefuses};
 ghost use Rattle.cue_table.specs.View.{branches};
@@ -31,6 +31,8 @@ pub(crate) enum Below<R: Narrow> {
     Stay,
     /// These are the branches, where none were.
     Take(Vec<Child<R>>),
+    /// Some of them change, and no other one stands among them then.
+    Amend(Vec<Slot<R>>),
     /// Others stand among them then; and the room for all of them.
     Merge(Vec<Slot<R>>, Vec<Child<R>>),
 }
@@ -133,9 +135,24 @@ fn plan_below<R: Narrow>(
         return Ok(Below::Take(right));
     }
     let count = left.len().checked_add(right.len()).ok_or(Memory)?;
-    let room = Vec::with_capacity(alloc, count)?;
     let slots = plan_slots(alloc, left, right)?;
+    if is_amending(&slots) {
+        return Ok(Below::Amend(slots));
+    }
+    let room = Vec::with_capacity(alloc, count)?;
     Ok(Below::Merge(slots, room))
+}
+
+/// Whether no new branch is among the slots.
+fn is_amending<R: Narrow>(slots: &[Slot<R>]) -> bool
+    ensures { IsTrue result → IsAmending (slots_of slots.now) }
+{
+    for slot in slots {
+        if let Slot::Insert(_, _) = slot {
+            return false;
+        }
+    }
+    true
 }
 
 /// How the branches of two lists stand together.

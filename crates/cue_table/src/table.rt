@@ -121,7 +121,7 @@ impl<R: Narrow> Table<R> {
         let Table { alloc: _, root } = other;
         let plan = planned(self.alloc, &self.root, root)?;
         let old = mem::replace(&mut self.root, Node::new(self.alloc));
-        self.root = change(old, plan);
+        self.root = change(self.alloc, old, plan);
         Ok(())
     }
 

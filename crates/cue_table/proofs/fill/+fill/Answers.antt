@@ -1,9 +1,11 @@
-use Rattle.std.proofs.Common.{arith, ◌≡◌, ◌+◌, ◌++◌, ◌∷◌, [], vec_len, take, drop, refl, ap, sym, ◌∙◌}
+use Rattle.std.proofs.Common.{arith, ◌≡◌, ◌<◌, ◌≤◌, length, min, ◌+◌, ◌++◌, ◌∷◌, [], vec_len, take, drop, refl, ap, sym, ◌∙◌}
 use Rattle.std.specs.Vec.{vec_capacity}
 use Rattle.std.specs.Vec.Iter.{into_iter_items}
 use Rattle.cue_table.specs.declared.plan.Slot.TheVariants.{Keep, Insert, Alter}
-use Rattle.cue_table.specs.Plan.{change_size}
-use Rattle.cue_table.specs.PlanView.{change_of}
+use Rattle.cue_table.specs.Plan.{IsAmending, change_size, changed, first_changed, merged, slots_size}
+use Rattle.cue_table.specs.PlanView.{change_of, slot_before, slots_of}
+use Rattle.cue_table.specs.View.{branches}
+use Rattle.cue_table.proofs.Amending.{altered_here, amends_more, amends_end, first_amends, first_size, passed}
 use Rattle.cue_table.proofs.Filling.{fills_next, fills_keep, fills_insert, fills_alter, fills_none, fills_as, fills_end, both_none}
 use Rattle.cue_table.proofs.fill.+fill.Goals as goal
 
@@ -125,3 +127,66 @@ pub merge-returns : goal.merge-returns
 merge-returns g t c =
     fills_end c.args.old.items c.args.slots.items c.loop-slot.room.items (into_iter_items c.loop-slot.rest) (into_iter_items c.loop-slot.others) (vec_len c.loop-slot.room) (vec_capacity c.loop-slot.room) c.loop-slot.invariant
     (sym c.loop-slot.others.rest.ok.0 ∙ c.in_default.ensures.cases.0)
+
+pub merge-loop-slot-preserved-in_default-next-3 : goal.merge-loop-slot-preserved-in_default-next-3
+merge-loop-slot-preserved-in_default-next-3 g t c =
+    let old = c.args.old.items in
+    let slots = c.args.slots.items in
+    let made = c.loop-slot.room.items in
+    let rest = into_iter_items c.loop-slot.rest in
+    let others = into_iter_items c.next.new.self in
+    let len = vec_len c.loop-slot.room in
+    let cap = vec_capacity c.loop-slot.room in
+    let n = c.in-Alter.count in
+    let f = fills_next old slots made rest (into_iter_items c.loop-slot.others) others len cap c.in-Some.slot (Alter n c.in-Alter.plan) c.loop-slot.invariant c.in-Some.ensures.cases.0 c.in-Alter.is in
+    let k = c.keep-in-Alter.ensures in
+    let after = into_iter_items c.next-in-Alter.new.self in
+    let gone = sym c.next-in-Alter.new.self.rest.ok.0 ∙ c.in_default-next.ensures.cases.1 in
+    let end : drop n rest ≡ after = sym k.rest ∙ both_none (into_iter_items c.keep-in-Alter.new.rest) after (sym c.keep-in-Alter.new.rest.rest.ok.0 ∙ c.in_default-next.ensures.cases.0) gone in
+    fills_as old slots (made ++ take n rest) c.keep-in-Alter.new.room.items after after others (vec_len c.keep-in-Alter.new.room) (vec_len c.keep-in-Alter.new.room) cap (vec_capacity c.keep-in-Alter.new.room)
+    (fills_none old slots made rest others len (vec_len c.keep-in-Alter.new.room) cap n c.in-Alter.plan after f k.len end gone)
+    k.kept refl (omega arith) (omega (arith, k.capacity))
+
+pub alter-returns-clause-altered : goal.alter-returns-clause-altered
+alter-returns-clause-altered g t c others =
+    let now = c.args.children.now.items in
+    let before = c.index_mut-child.result.now in
+    let after = record before { node = c.change.result } in
+    let near : c.args.at < length now = let no = c.if-at-len.false in let len = c.len.ensures in omega (arith, no, len) in
+    let node : c.change.result ≡ changed c.args.plan before.node = rw c.replace-node.ensures.value at c.change.ensures in
+    altered_here others c.args.plan now c.args.at before after near c.index_mut-child.ensures.value refl node
+
+pub alter-overflow_add-result : goal.alter-overflow_add-result
+alter-overflow_add-result g t c =
+    let near = c.if-at-len.false in
+    let len = c.len.ensures in
+    let small = c.args.children.now.small in
+    let few = c.args.children.now.ok.1 in
+    omega (arith, near, len, small, few)
+
+pub amend-amend_next-at-requires : goal.amend-amend_next-at-requires
+amend-amend_next-at-requires g t c κs within =
+    let others = slots_of (into_iter_items c.next.new.self) in
+    let all : IsAmending (slot_before c.in-Some.slot others) = rw c.in-Some.ensures.items at c.loop-slot.invariant.amending in
+    let small : slots_size (slot_before c.in-Some.slot others) ≤ slots_size (slots_of c.args.slots.items) = rw c.in-Some.ensures.items at c.loop-slot.invariant.smaller in
+    let first = first_size c.in-Some.slot others in
+    (omega (arith, c.decreases, small, first), (within.0, (within.1, (c.loop-slot.invariant.inside, first_amends c.in-Some.slot others all))))
+
+pub amend-loop-slot-preserved : goal.amend-loop-slot-preserved
+amend-loop-slot-preserved g t c =
+    amends_more c.args.old.items c.args.slots.items c.loop-slot.old.items c.amend_next-at.new.children.items (into_iter_items c.loop-slot.others) (into_iter_items c.next.new.self) c.loop-slot.at c.amend_next-at.result c.in-Some.slot
+    c.loop-slot.invariant c.in-Some.ensures.items c.amend_next-at.ensures.inside c.amend_next-at.ensures.amends
+
+pub amend-returns : goal.amend-returns
+amend-returns g t c =
+    ap branches c.truncate.ensures.items
+    ∙ amends_end c.args.old.items c.args.slots.items c.loop-slot.old.items (into_iter_items c.loop-slot.others) c.loop-slot.at c.loop-slot.invariant (sym c.loop-slot.others.rest.ok.0 ∙ c.in_default.ensures.cases.0)
+
+pub amend_next-returns-in-Keep-clause-amends : goal.amend_next-returns-in-Keep-clause-amends
+amend_next-returns-in-Keep-clause-amends g t c more =
+    rw c.in-Keep.is (passed (merged more) c.args.children.now.items c.args.at c.in-Keep.count c.further.result (c.further.ensures ∙ ap (λ n. min (c.args.at + c.in-Keep.count) n) (c.len.ensures ∙ c.args.children.now.ok.0)))
+
+pub amend_next-returns-clause-amends : goal.amend_next-returns-clause-amends
+amend_next-returns-clause-amends g t c more =
+    rw c.in-Alter.is (c.alter.ensures.altered (merged more)
+    ∙ passed (first_changed (changed c.in-Alter.plan) (merged more)) c.args.children.now.items c.args.at c.in-Alter.count c.further-here.result (c.further-here.ensures ∙ ap (λ n. min (c.args.at + c.in-Alter.count) n) (c.len-in-Alter.ensures ∙ c.args.children.now.ok.0)))

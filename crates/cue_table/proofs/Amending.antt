@@ -1,0 +1,94 @@
+-- What the loop keeps that changes branches where they stand.
+use Rattle.std.proofs.Common.{◌≡◌, ℕ, suc, ◌+◌, min, slice_set, get_or, ◌≤◌, ◌<◌, List, [], ◌∷◌, ◌++◌, length, take, drop, take-add, drop-cons, sym, ap, subst, ◌∙◌, arith}
+use Rattle.std.proofs.lemmas.List.{take_min, drop_min, drop-drop, take_more_set, drop-set-lt}
+use Rattle.cue_row.specs.Steps.{step_of}
+use Rattle.cue_table.specs.declared.node.Child.{Child}
+use Rattle.cue_table.specs.declared.plan.Slot.{Slot}
+use Rattle.cue_table.specs.declared.plan.Slot.TheVariants.{Keep, Insert, Alter}
+use Rattle.cue_table.specs.Tree.{Children, child}
+use Rattle.cue_table.specs.Plan.{Change, Slots, done, changed, merged, join, front, past, first_changed, slots_size, IsAmending}
+use Rattle.cue_table.specs.PlanView.{amended, slot_before, slots_of}
+use Rattle.cue_table.specs.View.{branches}
+use Rattle.cue_table.proofs.Planning.{past_drop}
+use Rattle.cue_table.proofs.Filling.{join_none, moved, one_more}
+
+module _ {R Q : Type 0} where
+  -- What is amended up to a place, and what the slots that are left make of the branches from there, is the whole.
+  pub record Amends (old : List (Child R Q)) (slots : List (Slot R Q)) (now : List (Child R Q)) (others : List (Slot R Q)) (at : ℕ) : Type 0 where
+    pub whole : amended at (merged (slots_of others)) now ≡ merged (slots_of slots) (branches old)
+    pub inside : at ≤ length now
+    pub amending : IsAmending (slots_of others)
+    pub smaller : slots_size (slots_of others) ≤ slots_size (slots_of slots)
+
+  -- what is said of a list of slots is said of the first and of the others
+  fewer : (s : Slot R Q) (others : Slots R) → slots_size others ≤ slots_size (slot_before s others)
+  fewer (Keep n) others = omega arith
+  fewer (Insert n c) others = omega arith
+  fewer (Alter n plan) others = omega arith
+
+  pub first_size : (s : Slot R Q) (others : Slots R) → slots_size (slot_before s done) ≤ slots_size (slot_before s others)
+  first_size (Keep n) others = omega arith
+  first_size (Insert n c) others = omega arith
+  first_size (Alter n plan) others = omega arith
+
+  rest_amends : (s : Slot R Q) (others : Slots R) → IsAmending (slot_before s others) → IsAmending others
+  rest_amends (Keep n) others h = h
+  rest_amends (Insert n c) others h = absurd h
+  rest_amends (Alter n plan) others h = h
+
+  pub first_amends : (s : Slot R Q) (others : Slots R) → IsAmending (slot_before s others) → IsAmending (slot_before s done)
+  first_amends (Keep n) others h = tt
+  first_amends (Insert n c) others h = absurd h
+  first_amends (Alter n plan) others h = tt
+
+  -- so many branches more are passed, but not more than there are
+  pub passed :
+      (others : Children R → Children R) (now : List (Child R Q)) (at n next : ℕ) → next ≡ min (at + n) (length now)
+      → amended next others now ≡ amended at (λ children. join (front n children) (others (past n children))) now
+  passed others now at n next e =
+      let a : take next now ≡ take at now ++ take n (drop at now) = ap (λ k. take k now) e ∙ take_min (at + n) now ∙ take-add at n now in
+      let b : drop next now ≡ drop n (drop at now) = ap (λ k. drop k now) e ∙ drop_min (at + n) now ∙ sym (drop-drop n at now) in
+      ap (λ x. join (branches x) (others (branches (drop next now)))) a ∙ ap (λ x. join (branches (take at now ++ take n (drop at now))) (others (branches x))) b
+      ∙ moved n (take at now) (drop at now) (others (branches (drop n (drop at now))))
+      ∙ ap (λ x. join (branches (take at now)) (join (front n (branches (drop at now))) (others x))) (sym (past_drop n (drop at now)))
+
+  -- the branch at a place changed
+  pub altered_here :
+      (others : Children R → Children R) (plan : Change R) (now : List (Child R Q)) (at : ℕ) (c d : Child R Q)
+      → at < length now → c ≡ get_or now at c → d.step ≡ c.step → d.node ≡ changed plan c.node
+      → amended (at + 1) others (slice_set now at d) ≡ amended at (first_changed (changed plan) others) now
+  altered_here others plan now at c d l is s t =
+      let a : take (at + 1) (slice_set now at d) ≡ take at now ++ d ∷ [] = take_more_set now at d l in
+      let b : drop (at + 1) (slice_set now at d) ≡ drop (at + 1) now = drop-set-lt (at + 1) now at d (omega arith) in
+      let k : suc at ≡ at + 1 = omega arith in
+      let here : drop at now ≡ c ∷ drop (at + 1) now =
+      drop-cons now at c l ∙ ap (λ x. x ∷ drop (suc at) now) (sym is) ∙ ap (λ n. c ∷ drop n now) k in
+      ap (λ x. join (branches x) (others (branches (drop (at + 1) (slice_set now at d))))) a
+      ∙ ap (λ x. join (branches (take at now ++ d ∷ [])) (others (branches x))) b
+      ∙ one_more (take at now) d (others (branches (drop (at + 1) now)))
+      ∙ ap (λ x. join (branches (take at now)) (child (step_of x) d.node (others (branches (drop (at + 1) now))))) s
+      ∙ ap (λ x. join (branches (take at now)) (child (step_of c.step) x (others (branches (drop (at + 1) now))))) t
+      ∙ ap (λ x. join (branches (take at now)) (first_changed (changed plan) others (branches x))) (sym here)
+
+  -- one slot more
+  pub amends_more :
+      (old : List (Child R Q)) (slots : List (Slot R Q)) (now later : List (Child R Q)) (all others : List (Slot R Q)) (at next : ℕ) (s : Slot R Q)
+      → Amends old slots now all at → all ≡ s ∷ others → next ≤ length later
+      → ((more : Slots R) → amended next (merged more) later ≡ amended at (merged (slot_before s more)) now)
+      → Amends old slots later others next
+  amends_more old slots now later all others at next s f e l step =
+      let g = subst (λ x. Amends old slots now x at) e f in
+      let small : slots_size (slots_of others) ≤ slots_size (slots_of (s ∷ others)) = fewer s (slots_of others) in
+      let smaller = g.smaller in
+      record {
+        whole = step (slots_of others) ∙ g.whole;
+        inside = l;
+        amending = rest_amends s (slots_of others) g.amending;
+        smaller = omega arith;
+      }
+
+  pub amends_end :
+      (old : List (Child R Q)) (slots : List (Slot R Q)) (now : List (Child R Q)) (others : List (Slot R Q)) (at : ℕ)
+      → Amends old slots now others at → length others ≡ 0 → branches (take at now) ≡ merged (slots_of slots) (branches old)
+  amends_end old slots now [] at f z = sym (join_none (branches (take at now))) ∙ f.whole
+  amends_end old slots now (s ∷ others) at f z = absurd (omega arith)
