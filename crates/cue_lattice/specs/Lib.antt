@@ -1,6 +1,7 @@
 pub mod OneOf
 pub mod Narrowed
 pub mod Limits
+pub mod Word
 pub mod Refusal
 pub mod Pair
 pub mod Scalar

@@ -1,5 +1,8 @@
--- What the kind of a token says of what follows it.
-use Rattle.std.specs.Prelude.{Bool, true, false}
+-- What the kind of a token says of its text, and of what follows it.
+use Rattle.std.specs.Prelude.{Bool, true, false, List}
+use Rattle.std.specs.List.{AllByRecursion}
+use Rattle.cue_lattice.specs.Word.{IsWord}
+use Rattle.cue_lex.specs.declared.token.Token.{Token}
 use Rattle.cue_lex.specs.declared.token.TokenKind.{TokenKind}
 use Rattle.cue_lex.specs.declared.token.TokenKind.TheVariants as kinds
 use Rattle.cue_lex.specs.declared.punctuation.Punctuation.TheVariants as points
@@ -23,3 +26,14 @@ ends_line (kinds.Mark points.Ellipsis) = true
 ends_line (kinds.Mark points.Question) = true
 ends_line (kinds.Mark points.Exclamation) = true
 ends_line _ = false
+
+-- what the token names or quotes, if it does, is a word
+abbrev pub HasWord : TokenKind → Type 0
+HasWord (kinds.Name name) = IsWord name
+HasWord (kinds.Definition name) = IsWord name
+HasWord (kinds.Hidden name) = IsWord name
+HasWord (kinds.Text text) = IsWord text
+HasWord _ = Unit {0}
+
+abbrev pub EachHasWord : List Token → Type 0
+EachHasWord = AllByRecursion (λ token. HasWord token.kind)

@@ -9,7 +9,7 @@ ghost use Rattle.cue_lex.specs.Lexemes.{name, len_of};
 use crate::character::{is_ascii_part, is_letter, is_name_part};
 use crate::lexeme::Lexeme;
 use crate::{TokenKind, Word};
-use cue_lattice::{Kind, Refusal, WORD_LIMIT};
+use cue_lattice::{Kind, Refusal};
 
 /// How many bytes the letters and digits at the front have.
 fn run_len(text: &str) -> usize
@@ -95,11 +95,10 @@ pub fn name<'a>(text: &'a str, len: usize, at: usize) -> Result<Lexeme<'a>, Refu
     ensures value { result ≡ name at len text.now }
     ensures len { IfOk result (λ found. len_of found ≡ len) }
 {
-    if len > WORD_LIMIT {
-        return Err(Refusal::at(Kind::TextTooLong, at));
-    }
     let spelling = &text[..len];
-    let word = Word::new(spelling);
+    let Some(word) = Word::new(spelling) else {
+        return Err(Refusal::at(Kind::TextTooLong, at));
+    };
     let kind = match spelling.as_bytes()[0] {
         b'#' => TokenKind::Definition(word),
         b'_' => TokenKind::Hidden(word),

@@ -1,4 +1,6 @@
-ghost use Rattle.std.specs.Prelude.{◌≡◌, IfOk, string_bytes};
+ghost use Rattle.std.specs.Prelude.{◌≡◌, ◌≤◌, IfOk, string_bytes, length};
+ghost use Rattle.cue_lattice.specs.Limits.{word_limit};
+ghost use Rattle.cue_lattice.specs.Word.{IsWord};
 
 use crate::Word;
 use cue_lattice::Memory;
@@ -6,8 +8,9 @@ use std::alloc::Global;
 use std::fmt;
 use std::marker::Model;
 
-/// The text that a string stands for: a slice of the fragment where the string has no escape, and
-/// else a text of its own. Contracts see it as the list of its bytes.
+/// The text that a string stands for, of at most [`WORD_LIMIT`](cue_lattice::WORD_LIMIT) bytes: a
+/// slice of the fragment where the string has no escape, and else a text of its own. Contracts see
+/// it as the list of its bytes.
 #[derive(Drop)]
 pub struct Quoted<'a> {
     spelled: Spelled<'a>,
@@ -24,25 +27,29 @@ pub(crate) enum Spelled<'a> {
 
 impl<'a> Model for Quoted<'a> {
     ghost use Rattle.std.specs.Prelude.{List, ℕ};
+    ghost use Rattle.cue_lattice.specs.Word.{IsWord};
     ghost use Rattle.cue_lex.specs.Spelled.{bytes_of};
 
     ghost Value = { List ℕ };
 
     ghost view = { λ q. bytes_of q.spelled };
+
+    ghost invariant = { λ q. IsWord (bytes_of q.spelled) };
 }
 
 impl<'a> Quoted<'a> {
     /// The text of a string with no escape, as it stands in the fragment.
-    pub fn plain(text: &'a str) -> Quoted<'a>
-        ensures { result ≡ text.now }
+    pub fn plain(word: Word<'a>) -> Quoted<'a>
+        ensures { result ≡ word.entry }
     {
         Quoted {
-            spelled: Spelled::Plain(text),
+            spelled: Spelled::Plain(word.as_str()),
         }
     }
 
     /// The text that a string with escapes stands for, which it takes over.
     pub fn decoded(alloc: Global, text: String) -> Result<Quoted<'a>, Memory>
+        requires { length (string_bytes text) ≤ word_limit }
         ensures { IfOk result (λ quoted. quoted ≡ string_bytes text) }
     {
         Ok(Quoted {
@@ -51,7 +58,8 @@ impl<'a> Quoted<'a> {
     }
 
     pub fn as_str(&self) -> &str
-        ensures { result.now ≡ self.now }
+        ensures bytes { result.now ≡ self.now }
+        ensures word { IsWord self.now }
     {
         match &self.spelled {
             Spelled::Plain(text) => text,
@@ -61,9 +69,10 @@ impl<'a> Quoted<'a> {
 
     /// The text as a word that borrows from the token, or from the fragment.
     pub fn word(&self) -> Word<'_>
-        ensures { result ≡ self.now }
+        ensures bytes { result ≡ self.now }
+        ensures word { IsWord self.now }
     {
-        Word::new(self.as_str())
+        Word::of_short(self.as_str())
     }
 }
 

@@ -11,7 +11,7 @@ ghost use Rattle.cue_lex.specs.Strings.{is_plain};
 ghost use Rattle.cue_lex.specs.Lexemes.{Gives, string, kept, EndsAscii, len_of};
 
 use crate::lexeme::Lexeme;
-use crate::{Quoted, TokenKind};
+use crate::{Quoted, TokenKind, Word};
 use cue_lattice::{Kind, Memory, Refusal, WORD_LIMIT};
 use std::alloc::Global;
 
@@ -29,11 +29,11 @@ pub fn string<'a>(alloc: Global, text: &'a str, at: usize) -> Result<Lexeme<'a>,
         return Err(bad_string(at));
     }
     if let Some(plain) = plain(inside) {
-        if plain.len() > WORD_LIMIT {
-            return Err(Refusal::at(Kind::TextTooLong, at));
-        }
         let len = plain.len() + 2;
-        return Ok(Lexeme::Word(TokenKind::Text(Quoted::plain(plain)), len));
+        let Some(word) = Word::new(plain) else {
+            return Err(Refusal::at(Kind::TextTooLong, at));
+        };
+        return Ok(Lexeme::Word(TokenKind::Text(Quoted::plain(word)), len));
     }
     let (decoded, len) = body(alloc, inside, at)?;
     if decoded.len() > WORD_LIMIT {

@@ -1,5 +1,5 @@
 ghost use Rattle.std.specs.Prelude.{◌≡◌};
-ghost use Rattle.cue_lex.specs.Kinds.{is_minus, ends_line};
+ghost use Rattle.cue_lex.specs.Kinds.{is_minus, ends_line, HasWord};
 
 use crate::{Punctuation, Quoted, Word};
 
@@ -32,6 +32,22 @@ pub enum TokenKind<'a> {
 }
 
 impl<'a> TokenKind<'a> {
+    /// Says by its contract that what the token names or quotes is a word: in UTF-8, and of at most
+    /// [`WORD_LIMIT`](cue_lattice::WORD_LIMIT) bytes. It computes nothing.
+    pub fn has_word(&self)
+        ensures { HasWord self.now }
+    {
+        match self {
+            TokenKind::Name(name) | TokenKind::Definition(name) | TokenKind::Hidden(name) => {
+                let _ = name.as_str();
+            }
+            TokenKind::Text(text) => {
+                let _ = text.as_str();
+            }
+            TokenKind::Integer(_) | TokenKind::Bottom | TokenKind::Mark(_) => {}
+        }
+    }
+
     pub(crate) fn is_minus(&self) -> bool
         ensures { result ≡ is_minus self.now }
     {

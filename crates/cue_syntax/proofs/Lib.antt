@@ -15,6 +15,7 @@ pub mod StepsKeepWhatIsAhead
 pub mod StepsOfDeclarations
 pub mod TakenBeginsAText
 -- The parser and the recogniser: what the parser reads and where it stops.
+pub mod WordsOfTrees
 pub mod ReadingsJoin
 pub mod Views
 pub mod RowsGrow

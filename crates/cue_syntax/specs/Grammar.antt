@@ -12,6 +12,7 @@ use Rattle.cue_syntax.specs.declared.tree.Sign.{Sign}
 use Rattle.cue_syntax.specs.declared.tree.Sign.TheVariants as signs
 use Rattle.cue_syntax.specs.declared.tree.Signed.{Signed}
 use Rattle.cue_syntax.specs.Syntax.{FileTree, Expression, name, integer, text, bottom, bound, other_integer, other_text, parenthesis, struct, close, list, conjunction, disjunction, Elements, no_elements, element, Branch, branch, Branches, no_branches, next_branch, Entry, ellipsis, field, definition, Entries, no_entries, entry}
+use Rattle.cue_syntax.specs.Words.{HaveWordsEntries}
 
 -- names that begin a clause, which is left out
 abbrev pub IsClause : List ℕ → Type 0
@@ -220,12 +221,14 @@ IsWellPackaged None es = ⊤
 IsWellPackaged (Some clause) no_entries = IsPackageName clause.name
 IsWellPackaged (Some clause) (entry e es) = IsPackageName clause.name × (clause.comma ≡ true)
 
--- A file is well formed: it follows the grammar, and opens no more levels than a text may.
+-- A file is well formed: it follows the grammar, opens no more levels than a text may, and its names, labels and strings
+-- are words.
 pub record IsWellFormed (clause : Option Package) (declarations : Entries) (comma : Bool) : Type 0 where
   pub package_clause : IsWellPackaged clause declarations
   pub right : AreRightEntries declarations
   pub ends : EndsEntries comma declarations
   pub levels : levels_of_entries declarations ≤ level_limit
+  pub words : HaveWordsEntries declarations
 
 -- a bound on levels
 pub data Limit : Type 0 where

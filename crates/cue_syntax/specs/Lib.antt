@@ -1,5 +1,6 @@
 pub mod Syntax
 pub mod Spelling
+pub mod Words
 pub mod Grammar
 pub mod Files
 pub mod Operands

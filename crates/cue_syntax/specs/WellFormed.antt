@@ -1,10 +1,17 @@
 -- A file has at most one proof of being well formed.
-use Rattle.std.specs.Prelude.{Bool, true, false, Option, Some, None}
+use Rattle.std.specs.Prelude.{ℕ, Bool, true, false, List, Option, Some, None}
 use Rattle.std.proofs.Props.{props}
 use Rattle.cue_syntax.specs.declared.tree.Identifier.{Identifier}
 use Rattle.cue_syntax.specs.declared.tree.Identifier.TheVariants as identifiers
+use Rattle.cue_lattice.specs.Word.{IsWord}
+use Rattle.cue_lex.specs.Kinds.{HasWord}
+use Rattle.cue_syntax.specs.declared.tree.Label.{Label}
+use Rattle.cue_syntax.specs.declared.tree.LabelName.{LabelName}
+use Rattle.cue_syntax.specs.declared.tree.LabelName.TheVariants as names
 use Rattle.cue_syntax.specs.declared.tree.Package.{Package}
+use Rattle.cue_syntax.specs.Spelling.{identifier_kind, label_kind}
 use Rattle.cue_syntax.specs.Syntax.{Expression, name, integer, text, bottom, bound, other_integer, other_text, parenthesis, struct, close, list, conjunction, disjunction, Elements, no_elements, element, Branch, branch, Branches, no_branches, next_branch, Entry, ellipsis, field, definition, Entries, no_entries, entry}
+use Rattle.cue_syntax.specs.Words.{HasWordLabel, HasWords, HaveWords, HasWordsBranch, HaveWordsBranches, HasWordsEntry, HaveWordsEntries}
 use Rattle.cue_syntax.specs.Grammar.{IsOperand, IsUnary, IsConjunct, IsNested, AreUnary, AreNested, TwoElements, TwoBranches, IsTerm, EndsEntries, EndsElements, IsRight, AreRight, IsRightBranch, AreRightBranches, IsRightEntry, AreRightEntries, IsPackageName, IsWellPackaged, IsWellFormed}
 
 operand_prop : (n : Identifier) → IsProp (IsOperand n)
@@ -94,6 +101,57 @@ mutual
   right_entries_prop no_entries = hlevel
   right_entries_prop (entry e es) = hlevel (right_entry_prop e, right_entries_prop es)
 
+word_prop : (t : List ℕ) → IsProp (IsWord t)
+word_prop t = hlevel props
+
+identifier_prop : (n : Identifier) → IsProp (HasWord (identifier_kind n))
+identifier_prop (identifiers.Plain t) = word_prop t
+identifier_prop (identifiers.Definition t) = word_prop t
+identifier_prop (identifiers.Hidden t) = word_prop t
+
+name_prop : (n : LabelName) → IsProp (HasWord (label_kind n))
+name_prop (names.Plain t) = word_prop t
+name_prop (names.Quoted t) = word_prop t
+
+label_prop : (label : Label) → IsProp (HasWordLabel label)
+label_prop label = name_prop label.name
+
+mutual
+  words_prop : (e : Expression) → IsProp (HasWords e)
+  words_prop (name n from) = identifier_prop n
+  words_prop (integer n) = hlevel
+  words_prop (text t) = word_prop t
+  words_prop bottom = hlevel
+  words_prop (bound c n) = hlevel
+  words_prop (other_integer n) = hlevel
+  words_prop (other_text t) = word_prop t
+  words_prop (parenthesis e comma) = words_prop e
+  words_prop (struct es comma) = entries_words_prop es
+  words_prop (close from es inner comma) = entries_words_prop es
+  words_prop (list es goes_on comma) = elements_words_prop es
+  words_prop (conjunction es) = elements_words_prop es
+  words_prop (disjunction bs) = branches_words_prop bs
+
+  elements_words_prop : (es : Elements) → IsProp (HaveWords es)
+  elements_words_prop no_elements = hlevel
+  elements_words_prop (element e es) = hlevel (words_prop e, elements_words_prop es)
+
+  branch_words_prop : (b : Branch) → IsProp (HasWordsBranch b)
+  branch_words_prop (branch marked from e) = words_prop e
+
+  branches_words_prop : (bs : Branches) → IsProp (HaveWordsBranches bs)
+  branches_words_prop no_branches = hlevel
+  branches_words_prop (next_branch b bs) = hlevel (branch_words_prop b, branches_words_prop bs)
+
+  entry_words_prop : (e : Entry) → IsProp (HasWordsEntry e)
+  entry_words_prop ellipsis = hlevel
+  entry_words_prop (field label chain e) = hlevel (props, label_prop, words_prop e)
+  entry_words_prop (definition t from chain e) = hlevel (props, word_prop t, label_prop, words_prop e)
+
+  entries_words_prop : (es : Entries) → IsProp (HaveWordsEntries es)
+  entries_words_prop no_entries = hlevel
+  entries_words_prop (entry e es) = hlevel (entry_words_prop e, entries_words_prop es)
+
 package_name_prop : (n : Identifier) → IsProp (IsPackageName n)
 package_name_prop (identifiers.Plain t) = hlevel
 package_name_prop (identifiers.Definition t) = hlevel
@@ -106,4 +164,4 @@ packaged_prop (Some clause) (entry e es) = hlevel (props, package_name_prop clau
 
 -- Well-formedness is a proposition, so that a file may promise it.
 pub well_formed_prop : (clause : Option Package) (es : Entries) (comma : Bool) → IsProp (IsWellFormed clause es comma)
-well_formed_prop clause es comma = hlevel (props, packaged_prop clause es, right_entries_prop es, ends_entries_prop comma es)
+well_formed_prop clause es comma = hlevel (props, packaged_prop clause es, right_entries_prop es, ends_entries_prop comma es, entries_words_prop es)

@@ -2,6 +2,7 @@ ghost use Rattle.std.specs.Prelude.{◌≡◌, ◌+◌, ◌≤◌, ◌⊎◌, �
 ghost use Rattle.std.specs.Prelude.{MatchResult, IsTrue, ◌↔◌, true, false, length};
 ghost use Rattle.cue_lattice.specs.Limits.{level_limit};
 ghost use Rattle.cue_lattice.specs.Refusal.{memory};
+ghost use Rattle.cue_lex.specs.Kinds.{EachHasWord};
 ghost use Rattle.cue_syntax.specs.Spelling.{Reads, one, identifier_kind, spell_package};
 ghost use Rattle.cue_syntax.specs.Grammar.{at_most, IsFile, IsPackageName, HidesDefinition};
 ghost use Rattle.cue_syntax.specs.Files.{file_tree};
@@ -58,6 +59,7 @@ fn file(alloc: Global, cursor: Cursor) -> Result<File, Stop>
             comma: false,
         });
     }
+    each_has_word(rest.rest);
     let (row, rest) = declarations(alloc, rest, true, LEVEL_LIMIT)?;
     if !rest.is_at_end() {
         return Err(rest.syntax());
@@ -67,6 +69,16 @@ fn file(alloc: Global, cursor: Cursor) -> Result<File, Stop>
         declarations: row.items,
         comma: row.comma,
     })
+}
+
+/// Says by its contract that what the tokens name and quote are words, as their types promise. It
+/// computes nothing.
+fn each_has_word(tokens: &[Token])
+    ensures { EachHasWord tokens.now }
+{
+    for token in tokens {
+        token.kind.has_word();
+    }
 }
 
 /// The package clause, where one begins the tokens.

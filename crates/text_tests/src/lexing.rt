@@ -265,26 +265,40 @@ fn first_fault(rt: HostRuntime) -> Result<(), Fail> {
     Ok(())
 }
 
+/// The word that a short text is.
+fn word<'a>(rt: &impl Abort, text: &'a str) -> Word<'a> {
+    Word::new(text).expect(rt, "the text is too long")
+}
+
 #[test]
 fn words(rt: HostRuntime) -> Result<(), Fail> {
     let alloc = rt.alloc();
-    let word = Word::new("é");
-    assert_eq!(rt; word.share().as_str(), "é");
-    assert_eq!(rt; word.as_bytes(), [0xC3, 0xA9].as_slice());
-    assert_eq!(rt; word.to_text(alloc)?.as_str(), "é");
-    assert_eq!(rt; word.compare(&Word::new("z")), Ordering::Greater);
-    assert!(rt; word.same(&Word::new("é")));
-    assert!(rt; !word.same(&Word::new("e")));
+    let short = word(&rt, "é");
+    assert_eq!(rt; short.share().as_str(), "é");
+    assert_eq!(rt; short.as_bytes(), [0xC3, 0xA9].as_slice());
+    assert_eq!(rt; short.to_text(alloc)?.as_str(), "é");
+    assert_eq!(rt; short.compare(&word(&rt, "z")), Ordering::Greater);
+    assert!(rt; short.same(&word(&rt, "é")));
+    assert!(rt; !short.same(&word(&rt, "e")));
+    Ok(())
+}
+
+#[test]
+fn word_limit(rt: HostRuntime) -> Result<(), Fail> {
+    let longest = long(rt.alloc(), "", "a", 65_535, "")?;
+    assert!(rt; word(&rt, longest.as_str()).as_str() == longest.as_str());
+    let longer = long(rt.alloc(), "", "a", 65_536, "")?;
+    assert!(rt; Word::new(longer.as_str()).is_none());
     Ok(())
 }
 
 #[test]
 fn quoted_texts(rt: HostRuntime) -> Result<(), Fail> {
     let alloc = rt.alloc();
-    assert_eq!(rt; Quoted::plain("ab").as_str(), "ab");
+    assert_eq!(rt; Quoted::plain(word(&rt, "ab")).as_str(), "ab");
     let decoded = Quoted::decoded(alloc, String::from_str(alloc, "a\n")?)?;
     assert_eq!(rt; decoded.word().as_str(), "a\n");
-    let shown = format!(in alloc; "{:?} {}", decoded, Quoted::plain("b"))?;
+    let shown = format!(in alloc; "{:?} {}", decoded, Quoted::plain(word(&rt, "b")))?;
     assert_eq!(rt; shown.as_str(), "\"a\\n\" b");
     Ok(())
 }

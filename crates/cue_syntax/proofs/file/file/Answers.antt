@@ -2,6 +2,9 @@ use Rattle.std.proofs.Common.{◌≡◌, ◌∙◌, [], ◌∷◌, arith, rules}
 use Rattle.cue_syntax.specs.Recogniser.{Refused, text}
 use Rattle.cue_syntax.proofs.MovesAndStops.{err_from, moves_then, moves_more, refused_behind, refused_end, stopped, stops_here}
 use Rattle.cue_syntax.proofs.MovesOverRows.{top_halts}
+use Rattle.cue_syntax.proofs.WordsOfTrees.{read_words}
+use Rattle.cue_syntax.specs.Syntax.{entries}
+use Rattle.cue_syntax.specs.Words.{HaveWordsEntries}
 use Rattle.cue_syntax.proofs.file.file.Goals as goal
 
 pub returns-in_err-row-clause-refused : goal.returns-in_err-row-clause-refused
@@ -14,3 +17,8 @@ returns-then-not-is_at_end-clause-refused c =
     let some : c.in_ok-row.rest.rest.now ≡ [] → ⊥ = search rules in
     refused_behind (moves_then (moves_more (omega arith) c.in_ok-package.ensures.moves) c.in_ok-row.ensures.moves) (refused_end (c.in_ok-row.ensures.end ∙ c.in_ok-package.ensures.end)
     (stopped (stops_here c.syntax.ensures (top_halts c.in_ok-row.row.comma c.in_ok-row.row.items.items c.in_ok-row.ensures.last c.in_ok-row.ensures.open some))))
+
+pub invariant_of-result-2 : goal.invariant_of-result-2
+invariant_of-result-2 c =
+    let words : HaveWordsEntries (entries c.in_ok-row.row.items.items) = read_words c.each_has_word.ensures c.in_ok-row.ensures.spelled in
+    search rules

@@ -13,7 +13,7 @@ loop-declaration-preserved c =
     elim c.match-declaration.branch [
       | in-Definition+in_ok-add-in-Definition w ↦
           let left = ap definitions next ∙ definition_read c.declaration-item.result w.in-Definition.name w.as_str.result.now w.in-Definition.from w.in-Definition.chain w.deref.result.now w.in-Definition.value rest
-          w.in-Definition.is w.as_str.ensures w.deref.ensures.value in
+          w.in-Definition.is w.as_str.ensures.bytes w.deref.ensures.value in
           rw (w.list-is, w.numbers-is)
           (record {
             numbered = w.in_ok-add-in-Definition.ensures.numbered;
