@@ -1,9 +1,14 @@
 -- The nodes of an order that are reached keep their order.
-use Rattle.std.proofs.Common.{◌≡◌, ℕ, suc, ◌<◌, ◌≤◌, inl, inr, ⊎_elim, arith, List, [], ◌∷◌, ◌++◌, length, get_or, refl, sym, ap, subst, ◌∙◌}
+use Rattle.std.proofs.Common.{◌≡◌, ℕ, suc, ◌<◌, ◌≤◌, inl, ⊎_elim, arith, List, [], ◌∷◌, ◌++◌, length, get_or, sym, ap, subst, ◌∙◌}
 use Rattle.std.proofs.lemmas.Bool.Decides.{eqb_tells}
 use Rattle.std.proofs.lemmas.List.{get_or_append_left}
 use Rattle.cue_scope.specs.Graph.{IsIn, IsReached, start, go_on, PointsTo, AreNodes, IsClosed, IsOrder}
+use Rattle.cue_scope.specs.Definitions.{Definition}
 use Rattle.cue_scope.specs.Reached.{IsReachedOrder}
+use Rattle.cue_scope.specs.Uses.{graph, uses_of_fields}
+use Rattle.cue_syntax.specs.Syntax.{Entries}
+use Rattle.cue_scope.proofs.Inside.{closed_graph, fields_below, below_is}
+use Rattle.cue_scope.proofs.Meanings.{length_graph}
 use Rattle.cue_scope.proofs.Nodes.{in_at, in_index, in_append, in_append_left, in_append_right}
 use Rattle.cue_scope.proofs.Placing.{pushed-at}
 
@@ -103,3 +108,11 @@ kept_all g from order kept count o closed first at_end w = record {
   after = w.after;
   once = w.once;
 }
+
+-- definitions that a text reaches are definitions of it
+pub reached_below : (ds : List Definition) (es : Entries) (order : List ℕ) → IsReachedOrder (graph ds) (uses_of_fields ds es) order → (i : ℕ) → IsIn i order → i < length ds
+reached_below ds es order o i there =
+    let same : length (graph ds) ≡ length ds = length_graph ds ds in
+    let first : AreNodes (graph ds) (uses_of_fields ds es) = λ j h. let below : j < length ds = below_is (length ds) (uses_of_fields ds es) (fields_below ds es) j h in omega arith in
+    let inside : i < length (graph ds) = reached_nodes (graph ds) (uses_of_fields ds es) (closed_graph ds) first i ((o.reached i).0 there) in
+    omega arith

@@ -14,3 +14,4 @@ pub mod Inside
 pub mod Faults
 pub mod Resolving
 pub mod Kept
+pub mod Counting

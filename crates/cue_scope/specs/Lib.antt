@@ -7,6 +7,7 @@ pub mod Names
 pub mod Uses
 pub mod Graph
 pub mod Reached
+pub mod Written
 pub mod Ordering
 pub mod Terms
 pub mod Limits

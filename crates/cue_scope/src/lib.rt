@@ -2,6 +2,7 @@
 #![tactic(auto)]
 
 mod components;
+mod counts;
 mod definitions;
 mod graph;
 mod measure;

@@ -1,4 +1,4 @@
-ghost use Rattle.std.specs.Prelude.{◌≡◌, ◌<◌, ◌⊎◌, ℕ, List, length, slice_index_or, IfOk, IfErr, OnOk};
+ghost use Rattle.std.specs.Prelude.{◌≡◌, ◌<◌, ◌⊎◌, ◌-◌, ◌^◌, min, ℕ, List, length, slice_index_or, IfOk, IfErr, OnOk};
 ghost use Rattle.cue_lattice.specs.Refusal.{memory};
 ghost use Rattle.cue_syntax.specs.Syntax.{entries};
 ghost use Rattle.cue_scope.specs.Core as core;
@@ -12,9 +12,11 @@ ghost use Rattle.cue_scope.specs.Measures.{IsUse};
 ghost use Rattle.cue_scope.specs.Ordering.{graph_of};
 ghost use Rattle.cue_scope.specs.Refusing.{IsLegal, Refuses, IsCycleAt};
 ghost use Rattle.cue_scope.specs.Limits as limits;
-ghost use Rattle.cue_scope.specs.Reached.{IsReachedOrder};
+ghost use Rattle.cue_scope.specs.Reached.{IsReachedOrder, times};
+ghost use Rattle.cue_scope.specs.Written.{written_uses};
 ghost use Rattle.cue_scope.specs.Uses as using;
 
+use crate::counts::counts_of;
 use crate::definitions::Definitions;
 use crate::graph::{Order, order_of, reached};
 use crate::measure::{Known, Measure};
@@ -33,6 +35,7 @@ pub struct Resolved<'f, 't> {
     definitions: Definitions<'f, 't>,
     measures: Vec<Measure>,
     order: Vec<usize>,
+    counts: Vec<usize>,
     size: usize,
 }
 
@@ -74,11 +77,13 @@ pub fn resolve<'f, 't>(alloc: Global, file: &'f File<'t>) -> Result<Resolved<'f,
     let whole = measure(&definitions, &measures, declarations);
     whole.check()?;
     let order = kept(alloc, &uses.of_definitions, &uses.of_fields, &order)?;
+    let counts = counts_of(alloc, &uses.of_definitions, &uses.of_fields, &order)?;
     Ok(Resolved {
         file,
         definitions,
         measures,
         order,
+        counts,
         size: whole.size,
     })
 }
@@ -189,6 +194,16 @@ impl<'f, 't> Resolved<'f, 't> {
         ensures { result ≡ core.is_scalar (meaning.meaning (defining.definitions (entries_of self.now)) number) }
     {
         self.measures[number].scalar
+    }
+
+    /// How often the regular declarations and the bodies of the definitions that they reach name a
+    /// definition, by its number, where each is looked at once. It is counted no further than
+    /// `usize::MAX`.
+    pub fn count(&self, number: usize) -> usize
+        requires { number < length (defining.definitions (entries_of self.now)) }
+        ensures { (order : List ℕ) → let ds = defining.definitions (entries_of self.now) in IsReachedOrder (using.graph ds) (using.uses_of_fields ds (entries_of self.now)) order → result ≡ min (times number (written_uses ds (entries_of self.now) order)) (2 ^ 64 - 1) }
+    {
+        self.counts[number]
     }
 
     /// The size of the struct that the text means, at most 65,536.

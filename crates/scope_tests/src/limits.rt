@@ -117,12 +117,15 @@ fn kept(rt: &impl Abort, alloc: Global, file: &File) {
     assert_eq!(rt; resolved.declarations().len(), 4);
     assert_eq!(rt; resolved.definitions().number("#B"), Some(2));
     assert_eq!(rt; resolved.definitions().all().len(), 3);
+    let counts = [resolved.count(0), resolved.count(1), resolved.count(2)];
+    assert_eq!(rt; counts, [1, 0, 2]);
+    assert!(rt; resolved.is_scalar(0) && resolved.is_scalar(2));
 }
 
 #[test]
 fn what_a_text_keeps(rt: HostRuntime) {
     let alloc = rt.alloc();
-    let text = "#C: #B & 1\nx: #C\n#A: 1\n#B: int\n";
+    let text = "#C: #B & 1 & #B\nx: #C\n#A: #B\n#B: int\n";
     let Ok(tokens) = lex(alloc, text) else {
         panic!(rt; "tokens");
     };

@@ -1,4 +1,4 @@
-use Rattle.std.proofs.Common.{arith, ◌≡◌, ◌<◌, ◌≤◌, true, false, length, get_or, sym, subst, ◌∙◌, add-one}
+use Rattle.std.proofs.Common.{arith, ◌<◌, ◌≤◌, false, length, get_or, sym, ◌∙◌, add-one}
 use Rattle.std.proofs.lemmas.List.{get_or_read}
 use Rattle.cue_scope.specs.Graph.{AreNodes}
 use Rattle.cue_scope.specs.Ordering.{graph_of}

@@ -1,19 +1,21 @@
-use Rattle.std.proofs.Common.{arith, ◌≡◌, ◌<◌, length, inr, refl, sym, ap, ◌∙◌, subst}
+use Rattle.std.proofs.Common.{arith, ◌≡◌, ◌<◌, ◌-◌, ◌^◌, ◌++◌, min, length, inr, refl, sym, ap, ◌∙◌, subst}
 use Rattle.std.proofs.lemmas.Result.{err_from_is_err_and}
 use Rattle.cue_syntax.specs.Syntax.{entries}
 use Rattle.cue_scope.specs.declared.resolved.Resolved.TheInside.{Inside}
 use Rattle.cue_scope.specs.Core.{is_scalar}
 use Rattle.cue_scope.specs.Definitions.{definitions}
-use Rattle.cue_scope.specs.Graph.{IsAcyclic, IsClosed}
+use Rattle.cue_scope.specs.Graph.{IsAcyclic, IsClosed, IsIn}
 use Rattle.cue_scope.specs.Kept.{all_of}
 use Rattle.cue_scope.specs.Meaning.{meaning}
 use Rattle.cue_scope.specs.Measures.{IsMeasured, as_literal, total_of_file}
 use Rattle.cue_scope.specs.Ordering.{graph_of}
 use Rattle.cue_scope.specs.Refusing.{IsLegal}
-use Rattle.cue_scope.specs.Reached.{IsReachedOrder}
+use Rattle.cue_scope.specs.Reached.{IsReachedOrder, times, targets_of}
+use Rattle.cue_scope.specs.Written.{written_uses}
 use Rattle.cue_scope.specs.Resolving.{Keeps}
 use Rattle.cue_scope.specs.Uses.{graph, uses_of_fields}
 use Rattle.cue_scope.proofs.Inside.{closed_graph, fields_below, below_is}
+use Rattle.cue_scope.proofs.Kept.{reached_below}
 use Rattle.cue_scope.proofs.Meanings.{length_graph}
 use Rattle.cue_scope.proofs.Nodes.{length_graph_of}
 use Rattle.cue_scope.proofs.Resolving.{refuses_stopped, refuses_beyond, ordered_text, legal_text, text_total}
@@ -53,6 +55,35 @@ kept-requires-clause-inside c = λ i there.
     let l = ap length same in let a = length_graph ds ds in let b = length_graph_of c.deref-3.result.now in
     omega arith
 
+pub counts_of-requires-clause-closed : goal.counts_of-requires-clause-closed
+counts_of-requires-clause-closed c =
+    let ds = all_of c.in_ok-definitions.definitions in
+    let same : graph_of c.deref-6.result.now ≡ graph ds = ap graph_of c.deref-6.ensures.value ∙ c.in_ok-uses.ensures.graph in
+    subst (λ z. IsClosed z) (sym same) (closed_graph ds)
+
+pub counts_of-requires-clause-inside : goal.counts_of-requires-clause-inside
+counts_of-requires-clause-inside c = λ i there.
+    let ds = all_of c.in_ok-definitions.definitions in
+    let es = entries c.as_slice-declarations.result.now in
+    let same : graph_of c.deref-6.result.now ≡ graph ds = ap graph_of c.deref-6.ensures.value ∙ c.in_ok-uses.ensures.graph in
+    let used = rw (c.deref-7.ensures.value, c.in_ok-uses.ensures.fields) at there in
+    let below : i < length ds = below_is (length ds) (uses_of_fields ds es) (fields_below ds es) i used in
+    let l = ap length same in let a = length_graph ds ds in let b = length_graph_of c.deref-6.result.now in
+    omega arith
+
+pub counts_of-requires-clause-nodes : goal.counts_of-requires-clause-nodes
+counts_of-requires-clause-nodes c = λ i there.
+    let ds = all_of c.in_ok-definitions.definitions in
+    let es = entries c.as_slice-declarations.result.now in
+    let same : graph_of c.deref-6.result.now ≡ graph ds = ap graph_of c.deref-6.ensures.value ∙ c.in_ok-uses.ensures.graph in
+    let edges : graph_of c.deref-3.result.now ≡ graph ds = ap graph_of c.deref-3.ensures.value ∙ c.in_ok-uses.ensures.graph in
+    let starts : c.deref-4.result.now ≡ uses_of_fields ds es = c.deref-4.ensures.value ∙ c.in_ok-uses.ensures.fields in
+    let kept = subst (λ z. IsReachedOrder z (uses_of_fields ds es) c.in_ok-order-2.order.items) edges
+    (subst (λ z. IsReachedOrder (graph_of c.deref-3.result.now) z c.in_ok-order-2.order.items) starts c.in_ok-order-2.ensures.kept) in
+    let below : i < length ds = reached_below ds es c.in_ok-order-2.order.items kept i (subst (λ z. IsIn i z) c.deref-8.ensures.value there) in
+    let l = ap length same in let a = length_graph ds ds in let b = length_graph_of c.deref-6.result.now in
+    omega arith
+
 pub returns-clause-legal : goal.returns-clause-legal
 returns-clause-legal c =
     let es = entries c.as_slice-declarations.result.now in
@@ -75,11 +106,17 @@ invariant_of-result c =
     let kept = subst (λ z. IsReachedOrder z (uses_of_fields (definitions es) es) c.in_ok-order-2.order.items) edges
     (subst (λ z. IsReachedOrder (graph_of c.deref-3.result.now) z c.in_ok-order-2.order.items) starts c.in_ok-order-2.ensures.kept) in
     let counted : c.measure-whole.result.size ≡ (text_total es).size = let e = measured.size in let f = within.size in omega arith in
+    let again : graph_of c.deref-6.result.now ≡ graph (definitions es) = ap graph_of c.deref-6.ensures.value ∙ c.in_ok-uses.ensures.graph ∙ ap graph all in
+    let again_from : c.deref-7.result.now ≡ uses_of_fields (definitions es) es = c.deref-7.ensures.value ∙ c.in_ok-uses.ensures.fields ∙ ap (λ z. uses_of_fields z es) all in
+    let many : length c.deref-6.result.now ≡ length (definitions es) = sym (length_graph_of c.deref-6.result.now) ∙ ap length again ∙ length_graph (definitions es) (definitions es) in
+    let written : c.deref-7.result.now ++ targets_of (graph_of c.deref-6.result.now) c.deref-8.result.now ≡ written_uses (definitions es) es c.in_ok-order-2.order.items = rw (again, again_from, c.deref-8.ensures.value) refl in
+    let counts = c.in_ok-counts.ensures.counted in
     let found : Inside = record {
       file = c.args.file;
       definitions = c.in_ok-definitions.definitions;
       measures = c.in_ok-measures.measures;
       order = c.in_ok-order-2.order;
+      counts = c.in_ok-counts.counts;
       size = c.measure-whole.result.size;
     } in
     subst (λ z. Keeps found (entries z)) c.as_slice-declarations.ensures.value (record {
@@ -88,5 +125,7 @@ invariant_of-result c =
       measured = c.in_ok-measures.ensures.length ∙ ap length all;
       scalar = λ i d h. (c.in_ok-measures.ensures.measured i d (subst (λ z. i < length z) (sym all) h)).scalar ∙ ap (λ z. is_scalar (meaning z i)) all;
       order = kept;
+      counts = c.in_ok-counts.ensures.length ∙ many;
+      counted = λ i h. counts i (omega arith) ∙ ap (λ z. min (times i z) (2 ^ 64 - 1)) written;
       size = counted;
     })
