@@ -4,6 +4,11 @@ pub mod Origins
 pub mod Places
 pub mod Within
 pub mod Depth
+pub mod Unwritten
+pub mod UnwrittenTexts
+pub mod Sizes
+pub mod ValidRows
+pub mod ValidTables
 pub mod Unified
 pub mod ByPair
 pub mod Own

@@ -1,13 +1,13 @@
 -- Pairs of the parts of a conjunction, and of the terms of a disjunction, one after another.
-use Rattle.std.proofs.Common.{◌≡◌, ◌+◌, ◌<◌, ℕ, Bool, List, [], ◌∷◌, ◌++◌, length, map, drop, sym, ap, subst, ◌∙◌, append_assoc, append-nil, length-append, arith}
-use Rattle.std.proofs.lemmas.List.{map-append, length-map}
-use Rattle.cue_scalars.specs.Pairs.{Pair, all_of, disjunction}
+use Rattle.std.proofs.Common.{◌≡◌, ◌+◌, ℕ, Bool, List, [], ◌∷◌, ◌++◌, length, map, sym, ap, subst, ◌∙◌, append_assoc, append-nil, length-append, arith}
+use Rattle.std.proofs.lemmas.List.{map-append}
+use Rattle.cue_scalars.specs.Pairs.{Pair}
 use Rattle.cue_scalars.specs.Values as values
 use Rattle.cue_scalars.specs.Values.{pair_of}
 use Rattle.cue_scalars.specs.declared.valued.Valued.{Valued}
 use Rattle.cue_syntax.specs.declared.tree.Expr.{Expr}
 use Rattle.cue_syntax.specs.declared.tree.Term.{Term}
-use Rattle.cue_syntax.specs.Syntax.{Expression, branch, Branches, next_branch, expression, elements, branches}
+use Rattle.cue_syntax.specs.Syntax.{branch, Branches, next_branch, expression, elements, branches}
 use Rattle.cue_syntax.proofs.Views.{view-term}
 use Rattle.cue_scope.specs.Core.{is_scalar, are_scalar, are_scalar_choices}
 use Rattle.cue_scope.specs.Uses.{uses, uses_of_elements, uses_of_branches}

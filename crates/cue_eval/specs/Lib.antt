@@ -9,3 +9,5 @@ pub mod Closing
 pub mod Laws
 pub mod Origins
 pub mod Evaluated
+pub mod Words
+pub mod Validity

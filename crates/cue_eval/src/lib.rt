@@ -7,7 +7,7 @@ mod scalars;
 #[cfg(test)]
 mod tests;
 
-pub use laws::{laws_of_closing, laws_of_meaning, laws_of_places};
+pub use laws::{laws_of_closing, laws_of_meaning, laws_of_places, laws_of_validity};
 pub use scalars::{
     bounded, integer_alone, integer_of, named_set, nothing, null_alone, other_integers,
     other_texts, text_alone, truth_alone,

@@ -100,12 +100,12 @@ not_false : (b : Bool) → not b ≡ false → b ≡ true
 not_false true e = refl
 not_false false e = absurd (false≢true (sym e))
 
-word_of : (xs : List (List ℕ)) (t : List ℕ) → AreWords xs → is_listed xs t ≡ true → IsWord t
+pub word_of : (xs : List (List ℕ)) (t : List ℕ) → AreWords xs → is_listed xs t ≡ true → IsWord t
 word_of [] t h e = absurd (false≢true e)
 word_of (x ∷ xs) t h e =
     ⊎_elim (λ here. subst IsWord ((bytes_eq-Decides x t).0 here) h.0) (λ further. word_of xs t h.1 further) (or_cases (bytes_eq x t) (is_listed xs t) e)
 
-words_of : (xs : List (List ℕ)) → ((t : List ℕ) → is_listed xs t ≡ true → IsWord t) → AreWords xs
+pub words_of : (xs : List (List ℕ)) → ((t : List ℕ) → is_listed xs t ≡ true → IsWord t) → AreWords xs
 words_of [] h = tt
 words_of (x ∷ xs) h = (h x (first_is_listed x xs), words_of xs (λ t e. h t (or_true (bytes_eq x t) (is_listed xs t) e)))
 

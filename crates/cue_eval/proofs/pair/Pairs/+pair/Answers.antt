@@ -1,4 +1,4 @@
-use Rattle.std.proofs.Common.{rules, subst, sym, drop, ◌+◌, ◌∷◌, arith}
+use Rattle.std.proofs.Common.{subst, sym, drop, ◌+◌, arith}
 use denote.Param.Weighed.{most, at_most}
 use Rattle.std.proofs.Common.{◌≤◌}
 use Rattle.cue_syntax.specs.declared.tree.Expr.{size-Expr}
