@@ -2,6 +2,7 @@
 use Rattle.std.specs.Prelude.{ℕ, ◌≡◌, ◌+◌, ◌*◌, ◌&&◌, eqb, min, max, Bool, true, false, cond, List, [], ◌∷◌, ◌++◌, Option, None, Some, ◌<◌, ◌≤◌, slice_index_or, length}
 use Rattle.cue_lattice.specs.declared.refusal.Kind.{Kind}
 use Rattle.cue_lattice.specs.declared.refusal.Kind.TheVariants as kinds
+use Rattle.cue_lattice.specs.Limits.{size_limit, step_limit}
 use Rattle.cue_syntax.specs.Syntax.{Expression, Elements, Branches, Entries}
 use Rattle.cue_scope.specs.declared.measure.Measure.{Measure}
 use Rattle.cue_scope.specs.declared.measure.Known.{Known}
@@ -28,8 +29,8 @@ first_of (x ∷ xs) = Some x
 -- sizes and depths are counted no further than just past their limits
 pub record IsMeasured (m : Measure) (t : Total) : Type 0 where
   pub scalar : m.scalar ≡ t.scalar
-  pub size : m.size ≡ min t.size 65537
-  pub depth : m.depth ≡ min t.depth 65
+  pub size : m.size ≡ min t.size (size_limit + 1)
+  pub depth : m.depth ≡ min t.depth (step_limit + 1)
   pub place : m.term ≡ first_of t.places
 
 abbrev pub none : Total
@@ -117,21 +118,21 @@ total_of_file ds es = record {
 -- it passes the checks on terms, sizes and paths
 pub record IsWithin (t : Total) : Type 0 where
   pub places : t.places ≡ []
-  pub size : t.size ≤ 65536
-  pub depth : t.depth ≤ 64
+  pub size : t.size ≤ size_limit
+  pub depth : t.depth ≤ step_limit
 
 -- the first of these checks that it fails
 abbrev pub IsBeyond : Total → Kind → ℕ → Type 0
 IsBeyond t kinds.NotScalar place = IsFirst place t.places
-IsBeyond t kinds.TooLarge place = (t.places ≡ []) × (65536 < t.size) × (place ≡ 0)
-IsBeyond t kinds.TooDeep place = (t.places ≡ []) × (t.size ≤ 65536) × (64 < t.depth) × (place ≡ 0)
+IsBeyond t kinds.TooLarge place = (t.places ≡ []) × (size_limit < t.size) × (place ≡ 0)
+IsBeyond t kinds.TooDeep place = (t.places ≡ []) × (t.size ≤ size_limit) × (step_limit < t.depth) × (place ≡ 0)
 IsBeyond t _ place = ⊥
 
 -- what is known of a use of a definition
 pub record IsUse (m : Measure) (c : Core) : Type 0 where
   pub scalar : m.scalar ≡ is_scalar c
-  pub size : m.size ≡ min (limits.size c) 65537
-  pub depth : m.depth ≡ min (limits.depth c) 65
+  pub size : m.size ≡ min (limits.size c) (size_limit + 1)
+  pub depth : m.depth ≡ min (limits.depth c) (step_limit + 1)
 
 -- these definitions were measured
 abbrev pub IsKnown : Known → List ℕ → Type 0
