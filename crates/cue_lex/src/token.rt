@@ -4,8 +4,8 @@ ghost use Rattle.cue_lex.specs.Kinds.{is_minus, ends_line, HasWord};
 use crate::{Punctuation, Quoted, Word};
 
 /// A token of a text: what it is, and from which byte to before which byte it stands. A text has at
-/// most 1,048,576 bytes. An inserted comma is empty: `from` and `to` are the end of the token before
-/// it.
+/// most 1,048,576 bytes. An inserted comma is empty: `from` and `to` are the end of the token
+/// before it.
 #[derive(Debug, Drop)]
 pub struct Token<'a> {
     pub kind: TokenKind<'a>,

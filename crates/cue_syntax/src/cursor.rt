@@ -87,7 +87,8 @@ impl<'a> Cursor<'a> {
 
     /// After this token, which has to stand at hand.
     pub fn expect(self, wanted: Punctuation) -> Result<Cursor<'a>, Stop>
-        ensures shorter { IfOk result (λ after. length after.rest.now < length self.entry.rest.now) }
+        ensures shorter { IfOk result (λ after.
+            length after.rest.now < length self.entry.rest.now) }
         ensures reads { IfOk result (λ after.
             Reads self.entry.rest.now (one (TokenKind.Mark wanted)) after.rest.now) }
         ensures end { IfOk result (λ after. after.end ≡ self.entry.end) }

@@ -110,8 +110,8 @@ fn conjunction<'a>(alloc: Global, cursor: Cursor<'a>, room: usize) -> Parsed<'a,
     ensures end { IfOk result (λ r. r.1.end ≡ cursor.entry.end) }
     ensures moves { IfOk result (λ r. Moves room (goals.unary ∷ goals.more_parts ∷ [])
         cursor.entry.rest.now [] r.1.rest.now) }
-    ensures refused { IfErr result (λ r.
-        Refused room cursor.entry.end (goals.unary ∷ goals.more_parts ∷ []) cursor.entry.rest.now r) }
+    ensures refused { IfErr result (λ r. Refused room cursor.entry.end
+        (goals.unary ∷ goals.more_parts ∷ []) cursor.entry.rest.now r) }
 {
     let (first, rest) = unary(alloc, cursor, room)?;
     let Some(mut after) = rest.skip(Punctuation::Ampersand) else {

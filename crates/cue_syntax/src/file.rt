@@ -30,7 +30,8 @@ use std::alloc::Global;
 ///
 /// `Syntax`, `Nesting` and `LeftOut`, each with the place of a token or `end`, and `Memory`.
 pub fn parse<'t>(alloc: Global, tokens: &'t [Token<'t>], end: usize) -> Result<File<'t>, Refusal>
-    ensures spelled { IfOk result (λ file. IsFile (at_most level_limit) tokens.now (file_tree file)) }
+    ensures spelled { IfOk result (λ file.
+        IsFile (at_most level_limit) tokens.now (file_tree file)) }
     ensures refused { IfErr result (λ r. (r ≡ memory) ⊎ Fits level_limit end tokens.now r) }
     // Want of memory never hides that a text begins wrongly.
     ensures begins { IfErr result (λ r. r ≡ memory → BeginsText tokens.now) }

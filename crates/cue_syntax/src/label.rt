@@ -69,7 +69,8 @@ pub fn refuse_label(cursor: Cursor, top: bool) -> Result<(), Stop>
 pub fn label<'a>(cursor: Cursor<'a>) -> Parsed<'a, Label<'a>>
     requires { BeginsLabel cursor.rest.now }
     ensures shorter { IfOk result (λ r. length r.1.rest.now < length cursor.entry.rest.now) }
-    ensures spelled { IfOk result (λ r. Reads cursor.entry.rest.now (spell_label r.0) r.1.rest.now) }
+    ensures spelled { IfOk result (λ r.
+        Reads cursor.entry.rest.now (spell_label r.0) r.1.rest.now) }
     ensures end { IfOk result (λ r. r.1.end ≡ cursor.entry.end) }
     ensures refused { IfErr result (λ r. (r ≡ memory)
         ⊎ MissesColon cursor.entry.end cursor.entry.rest.now r) }

@@ -13,6 +13,8 @@ mod spot;
 mod stop;
 mod tree;
 
+pub use cue_lattice::Refusal;
+pub use cue_lex::{Token, Word};
 pub use file::parse;
 pub use spelling::one_tree;
 pub use tree::{

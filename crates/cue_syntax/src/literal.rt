@@ -150,7 +150,8 @@ pub fn is_clause(name: &Word) -> bool
 /// An integer with its sign.
 fn signed<'a>(cursor: Cursor<'a>) -> Parsed<'a, Signed>
     ensures shorter { IfOk result (λ r. length r.1.rest.now < length cursor.entry.rest.now) }
-    ensures spelled { IfOk result (λ r. Reads cursor.entry.rest.now (spell_signed r.0) r.1.rest.now) }
+    ensures spelled { IfOk result (λ r.
+        Reads cursor.entry.rest.now (spell_signed r.0) r.1.rest.now) }
     ensures range { IfOk result (λ r. IsInRange r.0) }
     ensures end { IfOk result (λ r. r.1.end ≡ cursor.entry.end) }
     ensures moves { IfOk result (λ r. Moves 0 (signed ∷ []) cursor.entry.rest.now [] r.1.rest.now) }

@@ -4,8 +4,9 @@ ghost use Rattle.cue_syntax.specs.WellFormed.{well_formed_prop};
 
 use cue_lex::Word;
 
-/// A fragment: its package clause, if any, and its declarations. By its type it follows the grammar
-/// and opens at most 64 levels, so that what reads it needs no premise.
+/// A fragment: its package clause, if any, and its declarations. By its type it follows the
+/// grammar, opens at most 64 levels, and its names, labels and strings have at most 65,535 bytes, so
+/// that what reads it needs no premise.
 #[derive(Debug, Drop)]
 pub struct File<'t> {
     pub package: Option<Package<'t>>,
