@@ -9,6 +9,7 @@ pub mod UnwrittenTexts
 pub mod Sizes
 pub mod ValidRows
 pub mod ValidTables
+pub mod WordsOfTexts
 pub mod Unified
 pub mod ByPair
 pub mod Own

@@ -12,6 +12,7 @@ use Rattle.cue_table.specs.Tree.{Tree}
 use Rattle.cue_table.specs.Form.{IsTable}
 use Rattle.cue_table.specs.Valid.{IsValidTable}
 use Rattle.cue_syntax.specs.Syntax.{Entries}
+use Rattle.cue_syntax.specs.Words.{HaveWordsEntries}
 use Rattle.cue_scope.specs.Core.{Core}
 use Rattle.cue_scope.specs.Limits.{size}
 use Rattle.cue_scope.specs.Meaning.{meant_text}
@@ -46,3 +47,7 @@ LengthsAreWithinSize = (c : Core) (path : Path) (n : ℕ) → Refuses c path (le
 abbrev pub TextsAreValid : Type 0
 TextsAreValid = (es : Entries) (table : Tree Row) → IsLegal es → WritesWords (meant_text es) → IsTable rows.Refuses rows.IsRow table →
     HasAnswersOf (meant_text es) table → IsValidTable table
+
+-- A text whose names, labels and strings are words means what writes words.
+abbrev pub TextsWriteWords : Type 0
+TextsWriteWords = (es : Entries) → HaveWordsEntries es → WritesWords (meant_text es)

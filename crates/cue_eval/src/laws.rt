@@ -3,7 +3,7 @@
 ghost use Rattle.cue_eval.specs.Laws.{UsesAreClosedBodies, IsUnification, IsMonotone, IsSplitAnywhere, IsClosedOnce, IsClosedForGood, IsClosedByParts, IsItsPair};
 ghost use Rattle.cue_eval.specs.Closing.{AreOwnOrUsed, UsedAreClosed, IsClosedByOwn};
 ghost use Rattle.cue_eval.specs.Origins.{ComesFromSources, PlacesAreOfKinds, LabelsAreOfStructs, LengthsAreOfLists, FieldsAreOfStructs, ElementsAreOfLists, LevelsAreOfFields, PathsAreWithinDepth, UsualIsWithin};
-ghost use Rattle.cue_eval.specs.Validity.{PathsAreWritten, UnwrittenLabelsAreAlike, UnwrittenTextsAreAlike, LengthsAreWithinSize, TextsAreValid};
+ghost use Rattle.cue_eval.specs.Validity.{PathsAreWritten, UnwrittenLabelsAreAlike, UnwrittenTextsAreAlike, LengthsAreWithinSize, TextsAreValid, TextsWriteWords};
 
 /// A use of a definition means its body, closed. `a & b` refuses exactly what one of both refuses, so that
 /// declarations may stand in one struct or in several. Closing parts one by one is at least as narrow as closing them
@@ -48,7 +48,7 @@ pub fn laws_of_closing()
 {}
 
 /// A table in its one form that has the answers of a legal text is valid, where the text's labels and strings are in
-/// UTF-8 and not too long. For the labels and texts that an answer speaks of are written, or they are among those that
+/// UTF-8 and not too long, as the grammar's are. For the labels and texts that an answer speaks of are written, or they are among those that
 /// are not, of which all are left out or none is; and no list is longer than the text is large. It computes nothing: it
 /// states laws.
 pub fn laws_of_validity()
@@ -56,5 +56,6 @@ pub fn laws_of_validity()
     ensures labels { UnwrittenLabelsAreAlike }
     ensures texts { UnwrittenTextsAreAlike }
     ensures lengths { LengthsAreWithinSize }
+    ensures words { TextsWriteWords }
     ensures tables { TextsAreValid }
 {}
