@@ -21,7 +21,11 @@ pub fn plain<R: Narrow>(alloc: Global, rows: &[Entry<R>]) -> Result<Plain<R>, Me
 }
 
 /// Whether the tree lists exactly the rows of the plain list.
-fn has_rows<R: Narrow>(alloc: Global, tree: &Table<R>, plain: &Plain<R>) -> Result<bool, Memory> {
+pub fn has_rows<R: Narrow>(
+    alloc: Global,
+    tree: &Table<R>,
+    plain: &Plain<R>,
+) -> Result<bool, Memory> {
     let rows = tree.rows(alloc)?;
     if rows.len() != plain.entries.len() {
         return Ok(false);
@@ -89,8 +93,8 @@ pub fn tells_apart<R: Narrow>(
     Ok(trees == plain(alloc, left)?.same(&plain(alloc, right)?))
 }
 
-/// Whether each call that is refused leaves the table as it was.
-pub fn stays<R: Narrow>(
+/// Whether each `add` that is refused leaves the table as it was.
+pub fn adds_or_stays<R: Narrow>(
     alloc: Global,
     left: &[Entry<R>],
     right: &[Entry<R>],
@@ -104,6 +108,33 @@ pub fn stays<R: Narrow>(
             return Ok(false);
         }
     }
+    Ok(mine.same(&before))
+}
+
+/// Whether both tables are as they were after a unification into a third that was refused, and after copies that were.
+pub fn meets_or_stays<R: Narrow>(
+    alloc: Global,
+    left: &[Entry<R>],
+    right: &[Entry<R>],
+) -> Result<bool, Memory> {
+    let mine = tree(alloc, left)?;
+    let theirs = tree(alloc, right)?;
+    let my_rows = plain(alloc, left)?;
+    let their_rows = plain(alloc, right)?;
+    let refused = mine.meet(alloc, &theirs).is_err();
+    let not_copied = mine.copy(alloc).is_err() || theirs.copy(alloc).is_err();
+    if refused || not_copied {
+        return Ok(has_rows(alloc, &mine, &my_rows)? && has_rows(alloc, &theirs, &their_rows)?);
+    }
+    Ok(true)
+}
+
+/// Whether a unification in place that is refused leaves the table as it was.
+pub fn takes_or_stays<R: Narrow>(
+    alloc: Global,
+    left: &[Entry<R>],
+    right: &[Entry<R>],
+) -> Result<bool, Memory> {
     let mut mine = tree(alloc, left)?;
     let before = tree(alloc, left)?;
     let refused = mine.meet_with(tree(alloc, right)?).is_err();

@@ -5,6 +5,8 @@
 #[cfg(test)]
 mod both;
 #[cfg(test)]
+mod many;
+#[cfg(test)]
 mod plain;
 #[cfg(test)]
 mod sample;

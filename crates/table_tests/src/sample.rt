@@ -1,4 +1,5 @@
 //! Lists of rows for the tests of tables.
+use crate::many::Given;
 use crate::plain::Entry;
 use cue_lattice::{Memory, Narrow, Text};
 use cue_row::{Labels, Level, Path, Row, Step};
@@ -6,19 +7,21 @@ use cue_scalars::ScalarSet;
 use cue_sets::{IntSet, TextSet};
 use std::alloc::Global;
 
+/// The step that a letter or a digit names.
+fn step(alloc: Global, name: char) -> Result<Step, Memory> {
+    if let Some(number) = name.to_digit(10) {
+        return Ok(Step::Index(number));
+    }
+    let mut label = String::new(alloc);
+    label.push(name)?;
+    Ok(Step::Label(Text::new(label)))
+}
+
 /// A path of one-letter labels and one-digit indexes: `a1b` is the label `a`, the index 1 and the label `b`.
 pub fn path(alloc: Global, word: &str) -> Result<Path, Memory> {
     let mut steps = Vec::new(alloc);
-    for byte in word.as_bytes() {
-        let step = match *byte {
-            b'0'..=b'9' => Step::Index(u32::from(*byte - b'0')),
-            _ => {
-                let mut label = String::new(alloc);
-                label.push(char::from(*byte))?;
-                Step::Label(Text::new(label))
-            }
-        };
-        steps.push(step)?;
+    for name in word.chars() {
+        steps.push(step(alloc, name)?)?;
     }
     Ok(Path::new(steps).unwrap_or(Path::root(alloc)))
 }
@@ -110,7 +113,7 @@ fn row(alloc: Global, name: &str) -> Result<Row, Memory> {
 }
 
 /// The rows of some tables, each as its path and its name.
-pub const TABLES: [&str; 12] = [
+pub const TABLES: [&str; 13] = [
     "b=free",
     "=optional",
     "=optional a=one",
@@ -123,12 +126,40 @@ pub const TABLES: [&str; 12] = [
     "=optional c=pair c0=struct c0d=one",
     "=optional c=single d=nothing da=one b=free",
     "e=free fgh=one fg1=two f=optional fga=two",
+    "fgh=two fg1=small fga=usual fgb=one fg=closed eab=list",
 ];
+
+/// Pairs of these tables that clash or share places two and three steps down.
+pub const CLASHES: [(usize, usize); 6] = [(6, 7), (7, 6), (5, 7), (8, 9), (11, 12), (12, 11)];
+
+/// Tables that are given for steps, each as its step and the names of its rows.
+pub const BRANCHES: [&str; 7] = [
+    "a:b=free",
+    "b:=struct",
+    "c:=one b:=two a:=small",
+    "b:=struct+a=one a:b=free b:=optional+a=two 0:=list+0=one",
+    "a:=usual a:=one a:=two a:=small a:b=free",
+    "1:a=one b:ab=two 0:=pair 1:ab=one b:a=struct a:0=small 1:=closed b:ab=usual",
+    "z:fg=one z:fgh=two y:b=free x:=nothing z:fg=two x:=narrow w:=list z:f=required",
+];
+
+/// The tables that a text names, as those of [`BRANCHES`].
+pub fn given(alloc: Global, text: &str) -> Result<Vec<Given<Row>>, Memory> {
+    let mut branches = Vec::new(alloc);
+    for word in text.split(' ') {
+        let (name, entries) = word.split_once(':').unwrap_or(("a", word));
+        branches.push(Given {
+            step: step(alloc, name.chars().next().unwrap_or('a'))?,
+            rows: rows(alloc, entries)?,
+        })?;
+    }
+    Ok(branches)
+}
 
 /// The rows that a text names, as those of [`TABLES`].
 pub fn rows(alloc: Global, text: &str) -> Result<Vec<Entry<Row>>, Memory> {
     let mut rows = Vec::new(alloc);
-    for word in text.split(' ') {
+    for word in text.split([' ', '+']) {
         let (place, name) = word.split_once('=').unwrap_or((word, "free"));
         rows.push(Entry {
             path: path(alloc, place)?,

@@ -1,6 +1,7 @@
 //! Each list of rows through the tree and through the plain list.
-use crate::both::{adds, below, meets, stays, tells_apart};
-use crate::sample::{TABLES, path, rows};
+use crate::both::{adds, adds_or_stays, below, meets, meets_or_stays, takes_or_stays, tells_apart};
+use crate::many::{hangs, unifies};
+use crate::sample::{BRANCHES, CLASHES, TABLES, given, path, rows};
 use std::test::Fail;
 
 #[test]
@@ -39,9 +40,35 @@ fn tells_tables_apart_as_the_plain_lists(rt: HostRuntime) -> Result<(), Fail> {
 #[test]
 fn stays_as_it_was_where_memory_is_refused(rt: HostRuntime) -> Result<(), Fail> {
     let alloc = rt.alloc();
-    let left = rows(alloc, TABLES[6])?;
-    let right = rows(alloc, TABLES[7])?;
-    assert!(rt; stays(alloc, &left, &right)?);
+    for (left, right) in CLASHES {
+        let mine = rows(alloc, TABLES[left])?;
+        let theirs = rows(alloc, TABLES[right])?;
+        assert!(rt; adds_or_stays(alloc, &mine, &theirs)?);
+        assert!(rt; meets_or_stays(alloc, &mine, &theirs)?);
+        assert!(rt; takes_or_stays(alloc, &mine, &theirs)?);
+    }
+    Ok(())
+}
+
+#[test]
+fn unifies_lists_of_tables(rt: HostRuntime) -> Result<(), Fail> {
+    let alloc = rt.alloc();
+    for count in 0..=TABLES.len() {
+        let mut lists = Vec::new(alloc);
+        for text in TABLES.iter().take(count) {
+            lists.push(rows(alloc, text)?)?;
+        }
+        assert!(rt; unifies(alloc, &lists)?, "the first {count}");
+    }
+    Ok(())
+}
+
+#[test]
+fn hangs_tables_in_below_their_steps(rt: HostRuntime) -> Result<(), Fail> {
+    let alloc = rt.alloc();
+    for text in BRANCHES {
+        assert!(rt; hangs(alloc, &given(alloc, text)?)?, "{text}");
+    }
     Ok(())
 }
 
