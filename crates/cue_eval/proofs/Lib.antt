@@ -7,6 +7,7 @@ pub mod Depth
 pub mod Unwritten
 pub mod UnwrittenTexts
 pub mod Sizes
+pub mod ValidWords
 pub mod ValidRows
 pub mod ValidTables
 pub mod WordsOfTexts

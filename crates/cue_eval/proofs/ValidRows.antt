@@ -1,5 +1,5 @@
 -- The rows of a table that has the answers of an expression are valid.
-use Rattle.std.proofs.Common.{◌≡◌, ◌↔◌, ◌⊎◌, inl, inr, ⊎_elim, ℕ, ◌+◌, ◌<◌, ◌≤◌, ℤ, pos, negsuc, ◌≤ℤ◌, Bool, true, false, not, List, Option, Some, None, refl, sym, ap, subst, ◌∙◌, arith}
+use Rattle.std.proofs.Common.{◌≡◌, ◌↔◌, ◌⊎◌, inl, inr, ⊎_elim, ℕ, ◌+◌, ◌<◌, ◌≤◌, ℤ, pos, negsuc, ◌≤ℤ◌, Bool, true, false, List, Option, Some, None, refl, sym, subst, ◌∙◌, arith}
 use Rattle.std.proofs.lemmas.Bool.{false≢true, cases_lt}
 use Rattle.std.proofs.lemmas.Int.{ints, by_lt_z}
 use Rattle.cue_lattice.specs.Limits.{size_limit, length_limit}
@@ -11,8 +11,6 @@ use Rattle.cue_lattice.specs.declared.scalar.Scalar.{Scalar}
 use Rattle.cue_lattice.specs.declared.scalar.Scalar.TheVariants as scalars
 use Rattle.cue_sets.specs.Pieces.{least, greatest, IsInt64}
 use Rattle.cue_sets.specs.PieceLaws.{is_member-below, is_member-above}
-use Rattle.cue_sets.specs.Texts.{is_listed, RefusesText}
-use Rattle.cue_sets.specs.TextLaws.{greatest_length, zeros, is_listed-zeros}
 use Rattle.cue_scalars.specs.Scalars.{members, IsScalarSet, RefusesScalar}
 use Rattle.cue_scalars.specs.declared.scalar_set.ScalarSet.{ScalarSet}
 use Rattle.cue_row.specs.declared.row.Row.{Row}
@@ -25,9 +23,9 @@ use Rattle.cue_row.specs.LabelLaws.{same_labels}
 use Rattle.cue_row.specs.Lengths.{RefusesLength}
 use Rattle.cue_row.specs.Row as rows
 use Rattle.cue_row.specs.Row.{RowRefuses, IsRow}
-use Rattle.cue_row.specs.ValidRow.{UsualFits, LabelsFit, LengthsFit, AreLengths, AreWords, AreLabelWords, HasWords, IsValidRow}
+use Rattle.cue_row.specs.ValidRow.{UsualFits, LabelsFit, LengthsFit, AreLengths, HasWords, IsValidRow}
 use Rattle.cue_row.proofs.Free.{no_greatest}
-use Rattle.cue_row.proofs.MetSets.{empty_or_not, not_refused, word_of, words_of}
+use Rattle.cue_row.proofs.MetSets.{empty_or_not, not_refused}
 use Rattle.cue_scope.specs.Core.{Core}
 use Rattle.cue_scope.specs.Limits.{size}
 use Rattle.cue_eval.specs.Origins.{IsStruct, IsList, IsLevel}
@@ -36,8 +34,8 @@ use Rattle.cue_eval.specs.Words.{words, WritesWords}
 use Rattle.cue_eval.proofs.Places.{labels_of_structs, lengths_of_lists}
 use Rattle.cue_eval.proofs.Within.{places_of_kinds, usual_is_within}
 use Rattle.cue_eval.proofs.Sizes.{lengths_within_size}
-use Rattle.cue_eval.proofs.Unwritten.{unwritten_labels}
 use Rattle.cue_eval.proofs.UnwrittenTexts.{unwritten_texts}
+use Rattle.cue_eval.proofs.ValidWords.{label_words, text_words}
 
 clash : (b : Bool) → b ≡ true → b ≡ false → ⊥
 clash b p q = false≢true (sym q ∙ p)
@@ -238,35 +236,6 @@ limits c path row at small = by row.most refl where
   by (Some m) e = (least_within c path row at small, greatest_within c path row m at e)
 
 -- ---- words
-listed_or_not : (b : Bool) → (b ≡ true) ⊎ (b ≡ false)
-listed_or_not true = inl refl
-listed_or_not false = inr refl
-
-label_words : (c : Core) (path : Path) → WritesWords c → (labels : Option (List (List ℕ))) → ((l : List ℕ) → RefusesLabel labels l ↔ Refuses c path (allows l)) → AreLabelWords labels
-label_words c path w None says = tt
-label_words c path w (Some ls) says =
-    let far : ℕ = greatest_length ls + 1 in
-    words_of ls (λ l listed.
-    ⊎_elim (λ written. word_of (words c) l w written)
-    (λ unwritten. absurd (clash (is_listed ls l) listed ((says l).1 (unwritten_labels c path (zeros far) l unwritten ((says (zeros far)).0 (is_listed-zeros ls far (omega arith)))))))
-    (listed_or_not (is_listed (words c) l)))
-
-text_words : (ws : List (List ℕ)) → AreWords ws → (set : Bool × List (List ℕ))
-    → ((t u : List ℕ) → is_listed ws t ≡ false → is_listed ws u ≡ false → RefusesText set t → RefusesText set u) → AreWords set.1
-text_words ws w (false, ts) alike =
-    let far : ℕ = greatest_length ts + greatest_length ws + 1 in
-    words_of ts (λ t listed.
-    ⊎_elim (λ written. word_of ws t w written)
-    (λ unwritten. absurd (clash (is_listed ts t) listed (alike (zeros far) t (is_listed-zeros ws far (omega arith)) unwritten (is_listed-zeros ts far (omega arith)))))
-    (listed_or_not (is_listed ws t)))
-text_words ws w (true, ts) alike =
-    let far : ℕ = greatest_length ts + greatest_length ws + 1 in
-    words_of ts (λ t listed.
-    ⊎_elim (λ written. word_of ws t w written)
-    (λ unwritten. absurd (clash (not (is_listed ts (zeros far))) (ap not (is_listed-zeros ts far (omega arith)))
-    (alike t (zeros far) unwritten (is_listed-zeros ws far (omega arith)) (ap not listed))))
-    (listed_or_not (is_listed ws t)))
-
 has_words : (c : Core) (path : Path) (row : Row) → IsRowAt c path row → WritesWords c → HasWords row
 has_words c path row at w = record {
   labels = label_words c path w row.labels (λ l. at.says (allows l));
