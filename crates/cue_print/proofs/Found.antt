@@ -1,0 +1,65 @@
+-- Branches that are found at a label or at a number.
+use Rattle.std.proofs.Common.{◌≡◌, ℕ, Bool, true, false, List, Option, Some, None, nat_eq, refl, sym, ap, ◌∙◌, arith}
+use Rattle.std.specs.Str.{bytes_eq}
+use Rattle.std.specs.Ordering.{nat_cmp}
+use Rattle.std.specs.declared.cmp.Ordering.{Ordering}
+use Rattle.std.specs.declared.cmp.Ordering.TheVariants.{Less, Equal, Greater}
+use Rattle.std.specs.Cmp.{nat_cmp_is}
+use Rattle.std.specs.FinMap.{nat_cmp-IsAntisymmetric}
+use Rattle.cue_lattice.specs.Path.{label, index}
+use Rattle.cue_sets.specs.Texts.{text_cmp}
+use Rattle.cue_sets.specs.TextLaws.{reverse_cmp, same_from_equal, bytes_eq-itself, bytes_eq-less, bytes_eq-greater}
+use Rattle.cue_row.specs.declared.level.Level.TheVariants.{Optional}
+use Rattle.cue_row.specs.declared.row.Row.{Row}
+use Rattle.cue_table.specs.Tree.{Tree, Children, none, child, row_of, if_equal, find}
+use Rattle.cue_print.specs.Expressions.{Value, top, Fields, field}
+use Rattle.cue_print.specs.Printed.{level_at, declared, value_of, fields_below, element_below}
+
+-- ---- labels
+-- the field of a label, by the branch that is found at it
+abbrev pub field_for : List ℕ → Option (Tree Row) → Fields → Fields
+field_for l None others = field l Optional top others
+field_for l (Some tree) others = field l (level_at (row_of tree)) (value_of tree) others
+
+pub declared_found : (children : Children Row) (l : List ℕ) (others : Fields) → declared l (fields_below children) others ≡ field_for l (find (label l) children) others
+unfolding fields_below
+declared_found none l others = refl
+declared_found (child (index n) tree children) l others = declared_found children l others
+declared_found (child (label m) tree children) l others = at (text_cmp l m) refl (declared_found children l others) where
+  at :
+      (o : Ordering) → text_cmp l m ≡ o → declared l (fields_below children) others ≡ field_for l (find (label l) children) others
+      → declared l (fields_below (child (label m) tree children)) others ≡ field_for l (if_equal (text_cmp l m) tree (find (label l) children)) others
+  at Less h later = rw (bytes_eq-greater m l h, h) later
+  at Equal h later = rw (ap (bytes_eq m) (same_from_equal l m h) ∙ bytes_eq-itself m, h) refl
+  at Greater h later = rw (bytes_eq-less m l (reverse_cmp l m Greater h), h) later
+
+-- ---- numbers
+-- the element of a number, by the branch that is found at it
+abbrev pub element_for : Option (Tree Row) → Value
+element_for None = top
+element_for (Some tree) = value_of tree
+
+same_number : (m n : ℕ) → nat_eq m n ≡ true → m ≡ n
+same_number m n h = grind arith
+
+one_number : (n m : ℕ) → n ≡ m → nat_eq m n ≡ true
+one_number n m h = grind arith
+
+-- numbers that are in order are two
+other_number : (n m : ℕ) (o : Ordering) → nat_cmp n m ≡ o → (o ≡ Equal → ⊥) → nat_eq m n ≡ false
+other_number n m o h not_equal = by (nat_eq m n) refl where
+  by : (b : Bool) → nat_eq m n ≡ b → b ≡ false
+  by false e = refl
+  by true e = absurd (not_equal (sym h ∙ sym (nat_cmp_is n m Equal (sym (same_number m n e)))))
+
+pub element_found : (children : Children Row) (n : ℕ) → element_below children n ≡ element_for (find (index n) children)
+unfolding element_below
+element_found none n = refl
+element_found (child (label l) tree children) n = element_found children n
+element_found (child (index m) tree children) n = at (nat_cmp n m) refl (element_found children n) where
+  at :
+      (o : Ordering) → nat_cmp n m ≡ o → element_below children n ≡ element_for (find (index n) children)
+      → element_below (child (index m) tree children) n ≡ element_for (if_equal (nat_cmp n m) tree (find (index n) children))
+  at Less h later = rw (other_number n m Less h (λ e. cc), h) later
+  at Equal h later = rw (one_number n m (nat_cmp-IsAntisymmetric n m h), h) refl
+  at Greater h later = rw (other_number n m Greater h (λ e. cc), h) later

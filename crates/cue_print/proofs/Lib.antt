@@ -1,0 +1,13 @@
+pub mod Examples
+pub mod Fields
+pub mod Files
+pub mod Found
+pub mod IntegersLeft
+pub mod Joined
+pub mod Left
+pub mod ListTexts
+pub mod Parts
+pub mod Places
+pub mod Scalars
+pub mod TextsLeft
+pub mod Walk

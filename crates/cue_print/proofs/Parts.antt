@@ -1,0 +1,243 @@
+-- Parts that are unified, one in front of others.
+use Rattle.std.proofs.Common.{◌≡◌, ℕ, Bool, true, false, ◌||◌, List, [], ◌++◌, Option, Some, None, nat_eq, refl, sym, ap, ◌∙◌, append_assoc}
+use Rattle.std.specs.Prelude.{codes, is_some, nat_lt, if◌then◌else◌, ◌==◌}
+use Rattle.std.specs.List.{flat_map}
+use Rattle.std.proofs.lemmas.List.{append-nil}
+use Rattle.cue_row.specs.declared.level.Level.{Level}
+use Rattle.cue_row.specs.declared.row.Row.{Row}
+use Rattle.cue_row.specs.LabelSets.{allows_label}
+use Rattle.cue_row.specs.Quoted.{quoted}
+use Rattle.cue_table.specs.Tree.{Tree}
+use Rattle.cue_print.specs.Expressions.{Value, top, all, Parts, no_parts, struct, close, list, bottom, Fields, no_more, field}
+use Rattle.cue_print.specs.Printed.{inside, outside, struct_if_any, struct_part, elements, list_part, has_field, list_left, nothing_value}
+use Rattle.cue_print.specs.Spelled.{joined, enclosed, mark_text, struct_text, list_text, rest_texts, value_text, part_texts, field_texts, element_texts}
+use Rattle.cue_print.specs.Writing.{lead, conjoined, opening, beside_text, struct_before, goes_on, ellipsis_text, longest_text, list_before}
+use Rattle.cue_print.proofs.Fields.{fields_of, left_text}
+use Rattle.cue_print.proofs.Joined.{joined_more}
+use Rattle.cue_print.proofs.ListTexts.{none_before}
+
+-- the parts behind another one
+abbrev pub behind : Parts → List ℕ
+behind parts = flat_map conjoined (part_texts parts)
+
+-- one part
+alone : (t : List ℕ) → t ++ [] ≡ t
+alone t = append-nil t
+
+-- ---- structs
+pub open_struct : (fields : Fields) → enclosed (codes "{") (joined (codes ", ") (field_texts fields)) (codes "}") ≡ value_text (all (struct_part None fields no_parts))
+unfolding value_text part_texts
+open_struct fields = sym (alone (struct_text (field_texts fields)))
+
+pub closed_struct :
+    (labels : List (List ℕ)) (fields : Fields)
+    → codes "close({" ++ (joined (codes ", ") (field_texts (inside labels fields)) ++ (codes "})" ++ beside_text (Some labels) fields)) ≡ value_text (all (struct_part (Some labels) fields no_parts))
+unfolding value_text part_texts beside_text
+closed_struct labels fields =
+    let inner : List ℕ = joined (codes ", ") (field_texts (inside labels fields)) in
+    let rest : List ℕ = flat_map conjoined (part_texts (struct_if_any (outside labels fields) no_parts)) in
+    ap (λ t. codes "close({" ++ t) (sym (append_assoc inner (codes "})") rest) ∙ ap (λ t. t ++ rest) (sym (append_assoc inner (codes "}") (codes ")"))))
+
+if_any_then : (fields : Fields) (parts : Parts) → behind (struct_if_any fields parts) ≡ behind (struct_if_any fields no_parts) ++ behind parts
+unfolding part_texts
+if_any_then no_more parts = refl
+if_any_then (field l level value fields) parts =
+    ap (λ t. t ++ behind parts) (sym (alone (conjoined (struct_text (field_texts (field l level value fields))))))
+
+pub struct_then : (labels : Option (List (List ℕ))) (fields : Fields) (parts : Parts) → value_text (all (struct_part labels fields parts)) ≡ value_text (all (struct_part labels fields no_parts)) ++ behind parts
+unfolding value_text part_texts
+struct_then None fields parts = ap (λ t. t ++ behind parts) (sym (alone (struct_text (field_texts fields))))
+struct_then (Some labels) fields parts =
+    let closed : List ℕ = enclosed (codes "close(") (struct_text (field_texts (inside labels fields))) (codes ")") in
+    ap (λ t. closed ++ t) (if_any_then (outside labels fields) parts) ∙ sym (append_assoc closed (behind (struct_if_any (outside labels fields) no_parts)) (behind parts))
+
+-- ---- lists
+-- the elements of a list, and what ends them
+pub list_ended :
+    (count : ℕ) (value_at : ℕ → Value) (g : Bool)
+    → joined (codes ", ") (element_texts (elements count value_at) ++ rest_texts g) ≡ joined (codes ", ") (element_texts (elements count value_at)) ++ ellipsis_text count g
+list_ended count value_at false =
+    ap (joined (codes ", ")) (append-nil (element_texts (elements count value_at))) ∙ sym (append-nil (joined (codes ", ") (element_texts (elements count value_at))))
+list_ended count value_at true =
+    joined_more (codes ", ") (element_texts (elements count value_at)) (codes "...")
+    ∙ ap (λ b. joined (codes ", ") (element_texts (elements count value_at)) ++ (lead (codes ", ") b ++ codes "...")) (none_before count value_at)
+
+list_told : (least : ℕ) (most : Option ℕ) (value_at : ℕ → Value) → list_text (element_texts (elements least value_at)) (goes_on least most) ++ longest_text least most ≡ value_text (all (list_part least most value_at no_parts))
+unfolding value_text part_texts longest_text
+list_told least None value_at = refl
+list_told least (Some most) value_at = by (nat_eq least most) refl where
+  by :
+      (b : Bool) → nat_eq least most ≡ b
+      → list_text (element_texts (elements least value_at)) (goes_on least (Some most)) ++ longest_text least (Some most) ≡ value_text (all (list_part least (Some most) value_at no_parts))
+  by true e = rw e refl
+  by false e =
+      let tops : List (List ℕ) = element_texts (elements most (λ n. top)) in
+      rw e (ap (λ t. list_text (element_texts (elements least value_at)) true ++ t)
+      (ap (λ ts. conjoined (enclosed (codes "[") (joined (codes ", ") ts) (codes "]"))) (sym (append-nil tops)) ∙ sym (append-nil (conjoined (list_text tops false)))))
+
+pub list_then : (least : ℕ) (most : Option ℕ) (value_at : ℕ → Value) (parts : Parts) → value_text (all (list_part least most value_at parts)) ≡ value_text (all (list_part least most value_at no_parts)) ++ behind parts
+unfolding value_text part_texts
+list_then least None value_at parts = ap (λ t. t ++ behind parts) (sym (alone (list_text (element_texts (elements least value_at)) true)))
+list_then least (Some most) value_at parts = by (nat_eq least most) refl where
+  by :
+      (b : Bool) → nat_eq least most ≡ b
+      → value_text (all (list_part least (Some most) value_at parts)) ≡ value_text (all (list_part least (Some most) value_at no_parts)) ++ behind parts
+  by true e = rw e (ap (λ t. t ++ behind parts) (sym (alone (list_text (element_texts (elements least value_at)) false))))
+  by false e =
+      let short : List ℕ = list_text (element_texts (elements least value_at)) true in
+      let long : List ℕ = conjoined (list_text (element_texts (elements most (λ n. top))) false) in
+      rw e (ap (λ t. short ++ t) (ap (λ t. t ++ behind parts) (sym (alone long))) ∙ sym (append_assoc short (long ++ []) (behind parts)))
+
+-- a list is written
+pub list_written :
+    (least : ℕ) (most : Option ℕ) (value_at : ℕ → Value) (out opened filled ended closed after : List ℕ)
+    → opened ≡ out ++ codes "[" → filled ≡ opened ++ joined (codes ", ") (element_texts (elements least value_at)) → ended ≡ filled ++ ellipsis_text least (goes_on least most)
+    → closed ≡ ended ++ codes "]" → after ≡ closed ++ longest_text least most
+    → after ≡ out ++ value_text (all (list_part least most value_at no_parts))
+list_written least most value_at out opened filled ended closed after o f e c a =
+    let inner : List ℕ = joined (codes ", ") (element_texts (elements least value_at)) in
+    let end : List ℕ = ellipsis_text least (goes_on least most) in
+    let begun : filled ≡ out ++ (codes "[" ++ inner) = f ∙ ap (λ t. t ++ inner) o ∙ append_assoc out (codes "[") inner in
+    let whole : ended ≡ out ++ (codes "[" ++ (inner ++ end)) = e ∙ ap (λ t. t ++ end) begun ∙ append_assoc out (codes "[" ++ inner) end in
+    let bracketed : closed ≡ out ++ (codes "[" ++ ((inner ++ end) ++ codes "]")) = c ∙ ap (λ t. t ++ codes "]") whole ∙ append_assoc out (codes "[" ++ (inner ++ end)) (codes "]") in
+    let told : closed ≡ out ++ list_text (element_texts (elements least value_at)) (goes_on least most) =
+    bracketed ∙ ap (λ t. out ++ (codes "[" ++ (t ++ codes "]"))) (sym (list_ended least value_at (goes_on least most))) in
+    a ∙ ap (λ t. t ++ longest_text least most) told
+    ∙ append_assoc out (list_text (element_texts (elements least value_at)) (goes_on least most)) (longest_text least most)
+    ∙ ap (λ t. out ++ t) (list_told least most value_at)
+
+-- ---- nothing
+-- a value is never told by no part
+pub list_left_behind : (row : Row) (value_at : ℕ → Value) → value_text (all (list_left row value_at (bottom no_parts))) ≡ list_before row value_at ++ codes "_|_"
+unfolding value_text part_texts list_before
+list_left_behind row value_at = by (nat_lt 0 row.least || is_some row.most) where
+  by :
+      (b : Bool)
+      → value_text (all (if b then list_part row.least row.most value_at (bottom no_parts) else bottom no_parts))
+      ≡ (if b then value_text (all (list_part row.least row.most value_at no_parts)) ++ codes " & " else []) ++ codes "_|_"
+  by true =
+      list_then row.least row.most value_at (bottom no_parts)
+      ∙ sym (append_assoc (value_text (all (list_part row.least row.most value_at no_parts))) (codes " & ") (codes "_|_"))
+  by false = refl
+
+-- parts behind others, where there is one
+is_filled : Parts → Bool
+is_filled no_parts = false
+is_filled parts = true
+
+behind_filled : (parts : Parts) → is_filled parts ≡ true → behind parts ≡ codes " & " ++ value_text (all parts)
+unfolding value_text part_texts is_filled
+behind_filled no_parts e = cc
+behind_filled (struct fields parts) e = refl
+behind_filled (close fields parts) e = refl
+behind_filled (list values g parts) e = refl
+behind_filled (bottom parts) e = refl
+
+one_or_two : (b : Bool) (least most : ℕ) (value_at : ℕ → Value) (parts : Parts) → is_filled (if b then list (elements least value_at) false parts else list (elements least value_at) true (list (elements most (λ n. top)) false parts)) ≡ true
+unfolding is_filled
+one_or_two true least most value_at parts = refl
+one_or_two false least most value_at parts = refl
+
+left_filled : (row : Row) (value_at : ℕ → Value) → is_filled (list_left row value_at (bottom no_parts)) ≡ true
+unfolding is_filled
+left_filled row value_at = by (nat_lt 0 row.least || is_some row.most) where
+  part : (most : Option ℕ) → is_filled (list_part row.least most value_at (bottom no_parts)) ≡ true
+  part None = refl
+  part (Some most) = one_or_two (row.least == most) row.least most value_at (bottom no_parts)
+
+  by : (b : Bool) → is_filled (if b then list_part row.least row.most value_at (bottom no_parts) else bottom no_parts) ≡ true
+  by false = refl
+  by true = part row.most
+
+nothing_told : (row : Row) (fields : Fields) (value_at : ℕ → Value) → struct_before row fields ++ (list_before row value_at ++ codes "_|_") ≡ value_text (nothing_value row fields value_at)
+unfolding struct_before
+nothing_told row fields value_at = ap (λ t. struct_before row fields ++ t) (sym (list_left_behind row value_at)) ∙ by (is_some row.labels || has_field fields) where
+  rest : Parts
+  rest = list_left row value_at (bottom no_parts)
+
+  by :
+      (b : Bool)
+      → (if b then value_text (all (struct_part row.labels fields no_parts)) ++ codes " & " else []) ++ value_text (all (list_left row value_at (bottom no_parts)))
+      ≡ value_text (all (if b then struct_part row.labels fields (list_left row value_at (bottom no_parts)) else list_left row value_at (bottom no_parts)))
+  by true =
+      append_assoc (value_text (all (struct_part row.labels fields no_parts))) (codes " & ") (value_text (all (list_left row value_at (bottom no_parts))))
+      ∙ ap (λ t. value_text (all (struct_part row.labels fields no_parts)) ++ t) (sym (behind_filled (list_left row value_at (bottom no_parts)) (left_filled row value_at)))
+      ∙ sym (struct_then row.labels fields (list_left row value_at (bottom no_parts)))
+  by false = refl
+
+pub nothing_written :
+    (row : Row) (fields : Fields) (value_at : ℕ → Value) (out one two after : List ℕ)
+    → one ≡ out ++ struct_before row fields → two ≡ one ++ list_before row value_at → after ≡ two ++ codes "_|_" → after ≡ out ++ value_text (nothing_value row fields value_at)
+nothing_written row fields value_at out one two after a b c =
+    c ∙ ap (λ t. t ++ codes "_|_") (b ∙ ap (λ t. t ++ list_before row value_at) a)
+    ∙ append_assoc (out ++ struct_before row fields) (list_before row value_at) (codes "_|_")
+    ∙ append_assoc out (struct_before row fields) (list_before row value_at ++ codes "_|_")
+    ∙ ap (λ t. out ++ t) (nothing_told row fields value_at)
+
+-- ---- fields whose labels may not stand
+abbrev pub outside_of : Option (List (List ℕ)) → Fields → Fields
+outside_of None fields = no_more
+outside_of (Some labels) fields = outside labels fields
+
+-- what is left of them, where one was written or not
+abbrev pub outside_text : Bool → Fields → List ℕ
+outside_text true fields = behind (struct_if_any fields no_parts)
+outside_text false fields = left_text false fields ++ codes "}"
+
+pub outside_first : (labels : Option (List (List ℕ))) (fields : Fields) → outside_text true (outside_of labels fields) ≡ beside_text labels fields
+unfolding beside_text part_texts
+outside_first None fields = refl
+outside_first (Some labels) fields = refl
+
+pub next_outside :
+    (is_first : Bool) (l : List ℕ) (level : Level) (value : Value) (fields : Fields) (before led after whole : List ℕ)
+    → before ++ outside_text is_first (field l level value fields) ≡ whole
+    → led ≡ before ++ opening is_first → after ≡ led ++ (quoted l ++ (mark_text level ++ value_text value))
+    → after ++ outside_text false fields ≡ whole
+unfolding part_texts field_texts
+next_outside true l level value fields before led after whole h e a =
+    let one : List ℕ = quoted l ++ (mark_text level ++ value_text value) in
+    let rest : List ℕ = left_text false fields in
+    ap (λ t. t ++ (rest ++ codes "}")) (a ∙ ap (λ t. t ++ one) e)
+    ∙ append_assoc (before ++ opening true) one (rest ++ codes "}")
+    ∙ append_assoc before (opening true) (one ++ (rest ++ codes "}"))
+    ∙ ap (λ t. before ++ (opening true ++ t)) (sym (append_assoc one rest (codes "}")))
+    ∙ ap (λ t. before ++ t) (sym (alone (opening true ++ ((one ++ rest) ++ codes "}"))))
+    ∙ h
+next_outside false l level value fields before led after whole h e a =
+    let one : List ℕ = quoted l ++ (mark_text level ++ value_text value) in
+    let rest : List ℕ = left_text false fields in
+    ap (λ t. t ++ (rest ++ codes "}")) (a ∙ ap (λ t. t ++ one) e)
+    ∙ append_assoc (before ++ codes ", ") one (rest ++ codes "}")
+    ∙ append_assoc before (codes ", ") (one ++ (rest ++ codes "}"))
+    ∙ ap (λ t. before ++ (codes ", " ++ t)) (sym (append_assoc one rest (codes "}")))
+    ∙ h
+
+pub outside_more : (labels : Option (List (List ℕ))) (l : List ℕ) (level : Level) (value : Value) (fields : Fields) → allows_label labels l ≡ false → outside_of labels (field l level value fields) ≡ field l level value (outside_of labels fields)
+outside_more None l level value fields e = cc
+outside_more (Some labels) l level value fields e = rw e refl
+
+pub outside_past : (labels : Option (List (List ℕ))) (l : List ℕ) (level : Level) (value : Value) (fields : Fields) → allows_label labels l ≡ true → outside_of labels (field l level value fields) ≡ outside_of labels fields
+outside_past None l level value fields e = refl
+outside_past (Some labels) l level value fields e = rw e refl
+
+none_outside : (labels : Option (List (List ℕ))) → outside_of labels no_more ≡ no_more
+none_outside None = refl
+none_outside (Some labels) = refl
+
+-- all are written, and some was
+pub outside_ended :
+    (is_first : Bool) (labels : Option (List (List ℕ))) (items : List (List ℕ × Tree Row)) (now whole : List ℕ) → is_first ≡ false → items ≡ []
+    → now ++ outside_text is_first (outside_of labels (fields_of items)) ≡ whole → now ++ codes "}" ≡ whole
+unfolding field_texts
+outside_ended is_first labels items now whole e n h =
+    ap (λ fs. now ++ outside_text false fs) (sym (ap (λ is. outside_of labels (fields_of is)) n ∙ none_outside labels)) ∙ ap (λ b. now ++ outside_text b (outside_of labels (fields_of items))) (sym e) ∙ h
+
+-- there was none
+pub outside_absent :
+    (is_first : Bool) (labels : Option (List (List ℕ))) (items : List (List ℕ × Tree Row)) (now whole : List ℕ) → is_first ≡ true → items ≡ []
+    → now ++ outside_text is_first (outside_of labels (fields_of items)) ≡ whole → now ≡ whole
+unfolding part_texts
+outside_absent is_first labels items now whole e n h =
+    sym (append-nil now) ∙ ap (λ fs. now ++ outside_text true fs) (sym (ap (λ is. outside_of labels (fields_of is)) n ∙ none_outside labels))
+    ∙ ap (λ b. now ++ outside_text b (outside_of labels (fields_of items))) (sym e) ∙ h

@@ -1,0 +1,42 @@
+-- What is printed, as trees of expressions apart from any bytes.
+use Rattle.std.specs.Prelude.{ℕ, ℤ, Bool, List, Option}
+use Rattle.cue_row.specs.declared.level.Level.{Level}
+
+-- A term of a disjunction of scalars: `null`; `bool`, or one truth value; `int`, one integer, all up to one, all from one
+-- on, or all from one to another; `string`, one text, or all texts but these.
+pub data Term : Type 0 where
+  null : Term
+  truths : Term
+  truth : Bool → Term
+  integers : Term
+  number : ℤ → Term
+  at_most : ℤ → Term
+  at_least : ℤ → Term
+  between : ℤ → ℤ → Term
+  texts : Term
+  text : List ℕ → Term
+  other_texts : List (List ℕ) → Term
+
+mutual
+  -- anything; a disjunction of scalars, with the terms of its default where one is written; or parts that are unified
+  pub data Value : Type 0 where
+    top : Value
+    scalar : Option (List Term) → List Term → Value
+    all : Parts → Value
+
+  -- a struct literal; one in `close`; a list literal, and whether `...` ends it; or `_|_`: each in front of other parts
+  pub data Parts : Type 0 where
+    no_parts : Parts
+    struct : Fields → Parts → Parts
+    close : Fields → Parts → Parts
+    list : Elements → Bool → Parts → Parts
+    bottom : Parts → Parts
+
+  -- a label, its level and its value, in front of other fields
+  pub data Fields : Type 0 where
+    no_more : Fields
+    field : List ℕ → Level → Value → Fields → Fields
+
+  pub data Elements : Type 0 where
+    no_elements : Elements
+    element : Value → Elements → Elements

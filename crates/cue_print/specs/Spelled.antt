@@ -1,0 +1,113 @@
+-- The text of printed expressions.
+use Rattle.std.specs.Prelude.{ℕ, Bool, true, false, List, [], ◌∷◌, ◌++◌, map, Option, None, Some, codes, if◌then◌else◌}
+use Rattle.std.specs.List.{flat_map}
+use Rattle.std.specs.Fmt.{signed_decimal}
+use Rattle.cue_row.specs.declared.level.Level.{Level}
+use Rattle.cue_row.specs.declared.level.Level.TheVariants.{Optional, Required, Given}
+use Rattle.cue_row.specs.Quoted.{quoted}
+use Rattle.cue_print.specs.Expressions.{Term, null, truths, truth, integers, number, at_most, at_least, between, texts, text, other_texts}
+use Rattle.cue_print.specs.Expressions.{Value, top, scalar, all, Parts, no_parts, struct, close, list, bottom}
+use Rattle.cue_print.specs.Expressions.{Fields, no_more, field, Elements, no_elements, element}
+
+-- the texts, with a separator between each two
+abbrev pub joined : List ℕ → List (List ℕ) → List ℕ
+joined separator [] = []
+joined separator (first ∷ others) = first ++ flat_map (λ other. separator ++ other) others
+
+-- a text between two others
+abbrev pub enclosed : List ℕ → List ℕ → List ℕ → List ℕ
+enclosed before inner after = before ++ (inner ++ after)
+
+-- ---- scalars
+abbrev pub unequal : List ℕ → List ℕ
+unequal t = codes "!=" ++ quoted t
+
+unfoldable pub term_text : Term → List ℕ
+term_text null = codes "null"
+term_text truths = codes "bool"
+term_text (truth false) = codes "false"
+term_text (truth true) = codes "true"
+term_text integers = codes "int"
+term_text (number n) = signed_decimal n
+term_text (at_most n) = codes "<=" ++ signed_decimal n
+term_text (at_least n) = codes ">=" ++ signed_decimal n
+term_text (between m n) = codes ">=" ++ (signed_decimal m ++ (codes " & <=" ++ signed_decimal n))
+term_text texts = codes "string"
+term_text (text t) = quoted t
+term_text (other_texts ts) = joined (codes " & ") (map unequal ts)
+
+-- the disjunction of some terms; that of no term lets nothing stand
+unfoldable pub terms_text : List Term → List ℕ
+terms_text [] = codes "_|_"
+terms_text (term ∷ terms) = joined (codes " | ") (map term_text (term ∷ terms))
+
+-- whether a term has `&`
+abbrev pub is_conjunction : Term → Bool
+is_conjunction (between m n) = true
+is_conjunction (other_texts (first ∷ second ∷ others)) = true
+is_conjunction _ = false
+
+-- whether a disjunction is more than one operand
+abbrev pub is_compound : List Term → Bool
+is_compound [] = false
+is_compound (term ∷ []) = is_conjunction term
+is_compound (first ∷ second ∷ others) = true
+
+-- a disjunction as one operand
+unfoldable pub operand_text : List Term → List ℕ
+operand_text terms = if is_compound terms then enclosed (codes "(") (terms_text terms) (codes ")") else terms_text terms
+
+-- the default, marked and in front of other terms
+unfoldable pub default_text : Option (List Term) → List ℕ
+default_text None = []
+default_text (Some usual) = enclosed (codes "*") (operand_text usual) (codes " | ")
+
+-- ---- structs and lists
+-- how a label of a level is marked
+abbrev pub mark_text : Level → List ℕ
+mark_text Optional = codes "?: "
+mark_text Required = codes "!: "
+mark_text Given = codes ": "
+
+-- a struct literal of some declarations
+abbrev pub struct_text : List (List ℕ) → List ℕ
+struct_text declarations = enclosed (codes "{") (joined (codes ", ") declarations) (codes "}")
+
+-- what ends a list, where longer lists may stand
+abbrev pub rest_texts : Bool → List (List ℕ)
+rest_texts false = []
+rest_texts true = codes "..." ∷ []
+
+-- a list literal of some elements
+abbrev pub list_text : List (List ℕ) → Bool → List ℕ
+list_text elements goes_on = enclosed (codes "[") (joined (codes ", ") (elements ++ rest_texts goes_on)) (codes "]")
+
+unfoldable mutual
+  pub value_text : Value → List ℕ
+  value_text top = codes "_"
+  value_text (scalar usual terms) = default_text usual ++ terms_text terms
+  value_text (all parts) = joined (codes " & ") (part_texts parts)
+
+  pub part_texts : Parts → List (List ℕ)
+  part_texts no_parts = []
+  part_texts (struct fields parts) = struct_text (field_texts fields) ∷ part_texts parts
+  part_texts (close fields parts) = enclosed (codes "close(") (struct_text (field_texts fields)) (codes ")") ∷ part_texts parts
+  part_texts (list elements goes_on parts) = list_text (element_texts elements) goes_on ∷ part_texts parts
+  part_texts (bottom parts) = codes "_|_" ∷ part_texts parts
+
+  pub field_texts : Fields → List (List ℕ)
+  field_texts no_more = []
+  field_texts (field label level value fields) = (quoted label ++ (mark_text level ++ value_text value)) ∷ field_texts fields
+
+  pub element_texts : Elements → List (List ℕ)
+  element_texts no_elements = []
+  element_texts (element value elements) = value_text value ∷ element_texts elements
+
+-- ---- files
+abbrev pub line : List ℕ → List ℕ
+line t = t ++ codes "\n"
+
+-- the file of some declarations, each in a line; without them, `_`
+unfoldable pub file_text : Option Fields → List ℕ
+file_text None = line (value_text top)
+file_text (Some fields) = flat_map line (field_texts fields)

@@ -1,0 +1,14 @@
+//! The canonical text of a table: from a tree of rows to a file of the language.
+#![tactic(auto)]
+
+mod file;
+mod laws;
+mod scalar;
+mod term;
+mod terms;
+mod value;
+mod writer;
+
+pub use cue_lattice::Memory;
+pub use file::print;
+pub use laws::others_are_left;

@@ -1,0 +1,152 @@
+//! The terms of a set of scalars.
+ghost use Rattle.std.specs.Prelude.{◌≡◌, ◌++◌, [], ◌∷◌, map, codes, IfOk, OnOk, string_bytes};
+ghost use Rattle.cue_print.specs.Expressions.{text};
+ghost use Rattle.cue_print.specs.Spelled.{joined, term_text, is_compound, terms_text, operand_text};
+ghost use Rattle.cue_print.specs.Terms.{truth_terms, piece_term, text_terms, terms_of};
+ghost use Rattle.cue_print.specs.TermOf.{term_of};
+
+use crate::term::{Term, is_conjunction, push_term};
+use crate::writer::separate;
+use cue_lattice::{Memory, Text};
+use cue_scalars::ScalarSet;
+use cue_sets::TextSet;
+use std::alloc::Global;
+
+/// The terms of a set: null, truth values, integers upwards, texts by their bytes.
+#[tactic(auto, unfolding(crate::specs::Terms::terms_of))]
+pub(crate) fn terms_of<'a>(alloc: Global, set: &'a ScalarSet) -> Result<Vec<Term<'a>>, Memory>
+    ensures { IfOk result (λ terms. map term_of terms.items ≡ terms_of set.now) }
+{
+    let mut terms = Vec::new(alloc);
+    if set.null {
+        terms.push(Term::Null)?;
+    }
+    add_truths(&mut terms, set.no, set.yes)?;
+    add_pieces(&mut terms, set.ints.pieces())?;
+    add_texts(&mut terms, &set.texts)?;
+    Ok(terms)
+}
+
+/// Adds the truth values, by whether each is in the set.
+fn add_truths(terms: &mut Vec<Term>, no: bool, yes: bool) -> Result<(), Memory>
+    ensures { OnOk result (map term_of terms.new.items
+        ≡ map term_of terms.old.items ++ truth_terms no yes) }
+{
+    match (no, yes) {
+        (false, false) => {}
+        (true, false) => terms.push(Term::Truth(false))?,
+        (false, true) => terms.push(Term::Truth(true))?,
+        (true, true) => terms.push(Term::Truths)?,
+    }
+    Ok(())
+}
+
+/// Adds the pieces of a set of integers.
+fn add_pieces(terms: &mut Vec<Term>, pieces: &[(i64, i64)]) -> Result<(), Memory>
+    ensures { OnOk result (map term_of terms.new.items
+        ≡ map term_of terms.old.items ++ map piece_term pieces.now) }
+{
+    for piece in pieces {
+        terms.push(term_of_piece(*piece))?;
+    }
+    Ok(())
+}
+
+/// The integers from a first to a last one, as a term.
+fn term_of_piece<'a>(piece: (i64, i64)) -> Term<'a>
+    ensures { term_of result ≡ piece_term piece }
+{
+    let (first, last) = piece;
+    if first == i64::MIN && last == i64::MAX {
+        return Term::Integers;
+    }
+    if first == last {
+        return Term::Number(first);
+    }
+    if first == i64::MIN {
+        return Term::AtMost(last);
+    }
+    if last == i64::MAX {
+        return Term::AtLeast(first);
+    }
+    Term::Between(first, last)
+}
+
+/// Adds the terms of a set of texts.
+fn add_texts<'a>(terms: &mut Vec<Term<'a>>, set: &'a TextSet) -> Result<(), Memory>
+    ensures { OnOk result (map term_of terms.new.items
+        ≡ map term_of terms.old.items ++ text_terms set.now) }
+{
+    let (all_but, texts) = set.listed();
+    if !all_but {
+        return add_listed(terms, texts);
+    }
+    if texts.is_empty() {
+        terms.push(Term::Texts)?;
+    } else {
+        terms.push(Term::OtherTexts(texts))?;
+    }
+    Ok(())
+}
+
+/// Adds each text.
+fn add_listed<'a>(terms: &mut Vec<Term<'a>>, texts: &'a [Text]) -> Result<(), Memory>
+    ensures { OnOk result (map term_of terms.new.items
+        ≡ map term_of terms.old.items ++ map text texts.now) }
+{
+    for text in texts {
+        terms.push(Term::Text(text))?;
+    }
+    Ok(())
+}
+
+/// Writes a disjunction. That of no terms lets nothing stand.
+#[tactic(auto, unfolding(crate::specs::Spelled::terms_text))]
+pub(crate) fn push_terms(out: &mut String, terms: &[Term]) -> Result<(), Memory>
+    ensures { OnOk result (string_bytes out.new
+        ≡ string_bytes out.old ++ terms_text (map term_of terms.now)) }
+{
+    if terms.is_empty() {
+        out.push_str("_|_")?;
+        return Ok(());
+    }
+    push_each(out, terms)
+}
+
+/// Writes terms with `|` between them.
+fn push_each(out: &mut String, terms: &[Term]) -> Result<(), Memory>
+    ensures { OnOk result (string_bytes out.new
+        ≡ string_bytes out.old ++ joined (codes " | ") (map term_text (map term_of terms.now))) }
+{
+    for (i, term) in terms.iter().enumerate() {
+        separate(out, " | ", i == 0)?;
+        push_term(out, term)?;
+    }
+    Ok(())
+}
+
+/// Writes a disjunction as one operand: in parentheses, where it has several terms or one with `&`.
+#[tactic(auto, unfolding(crate::specs::Spelled::operand_text))]
+pub(crate) fn push_operand(out: &mut String, terms: &[Term]) -> Result<(), Memory>
+    ensures { OnOk result (string_bytes out.new
+        ≡ string_bytes out.old ++ operand_text (map term_of terms.now)) }
+{
+    if !is_compound(terms) {
+        return push_terms(out, terms);
+    }
+    out.push('(')?;
+    push_terms(out, terms)?;
+    out.push(')')?;
+    Ok(())
+}
+
+/// Whether a disjunction is more than one operand.
+fn is_compound(terms: &[Term]) -> bool
+    ensures { result ≡ is_compound (map term_of terms.now) }
+{
+    match terms {
+        [] => false,
+        [term] => is_conjunction(term),
+        _ => true,
+    }
+}

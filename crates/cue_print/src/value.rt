@@ -1,0 +1,373 @@
+//! What places are printed as.
+ghost use Rattle.std.specs.Prelude.{◌≡◌, ◌++◌, ◌||◌, is_some, nat_lt, codes, OnOk, string_bytes};
+ghost use Rattle.std.specs.Option.{option_map};
+ghost use Rattle.cue_table.specs.Tree.{below, row_of};
+ghost use Rattle.cue_row.specs.Quoted.{quoted};
+ghost use Rattle.cue_print.specs.Expressions.{top, all, no_parts};
+ghost use Rattle.cue_print.specs.Spelled.{joined, mark_text, value_text, field_texts, element_texts};
+ghost use Rattle.cue_print.specs.Printed.{struct_part, list_part, nothing_value, elements, inside, has_field, level_at};
+ghost use Rattle.cue_print.specs.Printed.{value_of, fields_below, element_below};
+ghost use Rattle.cue_print.specs.Writing.{beside_text, struct_before, opening, goes_on, ellipsis_text, longest_text, list_before};
+
+use crate::scalar::push_scalar;
+use crate::writer::separate;
+use cue_lattice::{Memory, Narrow, Text};
+use cue_row::{Level, Row, Step, push_quoted};
+use cue_table::Branch;
+use std::alloc::Global;
+
+/// Writes the value of a place.
+#[cycle(walk)]
+pub(crate) fn push_value(
+    alloc: Global,
+    out: &mut String,
+    branch: &Branch<Row>,
+) -> Result<(), Memory>
+    ensures { OnOk result (string_bytes out.new
+        ≡ string_bytes out.old ++ value_text (value_of branch.now)) }
+{
+    let Some(row) = branch.row() else {
+        out.push_str("_")?;
+        return Ok(());
+    };
+    match (row.struct_ok, row.list_ok) {
+        (true, true) => {
+            out.push_str("_")?;
+            Ok(())
+        }
+        (true, false) => push_struct(alloc, out, row, branch),
+        (false, true) => push_list(alloc, out, row, branch),
+        (false, false) => {
+            row.value.known();
+            if row.value.is_empty() {
+                return push_nothing(alloc, out, row, branch);
+            }
+            push_scalar(alloc, out, row)
+        }
+    }
+}
+
+/// Writes nothing, behind what is left out below it.
+#[cycle(walk)]
+fn push_nothing(
+    alloc: Global,
+    out: &mut String,
+    row: &Row,
+    branch: &Branch<Row>,
+) -> Result<(), Memory>
+    ensures { OnOk result (string_bytes out.new ≡ string_bytes out.old
+        ++ value_text (nothing_value row.now
+        (fields_below (below branch.now)) (element_below (below branch.now)))) }
+{
+    push_struct_before(alloc, out, row, branch)?;
+    push_list_before(alloc, out, row, branch)?;
+    out.push_str("_|_")?;
+    Ok(())
+}
+
+/// Writes a struct in front of other parts, where labels are left out or a label stands below.
+#[cycle(walk)]
+#[tactic(auto, unfolding(crate::specs::Writing::struct_before))]
+fn push_struct_before(
+    alloc: Global,
+    out: &mut String,
+    row: &Row,
+    branch: &Branch<Row>,
+) -> Result<(), Memory>
+    ensures { OnOk result (string_bytes out.new ≡ string_bytes out.old
+        ++ struct_before row.now (fields_below (below branch.now))) }
+{
+    if !has_struct_part(row, branch) {
+        return Ok(());
+    }
+    push_struct(alloc, out, row, branch)?;
+    out.push_str(" & ")?;
+    Ok(())
+}
+
+/// Whether labels are left out below a place, or a label stands there.
+fn has_struct_part(row: &Row, branch: &Branch<Row>) -> bool
+    ensures { result ≡ (is_some row.now.labels || has_field (fields_below (below branch.now))) }
+{
+    if row.labels.listed().is_some() {
+        return true;
+    }
+    has_field(branch)
+}
+
+/// Writes a list in front of other parts, where lengths are left out.
+#[cycle(walk)]
+#[tactic(auto, unfolding(crate::specs::Writing::list_before))]
+fn push_list_before(
+    alloc: Global,
+    out: &mut String,
+    row: &Row,
+    branch: &Branch<Row>,
+) -> Result<(), Memory>
+    ensures { OnOk result (string_bytes out.new ≡ string_bytes out.old
+        ++ list_before row.now (element_below (below branch.now))) }
+{
+    if !has_list_part(row) {
+        return Ok(());
+    }
+    push_list(alloc, out, row, branch)?;
+    out.push_str(" & ")?;
+    Ok(())
+}
+
+/// Whether lengths are left out at a place.
+fn has_list_part(row: &Row) -> bool
+    ensures { result ≡ (nat_lt 0 row.now.least || is_some row.now.most) }
+{
+    row.least > 0 || row.most.is_some()
+}
+
+/// Whether a label stands below a place.
+fn has_field(branch: &Branch<Row>) -> bool
+    ensures { result ≡ has_field (fields_below (below branch.now)) }
+{
+    let mut labels = branch.labels();
+    match labels.next() {
+        None => false,
+        Some(_) => true,
+    }
+}
+
+/// Writes a struct: all fields below, or, where only some labels may stand, a closed struct with a
+/// field for each of them, and the other fields beside it.
+#[cycle(walk)]
+fn push_struct(
+    alloc: Global,
+    out: &mut String,
+    row: &Row,
+    branch: &Branch<Row>,
+) -> Result<(), Memory>
+    ensures { OnOk result (string_bytes out.new ≡ string_bytes out.old
+        ++ value_text (all (struct_part row.now.labels
+        (fields_below (below branch.now)) no_parts))) }
+{
+    match row.labels.listed() {
+        None => {
+            out.push_str("{")?;
+            push_fields(alloc, out, branch)?;
+            out.push_str("}")?;
+            Ok(())
+        }
+        Some(labels) => {
+            out.push_str("close({")?;
+            push_inside(alloc, out, labels, branch)?;
+            out.push_str("})")?;
+            push_outside(alloc, out, row, branch)
+        }
+    }
+}
+
+/// Writes all fields below a place.
+#[cycle(walk)]
+fn push_fields(alloc: Global, out: &mut String, branch: &Branch<Row>) -> Result<(), Memory>
+    ensures { OnOk result (string_bytes out.new ≡ string_bytes out.old
+        ++ joined (codes ", ") (field_texts (fields_below (below branch.now)))) }
+{
+    let mut is_first = true;
+    for (label, field) in branch.labels() {
+        separate(out, ", ", is_first)?;
+        push_field(alloc, out, label, &field)?;
+        is_first = false;
+    }
+    Ok(())
+}
+
+/// Writes a field for each label, an optional one of anything where no row has it.
+#[cycle(walk)]
+fn push_inside(
+    alloc: Global,
+    out: &mut String,
+    labels: &[Text],
+    branch: &Branch<Row>,
+) -> Result<(), Memory>
+    ensures { OnOk result (string_bytes out.new ≡ string_bytes out.old
+        ++ joined (codes ", ") (field_texts (inside labels.now
+        (fields_below (below branch.now))))) }
+{
+    for (i, label) in labels.iter().enumerate() {
+        separate(out, ", ", i == 0)?;
+        match branch.find(&Step::Label(label.copy(alloc)?)) {
+            None => push_free_field(out, label)?,
+            Some(field) => push_field(alloc, out, label.as_str(), &field)?,
+        }
+    }
+    Ok(())
+}
+
+/// Writes a struct of the fields whose labels may not stand, where there are any.
+#[cycle(walk)]
+fn push_outside(
+    alloc: Global,
+    out: &mut String,
+    row: &Row,
+    branch: &Branch<Row>,
+) -> Result<(), Memory>
+    ensures { OnOk result (string_bytes out.new ≡ string_bytes out.old
+        ++ beside_text row.now.labels (fields_below (below branch.now))) }
+{
+    let mut is_first = true;
+    for (label, field) in branch.labels() {
+        if !row.labels.allows(label) {
+            push_opening(out, is_first)?;
+            push_field(alloc, out, label, &field)?;
+            is_first = false;
+        }
+    }
+    if !is_first {
+        out.push_str("}")?;
+    }
+    Ok(())
+}
+
+/// Writes what stands before a field whose label may not stand.
+fn push_opening(out: &mut String, is_first: bool) -> Result<(), Memory>
+    ensures { OnOk result (string_bytes out.new ≡ string_bytes out.old ++ opening is_first) }
+{
+    if is_first {
+        out.push_str(" & {")?;
+    } else {
+        out.push_str(", ")?;
+    }
+    Ok(())
+}
+
+/// Writes the field of a label.
+#[cycle(walk)]
+pub(crate) fn push_field(
+    alloc: Global,
+    out: &mut String,
+    label: &str,
+    field: &Branch<Row>,
+) -> Result<(), Memory>
+    ensures { OnOk result (string_bytes out.new ≡ string_bytes out.old
+        ++ (quoted label.now ++
+        (mark_text (level_at (row_of field.now)) ++ value_text (value_of field.now)))) }
+{
+    push_quoted(out, label)?;
+    push_mark(out, level_of(field.row()))?;
+    push_value(alloc, out, field)
+}
+
+/// Writes an optional field of anything.
+fn push_free_field(out: &mut String, label: &Text) -> Result<(), Memory>
+    ensures { OnOk result (string_bytes out.new
+        ≡ string_bytes out.old ++ (quoted label.now ++ codes "?: _")) }
+{
+    push_quoted(out, label.as_str())?;
+    out.push_str("?: _")?;
+    Ok(())
+}
+
+/// The level of a place.
+fn level_of(row: Option<&Row>) -> Level
+    ensures { result ≡ level_at (option_map (λ row. row.now) row.entry) }
+{
+    match row {
+        None => Level::Optional,
+        Some(row) => row.level,
+    }
+}
+
+/// Writes what marks the label of a level.
+fn push_mark(out: &mut String, level: Level) -> Result<(), Memory>
+    ensures { OnOk result (string_bytes out.new ≡ string_bytes out.old ++ mark_text level) }
+{
+    out.push_str(match level {
+        Level::Optional => "?: ",
+        Level::Required => "!: ",
+        Level::Given => ": ",
+    })?;
+    Ok(())
+}
+
+/// Writes a list: its elements, and what tells its lengths.
+#[cycle(walk)]
+fn push_list(alloc: Global, out: &mut String, row: &Row, branch: &Branch<Row>) -> Result<(), Memory>
+    ensures { OnOk result (string_bytes out.new ≡ string_bytes out.old
+        ++ value_text (all (list_part row.now.least row.now.most
+        (element_below (below branch.now)) no_parts))) }
+{
+    out.push_str("[")?;
+    push_elements(alloc, out, row.least, branch)?;
+    push_ellipsis(out, row.least, goes_on(row.least, row.most))?;
+    out.push_str("]")?;
+    push_longest(out, row.least, row.most)
+}
+
+/// Whether a list may be longer than the least length, or is told in two parts.
+fn goes_on(least: u32, most: Option<u32>) -> bool
+    ensures { result ≡ goes_on least most }
+{
+    match most {
+        None => true,
+        Some(most) => least != most,
+    }
+}
+
+/// Writes what ends the elements of a list, by their number.
+fn push_ellipsis(out: &mut String, count: u32, goes_on: bool) -> Result<(), Memory>
+    ensures { OnOk result (string_bytes out.new
+        ≡ string_bytes out.old ++ ellipsis_text count goes_on) }
+{
+    if goes_on {
+        separate(out, ", ", count == 0)?;
+        out.push_str("...")?;
+    }
+    Ok(())
+}
+
+/// Writes as many elements of a place.
+#[cycle(walk)]
+fn push_elements(
+    alloc: Global,
+    out: &mut String,
+    count: u32,
+    branch: &Branch<Row>,
+) -> Result<(), Memory>
+    ensures { OnOk result (string_bytes out.new ≡ string_bytes out.old
+        ++ joined (codes ", ") (element_texts (elements count
+        (element_below (below branch.now))))) }
+{
+    for number in 0..count {
+        separate(out, ", ", number == 0)?;
+        match branch.find(&Step::Index(number)) {
+            None => out.push_str("_")?,
+            Some(element) => push_value(alloc, out, &element)?,
+        }
+    }
+    Ok(())
+}
+
+/// Writes a list of the greatest length, where that is not the least.
+#[tactic(auto, unfolding(crate::specs::Writing::longest_text))]
+fn push_longest(out: &mut String, least: u32, most: Option<u32>) -> Result<(), Memory>
+    ensures { OnOk result (string_bytes out.new ≡ string_bytes out.old ++ longest_text least most) }
+{
+    let Some(most) = most else {
+        return Ok(());
+    };
+    if least == most {
+        return Ok(());
+    }
+    out.push_str(" & [")?;
+    push_free_elements(out, most)?;
+    out.push_str("]")?;
+    Ok(())
+}
+
+/// Writes as many free elements.
+fn push_free_elements(out: &mut String, count: u32) -> Result<(), Memory>
+    ensures { OnOk result (string_bytes out.new ≡ string_bytes out.old
+        ++ joined (codes ", ") (element_texts (elements count (λ n. top)))) }
+{
+    for number in 0..count {
+        separate(out, ", ", number == 0)?;
+        out.push_str("_")?;
+    }
+    Ok(())
+}
