@@ -15,6 +15,11 @@ pub mod Unified
 pub mod ByPair
 pub mod Own
 pub mod Adding
+pub mod TellingNames
+pub mod TellingFields
+pub mod TellingDepth
+pub mod TellingParts
+pub mod TellingEntries
 pub mod Integers
 pub mod Pairing
 pub mod Example

@@ -6,6 +6,9 @@ pub mod Places
 pub mod Refuses
 pub mod Texts
 pub mod Closing
+pub mod Telling
+pub mod Told
+pub mod TellingLaws
 pub mod Laws
 pub mod Origins
 pub mod Evaluated

@@ -1,12 +1,15 @@
 //! Evaluation: what expressions and texts refuse at each place, and the scalars that a text writes.
 #![tactic(auto)]
 
+mod declared;
 mod laws;
 mod pair;
 mod scalars;
 #[cfg(test)]
 mod tests;
+mod told;
 
+pub use declared::{Asked, Declared};
 pub use laws::{laws_of_closing, laws_of_meaning, laws_of_places, laws_of_validity};
 pub use scalars::{
     bounded, integer_alone, integer_of, named_set, nothing, null_alone, other_integers,

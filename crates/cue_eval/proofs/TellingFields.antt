@@ -1,0 +1,121 @@
+-- What is told of struct literals.
+use Rattle.std.proofs.Common.{◌≡◌, ◌↔◌, ◌⊎◌, inl, inr, ⊎_elim, ℕ, ◌+◌, ◌≤◌, Bool, true, false, not, ◌||◌, Option, Some, None, List, [], ◌∷◌, length, refl, sym, ap, subst, ◌∙◌, arith}
+use Rattle.std.specs.Str.{bytes_eq}
+use Rattle.std.proofs.lemmas.Bool.{false≢true}
+use Rattle.std.proofs.lemmas.Slice.Eq.{bytes_eq-Decides}
+use Rattle.cue_lattice.specs.OneOf.{OneOf}
+use Rattle.cue_lattice.specs.Path as paths
+use Rattle.cue_lattice.specs.Path.{Path, label, index}
+use Rattle.cue_row.specs.Steps.{step_of}
+use Rattle.cue_row.specs.declared.step.Step.{Step}
+use Rattle.cue_sets.specs.Texts.{RefusesText}
+use Rattle.cue_syntax.specs.declared.tree.Label.{Label}
+use Rattle.cue_syntax.specs.declared.tree.Mark.{Mark}
+use Rattle.cue_scope.specs.Core.{Core, struct, close, Members, no_members, member}
+use Rattle.cue_scope.specs.Meaning.{nested}
+use Rattle.cue_table.specs.Depth.{tree_depth}
+use Rattle.cue_table.specs.Form.{IsTable}
+use Rattle.cue_table.specs.Many.{IsOfBranches}
+use Rattle.cue_table.specs.Meet.{IsAdded}
+use Rattle.cue_table.specs.Refuses.{RowRefuses, TableRefuses}
+use Rattle.cue_table.specs.Tree.{Tree, row_at}
+use Rattle.cue_table.proofs.Depth.{row_depth, refusals_depth}
+use Rattle.cue_eval.specs.declared.declared.Declared.{Declared}
+use Rattle.cue_eval.specs.declared.declared.Asked.{Asked}
+use Rattle.cue_eval.specs.declared.declared.Asked.TheVariants.{Stands, Declares}
+use Rattle.cue_eval.specs.declared.told.Whose.{Whose}
+use Rattle.cue_eval.specs.declared.told.Whose.TheVariants.{Own, Used}
+use Rattle.cue_eval.specs.Closing.{AtStruct, OneOfFields}
+use Rattle.cue_eval.specs.Telling.{Tells, IsDeclared, tells}
+use Rattle.cue_eval.specs.Told.{IsTold, IsToldBelow, IsRooted, own_tells, used_tells}
+
+-- what is refused stands at a path that is no longer than the table is deep
+refusing_row : (row : Option Declared) (asked : Asked) → RowRefuses Tells row asked → (r : Declared) × (row ≡ Some r)
+refusing_row None asked h = absurd h
+refusing_row (Some r) asked h = (r, refl)
+
+pub told_depth : (table : Tree Declared) (path : Path) (asked : Asked) → TableRefuses Tells table path asked → length path ≤ tree_depth table
+told_depth table path asked h = let row = refusing_row (row_at table path) asked h in row_depth table path row.0 row.1
+
+-- ---- a struct literal by its fields
+pub fields_told : (whose : Whose) (ms : Members) (given : List (Step × Tree Declared)) (table : Tree Declared)
+    → IsTable Tells IsDeclared table → IsOfBranches Tells given table
+    → ((step : paths.Step) (path : Path) (asked : Asked) → OneOf (λ (one : Step × Tree Declared). (step_of one.0 ≡ step) × TableRefuses Tells one.1 path asked) given
+    ↔ AtStruct ⊥ (OneOfFields (own_tells whose asked) (used_tells whose) ms) (step ∷ path))
+    → IsToldBelow whose ms table
+fields_told whose ms given table form of same = record { form = form; told = by } where
+  by : (path : Path) (asked : Asked) → TableRefuses Tells table path asked ↔ AtStruct ⊥ (OneOfFields (own_tells whose asked) (used_tells whose) ms) path
+  by [] asked = (λ h. of.root asked h, λ h. absurd h)
+  by (step ∷ path) asked =
+      let below = of.below step path asked in
+      let given = same step path asked in
+      (λ h. given.0 (below.0 h), λ h. below.1 (given.1 h))
+
+-- of the literals that are used, nothing stands at the place itself
+pub used_told : (ms : Members) (table : Tree Declared) → IsToldBelow Used ms table → IsTold Used (struct ms) table
+used_told ms table told = record { form = told.form; told = by } where
+  by : (path : Path) (asked : Asked) → TableRefuses Tells table path asked ↔ AtStruct ⊥ (OneOfFields (own_tells Used asked) (used_tells Used) ms) path
+  by path asked = told.told path asked
+
+-- and of its own the literal itself
+pub own_told : (ms : Members) (table all : Tree Declared) (row : Declared) → IsToldBelow Own ms table → ((asked : Asked) → Tells row asked ↔ (tells asked ms ≡ true)) → IsRooted table row all → IsTold Own (struct ms) all
+own_told ms table all row told here rooted = record { form = rooted.form; told = by } where
+  by : (path : Path) (asked : Asked) → TableRefuses Tells all path asked ↔ AtStruct (tells asked ms ≡ true) (OneOfFields (own_tells Own asked) (used_tells Own) ms) path
+  by [] asked =
+      let added = rooted.added [] asked in (
+        λ h. ⊎_elim (λ o. absurd ((told.told [] asked).0 o)) (λ r. (here asked).0 r.1) (added.0 h),
+        λ h. added.1 (inr (refl, (here asked).1 h)),
+      )
+  by (label l ∷ path) asked =
+      let added = rooted.added (label l ∷ path) asked in (
+        λ h. ⊎_elim (λ o. (told.told (label l ∷ path) asked).0 o) (λ r. let no : ⊥ = cc (r.0) in absurd no) (added.0 h),
+        λ h. added.1 (inl ((told.told (label l ∷ path) asked).1 h)),
+      )
+  by (index i ∷ path) asked =
+      let added = rooted.added (index i ∷ path) asked in (
+        λ h. ⊎_elim (λ o. (told.told (index i ∷ path) asked).0 o) (λ r. let no : ⊥ = cc (r.0) in absurd no) (added.0 h),
+        λ h. absurd h,
+      )
+
+-- ---- a struct literal of one declaration
+same_step : (k l : List ℕ) (step : paths.Step) → step ≡ label k → step ≡ label l → k ≡ l
+same_step k l step e f = cc
+
+pub one_field_told : (whose : Whose) (k : List ℕ) (mark : Mark) (c : Core) (step : Step) (below table : Tree Declared) → step_of step ≡ label k → IsTold whose c below
+    → IsTable Tells IsDeclared table → IsOfBranches Tells ((step, below) ∷ []) table → IsToldBelow whose (member k mark c no_members) table
+one_field_told whose k mark c step below table is told form of = fields_told whose (member k mark c no_members) ((step, below) ∷ []) table form of same where
+  same : (next : paths.Step) (path : Path) (asked : Asked) → OneOf (λ (one : Step × Tree Declared). (step_of one.0 ≡ next) × TableRefuses Tells one.1 path asked) ((step, below) ∷ [])
+      ↔ AtStruct ⊥ (OneOfFields (own_tells whose asked) (used_tells whose) (member k mark c no_members)) (next ∷ path)
+  same (label l) path asked = (
+    λ h. ⊎_elim (λ g. inl (same_step k l (step_of step) is g.0, (told.told path asked).0 g.1)) (λ n. absurd n) h,
+    λ h. ⊎_elim (λ g. inl (is ∙ ap label g.0, (told.told path asked).1 g.1)) (λ n. absurd n) h,
+  )
+  same (index i) path asked = (λ h. ⊎_elim (λ g. let e : label k ≡ index i = sym is ∙ g.0 in let no : ⊥ = cc in no) (λ n. n) h, λ h. absurd h)
+
+not_listed : (b : Bool) → (not (b || false) ≡ false) ↔ ((b || false) ≡ true)
+not_listed true = (λ h. refl, λ h. refl)
+not_listed false = (λ h. absurd (false≢true (sym h)), λ h. absurd (false≢true h))
+
+pub one_declared : (k : List ℕ) (mark : Mark) (c : Core) (row : Declared) → row.stands ≡ true → row.undeclared ≡ (true, k ∷ []) → (asked : Asked) → Tells row asked ↔ (tells asked (member k mark c no_members) ≡ true)
+one_declared k mark c row s u Stands = (λ h. refl, λ h. s)
+one_declared k mark c row s u (Declares l) = subst (λ z. RefusesText z l ↔ ((bytes_eq k l || false) ≡ true)) (sym u) (not_listed (bytes_eq k l))
+
+pub one_depth : (step : Step) (below table : Tree Declared) → IsTable Tells IsDeclared table → IsOfBranches Tells ((step, below) ∷ []) table → tree_depth table ≤ tree_depth below + 1
+one_depth step below table form of = refusals_depth Tells IsDeclared table (tree_depth below + 1) form by where
+  by : (path : Path) (asked : Asked) → TableRefuses Tells table path asked → length path ≤ tree_depth below + 1
+  by [] asked h = omega arith
+  by (next ∷ path) asked h = ⊎_elim (λ g. let d = told_depth below path asked g.1 in omega arith) (λ n. absurd n) ((of.below next path asked).0 h)
+
+pub rooted_depth : (table : Tree Declared) (row : Declared) (all : Tree Declared) (n : ℕ) → IsRooted table row all → tree_depth table ≤ n → tree_depth all ≤ n
+rooted_depth table row all n rooted h = refusals_depth Tells IsDeclared all n rooted.form by where
+  by : (path : Path) (asked : Asked) → TableRefuses Tells all path asked → length path ≤ n
+  by path asked r = ⊎_elim (λ g. let d = told_depth table path asked g in omega arith) (λ g. let e = ap length g.0 in omega arith) ((rooted.added path asked).0 r)
+
+-- no chain of labels
+pub no_chain : (whose : Whose) (chain : List Label) (c : Core) (table : Tree Declared) → length chain ≡ 0 → IsTold whose c table → IsTold whose (nested chain c) table
+no_chain whose [] c table e h = h
+no_chain whose (l ∷ chain) c table e h = let no : ⊥ = omega (arith, e) in absurd no
+
+-- what is told of a struct literal, is told of it in `close` too
+pub close_told : (whose : Whose) (ms : Members) (table : Tree Declared) → IsTold whose (struct ms) table → IsTold whose (close ms) table
+close_told whose ms table t = record { form = t.form; told = t.told }

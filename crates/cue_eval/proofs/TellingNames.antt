@@ -1,0 +1,99 @@
+-- What is told of names.
+use Rattle.std.proofs.Common.{◌≡◌, ◌↔◌, inl, ℕ, zero, suc, Bool, true, false, cond, Option, None, Some, List, [], ◌∷◌, length, codes, refl, sym, ap, subst, ◌∙◌}
+use Rattle.std.specs.List.{list_any}
+use Rattle.std.specs.Option.{option_map_or}
+use Rattle.std.specs.Prelude.{slice_get}
+use Rattle.std.specs.Str.{bytes_eq}
+use Rattle.std.proofs.lemmas.Bool.{false≢true}
+use Rattle.cue_lattice.specs.Path.{Path}
+use Rattle.cue_scope.specs.Core.{Core, null, truth, named, top, bottom, closed}
+use Rattle.cue_scope.specs.declared.named.Named.{Named}
+use Rattle.cue_scope.specs.Definitions.{Definition}
+use Rattle.cue_scope.specs.Meaning.{meaning, meaning_within, meant_use, meant_word}
+use Rattle.cue_scope.specs.Named.{named_of}
+use Rattle.cue_table.specs.Tree.{Tree, empty}
+use Rattle.cue_table.specs.Refuses.{TableRefuses}
+use Rattle.cue_eval.specs.declared.declared.Declared.{Declared}
+use Rattle.cue_eval.specs.declared.declared.Asked.{Asked}
+use Rattle.cue_eval.specs.declared.told.Whose.{Whose}
+use Rattle.cue_eval.specs.declared.told.Whose.TheVariants.{Own, Used}
+use Rattle.cue_eval.specs.Literals.{literals, has_dots}
+use Rattle.cue_eval.specs.Telling.{Tells}
+use Rattle.cue_eval.specs.Told.{ToldOf, IsTold, AreDots}
+
+-- the empty table refuses nothing
+pub empty_tells : (path : Path) (asked : Asked) → ¬ TableRefuses Tells empty path asked
+empty_tells [] asked h = h
+empty_tells (step ∷ path) asked h = h
+
+TellsNone : Whose → Core → Type 0
+TellsNone whose c = (path : Path) (asked : Asked) → ¬ ToldOf whose c path asked
+
+pub nothing_told : (whose : Whose) (c : Core) → ((path : Path) (asked : Asked) → ¬ ToldOf whose c path asked) → IsTold whose c empty
+nothing_told whose c h = record { form = (tt, tt); told = λ path asked. (λ r. absurd (empty_tells path asked r), λ t. absurd (h path asked t)) }
+
+one_of_two : (whose : Whose) (b : Bool) (x y : Core) → TellsNone whose x → TellsNone whose y → TellsNone whose (cond b x y)
+one_of_two whose true x y p q = p
+one_of_two whose false x y p q = q
+
+set_or_bottom : (whose : Whose) (o : Option Named) → TellsNone whose (option_map_or named o bottom)
+unfolding TellsNone
+set_or_bottom whose None path asked h = h
+set_or_bottom whose (Some n) path asked h = h
+
+-- of names of the language nothing is told
+pub word_told : (whose : Whose) (t : List ℕ) → IsTold whose (meant_word t) empty
+unfolding TellsNone
+word_told whose t =
+    nothing_told whose (meant_word t) (one_of_two whose (bytes_eq t (codes "true")) (truth true) _ (λ path asked h. h)
+    (one_of_two whose (bytes_eq t (codes "false")) (truth false) _ (λ path asked h. h)
+    (one_of_two whose (bytes_eq t (codes "null")) null _ (λ path asked h. h) (set_or_bottom whose (named_of t)))))
+
+pub hidden_told : (whose : Whose) (t : List ℕ) → IsTold whose (cond (bytes_eq t (codes "_")) top bottom) empty
+unfolding TellsNone
+hidden_told whose t = nothing_told whose _ (one_of_two whose (bytes_eq t (codes "_")) top bottom (λ path asked h. h) (λ path asked h. h))
+
+-- a use of a definition writes no literal of its own
+use_own : (ds : List Definition) (f : ℕ → Core) (o : Option Definition) → TellsNone Own (meant_use ds f o)
+unfolding TellsNone
+use_own ds f None path asked h = h
+use_own ds f (Some d) path asked h = h
+
+meaning_own : (n : ℕ) (ds : List Definition) (i : ℕ) → TellsNone Own (meaning_within n ds i)
+unfolding meaning_within TellsNone
+meaning_own zero ds i path asked h = h
+meaning_own (suc n) ds i path asked h = use_own ds (meaning_within n ds) (slice_get ds i) path asked h
+
+number_own : (ds : List Definition) (o : Option ℕ) → TellsNone Own (option_map_or (meaning ds) o bottom)
+unfolding TellsNone
+number_own ds None path asked h = h
+number_own ds (Some i) path asked h = meaning_own (length ds) ds i path asked h
+
+pub use_told_own : (ds : List Definition) (o : Option ℕ) → IsTold Own (option_map_or (meaning ds) o bottom) empty
+unfolding TellsNone
+use_told_own ds o = nothing_told Own _ (number_own ds o)
+
+-- and the literals in it are those that are used
+use_used : (ds : List Definition) (f : ℕ → Core) (o : Option Definition) (path : Path) (asked : Asked) → (list_any has_dots (literals (meant_use ds f o) path) ≡ true) ↔ ToldOf Used (meant_use ds f o) path asked
+use_used ds f None path asked = (λ h. absurd (false≢true h), λ h. absurd h)
+use_used ds f (Some d) path asked = (λ h. h, λ h. h)
+
+meaning_used : (n : ℕ) (ds : List Definition) (i : ℕ) (path : Path) (asked : Asked) → (list_any has_dots (literals (meaning_within n ds i) path) ≡ true) ↔ ToldOf Used (meaning_within n ds i) path asked
+unfolding meaning_within
+meaning_used zero ds i path asked = (λ h. absurd (false≢true h), λ h. absurd h)
+meaning_used (suc n) ds i path asked = use_used ds (meaning_within n ds) (slice_get ds i) path asked
+
+dots_told : (ds : List Definition) (i : ℕ) (table : Tree Declared) → AreDots (meaning ds i) table → IsTold Used (meaning ds i) table
+dots_told ds i table dots = record {
+  form = dots.form;
+  told = λ path asked.
+      let same = meaning_used (length ds) ds i path asked in
+      let here = dots.told path asked in
+      (λ r. same.0 (here.0 r), λ t. here.1 (same.1 t));
+}
+
+pub use_told : (ds : List Definition) (o : Option ℕ) (i : ℕ) (table : Tree Declared) → Some i ≡ o → AreDots (meaning ds i) table → IsTold Used (option_map_or (meaning ds) o bottom) table
+use_told ds o i table is dots = subst (λ z. IsTold Used (option_map_or (meaning ds) z bottom) table) is (dots_told ds i table dots)
+
+pub unknown_told : (ds : List Definition) (o : Option ℕ) → o ≡ None → IsTold Used (option_map_or (meaning ds) o bottom) empty
+unknown_told ds o is = subst (λ z. IsTold Used (option_map_or (meaning ds) z bottom) empty) (sym is) (nothing_told Used bottom (λ path asked h. h))

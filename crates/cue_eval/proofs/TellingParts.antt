@@ -1,0 +1,201 @@
+-- What is told of the parts of an expression, one after the other.
+use Rattle.std.proofs.Common.{◌≡◌, ◌↔◌, ◌⊎◌, inl, inr, ⊎_elim, ℕ, zero, suc, ◌+◌, ◌≤◌, ◌<◌, Bool, true, false, List, [], ◌∷◌, ◌++◌, All, length, drop, get_or, refl, sym, ap, subst, ◌∙◌, arith}
+use Rattle.std.proofs.Common.{rules, Result, Ok, Err, IfOk}
+use Rattle.std.proofs.lemmas.List.{drop_all}
+use Rattle.std.proofs.lemmas.List.Elements.{All-append, All-nil}
+use Rattle.cue_lattice.specs.OneOf.{OneOf}
+use Rattle.cue_lattice.specs.Limits.{step_limit}
+use Rattle.cue_lattice.specs.Path as paths
+use Rattle.cue_lattice.specs.Path.{Path, label, index}
+use Rattle.cue_lattice.proofs.OneOf.{one_of-push}
+use Rattle.cue_row.specs.Steps.{step_of}
+use Rattle.cue_row.specs.declared.step.Step.{Step}
+use Rattle.cue_sets.specs.Texts.{RefusesText}
+use Rattle.cue_syntax.specs.declared.tree.Expr.{Expr}
+use Rattle.cue_syntax.specs.declared.tree.Declaration.{Declaration}
+use Rattle.cue_syntax.specs.Syntax.{expression, elements, entries}
+use Rattle.cue_scope.specs.Definitions.{Definition}
+use Rattle.cue_scope.specs.Kept.{all_of}
+use Rattle.cue_scope.specs.Uses.{uses, uses_of_elements}
+use Rattle.cue_scope.proofs.Nodes.{in_append_left, in_append_right}
+use Rattle.cue_scope.proofs.Walking.{at_hand}
+use Rattle.cue_scope.specs.Core.{Core, conjunction, list}
+use Rattle.cue_scope.specs.Limits.{size_of_cores}
+use Rattle.cue_scope.specs.Meaning.{meant_members}
+use Rattle.cue_table.specs.Depth.{tree_depth}
+use Rattle.cue_table.specs.Form.{IsTable}
+use Rattle.cue_table.specs.Many.{IsOfBranches, IsUnified}
+use Rattle.cue_table.specs.Refuses.{TableRefuses}
+use Rattle.cue_table.specs.Tree.{Tree}
+use Rattle.cue_eval.specs.declared.declared.Declared.{Declared}
+use Rattle.cue_eval.specs.declared.declared.Asked.{Asked}
+use Rattle.cue_eval.specs.declared.declared.Asked.TheVariants.{Stands, Declares}
+use Rattle.cue_eval.specs.declared.told.Whose.{Whose}
+use Rattle.cue_eval.specs.declared.told.Sight.{Sight}
+use Rattle.cue_eval.specs.Closing.{AtStruct, AtList, OneOfParts, OneOfFields, OneOfElements}
+use Rattle.cue_eval.specs.Telling.{Tells, IsDeclared, tells}
+use Rattle.cue_eval.specs.Told.{IsTold, AreKnown, IsKnown, means, ArePartsKnown, AreElementsKnown, AreMembersKnown, mean_elements, mean_members, own_tells, used_tells}
+use Rattle.cue_eval.proofs.TellingDepth.{told_flat, some_size}
+
+-- of these the part so far, and what is left
+abbrev pub IsSplit : Type 0 → Type 0 → Type 0 → Type 0
+IsSplit all so_far left = all ↔ (so_far ⊎ left)
+
+pub record PartsTold (self : Sight) (whose : Whose) (tables : List (Tree Declared)) (all left : List Expr) : Type 0 where
+  pub known : ArePartsKnown self (elements left)
+  pub told : (path : Path) (asked : Asked) → IsSplit (OneOfParts (own_tells whose asked) (used_tells whose) (mean_elements self (elements all)) path)
+      (OneOf (λ (t : Tree Declared). TableRefuses Tells t path asked) tables) (OneOfParts (own_tells whose asked) (used_tells whose) (mean_elements self (elements left)) path)
+
+abbrev pub BranchesTell : List (Step × Tree Declared) → paths.Step → Path → Asked → Type 0
+BranchesTell branches step path asked = OneOf (λ (one : Step × Tree Declared). (step_of one.0 ≡ step) × TableRefuses Tells one.1 path asked) branches
+
+abbrev pub AreFlat : List (Step × Tree Declared) → Type 0
+AreFlat branches = All (λ (one : Step × Tree Declared). tree_depth one.1 < step_limit) branches
+
+-- those that are left begin at this index
+abbrev pub LeftElements : Whose → Asked → Sight → ℕ → List Expr → ℕ → Path → Type 0
+LeftElements whose asked self at left i path = (j : ℕ) × (i ≡ at + j) × OneOfElements (own_tells whose asked) (used_tells whose) (mean_elements self (elements left)) j path
+
+pub record ElementsTold (self : Sight) (whose : Whose) (branches : List (Step × Tree Declared)) (at : ℕ) (all left : List Expr) : Type 0 where
+  pub known : AreElementsKnown self (elements left)
+  pub few : at + size_of_cores (mean_elements self (elements left)) ≤ 65536
+  pub flat : AreFlat branches
+  pub told : (step : paths.Step) (path : Path) (asked : Asked) → IsSplit (AtList (OneOfElements (own_tells whose asked) (used_tells whose) (mean_elements self (elements all))) (step ∷ path))
+      (BranchesTell branches step path asked) (AtList (LeftElements whose asked self at left) (step ∷ path))
+
+pub record FieldsTold (self : Sight) (whose : Whose) (branches : List (Step × Tree Declared)) (all left : List Declaration) : Type 0 where
+  pub known : AreMembersKnown self (entries left)
+  pub flat : AreFlat branches
+  pub told : (step : paths.Step) (path : Path) (asked : Asked) → IsSplit (AtStruct ⊥ (OneOfFields (own_tells whose asked) (used_tells whose) (mean_members self (entries all))) (step ∷ path))
+      (BranchesTell branches step path asked) (AtStruct ⊥ (OneOfFields (own_tells whose asked) (used_tells whose) (mean_members self (entries left))) (step ∷ path))
+
+-- labels that declarations declare
+abbrev pub LabelsTold : List (Bool × List (List ℕ)) → List Declaration → List Declaration → Type 0
+LabelsTold sets all left = (ds : List Definition) (meaning : ℕ → Core) (l : List ℕ) → IsSplit (tells (Declares l) (meant_members ds meaning (entries all)) ≡ true)
+    (OneOf (λ (set : Bool × List (List ℕ)). RefusesText set l) sets) (tells (Declares l) (meant_members ds meaning (entries left)) ≡ true)
+
+-- ---- what is known, of a part of what is named
+pub known_part : (self : Sight) (us vs : List ℕ) (m n d e : ℕ) → AreKnown self (us ++ vs) n e → m ≤ n → d ≤ e → AreKnown self us m d
+known_part self us vs m n d e known small flat = record { used = λ i there. known.used i (in_append_left us vs i there); small = let a = known.small in omega arith; flat = let a = known.flat in omega arith }
+
+pub known_rest : (self : Sight) (us vs : List ℕ) (m n d e : ℕ) → AreKnown self (us ++ vs) n e → m ≤ n → d ≤ e → AreKnown self vs m d
+known_rest self us vs m n d e known small flat = record { used = λ i there. known.used i (in_append_right us vs i there); small = let a = known.small in omega arith; flat = let a = known.flat in omega arith }
+
+pub known_same : (self : Sight) (us : List ℕ) (m n d e : ℕ) → AreKnown self us n e → m ≤ n → d ≤ e → AreKnown self us m d
+known_same self us m n d e known small flat = record { used = known.used; small = let a = known.small in omega arith; flat = let a = known.flat in omega arith }
+
+-- ---- what was left is now part of what is told
+pub split_more : (all so left more item rest : Type 0) → IsSplit all so left → left ↔ (item ⊎ rest) → more ↔ (so ⊎ item) → IsSplit all more rest
+split_more all so left more item rest w l m = (
+  λ h. ⊎_elim (λ s. inl (m.1 (inl s))) (λ r. ⊎_elim (λ i. inl (m.1 (inr i))) inr (l.0 r)) (w.0 h),
+  λ h. ⊎_elim (λ s. ⊎_elim (λ t. w.1 (inl t)) (λ i. w.1 (inr (l.1 (inl i)))) (m.0 s)) (λ r. w.1 (inr (l.1 (inr r)))) h,
+)
+
+pub split_all : (all so left : Type 0) → IsSplit all so left → ¬ left → so ↔ all
+split_all all so left w n = (λ h. w.1 (inl h), λ h. ⊎_elim (λ s. s) (λ r. absurd (n r)) (w.0 h))
+
+pub same_sides : (a b c d : Type 0) → a ↔ b → c ↔ d → (a ⊎ c) ↔ (b ⊎ d)
+same_sides a b c d p q = (⊎_elim (λ h. inl (p.0 h)) (λ h. inr (q.0 h)), ⊎_elim (λ h. inl (p.1 h)) (λ h. inr (q.1 h)))
+
+pub itself : (a : Type 0) → a ↔ a
+itself a = (λ h. h, λ h. h)
+
+-- two facts of a result
+pub if_both : {T E : Type 0} (result : Result T E) (P Q R : T → Type 0) → ((x : T) → P x → Q x → R x) → IfOk result P → IfOk result Q → IfOk result R
+if_both (Ok x) P Q R f p q = f x p q
+if_both (Err e) P Q R f p q = tt
+
+-- ---- the parts of a conjunction
+pub part_next : (self : Sight) (whose : Whose) (tables : List (Tree Declared)) (all : List Expr) (i : ℕ) (e : Expr) → PartsTold self whose tables all (drop i all) → i < length all → e ≡ get_or all i e
+    → PartsTold self whose tables all (e ∷ drop (i + 1) all)
+part_next self whose tables all i e w h is = subst (λ z. PartsTold self whose tables all z) (at_hand all i e h is) w
+
+pub part_known : (self : Sight) (whose : Whose) (tables : List (Tree Declared)) (all rest : List Expr) (e : Expr) → PartsTold self whose tables all (e ∷ rest) → IsKnown self (expression e)
+part_known self whose tables all rest e w = known_part self _ (uses_of_elements (all_of self.definitions.now) (elements rest)) _ _ _ _ w.known (omega arith) (omega arith)
+
+pub part_more : (self : Sight) (whose : Whose) (tables : List (Tree Declared)) (all rest : List Expr) (e : Expr) (t : Tree Declared) → PartsTold self whose tables all (e ∷ rest) → IsTold whose (means self (expression e)) t
+    → PartsTold self whose (tables ++ t ∷ []) all rest
+part_more self whose tables all rest e t w told = record {
+  known = known_rest self (uses (all_of self.definitions.now) (expression e)) _ _ _ _ _ w.known (omega arith) (omega arith);
+  told = λ path asked. split_more _ _ _ _ (TableRefuses Tells t path asked) _ (w.told path asked)
+      (same_sides _ _ _ _ (let s = told.told path asked in (s.1, s.0)) (itself _))
+      (one_of-push (λ (t : Tree Declared). TableRefuses Tells t path asked) tables t);
+}
+
+pub parts_all : (self : Sight) (whose : Whose) (tables : List (Tree Declared)) (all : List Expr) (i : ℕ) (met : Tree Declared) → PartsTold self whose tables all (drop i all) → length all ≤ i
+    → IsTable Tells IsDeclared met → IsUnified Tells tables met → IsTold whose (conjunction (mean_elements self (elements all))) met
+parts_all self whose tables all i met w h form unified = record { form = form; told = by } where
+  end : PartsTold self whose tables all []
+  end = subst (λ z. PartsTold self whose tables all z) (drop_all i all h) w
+
+  by : (path : Path) (asked : Asked) → TableRefuses Tells met path asked ↔ OneOfParts (own_tells whose asked) (used_tells whose) (mean_elements self (elements all)) path
+  by path asked =
+      let u = unified path asked in
+      let s = split_all _ _ _ (end.told path asked) (λ n. n) in
+      (λ r. s.0 (u.0 r), λ r. u.1 (s.1 r))
+
+-- ---- the elements of a list
+pub element_next : (self : Sight) (whose : Whose) (branches : List (Step × Tree Declared)) (at : ℕ) (all : List Expr) (i : ℕ) (e : Expr) → ElementsTold self whose branches at all (drop i all) → i < length all → e ≡ get_or all i e
+    → ElementsTold self whose branches at all (e ∷ drop (i + 1) all)
+element_next self whose branches at all i e w h is = subst (λ z. ElementsTold self whose branches at all z) (at_hand all i e h is) w
+
+pub element_known : (self : Sight) (whose : Whose) (branches : List (Step × Tree Declared)) (at : ℕ) (all rest : List Expr) (e : Expr) → ElementsTold self whose branches at all (e ∷ rest) → IsKnown self (expression e)
+element_known self whose branches at all rest e w = known_part self _ (uses_of_elements (all_of self.definitions.now) (elements rest)) _ _ _ _ w.known (omega arith) (omega arith)
+
+pub flat_more : (branches : List (Step × Tree Declared)) (one : Step × Tree Declared) → AreFlat branches → tree_depth one.1 < step_limit → AreFlat (branches ++ one ∷ [])
+flat_more branches one flat h = All-append (λ (one : Step × Tree Declared). tree_depth one.1 < step_limit) branches (one ∷ []) flat (All-one one h) where
+  All-one : (one : Step × Tree Declared) → tree_depth one.1 < step_limit → AreFlat (one ∷ [])
+  All-one one h = search (rules, h)
+
+pub element_more : (self : Sight) (whose : Whose) (branches : List (Step × Tree Declared)) (at : ℕ) (all rest : List Expr) (e : Expr) (step : Step) (t : Tree Declared) → ElementsTold self whose branches at all (e ∷ rest)
+    → step_of step ≡ index at → IsTold whose (means self (expression e)) t → ElementsTold self whose (branches ++ (step, t) ∷ []) (at + 1) all rest
+element_more self whose branches at all rest e step t w is told = record {
+  known = known_rest self (uses (all_of self.definitions.now) (expression e)) _ _ _ _ _ w.known (omega arith) (omega arith);
+  few = let a = w.few in let s = some_size (means self (expression e)) in omega (arith, a, s);
+  flat = flat_more branches (step, t) w.flat (let d = told_flat whose (means self (expression e)) t told in let k = w.known.flat in omega (arith, d, k));
+  told = by;
+} where
+  Elements : Asked → List Expr → ℕ → Path → Type 0
+  Elements asked left = LeftElements whose asked self at left
+
+  here : (i : ℕ) (path : Path) (asked : Asked) → LeftElements whose asked self at (e ∷ rest) i path ↔ (((step_of step ≡ index i) × TableRefuses Tells t path asked) ⊎ LeftElements whose asked self (at + 1) rest i path)
+  here i path asked = (to, from) where
+    to : LeftElements whose asked self at (e ∷ rest) i path → ((step_of step ≡ index i) × TableRefuses Tells t path asked) ⊎ LeftElements whose asked self (at + 1) rest i path
+    to (zero, same, h) = inl (is ∙ ap index (omega (arith, same)), (told.told path asked).1 h)
+    to (suc j, same, h) = inr (j, omega (arith, same), h)
+
+    from : ((step_of step ≡ index i) × TableRefuses Tells t path asked) ⊎ LeftElements whose asked self (at + 1) rest i path → LeftElements whose asked self at (e ∷ rest) i path
+    from (inl (same, h)) = let eq : index at ≡ index i = sym is ∙ same in let n : at ≡ i = cc in (0, omega (arith, n), (told.told path asked).0 h)
+    from (inr (j, same, h)) = (suc j, omega (arith, same), h)
+
+  by : (next : paths.Step) (path : Path) (asked : Asked) → IsSplit (AtList (OneOfElements (own_tells whose asked) (used_tells whose) (mean_elements self (elements all))) (next ∷ path))
+      (BranchesTell (branches ++ (step, t) ∷ []) next path asked) (AtList (LeftElements whose asked self (at + 1) rest) (next ∷ path))
+  by (index i) path asked = split_more _ _ _ _ ((step_of step ≡ index i) × TableRefuses Tells t path asked) _ (w.told (index i) path asked) (here i path asked)
+      (one_of-push (λ (one : Step × Tree Declared). (step_of one.0 ≡ index i) × TableRefuses Tells one.1 path asked) branches (step, t))
+  by (label l) path asked = split_more _ _ _ _ ((step_of step ≡ label l) × TableRefuses Tells t path asked) _ (w.told (label l) path asked)
+      (λ h. absurd h, λ h. ⊎_elim (λ g. let no : index at ≡ label l = sym is ∙ g.0 in let n : ⊥ = cc in n) (λ n. n) h)
+      (one_of-push (λ (one : Step × Tree Declared). (step_of one.0 ≡ label l) × TableRefuses Tells one.1 path asked) branches (step, t))
+
+no_elements_left : (whose : Whose) (asked : Asked) (self : Sight) (at : ℕ) (step : paths.Step) (path : Path) → ¬ AtList (LeftElements whose asked self at []) (step ∷ path)
+no_elements_left whose asked self at (label l) path h = h
+no_elements_left whose asked self at (index i) path h = h.2
+
+pub elements_all : (self : Sight) (whose : Whose) (branches : List (Step × Tree Declared)) (at : ℕ) (all : List Expr) (i : ℕ) (goes_on : Bool) (table : Tree Declared) → ElementsTold self whose branches at all (drop i all) → length all ≤ i
+    → IsTable Tells IsDeclared table → IsOfBranches Tells branches table → IsTold whose (list (mean_elements self (elements all)) goes_on) table
+elements_all self whose branches at all i goes_on table w h form of = record { form = form; told = by } where
+  end : ElementsTold self whose branches at all []
+  end = subst (λ z. ElementsTold self whose branches at all z) (drop_all i all h) w
+
+  by : (path : Path) (asked : Asked) → TableRefuses Tells table path asked ↔ AtList (OneOfElements (own_tells whose asked) (used_tells whose) (mean_elements self (elements all))) path
+  by [] asked = (λ r. of.root asked r, λ r. absurd r)
+  by (step ∷ path) asked =
+      let u = of.below step path asked in
+      let s = split_all _ _ _ (end.told step path asked) (no_elements_left whose asked self at step path) in
+      (λ r. s.0 (u.0 r), λ r. u.1 (s.1 r))
+
+pub elements_none : (self : Sight) (whose : Whose) (all : List Expr) → AreElementsKnown self (elements all) → ElementsTold self whose [] 0 all all
+elements_none self whose all known = record { known = known; few = let a = known.small in omega (arith, a); flat = All-nil (λ (one : Step × Tree Declared). tree_depth one.1 < step_limit); told = by } where
+  by : (next : paths.Step) (path : Path) (asked : Asked) → IsSplit (AtList (OneOfElements (own_tells whose asked) (used_tells whose) (mean_elements self (elements all))) (next ∷ path))
+      (BranchesTell [] next path asked) (AtList (LeftElements whose asked self 0 all) (next ∷ path))
+  by (label l) path asked = (λ h. absurd h, λ h. ⊎_elim (λ n. n) (λ n. n) h)
+  by (index i) path asked = (λ h. inr (i, omega arith, h), λ h. ⊎_elim (λ n. absurd n) (λ g. let same : g.0 ≡ i = omega (arith, g.1) in subst (λ j. OneOfElements (own_tells whose asked) (used_tells whose) (mean_elements self (elements all)) j path) same g.2) h)
