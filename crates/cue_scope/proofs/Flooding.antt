@@ -124,6 +124,19 @@ flooding_start g n from reached waiting e s = record {
   closed = λ i h. ⊎_elim (λ old. absurd (no_flag n i old)) (λ is. inl is) (s.new i h);
 }
 
+-- the same where no flag was set
+pub flooding_fresh : (g : List (List ℕ)) (from : List ℕ) (before reached : List Bool) (waiting : List ℕ) → length before ≡ length g → ((i : ℕ) → get_or before i false ≡ false)
+    → Spread before reached [] waiting from → IsFlooding g from reached waiting
+flooding_fresh g from before reached waiting e fresh s =
+    let off : (i : ℕ) → get_or before i false ≡ true → ⊥ = λ i h. let no = fresh i in cc in
+    record {
+      lengths = s.lengths ∙ e;
+      sound = λ i h. ⊎_elim (λ old. absurd (off i old)) (λ is. start i is) (s.only i h);
+      all = s.all;
+      waits = λ i is. ⊎_elim (λ no. absurd no) (λ in_from. s.all i in_from) (s.from i is);
+      closed = λ i h. ⊎_elim (λ old. absurd (off i old)) (λ is. inl is) (s.new i h);
+    }
+
 pub flooding_step : (g : List (List ℕ)) (from : List ℕ) (reached after : List Bool) (waiting now : List ℕ) (x : ℕ)
     → IsFlooding g from reached (waiting ++ x ∷ []) → Spread reached after waiting now (targets g x) → IsFlooding g from after now
 flooding_step g from reached after waiting now x f s =

@@ -1,11 +1,13 @@
-ghost use Rattle.std.specs.Prelude.{◌≡◌, ◌+◌, ◌<◌, ◌≤◌, ◌↔◌, ◌++◌, ◌∷◌, [], ℕ, List, length, slice_index, slice_index_or, slice_set, IfOk, IfErr, OnOk, MatchOption, vec_len, true, false};
+ghost use Rattle.std.specs.Prelude.{◌≡◌, ◌+◌, ◌<◌, ◌≤◌, ◌↔◌, ◌++◌, ◌∷◌, [], ℕ, List, length, slice_index, slice_index_or, slice_set, IfOk, IfErr, OnOk, MatchOption, vec_len, true, false, not};
+ghost use Rattle.std.specs.Vec.{vec_capacity};
+ghost use Rattle.std.specs.List.{count_by};
 ghost use Rattle.std.specs.Bool.{OnTrue};
 ghost use Rattle.cue_lattice.specs.Refusal.{memory};
 ghost use Rattle.cue_scope.specs.Graph.{IsIn, targets, PointsTo, IsReached, Reaches, IsClosed, IsFirstCycle};
 ghost use Rattle.cue_scope.specs.Ordering.{graph_of, first_open, is_ready, IsStuck, IsPlaced, IsOrderOf, Spread};
 
 use crate::components::Components;
-use crate::memory::{flags, push, zeros};
+use crate::memory::{flags, push, room, zeros};
 use cue_lattice::Refusal;
 use std::alloc::Global;
 
@@ -36,13 +38,16 @@ pub fn order_of(alloc: Global, graph: &[Vec<usize>]) -> Result<Order, Refusal>
     ensures ordered { IfOk result (IsOrderOf (graph_of graph.now)) }
     ensures memory { IfErr result (λ r. r ≡ memory) }
 {
+    // A cycle that was found is named without asking for more memory.
+    let mut passed = flags(alloc, graph.len())?;
+    let mut waiting = room(alloc, graph.len())?;
     let components = Components::of(alloc, graph)?;
     let placed = place(alloc, graph, &components.nodes)?;
     match unplaced(&placed.ranks) {
         None => Ok(Order::Ordered(placed.order)),
         Some(node) => {
-            let last = find_cycle(alloc, graph, &placed.ranks, node)?;
-            let first = first_cycle(alloc, graph, &placed, &components, last)?;
+            let last = find_cycle(graph, &placed.ranks, &mut passed, node);
+            let first = first_cycle(graph, &placed, &components, &mut passed, &mut waiting, last);
             Ok(Order::Cycle(first))
         }
     }
@@ -141,84 +146,82 @@ fn unplaced(ranks: &[usize]) -> Option<usize>
 }
 
 /// A node that reaches itself, found by going from a node without a rank to others without one.
+/// None was passed yet.
 fn find_cycle(
-    alloc: Global,
     graph: &[Vec<usize>],
     ranks: &[usize],
+    passed: &mut Vec<bool>,
     mut node: usize,
-) -> Result<usize, Refusal>
+) -> usize
     requires closed { IsClosed (graph_of graph.now) }
     requires lengths { length ranks.now ≡ length graph.now }
     requires stuck { IsStuck (graph_of graph.now) ranks.now }
     requires inside { node < length ranks.now }
     requires unplaced { slice_index ranks.now node ≡ 0 }
-    ensures found { IfOk result (λ i. Reaches (graph_of graph.now) i i × (i < length graph.now)) }
-    ensures memory { IfErr result (λ r. r ≡ memory) }
+    requires none { (i : ℕ) → slice_index_or passed.old.items i false ≡ false }
+    requires flags { length passed.old.items ≡ length graph.now }
+    ensures found { Reaches (graph_of graph.now) result result × (result < length graph.now) }
+    ensures flags { length passed.new.items ≡ length graph.now }
 {
-    let mut passed = flags(alloc, ranks.len())?;
     while !passed[node] {
         passed[node] = true;
         node = first_open(ranks, targets(graph, node)).unwrap();
     }
-    Ok(node)
+    node
 }
 
 /// The first node that reaches itself, where `last` does.
 fn first_cycle(
-    alloc: Global,
     graph: &[Vec<usize>],
     placed: &Placed,
     components: &Components,
+    reached: &mut Vec<bool>,
+    waiting: &mut Vec<usize>,
     last: usize,
-) -> Result<usize, Refusal>
+) -> usize
     requires closed { IsClosed (graph_of graph.now) }
     requires placed { IsPlaced (graph_of graph.now) placed.now.order.items placed.now.ranks.items }
     requires cycle { Reaches (graph_of graph.now) last last }
     requires inside { last < length graph.now }
-    ensures first { IfOk result (λ i. IsFirstCycle (graph_of graph.now) i × (i < length graph.now)) }
-    ensures memory { IfErr result (λ r. r ≡ memory) }
+    requires flags { length reached.old.items ≡ length graph.now }
+    requires room { length graph.now ≤ vec_capacity waiting.old }
+    ensures first { IsFirstCycle (graph_of graph.now) result × (result < length graph.now) }
 {
     let falls = components.falls(graph);
     for node in 0..last {
         if placed.ranks[node] != 0 {
             continue;
         }
-        if is_cyclic(alloc, graph, components, falls, node)? {
-            return Ok(node);
+        if is_cyclic(graph, components, falls, reached, waiting, node) {
+            return node;
         }
     }
-    Ok(last)
+    last
 }
 
 /// Whether a node reaches itself, where components may tell that none of its targets leads back.
 fn is_cyclic(
-    alloc: Global,
     graph: &[Vec<usize>],
     components: &Components,
     falls: bool,
+    reached: &mut Vec<bool>,
+    waiting: &mut Vec<usize>,
     node: usize,
-) -> Result<bool, Refusal>
+) -> bool
     requires closed { IsClosed (graph_of graph.now) }
     requires falls { OnTrue falls ((i j : ℕ) → PointsTo (graph_of graph.now) i j → slice_index components.now.numbers.items j ≤ slice_index components.now.numbers.items i) }
     requires inside { node < length graph.now }
-    ensures reaches { IfOk result (λ b. (b ≡ true) ↔ Reaches (graph_of graph.now) node node) }
-    ensures memory { IfErr result (λ r. r ≡ memory) }
+    requires flags { length reached.old.items ≡ length graph.now }
+    requires room { length graph.now ≤ vec_capacity waiting.old }
+    ensures reaches { (result ≡ true) ↔ Reaches (graph_of graph.now) node node }
+    ensures flags { length reached.new.items ≡ length graph.now }
+    ensures room { vec_capacity waiting.new ≡ vec_capacity waiting.old }
 {
     if falls && components.falls_from(graph, node) {
-        return Ok(false);
+        return false;
     }
-    reaches_itself(alloc, graph, node)
-}
-
-/// Whether a node reaches itself.
-fn reaches_itself(alloc: Global, graph: &[Vec<usize>], node: usize) -> Result<bool, Refusal>
-    requires closed { IsClosed (graph_of graph.now) }
-    requires inside { node < length graph.now }
-    ensures reaches { IfOk result (λ b. (b ≡ true) ↔ Reaches (graph_of graph.now) node node) }
-    ensures memory { IfErr result (λ r. r ≡ memory) }
-{
-    let reached = reached(alloc, graph, targets(graph, node))?;
-    Ok(reached[node])
+    flood(graph, reached, waiting, targets(graph, node));
+    reached[node]
 }
 
 /// The nodes that are reached from those in a list, which are reached too.
@@ -230,25 +233,52 @@ pub fn reached(alloc: Global, graph: &[Vec<usize>], from: &[usize]) -> Result<Ve
     ensures memory { IfErr result (λ r. r ≡ memory) }
 {
     let mut reached = flags(alloc, graph.len())?;
-    let mut waiting = Vec::new(alloc);
-    spread(&mut reached, &mut waiting, from)?;
-    while let Some(node) = waiting.pop() {
-        spread(&mut reached, &mut waiting, targets(graph, node))?;
-    }
+    let mut waiting = room(alloc, graph.len())?;
+    flood(graph, &mut reached, &mut waiting, from);
     Ok(reached)
 }
 
-/// Reaches each node in a list, and opens those that weren't reached before.
-fn spread(reached: &mut Vec<bool>, waiting: &mut Vec<usize>, nodes: &[usize]) -> Result<(), Refusal>
-    requires { (i : ℕ) → IsIn i nodes.now → i < vec_len reached.old }
-    ensures spread { OnOk result (Spread reached.old.items reached.new.items waiting.old.items waiting.new.items nodes.now) }
-    ensures memory { IfErr result (λ r. r ≡ memory) }
+/// Marks the nodes that are reached from those in a list, and no others. It asks for no memory:
+/// no more nodes wait than the graph has.
+fn flood(graph: &[Vec<usize>], reached: &mut Vec<bool>, waiting: &mut Vec<usize>, from: &[usize])
+    requires closed { IsClosed (graph_of graph.now) }
+    requires inside { (i : ℕ) → IsIn i from.now → i < length graph.now }
+    requires flags { length reached.old.items ≡ length graph.now }
+    requires room { length graph.now ≤ vec_capacity waiting.old }
+    ensures reached { (i : ℕ) → (slice_index_or reached.new.items i false ≡ true) ↔ IsReached (graph_of graph.now) from.now i }
+    ensures flags { length reached.new.items ≡ length graph.now }
+    ensures room { vec_capacity waiting.new ≡ vec_capacity waiting.old }
+{
+    unmark(reached);
+    waiting.clear();
+    spread(reached, waiting, from);
+    while let Some(node) = waiting.pop() {
+        spread(reached, waiting, targets(graph, node));
+    }
+}
+
+/// Takes all marks away.
+fn unmark(reached: &mut Vec<bool>)
+    ensures none { (i : ℕ) → slice_index_or reached.new.items i false ≡ false }
+    ensures length { length reached.new.items ≡ length reached.old.items }
+{
+    for node in 0..reached.len() {
+        reached[node] = false;
+    }
+}
+
+/// Reaches each node in a list, and opens those that weren't reached before, for which there is
+/// room.
+fn spread(reached: &mut Vec<bool>, waiting: &mut Vec<usize>, nodes: &[usize])
+    requires inside { (i : ℕ) → IsIn i nodes.now → i < vec_len reached.old }
+    requires room { count_by not reached.old.items + length waiting.old.items ≤ vec_capacity waiting.old }
+    ensures spread { Spread reached.old.items reached.new.items waiting.old.items waiting.new.items nodes.now }
+    ensures room { vec_capacity waiting.new ≡ vec_capacity waiting.old }
 {
     for node in nodes {
         if !reached[*node] {
-            push(waiting, *node)?;
+            waiting.push_reserved(*node);
             reached[*node] = true;
         }
     }
-    Ok(())
 }

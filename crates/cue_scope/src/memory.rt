@@ -1,5 +1,6 @@
 ghost use Rattle.std.specs.Prelude.{◌≡◌, ◌++◌, ◌∷◌, [], OnOk, IfOk, IfErr, false, length};
 ghost use Rattle.std.proofs.Common.{replicate};
+ghost use Rattle.std.specs.Vec.{vec_capacity};
 ghost use Rattle.cue_lattice.specs.Refusal.{memory};
 
 use crate::measure::Measure;
@@ -29,6 +30,14 @@ pub fn flags(alloc: Global, count: usize) -> Result<Vec<bool>, Refusal>
     ensures memory { IfErr result (λ refusal. refusal ≡ memory) }
 {
     Ok(vec![in alloc; false; count].map_err(Memory::from)?)
+}
+
+/// Room for so many numbers.
+pub fn room(alloc: Global, count: usize) -> Result<Vec<usize>, Refusal>
+    ensures room { IfOk result (λ v. vec_capacity v ≡ count) }
+    ensures memory { IfErr result (λ refusal. refusal ≡ memory) }
+{
+    Ok(Vec::with_capacity(alloc, count).map_err(Memory::from)?)
 }
 
 /// So many times the measure of nothing.
