@@ -27,3 +27,11 @@ pub mod Closing
 pub mod Fields
 pub mod Lists
 pub mod Defaults
+pub mod PlaceRows
+pub mod Gathering
+pub mod LiteralTables
+pub mod Leaves
+pub mod Walks
+pub mod Chains
+pub mod Listings
+pub mod LabelLists

@@ -14,3 +14,5 @@ pub mod Origins
 pub mod Evaluated
 pub mod Words
 pub mod Validity
+pub mod Gathered
+pub mod Ready

@@ -2,8 +2,12 @@
 #![tactic(auto)]
 
 mod declared;
+mod hanging;
+mod labels;
 mod laws;
 mod pair;
+mod place;
+mod rows;
 mod scalars;
 #[cfg(test)]
 mod tests;

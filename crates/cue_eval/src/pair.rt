@@ -84,7 +84,7 @@ impl<'a, 'f, 't> Pairs<'a, 'f, 't> {
     }
 
     /// A name.
-    fn name(&self, name: &Identifier) -> Result<Valued, Memory>
+    pub(crate) fn name(&self, name: &Identifier) -> Result<Valued, Memory>
         requires { IsPairableName self.now name.now }
         ensures { IfOk result (λ valued. pair_of valued ≡ pair (named_core self.now name.now)) }
     {

@@ -1,0 +1,120 @@
+-- Tables behind chains of labels, each of which is in a struct of its own.
+use Rattle.std.proofs.Common.{◌≡◌, ◌↔◌, ◌⊎◌, ◌+◌, ◌*◌, ◌≤◌, ◌<◌, inl, inr, ⊎_elim, ℕ, zero, suc, List, [], ◌∷◌, ◌++◌, All, length, refl, sym, ap, subst, ◌∙◌, length-append, length-drop, take, drop, ◌-◌, get_or, Vec, Global, arith, Option, None, Result, Ok, Err}
+use Rattle.std.specs.Prelude.{IfOk}
+use Rattle.std.proofs.lemmas.List.{take_all}
+use Rattle.std.proofs.lemmas.List.Elements.{All-push}
+use Rattle.cue_lattice.specs.Limits.{size_limit, step_limit}
+use Rattle.cue_lattice.specs.OneOf.{OneOf}
+use Rattle.cue_lattice.proofs.OneOf.{one_of-push}
+use Rattle.cue_lattice.specs.Path as paths
+use Rattle.cue_lattice.specs.Path.{Path, label, index}
+use Rattle.cue_lattice.specs.Question.{Question, SameAnswers}
+use Rattle.cue_row.specs.Row.{Refuses, IsRow}
+use Rattle.cue_row.specs.Steps.{step_of}
+use Rattle.cue_row.specs.declared.row.Row.{Row}
+use Rattle.cue_row.specs.declared.step.Step.{Step}
+use Rattle.cue_row.specs.declared.step.Step.TheVariants as steps
+use Rattle.cue_table.specs.Depth.{tree_depth}
+use Rattle.cue_table.specs.Form.{IsTable}
+use Rattle.cue_table.specs.Many.{IsUnified}
+use Rattle.cue_table.specs.Tree.{Tree}
+use Rattle.cue_syntax.specs.declared.tree.Expr.{Expr}
+use Rattle.cue_syntax.specs.declared.tree.Declaration.{Declaration}
+use Rattle.cue_syntax.specs.declared.tree.Declaration.TheVariants as declarations
+use Rattle.cue_syntax.proofs.Views.{view-Field, view-Definition}
+use Rattle.cue_scope.proofs.Walking.{at_hand}
+use Rattle.cue_syntax.specs.declared.tree.Label.{Label}
+use Rattle.cue_syntax.specs.declared.tree.Mark.{Mark}
+use Rattle.cue_syntax.specs.Syntax.{Expression, Elements, Entry, Entries, no_entries, entry, ellipsis, field, definition, expression, elements, entries, entry_tree}
+use Rattle.cue_scope.specs.Core.{Core, conjunction, struct, Cores, core, no_cores, Members, member, no_members}
+use Rattle.cue_scope.specs.Definitions.{Definition}
+use Rattle.cue_scope.specs.Limits.{size, size_of_cores, size_of_members, depth, depth_of_cores, depth_of_elements, depth_of_members}
+use Rattle.cue_scope.specs.Measures.{Total}
+use Rattle.cue_scope.specs.Meaning.{meaning, nested, text_of}
+use Rattle.cue_scope.specs.Terms.{terms, terms_of_elements, terms_of_entries}
+use Rattle.cue_scope.specs.Uses.{uses, uses_of_elements, uses_of_entries}
+use Rattle.cue_scope.proofs.Measuring.{total_nested}
+use Rattle.cue_scope.proofs.Nodes.{in_append_left, in_append_right}
+use Rattle.cue_eval.specs.declared.rows.Tables.{Tables}
+use Rattle.cue_eval.specs.Evaluated.{HasAnswersOf}
+use Rattle.cue_eval.specs.Gathered.{Answers, GivenRefuse, LabelsRefuse, LiteralAnswers}
+use Rattle.cue_eval.specs.Known.{core_of, parts_of}
+use Rattle.cue_eval.specs.Places.{Here, MarkRefuses, StructRefuses}
+use Rattle.cue_eval.specs.Ready.{all_definitions, members_of, AreKnown, IsReady, AreReadyParts, AreReadyElements, AreReadyEntries, IsField, AreGiven, AtLabels, AtIndexes}
+use Rattle.cue_eval.specs.Refuses as refusing
+use Rattle.cue_eval.specs.Refuses.{PartsRefuse, FieldRefuses, ElementRefuses, count}
+use Rattle.cue_eval.proofs.Depth.{paths_within_depth}
+use Rattle.cue_eval.proofs.Gathering.{shallow, unified_answers, marked_depth, answer_short}
+use Rattle.cue_eval.proofs.LiteralTables.{struct_table}
+use Rattle.cue_eval.proofs.Leaves.{nil_both}
+
+one_refused : (l : Label) (c : Core) (one : Step × Tree Row) → IsField l c one → (step : paths.Step) (path : Path) (question : Question)
+    → GivenRefuse (one ∷ []) step path question ↔ AtLabels (member (text_of l.name) l.mark c no_members) step path question
+one_refused l c one f (label k) path question =
+    let a = f.answers path question in
+    let at = f.step in (
+      λ h. ⊎_elim (λ y. let there = y.0 in let same : text_of l.name ≡ k = cc in inl (same, a.0 y.1)) (λ y. absurd y) h,
+      λ h. ⊎_elim (λ y. inl (at ∙ ap label y.0, a.1 y.1)) (λ y. absurd y) h,
+    )
+one_refused l c one f (index i) path question =
+    let at = f.step in
+    (λ h. ⊎_elim (λ y. let there = y.0 in absurd (cc)) (λ y. absurd y) h, λ h. absurd h)
+
+-- a struct of one field
+one_given : (l : Label) (c : Core) (one : Step × Tree Row) → IsField l c one → AreGiven (AtLabels (member (text_of l.name) l.mark c no_members)) (one ∷ [])
+one_given l c one f = record {
+  refused = λ step path question. one_refused l c one f step path question;
+  deep = All-push (λ (o : Step × Tree Row). tree_depth o.1 < step_limit) [] one (λ k d less. absurd (omega arith)) f.deep;
+}
+
+-- what stands behind one label more
+behind_more : (l : Label) (c : Core) (step : Step) (inner hung_in after : Tree Row) (labels : Option (List (List ℕ))) → step ≡ steps.Label (text_of l.name) → tree_depth hung_in < step_limit
+    → SameAnswers (Answers hung_in) (λ path question. Here (MarkRefuses l.mark) path question ⊎ Answers inner path question) → HasAnswersOf c inner → labels ≡ None
+    → SameAnswers (Answers after) (LiteralAnswers (λ question. StructRefuses question ⊎ LabelsRefuse labels question) ((step, hung_in) ∷ []))
+    → HasAnswersOf (struct (member (text_of l.name) l.mark c no_members)) after
+behind_more l c step inner hung_in after labels is deep marked same free hung =
+    let made : IsField l c (step, hung_in) = record {
+      step = ap step_of is;
+      deep = deep;
+      answers = λ path question.
+          let m = marked path question in
+          let s = same path question in (
+            λ h. ⊎_elim (λ g. inl g) (λ g. inr (s.0 g)) (m.0 h),
+            λ h. m.1 (⊎_elim (λ g. inl g) (λ g. inr (s.1 g)) h),
+          );
+    } in
+    struct_table (member (text_of l.name) l.mark c no_members) ((step, hung_in) ∷ []) labels after free hung (one_given l c (step, hung_in) made)
+
+pub behind_result : {E : Type 0} (r : Result (Tree Row) E) (chain rest : List Label) (first : Label) (step : Step) (before inner hung_in : Tree Row) (given : List (Step × Tree Row)) (labels : Option (List (List ℕ)))
+    → chain ≡ first ∷ rest → step ≡ steps.Label (text_of first.name) → tree_depth hung_in < step_limit
+    → SameAnswers (Answers hung_in) (λ path question. Here (MarkRefuses first.mark) path question ⊎ Answers inner path question)
+    → ((c : Core) → HasAnswersOf c before → HasAnswersOf (nested rest c) inner) → labels ≡ None → given ≡ (step, hung_in) ∷ []
+    → IfOk r (λ after. SameAnswers (Answers after) (LiteralAnswers (λ question. StructRefuses question ⊎ LabelsRefuse labels question) given))
+    → IfOk r (λ after. (c : Core) → HasAnswersOf c before → HasAnswersOf (nested chain c) after)
+behind_result (Ok after) chain rest first step before inner hung_in given labels whole is deep marked same free alone hung = λ c known.
+    subst (λ ls. HasAnswersOf (nested ls c) after) (sym whole) (behind_more first (nested rest c) step inner hung_in after labels is deep marked (same c known) free
+    (subst (λ (xs : List (Step × Tree Row)). SameAnswers (Answers after) (LiteralAnswers (λ question. StructRefuses question ⊎ LabelsRefuse labels question) xs)) alone hung))
+behind_result (Err e) chain rest first step before inner hung_in given labels whole is deep marked same free alone hung = hung
+
+literal_short : (own : Question → Type 0) (step : Step) (hung_in : Tree Row) (n : ℕ) → tree_depth hung_in < n → (path : Path) (question : Question) → LiteralAnswers own ((step, hung_in) ∷ []) path question → length path ≤ n
+literal_short own step hung_in n less [] question h = omega arith
+literal_short own step hung_in n less (at ∷ path) question (inl h) = let d = answer_short hung_in path question h.1 in omega arith
+literal_short own step hung_in n less (at ∷ path) question (inr h) = absurd h
+
+pub behind_depth : {E : Type 0} (r : Result (Tree Row) E) (own : Question → Type 0) (step : Step) (hung_in : Tree Row) (given : List (Step × Tree Row)) (n : ℕ) → given ≡ (step, hung_in) ∷ [] → tree_depth hung_in < n → IfOk r (IsTable Refuses IsRow)
+    → IfOk r (λ after. SameAnswers (Answers after) (LiteralAnswers own given)) → IfOk r (λ after. tree_depth after ≤ n)
+behind_depth (Ok after) own step hung_in given n alone less form same = shallow after n form (λ path question h.
+    literal_short own step hung_in n less path question (subst (λ (xs : List (Step × Tree Row)). LiteralAnswers own xs path question) alone ((same path question).0 h)))
+behind_depth (Err e) own step hung_in given n alone less form same = form
+
+-- one field alone that can be hung in
+pub one_deep : (given : List (Step × Tree Row)) (step : Step) (table : Tree Row) → given ≡ (step, table) ∷ [] → tree_depth table < step_limit → All (λ one. tree_depth one.1 < step_limit) given
+one_deep given step table is less =
+    subst (λ (xs : List (Step × Tree Row)). All (λ one. tree_depth one.1 < step_limit) xs) (sym is)
+    (All-push (λ (o : Step × Tree Row). tree_depth o.1 < step_limit) [] (step, table) (λ k d low. absurd (omega arith)) less)
+
+pub first_rest : (ls : List Label) (l : Label) → 1 ≤ length ls → l ≡ get_or ls 0 l → ls ≡ l ∷ take (length ls - 1) (drop 1 ls)
+first_rest ls l h is =
+    let all = length-drop 1 ls in
+    let whole : take (length ls - 1) (drop 1 ls) ≡ drop 1 ls = take_all (length ls - 1) (drop 1 ls) (omega arith) in
+    at_hand ls 0 l (let few = h in omega arith) is ∙ ap (λ xs. l ∷ xs) (sym whole)

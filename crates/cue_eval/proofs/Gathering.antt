@@ -1,0 +1,192 @@
+-- What tables of literals refuse, by what is given of their parts.
+use Rattle.std.proofs.Common.{◌≡◌, ◌↔◌, ◌⊎◌, ◌≤◌, ◌<◌, inl, inr, ⊎_elim, ℕ, List, [], ◌∷◌, Option, Some, None, Result, Ok, Err, length, refl, sym, subst, arith}
+use Rattle.std.specs.Prelude.{IfOk}
+use Rattle.cue_syntax.specs.declared.tree.Mark.{Mark}
+use Rattle.std.proofs.lemmas.Bool.{cases_lt}
+use Rattle.cue_lattice.specs.OneOf.{OneOf}
+use Rattle.cue_lattice.specs.Path as paths
+use Rattle.cue_lattice.specs.Path.{Path}
+use Rattle.cue_lattice.specs.Question as questions
+use Rattle.cue_lattice.specs.Question.{Question, may_be, usual, allows, level_at_most, length_at_most, length_at_least, SameAnswers}
+use Rattle.cue_row.specs.Questions.{question_of, asked_by}
+use Rattle.cue_row.specs.Row.{RowRefuses, Refuses, IsRow}
+use Rattle.cue_row.specs.Steps.{step_of}
+use Rattle.cue_row.specs.declared.question.Question as program
+use Rattle.cue_row.specs.declared.row.Row.{Row}
+use Rattle.cue_row.specs.declared.step.Step.{Step}
+use Rattle.cue_table.specs.Depth.{tree_depth}
+use Rattle.cue_table.specs.Form.{IsTable, IsKept}
+use Rattle.cue_table.specs.Many.{IsOfBranches, IsUnified}
+use Rattle.cue_table.specs.Meet.{IsAdded}
+use Rattle.cue_table.specs.Refuses as tables
+use Rattle.cue_table.specs.Refuses.{TableRefuses}
+use Rattle.cue_table.specs.Tree.{Tree, empty, row_at}
+use Rattle.cue_table.proofs.Depth.{depth_rows, kept_at, row_depth}
+use Rattle.cue_eval.specs.Places.{Here, MarkRefuses}
+use Rattle.cue_eval.specs.Gathered.{Answers, GivenRefuse, LiteralAnswers}
+
+-- each question is asked by one of the program
+asked_back : (row : Row) (question : Question) → RowRefuses row question ↔ Refuses row (asked_by question)
+asked_back row (may_be x) = (λ h. h, λ h. h)
+asked_back row (usual x) = (λ h. h, λ h. h)
+asked_back row questions.struct = (λ h. h, λ h. h)
+asked_back row questions.list = (λ h. h, λ h. h)
+asked_back row (allows l) = (λ h. h, λ h. h)
+asked_back row (level_at_most k) = (λ h. h, λ h. h)
+asked_back row (length_at_most n) = (λ h. h, λ h. h)
+asked_back row (length_at_least n) = (λ h. h, λ h. h)
+
+row_asked : (row : Option Row) (question : Question) → tables.RowRefuses RowRefuses row question ↔ tables.RowRefuses Refuses row (asked_by question)
+row_asked None question = (λ h. h, λ h. h)
+row_asked (Some row) question = asked_back row question
+
+-- what a table refuses, by the questions of the program
+pub asked : (table : Tree Row) (path : Path) (question : Question) → Answers table path question ↔ TableRefuses Refuses table path (asked_by question)
+asked table path question = row_asked (row_at table path) question
+
+answered : (row : Option Row) (question : program.Question) → tables.RowRefuses Refuses row question → tables.RowRefuses RowRefuses row (question_of question)
+answered None question h = h
+answered (Some row) question h = h
+
+-- where no path of an answer is longer than n, the table is not deeper
+pub shallow : (table : Tree Row) (n : ℕ) → IsTable Refuses IsRow table → ((path : Path) (question : Question) → Answers table path question → length path ≤ n) → tree_depth table ≤ n
+shallow table n form short = depth_rows (IsKept Refuses IsRow) n table form (λ path row e.
+    ⊎_elim
+    (λ (far : n < length path). absurd ((kept_at (IsKept Refuses IsRow) table path row form e).1 (λ question r.
+    let here : TableRefuses Refuses table path question = rw e r in
+    let near : length path ≤ n = short path (question_of question) (answered (row_at table path) question here) in
+    omega arith)))
+    (λ near. near)
+    (cases_lt n (length path)))
+
+told_row : (row : Option Row) (question : Question) → tables.RowRefuses RowRefuses row question → (r : Row) × (row ≡ Some r)
+told_row None question h = absurd h
+told_row (Some r) question h = (r, refl)
+
+-- no path of an answer is longer than the table is deep
+pub answer_short : (table : Tree Row) (path : Path) (question : Question) → Answers table path question → length path ≤ tree_depth table
+answer_short table path question h = let row = told_row (row_at table path) question h in row_depth table path row.0 row.1
+
+-- a row that is put at the root
+pub rooted_answers : (old new : Tree Row) (at : Path) (row : Row) → at ≡ [] → IsAdded Refuses old at row new
+    → SameAnswers (Answers new) (λ path question. Answers old path question ⊎ Here (RowRefuses row) path question)
+rooted_answers old new at row is added [] question =
+    let e = added [] (asked_by question) in (
+      λ h. ⊎_elim (λ g. inl ((asked old [] question).1 g)) (λ g. inr ((asked_back row question).1 g.1)) (e.0 ((asked new [] question).0 h)),
+      λ h. (asked new [] question).1 (e.1 (⊎_elim (λ g. inl ((asked old [] question).0 g)) (λ g. inr (sym is, (asked_back row question).0 g)) h)),
+    )
+rooted_answers old new at row is added (step ∷ path) question =
+    let e = added (step ∷ path) (asked_by question) in (
+      λ h. ⊎_elim (λ g. inl ((asked old (step ∷ path) question).1 g)) (λ g. let apart = g.0 in absurd (cc)) (e.0 ((asked new (step ∷ path) question).0 h)),
+      λ h. (asked new (step ∷ path) question).1 (e.1 (⊎_elim (λ g. inl ((asked old (step ∷ path) question).0 g)) (λ g. absurd g) h)),
+    )
+
+given_asked : (given : List (Step × Tree Row)) (step : paths.Step) (path : Path) (question : Question)
+    → GivenRefuse given step path question ↔ OneOf (λ one. (step_of one.0 ≡ step) × TableRefuses Refuses one.1 path (asked_by question)) given
+given_asked [] step path question = (λ h. h, λ h. h)
+given_asked (one ∷ given) step path question =
+    let here = asked one.1 path question in
+    let rest = given_asked given step path question in (
+      λ h. ⊎_elim (λ g. inl (g.0, here.0 g.1)) (λ g. inr (rest.0 g)) h,
+      λ h. ⊎_elim (λ g. inl (g.0, here.1 g.1)) (λ g. inr (rest.1 g)) h,
+    )
+
+-- a table of branches with a row at the root
+pub literal_answers : (given : List (Step × Tree Row)) (below table : Tree Row) (row : Row) (own : Question → Type 0) → IsOfBranches Refuses given below
+    → SameAnswers (Answers table) (λ path question. Answers below path question ⊎ Here (RowRefuses row) path question)
+    → ((question : Question) → RowRefuses row question ↔ own question)
+    → SameAnswers (Answers table) (LiteralAnswers own given)
+literal_answers given below table row own branches rooted is [] question =
+    let e = rooted [] question in
+    let o = is question in (
+      λ h. ⊎_elim (λ g. absurd (branches.root (asked_by question) ((asked below [] question).0 g))) (λ g. o.0 g) (e.0 h),
+      λ h. e.1 (inr (o.1 h)),
+    )
+literal_answers given below table row own branches rooted is (step ∷ path) question =
+    let e = rooted (step ∷ path) question in
+    let b = branches.below step path (asked_by question) in
+    let t = asked below (step ∷ path) question in
+    let g = given_asked given step path question in (
+      λ h. ⊎_elim (λ k. g.1 (b.0 (t.0 k))) (λ k. absurd k) (e.0 h),
+      λ h. e.1 (inl (t.1 (b.1 (g.0 h)))),
+    )
+
+-- a table with a row at the root, which refuses what a mark or a literal does
+pub own_answers : (before after : Tree Row) (row : Row) (own : Question → Type 0)
+    → SameAnswers (Answers after) (λ path question. Answers before path question ⊎ Here (RowRefuses row) path question)
+    → ((question : Question) → RowRefuses row question ↔ own question)
+    → SameAnswers (Answers after) (λ path question. Here own path question ⊎ Answers before path question)
+own_answers before after row own rooted is [] question =
+    let e = rooted [] question in
+    let o = is question in (
+      λ h. ⊎_elim (λ g. inr g) (λ g. inl (o.0 g)) (e.0 h),
+      λ h. e.1 (⊎_elim (λ g. inr (o.1 g)) (λ g. inl g) h),
+    )
+own_answers before after row own rooted is (step ∷ path) question =
+    let e = rooted (step ∷ path) question in (
+      λ h. ⊎_elim (λ g. inr g) (λ g. absurd g) (e.0 h),
+      λ h. e.1 (⊎_elim (λ g. absurd g) (λ g. inl g) h),
+    )
+
+each_asked : (given : List (Tree Row)) (path : Path) (question : Question)
+    → OneOf (λ table. Answers table path question) given ↔ OneOf (λ table. TableRefuses Refuses table path (asked_by question)) given
+each_asked [] path question = (λ h. h, λ h. h)
+each_asked (table ∷ given) path question =
+    let here = asked table path question in
+    let rest = each_asked given path question in (
+      λ h. ⊎_elim (λ g. inl (here.0 g)) (λ g. inr (rest.0 g)) h,
+      λ h. ⊎_elim (λ g. inl (here.1 g)) (λ g. inr (rest.1 g)) h,
+    )
+
+-- a table that refuses what one of several does
+pub unified_answers : (given : List (Tree Row)) (met : Tree Row) (path : Path) (question : Question) → IsUnified Refuses given met
+    → Answers met path question ↔ OneOf (λ table. Answers table path question) given
+unified_answers given met path question unified =
+    let e = unified path (asked_by question) in
+    let t = asked met path question in
+    let g = each_asked given path question in
+    (λ h. g.1 (e.0 (t.0 h)), λ h. t.1 (e.1 (g.0 h)))
+
+-- ---- the same of what calls return
+pub literal_result : {E : Type 0} (r : Result (Tree Row) E) (given : List (Step × Tree Row)) (below : Tree Row) (row : Row) (own : Question → Type 0) → IsOfBranches Refuses given below
+    → IfOk r (λ table. SameAnswers (Answers table) (λ path question. Answers below path question ⊎ Here (RowRefuses row) path question))
+    → ((question : Question) → RowRefuses row question ↔ own question)
+    → IfOk r (λ table. SameAnswers (Answers table) (LiteralAnswers own given))
+literal_result (Ok table) given below row own branches rooted is = literal_answers given below table row own branches rooted is
+literal_result (Err e) given below row own branches rooted is = rooted
+
+pub own_result : {E : Type 0} (r : Result (Tree Row) E) (before : Tree Row) (row : Row) (own : Question → Type 0)
+    → IfOk r (λ after. SameAnswers (Answers after) (λ path question. Answers before path question ⊎ Here (RowRefuses row) path question))
+    → ((question : Question) → RowRefuses row question ↔ own question)
+    → IfOk r (λ after. SameAnswers (Answers after) (λ path question. Here own path question ⊎ Answers before path question))
+own_result (Ok after) before row own rooted is = own_answers before after row own rooted is
+own_result (Err e) before row own rooted is = rooted
+
+nothing_refused : (path : Path) (question : Question) → Answers empty path question → ⊥
+nothing_refused [] question h = h
+nothing_refused (step ∷ path) question h = h
+
+alone : (before after : Tree Row) (row : Row) (own : Question → Type 0) → before ≡ empty
+    → SameAnswers (Answers after) (λ path question. Answers before path question ⊎ Here (RowRefuses row) path question)
+    → ((question : Question) → RowRefuses row question ↔ own question) → SameAnswers (Answers after) (Here own)
+alone before after row own none rooted is path question =
+    let e = own_answers before after row own rooted is path question in (
+      λ h. ⊎_elim (λ g. g) (λ g. absurd (nothing_refused path question (subst (λ (t : Tree Row). Answers t path question) none g))) (e.0 h),
+      λ h. e.1 (inl h),
+    )
+
+pub alone_result : {E : Type 0} (r : Result (Tree Row) E) (before : Tree Row) (row : Row) (own : Question → Type 0) → before ≡ empty
+    → IfOk r (λ after. SameAnswers (Answers after) (λ path question. Answers before path question ⊎ Here (RowRefuses row) path question))
+    → ((question : Question) → RowRefuses row question ↔ own question) → IfOk r (λ after. SameAnswers (Answers after) (Here own))
+alone_result (Ok after) before row own none rooted is = alone before after row own none rooted is
+alone_result (Err e) before row own none rooted is = rooted
+
+here_short : (own : Question → Type 0) (path : Path) (question : Question) (n : ℕ) → Here own path question → length path ≤ n
+here_short own [] question n h = omega arith
+here_short own (step ∷ path) question n h = absurd h
+
+-- a field with its mark is no deeper than its value
+pub marked_depth : (before after : Tree Row) (m : Mark) → IsTable Refuses IsRow after
+    → SameAnswers (Answers after) (λ path question. Here (MarkRefuses m) path question ⊎ Answers before path question) → tree_depth after ≤ tree_depth before
+marked_depth before after m form same = shallow after (tree_depth before) form (λ path question h.
+    ⊎_elim (λ g. here_short (MarkRefuses m) path question (tree_depth before) g) (λ g. answer_short before path question g) ((same path question).0 h))

@@ -1,0 +1,79 @@
+-- The rows of structs and lists, which let no scalar stand.
+use Rattle.std.proofs.Common.{◌≡◌, ◌↔◌, ◌⊎◌, ◌≤◌, ◌<◌, inl, inr, ⊎_elim, ℕ, Bool, true, false, Option, Some, None, List, refl, sym, subst, arith}
+use Rattle.std.specs.Prelude.{ℤ, pos, negsuc, ◌≤ℤ◌}
+use Rattle.std.proofs.lemmas.Int.{ints}
+use Rattle.cue_lattice.specs.Question as questions
+use Rattle.cue_lattice.specs.Question.{Question, may_be, usual, allows, level_at_most, length_at_most, length_at_least}
+use Rattle.cue_lattice.specs.Scalar.{IsScalar, IsInteger}
+use Rattle.cue_lattice.specs.declared.scalar.Scalar.{Scalar}
+use Rattle.cue_lattice.specs.declared.scalar.Scalar.TheVariants as scalars
+use Rattle.cue_sets.specs.Pieces.{IsInt64, least, greatest}
+use Rattle.cue_scalars.specs.Scalars.{members, RefusesScalar}
+use Rattle.cue_scalars.specs.declared.scalar_set.ScalarSet.{ScalarSet}
+use Rattle.cue_row.specs.LabelSets.{RefusesLabel}
+use Rattle.cue_row.specs.Lengths.{RefusesLength}
+use Rattle.cue_row.specs.Row.{RowRefuses}
+use Rattle.cue_row.specs.declared.row.Row.{Row}
+use Rattle.cue_row.specs.declared.level.Level.TheVariants.{Optional}
+use Rattle.cue_eval.specs.Places.{StructRefuses, ListRefuses, IsAboveLength}
+use Rattle.cue_eval.specs.Gathered.{LabelsRefuse}
+
+integer_from : (n : ℤ) → IsInt64 n → IsInteger n
+integer_from (pos n) h = let a = h.1 in omega (arith, ints)
+integer_from (negsuc n) h = let a = h.0 in omega (arith, ints)
+
+int64_from : (n : ℤ) → IsInteger n → IsInt64 n
+int64_from (pos n) h = (omega (arith, ints), omega (arith, ints))
+int64_from (negsuc n) h = (omega (arith, ints), omega (arith, ints))
+
+-- a set without members refuses the scalars of the language
+empty_refuses : (set : ScalarSet) (x : Scalar) → members set x ≡ false → RefusesScalar set x ↔ IsScalar x
+empty_refuses set scalars.Null e = (λ h. tt, λ h. e)
+empty_refuses set (scalars.Bool false) e = (λ h. tt, λ h. e)
+empty_refuses set (scalars.Bool true) e = (λ h. tt, λ h. e)
+empty_refuses set (scalars.Int n) e = (λ h. integer_from n h.0, λ h. (int64_from n h, e))
+empty_refuses set (scalars.Text t) e = (λ h. tt, λ h. e)
+
+-- the row of a struct with these labels
+abbrev pub struct_row : ScalarSet → ScalarSet → Option (List (List ℕ)) → Row
+struct_row value usuals labels = record { level = Optional; value = value; usual = usuals; struct_ok = true; list_ok = false; labels = labels; least = 0; most = None }
+
+pub struct_refuses : (value usuals : ScalarSet) (labels : Option (List (List ℕ))) → ((x : Scalar) → members value x ≡ false) → ((x : Scalar) → members usuals x ≡ false)
+    → (question : Question) → RowRefuses (struct_row value usuals labels) question ↔ (StructRefuses question ⊎ LabelsRefuse labels question)
+struct_refuses value usuals labels v u (may_be x) = let e = empty_refuses value x (v x) in (λ h. inl (e.0 h), λ h. ⊎_elim (λ g. e.1 g) (λ g. absurd g) h)
+struct_refuses value usuals labels v u (usual x) = let e = empty_refuses usuals x (u x) in (λ h. inl (e.0 h), λ h. ⊎_elim (λ g. e.1 g) (λ g. absurd g) h)
+struct_refuses value usuals labels v u questions.struct = (λ h. absurd (cc), λ h. ⊎_elim (λ g. absurd g) (λ g. absurd g) h)
+struct_refuses value usuals labels v u questions.list = (λ h. inl tt, λ h. refl)
+struct_refuses value usuals labels v u (allows l) = (λ h. inr h, λ h. ⊎_elim (λ g. absurd g) (λ g. g) h)
+struct_refuses value usuals labels v u (level_at_most k) = (λ h. absurd (omega (arith, h)), λ h. ⊎_elim (λ g. absurd g) (λ g. absurd g) h)
+struct_refuses value usuals labels v u (length_at_most n) = (λ h. absurd (omega (arith, h)), λ h. ⊎_elim (λ g. absurd g) (λ g. absurd g) h)
+struct_refuses value usuals labels v u (length_at_least n) = (λ h. absurd h, λ h. ⊎_elim (λ g. absurd g) (λ g. absurd g) h)
+
+-- the greatest length of a list of so many elements
+abbrev pub most_of : Bool → ℕ → Option ℕ
+most_of true count = None
+most_of false count = Some count
+
+above_length : (goes_on : Bool) (count n : ℕ) → RefusesLength (most_of goes_on count) n ↔ IsAboveLength count goes_on n
+above_length true count n = (λ h. h, λ h. h)
+above_length false count n = (λ h. h, λ h. h)
+
+abbrev pub list_row : ScalarSet → ScalarSet → Option (List (List ℕ)) → ℕ → Option ℕ → Row
+list_row value usuals labels count most = record { level = Optional; value = value; usual = usuals; struct_ok = false; list_ok = true; labels = labels; least = count; most = most }
+
+all_allowed : (labels : Option (List (List ℕ))) (l : List ℕ) → labels ≡ None → RefusesLabel labels l → ⊥
+all_allowed None l is h = absurd (cc)
+all_allowed (Some ls) l is h = absurd (cc)
+
+pub list_refuses : (value usuals : ScalarSet) (labels : Option (List (List ℕ))) (count : ℕ) (goes_on : Bool) (most : Option ℕ) → labels ≡ None → most ≡ most_of goes_on count
+    → ((x : Scalar) → members value x ≡ false) → ((x : Scalar) → members usuals x ≡ false)
+    → (question : Question) → RowRefuses (list_row value usuals labels count most) question ↔ ListRefuses count goes_on question
+list_refuses value usuals labels count goes_on most free is v u (may_be x) = empty_refuses value x (v x)
+list_refuses value usuals labels count goes_on most free is v u (usual x) = empty_refuses usuals x (u x)
+list_refuses value usuals labels count goes_on most free is v u questions.struct = (λ h. tt, λ h. refl)
+list_refuses value usuals labels count goes_on most free is v u questions.list = (λ h. absurd (cc), λ h. absurd h)
+list_refuses value usuals labels count goes_on most free is v u (allows l) = (λ h. all_allowed labels l free h, λ h. absurd h)
+list_refuses value usuals labels count goes_on most free is v u (level_at_most k) = (λ h. absurd (omega (arith, h)), λ h. absurd h)
+list_refuses value usuals labels count goes_on most free is v u (length_at_most n) = (λ h. h, λ h. h)
+list_refuses value usuals labels count goes_on most free is v u (length_at_least n) =
+    subst (λ (m : Option ℕ). RefusesLength m n ↔ IsAboveLength count goes_on n) (sym is) (above_length goes_on count n)

@@ -1,0 +1,11 @@
+use Rattle.std.proofs.Common.{◌↔◌, ◌∙◌, length, subst, sym}
+use Rattle.cue_lattice.specs.Question.{Question}
+use Rattle.cue_row.specs.Row.{RowRefuses}
+use Rattle.cue_eval.specs.Places.{ListRefuses}
+use Rattle.cue_eval.proofs.Gathering.{literal_result}
+use Rattle.cue_eval.proofs.hanging.list_of.Goals as goal
+
+pub returns-clause-answers : goal.returns-clause-answers
+returns-clause-answers c = literal_result c.rooted-2.result c.args.elements.items c.in_ok-below.below c.in_ok-list_row.field-0 (ListRefuses (length c.args.elements.items) c.args.goes_on)
+    c.in_ok-below.ensures.refused c.rooted-2.ensures.answers
+    (subst (λ n. (question : Question) → RowRefuses c.in_ok-list_row.field-0 question ↔ ListRefuses n c.args.goes_on question) (c.len-count.ensures ∙ c.args.elements.ok.0) c.in_ok-list_row.ensures)

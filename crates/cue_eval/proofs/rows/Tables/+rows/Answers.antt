@@ -1,0 +1,163 @@
+use Rattle.std.proofs.Common.{◌≡◌, ◌+◌, ◌≤◌, ◌<◌, ◌∷◌, [], drop, length, None, subst, sym, ap, ◌∙◌, arith}
+use denote.Param.Weighed.{most, at_most}
+use Rattle.cue_syntax.specs.declared.tree.Expr.{size-Expr}
+use Rattle.cue_syntax.specs.declared.tree.Declaration.{size-Declaration}
+use Rattle.cue_syntax.specs.declared.tree.Declaration.TheViews.{sized-Field}
+use Rattle.cue_lattice.specs.Limits.{step_limit}
+use Rattle.cue_scope.specs.Limits as limits
+use Rattle.cue_syntax.specs.Syntax as tree
+use Rattle.cue_syntax.proofs.Views.{view-Field, view-Ellipsis, view-Definition}
+use Rattle.cue_scope.specs.Meaning.{meaning, nested}
+use Rattle.cue_scope.proofs.Walking.{at_hand}
+use Rattle.cue_eval.specs.Known.{core_of, parts_of}
+use Rattle.cue_eval.specs.Ready.{all_definitions, members_of, IsField}
+use Rattle.cue_eval.proofs.LiteralTables.{struct_result, close_result, list_result}
+use Rattle.cue_eval.proofs.Walks.{entry_first, definition_first, field_first, Unifying, Gathering, unifying_none, part_ready, part_unified, parts_result, gathering_none, ellipsis_passed, definition_passed, field_ready, field_within, field_gathered, fields_gathered, field_made, nested_depth, within_depth, none_behind}
+use Rattle.cue_eval.proofs.Listings.{Listing, listing_none, element_ready, element_listed, elements_listed, all_listed, elements_few}
+use Rattle.cue_eval.proofs.rows.Tables.+rows.Goals as goal
+use Rattle.cue_eval.proofs.rows.Tables.+rows.Goals.{fields-in-Ellipsis, fields-in-Definition, fields-in-Field+in_ok-field-in-Field+in_ok-push-in-Field}
+
+pub closed_literal-returns-clause-answers : goal.closed_literal-returns-clause-answers
+closed_literal-returns-clause-answers t c =
+    let ds = all_definitions c.args.self.now in
+    close_result c.struct_of.result (members_of c.args.self.now (tree.entries c.args.declarations.now)) c.in_ok-fields.fields.items c.in_ok-labels.labels
+    (c.in_ok-labels.ensures ds (meaning ds)) c.struct_of.ensures.answers c.in_ok-fields.ensures
+
+pub literal-returns-clause-answers : goal.literal-returns-clause-answers
+literal-returns-clause-answers t c =
+    let all : c.in_ok-labels.labels ≡ None = let was = c.in_ok-labels.was in let is = c.in_ok-labels.ensures in cc in
+    struct_result c.struct_of.result (members_of c.args.self.now (tree.entries c.args.declarations.now)) c.in_ok-fields.fields.items c.in_ok-labels.labels
+    all c.struct_of.ensures.answers c.in_ok-fields.ensures
+
+pub conjunction-loop-part-init : goal.conjunction-loop-part-init
+conjunction-loop-part-init t c =
+    subst (λ given. Unifying c.args.self.now given c.args.parts.now c.args.parts.now) (sym c.new-tables.ensures.items) (unifying_none c.args.self.now c.args.parts.now c.requires)
+
+pub conjunction-rows-requires : goal.conjunction-rows-requires
+conjunction-rows-requires t c =
+    let left = at_hand c.args.parts.now c.loop-part.part-index c.part-item.result c.loop-part-test.true c.part-item.is in
+    let can = part_ready c.args.self.now c.loop-part.tables.items c.args.parts.now _ c.part-item.result _ c.loop-part.invariant left in (
+      let among : size-Expr c.part-item.result ≤ most (λ e. size-Expr e) c.args.parts.now =
+          subst (λ e. size-Expr e ≤ most (λ x. size-Expr x) c.args.parts.now) (sym c.part-item.is) (at_most (λ e. size-Expr e) c.args.parts.now c.loop-part.part-index c.part-item.result c.loop-part-test.true) in
+          omega (arith, c.decreases, among),
+      can,
+    )
+
+pub conjunction-loop-part-preserved : goal.conjunction-loop-part-preserved
+conjunction-loop-part-preserved t c =
+    subst (λ xs. Unifying c.args.self.now xs c.args.parts.now (drop (c.loop-part.part-index + 1) c.args.parts.now)) (sym c.in_ok-push.ensures.items)
+    (part_unified c.args.self.now c.loop-part.tables.items c.args.parts.now _ c.part-item.result _ c.in_ok-table.table c.loop-part.invariant
+    (at_hand c.args.parts.now c.loop-part.part-index c.part-item.result c.loop-part-test.true c.part-item.is) c.in_ok-table.ensures.answers)
+
+pub conjunction-returns-clause-answers : goal.conjunction-returns-clause-answers
+conjunction-returns-clause-answers t c =
+    parts_result c.unified.result c.args.self.now c.loop-part.tables.items c.args.parts.now _ c.loop-part.invariant
+    (none_behind c.args.parts.now c.loop-part.part-index (let end = c.loop-part-test.false in omega arith)) c.unified.ensures.refused
+
+pub field-behind-requires : goal.field-behind-requires
+field-behind-requires t c =
+    let e = core_of c.args.self.now.pairs (tree.expression c.args.value.now) in
+    let at = within_depth e c.in_ok-inner.inner c.in_ok-inner.ensures.form c.in_ok-inner.ensures.answers in
+    let deeper = nested_depth c.args.chain.now e in
+    let less = c.requires.depth in
+    omega arith
+
+pub field-returns : goal.field-returns
+field-returns t c =
+    let e = core_of c.args.self.now.pairs (tree.expression c.args.value.now) in
+    field_made c.args.label.now (nested c.args.chain.now e) c.in_ok-step.step c.in_ok-table.table c.in_ok-marked.field-0 c.in_ok-step.ensures c.requires.depth
+    c.in_ok-table.ensures.form (c.in_ok-table.ensures.answers e c.in_ok-inner.ensures.answers) c.in_ok-marked.ensures.form c.in_ok-marked.ensures.answers
+
+pub fields-loop-declaration-init : goal.fields-loop-declaration-init
+fields-loop-declaration-init t c =
+    let es = tree.entries c.args.declarations.now in
+    subst (λ given. Gathering c.args.self.now given es es) (sym c.new-fields.ensures.items) (gathering_none c.args.self.now es c.requires)
+
+pub fields-field-requires : goal.fields-field-requires
+fields-field-requires t c =
+    let left = field_first c.args.declarations.now c.loop-declaration.declaration-index c.declaration-item.result c.in-Field.label c.in-Field.chain c.in-Field.value c.loop-declaration-test.true c.declaration-item.is c.in-Field.is in
+    let w = subst (λ z. Gathering c.args.self.now c.loop-declaration.fields.items (tree.entries c.args.declarations.now) z) left c.loop-declaration.invariant in
+    let rest = tree.entries (drop (c.loop-declaration.declaration-index + 1) c.args.declarations.now) in
+    let ready = field_ready c.args.self.now c.loop-declaration.fields.items (tree.entries c.args.declarations.now) rest c.in-Field.label c.in-Field.chain.items (tree.expression c.in-Field.value) w in
+    let within = field_within c.args.self.now c.loop-declaration.fields.items (tree.entries c.args.declarations.now) rest c.in-Field.label c.in-Field.chain.items (tree.expression c.in-Field.value) w in
+    let chain = c.deref.ensures.value in (
+      let among : size-Declaration c.declaration-item.result ≤ most (λ e. size-Declaration e) c.args.declarations.now =
+          subst (λ e. size-Declaration e ≤ most (λ x. size-Declaration x) c.args.declarations.now) (sym c.declaration-item.is) (at_most (λ e. size-Declaration e) c.args.declarations.now c.loop-declaration.declaration-index c.declaration-item.result c.loop-declaration-test.true) in
+          let is = ap size-Declaration c.in-Field.is in
+          let own = sized-Field c.in-Field.label c.in-Field.chain c.in-Field.value in
+          omega (arith, c.decreases, among, is, own),
+      (ready, subst (λ ls. limits.depth (nested ls (core_of c.args.self.now.pairs (tree.expression c.in-Field.value))) < step_limit) (sym c.deref.ensures.value) within),
+    )
+
+pub fields-loop-declaration-preserved : goal.fields-loop-declaration-preserved
+fields-loop-declaration-preserved t c =
+    let known = c.args.self.now in
+    let given = c.loop-declaration.fields.items in
+    let ds = c.args.declarations.now in
+    let i = c.loop-declaration.declaration-index in
+    let all = tree.entries ds in
+    let rest = tree.entries (drop (i + 1) ds) in
+    elim c.match-declaration.branch [
+      | fields-in-Ellipsis w ↦
+          let left = entry_first ds i c.declaration-item.result tree.ellipsis c.loop-declaration-test.true c.declaration-item.is (ap tree.entry_tree w.in-Ellipsis.is ∙ view-Ellipsis) in
+          rw w.fields-is (ellipsis_passed known given all rest (subst (λ z. Gathering known given all z) left c.loop-declaration.invariant))
+      | fields-in-Definition w ↦
+          let left = definition_first ds i c.declaration-item.result w.in-Definition.name w.in-Definition.from w.in-Definition.chain w.in-Definition.value c.loop-declaration-test.true c.declaration-item.is w.in-Definition.is in
+          rw w.fields-is (definition_passed known given all rest w.in-Definition.name w.in-Definition.from w.in-Definition.chain.items (tree.expression w.in-Definition.value)
+          (subst (λ z. Gathering known given all z) left c.loop-declaration.invariant))
+      | fields-in-Field+in_ok-field-in-Field+in_ok-push-in-Field w ↦
+          let left = field_first ds i c.declaration-item.result w.in-Field.label w.in-Field.chain w.in-Field.value c.loop-declaration-test.true c.declaration-item.is w.in-Field.is in
+          let e = core_of known.pairs (tree.expression w.in-Field.value) in
+          let made = subst (λ ls. IsField w.in-Field.label (nested ls e) w.in_ok-field-in-Field.field) w.deref.ensures.value w.in_ok-field-in-Field.ensures in
+          rw w.fields-is (subst (λ xs. Gathering known xs all rest) (sym w.in_ok-push-in-Field.ensures.items)
+          (field_gathered known given all rest w.in-Field.label w.in-Field.chain.items (tree.expression w.in-Field.value) w.in_ok-field-in-Field.field
+          (subst (λ z. Gathering known given all z) left c.loop-declaration.invariant) made))
+    ]
+
+pub fields-returns : goal.fields-returns
+fields-returns t c =
+    fields_gathered c.args.self.now c.loop-declaration.fields.items (tree.entries c.args.declarations.now) (tree.entries (drop c.loop-declaration.declaration-index c.args.declarations.now)) c.loop-declaration.invariant
+    (ap tree.entries (none_behind c.args.declarations.now c.loop-declaration.declaration-index (let end = c.loop-declaration-test.false in omega arith)))
+
+pub list-loop-element-init : goal.list-loop-element-init
+list-loop-element-init t c =
+    subst (λ given. Listing c.args.self.now given c.args.elements.now c.args.elements.now) (sym c.new-steps.ensures.items) (listing_none c.args.self.now c.args.elements.now c.requires)
+
+pub list-rows-requires : goal.list-rows-requires
+list-rows-requires t c =
+    let left = at_hand c.args.elements.now c.loop-element.element-index c.element-item.result c.loop-element-test.true c.element-item.is in
+    let can = element_ready c.args.self.now c.loop-element.steps.items c.args.elements.now _ c.element-item.result _ c.loop-element.invariant left in (
+      let among : size-Expr c.element-item.result ≤ most (λ e. size-Expr e) c.args.elements.now =
+          subst (λ e. size-Expr e ≤ most (λ x. size-Expr x) c.args.elements.now) (sym c.element-item.is) (at_most (λ e. size-Expr e) c.args.elements.now c.loop-element.element-index c.element-item.result c.loop-element-test.true) in
+          omega (arith, c.decreases, among),
+      can,
+    )
+
+pub list-overflow_cast-index : goal.list-overflow_cast-index
+list-overflow_cast-index t c =
+    let few = elements_few c.args.self.now c.args.elements.now c.requires in
+    let counted = c.loop-element.invariant.counted in
+    let len = c.len-index.ensures in
+    omega arith
+
+pub list-loop-element-preserved : goal.list-loop-element-preserved
+list-loop-element-preserved t c =
+    subst (λ xs. Listing c.args.self.now xs c.args.elements.now (drop (c.loop-element.element-index + 1) c.args.elements.now)) (sym c.in_ok-push.ensures.items)
+    (element_listed c.args.self.now c.loop-element.steps.items c.args.elements.now _ c.element-item.result _ c.len-index.result c.in_ok-table.table c.loop-element.invariant
+    (at_hand c.args.elements.now c.loop-element.element-index c.element-item.result c.loop-element-test.true c.element-item.is) (c.len-index.ensures ∙ c.loop-element.steps.ok.0) c.in_ok-table.ensures.form c.in_ok-table.ensures.answers)
+
+pub list-list_of-requires-clause-count : goal.list-list_of-requires-clause-count
+list-list_of-requires-clause-count t c =
+    let few = elements_few c.args.self.now c.args.elements.now c.requires in
+    let counted = c.loop-element.invariant.counted in
+    omega arith
+
+pub list-list_of-requires-clause-depth : goal.list-list_of-requires-clause-depth
+list-list_of-requires-clause-depth t c = c.loop-element.invariant.deep
+
+pub list-returns-clause-answers : goal.list-returns-clause-answers
+list-returns-clause-answers t c =
+    let end = none_behind c.args.elements.now c.loop-element.element-index (let e = c.loop-element-test.false in omega arith) in
+    list_result c.list_of.result (parts_of c.args.self.now.pairs (tree.elements c.args.elements.now)) c.args.goes_on c.loop-element.steps.items
+    (all_listed c.args.self.now c.loop-element.steps.items c.args.elements.now _ c.loop-element.invariant end) c.list_of.ensures.answers
+    (elements_listed c.args.self.now c.loop-element.steps.items c.args.elements.now _ c.loop-element.invariant end)

@@ -1,0 +1,115 @@
+-- Expressions whose tables can be made: what is known of the definitions that they use, and their limits.
+use Rattle.std.specs.Prelude.{◌≡◌, ◌≤◌, ◌<◌, ◌+◌, ◌↔◌, ◌⊎◌, ℕ, List, [], Option, Some, None, All, slice_index_or}
+use Rattle.cue_lattice.specs.Limits.{size_limit, step_limit}
+use Rattle.cue_lattice.specs.Path as paths
+use Rattle.cue_lattice.specs.Path.{Path, label, index}
+use Rattle.cue_lattice.specs.Question.{Question, SameAnswers}
+use Rattle.cue_row.specs.Row.{Refuses, IsRow}
+use Rattle.cue_row.specs.Steps.{step_of}
+use Rattle.cue_row.specs.declared.row.Row.{Row}
+use Rattle.cue_row.specs.declared.step.Step.{Step}
+use Rattle.cue_table.specs.Depth.{tree_depth}
+use Rattle.cue_table.specs.Form.{IsTable}
+use Rattle.cue_table.specs.Tree.{Tree}
+use Rattle.cue_syntax.specs.Syntax as tree
+use Rattle.cue_syntax.specs.Syntax.{Expression, Elements, Entries}
+use Rattle.cue_syntax.specs.Grammar.{IsRight, AreRight, AreRightEntries}
+use Rattle.cue_syntax.specs.declared.tree.Label.{Label}
+use Rattle.cue_scope.specs.Core.{Core, Cores, Members}
+use Rattle.cue_scope.specs.Definitions.{Definition}
+use Rattle.cue_scope.specs.Graph.{IsIn}
+use Rattle.cue_scope.specs.Limits.{size, size_of_cores, size_of_members, depth, depth_of_cores, depth_of_elements, depth_of_members}
+use Rattle.cue_scope.specs.Meaning.{meaning, meant, meant_elements, meant_members, text_of}
+use Rattle.cue_scope.specs.Terms.{terms, terms_of_elements, terms_of_entries}
+use Rattle.cue_scope.specs.Uses.{uses, uses_of_elements, uses_of_entries}
+use Rattle.cue_eval.specs.declared.rows.Tables.{Tables}
+use Rattle.cue_eval.specs.Evaluated.{HasAnswersOf}
+use Rattle.cue_eval.specs.Known.{ArePairsKnown, definitions_of, core_of, parts_of}
+use Rattle.cue_eval.specs.Gathered.{Answers, GivenRefuse}
+use Rattle.cue_eval.specs.Places.{Here, MarkRefuses}
+use Rattle.cue_eval.specs.Refuses as refusing
+use Rattle.cue_eval.specs.Refuses.{FieldRefuses, ElementRefuses}
+
+abbrev pub all_definitions : Tables → List Definition
+all_definitions known = definitions_of known.pairs
+
+abbrev pub members_of : Tables → Entries → Members
+members_of known es = meant_members (all_definitions known) (meaning (all_definitions known)) es
+
+-- a table in form that refuses what the expression does
+pub record IsTableOf (c : Core) (table : Tree Row) : Type 0 where
+  pub form : IsTable Refuses IsRow table
+  pub answers : HasAnswersOf c table
+
+abbrev pub IsTableAt : Core → Option (Tree Row) → Type 0
+IsTableAt c None = ⊥
+IsTableAt c (Some table) = IsTableOf c table
+
+-- of each of these definitions the table is known, and the pair where it is scalar
+pub record AreKnown (known : Tables) (is : List ℕ) : Type 0 where
+  pub pairs : ArePairsKnown known.pairs is
+  pub tables : (i : ℕ) → IsIn i is → IsTableAt (meaning (all_definitions known) i) (slice_index_or known.tables.now i None)
+
+-- An expression of the grammar whose terms are scalar, that is neither too large nor too deep, and that uses known definitions.
+pub record IsReady (known : Tables) (e : Expression) : Type 0 where
+  pub right : IsRight e
+  pub used : AreKnown known (uses (all_definitions known) e)
+  pub terms : terms (all_definitions known) (meaning (all_definitions known)) e ≡ []
+  pub size : size (core_of known.pairs e) ≤ size_limit
+  pub depth : depth (core_of known.pairs e) ≤ step_limit
+
+-- the parts of a conjunction
+pub record AreReadyParts (known : Tables) (es : Elements) : Type 0 where
+  pub right : AreRight es
+  pub used : AreKnown known (uses_of_elements (all_definitions known) es)
+  pub terms : terms_of_elements (all_definitions known) (meaning (all_definitions known)) es ≡ []
+  pub size : size_of_cores (parts_of known.pairs es) ≤ size_limit
+  pub depth : depth_of_cores (parts_of known.pairs es) ≤ step_limit
+
+-- the elements of a list
+pub record AreReadyElements (known : Tables) (es : Elements) : Type 0 where
+  pub right : AreRight es
+  pub used : AreKnown known (uses_of_elements (all_definitions known) es)
+  pub terms : terms_of_elements (all_definitions known) (meaning (all_definitions known)) es ≡ []
+  pub size : size_of_cores (parts_of known.pairs es) ≤ size_limit
+  pub depth : depth_of_elements (parts_of known.pairs es) ≤ step_limit
+
+-- the declarations of a struct literal
+pub record AreReadyEntries (known : Tables) (es : Entries) : Type 0 where
+  pub right : AreRightEntries es
+  pub used : AreKnown known (uses_of_entries (all_definitions known) es)
+  pub terms : terms_of_entries (all_definitions known) (meaning (all_definitions known)) es ≡ []
+  pub size : size_of_members (members_of known es) ≤ size_limit
+  pub depth : depth_of_members (members_of known es) ≤ step_limit
+
+-- a field with its step: what its mark and its value refuse
+pub record IsField (l : Label) (c : Core) (field : Step × Tree Row) : Type 0 where
+  pub step : step_of field.0 ≡ label (text_of l.name)
+  pub deep : tree_depth field.1 < step_limit
+  pub answers : SameAnswers (Answers field.1) (λ path question. Here (MarkRefuses l.mark) path question ⊎ refusing.Refuses c path question)
+
+-- what is given refuses at each step what it is to refuse there, and can be hung in
+pub record AreGiven (all : paths.Step → Path → Question → Type 0) (given : List (Step × Tree Row)) : Type 0 where
+  pub refused : (step : paths.Step) (path : Path) (question : Question) → GivenRefuse given step path question ↔ all step path question
+  pub deep : All (λ one. tree_depth one.1 < step_limit) given
+
+-- the fields of declarations, by their steps
+abbrev pub AtLabels : Members → paths.Step → Path → Question → Type 0
+AtLabels ms (label l) path question = FieldRefuses ms l path question
+AtLabels ms (index i) path question = ⊥
+
+-- elements, by their steps, of which the first has this index
+abbrev pub AtIndexes : ℕ → Cores → paths.Step → Path → Question → Type 0
+AtIndexes first cs (label l) path question = ⊥
+AtIndexes first cs (index i) path question = (k : ℕ) × (first + k ≡ i) × ElementRefuses cs k path question
+
+-- a literal of scalars, or a disjunction
+abbrev pub IsScalarLeaf : Expression → Type 0
+IsScalarLeaf (tree.integer n) = Unit {0}
+IsScalarLeaf (tree.text t) = Unit {0}
+IsScalarLeaf tree.bottom = Unit {0}
+IsScalarLeaf (tree.bound c n) = Unit {0}
+IsScalarLeaf (tree.other_integer n) = Unit {0}
+IsScalarLeaf (tree.other_text t) = Unit {0}
+IsScalarLeaf (tree.disjunction bs) = Unit {0}
+IsScalarLeaf _ = ⊥

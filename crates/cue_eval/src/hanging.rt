@@ -1,0 +1,110 @@
+//! Tables of literals, made of those of their parts.
+ghost use Rattle.std.specs.Prelude.{◌≡◌, ◌≤◌, ◌<◌, ◌+◌, ◌⊎◌, All, IfOk, length};
+ghost use Rattle.cue_lattice.specs.Limits.{step_limit, length_limit};
+ghost use Rattle.cue_lattice.specs.Question.{Question as Asked, SameAnswers};
+ghost use Rattle.cue_lattice.specs.Path.{Path as Steps};
+ghost use Rattle.cue_row.specs.Row.{RowRefuses, Refuses, IsRow};
+ghost use Rattle.cue_scalars.specs.Values.{pair_of};
+ghost use Rattle.cue_scope.specs.Core.{Core};
+ghost use Rattle.cue_scope.specs.Meaning.{nested, text_of};
+ghost use Rattle.cue_table.specs.Depth.{tree_depth};
+ghost use Rattle.cue_table.specs.Form.{IsTable};
+ghost use Rattle.cue_eval.specs.Evaluated.{HasAnswersOf};
+ghost use Rattle.cue_eval.specs.Gathered.{Answers, LabelsRefuse, LiteralAnswers};
+ghost use Rattle.cue_eval.specs.Places.{Here, ScalarRefuses, StructRefuses, ListRefuses, MarkRefuses};
+
+use crate::place::{list_row, mark_row, scalar_row, struct_row};
+use cue_lattice::Memory;
+use cue_row::{Labels, Path, Row, Step};
+use cue_scalars::Valued;
+use cue_syntax::{Label, LabelName, Mark};
+use cue_table::Table;
+use std::alloc::Global;
+
+/// A table, and what a row says at its root.
+pub(crate) fn rooted(alloc: Global, mut table: Table<Row>, row: &Row) -> Result<Table<Row>, Memory>
+    ensures form { IfOk result (IsTable Refuses IsRow) }
+    ensures answers { IfOk result (λ after. SameAnswers (Answers after) (λ path question. Answers table path question ⊎ Here (RowRefuses row.now) path question)) }
+{
+    table.add(&Path::root(alloc), row)?;
+    Ok(table)
+}
+
+/// What is known where these scalars stand.
+pub(crate) fn scalar_table(alloc: Global, valued: Valued) -> Result<Table<Row>, Memory>
+    ensures form { IfOk result (IsTable Refuses IsRow) }
+    ensures answers { IfOk result (λ table. SameAnswers (Answers table) (Here (ScalarRefuses (pair_of valued)))) }
+{
+    rooted(alloc, Table::new(alloc), &scalar_row(alloc, valued)?)
+}
+
+/// A struct of these fields, with these labels alone.
+pub(crate) fn struct_of(
+    alloc: Global,
+    fields: Vec<(Step, Table<Row>)>,
+    labels: Labels,
+) -> Result<Table<Row>, Memory>
+    requires { All (λ field. tree_depth field.1 < step_limit) fields.items }
+    ensures form { IfOk result (IsTable Refuses IsRow) }
+    ensures answers { IfOk result (λ table. SameAnswers (Answers table) (LiteralAnswers (λ question. StructRefuses question ⊎ LabelsRefuse labels question) fields.items)) }
+{
+    let below = Table::of_branches(alloc, fields)?;
+    rooted(alloc, below, &struct_row(alloc, labels)?)
+}
+
+/// A list of these elements, and whether it ends in `...`.
+pub(crate) fn list_of(
+    alloc: Global,
+    elements: Vec<(Step, Table<Row>)>,
+    goes_on: bool,
+) -> Result<Table<Row>, Memory>
+    requires count { length elements.items ≤ length_limit }
+    requires depth { All (λ element. tree_depth element.1 < step_limit) elements.items }
+    ensures form { IfOk result (IsTable Refuses IsRow) }
+    ensures answers { IfOk result (λ table. SameAnswers (Answers table) (LiteralAnswers (ListRefuses (length elements.items) goes_on) elements.items)) }
+{
+    let count = elements.len();
+    let below = Table::of_branches(alloc, elements)?;
+    rooted(alloc, below, &list_row(alloc, count, goes_on)?)
+}
+
+/// A field with its mark, of what is known of its value.
+pub(crate) fn marked(alloc: Global, table: Table<Row>, mark: Mark) -> Result<Table<Row>, Memory>
+    ensures form { IfOk result (IsTable Refuses IsRow) }
+    ensures answers { IfOk result (λ after. SameAnswers (Answers after) (λ path question. Here (MarkRefuses mark) path question ⊎ Answers table path question)) }
+{
+    rooted(alloc, table, &mark_row(alloc, mark)?)
+}
+
+/// The step to the field of a label.
+pub(crate) fn step_to(alloc: Global, label: &Label) -> Result<Step, Memory>
+    ensures { IfOk result (λ step. step ≡ Step.Label (text_of label.now.name)) }
+{
+    match &label.name {
+        LabelName::Plain(name) => Ok(Step::Label(name.to_text(alloc)?)),
+        LabelName::Quoted(text) => Ok(Step::Label(text.to_text(alloc)?)),
+    }
+}
+
+/// What stands behind a chain of labels, each of which is in a struct of its own.
+pub(crate) fn behind(
+    alloc: Global,
+    chain: &[Label],
+    table: Table<Row>,
+) -> Result<Table<Row>, Memory>
+    requires { tree_depth table + length chain.now ≤ step_limit }
+    ensures form { IfOk result (IsTable Refuses IsRow) }
+    ensures depth { IfOk result (λ after. tree_depth after ≤ tree_depth table + length chain.now) }
+    ensures answers { IfOk result (λ after. (c : Core) → HasAnswersOf c table → HasAnswersOf (nested chain.now c) after) }
+{
+    match chain {
+        [] => Ok(table),
+        [first, rest @ ..] => {
+            let inner = behind(alloc, rest, table)?;
+            let field = marked(alloc, inner, first.mark)?;
+            let mut fields = Vec::with_capacity(alloc, 1)?;
+            fields.push((step_to(alloc, first)?, field))?;
+            struct_of(alloc, fields, Labels::all(alloc)?)
+        }
+    }
+}

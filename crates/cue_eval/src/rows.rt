@@ -1,0 +1,214 @@
+//! What expressions refuse, as tables.
+ghost use Rattle.std.specs.Prelude.{◌≡◌, ◌<◌, IfOk};
+ghost use Rattle.cue_lattice.specs.Limits.{step_limit};
+ghost use Rattle.cue_row.specs.Row.{Refuses, IsRow};
+ghost use Rattle.cue_scope.specs.Core as core;
+ghost use Rattle.cue_scope.specs.Limits as limits;
+ghost use Rattle.cue_scope.specs.Meaning.{nested};
+ghost use Rattle.cue_scope.specs.Uses.{uses_of_name};
+ghost use Rattle.cue_syntax.specs.Syntax as tree;
+ghost use Rattle.cue_table.specs.Form.{IsTable};
+ghost use Rattle.cue_eval.specs.Evaluated.{HasAnswersOf};
+ghost use Rattle.cue_eval.specs.Known.{core_of, named_core, parts_of};
+ghost use Rattle.cue_eval.specs.Ready.{all_definitions, members_of, AreKnown, IsReady, AreReadyParts, AreReadyElements, AreReadyEntries, IsField, AreGiven, AtLabels, IsScalarLeaf};
+
+use crate::hanging::{behind, list_of, marked, scalar_table, step_to, struct_of};
+use crate::labels::labels_of;
+use crate::pair::Pairs;
+use crate::scalars::nothing;
+use cue_lattice::Memory;
+use cue_row::{Labels, Row, Step};
+use cue_syntax::{Declaration, Expr, Identifier, Label};
+use cue_table::Table;
+
+/// The definitions of a text, with the table of each one that was evaluated, and its pair where it
+/// is scalar.
+#[derive(Clone, Copy, Drop)]
+pub(crate) struct Tables<'a, 'f, 't> {
+    pub pairs: Pairs<'a, 'f, 't>,
+    /// By the numbers of the definitions.
+    pub tables: &'a [Option<Table<Row>>],
+}
+
+impl<'a, 'f, 't> Tables<'a, 'f, 't> {
+    /// What an expression refuses.
+    #[cycle(rows)]
+    pub(crate) fn rows(&self, expression: &Expr) -> Result<Table<Row>, Memory>
+        requires { IsReady self.now (tree.expression expression.now) }
+        ensures form { IfOk result (IsTable Refuses IsRow) }
+        ensures answers { IfOk result (HasAnswersOf (core_of self.now.pairs (tree.expression expression.now))) }
+    {
+        match expression {
+            Expr::Name { name, .. } => self.name(name),
+            Expr::Parenthesis { inner, .. } => self.rows(inner),
+            Expr::Struct { declarations, .. } => self.literal(declarations),
+            Expr::Close { declarations, .. } => self.closed_literal(declarations),
+            Expr::List {
+                elements,
+                ellipsis,
+                ..
+            } => self.list(elements, *ellipsis),
+            Expr::Conjunction(parts) => self.conjunction(parts),
+            Expr::Disjunction(_) => self.scalar(expression),
+            Expr::Integer(_) => self.scalar(expression),
+            Expr::Text(_) => self.scalar(expression),
+            Expr::Bottom => self.scalar(expression),
+            Expr::Bound(_, _) => self.scalar(expression),
+            Expr::OtherInteger(_) => self.scalar(expression),
+            Expr::OtherText(_) => self.scalar(expression),
+        }
+    }
+
+    /// A scalar expression that is neither a name nor a conjunction.
+    fn scalar(&self, expression: &Expr) -> Result<Table<Row>, Memory>
+        requires ready { IsReady self.now (tree.expression expression.now) }
+        requires scalar { IsScalarLeaf (tree.expression expression.now) }
+        ensures form { IfOk result (IsTable Refuses IsRow) }
+        ensures answers { IfOk result (HasAnswersOf (core_of self.now.pairs (tree.expression expression.now))) }
+    {
+        let valued = self.pairs.pair(expression)?;
+        scalar_table(self.pairs.alloc, valued)
+    }
+
+    /// A name.
+    fn name(&self, name: &Identifier) -> Result<Table<Row>, Memory>
+        requires { AreKnown self.now (uses_of_name (all_definitions self.now) name.now) }
+        ensures form { IfOk result (IsTable Refuses IsRow) }
+        ensures answers { IfOk result (HasAnswersOf (named_core self.now.pairs name.now)) }
+    {
+        match name {
+            Identifier::Definition(text) => self.used(text.as_str()),
+            Identifier::Hidden(text) => self.hidden(text.as_str()),
+            Identifier::Plain(_) => {
+                let valued = self.pairs.name(name)?;
+                scalar_table(self.pairs.alloc, valued)
+            }
+        }
+    }
+
+    /// A name that begins with `_`.
+    fn hidden(&self, name: &str) -> Result<Table<Row>, Memory>
+        ensures form { IfOk result (IsTable Refuses IsRow) }
+        ensures answers { IfOk result (HasAnswersOf (named_core self.now.pairs (Identifier.Hidden name.now))) }
+    {
+        let alloc = self.pairs.alloc;
+        if name == "_" {
+            return Ok(Table::new(alloc));
+        }
+        scalar_table(alloc, nothing(alloc)?)
+    }
+
+    /// A use of a definition.
+    fn used(&self, name: &str) -> Result<Table<Row>, Memory>
+        requires { AreKnown self.now (uses_of_name (all_definitions self.now) (Identifier.Definition name.now)) }
+        ensures form { IfOk result (IsTable Refuses IsRow) }
+        ensures answers { IfOk result (HasAnswersOf (named_core self.now.pairs (Identifier.Definition name.now))) }
+    {
+        let alloc = self.pairs.alloc;
+        match self.pairs.definitions.number(name) {
+            None => scalar_table(alloc, nothing(alloc)?),
+            Some(number) => match self.tables.get(number) {
+                None => Ok(Table::new(alloc)),
+                Some(None) => Ok(Table::new(alloc)),
+                Some(Some(table)) => table.copy(alloc),
+            },
+        }
+    }
+
+    /// Parts that are joined by `&`.
+    #[cycle(rows)]
+    fn conjunction(&self, parts: &[Expr]) -> Result<Table<Row>, Memory>
+        requires { AreReadyParts self.now (tree.elements parts.now) }
+        ensures form { IfOk result (IsTable Refuses IsRow) }
+        ensures answers { IfOk result (HasAnswersOf (core.conjunction (parts_of self.now.pairs (tree.elements parts.now)))) }
+    {
+        let mut tables = Vec::new(self.pairs.alloc);
+        for part in parts {
+            let table = self.rows(part)?;
+            tables.push(table)?;
+        }
+        Table::unified(self.pairs.alloc, tables)
+    }
+
+    /// A struct literal.
+    #[cycle(rows)]
+    fn literal(&self, declarations: &[Declaration]) -> Result<Table<Row>, Memory>
+        requires { AreReadyEntries self.now (tree.entries declarations.now) }
+        ensures form { IfOk result (IsTable Refuses IsRow) }
+        ensures answers { IfOk result (HasAnswersOf (core.struct (members_of self.now (tree.entries declarations.now)))) }
+    {
+        let fields = self.fields(declarations)?;
+        let labels = Labels::all(self.pairs.alloc)?;
+        struct_of(self.pairs.alloc, fields, labels)
+    }
+
+    /// `close` of a struct literal.
+    #[cycle(rows)]
+    fn closed_literal(&self, declarations: &[Declaration]) -> Result<Table<Row>, Memory>
+        requires { AreReadyEntries self.now (tree.entries declarations.now) }
+        ensures form { IfOk result (IsTable Refuses IsRow) }
+        ensures answers { IfOk result (HasAnswersOf (core.close (members_of self.now (tree.entries declarations.now)))) }
+    {
+        let fields = self.fields(declarations)?;
+        let labels = labels_of(self.pairs.alloc, declarations)?;
+        struct_of(self.pairs.alloc, fields, labels)
+    }
+
+    /// The fields of a struct literal, each with its step, in the order of the text.
+    #[cycle(rows)]
+    fn fields(&self, declarations: &[Declaration]) -> Result<Vec<(Step, Table<Row>)>, Memory>
+        requires { AreReadyEntries self.now (tree.entries declarations.now) }
+        ensures { IfOk result (λ fields. AreGiven (AtLabels (members_of self.now (tree.entries declarations.now))) fields.items) }
+    {
+        let mut fields = Vec::new(self.pairs.alloc);
+        for declaration in declarations {
+            match declaration {
+                Declaration::Ellipsis => {}
+                Declaration::Definition { .. } => {}
+                Declaration::Field {
+                    label,
+                    chain,
+                    value,
+                } => {
+                    let field = self.field(label, chain, value)?;
+                    fields.push(field)?;
+                }
+            }
+        }
+        Ok(fields)
+    }
+
+    /// A field with its step.
+    #[cycle(rows)]
+    pub(crate) fn field(
+        &self,
+        label: &Label,
+        chain: &[Label],
+        value: &Expr,
+    ) -> Result<(Step, Table<Row>), Memory>
+        requires ready { IsReady self.now (tree.expression value.now) }
+        requires depth { limits.depth (nested chain.now (core_of self.now.pairs (tree.expression value.now))) < step_limit }
+        ensures { IfOk result (IsField label.now (nested chain.now (core_of self.now.pairs (tree.expression value.now)))) }
+    {
+        let step = step_to(self.pairs.alloc, label)?;
+        let inner = self.rows(value)?;
+        let table = behind(self.pairs.alloc, chain, inner)?;
+        Ok((step, marked(self.pairs.alloc, table, label.mark)?))
+    }
+
+    /// A list literal, and whether it ends in `...`.
+    #[cycle(rows)]
+    fn list(&self, elements: &[Expr], goes_on: bool) -> Result<Table<Row>, Memory>
+        requires { AreReadyElements self.now (tree.elements elements.now) }
+        ensures form { IfOk result (IsTable Refuses IsRow) }
+        ensures answers { IfOk result (HasAnswersOf (core.list (parts_of self.now.pairs (tree.elements elements.now)) goes_on)) }
+    {
+        let mut steps = Vec::new(self.pairs.alloc);
+        for element in elements {
+            let table = self.rows(element)?;
+            let index = steps.len() as u32;
+            steps.push((Step::Index(index), table))?;
+        }
+        list_of(self.pairs.alloc, steps, goes_on)
+    }
+}
