@@ -1,0 +1,126 @@
+//! What tables are printed as.
+use crate::sample::Place::{Closed, Free, List, Nothing, Struct, Values};
+use crate::sample::{NONE, Place, Scalars, integers, table};
+use cue_print::{Memory, others_are_left, print};
+use cue_row::Level::{Given, Optional, Required};
+use cue_row::{Level, Row};
+use cue_table::Table;
+use std::alloc::Global;
+use std::test::Fail;
+
+/// The text of the table with these places.
+fn printed(alloc: Global, places: &[(&str, Level, Place)]) -> Result<String, Memory> {
+    print(alloc, &table(alloc, places)?)
+}
+
+#[test]
+fn nothing_known_is_one_line(rt: HostRuntime) -> Result<(), Fail> {
+    let alloc = rt.alloc();
+    let table: Table<Row> = Table::new(alloc);
+    assert_eq!(rt; print(alloc, &table)?.as_str(), "_\n");
+    assert_eq!(rt; printed(alloc, &[])?.as_str(), "");
+    others_are_left();
+    Ok(())
+}
+
+#[test]
+fn defaults_stand_in_front(rt: HostRuntime) -> Result<(), Fail> {
+    let one = Scalars {
+        integers: Some((1, 1)),
+        ..NONE
+    };
+    let two = Scalars {
+        integers: Some((1, 2)),
+        ..NONE
+    };
+    let others = Scalars {
+        all_but: true,
+        letters: "xy",
+        ..NONE
+    };
+    let mixed = Scalars {
+        integers: Some((1, 1)),
+        ..others
+    };
+    let places = [
+        ("a", Given, Values(two, one)),
+        ("b", Given, Values(two, NONE)),
+        ("c", Given, Values(mixed, others)),
+        ("d", Given, Values(mixed, one)),
+    ];
+    let text = printed(rt.alloc(), &places)?;
+    assert_eq!(rt;
+        text.as_str(),
+        concat!(
+            "\"a\": *1 | 2\n",
+            "\"b\": *_|_ | >=1 & <=2\n",
+            "\"c\": *(!=\"x\" & !=\"y\") | 1\n",
+            "\"d\": *1 | !=\"x\" & !=\"y\"\n"
+        )
+    );
+    Ok(())
+}
+
+#[test]
+fn terms_stand_in_order(rt: HostRuntime) -> Result<(), Fail> {
+    let all = Scalars {
+        truths: true,
+        integers: Some((i64::MIN, 7)),
+        all_but: false,
+        letters: "xy",
+    };
+    let places = [
+        ("a", Given, Values(all, all)),
+        ("b", Required, Free),
+        ("c", Optional, integers(i64::MIN, i64::MAX)),
+        ("d", Given, integers(5, i64::MAX)),
+    ];
+    let text = printed(rt.alloc(), &places)?;
+    assert_eq!(rt;
+        text.as_str(),
+        "\"a\": bool | <=7 | \"x\" | \"y\"\n\"b\"!: _\n\"c\"?: int\n\"d\": >=5\n"
+    );
+    Ok(())
+}
+
+#[test]
+fn closed_structs_name_their_labels(rt: HostRuntime) -> Result<(), Fail> {
+    let places = [
+        ("w", Given, Struct),
+        ("wb", Given, integers(1, 1)),
+        ("x", Given, Closed("ac")),
+        ("xa", Given, integers(1, 1)),
+        ("xb", Given, Nothing),
+    ];
+    let text = printed(rt.alloc(), &places)?;
+    assert_eq!(rt;
+        text.as_str(),
+        "\"w\": {\"b\": 1}\n\"x\": close({\"a\": 1, \"c\"?: _}) & {\"b\": _|_}\n"
+    );
+    Ok(())
+}
+
+#[test]
+fn lists_tell_their_lengths(rt: HostRuntime) -> Result<(), Fail> {
+    let places = [
+        ("k", Given, List(0, None)),
+        ("l", Given, List(2, Some(1))),
+        ("l0", Optional, integers(1, 1)),
+        ("m", Given, List(2, Some(2))),
+        ("m1", Optional, integers(2, 2)),
+    ];
+    let text = printed(rt.alloc(), &places)?;
+    assert_eq!(rt;
+        text.as_str(),
+        "\"k\": [...]\n\"l\": [1, _, ...] & [_]\n\"m\": [_, 2]\n"
+    );
+    Ok(())
+}
+
+#[test]
+fn nothing_keeps_what_stands_below(rt: HostRuntime) -> Result<(), Fail> {
+    let places = [("a", Given, Nothing), ("ab", Given, integers(1, 1))];
+    let text = printed(rt.alloc(), &places)?;
+    assert_eq!(rt; text.as_str(), "\"a\": {\"b\": 1} & _|_\n");
+    Ok(())
+}
