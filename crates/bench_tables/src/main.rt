@@ -1,19 +1,23 @@
-//! Writes, reads and reports on large tables, to see how the cost grows with their size.
+//! Writes, reads, prints and reports on large tables, to see how the cost grows with their size.
 //!
 //! Without arguments it prints how many bytes the states of small tables have. With the words WORK
 //! SHAPE COUNT ROUNDS it makes a table and its state, does the work so many times and prints how
 //! many bytes the state has. WORK is `encode`, `decode`, `copy` (the bytes alone are copied),
-//! `conflicts`, `incomplete` or `export`. SHAPE is one of these:
+//! `conflicts`, `incomplete`, `export` or `print`. SHAPE is one of these:
 //! - `wide`: COUNT fields, each with an integer, at the top.
 //! - `deep`: COUNT such fields under a parent 61 levels down.
 //! - `texts`: one field, which may be one of COUNT texts.
 //! - `open`: COUNT fields at the top, each of which may be any integer.
 //! - `clashing`: COUNT fields at the top, in each of which nothing may stand.
+//! - `closed`: COUNT fields, each with an integer, of a struct that allows their labels alone.
 #![tactic(auto)]
+
+ghost use Rattle.cue_table.specs.Valid.{IsValidTable};
 
 use anyhow::Error;
 use cue_codec::{decode, encode};
 use cue_lattice::{Kind, Memory, Narrow, Text};
+use cue_print::print;
 use cue_report::{conflicts, export, incomplete};
 use cue_row::{Labels, Level};
 use cue_scalars::ScalarSet;
@@ -54,6 +58,7 @@ enum Work {
     Conflicts,
     Incomplete,
     Export,
+    Print,
 }
 
 impl Work {
@@ -65,6 +70,7 @@ impl Work {
             "conflicts" => Some(Work::Conflicts),
             "incomplete" => Some(Work::Incomplete),
             "export" => Some(Work::Export),
+            "print" => Some(Work::Print),
             _ => None,
         }
     }
@@ -78,15 +84,17 @@ enum Shape {
     Texts,
     Open,
     Clashing,
+    Closed,
 }
 
 impl Shape {
-    const ALL: [Shape; 5] = [
+    const ALL: [Shape; 6] = [
         Shape::Wide,
         Shape::Deep,
         Shape::Texts,
         Shape::Open,
         Shape::Clashing,
+        Shape::Closed,
     ];
 
     fn name(self) -> &'static str {
@@ -96,6 +104,7 @@ impl Shape {
             Shape::Texts => "texts",
             Shape::Open => "open",
             Shape::Clashing => "clashing",
+            Shape::Closed => "closed",
         }
     }
 
@@ -106,6 +115,7 @@ impl Shape {
             "texts" => Some(Shape::Texts),
             "open" => Some(Shape::Open),
             "clashing" => Some(Shape::Clashing),
+            "closed" => Some(Shape::Closed),
             _ => None,
         }
     }
@@ -114,6 +124,7 @@ impl Shape {
     fn levels(self) -> usize {
         match self {
             Shape::Deep => 61,
+            Shape::Closed => 1,
             Shape::Wide | Shape::Texts | Shape::Open | Shape::Clashing => 0,
         }
     }
@@ -133,10 +144,15 @@ fn path(alloc: Global, steps: Vec<Step>) -> Path {
     Path::new(steps).unwrap_or(Path::root(alloc))
 }
 
+/// The label of a numbered field.
+fn label(alloc: Global, number: u32) -> Result<Text, Memory> {
+    Ok(Text::new(format!(in alloc; "f{number:08}")?))
+}
+
 /// The path of a numbered field whose parent is so many levels down.
 fn field(alloc: Global, levels: usize, number: u32) -> Result<Path, Memory> {
     let mut steps = parent(alloc, levels)?;
-    steps.push(Step::Label(Text::new(format!(in alloc; "f{number:08}")?)))?;
+    steps.push(Step::Label(label(alloc, number)?))?;
     Ok(path(alloc, steps))
 }
 
@@ -161,15 +177,15 @@ fn table<R: Narrow>(
     Ok(made)
 }
 
-/// The row of a struct that allows all labels.
-fn open_struct(alloc: Global, level: Level) -> Result<Row, Memory> {
+/// The row of a struct that allows these labels.
+fn a_struct(alloc: Global, level: Level, labels: Labels) -> Result<Row, Memory> {
     Ok(Row {
         level,
         value: ScalarSet::empty(alloc)?,
         usual: ScalarSet::empty(alloc)?,
         struct_ok: true,
         list_ok: false,
-        labels: Labels::all(alloc)?,
+        labels,
         least: 0,
         most: None,
     })
@@ -218,16 +234,36 @@ fn texts(alloc: Global, count: u32) -> Result<ScalarSet, Memory> {
     })
 }
 
+/// The labels of so many fields, and no others.
+fn labels(alloc: Global, fields: u32) -> Result<Labels, Memory> {
+    let mut list = Vec::new(alloc);
+    for number in 0..fields {
+        list.push(label(alloc, number)?)?;
+    }
+    match Labels::listing(list) {
+        Some(labels) => Ok(labels),
+        None => Labels::all(alloc),
+    }
+}
+
 /// The table of this shape with so many fields or texts.
 fn shaped(alloc: Global, shape: Shape, count: u32) -> Result<Table<Row>, Memory> {
     let (fields, value) = match shape {
-        Shape::Wide | Shape::Deep => (count, integers(alloc, IntSet::one(alloc, 7)?)?),
+        Shape::Wide | Shape::Deep | Shape::Closed => {
+            (count, integers(alloc, IntSet::one(alloc, 7)?)?)
+        }
         Shape::Open => (count, integers(alloc, IntSet::full(alloc)?)?),
         Shape::Clashing => (count, ScalarSet::empty(alloc)?),
         Shape::Texts => (1, texts(alloc, count)?),
     };
-    let root = open_struct(alloc, Level::Optional)?;
-    let outer = open_struct(alloc, Level::Given)?;
+    let allowed = match shape {
+        Shape::Closed => labels(alloc, count)?,
+        Shape::Wide | Shape::Deep | Shape::Texts | Shape::Open | Shape::Clashing => {
+            Labels::all(alloc)?
+        }
+    };
+    let root = a_struct(alloc, Level::Optional, Labels::all(alloc)?)?;
+    let outer = a_struct(alloc, Level::Given, allowed)?;
     let row = scalar(alloc, value)?;
     table(alloc, shape.levels(), fields, &root, &outer, &row)
 }
@@ -238,6 +274,34 @@ fn read(alloc: Global, bytes: &[u8]) -> Result<(), Error> {
         Ok(_table) => Ok(()),
         Err(kind) => Err(Fault::Refused(kind).into()),
     }
+}
+
+/// Does the work once, on a valid table.
+fn done(alloc: Global, work: Work, table: &Table<Row>, bytes: &[u8]) -> Result<(), Error>
+    requires { IsValidTable table.now }
+{
+    match work {
+        Work::Encode => {
+            let _state = encode(alloc, table)?;
+        }
+        Work::Decode => read(alloc, bytes)?,
+        Work::Copy => {
+            let _state = Vec::from_slice(alloc, bytes)?;
+        }
+        Work::Conflicts => {
+            let _found = conflicts(alloc, table)?;
+        }
+        Work::Incomplete => {
+            let _gaps = incomplete(alloc, table)?;
+        }
+        Work::Export => {
+            let _export = export(alloc, table)?;
+        }
+        Work::Print => {
+            let _text = print(alloc, table)?;
+        }
+    }
+    Ok(())
 }
 
 /// Does the work so many times, and says how many bytes the state has.
@@ -254,24 +318,7 @@ fn measured(
     }
     let bytes = encode(alloc, &table)?;
     for _ in 0..rounds {
-        match work {
-            Work::Encode => {
-                let _state = encode(alloc, &table)?;
-            }
-            Work::Decode => read(alloc, &bytes)?,
-            Work::Copy => {
-                let _state = Vec::from_slice(alloc, &bytes)?;
-            }
-            Work::Conflicts => {
-                let _found = conflicts(alloc, &table)?;
-            }
-            Work::Incomplete => {
-                let _gaps = incomplete(alloc, &table)?;
-            }
-            Work::Export => {
-                let _export = export(alloc, &table)?;
-            }
-        }
+        done(alloc, work, &table, &bytes)?;
     }
     Ok(bytes.len())
 }
