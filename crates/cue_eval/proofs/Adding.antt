@@ -19,11 +19,11 @@ longest no_members = 0
 longest (member k mark c ms) = max (length k) (longest ms)
 longest (dots ms) = longest ms
 
-longest_of : List Members → ℕ
+pub longest_of : List Members → ℕ
 longest_of [] = 0
 longest_of (ms ∷ all) = max (longest ms) (longest_of all)
 
-longer_differs : (k l : List ℕ) → length k < length l → bytes_eq k l ≡ false
+pub longer_differs : (k l : List ℕ) → length k < length l → bytes_eq k l ≡ false
 longer_differs k l h = by (bytes_eq k l) refl where
   by : (b : Bool) → bytes_eq k l ≡ b → b ≡ false
   by false e = refl
@@ -35,7 +35,7 @@ longer_undeclared l no_members h = refl
 longer_undeclared l (dots ms) h = longer_undeclared l ms h
 longer_undeclared l (member k mark c ms) h = rw (longer_differs k l (omega (arith, h))) (longer_undeclared l ms (omega (arith, h)))
 
-longer_undeclared_by_all : (l : List ℕ) (all : List Members) → longest_of all < length l → list_any (declares l) all ≡ false
+pub longer_undeclared_by_all : (l : List ℕ) (all : List Members) → longest_of all < length l → list_any (declares l) all ≡ false
 unfolding longest_of
 longer_undeclared_by_all l [] h = refl
 longer_undeclared_by_all l (ms ∷ all) h = rw (longer_undeclared l ms (omega (arith, h))) (longer_undeclared_by_all l all (omega (arith, h)))

@@ -15,6 +15,10 @@ pub mod Unified
 pub mod ByPair
 pub mod Own
 pub mod Adding
+pub mod EitherDoes
+pub mod LabelTables
+pub mod OwnLabels
+pub mod ClosedBodies
 pub mod TellingNames
 pub mod TellingFields
 pub mod TellingDepth

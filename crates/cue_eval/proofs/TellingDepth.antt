@@ -1,12 +1,12 @@
 -- How deep tables are that tell of struct literals.
-use Rattle.std.proofs.Common.{◌≡◌, ◌≢◌, ℕ, suc, ◌+◌, ◌≤◌, Bool, true, false, List, [], ◌∷◌, length, inl, inr, refl, sym, ap, arith}
+use Rattle.std.proofs.Common.{◌≡◌, ◌≢◌, ◌+◌, ◌≤◌, Bool, true, List, [], ◌∷◌, length, inl, inr, arith}
 use Rattle.std.specs.List.{list_any}
 use Rattle.std.proofs.lemmas.Bool.{false≢true}
 use Rattle.cue_lattice.specs.Path.{Path}
 use Rattle.cue_lattice.specs.Question as questions
 use Rattle.cue_syntax.specs.declared.tree.Label.{Label}
 use Rattle.cue_scope.specs.Core.{Core, conjunction, disjunction, struct, close, list, closed, Members}
-use Rattle.cue_scope.specs.Limits.{size, size_of_cores, size_of_choices, size_of_members, depth, one_if}
+use Rattle.cue_scope.specs.Limits.{size, depth}
 use Rattle.cue_scope.specs.Meaning.{nested}
 use Rattle.cue_table.specs.Depth.{tree_depth}
 use Rattle.cue_table.specs.Tree.{Tree}

@@ -17,10 +17,9 @@ use Rattle.cue_syntax.specs.declared.tree.Declaration.{Declaration, size-Declara
 use Rattle.cue_syntax.specs.declared.tree.Declaration.TheVariants as declarations
 use Rattle.cue_syntax.specs.declared.tree.Declaration.TheViews.{sized-Field}
 use Rattle.cue_syntax.specs.Syntax.{Entry, entry, ellipsis, field, definition, expression, entries, entry_tree}
-use Rattle.cue_scope.specs.Core.{Core, Members, member}
+use Rattle.cue_scope.specs.Core.{Core}
 use Rattle.cue_scope.specs.Definitions.{Definition}
 use Rattle.cue_scope.specs.Kept.{all_of}
-use Rattle.cue_scope.specs.Limits.{depth}
 use Rattle.cue_scope.specs.Meaning.{meant_members, nested, text_of}
 use Rattle.cue_scope.specs.Uses.{uses, uses_of_entries}
 use Rattle.cue_scope.proofs.Walking.{at_hand}
@@ -40,7 +39,7 @@ use Rattle.cue_eval.specs.Telling.{Tells, IsDeclared, tells}
 use Rattle.cue_eval.specs.Told.{IsTold, IsToldBelow, IsKnown, AreMembersKnown, means, mean_members, own_tells, used_tells}
 use Rattle.cue_eval.proofs.TellingDepth.{told_flat, nested_depth, nested_size}
 use Rattle.cue_eval.proofs.TellingFields.{fields_told}
-use Rattle.cue_eval.proofs.TellingParts.{IsSplit, FieldsTold, LabelsTold, BranchesTell, known_part, known_rest, split_more, split_all, same_sides, itself, flat_more}
+use Rattle.cue_eval.proofs.TellingParts.{IsSplit, FieldsTold, LabelsTold, BranchesTell, known_part, known_rest, split_more, split_all, flat_more}
 
 -- ---- fields
 pub entry_next : (self : Sight) (whose : Whose) (branches : List (Step × Tree Declared)) (all : List Declaration) (i : ℕ) (d : Declaration) → FieldsTold self whose branches all (drop i all) → i < length all → d ≡ get_or all i d

@@ -1,5 +1,5 @@
 -- What is told of the parts of an expression, one after the other.
-use Rattle.std.proofs.Common.{◌≡◌, ◌↔◌, ◌⊎◌, inl, inr, ⊎_elim, ℕ, zero, suc, ◌+◌, ◌≤◌, ◌<◌, Bool, true, false, List, [], ◌∷◌, ◌++◌, All, length, drop, get_or, refl, sym, ap, subst, ◌∙◌, arith}
+use Rattle.std.proofs.Common.{◌≡◌, ◌↔◌, ◌⊎◌, inl, inr, ⊎_elim, ℕ, zero, suc, ◌+◌, ◌≤◌, ◌<◌, Bool, true, List, [], ◌∷◌, ◌++◌, All, length, drop, get_or, sym, ap, subst, ◌∙◌, arith}
 use Rattle.std.proofs.Common.{rules, Result, Ok, Err, IfOk}
 use Rattle.std.proofs.lemmas.List.{drop_all}
 use Rattle.std.proofs.lemmas.List.Elements.{All-append, All-nil}
@@ -29,7 +29,7 @@ use Rattle.cue_table.specs.Refuses.{TableRefuses}
 use Rattle.cue_table.specs.Tree.{Tree}
 use Rattle.cue_eval.specs.declared.declared.Declared.{Declared}
 use Rattle.cue_eval.specs.declared.declared.Asked.{Asked}
-use Rattle.cue_eval.specs.declared.declared.Asked.TheVariants.{Stands, Declares}
+use Rattle.cue_eval.specs.declared.declared.Asked.TheVariants.{Declares}
 use Rattle.cue_eval.specs.declared.told.Whose.{Whose}
 use Rattle.cue_eval.specs.declared.told.Sight.{Sight}
 use Rattle.cue_eval.specs.Closing.{AtStruct, AtList, OneOfParts, OneOfFields, OneOfElements}

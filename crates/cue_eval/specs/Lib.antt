@@ -8,6 +8,7 @@ pub mod Texts
 pub mod Closing
 pub mod Telling
 pub mod Told
+pub mod Adding
 pub mod TellingLaws
 pub mod Laws
 pub mod Origins

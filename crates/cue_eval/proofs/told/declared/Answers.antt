@@ -1,9 +1,8 @@
-use Rattle.std.proofs.Common.{◌≡◌, ◌↔◌, Bool, List, ℕ, true, ◌∷◌, [], sym, ap, subst, ◌∙◌, arith, refl}
+use Rattle.std.proofs.Common.{◌↔◌, Bool, List, ℕ, true, ◌∷◌, [], ap, subst, ◌∙◌, arith, refl}
 use Rattle.cue_lattice.specs.OneOf.{OneOf}
 use Rattle.cue_sets.specs.Texts.{RefusesText}
 use Rattle.cue_syntax.specs.Syntax.{entry_tree}
 use Rattle.cue_syntax.proofs.Views.{view-Ellipsis, view-Field, view-Definition}
-use Rattle.cue_eval.proofs.TellingParts.{LabelsTold}
 use Rattle.cue_eval.proofs.TellingEntries.{label_next, dots_declare, field_declares, definition_declares, all_declared}
 use Rattle.cue_eval.proofs.told.declared.Goals as goal
 use Rattle.cue_eval.proofs.told.declared.Goals.{in-Ellipsis+in_ok-none-in-Ellipsis+in_ok-push-in-Ellipsis, in-Field+in_ok-but-in-Field+in_ok-push-in-Field, in-Definition}

@@ -1,7 +1,7 @@
 use denote.Param.Weighed.{most, at_most}
 use Rattle.cue_syntax.specs.declared.tree.Expr.{size-Expr}
 use Rattle.cue_syntax.specs.declared.tree.Declaration.{size-Declaration}
-use Rattle.std.proofs.Common.{◌≡◌, ◌+◌, ◌<◌, ◌≤◌, ℕ, length, sym, ap, subst, ◌∙◌, arith, IfOk, Bool, refl}
+use Rattle.std.proofs.Common.{◌<◌, ◌≤◌, length, sym, ap, subst, ◌∙◌, arith, IfOk, Bool, refl}
 use Rattle.std.proofs.lemmas.Result.{IfOk-weaker}
 use Rattle.cue_lattice.specs.Limits.{step_limit}
 use Rattle.cue_syntax.specs.Syntax as tree

@@ -1,4 +1,4 @@
-use Rattle.std.proofs.Common.{◌≡◌, drop}
+use Rattle.std.proofs.Common.{drop}
 use Rattle.cue_eval.proofs.TellingParts.{PartsTold, ElementsTold, FieldsTold}
 use Rattle.cue_eval.proofs.told.Sight.+told.Given as goal
 
