@@ -1,5 +1,5 @@
 -- What a legal text keeps for evaluation.
-use Rattle.std.specs.Prelude.{ℕ, ◌≡◌, ◌<◌, ◌-◌, ◌^◌, min, length, slice_index, slice_index_or}
+use Rattle.std.specs.Prelude.{ℕ, ◌≡◌, ◌<◌, ◌-◌, ◌^◌, min, length, slice_get, slice_index, slice_index_or}
 use Rattle.cue_scope.specs.declared.measure.Measure.{Measure}
 use Rattle.cue_scope.specs.declared.resolved.Resolved.TheInside.{Inside}
 use Rattle.cue_scope.specs.Core.{is_scalar}
@@ -7,18 +7,19 @@ use Rattle.cue_scope.specs.Definitions.{definitions}
 use Rattle.cue_scope.specs.Files.{entries_of}
 use Rattle.cue_scope.specs.Kept.{all_of}
 use Rattle.cue_scope.specs.Limits as limits
-use Rattle.cue_scope.specs.Meaning.{meaning, meant_text}
+use Rattle.cue_scope.specs.Meaning.{meaning, meant_text, meant_use}
 use Rattle.cue_scope.specs.Reached.{IsReachedOrder, times}
 use Rattle.cue_scope.specs.Refusing.{IsLegal}
 use Rattle.cue_scope.specs.Uses.{graph, uses_of_fields}
 use Rattle.cue_scope.specs.Written.{written_uses}
 use Rattle.cue_syntax.specs.Syntax.{Entries}
 
--- The text is legal, and what is kept is what it means: its definitions, which of these are scalar, an order of those
--- that it reaches, how often it names them, and its size.
+-- The text is legal, and what is kept is what it means: its definitions, whose uses mean their closed bodies, which of these
+-- are scalar, an order of those that it reaches, how often it names them, and its size.
 pub record Keeps (r : Inside) (es : Entries) : Type 0 where
   pub legal : IsLegal es
   pub defined : all_of r.definitions ≡ definitions es
+  pub uses : (i : ℕ) → i < length (definitions es) → meaning (definitions es) i ≡ meant_use (definitions es) (meaning (definitions es)) (slice_get (definitions es) i)
   pub measured : length r.measures.items ≡ length (definitions es)
   pub scalar : (i : ℕ) (d : Measure) → i < length (definitions es) → (slice_index_or r.measures.items i d).scalar ≡ is_scalar (meaning (definitions es) i)
   pub order : IsReachedOrder (graph (definitions es)) (uses_of_fields (definitions es) es) r.order.items

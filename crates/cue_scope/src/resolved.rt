@@ -1,4 +1,4 @@
-ghost use Rattle.std.specs.Prelude.{◌≡◌, ◌<◌, ◌⊎◌, ◌-◌, ◌^◌, min, ℕ, List, length, slice_index_or, IfOk, IfErr, OnOk};
+ghost use Rattle.std.specs.Prelude.{◌≡◌, ◌<◌, ◌⊎◌, ◌-◌, ◌^◌, min, ℕ, List, length, slice_get, slice_index_or, IfOk, IfErr, OnOk};
 ghost use Rattle.cue_lattice.specs.Refusal.{memory};
 ghost use Rattle.cue_syntax.specs.Syntax.{entries};
 ghost use Rattle.cue_scope.specs.Core as core;
@@ -173,9 +173,10 @@ impl<'f, 't> Resolved<'f, 't> {
         self.file.declarations.as_slice()
     }
 
-    /// The definitions of the text.
+    /// The definitions of the text. A use of one means its body, closed.
     pub fn definitions(&self) -> &Definitions<'f, 't>
-        ensures { all_of result.now ≡ defining.definitions (entries_of self.now) }
+        ensures all { all_of result.now ≡ defining.definitions (entries_of self.now) }
+        ensures uses { (i : ℕ) → let ds = defining.definitions (entries_of self.now) in i < length ds → meaning.meaning ds i ≡ meaning.meant_use ds (meaning.meaning ds) (slice_get ds i) }
     {
         &self.definitions
     }

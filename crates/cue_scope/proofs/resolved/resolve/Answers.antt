@@ -4,7 +4,7 @@ use Rattle.cue_syntax.specs.Syntax.{entries}
 use Rattle.cue_scope.specs.declared.resolved.Resolved.TheInside.{Inside}
 use Rattle.cue_scope.specs.Core.{is_scalar}
 use Rattle.cue_scope.specs.Definitions.{definitions}
-use Rattle.cue_scope.specs.Graph.{IsAcyclic, IsClosed, IsIn}
+use Rattle.cue_scope.specs.Graph.{IsAcyclic, IsClosed, IsIn, IsOrder}
 use Rattle.cue_scope.specs.Kept.{all_of}
 use Rattle.cue_scope.specs.Meaning.{meaning}
 use Rattle.cue_scope.specs.Measures.{IsMeasured, as_literal, total_of_file}
@@ -16,7 +16,7 @@ use Rattle.cue_scope.specs.Resolving.{Keeps}
 use Rattle.cue_scope.specs.Uses.{graph, uses_of_fields}
 use Rattle.cue_scope.proofs.Inside.{closed_graph, fields_below, below_is}
 use Rattle.cue_scope.proofs.Kept.{reached_below}
-use Rattle.cue_scope.proofs.Meanings.{length_graph}
+use Rattle.cue_scope.proofs.Meanings.{length_graph, meaning_is}
 use Rattle.cue_scope.proofs.Nodes.{length_graph_of}
 use Rattle.cue_scope.proofs.Resolving.{refuses_stopped, refuses_beyond, ordered_text, legal_text, text_total}
 use Rattle.cue_scope.proofs.resolved.resolve.Goals as goal
@@ -122,6 +122,7 @@ invariant_of-result c =
     subst (λ z. Keeps found (entries z)) c.as_slice-declarations.ensures.value (record {
       legal = legal_text es ordered within;
       defined = all;
+      uses = meaning_is (definitions es) c.in_ok-order.order.items (subst (λ z. IsOrder (graph z) c.in_ok-order.order.items) all c.in_ok-order.ensures.ordered);
       measured = c.in_ok-measures.ensures.length ∙ ap length all;
       scalar = λ i d h. (c.in_ok-measures.ensures.measured i d (subst (λ z. i < length z) (sym all) h)).scalar ∙ ap (λ z. is_scalar (meaning z i)) all;
       order = kept;
