@@ -39,3 +39,5 @@ pub mod Walks
 pub mod Chains
 pub mod Listings
 pub mod LabelLists
+pub mod UsedWithin
+pub mod Reaching
