@@ -41,3 +41,4 @@ pub mod Listings
 pub mod LabelLists
 pub mod UsedWithin
 pub mod Reaching
+pub mod Regular

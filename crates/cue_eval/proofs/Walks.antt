@@ -32,7 +32,7 @@ use Rattle.cue_scope.specs.Limits.{size, size_of_cores, size_of_members, depth, 
 use Rattle.cue_scope.specs.Measures.{Total}
 use Rattle.cue_scope.specs.Meaning.{meaning, nested, text_of}
 use Rattle.cue_scope.specs.Terms.{terms, terms_of_elements, terms_of_entries}
-use Rattle.cue_scope.specs.Uses.{uses, uses_of_elements, uses_of_entries}
+use Rattle.cue_scope.specs.Uses.{uses, uses_of_elements, uses_of_fields}
 use Rattle.cue_scope.proofs.Measuring.{total_nested}
 use Rattle.cue_scope.proofs.Nodes.{in_append_left, in_append_right}
 use Rattle.cue_eval.specs.declared.rows.Tables.{Tables}
@@ -40,7 +40,7 @@ use Rattle.cue_eval.specs.Evaluated.{HasAnswersOf}
 use Rattle.cue_eval.specs.Gathered.{Answers, GivenRefuse, LabelsRefuse, LiteralAnswers}
 use Rattle.cue_eval.specs.Known.{core_of, parts_of}
 use Rattle.cue_eval.specs.Places.{Here, MarkRefuses, StructRefuses}
-use Rattle.cue_eval.specs.Ready.{all_definitions, members_of, AreKnown, IsReady, AreReadyParts, AreReadyElements, AreReadyEntries, IsField, AreGiven, AtLabels, AtIndexes}
+use Rattle.cue_eval.specs.Ready.{all_definitions, members_of, AreKnown, IsReady, AreReadyParts, AreReadyElements, AreReadyFields, IsField, AreGiven, AtLabels, AtIndexes}
 use Rattle.cue_eval.specs.Refuses as refusing
 use Rattle.cue_eval.specs.Refuses.{PartsRefuse, FieldRefuses, ElementRefuses, count}
 use Rattle.cue_eval.proofs.Depth.{paths_within_depth}
@@ -116,14 +116,14 @@ parts_unified known given all left met w is unified path question =
       λ k. u.1 (⊎_elim (λ g. g) (λ g. absurd g) (h.1 k)),
     )
 
--- ---- the declarations of a struct literal
+-- ---- the declarations of a struct literal or of a text
 pub record Gathering (known : Tables) (given : List (Step × Tree Row)) (all left : Entries) : Type 0 where
   pub refused : (step : paths.Step) (path : Path) (question : Question) →
       (GivenRefuse given step path question ⊎ AtLabels (members_of known left) step path question) ↔ AtLabels (members_of known all) step path question
   pub deep : All (λ one. tree_depth one.1 < step_limit) given
-  pub others : AreReadyEntries known left
+  pub others : AreReadyFields known left
 
-pub gathering_none : (known : Tables) (all : Entries) → AreReadyEntries known all → Gathering known [] all all
+pub gathering_none : (known : Tables) (all : Entries) → AreReadyFields known all → Gathering known [] all all
 gathering_none known all h = record {
   refused = λ step path question. (λ k. ⊎_elim (λ g. absurd g) (λ g. g) k, λ k. inr k);
   deep = λ k d l. absurd (omega arith);
@@ -137,11 +137,10 @@ past_ellipsis known given all rest w (index i) path question = w.refused (index 
 
 pub ellipsis_passed : (known : Tables) (given : List (Step × Tree Row)) (all rest : Entries) → Gathering known given all (entry ellipsis rest) → Gathering known given all rest
 ellipsis_passed known given all rest w =
-    let here = w.others in
-    let s = here.size in record {
+    let here = w.others in record {
       refused = λ step path question. past_ellipsis known given all rest w step path question;
       deep = w.deep;
-      others = record { right = here.right.1; used = here.used; terms = here.terms; size = omega arith; depth = here.depth };
+      others = record { right = here.right.1; used = here.used; terms = here.terms; size = here.size; depth = here.depth };
     }
 
 pub definition_passed : (known : Tables) (given : List (Step × Tree Row)) (all rest : Entries) (t : List ℕ) (from : ℕ) (chain : List Label) (e : Expression)
@@ -153,7 +152,7 @@ definition_passed known given all rest t from chain e w =
       deep = w.deep;
       others = record {
         right = here.right.1;
-        used = known_right known (uses ds e) (uses_of_entries ds rest) here.used;
+        used = here.used;
         terms = (nil_both (terms ds (meaning ds) e) (terms_of_entries ds (meaning ds) rest) here.terms).1;
         size = here.size;
         depth = here.depth;
@@ -176,7 +175,7 @@ field_ready known given all rest l chain e w =
     let more = nested_size chain c in
     let deeper = nested_depth chain c in record {
       right = here.right.0;
-      used = known_left known (uses ds e) (uses_of_entries ds rest) here.used;
+      used = known_left known (uses ds e) (uses_of_fields ds rest) here.used;
       terms = (nil_both (terms ds (meaning ds) e) (terms_of_entries ds (meaning ds) rest) here.terms).0;
       size = omega arith;
       depth = omega arith;
@@ -221,7 +220,7 @@ field_gathered known given all rest l chain e one w f =
       deep = All-push (λ (o : Step × Tree Row). tree_depth o.1 < step_limit) given one w.deep f.deep;
       others = record {
         right = here.right.1;
-        used = known_right known (uses ds e) (uses_of_entries ds rest) here.used;
+        used = known_right known (uses ds e) (uses_of_fields ds rest) here.used;
         terms = (nil_both (terms ds (meaning ds) e) (terms_of_entries ds (meaning ds) rest) here.terms).1;
         size = omega arith;
         depth = omega arith;

@@ -19,9 +19,9 @@ use Rattle.cue_scope.specs.Core.{Core, Cores, Members}
 use Rattle.cue_scope.specs.Definitions.{Definition}
 use Rattle.cue_scope.specs.Graph.{IsIn}
 use Rattle.cue_scope.specs.Limits.{size, size_of_cores, size_of_members, depth, depth_of_cores, depth_of_elements, depth_of_members}
-use Rattle.cue_scope.specs.Meaning.{meaning, meant, meant_elements, meant_members, text_of}
+use Rattle.cue_scope.specs.Meaning.{meaning, meant, meant_elements, meant_members, meant_fields, text_of}
 use Rattle.cue_scope.specs.Terms.{terms, terms_of_elements, terms_of_entries}
-use Rattle.cue_scope.specs.Uses.{uses, uses_of_elements, uses_of_entries}
+use Rattle.cue_scope.specs.Uses.{uses, uses_of_elements, uses_of_entries, uses_of_fields}
 use Rattle.cue_eval.specs.declared.rows.Tables.{Tables}
 use Rattle.cue_eval.specs.Evaluated.{HasAnswersOf}
 use Rattle.cue_eval.specs.Known.{ArePairsKnown, definitions_of, core_of, parts_of}
@@ -35,6 +35,10 @@ all_definitions known = definitions_of known.pairs
 
 abbrev pub members_of : Tables → Entries → Members
 members_of known es = meant_members (all_definitions known) (meaning (all_definitions known)) es
+
+-- the regular declarations
+abbrev pub fields_of : Tables → Entries → Members
+fields_of known es = meant_fields (all_definitions known) (meaning (all_definitions known)) es
 
 -- a table in form that refuses what the expression does
 pub record IsTableOf (c : Core) (table : Tree Row) : Type 0 where
@@ -81,6 +85,14 @@ pub record AreReadyEntries (known : Tables) (es : Entries) : Type 0 where
   pub terms : terms_of_entries (all_definitions known) (meaning (all_definitions known)) es ≡ []
   pub size : size_of_members (members_of known es) ≤ size_limit
   pub depth : depth_of_members (members_of known es) ≤ step_limit
+
+-- the regular declarations of a struct literal or of a text
+pub record AreReadyFields (known : Tables) (es : Entries) : Type 0 where
+  pub right : AreRightEntries es
+  pub used : AreKnown known (uses_of_fields (all_definitions known) es)
+  pub terms : terms_of_entries (all_definitions known) (meaning (all_definitions known)) es ≡ []
+  pub size : size_of_members (fields_of known es) ≤ size_limit
+  pub depth : depth_of_members (fields_of known es) ≤ step_limit
 
 -- a field with its step: what its mark and its value refuse
 pub record IsField (l : Label) (c : Core) (field : Step × Tree Row) : Type 0 where

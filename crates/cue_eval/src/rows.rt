@@ -10,7 +10,7 @@ ghost use Rattle.cue_syntax.specs.Syntax as tree;
 ghost use Rattle.cue_table.specs.Form.{IsTable};
 ghost use Rattle.cue_eval.specs.Evaluated.{HasAnswersOf};
 ghost use Rattle.cue_eval.specs.Known.{core_of, named_core, parts_of};
-ghost use Rattle.cue_eval.specs.Ready.{all_definitions, members_of, AreKnown, IsReady, AreReadyParts, AreReadyElements, AreReadyEntries, IsField, AreGiven, AtLabels, IsScalarLeaf};
+ghost use Rattle.cue_eval.specs.Ready.{all_definitions, members_of, AreKnown, IsReady, AreReadyParts, AreReadyElements, AreReadyEntries, AreReadyFields, IsField, AreGiven, AtLabels, IsScalarLeaf};
 
 use crate::hanging::{behind, list_of, marked, scalar_table, step_to, struct_of};
 use crate::labels::labels_of;
@@ -130,10 +130,10 @@ impl<'a, 'f, 't> Tables<'a, 'f, 't> {
         Table::unified(self.pairs.alloc, tables)
     }
 
-    /// A struct literal.
+    /// The struct of a literal's declarations, or of the regular ones of a text.
     #[cycle(rows)]
-    fn literal(&self, declarations: &[Declaration]) -> Result<Table<Row>, Memory>
-        requires { AreReadyEntries self.now (tree.entries declarations.now) }
+    pub(crate) fn literal(&self, declarations: &[Declaration]) -> Result<Table<Row>, Memory>
+        requires { AreReadyFields self.now (tree.entries declarations.now) }
         ensures form { IfOk result (IsTable Refuses IsRow) }
         ensures answers { IfOk result (HasAnswersOf (core.struct (members_of self.now (tree.entries declarations.now)))) }
     {
@@ -154,10 +154,10 @@ impl<'a, 'f, 't> Tables<'a, 'f, 't> {
         struct_of(self.pairs.alloc, fields, labels)
     }
 
-    /// The fields of a struct literal, each with its step, in the order of the text.
+    /// The fields among declarations, each with its step, in the order of the text.
     #[cycle(rows)]
     fn fields(&self, declarations: &[Declaration]) -> Result<Vec<(Step, Table<Row>)>, Memory>
-        requires { AreReadyEntries self.now (tree.entries declarations.now) }
+        requires { AreReadyFields self.now (tree.entries declarations.now) }
         ensures { IfOk result (λ fields. AreGiven (AtLabels (members_of self.now (tree.entries declarations.now))) fields.items) }
     {
         let mut fields = Vec::new(self.pairs.alloc);

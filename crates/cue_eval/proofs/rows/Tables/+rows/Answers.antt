@@ -2,20 +2,35 @@ use Rattle.std.proofs.Common.{◌≡◌, ◌+◌, ◌≤◌, ◌<◌, ◌∷◌,
 use denote.Param.Weighed.{most, at_most}
 use Rattle.cue_syntax.specs.declared.tree.Expr.{size-Expr}
 use Rattle.cue_syntax.specs.declared.tree.Declaration.{size-Declaration}
-use Rattle.cue_syntax.specs.declared.tree.Declaration.TheViews.{sized-Field}
+use Rattle.cue_syntax.specs.declared.tree.Declaration.TheViews.{sized-Field, sized-Struct}
 use Rattle.cue_lattice.specs.Limits.{step_limit}
 use Rattle.cue_scope.specs.Limits as limits
 use Rattle.cue_syntax.specs.Syntax as tree
-use Rattle.cue_syntax.proofs.Views.{view-Field, view-Ellipsis, view-Definition}
+use Rattle.cue_syntax.proofs.Views.{view-Struct, view-Field, view-Ellipsis, view-Definition}
 use Rattle.cue_scope.specs.Meaning.{meaning, nested}
 use Rattle.cue_scope.proofs.Walking.{at_hand}
 use Rattle.cue_eval.specs.Known.{core_of, parts_of}
-use Rattle.cue_eval.specs.Ready.{all_definitions, members_of, IsField}
+use Rattle.cue_eval.specs.Ready.{all_definitions, members_of, IsReady, AreReadyFields, IsField}
 use Rattle.cue_eval.proofs.LiteralTables.{struct_result, close_result, list_result}
 use Rattle.cue_eval.proofs.Walks.{entry_first, definition_first, field_first, Unifying, Gathering, unifying_none, part_ready, part_unified, parts_result, gathering_none, ellipsis_passed, definition_passed, field_ready, field_within, field_gathered, fields_gathered, field_made, nested_depth, within_depth, none_behind}
 use Rattle.cue_eval.proofs.Listings.{Listing, listing_none, element_ready, element_listed, elements_listed, all_listed, elements_few}
+use Rattle.cue_eval.proofs.Regular.{fields_ready, struct_ready}
 use Rattle.cue_eval.proofs.rows.Tables.+rows.Goals as goal
 use Rattle.cue_eval.proofs.rows.Tables.+rows.Goals.{fields-in-Ellipsis, fields-in-Definition, fields-in-Field+in_ok-field-in-Field+in_ok-push-in-Field}
+
+pub rows-literal-requires : goal.rows-literal-requires
+rows-literal-requires t c = (
+  let is = ap size-Expr c.in-Struct.is in
+      let own = sized-Struct c.in-Struct.declarations c.in-Struct.comma in
+      let same = ap (λ xs. most (λ d. size-Declaration d) xs) c.deref-in-Struct.ensures.value in
+      omega (arith, c.decreases, is, own, same),
+  subst (λ xs. AreReadyFields c.args.self.now (tree.entries xs)) (sym c.deref-in-Struct.ensures.value)
+      (struct_ready c.args.self.now (tree.entries c.in-Struct.declarations.items) c.in-Struct.comma
+      (subst (λ e. IsReady c.args.self.now e) (ap tree.expression c.in-Struct.is ∙ view-Struct c.in-Struct.declarations c.in-Struct.comma) c.requires)),
+)
+
+pub closed_literal-fields-requires : goal.closed_literal-fields-requires
+closed_literal-fields-requires t c = (omega (arith, c.decreases), fields_ready c.args.self.now (tree.entries c.args.declarations.now) c.requires)
 
 pub closed_literal-returns-clause-answers : goal.closed_literal-returns-clause-answers
 closed_literal-returns-clause-answers t c =
