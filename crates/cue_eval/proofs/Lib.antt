@@ -42,3 +42,5 @@ pub mod LabelLists
 pub mod UsedWithin
 pub mod Reaching
 pub mod Regular
+pub mod Defining
+pub mod Finding

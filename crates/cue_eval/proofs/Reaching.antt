@@ -1,5 +1,5 @@
 -- The definitions that a legal text reaches follow the grammar, have scalar terms, and keep the limits.
-use Rattle.std.proofs.Common.{◌≡◌, ◌+◌, ◌*◌, ◌≤◌, ◌<◌, ℕ, zero, suc, inl, inr, Option, None, Some, List, [], ◌∷◌, ◌++◌, length, map, refl, sym, ap, subst, ◌∙◌, arith}
+use Rattle.std.proofs.Common.{◌≡◌, ◌≤◌, ◌<◌, ℕ, zero, suc, Some, List, [], ◌∷◌, length, map, refl, ap, subst, ◌∙◌, arith}
 use Rattle.std.specs.Prelude.{slice_get}
 use Rattle.cue_lattice.specs.Limits.{size_limit, step_limit}
 use Rattle.cue_syntax.specs.Grammar.{IsRight, AreRightEntries}

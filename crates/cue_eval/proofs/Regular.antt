@@ -1,5 +1,5 @@
 -- The regular declarations of a struct literal are all that a struct of them asks: its `...` refuses nothing.
-use Rattle.std.proofs.Common.{◌≡◌, ◌↔◌, ◌⊎◌, ◌+◌, ◌≤◌, ℕ, inl, inr, ⊎_elim, Bool, List, [], ◌∷◌, ◌++◌, arith}
+use Rattle.std.proofs.Common.{◌↔◌, ◌≤◌, ℕ, inl, inr, ⊎_elim, Bool, List, [], ◌∷◌, arith}
 use Rattle.cue_lattice.specs.Path.{Path, label, index}
 use Rattle.cue_lattice.specs.Question.{Question}
 use Rattle.cue_row.specs.declared.row.Row.{Row}

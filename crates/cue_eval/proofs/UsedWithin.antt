@@ -1,17 +1,16 @@
 -- A definition that an expression uses is no larger and no deeper than the expression.
-use Rattle.std.proofs.Common.{◌≡◌, ◌+◌, ◌*◌, ◌≤◌, ℕ, inl, inr, ⊎_elim, Option, None, Some, List, [], ◌∷◌, ◌++◌, length, sym, ap, subst, arith}
+use Rattle.std.proofs.Common.{◌≤◌, ℕ, inl, inr, ⊎_elim, Option, None, Some, List, subst, arith}
 use Rattle.std.specs.Option.{option_to_list, option_map_or}
-use Rattle.cue_syntax.specs.declared.tree.Identifier.{Identifier}
 use Rattle.cue_syntax.specs.declared.tree.Identifier.TheVariants as identifiers
 use Rattle.cue_syntax.specs.Syntax as tree
 use Rattle.cue_syntax.specs.Syntax.{Expression, Elements, no_elements, element, Branch, branch, Branches, no_branches, next_branch, Entries, no_entries, entry, ellipsis, field, definition}
 use Rattle.cue_syntax.specs.Grammar.{IsRight, AreRight, AreRightBranches, AreRightEntries, AreNested}
-use Rattle.cue_scope.specs.Core.{Core, bottom, Cores, Choices, Members}
+use Rattle.cue_scope.specs.Core.{Core, bottom}
 use Rattle.cue_scope.specs.Definitions.{Definition, number_of}
 use Rattle.cue_scope.specs.Graph.{IsIn}
 use Rattle.cue_scope.specs.Limits.{size, size_of_cores, size_of_choices, size_of_members, depth, depth_of_cores, depth_of_elements, depth_of_choices, depth_of_members}
 use Rattle.cue_scope.specs.Meaning.{meant, meant_elements, meant_branches, meant_members, meant_fields}
-use Rattle.cue_scope.specs.Uses.{uses, uses_of_name, uses_of_elements, uses_of_branches, uses_of_entries, uses_of_fields}
+use Rattle.cue_scope.specs.Uses.{uses, uses_of_elements, uses_of_branches, uses_of_entries, uses_of_fields}
 use Rattle.cue_scope.proofs.Nodes.{in_append}
 use Rattle.cue_eval.proofs.TellingDepth.{nested_depth, nested_size}
 

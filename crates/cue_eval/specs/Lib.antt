@@ -17,3 +17,4 @@ pub mod Words
 pub mod Validity
 pub mod Gathered
 pub mod Ready
+pub mod Finding

@@ -19,7 +19,7 @@ use Rattle.cue_scope.specs.Core.{Core, Cores, Members}
 use Rattle.cue_scope.specs.Definitions.{Definition}
 use Rattle.cue_scope.specs.Graph.{IsIn}
 use Rattle.cue_scope.specs.Limits.{size, size_of_cores, size_of_members, depth, depth_of_cores, depth_of_elements, depth_of_members}
-use Rattle.cue_scope.specs.Meaning.{meaning, meant, meant_elements, meant_members, meant_fields, text_of}
+use Rattle.cue_scope.specs.Meaning.{meaning, meant_members, meant_fields, text_of}
 use Rattle.cue_scope.specs.Terms.{terms, terms_of_elements, terms_of_entries}
 use Rattle.cue_scope.specs.Uses.{uses, uses_of_elements, uses_of_entries, uses_of_fields}
 use Rattle.cue_eval.specs.declared.rows.Tables.{Tables}

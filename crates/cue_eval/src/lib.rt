@@ -3,6 +3,7 @@
 
 mod body;
 mod declared;
+mod evaluation;
 mod hanging;
 mod labels;
 mod laws;
@@ -15,6 +16,7 @@ mod tests;
 mod told;
 
 pub use declared::{Asked, Declared};
+pub use evaluation::evaluate;
 pub use laws::{laws_of_closing, laws_of_meaning, laws_of_places, laws_of_validity};
 pub use scalars::{
     bounded, integer_alone, integer_of, named_set, nothing, null_alone, other_integers,

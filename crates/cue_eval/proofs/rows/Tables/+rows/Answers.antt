@@ -1,4 +1,4 @@
-use Rattle.std.proofs.Common.{◌≡◌, ◌+◌, ◌≤◌, ◌<◌, ◌∷◌, [], drop, length, None, subst, sym, ap, ◌∙◌, arith}
+use Rattle.std.proofs.Common.{◌≡◌, ◌+◌, ◌≤◌, ◌<◌, drop, None, subst, sym, ap, ◌∙◌, arith}
 use denote.Param.Weighed.{most, at_most}
 use Rattle.cue_syntax.specs.declared.tree.Expr.{size-Expr}
 use Rattle.cue_syntax.specs.declared.tree.Declaration.{size-Declaration}
@@ -6,7 +6,7 @@ use Rattle.cue_syntax.specs.declared.tree.Declaration.TheViews.{sized-Field, siz
 use Rattle.cue_lattice.specs.Limits.{step_limit}
 use Rattle.cue_scope.specs.Limits as limits
 use Rattle.cue_syntax.specs.Syntax as tree
-use Rattle.cue_syntax.proofs.Views.{view-Struct, view-Field, view-Ellipsis, view-Definition}
+use Rattle.cue_syntax.proofs.Views.{view-Struct, view-Ellipsis}
 use Rattle.cue_scope.specs.Meaning.{meaning, nested}
 use Rattle.cue_scope.proofs.Walking.{at_hand}
 use Rattle.cue_eval.specs.Known.{core_of, parts_of}

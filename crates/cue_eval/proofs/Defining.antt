@@ -1,0 +1,94 @@
+-- What is known of the definitions that a definition uses is what its table, its pair and its closing ask.
+use Rattle.std.proofs.Common.{◌≡◌, ◌+◌, ◌≤◌, ℕ, Option, None, Some, List, [], ◌∷◌, length, get_or, refl, sym, ap, subst, arith}
+use Rattle.std.specs.Prelude.{IsTrue}
+use Rattle.cue_lattice.specs.Limits.{step_limit}
+use Rattle.cue_row.specs.Row.{Refuses, IsRow}
+use Rattle.cue_row.specs.declared.row.Row.{Row}
+use Rattle.cue_table.specs.Depth.{tree_depth}
+use Rattle.cue_table.specs.Form.{IsTable}
+use Rattle.cue_table.specs.Tree.{Tree}
+use Rattle.cue_syntax.specs.declared.tree.Label.{Label}
+use Rattle.cue_scope.specs.Core.{Core, is_scalar}
+use Rattle.cue_scope.specs.Definitions.{Definition}
+use Rattle.cue_scope.specs.Kept.{all_of}
+use Rattle.cue_scope.specs.Meaning.{meaning, meant, nested}
+use Rattle.cue_scope.specs.Uses.{uses}
+use Rattle.cue_scope.proofs.Inside.{uses_below, below_is}
+use Rattle.cue_eval.specs.declared.declared.Declared.{Declared}
+use Rattle.cue_eval.specs.declared.evaluation.Found.{Found}
+use Rattle.cue_eval.specs.declared.rows.Tables.{Tables}
+use Rattle.cue_eval.specs.declared.told.Sight.{Sight}
+use Rattle.cue_eval.specs.Adding.{IsBodyKnown}
+use Rattle.cue_eval.specs.Evaluated.{HasAnswersOf}
+use Rattle.cue_eval.specs.Finding.{body_of, AreFound, IsDefinable}
+use Rattle.cue_eval.specs.Known.{IsPairOf, IsPairable}
+use Rattle.cue_eval.specs.Pairs.{pair}
+use Rattle.cue_eval.specs.Ready.{all_definitions, AreKnown, IsReady, IsTableAt}
+use Rattle.cue_eval.proofs.TellingDepth.{nested_depth, nested_size}
+use Rattle.cue_eval.proofs.Walks.{within_depth}
+
+pub known_of : (found : Found) (known : Tables) (us : List ℕ) → known.pairs.pairs.now ≡ found.pairs.items → known.tables.now ≡ found.tables.items → AreFound (all_definitions known) us found → AreKnown known us
+known_of found known us pairs tables h = record {
+  pairs = λ i there sure. subst (λ (xs : List (Option _)). IsPairOf (meaning (all_definitions known) i) (get_or xs i None)) (sym pairs) ((h i there).pair sure);
+  tables = λ i there. subst (λ (xs : List (Option (Tree Row))). IsTableAt (meaning (all_definitions known) i) (get_or xs i None)) (sym tables) (h i there).rows;
+}
+
+pub ready_of : (found : Found) (known : Tables) (d : Definition) → known.pairs.pairs.now ≡ found.pairs.items → known.tables.now ≡ found.tables.items → IsDefinable (all_definitions known) d found → IsReady known d.value
+ready_of found known d pairs tables h =
+    let ds = all_definitions known in
+    let c = meant ds (meaning ds) d.value in
+    let more = nested_size d.chain c in
+    let deeper = nested_depth d.chain c in
+    let s = h.size in
+    let t = h.depth in record {
+      right = h.right;
+      used = known_of found known (uses ds d.value) pairs tables h.used;
+      terms = h.terms;
+      size = omega arith;
+      depth = omega arith;
+    }
+
+-- a chain of labels makes a struct, so that nothing scalar stands behind one
+scalar_nested : (chain : List Label) (c : Core) → IsTrue (is_scalar (nested chain c)) → nested chain c ≡ c
+scalar_nested [] c h = refl
+scalar_nested (l ∷ ls) c h = absurd (cc)
+
+pub pairable_of : (found : Found) (known : Tables) (d : Definition) → known.pairs.pairs.now ≡ found.pairs.items → known.tables.now ≡ found.tables.items → IsDefinable (all_definitions known) d found
+    → IsTrue (is_scalar (body_of (all_definitions known) d)) → IsPairable known.pairs d.value
+pairable_of found known d pairs tables h sure =
+    let ds = all_definitions known in
+    let c = meant ds (meaning ds) d.value in record {
+      right = h.right;
+      scalar = subst (λ z. IsTrue (is_scalar z)) (scalar_nested d.chain c sure) sure;
+      used = (known_of found known (uses ds d.value) pairs tables h.used).pairs;
+    }
+
+pub pair_of_body : (ds : List Definition) (d : Definition) → IsTrue (is_scalar (body_of ds d)) → pair (body_of ds d) ≡ pair (meant ds (meaning ds) d.value)
+pair_of_body ds d sure = ap pair (scalar_nested d.chain (meant ds (meaning ds) d.value) sure)
+
+-- there is room for the chain of labels
+pub chain_within : (ds : List Definition) (d : Definition) (found : Found) (table : Tree Row) → IsDefinable ds d found → IsTable Refuses IsRow table → HasAnswersOf (meant ds (meaning ds) d.value) table
+    → tree_depth table + length d.chain ≤ step_limit
+chain_within ds d found table h form same =
+    let c = meant ds (meaning ds) d.value in
+    let at = within_depth c table form same in
+    let deeper = nested_depth d.chain c in
+    let t = h.depth in
+    omega arith
+
+pub body_known : (found : Found) (known : Sight) (d : Definition) → known.dots.now ≡ found.dots.items → IsDefinable (all_of known.definitions.now) d found → IsBodyKnown known d.chain d.value
+body_known found known d dots h =
+    let ds = all_of known.definitions.now in
+    let c = meant ds (meaning ds) d.value in
+    let more = nested_size d.chain c in
+    let s = h.size in
+    let t = h.depth in record {
+      used = λ i there.
+          let at = (h.used i there).dots in
+          let below = below_is (length ds) (uses ds d.value) (uses_below ds d.value) i there in
+          let room = h.room.dots in
+          let long = ap length dots in
+          (at.0, omega arith, λ o. subst (λ (xs : List (Option (Tree Declared))). get_or xs i o ≡ Some at.0) (sym dots) (at.1 o), at.2);
+      small = omega arith;
+      flat = omega arith;
+    }

@@ -1,0 +1,163 @@
+-- Definitions are evaluated in an order in which each comes after those that it uses, and then the text.
+use Rattle.std.proofs.Common.{◌≡◌, ◌+◌, ◌≤◌, ◌<◌, ℕ, ⊎_elim, Option, None, Some, Result, Ok, Err, List, [], length, get_or, get_or-set_same, get_or-set_other, sym, ap, subst, ◌∙◌, arith}
+use Rattle.std.proofs.Math.ListN.{set, length-set}
+use Rattle.std.proofs.lemmas.Bool.Decides.{eqb_tells}
+use Rattle.std.specs.Prelude.{IfOk, slice_get}
+use Rattle.cue_lattice.specs.Limits.{size_limit, step_limit}
+use Rattle.cue_row.specs.Row.{Refuses, IsRow}
+use Rattle.cue_row.specs.declared.row.Row.{Row}
+use Rattle.cue_scalars.specs.declared.valued.Valued.{Valued}
+use Rattle.cue_table.specs.Form.{IsTable}
+use Rattle.cue_table.specs.Tree.{Tree}
+use Rattle.cue_syntax.specs.Grammar.{AreRightEntries}
+use Rattle.cue_syntax.specs.Syntax.{Entries}
+use Rattle.cue_syntax.specs.Words.{HaveWordsEntries}
+use Rattle.cue_scope.specs.Core.{struct}
+use Rattle.cue_scope.specs.Definitions.{Definition, definitions}
+use Rattle.cue_scope.specs.Graph.{IsIn, PointsTo, start}
+use Rattle.cue_scope.specs.Limits.{size_of_members, depth_of_members}
+use Rattle.cue_scope.specs.Meaning.{meaning, meant_use, meant_members, meant_fields, meant_text}
+use Rattle.cue_scope.specs.Reached.{IsReachedOrder}
+use Rattle.cue_scope.specs.Refusing.{IsLegal}
+use Rattle.cue_scope.specs.Terms.{terms_of_entries}
+use Rattle.cue_scope.specs.Uses.{uses, uses_of_fields, graph}
+use Rattle.cue_scope.proofs.Kept.{reached_below}
+use Rattle.cue_scope.proofs.Meanings.{uses_at}
+use Rattle.cue_scope.proofs.Nodes.{in_at, in_index}
+use Rattle.cue_eval.specs.declared.declared.Declared.{Declared}
+use Rattle.cue_eval.specs.declared.evaluation.Defined.{Defined}
+use Rattle.cue_eval.specs.declared.evaluation.Found.{Found}
+use Rattle.cue_eval.specs.declared.rows.Tables.{Tables}
+use Rattle.cue_eval.specs.Evaluated.{HasAnswersOf, IsEvaluated}
+use Rattle.cue_eval.specs.Finding.{body_of, HasRoom, IsDefined, IsDefinable, IsFoundAt, IsFoundSoFar, AreFound}
+use Rattle.cue_eval.specs.Known.{IsPairOf}
+use Rattle.cue_eval.specs.Ready.{all_definitions, members_of, AreReadyFields, IsTableAt}
+use Rattle.cue_eval.proofs.Defining.{known_of}
+use Rattle.cue_eval.proofs.Reaching.{IsLimited, right_at, terms_at, reached_limited}
+use Rattle.cue_eval.proofs.Regular.{of_fields}
+use Rattle.cue_eval.proofs.ValidTables.{texts_are_valid}
+use Rattle.cue_eval.proofs.WordsOfTexts.{texts_write_words}
+
+pub found_none : (ds : List Definition) (order : List ℕ) (found : Found) → HasRoom (length ds) found → IsFoundSoFar ds order 0 found
+found_none ds order found h = record { room = h; each = λ k less inside. absurd (omega arith) }
+
+-- those that the next definition uses are known
+found_next : (ds : List Definition) (from order : List ℕ) (k : ℕ) (found : Found) (d : Definition) → IsReachedOrder (graph ds) from order → k < length order → slice_get ds (get_or order k 0) ≡ Some d
+    → IsFoundSoFar ds order k found → AreFound ds (uses ds d.value) found
+found_next ds from order k found d o h is w = λ j there.
+    let points : PointsTo (graph ds) (get_or order k 0) j = subst (λ us. IsIn j us) (sym (uses_at ds ds (get_or order k 0) d is)) there in
+    let before = o.after k j h points in
+    let less : before.0 < k = before.1 in
+    let same : get_or order before.0 0 ≡ j = before.2 in
+    subst (λ z. IsFoundAt (meaning ds z) z found) same (w.each before.0 less (omega arith))
+
+-- what is said of the definitions of a legal text
+abbrev pub AreClosed : List Definition → Type 0
+AreClosed ds = (i : ℕ) → i < length ds → meaning ds i ≡ meant_use ds (meaning ds) (slice_get ds i)
+
+pub next_below : (es : Entries) (order : List ℕ) (k : ℕ) → IsReachedOrder (graph (definitions es)) (uses_of_fields (definitions es) es) order → k < length order → get_or order k 0 < length (definitions es)
+next_below es order k o h = reached_below (definitions es) es order o (get_or order k 0) (in_at order k h)
+
+-- the next definition means its body, closed
+pub next_means : (es : Entries) (order : List ℕ) (k : ℕ) (d : Definition) → AreClosed (definitions es) → IsReachedOrder (graph (definitions es)) (uses_of_fields (definitions es) es) order → k < length order
+    → slice_get (definitions es) (get_or order k 0) ≡ Some d → meaning (definitions es) (get_or order k 0) ≡ body_of (definitions es) d
+next_means es order k d closed_uses o h is =
+    let ds = definitions es in
+    closed_uses (get_or order k 0) (next_below es order k o h) ∙ ap (meant_use ds (meaning ds)) is
+
+pub next_definable : (es : Entries) (order : List ℕ) (k : ℕ) (found : Found) (d : Definition) → IsLegal es → AreRightEntries es → AreClosed (definitions es)
+    → IsReachedOrder (graph (definitions es)) (uses_of_fields (definitions es) es) order → k < length order → slice_get (definitions es) (get_or order k 0) ≡ Some d
+    → IsFoundSoFar (definitions es) order k found → IsDefinable (definitions es) d found
+next_definable es order k found d legal right closed_uses o h is w =
+    let ds = definitions es in
+    let i = get_or order k 0 in
+    let within = reached_limited es legal right closed_uses i ((o.reached i).0 (in_at order k h)) in
+    let limited = subst (λ c. IsLimited c) (next_means es order k d closed_uses o h is) within in record {
+      room = w.room;
+      used = found_next ds (uses_of_fields ds es) order k found d o h is w;
+      right = right_at es i d right is;
+      terms = terms_at ds (meaning ds) es i d legal.small.scalar.terms is;
+      size = limited.size;
+      depth = limited.depth;
+    }
+
+-- what is kept at a number is known there
+kept_here : (ds : List Definition) (n : ℕ) (old new : Found) (defined : Defined) → HasRoom (length ds) old → n < length ds → IsDefined (meaning ds n) defined
+    → new.pairs.items ≡ set old.pairs.items n defined.pair → new.tables.items ≡ set old.tables.items n (Some defined.closed.rows) → new.dots.items ≡ set old.dots.items n (Some defined.closed.dots)
+    → IsFoundAt (meaning ds n) n new
+kept_here ds n old new defined room below x pairs tables dots =
+    let a = room.pairs in
+    let b = room.tables in
+    let e = room.dots in record {
+      pair = λ sure. subst (λ (xs : List (Option Valued)). IsPairOf (meaning ds n) (get_or xs n None)) (sym pairs)
+          (subst (λ p. IsPairOf (meaning ds n) p) (sym (get_or-set_same old.pairs.items n defined.pair None (omega arith))) (x.pair sure));
+      rows = subst (λ (xs : List (Option (Tree Row))). IsTableAt (meaning ds n) (get_or xs n None)) (sym tables)
+          (subst (λ t. IsTableAt (meaning ds n) t) (sym (get_or-set_same old.tables.items n (Some defined.closed.rows) None (omega arith))) x.rows);
+      dots = (
+        defined.closed.dots,
+        λ o. subst (λ (xs : List (Option (Tree Declared))). get_or xs n o ≡ Some defined.closed.dots) (sym dots) (get_or-set_same old.dots.items n (Some defined.closed.dots) o (omega arith)),
+        x.dots,
+      );
+    }
+
+-- what is known at another number still is
+kept_there : (ds : List Definition) (n i : ℕ) (old new : Found) (defined : Defined) → (i ≡ n → ⊥) → IsFoundAt (meaning ds i) i old
+    → new.pairs.items ≡ set old.pairs.items n defined.pair → new.tables.items ≡ set old.tables.items n (Some defined.closed.rows) → new.dots.items ≡ set old.dots.items n (Some defined.closed.dots)
+    → IsFoundAt (meaning ds i) i new
+kept_there ds n i old new defined apart x pairs tables dots = record {
+  pair = λ sure. subst (λ (xs : List (Option Valued)). IsPairOf (meaning ds i) (get_or xs i None)) (sym pairs)
+      (subst (λ p. IsPairOf (meaning ds i) p) (sym (get_or-set_other old.pairs.items n i defined.pair None apart)) (x.pair sure));
+  rows = subst (λ (xs : List (Option (Tree Row))). IsTableAt (meaning ds i) (get_or xs i None)) (sym tables)
+      (subst (λ t. IsTableAt (meaning ds i) t) (sym (get_or-set_other old.tables.items n i (Some defined.closed.rows) None apart)) x.rows);
+  dots = (
+    x.dots.0,
+    λ o. subst (λ (xs : List (Option (Tree Declared))). get_or xs i o ≡ Some x.dots.0) (sym dots)
+        (get_or-set_other old.dots.items n i (Some defined.closed.dots) o apart ∙ x.dots.1 o),
+    x.dots.2,
+  );
+}
+
+pub found_more : (ds : List Definition) (from order : List ℕ) (k : ℕ) (old new : Found) (defined : Defined) → IsReachedOrder (graph ds) from order → k < length order → get_or order k 0 < length ds
+    → IsFoundSoFar ds order k old → IsDefined (meaning ds (get_or order k 0)) defined
+    → new.pairs.items ≡ set old.pairs.items (get_or order k 0) defined.pair → new.tables.items ≡ set old.tables.items (get_or order k 0) (Some defined.closed.rows)
+    → new.dots.items ≡ set old.dots.items (get_or order k 0) (Some defined.closed.dots) → IsFoundSoFar ds order (k + 1) new
+found_more ds from order k old new defined o h below w x pairs tables dots =
+    let n = get_or order k 0 in record {
+      room = record {
+        pairs = ap length pairs ∙ length-set old.pairs.items n defined.pair ∙ w.room.pairs;
+        tables = ap length tables ∙ length-set old.tables.items n (Some defined.closed.rows) ∙ w.room.tables;
+        dots = ap length dots ∙ length-set old.dots.items n (Some defined.closed.dots) ∙ w.room.dots;
+      };
+      each = λ j less inside. ⊎_elim
+          (λ t. subst (λ z. IsFoundAt (meaning ds z) z new) (sym (ap (λ z. get_or order z 0) t.1)) (kept_here ds n old new defined w.room below x pairs tables dots))
+          (λ f. kept_there ds n (get_or order j 0) old new defined (λ e. f.1 (o.once j k inside h e)) (w.each j (let apart = f.1 in omega arith) inside) pairs tables dots)
+          (eqb_tells j k);
+    }
+
+-- at the end of the order all is known that the text uses
+pub text_ready : (es : Entries) (order : List ℕ) (count : ℕ) (found : Found) (known : Tables) → IsLegal es → AreRightEntries es → IsReachedOrder (graph (definitions es)) (uses_of_fields (definitions es) es) order
+    → length order ≤ count → IsFoundSoFar (definitions es) order count found → all_definitions known ≡ definitions es → known.pairs.pairs.now ≡ found.pairs.items → known.tables.now ≡ found.tables.items → AreReadyFields known es
+text_ready es order count found known legal right o all w same pairs tables =
+    let ds = definitions es in
+    let used : AreFound ds (uses_of_fields ds es) found = λ i there.
+    let at = in_index order i ((o.reached i).1 (start i there)) in
+    subst (λ z. IsFoundAt (meaning ds z) z found) at.2 (w.each at.0 (let l = at.1 in omega arith) at.1) in
+    let s = legal.small.size in
+    let d = legal.depth in
+    let size : size_of_members (meant_fields ds (meaning ds) es) ≤ size_limit = omega arith in
+    let depth : depth_of_members (meant_fields ds (meaning ds) es) ≤ step_limit = omega arith in record {
+      right = right;
+      used = known_of found known (uses_of_fields (all_definitions known) es) pairs tables (subst (λ zs. AreFound zs (uses_of_fields zs es) found) (sym same) used);
+      terms = subst (λ zs. terms_of_entries zs (meaning zs) es ≡ []) (sym same) legal.small.scalar.terms;
+      size = subst (λ zs. size_of_members (meant_fields zs (meaning zs) es) ≤ size_limit) (sym same) size;
+      depth = subst (λ zs. depth_of_members (meant_fields zs (meaning zs) es) ≤ step_limit) (sym same) depth;
+    }
+
+-- the table of the text's declarations is what evaluation owes
+pub evaluated_result : {E : Type 0} (r : Result (Tree Row) E) (es : Entries) (known : Tables) → IsLegal es → HaveWordsEntries es → all_definitions known ≡ definitions es
+    → IfOk r (IsTable Refuses IsRow) → IfOk r (HasAnswersOf (struct (members_of known es))) → IfOk r (IsEvaluated (meant_text es))
+evaluated_result (Ok table) es known legal words same form answers =
+    let ds = definitions es in
+    let own = of_fields ds (meaning ds) es table (subst (λ zs. HasAnswersOf (struct (meant_members zs (meaning zs) es)) table) same answers) in
+    record { answers = own; valid = texts_are_valid es table legal (texts_write_words es words) form own }
+evaluated_result (Err e) es known legal words same form answers = form
