@@ -1,8 +1,12 @@
 -- Many tables as one: by halves, and below steps.
 use Rattle.std.specs.Prelude.{IfOk}
 use Rattle.std.specs.Option.{is_some, option_map}
-use Rattle.std.proofs.Common.{◌≡◌, ◌↔◌, ℕ, ◌-◌, ◌+◌, ◌<◌, ◌≤◌, Bool, false, not, Option, Some, None, Result, Ok, Err, refl, take-add, List, [], ◌∷◌, ◌++◌, append_assoc, map, length, take, drop, subst, sym, ap, ◌∙◌, inl, inr, ⊎_elim, arith}
+use Rattle.std.proofs.Common.{◌≡◌, ◌↔◌, ℕ, zero, suc, ◌-◌, ◌+◌, ◌<◌, ◌≤◌, Bool, false, not, Option, Some, None, Result, Ok, Err, refl, take-add, List, [], ◌∷◌, ◌++◌, append_assoc, map, length, take, drop, subst, sym, ap, ◌∙◌, inl, inr, ⊎_elim, arith}
 use Rattle.cue_lattice.proofs.OneOf.{one_of-append}
+use Rattle.std.specs.List.{Contains}
+use Rattle.std.specs.List.Sorted.{IsPermutation}
+use Rattle.std.proofs.lemmas.List.Elements.{Contains-append_right}
+use Rattle.std.proofs.lemmas.List.Sorted.{IsPermutation-sym, Contains-permutation}
 use Rattle.std.proofs.lemmas.List.{append-nil}
 use Rattle.std.specs.declared.cmp.Ordering.{Ordering}
 use Rattle.std.specs.declared.cmp.Ordering.TheVariants.{Less, Equal, Greater}
@@ -160,3 +164,35 @@ pub branches_ok :
     → IfOk r (IsUnified refuses tables) → IfOk r (IsOfBranches refuses given)
 branches_ok refuses (Ok met) given tables e h = branches_given refuses given tables met e h
 branches_ok refuses (Err x) given tables e h = tt
+
+-- ---- in another order
+-- an element of which P holds
+pub one_of_member : {X : Type 0} (P : X → Type 0) (xs : List X) → OneOf P xs → (x : X) × Contains xs x × P x
+one_of_member P [] h = absurd h
+one_of_member P (x ∷ xs) (inl h) = (x, (0, omega arith, refl), h)
+one_of_member P (x ∷ xs) (inr h) = let found = one_of_member P xs h in (found.0, Contains-append_right (x ∷ []) xs found.0 found.1, found.2)
+
+pub member_one_of : {X : Type 0} (P : X → Type 0) (xs : List X) (x : X) → Contains xs x → P x → OneOf P xs
+member_one_of P [] x (k, less, e) h = absurd (omega arith)
+member_one_of P (y ∷ ys) x (zero, less, e) h = inl (subst P (sym e) h)
+member_one_of P (y ∷ ys) x (suc k, less, e) h = inr (member_one_of P ys x (k, omega arith, e) h)
+
+pub one_of_permutation : {X : Type 0} (P : X → Type 0) (xs ys : List X) → IsPermutation xs ys → OneOf P xs → OneOf P ys
+one_of_permutation P xs ys moved h =
+    let found = one_of_member P xs h in member_one_of P ys found.0 (Contains-permutation xs ys found.0 moved found.1) found.2
+
+-- branches in another order give the same table
+pub branches_permuted :
+    {R Q E : Type 0} (refuses : R → Q → Type 0) (r : Result (Tree R) E) (given sorted : List (program.Step × Tree R)) → IsPermutation given sorted
+    → IfOk r (IsOfBranches refuses sorted) → IfOk r (IsOfBranches refuses given)
+branches_permuted refuses (Err x) given sorted moved h = tt
+branches_permuted {R} {Q} {E} refuses (Ok table) given sorted moved h = record {
+  root = h.root;
+  below = λ step path question. (
+    λ refused. one_of_permutation (At step path question) sorted given (IsPermutation-sym given sorted moved) ((h.below step path question).0 refused),
+    λ one. (h.below step path question).1 (one_of_permutation (At step path question) given sorted moved one),
+  );
+}
+  where
+    At : Step → Path → Q → program.Step × Tree R → Type 0
+    At step path question one = (step_of one.0 ≡ step) × TableRefuses refuses one.1 path question

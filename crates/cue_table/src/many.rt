@@ -1,5 +1,6 @@
 //! Many tables as one.
 ghost use Rattle.std.specs.Prelude.{◌≡◌, ◌<◌, drop, take, All, IfOk, OnOk};
+ghost use Rattle.std.specs.List.Sorted.{IsPermutation};
 ghost use Rattle.std.specs.Vec.Iter.{into_iter_items};
 ghost use Rattle.cue_lattice.specs.Limits.{step_limit};
 ghost use Rattle.cue_row.specs.Steps.{step_of};
@@ -26,18 +27,39 @@ impl<R: Narrow> Table<R> {
     }
 
     /// The table of branches that are given in any order: it knows nothing at the root, and below a step what the tables
-    /// given for this step know together. The tables are taken over and not copied, and unified by halves.
+    /// given for this step know together. The tables are taken over and not copied; they are put in the order of their
+    /// steps, so that each half lies beside the other one, and unified by halves.
     pub fn of_branches(alloc: Global, branches: Vec<(Step, Table<R>)>) -> Result<Table<R>, Memory>
         requires { All (λ one. tree_depth one.1 < step_limit) branches.items }
         ensures form { IfOk result (IsTable R.refuses R.is_value) }
         ensures refused { IfOk result (IsOfBranches R.refuses branches.items) }
     {
-        let mut tables = Vec::with_capacity(alloc, branches.len())?;
-        for (step, table) in branches {
-            tables.push(table.under(alloc, step)?)?;
-        }
-        Table::unified(alloc, tables)
+        hung_together(alloc, by_step(branches)?)
     }
+}
+
+/// The branches in the order of their steps.
+fn by_step<R: Narrow>(mut branches: Vec<(Step, Table<R>)>) -> Result<Vec<(Step, Table<R>)>, Memory>
+    ensures { IfOk result (λ sorted. IsPermutation branches.items sorted.items) }
+{
+    branches.sort_by(|one, other| one.0.compare(&other.0))?;
+    Ok(branches)
+}
+
+/// The table of these branches.
+fn hung_together<R: Narrow>(
+    alloc: Global,
+    branches: Vec<(Step, Table<R>)>,
+) -> Result<Table<R>, Memory>
+    requires { All (λ one. tree_depth one.1 < step_limit) branches.items }
+    ensures form { IfOk result (IsTable R.refuses R.is_value) }
+    ensures refused { IfOk result (IsOfBranches R.refuses branches.items) }
+{
+    let mut tables = Vec::with_capacity(alloc, branches.len())?;
+    for (step, table) in branches {
+        tables.push(table.under(alloc, step)?)?;
+    }
+    Table::unified(alloc, tables)
 }
 
 /// What the next tables of a list know together.

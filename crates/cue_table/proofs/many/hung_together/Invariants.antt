@@ -3,7 +3,7 @@ use Rattle.std.specs.Vec.Iter.{into_iter_items}
 use Rattle.cue_lattice.specs.Limits.{step_limit}
 use Rattle.cue_table.specs.Depth.{tree_depth}
 use Rattle.cue_table.proofs.ByHalves.{hung}
-use Rattle.cue_table.proofs.table.Table.of_branches.Given as goal
+use Rattle.cue_table.proofs.many.hung_together.Given as goal
 
 -- what hangs below its step and what is left are all
 abbrev pub invariant-loop-step : goal.invariant-loop-step
