@@ -48,9 +48,9 @@ pub fn laws_of_closing()
 {}
 
 /// A table in its one form that has the answers of a legal text is valid, where the text's labels and strings are in
-/// UTF-8 and not too long, as the grammar's are. For the labels and texts that an answer speaks of are written, or they are among those that
-/// are not, of which all are left out or none is; and no list is longer than the text is large. It computes nothing: it
-/// states laws.
+/// UTF-8 and not too long, as the grammar's are. For the labels and texts that an answer speaks of are written, or they
+/// are among those that are not, of which all are left out or none is; and no list is longer than the text is large. It
+/// computes nothing: it states laws.
 pub fn laws_of_validity()
     ensures paths { PathsAreWritten }
     ensures labels { UnwrittenLabelsAreAlike }

@@ -2,8 +2,6 @@
 //! definitions that it names apart.
 ghost use Rattle.std.specs.Prelude.{◌≡◌, ◌↔◌, ◌+◌, ◌≤◌, ◌<◌, ℕ, Bool, List, [], true, length, IfOk};
 ghost use Rattle.cue_lattice.specs.Limits.{step_limit};
-ghost use Rattle.cue_lattice.specs.Path as paths;
-ghost use Rattle.cue_row.specs.Steps.{step_of};
 ghost use Rattle.cue_syntax.specs.Syntax as tree;
 ghost use Rattle.cue_scope.specs.Core.{Core, struct, list, conjunction, member, no_members};
 ghost use Rattle.cue_scope.specs.Definitions.{Definition as DefinitionOf};
@@ -17,7 +15,8 @@ ghost use Rattle.cue_eval.specs.Told.{IsTold, IsToldBelow, IsKnown, ArePartsKnow
 ghost use Rattle.cue_eval.specs.declared.told.Whose.TheVariants as whoses;
 
 use crate::declared::{Asked, Declared};
-use cue_lattice::{Memory, Narrow, Text, meet_all};
+use crate::hanging::step_to;
+use cue_lattice::{Memory, Narrow, meet_all};
 use cue_row::{Path, Step};
 use cue_scope::Definitions;
 use cue_sets::TextSet;
@@ -240,13 +239,6 @@ fn declared(alloc: Global, declarations: &[Declaration]) -> Result<Declared, Mem
         stands: true,
         undeclared: meet_all(alloc, &sets)?,
     })
-}
-
-/// The step to a field.
-fn step_to(alloc: Global, label: &Label) -> Result<Step, Memory>
-    ensures { IfOk result (λ step. step_of step ≡ paths.label (text_of label.now.name)) }
-{
-    Ok(Step::Label(Text::from_str(alloc, word(label))?))
 }
 
 /// The text of a label.

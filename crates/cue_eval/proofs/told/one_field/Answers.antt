@@ -1,4 +1,5 @@
 use Rattle.std.proofs.Common.{◌≤◌, ◌+◌, true, [], ◌∷◌, ◌++◌, refl, sym, ap, subst, ◌∙◌}
+use Rattle.cue_row.specs.Steps.{step_of}
 use Rattle.std.proofs.lemmas.Result.{IfOk-weaker}
 use Rattle.cue_scope.specs.Core.{Core, struct, member, no_members}
 use Rattle.cue_scope.specs.Meaning.{text_of}
@@ -21,7 +22,7 @@ returns-in-Used-clause-told c =
     let items = c.in_ok-push.ensures.items ∙ ap (λ xs. xs ++ (step, below) ∷ []) c.in_ok-branches.ensures.items in
     let of : IsOfBranches Tells ((step, below) ∷ []) table = subst (λ xs. IsOfBranches Tells xs table) items c.in_ok-table.ensures.refused in
     subst (λ w. (x : Core) → IsTold w x below → IsTold w (struct (member k mark x no_members)) table) (sym c.in-Used.is)
-    (λ x h. used_told (member k mark x no_members) table (one_field_told Used k mark x step below table c.in_ok-step_to.ensures h c.in_ok-table.ensures.form of))
+    (λ x h. used_told (member k mark x no_members) table (one_field_told Used k mark x step below table (ap step_of c.in_ok-step_to.ensures) h c.in_ok-table.ensures.form of))
 
 pub returns-in-Used-clause-depth : goal.returns-in-Used-clause-depth
 returns-in-Used-clause-depth c =
@@ -46,7 +47,7 @@ returns-in_ok-but-in-Own-clause-told c =
     IfOk-weaker c.at_root.result (IsRooted table row) _
     (λ all rooted. subst (λ w. (x : Core) → IsTold w x below → IsTold w (struct (member k mark x no_members)) all) (sym c.in-Own.is)
     (λ x h. own_told (member k mark x no_members) table all row
-    (one_field_told Own k mark x step below table c.in_ok-step_to.ensures h c.in_ok-table.ensures.form of) (one_declared k mark x row refl lacks) rooted))
+    (one_field_told Own k mark x step below table (ap step_of c.in_ok-step_to.ensures) h c.in_ok-table.ensures.form of) (one_declared k mark x row refl lacks) rooted))
     c.at_root.ensures
 
 pub returns-in_ok-but-in-Own-clause-depth : goal.returns-in_ok-but-in-Own-clause-depth

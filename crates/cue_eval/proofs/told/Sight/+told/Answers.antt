@@ -2,6 +2,7 @@ use denote.Param.Weighed.{most, at_most}
 use Rattle.cue_syntax.specs.declared.tree.Expr.{size-Expr}
 use Rattle.cue_syntax.specs.declared.tree.Declaration.{size-Declaration}
 use Rattle.std.proofs.Common.{◌<◌, ◌≤◌, length, sym, ap, subst, ◌∙◌, arith, IfOk, Bool, refl}
+use Rattle.cue_row.specs.Steps.{step_of}
 use Rattle.std.proofs.lemmas.Result.{IfOk-weaker}
 use Rattle.cue_lattice.specs.Limits.{step_limit}
 use Rattle.cue_syntax.specs.Syntax as tree
@@ -96,7 +97,7 @@ fields-loop-declaration-preserved t c =
           let few : tree_depth below < step_limit = omega (arith, flat, same, deep) in
           let told = subst (λ ch. IsTold c.args.whose (nested ch value) below) w.deref.ensures.value (w.in_ok-below-in-Field.ensures.told value w.in_ok-value-in-Field.ensures) in
           rw (w.branches-is, w.in_ok-push-in-Field.ensures.items)
-          (field_more _ _ _ _ _ _ w.in-Field.label w.in-Field.chain w.in-Field.value w.in_ok-step_to-in-Field.field-0 below next view w.in_ok-step_to-in-Field.ensures told few)
+          (field_more _ _ _ _ _ _ w.in-Field.label w.in-Field.chain w.in-Field.value w.in_ok-step_to-in-Field.field-0 below next view (ap step_of w.in_ok-step_to-in-Field.ensures) told few)
       | fields-in-Definition w ↦
           rw w.branches-is (definition_more _ _ _ _ _ _ w.in-Definition.name w.in-Definition.from w.in-Definition.chain w.in-Definition.value next
           (ap entry_tree w.in-Definition.is ∙ view-Definition w.in-Definition.name w.in-Definition.from w.in-Definition.chain w.in-Definition.value))
