@@ -7,7 +7,7 @@ use std::test::Fail;
 const EMPTY: [u8; 13] = [0xfe, 0x43, 0x55, 0x45, 1, 0, 0, 0, 0, 0, 0, 0, 0];
 
 /// The state of `a: 1`: an open struct at the root, and the integer 1.
-const INTEGER: [u8; 92] = [
+pub const INTEGER: [u8; 92] = [
     0xfe, 0x43, 0x55, 0x45, 1, 0, 0, 0, 0, 0, 0, 0, 2, 0, 0, 2, 0, 1, 0, 0, 1, 0x61, 2, 1, 0, 0, 0,
     0, 0, 0, 0, 0, 1, 0, 0, 0, 0, 0, 0, 0, 1, 0, 0, 0, 0, 0, 0, 0, 1, 0, 0, 0, 0, 0, 0, 0, 0, 0, 0,
     0, 0, 0, 0, 0, 0, 0, 1, 0, 0, 0, 0, 0, 0, 0, 1, 0, 0, 0, 0, 0, 0, 0, 1, 0, 0, 0, 0, 0, 0, 0, 0,
@@ -29,29 +29,29 @@ const CONFLICT: [u8; 30] = [
 ];
 
 /// The state of a list of at least 65,536 elements at `l`.
-const LIST: [u8; 29] = [
+pub const LIST: [u8; 29] = [
     0xfe, 0x43, 0x55, 0x45, 1, 0, 0, 0, 0, 0, 0, 0, 2, 0, 0, 2, 0, 1, 0, 0, 1, 0x6c, 2, 3, 0, 1, 0,
     0, 0,
 ];
 
 /// How many bytes stand before the rows.
-const HEAD: usize = 13;
+pub const HEAD: usize = 13;
 
 /// How many bytes stand before the second row of the states above.
-const SECOND: usize = 17;
+pub const SECOND: usize = 17;
 
 /// The bits of a byte.
 const BITS: [u8; 8] = [1, 2, 4, 8, 16, 32, 64, 128];
 
 /// Whether the bytes are those of a table, which is written as they are.
-fn is_kept(alloc: Global, bytes: &[u8]) -> Result<bool, Fail> {
+pub fn is_kept(alloc: Global, bytes: &[u8]) -> Result<bool, Fail> {
     let table = decode(alloc, bytes)?;
     let written = encode(alloc, &table)?;
     Ok(written.as_slice() == bytes)
 }
 
 /// Whether the bytes are no state.
-fn is_refused(alloc: Global, bytes: &[u8]) -> bool {
+pub fn is_refused(alloc: Global, bytes: &[u8]) -> bool {
     matches!(decode(alloc, bytes), Err(Kind::NotState))
 }
 
