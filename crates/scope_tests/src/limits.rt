@@ -1,5 +1,5 @@
 use crate::texts::{chain, refused, repeated, size, sized};
-use cue_lattice::Kind;
+use cue_lattice::{Kind, Refusal};
 use cue_lex::lex;
 use cue_scope::resolve;
 use cue_syntax::{File, parse};
@@ -56,6 +56,35 @@ fn steps(rt: HostRuntime) -> Result<(), Fail> {
     Ok(())
 }
 
+/// So many labels and what follows give this size, and one label more is too deep.
+fn longest(
+    alloc: Global,
+    (label, last): (&str, &str),
+    count: u8,
+    wanted: u64,
+) -> Result<bool, Fail> {
+    let count = usize::from(count);
+    let legal = repeated(alloc, label, count, last)?;
+    let deeper = repeated(alloc, label, count + 1, last)?;
+    let deep = Refusal {
+        kind: Kind::TooDeep,
+        place: 0,
+    };
+    Ok(size(alloc, legal.as_str()) == Ok(wanted) && size(alloc, deeper.as_str()) == Err(deep))
+}
+
+/// Steps are counted as they are written, also to fields that say nothing, and an element is one.
+#[test]
+fn steps_as_they_are_written(rt: HostRuntime) -> Result<(), Fail> {
+    let alloc = rt.alloc();
+    assert!(rt; longest(alloc, ("a?: ", "_"), 64, 129)?);
+    assert!(rt; longest(alloc, ("a!: ", "_"), 64, 129)?);
+    assert!(rt; longest(alloc, ("a: ", "[_]"), 63, 128)?);
+    assert!(rt; longest(alloc, ("a: ", "#A\n#A: close({b?: _})"), 63, 131)?);
+    assert!(rt; longest(alloc, ("a: ", "#A\n#A: b?: _"), 63, 130)?);
+    Ok(())
+}
+
 #[test]
 fn doubled_definitions(rt: HostRuntime) -> Result<(), Fail> {
     let alloc = rt.alloc();
@@ -92,7 +121,12 @@ fn doubled_definitions(rt: HostRuntime) -> Result<(), Fail> {
 fn definitions_that_nothing_reaches(rt: HostRuntime) -> Result<(), Fail> {
     let alloc = rt.alloc();
     sized(&rt, alloc, chain(alloc, 60, true, "x: 1\n")?.as_str(), 3);
-    sized(&rt, alloc, chain(alloc, 400, false, "x: 1\n")?.as_str(), 3);
+    sized(
+        &rt,
+        alloc,
+        chain(alloc, 40_000, false, "x: 1\n")?.as_str(),
+        3,
+    );
     Ok(())
 }
 
