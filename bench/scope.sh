@@ -9,30 +9,21 @@
 # Usage, at the top of the repository: bench/scope.sh [PROGRAM], where PROGRAM is what `rt run` makes of bench_scope. It
 # wants valgrind.
 set -eu
-program=${1:-crates/bench_scope/out/bench_scope}
-if [ ! -x "$program" ]; then
-    (cd crates/bench_scope && rt run > /dev/null)
-fi
+. bench/instructions.sh
+program=${1:-$(built bench_scope)}
 
-# the instructions of a run: SHAPE COUNT ROUNDS
-instructions() {
-    valgrind --tool=callgrind --callgrind-out-file=/dev/null "$program" "$@" 2>&1 > /dev/null |
-        awk '/Collected/ { print $4 }'
-}
-
-# a line: SHAPE COUNT COUNT COUNT, where the last count is four times the first
 worst=0
+# a line: SHAPE COUNT COUNT COUNT, where the last count is four times the first
 measure() {
-    local shape=$1 row= count making whole growth
+    local shape=$1 row= count making growth
     shift
     for count in "$@"; do
         making=$(instructions "$shape" "$count" 0)
-        whole=$(instructions "$shape" "$count" 1)
-        row="$row $count $((whole - making))"
+        row="$row $count $(($(instructions "$shape" "$count" 1) - making))"
     done
     set -- $row
-    growth=$(awk -v a="$2" -v b="$6" 'BEGIN { printf "%.2f", log(b / a) / log(4) }')
-    worst=$(awk -v g="$growth" -v w="$worst" 'BEGIN { print (g > 1.15) ? 1 : w }')
+    growth=$(growth_of "$2" "$6")
+    if is_steep "$growth"; then worst=1; fi
     printf '%-8s %7s %9s %7s %9s %7s %9s %7s\n' "$shape" "$1" "$(($2 / 1000))" "$3" "$(($4 / 1000))" \
         "$5" "$(($6 / 1000))" "$growth"
 }

@@ -8,32 +8,28 @@
 # Usage, at the top of the repository: bench/table.sh [PROGRAM], where PROGRAM is what `rt run` makes of bench_table. It
 # wants valgrind.
 set -eu
-program=${1:-crates/bench_table/out/bench_table}
-if [ ! -x "$program" ]; then
-    (cd crates/bench_table && rt run > /dev/null)
-fi
-
-# the instructions of a run: WORK SHAPE ROWS ROUNDS
-instructions() {
-    valgrind --tool=callgrind --callgrind-out-file=/dev/null "$program" "$@" 2>&1 > /dev/null |
-        awk '/Collected/ { print $4 }'
-}
+. bench/instructions.sh
+program=${1:-$(built bench_table)}
 
 worst=0
+# a line: WORK SHAPE
+measure() {
+    local costs= rows making growth
+    for rows in 30000 60000 120000; do
+        making=$(instructions "$1" "$2" "$rows" 0)
+        costs="$costs $(($(instructions "$1" "$2" "$rows" 1000) - making))"
+    done
+    set -- "$1" "$2" $costs
+    growth=$(growth_of "$3" "$5")
+    if is_steep "$growth"; then worst=1; fi
+    printf '%-10s %-5s %9s %9s %9s %8s\n' "$1" "$2" \
+        "$(($3 / 1000000))" "$(($4 / 1000000))" "$(($5 / 1000000))" "$growth"
+}
+
 printf '%-10s %-5s %9s %9s %9s %8s\n' work shape 30,000 60,000 120,000 growth
 for shape in wide deep; do
     for work in fragments known equal disjoint; do
-        row=
-        for rows in 30000 60000 120000; do
-            making=$(instructions "$work" "$shape" "$rows" 0)
-            whole=$(instructions "$work" "$shape" "$rows" 1000)
-            row="$row $((whole - making))"
-        done
-        set -- $row
-        growth=$(awk -v a="$1" -v b="$3" 'BEGIN { printf "%.2f", log(b / a) / log(4) }')
-        worst=$(awk -v g="$growth" -v w="$worst" 'BEGIN { print (g > 1.15) ? 1 : w }')
-        printf '%-10s %-5s %9s %9s %9s %8s\n' "$work" "$shape" \
-            "$(($1 / 1000000))" "$(($2 / 1000000))" "$(($3 / 1000000))" "$growth"
+        measure "$work" "$shape"
     done
 done
 exit "$worst"
