@@ -18,9 +18,11 @@ use Rattle.cue_syntax.proofs.EachStackEnds.{keeps_from, keeps_both, reads_kind}
 use Rattle.cue_syntax.proofs.ExpressionsByParts.{three}
 
 -- labels
+-- a mark and then its colon are the mark of a label
 pub mark_then : {a b : List Token} (t : Token) (m : Mark) → Reads (t ∷ a) (spell_mark m) a → Reads a (one (kinds.Mark points.Colon)) b → Marked (t ∷ a) b
 mark_then t m first colon = record { part = m; reads = reads_then first colon }
 
+-- an expression is a value with no label before it
 pub expression_value : {limit : Limit} {n : ℕ} {a b : List Token} → AnExpression limit n a b → Valued limit n a b
 expression_value first = record { chain = []; tree = first.part; reads = first.reads; right = first.good; within = keeps_from first.within (omega arith) }
 
@@ -30,6 +32,7 @@ label_reads : {a b c : List Token} (t : Token) (label : LabelName) (m : Mark) (c
 label_reads t label m chain e kind first second =
     reads_kind t kind (reads_same (three (spell_mark m ++ one (kinds.Mark points.Colon)) (flat_map spell_label chain) (spell e)) (reads_then first second))
 
+-- a label and then a value are a value, which opens one level more
 pub chained_value : {limit : Limit} {n : ℕ} {a b c : List Token} (t : Token) (label : LabelName) → t.kind ≡ label_kind label → Marked a b → Valued limit (1 + n) b c
     → Valued limit n (t ∷ a) c
 chained_value t label kind mark value = record {
@@ -45,6 +48,7 @@ allowed : (top : Bool) (e : Entry) → IsNested e → IsAllowed top e
 allowed true e nested = tt
 allowed false e nested = nested
 
+-- a label and then a value are a field
 pub field_entry : (top : Bool) {limit : Limit} {n : ℕ} {a b c : List Token} (t : Token) (label : LabelName) → t.kind ≡ label_kind label → Marked a b → Valued limit n b c
     → AnEntry top limit n (t ∷ a) c
 field_entry top t label kind mark value = record {
@@ -54,6 +58,7 @@ field_entry top t label kind mark value = record {
   within = keeps_from value.within (omega arith);
 }
 
+-- the name of a definition, a colon and a value are a declaration of the top
 pub definition_entry : {limit : Limit} {n : ℕ} {a b c : List Token} (t : Token) (word : List ℕ) → t.kind ≡ kinds.Definition word → Reads a (one (kinds.Mark points.Colon)) b → Valued limit n b c
     → AnEntry true limit n (t ∷ a) c
 definition_entry {a = a} {c = c} t word kind colon value = record {
@@ -66,6 +71,7 @@ definition_entry {a = a} {c = c} t word kind colon value = record {
     behind : Reads a (one (kinds.Mark points.Colon) ++ flat_map spell_label value.chain ++ spell value.tree) c
     behind = reads_same (three (one (kinds.Mark points.Colon)) (flat_map spell_label value.chain) (spell value.tree)) (reads_then colon value.reads)
 
+-- `...` is a declaration
 pub ellipsis_entry : (top : Bool) {limit : Limit} {n : ℕ} {a : List Token} (t : Token) → t.kind ≡ (kinds.Mark points.Ellipsis) → Keeps limit n → AnEntry top limit n (t ∷ a) a
 ellipsis_entry top t kind keeps = record { part = ellipsis; reads = reads_kind t kind reads_none; good = (tt, allowed top ellipsis tt); within = keeps_from keeps (omega arith) }
 
@@ -77,6 +83,7 @@ ends_next : (comma : Bool) (e : Entry) (es : Entries) → EndsEntries comma (ent
 ends_next true e es = tt
 ends_next false e es = tt
 
+-- a declaration, and what may come after one, are declarations up to their end
 pub entry_entries : {top : Bool} {limit : Limit} {n : ℕ} {a b c : List Token} → AnEntry top limit n a b → MoreDeclared top limit n b c → Declared top limit n a c
 entry_entries {top = top} first more = record {
   tree = entry first.part more.tree;
@@ -88,6 +95,7 @@ entry_entries {top = top} first more = record {
   within = keeps_both first.within more.within (omega arith);
 }
 
+-- a comma and then declarations may come after a declaration
 pub comma_entries : {top : Bool} {limit : Limit} {n : ℕ} {a b : List Token} (t : Token) → t.kind ≡ (kinds.Mark points.Comma) → Declared top limit n a b → MoreDeclared top limit n (t ∷ a) b
 comma_entries {top} {limit} {n} {a} {b} t kind more = by_entries more.tree more.comma more.reads more.right more.nested more.ends more.within
   where
@@ -97,12 +105,15 @@ comma_entries {top} {limit} {n} {a} {b} t kind more = by_entries more.tree more.
     by_entries no_entries false reads right nested ends within = record { tree = no_entries; comma = true; reads = reads_kind t kind reads; right = tt; nested = nested; within = within }
     by_entries (entry e es) comma reads right nested ends within = record { tree = entry e es; comma = comma; reads = reads_kind t kind reads; right = right; nested = nested; within = within }
 
+-- a closing brace alone ends a struct that has no declarations
 pub brace_entries : {limit : Limit} {n : ℕ} {a : List Token} (t : Token) → t.kind ≡ (kinds.Mark points.CloseBrace) → Keeps limit n → Declared false limit n (t ∷ a) a
 brace_entries t kind keeps = record { tree = no_entries; comma = false; reads = reads_kind t kind reads_none; right = tt; nested = tt; ends = tt; within = keeps_from keeps (omega arith) }
 
+-- a closing brace may come right after a declaration
 pub brace_more : {limit : Limit} {n : ℕ} {a : List Token} (t : Token) → t.kind ≡ (kinds.Mark points.CloseBrace) → Keeps limit n → MoreDeclared false limit n (t ∷ a) a
 brace_more t kind keeps = record { tree = no_entries; comma = false; reads = reads_kind t kind reads_none; right = tt; nested = tt; within = keeps_from keeps (omega arith) }
 
+-- an opening brace, declarations up to theirs, and a closing parenthesis complete what `close(` begins
 pub brace_closed : (n : ℕ) {limit : Limit} {a b c : List Token} (t : Token) → t.kind ≡ (kinds.Mark points.OpenBrace) → Declared false limit (1 + (1 + n)) a b → Shuts (kinds.Mark points.CloseParenthesis) b c
     → Closed limit (2 + n) (t ∷ a) c
 brace_closed n t kind first shuts = record {
@@ -133,6 +144,7 @@ rest_is : (goes_on : Bool) (e : Expression) (es : Elements) → rest_behind goes
 rest_is true e es = refl
 rest_is false e es = refl
 
+-- an expression, and what may come after an element, are elements up to the bracket
 pub element_elements : {limit : Limit} {n : ℕ} {a b c : List Token} → AnExpression limit n a b → MoreListed limit n b c → Listed limit n a c
 element_elements {a = a} {c = c} first more = record {
   tree = element first.part more.tree;
@@ -147,6 +159,7 @@ element_elements {a = a} {c = c} first more = record {
   within = keeps_both first.within more.within (omega arith);
 }
 
+-- `...` and then the bracket, with a comma before it or without, end a list that has no elements
 pub ellipsis_elements : {limit : Limit} {n : ℕ} {a b : List Token} (t : Token) → t.kind ≡ (kinds.Mark points.Ellipsis) → Shuts (kinds.Mark points.CloseBracket) a b → Keeps limit n → Listed limit n (t ∷ a) b
 ellipsis_elements t kind shuts keeps = record {
   tree = no_elements;
@@ -162,12 +175,15 @@ ellipsis_elements t kind shuts keeps = record {
     open_ends true = tt
     open_ends false = tt
 
+-- a closing bracket alone ends a list that has no elements
 pub bracket_elements : {limit : Limit} {n : ℕ} {a : List Token} (t : Token) → t.kind ≡ (kinds.Mark points.CloseBracket) → Keeps limit n → Listed limit n (t ∷ a) a
 bracket_elements t kind keeps = record { tree = no_elements; goes_on = false; comma = false; reads = reads_kind t kind reads_none; right = tt; ends = tt; within = keeps_from keeps (omega arith) }
 
+-- a closing bracket may come right after an element
 pub bracket_more : {limit : Limit} {n : ℕ} {a : List Token} (t : Token) → t.kind ≡ (kinds.Mark points.CloseBracket) → Keeps limit n → MoreListed limit n (t ∷ a) a
 bracket_more t kind keeps = record { tree = no_elements; goes_on = false; comma = false; reads = reads_kind t kind reads_none; right = tt; within = keeps_from keeps (omega arith) }
 
+-- a comma and then elements up to the bracket may come after an element
 pub comma_elements : {limit : Limit} {n : ℕ} {a b : List Token} (t : Token) → t.kind ≡ (kinds.Mark points.Comma) → Listed limit n a b → MoreListed limit n (t ∷ a) b
 comma_elements {limit} {n} {a} {b} t kind more = by_elements more.tree more.goes_on more.comma more.reads more.right more.ends more.within
   where
@@ -186,6 +202,7 @@ comma_elements {limit} {n} {a} {b} t kind more = by_elements more.tree more.goes
     }
 
 -- texts
+-- declarations of the top are a whole text
 pub entries_whole : {limit : Limit} {n : ℕ} {a b : List Token} → Declared true limit n a b → Whole limit n a b
 entries_whole first = record {
   tree = record { package_clause = None; declarations = first.tree; comma = first.comma };
@@ -196,6 +213,7 @@ entries_whole first = record {
   within = first.within;
 }
 
+-- a comma and then the declarations of the top may come after the name of a package
 pub comma_package : {limit : Limit} {n : ℕ} {a b : List Token} (t : Token) → t.kind ≡ (kinds.Mark points.Comma) → Declared true limit n a b → Packaged limit n (t ∷ a) b
 comma_package t kind first = record {
   comma = true;
@@ -208,6 +226,7 @@ comma_package t kind first = record {
   within = first.within;
 }
 
+-- `package`, the name of a package, and what may come after it are a whole text
 pub package_whole : {limit : Limit} {n : ℕ} {a b : List Token} (first t : Token) (called : Identifier) → first.kind ≡ kinds.Name (codes "package") → t.kind ≡ identifier_kind called
     → IsPackageName called → Packaged limit n a b → Whole limit n (first ∷ t ∷ a) b
 package_whole first t called word kind right packaged = record {

@@ -18,14 +18,17 @@ use Rattle.cue_syntax.specs.Recogniser.{Goal, Stack, is_keyword, depth, levels_o
 use Rattle.cue_syntax.proofs.ReadingsJoin.{reads_none}
 use Rattle.cue_syntax.proofs.StillToRead.{under, beneath, Keeps, Valued, AUnary, Declared, MoreDeclared, Whole, Packaged, Remains, Below, Ahead}
 
+-- where so many levels keep within a limit, fewer do
 pub keeps_from : {limit : Limit} {n m : ℕ} → Keeps limit n → m ≤ n → Keeps limit m
 keeps_from {limit = unlimited} k le = record { within = tt }
 keeps_from {limit = at_most l} k le = record { within = omega (arith, k.within, le) }
 
+-- where two counts of levels keep within a limit, the greater one does
 pub keeps_both : {limit : Limit} {n m k : ℕ} → Keeps limit n → Keeps limit m → k ≤ max n m → Keeps limit k
 keeps_both {limit = unlimited} first second le = record { within = tt }
 keeps_both {limit = at_most l} first second le = record { within = omega (arith, first.within, second.within, le) }
 
+-- a token of a kind before tokens that are read is read as a piece of that kind before theirs
 pub reads_kind : {a b : List Token} {p : List Piece} {k : TokenKind} (t : Token) → t.kind ≡ k → Reads a p b → Reads (t ∷ a) (one k ++ p) b
 reads_kind t kind reads = record { follows = (kind, tt, reads.follows) }
 
@@ -38,6 +41,7 @@ keyword_is t (inl (inr (inr (inr e)))) = subst (λ z. is_keyword z ≡ true) (sy
 keyword_is t (inr (inl e)) = subst (λ z. is_keyword z ≡ true) (sym e) refl
 keyword_is t (inr (inr e)) = subst (λ z. is_keyword z ≡ true) (sym e) refl
 
+-- a plain name that is no keyword is an operand
 pub operand_is : (t : List ℕ) → is_keyword t ≡ false → IsOperand (identifiers.Plain t)
 operand_is t other keyword = let e : true ≡ false = sym (keyword_is t keyword) ∙ other in cc
 
@@ -93,6 +97,7 @@ name_ends limit n t false is keeps rest = (
 )
 
 -- the end of the text
+-- there may be no tokens in a text
 pub no_text : {limit : Limit} {n : ℕ} {a : List Token} → Keeps limit n → Whole limit n a a
 no_text keeps = record {
   tree = record { package_clause = None; declarations = no_entries; comma = false };
@@ -103,15 +108,19 @@ no_text keeps = record {
   within = keeps_from keeps (omega arith);
 }
 
+-- nothing need come after the name of a package
 pub no_packaged : {limit : Limit} {n : ℕ} {a : List Token} → Keeps limit n → Packaged limit n a a
 no_packaged keeps = record { comma = false; tree = no_entries; last = false; reads = reads_none; parted = λ e. refl; right = tt; ends = tt; within = keeps_from keeps (omega arith) }
 
+-- the declarations of the top may be none
 pub no_declared : {limit : Limit} {n : ℕ} {a : List Token} → Keeps limit n → Declared true limit n a a
 no_declared keeps = record { tree = no_entries; comma = false; reads = reads_none; right = tt; nested = tt; ends = tt; within = keeps_from keeps (omega arith) }
 
+-- nothing need come after a declaration of the top
 pub no_more_declared : {limit : Limit} {n : ℕ} {a : List Token} → Keeps limit n → MoreDeclared true limit n a a
 no_more_declared keeps = record { tree = no_entries; comma = false; reads = reads_none; right = tt; nested = tt; within = keeps_from keeps (omega arith) }
 
+-- before any rest there are tokens that complete a goal which keeps within the limit
 pub goal_ends : (limit : Limit) (n : ℕ) (goal : Goal) → Keeps limit (under goal n) → (rest : List Token) → (a : List Token) × Remains limit n goal a rest
 goal_ends limit n Goal.text keeps rest = (rest, no_text keeps)
 goal_ends limit n Goal.package_word keeps rest = (
@@ -334,6 +343,7 @@ levels_are Goal.bracket n = omega arith
 levels_are Goal.bracket_end n = omega arith
 levels_are _ n = omega arith
 
+-- the depth of a stack is the number of levels that it opens
 pub depth_is : (goals : Stack) → depth goals ≡ beneath goals
 depth_is [] = refl
 depth_is (goal ∷ goals) = ap (λ n. levels_of goal + n) (depth_is goals) ∙ levels_are goal (beneath goals)

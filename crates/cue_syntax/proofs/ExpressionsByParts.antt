@@ -31,9 +31,11 @@ reads_end {p = p} first second = reads_same (append-nil p) (reads_then first sec
 pub three : (p q r : List Piece) → p ++ (q ++ r) ≡ p ++ q ++ r
 three p q r = sym (append_assoc p q r)
 
+-- the same of four rows
 pub four : (p q r s : List Piece) → p ++ (q ++ (r ++ s)) ≡ p ++ q ++ r ++ s
 four p q r s = simp append_assoc
 
+-- the same of five rows
 pub five : (p q r s u : List Piece) → p ++ (q ++ (r ++ (s ++ u))) ≡ p ++ q ++ r ++ s ++ u
 five p q r s u = simp append_assoc
 
@@ -42,6 +44,7 @@ conjunct_is : (e : Expression) → IsUnary e → IsConjunct e
 conjunct_is (disjunction bs) unary = unary
 conjunct_is _ unary = tt
 
+-- an operand or a bound, and further parts or none, are a part of a disjunction
 pub unary_parts : {limit : Limit} {n : ℕ} {a b c : List Token} → AUnary limit n a b → MoreParts limit n b c → AConjunct limit n a c
 unary_parts {limit} {n} {a} {b} {c} first more = by_parts more.part more.reads more.good more.within
   where
@@ -59,6 +62,7 @@ unary_parts {limit} {n} {a} {b} {c} first more = by_parts more.part more.reads m
       within = keeps_both first.within within (omega arith);
     }
 
+-- `&`, an operand or a bound, and further parts or none are further parts
 pub next_part : {limit : Limit} {n : ℕ} {a b c : List Token} (t : Token) → t.kind ≡ (kinds.Mark points.Ampersand) → AUnary limit n a b → MoreParts limit n b c → MoreParts limit n (t ∷ a) c
 next_part t kind first more = record {
   part = element first.part more.part;
@@ -68,6 +72,7 @@ next_part t kind first more = record {
 }
 
 -- disjunctions
+-- a part of a disjunction is a term
 pub conjunct_term : {limit : Limit} {n : ℕ} {a b : List Token} → AConjunct limit n a b → ATerm limit n a b
 conjunct_term {a = a} first = record {
   part = branch false (place a) first.part;
@@ -76,6 +81,7 @@ conjunct_term {a = a} first = record {
   within = first.within;
 }
 
+-- a star and then an operand or a bound are a term
 pub star_term : {limit : Limit} {n : ℕ} {a b : List Token} (t : Token) → t.kind ≡ (kinds.Mark points.Star) → AUnary limit n a b → ATerm limit n (t ∷ a) b
 star_term {a = a} t kind first = record {
   part = branch true (place a) first.part;
@@ -84,6 +90,7 @@ star_term {a = a} t kind first = record {
   within = first.within;
 }
 
+-- `|`, a term, and further terms or none are some further terms
 pub next_term : {limit : Limit} {n : ℕ} {a b c : List Token} (t : Token) → t.kind ≡ (kinds.Mark points.Bar) → ATerm limit n a b → MoreTerms limit n b c → FurtherTerms limit n (t ∷ a) c
 next_term t kind first more = record {
   part = next_branch first.part more.part;
@@ -92,6 +99,7 @@ next_term t kind first more = record {
   within = keeps_both first.within more.within (omega arith);
 }
 
+-- some further terms are further terms, of which there may be none
 pub some_terms : {limit : Limit} {n : ℕ} {a b : List Token} → FurtherTerms limit n a b → MoreTerms limit n a b
 some_terms more = record { part = more.part; reads = more.reads; good = more.good.0; within = more.within }
 
@@ -99,6 +107,7 @@ two_branches : (b : Branch) (bs : Branches) → SomeBranches bs → TwoBranches 
 two_branches b (next_branch c bs) some = tt
 two_branches b no_branches some = absurd some
 
+-- a term and some further terms are an expression
 pub term_terms : {limit : Limit} {n : ℕ} {a b c : List Token} → ATerm limit n a b → FurtherTerms limit n b c → AnExpression limit n a c
 term_terms first more = record {
   part = disjunction (next_branch first.part more.part);
@@ -107,6 +116,7 @@ term_terms first more = record {
   within = keeps_both first.within more.within (omega arith);
 }
 
+-- a part of a disjunction, and further terms or none, are an expression
 pub conjunct_terms : {limit : Limit} {n : ℕ} {a b c : List Token} → AConjunct limit n a b → MoreTerms limit n b c → AnExpression limit n a c
 conjunct_terms {limit} {n} {a} {b} {c} first more = by_terms more.part more.reads more.good more.within
   where
@@ -117,6 +127,7 @@ conjunct_terms {limit} {n} {a} {b} {c} first more = by_terms more.part more.read
         term_terms (conjunct_term first) further
 
 -- operands
+-- a plain name that is no keyword is an operand
 pub name_unary : {limit : Limit} {n : ℕ} {a : List Token} (t : Token) (word : List ℕ) → t.kind ≡ kinds.Name word → is_keyword word ≡ false → Keeps limit n → AUnary limit n (t ∷ a) a
 name_unary t word kind other keeps = record {
   part = name (identifiers.Plain word) t.from;
@@ -125,6 +136,7 @@ name_unary t word kind other keeps = record {
   within = keeps_from keeps (omega arith);
 }
 
+-- the name of a definition is an operand
 pub definition_unary : {limit : Limit} {n : ℕ} {a : List Token} (t : Token) (word : List ℕ) → t.kind ≡ kinds.Definition word → Keeps limit n → AUnary limit n (t ∷ a) a
 definition_unary t word kind keeps = record {
   part = name (identifiers.Definition word) t.from;
@@ -133,6 +145,7 @@ definition_unary t word kind keeps = record {
   within = keeps_from keeps (omega arith);
 }
 
+-- a hidden name is an operand
 pub hidden_unary : {limit : Limit} {n : ℕ} {a : List Token} (t : Token) (word : List ℕ) → t.kind ≡ kinds.Hidden word → Keeps limit n → AUnary limit n (t ∷ a) a
 hidden_unary t word kind keeps = record {
   part = name (identifiers.Hidden word) t.from;
@@ -141,33 +154,42 @@ hidden_unary t word kind keeps = record {
   within = keeps_from keeps (omega arith);
 }
 
+-- a string is an operand
 pub text_unary : {limit : Limit} {n : ℕ} {a : List Token} (t : Token) (bytes : List ℕ) → t.kind ≡ kinds.Text bytes → Keeps limit n → AUnary limit n (t ∷ a) a
 text_unary t bytes kind keeps = record { part = text bytes; reads = reads_kind t kind reads_none; good = (tt, tt); within = keeps_from keeps (omega arith) }
 
+-- `_|_` is an operand
 pub bottom_unary : {limit : Limit} {n : ℕ} {a : List Token} (t : Token) → t.kind ≡ kinds.Bottom → Keeps limit n → AUnary limit n (t ∷ a) a
 bottom_unary t kind keeps = record { part = bottom; reads = reads_kind t kind reads_none; good = (tt, tt); within = keeps_from keeps (omega arith) }
 
+-- an integer with its sign is an operand
 pub signed_unary : {limit : Limit} {n : ℕ} {a b : List Token} → IsSigned a b → Keeps limit n → AUnary limit n a b
 signed_unary first keeps = record { part = integer first.part; reads = first.reads; good = (first.range, tt); within = keeps_from keeps (omega arith) }
 
+-- digits that are in range are an integer without a sign
 pub integer_signed : {a : List Token} (t : Token) (n : ℕ) → t.kind ≡ kinds.Integer n → n ≤ greatest signs.Absent → IsSigned (t ∷ a) a
 integer_signed t n kind range = record { part = record { sign = signs.Absent; magnitude = n }; reads = reads_kind t kind reads_none; range = range }
 
+-- `-` and then a magnitude in its range are an integer
 pub minus_signed : {a b : List Token} (t : Token) → t.kind ≡ (kinds.Mark points.Minus) → Magnitude signs.Minus a b → IsSigned (t ∷ a) b
 minus_signed t kind first = record { part = record { sign = signs.Minus; magnitude = first.part }; reads = reads_kind t kind first.reads; range = first.range }
 
+-- `+` and then a magnitude in its range are an integer
 pub plus_signed : {a b : List Token} (t : Token) → t.kind ≡ (kinds.Mark points.Plus) → Magnitude signs.Plus a b → IsSigned (t ∷ a) b
 plus_signed t kind first = record { part = record { sign = signs.Plus; magnitude = first.part }; reads = reads_kind t kind first.reads; range = first.range }
 
+-- a comparison and then an integer are a bound
 pub bound_unary : {limit : Limit} {n : ℕ} {a b : List Token} (t : Token) (c : Comparison) → t.kind ≡ comparison_kind c → IsSigned a b → Keeps limit n → AUnary limit n (t ∷ a) b
 bound_unary t c kind first keeps = record { part = bound c first.part; reads = reads_kind t kind first.reads; good = (first.range, tt); within = keeps_from keeps (omega arith) }
 
+-- `!=` and then an integer or a string are a bound
 pub other_unary : {limit : Limit} {n : ℕ} {a b : List Token} (t : Token) → t.kind ≡ (kinds.Mark points.NotEqual) → IsSigned a b ⊎ Spelt (List ℕ) (λ z. one (kinds.Text z)) a b → Keeps limit n
     → AUnary limit n (t ∷ a) b
 other_unary t kind (inl first) keeps = record { part = other_integer first.part; reads = reads_kind t kind first.reads; good = (first.range, tt); within = keeps_from keeps (omega arith) }
 other_unary t kind (inr first) keeps = record { part = other_text first.part; reads = reads_kind t kind first.reads; good = (tt, tt); within = keeps_from keeps (omega arith) }
 
 -- what opens levels
+-- a parenthesis, an expression and the closing one are an operand
 pub parenthesis_unary : {limit : Limit} {n : ℕ} {a b c : List Token} (t : Token) → t.kind ≡ (kinds.Mark points.OpenParenthesis) → AnExpression limit (1 + n) a b → Shuts (kinds.Mark points.CloseParenthesis) b c
     → AUnary limit n (t ∷ a) c
 parenthesis_unary t kind first shuts = record {
@@ -177,6 +199,7 @@ parenthesis_unary t kind first shuts = record {
   within = keeps_from first.within (omega arith);
 }
 
+-- an opening brace, and declarations up to the closing one, are an operand
 pub struct_unary : {limit : Limit} {n : ℕ} {a b : List Token} (t : Token) → t.kind ≡ (kinds.Mark points.OpenBrace) → Declared false limit (1 + n) a b → AUnary limit n (t ∷ a) b
 struct_unary t kind first = record {
   part = struct first.tree first.comma;
@@ -185,6 +208,7 @@ struct_unary t kind first = record {
   within = keeps_from first.within (omega arith);
 }
 
+-- an opening bracket, and elements up to the closing one, are an operand
 pub list_unary : {limit : Limit} {n : ℕ} {a b : List Token} (t : Token) → t.kind ≡ (kinds.Mark points.OpenBracket) → Listed limit (1 + n) a b → AUnary limit n (t ∷ a) b
 list_unary t kind first = record {
   part = list first.tree first.goes_on first.comma;
@@ -198,6 +222,7 @@ close_reads : {a b : List Token} (es : Entries) (inner comma : Bool)
     → Reads a ((one (kinds.Mark points.OpenBrace) ++ spell_entries es ++ comma_if inner ++ one (kinds.Mark points.CloseBrace)) ++ comma_if comma ++ one (kinds.Mark points.CloseParenthesis)) b
 close_reads es inner comma reads = reads_same (ap (λ z. one (kinds.Mark points.OpenBrace) ++ z) (five (spell_entries es) (comma_if inner) (one (kinds.Mark points.CloseBrace)) (comma_if comma) (one (kinds.Mark points.CloseParenthesis)))) reads
 
+-- `close(`, and what completes it, are an operand
 pub close_unary : {limit : Limit} {n : ℕ} {a b : List Token} (first t : Token) → first.kind ≡ kinds.Name (codes "close") → t.kind ≡ (kinds.Mark points.OpenParenthesis) → Closed limit (2 + n) a b
     → AUnary limit n (first ∷ t ∷ a) b
 close_unary first t name_kind kind closed = record {

@@ -13,15 +13,19 @@ use Rattle.cue_syntax.specs.Stops.{memory, at_hand}
 use Rattle.cue_syntax.specs.Viability.{StandsSign}
 use Rattle.cue_syntax.specs.Recogniser.{Stack, depth, fits, step, is_over, stuck, stuck_behind, Closes, IsEnd, OpensNear, SticksBy, Stops, Refused, Moves, IsBrace}
 
+-- tokens are the last of themselves
 pub end_self : {a : List Token} → IsEnd a a
 end_self = record { read = []; is = refl }
 
+-- the tokens after the first one are the last of the tokens
 pub end_next : {a b : List Token} (t : Token) → a ≡ t ∷ b → IsEnd a b
 end_next t is = record { read = t ∷ []; is = is }
 
+-- the last of what is the last of the tokens is the last of them too
 pub end_then : {a b c : List Token} → IsEnd a b → IsEnd b c → IsEnd a c
 end_then {c = c} x y = record { read = x.read ++ y.read; is = x.is ∙ ap (λ z. x.read ++ z) y.is ∙ sym (append_assoc x.read y.read c) }
 
+-- two stacks, one upon the other, have the levels of both
 pub depth_append : (a b : Stack) → depth (a ++ b) ≡ depth a + depth b
 depth_append [] b = omega arith
 depth_append (g ∷ a) b = omega (arith, depth_append a b)
@@ -35,15 +39,19 @@ fits_within unlimited n within = refl
 fits_within (at_most m) n within = le-leb n m within
 
 -- moves
+-- two moves, one after the other, are a move
 pub moves_then : {n : ℕ} {g h k : Stack} {a b c : List Token} → Moves n g a h b → Moves n h b k c → Moves n g a k c
 moves_then x y = record { inside = end_then x.inside y.inside; moves = λ limit below within. x.moves limit below within ∙ y.moves limit below within }
 
+-- goals that read no token stay as they are
 pub moves_none : {n : ℕ} {g : Stack} {a : List Token} → Moves n g a g a
 moves_none = record { inside = end_self; moves = λ limit below within. refl }
 
+-- goals that come to the same goals at the same place may stand for each other
 pub moves_meet : {n : ℕ} {g k : Stack} {a b : List Token} (h : Stack) → Moves n g a h b → Moves n k a h b → Moves n g a k a
 moves_meet h x y = record { inside = record { read = []; is = refl }; moves = λ limit below within. x.moves limit below within ∙ sym (y.moves limit below within) }
 
+-- goals read on in the same way where further goals lie below them
 pub moves_under : {n left : ℕ} {g h : Stack} {a b : List Token} (under : Stack) → depth under + left ≡ n → Moves left g a h b → Moves n (g ++ under) a (h ++ under) b
 moves_under {n = n} {left = left} {g = g} {h = h} {a = a} {b = b} under is m = record {
   inside = m.inside;
@@ -53,6 +61,7 @@ moves_under {n = n} {left = left} {g = g} {h = h} {a = a} {b = b} under is m = r
       (subst (λ z. stuck limit (g ++ (under ++ below)) a ≡ stuck limit z b) (sym (append_assoc h under below)) (m.moves limit (under ++ below) w));
 }
 
+-- what is read within some levels is read within more
 pub moves_more : {n left : ℕ} {g h : Stack} {a b : List Token} → left ≤ n → Moves left g a h b → Moves n g a h b
 moves_more le m = record { inside = m.inside; moves = λ limit below within. m.moves limit below (within_le limit _ _ (omega (arith, le)) within) }
 
@@ -63,6 +72,7 @@ step_taken limit goals next t b is within =
     ∙ ap (λ z. if z then stuck limit next b else Some (t ∷ b)) (fits_within limit (depth next) within)
 
 -- a token is taken
+-- a token at hand moves the goals that take it
 pub takes : {n : ℕ} {g next : Stack} {a b : List Token} (t : Token) → a ≡ t ∷ b → ((below : Stack) → step (g ++ below) t.kind ≡ Some (next ++ below)) → depth next ≤ n
     → Moves n g a next b
 takes {n = n} {g = g} {next = next} {a = a} {b = b} t is taken le = record {
@@ -72,6 +82,7 @@ takes {n = n} {g = g} {next = next} {a = a} {b = b} t is taken le = record {
       ∙ step_taken limit (g ++ below) (next ++ below) t b (taken below) (within_le limit _ _ (omega (arith, le, depth_append next below)) within);
 }
 
+-- a token that is read moves the goals that take its kind
 pub takes_read : {n : ℕ} {g next : Stack} {a b : List Token} {piece : Piece} → Reads a (piece ∷ []) b → ((below : Stack) → step (g ++ below) piece.kind ≡ Some (next ++ below)) → depth next ≤ n
     → Moves n g a next b
 takes_read {a = []} reads taken le = absurd reads.follows
@@ -90,6 +101,7 @@ abbrev pub Alike : Stack → Stack → List Token → Type 0
 Alike g h [] = (below : Stack) → is_over (g ++ below) ≡ is_over (h ++ below)
 Alike g h (t ∷ ts) = (below : Stack) → step (g ++ below) t.kind ≡ step (h ++ below) t.kind
 
+-- goals that do the same with the symbol at hand may stand for each other there
 pub alike_moves : {n : ℕ} {g h : Stack} (a : List Token) → Alike g h a → Moves n g a h a
 alike_moves [] alike = record { inside = end_self; moves = λ limit below within. ap (λ z. if z then None else Some []) (alike below) }
 alike_moves (t ∷ ts) alike = record { inside = end_self; moves = λ limit below within. ap (λ z. stuck_behind limit z (t ∷ ts) (λ g. stuck limit g ts)) (alike below) }
@@ -99,6 +111,7 @@ abbrev pub HaltsAt : Stack → List Token → Type 0
 HaltsAt g [] = (below : Stack) → is_over (g ++ below) ≡ false
 HaltsAt g (t ∷ ts) = (below : Stack) → Closes below → step (g ++ below) t.kind ≡ None
 
+-- goals that take no symbol at hand halt there
 pub record Halts (g : Stack) (a : List Token) : Type 0 where
   pub at : HaltsAt g a
 
@@ -106,12 +119,15 @@ sticks_at : (g : Stack) (limit : Limit) (a : List Token) → HaltsAt g a → (be
 sticks_at g limit [] halts below closes = ap (λ z. if z then None else Some []) (halts below)
 sticks_at g limit (t ∷ ts) halts below closes = ap (λ z. stuck_behind limit z (t ∷ ts) (λ g. stuck limit g ts)) (halts below closes)
 
+-- where goals halt, tokens leave the grammar at once, on whatever may come after an expression
 pub halts_sticks : (g : Stack) (limit : Limit) (a : List Token) → Halts g a → (below : Stack) → Closes below → stuck limit (g ++ below) a ≡ Some a
 halts_sticks g limit a halts below closes = sticks_at g limit a halts.at below closes
 
+-- goals that don't take the first token halt there
 pub halts_at : {g : Stack} {a b : List Token} (t : Token) → a ≡ t ∷ b → ((below : Stack) → Closes below → step (g ++ below) t.kind ≡ None) → Halts g a
 halts_at {g = g} t is halts = record { at = subst (λ z. HaltsAt g z) (sym is) halts }
 
+-- goals that do the same with the first token may stand for each other there
 pub alike_at : {n : ℕ} {g h : Stack} {a b : List Token} (t : Token) → a ≡ t ∷ b → ((below : Stack) → step (g ++ below) t.kind ≡ step (h ++ below) t.kind) → Moves n g a h a
 alike_at {g = g} {h = h} {a = a} t is alike = alike_moves a (subst (λ z. Alike g h z) (sym is) alike)
 
@@ -126,19 +142,23 @@ pub halts_unless : {g : Stack} {a : List Token} (k : TokenKind) → ((below : St
 halts_unless {g = g} {a = a} k over none lacks = record { at = unless_at g k a over none lacks }
 
 -- the results of a call
+-- what follows from what is said of an answer is said of it
 pub if_ok : {A E : Type 0} {P Q : A → Type 0} (r : Result A E) → ((x : A) → P x → Q x) → IfOk r P → IfOk r Q
 if_ok (Ok x) f p = f x p
 if_ok (Err e) f p = tt
 
+-- what follows from what is said of an error is said of it
 pub if_err : {A E : Type 0} {P Q : E → Type 0} (r : Result A E) → ((x : E) → P x → Q x) → IfErr r P → IfErr r Q
 if_err (Ok x) f p = tt
 if_err (Err e) f p = f e p
 
+-- what is so of an error is said of a result that is that error
 pub err_from : {A E : Type 0} (P : E → Type 0) (r : Result A E) (x : E) → IsErrAnd r (λ e. e ≡ x) → P x → IfErr r P
 err_from P (Ok a) x is p = absurd is
 err_from P (Err e) x is p = subst P (sym is) p
 
 -- stops
+-- goals stop where they halt
 pub stops_here : {n end : ℕ} {g : Stack} {a : List Token} {r : Stop} → r ≡ at_hand reasons.Syntax end a → Halts g a → Stops n end g a r
 stops_here {n = n} {end = end} {g = g} {a = a} is halts = subst (λ z. Stops n end g a z) (sym is) (record {
   at = a;
@@ -180,6 +200,7 @@ by_behind {n = n} at reasons.Nesting m by = record {
 }
 by_behind at reasons.Memory m by = by
 
+-- a stop at what is left after a move is a stop from its start
 pub stops_behind : {n end : ℕ} {g h : Stack} {a b : List Token} {r : Stop} → Moves n g a h b → Stops n end h b r → Stops n end g a r
 stops_behind {r = r} m s = record { at = s.at; inside = end_then m.inside s.inside; left = s.left; by = by_behind s.at r.why m s.by }
 
@@ -207,6 +228,7 @@ by_under {n = n} left g a at reasons.Nesting under is close by = record {
 }
 by_under left g a at reasons.Memory under is close by = by
 
+-- goals stop in the same way where further goals lie below them
 pub stops_under : {n left end : ℕ} {g : Stack} {a : List Token} {r : Stop} (under : Stack) → depth under + left ≡ n → ((below : Stack) → Closes below → Closes (under ++ below))
     → Stops left end g a r → Stops n end (g ++ under) a r
 stops_under {r = r} under is close s = record { at = s.at; inside = s.inside; left = s.left; by = by_under _ _ _ s.at r.why under is close s.by }
@@ -230,6 +252,7 @@ by_nesting {left = left} {g = g} {a = a} {b = b} next t is taken more = record {
   near = inl refl;
 }
 
+-- goals stop for nesting at a token that opens a level with no room for it
 pub opens_none : {end left : ℕ} {g : Stack} {a b : List Token} {r : Stop} (next : Stack) (t : Token) → a ≡ t ∷ b → r ≡ at_hand reasons.Nesting end a
     → ((below : Stack) → step (g ++ below) t.kind ≡ Some (next ++ below)) → left < depth next → Stops left end g a r
 opens_none {end = end} {left = left} {g = g} {a = a} next t is refused taken more = subst (λ z. Stops left end g a z) (sym refused)
@@ -262,15 +285,19 @@ opens_behind {end = end} {left = left} {g = g} {a = a} {b = b} {c = c} next t m 
     })
 
 -- refusals
+-- want of memory is a refusal
 pub lacks_memory : {n end : ℕ} {g : Stack} {a : List Token} {r : Stop} → r ≡ memory → Refused n end g a r
 lacks_memory is = record { why = inl is }
 
+-- a stop is a refusal
 pub stopped : {n end : ℕ} {g : Stack} {a : List Token} {r : Stop} → Stops n end g a r → Refused n end g a r
 stopped s = record { why = inr s }
 
+-- what is refused after a move is refused from its start
 pub refused_behind : {n end : ℕ} {g h : Stack} {a b : List Token} {r : Stop} → Moves n g a h b → Refused n end h b r → Refused n end g a r
 refused_behind m s = elim (s.why) [ inl e ↦ record { why = inl e } | inr e ↦ record { why = inr (stops_behind m e) } ]
 
+-- what goals refuse they refuse where further goals lie below them
 pub refused_under : {n left end : ℕ} {g : Stack} {a : List Token} {r : Stop} (under : Stack) → depth under + left ≡ n → ((below : Stack) → Closes below → Closes (under ++ below))
     → Refused left end g a r → Refused n end (g ++ under) a r
 refused_under under is close s = elim (s.why) [ inl e ↦ record { why = inl e } | inr e ↦ record { why = inr (stops_under under is close e) } ]

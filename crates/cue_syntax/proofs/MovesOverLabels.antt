@@ -22,6 +22,7 @@ colon_only : (g : Stack) (j : TokenKind) → (j ≡ (kinds.Mark points.Colon) �
 colon_only g (kinds.Mark points.Colon) other below = absurd (other refl)
 colon_only g _ other below = refl
 
+-- the goal of a colon halts where none stands
 pub colon_halts : {g : Stack} {a : List Token} → ¬ StandsSign (kinds.Mark points.Colon) a → Halts (colon ∷ g) a
 colon_halts {g = g} lacks = halts_unless (kinds.Mark points.Colon) (λ below. refl) (colon_only g) lacks
 
@@ -49,6 +50,7 @@ lacks_by {end = end} {a = t ∷ u ∷ ts} {c = c} {r = r} n marks.Required begin
     let second = subst (λ z. Reads z (one (kinds.Mark points.Exclamation)) c) (sym name.follows.2) sign in
     record { is = subst (λ z. r ≡ at_hand reasons.Syntax end z) (sym second.follows.2) is; lacks = (begins.0, inr second.follows.0, subst (λ z. ¬ StandsSign (kinds.Mark points.Colon) z) (sym second.follows.2) lacks) }
 
+-- a stop after a label and its mark, where no colon stands, is one for want of the colon
 pub label_lacks : {end : ℕ} {a b c : List Token} {r : Stop} (n : LabelName) (m : Mark) → BeginsLabel a → Reads a (one (label_kind n)) b → Reads b (spell_mark m) c
     → (m ≡ marks.Regular → ¬ StandsSign (kinds.Mark points.Question) b) → (m ≡ marks.Regular → ¬ StandsSign (kinds.Mark points.Exclamation) b)
     → ¬ StandsSign (kinds.Mark points.Colon) c → r ≡ at_hand reasons.Syntax end c → MissesColon end a r
@@ -85,6 +87,7 @@ value_mark (names.Quoted t) marks.Optional reads = let s = takes_first {n = 1} {
 value_mark (names.Plain t) marks.Required reads = let s = takes_first {n = 1} {g = value_name t ∷ []} {next = colon ∷ value ∷ chained ∷ []} reads (λ below. refl) (omega arith) in moves_then s.1 (takes_read s.2 (λ below. refl) (omega arith))
 value_mark (names.Quoted t) marks.Required reads = let s = takes_first {n = 1} {g = value_text ∷ []} {next = colon ∷ value ∷ chained ∷ []} reads (λ below. refl) (omega arith) in moves_then s.1 (takes_read s.2 (λ below. refl) (omega arith))
 
+-- the goal of a value goes through a label to the goal of the value after it, which is one level deeper
 pub label_value : {a b : List Token} (l : Label) → Reads a (spell_label l) b → Moves 1 (value ∷ []) a (value ∷ chained ∷ []) b
 label_value l reads =
     let s = takes_first {n = 1} {g = value ∷ []} {next = behind_name l.name ∷ []} reads (λ below. value_step l.name below) (omega (arith, name_level l.name)) in
@@ -102,25 +105,30 @@ entry_step true (names.Quoted t) below = refl
 entry_step false (names.Plain t) below = refl
 entry_step false (names.Quoted t) below = refl
 
+-- the goal of declarations goes through a label to the goal of the field's value
 pub label_entry : {n : ℕ} {a b : List Token} (top : Bool) (l : Label) → depth (more_entries top ∷ []) ≤ n → Reads a (spell_label l) b → Moves n (entries top ∷ []) a (value ∷ more_entries top ∷ []) b
 label_entry {n = n} top l le reads =
     let s = takes_first {n = n} {g = entries top ∷ []} {next = mark ∷ value ∷ more_entries top ∷ []} reads (λ below. entry_step top l.name below) (omega (arith, le)) in
     moves_then s.1 (entry_mark top l.mark le s.2)
 
 -- chains
+-- one label more at the end of a chain is one goal more on top
 pub chains_pushed : (ls : List Label) (l : Label) → chains (ls ++ l ∷ []) ≡ chained ∷ chains ls
 chains_pushed [] l = refl
 chains_pushed (k ∷ ls) l = ap (λ z. chained ∷ z) (chains_pushed ls l)
 
+-- a chain opens as many levels as it has labels
 pub chains_depth : (ls : List Label) → depth (chains ls) ≡ length ls
 chains_depth [] = refl
 chains_depth (k ∷ ls) = omega (arith, chains_depth ls)
 
+-- goals that come after an expression still do so with the goals of a chain on top
 pub chains_close : (ls : List Label) (below : Stack) → Closes below → Closes (chains ls ++ below)
 chains_close [] below closes = closes
 chains_close (k ∷ ls) below closes =
     let inner = chains_close ls below closes in record { call = inner.call; colon = inner.colon; question = inner.question; exclamation = inner.exclamation }
 
+-- the goals of a chain are over without a token
 pub chains_over : {n : ℕ} (ls : List Label) (a : List Token) → Moves n (chains ls) a [] a
 chains_over [] a = moves_none
 chains_over (k ∷ ls) a = moves_then (pop a) (chains_over ls a)
@@ -129,6 +137,7 @@ chains_over (k ∷ ls) a = moves_then (pop a) (chains_over ls a)
     pop [] = alike_moves [] (λ below. refl)
     pop (t ∷ ts) = alike_moves (t ∷ ts) (λ below. refl)
 
+-- where a value has gone through labels and has room, it goes through one more
 pub chain_next : {room : ℕ} {a b c : List Token} (left : ℕ) (ls : List Label) (l : Label) → left + 1 + length ls ≡ room → Moves room (value ∷ []) a (value ∷ chains ls) b → Reads b (spell_label l) c
     → Moves room (value ∷ []) a (value ∷ chains (ls ++ l ∷ [])) c
 chain_next {room = room} {a = a} {b = b} {c = c} left ls l is first second =
@@ -170,6 +179,7 @@ opens_by [] begins is = absurd begins.0
 opens_by (t ∷ []) begins is = absurd begins.1
 opens_by (t ∷ u ∷ ts) begins is = let n = name_kind t.kind begins.0 in opens_at t u ts n.0 n.1 begins.1 is (name_levels n.0)
 
+-- where no level is left, a label stops the goal of a value for nesting
 pub opens_label : {end : ℕ} {a : List Token} {r : Stop} → BeginsLabel a → r ≡ at_hand reasons.Nesting end a → Stops 0 end (value ∷ []) a r
 opens_label {a = a} begins is = opens_by a begins is
 
@@ -212,6 +222,7 @@ value_out (t ∷ []) is (inl fits) = absurd fits.1
 value_out (t ∷ []) is (inr (inl fits)) = absurd (elim fits.1 [ inl e ↦ e | inr e ↦ e ])
 value_out (t ∷ []) is (inr (inr fits)) = absurd fits.1
 
+-- the goal of a value refuses a label that is left out
 pub label_out_value : {n end : ℕ} {a : List Token} {r : Stop} → RefusesLabel false end a r → Refused n end (value ∷ []) a r
 label_out_value {a = a} refuses = stopped (value_out a refuses.is refuses.fits)
 
@@ -246,6 +257,7 @@ entry_out top (t ∷ []) is (inl fits) = absurd fits.1
 entry_out top (t ∷ []) is (inr (inl fits)) = absurd (elim fits.1 [ inl e ↦ e | inr e ↦ e ])
 entry_out top (t ∷ []) is (inr (inr fits)) = absurd fits.1
 
+-- the goal of declarations refuses a label that is left out
 pub label_out_entry : {n end : ℕ} {a : List Token} {r : Stop} (top : Bool) → RefusesLabel top end a r → Refused n end (entries top ∷ []) a r
 label_out_entry {a = a} top refuses = stopped (entry_out top a refuses.is refuses.fits)
 
@@ -268,6 +280,7 @@ value_misses (t ∷ u ∷ ts) is lacks =
     stops_there {free = 1} is (moves_then {h = behind_name n.0 ∷ []} (takes t refl (λ below. ap (step (value ∷ below)) n.1 ∙ value_step n.0 below) (omega (arith, name_level n.0)))
     (takes {next = colon ∷ value ∷ chained ∷ []} u refl (λ below. marked_value n.0 u.kind lacks.1 below) (omega arith))) (colon_halts lacks.2)
 
+-- the goal of a value refuses a label whose mark has no colon after it
 pub misses_value : {n end : ℕ} {a : List Token} {r : Stop} → (r ≡ memory) ⊎ MissesColon end a r → Refused n end (value ∷ []) a r
 misses_value (inl e) = record { why = inl e }
 misses_value {a = a} (inr misses) = stopped (value_misses a misses.is misses.lacks)
@@ -280,10 +293,12 @@ entry_misses top (t ∷ u ∷ ts) is lacks =
     stops_there {free = depth (more_entries top ∷ [])} is (moves_then {h = mark ∷ value ∷ more_entries top ∷ []} (takes t refl (λ below. ap (step (entries top ∷ below)) n.1 ∙ entry_step top n.0 below) (omega arith))
     (takes {next = colon ∷ value ∷ more_entries top ∷ []} u refl (λ below. marked_entry (value ∷ more_entries top ∷ []) u.kind lacks.1 below) (omega arith))) (colon_halts lacks.2)
 
+-- the goal of declarations refuses a label whose mark has no colon after it
 pub misses_entry : {n end : ℕ} {a : List Token} {r : Stop} (top : Bool) → (r ≡ memory) ⊎ MissesColon end a r → Refused n end (entries top ∷ []) a r
 misses_entry top (inl e) = record { why = inl e }
 misses_entry {a = a} top (inr misses) = stopped (entry_misses top a misses.is misses.lacks)
 
+-- what is refused after the labels of a chain is refused from its start
 pub chain_refused : {room end other : ℕ} {a b : List Token} {r : Stop} (left : ℕ) (ls : List Label) → left + length ls ≡ room → other ≡ end → Moves room (value ∷ []) a (value ∷ chains ls) b
     → Refused left other (value ∷ []) b r → Refused room end (value ∷ []) a r
 chain_refused left ls is same first inner = refused_behind first (refused_end same (refused_under (chains ls) (omega (arith, is, chains_depth ls)) (chains_close ls) inner))

@@ -23,9 +23,11 @@ word_no : (w t : List ℕ) → (t ≡ w → ⊥) → (b : Bool) → is_word w t 
 word_no w t other true is = absurd (other ((bytes_decides t w).0 is))
 word_no w t other false is = refl
 
+-- other bytes than those of a word don't pass the test for it
 pub word_other : (w t : List ℕ) → (t ≡ w → ⊥) → is_word w t ≡ false
 word_other w t other = word_no w t other (is_word w t) refl
 
+-- each keyword passes the test for keywords
 pub keyword_is : (t : List ℕ) → IsKeyword t → is_keyword t ≡ true
 keyword_is t (inl (inl e)) = ap is_keyword e
 keyword_is t (inl (inr (inl e))) = ap is_keyword e
@@ -37,6 +39,7 @@ keyword_is t (inr (inr e)) = ap is_keyword e
 or_six : (a b c d f g : Bool) → a ≡ false → b ≡ false → c ≡ false → d ≡ false → f ≡ false → g ≡ false → (a || b || c || d || f || g) ≡ false
 or_six a b c d f g p q r s t u = rw (p, q, r, s, t, u) refl
 
+-- no other name passes the test for keywords
 pub keyword_no : (t : List ℕ) → ¬ IsKeyword t → is_keyword t ≡ false
 keyword_no t other = or_six _ _ _ _ _ _
     (word_other (codes "let") t (λ e. other (inl (inl e)))) (word_other (codes "for") t (λ e. other (inl (inr (inl e)))))
@@ -44,6 +47,7 @@ keyword_no t other = or_six _ _ _ _ _ _
     (word_other (codes "in") t (λ e. other (inr (inl e)))) (word_other (codes "package") t (λ e. other (inr (inr e))))
 
 -- names
+-- the goal of an operand halts at a keyword
 pub keyword_halts : {a b : List Token} {n : List ℕ} (t : Token) → a ≡ t ∷ b → t.kind ≡ kinds.Name n → is_keyword n ≡ true → Halts (unary ∷ []) a
 keyword_halts {n = n} t is kind keyword = halts_at t is (λ below closes. ap (step (unary ∷ below)) kind ∙ ap (λ z. if z then None else (if is_word (codes "close") n then Some (behind_close ∷ below) else Some below)) keyword)
 
@@ -66,6 +70,7 @@ name_moves_by {n = n} t true is kind keyword close lacks =
     moves_then (takes t is (λ below. ap (step (unary ∷ below)) kind ∙ name_step n true keyword close below) (omega arith)) (close_pops lacks)
 name_moves_by {n = n} t false is kind keyword close lacks = takes t is (λ below. ap (step (unary ∷ below)) kind ∙ name_step n false keyword close below) (omega arith)
 
+-- the goal of an operand goes through a name that is no keyword and has no parenthesis after it
 pub name_moves : {a b : List Token} {n : List ℕ} (t : Token) → a ≡ t ∷ b → t.kind ≡ kinds.Name n → ¬ IsKeyword n → ¬ StandsSign (kinds.Mark points.OpenParenthesis) b → Moves 0 (unary ∷ []) a [] b
 name_moves {n = n} t is kind keyword lacks = name_moves_by t (is_word (codes "close") n) is kind (keyword_no n keyword) refl lacks
 
@@ -80,6 +85,7 @@ call_of_name {n = n} t true kind keyword other stands = stops_here refl (keyword
 call_of_name {b = b} {n = n} t false kind keyword other stands = stops_before [] refl refl
     (takes {n = 0} t refl (λ below. ap (step (unary ∷ below)) kind ∙ name_step n false keyword (word_other (codes "close") n other) below) (omega arith)) (record { at = paren_halts b stands })
 
+-- a name with a parenthesis after it is refused as an operand, unless that is a call of `close`
 pub name_called : {room end : ℕ} {a b : List Token} {n : List ℕ} {r : Stop} (t : Token) → a ≡ t ∷ b → t.kind ≡ kinds.Name n → ¬ IsCallOfClose a
     → StandsSign (kinds.Mark points.OpenParenthesis) b → r ≡ at_hand reasons.Syntax end a → Refused room end (unary ∷ []) a r
 name_called {room = room} {end = end} {a = a} {b = b} {n = n} t is kind other stands refused =
@@ -87,12 +93,14 @@ name_called {room = room} {end = end} {a = a} {b = b} {n = n} t is kind other st
     call_of_name t (is_keyword n) kind refl (λ e. subst (λ z. ¬ IsCallOfClose z) is other (kind ∙ ap kinds.Name e, stands)) stands in
     stopped (subst (λ z. Stops room end (unary ∷ []) a z) (sym refused) (subst (λ z. Stops room end (unary ∷ []) z (at_hand reasons.Syntax end z)) (sym is) here))
 
+-- a hidden name with a parenthesis after it is refused as an operand
 pub hidden_called : {room end : ℕ} {a b : List Token} {n : List ℕ} {r : Stop} (t : Token) → a ≡ t ∷ b → t.kind ≡ kinds.Hidden n
     → StandsSign (kinds.Mark points.OpenParenthesis) b → r ≡ at_hand reasons.Syntax end a → Refused room end (unary ∷ []) a r
 hidden_called {b = b} t is kind stands refused = stopped (stops_before [] refused (ap (drop 1) is)
     (takes {n = 0} t is (λ below. ap (step (unary ∷ below)) kind) (omega arith)) (record { at = paren_halts b stands }))
 
 -- bounds
+-- the goal of an operand goes through a comparison to an integer
 pub comparison_moves : {a b : List Token} (k : Comparison) → Reads a (one (comparison_kind k)) b → Moves 0 (unary ∷ []) a (signed ∷ []) b
 comparison_moves comparisons.Less reads = takes_read reads (λ below. refl) (omega arith)
 comparison_moves comparisons.AtMost reads = takes_read reads (λ below. refl) (omega arith)
@@ -103,6 +111,7 @@ signed_at : (a : List Token) → ¬ Stands BeginsInteger a → HaltsAt (signed �
 signed_at [] lacks = λ below. refl
 signed_at (t ∷ ts) lacks = λ below closes. signed_none t.kind lacks below
 
+-- the goal of an integer halts where none begins
 pub signed_halts : {a : List Token} → ¬ Stands BeginsInteger a → Halts (signed ∷ []) a
 signed_halts {a = a} lacks = record { at = signed_at a lacks }
 
@@ -114,12 +123,15 @@ other_at : (a : List Token) → ((t : List ℕ) → StandsSign (kinds.Text t) a 
 other_at [] lacks = alike_moves [] (λ below. refl)
 other_at (t ∷ ts) lacks = alike_moves (t ∷ ts) (λ below. other_signed t.kind lacks below)
 
+-- where no string stands, the goal of an integer may stand for that after `!=`
 pub other_moves : {a : List Token} → ((t : List ℕ) → StandsSign (kinds.Text t) a → ⊥) → Moves 0 (signed_or_text ∷ []) a (signed ∷ []) a
 other_moves {a = a} lacks = other_at a lacks
 
+-- where the first token is no string, no string stands first
 pub no_text_first : {a b : List Token} (t : Token) → a ≡ t ∷ b → ((n : List ℕ) → t.kind ≡ kinds.Text n → ⊥) → (n : List ℕ) → StandsSign (kinds.Text n) a → ⊥
 no_text_first t is lacks n stands = lacks n (subst (λ z. StandsSign (kinds.Text n) z) is stands)
 
+-- where no token is left, no string stands first
 pub no_text_none : {a : List Token} → a ≡ [] → (n : List ℕ) → StandsSign (kinds.Text n) a → ⊥
 no_text_none is n stands = subst (λ z. StandsSign (kinds.Text n) z) is stands
 

@@ -18,19 +18,23 @@ no_room_at : {n end : ℕ} {g : Stack} {r : Stop} (a : List Token) (k : TokenKin
 no_room_at [] k next stands taken more zero is = absurd stands
 no_room_at {g = g} (t ∷ ts) k next stands taken more zero is = opens_none next t refl is (λ below. ap (step (g ++ below)) stands ∙ taken below) (omega (arith, zero, more))
 
+-- a sign that opens a level is refused where no level is left
 pub no_room : {n end : ℕ} {g : Stack} {a : List Token} {r : Stop} (k : TokenKind) (next : Stack) → StandsSign k a → ((below : Stack) → step (g ++ below) k ≡ Some (next ++ below)) → 0 < depth next
     → n ≡ 0 → r ≡ at_hand reasons.Nesting end a → Refused n end g a r
 no_room {a = a} k next stands taken more zero is = stopped (no_room_at a k next stands taken more zero is)
 
 -- the end of a parenthesis
+-- what is to come, by whether a comma was read
 abbrev pub behind_inner : Bool → Goal
 behind_inner true = parenthesis_end
 behind_inner false = parenthesis
 
+-- the goal of the end of a parenthesis goes through a comma, or through none
 pub inner_comma : {n : ℕ} {a b : List Token} (comma : Bool) → 1 ≤ n → Reads a (comma_if comma) b → Moves n (parenthesis ∷ []) a (behind_inner comma ∷ []) b
 inner_comma true le reads = takes_read reads (λ below. refl) (omega arith)
 inner_comma {n = n} {a = a} false le reads = subst (λ z. Moves n (parenthesis ∷ []) a (parenthesis ∷ []) z) reads.follows moves_none
 
+-- the goal of the end of a parenthesis goes through the closing one
 pub inner_closes : {n : ℕ} {a b : List Token} (comma : Bool) → Reads a (one (kinds.Mark points.CloseParenthesis)) b → Moves n (behind_inner comma ∷ []) a [] b
 inner_closes true reads = takes_read reads (λ below. refl) (omega arith)
 inner_closes false reads = takes_read reads (λ below. refl) (omega arith)
@@ -55,9 +59,11 @@ pub no_comma : {a b : List Token} (comma : Bool) → Reads a (comma_if comma) b 
 no_comma true reads lacks is = absurd (let e : true ≡ false = is in cc)
 no_comma false reads lacks is = subst (λ z. ¬ StandsSign (kinds.Mark points.Comma) z) reads.follows (lacks refl)
 
+-- the goal of the end of a parenthesis halts where no closing one stands
 pub inner_halts : {a b : List Token} (comma : Bool) → Reads a (comma_if comma) b → (comma ≡ false → ¬ StandsSign (kinds.Mark points.Comma) a) → ¬ StandsSign (kinds.Mark points.CloseParenthesis) b → Halts (behind_inner comma ∷ []) b
 inner_halts {b = b} comma reads lacks close = record { at = inner_at comma b close (no_comma comma reads lacks) }
 
+-- goals that come after an expression still do so with the end of a parenthesis on top
 pub parenthesis_close : (below : Stack) → Closes below → Closes (parenthesis ∷ below)
 parenthesis_close below closes = record { call = refl; colon = refl; question = refl; exclamation = refl }
 
@@ -65,20 +71,24 @@ parenthesis_close below closes = record { call = refl; colon = refl; question = 
 pub parenthesis_opens : {room left : ℕ} {a b c : List Token} → left + 1 ≡ room → Reads a (one (kinds.Mark points.OpenParenthesis)) b → Moves left (expression ∷ []) b [] c → Moves room (unary ∷ []) a (parenthesis ∷ []) c
 parenthesis_opens is reads inner = moves_then {h = expression ∷ parenthesis ∷ []} (takes_read reads (λ below. refl) (omega (arith, is))) (moves_under (parenthesis ∷ []) (omega (arith, is)) inner)
 
+-- what is refused of the expression in a parenthesis is refused of the operand
 pub parenthesis_refused : {room left end other : ℕ} {a b : List Token} {r : Stop} → left + 1 ≡ room → other ≡ end → Reads a (one (kinds.Mark points.OpenParenthesis)) b → Refused left other (expression ∷ []) b r → Refused room end (unary ∷ []) a r
 parenthesis_refused is same reads inner =
     refused_behind {h = expression ∷ parenthesis ∷ []} (takes_read reads (λ below. refl) (omega (arith, is))) (refused_end same (refused_under (parenthesis ∷ []) (omega (arith, is)) parenthesis_close inner))
 
 -- a struct
+-- the goal of an operand goes through a brace, and then through the declarations after it
 pub struct_moves : {room : ℕ} {a b c : List Token} (left : ℕ) → left + 1 ≡ room → Reads a (one (kinds.Mark points.OpenBrace)) b → Moves (1 + left) (entries false ∷ []) b [] c → Moves room (unary ∷ []) a [] c
 struct_moves left is reads inner = moves_then {h = entries false ∷ []} (takes_read reads (λ below. refl) (omega (arith, is))) (moves_more (omega (arith, is)) inner)
 
+-- what is refused of the declarations in braces is refused of the operand
 pub struct_refused : {room end other : ℕ} {a b : List Token} {r : Stop} (left : ℕ) → left + 1 ≡ room → other ≡ end → Reads a (one (kinds.Mark points.OpenBrace)) b → Refused (1 + left) other (entries false ∷ []) b r → Refused room end (unary ∷ []) a r
 struct_refused {room = room} {end = end} {other = other} {b = b} {r = r} left is same reads inner =
     let e : 1 + left ≡ room = omega (arith, is) in
     refused_behind {h = entries false ∷ []} (takes_read reads (λ below. refl) (omega (arith, is))) (refused_end same (subst (λ z. Refused z other (entries false ∷ []) b r) e inner))
 
 -- `close`
+-- the goal of an operand goes through `close(`, where two levels are left
 pub call_opens : {n from : ℕ} {a b c : List Token} → 2 ≤ n → Reads a (one_at from (kinds.Name (codes "close"))) b → Reads b (one (kinds.Mark points.OpenParenthesis)) c → Moves n (unary ∷ []) a (closed ∷ []) c
 call_opens le first second = moves_then {h = behind_close ∷ []} (takes_read first (λ below. refl) (omega arith)) (takes_read second (λ below. refl) (omega (arith, le)))
 
@@ -86,6 +96,7 @@ call_at : {from : ℕ} (a b : List Token) → IsCallOfClose a → Reads a (one_a
 call_at [] b call reads = absurd call.0
 call_at (t ∷ ts) b call reads = subst (λ z. StandsSign (kinds.Mark points.OpenParenthesis) z) reads.follows.2 call.1
 
+-- in a call of `close` a parenthesis stands after the name
 pub call_paren : {from : ℕ} {a b : List Token} → IsCallOfClose a → Reads a (one_at from (kinds.Name (codes "close"))) b → StandsSign (kinds.Mark points.OpenParenthesis) b
 call_paren {a = a} {b = b} call reads = call_at a b call reads
 
@@ -94,6 +105,7 @@ call_by [] b c first second = absurd first.follows
 call_by (s ∷ a) [] c first second = absurd second.follows
 call_by (s ∷ a) (t ∷ b) c first second = ((first.follows.0, subst (λ z. StandsSign (kinds.Mark points.OpenParenthesis) z) (sym first.follows.2) second.follows.0), first.follows.2)
 
+-- a call of `close` is refused where no level is left for its parenthesis
 pub call_no_room : {room end other from : ℕ} {a b : List Token} {r : Stop} → room ≡ 0 → other ≡ end → IsCallOfClose a → Reads a (one_at from (kinds.Name (codes "close"))) b → r ≡ at_hand reasons.Nesting other b
     → Refused room end (unary ∷ []) a r
 call_no_room zero same call first is =
@@ -103,9 +115,11 @@ closed_none : (k : TokenKind) → (k ≡ (kinds.Mark points.OpenBrace) → ⊥) 
 closed_none (kinds.Mark points.OpenBrace) other below = absurd (other refl)
 closed_none _ other below = refl
 
+-- the goal after `close(` halts where no brace stands
 pub closed_halts : {a : List Token} → ¬ StandsSign (kinds.Mark points.OpenBrace) a → Halts (closed ∷ []) a
 closed_halts lacks = halts_unless (kinds.Mark points.OpenBrace) (λ below. refl) closed_none lacks
 
+-- `close({` is refused where no level is left for its brace
 pub brace_no_room : {room left end other from : ℕ} {a b c d : List Token} {r : Stop} → left + 1 ≡ room → left ≡ 0 → other ≡ end → Reads a (one_at from (kinds.Name (codes "close"))) b → Reads b (one (kinds.Mark points.OpenParenthesis)) c
     → Reads c (one (kinds.Mark points.OpenBrace)) d → r ≡ at_hand reasons.Nesting other c → Refused room end (unary ∷ []) a r
 brace_no_room is zero same first second third refused = refused_end same (stopped (at_paren is zero first second third refused))
@@ -121,14 +135,17 @@ brace_no_room is zero same first second third refused = refused_end same (stoppe
         opens_behind {h = behind_close ∷ []} (closed ∷ []) t (takes_read first (λ below. refl) (omega arith)) (ap (λ z. t ∷ z) second.follows.2) refused
         (record { name = a; inside = end_self; call = call.0; behind = call.1; is = sym second.follows.2; brace = third.follows.0 }) (λ below. ap (step (behind_close ∷ below)) second.follows.0) (omega (arith, is, zero))
 
+-- the goal of an operand goes through `close({` to its declarations
 pub close_opens : {room left from : ℕ} {a b c d : List Token} (last : ℕ) → left + 1 ≡ room → last + 1 ≡ left → Reads a (one_at from (kinds.Name (codes "close"))) b → Reads b (one (kinds.Mark points.OpenParenthesis)) c
     → Reads c (one (kinds.Mark points.OpenBrace)) d → Moves room (unary ∷ []) a (entries false ∷ parenthesis ∷ []) d
 close_opens last is more first second third = moves_then {h = closed ∷ []} (call_opens (omega (arith, is, more)) first second) (takes_read third (λ below. refl) (omega (arith, is, more)))
 
+-- the goal of an operand goes through `close({` and its declarations to the closing parenthesis
 pub close_moves : {room left from : ℕ} {a b c d f : List Token} (last : ℕ) → left + 1 ≡ room → last + 1 ≡ left → Reads a (one_at from (kinds.Name (codes "close"))) b → Reads b (one (kinds.Mark points.OpenParenthesis)) c
     → Reads c (one (kinds.Mark points.OpenBrace)) d → Moves (1 + last) (entries false ∷ []) d [] f → Moves room (unary ∷ []) a (parenthesis ∷ []) f
 close_moves last is more first second third inner = moves_then (close_opens last is more first second third) (moves_under (parenthesis ∷ []) (omega (arith, is, more)) inner)
 
+-- what is refused of the declarations in `close({` is refused of the operand
 pub close_refused : {room left end other from : ℕ} {a b c d : List Token} {r : Stop} (last : ℕ) → left + 1 ≡ room → last + 1 ≡ left → other ≡ end → Reads a (one_at from (kinds.Name (codes "close"))) b → Reads b (one (kinds.Mark points.OpenParenthesis)) c
     → Reads c (one (kinds.Mark points.OpenBrace)) d → Refused (1 + last) other (entries false ∷ []) d r → Refused room end (unary ∷ []) a r
 close_refused last is more same first second third inner = refused_behind (close_opens last is more first second third) (refused_end same (refused_under (parenthesis ∷ []) (omega (arith, is, more)) parenthesis_close inner))
@@ -142,9 +159,11 @@ term_at : {n : ℕ} (a : List Token) → ¬ StandsSign (kinds.Mark points.Star) 
 term_at [] lacks = alike_moves [] (λ below. refl)
 term_at (t ∷ ts) lacks = alike_moves (t ∷ ts) (λ below. not_star t.kind lacks below)
 
+-- where no star stands, a term is an operand or a bound, and further parts or none
 pub unmarked_moves : {n : ℕ} {a : List Token} → ¬ StandsSign (kinds.Mark points.Star) a → Moves n (term ∷ []) a (unary ∷ more_parts ∷ []) a
 unmarked_moves {a = a} lacks = term_at a lacks
 
+-- the goal of a term goes through a star to an operand or a bound
 pub marked_moves : {n : ℕ} {a b : List Token} → Reads a (one (kinds.Mark points.Star)) b → Moves n (term ∷ []) a (unary ∷ []) b
 marked_moves reads = takes_read reads (λ below. refl) (omega arith)
 
@@ -156,15 +175,19 @@ parts_at : {n : ℕ} (a : List Token) → ¬ StandsSign (kinds.Mark points.Amper
 parts_at [] lacks = alike_moves [] (λ below. refl)
 parts_at (t ∷ ts) lacks = alike_moves (t ∷ ts) (λ below. parts_over t.kind lacks below)
 
+-- where no `&` stands, no further part comes
 pub parts_end : {n : ℕ} {a : List Token} → ¬ StandsSign (kinds.Mark points.Ampersand) a → Moves n (more_parts ∷ []) a [] a
 parts_end {a = a} lacks = parts_at a lacks
 
+-- the goal of further parts goes through `&` to the next one
 pub parts_go : {n : ℕ} {a b : List Token} → Reads a (one (kinds.Mark points.Ampersand)) b → Moves n (more_parts ∷ []) a (unary ∷ more_parts ∷ []) b
 parts_go reads = takes_read reads (λ below. refl) (omega arith)
 
+-- a part that is read leaves the goal of further parts
 pub part_moves : {n : ℕ} {a b : List Token} → Moves n (unary ∷ []) a [] b → Moves n (unary ∷ more_parts ∷ []) a (more_parts ∷ []) b
 part_moves m = moves_under (more_parts ∷ []) (omega arith) m
 
+-- what is refused of a part is refused with further parts to come
 pub part_refused : {n end : ℕ} {a : List Token} {r : Stop} → Refused n end (unary ∷ []) a r → Refused n end (unary ∷ more_parts ∷ []) a r
 part_refused s = refused_under (more_parts ∷ []) (omega arith) (λ below closes. record { call = closes.call; colon = closes.colon; question = closes.question; exclamation = closes.exclamation }) s
 
@@ -176,15 +199,19 @@ terms_at : {n : ℕ} (a : List Token) → ¬ StandsSign (kinds.Mark points.Bar) 
 terms_at [] lacks = alike_moves [] (λ below. refl)
 terms_at (t ∷ ts) lacks = alike_moves (t ∷ ts) (λ below. terms_over t.kind lacks below)
 
+-- where no `|` stands, no further term comes
 pub terms_end : {n : ℕ} {a : List Token} → ¬ StandsSign (kinds.Mark points.Bar) a → Moves n (more_terms ∷ []) a [] a
 terms_end {a = a} lacks = terms_at a lacks
 
+-- the goal of further terms goes through `|` to the next one
 pub terms_go : {n : ℕ} {a b : List Token} → Reads a (one (kinds.Mark points.Bar)) b → Moves n (more_terms ∷ []) a (term ∷ more_terms ∷ []) b
 terms_go reads = takes_read reads (λ below. refl) (omega arith)
 
+-- a term that is read leaves the goal of further terms
 pub term_moves : {n : ℕ} {a b : List Token} → Moves n (term ∷ []) a [] b → Moves n (term ∷ more_terms ∷ []) a (more_terms ∷ []) b
 term_moves m = moves_under (more_terms ∷ []) (omega arith) m
 
+-- what is refused of a term is refused with further terms to come
 pub term_refused : {n end : ℕ} {a : List Token} {r : Stop} → Refused n end (term ∷ []) a r → Refused n end (term ∷ more_terms ∷ []) a r
 term_refused s = refused_under (more_terms ∷ []) (omega arith) (λ below closes. record { call = closes.call; colon = closes.colon; question = closes.question; exclamation = closes.exclamation }) s
 
@@ -205,10 +232,12 @@ first_marked : {n : ℕ} (a : List Token) → StandsSign (kinds.Mark points.Star
 first_marked [] stands = absurd stands
 first_marked (t ∷ ts) stands = alike_moves (t ∷ ts) (λ below. ap (step (expression ∷ below)) stands ∙ sym (ap (step (term ∷ bar ∷ below)) stands))
 
+-- an expression is a first term, and what may follow it by whether it is marked
 pub first_opens : {n : ℕ} {a : List Token} (marked : Bool) → (marked ≡ true → StandsSign (kinds.Mark points.Star) a) → (StandsSign (kinds.Mark points.Star) a → marked ≡ true) → Moves n (expression ∷ []) a (term ∷ behind_first marked ∷ []) a
 first_opens {a = a} true is si = first_marked a (is refl)
 first_opens {a = a} false is si = first_at a (λ s. let e : false ≡ true = si s in cc)
 
+-- a first term that is read leaves what may follow it
 pub first_moves : {n : ℕ} {a b : List Token} (marked : Bool) → (marked ≡ true → StandsSign (kinds.Mark points.Star) a) → (StandsSign (kinds.Mark points.Star) a → marked ≡ true) → Moves n (term ∷ []) a [] b → Moves n (expression ∷ []) a (behind_first marked ∷ []) b
 first_moves marked is si m = moves_then (first_opens marked is si) (moves_under (behind_first marked ∷ []) (level marked) m)
   where
@@ -216,10 +245,12 @@ first_moves marked is si m = moves_then (first_opens marked is si) (moves_under 
     level true = omega arith
     level false = omega arith
 
+-- after a first term, marked or not, the goal goes through `|` to the next one
 pub first_go : {n : ℕ} {a b : List Token} (marked : Bool) → Reads a (one (kinds.Mark points.Bar)) b → Moves n (behind_first marked ∷ []) a (term ∷ more_terms ∷ []) b
 first_go true reads = takes_read reads (λ below. refl) (omega arith)
 first_go false reads = takes_read reads (λ below. refl) (omega arith)
 
+-- after a first term without a mark, where no `|` stands, the expression ends
 pub first_end : {n : ℕ} {a : List Token} (marked : Bool) → marked ≡ false → ¬ StandsSign (kinds.Mark points.Bar) a → Moves n (behind_first marked ∷ []) a [] a
 first_end {a = a} true is lacks = absurd (let e : true ≡ false = is in cc)
 first_end {a = a} false is lacks = terms_at a lacks
@@ -228,6 +259,7 @@ bar_none : (k : TokenKind) → (k ≡ (kinds.Mark points.Bar) → ⊥) → (belo
 bar_none (kinds.Mark points.Bar) other below = absurd (other refl)
 bar_none _ other below = refl
 
+-- after a marked first term the goal halts where no `|` stands
 pub first_halts : {a : List Token} (marked : Bool) → marked ≡ true → ¬ StandsSign (kinds.Mark points.Bar) a → Halts (behind_first marked ∷ []) a
 first_halts true is lacks = halts_unless (kinds.Mark points.Bar) (λ below. refl) bar_none lacks
 first_halts false is lacks = absurd (let e : false ≡ true = is in cc)
@@ -248,6 +280,7 @@ first_level : (n : ℕ) (marked : Bool) → depth (behind_first marked ∷ []) +
 first_level n true = omega arith
 first_level n false = omega arith
 
+-- what is refused of the first term is refused of the expression
 pub first_refused : {n end : ℕ} {a : List Token} {r : Stop} → Refused n end (term ∷ []) a r → Refused n end (expression ∷ []) a r
 first_refused {n = n} {a = a} s =
     let f = first_here a in

@@ -17,14 +17,17 @@ use Rattle.cue_syntax.proofs.ValuesAreExpressions.{value_moves, value_refused}
 use Rattle.cue_syntax.proofs.MovesOverOperands.{no_comma}
 
 -- lists
+-- what is to come after `...`, by whether a comma was read
 abbrev pub behind_ellipsis : Bool → Goal
 behind_ellipsis true = bracket_end
 behind_ellipsis false = bracket
 
+-- the goal after `...` in a list goes through a comma, or through none
 pub ellipsis_comma : {n : ℕ} {a b : List Token} (comma : Bool) → 1 ≤ n → Reads a (comma_if comma) b → Moves n (bracket ∷ []) a (behind_ellipsis comma ∷ []) b
 ellipsis_comma true le reads = takes_read reads (λ below. refl) (omega arith)
 ellipsis_comma {n = n} {a = a} false le reads = subst (λ z. Moves n (bracket ∷ []) a (bracket ∷ []) z) reads.follows moves_none
 
+-- the goal after `...` in a list goes through the bracket
 pub ellipsis_closes : {n : ℕ} {a b : List Token} (comma : Bool) → Reads a (one (kinds.Mark points.CloseBracket)) b → Moves n (behind_ellipsis comma ∷ []) a [] b
 ellipsis_closes true reads = takes_read reads (λ below. refl) (omega arith)
 ellipsis_closes false reads = takes_read reads (λ below. refl) (omega arith)
@@ -44,23 +47,28 @@ ellipsis_at false [] close more = λ below. refl
 ellipsis_at true (t ∷ ts) close more = λ below closes. bracket_end_none t.kind close below
 ellipsis_at false (t ∷ ts) close more = λ below closes. bracket_none t.kind close (more refl) below
 
+-- the goal after `...` in a list halts where no bracket stands
 pub ellipsis_halts : {a b : List Token} (comma : Bool) → Reads a (comma_if comma) b → (comma ≡ false → ¬ StandsSign (kinds.Mark points.Comma) a) → ¬ StandsSign (kinds.Mark points.CloseBracket) b → Halts (behind_ellipsis comma ∷ []) b
 ellipsis_halts {b = b} comma reads lacks close = record { at = ellipsis_at comma b close (no_comma comma reads lacks) }
 
+-- the goal of an operand goes through a bracket, and then as far as the goal of elements does
 pub list_opens : {room : ℕ} {a b c : List Token} {next : Stack} (left : ℕ) → left + 1 ≡ room → Reads a (one (kinds.Mark points.OpenBracket)) b → Moves (1 + left) (elements ∷ []) b next c → Moves room (unary ∷ []) a next c
 list_opens left is reads inner = moves_then {h = elements ∷ []} (takes_read reads (λ below. refl) (omega (arith, is))) (moves_more (omega (arith, is)) inner)
 
+-- what is refused of the elements in brackets is refused of the operand
 pub list_refused : {room end other : ℕ} {a b : List Token} {r : Stop} (left : ℕ) → left + 1 ≡ room → other ≡ end → Reads a (one (kinds.Mark points.OpenBracket)) b → Refused (1 + left) other (elements ∷ []) b r → Refused room end (unary ∷ []) a r
 list_refused {room = room} {other = other} {b = b} {r = r} left is same reads inner =
     let e : 1 + left ≡ room = omega (arith, is) in
     refused_behind {h = elements ∷ []} (takes_read reads (λ below. refl) (omega (arith, is))) (refused_end same (subst (λ z. Refused z other (elements ∷ []) b r) e inner))
 
 -- the goal after a row
+-- at the start and after a comma it is that of the row's items
 pub row_first : {A : Type 0} (first more : Goal) (comma : Bool) (xs : List A) → (comma ≡ true) ⊎ (xs ≡ []) → row_goal first more comma xs ≡ first
 row_first first more true xs free = refl
 row_first first more false [] free = refl
 row_first first more false (x ∷ xs) free = absurd (elim free [ inl e ↦ (let f : false ≡ true = e in cc) | inr e ↦ (let f : x ∷ xs ≡ [] = e in cc) ])
 
+-- after an item with no comma the goal is that of more items
 pub row_more : {A : Type 0} (first more : Goal) (comma : Bool) (xs : List A) (x : A) → comma ≡ false → row_goal first more comma (xs ++ x ∷ []) ≡ more
 row_more first more true xs x is = absurd (let e : true ≡ false = is in cc)
 row_more first more false [] x is = refl
@@ -80,13 +88,16 @@ element_at : {n : ℕ} (a : List Token) → ¬ StandsSign (kinds.Mark points.Clo
 element_at [] close more = alike_moves [] (λ below. refl)
 element_at (t ∷ ts) close more = alike_moves (t ∷ ts) (λ below. element_step t.kind close more below)
 
+-- an element that is read leaves the goal of more elements
 pub element_moves : {room : ℕ} {a b : List Token} → ¬ StandsSign (kinds.Mark points.CloseBracket) a → ¬ StandsSign (kinds.Mark points.Ellipsis) a → Moves room (expression ∷ []) a [] b → Moves (1 + room) (elements ∷ []) a (more_elements ∷ []) b
 element_moves {a = a} close more inner = moves_then (element_at a close more) (moves_under (more_elements ∷ []) (omega arith) inner)
 
+-- what is refused of an element is refused of the elements
 pub element_refused : {room end : ℕ} {a : List Token} {r : Stop} → ¬ StandsSign (kinds.Mark points.CloseBracket) a → ¬ StandsSign (kinds.Mark points.Ellipsis) a → Refused room end (expression ∷ []) a r → Refused (1 + room) end (elements ∷ []) a r
 element_refused {a = a} close more inner =
     refused_behind (element_at a close more) (refused_under (more_elements ∷ []) (omega arith) (λ below closes. record { call = refl; colon = refl; question = refl; exclamation = refl }) inner)
 
+-- the goal of more elements goes through a comma to the next one
 pub element_next : {n : ℕ} {a b : List Token} (comma : Bool) → comma ≡ true → 1 ≤ n → Reads a (comma_if comma) b → Moves n (more_elements ∷ []) a (elements ∷ []) b
 element_next true is le reads = takes_read reads (λ below. refl) (omega arith)
 element_next false is le reads = absurd (let e : false ≡ true = is in cc)
@@ -105,28 +116,33 @@ more_elements_at : (a : List Token) → ¬ StandsSign (kinds.Mark points.CloseBr
 more_elements_at [] close more = λ below. refl
 more_elements_at (t ∷ ts) close more = λ below closes. more_elements_none t.kind close more below
 
+-- after each row of elements, with a comma or without, the goal goes through the bracket
 pub row_closes : {n : ℕ} {A : Type 0} {a b : List Token} (comma : Bool) (xs : List A) → Reads a (one (kinds.Mark points.CloseBracket)) b → Moves n (row_goal elements more_elements comma xs ∷ []) a [] b
 row_closes true xs reads = takes_read reads (λ below. refl) (omega arith)
 row_closes false [] reads = takes_read reads (λ below. refl) (omega arith)
 row_closes false (x ∷ xs) reads = takes_read reads (λ below. refl) (omega arith)
 
+-- after an element with no comma the goal halts where no bracket stands
 pub row_halts : {A : Type 0} {a : List Token} (comma : Bool) (xs : List A) → (comma ≡ false → ¬ StandsSign (kinds.Mark points.Comma) a) → ((comma ≡ true) ⊎ (xs ≡ []) → ⊥) → ¬ StandsSign (kinds.Mark points.CloseBracket) a
     → Halts (row_goal elements more_elements comma xs ∷ []) a
 row_halts {a = a} true xs lacks free close = absurd (free (inl refl))
 row_halts {a = a} false [] lacks free close = absurd (free (inr refl))
 row_halts {a = a} false (x ∷ xs) lacks free close = record { at = more_elements_at a close (lacks refl) }
 
+-- where the elements are none or end with a comma, the goal goes through `...`
 pub open_ellipsis : {n : ℕ} {A : Type 0} {a b : List Token} (comma : Bool) (xs : List A) → 1 ≤ n → (comma ≡ true) ⊎ (xs ≡ []) → Reads a (one (kinds.Mark points.Ellipsis)) b → Moves n (row_goal elements more_elements comma xs ∷ []) a (bracket ∷ []) b
 open_ellipsis true xs le free reads = takes_read reads (λ below. refl) (omega (arith, le))
 open_ellipsis false [] le free reads = takes_read reads (λ below. refl) (omega (arith, le))
 open_ellipsis false (x ∷ xs) le free reads = absurd (elim free [ inl e ↦ (let f : false ≡ true = e in cc) | inr e ↦ (let f : x ∷ xs ≡ [] = e in cc) ])
 
 -- declarations
+-- the goal of more declarations goes through a comma to the next one
 pub entry_next : {n : ℕ} {a b : List Token} (top comma : Bool) → comma ≡ true → levels_of (entries top) ≤ n → Reads a (comma_if comma) b → Moves n (more_entries top ∷ []) a (entries top ∷ []) b
 entry_next true true is le reads = takes_read reads (λ below. refl) (omega (arith, le))
 entry_next false true is le reads = takes_read reads (λ below. refl) (omega (arith, le))
 entry_next top false is le reads = absurd (let e : false ≡ true = is in cc)
 
+-- after each row of declarations, with a comma or without, the goal goes through the closing brace
 pub braces_close : {n : ℕ} {A : Type 0} {a b : List Token} (comma : Bool) (xs : List A) → Reads a (one (kinds.Mark points.CloseBrace)) b → Moves n (row_goal (entries false) (more_entries false) comma xs ∷ []) a [] b
 braces_close true xs reads = takes_read reads (λ below. refl) (omega arith)
 braces_close false [] reads = takes_read reads (λ below. refl) (omega arith)
@@ -141,6 +157,7 @@ more_entries_at : (a : List Token) → ¬ StandsSign (kinds.Mark points.CloseBra
 more_entries_at [] close more = λ below. refl
 more_entries_at (t ∷ ts) close more = λ below closes. more_entries_none t.kind close more below
 
+-- after a declaration in braces with no comma the goal halts where no brace stands
 pub braces_halt : {A : Type 0} {a : List Token} (comma : Bool) (xs : List A) → (comma ≡ false → ¬ StandsSign (kinds.Mark points.Comma) a) → ((comma ≡ true) ⊎ (xs ≡ []) → EndsHere false a) → ¬ StandsSign (kinds.Mark points.CloseBrace) a
     → Halts (row_goal (entries false) (more_entries false) comma xs ∷ []) a
 braces_halt {a = a} true xs lacks free close = absurd (close (free (inl refl)))
@@ -155,12 +172,14 @@ top_at : (a : List Token) → (a ≡ [] → ⊥) → ¬ StandsSign (kinds.Mark p
 top_at [] some more = absurd (some refl)
 top_at (t ∷ ts) some more = λ below closes. top_none t.kind more below
 
+-- after a declaration of the top with no comma the goal halts where the text goes on
 pub top_halts : {A : Type 0} {a : List Token} (comma : Bool) (xs : List A) → (comma ≡ false → ¬ StandsSign (kinds.Mark points.Comma) a) → ((comma ≡ true) ⊎ (xs ≡ []) → EndsHere true a) → (a ≡ [] → ⊥)
     → Halts (row_goal (entries true) (more_entries true) comma xs ∷ []) a
 top_halts {a = a} true xs lacks free some = absurd (some (free (inl refl)))
 top_halts {a = a} false [] lacks free some = absurd (some (free (inr refl)))
 top_halts {a = a} false (x ∷ xs) lacks free some = record { at = top_at a some (lacks refl) }
 
+-- the goal of declarations goes through `...`
 pub entry_ellipsis : {n : ℕ} {a b : List Token} (top : Bool) → levels_of (entries top) ≤ n → Reads a (one (kinds.Mark points.Ellipsis)) b → Moves n (entries top ∷ []) a (more_entries top ∷ []) b
 entry_ellipsis true le reads = takes_read reads (λ below. refl) (omega (arith, le))
 entry_ellipsis false le reads = takes_read reads (λ below. refl) (omega (arith, le))
@@ -174,30 +193,37 @@ more_entries_close : (top : Bool) (below : Stack) → Closes below → Closes (m
 more_entries_close true below closes = record { call = refl; colon = refl; question = refl; exclamation = refl }
 more_entries_close false below closes = record { call = refl; colon = refl; question = refl; exclamation = refl }
 
+-- the goal of a value goes through labels and then the expression after them
 pub chain_value : {room : ℕ} {b c d : List Token} (left : ℕ) (ls : List Label) → left + length ls ≡ room → Moves room (value ∷ []) b (value ∷ chains ls) c → ¬ BeginsLabel c → length d < length c
     → Moves left (expression ∷ []) c [] d → Moves room (value ∷ []) b [] d
 chain_value {d = d} left ls is first label shorter inner =
     moves_then first (moves_then (moves_under (chains ls) (omega (arith, is, chains_depth ls)) (value_moves label shorter inner)) (chains_over ls d))
 
+-- what is refused of the expression after labels is refused of the value
 pub chain_value_refused : {room end other : ℕ} {b c : List Token} {r : Stop} (left : ℕ) (ls : List Label) → left + length ls ≡ room → other ≡ end → Moves room (value ∷ []) b (value ∷ chains ls) c → ¬ BeginsLabel c
     → Refused left other (expression ∷ []) c r → Refused room end (value ∷ []) b r
 chain_value_refused left ls is same first label inner =
     refused_behind first (refused_end same (refused_under (chains ls) (omega (arith, is, chains_depth ls)) (chains_close ls) (value_refused label inner)))
 
+-- the goal of declarations goes through a label and its value
 pub field_moves : {room : ℕ} {a b d : List Token} (top : Bool) (l : Label) → Reads a (spell_label l) b → Moves room (value ∷ []) b [] d → Moves (levels_of (entries top) + room) (entries top ∷ []) a (more_entries top ∷ []) d
 field_moves top l reads inner =
     moves_then (label_entry top l (omega (arith, same_level top)) reads) (moves_under (more_entries top ∷ []) (omega (arith, same_level top)) inner)
 
+-- what is refused of the value after a label is refused of the declarations
 pub field_refused : {room end other : ℕ} {a b : List Token} {r : Stop} (top : Bool) (l : Label) → Reads a (spell_label l) b → other ≡ end → Refused room other (value ∷ []) b r → Refused (levels_of (entries top) + room) end (entries top ∷ []) a r
 field_refused top l reads same inner =
     refused_behind (label_entry top l (omega (arith, same_level top)) reads) (refused_end same (refused_under (more_entries top ∷ []) (omega (arith, same_level top)) (more_entries_close top) inner))
 
+-- the goal of declarations of the top goes through a definition's name and its colon
 pub definition_opens : {n from : ℕ} {t : List ℕ} {a b c : List Token} → Reads a (one_at from (kinds.Definition t)) b → Reads b (one (kinds.Mark points.Colon)) c → Moves n (entries true ∷ []) a (value ∷ more_entries true ∷ []) c
 definition_opens first second = moves_then {h = colon ∷ value ∷ more_entries true ∷ []} (takes_read first (λ below. refl) (omega arith)) (takes_read second (λ below. refl) (omega arith))
 
+-- the goal of declarations of the top goes through a definition and its value
 pub definition_moves : {room from : ℕ} {t : List ℕ} {a b c d : List Token} → Reads a (one_at from (kinds.Definition t)) b → Reads b (one (kinds.Mark points.Colon)) c → Moves room (value ∷ []) c [] d → Moves room (entries true ∷ []) a (more_entries true ∷ []) d
 definition_moves first second inner = moves_then (definition_opens first second) (moves_under (more_entries true ∷ []) (omega arith) inner)
 
+-- what is refused of a definition's value is refused of the declarations
 pub definition_refused : {room end other from : ℕ} {t : List ℕ} {a b c : List Token} {r : Stop} → Reads a (one_at from (kinds.Definition t)) b → Reads b (one (kinds.Mark points.Colon)) c → other ≡ end → Refused room other (value ∷ []) c r
     → Refused room end (entries true ∷ []) a r
 definition_refused first second same inner = refused_behind (definition_opens first second) (refused_end same (refused_under (more_entries true ∷ []) (omega arith) (more_entries_close true) inner))
@@ -240,6 +266,7 @@ near_none false [] dots label other ends = here (record { at = λ below. refl })
 near_none true (t ∷ ts) dots label other ends = near_entry true t ts t.kind refl dots label other (λ e. let f : true ≡ false = e in cc)
 near_none false (t ∷ ts) dots label other ends = near_entry false t ts t.kind refl dots label other (λ e. ends)
 
+-- the goal of declarations refuses tokens with which none begins and where they don't end
 pub no_entry_refused : {n end : ℕ} {a : List Token} {r : Stop} (top : Bool) → ¬ StandsSign (kinds.Mark points.Ellipsis) a → ¬ BeginsLabel a → (top ≡ true → ¬ BeginsDefinition a) → ¬ EndsHere top a → r ≡ at_hand reasons.Syntax end a
     → Refused n end (entries top ∷ []) a r
 no_entry_refused {a = a} top dots label other ends is = stopped (near_by a (near_none top a dots label other ends) is)

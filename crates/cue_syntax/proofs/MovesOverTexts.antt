@@ -13,6 +13,7 @@ use Rattle.cue_syntax.specs.Recogniser.{Stack, step, is_word, hides_definition, 
 use Rattle.cue_syntax.proofs.MovesAndStops.{takes, takes_read, moves_then, moves_meet, alike_moves, alike_at, Alike, Halts, HaltsAt, halts_at}
 use Rattle.cue_syntax.proofs.MovesOverLiterals.{word_other}
 
+-- a text of no tokens may be read as declarations of the top
 pub text_none : {n : ℕ} {a : List Token} → a ≡ [] → Moves n (text ∷ []) a (entries true ∷ []) a
 text_none {a = a} is = alike_moves a (subst (λ z. Alike (text ∷ []) (entries true ∷ []) z) (sym is) (λ below. refl))
 
@@ -20,16 +21,19 @@ other_step : (k : TokenKind) → ((w : List ℕ) → k ≡ kinds.Name w → ⊥)
 other_step (kinds.Name w) other below = absurd (other w refl)
 other_step _ other below = refl
 
+-- a text that begins with no plain name may be read as declarations of the top
 pub text_other : {n : ℕ} {a b : List Token} (t : Token) → a ≡ t ∷ b → ((w : List ℕ) → t.kind ≡ kinds.Name w → ⊥) → Moves n (text ∷ []) a (entries true ∷ []) a
 text_other t is other = alike_at t is (λ below. other_step t.kind other below)
 
 name_step : (w : List ℕ) → is_word (codes "package") w ≡ false → (below : Stack) → step (text ∷ below) (kinds.Name w) ≡ step (entries true ∷ below) (kinds.Name w)
 name_step w other below = rw other refl
 
+-- a text that begins with a name other than `package` may be read as declarations of the top
 pub text_name : {n : ℕ} {a b : List Token} {w : List ℕ} (t : Token) → a ≡ t ∷ b → t.kind ≡ kinds.Name w → (w ≡ codes "package" → ⊥) → Moves n (text ∷ []) a (entries true ∷ []) a
 text_name {w = w} t is kind other =
     alike_at t is (λ below. ap (step (text ∷ below)) kind ∙ name_step w (word_other (codes "package") w other) below ∙ sym (ap (step (entries true ∷ below)) kind))
 
+-- the goal of a text goes through `package` at its start
 pub text_package : {n : ℕ} {a b : List Token} {w : List ℕ} (t : Token) → a ≡ t ∷ b → t.kind ≡ kinds.Name w → w ≡ codes "package" → Moves n (text ∷ []) a (package_word ∷ []) b
 text_package t is kind word = takes t is (λ below. ap (step (text ∷ below)) (kind ∙ ap kinds.Name word)) (omega arith)
 
@@ -43,14 +47,17 @@ label_at : {n : ℕ} (b : List Token) → Stands IsMark b → Moves n (package_w
 label_at [] stands = absurd stands
 label_at (t ∷ ts) stands = alike_moves (t ∷ ts) (λ below. label_step t.kind stands below)
 
+-- a text that begins with `package` as a label may be read as declarations of the top
 pub text_label : {n : ℕ} {a b : List Token} {w : List ℕ} (t : Token) → a ≡ t ∷ b → t.kind ≡ kinds.Name w → w ≡ codes "package" → Stands IsMark b → Moves n (text ∷ []) a (entries true ∷ []) a
 text_label {b = b} t is kind word stands = moves_meet (mark ∷ value ∷ more_entries true ∷ [])
     (moves_then (text_package t is kind word) (label_at b stands)) (takes t is (λ below. ap (step (entries true ∷ below)) kind) (omega arith))
 
 -- the name of a package
+-- the goal after `package` goes through a plain name
 pub package_name_moves : {n : ℕ} {a b : List Token} {w : List ℕ} (t : Token) → a ≡ t ∷ b → t.kind ≡ kinds.Name w → Moves n (package_word ∷ []) a (package_end ∷ []) b
 package_name_moves t is kind = takes t is (λ below. ap (step (package_word ∷ below)) kind) (omega arith)
 
+-- a name that begins with `_#` passes the test for such names
 pub hides_is : (w : List ℕ) → HidesDefinition w → hides_definition w ≡ true
 hides_is [] hides = absurd (let h : 0 ≡ 0x5f = hides.0 in omega arith)
 hides_is (x ∷ []) hides = absurd (let h : 0 ≡ 0x23 = hides.1 in omega arith)
@@ -69,10 +76,12 @@ hides_no w true is other = absurd (other (hidden w is))
         let second : y ≡ 0x23 = cc in
         (first, second)
 
+-- the goal after `package` goes through a hidden name that doesn't begin with `_#`
 pub package_hidden_moves : {n : ℕ} {a b : List Token} {w : List ℕ} (t : Token) → a ≡ t ∷ b → t.kind ≡ kinds.Hidden w → ¬ HidesDefinition w → Moves n (package_word ∷ []) a (package_end ∷ []) b
 package_hidden_moves {w = w} t is kind other =
     takes t is (λ below. ap (step (package_word ∷ below)) kind ∙ ap (λ z. if z then None else Some (package_end ∷ below)) (hides_no w (hides_definition w) refl other)) (omega arith)
 
+-- the goal after `package` halts at a name that begins with `_#`
 pub package_hidden_halts : {a b : List Token} {w : List ℕ} (t : Token) → a ≡ t ∷ b → t.kind ≡ kinds.Hidden w → HidesDefinition w → Halts (package_word ∷ []) a
 package_hidden_halts {w = w} t is kind hides =
     halts_at t is (λ below closes. ap (step (package_word ∷ below)) kind ∙ ap (λ z. if z then None else Some (package_end ∷ below)) (hides_is w hides))
@@ -85,6 +94,7 @@ package_none (kinds.Mark points.Question) name hidden other below = absurd (othe
 package_none (kinds.Mark points.Exclamation) name hidden other below = absurd (other tt)
 package_none _ name hidden other below = refl
 
+-- the goal after `package` halts where neither a name nor the mark of a label stands
 pub package_halts : {a b : List Token} (t : Token) → a ≡ t ∷ b → ((w : List ℕ) → t.kind ≡ kinds.Name w → ⊥) → ((w : List ℕ) → t.kind ≡ kinds.Hidden w → ⊥) → ¬ Stands IsMark a → Halts (package_word ∷ []) a
 package_halts t is name hidden other = halts_at t is (λ below closes. package_none t.kind name hidden (subst (λ z. ¬ Stands IsMark z) is other) below)
 
@@ -106,6 +116,7 @@ end_at : (a : List Token) → (a ≡ [] → ⊥) → ¬ StandsSign (kinds.Mark p
 end_at [] some lacks = absurd (some refl)
 end_at (t ∷ ts) some lacks = λ below closes. end_none t.kind lacks below
 
+-- after the name of a package the goal halts where no comma stands and the text goes on
 pub package_end_halts : {a b : List Token} (comma : Bool) → comma ≡ false → Reads a (comma_if comma) b → (comma ≡ false → ¬ StandsSign (kinds.Mark points.Comma) a) → (b ≡ [] → ⊥) → Moves 0 (package_end ∷ []) a (package_end ∷ []) b × Halts (package_end ∷ []) b
 package_end_halts true is reads lacks some = absurd (let e : true ≡ false = is in cc)
 package_end_halts {a = a} {b = b} false is reads lacks some = (

@@ -202,9 +202,11 @@ pub stuck_at : (limit : Limit) (goals : Stack) (tokens here : List Token) → st
 stuck_at limit goals [] here is = stops_at_end limit goals here is
 stuck_at limit goals (t ∷ ts) here is = stops_by limit goals t ts here (step goals t.kind) refl is (λ next. stuck_at limit next ts here)
 
+-- where the goals are stuck, what is left is the last of the tokens
 pub stuck_at_end : (limit : Limit) (goals : Stack) (tokens here : List Token) → stuck limit goals tokens ≡ Some here → IsEnd tokens here
 stuck_at_end limit goals tokens here is = let s = stuck_at limit goals tokens here is in record { read = s.read; is = s.is }
 
+-- where the goals are stuck, no more tokens are left than there were
 pub stuck_inside : (limit : Limit) (goals : Stack) (tokens here : List Token) → stuck limit goals tokens ≡ Some here → length here ≤ length tokens
 stuck_inside limit goals tokens here is = let s = stuck_at limit goals tokens here is in omega (arith, ap length s.is, length-append s.read here)
 

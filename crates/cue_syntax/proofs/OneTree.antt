@@ -55,6 +55,7 @@ mutual
 
 -- the declarations of a text, up to its end
 
+-- the reader finds the declarations, and sees whether a comma stands after them
 pub record TextSeen (n : ℕ) (es : Entries) (comma : Bool) (tokens : List Token) : Type 0 where
   pub rest : List Token
   pub reads : (reader n).entries tokens ≡ (es, rest)
@@ -141,6 +142,7 @@ file_read : {limit : Limit} {tokens : List Token} {file : FileTree} (n : ℕ) �
 file_read {tokens = tokens} {file = file} n is s =
     file_known n file.package_clause file.declarations file.comma tokens (all_entries file.declarations is.right) is.ends s is.reads
 
+-- two trees of the grammar that the same tokens spell are one
 pub one_tree : NoTwoTrees
 one_tree limit other tokens a b first_is second_is =
     let n = size_of_entries a.declarations + size_of_entries b.declarations in

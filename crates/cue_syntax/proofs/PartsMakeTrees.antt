@@ -14,9 +14,11 @@ use Rattle.cue_syntax.specs.Syntax.{Expression, Elements, no_elements, element, 
 use Rattle.cue_syntax.proofs.ReadingsJoin.{reads_then, reads_none, reads_placed}
 use Rattle.cue_syntax.proofs.RowsGrow.{reads_same, elements_pushed, right_pushed, unary_pushed, levels_pushed, branches_pushed, right_branches_pushed, levels_branches_pushed, entries_pushed, right_entries_pushed, levels_entries_pushed}
 
+-- an expression that holds no other is one within any number of levels
 pub literal_is : {room : ℕ} {a b : List Token} {e : Expression} → IsLiteral a e b → IsExpression room a e b
 literal_is l = record { reads = l.reads; right = l.right; levels = omega (arith, l.levels) }
 
+-- an expression in parentheses is one, and opens one level more
 pub parenthesis_is : {room left : ℕ} {a b c d f : List Token} {e : Expression} {comma : Bool} → left + 1 ≡ room
     → Reads a (one (kinds.Mark points.OpenParenthesis)) b → IsExpression left b e c → Reads c (comma_if comma) d → Reads d (one (kinds.Mark points.CloseParenthesis)) f
     → IsExpression room a (parenthesis e comma) f
@@ -26,6 +28,7 @@ parenthesis_is is first inner third fourth = record {
   levels = omega (arith, is, inner.levels);
 }
 
+-- declarations that may stand in braces, and the closing brace, are braced ones
 pub braced_is : {room : ℕ} {b c d : List Token} {es : Entries} {comma : Bool}
     → AreEntries room b es comma c → AreNested es → Reads c (one (kinds.Mark points.CloseBrace)) d
     → AreBraced room b es comma d
@@ -37,6 +40,7 @@ braced_is inner nested third = record {
   levels = inner.levels;
 }
 
+-- a brace and then braced declarations are an expression, which opens one level more
 pub struct_is : {room left : ℕ} {a b c : List Token} {es : Entries} {comma : Bool} → left + 1 ≡ room → Reads a (one (kinds.Mark points.OpenBrace)) b → AreBraced left b es comma c
     → IsExpression room a (struct es comma) c
 struct_is is first inner = record {
@@ -45,6 +49,7 @@ struct_is is first inner = record {
   levels = omega (arith, is, inner.levels);
 }
 
+-- braced declarations in `close(..)` are an expression, which opens two levels more
 pub close_is : {room left last from : ℕ} {a b c d f g h : List Token} {es : Entries} {inner comma : Bool} → left + 1 ≡ room → last + 1 ≡ left
     → Reads a (one_at from (kinds.Name (codes "close"))) b → Reads b (one (kinds.Mark points.OpenParenthesis)) c → Reads c (one (kinds.Mark points.OpenBrace)) d → AreBraced last d es inner f
     → Reads f (comma_if comma) g → Reads g (one (kinds.Mark points.CloseParenthesis)) h
@@ -55,6 +60,7 @@ close_is is more first second brace third fourth fifth = record {
   levels = omega (arith, is, more, third.levels);
 }
 
+-- elements in brackets are an expression, which opens one level more
 pub list_is : {room left : ℕ} {a b c d : List Token} {es : Elements} {comma : Bool} → left + 1 ≡ room
     → Reads a (one (kinds.Mark points.OpenBracket)) b → AreElements left b es comma c → Reads c (one (kinds.Mark points.CloseBracket)) d
     → IsExpression room a (list es false comma) d
@@ -80,6 +86,7 @@ rest_reads (element e es) true inner which second =
     reads_same (append_assoc (spell_elements (kinds.Mark points.Comma) (element e es)) (one (kinds.Mark points.Comma)) (one (kinds.Mark points.Ellipsis))) (reads_then inner.reads second)
 rest_reads (element e es) false inner which second = absurd (⊎_elim (λ (w : false ≡ true). cc) (λ (w : element e es ≡ no_elements). cc) which)
 
+-- elements and then `...` in brackets are an expression, which opens one level more
 pub open_list_is : {room left : ℕ} {a b c d f g : List Token} {es : Elements} {comma last : Bool} → left + 1 ≡ room
     → Reads a (one (kinds.Mark points.OpenBracket)) b → AreElements left b es comma c → (comma ≡ true) ⊎ (es ≡ no_elements)
     → Reads c (one (kinds.Mark points.Ellipsis)) d → Reads d (comma_if last) f → Reads f (one (kinds.Mark points.CloseBracket)) g
@@ -92,6 +99,7 @@ open_list_is {es = es} {comma = comma} {last = last} is first second which third
   levels = omega (arith, is, second.levels);
 }
 
+-- a label, further labels and an expression are a field, which opens a level for each further label
 pub field_is : {room left : ℕ} {a b c d : List Token} {l : Label} {chain : List Label} {e : Expression} → left + length chain ≡ room
     → Reads a (spell_label l) b → Reads b (flat_map spell_label chain) c → IsExpression left c e d
     → IsEntry room a (field l chain e) d
@@ -101,6 +109,7 @@ field_is is first second third = record {
   levels = omega (arith, is, third.levels);
 }
 
+-- a definition's name, a colon, labels and an expression are a declaration, with a level for each label
 pub definition_is : {room left from : ℕ} {a b c d f : List Token} {t : List ℕ} {chain : List Label} {e : Expression} → left + length chain ≡ room
     → Reads a (one_at from (kinds.Definition t)) b → Reads b (one (kinds.Mark points.Colon)) c → Reads c (flat_map spell_label chain) d → IsExpression left d e f
     → IsEntry room a (definition t from chain e) f
@@ -117,6 +126,7 @@ pub record AreTerms (room : ℕ) (a : List Token) (ts : List Term) (b : List Tok
   pub levels : levels_of_branches (branches ts) ≤ room
   pub some : 0 < length ts
 
+-- two terms or more, with no sign after the last
 pub record AreAllTerms (room : ℕ) (a : List Token) (ts : List Term) (b : List Token) : Type 0 where
   pub reads : Reads a (spell_branches (branches ts)) b
   pub right : AreRightBranches (branches ts)
@@ -128,6 +138,7 @@ two_branches : (y : Term) (ys : List Term) (x : Term) → TwoBranches (branches 
 two_branches y [] x = tt
 two_branches y (z ∷ zs) x = tt
 
+-- a term with `|` after it is a row of one term
 pub terms_first : {room : ℕ} {a b c : List Token} (t : Term) → IsTermOf room a (branch_tree t) b → Reads b (one (kinds.Mark points.Bar)) c → AreTerms room a (t ∷ []) c
 terms_first t first second = record {
   reads = reads_then (reads_same (sym (append-nil (spell_branch (branch_tree t)))) first.reads) second;
@@ -136,6 +147,7 @@ terms_first t first second = record {
   some = omega arith;
 }
 
+-- a row of terms and one more are two terms or more
 pub terms_next : {room : ℕ} {a b c : List Token} (ts : List Term) (t : Term) → AreTerms room a ts b → IsTermOf room b (branch_tree t) c → AreAllTerms room a (ts ++ t ∷ []) c
 terms_next [] t first second = absurd (let h : 0 < 0 = first.some in omega arith)
 terms_next (y ∷ ys) t first second = record {
@@ -146,9 +158,11 @@ terms_next (y ∷ ys) t first second = record {
   two = two_branches y ys t;
 }
 
+-- two terms or more with `|` after them are a row of terms
 pub terms_more : {room : ℕ} {a b c : List Token} {ts : List Term} → AreAllTerms room a ts b → Reads b (one (kinds.Mark points.Bar)) c → AreTerms room a ts c
 terms_more first second = record { reads = reads_then first.reads second; right = first.right; levels = first.levels; some = first.some }
 
+-- two terms or more are a disjunction
 pub disjunction_is : {room : ℕ} {a b : List Token} {ts : List Term} → AreAllTerms room a ts b → IsExpression room a (disjunction (branches ts)) b
 disjunction_is all = record { reads = all.reads; right = (all.right, all.two); levels = all.levels }
 
@@ -160,6 +174,7 @@ pub record AreParts (room : ℕ) (a : List Token) (es : List Expr) (b : List Tok
   pub levels : levels_of_elements (elements es) ≤ room
   pub some : 0 < length es
 
+-- two parts or more, with no sign after the last
 pub record AreAllParts (room : ℕ) (a : List Token) (es : List Expr) (b : List Token) : Type 0 where
   pub reads : Reads a (spell_elements (kinds.Mark points.Ampersand) (elements es)) b
   pub right : AreRight (elements es)
@@ -172,6 +187,7 @@ two_elements : (y : Expr) (ys : List Expr) (x : Expr) → TwoElements (elements 
 two_elements y [] x = tt
 two_elements y (z ∷ zs) x = tt
 
+-- an operand or a bound with `&` after it is a row of one part
 pub parts_first : {room : ℕ} {a b c : List Token} (e : Expr) → IsExpression room a (expression e) b → IsUnary (expression e) → Reads b (one (kinds.Mark points.Ampersand)) c
     → AreParts room a (e ∷ []) c
 parts_first e first unary second = record {
@@ -182,6 +198,7 @@ parts_first e first unary second = record {
   some = omega arith;
 }
 
+-- a row of parts and one more are two parts or more
 pub parts_next : {room : ℕ} {a b c : List Token} (es : List Expr) (e : Expr) → AreParts room a es b → IsExpression room b (expression e) c → IsUnary (expression e)
     → AreAllParts room a (es ++ e ∷ []) c
 parts_next [] e first second unary = absurd (let h : 0 < 0 = first.some in omega arith)
@@ -194,9 +211,11 @@ parts_next (y ∷ ys) e first second unary = record {
   two = two_elements y ys e;
 }
 
+-- two parts or more with `&` after them are a row of parts
 pub parts_more : {room : ℕ} {a b c : List Token} {es : List Expr} → AreAllParts room a es b → Reads b (one (kinds.Mark points.Ampersand)) c → AreParts room a es c
 parts_more first second = record { reads = reads_then first.reads second; right = first.right; unary = first.unary; levels = first.levels; some = first.some }
 
+-- two parts or more are a conjunction
 pub conjunction_is : {room : ℕ} {a b : List Token} {es : List Expr} → AreAllParts room a es b → IsExpression room a (conjunction (elements es)) b
 conjunction_is all = record { reads = all.reads; right = (all.right, all.unary, all.two); levels = all.levels }
 
@@ -205,6 +224,7 @@ abbrev pub Between : {A : Type 0} → Bool → List A → Type 0
 Between true xs = 0 < length xs
 Between false xs = xs ≡ []
 
+-- after one item more a comma stands after something
 pub between_pushed : {A : Type 0} (comma : Bool) (xs : List A) (x : A) → comma ≡ true → Between comma (xs ++ x ∷ [])
 between_pushed comma xs x is = subst (λ b. Between b (xs ++ x ∷ [])) (sym is) (let h : 0 < length (xs ++ x ∷ []) = omega (arith, length_push xs x) in h)
 
@@ -221,6 +241,7 @@ element_reads [] false x first between second = reads_same (sym (append-nil (spe
 element_reads (y ∷ ys) true x first between second = reads_same (elements_pushed (kinds.Mark points.Comma) y ys x) (reads_then first.reads second.reads)
 element_reads (y ∷ ys) false x first between second = absurd (let e : (y ∷ ys) ≡ [] = between in cc)
 
+-- elements grow by one, where a comma stands after those before it
 pub elements_next : {room : ℕ} {a b c d : List Token} (xs : List Expr) (comma : Bool) (x : Expr) (then : Bool) → AreElements room a (elements xs) comma b
     → Between comma xs → IsExpression room b (expression x) c → Reads c (comma_if then) d → AreElements room a (elements (xs ++ x ∷ [])) then d
 elements_next xs comma x then first between second third = record {
@@ -230,6 +251,7 @@ elements_next xs comma x then first between second third = record {
   levels = levels_pushed _ xs x first.levels second.levels;
 }
 
+-- no tokens are no elements
 pub elements_none : {room : ℕ} {a : List Token} → AreElements room a (elements []) false a
 elements_none = record { reads = reads_none; right = tt; ends = tt; levels = omega arith }
 
@@ -246,6 +268,7 @@ entry_reads [] false x first between second = reads_same (sym (append-nil (spell
 entry_reads (y ∷ ys) true x first between second = reads_same (entries_pushed y ys x) (reads_then first.reads second.reads)
 entry_reads (y ∷ ys) false x first between second = absurd (let e : (y ∷ ys) ≡ [] = between in cc)
 
+-- declarations grow by one, where a comma stands after those before it
 pub entries_next : {room : ℕ} {a b c d : List Token} (xs : List Declaration) (comma : Bool) (x : Declaration) (then : Bool) → AreEntries room a (entries xs) comma b
     → Between comma xs → IsEntry room b (entry_tree x) c → Reads c (comma_if then) d → AreEntries room a (entries (xs ++ x ∷ [])) then d
 entries_next xs comma x then first between second third = record {
@@ -255,6 +278,7 @@ entries_next xs comma x then first between second third = record {
   levels = levels_entries_pushed _ xs x first.levels second.levels;
 }
 
+-- no tokens are no declarations
 pub entries_none : {room : ℕ} {a : List Token} → AreEntries room a (entries []) false a
 entries_none = record { reads = reads_none; right = tt; ends = tt; levels = omega arith }
 
@@ -263,6 +287,7 @@ follows_unplaced a b [] from follows = follows
 follows_unplaced [] b (x ∷ p) from follows = follows
 follows_unplaced (t ∷ a) b (x ∷ p) from follows = (follows.0, follows.1.1, follows.2)
 
+-- a term without a mark is an expression
 pub unmarked_is : {room from : ℕ} {a b : List Token} {e : Expression} → IsTermOf room a (branch false from e) b → IsExpression room a e b
 unmarked_is {from = from} t = record {
   reads = record { follows = follows_unplaced _ _ _ from t.reads.follows };
@@ -270,6 +295,7 @@ unmarked_is {from = from} t = record {
   levels = t.levels;
 }
 
+-- an expression, with a star before it where it is marked, is a term
 pub term_is : {room : ℕ} {a b c : List Token} {e : Expression} (marked : Bool) (from : ℕ) → Reads a (star_if marked) b → IsPlace b from → IsExpression room b e c → IsTerm marked e
     → IsTermOf room a (branch marked from e) c
 term_is marked from first place second fits = record {

@@ -16,6 +16,7 @@ use Rattle.cue_syntax.proofs.PartsByTheirTokens.{begins, behind, behind_comma, b
 
 -- readers of everything, each with what stands after
 
+-- for each part of the grammar, what it finds first and the tokens after that
 pub record Reader : Type 0 where
   pub unary : List Token → Expression × List Token
   pub parts : List Token → Elements × List Token
@@ -58,28 +59,36 @@ abbrev join_terms : Branch → Branches → Expression
 join_terms b no_branches = value_of b
 join_terms a (next_branch b bs) = disjunction (next_branch a (next_branch b bs))
 
+-- an integer, and the tokens after it
 abbrev pub read_integer : Signed × List Token → Expression × List Token
 read_integer p = (integer p.0, p.1)
 
+-- a bound of this comparison, by the integer after it
 abbrev pub read_bound : Comparison → Signed × List Token → Expression × List Token
 read_bound c p = (bound c p.0, p.1)
 
+-- the bound of a `!=`, by the string or the integer after it
 abbrev pub read_other : Bool → List Token → Expression × List Token
 read_other true ts = (other_text (text_of ts), behind ts)
 read_other false ts = (other_integer (signed ts).0, (signed ts).1)
 
+-- an expression in parentheses, up to the closing one
 abbrev pub read_parenthesis : Expression × List Token → Expression × List Token
 read_parenthesis p = (parenthesis p.0 (first is_comma p.1), behind (behind_comma p.1))
 
+-- declarations in braces, up to the closing one
 abbrev pub read_struct : Entries × List Token → Expression × List Token
 read_struct p = (struct p.0 (first is_comma p.1), behind (behind_comma p.1))
 
+-- the end of a `close(..)`, by whether a comma stands before the parenthesis
 abbrev pub read_close_end : ℕ → Entries → Bool → List Token → Expression × List Token
 read_close_end from es inner ts = (close from es inner (first is_comma ts), behind (behind_comma ts))
 
+-- a `close(..)`, by the declarations in it
 abbrev pub read_close : ℕ → Entries × List Token → Expression × List Token
 read_close from p = read_close_end from p.0 (first is_comma p.1) (behind (behind_comma p.1))
 
+-- a call of `close`, where a parenthesis stands after a name, or else the name
 abbrev pub read_name : Reader → Bool → List ℕ → ℕ → List Token → Expression × List Token
 read_name r true t from ts = read_close from (r.entries (behind (behind ts)))
 read_name r false t from ts = (name (identifiers.Plain t) from, ts)
@@ -89,6 +98,7 @@ abbrev pub read_list_end : Bool → Bool → Elements → List Token → Express
 read_list_end true comma es ts = (list es true (first is_comma (behind ts)), behind (behind_comma (behind ts)))
 read_list_end false comma es ts = (list es false comma, behind ts)
 
+-- a list, by the elements in it
 abbrev pub read_list : Elements × List Token → Expression × List Token
 read_list p = read_list_end (first is_ellipsis (behind_comma p.1)) (first is_comma p.1) p.0 (behind_comma p.1)
 
@@ -111,55 +121,71 @@ unary_at r (kinds.Mark points.OpenBrace) from ts = read_struct (r.entries ts)
 unary_at r (kinds.Mark points.OpenBracket) from ts = read_list (r.elements ts)
 unary_at r _ from ts = (bottom, ts)
 
+-- an operand or a bound
 abbrev pub read_unary : Reader → List Token → Expression × List Token
 read_unary r [] = (bottom, [])
 read_unary r (t ∷ ts) = unary_at r t.kind t.from ts
 
+-- an element before the others
 abbrev pub put_element : Expression → Elements × List Token → Elements × List Token
 put_element e p = (element e p.0, p.1)
 
+-- a term before the others
 abbrev pub put_branch : Branch → Branches × List Token → Branches × List Token
 put_branch b p = (next_branch b p.0, p.1)
 
+-- a declaration before the others
 abbrev pub put_entry : Entry → Entries × List Token → Entries × List Token
 put_entry e p = (entry e p.0, p.1)
 
+-- a label before the others of a chain
 abbrev pub put_label : Label → List Label × Expression × List Token → List Label × Expression × List Token
 put_label l p = (l ∷ p.0, p.1, p.2)
 
+-- a conjunction, where parts come after the first one, or else that one
 abbrev pub put_part : Expression → Elements × List Token → Expression × List Token
 put_part e p = (join_parts e p.0, p.1)
 
+-- a disjunction, where terms come after the first one, or else the expression of that one
 abbrev pub put_term : Branch → Branches × List Token → Expression × List Token
 put_term b p = (join_terms b p.0, p.1)
 
+-- a part, and those after it
 abbrev pub then_parts : Reader → Expression × List Token → Elements × List Token
 then_parts r p = put_element p.0 (r.parts p.1)
 
+-- parts after a first one, as long as `&` stands
 abbrev pub read_parts : Reader → Bool → List Token → Elements × List Token
 read_parts r true ts = then_parts r (r.unary (behind ts))
 read_parts r false ts = (no_elements, ts)
 
+-- a part of a disjunction, by its first part
 abbrev pub read_conjunct : Reader → Expression × List Token → Expression × List Token
 read_conjunct r p = put_part p.0 (r.parts p.1)
 
+-- an expression as a term with this mark and this place
 abbrev pub as_branch : Bool → ℕ → Expression × List Token → Branch × List Token
 as_branch marked from p = (branch marked from p.0, p.1)
 
+-- a term, with a star or without
 abbrev pub read_term : Reader → Bool → List Token → Branch × List Token
 read_term r true ts = as_branch true (place (behind ts)) (r.unary (behind ts))
 read_term r false ts = as_branch false (place ts) (r.conjunct ts)
 
+-- a term, and those after it
 abbrev pub then_terms : Reader → Branch × List Token → Branches × List Token
 then_terms r p = put_branch p.0 (r.terms p.1)
 
+-- terms after a first one, as long as `|` stands
 abbrev pub read_terms : Reader → Bool → List Token → Branches × List Token
 read_terms r true ts = then_terms r (r.term (behind ts))
 read_terms r false ts = (no_branches, ts)
 
+-- an expression, by its first term
 abbrev pub read_expression : Reader → Branch × List Token → Expression × List Token
 read_expression r p = put_term p.0 (r.terms p.1)
 
+-- an element, and those after it
 abbrev pub then_elements : Reader → Expression × List Token → Elements × List Token
 then_elements r p = put_element p.0 (r.more_elements p.1)
 
@@ -173,35 +199,44 @@ abbrev pub read_more_elements : Reader → Bool → List Token → Elements × L
 read_more_elements r true ts = then_elements r (r.expression (behind ts))
 read_more_elements r false ts = (no_elements, ts)
 
+-- an expression as a value with no labels
 abbrev pub no_labels : Expression × List Token → List Label × Expression × List Token
 no_labels p = ([], p.0, p.1)
 
+-- labels, and then an expression
 abbrev pub read_value : Reader → Bool → List Token → List Label × Expression × List Token
 read_value r true ts = no_labels (r.expression ts)
 read_value r false ts = put_label (label_of ts) (r.value (behind_label ts))
 
+-- a value as a field with this label
 abbrev pub as_field : Label → List Label × Expression × List Token → Entry × List Token
 as_field l p = (field l p.0 p.1, p.2)
 
+-- a value as a definition with this name and this place
 abbrev pub as_definition : List ℕ → ℕ → List Label × Expression × List Token → Entry × List Token
 as_definition t from p = (definition t from p.0 p.1, p.2)
 
+-- a declaration, by the kind of its first token
 abbrev pub entry_at : Reader → TokenKind → List Token → Entry × List Token
 entry_at r (kinds.Mark points.Ellipsis) ts = (ellipsis, behind ts)
 entry_at r (kinds.Definition t) ts = as_definition t (place ts) (r.value (behind (behind ts)))
 entry_at r _ ts = as_field (label_of ts) (r.value (behind_label ts))
 
+-- a declaration
 abbrev pub read_entry : Reader → List Token → Entry × List Token
 read_entry r [] = (ellipsis, [])
 read_entry r (t ∷ ts) = entry_at r t.kind (t ∷ ts)
 
+-- a declaration, and those after it
 abbrev pub then_entries : Reader → Entry × List Token → Entries × List Token
 then_entries r p = put_entry p.0 (r.more_entries p.1)
 
+-- declarations from here on
 abbrev pub read_entries : Reader → Bool → List Token → Entries × List Token
 read_entries r true ts = then_entries r (r.entry ts)
 read_entries r false ts = (no_entries, ts)
 
+-- and after a comma, where one is to follow
 abbrev pub read_more_entries : Reader → Bool → List Token → Entries × List Token
 read_more_entries r true ts = then_entries r (r.entry (behind ts))
 read_more_entries r false ts = (no_entries, ts)
@@ -223,16 +258,19 @@ next_reader r = record {
   more_entries = λ ts. read_more_entries r (goes_on_entries ts) ts;
 }
 
+-- the reader that so many levels make
 abbrev pub reader : ℕ → Reader
 reader zero = no_reader
 reader (suc n) = next_reader (reader n)
 
+-- declarations as a text with this clause or none
 abbrev pub as_file : Option Package → Entries × List Token → FileTree
 as_file clause p = record { package_clause = clause; declarations = p.0; comma = first is_comma p.1 }
 
 abbrev package_of : List Token → Package
 package_of ts = record { name = identifier_of ts; comma = first is_comma (behind ts) }
 
+-- a text, with the clause of a package or without
 abbrev pub read_file : Reader → Bool → List Token → FileTree
 read_file r true ts = as_file (Some (package_of (behind ts))) (r.entries (behind_comma (behind (behind ts))))
 read_file r false ts = as_file None (r.entries ts)

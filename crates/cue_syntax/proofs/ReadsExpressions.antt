@@ -44,6 +44,7 @@ conjunct_whole e conjunct looks (suc (suc n)) a b h k s =
 operand_looks : (e : Expression) → Answers e → LooksPlain e
 operand_looks e answers a b h k = (answers (size e) a b h k (omega arith)).1
 
+-- an operand or a bound that the reader finds is found wherever an expression stands
 pub operand_knows : (e : Expression) → 1 ≤ size e → Answers e → Knows e
 operand_knows e some answers =
     let unary = operand_unary e some answers in
@@ -76,6 +77,7 @@ parts_look d e es first_unary first_known a b h k =
     let u = cut (spell d) (spell_more_elements (kinds.Mark points.Ampersand) (element e es)) h in
     first_known.plain (unary_conjunct d first_unary) a u.middle u.left (ends_parts (element e es) u.middle b u.right k)
 
+-- where the reader finds each part of a conjunction, it finds the conjunction
 pub conjunction_knows : (es : Elements) → AreKnown es → AreUnary es → TwoElements es → Knows (conjunction es)
 conjunction_knows no_elements known unary two = absurd two
 conjunction_knows (element d no_elements) known unary two = absurd two
@@ -120,6 +122,7 @@ branch_begins : (marked : Bool) (from : ℕ) (e : Expression) → Knows e → (a
 branch_begins true from e known a c h k = ap begins (head_look (headed (kinds.Mark points.Star) (placed from (spell e)) h).head)
 branch_begins false from e known a c h k = known.begins a c (placed_reads from (spell e) (some_pieces e known) h) k
 
+-- where the reader finds an expression, it finds the term with it
 pub branch_knows : (marked : Bool) (from : ℕ) (e : Expression) → Knows e → IsTerm marked e → KnowsBranch (branch marked from e)
 branch_knows marked from e known fits = record { reads = branch_reads marked from e known fits; begins = branch_begins marked from e known }
 
@@ -141,6 +144,7 @@ terms_begin (next_branch x (next_branch y bs)) known two a b h k =
     let v = headed (kinds.Mark points.Bar) (spell_branch y ++ spell_more_branches bs) u.right in
     known.0.begins a u.middle u.left (unary_ends v.head refl refl)
 
+-- where the reader finds each term of a disjunction, it finds the disjunction
 pub disjunction_knows : (bs : Branches) → AreKnownBranches bs → TwoBranches bs → Knows (disjunction bs)
 disjunction_knows bs known two = record {
   unary = λ u. absurd u;
@@ -160,6 +164,7 @@ name_look : (i : LabelName) → look_at (label_kind i) true ≡ other
 name_look (names.Plain t) = refl
 name_look (names.Quoted t) = refl
 
+-- the mark of a label is seen, and so are the tokens after its colon
 pub record MarkSeen (m : Mark) (a b : List Token) : Type 0 where
   pub mark : mark_of a ≡ m
   pub behind_it : behind_mark_at m a ≡ b
@@ -179,6 +184,7 @@ mark_seen marks.Required a b h =
     let t = headed (kinds.Mark points.Exclamation) (one (kinds.Mark points.Colon)) h in
     record { mark = mark_step t.head; behind_it = ap behind (head_behind t.head) ∙ head_behind (lone (kinds.Mark points.Colon) t.right); marked = head_first is_mark t.head }
 
+-- a label is seen, and so are the tokens after it
 pub record LabelSeen (l : Label) (a b : List Token) : Type 0 where
   pub middle : List Token
   pub head : Head a (label_kind l.name) middle
@@ -236,6 +242,7 @@ ellipsis_reads zero a b h k s = absurd (omega (arith, s))
 ellipsis_reads (suc n) a b h k s =
     let head : Head a (kinds.Mark points.Ellipsis) b = lone (kinds.Mark points.Ellipsis) h in entry_step n head ∙ ap (found ellipsis) (head_behind head)
 
+-- the reader finds `...` as a declaration
 pub ellipsis_knows : KnowsEntry ellipsis
 ellipsis_knows = record {
   reads = ellipsis_reads;
@@ -286,6 +293,7 @@ label_no_clause l a b seen =
     ∙ ap (λ (z : Bool). is_name (label_kind l.name) && not z) (ap (first is_mark) (head_behind seen.head) ∙ seen.marked)
     ∙ name_no_clause l.name
 
+-- where the reader finds an expression, it finds a field with it
 pub field_knows : (l : Label) (chain : List Label) (e : Expression) → Knows e → KnowsEntry (field l chain e)
 field_knows l chain e known = record {
   reads = field_reads l chain e known;
@@ -315,6 +323,7 @@ definition_reads t from chain e known (suc n) a b h k s =
     ∙ ap (λ (z : List Token). as_definition t from ((reader n).value z)) past
     ∙ ap (as_definition t from) rest
 
+-- where the reader finds an expression, it finds a definition with it
 pub definition_knows : (t : List ℕ) (from : ℕ) (chain : List Label) (e : Expression) → Knows e → KnowsEntry (definition t from chain e)
 definition_knows t from chain e known = record {
   reads = definition_reads t from chain e known;

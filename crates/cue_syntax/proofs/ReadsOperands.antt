@@ -28,6 +28,7 @@ unary_step {a = a} {c = c} {kind = kind} n h =
     ∙ ap (λ (k : TokenKind). unary_at (reader n) k h.token.from c) h.kind_is
     ∙ ap (λ (z : List Token). unary_at (reader n) kind (place z) c) (sym h.is)
 
+-- the reader finds each identifier
 pub name_answers : (i : Identifier) (from : ℕ) → Answers (name i from)
 name_answers (identifiers.Plain t) from n a b h k s =
     let head : Head a (kinds.Name t) b = lone (kinds.Name t) (unplaced from (kinds.Name t) [] h) in (
@@ -42,9 +43,11 @@ name_answers (identifiers.Hidden t) from n a b h k s =
     let head : Head a (kinds.Hidden t) b = lone (kinds.Hidden t) (unplaced from (kinds.Hidden t) [] h) in
     (unary_step n head ∙ ap (λ (p : ℕ). found (name (identifiers.Hidden t) p) b) (place_is from (kinds.Hidden t) [] h), head_look head)
 
+-- the reader finds each string
 pub text_answers : (t : List ℕ) → Answers (text t)
 text_answers t n a b h k s = let head = lone (kinds.Text t) h in (unary_step n head, head_look head ∙ ap look_marked k.no_mark)
 
+-- the reader finds `_|_`
 pub bottom_answers : Answers bottom
 bottom_answers n a b h k s = let head = lone kinds.Bottom h in (unary_step n head, head_look head)
 
@@ -86,6 +89,7 @@ integer_step signs.Minus m n a b h =
 integer_step signs.Plus m n a b h =
     let head = (headed (kinds.Mark points.Plus) (one (kinds.Integer m)) h).head in (unary_step n head ∙ ap read_integer (sym (signed_step head)), head_look head)
 
+-- the reader finds each integer
 pub integer_answers : (i : Signed) → Answers (integer i)
 integer_answers i n a b h k s =
     let step = integer_step i.sign i.magnitude n a b h in (step.0 ∙ ap read_integer (signed_is i.sign i.magnitude a b h), step.1)
@@ -102,6 +106,7 @@ bound_look comparisons.AtMost marked = refl
 bound_look comparisons.Greater marked = refl
 bound_look comparisons.AtLeast marked = refl
 
+-- the reader finds each bound of a comparison
 pub bound_answers : (c : Comparison) (i : Signed) → Answers (bound c i)
 bound_answers c i n a b h k s =
     let t = headed (comparison_kind c) (spell_signed i) h in (
@@ -109,6 +114,7 @@ bound_answers c i n a b h k s =
       head_look t.head ∙ bound_look c (first is_mark t.middle),
     )
 
+-- the reader finds each `!=` with an integer
 pub other_integer_answers : (i : Signed) → Answers (other_integer i)
 other_integer_answers i n a b h k s =
     let t = headed (kinds.Mark points.NotEqual) (spell_signed i) h in (
@@ -117,6 +123,7 @@ other_integer_answers i n a b h k s =
       head_look t.head,
     )
 
+-- the reader finds each `!=` with a string
 pub other_text_answers : (x : List ℕ) → Answers (other_text x)
 other_text_answers x n a b h k s =
     let t = headed (kinds.Mark points.NotEqual) (one (kinds.Text x)) h in
@@ -153,6 +160,7 @@ closes comma h last no_comma k =
     let none = head_first is_comma last ∙ no_comma in
     record { seen = comma_seen comma h none; behind_it = ap behind (comma_behind comma h none) ∙ head_behind last; ends = comma_ends comma h (ends last k) }
 
+-- where the reader finds an expression, it finds it in parentheses
 pub parenthesis_answers : (e : Expression) (comma : Bool) → Knows e → Answers (parenthesis e comma)
 parenthesis_answers e comma known n a b h k s =
     let t = headed (kinds.Mark points.OpenParenthesis) (spell e ++ comma_if comma ++ one (kinds.Mark points.CloseParenthesis)) h in
@@ -166,6 +174,7 @@ parenthesis_answers e comma known n a b h k s =
       head_look t.head,
     )
 
+-- the reader finds the declarations, and sees the comma and the closing brace after them
 pub record Braces (es : Entries) (comma : Bool) (n : ℕ) (a b : List Token) : Type 0 where
   pub middle : List Token
   pub reads : (reader n).entries a ≡ (es, middle)
@@ -181,6 +190,7 @@ braces {a = a} {b = b} es comma n known h s =
     let row = entries_row comma v.right (head_first is_entry last) (head_first is_comma last) (ends last brace_end) in
     record { middle = v.middle; reads = entries_known es known n a v.middle v.left row s; closes = closes comma v.right last refl brace_end }
 
+-- where the reader finds each of some declarations, it finds them in braces
 pub struct_answers : (es : Entries) (comma : Bool) → AreKnownEntries es → Answers (struct es comma)
 struct_answers es comma known n a b h k s =
     let t = headed (kinds.Mark points.OpenBrace) (spell_entries es ++ comma_if comma ++ one (kinds.Mark points.CloseBrace)) h in
@@ -191,6 +201,7 @@ struct_answers es comma known n a b h k s =
       head_look t.head,
     )
 
+-- where the reader finds each of some declarations, it finds them in `close({..})`
 pub close_answers : (from : ℕ) (es : Entries) (inner comma : Bool) → AreKnownEntries es → Answers (close from es inner comma)
 close_answers from es inner comma known n a b h k s =
     let word = kinds.Name (codes "close") in
@@ -221,6 +232,7 @@ close_answers from es inner comma known n a b h k s =
 comma_reads : {a c : List Token} → Head a (kinds.Mark points.Comma) c → Reads a (comma_if true) c
 comma_reads {c = c} h = subst (λ (z : List Token). Reads z (comma_if true) c) (sym h.is) (record { follows = (h.kind_is, tt, refl) })
 
+-- elements end here, and what stands here up to the bracket is read as the end of their list
 pub record ListEnds (es : Elements) (goes_on comma : Bool) (a b : List Token) : Type 0 where
   pub row : EndsElementsRow a
   pub reads : read_list (es, a) ≡ (list es goes_on comma, b)
@@ -266,6 +278,7 @@ list_ends (element e es) true comma a b c d h then last =
           ∙ list_goes_on (element e es) comma (first is_comma a) t.middle b c d dots then last;
     }
 
+-- where the reader finds each of some elements, it finds them in brackets
 pub list_answers : (es : Elements) (goes_on comma : Bool) → AreKnown es → Answers (list es goes_on comma)
 list_answers es goes_on comma known n a b h k s =
     let t = headed (kinds.Mark points.OpenBracket) (spell_elements (kinds.Mark points.Comma) es ++ spell_rest es goes_on ++ comma_if comma ++ one (kinds.Mark points.CloseBracket)) h in

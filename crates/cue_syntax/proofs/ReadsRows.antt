@@ -10,6 +10,7 @@ use Rattle.cue_syntax.proofs.PartsByTheirTokens.{is_and, is_or, is_comma, is_ent
 use Rattle.cue_syntax.proofs.ReaderOfTrees.{reader, read_parts, then_parts, read_terms, then_terms, put_element, put_branch, put_entry, read_elements, read_more_elements, then_elements, read_entries, read_more_entries, then_entries, size, size_of_elements, size_of_branch, size_of_branches, size_of_entry, size_of_entries}
 use Rattle.cue_syntax.proofs.ReadingsCut.{cut, headed, head_first, head_behind, EndsUnary, EndsConjunct, EndsExpression, EndsElementsRow, EndsEntriesRow, unary_ends, conjunct_ends, ends, comma_end}
 
+-- what was found, and the tokens after it
 abbrev pub found : {A : Type 0} → A → List Token → A × List Token
 found e b = (e, b)
 
@@ -17,15 +18,19 @@ found e b = (e, b)
 abbrev pub ReadsUnary : Expression → Type 0
 ReadsUnary e = (n : ℕ) (a b : List Token) → Reads a (spell e) b → EndsUnary b → size e ≤ n → (reader n).unary a ≡ (e, b)
 
+-- what reading it as a part of a disjunction is
 abbrev pub ReadsConjunct : Expression → Type 0
 ReadsConjunct e = (n : ℕ) (a b : List Token) → Reads a (spell e) b → EndsConjunct b → 1 + size e ≤ n → (reader n).conjunct a ≡ (e, b)
 
+-- what reading it by itself is
 abbrev pub ReadsWhole : Expression → Type 0
 ReadsWhole e = (n : ℕ) (a b : List Token) → Reads a (spell e) b → EndsExpression b → 3 + size e ≤ n → (reader n).expression a ≡ (e, b)
 
+-- tokens that spell it begin neither with a star nor as a label does
 abbrev pub LooksPlain : Expression → Type 0
 LooksPlain e = (a b : List Token) → Reads a (spell e) b → EndsUnary b → look a ≡ plain
 
+-- the reader finds the expression wherever it may stand
 pub record Knows (e : Expression) : Type 0 where
   pub unary : IsUnary e → ReadsUnary e
   pub conjunct : IsConjunct e → ReadsConjunct e
@@ -33,38 +38,46 @@ pub record Knows (e : Expression) : Type 0 where
   pub plain : IsConjunct e → LooksPlain e
   pub begins : (a b : List Token) → Reads a (spell e) b → EndsUnary b → begins (look a) ≡ true
 
+-- the reader finds the term
 pub record KnowsBranch (b : Branch) : Type 0 where
   pub reads : (n : ℕ) (a c : List Token) → Reads a (spell_branch b) c → EndsConjunct c → size_of_branch b ≤ n → (reader n).term a ≡ (b, c)
   pub begins : (a c : List Token) → Reads a (spell_branch b) c → EndsUnary c → begins (look a) ≡ true
 
+-- the reader finds the declaration
 pub record KnowsEntry (e : Entry) : Type 0 where
   pub reads : (n : ℕ) (a b : List Token) → Reads a (spell_entry e) b → EndsExpression b → size_of_entry e ≤ n → (reader n).entry a ≡ (e, b)
   pub begins : (a b : List Token) → Reads a (spell_entry e) b → first is_entry a ≡ true
   pub no_comma : (a b : List Token) → Reads a (spell_entry e) b → first is_comma a ≡ false
   pub no_clause : (a b : List Token) → Reads a (spell_entry e) b → is_clause a ≡ false
 
+-- the reader finds each of the elements
 abbrev pub AreKnown : Elements → Type 0
 AreKnown no_elements = Unit {0}
 AreKnown (element e es) = Knows e × AreKnown es
 
+-- the reader finds each of the terms
 abbrev pub AreKnownBranches : Branches → Type 0
 AreKnownBranches no_branches = Unit {0}
 AreKnownBranches (next_branch b bs) = KnowsBranch b × AreKnownBranches bs
 
+-- the reader finds each of the declarations
 abbrev pub AreKnownEntries : Entries → Type 0
 AreKnownEntries no_entries = Unit {0}
 AreKnownEntries (entry e es) = KnowsEntry e × AreKnownEntries es
 
 -- parts after `&`
 
+-- where no `&` stands, the reader finds no further parts
 pub no_more_parts : (n : ℕ) (b : List Token) → 1 ≤ n → first is_and b ≡ false → (reader n).parts b ≡ (no_elements, b)
 no_more_parts zero b s none = absurd (omega arith)
 no_more_parts (suc n) b s none = ap (λ (z : Bool). read_parts (reader n) z b) none
 
+-- further parts or none, and then what may follow an operand or a bound, may follow one
 pub ends_parts : (es : Elements) (b c : List Token) → Reads b (spell_more_elements (kinds.Mark points.Ampersand) es) c → EndsUnary c → EndsUnary b
 ends_parts no_elements b c h k = subst EndsUnary (sym h.follows) k
 ends_parts (element e es) b c h k = unary_ends (headed (kinds.Mark points.Ampersand) (spell e ++ spell_more_elements (kinds.Mark points.Ampersand) es) h).head refl refl
 
+-- the reader finds further parts up to what may follow them
 pub more_parts : (es : Elements) → AreKnown es → AreUnary es → (n : ℕ) (a b : List Token) → Reads a (spell_more_elements (kinds.Mark points.Ampersand) es) b
     → EndsConjunct b → size_of_elements es ≤ n → (reader n).parts a ≡ (es, b)
 more_parts no_elements known unary n a b h k s =
@@ -82,14 +95,17 @@ more_parts (element e es) known unary (suc n) a b h k s =
 
 -- terms after `|`
 
+-- where no `|` stands, the reader finds no further terms
 pub no_more_terms : (n : ℕ) (b : List Token) → 1 ≤ n → first is_or b ≡ false → (reader n).terms b ≡ (no_branches, b)
 no_more_terms zero b s none = absurd (omega arith)
 no_more_terms (suc n) b s none = ap (λ (z : Bool). read_terms (reader n) z b) none
 
+-- further terms or none, and then what may follow a part of a disjunction, may follow one
 pub ends_terms : (bs : Branches) (b c : List Token) → Reads b (spell_more_branches bs) c → EndsConjunct c → EndsConjunct b
 ends_terms no_branches b c h k = subst EndsConjunct (sym h.follows) k
 ends_terms (next_branch x bs) b c h k = conjunct_ends (headed (kinds.Mark points.Bar) (spell_branch x ++ spell_more_branches bs) h).head refl refl refl
 
+-- the reader finds further terms up to what may follow them
 pub more_terms : (bs : Branches) → AreKnownBranches bs → (n : ℕ) (a b : List Token) → Reads a (spell_more_branches bs) b
     → EndsExpression b → size_of_branches bs ≤ n → (reader n).terms a ≡ (bs, b)
 more_terms no_branches known n a b h k s =
@@ -133,6 +149,7 @@ more_elements (element e es) known (suc n) a b h k s =
     ∙ ap (then_elements (reader n)) inner
     ∙ ap (put_element e) rest
 
+-- the reader finds elements up to what may follow them
 pub elements_known : (es : Elements) → AreKnown es → (n : ℕ) (a b : List Token) → Reads a (spell_elements (kinds.Mark points.Comma) es) b
     → EndsElementsRow b → size_of_elements es ≤ n → (reader n).elements a ≡ (es, b)
 elements_known no_elements known zero a b h k s = absurd (omega (arith, s))
@@ -175,6 +192,7 @@ more_entries (entry e es) known (suc n) a b h k s =
     ∙ ap (then_entries (reader n)) inner
     ∙ ap (put_entry e) rest
 
+-- the reader finds declarations up to what may follow them
 pub entries_known : (es : Entries) → AreKnownEntries es → (n : ℕ) (a b : List Token) → Reads a (spell_entries es) b
     → EndsEntriesRow b → size_of_entries es ≤ n → (reader n).entries a ≡ (es, b)
 entries_known no_entries known zero a b h k s = absurd (omega (arith, s))

@@ -33,6 +33,7 @@ drop_read : (read at : List Token) → drop (length read) (read ++ at) ≡ at
 drop_read [] at = refl
 drop_read (t ∷ read) at = drop_read read at
 
+-- without the tokens before a place, those from the place on are left
 pub at_drop : {tokens at : List Token} (inside : IsEnd tokens at) → drop (length inside.read) tokens ≡ at
 at_drop {at = at} inside = ap (drop (length inside.read)) inside.is ∙ drop_read inside.read at
 

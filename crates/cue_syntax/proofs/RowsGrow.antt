@@ -13,6 +13,7 @@ use Rattle.cue_syntax.specs.Grammar.{IsRight, AreRight, IsUnary, AreUnary, IsRig
 use Rattle.cue_syntax.specs.Syntax.{expression, branch_tree, entry_tree, elements, branches, entries}
 use Rattle.cue_syntax.proofs.ReadingsJoin.{reads_then}
 
+-- equal pieces are read from the same tokens
 pub reads_same : {a b : List Token} {p q : List Piece} → p ≡ q → Reads a p b → Reads a q b
 reads_same {a = a} {b = b} is reads = subst (λ z. Reads a z b) is reads
 
@@ -21,6 +22,7 @@ labels_pushed : (xs : List Label) (x : Label) → flat_map spell_label xs ++ spe
 labels_pushed [] x = sym (append-nil (spell_label x))
 labels_pushed (y ∷ ys) x = append_assoc (spell_label y) (flat_map spell_label ys) (spell_label x) ∙ ap (λ z. spell_label y ++ z) (labels_pushed ys x)
 
+-- labels and then one more are read as a chain that is longer by one
 pub labels_push : {a b c : List Token} (xs : List Label) (x : Label) → Reads a (flat_map spell_label xs) b → Reads b (spell_label x) c → Reads a (flat_map spell_label (xs ++ x ∷ [])) c
 labels_push xs x first second = reads_same (labels_pushed xs x) (reads_then first second)
 
@@ -32,6 +34,7 @@ more_elements_pushed sign (y ∷ ys) x =
     append_assoc (one sign ++ spell (expression y)) (spell_more_elements sign (elements ys)) (one sign ++ spell (expression x))
     ∙ ap (λ z. (one sign ++ spell (expression y)) ++ z) (more_elements_pushed sign ys x)
 
+-- elements, a sign and one more are spelled as the row that is longer by one
 pub elements_pushed : (sign : TokenKind) (y : Expr) (ys : List Expr) (x : Expr)
     → (spell_elements sign (elements (y ∷ ys)) ++ one sign) ++ spell (expression x) ≡ spell_elements sign (elements ((y ∷ ys) ++ x ∷ []))
 elements_pushed sign y ys x =
@@ -39,14 +42,17 @@ elements_pushed sign y ys x =
     ∙ append_assoc (spell (expression y)) (spell_more_elements sign (elements ys)) (one sign ++ spell (expression x))
     ∙ ap (λ z. spell (expression y) ++ z) (more_elements_pushed sign ys x)
 
+-- elements that follow the grammar do so with one more that does
 pub right_pushed : (xs : List Expr) (x : Expr) → AreRight (elements xs) → IsRight (expression x) → AreRight (elements (xs ++ x ∷ []))
 right_pushed [] x all last = (last, tt)
 right_pushed (y ∷ ys) x all last = (all.0, right_pushed ys x all.1 last)
 
+-- where no element is a conjunction or a disjunction, none is with one more that isn't
 pub unary_pushed : (xs : List Expr) (x : Expr) → AreUnary (elements xs) → IsUnary (expression x) → AreUnary (elements (xs ++ x ∷ []))
 unary_pushed [] x all last = (last, tt)
 unary_pushed (y ∷ ys) x all last = (all.0, unary_pushed ys x all.1 last)
 
+-- elements that keep within some levels do so with one more that does
 pub levels_pushed : (room : ℕ) (xs : List Expr) (x : Expr) → levels_of_elements (elements xs) ≤ room → levels (expression x) ≤ room → levels_of_elements (elements (xs ++ x ∷ [])) ≤ room
 levels_pushed room [] x all last = omega arith
 levels_pushed room (y ∷ ys) x all last = let inner : levels_of_elements (elements (ys ++ x ∷ [])) ≤ room = levels_pushed room ys x (omega arith) last in omega arith
@@ -59,6 +65,7 @@ more_branches_pushed (y ∷ ys) x =
     append_assoc (one (kinds.Mark points.Bar) ++ spell_branch (branch_tree y)) (spell_more_branches (branches ys)) (one (kinds.Mark points.Bar) ++ spell_branch (branch_tree x))
     ∙ ap (λ z. (one (kinds.Mark points.Bar) ++ spell_branch (branch_tree y)) ++ z) (more_branches_pushed ys x)
 
+-- terms, `|` and one more are spelled as the row that is longer by one
 pub branches_pushed : (y : Term) (ys : List Term) (x : Term)
     → (spell_branches (branches (y ∷ ys)) ++ one (kinds.Mark points.Bar)) ++ spell_branch (branch_tree x) ≡ spell_branches (branches ((y ∷ ys) ++ x ∷ []))
 branches_pushed y ys x =
@@ -66,10 +73,12 @@ branches_pushed y ys x =
     ∙ append_assoc (spell_branch (branch_tree y)) (spell_more_branches (branches ys)) (one (kinds.Mark points.Bar) ++ spell_branch (branch_tree x))
     ∙ ap (λ z. spell_branch (branch_tree y) ++ z) (more_branches_pushed ys x)
 
+-- terms that follow the grammar do so with one more that does
 pub right_branches_pushed : (xs : List Term) (x : Term) → AreRightBranches (branches xs) → IsRightBranch (branch_tree x) → AreRightBranches (branches (xs ++ x ∷ []))
 right_branches_pushed [] x all last = (last, tt)
 right_branches_pushed (y ∷ ys) x all last = (all.0, right_branches_pushed ys x all.1 last)
 
+-- terms that keep within some levels do so with one more that does
 pub levels_branches_pushed : (room : ℕ) (xs : List Term) (x : Term) → levels_of_branches (branches xs) ≤ room → levels_of_branch (branch_tree x) ≤ room
     → levels_of_branches (branches (xs ++ x ∷ [])) ≤ room
 levels_branches_pushed room [] x all last = omega arith
@@ -83,6 +92,7 @@ more_entries_pushed (y ∷ ys) x =
     append_assoc (one (kinds.Mark points.Comma) ++ spell_entry (entry_tree y)) (spell_more_entries (entries ys)) (one (kinds.Mark points.Comma) ++ spell_entry (entry_tree x))
     ∙ ap (λ z. (one (kinds.Mark points.Comma) ++ spell_entry (entry_tree y)) ++ z) (more_entries_pushed ys x)
 
+-- declarations, a comma and one more are spelled as the row that is longer by one
 pub entries_pushed : (y : Declaration) (ys : List Declaration) (x : Declaration)
     → (spell_entries (entries (y ∷ ys)) ++ one (kinds.Mark points.Comma)) ++ spell_entry (entry_tree x) ≡ spell_entries (entries ((y ∷ ys) ++ x ∷ []))
 entries_pushed y ys x =
@@ -90,14 +100,17 @@ entries_pushed y ys x =
     ∙ append_assoc (spell_entry (entry_tree y)) (spell_more_entries (entries ys)) (one (kinds.Mark points.Comma) ++ spell_entry (entry_tree x))
     ∙ ap (λ z. spell_entry (entry_tree y) ++ z) (more_entries_pushed ys x)
 
+-- declarations that follow the grammar do so with one more that does
 pub right_entries_pushed : (xs : List Declaration) (x : Declaration) → AreRightEntries (entries xs) → IsRightEntry (entry_tree x) → AreRightEntries (entries (xs ++ x ∷ []))
 right_entries_pushed [] x all last = (last, tt)
 right_entries_pushed (y ∷ ys) x all last = (all.0, right_entries_pushed ys x all.1 last)
 
+-- declarations that may stand in braces may do so with one more that may
 pub nested_pushed : (xs : List Declaration) (x : Declaration) → AreNested (entries xs) → IsNested (entry_tree x) → AreNested (entries (xs ++ x ∷ []))
 nested_pushed [] x all last = (last, tt)
 nested_pushed (y ∷ ys) x all last = (all.0, nested_pushed ys x all.1 last)
 
+-- declarations that keep within some levels do so with one more that does
 pub levels_entries_pushed : (room : ℕ) (xs : List Declaration) (x : Declaration) → levels_of_entries (entries xs) ≤ room → levels_of_entry (entry_tree x) ≤ room
     → levels_of_entries (entries (xs ++ x ∷ [])) ≤ room
 levels_entries_pushed room [] x all last = omega arith

@@ -56,6 +56,7 @@ parenthesis_same spots.CloseName _ there back = absurd (there tt)
 parenthesis_same _ spots.CloseName there back = absurd (back tt)
 parenthesis_same _ _ there back = refl
 
+-- spots that agree on being the name of a `close` lead to the same spot after a token
 pub spot_same : (inside : Option Inside) (s r : Spot) (kind : TokenKind) → (IsCloseName s → IsCloseName r) → (IsCloseName r → IsCloseName s) → spot_after inside s kind ≡ spot_after inside r kind
 spot_same inside s r (kinds.Mark points.OpenParenthesis) there back = parenthesis_same s r there back
 spot_same inside s r _ there back = refl

@@ -21,21 +21,26 @@ use Rattle.cue_syntax.proofs.EachStackEnds.{keeps_from, reads_kind}
 use Rattle.cue_syntax.proofs.ExpressionsByParts.{unary_parts, next_part, conjunct_term, star_term, next_term, some_terms, term_terms, conjunct_terms, name_unary, definition_unary, hidden_unary, text_unary, bottom_unary, signed_unary, integer_signed, minus_signed, plus_signed, bound_unary, other_unary, parenthesis_unary, struct_unary, list_unary, close_unary}
 use Rattle.cue_syntax.proofs.DeclarationsByParts.{expression_value, chained_value}
 
+-- the token, and then what is ahead after it, was ahead of the goals
 abbrev pub Before : Limit → Token → Stack → Option Stack → Type 0
 Before limit t goals None = ⊤
 Before limit t goals (Some next) = (a : List Token) → Ahead limit next a → Ahead limit goals (t ∷ a)
 
+-- where all that is ahead of one stack is ahead of another, so is a token and what is ahead after it
 pub through : (limit : Limit) (t : Token) (others goals : Stack) (o : Option Stack) → ((a : List Token) → Ahead limit others a → Ahead limit goals a) → Before limit t others o → Before limit t goals o
 through limit t others goals None change before = tt
 through limit t others goals (Some next) change before = λ a ahead. change (t ∷ a) (before a ahead)
 
 -- what may be left out
+-- there may be no further parts
 pub no_parts : {limit : Limit} {n : ℕ} {a : List Token} → Keeps limit n → MoreParts limit n a a
 no_parts keeps = record { part = no_elements; reads = reads_none; good = (tt, tt); within = keeps_from keeps (omega arith) }
 
+-- there may be no further terms
 pub no_terms : {limit : Limit} {n : ℕ} {a : List Token} → Keeps limit n → MoreTerms limit n a a
 no_terms keeps = record { part = no_branches; reads = reads_none; good = tt; within = keeps_from keeps (omega arith) }
 
+-- bytes that pass the test for a word are that word
 pub word_is : (word w : List ℕ) → is_word word w ≡ true → w ≡ word
 word_is word w is = same_text w word (sym is)
 
@@ -57,6 +62,7 @@ integer_before limit t n sign goals others reads = by_range (nat_le n (greatest 
     by_range true fits = reads (leb-true n (greatest sign) fits)
     by_range false fits = tt
 
+-- a token that an operand takes, and what is ahead after it, were ahead of the operand
 pub unary_before : (limit : Limit) (t : Token) (goals : Stack) (kind : TokenKind) → t.kind ≡ kind → Keeps limit (beneath goals) → Before limit t (Goal.unary ∷ goals) (take_unary goals kind)
 unary_before limit t goals (kinds.Name w) is keeps = name_before limit t goals w is keeps
 unary_before limit t goals (kinds.Definition w) is keeps = λ a ahead. (a, definition_unary t w is keeps, ahead)
@@ -76,28 +82,33 @@ unary_before limit t goals (kinds.Mark points.OpenBrace) is keeps = λ a ahead. 
 unary_before limit t goals (kinds.Mark points.OpenBracket) is keeps = λ a ahead. (ahead.0, list_unary t is ahead.1, ahead.2)
 unary_before limit t goals _ is keeps = tt
 
+-- a token that an integer takes, and what is ahead after it, were ahead of the integer
 pub signed_before : (limit : Limit) (t : Token) (goals : Stack) (kind : TokenKind) → t.kind ≡ kind → Before limit t (Goal.signed ∷ goals) (take_signed goals kind)
 signed_before limit t goals (kinds.Integer n) is = integer_before limit t n signs.Absent goals (Goal.signed ∷ goals) (λ range a ahead. (a, integer_signed t n is range, ahead))
 signed_before limit t goals (kinds.Mark points.Minus) is = λ a ahead. (ahead.0, minus_signed t is ahead.1, ahead.2)
 signed_before limit t goals (kinds.Mark points.Plus) is = λ a ahead. (ahead.0, plus_signed t is ahead.1, ahead.2)
 signed_before limit t goals _ is = tt
 
+-- a token that is taken after `!=`, and what is ahead after it, were ahead there
 pub signed_or_text_before : (limit : Limit) (t : Token) (goals : Stack) (behind : Option Stack) (kind : TokenKind) → t.kind ≡ kind
     → Before limit t (Goal.signed_or_text ∷ goals) (take Goal.signed_or_text goals behind kind)
 signed_or_text_before limit t goals behind (kinds.Text w) is = λ a ahead. (a, inr (record { part = w; reads = reads_kind t is reads_none }), ahead)
 signed_or_text_before limit t goals behind kind is = through limit t (Goal.signed ∷ goals) (Goal.signed_or_text ∷ goals) (take_signed goals kind) (λ a ahead. (ahead.0, inl ahead.1, ahead.2)) (signed_before limit t goals kind is)
 
+-- a token that is taken after a sign, and what is ahead after it, were ahead there
 pub magnitude_before : (limit : Limit) (t : Token) (sign : Sign) (goals : Stack) (behind : Option Stack) (kind : TokenKind) → t.kind ≡ kind → Before limit t (Goal.magnitude sign ∷ goals) (take (Goal.magnitude sign) goals behind kind)
 magnitude_before limit t sign goals behind (kinds.Integer n) is = integer_before limit t n sign goals (Goal.magnitude sign ∷ goals) (λ range a ahead. (a, record { part = n; reads = reads_kind t is reads_none; range = range }, ahead))
 magnitude_before limit t sign goals behind _ is = tt
 
 -- expressions
+-- a token that a term takes, and what is ahead after it, were ahead of the term
 pub term_before : (limit : Limit) (t : Token) (goals : Stack) (kind : TokenKind) → t.kind ≡ kind → Keeps limit (beneath goals) → Before limit t (Goal.term ∷ goals) (take_term goals kind)
 term_before limit t goals (kinds.Mark points.Star) is keeps = λ a ahead. (ahead.0, star_term t is ahead.1, ahead.2)
 term_before limit t goals kind is keeps = through limit t (Goal.unary ∷ Goal.more_parts ∷ goals) (Goal.term ∷ goals) (take_unary (Goal.more_parts ∷ goals) kind)
     (λ a ahead. (ahead.2.0, conjunct_term (unary_parts ahead.1 ahead.2.1), ahead.2.2))
     (unary_before limit t (Goal.more_parts ∷ goals) kind is keeps)
 
+-- a token that an expression takes, and what is ahead after it, were ahead of the expression
 pub expression_before : (limit : Limit) (t : Token) (goals : Stack) (kind : TokenKind) → t.kind ≡ kind → Keeps limit (beneath goals) → Before limit t (Goal.expression ∷ goals) (take_expression goals kind)
 expression_before limit t goals (kinds.Mark points.Star) is keeps = λ a ahead. (ahead.2.0, term_terms (star_term t is ahead.1) ahead.2.1, ahead.2.2)
 expression_before limit t goals kind is keeps =
@@ -105,15 +116,18 @@ expression_before limit t goals kind is keeps =
     (λ a ahead. (ahead.2.2.0, conjunct_terms (unary_parts ahead.1 ahead.2.1) ahead.2.2.1, ahead.2.2.2))
     (unary_before limit t (Goal.more_parts ∷ Goal.more_terms ∷ goals) kind is keeps)
 
+-- a token that further parts take or leave to those below, and what is ahead after it, were ahead of them
 pub more_parts_before : (limit : Limit) (t : Token) (goals : Stack) (behind : Option Stack) (kind : TokenKind) → t.kind ≡ kind → Keeps limit (beneath goals) → Before limit t goals behind
     → Before limit t (Goal.more_parts ∷ goals) (take Goal.more_parts goals behind kind)
 more_parts_before limit t goals behind (kinds.Mark points.Ampersand) is keeps before = λ a ahead. (ahead.2.0, next_part t is ahead.1 ahead.2.1, ahead.2.2)
 more_parts_before limit t goals behind _ is keeps before = through limit t goals (Goal.more_parts ∷ goals) behind (λ a ahead. (a, no_parts keeps, ahead)) before
 
+-- a token that is taken after a marked first term, and what is ahead after it, were ahead there
 pub bar_before : (limit : Limit) (t : Token) (goals : Stack) (behind : Option Stack) (kind : TokenKind) → t.kind ≡ kind → Before limit t (Goal.bar ∷ goals) (take Goal.bar goals behind kind)
 bar_before limit t goals behind (kinds.Mark points.Bar) is = λ a ahead. (ahead.2.0, next_term t is ahead.1 ahead.2.1, ahead.2.2)
 bar_before limit t goals behind _ is = tt
 
+-- a token that further terms take or leave to those below, and what is ahead after it, were ahead of them
 pub more_terms_before : (limit : Limit) (t : Token) (goals : Stack) (behind : Option Stack) (kind : TokenKind) → t.kind ≡ kind → Keeps limit (beneath goals) → Before limit t goals behind
     → Before limit t (Goal.more_terms ∷ goals) (take Goal.more_terms goals behind kind)
 more_terms_before limit t goals behind (kinds.Mark points.Bar) is keeps before = λ a ahead. (ahead.2.0, some_terms (next_term t is ahead.1 ahead.2.1), ahead.2.2)
@@ -127,16 +141,19 @@ operand_before limit t goals behind _ is keeps before =
     through limit t goals (Goal.more_parts ∷ Goal.more_terms ∷ goals) behind (λ a ahead. (a, no_parts keeps, (a, no_terms keeps, ahead))) before
 
 -- values
+-- a token that is taken after a label's name, and what is ahead after it, were ahead there
 pub mark_before : (limit : Limit) (t : Token) (goals : Stack) (kind : TokenKind) → t.kind ≡ kind → Before limit t (Goal.mark ∷ goals) (take_mark goals kind)
 mark_before limit t goals (kinds.Mark points.Colon) is = λ a ahead. (a, record { part = marks.Regular; reads = reads_kind t is reads_none }, ahead)
 mark_before limit t goals (kinds.Mark points.Question) is = λ a ahead. (ahead.0, record { part = marks.Optional; reads = reads_kind t is ahead.1 }, ahead.2)
 mark_before limit t goals (kinds.Mark points.Exclamation) is = λ a ahead. (ahead.0, record { part = marks.Required; reads = reads_kind t is ahead.1 }, ahead.2)
 mark_before limit t goals _ is = tt
 
+-- a token that is taken as a colon, and what is ahead after it, were ahead there
 pub colon_before : (limit : Limit) (t : Token) (goals : Stack) (behind : Option Stack) (kind : TokenKind) → t.kind ≡ kind → Before limit t (Goal.colon ∷ goals) (take Goal.colon goals behind kind)
 colon_before limit t goals behind (kinds.Mark points.Colon) is = λ a ahead. (a, reads_kind t is reads_none, ahead)
 colon_before limit t goals behind _ is = tt
 
+-- a token that a value takes, and what is ahead after it, were ahead of the value
 pub value_before : (limit : Limit) (t : Token) (goals : Stack) (kind : TokenKind) → t.kind ≡ kind → Keeps limit (beneath goals) → Before limit t (Goal.value ∷ goals) (take_value goals kind)
 value_before limit t goals (kinds.Name w) is keeps = λ a ahead. (ahead.0, ahead.1 t is, ahead.2)
 value_before limit t goals (kinds.Text w) is keeps = λ a ahead. (ahead.0, ahead.1 t w is, ahead.2)
@@ -167,6 +184,7 @@ pub name_operand : (limit : Limit) (goals : Stack) (w : List ℕ) → is_keyword
     → Ahead limit (Goal.more_parts ∷ Goal.more_terms ∷ goals) a → Ahead limit (Goal.value_name w ∷ goals) a
 name_operand limit goals w other keeps a ahead = (ahead.2.0, λ first kind. expression_value (conjunct_terms (unary_parts (name_unary first w kind other keeps) ahead.1) ahead.2.1), ahead.2.2)
 
+-- what is ahead after a string that is an operand is ahead after one that begins a value
 pub text_operand : (limit : Limit) (goals : Stack) → Keeps limit (beneath goals) → (a : List Token) → Ahead limit (Goal.more_parts ∷ Goal.more_terms ∷ goals) a → Ahead limit (Goal.value_text ∷ goals) a
 text_operand limit goals keeps a ahead = (ahead.2.0, λ first w kind. expression_value (conjunct_terms (unary_parts (text_unary first w kind keeps) ahead.1) ahead.2.1), ahead.2.2)
 
@@ -187,6 +205,7 @@ behind_name_before limit t goals w behind kind is keeps before = by_word (is_key
     by_word false other = through limit t (Goal.more_parts ∷ Goal.more_terms ∷ goals) (Goal.value_name w ∷ goals) (take_behind_operand goals behind kind) (name_operand limit goals w other keeps)
         (operand_before limit t goals behind kind is keeps before)
 
+-- a token that is taken after a name that begins a value, and what is ahead after it, were ahead there
 pub value_name_before : (limit : Limit) (t : Token) (goals : Stack) (w : List ℕ) (behind : Option Stack) (kind : TokenKind) → t.kind ≡ kind → Keeps limit (beneath goals) → Before limit t goals behind
     → Before limit t (Goal.value_name w ∷ goals) (take_value_name w goals behind kind)
 value_name_before limit t goals w behind (kinds.Mark points.Colon) is keeps before = name_mark limit t goals w (kinds.Mark points.Colon) is
@@ -194,6 +213,7 @@ value_name_before limit t goals w behind (kinds.Mark points.Question) is keeps b
 value_name_before limit t goals w behind (kinds.Mark points.Exclamation) is keeps before = name_mark limit t goals w (kinds.Mark points.Exclamation) is
 value_name_before limit t goals w behind kind is keeps before = behind_name_before limit t goals w behind kind is keeps before
 
+-- a token that is taken after a string that begins a value, and what is ahead after it, were ahead there
 pub value_text_before : (limit : Limit) (t : Token) (goals : Stack) (behind : Option Stack) (kind : TokenKind) → t.kind ≡ kind → Keeps limit (beneath goals) → Before limit t goals behind
     → Before limit t (Goal.value_text ∷ goals) (take_value_text goals behind kind)
 value_text_before limit t goals behind (kinds.Mark points.Colon) is keeps before = text_mark limit t goals (kinds.Mark points.Colon) is

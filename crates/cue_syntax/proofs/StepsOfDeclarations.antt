@@ -158,6 +158,7 @@ take_before limit t Goal.more_elements goals behind kind is keeps low before = m
 take_before limit t Goal.bracket goals behind kind is keeps low before = bracket_before limit t goals behind kind is
 take_before limit t Goal.bracket_end goals behind kind is keeps low before = bracket_end_before limit t goals behind kind is
 
+-- a token that a stack takes, and what is ahead after it, were ahead of the stack
 pub step_before : (limit : Limit) (t : Token) (goals : Stack) → Keeps limit (beneath goals) → Before limit t goals (step goals t.kind)
 step_before limit t [] keeps = tt
 step_before limit t (goal ∷ goals) keeps =

@@ -14,6 +14,7 @@ use Rattle.cue_syntax.specs.Spelling.{Piece, Reads, one, comma_if, spell_mark, s
 use Rattle.cue_syntax.specs.Grammar.{IsRight, IsUnary, IsConjunct, AreRight, AreUnary, IsRightBranch, AreRightBranches, IsRightEntry, AreRightEntries, IsNested, AreNested, EndsEntries, EndsElements, IsRightPackage, levels, levels_of_elements, levels_of_branch, levels_of_branches, levels_of_entry, levels_of_entries, Limit, Within, IsInRange, greatest}
 use Rattle.cue_syntax.specs.Recogniser.{Goal, Stack, is_keyword}
 
+-- the levels at declarations: as many as below them at the top, one more in braces
 abbrev pub inside : Bool → ℕ → ℕ
 inside true n = n
 inside false n = 1 + n
@@ -33,6 +34,7 @@ under Goal.bracket n = 1 + n
 under Goal.bracket_end n = 1 + n
 under _ n = n
 
+-- the levels that a stack opens
 abbrev pub beneath : Stack → ℕ
 beneath [] = 0
 beneath (goal ∷ goals) = under goal (beneath goals)
@@ -53,28 +55,36 @@ pub record Parsed (A : Type 0) (spelled : A → List Piece) (Good : A → Type 0
   pub good : Good part
   pub within : Keeps limit (opens part + room)
 
+-- an expression
 abbrev pub AnExpression : Limit → ℕ → List Token → List Token → Type 0
 AnExpression = Parsed Expression spell IsRight levels
 
+-- an operand or a bound
 abbrev pub AUnary : Limit → ℕ → List Token → List Token → Type 0
 AUnary = Parsed Expression spell (λ e. IsRight e × IsUnary e) levels
 
+-- a part of a disjunction
 abbrev pub AConjunct : Limit → ℕ → List Token → List Token → Type 0
 AConjunct = Parsed Expression spell (λ e. IsRight e × IsConjunct e) levels
 
+-- a term of a disjunction
 abbrev pub ATerm : Limit → ℕ → List Token → List Token → Type 0
 ATerm = Parsed Branch spell_branch IsRightBranch levels_of_branch
 
+-- the parts of a conjunction after the first one, or none
 abbrev pub MoreParts : Limit → ℕ → List Token → List Token → Type 0
 MoreParts = Parsed Elements (spell_more_elements (kinds.Mark points.Ampersand)) (λ es. AreRight es × AreUnary es) levels_of_elements
 
+-- there is a term
 abbrev pub SomeBranches : Branches → Type 0
 SomeBranches no_branches = ⊥
 SomeBranches (next_branch b bs) = ⊤
 
+-- the terms of a disjunction after the first one, or none
 abbrev pub MoreTerms : Limit → ℕ → List Token → List Token → Type 0
 MoreTerms = Parsed Branches spell_more_branches AreRightBranches levels_of_branches
 
+-- the terms of a disjunction after the first one, and not none
 abbrev pub FurtherTerms : Limit → ℕ → List Token → List Token → Type 0
 FurtherTerms = Parsed Branches spell_more_branches (λ bs. AreRightBranches bs × SomeBranches bs) levels_of_branches
 
@@ -91,6 +101,7 @@ abbrev pub IsAllowed : Bool → Entry → Type 0
 IsAllowed true e = ⊤
 IsAllowed false e = IsNested e
 
+-- a declaration that may stand there
 abbrev pub AnEntry : Bool → Limit → ℕ → List Token → List Token → Type 0
 AnEntry top = Parsed Entry spell_entry (λ e. IsRightEntry e × IsAllowed top e) levels_of_entry
 
@@ -99,10 +110,12 @@ abbrev pub closing : Bool → List Piece
 closing true = []
 closing false = one (kinds.Mark points.CloseBrace)
 
+-- declarations that may stand there: definitions at the top alone
 abbrev pub NestedIn : Bool → Entries → Type 0
 NestedIn true es = ⊤
 NestedIn false es = AreNested es
 
+-- declarations, up to the end of the text at the top and up to a brace elsewhere
 pub record Declared (top : Bool) (limit : Limit) (room : ℕ) (a b : List Token) : Type 0 where
   pub tree : Entries
   pub comma : Bool
@@ -131,6 +144,7 @@ pub record Listed (limit : Limit) (room : ℕ) (a b : List Token) : Type 0 where
   pub ends : EndsElements comma goes_on tree
   pub within : Keeps limit (levels_of_elements tree + room)
 
+-- `...` after an element, with the comma before it
 abbrev pub rest_behind : Bool → List Piece
 rest_behind true = one (kinds.Mark points.Comma) ++ one (kinds.Mark points.Ellipsis)
 rest_behind false = []
@@ -155,6 +169,7 @@ pub record Closed (limit : Limit) (room : ℕ) (a b : List Token) : Type 0 where
   pub ends : EndsEntries inner tree
   pub within : Keeps limit (levels_of_entries tree + room)
 
+-- a whole text
 pub record Whole (limit : Limit) (room : ℕ) (a b : List Token) : Type 0 where
   pub tree : FileTree
   pub reads : Reads a (spell_file tree) b
@@ -178,6 +193,7 @@ pub record Packaged (limit : Limit) (room : ℕ) (a b : List Token) : Type 0 whe
 abbrev pub Shuts : TokenKind → List Token → List Token → Type 0
 Shuts kind = Spelt Bool (λ comma. comma_if comma ++ one kind)
 
+-- the mark of a label, and its colon
 abbrev pub Marked : List Token → List Token → Type 0
 Marked = Spelt Mark (λ mark. spell_mark mark ++ one (kinds.Mark points.Colon))
 
@@ -225,6 +241,7 @@ Remains limit n Goal.more_elements a b = MoreListed limit (1 + n) a b
 Remains limit n Goal.bracket a b = Shuts (kinds.Mark points.CloseBracket) a b
 Remains limit n Goal.bracket_end a b = Reads a (one (kinds.Mark points.CloseBracket)) b
 
+-- what comes after declarations: nothing at the top, the rest elsewhere
 abbrev pub Behind : Bool → (List Token → Type 0) → List Token → Type 0
 Behind true Rest b = b ≡ []
 Behind false Rest b = Rest b

@@ -32,6 +32,7 @@ ends_clear : (a : List Token) → EndsExpression a → AtEnd NoMark a
 ends_clear [] end = tt
 ends_clear (t ∷ a) end = no_mark t.kind end
 
+-- labels and then an expression use up the goal of a value
 pub takes_value : (chain : List Label) (e : Expression) → Takes e → IsRight e → (limit : Limit) (below : Stack) (a b : List Token)
     → Reads a (flat_map spell_label chain ++ spell e) b → EndsExpression b → Within limit (depth below + (length chain + levels e))
     → stuck limit (value ∷ below) a ≡ stuck limit below b
@@ -47,11 +48,13 @@ takes_value (l ∷ chain) e takes right limit below a b reads end within =
     ∙ over_chained limit below b
 
 -- a declaration
+-- its expression uses up its goal
 abbrev pub TakesEntry : Entry → Type 0
 TakesEntry ellipsis = ⊤
 TakesEntry (field label chain e) = Takes e
 TakesEntry (definition t from chain e) = Takes e
 
+-- the expression in each of the declarations uses up its goal
 abbrev pub TakeEntries : Entries → Type 0
 TakeEntries no_entries = ⊤
 TakeEntries (entry e es) = TakesEntry e × TakeEntries es
@@ -61,10 +64,12 @@ abbrev pub FitsTop : Bool → Entry → Type 0
 FitsTop true e = ⊤
 FitsTop false e = IsNested e
 
+-- definitions stand at the top alone
 abbrev pub FitTop : Bool → Entries → Type 0
 FitTop true es = ⊤
 FitTop false es = AreNested es
 
+-- the goal of declarations takes the name of a label, and leaves its mark, its value and more declarations
 pub label_step : (top : Bool) (below : Stack) (n : LabelName) → step (entries top ∷ below) (label_kind n) ≡ Some (mark ∷ value ∷ more_entries top ∷ below)
 label_step true below (names.Plain t) = refl
 label_step true below (names.Quoted t) = refl
@@ -99,6 +104,7 @@ takes_definition n from chain e takes right limit below a b reads end within =
     (within_less limit _ (depth (more_entries true ∷ below) + (length chain + levels e)) (omega arith) within)
     ∙ takes_value chain e takes right limit (more_entries true ∷ below) t.between b t.second end within
 
+-- a declaration leaves the goal of more declarations
 pub takes_entry : (top : Bool) (e : Entry) → TakesEntry e → IsRightEntry e → FitsTop top e → (limit : Limit) (below : Stack) (a b : List Token) → Reads a (spell_entry e) b → EndsExpression b
     → Within limit (depth (more_entries top ∷ below) + levels_of_entry e) → stuck limit (entries top ∷ below) a ≡ stuck limit (more_entries top ∷ below) b
 takes_entry top ellipsis takes right fits limit below a b reads end within =
@@ -111,6 +117,7 @@ takes_entry true (definition n from chain e) takes right fits limit below a b re
 takes_entry false (definition n from chain e) takes right fits limit below a b reads end within = absurd fits
 
 -- declarations
+-- further declarations, where there are any, begin with a token that may follow an expression
 pub head_entries : (es : Entries) → HeadIs ClosesExpression (spell_more_entries es)
 head_entries no_entries = tt
 head_entries (entry e es) = tt
@@ -132,6 +139,7 @@ same_depth : (top : Bool) (below : Stack) → depth (entries top ∷ below) ≡ 
 same_depth true below = refl
 same_depth false below = refl
 
+-- further declarations leave the goal of more declarations
 pub takes_more_entries : (top : Bool) (es : Entries) → TakeEntries es → AreRightEntries es → FitTop top es → (limit : Limit) (below : Stack) (a b : List Token)
     → Reads a (spell_more_entries es) b → EndsExpression b → Within limit (depth (more_entries top ∷ below) + levels_of_entries es)
     → stuck limit (more_entries top ∷ below) a ≡ stuck limit (more_entries top ∷ below) b
@@ -146,6 +154,7 @@ takes_more_entries top (entry e es) takes right fit limit below a b reads end wi
     ∙ takes_more_entries top es takes.1 right.1 (fit_rest top e es fit) limit below t.between b t.second end
     (within_less limit _ (depth (more_entries top ∷ below) + max (levels_of_entry e) (levels_of_entries es)) (omega arith) within)
 
+-- declarations, at least one, leave the goal of more declarations
 pub takes_entries : (top : Bool) (e : Entry) (es : Entries) → TakeEntries (entry e es) → AreRightEntries (entry e es) → FitTop top (entry e es) → (limit : Limit) (below : Stack) (a b : List Token)
     → Reads a (spell_entries (entry e es)) b → EndsExpression b → Within limit (depth (more_entries top ∷ below) + levels_of_entries (entry e es))
     → stuck limit (entries top ∷ below) a ≡ stuck limit (more_entries top ∷ below) b
@@ -166,6 +175,7 @@ closes_brace limit below false first second within =
     ap (stuck limit (more_entries false ∷ below)) first.follows
     ∙ took limit (more_entries false ∷ below) below second refl (within_less limit _ (1 + depth below) (omega arith) within)
 
+-- declarations and their closing brace use up the goal of declarations
 pub takes_braces : (es : Entries) (comma : Bool) → TakeEntries es → AreRightEntries es → AreNested es → EndsEntries comma es → (limit : Limit) (below : Stack) (a b : List Token)
     → Reads a (spell_entries es ++ comma_if comma ++ one (kinds.Mark points.CloseBrace)) b → Within limit (depth below + (1 + levels_of_entries es))
     → stuck limit (entries false ∷ below) a ≡ stuck limit below b
@@ -179,12 +189,14 @@ takes_braces (entry e es) comma takes right nested ends limit below a b reads wi
     (within_less limit _ (depth below + (1 + levels_of_entries (entry e es))) (omega arith) within)
     ∙ closes_brace limit below comma t.second s.second (within_less limit _ (depth below + (1 + levels_of_entries (entry e es))) (omega arith) within)
 
+-- a struct uses up the goal of an operand
 pub takes_struct : (es : Entries) (comma : Bool) → TakeEntries es → IsRight (struct es comma) → TakesUnary (struct es comma)
 takes_struct es comma takes right limit below a b reads end within =
     let s = reads_split (one (kinds.Mark points.OpenBrace)) (spell_entries es ++ comma_if comma ++ one (kinds.Mark points.CloseBrace)) reads in
     took limit (unary ∷ below) (entries false ∷ below) s.first refl (within_less limit _ (depth below + (1 + levels_of_entries es)) (omega arith) within)
     ∙ takes_braces es comma takes right.0 right.1 right.2 limit below s.between b s.second within
 
+-- a `close({..})` uses up the goal of an operand
 pub takes_close : (from : ℕ) (es : Entries) (inner comma : Bool) → TakeEntries es → IsRight (close from es inner comma) → TakesUnary (close from es inner comma)
 takes_close from es inner comma takes right limit below a b reads end within =
     let braces = spell_entries es ++ comma_if inner ++ one (kinds.Mark points.CloseBrace) in
@@ -263,6 +275,7 @@ takes_items (element e es) goes_on comma takes right limit below a b c d f first
     ∙ takes_more_elements es takes.1 right.0.1 limit below t.between b t.second end (within_less limit _ (depth below + (1 + max (levels e) (levels_of_elements es))) (omega arith) within)
     ∙ ends_elements limit below b c d f e es goes_on comma second third fourth (within_less limit _ (depth below + (1 + max (levels e) (levels_of_elements es))) (omega arith) within)
 
+-- elements, up to the bracket, use up the goal of elements
 pub takes_in_brackets : (es : Elements) (goes_on comma : Bool) → TakeAll es → IsRight (list es goes_on comma) → (limit : Limit) (below : Stack) (a b : List Token)
     → Reads a (spell_elements (kinds.Mark points.Comma) es ++ spell_rest es goes_on ++ comma_if comma ++ one (kinds.Mark points.CloseBracket)) b → Within limit (depth below + (1 + levels_of_elements es))
     → stuck limit (elements ∷ below) a ≡ stuck limit below b
@@ -272,6 +285,7 @@ takes_in_brackets es goes_on comma takes right limit below a b reads within =
     let v = reads_split (spell_elements (kinds.Mark points.Comma) es) (spell_rest es goes_on) u.first in
     takes_items es goes_on comma takes right limit below a v.between u.between t.between b v.first v.second u.second t.second within
 
+-- a list uses up the goal of an operand
 pub takes_list : (es : Elements) (goes_on comma : Bool) → TakeAll es → IsRight (list es goes_on comma) → TakesUnary (list es goes_on comma)
 takes_list es goes_on comma takes right limit below a b reads end within =
     let s = reads_split (one (kinds.Mark points.OpenBracket)) (spell_elements (kinds.Mark points.Comma) es ++ spell_rest es goes_on ++ comma_if comma ++ one (kinds.Mark points.CloseBracket)) reads in

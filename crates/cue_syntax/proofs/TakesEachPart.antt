@@ -63,6 +63,7 @@ pub takes_term_of : (limit : Limit) (below : Stack) {a b : List Token} (c : Bran
     → stuck limit (term ∷ below) a ≡ stuck limit below b
 takes_term_of limit below c reads right end within = takes_term c (takes_branch c right) right limit below _ _ reads end within
 
+-- an expression by itself
 pub takes_expression : (limit : Limit) (below : Stack) {a b : List Token} (e : Expression) → Reads a (spell e) b → IsRight e → EndsExpression b → Within limit (depth below + levels e)
     → stuck limit (expression ∷ below) a ≡ stuck limit below b
 takes_expression limit below e reads right end within = (takes e right).whole limit below _ _ reads end within

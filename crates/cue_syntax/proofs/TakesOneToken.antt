@@ -24,6 +24,7 @@ split (t ∷ a) c (x ∷ p) q f = let s = split a c p q f.2 in record {
   second = s.second;
 }
 
+-- tokens that two rows of pieces spell can be split between them
 pub reads_split : {a c : List Token} (p q : List Piece) → Reads a (p ++ q) c → Split a p q c
 reads_split p q reads = split _ _ p q reads.follows
 
@@ -32,6 +33,7 @@ follows_unplaced a b [] from follows = follows
 follows_unplaced [] b (x ∷ p) from follows = follows
 follows_unplaced (t ∷ a) b (x ∷ p) from follows = (follows.0, follows.1.1, follows.2)
 
+-- what is read with a place that pieces are given is read without it
 pub reads_unplaced : {a b : List Token} (from : ℕ) (p : List Piece) → Reads a (placed from p) b → Reads a p b
 reads_unplaced from p reads = record { follows = follows_unplaced _ _ p from reads.follows }
 
@@ -41,6 +43,7 @@ before P a b [] follows head end = subst (AtEnd P) (sym follows) end
 before P [] b (x ∷ p) follows head end = absurd follows
 before P (t ∷ a) b (x ∷ p) follows head end = subst P (sym follows.0) head
 
+-- tokens begin so, or end, where the pieces at their front do and what comes after those does
 pub at_end_before : {a b : List Token} (P : TokenKind → Type 0) (p : List Piece) → Reads a p b → HeadIs P p → AtEnd P b → AtEnd P a
 at_end_before P p reads head end = before P _ _ p reads.follows head end
 
@@ -49,13 +52,16 @@ begin P a b [] follows opens = absurd opens
 begin P [] b (x ∷ p) follows opens = absurd follows
 begin P (t ∷ a) b (x ∷ p) follows opens = subst P (sym follows.0) opens
 
+-- tokens begin so where the pieces at their front do
 pub begins : {a b : List Token} (P : TokenKind → Type 0) (p : List Piece) → Reads a p b → Opens P p → AtEnd P a
 begins P p reads opens = begin P _ _ p reads.follows opens
 
+-- a row of pieces begins so where the first of its two parts does
 pub opens_append : (P : TokenKind → Type 0) (p q : List Piece) → Opens P p → Opens P (p ++ q)
 opens_append P [] q opens = absurd opens
 opens_append P (x ∷ p) q opens = opens
 
+-- pieces that are given a place begin as they did
 pub opens_placed : (P : TokenKind → Type 0) (from : ℕ) (p : List Piece) → Opens P p → Opens P (placed from p)
 opens_placed P from [] opens = opens
 opens_placed P from (x ∷ p) opens = opens
@@ -69,19 +75,23 @@ closes_operand : (k : TokenKind) → ClosesTerm k → ClosesOperand k
 closes_operand (kinds.Mark points.Ampersand) is = tt
 closes_operand _ is = is
 
+-- what may follow an expression may follow a term
 pub ends_term : (a : List Token) → EndsExpression a → EndsTerm a
 ends_term [] end = tt
 ends_term (t ∷ a) end = closes_term t.kind end
 
+-- what may follow a term may follow an operand
 pub ends_operand : (a : List Token) → EndsTerm a → EndsOperand a
 ends_operand [] end = tt
 ends_operand (t ∷ a) end = closes_operand t.kind end
 
 -- limits
+-- where so many levels keep within a limit, fewer do
 pub within_less : (limit : Limit) (m n : ℕ) → m ≤ n → Within limit n → Within limit m
 within_less unlimited m n less within = tt
 within_less (at_most l) m n less within = le_trans less within
 
+-- levels within a limit pass the test for it
 pub fits_is : (limit : Limit) (n : ℕ) → Within limit n → fits limit n ≡ true
 fits_is unlimited n within = refl
 fits_is (at_most l) n within = le-leb n l within
@@ -99,6 +109,7 @@ took_follows limit goals next [] b k follows is within = absurd follows
 took_follows limit goals next (t ∷ a) b k follows is within =
     took_token limit goals next t a (ap (step goals) follows.0 ∙ is) within ∙ ap (stuck limit next) follows.2
 
+-- goals that take a token that is read are stuck where the next ones are stuck in the rest
 pub took : (limit : Limit) (goals next : Stack) {a b : List Token} {k : TokenKind} → Reads a (one k) b → step goals k ≡ Some next → Within limit (depth next)
     → stuck limit goals a ≡ stuck limit next b
 took limit goals next reads is within = took_follows limit goals next _ _ _ reads.follows is within
@@ -114,6 +125,7 @@ close_step : (below : Stack) (k : TokenKind) → ClosesOperand k → step (behin
 close_step below (kinds.Mark points.OpenParenthesis) end = absurd end
 close_step below _ end = refl
 
+-- what may follow an operand leaves the goal after `close` to those below
 pub over_close : (limit : Limit) (below : Stack) (rest : List Token) → EndsOperand rest → stuck limit (behind_close ∷ below) rest ≡ stuck limit below rest
 over_close limit below = same limit (behind_close ∷ below) below ClosesOperand refl (close_step below)
 
@@ -121,6 +133,7 @@ parts_step : (below : Stack) (k : TokenKind) → ClosesTerm k → step (more_par
 parts_step below (kinds.Mark points.Ampersand) end = absurd end
 parts_step below _ end = refl
 
+-- what may follow a term leaves the goal of further parts to those below
 pub over_parts : (limit : Limit) (below : Stack) (rest : List Token) → EndsTerm rest → stuck limit (more_parts ∷ below) rest ≡ stuck limit below rest
 over_parts limit below = same limit (more_parts ∷ below) below ClosesTerm refl (parts_step below)
 
@@ -128,9 +141,11 @@ terms_step : (below : Stack) (k : TokenKind) → ClosesExpression k → step (mo
 terms_step below (kinds.Mark points.Bar) end = absurd end
 terms_step below _ end = refl
 
+-- what may follow an expression leaves the goal of further terms to those below
 pub over_terms : (limit : Limit) (below : Stack) (rest : List Token) → EndsExpression rest → stuck limit (more_terms ∷ below) rest ≡ stuck limit below rest
 over_terms limit below = same limit (more_terms ∷ below) below ClosesExpression refl (terms_step below)
 
+-- the goal after a chained label leaves any token to those below
 pub over_chained : (limit : Limit) (below : Stack) (rest : List Token) → stuck limit (chained ∷ below) rest ≡ stuck limit below rest
 over_chained limit below [] = refl
 over_chained limit below (t ∷ ts) = refl

@@ -21,18 +21,22 @@ use Rattle.cue_syntax.proofs.TreesBeginSo.{no_keyword, opens_conjunct}
 use Rattle.cue_syntax.proofs.TakesSmallPieces.{expression_is_operand, term_is_operand, takes_name, takes_signed, operand_signed, bound_signed, other_signed, closes_parenthesis}
 
 -- what an expression uses up
+-- what it uses up as an operand or a bound
 abbrev pub TakesUnary : Expression → Type 0
 TakesUnary e = (limit : Limit) (below : Stack) (a b : List Token) → Reads a (spell e) b → EndsOperand b → Within limit (depth below + levels e)
     → stuck limit (unary ∷ below) a ≡ stuck limit below b
 
+-- what it uses up as a part of a disjunction
 abbrev pub TakesConjunct : Expression → Type 0
 TakesConjunct e = (limit : Limit) (below : Stack) (a b : List Token) → Reads a (spell e) b → EndsTerm b → Within limit (depth below + levels e)
     → stuck limit (unary ∷ more_parts ∷ below) a ≡ stuck limit below b
 
+-- what it uses up by itself
 abbrev pub TakesExpression : Expression → Type 0
 TakesExpression e = (limit : Limit) (below : Stack) (a b : List Token) → Reads a (spell e) b → EndsExpression b → Within limit (depth below + levels e)
     → stuck limit (expression ∷ below) a ≡ stuck limit below b
 
+-- an expression uses up the goal of each place where it may stand
 pub record Takes (e : Expression) : Type 0 where
   pub operand : IsUnary e → TakesUnary e
   pub conjunct : IsConjunct e → TakesConjunct e
@@ -48,6 +52,7 @@ whole_by e right conjunct takes limit below a b reads end within =
     ∙ takes limit (more_terms ∷ below) a b reads (ends_term b end) (within_less limit _ (depth below + levels e) (omega arith) within)
     ∙ over_terms limit below b end
 
+-- an expression, no disjunction, that uses up the goal of an operand does so wherever it may stand
 pub by_unary : (e : Expression) → IsRight e → IsConjunct e → TakesUnary e → Takes e
 by_unary e right conjunct takes = record {
   operand = λ is. takes;
@@ -56,6 +61,7 @@ by_unary e right conjunct takes = record {
 }
 
 -- literals
+-- an identifier that may be an operand uses up the goal of one
 pub named : (n : Identifier) (from : ℕ) → IsRight (name n from) → TakesUnary (name n from)
 named (identifiers.Plain t) from right limit below a b reads end within =
     takes_name limit below t (reads_unplaced from (one (kinds.Name t)) reads) (no_keyword t right) end (within_less limit _ (depth below + 0) (omega arith) within)
@@ -70,41 +76,50 @@ comparison_step comparisons.AtMost below = refl
 comparison_step comparisons.Greater below = refl
 comparison_step comparisons.AtLeast below = refl
 
+-- a bound on an integer in range uses up the goal of an operand
 pub bounded : (c : Comparison) (n : Signed) → IsInRange n → TakesUnary (bound c n)
 bounded c n range limit below a b reads end within =
     let s = reads_split (one (comparison_kind c)) (spell_signed n) reads in
     took limit (unary ∷ below) (signed ∷ below) s.first (comparison_step c below) (within_less limit _ (depth below + 0) (omega arith) within)
     ∙ takes_signed limit (signed ∷ below) below (bound_signed below) n s.second range (within_less limit _ (depth below + 0) (omega arith) within)
 
+-- `!=` with an integer in range uses up the goal of an operand
 pub other_number : (n : Signed) → IsInRange n → TakesUnary (other_integer n)
 other_number n range limit below a b reads end within =
     let s = reads_split (one (kinds.Mark points.NotEqual)) (spell_signed n) reads in
     took limit (unary ∷ below) (signed_or_text ∷ below) s.first refl (within_less limit _ (depth below + 0) (omega arith) within)
     ∙ takes_signed limit (signed_or_text ∷ below) below (other_signed below) n s.second range (within_less limit _ (depth below + 0) (omega arith) within)
 
+-- `!=` with a string uses up the goal of an operand
 pub other_word : (t : List ℕ) → TakesUnary (other_text t)
 other_word t limit below a b reads end within =
     let s = reads_split (one (kinds.Mark points.NotEqual)) (one (kinds.Text t)) reads in
     took limit (unary ∷ below) (signed_or_text ∷ below) s.first refl (within_less limit _ (depth below + 0) (omega arith) within)
     ∙ took limit (signed_or_text ∷ below) below s.second refl (within_less limit _ (depth below + 0) (omega arith) within)
 
+-- an integer in range uses up the goal of an operand
 pub number : (n : Signed) → IsInRange n → TakesUnary (integer n)
 number n range limit below a b reads end within = takes_signed limit (unary ∷ below) below (operand_signed below) n reads range (within_less limit _ (depth below + 0) (omega arith) within)
 
+-- a string uses up the goal of an operand
 pub word : (t : List ℕ) → TakesUnary (text t)
 word t limit below a b reads end within = took limit (unary ∷ below) below reads refl (within_less limit _ (depth below + 0) (omega arith) within)
 
+-- `_|_` uses up the goal of an operand
 pub nothing : TakesUnary bottom
 nothing limit below a b reads end within = took limit (unary ∷ below) below reads refl (within_less limit _ (depth below + 0) (omega arith) within)
 
 -- parentheses
+-- a comma, where there is one, is a token that may follow an expression
 pub head_comma : (comma : Bool) → HeadIs ClosesExpression (comma_if comma)
 head_comma true = tt
 head_comma false = tt
 
+-- a comma or none, before a token that may follow an expression, may follow one too
 pub ends_comma : {a b c : List Token} (comma : Bool) (k : TokenKind) → Reads a (comma_if comma) b → Reads b (one k) c → ClosesExpression k → EndsExpression a
 ends_comma comma k first second closes = at_end_before ClosesExpression (comma_if comma) first (head_comma comma) (begins ClosesExpression (one k) second closes)
 
+-- an expression in parentheses uses up the goal of an operand
 pub in_parentheses : (e : Expression) (comma : Bool) → Takes e → TakesUnary (parenthesis e comma)
 in_parentheses e comma takes limit below a b reads end within =
     let s = reads_split (one (kinds.Mark points.OpenParenthesis)) ((spell e ++ comma_if comma) ++ one (kinds.Mark points.CloseParenthesis)) reads in
@@ -116,6 +131,7 @@ in_parentheses e comma takes limit below a b reads end within =
     ∙ closes_parenthesis limit below comma u.second t.second (within_less limit _ (depth below + (1 + levels e)) (omega arith) within)
 
 -- conjunctions
+-- each of the parts uses up the goal of each place where it may stand
 abbrev pub TakeAll : Elements → Type 0
 TakeAll no_elements = ⊤
 TakeAll (element e es) = Takes e × TakeAll es
@@ -143,6 +159,7 @@ conjoined (element e es) takes are two limit below a b reads end within =
     (within_less limit _ (depth below + max (levels e) (levels_of_elements es)) (omega arith) within)
     ∙ parts es takes.1 are.1 limit below t.between b t.second end (within_less limit _ (depth below + max (levels e) (levels_of_elements es)) (omega arith) within)
 
+-- a conjunction of parts that use up their goals uses up its own
 pub takes_conjunction : (es : Elements) → TakeAll es → IsRight (conjunction es) → Takes (conjunction es)
 takes_conjunction es takes right = record {
   operand = λ is. absurd is;
@@ -151,13 +168,16 @@ takes_conjunction es takes right = record {
 }
 
 -- disjunctions
+-- its expression uses up its goal
 abbrev pub TakesBranch : Branch → Type 0
 TakesBranch (branch marked from e) = Takes e
 
+-- the expression in each of the terms uses up its goal
 abbrev pub TakeBranches : Branches → Type 0
 TakeBranches no_branches = ⊤
 TakeBranches (next_branch b bs) = TakesBranch b × TakeBranches bs
 
+-- a term whose expression uses up its goal uses up that of a term
 pub takes_term : (c : Branch) → TakesBranch c → IsRightBranch c → (limit : Limit) (below : Stack) (a b : List Token) → Reads a (spell_branch c) b → EndsTerm b
     → Within limit (depth below + levels_of_branch c) → stuck limit (term ∷ below) a ≡ stuck limit below b
 takes_term (branch true from e) takes right limit below a b reads end within =
@@ -213,6 +233,7 @@ disjoined (next_branch (branch false from e) (next_branch c bs)) takes right two
     ∙ terms (next_branch c bs) takes.1 right.1 limit below t.between b t.second end
     (within_less limit _ (depth below + levels_of_branches (next_branch (branch false from e) (next_branch c bs))) (omega arith) within)
 
+-- a disjunction of terms that use up their goals uses up its own
 pub takes_disjunction : (bs : Branches) → TakeBranches bs → IsRight (disjunction bs) → Takes (disjunction bs)
 takes_disjunction bs takes right = record {
   operand = λ is. absurd is;

@@ -26,6 +26,7 @@ expression_step : (below : Stack) (k : TokenKind) → BeginsOperand k → step (
 expression_step below (kinds.Mark points.Star) begins = absurd begins
 expression_step below _ begins = refl
 
+-- where an operand begins, an expression may be read as an operand, further parts and further terms
 pub expression_is_operand : (limit : Limit) (below : Stack) (a : List Token) → AtEnd BeginsOperand a
     → stuck limit (expression ∷ below) a ≡ stuck limit (unary ∷ more_parts ∷ more_terms ∷ below) a
 expression_is_operand limit below = same limit (expression ∷ below) (unary ∷ more_parts ∷ more_terms ∷ below) BeginsOperand refl (expression_step below)
@@ -34,6 +35,7 @@ term_step : (below : Stack) (k : TokenKind) → BeginsOperand k → step (term �
 term_step below (kinds.Mark points.Star) begins = absurd begins
 term_step below _ begins = refl
 
+-- where an operand begins, a term may be read as an operand and further parts
 pub term_is_operand : (limit : Limit) (below : Stack) (a : List Token) → AtEnd BeginsOperand a → stuck limit (term ∷ below) a ≡ stuck limit (unary ∷ more_parts ∷ below) a
 term_is_operand limit below = same limit (term ∷ below) (unary ∷ more_parts ∷ below) BeginsOperand refl (term_step below)
 
@@ -42,6 +44,7 @@ element_step below (kinds.Mark points.CloseBracket) begins = absurd begins
 element_step below (kinds.Mark points.Ellipsis) begins = absurd begins
 element_step below _ begins = refl
 
+-- where an expression begins, elements may be read as an expression and more elements
 pub element_is_expression : (limit : Limit) (below : Stack) (a : List Token) → AtEnd BeginsExpression a
     → stuck limit (elements ∷ below) a ≡ stuck limit (expression ∷ more_elements ∷ below) a
 element_is_expression limit below = same limit (elements ∷ below) (expression ∷ more_elements ∷ below) BeginsExpression refl (element_step below)
@@ -51,6 +54,7 @@ abbrev pub behind_word : Bool → Stack → Stack
 behind_word true goals = behind_close ∷ goals
 behind_word false goals = goals
 
+-- the goal of an operand takes a name that is no keyword; after `close` a parenthesis may follow
 pub name_step : (goals : Stack) (t : List ℕ) (c : Bool) → is_keyword t ≡ false → is_word (codes "close") t ≡ c → step (unary ∷ goals) (kinds.Name t) ≡ Some (behind_word c goals)
 name_step goals t true free word = ap₂ (λ k w. if k then None else (if w then Some (behind_close ∷ goals) else Some goals)) free word
 name_step goals t false free word = ap₂ (λ k w. if k then None else (if w then Some (behind_close ∷ goals) else Some goals)) free word
@@ -118,6 +122,7 @@ value_first limit below t ts (kinds.Name s) is opens within = value_named limit 
 value_first limit below t ts (kinds.Text s) is opens within = value_texted limit below t ts s is opens within
 value_first limit below t ts _ is opens within = value_alike limit below t ts (ap (step (value ∷ below)) is ∙ sym (ap (step (expression ∷ below)) is))
 
+-- where no label begins, the goal of a value does what that of an expression does
 pub value_is_expression : (limit : Limit) (below : Stack) (a : List Token) → OpensValue a → Within limit (depth below) → stuck limit (value ∷ below) a ≡ stuck limit (expression ∷ below) a
 value_is_expression limit below [] opens within = refl
 value_is_expression limit below (t ∷ ts) opens within = value_first limit below t ts t.kind refl opens within
@@ -147,16 +152,20 @@ takes_sign limit goals below steps signs.Plus m reads le within =
     let s = reads_split (one (kinds.Mark points.Plus)) (one (kinds.Integer m)) reads in
     took limit goals (magnitude signs.Plus ∷ below) s.first steps.plus (within_less limit _ (depth below) (omega arith) within) ∙ took limit (magnitude signs.Plus ∷ below) below s.second (magnitude_step signs.Plus m below le) within
 
+-- an integer in range uses up goals that take its sign or its first digits
 pub takes_signed : (limit : Limit) (goals below : Stack) → TakesSigned goals below → {a b : List Token} (n : Signed) → Reads a (spell_signed n) b → IsInRange n → Within limit (depth below)
     → stuck limit goals a ≡ stuck limit below b
 takes_signed limit goals below steps n reads range within = takes_sign limit goals below steps n.sign n.magnitude reads range within
 
+-- the goal of an operand takes the sign of an integer or its first digits
 pub operand_signed : (below : Stack) → TakesSigned (unary ∷ below) below
 operand_signed below = record { plain = λ m le. magnitude_step signs.Absent m below le; minus = refl; plus = refl }
 
+-- the goal of an integer takes its sign or its first digits
 pub bound_signed : (below : Stack) → TakesSigned (signed ∷ below) below
 bound_signed below = record { plain = λ m le. magnitude_step signs.Absent m below le; minus = refl; plus = refl }
 
+-- the goal after `!=` takes the sign of an integer or its first digits
 pub other_signed : (below : Stack) → TakesSigned (signed_or_text ∷ below) below
 other_signed below = record { plain = λ m le. magnitude_step signs.Absent m below le; minus = refl; plus = refl }
 
@@ -166,6 +175,7 @@ pub record TakesMark (goals next : Stack) : Type 0 where
   pub optional : step goals (kinds.Mark points.Question) ≡ Some (colon ∷ next)
   pub required : step goals (kinds.Mark points.Exclamation) ≡ Some (colon ∷ next)
 
+-- the mark of a label and its colon bring goals that take them to the next ones
 pub takes_mark : (limit : Limit) (goals next : Stack) → TakesMark goals next → {a b : List Token} (m : Mark) → Reads a (spell_mark m ++ one (kinds.Mark points.Colon)) b → Within limit (depth next)
     → stuck limit goals a ≡ stuck limit next b
 takes_mark limit goals next steps marks.Regular reads within = took limit goals next reads steps.regular within
@@ -176,6 +186,7 @@ takes_mark limit goals next steps marks.Required reads within =
     let s = reads_split (one (kinds.Mark points.Exclamation)) (one (kinds.Mark points.Colon)) reads in
     took limit goals (colon ∷ next) s.first steps.required (within_less limit _ (depth next) (omega arith) within) ∙ took limit (colon ∷ next) next s.second refl within
 
+-- the goal of a mark takes each mark of a label and its colon
 pub plain_mark : (next : Stack) → TakesMark (mark ∷ next) next
 plain_mark next = record { regular = refl; optional = refl; required = refl }
 
@@ -197,6 +208,7 @@ chains limit below (names.Quoted t) m reads within =
     took limit (value ∷ below) (value_text ∷ below) s.first refl (within_less limit _ (1 + depth below) (omega arith) within)
     ∙ takes_mark limit (value_text ∷ below) (value ∷ chained ∷ below) (text_mark below) m s.second (within_less limit _ (1 + depth below) (omega arith) within)
 
+-- a label of a chain leaves the goal of the value after it, which is one level deeper
 pub takes_chained : (limit : Limit) (below : Stack) {a b : List Token} (l : Label) → Reads a (spell_label l) b → Within limit (1 + depth below)
     → stuck limit (value ∷ below) a ≡ stuck limit (value ∷ chained ∷ below) b
 takes_chained limit below l reads within = chains limit below l.name l.mark reads within
@@ -211,6 +223,7 @@ closes_parenthesis limit below false first second within =
     ap (stuck limit (parenthesis ∷ below)) first.follows
     ∙ took limit (parenthesis ∷ below) below second refl (within_less limit _ (1 + depth below) (omega arith) within)
 
+-- the bracket, with a comma before it or without, uses up the goal of a list's end
 pub closes_bracket : (limit : Limit) (below : Stack) {a b c : List Token} (comma : Bool) → Reads a (comma_if comma) b → Reads b (one (kinds.Mark points.CloseBracket)) c → Within limit (1 + depth below)
     → stuck limit (bracket ∷ below) a ≡ stuck limit below c
 closes_bracket limit below true first second within =

@@ -21,6 +21,7 @@ use Rattle.cue_syntax.proofs.WhatMayFollow.{AtEnd, HeadIs, Opens, BeginsOperand,
 use Rattle.cue_syntax.proofs.TakesOneToken.{at_end_before, opens_append, opens_placed}
 
 -- words
+-- other bytes than those of a word don't pass the test for it
 pub word_false : (word t : List ℕ) → t ≢ word → is_word word t ≡ false
 word_false word t other = by (is_word word t) refl
   where
@@ -31,6 +32,7 @@ word_false word t other = by (is_word word t) refl
 or_false : (a b : Bool) → a ≡ false → b ≡ false → (a || b) ≡ false
 or_false a b p q = ap₂ (λ x y. x || y) p q
 
+-- a name that is no keyword doesn't pass the test for keywords
 pub no_keyword : (t : List ℕ) → ¬ IsKeyword t → is_keyword t ≡ false
 no_keyword t other =
     or_false _ _ (or_false _ _ (or_false _ _ (or_false _ _ (or_false _ _
@@ -62,6 +64,7 @@ opens_signed signs.Absent m = tt
 opens_signed signs.Minus m = tt
 opens_signed signs.Plus m = tt
 
+-- an operand or a bound begins with a token with which one may begin
 pub opens_unary : (e : Expression) → IsUnary e → Opens BeginsOperand (spell e)
 opens_unary (name n from) unary = opens_identifier n
 opens_unary (integer n) unary = opens_signed n.sign n.magnitude
@@ -77,6 +80,7 @@ opens_unary (list es goes_on comma) unary = tt
 opens_unary (conjunction es) unary = absurd unary
 opens_unary (disjunction bs) unary = absurd unary
 
+-- a part of a disjunction begins with a token with which an operand may begin
 pub opens_conjunct : (e : Expression) → IsRight e → IsConjunct e → Opens BeginsOperand (spell e)
 opens_conjunct (conjunction no_elements) right conjunct = absurd right.2
 opens_conjunct (conjunction (element e es)) right conjunct = opens_append BeginsOperand (spell e) _ (opens_unary e right.1.0)
@@ -126,6 +130,7 @@ OpensBy (kinds.Name t) Clear = (is_keyword t ≡ false) × Clear
 OpensBy (kinds.Text t) Clear = Clear
 OpensBy _ Clear = ⊤
 
+-- tokens that may begin a value without labels
 abbrev pub OpensValue : List Token → Type 0
 OpensValue [] = ⊤
 OpensValue (token ∷ tokens) = OpensBy token.kind (AtEnd NoMark tokens)
@@ -227,5 +232,6 @@ plain_expression (struct es comma) right = tt
 plain_expression (close from es inner comma) right = (refl, tt)
 plain_expression (list es goes_on comma) right = tt
 
+-- an expression with no mark of a label after it begins as a value without labels may
 pub expression_opens : {a b : List Token} (e : Expression) → Reads a (spell e) b → IsRight e → AtEnd NoMark b → OpensValue a
 expression_opens e reads right end = opens_value _ _ (spell e) reads.follows (plain_expression e right) end

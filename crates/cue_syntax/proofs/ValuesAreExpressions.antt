@@ -118,6 +118,7 @@ keyword_moves {a = a} {b = b} w m shorter =
     let same : a ≡ b = some_inner (sym (halts_sticks (expression ∷ []) unlimited a (expression_halts w) [] nothing_closes) ∙ m.moves unlimited [] tt ∙ stuck_none b) in
     absurd (omega (arith, ap length same, shorter))
 
+-- where no label begins, the goal of a value goes through an expression
 pub value_moves : {n : ℕ} {a b : List Token} → ¬ BeginsLabel a → length b < length a → Moves n (expression ∷ []) a [] b → Moves n (value ∷ []) a [] b
 value_moves {n = n} {a = a} {b = b} label shorter m = elim (value_or a label) [ inl same ↦ moves_then (moves_more (omega arith) same) m | inr w ↦ absurd (keyword_moves w m shorter) ]
 
@@ -152,6 +153,7 @@ keyword_by n a at reasons.Nesting w inside by =
     absurd (omega (arith, inner, ap length is, ap length d.is))
 keyword_by n a at reasons.Memory w inside by = by
 
+-- where no label begins, what is refused of an expression is refused of a value
 pub value_refused : {n end : ℕ} {a : List Token} {r : Stop} → ¬ BeginsLabel a → Refused n end (expression ∷ []) a r → Refused n end (value ∷ []) a r
 value_refused {a = a} {r = r} label s = elim (value_or a label) [
   | inl same ↦ refused_behind (moves_more (omega arith) same) s

@@ -11,6 +11,7 @@ abbrev pub AtEnd : (TokenKind → Type 0) → List Token → Type 0
 AtEnd P [] = ⊤
 AtEnd P (token ∷ tokens) = P token.kind
 
+-- a comma or a closing sign
 abbrev pub ClosesExpression : TokenKind → Type 0
 ClosesExpression (kinds.Mark points.Comma) = ⊤
 ClosesExpression (kinds.Mark points.CloseParenthesis) = ⊤
@@ -18,10 +19,12 @@ ClosesExpression (kinds.Mark points.CloseBracket) = ⊤
 ClosesExpression (kinds.Mark points.CloseBrace) = ⊤
 ClosesExpression _ = ⊥
 
+-- the same or `|`
 abbrev pub ClosesTerm : TokenKind → Type 0
 ClosesTerm (kinds.Mark points.Bar) = ⊤
 ClosesTerm kind = ClosesExpression kind
 
+-- the same, `|` or `&`
 abbrev pub ClosesOperand : TokenKind → Type 0
 ClosesOperand (kinds.Mark points.Ampersand) = ⊤
 ClosesOperand kind = ClosesTerm kind
