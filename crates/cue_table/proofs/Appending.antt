@@ -31,6 +31,7 @@ snoc (x ∷ y ∷ xs) h =
 last_at : {X : Type 0} (front : List X) (last : X) → length (front ++ last ∷ []) - 1 ≡ length front
 last_at front last = omega (arith, length-append front (last ∷ []))
 
+-- what holds of all elements of two lists joined holds of all of the second
 pub all_right : {X : Type 0} (P : X → Type 0) (xs ys : List X) → AllByRecursion P (xs ++ ys) → AllByRecursion P ys
 all_right P [] ys h = h
 all_right P (x ∷ xs) ys h = all_right P xs ys h.1

@@ -172,11 +172,13 @@ one_of_member P [] h = absurd h
 one_of_member P (x ∷ xs) (inl h) = (x, (0, omega arith, refl), h)
 one_of_member P (x ∷ xs) (inr h) = let found = one_of_member P xs h in (found.0, Contains-append_right (x ∷ []) xs found.0 found.1, found.2)
 
+-- where P holds of an element of a list, it holds of one of the list's elements
 pub member_one_of : {X : Type 0} (P : X → Type 0) (xs : List X) (x : X) → Contains xs x → P x → OneOf P xs
 member_one_of P [] x (k, less, e) h = absurd (omega arith)
 member_one_of P (y ∷ ys) x (zero, less, e) h = inl (subst P (sym e) h)
 member_one_of P (y ∷ ys) x (suc k, less, e) h = inr (member_one_of P ys x (k, omega arith, e) h)
 
+-- where P holds of one element of a list, it holds of one in any other order of the list
 pub one_of_permutation : {X : Type 0} (P : X → Type 0) (xs ys : List X) → IsPermutation xs ys → OneOf P xs → OneOf P ys
 one_of_permutation P xs ys moved h =
     let found = one_of_member P xs h in member_one_of P ys found.0 (Contains-permutation xs ys found.0 moved found.1) found.2

@@ -18,6 +18,7 @@ use Rattle.cue_table.specs.View.{branches}
 use Rattle.cue_table.specs.declared.node.Child.{Child}
 use Rattle.cue_table.proofs.Order.{step_total, equal_steps}
 
+-- two steps compare the other way round when they are exchanged
 pub reverse_cmp : (x y : Step) (o : Ordering) → step_cmp x y ≡ o → step_cmp y x ≡ ordering_reverse o
 reverse_cmp x y o h = step_total.antisymm y x ∙ ap ordering_reverse h
 
@@ -151,9 +152,11 @@ find_form P step (child next here children) tree h e =
     found_here (λ t. IsTaken t × IsTree P t) (step_cmp step next) here (find step children) tree (h.1, h.2)
     (λ f. find_form P step children tree h.3 f) e
 
+-- the steps of the branches rise where the tree is in form
 pub tree_rises : {R : Type 0} (P : R → Type 0) (tree : Tree R) → IsTree P tree → Rise (below tree)
 tree_rises P (node row children) h = branches_rise P children h.1
 
+-- where a branch of a tree in form is found, it is in form and not empty
 pub found_form : {R : Type 0} (P : R → Type 0) (step : Step) (tree next : Tree R) → IsTree P tree → find step (below tree) ≡ Some next → IsTaken next × IsTree P next
 found_form P step (node row children) next h e = find_form P step children next h.1 e
 

@@ -176,6 +176,7 @@ root_met a b (node None (child step tree children)) h =
     let some = taken_row Kept m tt h.form in
     absurd (no_root a b m h (none_left a b m h refl) (none_left b a m (turned a b m h) refl) some.1 some.0 some.2)
 
+-- what is met of two valid tables is a valid table
 pub met_tables : (a b m : Tree Row) → IsTable Refuses IsRow m → IsMet Refuses a b m → IsValidTable a → IsValidTable b → IsValidTable m
 met_tables a b m form met left right =
     let h : AreTables a b m = record { left = left; right = right; form = form; met = met } in

@@ -179,6 +179,7 @@ planned_met :
 planned_met refuses P (node q cs) (node r ds) row lists rows merge [] question = rows question
 planned_met refuses P (node q cs) (node r ds) row lists rows merge (step ∷ path) question = merge.refused step path question
 
+-- the same of trees that nodes stand for, by the nodes' rows and branches
 pub planned_views :
     {R Q : Type 0} (refuses : R → Q → Type 0) (P : R → Type 0) (a b : Inside R Q) (s t : Tree R) (row : Option R) (lists : Branches R) → tree_of a ≡ s → tree_of b ≡ t
     → IsUnion (RowRefuses refuses a.row) (RowRefuses refuses b.row) (RowRefuses refuses (or_row row a.row))

@@ -16,18 +16,22 @@ use Rattle.cue_table.proofs.Finding.{reverse_cmp, same_step}
 use Rattle.cue_table.proofs.Order.{equal_steps}
 use Rattle.cue_table.proofs.Exact.{find_first, find_past, exact_tree}
 
+-- what holds of all elements of two lists holds of all of both joined
 pub all_append : {X : Type 0} (P : X → Type 0) (xs ys : List X) → AllByRecursion P xs → AllByRecursion P ys → AllByRecursion P (xs ++ ys)
 all_append P [] ys h k = k
 all_append P (x ∷ xs) ys h k = (h.0, all_append P xs ys h.1 k)
 
+-- what holds of the image of each element holds of all elements of the mapped list
 pub all_map : {X Y : Type 0} (f : X → Y) (P : Y → Type 0) (xs : List X) → AllByRecursion (λ x. P (f x)) xs → AllByRecursion P (map f xs)
 all_map f P [] h = tt
 all_map f P (x ∷ xs) h = (h.0, all_map f P xs h.1)
 
+-- what follows from what holds of all elements holds of all of them
 pub all_weaker : {X : Type 0} (P Q : X → Type 0) (xs : List X) → ((x : X) → P x → Q x) → AllByRecursion P xs → AllByRecursion Q xs
 all_weaker P Q [] f h = tt
 all_weaker P Q (x ∷ xs) f h = (f x h.0, all_weaker P Q xs f h.1)
 
+-- what follows from two things that hold of all elements holds of all of them
 pub all_both : {X : Type 0} (P Q S : X → Type 0) (xs : List X) → ((x : X) → P x → Q x → S x) → AllByRecursion P xs → AllByRecursion Q xs → AllByRecursion S xs
 all_both P Q S [] f h k = tt
 all_both P Q S (x ∷ xs) f h k = (f x h.0 k.0, all_both P Q S xs f h.1 k.1)

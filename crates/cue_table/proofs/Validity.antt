@@ -183,6 +183,7 @@ taken_at (node None children) row e = cc
 pub valid_sound : (tree : Tree Row) (row : Row) → row_of tree ≡ Some row → IsValidTable tree → IsSound tree
 valid_sound tree row e h = sound tree (taken_at tree row e) h.form (rules_of tree h)
 
+-- the row at the root of a valid table is an open struct, and optional
 pub valid_root : (tree : Tree Row) (row : Row) → row_of tree ≡ Some row → IsValidTable tree → IsOpenStruct row × (row.level ≡ Optional)
 valid_root tree row e h = (
   ⊎_elim
@@ -199,10 +200,12 @@ valid_empty tree e h =
     (λ (some : (r : Row) × (row_at tree [] ≡ Some r) × IsOpenStruct r). let yes : row_of tree ≡ Some some.0 = some.1 in absurd (cc))
     h.root
 
+-- no row stands in the empty table
 pub nothing_at : (path : Path) (row : Row) → row_at empty path ≡ Some row → ⊥
 nothing_at [] row e = cc
 nothing_at (step ∷ path) row e = cc
 
+-- the empty table is valid
 pub empty_valid : IsValidTable empty
 empty_valid = record {
   form = (tt, tt);
@@ -239,20 +242,25 @@ pub sound_all : (parent : Row) (all rest : Children Row) → children_of rest �
 sound_all parent all none e same = same.1 tt
 sound_all parent all (child step tree rest) e same = cc
 
+-- the first branch and those behind it have together the size of all
 pub left_smaller : (rest left : Children Row) (step : Step) (tree : Tree Row) → children_of rest ≡ (step, tree) ∷ children_of left → tree_size tree + children_size left ≡ children_size rest
 left_smaller rest left step tree e = sym (ap children_size (first_child rest left step tree e))
 
+-- the branches of a table are smaller than the table
 pub below_smaller : (tree : Tree Row) → children_size (below tree) < tree_size tree
 below_smaller (node row children) = omega arith
 
+-- in a table that a walk finds right the row at the root is valid and the branches are right
 pub sound_parts : (tree : Tree Row) (row : Row) → row_of tree ≡ Some row → IsSound tree → IsValidRow row × AreSound row (below tree)
 sound_parts (node None children) row e h = cc
 sound_parts (node (Some here) children) row e h = let same : here ≡ row = cc in (subst IsValidRow same h.0, subst (λ r. AreSound r children) same h.1)
 
+-- a table with a valid row at its root and right branches is one that a walk finds right
 pub sound_whole : (tree : Tree Row) (row : Row) → row_of tree ≡ Some row → IsValidRow row → AreSound row (below tree) → IsSound tree
 sound_whole (node None children) row e h k = cc
 sound_whole (node (Some here) children) row e h k = let same : row ≡ here = cc in (subst IsValidRow same h, subst (λ r. AreSound r children) same k)
 
+-- where the list of branches is empty, there are no branches
 pub no_children : (children : Children Row) → children_of children ≡ [] → children ≡ none
 no_children none e = refl
 no_children (child step tree children) e = cc
