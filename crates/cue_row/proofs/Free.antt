@@ -21,6 +21,7 @@ not_false : (b : Bool) → (b ≡ false → ⊥) → b ≡ true
 not_false true h = refl
 not_false false h = absurd (h refl)
 
+-- where no length is refused, there is no greatest length
 pub no_greatest : (most : Option ℕ) → ((n : ℕ) → RefusesLength most n → ⊥) → most ≡ None
 no_greatest None h = refl
 no_greatest (Some m) h = absurd (h (m + 1) (omega arith))

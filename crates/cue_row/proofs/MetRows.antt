@@ -19,6 +19,7 @@ below_max k m n x e = (
   λ h. ⊎_elim (λ l. omega arith) (λ l. omega arith) h,
 )
 
+-- a row refuses what one of two others refuses where each of its parts does so of theirs
 pub met_rows :
     (a b m : Row) → level_of m.level ≡ max (level_of a.level) (level_of b.level)
     → ((x : Scalar) → RefusesScalar m.value x ↔ (RefusesScalar a.value x ⊎ RefusesScalar b.value x))

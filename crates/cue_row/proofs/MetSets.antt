@@ -20,10 +20,12 @@ use Rattle.cue_row.specs.ValidRow.{IsWord, AreWords, AreLabelWords}
 clash : (b : Bool) → b ≡ true → b ≡ false → ⊥
 clash b p q = false≢true (sym q ∙ p)
 
+-- what is not false is true
 pub not_refused : (b : Bool) → (b ≡ false → ⊥) → b ≡ true
 not_refused true h = refl
 not_refused false h = absurd (h refl)
 
+-- what is not true is false
 pub not_member : (b : Bool) → (b ≡ true → ⊥) → b ≡ false
 not_member true h = absurd (h refl)
 not_member false h = refl
@@ -100,11 +102,13 @@ not_false : (b : Bool) → not b ≡ false → b ≡ true
 not_false true e = refl
 not_false false e = absurd (false≢true (sym e))
 
+-- a text that is listed among words is a word
 pub word_of : (xs : List (List ℕ)) (t : List ℕ) → AreWords xs → is_listed xs t ≡ true → IsWord t
 word_of [] t h e = absurd (false≢true e)
 word_of (x ∷ xs) t h e =
     ⊎_elim (λ here. subst IsWord ((bytes_eq-Decides x t).0 here) h.0) (λ further. word_of xs t h.1 further) (or_cases (bytes_eq x t) (is_listed xs t) e)
 
+-- where each text that is listed is a word, all of the list are words
 pub words_of : (xs : List (List ℕ)) → ((t : List ℕ) → is_listed xs t ≡ true → IsWord t) → AreWords xs
 words_of [] h = tt
 words_of (x ∷ xs) h = (h x (first_is_listed x xs), words_of xs (λ t e. h t (or_true (bytes_eq x t) (is_listed xs t) e)))

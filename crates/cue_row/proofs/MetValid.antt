@@ -30,6 +30,7 @@ pub record AreMetRows (a b m : Row) : Type 0 where
   pub row : IsRow m
   pub met : IsMetRow a b m
 
+-- the order of the two rows makes no difference
 pub turned : (a b m : Row) → AreMetRows a b m → AreMetRows b a m
 turned a b m h = record {
   left = h.right;
@@ -69,6 +70,7 @@ not_allowed labels l e r = let no : RefusesLabel None l = subst (λ (x : Option 
 not_short : (most : Option ℕ) (n : ℕ) → most ≡ None → RefusesLength most n → ⊥
 not_short most n e r = subst (λ (x : Option ℕ). RefusesLength x n) e r
 
+-- where neither row says which labels may stand, the met row doesn't
 pub no_labels : (a b m : Row) → AreMetRows a b m → a.labels ≡ None → b.labels ≡ None → m.labels ≡ None
 no_labels a b m h e f =
     same_labels m.labels None h.row.labels tt (λ l. (
@@ -90,6 +92,7 @@ least_below a b m n h p q =
 no_most : (a b m : Row) → AreMetRows a b m → a.most ≡ None → b.most ≡ None → m.most ≡ None
 no_most a b m h e f = no_greatest m.most (λ n r. ⊎_elim (not_short a.most n e) (not_short b.most n f) ((h.met (questions.LengthAtLeast n)).0 r))
 
+-- what is met of two optional rows is optional
 pub met_level : (a b m : Row) → AreMetRows a b m → a.level ≡ Optional → b.level ≡ Optional → m.level ≡ Optional
 met_level a b m h e f =
     let left = ap level_of e in
@@ -230,6 +233,7 @@ lengths_met a b (Some x) left right least p q l r s h = (
       ((h (x + 1)).0 (omega arith)),
 )
 
+-- what is met of two valid rows is a valid row
 pub met_valid : (a b m : Row) → AreMetRows a b m → IsValidRow a → IsValidRow b → IsValidRow m
 met_valid a b m h p q =
     let left : FitsAs a p.kind = (p.is_kind, p.usual, p.labels, p.row_lengths) in
