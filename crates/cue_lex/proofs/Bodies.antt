@@ -12,10 +12,12 @@ use Rattle.cue_lattice.specs.Limits.{word_limit}
 use Rattle.cue_lex.specs.Strings.{body, with_front, with_escape, bad_string, escape}
 use Rattle.cue_lex.specs.Lexemes.{kept, EndsAscii}
 
+-- no bytes in front change nothing
 pub with_front-nil : (r : Result (List ℕ × ℕ) Refusal) → with_front [] r ≡ r
 with_front-nil (Ok found) = refl
 with_front-nil (Err refusal) = refl
 
+-- bytes put in front of what has others in front are in front with them
 pub with_front-append : (xs ys : List ℕ) (r : Result (List ℕ × ℕ) Refusal) → with_front xs (with_front ys r) ≡ with_front (xs ++ ys) r
 with_front-append xs ys (Ok (text, end)) = ap (λ all. Ok (all, end)) (sym (append_assoc xs ys text))
 with_front-append xs ys (Err refusal) = refl
@@ -41,6 +43,7 @@ body-raw start place b bytes raw =
     let backslash = ne_eqb b 92 raw.no_backslash in
     rw (quote, line, backslash) refl
 
+-- bytes that stand for themselves come before what the bytes after them stand for
 pub body-raws : (start place : ℕ) (xs rest : List ℕ) → ((k : ℕ) → k < length xs → IsRaw (get_or xs k 0)) → body start 0 place (xs ++ rest) ≡ with_front xs (body start 0 (place + length xs) rest)
 body-raws start place [] rest raw = sym (with_front-nil _ ∙ ap (λ n. body start 0 n rest) (add-zero place))
 body-raws start place (x ∷ xs) rest raw =
@@ -61,6 +64,7 @@ body-char start place c bytes rest split raw =
     (λ high. record { no_quote = λ e. absurd (omega arith); no_break = λ e. absurd (omega arith); no_backslash = λ e. absurd (omega arith) })
     (order (get_or (encode_utf8 c) k 0) 128))
 
+-- a character that stands for itself comes before what the bytes after it stand for
 pub char_element : (text rest : List ℕ) (c width : ℕ) → text ≡ encode_utf8 c ++ rest → width ≡ len_utf8 c → IsRaw c → (start place : ℕ) → body start 0 place text ≡ with_front (encode_utf8 c) (body start 0 (place + width) (drop width text))
 char_element text rest c width split is_width raw start place =
     let size : length (encode_utf8 c) ≡ width = length-encode c ∙ sym is_width in
@@ -68,6 +72,7 @@ char_element text rest c width split is_width raw start place =
     let left : drop width text ≡ rest = subst (λ n. drop n text ≡ rest) all (drop_past_char text rest 0 c split) in
     body-char start place c text rest split raw ∙ rw (size, left) refl
 
+-- the character of an escape comes before what the bytes after the escape stand for
 pub escape_element : (text : List ℕ) (c width : ℕ) → 0 < length text → get_or text 0 0 ≡ 92 → escape (drop 1 text) ≡ Some (c, width) → width ≤ length (drop 1 text) → (start place : ℕ) → body start 0 place text ≡ with_front (encode_utf8 c) (body start 0 (place + (1 + width)) (drop (1 + width) text))
 escape_element [] c width some is_backslash found within start place = absurd (omega arith)
 escape_element (b ∷ bytes) c width some is_backslash found within start place =
@@ -79,6 +84,7 @@ escape_element (b ∷ bytes) c width some is_backslash found within start place 
     ∙ ap (λ n. with_front (encode_utf8 c) (body start 0 n (drop width bytes))) e
     ∙ ap (λ n. with_front (encode_utf8 c) (body start 0 (place + (1 + width)) (drop n (b ∷ bytes)))) d
 
+-- a backslash with no escape makes the string a bad one at its place
 pub bad_element : (text : List ℕ) → 0 < length text → get_or text 0 0 ≡ 92 → escape (drop 1 text) ≡ None → (start place : ℕ) → body start 0 place text ≡ Err (bad_string place)
 bad_element [] some is_backslash none start place = absurd (omega arith)
 bad_element (b ∷ bytes) some is_backslash none start place =
@@ -94,6 +100,7 @@ pub record BodySoFar (start : ℕ) (text decoded : List ℕ) (len : ℕ) (rest :
   pub left : drop len text ≡ rest
   pub meant : body start 0 (start + 1) text ≡ with_front whole (body start 0 (start + 1 + len) rest)
 
+-- before the first element nothing was decoded
 pub body_begins : (start : ℕ) (text : List ℕ) → BodySoFar start text [] 0 text
 body_begins start text = record {
   whole = [];

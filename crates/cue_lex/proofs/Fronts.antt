@@ -14,6 +14,7 @@ use Rattle.cue_lex.specs.Lexemes.{EndsAscii, len_of}
 use Rattle.cue_lex.specs.declared.lexeme.Lexeme.{Lexeme}
 use Rattle.cue_lattice.specs.declared.refusal.Refusal.{Refusal}
 
+-- bytes that begin with three given ones are at least as many, and have the last of these as third
 pub starts_three : (a b c : ℕ) (bytes : List ℕ) → starts_with nat_eq bytes (a ∷ b ∷ c ∷ []) ≡ true → (3 ≤ length bytes) × (get_or bytes 2 0 ≡ c)
 starts_three a b c [] starts = cc
 starts_three a b c (x ∷ []) starts = let no : false ≡ true = (and_parts (nat_eq a x) false starts).1 in cc
@@ -81,6 +82,7 @@ line_boundary bytes =
     (λ above. let e : length bytes ≡ prefix_len (λ b. not (b == 10)) bytes = omega arith in subst (IsCharBoundary bytes) e (IsCharBoundary-end bytes))
     (order (prefix_len (λ b. not (b == 10)) bytes) (length bytes))
 
+-- a text may be cut after a lexeme whose last byte is ASCII
 pub found_boundary : (bytes text : List ℕ) → bytes ≡ text → IsUtf8 text → (found : Result Lexeme Refusal) → IfOk found (λ lexeme. EndsAscii bytes (len_of lexeme)) → IfOk found (λ lexeme. IsCharBoundary text (len_of lexeme))
 found_boundary bytes text same utf8 (Ok lexeme) ends = ends_boundary text (len_of lexeme) utf8 (subst (λ xs. EndsAscii xs (len_of lexeme)) same ends)
 found_boundary bytes text same utf8 (Err refusal) ends = tt

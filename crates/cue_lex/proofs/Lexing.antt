@@ -32,6 +32,7 @@ pub record LexedSoFar (text : List ℕ) (found : List Token) (line_end : Option 
   pub size : place + length rest ≡ length text
   pub total : prepended found (commas line_end (pieces minus 0 place rest)) ≡ commas None (pieces false 0 0 text)
 
+-- before the first byte no token was found
 pub lexing_begins : (text : List ℕ) → LexedSoFar text [] None false 0 text
 lexing_begins text = record { size = omega arith; total = prepended-nil _ }
   where

@@ -67,6 +67,7 @@ signed_len-two : (rest : List ℕ) → 0 < word_len rest → signed_len (codes "
 unfolding signed_len
 signed_len-two rest some = let yes = lt-ltb 0 (word_len rest) some in rw yes refl
 
+-- no identifier at the front is longer than the one that is taken
 pub identifier_longest : (bytes front rest : List ℕ) → IsIdentifier front → bytes ≡ front ++ rest → length front ≤ identifier_len bytes
 unfolding identifier_len
 identifier_longest bytes front rest is split =

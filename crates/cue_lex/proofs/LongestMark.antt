@@ -108,6 +108,7 @@ found_case bytes false false false true i3 il ig io = longer_case bytes (codes "
 found_case [] false false false false i3 il ig io = search rules
 found_case (b ∷ bs) false false false false i3 il ig io = single_case b bs (first_of b single_marks) refl i3 il ig io
 
+-- the longest mark is taken
 pub takes_the_longest : TakesTheLongest
 unfolding mark
 takes_the_longest bytes = found_case bytes (starts_with nat_eq bytes (codes "...")) (starts_with nat_eq bytes (codes "<=")) (starts_with nat_eq bytes (codes ">=")) (starts_with nat_eq bytes (codes "!=")) refl refl refl refl
