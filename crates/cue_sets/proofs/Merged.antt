@@ -39,6 +39,7 @@ IsAscending-right : (kept : Bool → Bool → Bool) (ys : List (List ℕ)) → I
 IsAscending-right kept [] b = tt
 IsAscending-right kept (y ∷ ys) b = IsAscending-prepended (kept false true) y _ (IsBelowAll-right kept y ys b.0) (IsAscending-right kept ys b.1)
 
+-- a merge of two ascending lists ascends
 pub IsAscending-merged : (kept : Bool → Bool → Bool) (xs ys : List (List ℕ)) → IsAscending xs → IsAscending ys → IsAscending (merged kept xs ys)
 IsAscending-merged kept [] ys a b = IsAscending-right kept ys b
 IsAscending-merged kept (x ∷ xs) ys a b = from (λ zs d. IsAscending-merged kept xs zs a.1 d) ys b where
@@ -70,6 +71,7 @@ right_listed kept (y ∷ ys) t none b =
     (rw (bytes_eq-itself y) refl, right_listed kept ys y none b.1 ∙ ap (kept false) (is_listed-below y ys b.0) ∙ none))
     (λ h. right_listed kept ys t none b.1 ∙ rw h refl)
 
+-- whether a merge lists a text is told by whether each of the two lists does
 pub is_listed-merged : (kept : Bool → Bool → Bool) (xs ys : List (List ℕ)) (t : List ℕ) → kept false false ≡ false → IsAscending xs → IsAscending ys → is_listed (merged kept xs ys) t ≡ kept (is_listed xs t) (is_listed ys t)
 is_listed-merged kept [] ys t none a b = right_listed kept ys t none b
 is_listed-merged kept (x ∷ xs) ys t none a b = from (λ zs s d. is_listed-merged kept xs zs s none a.1 d) ys b t where

@@ -9,6 +9,7 @@ use Rattle.std.proofs.lemmas.Int.{ints, by_lt_z}
 use Rattle.cue_sets.specs.Pieces.{is_member, is_int64, least, greatest, AscendsFrom}
 use Rattle.cue_sets.specs.PieceLaws.{le_true, le_false}
 
+-- whether two pieces are equal
 abbrev pub piece_eq : ℤ × ℤ → ℤ × ℤ → Bool
 piece_eq a b = int_eq a.0 b.0 && int_eq a.1 b.1
 

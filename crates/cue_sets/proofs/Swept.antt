@@ -117,6 +117,7 @@ pub record IsAhead (from : ℤ) (pieces rest : List (ℤ × ℤ)) : Type 0 where
   pub ends : EndsFrom from rest
   pub members : (n : ℤ) → from ≤ℤ n → is_member rest n ≡ is_member pieces n
 
+-- whether a number is a member of a combination of two sets
 abbrev pub wanted_of : Combination → List (ℤ × ℤ) → List (ℤ × ℤ) → ℤ → Bool
 wanted_of how left right n = keeps how (is_member left n) (is_member right n)
 
@@ -141,6 +142,7 @@ IsAhead-none pieces a = record { ascending = a; ends = ends pieces a; members = 
   ends [] a = tt
   ends (piece ∷ pieces) a = let b = a.0 in let d = a.1 in omega (arith, ints)
 
+-- before the first number nothing is made, and all pieces are ahead
 pub IsCombined-none : (how : Combination) (left right : List (ℤ × ℤ)) → IsCanonical left → IsCanonical right → IsCombined how left right [] None least left right
 IsCombined-none how left right l r = record {
   swept = IsSwept-none (wanted_of how left right) (λ n h. wanted-outside how left right n (is_member-below least left n l h) (is_member-below least right n r h));
@@ -154,6 +156,7 @@ IsSwept-both how left right made begun from on_left on_right last in_left in_rig
     rw (m, b, e) (IsSwept-more made begun from last kept (wanted_of how left right) h top s.swept
     (λ n low high. rw (← s.ahead_left.members n low, ← s.ahead_right.members n low, l n low high, r n low high) (sym k)))
 
+-- pieces that have from a later number on what those ahead have are ahead from there
 pub IsAhead-more : (from next : ℤ) (pieces rest later : List (ℤ × ℤ)) → from ≤ℤ next → IsAhead from pieces rest → IsCanonical later → EndsFrom next later → ((n : ℤ) → next ≤ℤ n → is_member later n ≡ is_member rest n) → IsAhead next pieces later
 IsAhead-more from next pieces rest later h a c e m = record { ascending = c; ends = e; members = λ n k. m n k ∙ a.members n (omega (arith, ints)) }
 
@@ -166,11 +169,13 @@ closed-ending : (begun : Option ℤ) → closed begun (greatest +ℤ pos 1) fals
 closed-ending None = refl
 closed-ending (Some first) = refl
 
+-- after the last number the pieces that were made have the members of the combination
 pub IsCombined-all : (how : Combination) (left right made : List (ℤ × ℤ)) (begun : Option ℤ) (final : List (ℤ × ℤ)) → IsCanonical left → IsCanonical right → IsSwept made begun (greatest +ℤ pos 1) (wanted_of how left right) → final ≡ made ++ ending begun → IsCanonical final × ((n : ℤ) → is_member final n ≡ wanted_of how left right n)
 IsCombined-all how left right made begun final l r s e =
     subst (λ pieces. IsCanonical pieces × ((n : ℤ) → is_member pieces n ≡ wanted_of how left right n)) (ap (λ later. made ++ later) (closed-ending begun) ∙ sym e)
     (IsSwept-all made begun (wanted_of how left right) (λ n h. wanted-outside how left right n (is_member-above least left n l h) (is_member-above least right n r h)) s)
 
+-- what ends at a number or later ends at each lower number or later
 pub EndsFrom-lower : (s t : ℤ) (pieces : List (ℤ × ℤ)) → EndsFrom t pieces → s ≤ℤ t → EndsFrom s pieces
 EndsFrom-lower s t [] e h = tt
 EndsFrom-lower s t (piece ∷ pieces) e h = omega (arith, ints)

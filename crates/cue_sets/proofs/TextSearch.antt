@@ -11,6 +11,7 @@ use Rattle.std.specs.List.Sorted.{IsNonDecreasingBy, IsBinarySearchResult, IsSea
 use Rattle.cue_sets.specs.Texts.{is_listed, text_cmp, IsBelowAll, IsAscending}
 use Rattle.cue_sets.specs.TextLaws.{same_from_equal, bytes_eq-itself, bytes_eq-less, bytes_eq-greater, reverse_cmp}
 
+-- how a text of the list compares with the one that is searched, as a number
 abbrev pub place : List ℕ → List ℕ → ℕ
 place text listed = ordering_index (text_cmp listed text)
 
@@ -18,11 +19,13 @@ or_true : (a : Bool) → (a || true) ≡ true
 or_true true = refl
 or_true false = refl
 
+-- the text at each place of a list is listed
 pub listed_at : (texts : List (List ℕ)) (k : ℕ) (d : List ℕ) → k < length texts → is_listed texts (get_or texts k d) ≡ true
 listed_at [] k d l = absurd (omega arith)
 listed_at (x ∷ texts) zero d l = rw (bytes_eq-itself x) refl
 listed_at (x ∷ texts) (suc k) d l = rw (listed_at texts k d (omega arith)) (or_true _)
 
+-- a text that equals none of a list is not listed
 pub not_listed : (texts : List (List ℕ)) (text : List ℕ) → ((k : ℕ) → k < length texts → bytes_eq (get_or texts k []) text ≡ false) → is_listed texts text ≡ false
 not_listed [] text h = refl
 not_listed (x ∷ texts) text h = rw (h 0 (omega arith)) (not_listed texts text (λ k l. h (suc k) (omega arith)))
@@ -37,6 +40,7 @@ first_place x text y h Greater e =
     let f : text_cmp text y ≡ Less = nat_list_cmp_total.trans text x y (reverse_cmp x text Greater e) h in
     rw (reverse_cmp text y Less f) (omega arith)
 
+-- a text below all of a list is below the one at each place
 pub at_or_below : (x : List ℕ) (texts : List (List ℕ)) (k : ℕ) (d : List ℕ) → IsBelowAll x texts → k < length texts → text_cmp x (get_or texts k d) ≡ Less
 at_or_below x [] k d b l = absurd (omega arith)
 at_or_below x (y ∷ texts) zero d b l = b.0
@@ -49,6 +53,7 @@ places_ascend (x ∷ texts) text a zero (suc j) d h l = first_place x text (get_
 places_ascend (x ∷ texts) text a (suc i) zero d h l = absurd (omega arith)
 places_ascend (x ∷ texts) text a (suc i) (suc j) d h l = places_ascend texts text a.1 i j d (omega arith) (omega arith)
 
+-- a search in an ascending list finds a text just where it is listed
 pub is_listed-searched : (texts : List (List ℕ)) (text : List ℕ) (r : Result ℕ ℕ) → IsAscending texts → IsSearchInRange r (length texts) → IsBinarySearchResult (λ listed. text_cmp listed text) texts r → is_ok r ≡ is_listed texts text
 is_listed-searched texts text (Ok k) a bound found =
     sym (subst (λ t. is_listed texts t ≡ true) (same_from_equal (get_or texts k []) text (found [])) (listed_at texts k [] bound))

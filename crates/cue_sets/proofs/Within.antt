@@ -16,6 +16,7 @@ EachIsListed texts others wanted = (text : List ℕ) → is_listed texts text �
 abbrev pub TextsWithin : Bool × List (List ℕ) → Bool × List (List ℕ) → Type 0
 TextsWithin a b = (text : List ℕ) → is_text_member a text ≡ true → is_text_member b text ≡ true
 
+-- the other list has each of the first n texts, or none of them
 abbrev pub ListedBefore : ℕ → List (List ℕ) → List (List ℕ) → Bool → Type 0
 ListedBefore n texts others wanted = (k : ℕ) (d : List ℕ) → k < n → is_listed others (get_or texts k d) ≡ wanted
 
@@ -89,6 +90,7 @@ finite_answer r a b xs ys e p q h =
     let w = finite_within a b e in
     (λ t. w.0 (k.0 t), λ t. k.1 (w.1 t))
 
+-- the same of two sets that have all texts but some
 pub cofinite_answer :
     (r : Bool) (a b : Bool × List (List ℕ)) (xs ys : List (List ℕ)) → a.0 ≡ true → b.0 ≡ true → xs ≡ a.1 → ys ≡ b.1
     → (IsTrue r ↔ EachIsListed ys xs true) → IsTrue r ↔ TextsWithin a b
