@@ -90,9 +90,11 @@ no_member set p e f (scalars.Bool true) = (no_plain set p).2
 no_member set p e f (scalars.Int n) = no_int set e n
 no_member set p e f (scalars.Text t) = no_text set f t
 
+-- where no scalar is a member, neither null nor a truth value is one
 pub no_plain_member : (set : ScalarSet) → ((s : Scalar) → members set s ≡ false) → has_plain set ≡ true → ⊥
 no_plain_member set h e = let w = some_plain set e in clash _ w.2 (h w.0)
 
+-- where no scalar is a member, the set of texts can't be other than empty
 pub no_text_member : (set : ScalarSet) → ((s : Scalar) → members set s ≡ false) → (set.texts ≡ (false, []) → ⊥) → ⊥
 no_text_member set h n = let w = some_text set.texts n in clash _ w.1 (h (scalars.Text w.0))
 
@@ -103,6 +105,7 @@ empty_texts (true, xs) h =
     let n : ℕ = greatest_length xs + 1 in
     absurd (false≢true (sym (h (zeros n)) ∙ ap not (is_listed-zeros xs n (omega arith))))
 
+-- where no scalar is a member, the set of texts is empty
 pub no_text_at_all : (set : ScalarSet) → ((s : Scalar) → members set s ≡ false) → set.texts ≡ (false, [])
 no_text_at_all set h = empty_texts set.texts (λ t. h (scalars.Text t))
 
@@ -112,6 +115,7 @@ all_parts true true c e = (refl, refl, e)
 all_parts true false c e = absurd (false≢true e)
 all_parts false b c e = absurd (false≢true e)
 
+-- a set that has null and both truth values and refuses no integer and no text refuses no scalar
 pub refuses_none : (set : ScalarSet) → (set.null && set.no && set.yes) ≡ true → ((n : ℤ) → ¬ Refuses set.ints n) → ((t : List ℕ) → ¬ RefusesText set.texts t) → (s : Scalar) → ¬ RefusesScalar set s
 refuses_none set p e f scalars.Null r = clash _ (all_parts set.null set.no set.yes p).0 r
 refuses_none set p e f (scalars.Bool false) r = clash _ (all_parts set.null set.no set.yes p).1 r
@@ -119,6 +123,7 @@ refuses_none set p e f (scalars.Bool true) r = clash _ (all_parts set.null set.n
 refuses_none set p e f (scalars.Int n) r = e n r
 refuses_none set p e f (scalars.Text t) r = f t r
 
+-- a set that refuses no scalar has null and both truth values
 pub all_plain : (set : ScalarSet) → ((s : Scalar) → ¬ RefusesScalar set s) → (set.null && set.no && set.yes) ≡ true
 all_plain set h = cases set.null set.no set.yes (h scalars.Null) (h (scalars.Bool false)) (h (scalars.Bool true)) where
   cases : (a b c : Bool) → ¬ (a ≡ false) → ¬ (b ≡ false) → ¬ (c ≡ false) → (a && b && c) ≡ true

@@ -39,12 +39,15 @@ one_default : (usual : Option Scalars) (value : Scalars) → default (is_some us
 one_default None value = refl
 one_default (Some set) value = ap Some (fun_ext (λ x. and_true (set x)))
 
+-- one of the values has a default
 abbrev pub any_given : List Pair → Bool
 any_given pairs = list_any (λ pair. is_some pair.usual) pairs
 
+-- the scalars that each brings: those of its default, or of its value where it has none
 abbrev pub all_bring : List Pair → Scalars
 all_bring pairs x = list_all (λ pair. brought pair x) pairs
 
+-- the scalars that the value of each lets stand
 abbrev pub all_let : List Pair → Scalars
 all_let pairs x = list_all (λ pair. pair.value x) pairs
 
@@ -76,12 +79,14 @@ all_of-append xs ys =
     ∙ ap (λ given. default (is_some (all_of xs).usual || given) met) (sym (is_some_default (any_given ys) (all_bring ys))) in
     λ i. record { value = value i; usual = usual i }
 
+-- the unification of one value is that value
 pub all_of-one : (pair : Pair) → all_of (pair ∷ []) ≡ pair
 all_of-one pair =
     let value = fun_ext (λ x. and_true (pair.value x)) in
     let usual = one_default pair.usual pair.value in
     λ i. record { value = value i; usual = usual i }
 
+-- a list of length one holds its first value alone
 pub one_value : (values : List Valued) (value : Valued) → length values ≡ 1 → value ≡ get_or values 0 value → values ≡ value ∷ []
 one_value [] value l e = absurd (omega arith)
 one_value (x ∷ []) value l e = ap (λ y. y ∷ []) (sym e)

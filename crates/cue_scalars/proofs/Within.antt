@@ -38,6 +38,7 @@ within_from_parts a b plain ints texts (scalars.Bool true) m = implied a.yes b.y
 within_from_parts a b plain ints texts (scalars.Int n) m = ints n m
 within_from_parts a b plain ints texts (scalars.Text t) m = texts t m
 
+-- where all members are members of another set, so are null and the truth values among them
 pub plain_from_within : (a b : ScalarSet) → IsWithin a b → plain_within a b ≡ true
 plain_from_within a b h =
     all_of (not a.null || b.null) (not a.no || b.no) (not a.yes || b.yes)
