@@ -1,18 +1,18 @@
 -- Sites that accept one text more, or a state.
-use Rattle.std.proofs.Common.{ℕ, List, [], ◌∷◌, ◌++◌, map, None}
+use Rattle.std.proofs.Common.{ℕ, List, [], ◌∷◌, ◌++◌, map}
 use Rattle.std.specs.List.{AllByRecursion}
 use Rattle.std.proofs.lemmas.List.{map_push}
-use Rattle.cue_lattice.specs.World.{IsUnified, text, state}
-use Rattle.cue_replica.specs.Language.{Table, language}
+use Rattle.cue_lattice.specs.World.{Piece, piece_refuses, IsUnified, text, state}
+use Rattle.cue_replica.specs.Language.{Table, language, opening}
 use Rattle.cue_replica.specs.Replica.{Adds}
-use Rattle.cue_replica.specs.Accepted.{IsOfTexts, IsOfState}
+use Rattle.cue_replica.specs.Accepted.{IsOfTexts, IsOfState, IsAcceptable, IsOfPieces}
 use Rattle.cue_replica.proofs.Adding.{unified_more, one_piece}
 
 -- a new site has accepted nothing
-none_unified : IsUnified language None []
+none_unified : IsUnified language opening []
 none_unified = (tt, λ path question. (λ h. h, λ h. h))
 
-pub of_no_text : IsOfTexts None []
+pub of_no_text : IsOfTexts opening []
 of_no_text = (tt, none_unified)
 
 all_push : (P : List ℕ → Type 0) (texts : List (List ℕ)) (more : List ℕ) → AllByRecursion P texts → P more → AllByRecursion P (texts ++ more ∷ [])
@@ -28,7 +28,23 @@ of_one_text_more old new texts more is legal adds valid = (
 )
 
 pub of_state :
-    (new : Table) (bytes : List ℕ) → language.IsState bytes → Adds None (language.state_refuses bytes) new
-    → (language.IsValid None → language.IsValid new) → IsOfState new bytes
+    (new : Table) (bytes : List ℕ) → language.IsState bytes → Adds opening (language.state_refuses bytes) new
+    → (language.IsValid opening → language.IsValid new) → IsOfState new bytes
 of_state new bytes is adds valid =
-    (is, unified_more None new (language.state_refuses bytes) [] (state bytes ∷ []) none_unified adds valid (one_piece (state bytes)))
+    (is, unified_more opening new (language.state_refuses bytes) [] (state bytes ∷ []) none_unified adds valid (one_piece (state bytes)))
+
+-- one piece more
+pub of_no_piece : IsOfPieces opening []
+of_no_piece = (tt, none_unified)
+
+all_more : (pieces : List Piece) (more : Piece) → AllByRecursion IsAcceptable pieces → IsAcceptable more → AllByRecursion IsAcceptable (pieces ++ more ∷ [])
+all_more [] more h p = (p, tt)
+all_more (piece ∷ pieces) more h p = (h.0, all_more pieces more h.1 p)
+
+pub of_one_piece_more :
+    (old new : Table) (pieces : List Piece) (more : Piece) → IsOfPieces old pieces → IsAcceptable more
+    → Adds old (piece_refuses language more) new → (language.IsValid old → language.IsValid new) → IsOfPieces new (pieces ++ more ∷ [])
+of_one_piece_more old new pieces more is acceptable adds valid = (
+  all_more pieces more is.0 acceptable,
+  unified_more old new (piece_refuses language more) pieces (more ∷ []) is.1 adds valid (one_piece more),
+)

@@ -1,12 +1,12 @@
 ghost use Rattle.std.specs.Prelude.{◌≡◌, ◌⊎◌, ◌↔◌, IsTrue, IfOk, IfErr, OnOk, OnErr, IsErrOf, None};
 ghost use Rattle.cue_lattice.specs.Refusal.{memory, refusal_at};
 ghost use Rattle.cue_flat_codec.specs.State.{IsVersionFault};
-ghost use Rattle.cue_flat_report.specs.Export.{IsExport};
 ghost use Rattle.cue_replica.specs.Language.{language};
+ghost use Rattle.cue_replica.specs.Reports.{IsExportOf, AreConflictsOf, AreGapsOf};
 
 use cue_flat::FlatTable;
 use cue_flat_codec::{decode, encode};
-use cue_flat_report::Export;
+use cue_flat_report::{Conflict, Export, Gap};
 use cue_flat_text::read;
 use cue_lattice::{Kind, Memory, Refusal};
 use std::alloc::Global;
@@ -94,9 +94,23 @@ impl Replica {
     /// The JSON of the configuration; or, where there are any, the conflicts; or else what is
     /// incomplete.
     pub fn export(&self, alloc: Global) -> Result<Export, Memory>
-        ensures { IfOk result (λ export. IsExport self.now export) }
+        ensures { IfOk result (IsExportOf self.now) }
     {
         cue_flat_report::export(alloc, &self.table)
+    }
+
+    /// The conflicts, in the order of their paths.
+    pub fn conflicts(&self, alloc: Global) -> Result<Vec<Conflict>, Memory>
+        ensures { IfOk result (λ found. AreConflictsOf self.now found.items) }
+    {
+        cue_flat_report::conflicts(alloc, &self.table)
+    }
+
+    /// What is incomplete, in the order of the paths.
+    pub fn incomplete(&self, alloc: Global) -> Result<Vec<Gap>, Memory>
+        ensures { IfOk result (λ gaps. AreGapsOf self.now gaps.items) }
+    {
+        cue_flat_report::incomplete(alloc, &self.table)
     }
 
     pub fn copy(&self, alloc: Global) -> Result<Replica, Memory>
