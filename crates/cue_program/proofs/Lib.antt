@@ -1,3 +1,4 @@
 pub mod Devices
+pub mod Files
 pub mod Lines
 pub mod Texts

@@ -5,7 +5,7 @@ use Rattle.std.specs.Str.{bytes_eq}
 use Rattle.std.proofs.lemmas.Slice.Eq.{bytes_eq-Decides}
 use Rattle.std.proofs.lemmas.Bool.{both_ways}
 use Rattle.std.proofs.lemmas.List.{append_assoc, length-append}
-use Rattle.cue_replica.specs.Language.{Table, language}
+use Rattle.cue_replica.specs.Language.{Table, language, opening}
 use Rattle.cue_replica.specs.Replica.{Adds}
 use Rattle.cue_replica.specs.Accepted.{IsOfTexts}
 use Rattle.cue_replica.proofs.Accepted.{of_no_text, of_one_text_more}
@@ -77,7 +77,7 @@ abbrev pub Submitted : List ℕ → Table → ℕ → Option (List ℕ) → Type
 Submitted bytes table number rest =
     (done : List (List ℕ)) × IsOfTexts table done × SoFar bytes done rest × (number ≡ min (length done) (2 ^ 64 - 1))
 
-pub submitted_none : (bytes : List ℕ) → Submitted bytes None 0 (Some bytes)
+pub submitted_none : (bytes : List ℕ) → Submitted bytes opening 0 (Some bytes)
 submitted_none bytes = ([], of_no_text, (λ parts are. are), refl)
 
 counted : (done : List (List ℕ)) (part : List ℕ) (old new : ℕ) → old ≡ min (length done) (2 ^ 64 - 1) → new ≡ min (old + 1) (2 ^ 64 - 1)

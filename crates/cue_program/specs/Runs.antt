@@ -1,20 +1,41 @@
--- What a run makes of a whole input, on devices whose bytes are known or not.
-use Rattle.std.specs.Prelude.{◌≡◌, ◌⊎◌, ℕ, List, Option, IfSome}
+-- What a run makes of all inputs, on devices whose bytes are known or not.
+use Rattle.std.specs.Prelude.{◌≡◌, ◌⊎◌, ℕ, zero, suc, List, [], length, Option, IfSome}
 use Rattle.cue_replica.specs.Language.{Table}
+use Rattle.cue_program.specs.declared.reply.Question.{Question}
+use Rattle.cue_program.specs.declared.reply.Question.TheVariants as questions
 use Rattle.cue_program.specs.declared.reply.Reply.{Reply}
+use Rattle.cue_program.specs.declared.reply.Status.TheVariants as statuses
 use Rattle.cue_program.specs.declared.stop.Stop.{Stop}
-use Rattle.cue_program.specs.Parts.{HoldsInput}
-use Rattle.cue_program.specs.Refused.{IsInputRefused}
-use Rattle.cue_program.specs.Replies.{TellsExport}
+use Rattle.cue_program.specs.Parts.{HoldsInput, HoldsFiles}
+use Rattle.cue_program.specs.Refused.{IsInputRefused, IsFileRefused}
+use Rattle.cue_program.specs.Replies.{Says, Tells}
 use Rattle.cue_program.specs.Stops.{IsReadFault}
 
--- The reply tells the export of a site that has taken the whole input: of a valid table with exactly the answers of the
--- pieces in it. (Where the reader's bytes are known, these are the input.)
-abbrev pub IsReplyFor : Option (List ℕ) → Reply → Type 0
-IsReplyFor known reply =
-    (bytes : List ℕ) × (table : Table) × IfSome known (λ all. bytes ≡ all) × HoldsInput bytes table × TellsExport table reply
+-- the table of a site that has taken so many files: it is valid, with exactly the answers of the pieces in them
+abbrev pub HoldsSomeFiles : ℕ → Table → Type 0
+HoldsSomeFiles count table = (files : List (List ℕ)) × (length files ≡ count) × HoldsFiles files table
 
--- What ends a run without a reply: the reading, the input, or out of memory for the reply.
-abbrev pub IsStopFor : Option (List ℕ) → Stop → Type 0
-IsStopFor known stop =
+-- The table of a site that has taken all inputs. Without a file the input is that of the reader (where its bytes are
+-- known, these), and otherwise each file is one.
+abbrev pub HoldsAll : ℕ → Option (List ℕ) → Table → Type 0
+HoldsAll zero known table = (bytes : List ℕ) × IfSome known (λ all. bytes ≡ all) × HoldsInput bytes table
+HoldsAll (suc more) known table = HoldsSomeFiles (suc more) table
+
+-- the reply answers the question about a site that has taken all inputs
+abbrev pub IsReplyFor : Question → ℕ → Option (List ℕ) → Reply → Type 0
+IsReplyFor question files known reply = (table : Table) × HoldsAll files known table × Tells question table reply
+
+-- nothing is said, once there was a reply for the file that is written, of the state of a site that has taken all inputs
+abbrev pub IsMergeOf : ℕ → Option (List ℕ) → Reply → Type 0
+IsMergeOf files known reply =
+    (state : Reply) × IsReplyFor questions.State files known state × Says reply [] statuses.Done
+
+-- what ends a run over files without a reply
+abbrev pub IsFilesStop : ℕ → Stop → Type 0
+IsFilesStop count stop = IsReadFault stop ⊎ IsFileRefused count stop
+
+-- What ends a run without a reply: a device, or out of memory, or the first input that is refused.
+abbrev pub IsStopFor : ℕ → Option (List ℕ) → Stop → Type 0
+IsStopFor zero known stop =
     IsReadFault stop ⊎ ((bytes : List ℕ) × IfSome known (λ all. bytes ≡ all) × IsInputRefused bytes stop)
+IsStopFor (suc more) known stop = IsFilesStop (suc more) stop

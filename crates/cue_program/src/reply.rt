@@ -1,15 +1,12 @@
-ghost use Rattle.std.specs.Prelude.{◌≡◌, IfOk, IfErr, OnOk};
+ghost use Rattle.std.specs.Prelude.{◌≡◌, IfOk, IfErr, OnOk, length, string_bytes};
 ghost use Rattle.std.specs.Io.KnownBytes.{Appends};
-ghost use Rattle.cue_program.specs.Replies.{code_of, IsReplyTo, TellsExport};
-ghost use Rattle.cue_program.specs.Runs.{IsReplyFor, IsStopFor};
+ghost use Rattle.cue_program.specs.Replies.{code_of, status_of, IsReplyTo, Tells};
 ghost use Rattle.cue_program.specs.Stops.{IsMemory, IsDevice};
 
-use crate::input::read_all;
-use crate::site::site_of;
 use crate::stop::Stop;
-use cue_replica::{Export, Replica, lines};
+use cue_replica::{Conflict, Export, Gap, Replica, lines};
 use std::alloc::Global;
-use std::io::{Read, Write};
+use std::io::Write;
 
 /// How the program ends.
 #[derive(Clone, Copy, Debug, PartialEq, Eq)]
@@ -31,30 +28,45 @@ impl Status {
     }
 }
 
+/// What is asked of a site.
+#[derive(Clone, Copy, Debug, PartialEq, Eq)]
+pub enum Question {
+    /// The JSON and a line break, or the conflict lines, or the incomplete lines.
+    Export,
+    /// The conflict lines, and then the incomplete lines.
+    Report,
+    /// The state bytes.
+    State,
+}
+
 /// What a command printed, and how it ends.
 #[derive(Debug, Drop)]
 pub struct Reply {
-    pub text: String,
+    pub bytes: Vec<u8>,
     pub status: Status,
 }
 
-/// The export of one new site that has taken the whole input: the JSON and a line break, or the
-/// conflict lines, or the incomplete lines.
+/// What a site answers.
 ///
 /// # Errors
 ///
-/// `Device`, `TurnsUsed`, `Memory`, and `RefusedInput` for the first input that is refused.
-pub fn export_of<R: Read>(alloc: Global, input: &mut R) -> Result<Reply, Stop>
-    ensures reply { IfOk result (IsReplyFor (R.remaining input.old)) }
-    ensures stop { IfErr result (IsStopFor (R.remaining input.old)) }
+/// `Memory`.
+pub fn told(alloc: Global, question: Question, site: &Replica) -> Result<Reply, Stop>
+    ensures tells { IfOk result (Tells question site.now) }
+    ensures memory { IfErr result IsMemory }
 {
-    let bytes = read_all(alloc, input)?;
-    let site = site_of(alloc, bytes.as_slice())?;
-    exported(alloc, &site)
+    match question {
+        Question::Export => exported(alloc, site),
+        Question::Report => reported(alloc, site),
+        Question::State => Ok(Reply {
+            bytes: site.state(alloc)?,
+            status: Status::Done,
+        }),
+    }
 }
 
 fn exported(alloc: Global, site: &Replica) -> Result<Reply, Stop>
-    ensures tells { IfOk result (TellsExport site.now) }
+    ensures tells { IfOk result (Tells Question.Export site.now) }
     ensures memory { IfErr result IsMemory }
 {
     reply_of(alloc, site.export(alloc)?)
@@ -73,19 +85,48 @@ fn reply_of(alloc: Global, export: Export) -> Result<Reply, Stop>
         Export::Conflicts(conflicts) => (lines(alloc, &conflicts, &[])?, Status::Conflicts),
         Export::Incomplete(gaps) => (lines(alloc, &[], &gaps)?, Status::Incomplete),
     };
-    Ok(Reply { text, status })
+    Ok(Reply {
+        bytes: text.into_bytes(),
+        status,
+    })
 }
 
-/// Writes a text, whole.
+fn reported(alloc: Global, site: &Replica) -> Result<Reply, Stop>
+    ensures tells { IfOk result (Tells Question.Report site.now) }
+    ensures memory { IfErr result IsMemory }
+{
+    let conflicts = site.conflicts(alloc)?;
+    let gaps = site.incomplete(alloc)?;
+    let text = lines(alloc, &conflicts, &gaps)?;
+    Ok(Reply {
+        bytes: text.into_bytes(),
+        status: status_of(&conflicts, &gaps),
+    })
+}
+
+/// How a report with these lines ends.
+fn status_of(conflicts: &[Conflict], gaps: &[Gap]) -> Status
+    ensures { result ≡ status_of conflicts.now gaps.now }
+{
+    if !conflicts.is_empty() {
+        Status::Conflicts
+    } else if !gaps.is_empty() {
+        Status::Incomplete
+    } else {
+        Status::Done
+    }
+}
+
+/// Writes bytes, all of them.
 ///
 /// # Errors
 ///
-/// `Device`, after which a part of the text may have been written.
-pub fn tell<W: Write>(out: &mut W, text: &str) -> Result<(), Stop>
-    ensures written { OnOk result (Appends (W.contents out.old) (W.contents out.new) text.now) }
+/// `Device`, after which a part of the bytes may have been written.
+pub fn tell<W: Write>(out: &mut W, bytes: &[u8]) -> Result<(), Stop>
+    ensures written { OnOk result (Appends (W.contents out.old) (W.contents out.new) bytes.now) }
     ensures fault { IfErr result IsDevice }
 {
-    match out.write_all(text.as_bytes()) {
+    match out.write_all(bytes) {
         Ok(()) => {}
         Err(_) => return Err(Stop::Device),
     }

@@ -2,8 +2,10 @@ ghost use Rattle.std.specs.Prelude.{◌≡◌, ◌↔◌, Some, IsTrue, IfOk, If
 ghost use Rattle.std.specs.Prelude.{slice_get};
 ghost use Rattle.cue_replica.specs.Language.{language};
 ghost use Rattle.cue_replica.specs.Replica.{Adds};
-ghost use Rattle.cue_program.specs.Parts.{HoldsInput, HoldsTexts};
-ghost use Rattle.cue_program.specs.Refused.{IsTextRefused, IsInputRefused};
+ghost use Rattle.cue_lattice.specs.World.{Piece, piece_refuses};
+ghost use Rattle.cue_replica.specs.Accepted.{IsAcceptable};
+ghost use Rattle.cue_program.specs.Parts.{HoldsInput, HoldsTexts, IsFilePiece};
+ghost use Rattle.cue_program.specs.Refused.{IsTextRefused, IsInputRefused, IsFileFault};
 ghost use Rattle.cue_program.specs.Stops.{IsByteFault, IsInputRefusedAs, IsPartFault};
 
 use crate::parts::first_part;
@@ -33,6 +35,24 @@ pub fn site_of(alloc: Global, bytes: &[u8]) -> Result<Replica, Stop>
         };
     }
     site_of_texts(alloc, bytes)
+}
+
+/// Hands the bytes of a file to a site, as the input of this number: a state, where they begin with
+/// the byte FE (hexadecimal), and otherwise one text.
+pub fn take_file(site: &mut Replica, bytes: &[u8], number: usize) -> Result<(), Stop>
+    ensures accepts { OnOk result ((piece : Piece) × IsFilePiece bytes.now piece
+        × IsAcceptable piece × Adds site.old (piece_refuses language piece) site.new) }
+    ensures valid { language.IsValid site.old → language.IsValid site.new }
+    ensures refused { IfErr result (λ stop. (why : Refusal) ×
+        IsInputRefusedAs why number stop × IsFileFault bytes.now why) }
+{
+    if !begins_a_state(bytes) {
+        return submit(site, bytes, number);
+    }
+    match site.take(bytes) {
+        Ok(()) => Ok(()),
+        Err(why) => Err(Stop::RefusedInput(why, number)),
+    }
 }
 
 /// Whether the first byte is that of a state.

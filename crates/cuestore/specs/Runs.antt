@@ -1,18 +1,43 @@
 -- Whole runs of the program, on devices whose bytes are known or not.
-use Rattle.std.specs.Prelude.{◌≡◌, ◌⊎◌, ℕ, List, Option, string_bytes}
+use Rattle.std.specs.Prelude.{◌≡◌, ◌⊎◌, ◌-◌, ℕ, List, length, Option}
 use Rattle.std.specs.Io.KnownBytes.{Appends}
+use Rattle.cue_program.specs.declared.Question.TheVariants as questions
 use Rattle.cue_program.specs.declared.Reply.{Reply}
 use Rattle.cue_program.specs.declared.Stop.{Stop}
 use Rattle.cue_program.specs.Replies.{code_of}
-use Rattle.cue_program.specs.Runs.{IsReplyFor, IsStopFor}
+use Rattle.cue_program.specs.Runs.{IsReplyFor, IsMergeOf, IsStopFor}
+use Rattle.cuestore.specs.declared.command.Command.{Command}
+use Rattle.cuestore.specs.declared.command.Command.TheVariants as commands
 use Rattle.cuestore.specs.declared.fault.Fault.{Fault}
 use Rattle.cuestore.specs.Faults.{Tells, IsWordFault}
+use Rattle.cuestore.specs.Words.{AsksFor}
+
+-- how many inputs are named among so many arguments: merging has one for the file that it writes
+abbrev pub inputs_of : Command → ℕ → ℕ
+inputs_of commands.Merge arguments = arguments - 1
+inputs_of _ arguments = arguments
+
+-- the reply that belongs to a command
+abbrev pub IsReplyOf : Command → ℕ → Option (List ℕ) → Reply → Type 0
+IsReplyOf commands.Export files known reply = IsReplyFor questions.Export files known reply
+IsReplyOf commands.Report files known reply = IsReplyFor questions.Report files known reply
+IsReplyOf commands.State files known reply = IsReplyFor questions.State files known reply
+IsReplyOf commands.Merge files known reply = IsMergeOf files known reply
+
+-- the words ask for something, to which this is the reply
+abbrev pub IsReplyToWords : List (List ℕ) → Option (List ℕ) → Reply → Type 0
+IsReplyToWords words known reply =
+    (command : Command) × (arguments : List (List ℕ)) × AsksFor words command arguments
+    × IsReplyOf command (inputs_of command (length arguments)) known reply
 
 -- What is told of a run without a reply: of the words, or of what ended it.
-abbrev pub IsFaultFor : Option (List ℕ) → Fault → Type 0
-IsFaultFor known fault = IsWordFault fault ⊎ ((stop : Stop) × IsStopFor known stop × Tells stop fault)
+abbrev pub IsFaultFor : List (List ℕ) → Option (List ℕ) → Fault → Type 0
+IsFaultFor words known fault =
+    IsWordFault fault
+    ⊎ ((command : Command) × (arguments : List (List ℕ)) × AsksFor words command arguments
+    × ((stop : Stop) × IsStopFor (inputs_of command (length arguments)) known stop × Tells stop fault))
 
--- The run ends with an answer: the status is that of a reply for the input, whose text was added to the output.
-abbrev pub IsAnswered : Option (List ℕ) → Option (List ℕ) → Option (List ℕ) → ℕ → Type 0
-IsAnswered input before after status =
-    (reply : Reply) × IsReplyFor input reply × (status ≡ code_of reply.status) × Appends before after (string_bytes reply.text)
+-- The run ends with an answer: the status is that of a reply to the words, whose bytes were added to the output.
+abbrev pub IsAnswered : List (List ℕ) → Option (List ℕ) → Option (List ℕ) → Option (List ℕ) → ℕ → Type 0
+IsAnswered words input before after status =
+    (reply : Reply) × IsReplyToWords words input reply × (status ≡ code_of reply.status) × Appends before after reply.bytes.items

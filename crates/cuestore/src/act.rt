@@ -1,36 +1,42 @@
-ghost use Rattle.std.specs.Prelude.{◌≡◌, ◌⊎◌, IfOk, IfErr};
-ghost use Rattle.cue_program.specs.Runs.{IsReplyFor};
+ghost use Rattle.std.specs.Prelude.{◌≡◌, ◌⊎◌, IfOk, IfErr, map, length, string_bytes};
 ghost use Rattle.cuestore.specs.Faults.{IsStopped};
-ghost use Rattle.cuestore.specs.Runs.{IsFaultFor, IsAnswered};
+ghost use Rattle.cuestore.specs.Runs.{inputs_of, IsReplyOf, IsReplyToWords, IsFaultFor, IsAnswered};
+ghost use Rattle.cuestore.specs.Words.{texts, HasEnough};
+ghost use Rattle.cue_program.specs.Runs.{IsStopFor};
 
-use crate::command::{Command, command_of};
+use crate::command::{Command, Request, request_of};
 use crate::fault::Fault;
-use cue_program::{Reply, Status, export_of, tell};
+use cue_program::{Question, Reply, Status, Stop, merge_into, reply_for, tell};
 use std::alloc::Global;
 use std::io::{Read, Write};
+use std::rt::Files;
 
 /// Runs the program on the words after its name, and answers the exit status: 0 done, 1 refused or
 /// a usage fault, 2 conflicts, 3 incomplete, 4 a device fault.
 ///
-/// `export` reads texts from the input, which are split at lines that are exactly `---`, or one
-/// state, which begins with the byte FE (hexadecimal), hands each to one new site, and writes the
-/// export to `out`: the JSON and a line break, or the conflict lines, or the incomplete lines. The
-/// first refused input ends the run with the line `refused NUMBER NAME at PLACE in K`, which goes
-/// to `out` too. `usage fault` and `device fault` go to `faults`.
-pub fn act<H: AllocGlobal, R: Read, W: Write, F: Write>(
+/// Each command hands inputs to one new site: the files that it names, of which those that begin
+/// with the byte FE (hexadecimal) are states and all others texts; or, where it names none, what
+/// `input` has: one state, or texts, which are split at lines that are exactly `---`. `export`
+/// writes to `out` the JSON and a line break, or the conflict lines, or the incomplete lines;
+/// `report` the conflict lines and then the incomplete lines; `state` the state bytes. `merge`
+/// writes the state bytes to the file that it names first. The first refused input ends the run
+/// with the line `refused NUMBER NAME at PLACE in K`, which goes to `out` too. `usage fault` and
+/// `device fault` go to `faults`.
+pub fn act<H: AllocGlobal + Files, R: Read, W: Write, F: Write>(
     rt: &H,
     words: &[String],
     input: &mut R,
     out: &mut W,
     faults: &mut F,
 ) -> u8
-    // It ends with 0, 2 or 3 only where the export of the whole input was added to the output: the
-    // export of a valid table with exactly the answers of the pieces in the input.
-    ensures { IsAnswered (R.remaining input.old) (W.contents out.old) (W.contents out.new) result
+    // It ends with 0, 2 or 3 only where what belongs to the command was added to the output: what is
+    // told of a valid table with exactly the answers of the pieces in all inputs.
+    ensures { IsAnswered (map string_bytes words.now) (R.remaining input.old)
+        (W.contents out.old) (W.contents out.new) result
         ⊎ (result ≡ 1) ⊎ (result ≡ 4) }
 {
-    let fault = match reply_to(rt.alloc(), words, input) {
-        Ok(reply) => match tell(out, reply.text.as_str()) {
+    let fault = match reply_to(rt, words, input) {
+        Ok(reply) => match tell(out, &reply.bytes) {
             Ok(()) => return reply.status.code(),
             Err(stop) => Fault::from(stop),
         },
@@ -40,15 +46,39 @@ pub fn act<H: AllocGlobal, R: Read, W: Write, F: Write>(
 }
 
 /// What the command that the words ask for prints.
-fn reply_to<R: Read>(alloc: Global, words: &[String], input: &mut R) -> Result<Reply, Fault>
-    ensures reply { IfOk result (IsReplyFor (R.remaining input.old)) }
-    ensures fault { IfErr result (IsFaultFor (R.remaining input.old)) }
+fn reply_to<H: AllocGlobal + Files, R: Read>(
+    rt: &H,
+    words: &[String],
+    input: &mut R,
+) -> Result<Reply, Fault>
+    ensures reply { IfOk result (IsReplyToWords (map string_bytes words.now) (R.remaining input.old)) }
+    ensures fault { IfErr result (IsFaultFor (map string_bytes words.now) (R.remaining input.old)) }
 {
-    match command_of(alloc, words)? {
-        Command::Export => match export_of(alloc, input) {
-            Ok(reply) => Ok(reply),
-            Err(stop) => Err(Fault::from(stop)),
-        },
+    let request = request_of(rt.alloc(), words)?;
+    match answer(rt, &request, input) {
+        Ok(reply) => Ok(reply),
+        Err(stop) => Err(Fault::from(stop)),
+    }
+}
+
+/// What is printed for a request.
+fn answer<H: AllocGlobal + Files, R: Read>(
+    rt: &H,
+    request: &Request,
+    input: &mut R,
+) -> Result<Reply, Stop>
+    requires { HasEnough request.now.command (texts request.now.arguments.items) }
+    ensures reply { IfOk result (IsReplyOf request.now.command
+        (inputs_of request.now.command (length request.now.arguments.items)) (R.remaining input.old)) }
+    ensures stop { IfErr result
+        (IsStopFor (inputs_of request.now.command (length request.now.arguments.items)) (R.remaining input.old)) }
+{
+    let arguments = request.arguments.as_slice();
+    match request.command {
+        Command::Export => reply_for(rt, Question::Export, arguments, input),
+        Command::Report => reply_for(rt, Question::Report, arguments, input),
+        Command::State => reply_for(rt, Question::State, arguments, input),
+        Command::Merge => merge_into(rt, arguments[0], &arguments[1..], input),
     }
 }
 
@@ -60,7 +90,7 @@ fn report<W: Write, F: Write>(alloc: Global, fault: &Fault, out: &mut W, faults:
         Ok(line) if fault.is_answer() => refuse(line.as_str(), out, faults),
         Ok(line) => {
             // Where nothing can be told, the status still is.
-            let _ = tell(faults, line.as_str());
+            let _ = tell(faults, line.as_bytes());
             fault.status()
         }
         Err(_) => refuse("refused 24 Memory\n", out, faults),
@@ -71,10 +101,10 @@ fn report<W: Write, F: Write>(alloc: Global, fault: &Fault, out: &mut W, faults:
 fn refuse<W: Write, F: Write>(line: &str, out: &mut W, faults: &mut F) -> Status
     ensures { IsStopped result }
 {
-    match tell(out, line) {
+    match tell(out, line.as_bytes()) {
         Ok(()) => Status::Refused,
         Err(_) => {
-            let _ = tell(faults, "device fault\n");
+            let _ = tell(faults, b"device fault\n");
             Status::Device
         }
     }

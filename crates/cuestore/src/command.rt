@@ -1,46 +1,132 @@
-ghost use Rattle.std.specs.Prelude.{◌≡◌, length, IfOk, IfErr};
+ghost use Rattle.std.specs.Prelude.{◌≡◌, ◌↔◌, IfOk, IfErr, IfSome, IsTrue, List, ℕ, map, string_bytes};
 ghost use Rattle.cuestore.specs.Faults.{IsWordFault};
+ghost use Rattle.cuestore.specs.Words.{name_of, texts, IsOption, AreArguments, Goes, AsksFor};
 
 use crate::fault::Fault;
-use clap::Error;
 use clap::error::ErrorKind;
+use clap::{Arg, ArgAction, Error};
 use cue_program::{Memory, Stop};
 use std::alloc::Global;
 
 /// What the program is asked to do.
 #[derive(Clone, Copy, Debug, PartialEq, Eq)]
 pub enum Command {
-    /// Print the export of the input.
+    /// Print the JSON, or the conflicts, or what is incomplete.
     Export,
+    /// Print the conflicts, and then what is incomplete.
+    Report,
+    /// Write the state bytes to the output.
+    State,
+    /// Write the state bytes to a file.
+    Merge,
 }
 
-/// The command that the words after the program's name ask for. All other words are a usage fault.
-pub fn command_of(alloc: Global, words: &[String]) -> Result<Command, Fault>
-    ensures one { IfOk result (λ _. length words.now ≡ 1) }
+/// A command, and its arguments: files, for `Merge` the one to write first.
+#[derive(Drop)]
+pub struct Request<'a> {
+    pub command: Command,
+    pub arguments: Vec<&'a str>,
+}
+
+/// What the words after the program's name ask for. All other words are a usage fault.
+pub fn request_of<'a>(alloc: Global, words: &'a [String]) -> Result<Request<'a>, Fault>
+    ensures asks { IfOk result (λ request. AsksFor (map string_bytes words.now)
+        request.command (texts request.arguments.items)) }
     ensures fault { IfErr result IsWordFault }
 {
-    let mut all = Vec::with_capacity(alloc, 2)?;
+    let Some((first, others)) = words.split_first() else {
+        return Err(Fault::Usage);
+    };
+    let Some(command) = named(first.as_str()) else {
+        return Err(Fault::Usage);
+    };
+    let arguments = arguments_of(alloc, others)?;
+    if command == Command::Merge && arguments.is_empty() {
+        return Err(Fault::Usage);
+    }
+    check(alloc, words)?;
+    Ok(Request { command, arguments })
+}
+
+/// The command of this name.
+fn named(word: &str) -> Option<Command>
+    ensures { IfSome result (λ command. word.now ≡ name_of command) }
+{
+    match word {
+        "export" => Some(Command::Export),
+        "report" => Some(Command::Report),
+        "state" => Some(Command::State),
+        "merge" => Some(Command::Merge),
+        _ => None,
+    }
+}
+
+/// The arguments that the words after a command's name give.
+fn arguments_of<'a>(alloc: Global, words: &'a [String]) -> Result<Vec<&'a str>, Fault>
+    ensures arguments { IfOk result (λ arguments. AreArguments (map string_bytes words.now)
+        (texts arguments.items)) }
+    ensures fault { IfErr result IsWordFault }
+{
+    let mut arguments = Vec::with_capacity(alloc, words.len())?;
+    let mut ended = false;
+    for word in words {
+        ended = add(&mut arguments, ended, word.as_str())?;
+    }
+    Ok(arguments)
+}
+
+/// Adds a word to the arguments, where it is one, and says whether a `--` has stood before what
+/// follows, by whether one has stood before it.
+fn add<'a>(arguments: &mut Vec<&'a str>, ended: bool, word: &'a str) -> Result<bool, Fault>
+    ensures goes { IfOk result (λ after. Goes ended after word.now
+        (texts arguments.old.items) (texts arguments.new.items)) }
+    ensures fault { IfErr result IsWordFault }
+{
+    if !ended && word == "--" {
+        return Ok(true);
+    }
+    if !ended && is_option(word) {
+        return Err(Fault::Usage);
+    }
+    arguments.push(word)?;
+    Ok(ended)
+}
+
+/// Whether the word begins with `-` and has more characters.
+fn is_option(word: &str) -> bool
+    ensures { IsTrue result ↔ IsOption word.now }
+{
+    let bytes = word.as_bytes();
+    bytes.len() > 1 && bytes[0] == b'-'
+}
+
+/// Whether `clap` takes the words too.
+fn check(alloc: Global, words: &[String]) -> Result<(), Fault>
+    ensures { IfErr result IsWordFault }
+{
+    let mut all = Vec::with_capacity(alloc, 1 + words.len())?;
     all.push("cuestore")?;
     for word in words {
         all.push(word.as_str())?;
     }
-    let name = match parsed(alloc, &all) {
-        Ok(name) => name,
+    match parsed(alloc, &all) {
+        Ok(()) => Ok(()),
         Err(error) if error.kind() == ErrorKind::OutOfMemory => {
-            return Err(Fault::from(Stop::from(Memory)));
+            Err(Fault::from(Stop::from(Memory)))
         }
-        Err(_) => return Err(Fault::Usage),
-    };
-    match name {
-        Some("export") if words.len() == 1 => Ok(Command::Export),
-        _ => Err(Fault::Usage),
+        Err(_) => Err(Fault::Usage),
     }
 }
 
-/// The name of the subcommand, by clap.
-fn parsed<'a>(alloc: Global, words: &'a [&'a str]) -> Result<Option<&'a str>, Error> {
-    let export = clap::Command::new(alloc, "export");
-    let program = clap::Command::new(alloc, "cuestore").subcommand(export)?;
-    let matches = program.try_get_matches_from(words)?;
-    Ok(matches.subcommand_name())
+/// Reads the words by `clap`.
+fn parsed<'a>(alloc: Global, words: &'a [&'a str]) -> Result<(), Error> {
+    let mut program = clap::Command::new(alloc, "cuestore");
+    for name in ["export", "report", "state", "merge"] {
+        let files = Arg::new(alloc, "FILE")
+            .action(ArgAction::Append)
+            .num_args(0..);
+        program = program.subcommand(clap::Command::new(alloc, name).arg(files)?)?;
+    }
+    program.try_get_matches_from(words)?;
+    Ok(())
 }

@@ -3,6 +3,8 @@
 
 mod act;
 mod command;
+#[cfg(test)]
+mod disk;
 mod fault;
 #[cfg(test)]
 mod tests;

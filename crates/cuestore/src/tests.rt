@@ -1,8 +1,11 @@
 use crate::act::act;
+use crate::disk::{Disk, Entry};
 use std::alloc::Global;
+use std::cell::Cell;
 use std::io;
 use std::io::{ErrorKind, Read, Write};
 use std::process::Abort;
+use std::rt::Files;
 use std::test::Fail;
 
 /// What a run wrote, and how it ended.
@@ -13,7 +16,7 @@ struct Run {
     faults: Vec<u8>,
 }
 
-fn ran<H: AllocGlobal>(rt: &H, words: &[&str], mut input: &[u8]) -> Result<Run, Fail> {
+fn ran<H: AllocGlobal + Files>(rt: &H, words: &[&str], mut input: &[u8]) -> Result<Run, Fail> {
     let alloc = rt.alloc();
     let mut owned = Vec::new(alloc);
     for word in words {
@@ -139,7 +142,7 @@ fn refuses_a_changed_state(rt: HostRuntime) -> Result<(), Fail> {
     Ok(())
 }
 
-fn assert_usage<H: AllocGlobal + Abort>(rt: &H, words: &[&str]) -> Result<(), Fail> {
+fn assert_usage<H: AllocGlobal + Files + Abort>(rt: &H, words: &[&str]) -> Result<(), Fail> {
     let run = ran(rt, words, b"a: 1\n".as_slice())?;
     assert_run(rt, &run, 1, "", "usage fault\n");
     Ok(())
@@ -151,9 +154,15 @@ fn wants_its_words(rt: HostRuntime) -> Result<(), Fail> {
     for word in ["print", "--help", "help", "-1", "--", "", "Export"] {
         assert_usage(&rt, &[word])?;
     }
-    for word in ["file", "--", "--help", "-h", "export"] {
+    for word in ["--help", "-h", "-1", "---", "--file"] {
         assert_usage(&rt, &["export", word])?;
     }
+    for word in ["serve", "push", "loop"] {
+        assert_usage(&rt, &[word, "80"])?;
+    }
+    assert_usage(&rt, &["merge"])?;
+    assert_usage(&rt, &["merge", "--"])?;
+    assert_usage(&rt, &["report", "-", "-x"])?;
     assert_usage(&rt, &["--", "export"])
 }
 
@@ -232,5 +241,103 @@ fn reads_so_often_and_no_more(rt: HostRuntime) -> Result<(), Fail> {
         assert_eq!(rt; out.as_slice(), text.as_bytes());
         assert_eq!(rt; faults.len(), 0);
     }
+    Ok(())
+}
+
+fn disk<'a>(
+    alloc: Global,
+    files: &'a [(&'a str, Entry<'a>)],
+    written: &'a Cell<usize>,
+) -> Disk<'a> {
+    Disk {
+        alloc,
+        files,
+        opened: Cell::new(0),
+        created_after: Cell::new(None),
+        room: 1_000,
+        written,
+    }
+}
+
+/// Four texts, the state of `a: 1`, and a file that fails.
+const FILES: [(&str, Entry); 7] = [
+    ("a", Entry::Bytes(b"a: 1\n")),
+    ("b", Entry::Bytes(b"b: int\n")),
+    ("clash", Entry::Bytes(b"a: 2\n")),
+    ("lines", Entry::Bytes(b"a: 1\n---\nb: 2\n")),
+    ("state", Entry::Bytes(&ONE)),
+    ("wrong", Entry::Bytes(b"a 1\n")),
+    ("cut", Entry::Cut(b"a: 1\n")),
+];
+
+#[test]
+fn takes_files_in_their_order(rt: HostRuntime) -> Result<(), Fail> {
+    let written = Cell::new(0);
+    let disk = disk(rt.alloc(), &FILES, &written);
+    for (words, status, out) in [
+        (["export", "a", "state"], 0, "{\"a\":1}\n"),
+        (["export", "a", "b"], 3, "incomplete b not a single value\n"),
+        (
+            ["report", "b", "clash"],
+            3,
+            "incomplete b not a single value\n",
+        ),
+        (["report", "state", "clash"], 2, "conflict a no value\n"),
+        (["report", "a", "--"], 0, ""),
+        (["export", "a", "lines"], 1, "refused 7 Syntax at 0 in 2\n"),
+        (
+            ["export", "wrong", "none"],
+            1,
+            "refused 7 Syntax at 0 in 1\n",
+        ),
+    ] {
+        let run = ran(&disk, words.as_slice(), b"z: 9\n".as_slice())?;
+        assert_run(&rt, &run, status, out, "");
+    }
+    let all = ["report", "--", "clash", "b", "state"];
+    let run = ran(&disk, all.as_slice(), b"z: 9\n".as_slice())?;
+    let lines = "conflict a no value\nincomplete b not a single value\n";
+    assert_run(&rt, &run, 2, lines, "");
+    Ok(())
+}
+
+#[test]
+fn writes_states(rt: HostRuntime) -> Result<(), Fail> {
+    let written = Cell::new(0);
+    let disk = disk(rt.alloc(), &FILES, &written);
+    let run = ran(&disk, &["state", "a"], b"z: 9\n".as_slice())?;
+    assert_eq!(rt; run.out.as_slice(), ONE.as_slice());
+    assert_eq!(rt; run.status, 0);
+    let run = ran(&disk, &["state"], b"a: 1\n".as_slice())?;
+    assert_eq!(rt; run.out.as_slice(), ONE.as_slice());
+    let merged = ["merge", "out", "a", "state", "a"];
+    let run = ran(&disk, merged.as_slice(), b"".as_slice())?;
+    assert_run(&rt, &run, 0, "", "");
+    assert_eq!(rt; written.get(), 92);
+    assert_eq!(rt; disk.created_after.get(), Some(4));
+    let run = ran(&disk, &["merge", "out"], b"a: 1\n---\nb: 2\n".as_slice())?;
+    assert_run(&rt, &run, 0, "", "");
+    Ok(())
+}
+
+#[test]
+fn tells_failing_files(rt: HostRuntime) -> Result<(), Fail> {
+    let written = Cell::new(0);
+    let mut disk = disk(rt.alloc(), &FILES, &written);
+    for words in [
+        ["export", "a", "none"],
+        ["state", "cut", "a"],
+        ["merge", "a", "b"],
+    ] {
+        let run = ran(&disk, words.as_slice(), b"".as_slice())?;
+        assert_run(&rt, &run, 4, "", "device fault\n");
+    }
+    assert_eq!(rt; disk.created_after.get(), None);
+    let run = ran(&disk, &["merge", "out", "a", "wrong"], b"".as_slice())?;
+    assert_run(&rt, &run, 1, "refused 7 Syntax at 0 in 2\n", "");
+    assert_eq!(rt; disk.created_after.get(), None);
+    disk.room = 91;
+    let run = ran(&disk, &["merge", "out", "a"], b"".as_slice())?;
+    assert_run(&rt, &run, 4, "", "device fault\n");
     Ok(())
 }

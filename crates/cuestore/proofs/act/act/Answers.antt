@@ -5,4 +5,4 @@ use Rattle.cuestore.proofs.act.act.Goals as goal
 pub returns-in-Ok-tell : goal.returns-in-Ok-tell
 returns-in-Ok-tell g c =
     let P : List ℕ → Type 0 = λ t. Appends (g.W.Write.contents c.args.out.now) (g.W.Write.contents c.tell.new.out) t in
-    inl (c.in-Ok.reply, c.in-Ok.ensures.reply, c.code.ensures, subst P c.as_str.ensures.value c.in-Ok-tell.ensures.written)
+    inl (c.in-Ok.reply, c.in-Ok.ensures.reply, c.code.ensures, subst P c.deref.ensures.value c.in-Ok-tell.ensures.written)

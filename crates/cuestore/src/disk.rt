@@ -1,0 +1,172 @@
+//! A runtime for tests, whose files lie in memory.
+
+use std::alloc::{Allocator, Global};
+use std::cell::Cell;
+use std::fs::{Metadata, OpenFile, OpenOptions};
+use std::io;
+use std::io::{ErrorKind, Read, Seek, SeekFrom, Write};
+use std::rt::Files;
+
+/// What stands under a name.
+#[derive(Clone, Copy)]
+pub enum Entry<'a> {
+    Bytes(&'a [u8]),
+    /// A file that fails once these bytes were read.
+    Cut(&'a [u8]),
+}
+
+/// Files by their names, and how many bytes were written to a file. Only the names that begin with
+/// `out` can be written.
+#[derive(Drop)]
+pub struct Disk<'a> {
+    pub alloc: Global,
+    pub files: &'a [(&'a str, Entry<'a>)],
+    /// How often a file was opened to be read.
+    pub opened: Cell<usize>,
+    /// How many files were opened before the one that is written; nothing, where none is.
+    pub created_after: Cell<Option<usize>>,
+    pub room: usize,
+    pub written: &'a Cell<usize>,
+}
+
+/// An open file: what is left to read, whether the next read at its end fails, and how many bytes
+/// can still be written.
+#[derive(Drop)]
+pub struct Opened<'a> {
+    rest: &'a [u8],
+    fails: bool,
+    room: usize,
+    written: &'a Cell<usize>,
+}
+
+impl<'a> Alloc for Disk<'a> {
+    type A = Global;
+
+    fn alloc(&self) -> Global {
+        self.alloc
+    }
+}
+
+fn unsupported<T>() -> io::Result<T> {
+    Err(io::Error::from(ErrorKind::Unsupported))
+}
+
+impl<'a> Files for Disk<'a> {
+    type File = Opened<'a>;
+
+    type Dir = io::Empty;
+
+    fn open_file(&self, how: &OpenOptions, path: &str) -> io::Result<Opened<'a>> {
+        how.check()?;
+        if how.asks_write() {
+            if !path.starts_with("out") {
+                return Err(io::Error::from(ErrorKind::PermissionDenied));
+            }
+            self.created_after.set(Some(self.opened.get()));
+            return Ok(Opened {
+                rest: &[],
+                fails: false,
+                room: self.room,
+                written: self.written,
+            });
+        }
+        self.opened.set(self.opened.get().saturating_add(1));
+        for (name, entry) in self.files {
+            if *name == path {
+                let (rest, fails) = match entry {
+                    Entry::Bytes(bytes) => (*bytes, false),
+                    Entry::Cut(bytes) => (*bytes, true),
+                };
+                return Ok(Opened {
+                    rest,
+                    fails,
+                    room: 0,
+                    written: self.written,
+                });
+            }
+        }
+        Err(io::Error::from(ErrorKind::NotFound))
+    }
+
+    fn open_dir(&self, _path: &str) -> io::Result<io::Empty> {
+        unsupported()
+    }
+
+    fn metadata(&self, _path: &str) -> io::Result<Metadata> {
+        unsupported()
+    }
+
+    fn symlink_metadata(&self, _path: &str) -> io::Result<Metadata> {
+        unsupported()
+    }
+
+    fn copy(&self, _from: &str, _to: &str) -> io::Result<u64> {
+        unsupported()
+    }
+
+    fn rename(&self, _from: &str, _to: &str) -> io::Result<()> {
+        unsupported()
+    }
+
+    fn remove_file(&self, _path: &str) -> io::Result<()> {
+        unsupported()
+    }
+
+    fn create_dir(&self, _path: &str) -> io::Result<()> {
+        unsupported()
+    }
+
+    fn remove_dir(&self, _path: &str) -> io::Result<()> {
+        unsupported()
+    }
+
+    fn remove_dir_all<B: Allocator>(&self, _alloc: B, _path: &str) -> io::Result<()> {
+        unsupported()
+    }
+}
+
+impl<'a> Read for Opened<'a> {
+    fn read(&mut self, buf: &mut [u8]) -> io::Result<usize> {
+        if self.rest.is_empty() && self.fails {
+            return Err(io::Error::from(ErrorKind::Other));
+        }
+        self.rest.read(buf)
+    }
+}
+
+impl<'a> Write for Opened<'a> {
+    fn write(&mut self, buf: &[u8]) -> io::Result<usize> {
+        let count = buf.len().min(self.room);
+        self.room -= count;
+        self.written.set(self.written.get().saturating_add(count));
+        Ok(count)
+    }
+
+    fn flush(&mut self) -> io::Result<()> {
+        Ok(())
+    }
+}
+
+impl<'a> Seek for Opened<'a> {
+    fn seek(&mut self, _to: SeekFrom) -> io::Result<u64> {
+        unsupported()
+    }
+}
+
+impl<'a> OpenFile for Opened<'a> {
+    fn metadata(&self) -> io::Result<Metadata> {
+        unsupported()
+    }
+
+    fn set_len(&self, _size: u64) -> io::Result<()> {
+        unsupported()
+    }
+
+    fn sync_all(&self) -> io::Result<()> {
+        unsupported()
+    }
+
+    fn sync_data(&self) -> io::Result<()> {
+        unsupported()
+    }
+}
