@@ -1,7 +1,7 @@
 -- Sites that take texts and pass their states on. A world is told by sets of pieces: which texts and which foreign
 -- states each site has accepted, directly or inside the states that it took, and which each message was made of. A
 -- list of pieces stands for the set of its members.
-use Rattle.std.specs.Prelude.{◌≡◌, ◌↔◌, ◌⊎◌, ℕ, ◌<◌, List, [], ◌∷◌, ◌++◌, length, replicate, slice_get, slice_set, unwrap_or}
+use Rattle.std.specs.Prelude.{◌≡◌, ◌↔◌, ◌⊎◌, ℕ, ◌<◌, ◌^◌, List, [], ◌∷◌, ◌++◌, length, replicate, slice_get, slice_set, unwrap_or}
 use Rattle.cue_lattice.specs.declared.refusal.Refusal.{Refusal}
 use Rattle.cue_lattice.specs.Refusal.{memory}
 use Rattle.cue_lattice.specs.OneOf.{OneOf}
@@ -34,8 +34,8 @@ pub record IsSound (T : Type 0) (m : Meaning T) : Type 0 where
   pub no_state_fault : (bytes : List ℕ) (why : Refusal) → m.IsState bytes → m.IsStateFault bytes why → ⊥
   -- out of memory is no fault of a text or of bytes
   pub memory_apart : (bytes : List ℕ) → (m.IsTextFault bytes memory ⊎ m.IsStateFault bytes memory) → ⊥
-  -- sites read what they write, with the same answers
-  pub reads_own : (table : T) → m.IsValid table →
+  -- sites read what they write, with the same answers, as far as a memory can hold it
+  pub reads_own : (table : T) → m.IsValid table → length (m.written table) < 2 ^ 64 →
       m.IsState (m.written table) × SameAnswers (m.state_refuses (m.written table)) (m.table_refuses table)
   -- valid tables with equal answers are equal, so that the answers tell the bytes and every report
   pub one_table : (a b : T) → m.IsValid a → m.IsValid b → SameAnswers (m.table_refuses a) (m.table_refuses b) → a ≡ b

@@ -29,7 +29,7 @@ files_none = ([], refl, ([], tt, of_no_piece))
 
 pub files_more :
     (count : ℕ) (old new : Table) (bytes : List ℕ) → HoldsSomeFiles count old → Accepts bytes old new
-    → (language.IsValid old → language.IsValid new) → HoldsSomeFiles (count + 1) new
+    → language.IsValid new → HoldsSomeFiles (count + 1) new
 files_more count old new bytes h more valid = (
   h.0 ++ bytes ∷ [],
   length-append h.0 (bytes ∷ []) ∙ ap (λ n. n + 1) h.1,

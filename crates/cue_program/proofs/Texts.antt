@@ -87,7 +87,7 @@ counted done part old new is next = omega (arith, is, next)
 pub submitted_more :
     (bytes rest part : List ℕ) (old new : Table) (count number : ℕ) (after : Option (List ℕ)) → Submitted bytes old count (Some rest)
     → IsFirstPart rest part after → number ≡ min (count + 1) (2 ^ 64 - 1) → language.IsLegal part → Adds old (language.text_refuses part) new
-    → (language.IsValid old → language.IsValid new) → Submitted bytes new number after
+    → language.IsValid new → Submitted bytes new number after
 submitted_more bytes rest part old new count number after s first next legal adds valid = (
   s.0 ++ part ∷ [],
   of_one_text_more old new s.0 part s.1 legal adds valid,

@@ -5,7 +5,7 @@ use Rattle.cue_replica.specs.declared.Conflict.{Conflict}
 use Rattle.cue_replica.specs.declared.Gap.{Gap}
 use Rattle.cue_replica.specs.declared.Export.{Export}
 use Rattle.cue_replica.specs.declared.Export.TheVariants.{Json, Conflicts, Incomplete}
-use Rattle.cue_replica.specs.Reports.{IsExportOf, AreConflictsOf, AreGapsOf, conflict_line, gap_line}
+use Rattle.cue_replica.specs.Reports.{IsExportOf, AreConflictsOf, AreGapsOf, conflict_line, gap_line, printed}
 use Rattle.cue_replica.specs.Language.{Table, language}
 use Rattle.cue_program.specs.declared.reply.Status.{Status}
 use Rattle.cue_program.specs.declared.reply.Status.TheVariants as statuses
@@ -44,6 +44,7 @@ lines_of conflicts gaps = flat_map conflict_line conflicts ++ flat_map gap_line 
 -- What the reply tells of the table.
 abbrev pub Tells : Question → Table → Reply → Type 0
 Tells questions.Export table reply = (export : Export) × IsExportOf table export × IsReplyTo export reply
+Tells questions.Print table reply = Says reply (printed table) statuses.Done
 Tells questions.Report table reply =
     (conflicts : List Conflict) × (gaps : List Gap) × AreConflictsOf table conflicts × AreGapsOf table gaps
     × Says reply (lines_of conflicts gaps) (status_of conflicts gaps)

@@ -33,6 +33,8 @@ impl Status {
 pub enum Question {
     /// The JSON and a line break, or the conflict lines, or the incomplete lines.
     Export,
+    /// The canonical text.
+    Print,
     /// The conflict lines, and then the incomplete lines.
     Report,
     /// The state bytes.
@@ -57,6 +59,10 @@ pub fn told(alloc: Global, question: Question, site: &Replica) -> Result<Reply, 
 {
     match question {
         Question::Export => exported(alloc, site),
+        Question::Print => Ok(Reply {
+            bytes: site.print(alloc)?.into_bytes(),
+            status: Status::Done,
+        }),
         Question::Report => reported(alloc, site),
         Question::State => Ok(Reply {
             bytes: site.state(alloc)?,

@@ -42,7 +42,7 @@ pub fn site_of(alloc: Global, bytes: &[u8]) -> Result<Replica, Stop>
 pub fn take_file(site: &mut Replica, bytes: &[u8], number: usize) -> Result<(), Stop>
     ensures accepts { OnOk result ((piece : Piece) × IsFilePiece bytes.now piece
         × IsAcceptable piece × Adds site.old (piece_refuses language piece) site.new) }
-    ensures valid { language.IsValid site.old → language.IsValid site.new }
+    ensures valid { OnOk result (language.IsValid site.new) }
     ensures refused { IfErr result (λ stop. (why : Refusal) ×
         IsInputRefusedAs why number stop × IsFileFault bytes.now why) }
 {
@@ -85,7 +85,7 @@ fn site_of_texts(alloc: Global, bytes: &[u8]) -> Result<Replica, Stop>
 fn submit(site: &mut Replica, part: &[u8], number: usize) -> Result<(), Stop>
     ensures legal { OnOk result (language.IsLegal part.now) }
     ensures adds { OnOk result (Adds site.old (language.text_refuses part.now) site.new) }
-    ensures valid { language.IsValid site.old → language.IsValid site.new }
+    ensures valid { OnOk result (language.IsValid site.new) }
     ensures refused { IfErr result (λ stop. (why : Refusal) ×
         IsInputRefusedAs why number stop × IsPartFault part.now why) }
 {

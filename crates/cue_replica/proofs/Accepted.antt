@@ -1,19 +1,30 @@
 -- Sites that accept one text more, or a state.
-use Rattle.std.proofs.Common.{ℕ, List, [], ◌∷◌, ◌++◌, map}
+use Rattle.std.proofs.Common.{ℕ, List, [], ◌∷◌, ◌++◌, map, Option, Some, None, ◌≡◌, refl, subst}
 use Rattle.std.specs.List.{AllByRecursion}
 use Rattle.std.proofs.lemmas.List.{map_push}
+use Rattle.cue_lattice.specs.Path.{Path}
+use Rattle.cue_lattice.specs.Question.{Question}
 use Rattle.cue_lattice.specs.World.{Piece, piece_refuses, IsUnified, text, state}
+use Rattle.cue_row.specs.Row.{RowRefuses}
+use Rattle.cue_row.specs.declared.row.Row.{Row}
+use Rattle.cue_table.specs.Tree.{empty, row_at}
+use Rattle.cue_table.specs.Refuses.{RowRefuses as RowsRefuse}
+use Rattle.cue_table.proofs.Validity.{empty_valid, nothing_at}
 use Rattle.cue_replica.specs.Language.{Table, language, opening}
 use Rattle.cue_replica.specs.Replica.{Adds}
 use Rattle.cue_replica.specs.Accepted.{IsOfTexts, IsOfState, IsAcceptable, IsOfPieces}
 use Rattle.cue_replica.proofs.Adding.{unified_more, one_piece}
 
+open_row : (path : Path) (question : Question) (row : Option Row) → row_at empty path ≡ row → RowsRefuse RowRefuses (row_at empty path) question → ⊥
+open_row path question None e h = subst (λ (r : Option Row). RowsRefuse RowRefuses r question) e h
+open_row path question (Some row) e h = nothing_at path row e
+
 -- a new site has accepted nothing
-none_unified : IsUnified language opening []
-none_unified = (tt, λ path question. (λ h. h, λ h. h))
+pub new_site : IsUnified language opening []
+new_site = (empty_valid, λ path question. (λ h. open_row path question (row_at empty path) refl h, λ h. absurd h))
 
 pub of_no_text : IsOfTexts opening []
-of_no_text = (tt, none_unified)
+of_no_text = (tt, new_site)
 
 all_push : (P : List ℕ → Type 0) (texts : List (List ℕ)) (more : List ℕ) → AllByRecursion P texts → P more → AllByRecursion P (texts ++ more ∷ [])
 all_push P [] more h p = (p, tt)
@@ -21,7 +32,7 @@ all_push P (t ∷ texts) more h p = (h.0, all_push P texts more h.1 p)
 
 pub of_one_text_more :
     (old new : Table) (texts : List (List ℕ)) (more : List ℕ) → IsOfTexts old texts → language.IsLegal more
-    → Adds old (language.text_refuses more) new → (language.IsValid old → language.IsValid new) → IsOfTexts new (texts ++ more ∷ [])
+    → Adds old (language.text_refuses more) new → language.IsValid new → IsOfTexts new (texts ++ more ∷ [])
 of_one_text_more old new texts more is legal adds valid = (
   all_push language.IsLegal texts more is.0 legal,
   rw map_push (unified_more old new (language.text_refuses more) (map text texts) (text more ∷ []) is.1 adds valid (one_piece (text more))),
@@ -29,13 +40,13 @@ of_one_text_more old new texts more is legal adds valid = (
 
 pub of_state :
     (new : Table) (bytes : List ℕ) → language.IsState bytes → Adds opening (language.state_refuses bytes) new
-    → (language.IsValid opening → language.IsValid new) → IsOfState new bytes
+    → language.IsValid new → IsOfState new bytes
 of_state new bytes is adds valid =
-    (is, unified_more opening new (language.state_refuses bytes) [] (state bytes ∷ []) none_unified adds valid (one_piece (state bytes)))
+    (is, unified_more opening new (language.state_refuses bytes) [] (state bytes ∷ []) new_site adds valid (one_piece (state bytes)))
 
 -- one piece more
 pub of_no_piece : IsOfPieces opening []
-of_no_piece = (tt, none_unified)
+of_no_piece = (tt, new_site)
 
 all_more : (pieces : List Piece) (more : Piece) → AllByRecursion IsAcceptable pieces → IsAcceptable more → AllByRecursion IsAcceptable (pieces ++ more ∷ [])
 all_more [] more h p = (p, tt)
@@ -43,7 +54,7 @@ all_more (piece ∷ pieces) more h p = (h.0, all_more pieces more h.1 p)
 
 pub of_one_piece_more :
     (old new : Table) (pieces : List Piece) (more : Piece) → IsOfPieces old pieces → IsAcceptable more
-    → Adds old (piece_refuses language more) new → (language.IsValid old → language.IsValid new) → IsOfPieces new (pieces ++ more ∷ [])
+    → Adds old (piece_refuses language more) new → language.IsValid new → IsOfPieces new (pieces ++ more ∷ [])
 of_one_piece_more old new pieces more is acceptable adds valid = (
   all_more pieces more is.0 acceptable,
   unified_more old new (piece_refuses language more) pieces (more ∷ []) is.1 adds valid (one_piece more),

@@ -5,16 +5,25 @@ use Rattle.cue_lattice.specs.Question.{Refusals, SameAnswers}
 use Rattle.cue_lattice.specs.World.{Piece, piece_refuses, pieces_refuse, IsUnified}
 use Rattle.cue_lattice.specs.World as world
 use Rattle.cue_lattice.proofs.OneOf.{one_of-append}
-use Rattle.cue_flat.specs.FlatTable.{table_refuses, IsMet}
+use Rattle.cue_row.specs.Row.{Refuses, RowRefuses}
+use Rattle.cue_row.specs.Questions.{asked_by}
+use Rattle.cue_table.specs.Meet.{IsMet}
+use Rattle.cue_table.specs.Refuses.{TableRefuses}
 use Rattle.cue_replica.specs.Language.{Table, language}
 use Rattle.cue_replica.specs.Replica.{Adds}
+use Rattle.cue_replica.proofs.Asked.{asked}
 
 -- a meet with a table adds what that table refuses
-pub adds_met : (old more new : Table) (added : Refusals) → IsMet old more new → SameAnswers (table_refuses more) added → Adds old added new
+pub adds_met : (old more new : Table) (added : Refusals) → IsMet Refuses old more new → SameAnswers (TableRefuses RowRefuses more) added → Adds old added new
 adds_met old more new added met same path question =
-    let m = met path question in
+    let m = met path (asked_by question) in
     let s = same path question in
-    (λ h. ⊎_elim (λ p. inl p) (λ p. inr (s.0 p)) (m.0 h), λ h. m.1 (⊎_elim (λ p. inl p) (λ p. inr (s.1 p)) h))
+    let before = asked old path question in
+    let other = asked more path question in
+    let after = asked new path question in (
+      λ h. ⊎_elim (λ p. inl (before.0 p)) (λ p. inr (s.0 (other.0 p))) (m.0 (after.1 h)),
+      λ h. after.0 (m.1 (⊎_elim (λ p. inl (before.1 p)) (λ p. inr (other.1 (s.1 p))) h)),
+    )
 
 -- one piece alone
 pub one_piece : (piece : Piece) → SameAnswers (piece_refuses language piece) (pieces_refuse language (piece ∷ []))
@@ -23,10 +32,10 @@ one_piece piece path question = (λ h. inl h, ⊎_elim (λ h. h) (λ h. absurd h
 -- more pieces for a site, by what they refuse
 pub unified_more :
     (old new : Table) (added : Refusals) (pieces more : List Piece) → IsUnified language old pieces → Adds old added new
-    → (language.IsValid old → language.IsValid new) → SameAnswers added (pieces_refuse language more)
+    → language.IsValid new → SameAnswers added (pieces_refuse language more)
     → IsUnified language new (pieces ++ more)
 unified_more old new added pieces more unified adds valid same = (
-  valid unified.0,
+  valid,
   λ path question.
       let u = unified.1 path question in
       let a = adds path question in

@@ -13,7 +13,7 @@ use Rattle.cue_replica.specs.declared.world.Outcome.{Outcome}
 use Rattle.cue_replica.specs.declared.world.Outcome.TheVariants.{Accepted, Sent, Refused, NoSuch}
 use Rattle.cue_replica.specs.Language.{Table, language}
 use Rattle.cue_replica.specs.Replica.{Adds}
-use Rattle.cue_replica.specs.World.{event_of, IsSentOf, Agrees, HappensAt, Submits, Takes, Sends, Delivers, Happens}
+use Rattle.cue_replica.specs.World.{event_of, IsSentOf, Agrees, HappensAt, Submits, Takes, Sends, Delivers, Happens, IsHeld}
 use Rattle.cue_replica.proofs.Adding.{one_piece, unified_more}
 use Rattle.cue_replica.proofs.Sound.{sound}
 use Rattle.cue_replica.proofs.Along.{length-along, along_at, along_set, along_push, set_same, found_within}
@@ -69,7 +69,7 @@ message_absent old messages sets message agrees past there = omega (arith, lengt
 -- a site accepts pieces
 accepts :
     (old : List Table) (messages : List (Vec ℕ Global)) (sets : Sets) (site : ℕ) (before after : Table) (added : Refusals) (more : List Piece)
-    → Agrees old messages sets → slice_get old site ≡ Some before → Adds before added after → (language.IsValid before → language.IsValid after)
+    → Agrees old messages sets → slice_get old site ≡ Some before → Adds before added after → language.IsValid after
     → SameAnswers added (pieces_refuse language more) → Agrees (slice_set old site after) messages (world.add sets site more)
 accepts old messages sets site before after added more agrees found adds valid same =
     let here = along_at (IsUnified language) old sets.sites site before [] agrees.sites found in
@@ -131,10 +131,10 @@ foreign_happens old new messages site bytes outcome sets (inr some) agrees =
 
 -- a message is read as the unification of its pieces
 read_back :
-    (bytes : Vec ℕ Global) (pieces : List Piece) → IsSentOf bytes pieces
+    (bytes : Vec ℕ Global) (pieces : List Piece) → IsHeld bytes.items → IsSentOf bytes pieces
     → language.IsState bytes.items × SameAnswers (language.state_refuses bytes.items) (pieces_refuse language pieces)
-read_back bytes pieces sent =
-    let own = sound.reads_own sent.0 sent.1.0 in
+read_back bytes pieces held sent =
+    let own = sound.reads_own sent.0 sent.1.0 (subst IsHeld sent.2 held) in
     let P : List ℕ → Type 0 = λ b. language.IsState b × SameAnswers (language.state_refuses b) (pieces_refuse language pieces) in
     subst P (sym sent.2) (
       own.0,
@@ -147,39 +147,39 @@ read_back bytes pieces sent =
 -- a message of the world
 takes_message :
     (old : List Table) (messages : List (Vec ℕ Global)) (site message : ℕ) (bytes : Vec ℕ Global) (outcome : Outcome) (sets : Sets) (before after : Table)
-    → slice_get messages message ≡ Some bytes → slice_get old site ≡ Some before → Takes bytes.items before after outcome → Agrees old messages sets
+    → slice_get messages message ≡ Some bytes → IsHeld bytes.items → slice_get old site ≡ Some before → Takes bytes.items before after outcome → Agrees old messages sets
     → Happens old messages (Deliver site message) (slice_set old site after) messages outcome sets
-takes_message old messages site message bytes Accepted sets before after sent found step agrees =
+takes_message old messages site message bytes Accepted sets before after sent held found step agrees =
     let known = along_at IsSentOf messages sets.messages message bytes [] agrees.sent sent in
     let within = found_within messages message bytes sent in
     record {
       allowed = inl ((site_there old messages sets site before agrees found, omega (arith, length-along IsSentOf messages sets.messages agrees.sent)), inl tt);
       agrees = accepts old messages sets site before after (language.state_refuses bytes.items) (pieces_at sets.messages message) agrees found step.1 step.2
-          (read_back bytes (pieces_at sets.messages message) known).1;
+          (read_back bytes (pieces_at sets.messages message) held known).1;
     }
-takes_message old messages site message bytes (Refused why) sets before after sent found step agrees =
+takes_message old messages site message bytes (Refused why) sets before after sent held found step agrees =
     let known = along_at IsSentOf messages sets.messages message bytes [] agrees.sent sent in
     let within = found_within messages message bytes sent in
     let same : slice_set old site after ≡ old = ap (λ (x : Table). slice_set old site x) step.0 ∙ set_same old site before found in
     refused_happens old (slice_set old site after) messages (Deliver site message) why sets
     (site_there old messages sets site before agrees found, omega (arith, length-along IsSentOf messages sets.messages agrees.sent))
-    (⊎_elim (λ e. inr (ap world.refused e)) (λ fault. absurd (sound.no_state_fault bytes.items why (read_back bytes (pieces_at sets.messages message) known).0 fault)) step.1) same agrees
-takes_message old messages site message bytes (Sent number) sets before after sent found step agrees = absurd step
-takes_message old messages site message bytes NoSuch sets before after sent found step agrees = absurd step
+    (⊎_elim (λ e. inr (ap world.refused e)) (λ fault. absurd (sound.no_state_fault bytes.items why (read_back bytes (pieces_at sets.messages message) held known).0 fault)) step.1) same agrees
+takes_message old messages site message bytes (Sent number) sets before after sent held found step agrees = absurd step
+takes_message old messages site message bytes NoSuch sets before after sent held found step agrees = absurd step
 
 pub deliver_happens :
     (old new : List Table) (messages : List (Vec ℕ Global)) (site message : ℕ) (outcome : Outcome) (sets : Sets)
     → Delivers messages message old site new outcome → Agrees old messages sets → Happens old messages (Deliver site message) new messages outcome sets
 deliver_happens old new messages site message outcome sets (inl none) agrees =
     nothing_happens old new messages (Deliver site message) outcome sets (λ there. message_absent old messages sets message agrees none.0 there.1) none.1 none.2 agrees
-deliver_happens old new messages site message outcome sets (inr some) agrees = delivered some.2
+deliver_happens old new messages site message outcome sets (inr some) agrees = delivered some.3
   where
     delivered : HappensAt (Takes some.0.items) old site new outcome → Happens old messages (Deliver site message) new messages outcome sets
     delivered (inl none) =
         nothing_happens old new messages (Deliver site message) outcome sets (λ there. site_absent old messages sets site agrees none.0 there.0) none.1 none.2 agrees
     delivered (inr taken) =
         let P : List Table → Type 0 = λ n. Happens old messages (Deliver site message) n messages outcome sets in
-        subst P (sym taken.3) (takes_message old messages site message some.0 outcome sets taken.0 taken.1 some.1 taken.2 taken.4 agrees)
+        subst P (sym taken.3) (takes_message old messages site message some.0 outcome sets taken.0 taken.1 some.1 some.2 taken.2 taken.4 agrees)
 
 -- a state that is sent
 sends : (old : List Table) (messages new : List (Vec ℕ Global)) (site number : ℕ) (sets : Sets) → Sends old site messages new (Sent number) → Agrees old messages sets → Happens old messages (Send site) old new (Sent number) sets

@@ -1,7 +1,8 @@
 -- A run so far: the outcomes are allowed, and each site and message is what its set of pieces makes it.
-use Rattle.std.proofs.Common.{◌≡◌, ℕ, zero, suc, List, [], ◌∷◌, ◌++◌, map, None, Vec, Global, refl, sym, ap, ◌∙◌, subst, length, take, drop, append-nil, arith}
+use Rattle.std.proofs.Common.{◌≡◌, ℕ, zero, suc, List, [], ◌∷◌, ◌++◌, map, Vec, Global, refl, sym, ap, ◌∙◌, subst, length, take, drop, append-nil, arith}
 use Rattle.std.specs.Prelude.{replicate}
 use Rattle.std.proofs.lemmas.List.{take_all, drop_all}
+use Rattle.cue_table.specs.Tree.{empty}
 use Rattle.cue_lattice.specs.World as world
 use Rattle.cue_lattice.specs.World.{Meaning, Piece, Sets, AllAlong, IsOutcome, AreOutcomes, IsUnified, SamePieces, reach, start, pieces_at, pieces_refuse}
 use Rattle.cue_replica.specs.declared.world.Event.{Event}
@@ -10,6 +11,7 @@ use Rattle.cue_replica.specs.Language.{Table, language}
 use Rattle.cue_replica.specs.World.{event_of, outcome_of, reached, Agrees, AreEqualSites, Happens}
 use Rattle.cue_replica.proofs.Adding.{same_pieces_refuse}
 use Rattle.cue_replica.proofs.Along.{along_at}
+use Rattle.cue_replica.proofs.Accepted.{new_site}
 use Rattle.cue_replica.proofs.Sound.{sound}
 
 -- one more event
@@ -40,15 +42,15 @@ pub record IsSoFar (sites : ℕ) (events : List Event) (replicas : List Table) (
   pub agrees : Agrees replicas messages (reached sites events outcomes)
 
 -- before the first event
-opening_agrees : (sites : ℕ) → AllAlong (IsUnified language) (replicate sites None) (replicate sites [])
+opening_agrees : (sites : ℕ) → AllAlong (IsUnified language) (replicate sites empty) (replicate sites [])
 opening_agrees zero = tt
-opening_agrees (suc n) = ((tt, λ path question. (λ h. h, λ h. h)), opening_agrees n)
+opening_agrees (suc n) = (new_site, opening_agrees n)
 
-pub so_far_none : (sites : ℕ) (replicas : List Table) (messages : List (Vec ℕ Global)) (outcomes : List Outcome) → replicas ≡ replicate sites None → messages ≡ [] → outcomes ≡ [] → IsSoFar sites [] replicas messages outcomes
+pub so_far_none : (sites : ℕ) (replicas : List Table) (messages : List (Vec ℕ Global)) (outcomes : List Outcome) → replicas ≡ replicate sites empty → messages ≡ [] → outcomes ≡ [] → IsSoFar sites [] replicas messages outcomes
 so_far_none sites replicas messages outcomes r m o =
     let P : List Table → Type 0 = λ x. IsSoFar sites [] x messages outcomes in
-    let Q : List (Vec ℕ Global) → Type 0 = λ x. IsSoFar sites [] (replicate sites None) x outcomes in
-    let R : List Outcome → Type 0 = λ x. IsSoFar sites [] (replicate sites None) [] x in
+    let Q : List (Vec ℕ Global) → Type 0 = λ x. IsSoFar sites [] (replicate sites empty) x outcomes in
+    let R : List Outcome → Type 0 = λ x. IsSoFar sites [] (replicate sites empty) [] x in
     subst P (sym r) (subst Q (sym m) (subst R (sym o) (record { allowed = tt; agrees = record { sites = opening_agrees sites; sent = tt } })))
 
 -- after one more

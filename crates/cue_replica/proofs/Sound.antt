@@ -1,74 +1,72 @@
 -- The language keeps to what is asked of every language.
-use Rattle.std.proofs.Common.{◌≡◌, ◌⊎◌, ℕ, List, ◌∷◌, ◌++◌, sym, ◌∙◌, subst, ⊎_elim, length, ap, arith, refl}
-use Rattle.cue_lattice.specs.declared.refusal.Kind.{Kind}
-use Rattle.cue_lattice.specs.declared.refusal.Kind.TheVariants.{TooLong, Syntax, TooLarge}
+use Rattle.std.proofs.Common.{◌≡◌, ◌⊎◌, ◌<◌, ◌^◌, ℕ, List, length, refl, sym, ◌∙◌, subst, ⊎_elim, inl, inr}
 use Rattle.cue_lattice.specs.declared.refusal.Refusal.{Refusal}
-use Rattle.cue_lattice.specs.Refusal.{memory}
 use Rattle.cue_lattice.specs.Question.{SameAnswers}
+use Rattle.cue_lattice.specs.Refusal.{memory}
 use Rattle.cue_lattice.specs.World.{IsSound}
-use Rattle.cue_flat.specs.FlatTable.{IsTable, table_refuses}
-use Rattle.cue_flat.proofs.Exact.{tables_exact}
-use Rattle.cue_flat_text.specs.Fragment.{Line, fields_of, IsLegal, IsFaultAt, IsFault}
-use Rattle.cue_flat_text.proofs.FragmentLemmas.{one_reading}
-use Rattle.cue_flat_codec.specs.State as state
-use Rattle.cue_flat_codec.proofs.StateLaws.{one_spelling_law}
+use Rattle.cue_row.specs.Row.{RowRefuses}
+use Rattle.cue_table.specs.Tree.{rows_of}
+use Rattle.cue_table.specs.Refuses.{TableRefuses}
+use Rattle.cue_table.specs.Valid.{IsValidTable}
+use Rattle.cue_codec.specs.State.{mark, table_bytes}
+use Rattle.cue_codec.specs.Decoding.{IsOtherVersion}
+use Rattle.cue_codec.proofs.ReadStates as codec
+use Rattle.cue_codec.proofs.WrittenStates.{state_parts}
 use Rattle.cue_replica.specs.Language.{Table, language}
+use Rattle.cue_replica.specs.States.{IsTableOf, IsState, state_refuses, IsStateFault}
+use Rattle.cue_replica.specs.Texts.{IsTextFault}
+use Rattle.cue_replica.proofs.Asked.{one_table}
+use Rattle.cue_replica.proofs.Texts.{no_text_fault, memory_no_text_fault}
 
--- a legal text has no fault
-no_fault_at : (text : List ℕ) (kind : Kind) (place : ℕ) → IsLegal text → IsFaultAt text kind place → ⊥
-no_fault_at text TooLong place legal fault = omega (arith, fault.1, legal.short)
-no_fault_at text Syntax place legal fault = fault.2 legal.lines legal.spelled
-no_fault_at text TooLarge place legal fault =
-    let found = fault.2 in
-    let same : found.0 ≡ legal.lines = one_reading text found.0 legal.lines found.1.0 legal.spelled in
-    omega (arith, ap (λ (lines : List Line). length (fields_of lines)) same, found.1.1, legal.few)
-no_fault_at text kind place legal fault = fault
+-- a table that memory can spell is told by its bytes
+one_spelling : (bytes : List ℕ) (a b : Table) → length bytes < 2 ^ 64 → IsTableOf bytes a → IsTableOf bytes b → a ≡ b
+one_spelling bytes a b held h k =
+    codec.one_table a b h.valid k.valid (subst (λ (bs : List ℕ). length bs < 2 ^ 64) (sym h.spelled) held) (h.spelled ∙ sym k.spelled)
 
--- the bytes of a table have none
-no_state_fault : (bytes : List ℕ) (why : Refusal) → state.IsState bytes → state.IsFault bytes why → ⊥
+-- the table that bytes are read as refuses what the bytes do
+pub state_answers :
+    (table : Table) (bytes : List ℕ) → length bytes < 2 ^ 64 → IsTableOf bytes table
+    → SameAnswers (TableRefuses RowRefuses table) (state_refuses bytes)
+state_answers table bytes held is path question = (
+  λ h. (table, is, h),
+  λ h.
+      let one = one_spelling bytes h.0 table held h.1 is in
+      subst (λ (t : Table). TableRefuses RowRefuses t path question) one h.2,
+)
+
+-- the bytes of a table are of the known version
+pub known_version : (table : Table) (bytes : List ℕ) → table_bytes table ≡ bytes → IsOtherVersion bytes → ⊥
+known_version table bytes spelled other =
+    let whole = sym (state_parts (rows_of table)) ∙ spelled ∙ other.2 in
+    let same : 1 ≡ other.0 = cc in
+    other.3 (sym same)
+
+no_state_fault : (bytes : List ℕ) (why : Refusal) → IsState bytes → IsStateFault bytes why → ⊥
 no_state_fault bytes why is fault =
     ⊎_elim
-    (λ version.
-    let found = version.1 in
-    let both : state.mark ++ (1 ∷ state.table_bytes is.0) ≡ state.mark ++ (found.0 ∷ found.1) = is.2 ∙ found.3 in
-    let same : 1 ≡ found.0 = cc in
-    found.2 (sym same))
-    (λ other. other.2 is)
+    (λ version. known_version is.0 bytes is.1.spelled version.1)
+    (λ other. other.2 is.0 is.1.valid is.1.spelled)
     fault.1
 
-memory_apart : (bytes : List ℕ) → (IsFault bytes memory ⊎ state.IsFault bytes memory) → ⊥
-memory_apart bytes h =
-    ⊎_elim (λ fault. fault) (λ fault. ⊎_elim (λ version. let no = version.0 in cc) (λ other. let no = other.0 in cc) fault.1) h
+memory_apart : (bytes : List ℕ) → (IsTextFault bytes memory ⊎ IsStateFault bytes memory) → ⊥
+memory_apart bytes (inl fault) = memory_no_text_fault bytes fault
+memory_apart bytes (inr fault) = ⊎_elim (λ version. let no = version.0 in cc) (λ other. let no = other.0 in cc) fault.1
 
--- the bytes of a table are read with its answers
-reads_own : (table : Table) → IsTable table →
-    state.IsState (state.state_bytes table) × SameAnswers (state.state_refuses (state.state_bytes table)) (table_refuses table)
-reads_own table valid = (
-  (table, valid, refl),
-  λ path question. (
-    λ h.
-        let one : h.0 ≡ table = one_spelling_law h.0 table h.1 valid h.2 in
-        let P : Table → Type 0 = λ t. table_refuses t path question in
-        subst P one h.3,
-    λ h. (table, valid, refl, h),
-  ),
-)
+reads_own :
+    (table : Table) → IsValidTable table → length (table_bytes table) < 2 ^ 64
+    → IsState (table_bytes table) × SameAnswers (state_refuses (table_bytes table)) (TableRefuses RowRefuses table)
+reads_own table valid held =
+    let is : IsTableOf (table_bytes table) table = record { valid = valid; spelled = refl } in
+    let same = state_answers table (table_bytes table) held is in (
+      (table, is),
+      λ path question. ((same path question).1, (same path question).0),
+    )
 
 pub sound : IsSound Table language
 sound = record {
-  no_text_fault = λ text why. no_fault_at text why.kind why.place;
+  no_text_fault = no_text_fault;
   no_state_fault = no_state_fault;
   memory_apart = memory_apart;
   reads_own = reads_own;
-  one_table = tables_exact;
+  one_table = one_table;
 }
-
--- the table that bytes are read as refuses what the bytes do
-pub state_answers : (table : Table) (bytes : List ℕ) → IsTable table → state.state_bytes table ≡ bytes → SameAnswers (table_refuses table) (state.state_refuses bytes)
-state_answers table bytes valid spelled path question = (
-  λ h. (table, valid, spelled, h),
-  λ h.
-      let one : h.0 ≡ table = one_spelling_law h.0 table h.1 valid (h.2 ∙ sym spelled) in
-      let P : Table → Type 0 = λ t. table_refuses t path question in
-      subst P one h.3,
-)

@@ -1,24 +1,30 @@
--- The language that the store takes at present: flat texts, and the state bytes of flat tables.
-use Rattle.std.specs.Prelude.{None}
+-- The language that the store takes, and its format of states.
 use Rattle.cue_lattice.specs.World.{Meaning}
-pub use Rattle.cue_flat.specs.FlatTable.{Table}
-use Rattle.cue_flat.specs.FlatTable.{IsTable, table_refuses}
-use Rattle.cue_flat_text.specs.Fragment as fragment
-use Rattle.cue_flat_codec.specs.State as state
+use Rattle.cue_row.specs.declared.row.Row.{Row}
+use Rattle.cue_row.specs.Row.{RowRefuses}
+use Rattle.cue_table.specs.Tree.{Tree, empty}
+use Rattle.cue_table.specs.Refuses.{TableRefuses}
+use Rattle.cue_table.specs.Valid.{IsValidTable}
+use Rattle.cue_codec.specs.State.{table_bytes}
+use Rattle.cue_replica.specs.Texts.{IsLegal, text_refuses, IsTextFault}
+use Rattle.cue_replica.specs.States.{IsState, state_refuses, IsStateFault}
+
+abbrev pub Table : Type 0
+Table = Tree Row
 
 -- the table of a site that has accepted nothing
 abbrev pub opening : Table
-opening = None
+opening = empty
 
 abbrev pub language : Meaning Table
 language = record {
-  IsValid = IsTable;
-  table_refuses = table_refuses;
-  IsLegal = fragment.IsLegal;
-  text_refuses = fragment.fragment_refuses;
-  IsTextFault = fragment.IsFault;
-  IsState = state.IsState;
-  state_refuses = state.state_refuses;
-  IsStateFault = state.IsFault;
-  written = state.state_bytes;
+  IsValid = IsValidTable;
+  table_refuses = TableRefuses RowRefuses;
+  IsLegal = IsLegal;
+  text_refuses = text_refuses;
+  IsTextFault = IsTextFault;
+  IsState = IsState;
+  state_refuses = state_refuses;
+  IsStateFault = IsStateFault;
+  written = table_bytes;
 }

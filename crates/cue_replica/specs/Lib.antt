@@ -2,4 +2,6 @@ pub mod Accepted
 pub mod Language
 pub mod Replica
 pub mod Reports
+pub mod States
+pub mod Texts
 pub mod World

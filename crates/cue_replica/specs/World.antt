@@ -1,5 +1,5 @@
 -- Worlds of sites: how the program's events, outcomes and sites stand to the definition of a world.
-use Rattle.std.specs.Prelude.{◌≡◌, ◌⊎◌, ℕ, ◌+◌, ◌<◌, ◌≤◌, List, [], ◌∷◌, ◌++◌, map, length, Some, slice_get, slice_set, Vec, vec_len, vec_capacity}
+use Rattle.std.specs.Prelude.{◌≡◌, ◌⊎◌, ℕ, ◌+◌, ◌^◌, ◌<◌, ◌≤◌, List, [], ◌∷◌, ◌++◌, map, length, Some, slice_get, slice_set, Vec, vec_len, vec_capacity}
 use Rattle.std.specs.Global.{Global}
 use Rattle.cue_lattice.specs.Refusal.{memory}
 use Rattle.cue_lattice.specs.World as world
@@ -53,14 +53,14 @@ HappensAt Step old site new outcome =
 -- a text is handed in
 abbrev pub Submits : List ℕ → Table → Table → Outcome → Type 0
 Submits text before after Accepted =
-    language.IsLegal text × Adds before (language.text_refuses text) after × (language.IsValid before → language.IsValid after)
+    language.IsLegal text × Adds before (language.text_refuses text) after × language.IsValid after
 Submits text before after (Refused why) = (after ≡ before) × ((why ≡ memory) ⊎ language.IsTextFault text why)
 Submits text before after outcome = ⊥
 
 -- state bytes are handed in
 abbrev pub Takes : List ℕ → Table → Table → Outcome → Type 0
 Takes bytes before after Accepted =
-    language.IsState bytes × Adds before (language.state_refuses bytes) after × (language.IsValid before → language.IsValid after)
+    language.IsState bytes × Adds before (language.state_refuses bytes) after × language.IsValid after
 Takes bytes before after (Refused why) = (after ≡ before) × ((why ≡ memory) ⊎ language.IsStateFault bytes why)
 Takes bytes before after outcome = ⊥
 
@@ -73,11 +73,15 @@ Sends replicas site old new (Refused why) = (site < length replicas) × (why ≡
 Sends replicas site old new NoSuch = (length replicas ≤ site) × (new ≡ old)
 Sends replicas site old new Accepted = ⊥
 
+-- a memory can hold the bytes
+abbrev pub IsHeld : List ℕ → Type 0
+IsHeld bytes = length bytes < 2 ^ 64
+
 -- a message is handed to a site: there is none of this number, and nothing changes; or its bytes are handed in
 abbrev pub Delivers : List (Vec ℕ Global) → ℕ → List Table → ℕ → List Table → Outcome → Type 0
 Delivers messages message old site new outcome =
     ((length messages ≤ message) × (new ≡ old) × (outcome ≡ NoSuch))
-    ⊎ ((bytes : Vec ℕ Global) × (slice_get messages message ≡ Some bytes) × HappensAt (Takes bytes.items) old site new outcome)
+    ⊎ ((bytes : Vec ℕ Global) × (slice_get messages message ≡ Some bytes) × IsHeld bytes.items × HappensAt (Takes bytes.items) old site new outcome)
 
 -- at most one message more, and no less room
 pub record KeepsRoom (old new : Vec (Vec ℕ Global) Global) : Type 0 where

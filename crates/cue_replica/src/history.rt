@@ -1,5 +1,6 @@
-ghost use Rattle.std.specs.Prelude.{◌≡◌, ◌<◌, map, replicate, None, IfOk, vec_len, vec_capacity};
+ghost use Rattle.std.specs.Prelude.{◌≡◌, ◌<◌, map, replicate, IfOk, vec_len, vec_capacity};
 ghost use Rattle.cue_lattice.specs.World.{Sets, AreOutcomes, AllAlong, IsUnified, start};
+ghost use Rattle.cue_table.specs.Tree.{empty};
 ghost use Rattle.cue_replica.specs.Language.{language};
 ghost use Rattle.cue_replica.specs.World.{HappensAt, Submits, Takes, Sends, Delivers, KeepsRoom};
 ghost use Rattle.cue_replica.specs.World.{Agrees, Happens, event_of, outcome_of, reached, IsSentOf};
@@ -96,7 +97,7 @@ fn happen(
 
 /// A world of new sites.
 fn opening(alloc: Global, sites: usize) -> Result<Vec<Replica>, Memory>
-    ensures { IfOk result (λ replicas. replicas.items ≡ replicate sites None) }
+    ensures { IfOk result (λ replicas. replicas.items ≡ replicate sites empty) }
 {
     let mut replicas = Vec::with_capacity(alloc, sites)?;
     for _ in 0..sites {

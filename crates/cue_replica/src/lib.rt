@@ -5,6 +5,7 @@
 //! to.
 #![tactic(auto)]
 
+mod fragment;
 mod history;
 mod language;
 mod replica;
@@ -12,8 +13,9 @@ mod replica;
 mod tests;
 mod world;
 
-pub use cue_flat_report::{Conflict, Export, Gap, Path, Step, lines};
 pub use cue_lattice::{Form, Kind, Memory, Refusal, TEXT_LIMIT, Text};
+pub use cue_report::{Conflict, Export, Gap, Place, lines, path_text};
+pub use cue_row::{Path, Step};
 pub use history::run;
 pub use language::sound_language;
 pub use replica::Replica;

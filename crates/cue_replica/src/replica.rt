@@ -1,33 +1,45 @@
-ghost use Rattle.std.specs.Prelude.{◌≡◌, ◌⊎◌, ◌↔◌, IsTrue, IfOk, IfErr, OnOk, OnErr, IsErrOf, None};
+ghost use Rattle.std.specs.Prelude.{◌≡◌, ◌<◌, ◌⊎◌, ◌↔◌, length, string_bytes, IsTrue};
+ghost use Rattle.std.specs.Prelude.{IfOk, IfErr, OnOk, OnErr, IsErrOf};
+ghost use Rattle.cue_lattice.specs.Limits.{text_limit};
 ghost use Rattle.cue_lattice.specs.Refusal.{memory, refusal_at};
-ghost use Rattle.cue_flat_codec.specs.State.{IsVersionFault};
-ghost use Rattle.cue_replica.specs.Language.{language};
-ghost use Rattle.cue_replica.specs.Reports.{IsExportOf, AreConflictsOf, AreGapsOf};
+ghost use Rattle.cue_codec.specs.Decoding.{IsOtherVersion};
+ghost use Rattle.cue_lex.specs.Tokens.{too_long};
+ghost use Rattle.cue_replica.specs.Language.{language, opening};
+ghost use Rattle.cue_replica.specs.Reports.{IsExportOf, AreConflictsOf, AreGapsOf, printed};
 
-use cue_flat::FlatTable;
-use cue_flat_codec::{decode, encode};
-use cue_flat_report::{Conflict, Export, Gap};
-use cue_flat_text::read;
+use crate::fragment::read;
+use cue_codec::{decode, encode};
 use cue_lattice::{Kind, Memory, Refusal};
+use cue_report::{Conflict, Export, Gap};
+use cue_row::Row;
+use cue_table::Table;
 use std::alloc::Global;
 use std::marker::Model;
 
-/// A site: it holds one table, the unification of all that it has accepted.
+/// A site: it holds one valid table, the unification of all that it has accepted.
 ///
 /// Contracts see it as that table, so that two sites with equal tables give the same answer to each
 /// call.
-#[derive(Debug, Drop)]
+#[derive(Drop)]
 pub struct Replica {
-    table: FlatTable,
+    table: Table<Row>,
     alloc: Global,
 }
 
 impl Model for Replica {
-    ghost use Rattle.cue_replica.specs.Language.{Table};
+    ghost use Rattle.std.specs.Coded.{codes};
+    ghost use Rattle.cue_table.specs.Code.{tree_code};
+    ghost use Rattle.cue_replica.specs.Language.{Table as Tables};
 
-    ghost Value = { Table };
+    ghost Value = { Tables };
+
+    ghost coded = { tree_code (Prim.hlevel codes) };
 
     ghost view = { λ replica. replica.table };
+
+    ghost use Rattle.cue_table.specs.Valid.{IsValidTable};
+
+    ghost invariant = { λ replica. IsValidTable replica.table };
 }
 
 impl Replica {
@@ -35,10 +47,10 @@ impl Replica {
 
     /// A site that has accepted nothing.
     pub fn new(alloc: Global) -> Replica
-        ensures { result ≡ None }
+        ensures { result ≡ opening }
     {
         Replica {
-            table: FlatTable::free(),
+            table: Table::new(alloc),
             alloc,
         }
     }
@@ -46,41 +58,48 @@ impl Replica {
     /// Accepts a text: the table then refuses what it refused and what the text refuses. A refused
     /// text changes nothing.
     ///
-    /// Refusals: `TooLong`, `Syntax`, `TooLarge`, `Memory`, looked for in this order.
+    /// # Errors
+    ///
+    /// The first fault among the text's tokens: `TooLong`, `BadCharacter`, `BadString`,
+    /// `BadNumber`, `IntRange`, `TextTooLong`; else `Syntax`, `Nesting` or `LeftOut`; else the first
+    /// of `Repeated`, `FieldReference` and `UnknownName`, `Cycle`, `NotScalar`, `TooLarge` and
+    /// `TooDeep`. Each comes with its place in the text. And `Memory`.
     pub fn submit(&mut self, text: &str) -> Result<(), Refusal>
         ensures legal { OnOk result (language.IsLegal text.now) }
         ensures ok { OnOk result (Adds self.old (language.text_refuses text.now) self.new) }
         ensures refused { IfErr result (λ why.
             (why ≡ memory) ⊎ language.IsTextFault text.now why) }
-        // Out of memory never hides a fault.
-        ensures memory_last { result ≡ Err memory → language.IsLegal text.now }
+        // A text that is too long is always refused as such: for it no memory is wanted.
+        ensures long { text_limit < length text.now → IsErrOf result too_long }
         ensures err { OnErr result (self.new ≡ self.old) }
-        ensures valid { language.IsValid self.old → language.IsValid self.new }
+        ensures valid { language.IsValid self.new }
     {
         let table = read(self.alloc, text)?;
-        self.table.meet_with(self.alloc, table)?;
+        self.table.meet_with(table)?;
         Ok(())
     }
 
     /// Accepts state bytes: the table then refuses what it refused and what the table of the bytes
     /// refuses. Refused bytes change nothing.
     ///
-    /// Refusals, all at place 0: `Version`, `NotState`, `Memory`.
+    /// # Errors
+    ///
+    /// `Version`, `NotState` and `Memory`, all at place 0.
     pub fn take(&mut self, bytes: &[u8]) -> Result<(), Refusal>
         ensures state { OnOk result (language.IsState bytes.now) }
         ensures ok { OnOk result (Adds self.old (language.state_refuses bytes.now) self.new) }
         ensures refused { IfErr result (λ why.
             (why ≡ memory) ⊎ language.IsStateFault bytes.now why) }
         // `Version` exactly where the bytes are of another version: for these no memory is wanted.
-        ensures version { IsVersionFault bytes.now → IsErrOf result (refusal_at Kind.Version 0) }
+        ensures version { IsOtherVersion bytes.now → IsErrOf result (refusal_at Kind.Version 0) }
         ensures err { OnErr result (self.new ≡ self.old) }
-        ensures valid { language.IsValid self.old → language.IsValid self.new }
+        ensures valid { language.IsValid self.new }
     {
         let taken = match decode(self.alloc, bytes) {
             Ok(taken) => taken,
             Err(kind) => return Err(Refusal::at(kind, 0)),
         };
-        self.table.meet_with(self.alloc, taken)?;
+        self.table.meet_with(taken)?;
         Ok(())
     }
 
@@ -96,21 +115,28 @@ impl Replica {
     pub fn export(&self, alloc: Global) -> Result<Export, Memory>
         ensures { IfOk result (IsExportOf self.now) }
     {
-        cue_flat_report::export(alloc, &self.table)
+        cue_report::export(alloc, &self.table)
     }
 
     /// The conflicts, in the order of their paths.
     pub fn conflicts(&self, alloc: Global) -> Result<Vec<Conflict>, Memory>
         ensures { IfOk result (λ found. AreConflictsOf self.now found.items) }
     {
-        cue_flat_report::conflicts(alloc, &self.table)
+        cue_report::conflicts(alloc, &self.table)
     }
 
     /// What is incomplete, in the order of the paths.
     pub fn incomplete(&self, alloc: Global) -> Result<Vec<Gap>, Memory>
         ensures { IfOk result (λ gaps. AreGapsOf self.now gaps.items) }
     {
-        cue_flat_report::incomplete(alloc, &self.table)
+        cue_report::incomplete(alloc, &self.table)
+    }
+
+    /// The canonical text of the table.
+    pub fn print(&self, alloc: Global) -> Result<String, Memory>
+        ensures { IfOk result (λ text. string_bytes text ≡ printed self.now) }
+    {
+        cue_print::print(alloc, &self.table)
     }
 
     pub fn copy(&self, alloc: Global) -> Result<Replica, Memory>

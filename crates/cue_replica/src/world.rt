@@ -27,7 +27,7 @@ pub enum Outcome {
 }
 
 /// Sites, the messages that they sent, and what each event came to.
-#[derive(Debug, Drop)]
+#[derive(Drop)]
 pub struct World {
     pub replicas: Vec<Replica>,
     pub messages: Vec<Vec<u8>>,

@@ -20,6 +20,7 @@ inputs_of _ arguments = arguments
 -- the reply that belongs to a command
 abbrev pub IsReplyOf : Command → ℕ → Option (List ℕ) → Reply → Type 0
 IsReplyOf commands.Export files known reply = IsReplyFor questions.Export files known reply
+IsReplyOf commands.Print files known reply = IsReplyFor questions.Print files known reply
 IsReplyOf commands.Report files known reply = IsReplyFor questions.Report files known reply
 IsReplyOf commands.State files known reply = IsReplyFor questions.State files known reply
 IsReplyOf commands.Merge files known reply = IsMergeOf files known reply

@@ -8,6 +8,7 @@ use Rattle.cuestore.specs.declared.command.Command.TheVariants as commands
 -- the word that names a command
 abbrev pub name_of : Command → List ℕ
 name_of commands.Export = codes "export"
+name_of commands.Print = codes "print"
 name_of commands.Report = codes "report"
 name_of commands.State = codes "state"
 name_of commands.Merge = codes "merge"

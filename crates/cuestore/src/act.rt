@@ -18,7 +18,7 @@ use std::rt::Files;
 /// with the byte FE (hexadecimal) are states and all others texts; or, where it names none, what
 /// `input` has: one state, or texts, which are split at lines that are exactly `---`. `export`
 /// writes to `out` the JSON and a line break, or the conflict lines, or the incomplete lines;
-/// `report` the conflict lines and then the incomplete lines; `state` the state bytes. `merge`
+/// `print` the canonical text; `report` the conflict lines and then the incomplete lines; `state` the state bytes. `merge`
 /// writes the state bytes to the file that it names first. The first refused input ends the run
 /// with the line `refused NUMBER NAME at PLACE in K`, which goes to `out` too. `usage fault` and
 /// `device fault` go to `faults`.
@@ -76,6 +76,7 @@ fn answer<H: AllocGlobal + Files, R: Read>(
     let arguments = request.arguments.as_slice();
     match request.command {
         Command::Export => reply_for(rt, Question::Export, arguments, input),
+        Command::Print => reply_for(rt, Question::Print, arguments, input),
         Command::Report => reply_for(rt, Question::Report, arguments, input),
         Command::State => reply_for(rt, Question::State, arguments, input),
         Command::Merge => merge_into(rt, arguments[0], &arguments[1..], input),

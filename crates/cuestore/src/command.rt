@@ -13,6 +13,8 @@ use std::alloc::Global;
 pub enum Command {
     /// Print the JSON, or the conflicts, or what is incomplete.
     Export,
+    /// Print the canonical text.
+    Print,
     /// Print the conflicts, and then what is incomplete.
     Report,
     /// Write the state bytes to the output.
@@ -54,6 +56,7 @@ fn named(word: &str) -> Option<Command>
 {
     match word {
         "export" => Some(Command::Export),
+        "print" => Some(Command::Print),
         "report" => Some(Command::Report),
         "state" => Some(Command::State),
         "merge" => Some(Command::Merge),
@@ -121,7 +124,7 @@ fn check(alloc: Global, words: &[String]) -> Result<(), Fault>
 /// Reads the words by `clap`.
 fn parsed<'a>(alloc: Global, words: &'a [&'a str]) -> Result<(), Error> {
     let mut program = clap::Command::new(alloc, "cuestore");
-    for name in ["export", "report", "state", "merge"] {
+    for name in ["export", "print", "report", "state", "merge"] {
         let files = Arg::new(alloc, "FILE")
             .action(ArgAction::Append)
             .num_args(0..);

@@ -5,6 +5,6 @@ use Rattle.cue_program.proofs.run.site_of_files.Goals as goal
 pub loop-name-preserved : goal.loop-name-preserved
 loop-name-preserved g c = record {
   holds = files_more c.loop-name.name-index c.loop-name.site c.take_file.new.site c.deref.result.now c.loop-name.invariant.holds
-      c.in_ok-take_file.ensures.accepts c.take_file.ensures.valid;
+      c.in_ok-take_file.ensures.accepts c.in_ok-take_file.ensures.valid;
   counted = search rules;
 }

@@ -14,7 +14,7 @@ returns-in-Ok-clause-holds c =
       c.begins_a_state.ensures.0 c.if-begins_a_state.true,
       of_state c.take.new.self c.args.bytes.now c.in-Ok.ensures.state
           (subst (λ (old : Table). Adds old (language.state_refuses c.args.bytes.now) c.take.new.self) c.new-site.ensures c.in-Ok.ensures.ok)
-          (subst (λ (old : Table). language.IsValid old → language.IsValid c.take.new.self) c.new-site.ensures c.in-Ok.ensures.valid),
+          c.in-Ok.ensures.valid,
     )
 
 pub returns-clause-holds : goal.returns-clause-holds

@@ -9,7 +9,7 @@ loop-rest-preserved c =
     submitted_more c.args.bytes.now c.in-Some.bytes.now c.first_part.result.0.now c.loop-rest.site c.submit.new.site
     c.loop-rest.number c.saturating_add-number.result
     (option_map (λ rest. rest.now) c.first_part.result.1) (subst P c.in-Some.is c.loop-rest.invariant) c.first_part.ensures.part
-    c.saturating_add-number.ensures c.in_default-submit.ensures.legal c.in_default-submit.ensures.adds c.submit.ensures.valid
+    c.saturating_add-number.ensures c.in_default-submit.ensures.legal c.in_default-submit.ensures.adds c.in_default-submit.ensures.valid
 
 pub loop-rest-init : goal.loop-rest-init
 loop-rest-init c = rw c.new-site.ensures (submitted_none c.args.bytes.now)

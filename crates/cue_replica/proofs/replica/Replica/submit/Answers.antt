@@ -1,12 +1,23 @@
 use Rattle.std.proofs.Common.{subst}
+use Rattle.cue_table.proofs.MetTables.{met_tables}
 use Rattle.cue_replica.specs.Language.{Table}
-use Rattle.cue_flat_text.specs.Fragment.{fragment_refuses}
 use Rattle.cue_replica.specs.Replica.{Adds}
+use Rattle.cue_replica.specs.Texts.{text_refuses}
 use Rattle.cue_replica.proofs.Adding.{adds_met}
 use Rattle.cue_replica.proofs.replica.Replica.submit.Goals as goal
 
 pub returns-clause-ok : goal.returns-clause-ok
 returns-clause-ok c =
-    let added = fragment_refuses c.args.text.now in
+    let added = text_refuses c.args.text.now in
     let P : Table → Type 0 = λ old. Adds old added c.meet_with.new.self in
-    subst P c.self.view_is (adds_met c.self.inside.table c.in_ok-table.table c.meet_with.new.self added c.in_ok-meet_with.ensures.ok c.in_ok-table.ensures.table.1)
+    subst P c.self.view_is (adds_met c.self.inside.table c.in_ok-table.table c.meet_with.new.self added c.in_ok-meet_with.ensures.ok c.in_ok-table.ensures.answers)
+
+pub invariant_of-self-2 : goal.invariant_of-self-2
+invariant_of-self-2 c =
+    met_tables c.self.inside.table c.in_ok-table.table c.meet_with.new.self c.in_ok-meet_with.ensures.form c.in_ok-meet_with.ensures.ok
+    c.self.invariant c.in_ok-table.ensures.valid
+
+pub returns-clause-valid : goal.returns-clause-valid
+returns-clause-valid c =
+    met_tables c.self.inside.table c.in_ok-table.table c.meet_with.new.self c.in_ok-meet_with.ensures.form c.in_ok-meet_with.ensures.ok
+    c.self.invariant c.in_ok-table.ensures.valid

@@ -1,0 +1,80 @@
+-- Texts have one tree, and legal ones no fault.
+use Rattle.std.proofs.Common.{◌≡◌, ◌⊎◌, inl, inr, ◌<◌, ◌≤◌, ℕ, Bool, true, false, List, Ok, Err, refl, subst, length, nat_le, arith}
+use Rattle.std.specs.Prelude.{None, if◌then◌else◌}
+use Rattle.std.proofs.lemmas.Bool.{leb-true}
+use Rattle.cue_lattice.specs.Limits.{text_limit}
+use Rattle.cue_lattice.specs.Limits.{level_limit}
+use Rattle.cue_lattice.specs.Path.{Path}
+use Rattle.cue_lattice.specs.Question.{Question, Refusals, SameAnswers}
+use Rattle.cue_lattice.specs.Refusal.{memory}
+use Rattle.cue_lattice.specs.declared.refusal.Kind.{Kind}
+use Rattle.cue_lattice.specs.declared.refusal.Kind.TheVariants as kinds
+use Rattle.cue_lattice.specs.declared.refusal.Refusal.{Refusal}
+use Rattle.cue_lex.specs.declared.token.Token.{Token}
+use Rattle.cue_lex.specs.Tokens.{tokens, commas, pieces, too_long}
+use Rattle.cue_syntax.specs.Grammar.{at_most, IsFile}
+use Rattle.cue_syntax.specs.Refusals.{Fits}
+use Rattle.cue_syntax.specs.Syntax.{FileTree, Entries}
+use Rattle.cue_syntax.proofs.OneTree.{one_tree}
+use Rattle.cue_scope.specs.Refusing as checks
+use Rattle.cue_eval.specs.Texts as meaning
+use Rattle.cue_replica.specs.Texts.{IsTreeOf, IsUnspelled, IsLegal, text_refuses, IsTextFault}
+
+-- a text has one list of tokens
+one_lexing : (text : List ℕ) (a b : List Token) → tokens text ≡ Ok a → tokens text ≡ Ok b → a ≡ b
+one_lexing text a b h k = cc
+
+-- a text that has tokens is not too long
+pub lexed_short : (text : List ℕ) (words : List Token) → tokens text ≡ Ok words → length text ≤ text_limit
+unfolding tokens
+lexed_short text words e = go (nat_le (length text) text_limit) refl e
+  where
+    go : (t : Bool) → nat_le (length text) text_limit ≡ t → (if t then commas None (pieces false 0 0 text) else Err too_long) ≡ Ok words → length text ≤ text_limit
+    go true is e = leb-true (length text) text_limit is
+    go false is e = cc
+
+-- and one tree
+pub one_reading : (text : List ℕ) (a b : FileTree) → IsTreeOf text a → IsTreeOf text b → a ≡ b
+one_reading text a b h k =
+    let words = one_lexing text h.words k.words h.lexed k.lexed in
+    one_tree (at_most level_limit) (at_most level_limit) k.words a b (subst (λ (ts : List Token). IsFile (at_most level_limit) ts a) words h.spelled) k.spelled
+
+-- a text that passes each check is refused by none
+passed : (es : Entries) (kind : Kind) (place : ℕ) → checks.IsLegal es → checks.RefusesAs es kind place → ⊥
+passed es kinds.Repeated place h r = let e = h.small.scalar.ordered.named.unrepeated in let f = r.is in cc
+passed es kinds.UnknownName place h r = let e = h.small.scalar.ordered.named.names in let f = r.1.is in cc
+passed es kinds.FieldReference place h r = let e = h.small.scalar.ordered.named.names in let f = r.1.is in cc
+passed es kinds.Cycle place h r = h.small.scalar.ordered.acyclic r.1.number r.1.first.reaches
+passed es kinds.NotScalar place h r = let e = h.small.scalar.terms in let f = r.1.is in cc
+passed es kinds.TooLarge place h r = omega (arith, h.small.size, r.1)
+passed es kinds.TooDeep place h r = omega (arith, h.depth, r.1)
+passed es kind place h r = r
+
+pub no_text_fault : (text : List ℕ) (why : Refusal) → IsLegal text → IsTextFault text why → ⊥
+no_text_fault text why legal (inl fault) = let e = legal.1.lexed in let f = fault.1 in cc
+no_text_fault text why legal (inr (inl fault)) =
+    let words = one_lexing text legal.1.words fault.0 legal.1.lexed fault.1 in
+    fault.2.none legal.0 (subst (λ (ts : List Token). IsFile (at_most level_limit) ts legal.0) words legal.1.spelled)
+no_text_fault text why legal (inr (inr fault)) =
+    let same = one_reading text fault.0 legal.0 fault.1 legal.1 in
+    passed legal.0.declarations why.kind why.place legal.2 (subst (λ (t : FileTree). checks.Refuses t.declarations why) same fault.2)
+
+-- want of memory fits no tokens
+pub memory_unfit : (levels end : ℕ) (words : List Token) → Fits levels end words memory → ⊥
+memory_unfit levels end words fit = fit.fits.1
+
+pub memory_no_text_fault : (text : List ℕ) → IsTextFault text memory → ⊥
+memory_no_text_fault text (inl fault) = fault.0 refl
+memory_no_text_fault text (inr (inl fault)) = memory_unfit _ _ fault.0 fault.2.fits
+memory_no_text_fault text (inr (inr fault)) = fault.2
+
+-- what the one tree of a text means is what the text refuses
+pub tree_answers :
+    (text : List ℕ) (tree : FileTree) (refuses : Refusals) → IsTreeOf text tree
+    → SameAnswers refuses (meaning.text_refuses tree.declarations) → SameAnswers refuses (text_refuses text)
+tree_answers text tree refuses is same path question = (
+  λ h. (tree, is, (same path question).0 h),
+  λ h.
+      let one = one_reading text h.0 tree h.1 is in
+      (same path question).1 (subst (λ (t : FileTree). meaning.text_refuses t.declarations path question) one h.2),
+)

@@ -1,0 +1,35 @@
+use Rattle.std.proofs.Common.{List, arith, subst}
+use Rattle.cue_lattice.specs.Limits.{level_limit}
+use Rattle.cue_lex.specs.declared.token.Token.{Token}
+use Rattle.cue_syntax.specs.Grammar.{at_most, IsFile}
+use Rattle.cue_syntax.specs.Files.{file_tree}
+use Rattle.cue_syntax.specs.declared.tree.File.{File}
+use Rattle.cue_scope.specs.Files.{entries_of}
+use Rattle.cue_row.specs.Row.{RowRefuses}
+use Rattle.cue_table.specs.Refuses.{TableRefuses}
+use Rattle.cue_scope.specs.Meaning.{meant_text}
+use Rattle.cue_eval.specs.Evaluated.{HasAnswersOf}
+use Rattle.cue_replica.proofs.Texts.{lexed_short, tree_answers}
+use Rattle.cue_replica.proofs.fragment.read.Goals as goal
+
+pub returns-in_err-file-clause-long : goal.returns-in_err-file-clause-long
+returns-in_err-file-clause-long c more = absurd (omega (arith, more, lexed_short c.args.text.now c.in_ok-tokens.tokens.items c.in_ok-tokens.ensures.found))
+
+pub returns-in_err-resolved-clause-long : goal.returns-in_err-resolved-clause-long
+returns-in_err-resolved-clause-long c more = absurd (omega (arith, more, lexed_short c.args.text.now c.in_ok-tokens.tokens.items c.in_ok-tokens.ensures.found))
+
+pub returns-in_err-table-clause-long : goal.returns-in_err-table-clause-long
+returns-in_err-table-clause-long c more = absurd (omega (arith, more, lexed_short c.args.text.now c.in_ok-tokens.tokens.items c.in_ok-tokens.ensures.found))
+
+pub returns-clause-long : goal.returns-clause-long
+returns-clause-long c more = absurd (omega (arith, more, lexed_short c.args.text.now c.in_ok-tokens.tokens.items c.in_ok-tokens.ensures.found))
+
+pub returns-clause-answers : goal.returns-clause-answers
+returns-clause-answers c =
+    tree_answers c.args.text.now (file_tree c.in_ok-file.file) (TableRefuses RowRefuses c.in_ok-table.table)
+    (record {
+      words = c.in_ok-tokens.tokens.items;
+      lexed = c.in_ok-tokens.ensures.found;
+      spelled = subst (λ (ts : List Token). IsFile (at_most level_limit) ts (file_tree c.in_ok-file.file)) c.deref.ensures.value c.in_ok-file.ensures.spelled;
+    })
+    (subst (λ (file : File). HasAnswersOf (meant_text (entries_of file)) c.in_ok-table.table) c.in_ok-resolved.ensures.resolved c.in_ok-table.ensures.answers)

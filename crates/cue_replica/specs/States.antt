@@ -1,0 +1,29 @@
+-- Which bytes are those of a state, and why others are refused.
+use Rattle.std.specs.Prelude.{◌≡◌, ℕ, List}
+use Rattle.cue_lattice.specs.Question.{Refusals}
+use Rattle.cue_lattice.specs.declared.refusal.Refusal.{Refusal}
+use Rattle.cue_row.specs.declared.row.Row.{Row}
+use Rattle.cue_row.specs.Row.{RowRefuses}
+use Rattle.cue_table.specs.Tree.{Tree}
+use Rattle.cue_table.specs.Refuses.{TableRefuses}
+use Rattle.cue_table.specs.Valid.{IsValidTable}
+use Rattle.cue_codec.specs.State.{table_bytes}
+use Rattle.cue_codec.specs.Decoding.{IsRejected}
+
+-- the table is valid, and has these bytes
+pub record IsTableOf (bytes : List ℕ) (table : Tree Row) : Type 0 where
+  pub valid : IsValidTable table
+  pub spelled : table_bytes table ≡ bytes
+
+-- some valid table has the bytes
+abbrev pub IsState : List ℕ → Type 0
+IsState bytes = (table : Tree Row) × IsTableOf bytes table
+
+-- what that table refuses
+abbrev pub state_refuses : List ℕ → Refusals
+state_refuses bytes path question =
+    (table : Tree Row) × IsTableOf bytes table × TableRefuses RowRefuses table path question
+
+-- Why bytes are refused: they are of another version; or else no valid table has them. Both are told at place 0.
+abbrev pub IsStateFault : List ℕ → Refusal → Type 0
+IsStateFault bytes why = (why.place ≡ 0) × IsRejected bytes why.kind

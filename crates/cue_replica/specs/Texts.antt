@@ -1,0 +1,42 @@
+-- What texts mean, and why a text is refused: the definitions of the crates below, put together.
+use Rattle.std.specs.Prelude.{◌≡◌, ◌≢◌, ◌⊎◌, ℕ, List, length, Ok, Err}
+use Rattle.cue_lattice.specs.Limits.{level_limit}
+use Rattle.cue_lattice.specs.Question.{Refusals}
+use Rattle.cue_lattice.specs.Refusal.{memory}
+use Rattle.cue_lattice.specs.declared.refusal.Refusal.{Refusal}
+use Rattle.cue_lex.specs.Tokens.{tokens}
+use Rattle.cue_lex.specs.declared.token.Token.{Token}
+use Rattle.cue_syntax.specs.Grammar.{at_most, IsFile}
+use Rattle.cue_syntax.specs.Refusals.{Fits}
+use Rattle.cue_syntax.specs.Syntax.{FileTree}
+use Rattle.cue_scope.specs.Refusing as checks
+use Rattle.cue_eval.specs.Texts as meaning
+
+-- the text is one of the grammar, and this is its tree
+pub record IsTreeOf (text : List ℕ) (tree : FileTree) : Type 0 where
+  pub words : List Token
+  pub lexed : tokens text ≡ Ok words
+  pub spelled : IsFile (at_most level_limit) words tree
+
+-- A text is legal that has no fault among its tokens, is one of the grammar, and passes each check of names, definitions
+-- and limits.
+abbrev pub IsLegal : List ℕ → Type 0
+IsLegal text = (tree : FileTree) × IsTreeOf text tree × checks.IsLegal tree.declarations
+
+-- what a text refuses
+abbrev pub text_refuses : List ℕ → Refusals
+text_refuses text path question =
+    (tree : FileTree) × IsTreeOf text tree × meaning.text_refuses tree.declarations path question
+
+-- the tokens are those of no tree, and the refusal fits them
+pub record IsUnspelled (end : ℕ) (words : List Token) (why : Refusal) : Type 0 where
+  pub none : (tree : FileTree) → ¬ IsFile (at_most level_limit) words tree
+  pub fits : Fits level_limit end words why
+
+-- Why a text is refused: the first fault among its tokens; else, where no tree spells these, a refusal that fits them;
+-- else the first check that fails. Want of memory is none of these.
+abbrev pub IsTextFault : List ℕ → Refusal → Type 0
+IsTextFault text why =
+    ((why ≢ memory) × (tokens text ≡ Err why))
+    ⊎ (((words : List Token) × (tokens text ≡ Ok words) × IsUnspelled (length text) words why)
+    ⊎ ((tree : FileTree) × IsTreeOf text tree × checks.Refuses tree.declarations why))
