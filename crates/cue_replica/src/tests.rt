@@ -111,11 +111,11 @@ fn a_refused_call_changes_nothing(rt: HostRuntime) -> Result<(), Fail> {
     let alloc = rt.alloc();
     let mut kept = site(alloc, &["a: 1\n"])?;
     let before = kept.copy(alloc)?;
-    let not_flat = Refusal {
+    let syntax = Refusal {
         kind: Kind::Syntax,
-        place: 0,
+        place: 5,
     };
-    assert_eq!(rt; kept.submit("a:1\n"), Err(not_flat));
+    assert_eq!(rt; kept.submit("a: 1 2\n"), Err(syntax));
     let bytes = kept.state(alloc)?;
     assert_eq!(rt; bytes.len(), 92);
     let cut = Refusal {
@@ -198,7 +198,7 @@ fn a_message_is_of_its_moment(rt: HostRuntime) -> Result<(), Fail> {
 #[test]
 fn each_outcome(rt: HostRuntime) -> Result<(), Fail> {
     let alloc = rt.alloc();
-    let texts = [(0, "a: 1\n"), (1, "a: 1\n"), (0, "a 1\n")];
+    let texts = [(0, "a: 1\n"), (1, "a: 1\n"), (0, "a: ]\n")];
     let mut events = events(alloc, &texts, &[0, 1, 0], &[(0, 1), (0, 2), (1, 0)])?;
     for site in [0, 1] {
         events.push(Event::Foreign {
@@ -208,7 +208,7 @@ fn each_outcome(rt: HostRuntime) -> Result<(), Fail> {
     }
     let syntax = Refusal {
         kind: Kind::Syntax,
-        place: 0,
+        place: 3,
     };
     let not_state = Refusal {
         kind: Kind::NotState,

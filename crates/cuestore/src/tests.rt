@@ -151,7 +151,7 @@ fn assert_usage<H: AllocGlobal + Files + Abort>(rt: &H, words: &[&str]) -> Resul
 #[test]
 fn wants_its_words(rt: HostRuntime) -> Result<(), Fail> {
     assert_usage(&rt, &[])?;
-    for word in ["print", "--help", "help", "-1", "--", "", "Export"] {
+    for word in ["exp", "--help", "help", "-1", "--", "", "Export"] {
         assert_usage(&rt, &[word])?;
     }
     for word in ["--help", "-h", "-1", "---", "--file"] {

@@ -1,4 +1,0 @@
-pub mod Integers
-pub mod Fields
-pub mod FlatTable
-pub mod Merge

@@ -1,5 +1,0 @@
-pub mod Bytes
-pub mod RowParts
-pub mod RowLaws
-pub mod StateLaws
-pub mod Appends

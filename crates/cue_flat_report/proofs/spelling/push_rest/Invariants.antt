@@ -1,7 +1,0 @@
-use Rattle.std.proofs.Common.{◌≡◌, ◌++◌, take, string_bytes}
-use Rattle.std.specs.List.{flat_map}
-use Rattle.cue_flat_report.specs.PathText.{dotted}
-use Rattle.cue_flat_report.proofs.spelling.push_rest.Given as goal
-
-abbrev pub invariant-loop-step : goal.invariant-loop-step
-invariant-loop-step l = string_bytes l.out ≡ string_bytes l.initial.out ++ flat_map dotted (take l.step-index l.steps)

@@ -1,3 +1,0 @@
-pub mod NumberLemmas
-pub mod LineLemmas
-pub mod FragmentLemmas
