@@ -9,8 +9,6 @@ mod fragment;
 mod history;
 mod language;
 mod replica;
-#[cfg(test)]
-mod tests;
 mod world;
 
 pub use cue_lattice::{Form, Kind, Memory, Refusal, TEXT_LIMIT, Text};
