@@ -1,6 +1,13 @@
-use Rattle.std.proofs.Common.{rules}
-use Rattle.cue_program.proofs.Files.{files_more, files_refused}
+use Rattle.std.proofs.Common.{rules, sym, subst}
+use Rattle.cue_program.specs.Runs.{HoldsSomeFiles}
+use Rattle.cue_program.proofs.Files.{files_none, files_more, files_refused}
 use Rattle.cue_program.proofs.run.site_of_files.Goals as goal
+
+pub loop-name-init : goal.loop-name-init
+loop-name-init g c = record {
+  holds = subst (HoldsSomeFiles 0) (sym c.new-site.ensures) files_none;
+  counted = search rules;
+}
 
 pub loop-name-preserved : goal.loop-name-preserved
 loop-name-preserved g c = record {
