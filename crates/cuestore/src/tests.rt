@@ -44,13 +44,13 @@ fn exports(rt: HostRuntime) -> Result<(), Fail> {
         ("port: int\n---\nport: 443\n", 0, "{\"port\":443}\n"),
         ("a: 1\n---\na: 2\n", 2, "conflict a no value\n"),
         ("a: int\n", 3, "incomplete a not a single value\n"),
-        ("a:1\n", 1, "refused 7 Syntax at 0 in 1\n"),
+        ("a:1\n", 0, "{\"a\":1}\n"),
         ("", 0, "{}\n"),
         ("a: 1\n---", 0, "{\"a\":1}\n"),
         ("---\n---\nb: -2", 0, "{\"b\":-2}\n"),
-        ("a: 1\n---\r\nb: 2\n", 1, "refused 7 Syntax at 0 in 1\n"),
-        ("a: 1\n---\nb 2\n", 1, "refused 7 Syntax at 0 in 2\n"),
-        ("a: 1\n ---\n", 1, "refused 7 Syntax at 0 in 1\n"),
+        ("a: 1\n---\r\nb: 2\n", 1, "refused 9 LeftOut at 5 in 1\n"),
+        ("a: 1\n---\nb 2\n", 1, "refused 9 LeftOut at 0 in 2\n"),
+        ("a: 1\n ---\n", 1, "refused 9 LeftOut at 6 in 1\n"),
     ] {
         let run = ran(&rt, &["export"], input.as_bytes())?;
         assert_run(&rt, &run, status, out, "");
@@ -70,6 +70,8 @@ fn refuses_bytes(rt: HostRuntime) -> Result<(), Fail> {
     assert_run(&rt, &run, 1, "refused 18 NotState at 0 in 1\n", "");
     let run = ran(&rt, &["export"], b"a: \xFF\n".as_slice())?;
     assert_run(&rt, &run, 1, "refused 2 BadCharacter at 3 in 1\n", "");
+    let run = ran(&rt, &["export"], b"a: \"\xC3\xA9\xFF\"\n".as_slice())?;
+    assert_run(&rt, &run, 1, "refused 2 BadCharacter at 6 in 1\n", "");
     let run = ran(&rt, &["export"], b"a: 1\n---\n\xFECUE".as_slice())?;
     assert_run(&rt, &run, 1, "refused 2 BadCharacter at 0 in 2\n", "");
     let long = vec![in rt.alloc(); b'\n'; 1_048_577]?;
@@ -203,6 +205,20 @@ impl Read for Drip {
     }
 }
 
+/// A writer whose bytes never get out.
+#[derive(Drop)]
+struct Stuck;
+
+impl Write for Stuck {
+    fn write(&mut self, buf: &[u8]) -> io::Result<usize> {
+        Ok(buf.len())
+    }
+
+    fn flush(&mut self) -> io::Result<()> {
+        Err(io::Error::from(ErrorKind::Other))
+    }
+}
+
 fn export(alloc: Global) -> Result<Vec<String>, Fail> {
     let mut words = Vec::new(alloc);
     words.push(String::from_str(alloc, "export")?)?;
@@ -226,6 +242,19 @@ fn tells_failing_devices(rt: HostRuntime) -> Result<(), Fail> {
     let mut input = b"a 1\n".as_slice();
     assert_eq!(rt; act(&rt, &words, &mut input, &mut Broken, &mut faults), 4);
     assert_eq!(rt; faults.as_slice(), b"device fault\n".as_slice());
+    Ok(())
+}
+
+#[test]
+fn tells_bytes_that_do_not_get_out(rt: HostRuntime) -> Result<(), Fail> {
+    let alloc = rt.alloc();
+    let words = export(alloc)?;
+    for text in ["a: 1\n", "a: ]\n"] {
+        let mut faults = Vec::new(alloc);
+        let mut input = text.as_bytes();
+        assert_eq!(rt; act(&rt, &words, &mut input, &mut Stuck, &mut faults), 4);
+        assert_eq!(rt; faults.as_slice(), b"device fault\n".as_slice());
+    }
     Ok(())
 }
 
@@ -266,7 +295,7 @@ const FILES: [(&str, Entry); 7] = [
     ("clash", Entry::Bytes(b"a: 2\n")),
     ("lines", Entry::Bytes(b"a: 1\n---\nb: 2\n")),
     ("state", Entry::Bytes(&ONE)),
-    ("wrong", Entry::Bytes(b"a 1\n")),
+    ("wrong", Entry::Bytes(b"a: ]\n")),
     ("cut", Entry::Cut(b"a: 1\n")),
 ];
 
@@ -284,11 +313,11 @@ fn takes_files_in_their_order(rt: HostRuntime) -> Result<(), Fail> {
         ),
         (["report", "state", "clash"], 2, "conflict a no value\n"),
         (["report", "a", "--"], 0, ""),
-        (["export", "a", "lines"], 1, "refused 7 Syntax at 0 in 2\n"),
+        (["export", "a", "lines"], 1, "refused 9 LeftOut at 5 in 2\n"),
         (
             ["export", "wrong", "none"],
             1,
-            "refused 7 Syntax at 0 in 1\n",
+            "refused 7 Syntax at 3 in 1\n",
         ),
     ] {
         let run = ran(&disk, words.as_slice(), b"z: 9\n".as_slice())?;
@@ -334,7 +363,7 @@ fn tells_failing_files(rt: HostRuntime) -> Result<(), Fail> {
     }
     assert_eq!(rt; disk.created_after.get(), None);
     let run = ran(&disk, &["merge", "out", "a", "wrong"], b"".as_slice())?;
-    assert_run(&rt, &run, 1, "refused 7 Syntax at 0 in 2\n", "");
+    assert_run(&rt, &run, 1, "refused 7 Syntax at 3 in 2\n", "");
     assert_eq!(rt; disk.created_after.get(), None);
     disk.room = 91;
     let run = ran(&disk, &["merge", "out", "a"], b"".as_slice())?;
