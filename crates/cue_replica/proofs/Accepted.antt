@@ -23,6 +23,7 @@ open_row path question (Some row) e h = nothing_at path row e
 pub new_site : IsUnified language opening []
 new_site = (empty_valid, λ path question. (λ h. open_row path question (row_at empty path) refl h, λ h. absurd h))
 
+-- a new site holds the unification of no texts
 pub of_no_text : IsOfTexts opening []
 of_no_text = (tt, new_site)
 
@@ -30,6 +31,7 @@ all_push : (P : List ℕ → Type 0) (texts : List (List ℕ)) (more : List ℕ)
 all_push P [] more h p = (p, tt)
 all_push P (t ∷ texts) more h p = (h.0, all_push P texts more h.1 p)
 
+-- a site that adds what one legal text more refuses holds the unification of the texts with it
 pub of_one_text_more :
     (old new : Table) (texts : List (List ℕ)) (more : List ℕ) → IsOfTexts old texts → language.IsLegal more
     → Adds old (language.text_refuses more) new → language.IsValid new → IsOfTexts new (texts ++ more ∷ [])
@@ -38,6 +40,7 @@ of_one_text_more old new texts more is legal adds valid = (
   rw map_push (unified_more old new (language.text_refuses more) (map text texts) (text more ∷ []) is.1 adds valid (one_piece (text more))),
 )
 
+-- a new site that adds what the bytes of a state refuse holds that state
 pub of_state :
     (new : Table) (bytes : List ℕ) → language.IsState bytes → Adds opening (language.state_refuses bytes) new
     → language.IsValid new → IsOfState new bytes
@@ -52,6 +55,7 @@ all_more : (pieces : List Piece) (more : Piece) → AllByRecursion IsAcceptable 
 all_more [] more h p = (p, tt)
 all_more (piece ∷ pieces) more h p = (h.0, all_more pieces more h.1 p)
 
+-- a site that adds what one acceptable piece more refuses holds the unification of the pieces with it
 pub of_one_piece_more :
     (old new : Table) (pieces : List Piece) (more : Piece) → IsOfPieces old pieces → IsAcceptable more
     → Adds old (piece_refuses language more) new → language.IsValid new → IsOfPieces new (pieces ++ more ∷ [])

@@ -56,6 +56,7 @@ one_of_same P (x ∷ a) b sub h =
     holds_at P [] x h p = absurd h
     holds_at P (y ∷ b) x h p = ⊎_elim (λ e. inl (subst P (sym e) p)) (λ k. inr (holds_at P b x k p)) h
 
+-- two lists with the same pieces refuse the same
 pub same_pieces_refuse : (a b : List Piece) → world.SamePieces a b → SameAnswers (pieces_refuse language a) (pieces_refuse language b)
 same_pieces_refuse a b same path question =
     let P = λ (piece : Piece). piece_refuses language piece path question in

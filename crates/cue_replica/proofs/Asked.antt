@@ -28,6 +28,7 @@ asked_row : (row : Option Row) (question : Question) → RowRefuses Refuses row 
 asked_row None question = (λ h. h, λ h. h)
 asked_row (Some row) question = (subst (rows.RowRefuses row) (asks question), subst (rows.RowRefuses row) (sym (asks question)))
 
+-- a table refuses a question just where it refuses the one that the program asks for it
 pub asked :
     (table : Tree Row) (path : Path) (question : Question)
     → TableRefuses Refuses table path (asked_by question) ↔ TableRefuses rows.RowRefuses table path question

@@ -94,6 +94,7 @@ submits old messages site t (Refused why) sets before after found step agrees =
 submits old messages site t (Sent number) sets before after found step agrees = absurd step
 submits old messages site t NoSuch sets before after found step agrees = absurd step
 
+-- what a site does with a text is what submitting it does to the sets of pieces
 pub submit_happens :
     (old new : List Table) (messages : List (Vec ℕ Global)) (site : ℕ) (t : Text) (outcome : Outcome) (sets : Sets)
     → HappensAt (Submits t) old site new outcome → Agrees old messages sets → Happens old messages (Submit site t) new messages outcome sets
@@ -120,6 +121,7 @@ takes_foreign old messages site bytes (Refused why) sets before after found step
 takes_foreign old messages site bytes (Sent number) sets before after found step agrees = absurd step
 takes_foreign old messages site bytes NoSuch sets before after found step agrees = absurd step
 
+-- what a site does with bytes from outside is what these do to the sets of pieces
 pub foreign_happens :
     (old new : List Table) (messages : List (Vec ℕ Global)) (site : ℕ) (bytes : Vec ℕ Global) (outcome : Outcome) (sets : Sets)
     → HappensAt (Takes bytes.items) old site new outcome → Agrees old messages sets → Happens old messages (Foreign site bytes) new messages outcome sets
@@ -167,6 +169,7 @@ takes_message old messages site message bytes (Refused why) sets before after se
 takes_message old messages site message bytes (Sent number) sets before after sent held found step agrees = absurd step
 takes_message old messages site message bytes NoSuch sets before after sent held found step agrees = absurd step
 
+-- what a site does with a message is what delivering it does to the sets of pieces
 pub deliver_happens :
     (old new : List Table) (messages : List (Vec ℕ Global)) (site message : ℕ) (outcome : Outcome) (sets : Sets)
     → Delivers messages message old site new outcome → Agrees old messages sets → Happens old messages (Deliver site message) new messages outcome sets
@@ -195,6 +198,7 @@ sends old messages new site number sets sent agrees =
       };
     })
 
+-- what a site does that sends its state is what sending does to the sets of pieces
 pub send_happens : (old : List Table) (messages new : List (Vec ℕ Global)) (site : ℕ) (outcome : Outcome) (sets : Sets) → Sends old site messages new outcome → Agrees old messages sets → Happens old messages (Send site) old new outcome sets
 send_happens old messages new site (Sent number) sets step agrees = sends old messages new site number sets step agrees
 send_happens old messages new site (Refused why) sets step agrees =

@@ -37,6 +37,7 @@ map_push : {A B : Type 0} (f : A → B) (xs : List A) (x : A) → map f (xs ++ x
 map_push f [] x = refl
 map_push {B = B} f (y ∷ xs) x = ap (λ (ys : List B). f y ∷ ys) (map_push f xs x)
 
+-- after these events the outcomes are allowed, and sites and messages agree with their sets of pieces
 pub record IsSoFar (sites : ℕ) (events : List Event) (replicas : List Table) (messages : List (Vec ℕ Global)) (outcomes : List Outcome) : Type 0 where
   pub allowed : AreOutcomes language (start sites) (map event_of events) (map outcome_of outcomes)
   pub agrees : Agrees replicas messages (reached sites events outcomes)
@@ -46,6 +47,7 @@ opening_agrees : (sites : ℕ) → AllAlong (IsUnified language) (replicate site
 opening_agrees zero = tt
 opening_agrees (suc n) = (new_site, opening_agrees n)
 
+-- it is so where every site is empty and there are neither messages nor outcomes
 pub so_far_none : (sites : ℕ) (replicas : List Table) (messages : List (Vec ℕ Global)) (outcomes : List Outcome) → replicas ≡ replicate sites empty → messages ≡ [] → outcomes ≡ [] → IsSoFar sites [] replicas messages outcomes
 so_far_none sites replicas messages outcomes r m o =
     let P : List Table → Type 0 = λ x. IsSoFar sites [] x messages outcomes in

@@ -62,6 +62,7 @@ reads_own table valid held =
       λ path question. ((same path question).1, (same path question).0),
     )
 
+-- the language keeps to what is asked of a meaning
 pub sound : IsSound Table language
 sound = record {
   no_text_fault = no_text_fault;

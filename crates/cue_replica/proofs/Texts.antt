@@ -50,6 +50,7 @@ passed es kinds.TooLarge place h r = omega (arith, h.small.size, r.1)
 passed es kinds.TooDeep place h r = omega (arith, h.depth, r.1)
 passed es kind place h r = r
 
+-- a legal text has no fault
 pub no_text_fault : (text : List ℕ) (why : Refusal) → IsLegal text → IsTextFault text why → ⊥
 no_text_fault text why legal (inl fault) = let e = legal.1.lexed in let f = fault.1 in cc
 no_text_fault text why legal (inr (inl fault)) =
@@ -63,6 +64,7 @@ no_text_fault text why legal (inr (inr fault)) =
 pub memory_unfit : (levels end : ℕ) (words : List Token) → Fits levels end words memory → ⊥
 memory_unfit levels end words fit = fit.fits.1
 
+-- want of memory is no fault of a text
 pub memory_no_text_fault : (text : List ℕ) → IsTextFault text memory → ⊥
 memory_no_text_fault text (inl fault) = fault.0 refl
 memory_no_text_fault text (inr (inl fault)) = memory_unfit _ _ fault.0 fault.2.fits
