@@ -24,9 +24,11 @@ pub both_ok : {T E P Q R : Type 0} (r : Result T E) → OnOk r P → OnOk r Q �
 both_ok (Ok x) h k f = f h k
 both_ok (Err e) h k f = tt
 
+-- an empty site has taken no files
 pub files_none : HoldsSomeFiles 0 opening
 files_none = ([], refl, ([], tt, of_no_piece))
 
+-- a site that has accepted the piece of a further file has taken one file more
 pub files_more :
     (count : ℕ) (old new : Table) (bytes : List ℕ) → HoldsSomeFiles count old → Accepts bytes old new
     → language.IsValid new → HoldsSomeFiles (count + 1) new
@@ -40,6 +42,7 @@ files_more count old new bytes h more valid = (
   ),
 )
 
+-- the first file that is refused after those that were taken is a stop of the files
 pub files_refused :
     (count total number : ℕ) (old : Table) (bytes : List ℕ) (stop : Stop) → HoldsSomeFiles count old → count < total → number ≡ count + 1
     → ((why : Refusal) × IsInputRefusedAs why number stop × IsFileFault bytes why) → IsFileRefused total stop
@@ -60,6 +63,7 @@ pub holds_files : (count : ℕ) (known : Option (List ℕ)) (table : Table) → 
 holds_files zero known table some h = absurd (omega arith)
 holds_files (suc more) known table some h = h
 
+-- with files what stops them stops the run
 pub files_stop : (count : ℕ) (known : Option (List ℕ)) (stop : Stop) → 0 < count → IsFilesStop count stop → IsStopFor count known stop
 files_stop zero known stop some h = absurd (omega arith)
 files_stop (suc more) known stop some h = h
@@ -71,12 +75,14 @@ pub holds_input :
 holds_input zero known table bytes none all h = (bytes, all, h)
 holds_input (suc more) known table bytes none all h = absurd (omega arith)
 
+-- without files an input that is refused stops the run
 pub input_refused :
     (count : ℕ) (known : Option (List ℕ)) (stop : Stop) (bytes : List ℕ) → count ≡ 0 → IfSome known (λ all. bytes ≡ all) → IsInputRefused bytes stop
     → IsStopFor count known stop
 input_refused zero known stop bytes none all h = inr (bytes, all, h)
 input_refused (suc more) known stop bytes none all h = absurd (omega arith)
 
+-- with files or without, an input that can't be read stops the run
 pub read_stop : (count : ℕ) (known : Option (List ℕ)) (stop : Stop) → IsReadFault stop → IsStopFor count known stop
 read_stop zero known stop h = inl h
 read_stop (suc more) known stop h = inl h

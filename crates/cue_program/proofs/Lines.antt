@@ -20,6 +20,7 @@ line_at (b ∷ bytes) (suc k) h is none =
     let next : suc k + 1 ≡ suc (k + 1) = omega arith in
     rw (next, none 0 (omega arith), rest) refl
 
+-- the first line ends with the first line break, and the other lines are those after it
 pub line_found : (bytes : List ℕ) (k : ℕ) → position (λ b. b == 10) bytes ≡ Some k → lines_of bytes ≡ take (k + 1) bytes ∷ lines_of (drop (k + 1) bytes)
 line_found bytes k e =
     let at = position-Some (λ b. b == 10) bytes k 0 e in
@@ -44,6 +45,7 @@ none_breaks bytes e i less =
     let all : length bytes ≤ position_or_len p bytes = past (nat_lt (position_or_len p bytes) (length bytes)) (position_or_len p bytes) (length bytes) refl e in
     flip (get_or bytes i 0 == 10) (prefix_len_passes (λ b. not (b == 10)) bytes i 0 (omega (arith, all)))
 
+-- bytes with no line break are one line, where there are any
 pub line_whole : (bytes : List ℕ) → 0 < length bytes → position (λ b. b == 10) bytes ≡ None → lines_of bytes ≡ bytes ∷ []
 line_whole [] some none = absurd (omega arith)
 line_whole (b ∷ bytes) some none = one_line b bytes (none_breaks (b ∷ bytes) none)
@@ -53,6 +55,7 @@ joined_longer : (b : ℕ) (lines : List (List ℕ)) → concat (longer b lines) 
 joined_longer b [] = refl
 joined_longer b (line ∷ lines) = refl
 
+-- the lines of bytes, put together, are the bytes
 pub joined : (bytes : List ℕ) → concat (lines_of bytes) ≡ bytes
 joined [] = refl
 joined (b ∷ bytes) = go (b == 10) refl (joined bytes)
@@ -66,6 +69,7 @@ abbrev pub Walked : List ℕ → List ℕ → Type 0
 Walked bytes rest =
     (front : List (List ℕ)) × IsPart front × (lines_of bytes ≡ front ++ lines_of rest) × (bytes ≡ concat front ++ rest)
 
+-- at the start no line was looked at
 pub walked_none : (bytes : List ℕ) → Walked bytes bytes
 walked_none bytes = ([], tt, refl, refl)
 
@@ -76,6 +80,7 @@ part_push (x ∷ front) line h other = (h.0, part_push front line h.1 other)
 concat_push : (front : List (List ℕ)) (line : List ℕ) → concat (front ++ line ∷ []) ≡ concat front ++ line
 concat_push front line = concat-append front (line ∷ []) ∙ ap (λ l. concat front ++ l) (append-nil line)
 
+-- one line more was looked at, where it doesn't separate
 pub walked_more :
     (bytes rest line after : List ℕ) → Walked bytes rest → rest ≡ line ++ after → lines_of rest ≡ line ∷ lines_of after
     → (IsSeparator line → ⊥) → Walked bytes after
@@ -92,6 +97,7 @@ front_is bytes front rest is =
     let at : length bytes - length rest ≡ length front = omega (arith, long) in
     rw (at, is) (sym (take-append_seam front rest))
 
+-- where the next line separates, the bytes before it are the first part
 pub walked_to :
     (bytes rest line after : List ℕ) → Walked bytes rest → rest ≡ line ++ after → lines_of rest ≡ line ∷ lines_of after
     → IsSeparator line → IsFirstPart bytes (take (length bytes - length rest) bytes) (Some after)
@@ -106,11 +112,13 @@ walked_to bytes rest line after w whole lines is =
       w.2 ∙ ap (λ ls. w.0 ++ ls) lines,
     )
 
+-- where nothing is left, no line separates, and all lines are one part
 pub walked_all : (bytes rest : List ℕ) → Walked bytes rest → length rest ≡ 0 → IsPart (lines_of bytes)
 walked_all bytes rest w none =
     let all : lines_of bytes ≡ w.0 = w.2 ∙ ap (λ r. w.0 ++ lines_of r) (nil_from_length rest none) ∙ append-nil w.0 in
     rw all w.1
 
+-- after one line more fewer bytes are left than there were at the start
 pub walked_short : (bytes rest line after : List ℕ) → Walked bytes rest → rest ≡ line ++ after → 0 < length line → length after < length bytes
 walked_short bytes rest line after w whole some =
     let long : length bytes ≡ length (concat w.0) + length rest = ap length w.3 ∙ length-append (concat w.0) rest in

@@ -77,6 +77,7 @@ abbrev pub Submitted : List ℕ → Table → ℕ → Option (List ℕ) → Type
 Submitted bytes table number rest =
     (done : List (List ℕ)) × IsOfTexts table done × SoFar bytes done rest × (number ≡ min (length done) (2 ^ 64 - 1))
 
+-- an empty site has submitted no parts
 pub submitted_none : (bytes : List ℕ) → Submitted bytes opening 0 (Some bytes)
 submitted_none bytes = ([], of_no_text, (λ parts are. are), refl)
 
@@ -84,6 +85,7 @@ counted : (done : List (List ℕ)) (part : List ℕ) (old new : ℕ) → old ≡
     → new ≡ min (length done + 1) (2 ^ 64 - 1)
 counted done part old new is next = omega (arith, is, next)
 
+-- a site that adds what the next part refuses has submitted one part more
 pub submitted_more :
     (bytes rest part : List ℕ) (old new : Table) (count number : ℕ) (after : Option (List ℕ)) → Submitted bytes old count (Some rest)
     → IsFirstPart rest part after → number ≡ min (count + 1) (2 ^ 64 - 1) → language.IsLegal part → Adds old (language.text_refuses part) new
@@ -95,9 +97,11 @@ submitted_more bytes rest part old new count number after s first next legal add
   counted s.0 part count number s.3 next ∙ ap (λ n. min n (2 ^ 64 - 1)) (sym (length-append s.0 (part ∷ []))),
 )
 
+-- a site that has submitted each part holds the unification of the parts
 pub submitted_all : (bytes : List ℕ) (table : Table) (number : ℕ) → Submitted bytes table number None → HoldsTexts bytes table
 submitted_all bytes table number s = (s.0, s.2, s.1)
 
+-- where the next part is refused, the first refused part of the bytes stops the run
 pub submitted_not :
     (bytes rest part : List ℕ) (old : Table) (count number : ℕ) (after : Option (List ℕ)) (stop : Stop) → Submitted bytes old count (Some rest)
     → IsFirstPart rest part after → number ≡ min (count + 1) (2 ^ 64 - 1)
