@@ -1,5 +1,5 @@
 -- What is known of the definitions that a definition uses is what its table, its pair and its closing ask.
-use Rattle.std.proofs.Common.{◌≡◌, ◌+◌, ◌≤◌, ℕ, Option, None, Some, List, [], ◌∷◌, length, get_or, refl, sym, ap, subst, arith}
+use Rattle.std.proofs.Common.{◌≡◌, ◌+◌, ◌≤◌, ℕ, Option, None, Some, List, [], ◌∷◌, length, get_or, refl, sym, ap, subst, ◌∙◌, arith}
 use Rattle.std.specs.Prelude.{IsTrue}
 use Rattle.cue_lattice.specs.Limits.{step_limit}
 use Rattle.cue_row.specs.Row.{Refuses, IsRow}
@@ -14,17 +14,20 @@ use Rattle.cue_scope.specs.Kept.{all_of}
 use Rattle.cue_scope.specs.Meaning.{meaning, meant, nested}
 use Rattle.cue_scope.specs.Uses.{uses}
 use Rattle.cue_scope.proofs.Inside.{uses_below, below_is}
+use Rattle.cue_scalars.specs.declared.valued.Valued.{Valued}
 use Rattle.cue_eval.specs.declared.declared.Declared.{Declared}
-use Rattle.cue_eval.specs.declared.evaluation.Found.{Found}
+use Rattle.cue_eval.specs.declared.found.Found.{Found}
 use Rattle.cue_eval.specs.declared.rows.Tables.{Tables}
 use Rattle.cue_eval.specs.declared.told.Sight.{Sight}
 use Rattle.cue_eval.specs.Adding.{IsBodyKnown}
 use Rattle.cue_eval.specs.Evaluated.{HasAnswersOf}
-use Rattle.cue_eval.specs.Finding.{body_of, AreFound, IsDefinable}
+use Rattle.cue_eval.specs.declared.told.Whose.{Whose}
+use Rattle.cue_eval.specs.Finding.{body_of, AreFound, IsDefinable, IsFindable, IsKept}
 use Rattle.cue_eval.specs.Known.{IsPairOf, IsPairable}
 use Rattle.cue_eval.specs.Pairs.{pair}
-use Rattle.cue_eval.specs.Ready.{all_definitions, AreKnown, IsReady, IsTableAt}
-use Rattle.cue_eval.proofs.TellingDepth.{nested_depth, nested_size}
+use Rattle.cue_eval.specs.Ready.{all_definitions, AreKnown, IsTableAt}
+use Rattle.cue_eval.specs.Told.{IsTold}
+use Rattle.cue_eval.proofs.TellingDepth.{told_flat, nested_depth, nested_size}
 use Rattle.cue_eval.proofs.Walks.{within_depth}
 
 pub known_of : (found : Found) (known : Tables) (us : List ℕ) → known.pairs.pairs.now ≡ found.pairs.items → known.tables.now ≡ found.tables.items → AreFound (all_definitions known) us found → AreKnown known us
@@ -33,16 +36,17 @@ known_of found known us pairs tables h = record {
   tables = λ i there. subst (λ (xs : List (Option (Tree Row))). IsTableAt (meaning (all_definitions known) i) (get_or xs i None)) (sym tables) (h i there).rows;
 }
 
-pub ready_of : (found : Found) (known : Tables) (d : Definition) → known.pairs.pairs.now ≡ found.pairs.items → known.tables.now ≡ found.tables.items → IsDefinable (all_definitions known) d found → IsReady known d.value
-ready_of found known d pairs tables h =
-    let ds = all_definitions known in
+pub findable_of : (ds : List Definition) (d : Definition) (found : Found) → IsDefinable ds d found → IsFindable ds d.value found
+findable_of ds d found h =
     let c = meant ds (meaning ds) d.value in
     let more = nested_size d.chain c in
     let deeper = nested_depth d.chain c in
     let s = h.size in
     let t = h.depth in record {
+      room = h.room;
+      used = h.used;
+      once = h.once;
       right = h.right;
-      used = known_of found known (uses ds d.value) pairs tables h.used;
       terms = h.terms;
       size = omega arith;
       depth = omega arith;
@@ -53,14 +57,15 @@ scalar_nested : (chain : List Label) (c : Core) → IsTrue (is_scalar (nested ch
 scalar_nested [] c h = refl
 scalar_nested (l ∷ ls) c h = absurd (cc)
 
-pub pairable_of : (found : Found) (known : Tables) (d : Definition) → known.pairs.pairs.now ≡ found.pairs.items → known.tables.now ≡ found.tables.items → IsDefinable (all_definitions known) d found
+-- the definitions that it uses may be taken over before its pair is found
+pub pairable_of : (old found : Found) (known : Tables) (d : Definition) → IsKept (uses (all_definitions known) d.value) old found → known.pairs.pairs.now ≡ found.pairs.items → IsDefinable (all_definitions known) d old
     → IsTrue (is_scalar (body_of (all_definitions known) d)) → IsPairable known.pairs d.value
-pairable_of found known d pairs tables h sure =
+pairable_of old found known d kept pairs h sure =
     let ds = all_definitions known in
     let c = meant ds (meaning ds) d.value in record {
       right = h.right;
       scalar = subst (λ z. IsTrue (is_scalar z)) (scalar_nested d.chain c sure) sure;
-      used = (known_of found known (uses ds d.value) pairs tables h.used).pairs;
+      used = λ i there scalar. subst (λ (xs : List (Option Valued)). IsPairOf (meaning ds i) (get_or xs i None)) (sym (pairs ∙ kept.pairs)) ((h.used i there).pair scalar);
     }
 
 pub pair_of_body : (ds : List Definition) (d : Definition) → IsTrue (is_scalar (body_of ds d)) → pair (body_of ds d) ≡ pair (meant ds (meaning ds) d.value)
@@ -72,6 +77,15 @@ pub chain_within : (ds : List Definition) (d : Definition) (found : Found) (tabl
 chain_within ds d found table h form same =
     let c = meant ds (meaning ds) d.value in
     let at = within_depth c table form same in
+    let deeper = nested_depth d.chain c in
+    let t = h.depth in
+    omega arith
+
+pub chain_flat : (ds : List Definition) (d : Definition) (found : Found) (whose : Whose) (table : Tree Declared) → IsDefinable ds d found → IsTold whose (meant ds (meaning ds) d.value) table
+    → length d.chain + tree_depth table ≤ step_limit
+chain_flat ds d found whose table h told =
+    let c = meant ds (meaning ds) d.value in
+    let flat = told_flat whose c table told in
     let deeper = nested_depth d.chain c in
     let t = h.depth in
     omega arith

@@ -1,6 +1,7 @@
 -- Definitions are evaluated in an order in which each comes after those that it uses, and then the text.
-use Rattle.std.proofs.Common.{◌≡◌, ◌+◌, ◌≤◌, ◌<◌, ℕ, ⊎_elim, Option, None, Some, Result, Ok, Err, List, [], length, get_or, get_or-set_same, get_or-set_other, sym, ap, subst, ◌∙◌, arith}
+use Rattle.std.proofs.Common.{◌≡◌, ◌+◌, ◌≤◌, ◌<◌, ℕ, ⊎_elim, Option, None, Some, Result, Ok, Err, Bool, true, false, List, [], ◌++◌, length, drop, get_or, get_or-set_same, get_or-set_other, sym, ap, subst, ◌∙◌, arith}
 use Rattle.std.proofs.Math.ListN.{set, length-set}
+use Rattle.std.proofs.lemmas.List.{drop_more}
 use Rattle.std.proofs.lemmas.Bool.Decides.{eqb_tells}
 use Rattle.std.specs.Prelude.{IfOk, slice_get}
 use Rattle.cue_lattice.specs.Limits.{size_limit, step_limit}
@@ -14,42 +15,85 @@ use Rattle.cue_syntax.specs.Syntax.{Entries}
 use Rattle.cue_syntax.specs.Words.{HaveWordsEntries}
 use Rattle.cue_scope.specs.Core.{struct}
 use Rattle.cue_scope.specs.Definitions.{Definition, definitions}
-use Rattle.cue_scope.specs.Graph.{IsIn, PointsTo, start}
+use Rattle.cue_scope.specs.Graph.{IsIn, PointsTo, start, targets}
 use Rattle.cue_scope.specs.Limits.{size_of_members, depth_of_members}
 use Rattle.cue_scope.specs.Meaning.{meaning, meant_use, meant_members, meant_fields, meant_text}
-use Rattle.cue_scope.specs.Reached.{IsReachedOrder}
+use Rattle.cue_scope.specs.Reached.{IsReachedOrder, times, targets_of}
 use Rattle.cue_scope.specs.Refusing.{IsLegal}
 use Rattle.cue_scope.specs.Terms.{terms_of_entries}
 use Rattle.cue_scope.specs.Uses.{uses, uses_of_fields, graph}
+use Rattle.cue_scope.specs.Written.{written_uses}
 use Rattle.cue_scope.proofs.Kept.{reached_below}
 use Rattle.cue_scope.proofs.Meanings.{uses_at}
-use Rattle.cue_scope.proofs.Nodes.{in_at, in_index}
+use Rattle.cue_scope.proofs.Nodes.{in_append, in_append_left, in_append_right, in_at, in_index}
 use Rattle.cue_eval.specs.declared.declared.Declared.{Declared}
-use Rattle.cue_eval.specs.declared.evaluation.Defined.{Defined}
-use Rattle.cue_eval.specs.declared.evaluation.Found.{Found}
+use Rattle.cue_eval.specs.declared.found.Defined.{Defined}
+use Rattle.cue_eval.specs.declared.found.Found.{Found}
 use Rattle.cue_eval.specs.declared.rows.Tables.{Tables}
 use Rattle.cue_eval.specs.Evaluated.{HasAnswersOf, IsEvaluated}
-use Rattle.cue_eval.specs.Finding.{body_of, HasRoom, IsDefined, IsDefinable, IsFoundAt, IsFoundSoFar, AreFound}
+use Rattle.cue_eval.specs.Finding.{body_of, later_uses, HasRoom, AreOnce, IsOnce, AreSingle, IsKept, IsDefined, IsDefinable, IsFoundAt, IsFoundSoFar, AreFound}
 use Rattle.cue_eval.specs.Known.{IsPairOf}
 use Rattle.cue_eval.specs.Ready.{all_definitions, members_of, AreReadyFields, IsTableAt}
 use Rattle.cue_eval.proofs.Defining.{known_of}
+use Rattle.cue_eval.proofs.Kept.{times_both, in_times, once_before, room_kept, found_kept}
 use Rattle.cue_eval.proofs.Reaching.{IsLimited, right_at, terms_at, reached_limited}
 use Rattle.cue_eval.proofs.Regular.{of_fields}
 use Rattle.cue_eval.proofs.ValidTables.{texts_are_valid}
 use Rattle.cue_eval.proofs.WordsOfTexts.{texts_write_words}
 
-pub found_none : (ds : List Definition) (order : List ℕ) (found : Found) → HasRoom (length ds) found → IsFoundSoFar ds order 0 found
-found_none ds order found h = record { room = h; each = λ k less inside. absurd (omega arith) }
+-- ---- the uses that come later
+pub later_now : (ds : List Definition) (from order : List ℕ) (k : ℕ) → k < length order
+    → later_uses ds from order k ≡ from ++ (targets (graph ds) (get_or order k 0) ++ targets_of (graph ds) (drop (k + 1) order))
+later_now ds from order k h = ap (λ z. from ++ targets_of (graph ds) z) (drop_more order k 0 h)
+
+times_later : (ds : List Definition) (from order : List ℕ) (i k : ℕ) → k < length order
+    → times i (later_uses ds from order k) ≡ times i (targets (graph ds) (get_or order k 0)) + times i (later_uses ds from order (k + 1))
+times_later ds from order i k h =
+    let us = targets (graph ds) (get_or order k 0) in
+    let vs = targets_of (graph ds) (drop (k + 1) order) in
+    let all = ap (times i) (later_now ds from order k h) in
+    let one = times_both i from (us ++ vs) in
+    let two = times_both i us vs in
+    let rest = times_both i from vs in
+    omega arith
+
+in_later : (ds : List Definition) (from order : List ℕ) (i k : ℕ) → k < length order → IsIn i (later_uses ds from order (k + 1)) → IsIn i (later_uses ds from order k)
+in_later ds from order i k h there =
+    let us = targets (graph ds) (get_or order k 0) in
+    let vs = targets_of (graph ds) (drop (k + 1) order) in
+    subst (λ z. IsIn i z) (sym (later_now ds from order k h))
+    (⊎_elim (λ a. in_append_left from (us ++ vs) i a) (λ b. in_append_right from (us ++ vs) i (in_append_right us vs i b)) (in_append from vs i there))
+
+in_now : (ds : List Definition) (from order : List ℕ) (i k : ℕ) → k < length order → IsIn i (targets (graph ds) (get_or order k 0)) → IsIn i (later_uses ds from order k)
+in_now ds from order i k h there =
+    let us = targets (graph ds) (get_or order k 0) in
+    let vs = targets_of (graph ds) (drop (k + 1) order) in
+    subst (λ z. IsIn i z) (sym (later_now ds from order k h)) (in_append_right from (us ++ vs) i (in_append_left us vs i there))
+
+pub found_none : (es : Entries) (order : List ℕ) (found : Found) → IsReachedOrder (graph (definitions es)) (uses_of_fields (definitions es) es) order → HasRoom (length (definitions es)) found → AreOnce es found.once.items
+    → IsFoundSoFar (definitions es) (uses_of_fields (definitions es) es) order 0 found
+found_none es order found o room once = record {
+  room = room;
+  once = λ i is. let one : times i (written_uses (definitions es) es order) ≡ 1 = once order o i is in omega arith;
+  each = λ k less inside there. absurd (omega arith);
+}
 
 -- those that the next definition uses are known
 found_next : (ds : List Definition) (from order : List ℕ) (k : ℕ) (found : Found) (d : Definition) → IsReachedOrder (graph ds) from order → k < length order → slice_get ds (get_or order k 0) ≡ Some d
-    → IsFoundSoFar ds order k found → AreFound ds (uses ds d.value) found
+    → IsFoundSoFar ds from order k found → AreFound ds (uses ds d.value) found
 found_next ds from order k found d o h is w = λ j there.
     let points : PointsTo (graph ds) (get_or order k 0) j = subst (λ us. IsIn j us) (sym (uses_at ds ds (get_or order k 0) d is)) there in
     let before = o.after k j h points in
     let less : before.0 < k = before.1 in
     let same : get_or order before.0 0 ≡ j = before.2 in
-    subst (λ z. IsFoundAt (meaning ds z) z found) same (w.each before.0 less (omega arith))
+    let now : IsIn (get_or order before.0 0) (later_uses ds from order k) = subst (λ z. IsIn z (later_uses ds from order k)) (sym same) (in_now ds from order j k h points) in
+    subst (λ z. IsFoundAt (meaning ds z) z found) same (w.each before.0 less (omega arith) now)
+
+single_next : (ds : List Definition) (from order : List ℕ) (k : ℕ) (found : Found) (d : Definition) → k < length order → slice_get ds (get_or order k 0) ≡ Some d → IsFoundSoFar ds from order k found
+    → AreSingle found (uses ds d.value)
+single_next ds from order k found d h is w =
+    subst (λ us. AreSingle found us) (uses_at ds ds (get_or order k 0) d is)
+    (λ i once. let few = w.once i once in let all = times_later ds from order i k h in omega arith)
 
 -- what is said of the definitions of a legal text
 abbrev pub AreClosed : List Definition → Type 0
@@ -67,7 +111,7 @@ next_means es order k d closed_uses o h is =
 
 pub next_definable : (es : Entries) (order : List ℕ) (k : ℕ) (found : Found) (d : Definition) → IsLegal es → AreRightEntries es → AreClosed (definitions es)
     → IsReachedOrder (graph (definitions es)) (uses_of_fields (definitions es) es) order → k < length order → slice_get (definitions es) (get_or order k 0) ≡ Some d
-    → IsFoundSoFar (definitions es) order k found → IsDefinable (definitions es) d found
+    → IsFoundSoFar (definitions es) (uses_of_fields (definitions es) es) order k found → IsDefinable (definitions es) d found
 next_definable es order k found d legal right closed_uses o h is w =
     let ds = definitions es in
     let i = get_or order k 0 in
@@ -75,6 +119,7 @@ next_definable es order k found d legal right closed_uses o h is w =
     let limited = subst (λ c. IsLimited c) (next_means es order k d closed_uses o h is) within in record {
       room = w.room;
       used = found_next ds (uses_of_fields ds es) order k found d o h is w;
+      once = single_next ds (uses_of_fields ds es) order k found d h is w;
       right = right_at es i d right is;
       terms = terms_at ds (meaning ds) es i d legal.small.scalar.terms is;
       size = limited.size;
@@ -117,31 +162,49 @@ kept_there ds n i old new defined apart x pairs tables dots = record {
   );
 }
 
-pub found_more : (ds : List Definition) (from order : List ℕ) (k : ℕ) (old new : Found) (defined : Defined) → IsReachedOrder (graph ds) from order → k < length order → get_or order k 0 < length ds
-    → IsFoundSoFar ds order k old → IsDefined (meaning ds (get_or order k 0)) defined
-    → new.pairs.items ≡ set old.pairs.items (get_or order k 0) defined.pair → new.tables.items ≡ set old.tables.items (get_or order k 0) (Some defined.closed.rows)
-    → new.dots.items ≡ set old.dots.items (get_or order k 0) (Some defined.closed.dots) → IsFoundSoFar ds order (k + 1) new
-found_more ds from order k old new defined o h below w x pairs tables dots =
-    let n = get_or order k 0 in record {
+pub found_more : (ds : List Definition) (from order : List ℕ) (k : ℕ) (d : Definition) (old kept new : Found) (defined : Defined) → IsReachedOrder (graph ds) from order → k < length order → get_or order k 0 < length ds
+    → slice_get ds (get_or order k 0) ≡ Some d → IsFoundSoFar ds from order k old → IsKept (uses ds d.value) old kept → IsDefined (meaning ds (get_or order k 0)) defined
+    → new.pairs.items ≡ set kept.pairs.items (get_or order k 0) defined.pair → new.tables.items ≡ set kept.tables.items (get_or order k 0) (Some defined.closed.rows)
+    → new.dots.items ≡ set kept.dots.items (get_or order k 0) (Some defined.closed.dots) → new.once.items ≡ kept.once.items → IsFoundSoFar ds from order (k + 1) new
+found_more ds from order k d old kept new defined o h below is w stays x pairs tables dots once =
+    let n = get_or order k 0 in
+    let us = uses ds d.value in
+    let room = room_kept us old kept (length ds) stays w.room in record {
       room = record {
-        pairs = ap length pairs ∙ length-set old.pairs.items n defined.pair ∙ w.room.pairs;
-        tables = ap length tables ∙ length-set old.tables.items n (Some defined.closed.rows) ∙ w.room.tables;
-        dots = ap length dots ∙ length-set old.dots.items n (Some defined.closed.dots) ∙ w.room.dots;
+        pairs = ap length pairs ∙ length-set kept.pairs.items n defined.pair ∙ room.pairs;
+        tables = ap length tables ∙ length-set kept.tables.items n (Some defined.closed.rows) ∙ room.tables;
+        dots = ap length dots ∙ length-set kept.dots.items n (Some defined.closed.dots) ∙ room.dots;
       };
-      each = λ j less inside. ⊎_elim
-          (λ t. subst (λ z. IsFoundAt (meaning ds z) z new) (sym (ap (λ z. get_or order z 0) t.1)) (kept_here ds n old new defined w.room below x pairs tables dots))
-          (λ f. kept_there ds n (get_or order j 0) old new defined (λ e. f.1 (o.once j k inside h e)) (w.each j (let apart = f.1 in omega arith) inside) pairs tables dots)
+      once = λ i this.
+          let was = once_before us old kept i stays (subst (λ (xs : List Bool). get_or xs i false ≡ true) once this) in
+          let few = w.once i was in
+          let all = times_later ds from order i k h in
+          omega arith;
+      each = λ j less inside later. ⊎_elim
+          (λ t. subst (λ z. IsFoundAt (meaning ds z) z new) (sym (ap (λ z. get_or order z 0) t.1)) (kept_here ds n kept new defined room below x pairs tables dots))
+          (λ f.
+              let i = get_or order j 0 in
+              let apart : IsOnce old i × IsIn i us → ⊥ = λ y.
+                  let few = w.once i y.0 in
+                  let all = times_later ds from order i k h in
+                  let now = in_times i (targets (graph ds) n) (subst (λ vs. IsIn i vs) (sym (uses_at ds ds n d is)) y.1) in
+                  let then = in_times i (later_uses ds from order (k + 1)) later in
+                  omega arith in
+              kept_there ds n i kept new defined (λ e. f.1 (o.once j k inside h e))
+              (found_kept (meaning ds i) us old kept i stays apart (w.each j (let other = f.1 in omega arith) inside (in_later ds from order i k h later))) pairs tables dots)
           (eqb_tells j k);
     }
 
 -- at the end of the order all is known that the text uses
 pub text_ready : (es : Entries) (order : List ℕ) (count : ℕ) (found : Found) (known : Tables) → IsLegal es → AreRightEntries es → IsReachedOrder (graph (definitions es)) (uses_of_fields (definitions es) es) order
-    → length order ≤ count → IsFoundSoFar (definitions es) order count found → all_definitions known ≡ definitions es → known.pairs.pairs.now ≡ found.pairs.items → known.tables.now ≡ found.tables.items → AreReadyFields known es
+    → length order ≤ count → IsFoundSoFar (definitions es) (uses_of_fields (definitions es) es) order count found → all_definitions known ≡ definitions es → known.pairs.pairs.now ≡ found.pairs.items → known.tables.now ≡ found.tables.items → AreReadyFields known es
 text_ready es order count found known legal right o all w same pairs tables =
     let ds = definitions es in
     let used : AreFound ds (uses_of_fields ds es) found = λ i there.
     let at = in_index order i ((o.reached i).1 (start i there)) in
-    subst (λ z. IsFoundAt (meaning ds z) z found) at.2 (w.each at.0 (let l = at.1 in omega arith) at.1) in
+    let from = uses_of_fields ds es in
+    let now : IsIn (get_or order at.0 0) (later_uses ds from order count) = subst (λ z. IsIn z (later_uses ds from order count)) (sym at.2) (in_append_left from (targets_of (graph ds) (drop count order)) i there) in
+    subst (λ z. IsFoundAt (meaning ds z) z found) at.2 (w.each at.0 (let l = at.1 in omega arith) at.1 now) in
     let s = legal.small.size in
     let d = legal.depth in
     let size : size_of_members (meant_fields ds (meaning ds) es) ≤ size_limit = omega arith in

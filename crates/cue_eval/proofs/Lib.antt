@@ -44,3 +44,5 @@ pub mod Reaching
 pub mod Regular
 pub mod Defining
 pub mod Finding
+pub mod Kept
+pub mod Taking

@@ -8,6 +8,7 @@ ghost use Rattle.cue_row.specs.Row.{Refuses};
 ghost use Rattle.cue_row.specs.declared.question.Question.{Question as Questions};
 ghost use Rattle.cue_sets.specs.Texts.{is_text_member};
 ghost use Rattle.cue_syntax.specs.Syntax as tree;
+ghost use Rattle.cue_scope.specs.Core.{Core};
 ghost use Rattle.cue_scope.specs.Meaning.{nested};
 ghost use Rattle.cue_table.specs.Refuses.{TableRefuses};
 ghost use Rattle.cue_table.specs.Tree.{row_at};
@@ -16,6 +17,7 @@ ghost use Rattle.cue_eval.specs.Evaluated.{HasAnswersOf};
 ghost use Rattle.cue_eval.specs.Telling.{Tells};
 ghost use Rattle.cue_eval.specs.Told.{IsTold, means};
 ghost use Rattle.cue_eval.specs.declared.declared.Asked.TheVariants.{Stands};
+ghost use Rattle.cue_eval.specs.declared.told.Whose.TheVariants as whoses;
 
 use crate::declared::Declared;
 use crate::told::{Sight, Whose, behind};
@@ -36,35 +38,37 @@ pub(crate) struct Closed {
 }
 
 impl<'a, 'f, 't> Sight<'a, 'f, 't> {
-    /// Closes the body of a definition, of which the rows are given.
-    pub(crate) fn close(
+    /// What is told of a body.
+    pub(crate) fn body(
         &self,
+        whose: Whose,
         chain: &[Label],
         value: &Expr,
-        rows: Table<Row>,
-    ) -> Result<Closed, Memory>
-        requires known { IsBodyKnown self.now chain.now (tree.expression value.now) }
-        requires answers { HasAnswersOf (nested chain.now (means self.now (tree.expression value.now))) rows }
-        ensures { IfOk result (IsClosedBody (nested chain.now (means self.now (tree.expression value.now)))) }
-    {
-        let own = self.body(Whose::Own, chain, value)?;
-        let used = self.body(Whose::Used, chain, value)?;
-        let sets = label_sets(self.alloc, &own, &used, &rows)?;
-        let mut closed = rows;
-        closed.meet_with(sets)?;
-        let mut dots = used;
-        dots.meet_with(own_dots(self.alloc, &own)?)?;
-        Ok(Closed { rows: closed, dots })
-    }
-
-    /// What is told of a body.
-    fn body(&self, whose: Whose, chain: &[Label], value: &Expr) -> Result<Table<Declared>, Memory>
+    ) -> Result<Table<Declared>, Memory>
         requires { IsBodyKnown self.now chain.now (tree.expression value.now) }
         ensures { IfOk result (IsTold whose (nested chain.now (means self.now (tree.expression value.now)))) }
     {
         let table = self.expression(whose, value)?;
         behind(self.alloc, whose, chain, table)
     }
+}
+
+/// Closes the body of a definition, of which the rows are given, with what its own literals declare,
+/// and where literals of definitions that it names have a `...`.
+pub(crate) fn close(
+    alloc: Global,
+    own: &Table<Declared>,
+    used: Table<Declared>,
+    rows: Table<Row>,
+) -> Result<Closed, Memory>
+    ensures { IfOk result (λ closed. (c : Core) → IsTold whoses.Own c own.now → IsTold whoses.Used c used → HasAnswersOf c rows → IsClosedBody c closed) }
+{
+    let sets = label_sets(alloc, own, &used, &rows)?;
+    let mut closed = rows;
+    closed.meet_with(sets)?;
+    let mut dots = used;
+    dots.meet_with(own_dots(alloc, own)?)?;
+    Ok(Closed { rows: closed, dots })
 }
 
 /// The labels that are left out besides, as a table, by what a body's own literals declare, where a literal of a

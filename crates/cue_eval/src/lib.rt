@@ -4,6 +4,7 @@
 mod body;
 mod declared;
 mod evaluation;
+mod found;
 mod hanging;
 mod labels;
 mod laws;

@@ -1,0 +1,174 @@
+-- Bodies of definitions, of which what is used once is taken over.
+use Rattle.std.proofs.Common.{◌≡◌, ◌↔◌, ◌⊎◌, ◌+◌, ◌≤◌, ◌<◌, inl, inr, ⊎_elim, ℕ, Option, None, Some, List, [], ◌∷◌, ◌++◌, length, drop, get_or, refl, sym, ap, subst, ◌∙◌, arith}
+use Rattle.std.proofs.lemmas.List.{drop_all}
+use Rattle.cue_lattice.specs.OneOf.{OneOf}
+use Rattle.cue_lattice.specs.Path.{Path}
+use Rattle.cue_lattice.specs.Question.{Question}
+use Rattle.cue_lattice.proofs.OneOf.{one_of-push}
+use Rattle.cue_row.specs.Row.{Refuses, IsRow}
+use Rattle.cue_row.specs.declared.row.Row.{Row}
+use Rattle.cue_table.specs.Form.{IsTable}
+use Rattle.cue_table.specs.Many.{IsUnified}
+use Rattle.cue_table.specs.Refuses.{TableRefuses}
+use Rattle.cue_table.specs.Tree.{Tree}
+use Rattle.cue_syntax.specs.declared.tree.Expr.{Expr}
+use Rattle.cue_syntax.specs.declared.tree.Identifier.{Identifier}
+use Rattle.cue_syntax.specs.Syntax.{Expression, expression, elements}
+use Rattle.cue_scope.specs.Core.{Core, Cores, conjunction}
+use Rattle.cue_scope.specs.Definitions.{Definition}
+use Rattle.cue_scope.specs.Graph.{IsIn}
+use Rattle.cue_scope.specs.Kept.{all_of}
+use Rattle.cue_scope.specs.Meaning.{meaning, meant, meant_name, meant_elements}
+use Rattle.cue_scope.specs.Terms.{terms, terms_of_elements}
+use Rattle.cue_scope.specs.Uses.{uses, uses_of_elements, uses_of_name}
+use Rattle.cue_scope.proofs.Inside.{uses_below, below_is}
+use Rattle.cue_scope.proofs.Nodes.{in_append_left, in_append_right}
+use Rattle.cue_scope.proofs.Walking.{at_hand}
+use Rattle.cue_eval.specs.declared.declared.Declared.{Declared}
+use Rattle.cue_eval.specs.declared.declared.Asked.{Asked}
+use Rattle.cue_eval.specs.declared.found.Body.{Body}
+use Rattle.cue_eval.specs.declared.found.Found.{Found}
+use Rattle.cue_eval.specs.declared.rows.Tables.{Tables}
+use Rattle.cue_eval.specs.declared.told.Sight.{Sight}
+use Rattle.cue_eval.specs.declared.told.Whose.TheVariants.{Used}
+use Rattle.cue_eval.specs.Closing.{OneOfParts}
+use Rattle.cue_eval.specs.Finding.{HasRoom, IsFoundAt, AreFound, IsOnce, AreSingle, IsKept, IsFindable, AreFindable, IsFoundBody}
+use Rattle.cue_eval.specs.Gathered.{Answers}
+use Rattle.cue_eval.specs.Ready.{all_definitions, IsReady, IsTableOf, IsTableAt}
+use Rattle.cue_eval.specs.Refuses.{PartsRefuse}
+use Rattle.cue_eval.specs.Telling.{Tells, IsDeclared}
+use Rattle.cue_eval.specs.Told.{AreDots, IsKnown, IsTold, own_tells, used_tells}
+use Rattle.cue_eval.proofs.Defining.{known_of}
+use Rattle.cue_eval.proofs.Gathering.{unified_answers}
+use Rattle.cue_eval.proofs.Kept.{single_left, single_right, single_after, kept_itself, kept_both, room_kept, found_later}
+use Rattle.cue_eval.proofs.Leaves.{nil_both}
+use Rattle.cue_eval.proofs.TellingNames.{use_told}
+use Rattle.cue_eval.proofs.TellingParts.{IsSplit, split_more, split_all, same_sides, itself}
+
+abbrev pub each_of : List Definition → List Expr → Cores
+each_of ds es = meant_elements ds (meaning ds) (elements es)
+
+-- the parts of a conjunction: the tables so far, and the parts that are left
+pub record Taking (ds : List Definition) (rows : List (Tree Row)) (dots : List (Tree Declared)) (all left : List Expr) (start now : Found) : Type 0 where
+  pub refused : (path : Path) (question : Question) →
+      IsSplit (PartsRefuse (each_of ds all) path question) (OneOf (λ table. Answers table path question) rows) (PartsRefuse (each_of ds left) path question)
+  pub told : (path : Path) (asked : Asked) →
+      IsSplit (OneOfParts (own_tells Used asked) (used_tells Used) (each_of ds all) path) (OneOf (λ (t : Tree Declared). TableRefuses Tells t path asked) dots)
+      (OneOfParts (own_tells Used asked) (used_tells Used) (each_of ds left) path)
+  pub others : AreFindable ds (elements left) now
+  pub inside : (i : ℕ) → IsIn i (uses_of_elements ds (elements left)) → IsIn i (uses_of_elements ds (elements all))
+  pub kept : IsKept (uses_of_elements ds (elements all)) start now
+
+pub taking_none : (ds : List Definition) (all : List Expr) (found : Found) → AreFindable ds (elements all) found → Taking ds [] [] all all found found
+taking_none ds all found h = record {
+  refused = λ path question. (λ k. inr k, λ k. ⊎_elim (λ g. absurd g) (λ g. g) k);
+  told = λ path asked. (λ k. inr k, λ k. ⊎_elim (λ g. absurd g) (λ g. g) k);
+  others = h;
+  inside = λ i there. there;
+  kept = kept_itself _ found;
+}
+
+pub taking_next : (ds : List Definition) (rows : List (Tree Row)) (dots : List (Tree Declared)) (all : List Expr) (i : ℕ) (e : Expr) (start now : Found) → Taking ds rows dots all (drop i all) start now
+    → i < length all → e ≡ get_or all i e → Taking ds rows dots all (e ∷ drop (i + 1) all) start now
+taking_next ds rows dots all i e start now w h is = subst (λ z. Taking ds rows dots all z start now) (at_hand all i e h is) w
+
+pub taking_part : (ds : List Definition) (rows : List (Tree Row)) (dots : List (Tree Declared)) (all rest : List Expr) (e : Expr) (start now : Found) → Taking ds rows dots all (e ∷ rest) start now
+    → IsFindable ds (expression e) now
+taking_part ds rows dots all rest e start now w =
+    let here = w.others in
+    let s = here.size in
+    let d = here.depth in record {
+      room = here.room;
+      used = λ i there. here.used i (in_append_left (uses ds (expression e)) (uses_of_elements ds (elements rest)) i there);
+      once = single_left now (uses ds (expression e)) (uses_of_elements ds (elements rest)) here.once;
+      right = here.right.0;
+      terms = (nil_both (terms ds (meaning ds) (expression e)) (terms_of_elements ds (meaning ds) (elements rest)) here.terms).0;
+      size = omega arith;
+      depth = omega arith;
+    }
+
+pub taking_more : (ds : List Definition) (rows : List (Tree Row)) (dots : List (Tree Declared)) (all rest : List Expr) (e : Expr) (start now new : Found) (body : Body) → Taking ds rows dots all (e ∷ rest) start now
+    → IsFoundBody (meant ds (meaning ds) (expression e)) body → IsKept (uses ds (expression e)) now new → Taking ds (rows ++ body.rows ∷ []) (dots ++ body.dots ∷ []) all rest start new
+taking_more ds rows dots all rest e start now new body w is k =
+    let here = w.others in
+    let s = here.size in
+    let d = here.depth in
+    let us = uses ds (expression e) in
+    let vs = uses_of_elements ds (elements rest) in record {
+      refused = λ path question. split_more _ _ _ _ (Answers body.rows path question) _ (w.refused path question)
+          (same_sides _ _ _ _ (let a = is.answers path question in (a.1, a.0)) (itself _))
+          (one_of-push (λ t. Answers t path question) rows body.rows);
+      told = λ path asked. split_more _ _ _ _ (TableRefuses Tells body.dots path asked) _ (w.told path asked)
+          (same_sides _ _ _ _ (let a = is.dots.told path asked in (a.1, a.0)) (itself _))
+          (one_of-push (λ (t : Tree Declared). TableRefuses Tells t path asked) dots body.dots);
+      others = record {
+        room = room_kept us now new (length ds) k here.room;
+        used = found_later ds us vs now new here.once k (λ i there. here.used i (in_append_right us vs i there));
+        once = single_after us vs now new k (single_right now us vs here.once);
+        right = here.right.1;
+        terms = (nil_both (terms ds (meaning ds) (expression e)) (terms_of_elements ds (meaning ds) (elements rest)) here.terms).1;
+        size = omega arith;
+        depth = omega arith;
+      };
+      inside = λ i there. w.inside i (in_append_right us vs i there);
+      kept = kept_both (uses_of_elements ds (elements all)) us (uses_of_elements ds (elements all)) start now new (λ i there. there) (λ i there. w.inside i (in_append_left us vs i there)) w.kept k;
+    }
+
+pub all_taken : (ds : List Definition) (rows : List (Tree Row)) (dots : List (Tree Declared)) (all : List Expr) (i : ℕ) (start now : Found) (met : Tree Row) (marks : Tree Declared)
+    → Taking ds rows dots all (drop i all) start now → length all ≤ i → IsTable Refuses IsRow met → IsUnified Refuses rows met → IsTable Tells IsDeclared marks → IsUnified Tells dots marks
+    → IsFoundBody (conjunction (each_of ds all)) (record { rows = met; dots = marks })
+all_taken ds rows dots all i start now met marks w h form unified told_form told_unified = record {
+  form = form;
+  answers = λ path question.
+      let u = unified_answers rows met path question unified in
+      let s = split_all _ _ _ (end.refused path question) (λ n. n) in
+      (λ r. s.0 (u.0 r), λ r. u.1 (s.1 r));
+  dots = record {
+    form = told_form;
+    told = λ path asked.
+        let u = told_unified path asked in
+        let s = split_all _ _ _ (end.told path asked) (λ n. n) in
+        (λ r. s.0 (u.0 r), λ r. u.1 (s.1 r));
+  };
+} where
+  end : Taking ds rows dots all [] start now
+  end = subst (λ z. Taking ds rows dots all z start now) (drop_all i all h) w
+
+-- ---- a use of a definition
+some_table : (c : Core) (o : Option (Tree Row)) → IsTableAt c o → (table : Tree Row) × (o ≡ Some table) × IsTableOf c table
+some_table c None h = absurd h
+some_table c (Some table) h = (table, refl, h)
+
+pub taken_body : (ds : List Definition) (c : Core) (i : ℕ) (found : Found) (body : Body) → IsFoundAt (meaning ds i) i found → c ≡ meaning ds i
+    → ((table : Tree Row) → get_or found.tables.items i None ≡ Some table → body.rows ≡ table) → ((table : Tree Declared) → get_or found.dots.items i None ≡ Some table → body.dots ≡ table) → IsFoundBody c body
+taken_body ds c i found body h is rows dots =
+    let at = some_table (meaning ds i) (get_or found.tables.items i None) h.rows in
+    let same = sym (rows at.0 at.1) in
+    let table = subst (λ (t : Tree Row). IsTableOf (meaning ds i) t) same at.2 in
+    let marks = subst (λ (t : Tree Declared). AreDots (meaning ds i) t) (sym (dots h.dots.0 (h.dots.1 None))) h.dots.2 in
+    subst (λ z. IsFoundBody z body) (sym is) (record { form = table.form; answers = table.answers; dots = use_told ds (Some i) i body.dots refl marks })
+
+-- ---- what is copied
+pub findable_ready : (found : Found) (known : Tables) (e : Expression) → known.pairs.pairs.now ≡ found.pairs.items → known.tables.now ≡ found.tables.items → IsFindable (all_definitions known) e found → IsReady known e
+findable_ready found known e pairs tables h = record {
+  right = h.right;
+  used = known_of found known (uses (all_definitions known) e) pairs tables h.used;
+  terms = h.terms;
+  size = h.size;
+  depth = h.depth;
+}
+
+pub findable_known : (found : Found) (known : Sight) (e : Expression) → known.dots.now ≡ found.dots.items → IsFindable (all_of known.definitions.now) e found → IsKnown known e
+findable_known found known e dots h =
+    let ds = all_of known.definitions.now in
+    let s = h.size in
+    let d = h.depth in record {
+      used = λ i there.
+          let at = (h.used i there).dots in
+          let below = below_is (length ds) (uses ds e) (uses_below ds e) i there in
+          let room = h.room.dots in
+          let long = ap length dots in
+          (at.0, omega arith, λ o. subst (λ (xs : List (Option (Tree Declared))). get_or xs i o ≡ Some at.0) (sym dots) (at.1 o), at.2);
+      small = omega arith;
+      flat = omega arith;
+    }

@@ -1,0 +1,47 @@
+use Rattle.std.proofs.Common.{◌≡◌, ◌≤◌, ◌+◌, ◌++◌, drop, [], ◌∷◌, inl, refl, sym, ap, subst, ◌∙◌, arith}
+use denote.Param.Weighed.{most, at_most}
+use Rattle.cue_syntax.specs.declared.tree.Expr.{size-Expr}
+use Rattle.cue_syntax.specs.Syntax as tree
+use Rattle.cue_syntax.specs.Syntax.{expression}
+use Rattle.cue_syntax.proofs.Views.{view-Name}
+use Rattle.cue_scope.specs.Graph.{IsIn}
+use Rattle.cue_scope.specs.Kept.{all_of}
+use Rattle.cue_scope.specs.Meaning.{meaning, meant}
+use Rattle.cue_scope.specs.Uses.{uses}
+use Rattle.cue_eval.specs.Finding.{IsFoundBody}
+use Rattle.cue_eval.proofs.Taking.{Taking, taking_next, taking_part, taking_more, all_taken, taken_body}
+use Rattle.cue_eval.proofs.found.Found.+body.Goals as goal
+
+pub body-returns-in-Some-clause-body : goal.body-returns-in-Some-clause-body
+body-returns-in-Some-clause-body t c =
+    let ds = all_of c.args.definitions.now in
+    let view = ap expression c.in-Name.is ∙ view-Name c.in-Name.name c.in-Name.from in
+    let i = c.in-Some.number in
+    let us = ap (uses ds) view ∙ c.in-Some.ensures.named in
+    let there : IsIn i (uses ds (expression c.args.expression.now)) = subst (λ js. IsIn i js) (sym us) (inl refl) in
+    taken_body ds (meant ds (meaning ds) (expression c.args.expression.now)) i c.args.self.now c.take.result (c.requires.used i there)
+    (ap (meant ds (meaning ds)) view ∙ c.in-Some.ensures.means) c.take.ensures.rows c.take.ensures.marks
+
+pub parts-body-requires : goal.parts-body-requires
+parts-body-requires t c =
+    let next = taking_next _ _ _ _ c.loop-part.part-index c.part-item.result _ _ c.loop-part.invariant c.loop-part-test.true c.part-item.is in (
+      let among : size-Expr c.part-item.result ≤ most (λ e. size-Expr e) c.args.parts.now =
+          subst (λ e. size-Expr e ≤ most (λ x. size-Expr x) c.args.parts.now) (sym c.part-item.is) (at_most (λ e. size-Expr e) c.args.parts.now c.loop-part.part-index c.part-item.result c.loop-part-test.true) in
+          omega (arith, c.decreases, among),
+      taking_part _ _ _ _ _ _ _ _ next,
+    )
+
+pub parts-loop-part-preserved : goal.parts-loop-part-preserved
+parts-loop-part-preserved t c =
+    let ds = all_of c.args.definitions.now in
+    let all = c.args.parts.now in
+    let rest = drop (c.loop-part.part-index + 1) all in
+    let next = taking_next _ _ _ _ c.loop-part.part-index c.part-item.result _ _ c.loop-part.invariant c.loop-part-test.true c.part-item.is in
+    let more = taking_more _ _ _ _ _ _ _ _ _ c.in_ok-rows.field-0 next c.in_ok-rows.ensures.body c.in_ok-rows.ensures.kept in
+    let one = subst (λ xs. Taking ds xs (c.loop-part.all_dots.items ++ c.in_ok-rows.field-0.dots ∷ []) all rest c.args.self.now c.body.new.self) (sym c.in_ok-push.ensures.items) more in
+    subst (λ xs. Taking ds c.push.new.self.items xs all rest c.args.self.now c.body.new.self) (sym c.in_ok-push-2.ensures.items) one
+
+pub parts-returns-clause-body : goal.parts-returns-clause-body
+parts-returns-clause-body t c =
+    all_taken _ _ _ _ c.loop-part.part-index _ _ c.in_ok-rows-2.rows c.in_ok-dots.dots c.loop-part.invariant (let end = c.loop-part-test.false in omega arith)
+    c.in_ok-rows-2.ensures.form c.in_ok-rows-2.ensures.refused c.in_ok-dots.ensures.form c.in_ok-dots.ensures.refused
