@@ -36,6 +36,7 @@ known_of found known us pairs tables h = record {
   tables = λ i there. subst (λ (xs : List (Option (Tree Row))). IsTableAt (meaning (all_definitions known) i) (get_or xs i None)) (sym tables) (h i there).rows;
 }
 
+-- the value of a definition can be found, as far as its chain of labels leaves room
 pub findable_of : (ds : List Definition) (d : Definition) (found : Found) → IsDefinable ds d found → IsFindable ds d.value found
 findable_of ds d found h =
     let c = meant ds (meaning ds) d.value in
@@ -81,6 +82,7 @@ chain_within ds d found table h form same =
     let t = h.depth in
     omega arith
 
+-- the same for what is told of it
 pub chain_flat : (ds : List Definition) (d : Definition) (found : Found) (whose : Whose) (table : Tree Declared) → IsDefinable ds d found → IsTold whose (meant ds (meaning ds) d.value) table
     → length d.chain + tree_depth table ≤ step_limit
 chain_flat ds d found whose table h told =
@@ -90,6 +92,7 @@ chain_flat ds d found whose table h told =
     let t = h.depth in
     omega arith
 
+-- the definitions that it uses are known to what closes it
 pub body_known : (found : Found) (known : Sight) (d : Definition) → known.dots.now ≡ found.dots.items → IsDefinable (all_of known.definitions.now) d found → IsBodyKnown known d.chain d.value
 body_known found known d dots h =
     let ds = all_of known.definitions.now in

@@ -22,7 +22,6 @@ use Rattle.cue_scope.specs.Reached.{IsReachedOrder, times, targets_of}
 use Rattle.cue_scope.specs.Refusing.{IsLegal}
 use Rattle.cue_scope.specs.Terms.{terms_of_entries}
 use Rattle.cue_scope.specs.Uses.{uses, uses_of_fields, graph}
-use Rattle.cue_scope.specs.Written.{written_uses}
 use Rattle.cue_scope.proofs.Kept.{reached_below}
 use Rattle.cue_scope.proofs.Meanings.{uses_at}
 use Rattle.cue_scope.proofs.Nodes.{in_append, in_append_left, in_append_right, in_at, in_index}
@@ -31,7 +30,7 @@ use Rattle.cue_eval.specs.declared.found.Defined.{Defined}
 use Rattle.cue_eval.specs.declared.found.Found.{Found}
 use Rattle.cue_eval.specs.declared.rows.Tables.{Tables}
 use Rattle.cue_eval.specs.Evaluated.{HasAnswersOf, IsEvaluated}
-use Rattle.cue_eval.specs.Finding.{body_of, later_uses, HasRoom, AreOnce, IsOnce, AreSingle, IsKept, IsDefined, IsDefinable, IsFoundAt, IsFoundSoFar, AreFound}
+use Rattle.cue_eval.specs.Finding.{body_of, later_uses, HasRoom, IsOnce, AreSingle, IsKept, IsDefined, IsDefinable, IsFoundAt, IsFoundSoFar, AreFound}
 use Rattle.cue_eval.specs.Known.{IsPairOf}
 use Rattle.cue_eval.specs.Ready.{all_definitions, members_of, AreReadyFields, IsTableAt}
 use Rattle.cue_eval.proofs.Defining.{known_of}
@@ -42,7 +41,7 @@ use Rattle.cue_eval.proofs.ValidTables.{texts_are_valid}
 use Rattle.cue_eval.proofs.WordsOfTexts.{texts_write_words}
 
 -- ---- the uses that come later
-pub later_now : (ds : List Definition) (from order : List ℕ) (k : ℕ) → k < length order
+later_now : (ds : List Definition) (from order : List ℕ) (k : ℕ) → k < length order
     → later_uses ds from order k ≡ from ++ (targets (graph ds) (get_or order k 0) ++ targets_of (graph ds) (drop (k + 1) order))
 later_now ds from order k h = ap (λ z. from ++ targets_of (graph ds) z) (drop_more order k 0 h)
 
@@ -70,14 +69,6 @@ in_now ds from order i k h there =
     let vs = targets_of (graph ds) (drop (k + 1) order) in
     subst (λ z. IsIn i z) (sym (later_now ds from order k h)) (in_append_right from (us ++ vs) i (in_append_left us vs i there))
 
-pub found_none : (es : Entries) (order : List ℕ) (found : Found) → IsReachedOrder (graph (definitions es)) (uses_of_fields (definitions es) es) order → HasRoom (length (definitions es)) found → AreOnce es found.once.items
-    → IsFoundSoFar (definitions es) (uses_of_fields (definitions es) es) order 0 found
-found_none es order found o room once = record {
-  room = room;
-  once = λ i is. let one : times i (written_uses (definitions es) es order) ≡ 1 = once order o i is in omega arith;
-  each = λ k less inside there. absurd (omega arith);
-}
-
 -- those that the next definition uses are known
 found_next : (ds : List Definition) (from order : List ℕ) (k : ℕ) (found : Found) (d : Definition) → IsReachedOrder (graph ds) from order → k < length order → slice_get ds (get_or order k 0) ≡ Some d
     → IsFoundSoFar ds from order k found → AreFound ds (uses ds d.value) found
@@ -89,6 +80,7 @@ found_next ds from order k found d o h is w = λ j there.
     let now : IsIn (get_or order before.0 0) (later_uses ds from order k) = subst (λ z. IsIn z (later_uses ds from order k)) (sym same) (in_now ds from order j k h points) in
     subst (λ z. IsFoundAt (meaning ds z) z found) same (w.each before.0 less (omega arith) now)
 
+-- and those of them that are used once are used once in its body
 single_next : (ds : List Definition) (from order : List ℕ) (k : ℕ) (found : Found) (d : Definition) → k < length order → slice_get ds (get_or order k 0) ≡ Some d → IsFoundSoFar ds from order k found
     → AreSingle found (uses ds d.value)
 single_next ds from order k found d h is w =
@@ -162,6 +154,7 @@ kept_there ds n i old new defined apart x pairs tables dots = record {
   );
 }
 
+-- one definition more is known, and what is used later still is
 pub found_more : (ds : List Definition) (from order : List ℕ) (k : ℕ) (d : Definition) (old kept new : Found) (defined : Defined) → IsReachedOrder (graph ds) from order → k < length order → get_or order k 0 < length ds
     → slice_get ds (get_or order k 0) ≡ Some d → IsFoundSoFar ds from order k old → IsKept (uses ds d.value) old kept → IsDefined (meaning ds (get_or order k 0)) defined
     → new.pairs.items ≡ set kept.pairs.items (get_or order k 0) defined.pair → new.tables.items ≡ set kept.tables.items (get_or order k 0) (Some defined.closed.rows)
@@ -183,15 +176,15 @@ found_more ds from order k d old kept new defined o h below is w stays x pairs t
       each = λ j less inside later. ⊎_elim
           (λ t. subst (λ z. IsFoundAt (meaning ds z) z new) (sym (ap (λ z. get_or order z 0) t.1)) (kept_here ds n kept new defined room below x pairs tables dots))
           (λ f.
-              let i = get_or order j 0 in
-              let apart : IsOnce old i × IsIn i us → ⊥ = λ y.
-                  let few = w.once i y.0 in
-                  let all = times_later ds from order i k h in
-                  let now = in_times i (targets (graph ds) n) (subst (λ vs. IsIn i vs) (sym (uses_at ds ds n d is)) y.1) in
-                  let then = in_times i (later_uses ds from order (k + 1)) later in
-                  omega arith in
-              kept_there ds n i kept new defined (λ e. f.1 (o.once j k inside h e))
-              (found_kept (meaning ds i) us old kept i stays apart (w.each j (let other = f.1 in omega arith) inside (in_later ds from order i k h later))) pairs tables dots)
+          let i = get_or order j 0 in
+          let apart : IsOnce old i × IsIn i us → ⊥ = λ y.
+          let few = w.once i y.0 in
+          let all = times_later ds from order i k h in
+          let now = in_times i (targets (graph ds) n) (subst (λ vs. IsIn i vs) (sym (uses_at ds ds n d is)) y.1) in
+          let then = in_times i (later_uses ds from order (k + 1)) later in
+          omega arith in
+          kept_there ds n i kept new defined (λ e. f.1 (o.once j k inside h e))
+          (found_kept (meaning ds i) us old kept i stays apart (w.each j (let other = f.1 in omega arith) inside (in_later ds from order i k h later))) pairs tables dots)
           (eqb_tells j k);
     }
 

@@ -1,5 +1,5 @@
 -- What stays known of definitions while those that are used once are taken over.
-use Rattle.std.proofs.Common.{◌≡◌, ◌+◌, ◌≤◌, ◌<◌, ◌⊎◌, inl, inr, ⊎_elim, ℕ, Option, None, Some, Bool, true, false, cond, List, [], ◌∷◌, ◌++◌, length, get_or, get_or-set_other, refl, sym, ap, subst, ◌∙◌, arith}
+use Rattle.std.proofs.Common.{◌≡◌, ◌+◌, ◌≤◌, inl, ⊎_elim, ℕ, Option, None, Bool, true, false, cond, List, [], ◌∷◌, ◌++◌, length, get_or, get_or-set_other, refl, sym, ap, subst, ◌∙◌, arith}
 use Rattle.std.proofs.Math.Dec.{eqb}
 use Rattle.std.proofs.Math.ListN.{set, length-set}
 use Rattle.std.proofs.lemmas.Bool.Decides.{eqb_tells}
@@ -10,7 +10,6 @@ use Rattle.cue_scope.specs.Core.{Core}
 use Rattle.cue_scope.specs.Definitions.{Definition}
 use Rattle.cue_scope.specs.Graph.{IsIn}
 use Rattle.cue_scope.specs.Reached.{times}
-use Rattle.cue_scope.proofs.Nodes.{in_append_left, in_append_right}
 use Rattle.cue_eval.specs.declared.declared.Declared.{Declared}
 use Rattle.cue_eval.specs.declared.found.Found.{Found}
 use Rattle.cue_eval.specs.Finding.{HasRoom, IsFoundAt, AreFound, IsOnce, AreSingle, IsKept}
@@ -20,9 +19,11 @@ use Rattle.cue_scalars.specs.declared.valued.Valued.{Valued}
 use Rattle.cue_scope.specs.Meaning.{meaning}
 
 -- ---- how often a number is in a list
+-- in two lists together a number is as often as in the one and in the other
 pub times_both : (i : ℕ) (us vs : List ℕ) → times i (us ++ vs) ≡ times i us + times i vs
 times_both i us vs = sum_by-append (λ j. cond (eqb i j) 1 0) us vs
 
+-- what is in a list is there at least once
 pub in_times : (i : ℕ) (us : List ℕ) → IsIn i us → 1 ≤ times i us
 in_times i [] h = absurd h
 in_times i (j ∷ js) h =
@@ -41,13 +42,16 @@ once_apart i us vs few a b =
     let there = in_times i vs b in
     omega arith
 
+-- what is used once in two lists is so in the first
 pub single_left : (found : Found) (us vs : List ℕ) → AreSingle found (us ++ vs) → AreSingle found us
 single_left found us vs h = λ i once. let few = h i once in let both = times_both i us vs in omega arith
 
+-- and in the second
 pub single_right : (found : Found) (us vs : List ℕ) → AreSingle found (us ++ vs) → AreSingle found vs
 single_right found us vs h = λ i once. let few = h i once in let both = times_both i us vs in omega arith
 
 -- ---- what is kept
+-- where nothing happens all is kept
 pub kept_itself : (us : List ℕ) (found : Found) → IsKept us found found
 kept_itself us found = record {
   pairs = refl;
@@ -58,15 +62,15 @@ kept_itself us found = record {
   dots = λ i d not. refl;
 }
 
+-- what is used once was so before
 pub once_before : (us : List ℕ) (old new : Found) (i : ℕ) → IsKept us old new → IsOnce new i → IsOnce old i
 once_before us old new i k h = subst (λ (xs : List Bool). get_or xs i false ≡ true) k.once h
 
-pub once_after : (us : List ℕ) (old new : Found) (i : ℕ) → IsKept us old new → IsOnce old i → IsOnce new i
-once_after us old new i k h = subst (λ (xs : List Bool). get_or xs i false ≡ true) (sym k.once) h
-
+-- what was used once is so after
 pub single_after : (us vs : List ℕ) (old new : Found) → IsKept us old new → AreSingle old vs → AreSingle new vs
 single_after us vs old new k h = λ i once. h i (once_before us old new i k once)
 
+-- one step after another keeps what both keep
 pub kept_both : (us vs ws : List ℕ) (a b c : Found) → ((i : ℕ) → IsIn i us → IsIn i ws) → ((i : ℕ) → IsIn i vs → IsIn i ws) → IsKept us a b → IsKept vs b c → IsKept ws a c
 kept_both us vs ws a b c one two k m = record {
   pairs = m.pairs ∙ k.pairs;
@@ -77,6 +81,7 @@ kept_both us vs ws a b c one two k m = record {
   dots = λ i d not. m.dots i d (λ h. not (once_before us a b i k h.0, two i h.1)) ∙ k.dots i d (λ h. not (h.0, one i h.1));
 }
 
+-- the room stays
 pub room_kept : (us : List ℕ) (old new : Found) (count : ℕ) → IsKept us old new → HasRoom count old → HasRoom count new
 room_kept us old new count k room = record {
   pairs = ap length k.pairs ∙ room.pairs;

@@ -1,5 +1,5 @@
 -- Bodies of definitions, of which what is used once is taken over.
-use Rattle.std.proofs.Common.{◌≡◌, ◌↔◌, ◌⊎◌, ◌+◌, ◌≤◌, ◌<◌, inl, inr, ⊎_elim, ℕ, Option, None, Some, List, [], ◌∷◌, ◌++◌, length, drop, get_or, refl, sym, ap, subst, ◌∙◌, arith}
+use Rattle.std.proofs.Common.{◌≡◌, ◌+◌, ◌≤◌, ◌<◌, inr, ⊎_elim, ℕ, Option, None, Some, List, [], ◌∷◌, ◌++◌, length, drop, get_or, refl, sym, ap, subst, arith}
 use Rattle.std.proofs.lemmas.List.{drop_all}
 use Rattle.cue_lattice.specs.OneOf.{OneOf}
 use Rattle.cue_lattice.specs.Path.{Path}
@@ -12,15 +12,14 @@ use Rattle.cue_table.specs.Many.{IsUnified}
 use Rattle.cue_table.specs.Refuses.{TableRefuses}
 use Rattle.cue_table.specs.Tree.{Tree}
 use Rattle.cue_syntax.specs.declared.tree.Expr.{Expr}
-use Rattle.cue_syntax.specs.declared.tree.Identifier.{Identifier}
 use Rattle.cue_syntax.specs.Syntax.{Expression, expression, elements}
 use Rattle.cue_scope.specs.Core.{Core, Cores, conjunction}
 use Rattle.cue_scope.specs.Definitions.{Definition}
 use Rattle.cue_scope.specs.Graph.{IsIn}
 use Rattle.cue_scope.specs.Kept.{all_of}
-use Rattle.cue_scope.specs.Meaning.{meaning, meant, meant_name, meant_elements}
+use Rattle.cue_scope.specs.Meaning.{meaning, meant, meant_elements}
 use Rattle.cue_scope.specs.Terms.{terms, terms_of_elements}
-use Rattle.cue_scope.specs.Uses.{uses, uses_of_elements, uses_of_name}
+use Rattle.cue_scope.specs.Uses.{uses, uses_of_elements}
 use Rattle.cue_scope.proofs.Inside.{uses_below, below_is}
 use Rattle.cue_scope.proofs.Nodes.{in_append_left, in_append_right}
 use Rattle.cue_scope.proofs.Walking.{at_hand}
@@ -32,12 +31,12 @@ use Rattle.cue_eval.specs.declared.rows.Tables.{Tables}
 use Rattle.cue_eval.specs.declared.told.Sight.{Sight}
 use Rattle.cue_eval.specs.declared.told.Whose.TheVariants.{Used}
 use Rattle.cue_eval.specs.Closing.{OneOfParts}
-use Rattle.cue_eval.specs.Finding.{HasRoom, IsFoundAt, AreFound, IsOnce, AreSingle, IsKept, IsFindable, AreFindable, IsFoundBody}
+use Rattle.cue_eval.specs.Finding.{IsFoundAt, IsKept, IsFindable, AreFindable, IsFoundBody}
 use Rattle.cue_eval.specs.Gathered.{Answers}
 use Rattle.cue_eval.specs.Ready.{all_definitions, IsReady, IsTableOf, IsTableAt}
 use Rattle.cue_eval.specs.Refuses.{PartsRefuse}
 use Rattle.cue_eval.specs.Telling.{Tells, IsDeclared}
-use Rattle.cue_eval.specs.Told.{AreDots, IsKnown, IsTold, own_tells, used_tells}
+use Rattle.cue_eval.specs.Told.{AreDots, IsKnown, own_tells, used_tells}
 use Rattle.cue_eval.proofs.Defining.{known_of}
 use Rattle.cue_eval.proofs.Gathering.{unified_answers}
 use Rattle.cue_eval.proofs.Kept.{single_left, single_right, single_after, kept_itself, kept_both, room_kept, found_later}
@@ -45,6 +44,7 @@ use Rattle.cue_eval.proofs.Leaves.{nil_both}
 use Rattle.cue_eval.proofs.TellingNames.{use_told}
 use Rattle.cue_eval.proofs.TellingParts.{IsSplit, split_more, split_all, same_sides, itself}
 
+-- what the parts mean
 abbrev pub each_of : List Definition → List Expr → Cores
 each_of ds es = meant_elements ds (meaning ds) (elements es)
 
@@ -59,6 +59,7 @@ pub record Taking (ds : List Definition) (rows : List (Tree Row)) (dots : List (
   pub inside : (i : ℕ) → IsIn i (uses_of_elements ds (elements left)) → IsIn i (uses_of_elements ds (elements all))
   pub kept : IsKept (uses_of_elements ds (elements all)) start now
 
+-- at first all parts are left
 pub taking_none : (ds : List Definition) (all : List Expr) (found : Found) → AreFindable ds (elements all) found → Taking ds [] [] all all found found
 taking_none ds all found h = record {
   refused = λ path question. (λ k. inr k, λ k. ⊎_elim (λ g. absurd g) (λ g. g) k);
@@ -68,10 +69,12 @@ taking_none ds all found h = record {
   kept = kept_itself _ found;
 }
 
+-- the next part is the first of those that are left
 pub taking_next : (ds : List Definition) (rows : List (Tree Row)) (dots : List (Tree Declared)) (all : List Expr) (i : ℕ) (e : Expr) (start now : Found) → Taking ds rows dots all (drop i all) start now
     → i < length all → e ≡ get_or all i e → Taking ds rows dots all (e ∷ drop (i + 1) all) start now
 taking_next ds rows dots all i e start now w h is = subst (λ z. Taking ds rows dots all z start now) (at_hand all i e h is) w
 
+-- what it needs is known
 pub taking_part : (ds : List Definition) (rows : List (Tree Row)) (dots : List (Tree Declared)) (all rest : List Expr) (e : Expr) (start now : Found) → Taking ds rows dots all (e ∷ rest) start now
     → IsFindable ds (expression e) now
 taking_part ds rows dots all rest e start now w =
@@ -87,6 +90,7 @@ taking_part ds rows dots all rest e start now w =
       depth = omega arith;
     }
 
+-- one part more
 pub taking_more : (ds : List Definition) (rows : List (Tree Row)) (dots : List (Tree Declared)) (all rest : List Expr) (e : Expr) (start now new : Found) (body : Body) → Taking ds rows dots all (e ∷ rest) start now
     → IsFoundBody (meant ds (meaning ds) (expression e)) body → IsKept (uses ds (expression e)) now new → Taking ds (rows ++ body.rows ∷ []) (dots ++ body.dots ∷ []) all rest start new
 taking_more ds rows dots all rest e start now new body w is k =
@@ -114,6 +118,7 @@ taking_more ds rows dots all rest e start now new body w is k =
       kept = kept_both (uses_of_elements ds (elements all)) us (uses_of_elements ds (elements all)) start now new (λ i there. there) (λ i there. w.inside i (in_append_left us vs i there)) w.kept k;
     }
 
+-- the tables of all parts, unified, are those of the conjunction
 pub all_taken : (ds : List Definition) (rows : List (Tree Row)) (dots : List (Tree Declared)) (all : List Expr) (i : ℕ) (start now : Found) (met : Tree Row) (marks : Tree Declared)
     → Taking ds rows dots all (drop i all) start now → length all ≤ i → IsTable Refuses IsRow met → IsUnified Refuses rows met → IsTable Tells IsDeclared marks → IsUnified Tells dots marks
     → IsFoundBody (conjunction (each_of ds all)) (record { rows = met; dots = marks })
@@ -134,11 +139,12 @@ all_taken ds rows dots all i start now met marks w h form unified told_form told
   end : Taking ds rows dots all [] start now
   end = subst (λ z. Taking ds rows dots all z start now) (drop_all i all h) w
 
--- ---- a use of a definition
+-- ---- a use of a definition, which is taken over
 some_table : (c : Core) (o : Option (Tree Row)) → IsTableAt c o → (table : Tree Row) × (o ≡ Some table) × IsTableOf c table
 some_table c None h = absurd h
 some_table c (Some table) h = (table, refl, h)
 
+-- what is taken over is what the use means
 pub taken_body : (ds : List Definition) (c : Core) (i : ℕ) (found : Found) (body : Body) → IsFoundAt (meaning ds i) i found → c ≡ meaning ds i
     → ((table : Tree Row) → get_or found.tables.items i None ≡ Some table → body.rows ≡ table) → ((table : Tree Declared) → get_or found.dots.items i None ≡ Some table → body.dots ≡ table) → IsFoundBody c body
 taken_body ds c i found body h is rows dots =
@@ -149,6 +155,7 @@ taken_body ds c i found body h is rows dots =
     subst (λ z. IsFoundBody z body) (sym is) (record { form = table.form; answers = table.answers; dots = use_told ds (Some i) i body.dots refl marks })
 
 -- ---- what is copied
+-- its table can be made
 pub findable_ready : (found : Found) (known : Tables) (e : Expression) → known.pairs.pairs.now ≡ found.pairs.items → known.tables.now ≡ found.tables.items → IsFindable (all_definitions known) e found → IsReady known e
 findable_ready found known e pairs tables h = record {
   right = h.right;
@@ -158,6 +165,7 @@ findable_ready found known e pairs tables h = record {
   depth = h.depth;
 }
 
+-- and where literals of definitions that it names have a `...`
 pub findable_known : (found : Found) (known : Sight) (e : Expression) → known.dots.now ≡ found.dots.items → IsFindable (all_of known.definitions.now) e found → IsKnown known e
 findable_known found known e dots h =
     let ds = all_of known.definitions.now in

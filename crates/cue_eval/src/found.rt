@@ -17,11 +17,10 @@ ghost use Rattle.cue_eval.specs.Finding.{body_of, HasRoom, AreOnce, IsOnce, IsDe
 
 use crate::body::{Closed, close};
 use crate::declared::Declared;
-use crate::hanging;
 use crate::pair::Pairs;
 use crate::rows::Tables;
-use crate::told;
 use crate::told::{Sight, Whose};
+use crate::{hanging, told};
 use cue_lattice::Memory;
 use cue_row::Row;
 use cue_scalars::Valued;
@@ -178,7 +177,9 @@ impl Found {
         ensures { IfOk result (IsFoundBody (meant (all_of definitions.now) (meaning (all_of definitions.now)) (tree.expression expression.now))) }
     {
         let rows = self.tables(alloc, definitions).rows(expression)?;
-        let dots = self.sight(alloc, definitions).expression(Whose::Used, expression)?;
+        let dots = self
+            .sight(alloc, definitions)
+            .expression(Whose::Used, expression)?;
         Ok(Body { rows, dots })
     }
 

@@ -1,14 +1,12 @@
-use Rattle.std.proofs.Common.{◌≡◌, ◌≤◌, ◌+◌, ◌++◌, drop, [], ◌∷◌, inl, refl, sym, ap, subst, ◌∙◌, arith}
+use Rattle.std.proofs.Common.{◌≤◌, ◌+◌, ◌++◌, drop, [], ◌∷◌, inl, refl, sym, ap, subst, ◌∙◌, arith}
 use denote.Param.Weighed.{most, at_most}
 use Rattle.cue_syntax.specs.declared.tree.Expr.{size-Expr}
-use Rattle.cue_syntax.specs.Syntax as tree
 use Rattle.cue_syntax.specs.Syntax.{expression}
 use Rattle.cue_syntax.proofs.Views.{view-Name}
 use Rattle.cue_scope.specs.Graph.{IsIn}
 use Rattle.cue_scope.specs.Kept.{all_of}
 use Rattle.cue_scope.specs.Meaning.{meaning, meant}
 use Rattle.cue_scope.specs.Uses.{uses}
-use Rattle.cue_eval.specs.Finding.{IsFoundBody}
 use Rattle.cue_eval.proofs.Taking.{Taking, taking_next, taking_part, taking_more, all_taken, taken_body}
 use Rattle.cue_eval.proofs.found.Found.+body.Goals as goal
 
