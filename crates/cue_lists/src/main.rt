@@ -1,0 +1,89 @@
+//! Reads lists of inputs with what one new site must answer that has taken them, and tells where it
+//! answers otherwise. Each line is a JSON object: `inputs` is a list of texts and of states
+//! (`{"hex": ".."}`), which are handed on in order as files; `export`, `report`, `print` and
+//! `state` are each a list of the exit status and the output, that of a state in hexadecimal.
+//! `cue_lists FILE` reads a file.
+#![tactic(auto)]
+
+mod list;
+
+use anyhow::Context;
+use cue_program::{Question, Status};
+use list::{agrees, answer, inputs_of, site_of};
+use serde_json::Value;
+use std::{env, fs};
+
+/// What is asked of each site, with its name in the lines.
+const QUESTIONS: [(Question, &str); 4] = [
+    (Question::Export, "export"),
+    (Question::Report, "report"),
+    (Question::Print, "print"),
+    (Question::State, "state"),
+];
+
+/// How many lists ended in each way, and how many answers were wrong.
+#[derive(Drop)]
+struct Counts {
+    exported: u64,
+    conflicting: u64,
+    incomplete: u64,
+    refused: u64,
+    wrong: u64,
+}
+
+impl Counts {
+    fn new() -> Counts {
+        Counts {
+            exported: 0,
+            conflicting: 0,
+            incomplete: 0,
+            refused: 0,
+            wrong: 0,
+        }
+    }
+
+    /// Counts a list by how its export ended.
+    fn add(&mut self, status: Status) {
+        match status {
+            Status::Done => self.exported = self.exported.saturating_add(1),
+            Status::Conflicts => self.conflicting = self.conflicting.saturating_add(1),
+            Status::Incomplete => self.incomplete = self.incomplete.saturating_add(1),
+            Status::Refused | Status::Device => self.refused = self.refused.saturating_add(1),
+        }
+    }
+}
+
+/// Asks a new site that has taken the inputs of a line, and tells which answers are others.
+fn compare(rt: &HostRuntime, number: usize, line: &str, counts: &mut Counts) -> anyhow::Result<()> {
+    let alloc = rt.alloc();
+    let list = Value::from_str(alloc, line)?;
+    let inputs = inputs_of(alloc, &list)?;
+    let site = site_of(alloc, &inputs);
+    for (question, name) in QUESTIONS {
+        let reply = answer(alloc, question, &site)?;
+        if question == Question::Export {
+            counts.add(reply.status);
+        }
+        if !agrees(alloc, &list, name, question, &reply)? {
+            println!(rt; "line {number}: {name} is another")?;
+            counts.wrong = counts.wrong.saturating_add(1);
+        }
+    }
+    Ok(())
+}
+
+fn main(rt: HostRuntime) -> anyhow::Result<()> {
+    let path = env::args(&rt)?.nth(1).context("usage: cue_lists FILE")?;
+    let all = fs::read_to_string(&rt, path.as_str())?;
+    let mut counts = Counts::new();
+    let mut number = 0usize;
+    for line in all.as_str().lines() {
+        number = number.saturating_add(1);
+        compare(&rt, number, line, &mut counts)?;
+    }
+    println!(rt;
+        "{number} lists: {} exported, {} with conflicts, {} incomplete, {} refused; {} answers wrong",
+        counts.exported, counts.conflicting, counts.incomplete, counts.refused, counts.wrong
+    )?;
+    Ok(())
+}
