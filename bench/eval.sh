@@ -48,7 +48,7 @@ measure parts 3000 6000 12000
 measure tower 11 12 13
 measure unused 12000 24000 48000
 measure reached 12000 24000 48000
-measure handed 500 1000 2000
+measure handed 5000 10000 20000
 measure closed 1000 2000 4000
 measure same-label 4000 8000 16000
 measure conjunction 4000 8000 16000
