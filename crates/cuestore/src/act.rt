@@ -84,7 +84,12 @@ fn answer<H: AllocGlobal + Files, R: Read>(
 }
 
 /// Writes the line of what ended the run.
-fn report<W: Write, F: Write>(alloc: Global, fault: &Fault, out: &mut W, faults: &mut F) -> Status
+pub fn report<W: Write, F: Write>(
+    alloc: Global,
+    fault: &Fault,
+    out: &mut W,
+    faults: &mut F,
+) -> Status
     ensures { IsStopped result }
 {
     match format!(in alloc; "{fault}\n") {

@@ -7,6 +7,8 @@ use clap::error::ErrorKind;
 use clap::{Arg, ArgAction, Error};
 use cue_program::{Memory, Stop};
 use std::alloc::Global;
+use std::env::Env;
+use std::{env, io};
 
 /// What the program is asked to do.
 #[derive(Clone, Copy, Debug, PartialEq, Eq)]
@@ -28,6 +30,31 @@ pub enum Command {
 pub struct Request<'a> {
     pub command: Command,
     pub arguments: Vec<&'a str>,
+}
+
+/// The words after the program's name. One that is not UTF-8 is a usage fault.
+pub fn given_words<H: AllocGlobal + Env>(rt: &H) -> Result<Vec<String>, Fault>
+    ensures fault { IfErr result IsWordFault }
+{
+    let all = match env::args(rt) {
+        Ok(all) => all,
+        Err(error) => return Err(unread(&error)),
+    };
+    let mut words = Vec::new(rt.alloc());
+    for word in all.skip(1) {
+        words.push(word)?;
+    }
+    Ok(words)
+}
+
+/// What is told where the words can't be read.
+fn unread(error: &io::Error) -> Fault
+    ensures { IsWordFault result }
+{
+    match error.kind() {
+        io::ErrorKind::OutOfMemory => Fault::from(Stop::from(Memory)),
+        _ => Fault::Usage,
+    }
 }
 
 /// What the words after the program's name ask for. All other words are a usage fault.

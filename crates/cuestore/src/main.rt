@@ -9,21 +9,17 @@ mod fault;
 #[cfg(test)]
 mod tests;
 
-use act::act as perform;
-use std::io;
+use act::{act as perform, report};
+use command::given_words;
 use std::process::ExitCode;
 
-fn main(rt: HostRuntime) -> io::Result<ExitCode> {
-    let mut words = Vec::new(rt.alloc());
-    for word in std::env::args(&rt)?.skip(1) {
-        words.push(word)?;
-    }
-    let status = perform(
-        &rt,
-        &words,
-        &mut rt.stdin(),
-        &mut rt.stdout(),
-        &mut rt.stderr(),
-    );
-    Ok(ExitCode::from(status))
+fn main(rt: HostRuntime) -> ExitCode {
+    let mut input = rt.stdin();
+    let mut out = rt.stdout();
+    let mut faults = rt.stderr();
+    let status = match given_words(&rt) {
+        Ok(words) => perform(&rt, &words, &mut input, &mut out, &mut faults),
+        Err(fault) => report(rt.alloc(), &fault, &mut out, &mut faults).code(),
+    };
+    ExitCode::from(status)
 }
