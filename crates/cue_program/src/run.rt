@@ -1,9 +1,9 @@
-ghost use Rattle.std.specs.Prelude.{length, IfOk, IfErr};
+ghost use Rattle.std.specs.Prelude.{◌≡◌, ◌<◌, length, IfOk, IfErr};
 ghost use Rattle.cue_program.specs.Runs.{HoldsAll, HoldsSomeFiles, IsReplyFor, IsMergeOf, IsStopFor};
 ghost use Rattle.cue_program.specs.Runs.{IsFilesStop};
 ghost use Rattle.cue_program.specs.Stops.{IsReadFault};
 
-use crate::input::read_all;
+use crate::input::{read_all, room};
 use crate::reply::{Question, Reply, Status, tell, told};
 use crate::site::{site_of, take_file};
 use crate::stop::Stop;
@@ -71,7 +71,8 @@ fn site_for<H: AllocGlobal + Files, R: Read>(
     if !files.is_empty() {
         return site_of_files(rt, files);
     }
-    let bytes = read_all(rt.alloc(), input)?;
+    let mut piece = room(rt.alloc())?;
+    let bytes = read_all(rt.alloc(), input, &mut piece)?;
     site_of(rt.alloc(), &bytes)
 }
 
@@ -81,21 +82,28 @@ fn site_of_files<H: AllocGlobal + Files>(rt: &H, files: &[&str]) -> Result<Repli
     ensures stop { IfErr result (IsFilesStop (length files.now)) }
 {
     let mut site = Replica::new(rt.alloc());
+    let mut piece = room(rt.alloc())?;
     let mut number = 0;
     for name in files {
         number += 1;
-        let bytes = read_file(rt, name)?;
+        let bytes = read_file(rt, name, &mut piece)?;
         take_file(&mut site, &bytes, number)?;
     }
     Ok(site)
 }
 
-/// All bytes of the file of this name.
-fn read_file<H: AllocGlobal + Files>(rt: &H, name: &str) -> Result<Vec<u8>, Stop>
-    ensures { IfErr result IsReadFault }
+/// All bytes of the file of this name, by reads into this room.
+fn read_file<H: AllocGlobal + Files>(
+    rt: &H,
+    name: &str,
+    piece: &mut [u8],
+) -> Result<Vec<u8>, Stop>
+    requires { 0 < length piece.old }
+    ensures fault { IfErr result IsReadFault }
+    ensures room { length piece.new ≡ length piece.old }
 {
     let Ok(mut file) = fs::open(rt, name) else {
         return Err(Stop::Device);
     };
-    read_all(rt.alloc(), &mut file)
+    read_all(rt.alloc(), &mut file, piece)
 }

@@ -1,9 +1,10 @@
+use Rattle.std.proofs.Common.{refl, ◌∙◌}
 use Rattle.cue_program.proofs.Devices.{consumes_none, consumed_all, read_more}
 use Rattle.cue_program.proofs.input.read_all.Goals as goal
 
 pub loop-init : goal.loop-init
 loop-init g c = record {
-  room = c.in_ok-piece.ensures.len;
+  room = refl;
   read = rw c.new-all.ensures.items (consumes_none (g.R.Read.remaining c.args.input.now));
 }
 
@@ -16,7 +17,7 @@ returns-then-branch-clause-all g c =
 
 pub loop-preserved : goal.loop-preserved
 loop-preserved g c = record {
-  room = c.loop.invariant.room;
+  room = c.in_ok-read_piece.ensures.room ∙ c.loop.invariant.room;
   read = read_more (g.R.Read.remaining c.args.input.now) (g.R.Read.remaining c.loop.input) (g.R.Read.remaining c.read_piece.new.input)
       c.loop.all.items c.read_piece.new.all.items c.loop.invariant.read c.in_ok-read_piece.ensures.read;
 }

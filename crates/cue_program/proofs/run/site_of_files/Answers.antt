@@ -7,6 +7,7 @@ pub loop-name-init : goal.loop-name-init
 loop-name-init g c = record {
   holds = subst (HoldsSomeFiles 0) (sym c.new-site.ensures) files_none;
   counted = search rules;
+  room = search rules;
 }
 
 pub loop-name-preserved : goal.loop-name-preserved
@@ -14,4 +15,5 @@ loop-name-preserved g c = record {
   holds = files_more c.loop-name.name-index c.loop-name.site c.take_file.new.site c.deref.result.now c.loop-name.invariant.holds
       c.in_ok-take_file.ensures.accepts c.in_ok-take_file.ensures.valid;
   counted = search rules;
+  room = search rules;
 }
