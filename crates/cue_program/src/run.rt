@@ -93,11 +93,7 @@ fn site_of_files<H: AllocGlobal + Files>(rt: &H, files: &[&str]) -> Result<Repli
 }
 
 /// All bytes of the file of this name, by reads into this room.
-fn read_file<H: AllocGlobal + Files>(
-    rt: &H,
-    name: &str,
-    piece: &mut [u8],
-) -> Result<Vec<u8>, Stop>
+fn read_file<H: AllocGlobal + Files>(rt: &H, name: &str, piece: &mut [u8]) -> Result<Vec<u8>, Stop>
     requires { 0 < length piece.old }
     ensures fault { IfErr result IsReadFault }
     ensures room { length piece.new ≡ length piece.old }

@@ -13,7 +13,7 @@ returns-in-Err-submit-clause-refused c =
       why,
       refl,
       ⊎_elim
-      (λ memory. inr (inr memory))
-      (λ fault. inr (inl (subst (λ (t : List ℕ). language.IsTextFault t why) c.in-Ok.ensures fault)))
-      c.in-Err-submit.ensures.refused,
+          (λ memory. inr (inr memory))
+          (λ fault. inr (inl (subst (λ (t : List ℕ). language.IsTextFault t why) c.in-Ok.ensures fault)))
+          c.in-Err-submit.ensures.refused,
     )
