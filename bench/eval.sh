@@ -16,15 +16,8 @@ worst=0
 # a line: SHAPE COUNT COUNT COUNT, where the text with the last count is four times as large as that with the first
 measure() {
     if [ "$wanted" != "  " ] && [[ "$wanted" != *" $1 "* ]]; then return; fi
-    local shape=$1 row= count making growth
-    shift
-    for count in "$@"; do
-        making=$(instructions "$shape" "$count" 0)
-        row="$row $count $(($(instructions "$shape" "$count" 1) - making))"
-    done
-    set -- $row
-    growth=$(growth_of "$2" "$6")
-    if is_steep "$growth"; then worst=1; fi
+    local shape=$1 row growth
+    measure_growth "$@"
     awk -v shape="$shape" -v row="$row" -v growth="$growth" 'BEGIN {
         split(row, r, " ")
         printf "%-15s %7s %9.1f %7s %9.1f %7s %9.1f %8s\n", shape, r[1], r[2] / 1e6, r[3], r[4] / 1e6, r[5], r[6] / 1e6,

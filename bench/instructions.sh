@@ -15,6 +15,21 @@ instructions() {
         awk '/Collected/ { print $4 }'
 }
 
+# What a shape costs at three sizes, of which the last is four times the first: SHAPE COUNT COUNT COUNT. It leaves the
+# counts and costs in turn in `row`, the exponent in `growth`, and 1 in `worst` where that is steep.
+measure_growth() {
+    local shape=$1 count making
+    row=
+    shift
+    for count in "$@"; do
+        making=$(instructions "$shape" "$count" 0)
+        row="$row $count $(($(instructions "$shape" "$count" 1) - making))"
+    done
+    set -- $row
+    growth=$(growth_of "$2" "$6")
+    if is_steep "$growth"; then worst=1; fi
+}
+
 # the exponent of growth where four times the size costs so much more: COST COST
 growth_of() {
     awk -v a="$1" -v b="$2" 'BEGIN { printf "%.2f", log(b / a) / log(4) }'

@@ -15,15 +15,9 @@ program=${1:-$(built bench_scope)}
 worst=0
 # a line: SHAPE COUNT COUNT COUNT, where the last count is four times the first
 measure() {
-    local shape=$1 row= count making growth
-    shift
-    for count in "$@"; do
-        making=$(instructions "$shape" "$count" 0)
-        row="$row $count $(($(instructions "$shape" "$count" 1) - making))"
-    done
+    local shape=$1 row growth
+    measure_growth "$@"
     set -- $row
-    growth=$(growth_of "$2" "$6")
-    if is_steep "$growth"; then worst=1; fi
     printf '%-8s %7s %9s %7s %9s %7s %9s %7s\n' "$shape" "$1" "$(($2 / 1000))" "$3" "$(($4 / 1000))" \
         "$5" "$(($6 / 1000))" "$growth"
 }

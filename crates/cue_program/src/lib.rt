@@ -11,7 +11,6 @@ mod site;
 mod stop;
 
 pub use cue_replica::{Kind, Memory, Refusal, Replica};
-pub use input::read_all;
 pub use parts::first_part;
 pub use reply::{Question, Reply, Status, tell, told};
 pub use run::{merge_into, reply_for};

@@ -139,6 +139,7 @@ impl Replica {
         cue_print::print(alloc, &self.table)
     }
 
+    /// Another site with the same table.
     pub fn copy(&self, alloc: Global) -> Result<Replica, Memory>
         ensures { IfOk result (λ copied. copied ≡ self.now) }
     {

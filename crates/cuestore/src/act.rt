@@ -18,10 +18,10 @@ use std::rt::Files;
 /// with the byte FE (hexadecimal) are states and all others texts; or, where it names none, what
 /// `input` has: one state, or texts, which are split at lines that are exactly `---`. `export`
 /// writes to `out` the JSON and a line break, or the conflict lines, or the incomplete lines;
-/// `print` the canonical text; `report` the conflict lines and then the incomplete lines; `state` the state bytes. `merge`
-/// writes the state bytes to the file that it names first. The first refused input ends the run
-/// with the line `refused NUMBER NAME at PLACE in K`, which goes to `out` too. `usage fault` and
-/// `device fault` go to `faults`.
+/// `print` the canonical text; `report` the conflict lines and then the incomplete lines; `state`
+/// the state bytes. `merge` writes the state bytes to the file that it names first. The first
+/// refused input ends the run with the line `refused NUMBER NAME at PLACE in K`, which goes to
+/// `out` too. `usage fault` and `device fault` go to `faults`.
 pub fn act<H: AllocGlobal + Files, R: Read, W: Write, F: Write>(
     rt: &H,
     words: &[String],
