@@ -10,5 +10,6 @@ mod pieces;
 mod text_set;
 mod texts;
 
+pub use cue_lattice::{Memory, Narrow, Narrowed, Text};
 pub use int_set::IntSet;
 pub use text_set::TextSet;
