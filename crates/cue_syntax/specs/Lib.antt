@@ -12,4 +12,5 @@ pub mod Spots
 pub mod Backwards
 pub mod Forms
 pub mod Refusals
+pub mod Parsed
 pub mod WellFormed

@@ -2,6 +2,7 @@ ghost use Rattle.std.specs.Prelude.{◌≡◌, ◌+◌, ◌≤◌, ◌<◌, ◌�
 ghost use Rattle.std.specs.Prelude.{length, MatchOption, IsTrue, false, codes};
 ghost use Rattle.cue_syntax.specs.Spelling.{Reads, one, one_at, comma_if, IsPlace};
 ghost use Rattle.cue_syntax.specs.Operands.{IsOperandAt};
+ghost use Rattle.cue_syntax.specs.Parsed.{IsFurther};
 ghost use Rattle.cue_lattice.specs.Refusal.{refusal_at};
 ghost use Rattle.cue_syntax.specs.Stops.{at_hand};
 ghost use Rattle.cue_syntax.specs.Viability.{place_of, Stands, StandsSign, BeginsExpression};
@@ -70,11 +71,9 @@ impl<'a> Cursor<'a> {
 
     /// After this token, where it stands at hand.
     pub fn skip(self, wanted: Punctuation) -> Option<Cursor<'a>>
-        ensures shorter { IfSome result (λ after.
-            length after.rest.now < length self.entry.rest.now) }
+        ensures further { IfSome result (λ after. IsFurther self.entry after) }
         ensures reads { IfSome result (λ after.
             Reads self.entry.rest.now (one (TokenKind.Mark wanted)) after.rest.now) }
-        ensures end { IfSome result (λ after. after.end ≡ self.entry.end) }
         ensures missing { IfNone result (¬ StandsSign (TokenKind.Mark wanted) self.entry.rest.now) }
     {
         let (token, after) = self.next()?;
@@ -87,11 +86,9 @@ impl<'a> Cursor<'a> {
 
     /// After this token, which has to stand at hand.
     pub fn expect(self, wanted: Punctuation) -> Result<Cursor<'a>, Stop>
-        ensures shorter { IfOk result (λ after.
-            length after.rest.now < length self.entry.rest.now) }
+        ensures further { IfOk result (λ after. IsFurther self.entry after) }
         ensures reads { IfOk result (λ after.
             Reads self.entry.rest.now (one (TokenKind.Mark wanted)) after.rest.now) }
-        ensures end { IfOk result (λ after. after.end ≡ self.entry.end) }
         ensures refused { IfErr result (λ r.
             r ≡ at_hand Why.Syntax self.entry.end self.entry.rest.now) }
         ensures missing { IfErr result (λ r.
@@ -199,10 +196,9 @@ impl<'a> Cursor<'a> {
     /// Where the `close` at hand begins, and the cursor after it.
     pub fn expect_close(self) -> Parsed<'a, usize>
         requires { StandsSign (TokenKind.Name (codes "close")) self.rest.now }
-        ensures shorter { IfOk result (λ r. length r.1.rest.now < length self.entry.rest.now) }
+        ensures further { IfOk result (λ r. IsFurther self.entry r.1) }
         ensures reads { IfOk result (λ r.
             Reads self.entry.rest.now (one_at r.0 (TokenKind.Name (codes "close"))) r.1.rest.now) }
-        ensures end { IfOk result (λ r. r.1.end ≡ self.entry.end) }
         ensures taken { IfErr result (λ r. ⊥) }
     {
         let Some((token, after)) = self.next() else {

@@ -1,12 +1,13 @@
-ghost use Rattle.std.specs.Prelude.{◌≡◌, ◌+◌, ◌≤◌, ◌<◌, ◌⊎◌, ◌↔◌, ◌∷◌, [], IfOk, IfErr, IsTrue};
+ghost use Rattle.std.specs.Prelude.{◌≡◌, ◌+◌, ◌≤◌, ◌⊎◌, ◌↔◌, ◌∷◌, [], IfOk, IfErr, IsTrue};
 ghost use Rattle.std.specs.Prelude.{Bool, false, true, length};
 ghost use Rattle.cue_syntax.specs.Syntax.{expression, branch_tree, entry_tree, elements, entries};
-ghost use Rattle.cue_syntax.specs.Grammar.{IsUnary, IsConjunct, IsNested, AreNested, IsExpression};
+ghost use Rattle.cue_syntax.specs.Grammar.{IsUnary, IsConjunct, IsNested, AreNested};
 ghost use Rattle.cue_syntax.specs.Grammar.{IsTermOf, IsEntry, AreElements, AreEntries, AreBraced};
 ghost use Rattle.cue_syntax.specs.Viability.{StandsSign, IsCallOfClose, BeginsLabel};
 ghost use Rattle.cue_syntax.specs.Viability.{BeginsDefinition, EndsHere};
 ghost use Rattle.cue_syntax.specs.Recogniser as goals;
-ghost use Rattle.cue_syntax.specs.Recogniser.{Moves, Refused, row_goal, levels_of};
+ghost use Rattle.cue_syntax.specs.Recogniser.{row_goal, levels_of};
+ghost use Rattle.cue_syntax.specs.Parsed.{IsFurther, ReadsExpression, MovesBetween, Refuses};
 ghost use Rattle.std.specs.Prelude.{MatchResult};
 ghost use Rattle.cue_syntax.specs.Operands.{BeginsEntry};
 ghost use Rattle.cue_syntax.specs.Stops.{memory};
@@ -30,14 +31,11 @@ pub struct Row<T> {
 /// An expression: a conjunction, or two or more terms joined by `|`.
 #[cycle(parser)]
 pub fn expression<'a>(alloc: Global, cursor: Cursor<'a>, room: usize) -> Parsed<'a, Expr<'a>>
-    ensures shorter { IfOk result (λ r. length r.1.rest.now < length cursor.entry.rest.now) }
-    ensures spelled { IfOk result (λ r. IsExpression room cursor.entry.rest.now (expression r.0)
-        r.1.rest.now) }
-    ensures end { IfOk result (λ r. r.1.end ≡ cursor.entry.end) }
-    ensures moves { IfOk result (λ r. Moves room (goals.expression ∷ []) cursor.entry.rest.now []
-        r.1.rest.now) }
-    ensures refused { IfErr result (λ r. Refused room cursor.entry.end (goals.expression ∷ [])
-        cursor.entry.rest.now r) }
+    ensures spelled { IfOk result (ReadsExpression room cursor.entry) }
+    ensures further { IfOk result (λ r. IsFurther cursor.entry r.1) }
+    ensures moves { IfOk result (λ r.
+        MovesBetween room (goals.expression ∷ []) [] cursor.entry r.1) }
+    ensures refused { IfErr result (Refuses room (goals.expression ∷ []) cursor.entry) }
 {
     let (first, rest) = term(alloc, cursor, room)?;
     let Some(mut after) = rest.skip(Punctuation::Bar) else {
@@ -61,14 +59,11 @@ pub fn expression<'a>(alloc: Global, cursor: Cursor<'a>, room: usize) -> Parsed<
 /// A term of a disjunction.
 #[cycle(parser)]
 fn term<'a>(alloc: Global, cursor: Cursor<'a>, room: usize) -> Parsed<'a, Term<'a>>
-    ensures shorter { IfOk result (λ r. length r.1.rest.now < length cursor.entry.rest.now) }
+    ensures further { IfOk result (λ r. IsFurther cursor.entry r.1) }
     ensures spelled { IfOk result (λ r. IsTermOf room cursor.entry.rest.now (branch_tree r.0)
         r.1.rest.now) }
-    ensures end { IfOk result (λ r. r.1.end ≡ cursor.entry.end) }
-    ensures moves { IfOk result (λ r. Moves room (goals.term ∷ []) cursor.entry.rest.now []
-        r.1.rest.now) }
-    ensures refused { IfErr result (λ r. Refused room cursor.entry.end (goals.term ∷ [])
-        cursor.entry.rest.now r) }
+    ensures moves { IfOk result (λ r. MovesBetween room (goals.term ∷ []) [] cursor.entry r.1) }
+    ensures refused { IfErr result (Refuses room (goals.term ∷ []) cursor.entry) }
     ensures marked { IfOk result (λ r. IsTrue r.0.marked
         ↔ StandsSign (TokenKind.Mark Punctuation.Star) cursor.entry.rest.now) }
 {
@@ -103,15 +98,13 @@ fn term<'a>(alloc: Global, cursor: Cursor<'a>, room: usize) -> Parsed<'a, Term<'
 /// One part, or two or more parts joined by `&`.
 #[cycle(parser)]
 fn conjunction<'a>(alloc: Global, cursor: Cursor<'a>, room: usize) -> Parsed<'a, Expr<'a>>
-    ensures shorter { IfOk result (λ r. length r.1.rest.now < length cursor.entry.rest.now) }
-    ensures spelled { IfOk result (λ r. IsExpression room cursor.entry.rest.now (expression r.0)
-        r.1.rest.now) }
+    ensures spelled { IfOk result (ReadsExpression room cursor.entry) }
+    ensures further { IfOk result (λ r. IsFurther cursor.entry r.1) }
+    ensures moves { IfOk result (λ r.
+        MovesBetween room (goals.unary ∷ goals.more_parts ∷ []) [] cursor.entry r.1) }
     ensures conjunct { IfOk result (λ r. IsConjunct (expression r.0)) }
-    ensures end { IfOk result (λ r. r.1.end ≡ cursor.entry.end) }
-    ensures moves { IfOk result (λ r. Moves room (goals.unary ∷ goals.more_parts ∷ [])
-        cursor.entry.rest.now [] r.1.rest.now) }
-    ensures refused { IfErr result (λ r. Refused room cursor.entry.end
-        (goals.unary ∷ goals.more_parts ∷ []) cursor.entry.rest.now r) }
+    ensures refused { IfErr result (Refuses room (goals.unary ∷ goals.more_parts ∷ [])
+        cursor.entry) }
 {
     let (first, rest) = unary(alloc, cursor, room)?;
     let Some(mut after) = rest.skip(Punctuation::Ampersand) else {
@@ -132,15 +125,11 @@ fn conjunction<'a>(alloc: Global, cursor: Cursor<'a>, room: usize) -> Parsed<'a,
 /// An operand or a bound.
 #[cycle(parser)]
 fn unary<'a>(alloc: Global, cursor: Cursor<'a>, room: usize) -> Parsed<'a, Expr<'a>>
-    ensures shorter { IfOk result (λ r. length r.1.rest.now < length cursor.entry.rest.now) }
-    ensures spelled { IfOk result (λ r. IsExpression room cursor.entry.rest.now (expression r.0)
-        r.1.rest.now) }
+    ensures spelled { IfOk result (ReadsExpression room cursor.entry) }
+    ensures further { IfOk result (λ r. IsFurther cursor.entry r.1) }
+    ensures moves { IfOk result (λ r. MovesBetween room (goals.unary ∷ []) [] cursor.entry r.1) }
     ensures unary { IfOk result (λ r. IsUnary (expression r.0)) }
-    ensures end { IfOk result (λ r. r.1.end ≡ cursor.entry.end) }
-    ensures moves { IfOk result (λ r. Moves room (goals.unary ∷ []) cursor.entry.rest.now []
-        r.1.rest.now) }
-    ensures refused { IfErr result (λ r. Refused room cursor.entry.end (goals.unary ∷ [])
-        cursor.entry.rest.now r) }
+    ensures refused { IfErr result (Refuses room (goals.unary ∷ []) cursor.entry) }
 {
     match cursor.operand() {
         Operand::Parenthesis => parenthesis(alloc, cursor, room),
@@ -155,15 +144,11 @@ fn unary<'a>(alloc: Global, cursor: Cursor<'a>, room: usize) -> Parsed<'a, Expr<
 #[cycle(parser)]
 fn parenthesis<'a>(alloc: Global, cursor: Cursor<'a>, room: usize) -> Parsed<'a, Expr<'a>>
     requires { StandsSign (TokenKind.Mark Punctuation.OpenParenthesis) cursor.rest.now }
-    ensures shorter { IfOk result (λ r. length r.1.rest.now < length cursor.entry.rest.now) }
-    ensures spelled { IfOk result (λ r. IsExpression room cursor.entry.rest.now (expression r.0)
-        r.1.rest.now) }
+    ensures spelled { IfOk result (ReadsExpression room cursor.entry) }
+    ensures further { IfOk result (λ r. IsFurther cursor.entry r.1) }
+    ensures moves { IfOk result (λ r. MovesBetween room (goals.unary ∷ []) [] cursor.entry r.1) }
     ensures unary { IfOk result (λ r. IsUnary (expression r.0)) }
-    ensures end { IfOk result (λ r. r.1.end ≡ cursor.entry.end) }
-    ensures moves { IfOk result (λ r. Moves room (goals.unary ∷ []) cursor.entry.rest.now []
-        r.1.rest.now) }
-    ensures refused { IfErr result (λ r. Refused room cursor.entry.end (goals.unary ∷ [])
-        cursor.entry.rest.now r) }
+    ensures refused { IfErr result (Refuses room (goals.unary ∷ []) cursor.entry) }
 {
     let inside = cursor.open_level(room)?;
     let open = cursor.expect(Punctuation::OpenParenthesis)?;
@@ -178,15 +163,11 @@ fn parenthesis<'a>(alloc: Global, cursor: Cursor<'a>, room: usize) -> Parsed<'a,
 #[cycle(parser)]
 fn structure<'a>(alloc: Global, cursor: Cursor<'a>, room: usize) -> Parsed<'a, Expr<'a>>
     requires { StandsSign (TokenKind.Mark Punctuation.OpenBrace) cursor.rest.now }
-    ensures shorter { IfOk result (λ r. length r.1.rest.now < length cursor.entry.rest.now) }
-    ensures spelled { IfOk result (λ r. IsExpression room cursor.entry.rest.now (expression r.0)
-        r.1.rest.now) }
+    ensures spelled { IfOk result (ReadsExpression room cursor.entry) }
+    ensures further { IfOk result (λ r. IsFurther cursor.entry r.1) }
+    ensures moves { IfOk result (λ r. MovesBetween room (goals.unary ∷ []) [] cursor.entry r.1) }
     ensures unary { IfOk result (λ r. IsUnary (expression r.0)) }
-    ensures end { IfOk result (λ r. r.1.end ≡ cursor.entry.end) }
-    ensures moves { IfOk result (λ r. Moves room (goals.unary ∷ []) cursor.entry.rest.now []
-        r.1.rest.now) }
-    ensures refused { IfErr result (λ r. Refused room cursor.entry.end (goals.unary ∷ [])
-        cursor.entry.rest.now r) }
+    ensures refused { IfErr result (Refuses room (goals.unary ∷ []) cursor.entry) }
 {
     let inside = cursor.open_level(room)?;
     let open = cursor.expect(Punctuation::OpenBrace)?;
@@ -204,15 +185,11 @@ fn structure<'a>(alloc: Global, cursor: Cursor<'a>, room: usize) -> Parsed<'a, E
 #[cycle(parser)]
 fn close<'a>(alloc: Global, cursor: Cursor<'a>, room: usize) -> Parsed<'a, Expr<'a>>
     requires { IsCallOfClose cursor.rest.now }
-    ensures shorter { IfOk result (λ r. length r.1.rest.now < length cursor.entry.rest.now) }
-    ensures spelled { IfOk result (λ r. IsExpression room cursor.entry.rest.now (expression r.0)
-        r.1.rest.now) }
+    ensures spelled { IfOk result (ReadsExpression room cursor.entry) }
+    ensures further { IfOk result (λ r. IsFurther cursor.entry r.1) }
+    ensures moves { IfOk result (λ r. MovesBetween room (goals.unary ∷ []) [] cursor.entry r.1) }
     ensures unary { IfOk result (λ r. IsUnary (expression r.0)) }
-    ensures end { IfOk result (λ r. r.1.end ≡ cursor.entry.end) }
-    ensures moves { IfOk result (λ r. Moves room (goals.unary ∷ []) cursor.entry.rest.now []
-        r.1.rest.now) }
-    ensures refused { IfErr result (λ r. Refused room cursor.entry.end (goals.unary ∷ [])
-        cursor.entry.rest.now r) }
+    ensures refused { IfErr result (Refuses room (goals.unary ∷ []) cursor.entry) }
 {
     let (from, after) = cursor.expect_close()?;
     let inside = after.open_level(room)?;
@@ -237,15 +214,11 @@ fn close<'a>(alloc: Global, cursor: Cursor<'a>, room: usize) -> Parsed<'a, Expr<
 #[cycle(parser)]
 fn list<'a>(alloc: Global, cursor: Cursor<'a>, room: usize) -> Parsed<'a, Expr<'a>>
     requires { StandsSign (TokenKind.Mark Punctuation.OpenBracket) cursor.rest.now }
-    ensures shorter { IfOk result (λ r. length r.1.rest.now < length cursor.entry.rest.now) }
-    ensures spelled { IfOk result (λ r. IsExpression room cursor.entry.rest.now (expression r.0)
-        r.1.rest.now) }
+    ensures spelled { IfOk result (ReadsExpression room cursor.entry) }
+    ensures further { IfOk result (λ r. IsFurther cursor.entry r.1) }
+    ensures moves { IfOk result (λ r. MovesBetween room (goals.unary ∷ []) [] cursor.entry r.1) }
     ensures unary { IfOk result (λ r. IsUnary (expression r.0)) }
-    ensures end { IfOk result (λ r. r.1.end ≡ cursor.entry.end) }
-    ensures moves { IfOk result (λ r. Moves room (goals.unary ∷ []) cursor.entry.rest.now []
-        r.1.rest.now) }
-    ensures refused { IfErr result (λ r. Refused room cursor.entry.end (goals.unary ∷ [])
-        cursor.entry.rest.now r) }
+    ensures refused { IfErr result (Refuses room (goals.unary ∷ []) cursor.entry) }
 {
     let inside = cursor.open_level(room)?;
     let open = cursor.expect(Punctuation::OpenBracket)?;
@@ -282,15 +255,15 @@ fn elements<'a>(alloc: Global, cursor: Cursor<'a>, room: usize) -> Parsed<'a, Ro
     ensures spelled { IfOk result (λ r.
         AreElements room cursor.entry.rest.now (elements r.0.items.items) r.0.comma r.1.rest.now) }
     ensures end { IfOk result (λ r. r.1.end ≡ cursor.entry.end) }
-    ensures moves { IfOk result (λ r. Moves (1 + room) (goals.elements ∷ []) cursor.entry.rest.now
-        (row_goal goals.elements goals.more_elements r.0.comma r.0.items.items ∷ []) r.1.rest.now) }
+    ensures moves { IfOk result (λ r. MovesBetween (1 + room) (goals.elements ∷ [])
+        (row_goal goals.elements goals.more_elements r.0.comma r.0.items.items ∷ [])
+        cursor.entry r.1) }
     ensures last { IfOk result (λ r. r.0.comma ≡ false
         → ¬ StandsSign (TokenKind.Mark Punctuation.Comma) r.1.rest.now) }
     ensures open { IfOk result (λ r. (r.0.comma ≡ true) ⊎ (r.0.items.items ≡ []) →
         StandsSign (TokenKind.Mark Punctuation.CloseBracket) r.1.rest.now
         ⊎ StandsSign (TokenKind.Mark Punctuation.Ellipsis) r.1.rest.now) }
-    ensures refused { IfErr result (λ r. Refused (1 + room) cursor.entry.end (goals.elements ∷ [])
-        cursor.entry.rest.now r) }
+    ensures refused { IfErr result (Refuses (1 + room) (goals.elements ∷ []) cursor.entry) }
 {
     let mut items = Vec::new(alloc);
     let mut comma = false;
@@ -316,9 +289,8 @@ fn braces<'a>(alloc: Global, cursor: Cursor<'a>, room: usize) -> Parsed<'a, Row<
         AreBraced room cursor.entry.rest.now (entries r.0.items.items) r.0.comma r.1.rest.now) }
     ensures end { IfOk result (λ r. r.1.end ≡ cursor.entry.end) }
     ensures moves { IfOk result (λ r.
-        Moves (1 + room) (goals.entries false ∷ []) cursor.entry.rest.now [] r.1.rest.now) }
-    ensures refused { IfErr result (λ r. Refused (1 + room) cursor.entry.end (goals.entries false ∷
-        []) cursor.entry.rest.now r) }
+        MovesBetween (1 + room) (goals.entries false ∷ []) [] cursor.entry r.1) }
+    ensures refused { IfErr result (Refuses (1 + room) (goals.entries false ∷ []) cursor.entry) }
 {
     let (row, last) = declarations(alloc, cursor, false, room)?;
     let rest = last.expect(Punctuation::CloseBrace)?;
@@ -338,16 +310,16 @@ pub fn declarations<'a>(
         AreEntries room cursor.entry.rest.now (entries r.0.items.items) r.0.comma r.1.rest.now) }
     ensures nested { IfOk result (λ r. top ≡ false → AreNested (entries r.0.items.items)) }
     ensures end { IfOk result (λ r. r.1.end ≡ cursor.entry.end) }
-    ensures moves { IfOk result (λ r. Moves (levels_of (goals.entries top) + room) (goals.entries
-        top ∷ []) cursor.entry.rest.now
+    ensures moves { IfOk result (λ r. MovesBetween (levels_of (goals.entries top) + room)
+        (goals.entries top ∷ [])
         (row_goal (goals.entries top) (goals.more_entries top) r.0.comma r.0.items.items ∷ [])
-        r.1.rest.now) }
+        cursor.entry r.1) }
     ensures last { IfOk result (λ r. r.0.comma ≡ false
         → ¬ StandsSign (TokenKind.Mark Punctuation.Comma) r.1.rest.now) }
     ensures open { IfOk result (λ r. (r.0.comma ≡ true) ⊎ (r.0.items.items ≡ [])
         → EndsHere top r.1.rest.now) }
-    ensures refused { IfErr result (λ r. Refused (levels_of (goals.entries top) + room)
-        cursor.entry.end (goals.entries top ∷ []) cursor.entry.rest.now r) }
+    ensures refused { IfErr result (Refuses (levels_of (goals.entries top) + room)
+        (goals.entries top ∷ []) cursor.entry) }
     ensures begins { IfErr result (λ r. r ≡ memory → BeginsEntry cursor.entry.rest.now) }
 {
     let mut items = Vec::new(alloc);
@@ -383,15 +355,14 @@ fn declaration<'a>(
     room: usize,
 ) -> Parsed<'a, Declaration<'a>>
     requires { ¬ EndsHere top cursor.rest.now }
-    ensures shorter { IfOk result (λ r. length r.1.rest.now < length cursor.entry.rest.now) }
+    ensures further { IfOk result (λ r. IsFurther cursor.entry r.1) }
     ensures spelled { IfOk result (λ r. IsEntry room cursor.entry.rest.now (entry_tree r.0)
         r.1.rest.now) }
     ensures nested { IfOk result (λ r. top ≡ false → IsNested (entry_tree r.0)) }
-    ensures end { IfOk result (λ r. r.1.end ≡ cursor.entry.end) }
-    ensures moves { IfOk result (λ r. Moves (levels_of (goals.entries top) + room) (goals.entries
-        top ∷ []) cursor.entry.rest.now (goals.more_entries top ∷ []) r.1.rest.now) }
-    ensures refused { IfErr result (λ r. Refused (levels_of (goals.entries top) + room)
-        cursor.entry.end (goals.entries top ∷ []) cursor.entry.rest.now r) }
+    ensures moves { IfOk result (λ r. MovesBetween (levels_of (goals.entries top) + room)
+        (goals.entries top ∷ []) (goals.more_entries top ∷ []) cursor.entry r.1) }
+    ensures refused { IfErr result (Refuses (levels_of (goals.entries top) + room)
+        (goals.entries top ∷ []) cursor.entry) }
     ensures begins { MatchResult result (λ r. BeginsEntry cursor.entry.rest.now)
         (λ r. r ≡ memory → BeginsEntry cursor.entry.rest.now) }
 {
@@ -427,17 +398,15 @@ fn begins_definition(cursor: Cursor, top: bool) -> bool
 #[cycle(parser)]
 fn field<'a>(alloc: Global, cursor: Cursor<'a>, room: usize) -> Parsed<'a, Declaration<'a>>
     requires { BeginsLabel cursor.rest.now }
-    ensures shorter { IfOk result (λ r. length r.1.rest.now < length cursor.entry.rest.now) }
+    ensures further { IfOk result (λ r. IsFurther cursor.entry r.1) }
     ensures spelled { IfOk result (λ r. IsEntry room cursor.entry.rest.now (entry_tree r.0)
         r.1.rest.now) }
     ensures nested { IfOk result (λ r. IsNested (entry_tree r.0)) }
-    ensures end { IfOk result (λ r. r.1.end ≡ cursor.entry.end) }
     ensures moves { IfOk result (λ r. (top : Bool) →
-        Moves (levels_of (goals.entries top) + room) (goals.entries top ∷ []) cursor.entry.rest.now
-        (goals.more_entries top ∷ []) r.1.rest.now) }
+        MovesBetween (levels_of (goals.entries top) + room) (goals.entries top ∷ [])
+        (goals.more_entries top ∷ []) cursor.entry r.1) }
     ensures refused { IfErr result (λ r. (top : Bool) →
-        Refused (levels_of (goals.entries top) + room) cursor.entry.end (goals.entries top ∷ [])
-        cursor.entry.rest.now r) }
+        Refuses (levels_of (goals.entries top) + room) (goals.entries top ∷ []) cursor.entry r) }
 {
     let (label, after) = label(cursor)?;
     let chain = labels(alloc, after, room)?;
@@ -456,14 +425,12 @@ fn field<'a>(alloc: Global, cursor: Cursor<'a>, room: usize) -> Parsed<'a, Decla
 #[cycle(parser)]
 fn definition<'a>(alloc: Global, cursor: Cursor<'a>, room: usize) -> Parsed<'a, Declaration<'a>>
     requires { BeginsDefinition cursor.rest.now }
-    ensures shorter { IfOk result (λ r. length r.1.rest.now < length cursor.entry.rest.now) }
+    ensures further { IfOk result (λ r. IsFurther cursor.entry r.1) }
     ensures spelled { IfOk result (λ r. IsEntry room cursor.entry.rest.now (entry_tree r.0)
         r.1.rest.now) }
-    ensures end { IfOk result (λ r. r.1.end ≡ cursor.entry.end) }
-    ensures moves { IfOk result (λ r. Moves room (goals.entries true ∷ []) cursor.entry.rest.now
-        (goals.more_entries true ∷ []) r.1.rest.now) }
-    ensures refused { IfErr result (λ r. Refused room cursor.entry.end (goals.entries true ∷ [])
-        cursor.entry.rest.now r) }
+    ensures moves { IfOk result (λ r. MovesBetween room (goals.entries true ∷ [])
+        (goals.more_entries true ∷ []) cursor.entry r.1) }
+    ensures refused { IfErr result (Refuses room (goals.entries true ∷ []) cursor.entry) }
 {
     let Some((token, after)) = cursor.next() else {
         return Err(cursor.syntax());

@@ -11,7 +11,8 @@ ghost use Rattle.cue_syntax.specs.Refusals.{Fits};
 ghost use Rattle.cue_syntax.specs.Viability.{Stands, IsMark};
 ghost use Rattle.cue_syntax.specs.Operands.{BeginsText};
 ghost use Rattle.cue_syntax.specs.Stops as stops;
-ghost use Rattle.cue_syntax.specs.Recogniser.{Moves, Refused, text, package_word, package_end};
+ghost use Rattle.cue_syntax.specs.Recogniser.{text, package_word, package_end};
+ghost use Rattle.cue_syntax.specs.Parsed.{MovesBetween, Refuses, RefusesAlways};
 ghost use Rattle.cue_syntax.specs.Recogniser.{entries};
 
 use crate::cursor::{Cursor, Parsed};
@@ -48,8 +49,7 @@ pub fn parse<'t>(alloc: Global, tokens: &'t [Token<'t>], end: usize) -> Result<F
 fn file(alloc: Global, cursor: Cursor) -> Result<File, Stop>
     ensures spelled { IfOk result (λ file. IsFile (at_most level_limit) cursor.entry.rest.now
         (file_tree file)) }
-    ensures refused { IfErr result (λ r. Refused level_limit cursor.entry.end (text ∷ [])
-        cursor.entry.rest.now r) }
+    ensures refused { IfErr result (Refuses level_limit (text ∷ []) cursor.entry) }
     ensures begins { IfErr result (λ r. r ≡ stops.memory → BeginsText cursor.entry.rest.now) }
 {
     let (package, rest) = package(cursor)?;
@@ -90,10 +90,9 @@ fn package<'a>(cursor: Cursor<'a>) -> Parsed<'a, Option<Package<'a>>>
     ensures last { IfOk result (λ r. IfSome r.0 (λ clause. clause.comma ≡ false → r.1.rest.now
         ≡ [])) }
     ensures end { IfOk result (λ r. r.1.end ≡ cursor.entry.end) }
-    ensures moves { IfOk result (λ r. Moves 0 (text ∷ []) cursor.entry.rest.now (entries true ∷ [])
-        r.1.rest.now) }
-    ensures refused { IfErr result (λ r. (room : ℕ) → Refused room cursor.entry.end (text ∷ [])
-        cursor.entry.rest.now r) }
+    ensures moves { IfOk result (λ r.
+        MovesBetween 0 (text ∷ []) (entries true ∷ []) cursor.entry r.1) }
+    ensures refused { IfErr result (RefusesAlways (text ∷ []) cursor.entry) }
     ensures begins { MatchResult result
         (λ r. (r.1.rest.now ≡ cursor.entry.rest.now) ⊎ BeginsText cursor.entry.rest.now)
         (λ r. BeginsText cursor.entry.rest.now) }
@@ -122,10 +121,9 @@ fn package_name<'a>(cursor: Cursor<'a>) -> Parsed<'a, Identifier<'a>>
         r.1.rest.now) }
     ensures named { IfOk result (λ r. IsPackageName r.0) }
     ensures end { IfOk result (λ r. r.1.end ≡ cursor.entry.end) }
-    ensures moves { IfOk result (λ r. Moves 0 (package_word ∷ []) cursor.entry.rest.now (package_end
-        ∷ []) r.1.rest.now) }
-    ensures refused { IfErr result (λ r. (room : ℕ) → Refused room cursor.entry.end (package_word ∷
-        []) cursor.entry.rest.now r) }
+    ensures moves { IfOk result (λ r.
+        MovesBetween 0 (package_word ∷ []) (package_end ∷ []) cursor.entry r.1) }
+    ensures refused { IfErr result (RefusesAlways (package_word ∷ []) cursor.entry) }
 {
     let Some((token, after)) = cursor.next() else {
         return Err(cursor.syntax());

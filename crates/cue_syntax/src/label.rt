@@ -4,7 +4,8 @@ ghost use Rattle.cue_syntax.specs.Stops.{memory};
 ghost use Rattle.cue_syntax.specs.Spelling.{Reads, one, spell_label, spell_mark, label_kind};
 ghost use Rattle.cue_syntax.specs.Viability.{Stands, StandsSign, BeginsLabel, IsLabelName};
 ghost use Rattle.cue_syntax.specs.Viability.{RefusesLabel, MissesColon};
-ghost use Rattle.cue_syntax.specs.Recogniser.{Moves, Refused, value, chains};
+ghost use Rattle.cue_syntax.specs.Recogniser.{value, chains};
+ghost use Rattle.cue_syntax.specs.Parsed.{IsFurther, MovesBetween, Refuses};
 
 use crate::cursor::{Cursor, Parsed};
 use crate::memory::push;
@@ -68,10 +69,9 @@ pub fn refuse_label(cursor: Cursor, top: bool) -> Result<(), Stop>
 /// A label with its mark and its colon.
 pub fn label<'a>(cursor: Cursor<'a>) -> Parsed<'a, Label<'a>>
     requires { BeginsLabel cursor.rest.now }
-    ensures shorter { IfOk result (λ r. length r.1.rest.now < length cursor.entry.rest.now) }
+    ensures further { IfOk result (λ r. IsFurther cursor.entry r.1) }
     ensures spelled { IfOk result (λ r.
         Reads cursor.entry.rest.now (spell_label r.0) r.1.rest.now) }
-    ensures end { IfOk result (λ r. r.1.end ≡ cursor.entry.end) }
     ensures refused { IfErr result (λ r. (r ≡ memory)
         ⊎ MissesColon cursor.entry.end cursor.entry.rest.now r) }
 {
@@ -128,10 +128,8 @@ pub fn labels<'a>(alloc: Global, cursor: Cursor<'a>, room: usize) -> Result<Chai
     ensures end { IfOk result (λ c. c.after.end ≡ cursor.entry.end) }
     ensures whole { IfOk result (λ c. ¬ BeginsLabel c.after.rest.now) }
     ensures moves { IfOk result (λ c.
-        Moves room (value ∷ []) cursor.entry.rest.now (value ∷ chains c.labels.items)
-        c.after.rest.now) }
-    ensures refused { IfErr result (λ r.
-        Refused room cursor.entry.end (value ∷ []) cursor.entry.rest.now r) }
+        MovesBetween room (value ∷ []) (value ∷ chains c.labels.items) cursor.entry c.after) }
+    ensures refused { IfErr result (Refuses room (value ∷ []) cursor.entry) }
 {
     let mut labels = Vec::new(alloc);
     let mut left = room;

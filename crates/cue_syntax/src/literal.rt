@@ -4,12 +4,13 @@ ghost use Rattle.cue_syntax.specs.Syntax.{expression};
 ghost use Rattle.cue_syntax.specs.Spelling.{Reads, one, spell, spell_sign, spell_signed};
 ghost use Rattle.cue_syntax.specs.Spelling.{identifier_kind, comparison_kind};
 ghost use Rattle.cue_syntax.specs.Grammar as Grammar;
-ghost use Rattle.cue_syntax.specs.Grammar.{IsInRange, IsUnary, IsOperand, IsRight, IsLiteral};
+ghost use Rattle.cue_syntax.specs.Grammar.{IsInRange, IsUnary, IsOperand, IsRight};
 ghost use Rattle.cue_syntax.specs.Grammar.{IsClause, IsKeyword};
 ghost use Rattle.cue_syntax.specs.Viability.{Stands, StandsSign, Opens, IsCallOfClose};
 ghost use Rattle.cue_syntax.specs.Viability.{IsIdentifier, IsComparison, BeginsInteger};
 ghost use Rattle.cue_syntax.specs.Operands.{IsBeginning, IsSign};
-ghost use Rattle.cue_syntax.specs.Recogniser.{Refused, Moves, unary, signed, magnitude};
+ghost use Rattle.cue_syntax.specs.Recogniser.{unary, signed, magnitude};
+ghost use Rattle.cue_syntax.specs.Parsed.{IsFurther, ReadsLiteral, MovesBetween, RefusesAlways};
 
 use crate::cursor::{Cursor, Parsed};
 use crate::tree::{Comparison, Expr, Identifier, Sign, Signed};
@@ -19,13 +20,10 @@ use cue_lex::{Punctuation, TokenKind, Word};
 pub fn literal<'a>(cursor: Cursor<'a>) -> Parsed<'a, Expr<'a>>
     requires opens { ¬ Stands Opens cursor.rest.now }
     requires call { ¬ IsCallOfClose cursor.rest.now }
-    ensures shorter { IfOk result (λ r. length r.1.rest.now < length cursor.entry.rest.now) }
-    ensures spelled { IfOk result (λ r. IsLiteral cursor.entry.rest.now (expression r.0)
-        r.1.rest.now) }
-    ensures end { IfOk result (λ r. r.1.end ≡ cursor.entry.end) }
-    ensures moves { IfOk result (λ r. Moves 0 (unary ∷ []) cursor.entry.rest.now [] r.1.rest.now) }
-    ensures refused { IfErr result (λ r. (room : ℕ) → Refused room cursor.entry.end (unary ∷ [])
-        cursor.entry.rest.now r) }
+    ensures spelled { IfOk result (ReadsLiteral cursor.entry) }
+    ensures further { IfOk result (λ r. IsFurther cursor.entry r.1) }
+    ensures moves { IfOk result (λ r. MovesBetween 0 (unary ∷ []) [] cursor.entry r.1) }
+    ensures refused { IfErr result (RefusesAlways (unary ∷ []) cursor.entry) }
 {
     let Some((token, after)) = cursor.next() else {
         return Err(cursor.syntax());
@@ -81,13 +79,10 @@ fn literal_of(mark: Punctuation) -> Beginning
 /// An integer as an expression.
 fn integer<'a>(cursor: Cursor<'a>) -> Parsed<'a, Expr<'a>>
     requires { Stands BeginsInteger cursor.rest.now }
-    ensures shorter { IfOk result (λ r. length r.1.rest.now < length cursor.entry.rest.now) }
-    ensures spelled { IfOk result (λ r. IsLiteral cursor.entry.rest.now (expression r.0)
-        r.1.rest.now) }
-    ensures end { IfOk result (λ r. r.1.end ≡ cursor.entry.end) }
-    ensures moves { IfOk result (λ r. Moves 0 (unary ∷ []) cursor.entry.rest.now [] r.1.rest.now) }
-    ensures refused { IfErr result (λ r. (room : ℕ) → Refused room cursor.entry.end (unary ∷ [])
-        cursor.entry.rest.now r) }
+    ensures spelled { IfOk result (ReadsLiteral cursor.entry) }
+    ensures further { IfOk result (λ r. IsFurther cursor.entry r.1) }
+    ensures moves { IfOk result (λ r. MovesBetween 0 (unary ∷ []) [] cursor.entry r.1) }
+    ensures refused { IfErr result (RefusesAlways (unary ∷ []) cursor.entry) }
 {
     let (integer, after) = signed(cursor)?;
     Ok((Expr::Integer(integer), after))
@@ -97,14 +92,12 @@ fn integer<'a>(cursor: Cursor<'a>) -> Parsed<'a, Expr<'a>>
 fn identifier<'a>(cursor: Cursor<'a>) -> Parsed<'a, Identifier<'a>>
     requires is { Stands IsIdentifier cursor.rest.now }
     requires call { ¬ IsCallOfClose cursor.rest.now }
-    ensures shorter { IfOk result (λ r. length r.1.rest.now < length cursor.entry.rest.now) }
+    ensures further { IfOk result (λ r. IsFurther cursor.entry r.1) }
     ensures spelled { IfOk result (λ r. Reads cursor.entry.rest.now (one (identifier_kind r.0))
         r.1.rest.now) }
     ensures operand { IfOk result (λ r. IsOperand r.0) }
-    ensures end { IfOk result (λ r. r.1.end ≡ cursor.entry.end) }
-    ensures moves { IfOk result (λ r. Moves 0 (unary ∷ []) cursor.entry.rest.now [] r.1.rest.now) }
-    ensures refused { IfErr result (λ r. (room : ℕ) → Refused room cursor.entry.end (unary ∷ [])
-        cursor.entry.rest.now r) }
+    ensures moves { IfOk result (λ r. MovesBetween 0 (unary ∷ []) [] cursor.entry r.1) }
+    ensures refused { IfErr result (RefusesAlways (unary ∷ []) cursor.entry) }
 {
     let Some((token, after)) = cursor.next() else {
         return Err(cursor.syntax());
@@ -149,14 +142,12 @@ pub fn is_clause(name: &Word) -> bool
 
 /// An integer with its sign.
 fn signed<'a>(cursor: Cursor<'a>) -> Parsed<'a, Signed>
-    ensures shorter { IfOk result (λ r. length r.1.rest.now < length cursor.entry.rest.now) }
+    ensures further { IfOk result (λ r. IsFurther cursor.entry r.1) }
     ensures spelled { IfOk result (λ r.
         Reads cursor.entry.rest.now (spell_signed r.0) r.1.rest.now) }
     ensures range { IfOk result (λ r. IsInRange r.0) }
-    ensures end { IfOk result (λ r. r.1.end ≡ cursor.entry.end) }
-    ensures moves { IfOk result (λ r. Moves 0 (signed ∷ []) cursor.entry.rest.now [] r.1.rest.now) }
-    ensures refused { IfErr result (λ r. (room : ℕ) → Refused room cursor.entry.end (signed ∷ [])
-        cursor.entry.rest.now r) }
+    ensures moves { IfOk result (λ r. MovesBetween 0 (signed ∷ []) [] cursor.entry r.1) }
+    ensures refused { IfErr result (RefusesAlways (signed ∷ []) cursor.entry) }
 {
     let Some((token, after)) = cursor.next() else {
         return Err(cursor.syntax());
@@ -191,16 +182,13 @@ fn greatest(sign: Sign) -> u64
 
 /// The magnitude after a sign.
 fn magnitude<'a>(sign: Sign, cursor: Cursor<'a>) -> Parsed<'a, Signed>
-    ensures shorter { IfOk result (λ r. length r.1.rest.now < length cursor.entry.rest.now) }
+    ensures further { IfOk result (λ r. IsFurther cursor.entry r.1) }
     ensures spelled { IfOk result (λ r.
         Reads cursor.entry.rest.now (one (TokenKind.Integer r.0.magnitude)) r.1.rest.now) }
     ensures signed { IfOk result (λ r. r.0.sign ≡ sign) }
-    ensures end { IfOk result (λ r. r.1.end ≡ cursor.entry.end) }
     ensures range { IfOk result (λ r. IsInRange r.0) }
-    ensures moves { IfOk result (λ r. Moves 0 (magnitude sign ∷ []) cursor.entry.rest.now []
-        r.1.rest.now) }
-    ensures refused { IfErr result (λ r. (room : ℕ) → Refused room cursor.entry.end (magnitude sign
-        ∷ []) cursor.entry.rest.now r) }
+    ensures moves { IfOk result (λ r. MovesBetween 0 (magnitude sign ∷ []) [] cursor.entry r.1) }
+    ensures refused { IfErr result (RefusesAlways (magnitude sign ∷ []) cursor.entry) }
 {
     let Some((token, after)) = cursor.next() else {
         return Err(cursor.syntax());
@@ -225,13 +213,10 @@ fn magnitude<'a>(sign: Sign, cursor: Cursor<'a>) -> Parsed<'a, Signed>
 /// `<` and its like, and an integer.
 fn bound<'a>(cursor: Cursor<'a>) -> Parsed<'a, Expr<'a>>
     requires { Stands IsComparison cursor.rest.now }
-    ensures shorter { IfOk result (λ r. length r.1.rest.now < length cursor.entry.rest.now) }
-    ensures spelled { IfOk result (λ r. IsLiteral cursor.entry.rest.now (expression r.0)
-        r.1.rest.now) }
-    ensures end { IfOk result (λ r. r.1.end ≡ cursor.entry.end) }
-    ensures moves { IfOk result (λ r. Moves 0 (unary ∷ []) cursor.entry.rest.now [] r.1.rest.now) }
-    ensures refused { IfErr result (λ r. (room : ℕ) → Refused room cursor.entry.end (unary ∷ [])
-        cursor.entry.rest.now r) }
+    ensures spelled { IfOk result (ReadsLiteral cursor.entry) }
+    ensures further { IfOk result (λ r. IsFurther cursor.entry r.1) }
+    ensures moves { IfOk result (λ r. MovesBetween 0 (unary ∷ []) [] cursor.entry r.1) }
+    ensures refused { IfErr result (RefusesAlways (unary ∷ []) cursor.entry) }
 {
     let (comparison, after) = comparison(cursor)?;
     let (integer, rest) = signed(after)?;
@@ -240,10 +225,9 @@ fn bound<'a>(cursor: Cursor<'a>) -> Parsed<'a, Expr<'a>>
 
 fn comparison<'a>(cursor: Cursor<'a>) -> Parsed<'a, Comparison>
     requires { Stands IsComparison cursor.rest.now }
-    ensures shorter { IfOk result (λ r. length r.1.rest.now < length cursor.entry.rest.now) }
+    ensures further { IfOk result (λ r. IsFurther cursor.entry r.1) }
     ensures spelled { IfOk result (λ r. Reads cursor.entry.rest.now (one (comparison_kind r.0))
         r.1.rest.now) }
-    ensures end { IfOk result (λ r. r.1.end ≡ cursor.entry.end) }
     ensures taken { IfErr result (λ r. ⊥) }
 {
     let Some((token, after)) = cursor.next() else {
@@ -261,13 +245,10 @@ fn comparison<'a>(cursor: Cursor<'a>) -> Parsed<'a, Comparison>
 /// `!=`, and an integer or a string.
 fn other<'a>(cursor: Cursor<'a>) -> Parsed<'a, Expr<'a>>
     requires { StandsSign (TokenKind.Mark Punctuation.NotEqual) cursor.rest.now }
-    ensures shorter { IfOk result (λ r. length r.1.rest.now < length cursor.entry.rest.now) }
-    ensures spelled { IfOk result (λ r. IsLiteral cursor.entry.rest.now (expression r.0)
-        r.1.rest.now) }
-    ensures end { IfOk result (λ r. r.1.end ≡ cursor.entry.end) }
-    ensures moves { IfOk result (λ r. Moves 0 (unary ∷ []) cursor.entry.rest.now [] r.1.rest.now) }
-    ensures refused { IfErr result (λ r. (room : ℕ) → Refused room cursor.entry.end (unary ∷ [])
-        cursor.entry.rest.now r) }
+    ensures spelled { IfOk result (ReadsLiteral cursor.entry) }
+    ensures further { IfOk result (λ r. IsFurther cursor.entry r.1) }
+    ensures moves { IfOk result (λ r. MovesBetween 0 (unary ∷ []) [] cursor.entry r.1) }
+    ensures refused { IfErr result (RefusesAlways (unary ∷ []) cursor.entry) }
 {
     let after = cursor.expect(Punctuation::NotEqual)?;
     if let Some((token, rest)) = after.next() {

@@ -59,10 +59,10 @@ conjunction-parts-init t c =
     let pushed : c.push.new.values.items ≡ c.in_ok-first.first ∷ [] =
     c.in_ok-push.ensures.pushed ∙ ap (λ (z : List Expr). z ++ c.in_ok-first.first ∷ []) c.new-parts.ensures.items in
     record {
-      shorter = omega (arith, c.in_ok-first.ensures.shorter, c.in-Some.ensures.shorter);
+      shorter = omega (arith, c.in_ok-first.ensures.further.shorter, c.in-Some.ensures.further.shorter);
       parts = subst (λ z. AreParts c.args.room c.args.cursor.rest.now z c.in-Some.after.rest.now) (sym pushed)
           (parts_first c.in_ok-first.first c.in_ok-first.ensures.spelled c.in_ok-first.ensures.unary c.in-Some.ensures.reads);
-      end = c.in-Some.ensures.end ∙ c.in_ok-first.ensures.end;
+      end = c.in-Some.ensures.further.end ∙ c.in_ok-first.ensures.further.end;
       moves = moves_then (part_moves c.in_ok-first.ensures.moves) (parts_go c.in-Some.ensures.reads);
     }
 
@@ -70,11 +70,11 @@ pub conjunction-parts-preserved : goal.conjunction-parts-preserved
 conjunction-parts-preserved t c =
     let pushed : c.push-in-parts.new.values.items ≡ c.parts.parts.items ++ c.in_ok-next.next ∷ [] = search rules in
     record {
-      shorter = omega (arith, c.in_ok-next.ensures.shorter, c.in-Some-skip.ensures.shorter);
+      shorter = omega (arith, c.in_ok-next.ensures.further.shorter, c.in-Some-skip.ensures.further.shorter);
       parts = subst (λ z. AreParts c.args.room c.args.cursor.rest.now z c.in-Some-skip.behind.rest.now) (sym pushed)
           (parts_more (parts_next c.parts.parts.items c.in_ok-next.next c.parts.invariant.parts c.in_ok-next.ensures.spelled c.in_ok-next.ensures.unary)
           c.in-Some-skip.ensures.reads);
-      end = c.in-Some-skip.ensures.end ∙ c.in_ok-next.ensures.end ∙ c.parts.invariant.end;
+      end = c.in-Some-skip.ensures.further.end ∙ c.in_ok-next.ensures.further.end ∙ c.parts.invariant.end;
       moves = moves_then c.parts.invariant.moves (moves_then (part_moves c.in_ok-next.ensures.moves) (parts_go c.in-Some-skip.ensures.reads));
     }
 
@@ -92,10 +92,10 @@ expression-terms-init t c =
     let pushed : c.push.new.values.items ≡ c.in_ok-first.first ∷ [] =
     c.in_ok-push.ensures.pushed ∙ ap (λ (z : List Term). z ++ c.in_ok-first.first ∷ []) c.new-terms.ensures.items in
     record {
-      shorter = omega (arith, c.in_ok-first.ensures.shorter, c.in-Some.ensures.shorter);
+      shorter = omega (arith, c.in_ok-first.ensures.further.shorter, c.in-Some.ensures.further.shorter);
       terms = subst (λ z. AreTerms c.args.room c.args.cursor.rest.now z c.in-Some.after.rest.now) (sym pushed)
           (terms_first c.in_ok-first.first c.in_ok-first.ensures.spelled c.in-Some.ensures.reads);
-      end = c.in-Some.ensures.end ∙ c.in_ok-first.ensures.end;
+      end = c.in-Some.ensures.further.end ∙ c.in_ok-first.ensures.further.end;
       moves = moves_then (first_moves c.in_ok-first.first.marked c.in_ok-first.ensures.marked.0 c.in_ok-first.ensures.marked.1 c.in_ok-first.ensures.moves) (first_go c.in_ok-first.first.marked c.in-Some.ensures.reads);
     }
 
@@ -103,10 +103,10 @@ pub expression-terms-preserved : goal.expression-terms-preserved
 expression-terms-preserved t c =
     let pushed : c.push-in-terms.new.values.items ≡ c.terms.terms.items ++ c.in_ok-next.next ∷ [] = search rules in
     record {
-      shorter = omega (arith, c.in_ok-next.ensures.shorter, c.in-Some-skip.ensures.shorter);
+      shorter = omega (arith, c.in_ok-next.ensures.further.shorter, c.in-Some-skip.ensures.further.shorter);
       terms = subst (λ z. AreTerms c.args.room c.args.cursor.rest.now z c.in-Some-skip.behind.rest.now) (sym pushed)
           (terms_more (terms_next c.terms.terms.items c.in_ok-next.next c.terms.invariant.terms c.in_ok-next.ensures.spelled) c.in-Some-skip.ensures.reads);
-      end = c.in-Some-skip.ensures.end ∙ c.in_ok-next.ensures.end ∙ c.terms.invariant.end;
+      end = c.in-Some-skip.ensures.further.end ∙ c.in_ok-next.ensures.further.end ∙ c.terms.invariant.end;
       moves = moves_then c.terms.invariant.moves (moves_then (term_moves c.in_ok-next.ensures.moves) (terms_go c.in-Some-skip.ensures.reads));
     }
 
@@ -124,14 +124,14 @@ declarations-declarations-preserved t c =
     let l = c.declarations in
     let pushed : c.push.new.values.items ≡ l.items.items ++ c.in_ok-item.item ∷ [] = search rules in
     record {
-      shorter = omega (arith, c.in_ok-item.ensures.shorter, c.trailing_comma.ensures.shorter);
+      shorter = omega (arith, c.in_ok-item.ensures.further.shorter, c.trailing_comma.ensures.shorter);
       row = subst (λ z. AreEntries c.args.room c.args.cursor.rest.now (entries z) c.trailing_comma.result.0 c.trailing_comma.result.1.rest.now) (sym pushed)
           (entries_next l.items.items l.comma c.in_ok-item.item c.trailing_comma.result.0 l.invariant.row l.invariant.between c.in_ok-item.ensures.spelled c.trailing_comma.ensures.reads);
       between = subst (λ z. Between c.trailing_comma.result.0 z) (sym pushed)
           (between_pushed c.trailing_comma.result.0 l.items.items c.in_ok-item.item c.if-not-comma.false);
       nested = λ below. subst (λ z. AreNested (entries z)) (sym pushed)
           (nested_pushed l.items.items c.in_ok-item.item (l.invariant.nested below) (c.in_ok-item.ensures.nested below));
-      end = c.trailing_comma.ensures.end ∙ c.in_ok-item.ensures.end ∙ l.invariant.end;
+      end = c.trailing_comma.ensures.end ∙ c.in_ok-item.ensures.further.end ∙ l.invariant.end;
       begins = inr (begun l.rest.rest.now c.args.cursor.rest.now l.invariant.begins c.in_ok-item.ensures.begins);
       moves = moves_then l.invariant.moves (moves_then c.in_ok-item.ensures.moves (entry_next c.args.top c.trailing_comma.result.0 c.if-not-comma.false (omega arith) c.trailing_comma.ensures.reads));
     }
@@ -157,12 +157,12 @@ elements-elements-preserved t c =
     let l = c.elements in
     let pushed : c.push.new.values.items ≡ l.items.items ++ c.in_ok-element.element ∷ [] = search rules in
     record {
-      shorter = omega (arith, c.in_ok-element.ensures.shorter, c.trailing_comma.ensures.shorter);
+      shorter = omega (arith, c.in_ok-element.ensures.further.shorter, c.trailing_comma.ensures.shorter);
       row = subst (λ z. AreElements c.args.room c.args.cursor.rest.now (elements z) c.trailing_comma.result.0 c.trailing_comma.result.1.rest.now) (sym pushed)
           (elements_next l.items.items l.comma c.in_ok-element.element c.trailing_comma.result.0 l.invariant.row l.invariant.between c.in_ok-element.ensures.spelled c.trailing_comma.ensures.reads);
       between = subst (λ z. Between c.trailing_comma.result.0 z) (sym pushed)
           (between_pushed c.trailing_comma.result.0 l.items.items c.in_ok-element.element c.if-not-comma.false);
-      end = c.trailing_comma.ensures.end ∙ c.in_ok-element.ensures.end ∙ l.invariant.end;
+      end = c.trailing_comma.ensures.end ∙ c.in_ok-element.ensures.further.end ∙ l.invariant.end;
       moves =
           let close : ¬ StandsSign (kinds.Mark points.CloseBracket) l.rest.rest.now = search rules in
           let dots : ¬ StandsSign (kinds.Mark points.Ellipsis) l.rest.rest.now = search rules in
@@ -232,7 +232,7 @@ expression-returns-in_err-first-clause-refused t c =
 pub expression-returns-then-first-clause-refused : goal.expression-returns-then-first-clause-refused
 expression-returns-then-first-clause-refused t c =
     let lacks : ¬ StandsSign (kinds.Mark points.Bar) c.in_ok-first.rest.rest.now = search rules in
-    refused_behind (first_moves c.in_ok-first.first.marked c.in_ok-first.ensures.marked.0 c.in_ok-first.ensures.marked.1 c.in_ok-first.ensures.moves) (refused_end c.in_ok-first.ensures.end (stopped (stops_here c.syntax.ensures (first_halts c.in_ok-first.first.marked c.if-first.true lacks))))
+    refused_behind (first_moves c.in_ok-first.first.marked c.in_ok-first.ensures.marked.0 c.in_ok-first.ensures.marked.1 c.in_ok-first.ensures.moves) (refused_end c.in_ok-first.ensures.further.end (stopped (stops_here c.syntax.ensures (first_halts c.in_ok-first.first.marked c.if-first.true lacks))))
 
 pub expression-returns-in_default-clause-moves : goal.expression-returns-in_default-clause-moves
 expression-returns-in_default-clause-moves t c =
@@ -252,7 +252,7 @@ expression-returns-in-None-clause-moves t c =
 pub term-returns-in_err-value-in-Some-clause-refused : goal.term-returns-in_err-value-in-Some-clause-refused
 term-returns-in_err-value-in-Some-clause-refused t c =
     err_from (λ r. Refused (c.args.room) c.args.cursor.end (goals.term ∷ []) c.args.cursor.rest.now r) c.from_residual.result _ c.from_residual.ensures.1
-    (refused_behind (marked_moves c.in-Some.ensures.reads) (refused_end c.in-Some.ensures.end c.in_err-value-in-Some.ensures.refused))
+    (refused_behind (marked_moves c.in-Some.ensures.reads) (refused_end c.in-Some.ensures.further.end c.in_err-value-in-Some.ensures.refused))
 
 pub term-returns-in_err-value-in-None-clause-refused : goal.term-returns-in_err-value-in-None-clause-refused
 term-returns-in_err-value-in-None-clause-refused t c =
@@ -272,12 +272,12 @@ parenthesis-returns-in_err-inside-clause-refused t c =
 pub parenthesis-returns-in_err-inner-clause-refused : goal.parenthesis-returns-in_err-inner-clause-refused
 parenthesis-returns-in_err-inner-clause-refused t c =
     err_from (λ r. Refused (c.args.room) c.args.cursor.end (unary ∷ []) c.args.cursor.rest.now r) c.from_residual-in_err-inner.result _ c.from_residual-in_err-inner.ensures.1
-    (parenthesis_refused c.in_ok-inside.ensures.left c.in_ok-open.ensures.end c.in_ok-open.ensures.reads c.in_err-inner.ensures.refused)
+    (parenthesis_refused c.in_ok-inside.ensures.left c.in_ok-open.ensures.further.end c.in_ok-open.ensures.reads c.in_err-inner.ensures.refused)
 
 pub parenthesis-returns-in_err-rest-clause-refused : goal.parenthesis-returns-in_err-rest-clause-refused
 parenthesis-returns-in_err-rest-clause-refused t c =
     err_from (λ r. Refused (c.args.room) c.args.cursor.end (unary ∷ []) c.args.cursor.rest.now r) c.from_residual-in_err-rest.result _ c.from_residual-in_err-rest.ensures.1
-    (refused_behind (moves_then (parenthesis_opens c.in_ok-inside.ensures.left c.in_ok-open.ensures.reads c.in_ok-inner.ensures.moves) (inner_comma c.trailing_comma-comma.result.0 (omega (arith, c.in_ok-inside.ensures.left)) c.trailing_comma-comma.ensures.reads)) (refused_end (c.trailing_comma-comma.ensures.end ∙ c.in_ok-inner.ensures.end ∙ c.in_ok-open.ensures.end)
+    (refused_behind (moves_then (parenthesis_opens c.in_ok-inside.ensures.left c.in_ok-open.ensures.reads c.in_ok-inner.ensures.moves) (inner_comma c.trailing_comma-comma.result.0 (omega (arith, c.in_ok-inside.ensures.left)) c.trailing_comma-comma.ensures.reads)) (refused_end (c.trailing_comma-comma.ensures.end ∙ c.in_ok-inner.ensures.further.end ∙ c.in_ok-open.ensures.further.end)
     (stopped (stops_here c.in_err-rest.ensures.refused (inner_halts c.trailing_comma-comma.result.0 c.trailing_comma-comma.ensures.reads c.trailing_comma-comma.ensures.missing c.in_err-rest.ensures.missing)))))
 
 pub parenthesis-returns-clause-moves : goal.parenthesis-returns-clause-moves
@@ -292,7 +292,7 @@ structure-returns-in_err-inside-clause-refused t c =
 pub structure-returns-in_err-row-clause-refused : goal.structure-returns-in_err-row-clause-refused
 structure-returns-in_err-row-clause-refused t c =
     err_from (λ r. Refused (c.args.room) c.args.cursor.end (unary ∷ []) c.args.cursor.rest.now r) c.from_residual-in_err-row.result _ c.from_residual-in_err-row.ensures.1
-    (struct_refused c.in_ok-inside.inside c.in_ok-inside.ensures.left c.in_ok-open.ensures.end c.in_ok-open.ensures.reads c.in_err-row.ensures.refused)
+    (struct_refused c.in_ok-inside.inside c.in_ok-inside.ensures.left c.in_ok-open.ensures.further.end c.in_ok-open.ensures.reads c.in_err-row.ensures.refused)
 
 pub structure-returns-clause-moves : goal.structure-returns-clause-moves
 structure-returns-clause-moves t c =
@@ -301,27 +301,27 @@ structure-returns-clause-moves t c =
 pub close-returns-in_err-inside-clause-refused : goal.close-returns-in_err-inside-clause-refused
 close-returns-in_err-inside-clause-refused t c =
     err_from (λ r. Refused (c.args.room) c.args.cursor.end (unary ∷ []) c.args.cursor.rest.now r) c.from_residual-in_err-inside.result _ c.from_residual-in_err-inside.ensures.1
-    (call_no_room c.in_err-inside.ensures.none c.in_ok-from.ensures.end c.requires c.in_ok-from.ensures.reads c.in_err-inside.ensures.refused)
+    (call_no_room c.in_err-inside.ensures.none c.in_ok-from.ensures.further.end c.requires c.in_ok-from.ensures.reads c.in_err-inside.ensures.refused)
 
 pub close-returns-in_err-brace-clause-refused : goal.close-returns-in_err-brace-clause-refused
 close-returns-in_err-brace-clause-refused t c =
     err_from (λ r. Refused (c.args.room) c.args.cursor.end (unary ∷ []) c.args.cursor.rest.now r) c.from_residual-in_err-brace.result _ c.from_residual-in_err-brace.ensures.1
-    (refused_end (c.in_ok-open.ensures.end ∙ c.in_ok-from.ensures.end) (stopped (stops_there c.in_err-brace.ensures.refused (call_opens {n = 2} (omega arith) c.in_ok-from.ensures.reads c.in_ok-open.ensures.reads) (closed_halts c.in_err-brace.ensures.missing))))
+    (refused_end (c.in_ok-open.ensures.further.end ∙ c.in_ok-from.ensures.further.end) (stopped (stops_there c.in_err-brace.ensures.refused (call_opens {n = 2} (omega arith) c.in_ok-from.ensures.reads c.in_ok-open.ensures.reads) (closed_halts c.in_err-brace.ensures.missing))))
 
 pub close-returns-in_err-last-clause-refused : goal.close-returns-in_err-last-clause-refused
 close-returns-in_err-last-clause-refused t c =
     err_from (λ r. Refused (c.args.room) c.args.cursor.end (unary ∷ []) c.args.cursor.rest.now r) c.from_residual-in_err-last.result _ c.from_residual-in_err-last.ensures.1
-    (brace_no_room c.in_ok-inside.ensures.left c.in_err-last.ensures.none (c.in_ok-open.ensures.end ∙ c.in_ok-from.ensures.end) c.in_ok-from.ensures.reads c.in_ok-open.ensures.reads c.in_ok-brace.ensures.reads c.in_err-last.ensures.refused)
+    (brace_no_room c.in_ok-inside.ensures.left c.in_err-last.ensures.none (c.in_ok-open.ensures.further.end ∙ c.in_ok-from.ensures.further.end) c.in_ok-from.ensures.reads c.in_ok-open.ensures.reads c.in_ok-brace.ensures.reads c.in_err-last.ensures.refused)
 
 pub close-returns-in_err-row-clause-refused : goal.close-returns-in_err-row-clause-refused
 close-returns-in_err-row-clause-refused t c =
     err_from (λ r. Refused (c.args.room) c.args.cursor.end (unary ∷ []) c.args.cursor.rest.now r) c.from_residual-in_err-row.result _ c.from_residual-in_err-row.ensures.1
-    (close_refused c.in_ok-last.last c.in_ok-inside.ensures.left c.in_ok-last.ensures.left (c.in_ok-brace.ensures.end ∙ c.in_ok-open.ensures.end ∙ c.in_ok-from.ensures.end) c.in_ok-from.ensures.reads c.in_ok-open.ensures.reads c.in_ok-brace.ensures.reads c.in_err-row.ensures.refused)
+    (close_refused c.in_ok-last.last c.in_ok-inside.ensures.left c.in_ok-last.ensures.left (c.in_ok-brace.ensures.further.end ∙ c.in_ok-open.ensures.further.end ∙ c.in_ok-from.ensures.further.end) c.in_ok-from.ensures.reads c.in_ok-open.ensures.reads c.in_ok-brace.ensures.reads c.in_err-row.ensures.refused)
 
 pub close-returns-in_err-rest-clause-refused : goal.close-returns-in_err-rest-clause-refused
 close-returns-in_err-rest-clause-refused t c =
     err_from (λ r. Refused (c.args.room) c.args.cursor.end (unary ∷ []) c.args.cursor.rest.now r) c.from_residual-in_err-rest.result _ c.from_residual-in_err-rest.ensures.1
-    (refused_behind (moves_then (close_moves c.in_ok-last.last c.in_ok-inside.ensures.left c.in_ok-last.ensures.left c.in_ok-from.ensures.reads c.in_ok-open.ensures.reads c.in_ok-brace.ensures.reads c.in_ok-row.ensures.moves) (inner_comma c.trailing_comma-comma.result.0 (omega (arith, c.in_ok-inside.ensures.left)) c.trailing_comma-comma.ensures.reads)) (refused_end (c.trailing_comma-comma.ensures.end ∙ c.in_ok-row.ensures.end ∙ (c.in_ok-brace.ensures.end ∙ c.in_ok-open.ensures.end ∙ c.in_ok-from.ensures.end))
+    (refused_behind (moves_then (close_moves c.in_ok-last.last c.in_ok-inside.ensures.left c.in_ok-last.ensures.left c.in_ok-from.ensures.reads c.in_ok-open.ensures.reads c.in_ok-brace.ensures.reads c.in_ok-row.ensures.moves) (inner_comma c.trailing_comma-comma.result.0 (omega (arith, c.in_ok-inside.ensures.left)) c.trailing_comma-comma.ensures.reads)) (refused_end (c.trailing_comma-comma.ensures.end ∙ c.in_ok-row.ensures.end ∙ (c.in_ok-brace.ensures.further.end ∙ c.in_ok-open.ensures.further.end ∙ c.in_ok-from.ensures.further.end))
     (stopped (stops_here c.in_err-rest.ensures.refused (inner_halts c.trailing_comma-comma.result.0 c.trailing_comma-comma.ensures.reads c.trailing_comma-comma.ensures.missing c.in_err-rest.ensures.missing)))))
 
 pub close-returns-clause-moves : goal.close-returns-clause-moves
@@ -382,7 +382,7 @@ list-returns-in_err-inside-clause-refused t c =
 pub list-returns-in_err-row-clause-refused : goal.list-returns-in_err-row-clause-refused
 list-returns-in_err-row-clause-refused t c =
     err_from (λ r. Refused (c.args.room) c.args.cursor.end (unary ∷ []) c.args.cursor.rest.now r) c.from_residual-in_err-row.result _ c.from_residual-in_err-row.ensures.1
-    (list_refused c.in_ok-inside.inside c.in_ok-inside.ensures.left c.in_ok-open.ensures.end c.in_ok-open.ensures.reads c.in_err-row.ensures.refused)
+    (list_refused c.in_ok-inside.inside c.in_ok-inside.ensures.left c.in_ok-open.ensures.further.end c.in_ok-open.ensures.reads c.in_err-row.ensures.refused)
 
 pub list-returns-in_err-rest-clause-refused : goal.list-returns-in_err-rest-clause-refused
 list-returns-in_err-rest-clause-refused t c =
@@ -395,7 +395,7 @@ list-returns-in_err-rest-clause-refused t c =
           inr (nil_from_length items.items zero)
     ] in
     err_from (λ r. Refused (c.args.room) c.args.cursor.end (unary ∷ []) c.args.cursor.rest.now r) c.from_residual-in_err-rest.result _ c.from_residual-in_err-rest.ensures.1
-    (refused_behind (moves_then (moves_then (list_opens c.in_ok-inside.inside c.in_ok-inside.ensures.left c.in_ok-open.ensures.reads c.in_ok-row.ensures.moves) (open_ellipsis c.in_ok-row.row.comma items.items (omega (arith, c.in_ok-inside.ensures.left)) which c.in-Some.ensures.reads)) (ellipsis_comma c.trailing_comma-comma.result.0 (omega (arith, c.in_ok-inside.ensures.left)) c.trailing_comma-comma.ensures.reads)) (refused_end (c.trailing_comma-comma.ensures.end ∙ c.in-Some.ensures.end ∙ c.in_ok-row.ensures.end ∙ c.in_ok-open.ensures.end)
+    (refused_behind (moves_then (moves_then (list_opens c.in_ok-inside.inside c.in_ok-inside.ensures.left c.in_ok-open.ensures.reads c.in_ok-row.ensures.moves) (open_ellipsis c.in_ok-row.row.comma items.items (omega (arith, c.in_ok-inside.ensures.left)) which c.in-Some.ensures.reads)) (ellipsis_comma c.trailing_comma-comma.result.0 (omega (arith, c.in_ok-inside.ensures.left)) c.trailing_comma-comma.ensures.reads)) (refused_end (c.trailing_comma-comma.ensures.end ∙ c.in-Some.ensures.further.end ∙ c.in_ok-row.ensures.end ∙ c.in_ok-open.ensures.further.end)
     (stopped (stops_here c.in_err-rest.ensures.refused (ellipsis_halts c.trailing_comma-comma.result.0 c.trailing_comma-comma.ensures.reads c.trailing_comma-comma.ensures.missing c.in_err-rest.ensures.missing)))))
 
 pub list-returns-in-Some-clause-moves : goal.list-returns-in-Some-clause-moves
@@ -422,7 +422,7 @@ list-returns-in_err-rest-2-clause-refused t c =
       ]
     ] in
     err_from (λ r. Refused (c.args.room) c.args.cursor.end (unary ∷ []) c.args.cursor.rest.now r) c.from_residual-in_err-rest-2.result _ c.from_residual-in_err-rest-2.ensures.1
-    (refused_behind (list_opens c.in_ok-inside.inside c.in_ok-inside.ensures.left c.in_ok-open.ensures.reads c.in_ok-row.ensures.moves) (refused_end (c.in_ok-row.ensures.end ∙ c.in_ok-open.ensures.end)
+    (refused_behind (list_opens c.in_ok-inside.inside c.in_ok-inside.ensures.left c.in_ok-open.ensures.reads c.in_ok-row.ensures.moves) (refused_end (c.in_ok-row.ensures.end ∙ c.in_ok-open.ensures.further.end)
     (stopped (stops_here c.in_err-rest-2.ensures.refused (row_halts c.in_ok-row.row.comma c.in_ok-row.row.items.items c.in_ok-row.ensures.last shut c.in_err-rest-2.ensures.missing)))))
 
 pub list-returns-clause-moves : goal.list-returns-clause-moves
@@ -487,33 +487,33 @@ field-returns-in_err-label-clause-refused t c =
 pub field-returns-in_err-chain-clause-refused : goal.field-returns-in_err-chain-clause-refused
 field-returns-in_err-chain-clause-refused t c =
     err_from (λ r. (top : Bool) → Refused (levels_of (goals.entries top) + c.args.room) c.args.cursor.end (goals.entries top ∷ []) c.args.cursor.rest.now r) c.from_residual-in_err-chain.result _ c.from_residual-in_err-chain.ensures.1
-    (λ top. field_refused top c.in_ok-label.label c.in_ok-label.ensures.spelled c.in_ok-label.ensures.end c.in_err-chain.ensures.refused)
+    (λ top. field_refused top c.in_ok-label.label c.in_ok-label.ensures.spelled c.in_ok-label.ensures.further.end c.in_err-chain.ensures.refused)
 
 pub field-returns-in_err-value-clause-refused : goal.field-returns-in_err-value-clause-refused
 field-returns-in_err-value-clause-refused t c =
     err_from (λ r. (top : Bool) → Refused (levels_of (goals.entries top) + c.args.room) c.args.cursor.end (goals.entries top ∷ []) c.args.cursor.rest.now r) c.from_residual-in_err-value.result _ c.from_residual-in_err-value.ensures.1
-    (λ top. field_refused top c.in_ok-label.label c.in_ok-label.ensures.spelled c.in_ok-label.ensures.end (chain_value_refused c.in_ok-chain.chain.room c.in_ok-chain.chain.labels.items c.in_ok-chain.ensures.levels c.in_ok-chain.ensures.end c.in_ok-chain.ensures.moves c.in_ok-chain.ensures.whole c.in_err-value.ensures.refused))
+    (λ top. field_refused top c.in_ok-label.label c.in_ok-label.ensures.spelled c.in_ok-label.ensures.further.end (chain_value_refused c.in_ok-chain.chain.room c.in_ok-chain.chain.labels.items c.in_ok-chain.ensures.levels c.in_ok-chain.ensures.end c.in_ok-chain.ensures.moves c.in_ok-chain.ensures.whole c.in_err-value.ensures.refused))
 
 pub field-returns-clause-moves : goal.field-returns-clause-moves
 field-returns-clause-moves t c top =
-    field_moves top c.in_ok-label.label c.in_ok-label.ensures.spelled (chain_value c.in_ok-chain.chain.room c.in_ok-chain.chain.labels.items c.in_ok-chain.ensures.levels c.in_ok-chain.ensures.moves c.in_ok-chain.ensures.whole c.in_ok-value.ensures.shorter c.in_ok-value.ensures.moves)
+    field_moves top c.in_ok-label.label c.in_ok-label.ensures.spelled (chain_value c.in_ok-chain.chain.room c.in_ok-chain.chain.labels.items c.in_ok-chain.ensures.levels c.in_ok-chain.ensures.moves c.in_ok-chain.ensures.whole c.in_ok-value.ensures.further.shorter c.in_ok-value.ensures.moves)
 
 pub definition-returns-in_err-chain-clause-refused : goal.definition-returns-in_err-chain-clause-refused
 definition-returns-in_err-chain-clause-refused t c =
     let kind : c.in-Some.token.now.kind ≡ kinds.Definition c.share-name.result = search rules in
     err_from (λ r. Refused (c.args.room) c.args.cursor.end (goals.entries true ∷ []) c.args.cursor.rest.now r) c.from_residual-in_err-chain.result _ c.from_residual-in_err-chain.ensures.1
-    (definition_refused (reads_one_at c.in-Some.token.now c.in-Some.ensures.first kind) c.in_ok-after.ensures.reads (c.in_ok-after.ensures.end ∙ c.in-Some.ensures.end) c.in_err-chain.ensures.refused)
+    (definition_refused (reads_one_at c.in-Some.token.now c.in-Some.ensures.first kind) c.in_ok-after.ensures.reads (c.in_ok-after.ensures.further.end ∙ c.in-Some.ensures.end) c.in_err-chain.ensures.refused)
 
 pub definition-returns-in_err-value-clause-refused : goal.definition-returns-in_err-value-clause-refused
 definition-returns-in_err-value-clause-refused t c =
     let kind : c.in-Some.token.now.kind ≡ kinds.Definition c.share-name.result = search rules in
     err_from (λ r. Refused (c.args.room) c.args.cursor.end (goals.entries true ∷ []) c.args.cursor.rest.now r) c.from_residual-in_err-value.result _ c.from_residual-in_err-value.ensures.1
-    (definition_refused (reads_one_at c.in-Some.token.now c.in-Some.ensures.first kind) c.in_ok-after.ensures.reads (c.in_ok-after.ensures.end ∙ c.in-Some.ensures.end) (chain_value_refused c.in_ok-chain.chain.room c.in_ok-chain.chain.labels.items c.in_ok-chain.ensures.levels c.in_ok-chain.ensures.end c.in_ok-chain.ensures.moves c.in_ok-chain.ensures.whole c.in_err-value.ensures.refused))
+    (definition_refused (reads_one_at c.in-Some.token.now c.in-Some.ensures.first kind) c.in_ok-after.ensures.reads (c.in_ok-after.ensures.further.end ∙ c.in-Some.ensures.end) (chain_value_refused c.in_ok-chain.chain.room c.in_ok-chain.chain.labels.items c.in_ok-chain.ensures.levels c.in_ok-chain.ensures.end c.in_ok-chain.ensures.moves c.in_ok-chain.ensures.whole c.in_err-value.ensures.refused))
 
 pub definition-returns-clause-moves : goal.definition-returns-clause-moves
 definition-returns-clause-moves t c =
     let kind : c.in-Some.token.now.kind ≡ kinds.Definition c.share-name.result = search rules in
-    definition_moves (reads_one_at c.in-Some.token.now c.in-Some.ensures.first kind) c.in_ok-after.ensures.reads (chain_value c.in_ok-chain.chain.room c.in_ok-chain.chain.labels.items c.in_ok-chain.ensures.levels c.in_ok-chain.ensures.moves c.in_ok-chain.ensures.whole c.in_ok-value.ensures.shorter c.in_ok-value.ensures.moves)
+    definition_moves (reads_one_at c.in-Some.token.now c.in-Some.ensures.first kind) c.in_ok-after.ensures.reads (chain_value c.in_ok-chain.chain.room c.in_ok-chain.chain.labels.items c.in_ok-chain.ensures.levels c.in_ok-chain.ensures.moves c.in_ok-chain.ensures.whole c.in_ok-value.ensures.further.shorter c.in_ok-value.ensures.moves)
 
 pub close-returns-in_err-open-clause-refused : goal.close-returns-in_err-open-clause-refused
 close-returns-in_err-open-clause-refused t c = absurd (c.in_err-open.ensures.missing (call_paren c.requires c.in_ok-from.ensures.reads))

@@ -10,10 +10,10 @@ pub chain-preserved : goal.chain-preserved
 chain-preserved c =
     let pushed : c.push.new.values.items ≡ c.chain.labels.items ++ c.in_ok-label.label ∷ [] = search rules in
     record {
-      shorter = omega (arith, c.in_ok-label.ensures.shorter);
+      shorter = omega (arith, c.in_ok-label.ensures.further.shorter);
       levels = omega (arith, ap length pushed, length-append c.chain.labels.items (c.in_ok-label.label ∷ []), c.in_ok-left.ensures.left);
       reads = rw pushed (labels_push c.chain.labels.items c.in_ok-label.label c.chain.invariant.reads c.in_ok-label.ensures.spelled);
-      end = c.in_ok-label.ensures.end ∙ c.chain.invariant.end;
+      end = c.in_ok-label.ensures.further.end ∙ c.chain.invariant.end;
       moves = subst (λ z. Moves c.args.room (value ∷ []) c.args.cursor.rest.now (value ∷ chains z) c.in_ok-label.after.rest.now) (sym pushed)
           (chain_next c.in_ok-left.left c.chain.labels.items c.in_ok-label.label (omega (arith, c.in_ok-left.ensures.left, c.chain.invariant.levels)) c.chain.invariant.moves c.in_ok-label.ensures.spelled);
     }

@@ -11,11 +11,10 @@ returns-else-magnitude-greatest-clause-moves c =
 
 pub returns-in_default-kind : goal.returns-in_default-kind
 returns-in_default-kind c = record {
-  shorter = tt;
+  further = tt;
   spelled = tt;
   signed = tt;
   range = tt;
-  end = tt;
   moves = tt;
   refused = λ room. stopped (stops_here c.syntax-in_default-kind.ensures
       (halts_at c.in-Some.token.now c.in-Some.ensures.first (λ below closes. magnitude_none c.args.sign _ c.in_default-kind.not-Integer below)));
