@@ -12,6 +12,8 @@ mod spelling;
 mod step;
 mod valid;
 
+pub use cue_lattice::{Memory, Narrow, Narrowed, Scalar, Text};
+pub use cue_scalars::ScalarSet;
 pub use kind::RowKind;
 pub use labels::Labels;
 pub use level::Level;

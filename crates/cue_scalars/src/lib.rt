@@ -7,6 +7,7 @@
 mod scalar_set;
 mod valued;
 
-pub use cue_lattice::Scalar;
+pub use cue_lattice::{Memory, Narrow, Scalar};
+pub use cue_sets::{IntSet, TextSet};
 pub use scalar_set::ScalarSet;
 pub use valued::Valued;
