@@ -1,5 +1,5 @@
 -- The letters and digits of ASCII are those that the tables of Unicode have there.
-use Rattle.std.proofs.Common.{◌≡◌, ℕ, ◌<◌, ◌||◌, Bool, true, false, refl, sym, ◌∙◌, arith, ⊎_elim}
+use Rattle.std.proofs.Common.{◌≡◌, ℕ, ◌<◌, ◌||◌, Bool, true, false, refl, sym, arith, ⊎_elim}
 use Rattle.std.specs.Prelude.{not, ◌==◌}
 use Rattle.std.specs.Char.{is_ascii_alphabetic, is_ascii_alphanumeric}
 use Rattle.std.proofs.lemmas.Bool.{eqb-true, or_cases, or_left}

@@ -1,5 +1,6 @@
 pub mod Ascii
 pub mod Words
+pub mod FirstBytes
 pub mod Fronts
 pub mod Bodies
 pub mod PlainStrings

@@ -1,7 +1,6 @@
 -- The identifier that is taken is an identifier, and the longest one at the front.
-use Rattle.std.proofs.Common.{◌≡◌, ℕ, ◌+◌, ◌<◌, ◌≤◌, ◌∙◌, ◌&&◌, ◌⊎◌, inl, inr, zero, suc, zero-add, lit<, Bool, true, false, List, [], ◌∷◌, ◌++◌, length, take, drop, refl, sym, ap, subst, arith, append_assoc, length-append, length-drop, ⊎_elim, codes, cond, IsUtf8}
-use Rattle.std.specs.Prelude.{take_while, encode_utf8, encode_utf8_all, nat_eq, nat_lt, max, slice_get, if◌then◌else◌}
-use Rattle.std.specs.Option.{option_map_or}
+use Rattle.std.proofs.Common.{◌≡◌, ℕ, ◌+◌, ◌<◌, ◌≤◌, ◌∙◌, ◌&&◌, ◌⊎◌, inl, inr, zero, suc, zero-add, lit<, Bool, true, false, List, [], ◌∷◌, ◌++◌, length, take, drop, refl, sym, ap, subst, arith, append_assoc, length-append, ⊎_elim, codes, cond, IsUtf8}
+use Rattle.std.specs.Prelude.{take_while, encode_utf8, encode_utf8_all, nat_eq, nat_lt, max, if◌then◌else◌}
 use Rattle.std.specs.List.{list_all, prefix_len, starts_with}
 use Rattle.std.specs.Str.{chars, all_scalars, IsCharBoundary}
 use Rattle.std.proofs.lemmas.Bool.{lt-ltb, ltb-true, cases_Bool, eqb-true, or_left, and_parts}
@@ -9,12 +8,13 @@ use Rattle.std.proofs.lemmas.List.{take_at, take-append-drop}
 use Rattle.std.proofs.lemmas.List.Sums.{take_while-cons}
 use Rattle.std.proofs.lemmas.Str.{chars-append, chars-encodes, encodes-append, encodes-chars, scalars-chars, length-le-encodes, IsCharBoundary-from_take, IsUtf8-drop, IsUtf8-append, IsUtf8-encode, IsUtf8-nil, encode_ascii}
 use Rattle.std.specs.Char.{IsScalar}
-use Rattle.std.proofs.Math.Seq.{take-append_seam, take-append-add}
+use Rattle.std.proofs.Math.Seq.{take-append_seam}
 use Rattle.cue_lex.specs.Characters.{is_letter, is_name_part}
 use Rattle.cue_lex.specs.Names.{run_len, word_len, signed_len, identifier_len, IsIdentifier}
-use Rattle.cue_lex.specs.Longest.{IsLongestIdentifier, TakesTheLongestIdentifier}
+use Rattle.cue_lex.specs.Longest.{TakesTheLongestIdentifier}
 
-part-letter : (c : ℕ) → is_letter c ≡ true → is_name_part c ≡ true
+-- a letter may stand within a name too
+pub part-letter : (c : ℕ) → is_letter c ≡ true → is_name_part c ≡ true
 unfolding is_name_part
 part-letter c letter = or_left (is_letter c) _ letter
 

@@ -18,7 +18,7 @@ run_len-nil [] none = refl
 run_len-nil (b ∷ bytes) none = absurd (omega arith)
 
 -- one more letter or digit
-run_len-part : (bytes rest : List ℕ) (c : ℕ) → IsUtf8 bytes → bytes ≡ encode_utf8 c ++ rest → is_name_part c ≡ true → run_len bytes ≡ length (encode_utf8 c) + run_len rest
+pub run_len-part : (bytes rest : List ℕ) (c : ℕ) → IsUtf8 bytes → bytes ≡ encode_utf8 c ++ rest → is_name_part c ≡ true → run_len bytes ≡ length (encode_utf8 c) + run_len rest
 unfolding run_len
 run_len-part bytes rest c text split part =
     let first = chars_past_char bytes rest c text split in

@@ -6,7 +6,7 @@ ghost use Rattle.cue_lex.specs.Lexemes.{Gives, lexeme, len_of};
 use crate::TokenKind;
 use crate::integer::integer;
 use crate::mark::mark;
-use crate::name::{identifier_len, name};
+use crate::name::{identifier_len, name, run_len};
 use crate::string::string;
 use cue_lattice::{Kind, Refusal};
 use std::alloc::Global;
@@ -49,12 +49,19 @@ pub fn lexeme_at<'a>(
     ensures boundary { IfOk result (λ found. IsCharBoundary text.now (len_of found)) }
 {
     let bytes = text.as_bytes();
-    match bytes[0] {
+    let first = bytes[0];
+    if first.is_ascii_alphabetic() {
+        return name(text, run_len(text), at);
+    }
+    match first {
         b' ' | b'\t' | b'\r' => return Ok(Lexeme::Blank(1)),
         b'\n' => return Ok(Lexeme::LineBreak),
         b'"' => return string(alloc, text, at),
         b'0'..=b'9' => return integer(bytes, at, after_minus),
         _ => {}
+    }
+    if let Some((mark, len)) = mark(bytes) {
+        return Ok(Lexeme::Word(TokenKind::Mark(mark), len));
     }
     if bytes.starts_with(b"//") {
         return Ok(Lexeme::Blank(line_len(bytes)));
@@ -62,13 +69,9 @@ pub fn lexeme_at<'a>(
     if bytes.starts_with(b"_|_") {
         return Ok(Lexeme::Word(TokenKind::Bottom, 3));
     }
-    let len = identifier_len(text);
-    if len > 0 {
-        return name(text, len, at);
-    }
-    match mark(bytes) {
-        Some((mark, len)) => Ok(Lexeme::Word(TokenKind::Mark(mark), len)),
-        None => Err(Refusal::at(Kind::BadCharacter, at)),
+    match identifier_len(text) {
+        0 => Err(Refusal::at(Kind::BadCharacter, at)),
+        len => name(text, len, at),
     }
 }
 

@@ -12,7 +12,7 @@ use crate::{TokenKind, Word};
 use cue_lattice::{Kind, Refusal};
 
 /// How many bytes the letters and digits at the front have.
-fn run_len(text: &str) -> usize
+pub fn run_len(text: &str) -> usize
     ensures value { result ≡ run_len text.now }
     ensures boundary { IsCharBoundary text.now result }
 {

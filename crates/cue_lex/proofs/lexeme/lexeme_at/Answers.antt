@@ -1,11 +1,15 @@
-use Rattle.std.proofs.Common.{refl, ap, sym, ◌∙◌, subst, arith, rules, lit<, get_or}
+use Rattle.std.proofs.Common.{◌≡◌, ◌<◌, true, refl, ap, sym, ◌∙◌, subst, arith, rules, lit<, get_or}
 use Rattle.std.specs.Prelude.{not, ◌==◌}
 use Rattle.std.specs.List.{prefix_len}
 use Rattle.std.specs.Str.{IsCharBoundary}
 use Rattle.std.proofs.lemmas.Str.{IsCharBoundary-after_ascii}
-use Rattle.cue_lex.specs.Lexemes.{EndsAscii}
+use Rattle.std.specs.Char.{is_ascii_alphabetic}
+use Rattle.cue_lex.specs.Marks.{mark}
+use Rattle.cue_lex.specs.Lexemes.{EndsAscii, name}
 use Rattle.cue_lex.proofs.Fronts.{ends_boundary, found_boundary, boundary_three, line_boundary}
+use Rattle.cue_lex.proofs.FirstBytes.{gives_same, some_of, lexeme_letter, lexeme_mark, run_letter}
 use Rattle.cue_lex.proofs.lexeme.lexeme_at.Goals as goal
+use Rattle.cue_lex.proofs.lexeme.lexeme_at.Goals.{After-run_len}
 
 pub returns-in-32-clause-boundary : goal.returns-in-32-clause-boundary
 returns-in-32-clause-boundary c =
@@ -34,3 +38,28 @@ returns-then-starts_with-2-clause-boundary c = boundary_three 95 124 95 c.args.t
 
 pub returns-in-Some-clause-boundary : goal.returns-in-Some-clause-boundary
 returns-in-Some-clause-boundary c = ends_boundary c.args.text.now c.in-Some.len c.utf8.text (subst (λ bytes. EndsAscii bytes c.in-Some.len) c.as_bytes-bytes.ensures.value c.in-Some.ensures.ends)
+
+pub returns-in-Some-clause-gives : goal.returns-in-Some-clause-gives
+returns-in-Some-clause-gives c = lexeme_mark c.args.after_minus c.args.at c.args.text.now c.in-Some.mark c.in-Some.len c.utf8.text (ap mark (sym c.as_bytes-bytes.ensures.value) ∙ sym c.mark.ensures.value ∙ c.in-Some.is)
+
+is_letter_first : (c : After-run_len) → is_ascii_alphabetic (get_or c.args.text.now 0 0) ≡ true
+is_letter_first c = ap (λ bytes. is_ascii_alphabetic (get_or bytes 0 0)) (sym c.as_bytes-bytes.ensures.value) ∙ sym c.is_ascii_alphabetic.ensures.value ∙ c.if-is_ascii_alphabetic.true
+
+some_run : (c : After-run_len) → 0 < c.run_len.result
+some_run c =
+    let some = run_letter c.args.text.now c.utf8.text c.requires.nonempty (is_letter_first c) in
+    let same = c.run_len.ensures.value in
+    omega arith
+
+pub name-requires-clause-nonempty : goal.name-requires-clause-nonempty
+name-requires-clause-nonempty c = some_run (goal.at.name-requires-clause-nonempty c).After-run_len
+
+pub returns-then-is_ascii_alphabetic-clause-gives : goal.returns-then-is_ascii_alphabetic-clause-gives
+returns-then-is_ascii_alphabetic-clause-gives c =
+    gives_same _ _
+    (lexeme_letter c.args.after_minus c.args.at c.args.text.now c.utf8.text c.requires.nonempty (is_letter_first (goal.at.returns-then-is_ascii_alphabetic-clause-gives c).After-run_len)
+    ∙ ap (λ len. name c.args.at len c.args.text.now) (sym c.run_len.ensures.value) ∙ sym c.name.ensures.value)
+
+pub returns-then-is_ascii_alphabetic-clause-some : goal.returns-then-is_ascii_alphabetic-clause-some
+returns-then-is_ascii_alphabetic-clause-some c =
+    some_of c.name.result c.run_len.result (some_run (goal.at.returns-then-is_ascii_alphabetic-clause-some c).After-run_len) c.name.ensures.len

@@ -1,4 +1,4 @@
-use Rattle.std.proofs.Common.{◌≡◌, ◌<◌, ◌+◌, length, take, sym, ap, subst, ◌∙◌, arith, rules, get_or}
+use Rattle.std.proofs.Common.{◌≡◌, ◌<◌, length, take, sym, ap, subst, ◌∙◌, arith, get_or}
 use Rattle.std.specs.List.{prefix_len}
 use Rattle.std.proofs.lemmas.Grind.{common_steps}
 use Rattle.cue_lex.specs.Strings.{is_plain}
