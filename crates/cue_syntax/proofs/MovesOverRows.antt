@@ -1,5 +1,5 @@
 -- How the recogniser goes through lists and declarations.
-use Rattle.std.proofs.Common.{◌≡◌, ap, subst, refl, ℕ, ◌+◌, ◌≤◌, ◌<◌, ◌⊎◌, inl, inr, Bool, true, false, List, [], ◌∷◌, ◌++◌, length, drop, arith, None}
+use Rattle.std.proofs.Common.{◌≡◌, ◌∙◌, ap, sym, subst, refl, ℕ, ◌+◌, ◌≤◌, ◌<◌, ◌⊎◌, inl, inr, Bool, true, false, List, [], ◌∷◌, ◌++◌, length, drop, arith, None}
 use Rattle.cue_lex.specs.declared.token.Token.{Token}
 use Rattle.cue_lex.specs.declared.token.TokenKind.{TokenKind}
 use Rattle.cue_lex.specs.declared.token.TokenKind.TheVariants as kinds
@@ -106,6 +106,13 @@ element_next false is le reads = absurd (let e : false ≡ true = is in cc)
 pub same_tokens : {a b : List Token} (comma : Bool) → comma ≡ false → Reads a (comma_if comma) b → a ≡ b
 same_tokens false is reads = reads.follows
 same_tokens true is reads = absurd (let e : true ≡ false = is in cc)
+
+-- what was read up to an item with no comma after it is a row
+pub row_ends : {A : Type 0} {n : ℕ} {g : Stack} {a b c : List Token} {comma : Bool} {ys : List A} (first more : Goal) (xs : List A) (x : A) → comma ≡ false → ys ≡ xs ++ x ∷ []
+    → Reads b (comma_if comma) c → Moves n g a (more ∷ []) b → Moves n g a (row_goal first more comma ys ∷ []) c
+row_ends {n = n} {g = g} {a = a} {c = c} {comma = comma} first more xs x none pushed reads moves =
+    subst (λ z. Moves n g a (z ∷ []) c) (sym (ap (row_goal first more comma) pushed ∙ row_more first more comma xs x none))
+    (subst (λ z. Moves n g a (more ∷ []) z) (same_tokens comma none reads) moves)
 
 more_elements_none : (k : TokenKind) → (k ≡ (kinds.Mark points.CloseBracket) → ⊥) → (k ≡ (kinds.Mark points.Comma) → ⊥) → (below : Stack) → step (more_elements ∷ below) k ≡ None
 more_elements_none (kinds.Mark points.CloseBracket) a b below = absurd (a refl)

@@ -1,4 +1,4 @@
-use Rattle.std.proofs.Common.{◌≡◌, ◌∙◌, ◌+◌, ◌++◌, Bool, [], ◌∷◌, List, sym, subst, ap, refl, inl, inr, ◌⊎◌, true, false, length, arith, rules}
+use Rattle.std.proofs.Common.{◌≡◌, ◌∙◌, ◌+◌, ◌++◌, [], ◌∷◌, List, sym, subst, ap, refl, inl, inr, ◌⊎◌, true, false, length, arith, rules}
 use Rattle.std.proofs.lemmas.List.{nil_from_length}
 use Rattle.cue_lex.specs.declared.token.TokenKind.TheVariants as kinds
 use Rattle.cue_lex.specs.declared.punctuation.Punctuation.TheVariants as points
@@ -15,17 +15,16 @@ use Rattle.cue_syntax.specs.Operands.{BeginsEntry}
 use Rattle.cue_syntax.specs.Stops.{memory}
 use Rattle.cue_syntax.proofs.TextsBeginSo.{begun, begins_always, no_memory, read_stands, refused_so}
 use Rattle.cue_syntax.specs.Recogniser as goals
-use Rattle.cue_syntax.specs.Recogniser.{Moves, Refused, row_goal, levels_of, unary, more_parts}
-use Rattle.cue_syntax.proofs.MovesAndStops.{moves_then, refused_behind, refused_end, err_from, if_ok, stopped, stops_here, stops_there}
+use Rattle.cue_syntax.proofs.MovesAndStops.{moves_then, refused_behind, refused_end, if_ok, stopped, stops_here, stops_there}
+use Rattle.cue_syntax.proofs.RefusalsPassOn.{passed_on, passed_on_each, memory_passed_on}
 use Rattle.cue_syntax.proofs.MovesOverLabels.{label_out_entry, misses_entry}
 use Rattle.cue_syntax.proofs.MovesOverOperands.{no_room, inner_comma, inner_closes, inner_halts, parenthesis_opens, parenthesis_refused, struct_moves, struct_refused, call_opens, call_paren, call_no_room, closed_halts, brace_no_room, close_moves, close_refused, unmarked_moves, marked_moves, parts_end, parts_go, part_moves, part_refused, terms_end, terms_go, term_moves, term_refused, first_moves, first_go, first_end, first_halts, first_refused}
-use Rattle.cue_syntax.proofs.MovesOverRows.{ellipsis_comma, ellipsis_closes, ellipsis_halts, list_opens, list_refused, row_more, element_moves, element_refused, element_next, same_tokens, row_closes, row_halts, open_ellipsis, entry_next, braces_close, braces_halt, entry_ellipsis, chain_value, chain_value_refused, field_moves, field_refused, definition_moves, definition_refused, no_entry_refused}
+use Rattle.cue_syntax.proofs.MovesOverRows.{ellipsis_comma, ellipsis_closes, ellipsis_halts, list_opens, list_refused, row_ends, element_moves, element_refused, element_next, row_closes, row_halts, open_ellipsis, entry_next, braces_close, braces_halt, entry_ellipsis, chain_value, chain_value_refused, field_moves, field_refused, definition_moves, definition_refused, no_entry_refused}
 use Rattle.cue_syntax.proofs.expression.+parser.Goals as goal
 use Rattle.cue_syntax.proofs.expression.+parser.Goals.{list-then-row-via-then-row, list-then-row-via-else-row+then-is_empty, list-then-row+in_default, list-else-row+else-is_empty}
 
 pub braces-returns-clause-spelled : goal.braces-returns-clause-spelled
-braces-returns-clause-spelled t c =
-    braced_is c.in_ok-row.ensures.spelled (c.in_ok-row.ensures.nested refl) c.in_ok-rest.ensures.reads
+braces-returns-clause-spelled t c = braced_is c.in_ok-row.ensures.spelled (c.in_ok-row.ensures.nested refl) c.in_ok-rest.ensures.reads
 
 pub parenthesis-returns-clause-spelled : goal.parenthesis-returns-clause-spelled
 parenthesis-returns-clause-spelled t c =
@@ -210,14 +209,10 @@ list-returns-clause-spelled t c =
     (list_is c.in_ok-inside.ensures.left c.in_ok-open.ensures.reads c.in_ok-row.ensures.spelled c.in_ok-rest-2.ensures.reads)
 
 pub conjunction-returns-in_err-first-clause-refused : goal.conjunction-returns-in_err-first-clause-refused
-conjunction-returns-in_err-first-clause-refused t c =
-    err_from (λ r. Refused (c.args.room) c.args.cursor.end (unary ∷ more_parts ∷ []) c.args.cursor.rest.now r) c.from_residual.result _ c.from_residual.ensures.1
-    (part_refused c.in_err-first.ensures.refused)
+conjunction-returns-in_err-first-clause-refused t c = passed_on c.from_residual.result c.from_residual.ensures.1 (part_refused c.in_err-first.ensures.refused)
 
 pub conjunction-returns-in_err-next-clause-refused : goal.conjunction-returns-in_err-next-clause-refused
-conjunction-returns-in_err-next-clause-refused t c =
-    err_from (λ r. Refused (c.args.room) c.args.cursor.end (unary ∷ more_parts ∷ []) c.args.cursor.rest.now r) c.from_residual-in_err-next.result _ c.from_residual-in_err-next.ensures.1
-    (refused_behind c.parts.invariant.moves (refused_end c.parts.invariant.end (part_refused c.in_err-next.ensures.refused)))
+conjunction-returns-in_err-next-clause-refused t c = passed_on c.from_residual-in_err-next.result c.from_residual-in_err-next.ensures.1 (refused_behind c.parts.invariant.moves (refused_end c.parts.invariant.end (part_refused c.in_err-next.ensures.refused)))
 
 pub conjunction-returns-in-None-clause-moves : goal.conjunction-returns-in-None-clause-moves
 conjunction-returns-in-None-clause-moves t c =
@@ -225,9 +220,7 @@ conjunction-returns-in-None-clause-moves t c =
     moves_then c.parts.invariant.moves (moves_then (part_moves c.in_ok-next.ensures.moves) (parts_end lacks))
 
 pub expression-returns-in_err-first-clause-refused : goal.expression-returns-in_err-first-clause-refused
-expression-returns-in_err-first-clause-refused t c =
-    err_from (λ r. Refused (c.args.room) c.args.cursor.end (goals.expression ∷ []) c.args.cursor.rest.now r) c.from_residual.result _ c.from_residual.ensures.1
-    (first_refused c.in_err-first.ensures.refused)
+expression-returns-in_err-first-clause-refused t c = passed_on c.from_residual.result c.from_residual.ensures.1 (first_refused c.in_err-first.ensures.refused)
 
 pub expression-returns-then-first-clause-refused : goal.expression-returns-then-first-clause-refused
 expression-returns-then-first-clause-refused t c =
@@ -240,9 +233,7 @@ expression-returns-in_default-clause-moves t c =
     moves_then (first_moves c.in_ok-first.first.marked c.in_ok-first.ensures.marked.0 c.in_ok-first.ensures.marked.1 c.in_ok-first.ensures.moves) (first_end c.in_ok-first.first.marked c.if-first.false lacks)
 
 pub expression-returns-in_err-next-clause-refused : goal.expression-returns-in_err-next-clause-refused
-expression-returns-in_err-next-clause-refused t c =
-    err_from (λ r. Refused (c.args.room) c.args.cursor.end (goals.expression ∷ []) c.args.cursor.rest.now r) c.from_residual-in_err-next.result _ c.from_residual-in_err-next.ensures.1
-    (refused_behind c.terms.invariant.moves (refused_end c.terms.invariant.end (term_refused c.in_err-next.ensures.refused)))
+expression-returns-in_err-next-clause-refused t c = passed_on c.from_residual-in_err-next.result c.from_residual-in_err-next.ensures.1 (refused_behind c.terms.invariant.moves (refused_end c.terms.invariant.end (term_refused c.in_err-next.ensures.refused)))
 
 pub expression-returns-in-None-clause-moves : goal.expression-returns-in-None-clause-moves
 expression-returns-in-None-clause-moves t c =
@@ -250,117 +241,82 @@ expression-returns-in-None-clause-moves t c =
     moves_then c.terms.invariant.moves (moves_then (term_moves c.in_ok-next.ensures.moves) (terms_end lacks))
 
 pub term-returns-in_err-value-in-Some-clause-refused : goal.term-returns-in_err-value-in-Some-clause-refused
-term-returns-in_err-value-in-Some-clause-refused t c =
-    err_from (λ r. Refused (c.args.room) c.args.cursor.end (goals.term ∷ []) c.args.cursor.rest.now r) c.from_residual.result _ c.from_residual.ensures.1
-    (refused_behind (marked_moves c.in-Some.ensures.reads) (refused_end c.in-Some.ensures.further.end c.in_err-value-in-Some.ensures.refused))
+term-returns-in_err-value-in-Some-clause-refused t c = passed_on c.from_residual.result c.from_residual.ensures.1 (refused_behind (marked_moves c.in-Some.ensures.reads) (refused_end c.in-Some.ensures.further.end c.in_err-value-in-Some.ensures.refused))
 
 pub term-returns-in_err-value-in-None-clause-refused : goal.term-returns-in_err-value-in-None-clause-refused
 term-returns-in_err-value-in-None-clause-refused t c =
     let lacks : ¬ StandsSign (kinds.Mark points.Star) c.args.cursor.rest.now = search rules in
-    err_from (λ r. Refused (c.args.room) c.args.cursor.end (goals.term ∷ []) c.args.cursor.rest.now r) c.from_residual-in_err-value-in-None.result _ c.from_residual-in_err-value-in-None.ensures.1
-    (refused_behind (unmarked_moves lacks) c.in_err-value-in-None.ensures.refused)
+    passed_on c.from_residual-in_err-value-in-None.result c.from_residual-in_err-value-in-None.ensures.1 (refused_behind (unmarked_moves lacks) c.in_err-value-in-None.ensures.refused)
 
 pub term-returns-in_ok-value-in-Some-clause-moves : goal.term-returns-in_ok-value-in-Some-clause-moves
-term-returns-in_ok-value-in-Some-clause-moves t c =
-    moves_then (marked_moves c.in-Some.ensures.reads) c.in_ok-value-in-Some.ensures.moves
+term-returns-in_ok-value-in-Some-clause-moves t c = moves_then (marked_moves c.in-Some.ensures.reads) c.in_ok-value-in-Some.ensures.moves
 
 pub parenthesis-returns-in_err-inside-clause-refused : goal.parenthesis-returns-in_err-inside-clause-refused
-parenthesis-returns-in_err-inside-clause-refused t c =
-    err_from (λ r. Refused (c.args.room) c.args.cursor.end (unary ∷ []) c.args.cursor.rest.now r) c.from_residual.result _ c.from_residual.ensures.1
-    (no_room (kinds.Mark points.OpenParenthesis) (goals.expression ∷ goals.parenthesis ∷ []) c.requires (λ below. refl) (omega arith) c.in_err-inside.ensures.none c.in_err-inside.ensures.refused)
+parenthesis-returns-in_err-inside-clause-refused t c = passed_on c.from_residual.result c.from_residual.ensures.1 (no_room (kinds.Mark points.OpenParenthesis) (goals.expression ∷ goals.parenthesis ∷ []) c.requires (λ below. refl) (omega arith) c.in_err-inside.ensures.none c.in_err-inside.ensures.refused)
 
 pub parenthesis-returns-in_err-inner-clause-refused : goal.parenthesis-returns-in_err-inner-clause-refused
-parenthesis-returns-in_err-inner-clause-refused t c =
-    err_from (λ r. Refused (c.args.room) c.args.cursor.end (unary ∷ []) c.args.cursor.rest.now r) c.from_residual-in_err-inner.result _ c.from_residual-in_err-inner.ensures.1
-    (parenthesis_refused c.in_ok-inside.ensures.left c.in_ok-open.ensures.further.end c.in_ok-open.ensures.reads c.in_err-inner.ensures.refused)
+parenthesis-returns-in_err-inner-clause-refused t c = passed_on c.from_residual-in_err-inner.result c.from_residual-in_err-inner.ensures.1 (parenthesis_refused c.in_ok-inside.ensures.left c.in_ok-open.ensures.further.end c.in_ok-open.ensures.reads c.in_err-inner.ensures.refused)
 
 pub parenthesis-returns-in_err-rest-clause-refused : goal.parenthesis-returns-in_err-rest-clause-refused
-parenthesis-returns-in_err-rest-clause-refused t c =
-    err_from (λ r. Refused (c.args.room) c.args.cursor.end (unary ∷ []) c.args.cursor.rest.now r) c.from_residual-in_err-rest.result _ c.from_residual-in_err-rest.ensures.1
+parenthesis-returns-in_err-rest-clause-refused t c = passed_on c.from_residual-in_err-rest.result c.from_residual-in_err-rest.ensures.1
     (refused_behind (moves_then (parenthesis_opens c.in_ok-inside.ensures.left c.in_ok-open.ensures.reads c.in_ok-inner.ensures.moves) (inner_comma c.trailing_comma-comma.result.0 (omega (arith, c.in_ok-inside.ensures.left)) c.trailing_comma-comma.ensures.reads)) (refused_end (c.trailing_comma-comma.ensures.end ∙ c.in_ok-inner.ensures.further.end ∙ c.in_ok-open.ensures.further.end)
     (stopped (stops_here c.in_err-rest.ensures.refused (inner_halts c.trailing_comma-comma.result.0 c.trailing_comma-comma.ensures.reads c.trailing_comma-comma.ensures.missing c.in_err-rest.ensures.missing)))))
 
 pub parenthesis-returns-clause-moves : goal.parenthesis-returns-clause-moves
-parenthesis-returns-clause-moves t c =
-    moves_then (moves_then (parenthesis_opens c.in_ok-inside.ensures.left c.in_ok-open.ensures.reads c.in_ok-inner.ensures.moves) (inner_comma c.trailing_comma-comma.result.0 (omega (arith, c.in_ok-inside.ensures.left)) c.trailing_comma-comma.ensures.reads)) (inner_closes c.trailing_comma-comma.result.0 c.in_ok-rest.ensures.reads)
+parenthesis-returns-clause-moves t c = moves_then (moves_then (parenthesis_opens c.in_ok-inside.ensures.left c.in_ok-open.ensures.reads c.in_ok-inner.ensures.moves) (inner_comma c.trailing_comma-comma.result.0 (omega (arith, c.in_ok-inside.ensures.left)) c.trailing_comma-comma.ensures.reads)) (inner_closes c.trailing_comma-comma.result.0 c.in_ok-rest.ensures.reads)
 
 pub structure-returns-in_err-inside-clause-refused : goal.structure-returns-in_err-inside-clause-refused
-structure-returns-in_err-inside-clause-refused t c =
-    err_from (λ r. Refused (c.args.room) c.args.cursor.end (unary ∷ []) c.args.cursor.rest.now r) c.from_residual.result _ c.from_residual.ensures.1
-    (no_room (kinds.Mark points.OpenBrace) (goals.entries false ∷ []) c.requires (λ below. refl) (omega arith) c.in_err-inside.ensures.none c.in_err-inside.ensures.refused)
+structure-returns-in_err-inside-clause-refused t c = passed_on c.from_residual.result c.from_residual.ensures.1 (no_room (kinds.Mark points.OpenBrace) (goals.entries false ∷ []) c.requires (λ below. refl) (omega arith) c.in_err-inside.ensures.none c.in_err-inside.ensures.refused)
 
 pub structure-returns-in_err-row-clause-refused : goal.structure-returns-in_err-row-clause-refused
-structure-returns-in_err-row-clause-refused t c =
-    err_from (λ r. Refused (c.args.room) c.args.cursor.end (unary ∷ []) c.args.cursor.rest.now r) c.from_residual-in_err-row.result _ c.from_residual-in_err-row.ensures.1
-    (struct_refused c.in_ok-inside.inside c.in_ok-inside.ensures.left c.in_ok-open.ensures.further.end c.in_ok-open.ensures.reads c.in_err-row.ensures.refused)
+structure-returns-in_err-row-clause-refused t c = passed_on c.from_residual-in_err-row.result c.from_residual-in_err-row.ensures.1 (struct_refused c.in_ok-inside.inside c.in_ok-inside.ensures.left c.in_ok-open.ensures.further.end c.in_ok-open.ensures.reads c.in_err-row.ensures.refused)
 
 pub structure-returns-clause-moves : goal.structure-returns-clause-moves
-structure-returns-clause-moves t c =
-    struct_moves c.in_ok-inside.inside c.in_ok-inside.ensures.left c.in_ok-open.ensures.reads c.in_ok-row.ensures.moves
+structure-returns-clause-moves t c = struct_moves c.in_ok-inside.inside c.in_ok-inside.ensures.left c.in_ok-open.ensures.reads c.in_ok-row.ensures.moves
 
 pub close-returns-in_err-inside-clause-refused : goal.close-returns-in_err-inside-clause-refused
-close-returns-in_err-inside-clause-refused t c =
-    err_from (λ r. Refused (c.args.room) c.args.cursor.end (unary ∷ []) c.args.cursor.rest.now r) c.from_residual-in_err-inside.result _ c.from_residual-in_err-inside.ensures.1
-    (call_no_room c.in_err-inside.ensures.none c.in_ok-from.ensures.further.end c.requires c.in_ok-from.ensures.reads c.in_err-inside.ensures.refused)
+close-returns-in_err-inside-clause-refused t c = passed_on c.from_residual-in_err-inside.result c.from_residual-in_err-inside.ensures.1 (call_no_room c.in_err-inside.ensures.none c.in_ok-from.ensures.further.end c.requires c.in_ok-from.ensures.reads c.in_err-inside.ensures.refused)
 
 pub close-returns-in_err-brace-clause-refused : goal.close-returns-in_err-brace-clause-refused
-close-returns-in_err-brace-clause-refused t c =
-    err_from (λ r. Refused (c.args.room) c.args.cursor.end (unary ∷ []) c.args.cursor.rest.now r) c.from_residual-in_err-brace.result _ c.from_residual-in_err-brace.ensures.1
-    (refused_end (c.in_ok-open.ensures.further.end ∙ c.in_ok-from.ensures.further.end) (stopped (stops_there c.in_err-brace.ensures.refused (call_opens {n = 2} (omega arith) c.in_ok-from.ensures.reads c.in_ok-open.ensures.reads) (closed_halts c.in_err-brace.ensures.missing))))
+close-returns-in_err-brace-clause-refused t c = passed_on c.from_residual-in_err-brace.result c.from_residual-in_err-brace.ensures.1 (refused_end (c.in_ok-open.ensures.further.end ∙ c.in_ok-from.ensures.further.end) (stopped (stops_there c.in_err-brace.ensures.refused (call_opens {n = 2} (omega arith) c.in_ok-from.ensures.reads c.in_ok-open.ensures.reads) (closed_halts c.in_err-brace.ensures.missing))))
 
 pub close-returns-in_err-last-clause-refused : goal.close-returns-in_err-last-clause-refused
-close-returns-in_err-last-clause-refused t c =
-    err_from (λ r. Refused (c.args.room) c.args.cursor.end (unary ∷ []) c.args.cursor.rest.now r) c.from_residual-in_err-last.result _ c.from_residual-in_err-last.ensures.1
-    (brace_no_room c.in_ok-inside.ensures.left c.in_err-last.ensures.none (c.in_ok-open.ensures.further.end ∙ c.in_ok-from.ensures.further.end) c.in_ok-from.ensures.reads c.in_ok-open.ensures.reads c.in_ok-brace.ensures.reads c.in_err-last.ensures.refused)
+close-returns-in_err-last-clause-refused t c = passed_on c.from_residual-in_err-last.result c.from_residual-in_err-last.ensures.1 (brace_no_room c.in_ok-inside.ensures.left c.in_err-last.ensures.none (c.in_ok-open.ensures.further.end ∙ c.in_ok-from.ensures.further.end) c.in_ok-from.ensures.reads c.in_ok-open.ensures.reads c.in_ok-brace.ensures.reads c.in_err-last.ensures.refused)
 
 pub close-returns-in_err-row-clause-refused : goal.close-returns-in_err-row-clause-refused
-close-returns-in_err-row-clause-refused t c =
-    err_from (λ r. Refused (c.args.room) c.args.cursor.end (unary ∷ []) c.args.cursor.rest.now r) c.from_residual-in_err-row.result _ c.from_residual-in_err-row.ensures.1
-    (close_refused c.in_ok-last.last c.in_ok-inside.ensures.left c.in_ok-last.ensures.left (c.in_ok-brace.ensures.further.end ∙ c.in_ok-open.ensures.further.end ∙ c.in_ok-from.ensures.further.end) c.in_ok-from.ensures.reads c.in_ok-open.ensures.reads c.in_ok-brace.ensures.reads c.in_err-row.ensures.refused)
+close-returns-in_err-row-clause-refused t c = passed_on c.from_residual-in_err-row.result c.from_residual-in_err-row.ensures.1 (close_refused c.in_ok-last.last c.in_ok-inside.ensures.left c.in_ok-last.ensures.left (c.in_ok-brace.ensures.further.end ∙ c.in_ok-open.ensures.further.end ∙ c.in_ok-from.ensures.further.end) c.in_ok-from.ensures.reads c.in_ok-open.ensures.reads c.in_ok-brace.ensures.reads c.in_err-row.ensures.refused)
 
 pub close-returns-in_err-rest-clause-refused : goal.close-returns-in_err-rest-clause-refused
-close-returns-in_err-rest-clause-refused t c =
-    err_from (λ r. Refused (c.args.room) c.args.cursor.end (unary ∷ []) c.args.cursor.rest.now r) c.from_residual-in_err-rest.result _ c.from_residual-in_err-rest.ensures.1
+close-returns-in_err-rest-clause-refused t c = passed_on c.from_residual-in_err-rest.result c.from_residual-in_err-rest.ensures.1
     (refused_behind (moves_then (close_moves c.in_ok-last.last c.in_ok-inside.ensures.left c.in_ok-last.ensures.left c.in_ok-from.ensures.reads c.in_ok-open.ensures.reads c.in_ok-brace.ensures.reads c.in_ok-row.ensures.moves) (inner_comma c.trailing_comma-comma.result.0 (omega (arith, c.in_ok-inside.ensures.left)) c.trailing_comma-comma.ensures.reads)) (refused_end (c.trailing_comma-comma.ensures.end ∙ c.in_ok-row.ensures.end ∙ (c.in_ok-brace.ensures.further.end ∙ c.in_ok-open.ensures.further.end ∙ c.in_ok-from.ensures.further.end))
     (stopped (stops_here c.in_err-rest.ensures.refused (inner_halts c.trailing_comma-comma.result.0 c.trailing_comma-comma.ensures.reads c.trailing_comma-comma.ensures.missing c.in_err-rest.ensures.missing)))))
 
 pub close-returns-clause-moves : goal.close-returns-clause-moves
-close-returns-clause-moves t c =
-    moves_then (moves_then (close_moves c.in_ok-last.last c.in_ok-inside.ensures.left c.in_ok-last.ensures.left c.in_ok-from.ensures.reads c.in_ok-open.ensures.reads c.in_ok-brace.ensures.reads c.in_ok-row.ensures.moves) (inner_comma c.trailing_comma-comma.result.0 (omega (arith, c.in_ok-inside.ensures.left)) c.trailing_comma-comma.ensures.reads)) (inner_closes c.trailing_comma-comma.result.0 c.in_ok-rest.ensures.reads)
+close-returns-clause-moves t c = moves_then (moves_then (close_moves c.in_ok-last.last c.in_ok-inside.ensures.left c.in_ok-last.ensures.left c.in_ok-from.ensures.reads c.in_ok-open.ensures.reads c.in_ok-brace.ensures.reads c.in_ok-row.ensures.moves) (inner_comma c.trailing_comma-comma.result.0 (omega (arith, c.in_ok-inside.ensures.left)) c.trailing_comma-comma.ensures.reads)) (inner_closes c.trailing_comma-comma.result.0 c.in_ok-rest.ensures.reads)
 
 pub braces-returns-in_err-rest-clause-refused : goal.braces-returns-in_err-rest-clause-refused
-braces-returns-in_err-rest-clause-refused t c =
-    err_from (λ r. Refused (1 + c.args.room) c.args.cursor.end (goals.entries false ∷ []) c.args.cursor.rest.now r) c.from_residual-in_err-rest.result _ c.from_residual-in_err-rest.ensures.1
+braces-returns-in_err-rest-clause-refused t c = passed_on c.from_residual-in_err-rest.result c.from_residual-in_err-rest.ensures.1
     (refused_behind c.in_ok-row.ensures.moves (refused_end c.in_ok-row.ensures.end (stopped (stops_here c.in_err-rest.ensures.refused
     (braces_halt c.in_ok-row.row.comma c.in_ok-row.row.items.items c.in_ok-row.ensures.last c.in_ok-row.ensures.open c.in_err-rest.ensures.missing)))))
 
 pub braces-returns-clause-moves : goal.braces-returns-clause-moves
-braces-returns-clause-moves t c =
-    moves_then c.in_ok-row.ensures.moves (braces_close c.in_ok-row.row.comma c.in_ok-row.row.items.items c.in_ok-rest.ensures.reads)
+braces-returns-clause-moves t c = moves_then c.in_ok-row.ensures.moves (braces_close c.in_ok-row.row.comma c.in_ok-row.row.items.items c.in_ok-rest.ensures.reads)
 
 pub declarations-returns-in_err-item-clause-refused : goal.declarations-returns-in_err-item-clause-refused
-declarations-returns-in_err-item-clause-refused t c =
-    err_from (λ r. Refused (levels_of (goals.entries c.args.top) + c.args.room) c.args.cursor.end (goals.entries c.args.top ∷ []) c.args.cursor.rest.now r) c.from_residual.result _ c.from_residual.ensures.1
-    (refused_behind c.declarations.invariant.moves (refused_end c.declarations.invariant.end c.in_err-item.ensures.refused))
+declarations-returns-in_err-item-clause-refused t c = passed_on c.from_residual.result c.from_residual.ensures.1 (refused_behind c.declarations.invariant.moves (refused_end c.declarations.invariant.end c.in_err-item.ensures.refused))
 
 pub declarations-returns-then-not-comma-clause-moves : goal.declarations-returns-then-not-comma-clause-moves
 declarations-returns-then-not-comma-clause-moves t c =
     let l = c.declarations in
     let pushed : c.push.new.values.items ≡ l.items.items ++ c.in_ok-item.item ∷ [] = search rules in
-    let first = goals.entries c.args.top in
-    let more = goals.more_entries c.args.top in
-    let comma = c.trailing_comma.result.0 in
-    subst (λ z. Moves (levels_of (goals.entries c.args.top) + c.args.room) (first ∷ []) c.args.cursor.rest.now (z ∷ []) c.trailing_comma.result.1.rest.now)
-    (sym (ap (row_goal first more comma) pushed ∙ row_more first more comma l.items.items c.in_ok-item.item c.if-not-comma.true))
-    (subst (λ z. Moves (levels_of (goals.entries c.args.top) + c.args.room) (first ∷ []) c.args.cursor.rest.now (more ∷ []) z) (same_tokens comma c.if-not-comma.true c.trailing_comma.ensures.reads)
-    (moves_then l.invariant.moves c.in_ok-item.ensures.moves))
+    row_ends (goals.entries c.args.top) (goals.more_entries c.args.top) l.items.items c.in_ok-item.item c.if-not-comma.true pushed c.trailing_comma.ensures.reads
+    (moves_then l.invariant.moves c.in_ok-item.ensures.moves)
 
 pub elements-returns-in_err-element-clause-refused : goal.elements-returns-in_err-element-clause-refused
 elements-returns-in_err-element-clause-refused t c =
     let close : ¬ StandsSign (kinds.Mark points.CloseBracket) c.elements.rest.rest.now = search rules in
     let dots : ¬ StandsSign (kinds.Mark points.Ellipsis) c.elements.rest.rest.now = search rules in
-    err_from (λ r. Refused (1 + c.args.room) c.args.cursor.end (goals.elements ∷ []) c.args.cursor.rest.now r) c.from_residual.result _ c.from_residual.ensures.1
-    (refused_behind c.elements.invariant.moves (refused_end c.elements.invariant.end (element_refused close dots c.in_err-element.ensures.refused)))
+    passed_on c.from_residual.result c.from_residual.ensures.1 (refused_behind c.elements.invariant.moves (refused_end c.elements.invariant.end (element_refused close dots c.in_err-element.ensures.refused)))
 
 pub elements-returns-then-not-comma-clause-moves : goal.elements-returns-then-not-comma-clause-moves
 elements-returns-then-not-comma-clause-moves t c =
@@ -368,21 +324,14 @@ elements-returns-then-not-comma-clause-moves t c =
     let close : ¬ StandsSign (kinds.Mark points.CloseBracket) c.elements.rest.rest.now = search rules in
     let dots : ¬ StandsSign (kinds.Mark points.Ellipsis) c.elements.rest.rest.now = search rules in
     let pushed : c.push.new.values.items ≡ l.items.items ++ c.in_ok-element.element ∷ [] = search rules in
-    let comma = c.trailing_comma.result.0 in
-    subst (λ z. Moves (1 + c.args.room) (goals.elements ∷ []) c.args.cursor.rest.now (z ∷ []) c.trailing_comma.result.1.rest.now)
-    (sym (ap (row_goal goals.elements goals.more_elements comma) pushed ∙ row_more goals.elements goals.more_elements comma l.items.items c.in_ok-element.element c.if-not-comma.true))
-    (subst (λ z. Moves (1 + c.args.room) (goals.elements ∷ []) c.args.cursor.rest.now (goals.more_elements ∷ []) z) (same_tokens comma c.if-not-comma.true c.trailing_comma.ensures.reads)
-    (moves_then l.invariant.moves (element_moves close dots c.in_ok-element.ensures.moves)))
+    row_ends goals.elements goals.more_elements l.items.items c.in_ok-element.element c.if-not-comma.true pushed c.trailing_comma.ensures.reads
+    (moves_then l.invariant.moves (element_moves close dots c.in_ok-element.ensures.moves))
 
 pub list-returns-in_err-inside-clause-refused : goal.list-returns-in_err-inside-clause-refused
-list-returns-in_err-inside-clause-refused t c =
-    err_from (λ r. Refused (c.args.room) c.args.cursor.end (unary ∷ []) c.args.cursor.rest.now r) c.from_residual.result _ c.from_residual.ensures.1
-    (no_room (kinds.Mark points.OpenBracket) (goals.elements ∷ []) c.requires (λ below. refl) (omega arith) c.in_err-inside.ensures.none c.in_err-inside.ensures.refused)
+list-returns-in_err-inside-clause-refused t c = passed_on c.from_residual.result c.from_residual.ensures.1 (no_room (kinds.Mark points.OpenBracket) (goals.elements ∷ []) c.requires (λ below. refl) (omega arith) c.in_err-inside.ensures.none c.in_err-inside.ensures.refused)
 
 pub list-returns-in_err-row-clause-refused : goal.list-returns-in_err-row-clause-refused
-list-returns-in_err-row-clause-refused t c =
-    err_from (λ r. Refused (c.args.room) c.args.cursor.end (unary ∷ []) c.args.cursor.rest.now r) c.from_residual-in_err-row.result _ c.from_residual-in_err-row.ensures.1
-    (list_refused c.in_ok-inside.inside c.in_ok-inside.ensures.left c.in_ok-open.ensures.further.end c.in_ok-open.ensures.reads c.in_err-row.ensures.refused)
+list-returns-in_err-row-clause-refused t c = passed_on c.from_residual-in_err-row.result c.from_residual-in_err-row.ensures.1 (list_refused c.in_ok-inside.inside c.in_ok-inside.ensures.left c.in_ok-open.ensures.further.end c.in_ok-open.ensures.reads c.in_err-row.ensures.refused)
 
 pub list-returns-in_err-rest-clause-refused : goal.list-returns-in_err-rest-clause-refused
 list-returns-in_err-rest-clause-refused t c =
@@ -394,7 +343,7 @@ list-returns-in_err-rest-clause-refused t c =
           let zero : length items.items ≡ 0 = grind (arith, items.ok.0) in
           inr (nil_from_length items.items zero)
     ] in
-    err_from (λ r. Refused (c.args.room) c.args.cursor.end (unary ∷ []) c.args.cursor.rest.now r) c.from_residual-in_err-rest.result _ c.from_residual-in_err-rest.ensures.1
+    passed_on c.from_residual-in_err-rest.result c.from_residual-in_err-rest.ensures.1
     (refused_behind (moves_then (moves_then (list_opens c.in_ok-inside.inside c.in_ok-inside.ensures.left c.in_ok-open.ensures.reads c.in_ok-row.ensures.moves) (open_ellipsis c.in_ok-row.row.comma items.items (omega (arith, c.in_ok-inside.ensures.left)) which c.in-Some.ensures.reads)) (ellipsis_comma c.trailing_comma-comma.result.0 (omega (arith, c.in_ok-inside.ensures.left)) c.trailing_comma-comma.ensures.reads)) (refused_end (c.trailing_comma-comma.ensures.end ∙ c.in-Some.ensures.further.end ∙ c.in_ok-row.ensures.end ∙ c.in_ok-open.ensures.further.end)
     (stopped (stops_here c.in_err-rest.ensures.refused (ellipsis_halts c.trailing_comma-comma.result.0 c.trailing_comma-comma.ensures.reads c.trailing_comma-comma.ensures.missing c.in_err-rest.ensures.missing)))))
 
@@ -421,23 +370,18 @@ list-returns-in_err-rest-2-clause-refused t c =
         | inr e ↦ (let none = ap length e in grind (arith, items.ok.0))
       ]
     ] in
-    err_from (λ r. Refused (c.args.room) c.args.cursor.end (unary ∷ []) c.args.cursor.rest.now r) c.from_residual-in_err-rest-2.result _ c.from_residual-in_err-rest-2.ensures.1
+    passed_on c.from_residual-in_err-rest-2.result c.from_residual-in_err-rest-2.ensures.1
     (refused_behind (list_opens c.in_ok-inside.inside c.in_ok-inside.ensures.left c.in_ok-open.ensures.reads c.in_ok-row.ensures.moves) (refused_end (c.in_ok-row.ensures.end ∙ c.in_ok-open.ensures.further.end)
     (stopped (stops_here c.in_err-rest-2.ensures.refused (row_halts c.in_ok-row.row.comma c.in_ok-row.row.items.items c.in_ok-row.ensures.last shut c.in_err-rest-2.ensures.missing)))))
 
 pub list-returns-clause-moves : goal.list-returns-clause-moves
-list-returns-clause-moves t c =
-    moves_then (list_opens c.in_ok-inside.inside c.in_ok-inside.ensures.left c.in_ok-open.ensures.reads c.in_ok-row.ensures.moves) (row_closes c.in_ok-row.row.comma c.in_ok-row.row.items.items c.in_ok-rest-2.ensures.reads)
+list-returns-clause-moves t c = moves_then (list_opens c.in_ok-inside.inside c.in_ok-inside.ensures.left c.in_ok-open.ensures.reads c.in_ok-row.ensures.moves) (row_closes c.in_ok-row.row.comma c.in_ok-row.row.items.items c.in_ok-rest-2.ensures.reads)
 
 pub declarations-returns-in_err-item-clause-begins : goal.declarations-returns-in_err-item-clause-begins
-declarations-returns-in_err-item-clause-begins t c =
-    err_from (λ r. r ≡ memory → BeginsEntry c.args.cursor.rest.now) c.from_residual.result _ c.from_residual.ensures.1
-    (λ lacks. begun c.declarations.rest.rest.now c.args.cursor.rest.now c.declarations.invariant.begins (c.in_err-item.ensures.begins lacks))
+declarations-returns-in_err-item-clause-begins t c = memory_passed_on c.from_residual.result c.from_residual.ensures.1 (λ lacks. begun c.declarations.rest.rest.now c.args.cursor.rest.now c.declarations.invariant.begins (c.in_err-item.ensures.begins lacks))
 
 pub declarations-returns-in_err-push-clause-begins : goal.declarations-returns-in_err-push-clause-begins
-declarations-returns-in_err-push-clause-begins t c =
-    err_from (λ r. r ≡ memory → BeginsEntry c.args.cursor.rest.now) c.from_residual-in_err-push.result _ c.from_residual-in_err-push.ensures.1
-    (λ lacks. begun c.declarations.rest.rest.now c.args.cursor.rest.now c.declarations.invariant.begins c.in_ok-item.ensures.begins)
+declarations-returns-in_err-push-clause-begins t c = memory_passed_on c.from_residual-in_err-push.result c.from_residual-in_err-push.ensures.1 (λ lacks. begun c.declarations.rest.rest.now c.args.cursor.rest.now c.declarations.invariant.begins c.in_ok-item.ensures.begins)
 
 pub declaration-returns-in-Some-clause-begins : goal.declaration-returns-in-Some-clause-begins
 declaration-returns-in-Some-clause-begins t c = inl (read_stands _ _ _ c.in-Some.ensures.reads)
@@ -445,8 +389,7 @@ declaration-returns-in-Some-clause-begins t c = inl (read_stands _ _ _ c.in-Some
 pub declaration-returns-in_err-refuse_label-clause-begins : goal.declaration-returns-in_err-refuse_label-clause-begins
 declaration-returns-in_err-refuse_label-clause-begins t c =
     refused_so (λ r. BeginsEntry c.args.cursor.rest.now) (λ r. r ≡ memory → BeginsEntry c.args.cursor.rest.now) c.from_residual.result c.from_residual.ensures.0
-    (err_from (λ r. r ≡ memory → BeginsEntry c.args.cursor.rest.now) c.from_residual.result _ c.from_residual.ensures.1
-    (λ lacks. no_memory c.args.cursor.end c.args.cursor.rest.now c.in_err-refuse_label.ensures.is lacks))
+    (memory_passed_on c.from_residual.result c.from_residual.ensures.1 (λ lacks. no_memory c.args.cursor.end c.args.cursor.rest.now c.in_err-refuse_label.ensures.is lacks))
 
 pub declaration-returns-then-begins_label-clause-begins : goal.declaration-returns-then-begins_label-clause-begins
 declaration-returns-then-begins_label-clause-begins t c =
@@ -454,24 +397,19 @@ declaration-returns-then-begins_label-clause-begins t c =
     begins_always c.field.result (BeginsEntry c.args.cursor.rest.now) (inr (inl label))
 
 pub declaration-returns-then-begins_definition-clause-begins : goal.declaration-returns-then-begins_definition-clause-begins
-declaration-returns-then-begins_definition-clause-begins t c =
-    begins_always c.definition.result (BeginsEntry c.args.cursor.rest.now) (inr (inr (c.begins_definition.ensures.begins c.if-begins_definition.true)))
+declaration-returns-then-begins_definition-clause-begins t c = begins_always c.definition.result (BeginsEntry c.args.cursor.rest.now) (inr (inr (c.begins_definition.ensures.begins c.if-begins_definition.true)))
 
 pub declaration-returns-clause-begins : goal.declaration-returns-clause-begins
 declaration-returns-clause-begins t c = λ lacks. no_memory c.args.cursor.end c.args.cursor.rest.now c.syntax.ensures lacks
 
 pub declaration-returns-in-Some-clause-moves : goal.declaration-returns-in-Some-clause-moves
-declaration-returns-in-Some-clause-moves t c =
-    entry_ellipsis c.args.top (omega arith) c.in-Some.ensures.reads
+declaration-returns-in-Some-clause-moves t c = entry_ellipsis c.args.top (omega arith) c.in-Some.ensures.reads
 
 pub declaration-returns-in_err-refuse_label-clause-refused : goal.declaration-returns-in_err-refuse_label-clause-refused
-declaration-returns-in_err-refuse_label-clause-refused t c =
-    err_from (λ r. Refused (levels_of (goals.entries c.args.top) + c.args.room) c.args.cursor.end (goals.entries c.args.top ∷ []) c.args.cursor.rest.now r) c.from_residual.result _ c.from_residual.ensures.1
-    (label_out_entry c.args.top c.in_err-refuse_label.ensures)
+declaration-returns-in_err-refuse_label-clause-refused t c = passed_on c.from_residual.result c.from_residual.ensures.1 (label_out_entry c.args.top c.in_err-refuse_label.ensures)
 
 pub declaration-returns-then-begins_label-clause-moves : goal.declaration-returns-then-begins_label-clause-moves
-declaration-returns-then-begins_label-clause-moves t c =
-    if_ok c.field.result (λ x m. m c.args.top) c.field.ensures.moves
+declaration-returns-then-begins_label-clause-moves t c = if_ok c.field.result (λ x m. m c.args.top) c.field.ensures.moves
 
 pub declaration-returns-clause-refused : goal.declaration-returns-clause-refused
 declaration-returns-clause-refused t c =
@@ -480,35 +418,26 @@ declaration-returns-clause-refused t c =
     no_entry_refused c.args.top dots label (c.begins_definition.ensures.no c.if-begins_definition.false) c.requires c.syntax.ensures
 
 pub field-returns-in_err-label-clause-refused : goal.field-returns-in_err-label-clause-refused
-field-returns-in_err-label-clause-refused t c =
-    err_from (λ r. (top : Bool) → Refused (levels_of (goals.entries top) + c.args.room) c.args.cursor.end (goals.entries top ∷ []) c.args.cursor.rest.now r) c.from_residual.result _ c.from_residual.ensures.1
-    (λ top. misses_entry top c.in_err-label.ensures.refused)
+field-returns-in_err-label-clause-refused t c = passed_on_each c.args.room c.from_residual.result c.from_residual.ensures.1 (λ top. misses_entry top c.in_err-label.ensures.refused)
 
 pub field-returns-in_err-chain-clause-refused : goal.field-returns-in_err-chain-clause-refused
-field-returns-in_err-chain-clause-refused t c =
-    err_from (λ r. (top : Bool) → Refused (levels_of (goals.entries top) + c.args.room) c.args.cursor.end (goals.entries top ∷ []) c.args.cursor.rest.now r) c.from_residual-in_err-chain.result _ c.from_residual-in_err-chain.ensures.1
-    (λ top. field_refused top c.in_ok-label.label c.in_ok-label.ensures.spelled c.in_ok-label.ensures.further.end c.in_err-chain.ensures.refused)
+field-returns-in_err-chain-clause-refused t c = passed_on_each c.args.room c.from_residual-in_err-chain.result c.from_residual-in_err-chain.ensures.1 (λ top. field_refused top c.in_ok-label.label c.in_ok-label.ensures.spelled c.in_ok-label.ensures.further.end c.in_err-chain.ensures.refused)
 
 pub field-returns-in_err-value-clause-refused : goal.field-returns-in_err-value-clause-refused
-field-returns-in_err-value-clause-refused t c =
-    err_from (λ r. (top : Bool) → Refused (levels_of (goals.entries top) + c.args.room) c.args.cursor.end (goals.entries top ∷ []) c.args.cursor.rest.now r) c.from_residual-in_err-value.result _ c.from_residual-in_err-value.ensures.1
-    (λ top. field_refused top c.in_ok-label.label c.in_ok-label.ensures.spelled c.in_ok-label.ensures.further.end (chain_value_refused c.in_ok-chain.chain.room c.in_ok-chain.chain.labels.items c.in_ok-chain.ensures.levels c.in_ok-chain.ensures.end c.in_ok-chain.ensures.moves c.in_ok-chain.ensures.whole c.in_err-value.ensures.refused))
+field-returns-in_err-value-clause-refused t c = passed_on_each c.args.room c.from_residual-in_err-value.result c.from_residual-in_err-value.ensures.1 (λ top. field_refused top c.in_ok-label.label c.in_ok-label.ensures.spelled c.in_ok-label.ensures.further.end (chain_value_refused c.in_ok-chain.chain.room c.in_ok-chain.chain.labels.items c.in_ok-chain.ensures.levels c.in_ok-chain.ensures.end c.in_ok-chain.ensures.moves c.in_ok-chain.ensures.whole c.in_err-value.ensures.refused))
 
 pub field-returns-clause-moves : goal.field-returns-clause-moves
-field-returns-clause-moves t c top =
-    field_moves top c.in_ok-label.label c.in_ok-label.ensures.spelled (chain_value c.in_ok-chain.chain.room c.in_ok-chain.chain.labels.items c.in_ok-chain.ensures.levels c.in_ok-chain.ensures.moves c.in_ok-chain.ensures.whole c.in_ok-value.ensures.further.shorter c.in_ok-value.ensures.moves)
+field-returns-clause-moves t c top = field_moves top c.in_ok-label.label c.in_ok-label.ensures.spelled (chain_value c.in_ok-chain.chain.room c.in_ok-chain.chain.labels.items c.in_ok-chain.ensures.levels c.in_ok-chain.ensures.moves c.in_ok-chain.ensures.whole c.in_ok-value.ensures.further.shorter c.in_ok-value.ensures.moves)
 
 pub definition-returns-in_err-chain-clause-refused : goal.definition-returns-in_err-chain-clause-refused
 definition-returns-in_err-chain-clause-refused t c =
     let kind : c.in-Some.token.now.kind ≡ kinds.Definition c.share-name.result = search rules in
-    err_from (λ r. Refused (c.args.room) c.args.cursor.end (goals.entries true ∷ []) c.args.cursor.rest.now r) c.from_residual-in_err-chain.result _ c.from_residual-in_err-chain.ensures.1
-    (definition_refused (reads_one_at c.in-Some.token.now c.in-Some.ensures.first kind) c.in_ok-after.ensures.reads (c.in_ok-after.ensures.further.end ∙ c.in-Some.ensures.end) c.in_err-chain.ensures.refused)
+    passed_on c.from_residual-in_err-chain.result c.from_residual-in_err-chain.ensures.1 (definition_refused (reads_one_at c.in-Some.token.now c.in-Some.ensures.first kind) c.in_ok-after.ensures.reads (c.in_ok-after.ensures.further.end ∙ c.in-Some.ensures.end) c.in_err-chain.ensures.refused)
 
 pub definition-returns-in_err-value-clause-refused : goal.definition-returns-in_err-value-clause-refused
 definition-returns-in_err-value-clause-refused t c =
     let kind : c.in-Some.token.now.kind ≡ kinds.Definition c.share-name.result = search rules in
-    err_from (λ r. Refused (c.args.room) c.args.cursor.end (goals.entries true ∷ []) c.args.cursor.rest.now r) c.from_residual-in_err-value.result _ c.from_residual-in_err-value.ensures.1
-    (definition_refused (reads_one_at c.in-Some.token.now c.in-Some.ensures.first kind) c.in_ok-after.ensures.reads (c.in_ok-after.ensures.further.end ∙ c.in-Some.ensures.end) (chain_value_refused c.in_ok-chain.chain.room c.in_ok-chain.chain.labels.items c.in_ok-chain.ensures.levels c.in_ok-chain.ensures.end c.in_ok-chain.ensures.moves c.in_ok-chain.ensures.whole c.in_err-value.ensures.refused))
+    passed_on c.from_residual-in_err-value.result c.from_residual-in_err-value.ensures.1 (definition_refused (reads_one_at c.in-Some.token.now c.in-Some.ensures.first kind) c.in_ok-after.ensures.reads (c.in_ok-after.ensures.further.end ∙ c.in-Some.ensures.end) (chain_value_refused c.in_ok-chain.chain.room c.in_ok-chain.chain.labels.items c.in_ok-chain.ensures.levels c.in_ok-chain.ensures.end c.in_ok-chain.ensures.moves c.in_ok-chain.ensures.whole c.in_err-value.ensures.refused))
 
 pub definition-returns-clause-moves : goal.definition-returns-clause-moves
 definition-returns-clause-moves t c =
