@@ -1,11 +1,13 @@
 -- When all members of a set of texts are members of another.
-use Rattle.std.proofs.Common.{◌≡◌, ◌↔◌, ℕ, suc, ◌+◌, ◌<◌, Bool, true, false, not, ◌||◌, IsTrue, List, [], ◌∷◌, length, get_or, refl, sym, ap, ◌∙◌, subst, arith}
+use Rattle.std.proofs.Common.{◌≡◌, ◌↔◌, ℕ, suc, ◌+◌, ◌<◌, Bool, true, false, not, ◌&&◌, ◌||◌, IsTrue, List, [], ◌∷◌, length, get_or, refl, sym, ap, ◌∙◌, subst, arith}
 use mathlib.Core.Bool.{beq}
 use Rattle.std.specs.Str.{bytes_eq}
 use Rattle.std.proofs.lemmas.Bool.{false≢true}
 use Rattle.std.proofs.lemmas.Slice.Eq.{bytes_eq-Decides}
-use Rattle.cue_sets.specs.Texts.{is_listed, flipped, is_text_member}
-use Rattle.cue_sets.specs.TextLaws.{greatest_length, zeros, is_listed-zeros}
+use Rattle.cue_sets.specs.Texts.{is_listed, flipped, is_text_member, IsAscending}
+use Rattle.cue_sets.specs.Merge.{merged}
+use Rattle.cue_sets.specs.TextLaws.{greatest_length, zeros, is_listed-zeros, first_is_listed}
+use Rattle.cue_sets.proofs.Merged.{is_listed-merged}
 use Rattle.cue_sets.proofs.TextSearch.{listed_at}
 
 -- the other list has each of these texts, or none of them
@@ -98,3 +100,36 @@ cofinite_answer r a b xs ys d e p q h =
     let k : IsTrue r ↔ EachIsListed b.1 a.1 true = rw (← p, ← q) h in
     let w = cofinite_within a b d e in
     (λ t. w.0 (k.0 t), λ t. k.1 (w.1 t))
+
+-- ---- by one walk over both lists
+-- a text of the first list is amiss where the second one doesn't have it as it is wanted
+abbrev pub is_amiss : Bool → Bool → Bool → Bool
+is_amiss wanted in_texts in_others = in_texts && not (beq in_others wanted)
+
+not_amiss : (wanted in_others : Bool) → is_amiss wanted true in_others ≡ false → in_others ≡ wanted
+not_amiss true true e = refl
+not_amiss true false e = sym e
+not_amiss false true e = e
+not_amiss false false e = refl
+
+is_wanted : (wanted in_texts in_others : Bool) → (in_texts ≡ true → in_others ≡ wanted) → is_amiss wanted in_texts in_others ≡ false
+is_wanted wanted false in_others h = refl
+is_wanted true true in_others h = rw (h refl) refl
+is_wanted false true in_others h = rw (h refl) refl
+
+-- no text is amiss
+pub none_amiss : (texts others : List (List ℕ)) (wanted : Bool) → IsAscending texts → IsAscending others → merged (is_amiss wanted) texts others ≡ [] → EachIsListed texts others wanted
+none_amiss texts others wanted a b e text listed =
+    not_amiss wanted (is_listed others text)
+    (ap (λ r. is_amiss wanted r (is_listed others text)) (sym listed)
+    ∙ sym (is_listed-merged (is_amiss wanted) texts others text refl a b)
+    ∙ ap (λ ts. is_listed ts text) e)
+
+-- some text is amiss
+pub some_amiss : (texts others later : List (List ℕ)) (wanted : Bool) (text : List ℕ) → IsAscending texts → IsAscending others → merged (is_amiss wanted) texts others ≡ text ∷ later → EachIsListed texts others wanted → ⊥
+some_amiss texts others later wanted text a b e h =
+    false≢true
+    (sym (is_wanted wanted (is_listed texts text) (is_listed others text) (h text))
+    ∙ sym (is_listed-merged (is_amiss wanted) texts others text refl a b)
+    ∙ ap (λ ts. is_listed ts text) e
+    ∙ first_is_listed text later)

@@ -3,6 +3,7 @@ ghost use Rattle.cue_sets.specs.Combination.{keeps};
 ghost use Rattle.cue_sets.specs.Texts.{is_text_member, IsAscending, IsFirstText, IsOnlyText};
 
 use crate::combination::Combination;
+use crate::moving::merge_moved;
 use crate::texts::{
     Lists, are_same, ascends, copies, each_is_listed, has, is_member, merge, zeros, zeros_listed,
 };
@@ -96,6 +97,22 @@ impl TextSet {
         self.combined(alloc, Combination::Union, other)
     }
 
+    /// The members of both sets, whose texts are moved and not copied.
+    pub fn into_meet(self, alloc: Global, other: TextSet) -> Result<TextSet, Memory>
+        ensures { IfOk result (λ met. (text : List ℕ) →
+            is_text_member met text ≡ (is_text_member self text && is_text_member other text)) }
+    {
+        self.into_combined(alloc, Combination::Meet, other)
+    }
+
+    /// The members of either set, whose texts are moved and not copied.
+    pub fn into_union(self, alloc: Global, other: TextSet) -> Result<TextSet, Memory>
+        ensures { IfOk result (λ all. (text : List ℕ) →
+            is_text_member all text ≡ (is_text_member self text || is_text_member other text)) }
+    {
+        self.into_combined(alloc, Combination::Union, other)
+    }
+
     /// The members of this set that the other lacks.
     pub fn without(&self, alloc: Global, other: &TextSet) -> Result<TextSet, Memory>
         ensures { IfOk result (λ rest. (text : List ℕ) →
@@ -187,6 +204,26 @@ impl TextSet {
         Ok(TextSet {
             all_but: lists.all_but(),
             texts: merge(alloc, lists, self.texts.as_slice(), other.texts.as_slice())?,
+        })
+    }
+
+    fn into_combined(
+        self,
+        alloc: Global,
+        how: Combination,
+        other: TextSet,
+    ) -> Result<TextSet, Memory>
+        ensures { IfOk result (λ set. (text : List ℕ) →
+            is_text_member set text ≡ keeps how (is_text_member self text) (is_text_member other text)) }
+    {
+        let lists = Lists {
+            how,
+            left_all_but: self.all_but,
+            right_all_but: other.all_but,
+        };
+        Ok(TextSet {
+            all_but: lists.all_but(),
+            texts: merge_moved(alloc, lists, self.texts, other.texts)?,
         })
     }
 

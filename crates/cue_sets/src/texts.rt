@@ -35,7 +35,7 @@ impl Lists {
     }
 
     /// Whether the combination lists a text, by which of the two sets list it.
-    fn keeps(self, in_left: bool, in_right: bool) -> bool
+    pub(crate) fn keeps(self, in_left: bool, in_right: bool) -> bool
         ensures { result ≡ lists self.how self.left_all_but self.right_all_but in_left in_right }
     {
         let kept = self.how.keeps(
@@ -155,8 +155,22 @@ pub(crate) fn ascends(texts: &[Text]) -> bool
     true
 }
 
-/// Whether the other list has each of these texts, or, if `wanted` is false, has none of them.
+/// Whether the other list has each of these texts, or, if `wanted` is false, has none of them. A few texts are looked up
+/// one by one, and many are walked side by side with the other list.
 pub(crate) fn each_is_listed(texts: &[Text], others: &[Text], wanted: bool) -> bool
+    requires texts { IsAscending texts.now }
+    requires others { IsAscending others.now }
+    ensures { IsTrue result ↔
+        ((text : List ℕ) → is_listed texts.now text ≡ true → is_listed others.now text ≡ wanted) }
+{
+    if texts.len() < others.len() / 16 {
+        return each_is_found(texts, others, wanted);
+    }
+    each_is_met(texts, others, wanted)
+}
+
+/// What `each_is_listed` answers, by a search for each of the texts.
+fn each_is_found(texts: &[Text], others: &[Text], wanted: bool) -> bool
     requires { IsAscending others.now }
     ensures { IsTrue result ↔
         ((text : List ℕ) → is_listed texts.now text ≡ true → is_listed others.now text ≡ wanted) }
@@ -165,6 +179,24 @@ pub(crate) fn each_is_listed(texts: &[Text], others: &[Text], wanted: bool) -> b
         if has(others, text.as_str()) != wanted {
             return false;
         }
+    }
+    true
+}
+
+/// What `each_is_listed` answers, by one walk over both lists.
+fn each_is_met(texts: &[Text], others: &[Text], wanted: bool) -> bool
+    requires texts { IsAscending texts.now }
+    requires others { IsAscending others.now }
+    ensures { IsTrue result ↔
+        ((text : List ℕ) → is_listed texts.now text ≡ true → is_listed others.now text ≡ wanted) }
+{
+    let (mut left, mut right) = (texts, others);
+    while let Some(next) = least_text(left, right) {
+        if next.in_left && next.in_right != wanted {
+            return false;
+        }
+        left = next.left;
+        right = next.right;
     }
     true
 }

@@ -216,6 +216,16 @@ fn the_listed_texts_ascend(rt: HostRuntime) -> Result<(), Fail> {
 }
 
 #[test]
+fn texts_that_are_moved(rt: HostRuntime) -> Result<(), Fail> {
+    let alloc = rt.alloc();
+    let both = TextSet::one(alloc, "b")?.into_union(alloc, TextSet::one(alloc, "a")?)?;
+    assert_eq!(rt; both.listed().1.len(), 2);
+    let one = both.into_meet(alloc, TextSet::but(alloc, "a")?)?;
+    assert_eq!(rt; one.single(), Some("b"));
+    Ok(())
+}
+
+#[test]
 fn the_first_of_all_texts(rt: HostRuntime) -> Result<(), Fail> {
     let alloc = rt.alloc();
     let empty = TextSet::all(alloc)?.first(alloc)?;

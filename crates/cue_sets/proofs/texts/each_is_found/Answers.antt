@@ -2,7 +2,7 @@ use Rattle.std.proofs.Common.{refl, ◌∙◌, ap, arith}
 use Rattle.std.proofs.lemmas.Bool.{false≢true}
 use Rattle.cue_sets.specs.Texts.{is_listed}
 use Rattle.cue_sets.proofs.Within.{each_by_place, not_each, unlike}
-use Rattle.cue_sets.proofs.texts.each_is_listed.Goals as goal
+use Rattle.cue_sets.proofs.texts.each_is_found.Goals as goal
 
 pub returns-then-has-wanted : goal.returns-then-has-wanted
 returns-then-has-wanted c = (

@@ -1,0 +1,15 @@
+use Rattle.cue_sets.specs.Merge.{lists}
+use Rattle.cue_sets.proofs.Merged.{IsAscending-merged, is_text_member-merged}
+use Rattle.cue_sets.proofs.text_set.TextSet.into_combined.Goals as goal
+
+pub invariant_of-result : goal.invariant_of-result
+invariant_of-result c =
+    let left = c.self.inside in let right = c.other.inside in
+    rw c.in_ok-merge_moved.ensures
+    (IsAscending-merged (lists c.args.how left.all_but right.all_but) left.texts.items right.texts.items c.self.invariant c.other.invariant)
+
+pub returns : goal.returns
+returns c = λ text.
+    let left = c.self.inside in let right = c.other.inside in
+    rw (c.in_ok-merge_moved.ensures, c.all_but.ensures, ← c.self.view_is, ← c.other.view_is)
+    (is_text_member-merged c.args.how (left.all_but, left.texts.items) (right.all_but, right.texts.items) text c.self.invariant c.other.invariant)
