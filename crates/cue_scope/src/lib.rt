@@ -12,6 +12,8 @@ mod names;
 mod resolved;
 mod scope;
 
+pub use cue_lattice::Refusal;
+pub use cue_syntax::{Declaration, Expr, File, Label};
 pub use definitions::{Definition, Definitions};
 pub use graph::{Order, order_of, reached};
 pub use named::{Named, is_literal};
