@@ -1,5 +1,5 @@
 -- What the functions of the parser say of what they read, and of where they stop, from one cursor to the next.
-use Rattle.std.specs.Prelude.{◌≡◌, ◌<◌, ℕ, length}
+use Rattle.std.specs.Prelude.{◌≡◌, ◌≤◌, ◌<◌, ℕ, length}
 use Rattle.cue_syntax.specs.declared.cursor.Cursor.{Cursor}
 use Rattle.cue_syntax.specs.declared.stop.Stop.{Stop}
 use Rattle.cue_syntax.specs.declared.tree.Expr.{Expr}
@@ -11,6 +11,13 @@ use Rattle.cue_syntax.specs.Recogniser.{Stack, Moves, Refused}
 pub record IsFurther (before after : Cursor) : Type 0 where
   -- a token was read at least
   pub shorter : length after.rest.now < length before.rest.now
+  -- the text ends where it did
+  pub end : after.end ≡ before.end
+
+-- The second cursor stands where the first does, or further on in its text.
+pub record IsOnward (before after : Cursor) : Type 0 where
+  -- no token is left that was read before
+  pub no_longer : length after.rest.now ≤ length before.rest.now
   -- the text ends where it did
   pub end : after.end ≡ before.end
 

@@ -1,8 +1,8 @@
-ghost use Rattle.std.specs.Prelude.{◌≡◌, ◌+◌, ◌≤◌, ◌<◌, ◌∷◌, ◌↔◌, [], IfOk, IfErr, IfSome, IfNone};
+ghost use Rattle.std.specs.Prelude.{◌≡◌, ◌+◌, ◌<◌, ◌∷◌, ◌↔◌, [], IfOk, IfErr, IfSome, IfNone};
 ghost use Rattle.std.specs.Prelude.{length, MatchOption, IsTrue, false, codes};
 ghost use Rattle.cue_syntax.specs.Spelling.{Reads, one, one_at, comma_if, IsPlace};
 ghost use Rattle.cue_syntax.specs.Operands.{IsOperandAt};
-ghost use Rattle.cue_syntax.specs.Parsed.{IsFurther};
+ghost use Rattle.cue_syntax.specs.Parsed.{IsFurther, IsOnward};
 ghost use Rattle.cue_lattice.specs.Refusal.{refusal_at};
 ghost use Rattle.cue_syntax.specs.Stops.{at_hand};
 ghost use Rattle.cue_syntax.specs.Viability.{place_of, Stands, StandsSign, BeginsExpression};
@@ -99,10 +99,9 @@ impl<'a> Cursor<'a> {
 
     /// Whether a comma stands at hand, and the cursor after it.
     pub fn trailing_comma(self) -> (bool, Cursor<'a>)
-        ensures shorter { length result.1.rest.now ≤ length self.entry.rest.now }
+        ensures onward { IsOnward self.entry result.1 }
         ensures reads { Reads self.entry.rest.now (comma_if result.0) result.1.rest.now }
         ensures taken { IsTrue result.0 → length result.1.rest.now < length self.entry.rest.now }
-        ensures end { result.1.end ≡ self.entry.end }
         ensures missing { result.0 ≡ false → ¬ StandsSign (TokenKind.Mark Punctuation.Comma)
             self.entry.rest.now }
     {

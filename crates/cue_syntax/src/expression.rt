@@ -1,5 +1,5 @@
-ghost use Rattle.std.specs.Prelude.{◌≡◌, ◌+◌, ◌≤◌, ◌⊎◌, ◌↔◌, ◌∷◌, [], IfOk, IfErr, IsTrue};
-ghost use Rattle.std.specs.Prelude.{Bool, false, true, length};
+ghost use Rattle.std.specs.Prelude.{◌≡◌, ◌+◌, ◌⊎◌, ◌↔◌, ◌∷◌, [], IfOk, IfErr, IsTrue};
+ghost use Rattle.std.specs.Prelude.{Bool, false, true};
 ghost use Rattle.cue_syntax.specs.Syntax.{expression, branch_tree, entry_tree, elements, entries};
 ghost use Rattle.cue_syntax.specs.Grammar.{IsUnary, IsConjunct, IsNested, AreNested};
 ghost use Rattle.cue_syntax.specs.Grammar.{IsTermOf, IsEntry, AreElements, AreEntries, AreBraced};
@@ -7,7 +7,8 @@ ghost use Rattle.cue_syntax.specs.Viability.{StandsSign, IsCallOfClose, BeginsLa
 ghost use Rattle.cue_syntax.specs.Viability.{BeginsDefinition, EndsHere};
 ghost use Rattle.cue_syntax.specs.Recogniser as goals;
 ghost use Rattle.cue_syntax.specs.Recogniser.{row_goal, levels_of};
-ghost use Rattle.cue_syntax.specs.Parsed.{IsFurther, ReadsExpression, MovesBetween, Refuses};
+ghost use Rattle.cue_syntax.specs.Parsed.{IsFurther, IsOnward, ReadsExpression};
+ghost use Rattle.cue_syntax.specs.Parsed.{MovesBetween, Refuses};
 ghost use Rattle.std.specs.Prelude.{MatchResult};
 ghost use Rattle.cue_syntax.specs.Operands.{BeginsEntry};
 ghost use Rattle.cue_syntax.specs.Stops.{memory};
@@ -251,10 +252,9 @@ fn list<'a>(alloc: Global, cursor: Cursor<'a>, room: usize) -> Parsed<'a, Expr<'
 /// The elements of a list, up to its `...` or its end.
 #[cycle(parser)]
 fn elements<'a>(alloc: Global, cursor: Cursor<'a>, room: usize) -> Parsed<'a, Row<Expr<'a>>>
-    ensures shorter { IfOk result (λ r. length r.1.rest.now ≤ length cursor.entry.rest.now) }
+    ensures onward { IfOk result (λ r. IsOnward cursor.entry r.1) }
     ensures spelled { IfOk result (λ r.
         AreElements room cursor.entry.rest.now (elements r.0.items.items) r.0.comma r.1.rest.now) }
-    ensures end { IfOk result (λ r. r.1.end ≡ cursor.entry.end) }
     ensures moves { IfOk result (λ r. MovesBetween (1 + room) (goals.elements ∷ [])
         (row_goal goals.elements goals.more_elements r.0.comma r.0.items.items ∷ [])
         cursor.entry r.1) }
@@ -284,10 +284,9 @@ fn elements<'a>(alloc: Global, cursor: Cursor<'a>, room: usize) -> Parsed<'a, Ro
 /// Declarations and the brace that closes them.
 #[cycle(parser)]
 fn braces<'a>(alloc: Global, cursor: Cursor<'a>, room: usize) -> Parsed<'a, Row<Declaration<'a>>>
-    ensures shorter { IfOk result (λ r. length r.1.rest.now ≤ length cursor.entry.rest.now) }
+    ensures onward { IfOk result (λ r. IsOnward cursor.entry r.1) }
     ensures spelled { IfOk result (λ r.
         AreBraced room cursor.entry.rest.now (entries r.0.items.items) r.0.comma r.1.rest.now) }
-    ensures end { IfOk result (λ r. r.1.end ≡ cursor.entry.end) }
     ensures moves { IfOk result (λ r.
         MovesBetween (1 + room) (goals.entries false ∷ []) [] cursor.entry r.1) }
     ensures refused { IfErr result (Refuses (1 + room) (goals.entries false ∷ []) cursor.entry) }
@@ -305,11 +304,10 @@ pub fn declarations<'a>(
     top: bool,
     room: usize,
 ) -> Parsed<'a, Row<Declaration<'a>>>
-    ensures shorter { IfOk result (λ r. length r.1.rest.now ≤ length cursor.entry.rest.now) }
+    ensures onward { IfOk result (λ r. IsOnward cursor.entry r.1) }
     ensures spelled { IfOk result (λ r.
         AreEntries room cursor.entry.rest.now (entries r.0.items.items) r.0.comma r.1.rest.now) }
     ensures nested { IfOk result (λ r. top ≡ false → AreNested (entries r.0.items.items)) }
-    ensures end { IfOk result (λ r. r.1.end ≡ cursor.entry.end) }
     ensures moves { IfOk result (λ r. MovesBetween (levels_of (goals.entries top) + room)
         (goals.entries top ∷ [])
         (row_goal (goals.entries top) (goals.more_entries top) r.0.comma r.0.items.items ∷ [])

@@ -1,5 +1,5 @@
-ghost use Rattle.std.specs.Prelude.{◌≡◌, ◌+◌, ◌≤◌, ◌⊎◌, ◌++◌, ◌∷◌, [], ℕ, IfOk, IfErr, IfSome};
-ghost use Rattle.std.specs.Prelude.{MatchResult, IsTrue, ◌↔◌, true, false, length};
+ghost use Rattle.std.specs.Prelude.{◌≡◌, ◌⊎◌, ◌∷◌, [], IfOk, IfErr, IfSome};
+ghost use Rattle.std.specs.Prelude.{MatchResult, IsTrue, ◌↔◌, true, false};
 ghost use Rattle.cue_lattice.specs.Limits.{level_limit};
 ghost use Rattle.cue_lattice.specs.Refusal.{memory};
 ghost use Rattle.cue_lex.specs.Kinds.{EachHasWord};

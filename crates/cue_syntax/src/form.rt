@@ -1,6 +1,5 @@
-ghost use Rattle.std.specs.Prelude.{◌≡◌, ◌≤◌, ◌⊎◌, MatchOption, IfOk, IsTrue, ◌↔◌, length};
-ghost use Rattle.cue_lattice.specs.Refusal.{memory, refusal_at};
-ghost use Rattle.cue_syntax.specs.Viability.{Stands, NextSign, StandsSign, Next, IsMark, IsHidden};
+ghost use Rattle.std.specs.Prelude.{◌≤◌, MatchOption, IsTrue, ◌↔◌, length};
+ghost use Rattle.cue_syntax.specs.Viability.{Stands, NextSign, Next, IsMark, IsHidden};
 ghost use Rattle.cue_syntax.specs.Viability.{IsDefinition, IsCallable, BeginsClause, BeginsInteger};
 ghost use Rattle.cue_syntax.specs.Forms.{IsAt, HasNoForm, IsOfDeclaration, IsText, SeesLabel};
 ghost use Rattle.cue_syntax.specs.Forms.{SeesDynamicLabel, NextMark};

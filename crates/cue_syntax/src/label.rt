@@ -1,11 +1,11 @@
-ghost use Rattle.std.specs.Prelude.{◌≡◌, ◌+◌, ◌≤◌, ◌<◌, ◌⊎◌, ◌↔◌, ◌∷◌, [], ℕ, IfOk, IfErr, IsTrue};
+ghost use Rattle.std.specs.Prelude.{◌≡◌, ◌+◌, ◌⊎◌, ◌↔◌, ◌∷◌, [], IfOk, IfErr, IsTrue};
 ghost use Rattle.std.specs.Prelude.{length, flat_map};
 ghost use Rattle.cue_syntax.specs.Stops.{memory};
 ghost use Rattle.cue_syntax.specs.Spelling.{Reads, one, spell_label, spell_mark, label_kind};
 ghost use Rattle.cue_syntax.specs.Viability.{Stands, StandsSign, BeginsLabel, IsLabelName};
 ghost use Rattle.cue_syntax.specs.Viability.{RefusesLabel, MissesColon};
 ghost use Rattle.cue_syntax.specs.Recogniser.{value, chains};
-ghost use Rattle.cue_syntax.specs.Parsed.{IsFurther, MovesBetween, Refuses};
+ghost use Rattle.cue_syntax.specs.Parsed.{IsFurther, IsOnward, MovesBetween, Refuses};
 
 use crate::cursor::{Cursor, Parsed};
 use crate::memory::push;
@@ -83,10 +83,9 @@ pub fn label<'a>(cursor: Cursor<'a>) -> Parsed<'a, Label<'a>>
 
 fn label_name<'a>(cursor: Cursor<'a>) -> Parsed<'a, LabelName<'a>>
     requires { Stands IsLabelName cursor.rest.now }
-    ensures shorter { IfOk result (λ r. length r.1.rest.now ≤ length cursor.entry.rest.now) }
+    ensures onward { IfOk result (λ r. IsOnward cursor.entry r.1) }
     ensures spelled { IfOk result (λ r. Reads cursor.entry.rest.now (one (label_kind r.0))
         r.1.rest.now) }
-    ensures end { IfOk result (λ r. r.1.end ≡ cursor.entry.end) }
     ensures memory { IfErr result (λ r. r ≡ memory) }
 {
     let Some((token, after)) = cursor.next() else {
@@ -101,9 +100,8 @@ fn label_name<'a>(cursor: Cursor<'a>) -> Parsed<'a, LabelName<'a>>
 
 /// The mark before a colon.
 fn mark<'a>(cursor: Cursor<'a>) -> (Mark, Cursor<'a>)
-    ensures shorter { length result.1.rest.now ≤ length cursor.entry.rest.now }
+    ensures onward { IsOnward cursor.entry result.1 }
     ensures spelled { Reads cursor.entry.rest.now (spell_mark result.0) result.1.rest.now }
-    ensures end { result.1.end ≡ cursor.entry.end }
     ensures question { result.0 ≡ Mark.Regular → ¬ StandsSign (TokenKind.Mark Punctuation.Question)
         cursor.entry.rest.now }
     ensures exclamation { result.0 ≡ Mark.Regular
@@ -121,11 +119,10 @@ fn mark<'a>(cursor: Cursor<'a>) -> (Mark, Cursor<'a>)
 
 /// The labels between a first label and its value. Each opens a level.
 pub fn labels<'a>(alloc: Global, cursor: Cursor<'a>, room: usize) -> Result<Chain<'a>, Stop>
-    ensures shorter { IfOk result (λ c. length c.after.rest.now ≤ length cursor.entry.rest.now) }
+    ensures onward { IfOk result (λ c. IsOnward cursor.entry c.after) }
     ensures levels { IfOk result (λ c. c.room + length c.labels.items ≡ room) }
     ensures spelled { IfOk result (λ c.
         Reads cursor.entry.rest.now (flat_map spell_label c.labels.items) c.after.rest.now) }
-    ensures end { IfOk result (λ c. c.after.end ≡ cursor.entry.end) }
     ensures whole { IfOk result (λ c. ¬ BeginsLabel c.after.rest.now) }
     ensures moves { IfOk result (λ c.
         MovesBetween room (value ∷ []) (value ∷ chains c.labels.items) cursor.entry c.after) }

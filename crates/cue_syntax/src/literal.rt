@@ -1,10 +1,8 @@
-ghost use Rattle.std.specs.Prelude.{◌≡◌, ◌+◌, ◌≤◌, ◌<◌, ◌++◌, ◌∷◌, [], ◌↔◌, ℕ, IfOk, IfErr, IsTrue};
-ghost use Rattle.std.specs.Prelude.{length};
-ghost use Rattle.cue_syntax.specs.Syntax.{expression};
-ghost use Rattle.cue_syntax.specs.Spelling.{Reads, one, spell, spell_sign, spell_signed};
+ghost use Rattle.std.specs.Prelude.{◌≡◌, ◌∷◌, [], ◌↔◌, IfOk, IfErr, IsTrue};
+ghost use Rattle.cue_syntax.specs.Spelling.{Reads, one, spell_signed};
 ghost use Rattle.cue_syntax.specs.Spelling.{identifier_kind, comparison_kind};
 ghost use Rattle.cue_syntax.specs.Grammar as Grammar;
-ghost use Rattle.cue_syntax.specs.Grammar.{IsInRange, IsUnary, IsOperand, IsRight};
+ghost use Rattle.cue_syntax.specs.Grammar.{IsInRange, IsOperand};
 ghost use Rattle.cue_syntax.specs.Grammar.{IsClause, IsKeyword};
 ghost use Rattle.cue_syntax.specs.Viability.{Stands, StandsSign, Opens, IsCallOfClose};
 ghost use Rattle.cue_syntax.specs.Viability.{IsIdentifier, IsComparison, BeginsInteger};

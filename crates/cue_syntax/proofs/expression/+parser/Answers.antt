@@ -123,14 +123,14 @@ declarations-declarations-preserved t c =
     let l = c.declarations in
     let pushed : c.push.new.values.items ≡ l.items.items ++ c.in_ok-item.item ∷ [] = search rules in
     record {
-      shorter = omega (arith, c.in_ok-item.ensures.further.shorter, c.trailing_comma.ensures.shorter);
+      shorter = omega (arith, c.in_ok-item.ensures.further.shorter, c.trailing_comma.ensures.onward.no_longer);
       row = subst (λ z. AreEntries c.args.room c.args.cursor.rest.now (entries z) c.trailing_comma.result.0 c.trailing_comma.result.1.rest.now) (sym pushed)
           (entries_next l.items.items l.comma c.in_ok-item.item c.trailing_comma.result.0 l.invariant.row l.invariant.between c.in_ok-item.ensures.spelled c.trailing_comma.ensures.reads);
       between = subst (λ z. Between c.trailing_comma.result.0 z) (sym pushed)
           (between_pushed c.trailing_comma.result.0 l.items.items c.in_ok-item.item c.if-not-comma.false);
       nested = λ below. subst (λ z. AreNested (entries z)) (sym pushed)
           (nested_pushed l.items.items c.in_ok-item.item (l.invariant.nested below) (c.in_ok-item.ensures.nested below));
-      end = c.trailing_comma.ensures.end ∙ c.in_ok-item.ensures.further.end ∙ l.invariant.end;
+      end = c.trailing_comma.ensures.onward.end ∙ c.in_ok-item.ensures.further.end ∙ l.invariant.end;
       begins = inr (begun l.rest.rest.now c.args.cursor.rest.now l.invariant.begins c.in_ok-item.ensures.begins);
       moves = moves_then l.invariant.moves (moves_then c.in_ok-item.ensures.moves (entry_next c.args.top c.trailing_comma.result.0 c.if-not-comma.false (omega arith) c.trailing_comma.ensures.reads));
     }
@@ -156,12 +156,12 @@ elements-elements-preserved t c =
     let l = c.elements in
     let pushed : c.push.new.values.items ≡ l.items.items ++ c.in_ok-element.element ∷ [] = search rules in
     record {
-      shorter = omega (arith, c.in_ok-element.ensures.further.shorter, c.trailing_comma.ensures.shorter);
+      shorter = omega (arith, c.in_ok-element.ensures.further.shorter, c.trailing_comma.ensures.onward.no_longer);
       row = subst (λ z. AreElements c.args.room c.args.cursor.rest.now (elements z) c.trailing_comma.result.0 c.trailing_comma.result.1.rest.now) (sym pushed)
           (elements_next l.items.items l.comma c.in_ok-element.element c.trailing_comma.result.0 l.invariant.row l.invariant.between c.in_ok-element.ensures.spelled c.trailing_comma.ensures.reads);
       between = subst (λ z. Between c.trailing_comma.result.0 z) (sym pushed)
           (between_pushed c.trailing_comma.result.0 l.items.items c.in_ok-element.element c.if-not-comma.false);
-      end = c.trailing_comma.ensures.end ∙ c.in_ok-element.ensures.further.end ∙ l.invariant.end;
+      end = c.trailing_comma.ensures.onward.end ∙ c.in_ok-element.ensures.further.end ∙ l.invariant.end;
       moves =
           let close : ¬ StandsSign (kinds.Mark points.CloseBracket) l.rest.rest.now = search rules in
           let dots : ¬ StandsSign (kinds.Mark points.Ellipsis) l.rest.rest.now = search rules in
@@ -259,7 +259,7 @@ parenthesis-returns-in_err-inner-clause-refused t c = passed_on c.from_residual-
 
 pub parenthesis-returns-in_err-rest-clause-refused : goal.parenthesis-returns-in_err-rest-clause-refused
 parenthesis-returns-in_err-rest-clause-refused t c = passed_on c.from_residual-in_err-rest.result c.from_residual-in_err-rest.ensures.1
-    (refused_behind (moves_then (parenthesis_opens c.in_ok-inside.ensures.left c.in_ok-open.ensures.reads c.in_ok-inner.ensures.moves) (inner_comma c.trailing_comma-comma.result.0 (omega (arith, c.in_ok-inside.ensures.left)) c.trailing_comma-comma.ensures.reads)) (refused_end (c.trailing_comma-comma.ensures.end ∙ c.in_ok-inner.ensures.further.end ∙ c.in_ok-open.ensures.further.end)
+    (refused_behind (moves_then (parenthesis_opens c.in_ok-inside.ensures.left c.in_ok-open.ensures.reads c.in_ok-inner.ensures.moves) (inner_comma c.trailing_comma-comma.result.0 (omega (arith, c.in_ok-inside.ensures.left)) c.trailing_comma-comma.ensures.reads)) (refused_end (c.trailing_comma-comma.ensures.onward.end ∙ c.in_ok-inner.ensures.further.end ∙ c.in_ok-open.ensures.further.end)
     (stopped (stops_here c.in_err-rest.ensures.refused (inner_halts c.trailing_comma-comma.result.0 c.trailing_comma-comma.ensures.reads c.trailing_comma-comma.ensures.missing c.in_err-rest.ensures.missing)))))
 
 pub parenthesis-returns-clause-moves : goal.parenthesis-returns-clause-moves
@@ -288,7 +288,7 @@ close-returns-in_err-row-clause-refused t c = passed_on c.from_residual-in_err-r
 
 pub close-returns-in_err-rest-clause-refused : goal.close-returns-in_err-rest-clause-refused
 close-returns-in_err-rest-clause-refused t c = passed_on c.from_residual-in_err-rest.result c.from_residual-in_err-rest.ensures.1
-    (refused_behind (moves_then (close_moves c.in_ok-last.last c.in_ok-inside.ensures.left c.in_ok-last.ensures.left c.in_ok-from.ensures.reads c.in_ok-open.ensures.reads c.in_ok-brace.ensures.reads c.in_ok-row.ensures.moves) (inner_comma c.trailing_comma-comma.result.0 (omega (arith, c.in_ok-inside.ensures.left)) c.trailing_comma-comma.ensures.reads)) (refused_end (c.trailing_comma-comma.ensures.end ∙ c.in_ok-row.ensures.end ∙ (c.in_ok-brace.ensures.further.end ∙ c.in_ok-open.ensures.further.end ∙ c.in_ok-from.ensures.further.end))
+    (refused_behind (moves_then (close_moves c.in_ok-last.last c.in_ok-inside.ensures.left c.in_ok-last.ensures.left c.in_ok-from.ensures.reads c.in_ok-open.ensures.reads c.in_ok-brace.ensures.reads c.in_ok-row.ensures.moves) (inner_comma c.trailing_comma-comma.result.0 (omega (arith, c.in_ok-inside.ensures.left)) c.trailing_comma-comma.ensures.reads)) (refused_end (c.trailing_comma-comma.ensures.onward.end ∙ c.in_ok-row.ensures.onward.end ∙ (c.in_ok-brace.ensures.further.end ∙ c.in_ok-open.ensures.further.end ∙ c.in_ok-from.ensures.further.end))
     (stopped (stops_here c.in_err-rest.ensures.refused (inner_halts c.trailing_comma-comma.result.0 c.trailing_comma-comma.ensures.reads c.trailing_comma-comma.ensures.missing c.in_err-rest.ensures.missing)))))
 
 pub close-returns-clause-moves : goal.close-returns-clause-moves
@@ -296,7 +296,7 @@ close-returns-clause-moves t c = moves_then (moves_then (close_moves c.in_ok-las
 
 pub braces-returns-in_err-rest-clause-refused : goal.braces-returns-in_err-rest-clause-refused
 braces-returns-in_err-rest-clause-refused t c = passed_on c.from_residual-in_err-rest.result c.from_residual-in_err-rest.ensures.1
-    (refused_behind c.in_ok-row.ensures.moves (refused_end c.in_ok-row.ensures.end (stopped (stops_here c.in_err-rest.ensures.refused
+    (refused_behind c.in_ok-row.ensures.moves (refused_end c.in_ok-row.ensures.onward.end (stopped (stops_here c.in_err-rest.ensures.refused
     (braces_halt c.in_ok-row.row.comma c.in_ok-row.row.items.items c.in_ok-row.ensures.last c.in_ok-row.ensures.open c.in_err-rest.ensures.missing)))))
 
 pub braces-returns-clause-moves : goal.braces-returns-clause-moves
@@ -344,7 +344,7 @@ list-returns-in_err-rest-clause-refused t c =
           inr (nil_from_length items.items zero)
     ] in
     passed_on c.from_residual-in_err-rest.result c.from_residual-in_err-rest.ensures.1
-    (refused_behind (moves_then (moves_then (list_opens c.in_ok-inside.inside c.in_ok-inside.ensures.left c.in_ok-open.ensures.reads c.in_ok-row.ensures.moves) (open_ellipsis c.in_ok-row.row.comma items.items (omega (arith, c.in_ok-inside.ensures.left)) which c.in-Some.ensures.reads)) (ellipsis_comma c.trailing_comma-comma.result.0 (omega (arith, c.in_ok-inside.ensures.left)) c.trailing_comma-comma.ensures.reads)) (refused_end (c.trailing_comma-comma.ensures.end ∙ c.in-Some.ensures.further.end ∙ c.in_ok-row.ensures.end ∙ c.in_ok-open.ensures.further.end)
+    (refused_behind (moves_then (moves_then (list_opens c.in_ok-inside.inside c.in_ok-inside.ensures.left c.in_ok-open.ensures.reads c.in_ok-row.ensures.moves) (open_ellipsis c.in_ok-row.row.comma items.items (omega (arith, c.in_ok-inside.ensures.left)) which c.in-Some.ensures.reads)) (ellipsis_comma c.trailing_comma-comma.result.0 (omega (arith, c.in_ok-inside.ensures.left)) c.trailing_comma-comma.ensures.reads)) (refused_end (c.trailing_comma-comma.ensures.onward.end ∙ c.in-Some.ensures.further.end ∙ c.in_ok-row.ensures.onward.end ∙ c.in_ok-open.ensures.further.end)
     (stopped (stops_here c.in_err-rest.ensures.refused (ellipsis_halts c.trailing_comma-comma.result.0 c.trailing_comma-comma.ensures.reads c.trailing_comma-comma.ensures.missing c.in_err-rest.ensures.missing)))))
 
 pub list-returns-in-Some-clause-moves : goal.list-returns-in-Some-clause-moves
@@ -371,7 +371,7 @@ list-returns-in_err-rest-2-clause-refused t c =
       ]
     ] in
     passed_on c.from_residual-in_err-rest-2.result c.from_residual-in_err-rest-2.ensures.1
-    (refused_behind (list_opens c.in_ok-inside.inside c.in_ok-inside.ensures.left c.in_ok-open.ensures.reads c.in_ok-row.ensures.moves) (refused_end (c.in_ok-row.ensures.end ∙ c.in_ok-open.ensures.further.end)
+    (refused_behind (list_opens c.in_ok-inside.inside c.in_ok-inside.ensures.left c.in_ok-open.ensures.reads c.in_ok-row.ensures.moves) (refused_end (c.in_ok-row.ensures.onward.end ∙ c.in_ok-open.ensures.further.end)
     (stopped (stops_here c.in_err-rest-2.ensures.refused (row_halts c.in_ok-row.row.comma c.in_ok-row.row.items.items c.in_ok-row.ensures.last shut c.in_err-rest-2.ensures.missing)))))
 
 pub list-returns-clause-moves : goal.list-returns-clause-moves
@@ -424,7 +424,7 @@ pub field-returns-in_err-chain-clause-refused : goal.field-returns-in_err-chain-
 field-returns-in_err-chain-clause-refused t c = passed_on_each c.args.room c.from_residual-in_err-chain.result c.from_residual-in_err-chain.ensures.1 (λ top. field_refused top c.in_ok-label.label c.in_ok-label.ensures.spelled c.in_ok-label.ensures.further.end c.in_err-chain.ensures.refused)
 
 pub field-returns-in_err-value-clause-refused : goal.field-returns-in_err-value-clause-refused
-field-returns-in_err-value-clause-refused t c = passed_on_each c.args.room c.from_residual-in_err-value.result c.from_residual-in_err-value.ensures.1 (λ top. field_refused top c.in_ok-label.label c.in_ok-label.ensures.spelled c.in_ok-label.ensures.further.end (chain_value_refused c.in_ok-chain.chain.room c.in_ok-chain.chain.labels.items c.in_ok-chain.ensures.levels c.in_ok-chain.ensures.end c.in_ok-chain.ensures.moves c.in_ok-chain.ensures.whole c.in_err-value.ensures.refused))
+field-returns-in_err-value-clause-refused t c = passed_on_each c.args.room c.from_residual-in_err-value.result c.from_residual-in_err-value.ensures.1 (λ top. field_refused top c.in_ok-label.label c.in_ok-label.ensures.spelled c.in_ok-label.ensures.further.end (chain_value_refused c.in_ok-chain.chain.room c.in_ok-chain.chain.labels.items c.in_ok-chain.ensures.levels c.in_ok-chain.ensures.onward.end c.in_ok-chain.ensures.moves c.in_ok-chain.ensures.whole c.in_err-value.ensures.refused))
 
 pub field-returns-clause-moves : goal.field-returns-clause-moves
 field-returns-clause-moves t c top = field_moves top c.in_ok-label.label c.in_ok-label.ensures.spelled (chain_value c.in_ok-chain.chain.room c.in_ok-chain.chain.labels.items c.in_ok-chain.ensures.levels c.in_ok-chain.ensures.moves c.in_ok-chain.ensures.whole c.in_ok-value.ensures.further.shorter c.in_ok-value.ensures.moves)
@@ -437,7 +437,7 @@ definition-returns-in_err-chain-clause-refused t c =
 pub definition-returns-in_err-value-clause-refused : goal.definition-returns-in_err-value-clause-refused
 definition-returns-in_err-value-clause-refused t c =
     let kind : c.in-Some.token.now.kind ≡ kinds.Definition c.share-name.result = search rules in
-    passed_on c.from_residual-in_err-value.result c.from_residual-in_err-value.ensures.1 (definition_refused (reads_one_at c.in-Some.token.now c.in-Some.ensures.first kind) c.in_ok-after.ensures.reads (c.in_ok-after.ensures.further.end ∙ c.in-Some.ensures.end) (chain_value_refused c.in_ok-chain.chain.room c.in_ok-chain.chain.labels.items c.in_ok-chain.ensures.levels c.in_ok-chain.ensures.end c.in_ok-chain.ensures.moves c.in_ok-chain.ensures.whole c.in_err-value.ensures.refused))
+    passed_on c.from_residual-in_err-value.result c.from_residual-in_err-value.ensures.1 (definition_refused (reads_one_at c.in-Some.token.now c.in-Some.ensures.first kind) c.in_ok-after.ensures.reads (c.in_ok-after.ensures.further.end ∙ c.in-Some.ensures.end) (chain_value_refused c.in_ok-chain.chain.room c.in_ok-chain.chain.labels.items c.in_ok-chain.ensures.levels c.in_ok-chain.ensures.onward.end c.in_ok-chain.ensures.moves c.in_ok-chain.ensures.whole c.in_err-value.ensures.refused))
 
 pub definition-returns-clause-moves : goal.definition-returns-clause-moves
 definition-returns-clause-moves t c =

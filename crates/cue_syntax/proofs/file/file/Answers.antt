@@ -15,7 +15,7 @@ returns-in_err-row-clause-refused c =
 pub returns-then-not-is_at_end-clause-refused : goal.returns-then-not-is_at_end-clause-refused
 returns-then-not-is_at_end-clause-refused c =
     let some : c.in_ok-row.rest.rest.now ≡ [] → ⊥ = search rules in
-    refused_behind (moves_then (moves_more (omega arith) c.in_ok-package.ensures.moves) c.in_ok-row.ensures.moves) (refused_end (c.in_ok-row.ensures.end ∙ c.in_ok-package.ensures.end)
+    refused_behind (moves_then (moves_more (omega arith) c.in_ok-package.ensures.moves) c.in_ok-row.ensures.moves) (refused_end (c.in_ok-row.ensures.onward.end ∙ c.in_ok-package.ensures.end)
     (stopped (stops_here c.syntax.ensures (top_halts c.in_ok-row.row.comma c.in_ok-row.row.items.items c.in_ok-row.ensures.last c.in_ok-row.ensures.open some))))
 
 pub invariant_of-result-2 : goal.invariant_of-result-2

@@ -17,7 +17,7 @@ returns-then-not-is_at_end-clause-refused c room =
     let some : c.trailing_comma-comma.result.1.rest.now ≡ [] → ⊥ = search rules in
     let halts = package_end_halts c.trailing_comma-comma.result.0 c.if-not-comma.true c.trailing_comma-comma.ensures.reads c.trailing_comma-comma.ensures.missing some in
     refused_behind (moves_more (omega arith) (moves_then (moves_then (text_package c.in-Some.token.now c.in-Some.ensures.first c.in-Name.is word) c.in_ok-name.ensures.moves) halts.0))
-    (refused_end (c.trailing_comma-comma.ensures.end ∙ c.in_ok-name.ensures.end ∙ c.in-Some.ensures.end) (stopped (stops_here c.syntax.ensures halts.1)))
+    (refused_end (c.trailing_comma-comma.ensures.onward.end ∙ c.in_ok-name.ensures.end ∙ c.in-Some.ensures.end) (stopped (stops_here c.syntax.ensures halts.1)))
 
 pub returns-clause-moves : goal.returns-clause-moves
 returns-clause-moves c =
