@@ -118,7 +118,7 @@ module _ {R Q : Type 0} where
       ap (λ t. map (behind (step_of x.step)) (rows_of x.node) ++ t) (rows_last front c)
       ∙ sym (append_assoc (map (behind (step_of x.step)) (rows_of x.node)) (rows_below (branches front)) (map (behind (step_of c.step)) (rows_of c.node)))
 
-  depth_last : (front : List (Child R Q)) (c : Child R Q) → children_depth (branches (front ++ c ∷ [])) ≡ max (children_depth (branches front)) (tree_depth c.node + 1)
+  pub depth_last : (front : List (Child R Q)) (c : Child R Q) → children_depth (branches (front ++ c ∷ [])) ≡ max (children_depth (branches front)) (tree_depth c.node + 1)
   depth_last [] c = omega arith
   depth_last (x ∷ front) c = omega (arith, depth_last front c)
 
@@ -135,7 +135,7 @@ module _ {R Q : Type 0} where
   last_form P (x ∷ front) c h = last_form P front c h.3
 
   -- one more branch behind all others
-  form_more : (P : R → Type 0) (cs : List (Child R Q)) (c : Child R Q) → last_cmp (step_of c.step) (branches cs) ≡ Less → AreBranches P (branches cs) → IsTaken c.node → IsTree P c.node → AreBranches P (branches (cs ++ c ∷ []))
+  pub form_more : (P : R → Type 0) (cs : List (Child R Q)) (c : Child R Q) → last_cmp (step_of c.step) (branches cs) ≡ Less → AreBranches P (branches cs) → IsTaken c.node → IsTree P c.node → AreBranches P (branches (cs ++ c ∷ []))
   form_more P [] c l h t k = (tt, t, k, tt)
   form_more P (x ∷ []) c l h t k = ((l, tt), h.1, h.2, (tt, t, k, tt))
   form_more P (x ∷ y ∷ cs) c l h t k =

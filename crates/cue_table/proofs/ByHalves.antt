@@ -100,7 +100,7 @@ module _ {R Q : Type 0} (refuses : R → Q → Type 0) where
       subst (λ ts. IsUnified refuses ts met) whole (unified_both (take half tables) (take (count - half) rest) left right met h k both)
 
   -- one branch alone refuses at its step what the branch does
-  one_branch :
+  pub one_branch :
       (step : Step) (tree : Tree R) (at : Step) (path : Path) (question : Q) → (o : Ordering) → step_cmp at step ≡ o
       → TableRefuses refuses (node None (child step tree none)) (at ∷ path) question ↔ ((step ≡ at) × TableRefuses refuses tree path question)
   one_branch step tree at path question Less e = (
@@ -118,12 +118,12 @@ module _ {R Q : Type 0} (refuses : R → Q → Type 0) where
         λ h. found_refuses refuses (Some tree) (find at (child step tree none)) (sym found) path question h.1,
       )
 
-  under_root : (step : Step) (tree : Tree R) (question : Q) → ¬ TableRefuses refuses (under step tree) [] question
+  pub under_root : (step : Step) (tree : Tree R) (question : Q) → ¬ TableRefuses refuses (under step tree) [] question
   under_root step (node None none) question h = h
   under_root step (node None (child next tree children)) question h = h
   under_root step (node (Some row) children) question h = h
 
-  under_step :
+  pub under_step :
       (step : Step) (tree : Tree R) (at : Step) (path : Path) (question : Q)
       → TableRefuses refuses (under step tree) (at ∷ path) question ↔ ((step ≡ at) × TableRefuses refuses tree path question)
   under_step step (node None none) at path question = (λ h. absurd h, λ h. absurd (free path question h.1))

@@ -6,6 +6,7 @@ pub mod Depth
 pub mod Exact
 pub mod Filling
 pub mod Finding
+pub mod Hanging
 pub mod Lattice
 pub mod Listed
 pub mod Listing

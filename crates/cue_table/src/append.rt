@@ -51,7 +51,7 @@ pub(crate) fn append<R: Narrow>(
 }
 
 /// How the step of the last branch compares with another; where there is no branch, it is before.
-fn last_against<R: Narrow>(children: &[Child<R>], step: &Step) -> Ordering
+pub(crate) fn last_against<R: Narrow>(children: &[Child<R>], step: &Step) -> Ordering
     ensures { result ≡ last_cmp (step_of step.now) (branches children.now) }
 {
     match children.split_last() {

@@ -46,7 +46,8 @@ fn by_step<R: Narrow>(mut branches: Vec<(Step, Table<R>)>) -> Result<Vec<(Step, 
     Ok(branches)
 }
 
-/// The table of these branches.
+/// The table of these branches. A branch at a step behind all others is hung in behind them; those that are left, where
+/// a step is given again, are unified by halves.
 fn hung_together<R: Narrow>(
     alloc: Global,
     branches: Vec<(Step, Table<R>)>,
@@ -55,11 +56,20 @@ fn hung_together<R: Narrow>(
     ensures form { IfOk result (IsTable R.refuses R.is_value) }
     ensures refused { IfOk result (IsOfBranches R.refuses branches.items) }
 {
-    let mut tables = Vec::with_capacity(alloc, branches.len())?;
+    let mut front = Table::new(alloc);
+    let mut others = Vec::new(alloc);
     for (step, table) in branches {
-        tables.push(table.under(alloc, step)?)?;
+        if front.ends_before(&step) {
+            front.hang_last(step, table)?;
+        } else {
+            others.push(table.under(alloc, step)?)?;
+        }
     }
-    Table::unified(alloc, tables)
+    if others.is_empty() {
+        return Ok(front);
+    }
+    front.meet_with(Table::unified(alloc, others)?)?;
+    Ok(front)
 }
 
 /// What the next tables of a list know together.

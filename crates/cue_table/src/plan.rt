@@ -89,7 +89,7 @@ pub(crate) fn planned<R: Narrow>(
 }
 
 /// The row that stands at a place then, unless it stays as it is.
-fn plan_row<R: Narrow>(
+pub(crate) fn plan_row<R: Narrow>(
     alloc: Global,
     left: &Option<R>,
     right: Option<R>,

@@ -1,23 +1,25 @@
-ghost use Rattle.std.specs.Prelude.{◌≡◌, ◌↔◌, ◌<◌, ◌≤◌, IfOk, IsTrue, OnErr, OnOk};
+ghost use Rattle.std.specs.Prelude.{◌≡◌, ◌↔◌, ◌<◌, ◌≤◌, [], None, IfOk, IsTrue, OnErr, OnOk};
 ghost use Rattle.std.specs.Option.{option_map, option_and_then};
+ghost use Rattle.std.specs.declared.cmp.Ordering.TheVariants.{Less};
 ghost use Rattle.cue_lattice.specs.Limits.{step_limit};
 ghost use Rattle.cue_row.specs.Steps.{step_of};
-ghost use Rattle.cue_table.specs.Tree.{empty, taken, branch_at, row_at};
+ghost use Rattle.cue_table.specs.Tree.{empty, node, below, taken, branch_at, row_at, row_of};
 ghost use Rattle.cue_table.specs.Depth.{tree_depth};
 ghost use Rattle.cue_table.specs.Form.{IsTable};
 ghost use Rattle.cue_table.specs.Many.{under};
 ghost use Rattle.cue_table.specs.Meet.{IsAdded, IsMet};
-ghost use Rattle.cue_table.specs.RowList.{AppendsKept};
+ghost use Rattle.cue_table.specs.RowList.{AppendsKept, last_cmp};
 
 use crate::Branch;
-use crate::append::append;
+use crate::append::{append, last_against};
 use crate::chain::{one_branch, single};
 use crate::fill::change;
-use crate::node::Node;
-use crate::plan::planned;
+use crate::node::{Child, Node};
+use crate::plan::{plan_row, planned};
 use cue_lattice::{Memory, Narrow};
 use cue_row::{Path, Step};
 use std::alloc::Global;
+use std::cmp::Ordering;
 use std::marker::Model;
 use std::mem;
 
@@ -140,6 +142,33 @@ impl<R: Narrow> Table<R> {
         self.meet_with(Table { alloc, root })
     }
 
+    /// Unifies a row into the one at the root, and takes it over. After want of memory the table is as it was.
+    pub fn meet_row(&mut self, row: R) -> Result<(), Memory>
+        ensures form { IsTable R.refuses R.is_value self.new }
+        ensures ok { OnOk result (IsAdded R.refuses self.old [] row self.new) }
+        ensures err { OnErr result (self.new ≡ self.old) }
+    {
+        let root = &mut self.root;
+        let refuses_nothing = row.is_free();
+        if refuses_nothing {
+            return Ok(());
+        }
+        row.known();
+        let Some(met) = plan_row(self.alloc, &root.row, Some(row))? else {
+            return Ok(());
+        };
+        root.row = Some(met);
+        Ok(())
+    }
+
+    /// Takes the row off the root, where one stands there.
+    pub fn take_row(&mut self) -> Option<R>
+        ensures row { result ≡ row_of self.old }
+        ensures rest { self.new ≡ node None (below self.old) }
+    {
+        self.root.row.take()
+    }
+
     /// Adds a row that stands behind all others in path order, and says whether it does: where another row stands at the
     /// path or behind it, and where the row refuses nothing, the table is left as it is. So it is after want of memory.
     /// This costs what the path costs, however many rows there are.
@@ -155,6 +184,33 @@ impl<R: Narrow> Table<R> {
         }
         row.known();
         append(self.alloc, root, path.steps(), row)
+    }
+
+    /// Whether the step stands behind those of all branches at the root.
+    pub(crate) fn ends_before(&self, step: &Step) -> bool
+        ensures { IsTrue result ↔ (last_cmp (step_of step.now) (below self.now) ≡ Less) }
+    {
+        last_against(&self.root.children, step) == Ordering::Less
+    }
+
+    /// Hangs a table in at a step behind those of all branches at the root. One without rows adds nothing.
+    pub(crate) fn hang_last(&mut self, step: Step, table: Table<R>) -> Result<(), Memory>
+        requires depth { tree_depth table < step_limit }
+        requires last { last_cmp (step_of step) (below self.old) ≡ Less }
+        ensures form { IsTable R.refuses R.is_value self.new }
+        ensures ok { OnOk result (IsMet R.refuses self.old (under (step_of step) table) self.new) }
+        ensures err { OnErr result (self.new ≡ self.old) }
+    {
+        let root = &mut self.root;
+        let Table {
+            alloc: _,
+            root: node,
+        } = table;
+        if node.taken().is_none() {
+            return Ok(());
+        }
+        root.children.push(Child { step, node })?;
+        Ok(())
     }
 
     /// The table one step further from the root.

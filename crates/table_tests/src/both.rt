@@ -15,6 +15,29 @@ pub fn tree<R: Narrow>(alloc: Global, rows: &[Entry<R>]) -> Result<Table<R>, Mem
     Ok(made)
 }
 
+/// The tree of these rows, each given twice. The row at the root is taken off before another one is unified into it, and
+/// put back.
+fn tree_by_root<R: Narrow>(alloc: Global, rows: &[Entry<R>]) -> Result<Table<R>, Memory> {
+    let mut made = Table::new(alloc);
+    for entry in rows.iter().chain(rows.iter()) {
+        if entry.path.steps().is_empty() {
+            let before = made.take_row();
+            made.meet_row(entry.row.copy(alloc)?)?;
+            if let Some(row) = before {
+                made.meet_row(row)?;
+            }
+        } else {
+            made.add(&entry.path, &entry.row)?;
+        }
+    }
+    Ok(made)
+}
+
+/// Whether rows at the root make the same table where they are taken over.
+pub fn roots<R: Narrow>(alloc: Global, rows: &[Entry<R>]) -> Result<bool, Memory> {
+    has_rows(alloc, &tree_by_root(alloc, rows)?, &plain(alloc, rows)?)
+}
+
 /// The plain list of these rows.
 pub fn plain<R: Narrow>(alloc: Global, rows: &[Entry<R>]) -> Result<Plain<R>, Memory> {
     Plain::new(alloc).add_all(alloc, rows)

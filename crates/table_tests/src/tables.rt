@@ -1,5 +1,7 @@
 //! Each list of rows through the tree and through the plain list.
-use crate::both::{adds, adds_or_stays, below, meets, meets_or_stays, takes_or_stays, tells_apart};
+use crate::both::{
+    adds, adds_or_stays, below, meets, meets_or_stays, roots, takes_or_stays, tells_apart,
+};
 use crate::many::{hangs, unifies};
 use crate::sample::{BRANCHES, CLASHES, TABLES, given, path, rows};
 use std::test::Fail;
@@ -8,6 +10,14 @@ use std::test::Fail;
 fn adds_rows_as_the_plain_list_does(rt: HostRuntime) -> Result<(), Fail> {
     for text in TABLES {
         assert!(rt; adds(rt.alloc(), &rows(rt.alloc(), text)?)?, "{text}");
+    }
+    Ok(())
+}
+
+#[test]
+fn unifies_rows_at_the_root(rt: HostRuntime) -> Result<(), Fail> {
+    for text in TABLES {
+        assert!(rt; roots(rt.alloc(), &rows(rt.alloc(), text)?)?, "{text}");
     }
     Ok(())
 }
