@@ -9,14 +9,14 @@ use Rattle.cue_syntax.specs.Recogniser.{Stack, Moves, Refused}
 
 -- The second cursor stands further on in the text of the first.
 pub record IsFurther (before after : Cursor) : Type 0 where
-  -- a token was read at least
+  -- fewer tokens are left
   pub shorter : length after.rest.now < length before.rest.now
   -- the text ends where it did
   pub end : after.end ≡ before.end
 
 -- The second cursor stands where the first does, or further on in its text.
 pub record IsOnward (before after : Cursor) : Type 0 where
-  -- no token is left that was read before
+  -- no more tokens are left
   pub no_longer : length after.rest.now ≤ length before.rest.now
   -- the text ends where it did
   pub end : after.end ≡ before.end

@@ -1,7 +1,7 @@
 -- A recogniser of the grammar: it takes the tokens of a text one by one, and keeps on a stack what has still to come.
 -- It tells at which symbol tokens leave the grammar. It defines nothing and no public contract speaks of it: the grammar
--- is that of `Grammar`, and two laws say that the recogniser takes just what the grammar spells (proofs/Stuck: where it is
--- stuck no text begins so; proofs/Viable: what it takes begins a text).
+-- is that of `Grammar`, and two laws say that the recogniser takes just what the grammar spells
+-- (proofs/NoTextWhereStuck: where it is stuck no text begins so; proofs/TakenBeginsAText: what it takes begins a text).
 use Rattle.std.specs.Prelude.{◌≡◌, ◌+◌, ◌⊎◌, drop, length, ℕ, Bool, true, false, List, [], ◌∷◌, ◌++◌, codes, Option, None, Some, nat_eq, nat_le, if◌then◌else◌, ◌||◌}
 use Rattle.std.specs.Cmp.Lexicographic.{pointwise}
 use Rattle.std.specs.List.{starts_with}
