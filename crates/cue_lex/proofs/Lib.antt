@@ -1,6 +1,7 @@
 pub mod Ascii
 pub mod Words
 pub mod FirstBytes
+pub mod Digits
 pub mod Fronts
 pub mod Bodies
 pub mod PlainStrings

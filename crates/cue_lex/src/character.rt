@@ -36,5 +36,8 @@ pub fn is_name_part(c: char) -> bool
 pub fn is_ascii_part(byte: u8) -> bool
     ensures { result ≡ is_ascii_part byte }
 {
-    byte.is_ascii_alphanumeric() || byte == b'_' || byte == b'$'
+    if byte >= b'a' {
+        return byte <= b'z';
+    }
+    byte.is_ascii_uppercase() || byte.is_ascii_digit() || byte == b'_' || byte == b'$'
 }

@@ -50,7 +50,10 @@ fn literal_len(bytes: &[u8]) -> usize
 fn is_literal_byte(byte: u8) -> bool
     ensures { result ≡ is_literal_byte byte }
 {
-    byte.is_ascii_alphanumeric() || byte == b'_' || byte == b'.'
+    if byte < b'0' {
+        return byte == b'.';
+    }
+    byte.is_ascii_alphanumeric() || byte == b'_'
 }
 
 /// The number that a literal spells, or `u64::MAX` where it is above that. None where it spells no
@@ -59,8 +62,12 @@ fn is_literal_byte(byte: u8) -> bool
 fn magnitude(literal: &[u8]) -> Option<u64>
     ensures { result ≡ option_map (λ n. min n u64.MAX) (literal_number literal.now) }
 {
+    if let [digit] = literal
+        && digit.is_ascii_digit()
+    {
+        return Some((*digit - b'0') as u64);
+    }
     match literal {
-        [b'0'] => Some(0),
         [b'0', b'x' | b'X', digits @ ..] => digits_value(digits, 16),
         [b'0', b'o', digits @ ..] => digits_value(digits, 8),
         [b'0', b'b', digits @ ..] => digits_value(digits, 2),

@@ -49,10 +49,10 @@ pub fn lexeme_at<'a>(
     ensures boundary { IfOk result (λ found. IsCharBoundary text.now (len_of found)) }
 {
     let bytes = text.as_bytes();
-    let first = bytes[0];
-    if first.is_ascii_alphabetic() {
-        return name(text, run_len(text), at);
+    if let Some((mark, len)) = mark(bytes) {
+        return Ok(Lexeme::Word(TokenKind::Mark(mark), len));
     }
+    let first = bytes[0];
     match first {
         b' ' | b'\t' | b'\r' => return Ok(Lexeme::Blank(1)),
         b'\n' => return Ok(Lexeme::LineBreak),
@@ -60,8 +60,8 @@ pub fn lexeme_at<'a>(
         b'0'..=b'9' => return integer(bytes, at, after_minus),
         _ => {}
     }
-    if let Some((mark, len)) = mark(bytes) {
-        return Ok(Lexeme::Word(TokenKind::Mark(mark), len));
+    if first.is_ascii_alphabetic() {
+        return name(text, run_len(text), at);
     }
     if bytes.starts_with(b"//") {
         return Ok(Lexeme::Blank(line_len(bytes)));

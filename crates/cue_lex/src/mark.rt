@@ -10,13 +10,15 @@ pub fn mark(bytes: &[u8]) -> Option<(Punctuation, usize)>
     ensures value { result ≡ mark bytes.now }
     ensures ends { IfSome result (λ found. EndsAscii bytes.now found.1) }
 {
-    match bytes {
-        [b'.', b'.', b'.', ..] => Some((Punctuation::Ellipsis, 3)),
-        [b'<', b'=', ..] => Some((Punctuation::AtMost, 2)),
-        [b'>', b'=', ..] => Some((Punctuation::AtLeast, 2)),
-        [b'!', b'=', ..] => Some((Punctuation::NotEqual, 2)),
-        [byte, ..] => Some((single(*byte)?, 1)),
-        [] => None,
+    let [first, rest @ ..] = bytes else {
+        return None;
+    };
+    match *first {
+        b'.' if rest.starts_with(b"..") => Some((Punctuation::Ellipsis, 3)),
+        b'<' if rest.starts_with(b"=") => Some((Punctuation::AtMost, 2)),
+        b'>' if rest.starts_with(b"=") => Some((Punctuation::AtLeast, 2)),
+        b'!' if rest.starts_with(b"=") => Some((Punctuation::NotEqual, 2)),
+        byte => Some((single(byte)?, 1)),
     }
 }
 

@@ -12,6 +12,7 @@ use crate::{TokenKind, Word};
 use cue_lattice::{Kind, Refusal};
 
 /// How many bytes the letters and digits at the front have.
+#[inline]
 pub fn run_len(text: &str) -> usize
     ensures value { result ≡ run_len text.now }
     ensures boundary { IsCharBoundary text.now result }
@@ -35,6 +36,8 @@ fn ascii_len(bytes: &[u8]) -> usize
 }
 
 /// How many bytes the letters and digits at the front have, character by character.
+#[cold]
+#[inline(never)]
 fn wide_len(text: &str) -> usize
     ensures value { result ≡ run_len text.now }
     ensures boundary { IsCharBoundary text.now result }

@@ -70,6 +70,9 @@ fn plain_len(bytes: &[u8]) -> usize
 fn is_plain(byte: u8) -> bool
     ensures { result ≡ is_plain byte }
 {
+    if byte > b'\\' {
+        return true;
+    }
     byte != b'"' && byte != b'\\' && byte != b'\n'
 }
 
