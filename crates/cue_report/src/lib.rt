@@ -11,7 +11,7 @@ mod report;
 
 pub use conflict::{Conflict, conflicts};
 pub use cue_lattice::Memory;
-pub use cue_row::{Row, path_text};
+pub use cue_row::{Row, Step, path_text};
 pub use cue_table::Table;
 pub use document::export;
 pub use gap::{Gap, incomplete};
