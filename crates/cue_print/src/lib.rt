@@ -10,5 +10,7 @@ mod value;
 mod writer;
 
 pub use cue_lattice::Memory;
+pub use cue_row::Row;
+pub use cue_table::Table;
 pub use file::print;
 pub use laws::others_are_left;
