@@ -1,5 +1,5 @@
 -- What a text that begins with given bytes has at its front.
-use Rattle.std.proofs.Common.{◌≡◌, ℕ, ◌+◌, ◌<◌, ◌≤◌, ◌-◌, ◌&&◌, subst, ⊎_elim, true, false, List, [], ◌∷◌, length, get_or, nat_eq, refl, sym, arith, IsUtf8, lit<}
+use Rattle.std.proofs.Common.{◌≡◌, ℕ, ◌+◌, ◌<◌, ◌≤◌, ◌-◌, ◌&&◌, subst, ⊎_elim, true, false, List, [], ◌∷◌, length, drop, get_or, nat_eq, refl, sym, arith, IsUtf8, lit<}
 use Rattle.std.specs.List.{starts_with}
 use Rattle.std.specs.Str.{IsCharBoundary}
 use Rattle.std.specs.Prelude.{not, ◌==◌, ◌||◌, nat_le, Result, Ok, Err, IfOk}
@@ -72,6 +72,22 @@ literal_ends (b ∷ bytes) some low high =
       within = prefix_len-le-length is_literal_byte (b ∷ bytes);
       ascii = literal_ascii _ (prefix_len_passes is_literal_byte (b ∷ bytes) (prefix_len is_literal_byte (b ∷ bytes) - 1) 0 (omega arith));
     }
+
+-- a digit belongs to its literal
+pub literal_more : (bytes : List ℕ) → 0 < length bytes → 48 ≤ get_or bytes 0 0 → get_or bytes 0 0 ≤ 57 → prefix_len is_literal_byte bytes ≡ 1 + prefix_len is_literal_byte (drop 1 bytes)
+literal_more [] some low high = absurd (omega arith)
+literal_more (b ∷ bytes) some low high =
+    let at_least = le-leb 48 b low in
+    let at_most = le-leb b 57 high in
+    let literal : is_literal_byte b ≡ true = rw (at_least, at_most) refl in
+    rw literal refl
+
+-- so its last byte is ASCII
+pub literal_ends_more : (bytes : List ℕ) (more : ℕ) → 0 < length bytes → 48 ≤ get_or bytes 0 0 → get_or bytes 0 0 ≤ 57 → more ≡ prefix_len is_literal_byte (drop 1 bytes) → EndsAscii bytes (1 + more)
+literal_ends_more bytes more some low high is =
+    let all = literal_more bytes some low high in
+    let len : prefix_len is_literal_byte bytes ≡ 1 + more = omega arith in
+    subst (EndsAscii bytes) len (literal_ends bytes some low high)
 
 -- a text may be cut at a line's end
 pub line_boundary : (bytes : List ℕ) → IsCharBoundary bytes (prefix_len (λ b. not (b == 10)) bytes)

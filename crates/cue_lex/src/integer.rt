@@ -33,13 +33,21 @@ pub fn integer<'a>(bytes: &[u8], at: usize, after_minus: bool) -> Result<Lexeme<
 }
 
 /// How many ASCII letters, ASCII digits, `_` and `.` stand at the front.
-#[tactic(auto, using(crate::proofs::Fronts::literal_ends))]
+#[tactic(auto, using(crate::proofs::Fronts::literal_more))]
 fn literal_len(bytes: &[u8]) -> usize
     requires nonempty { 0 < length bytes.now }
     requires at_least { 48 ≤ slice_index bytes.now 0 }
     requires at_most { slice_index bytes.now 0 ≤ 57 }
     ensures value { result ≡ prefix_len is_literal_byte bytes.now }
     ensures ends { EndsAscii bytes.now result }
+{
+    1 + more_len(&bytes[1..])
+}
+
+/// How many bytes at the front belong to a literal that began before them.
+fn more_len(bytes: &[u8]) -> usize
+    ensures value { result ≡ prefix_len is_literal_byte bytes.now }
+    ensures within { result ≤ length bytes.now }
 {
     bytes
         .iter()
