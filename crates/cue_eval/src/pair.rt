@@ -66,7 +66,7 @@ impl<'a, 'f, 't> Pairs<'a, 'f, 't> {
             let pair = self.pair(part)?;
             pairs.push(pair)?;
         }
-        Valued::and_all(self.alloc, &pairs)
+        Valued::and_all(self.alloc, pairs)
     }
 
     /// Terms that are joined by `|`.
@@ -80,7 +80,7 @@ impl<'a, 'f, 't> Pairs<'a, 'f, 't> {
             let pair = self.pair(&term.value)?;
             pairs.push((term.marked, pair))?;
         }
-        Valued::or(self.alloc, &pairs)
+        Valued::or(self.alloc, pairs)
     }
 
     /// A name.

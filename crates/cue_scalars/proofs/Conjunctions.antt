@@ -1,14 +1,17 @@
 -- A unification of many in parts.
-use Rattle.std.proofs.Common.{◌≡◌, Bool, true, false, ◌&&◌, ◌||◌, List, [], ◌∷◌, ◌++◌, Option, Some, None, refl, sym, ap, ◌∙◌, ℕ, length, take, drop, map, get_or, arith}
-use Rattle.std.specs.Prelude.{if◌then◌else◌, is_some, unwrap_or}
+use Rattle.std.proofs.Common.{◌≡◌, Bool, true, false, ◌&&◌, ◌||◌, List, [], ◌∷◌, ◌++◌, Option, Some, None, refl, sym, ap, ◌∙◌, ℕ, ◌+◌, ◌-◌, ◌≤◌, take, take-add, drop, map, arith}
+use Rattle.std.specs.Prelude.{if◌then◌else◌, is_some, option_map, unwrap_or}
+use Rattle.std.specs.Option.{ForSome}
 use Rattle.std.specs.List.{list_any, list_all}
 use Rattle.std.proofs.lemmas.Bool.{false≢true}
-use Rattle.std.proofs.lemmas.List.{map-append, take-append-drop}
+use Rattle.std.proofs.lemmas.List.{map-append}
 use Rattle.std.proofs.lemmas.List.Folds.{list_any-append, list_all-append}
 use mathlib.Core.Path.{fun_ext}
 use Rattle.cue_lattice.specs.declared.scalar.Scalar.{Scalar}
 use Rattle.cue_scalars.specs.Pairs.{Scalars, Pair, brought, meet_of, both, all_of}
+use Rattle.cue_scalars.specs.Scalars.{members, IsWithin}
 use Rattle.cue_scalars.specs.Values.{pair_of}
+use Rattle.cue_scalars.specs.declared.scalar_set.ScalarSet.{ScalarSet}
 use Rattle.cue_scalars.specs.declared.valued.Valued.{Valued}
 
 and_true : (a : Bool) → (a && true) ≡ a
@@ -86,18 +89,72 @@ all_of-one pair =
     let usual = one_default pair.usual pair.value in
     λ i. record { value = value i; usual = usual i }
 
--- a list of length one holds its first value alone
-pub one_value : (values : List Valued) (value : Valued) → length values ≡ 1 → value ≡ get_or values 0 value → values ≡ value ∷ []
-one_value [] value l e = absurd (omega arith)
-one_value (x ∷ []) value l e = ap (λ y. y ∷ []) (sym e)
-one_value (x ∷ y ∷ values) value l e = absurd (omega arith)
+-- the next values of a list, in two parts
+pub all_of-more :
+    (half count : ℕ) (values rest : List Valued) (left right : Pair) → half ≤ count → rest ≡ drop half values
+    → left ≡ all_of (map pair_of (take half values)) → right ≡ all_of (map pair_of (take (count - half) rest))
+    → both left right ≡ all_of (map pair_of (take count values))
+all_of-more half count values rest left right few is l r =
+    let sum : half + (count - half) ≡ count = omega (arith, few) in
+    let whole : take half values ++ take (count - half) rest ≡ take count values =
+    ap (λ vs. take half values ++ take (count - half) vs) is ∙ sym (take-add half (count - half) values) ∙ ap (λ n. take n values) sum in
+    ap (λ p. both p right) l ∙ ap (λ p. both (all_of (map pair_of (take half values))) p) r
+    ∙ sym (all_of-append (map pair_of (take half values)) (map pair_of (take (count - half) rest)))
+    ∙ ap all_of (sym (map-append pair_of (take half values) (take (count - half) rest)) ∙ ap (map pair_of) whole)
 
--- the two halves of a list
-pub all_of-split :
-    (n : ℕ) (values front back : List Valued) (left right : Pair) → front ≡ take n values → back ≡ drop n values
-    → left ≡ all_of (map pair_of front) → right ≡ all_of (map pair_of back) → both left right ≡ all_of (map pair_of values)
-all_of-split n values front back left right f b l r =
-    ap (λ p. both p right) (l ∙ ap (λ vs. all_of (map pair_of vs)) f)
-    ∙ ap (λ p. both (all_of (map pair_of (take n values))) p) (r ∙ ap (λ vs. all_of (map pair_of vs)) b)
-    ∙ sym (all_of-append (map pair_of (take n values)) (map pair_of (drop n values)))
-    ∙ ap all_of (sym (map-append pair_of (take n values) (drop n values)) ∙ ap (map pair_of) (take-append-drop n values))
+-- ---- two values, of which one has a default
+is_some_members : (usual : Option ScalarSet) → is_some (option_map members usual) ≡ is_some usual
+is_some_members None = refl
+is_some_members (Some set) = refl
+
+brought_members : (usual : Option ScalarSet) (value : ScalarSet) → unwrap_or (option_map members usual) (members value) ≡ members (unwrap_or usual value)
+brought_members None value = refl
+brought_members (Some set) value = refl
+
+-- the second of two has a default
+pub other_given : (left right : Bool) → right ≡ true → (left || right) ≡ true
+other_given true right e = refl
+other_given false right e = e
+
+-- what two values bring lies within them
+brought_within : (usual : Option ScalarSet) (value : ScalarSet) → ForSome usual (λ default. IsWithin default value) → IsWithin (unwrap_or usual value) value
+brought_within None value h x m = m
+brought_within (Some set) value h x m = h set refl x m
+
+both_true : (a b : Bool) → (a && b) ≡ true → (a ≡ true) × (b ≡ true)
+both_true true b e = (refl, e)
+both_true false b e = absurd (false≢true e)
+
+-- two values that are met, and what they bring
+pub record AreMet (a b : Valued) (value usual : ScalarSet) : Type 0 where
+  pub value_is : (x : Scalar) → members value x ≡ (members a.value x && members b.value x)
+  pub usual_is : (x : Scalar) → members usual x ≡ (members (unwrap_or a.usual a.value) x && members (unwrap_or b.usual b.value) x)
+
+-- the sets that are met, by what they are
+pub are_met :
+    (a b : Valued) (value usual left left_usual right right_usual : ScalarSet) → left ≡ a.value → left_usual ≡ unwrap_or a.usual a.value → right ≡ b.value
+    → right_usual ≡ unwrap_or b.usual b.value → ((x : Scalar) → members value x ≡ (members left x && members right x))
+    → ((x : Scalar) → members usual x ≡ (members left_usual x && members right_usual x)) → AreMet a b value usual
+are_met a b value usual left left_usual right right_usual l lu r ru v u = record {
+  value_is = λ x. v x ∙ (λ i. members (l i) x && members (r i) x);
+  usual_is = λ x. u x ∙ (λ i. members (lu i) x && members (ru i) x);
+}
+
+-- the default that is met lies within the value
+pub met_within : (a b : Valued) (value usual : ScalarSet) → AreMet a b value usual → ForSome (Some usual) (λ default. IsWithin default value)
+met_within a b value usual met set is x m =
+    let member : members usual x ≡ true = ap (λ o. members (unwrap_or o set) x) is ∙ m in
+    let parts = both_true _ _ (sym (met.usual_is x) ∙ member) in
+    met.value_is x ∙ rw (brought_within a.usual a.value a.within x parts.0, brought_within b.usual b.value b.within x parts.1) refl
+
+-- their unification
+pub both_brought :
+    (a b : Valued) (value usual : ScalarSet) → AreMet a b value usual → (is_some a.usual || is_some b.usual) ≡ true
+    → record { value = members value; usual = Some (members usual) } ≡ both (pair_of a) (pair_of b)
+both_brought a b value usual met some =
+    let both_bring : Scalars = meet_of (brought (pair_of a)) (brought (pair_of b)) in
+    let given : (is_some (pair_of a).usual || is_some (pair_of b).usual) ≡ true = rw (is_some_members a.usual, is_some_members b.usual) some in
+    let bring : members usual ≡ both_bring = fun_ext (λ x. met.usual_is x ∙ (λ i. sym (brought_members a.usual a.value) i x && sym (brought_members b.usual b.value) i x)) in
+    let value_is = fun_ext met.value_is in
+    let usual_is : Some (members usual) ≡ (both (pair_of a) (pair_of b)).usual = ap Some bring ∙ ap (λ g. default g both_bring) (sym given) in
+    λ i. record { value = value_is i; usual = usual_is i }

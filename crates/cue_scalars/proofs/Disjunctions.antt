@@ -1,13 +1,13 @@
 -- A disjunction in parts.
-use Rattle.std.proofs.Common.{◌≡◌, Bool, true, false, ◌||◌, List, [], ◌∷◌, ◌++◌, Option, Some, None, refl, sym, ap, ◌∙◌, ℕ, length, take, drop, get_or, arith}
+use Rattle.std.proofs.Common.{◌≡◌, Bool, true, false, ◌||◌, List, [], ◌∷◌, ◌++◌, Option, Some, None, refl, sym, ap, ◌∙◌, ℕ, zero, suc, length, ◌+◌, ◌-◌, ◌≤◌, take, take-add, drop, arith}
 use Rattle.std.specs.Prelude.{filter_map}
 use Rattle.std.specs.List.{list_any, cons_option}
-use Rattle.std.proofs.lemmas.List.{append-nil, map-append, take-append-drop}
+use Rattle.std.proofs.lemmas.List.{append-nil, map-append}
+use Rattle.std.proofs.Math.Seq.{take-length}
 use Rattle.std.proofs.lemmas.List.Elements.{filter_map-append}
 use Rattle.std.proofs.lemmas.List.Folds.{list_any-append}
 use mathlib.Core.Path.{fun_ext}
-use Rattle.cue_lattice.specs.declared.scalar.Scalar.{Scalar}
-use Rattle.cue_scalars.specs.Pairs.{Scalars, Pair, default_of, term_of, united, joined_usual, join_of, is_any_marked, sum_of}
+use Rattle.cue_scalars.specs.Pairs.{Scalars, Pair, default_of, term_of, united, joined_usual, join_of, is_any_marked, sum_of, disjunction}
 use Rattle.cue_scalars.specs.Values.{pair_of, terms_of}
 use Rattle.cue_scalars.specs.declared.valued.Valued.{Valued}
 
@@ -38,30 +38,36 @@ sum_of-one marked term =
     let usual = united-one (default_of marked term) in
     λ i. record { value = value i; usual = usual i }
 
--- halves of a list of terms
-pub sum_of-halves : (marked : Bool) (n : ℕ) (terms : List (Bool × Valued)) → join_of (sum_of marked (terms_of (take n terms))) (sum_of marked (terms_of (drop n terms))) ≡ sum_of marked (terms_of terms)
-sum_of-halves marked n terms =
-    sym (sum_of-append marked (terms_of (take n terms)) (terms_of (drop n terms)))
-    ∙ ap (sum_of marked) (sym (map-append (λ (term : Bool × Valued). (term.0, pair_of term.1)) (take n terms) (drop n terms)) ∙ ap terms_of (take-append-drop n terms))
+-- the next terms of a list, in two parts
+pub sum_of-more :
+    (marked : Bool) (half count : ℕ) (terms rest : List (Bool × Valued)) (left right : Pair) → half ≤ count → rest ≡ drop half terms
+    → left ≡ sum_of marked (terms_of (take half terms)) → right ≡ sum_of marked (terms_of (take (count - half) rest))
+    → join_of left right ≡ sum_of marked (terms_of (take count terms))
+sum_of-more marked half count terms rest left right few is l r =
+    let sum : half + (count - half) ≡ count = omega (arith, few) in
+    let whole : take half terms ++ take (count - half) rest ≡ take count terms =
+    ap (λ ts. take half terms ++ take (count - half) ts) is ∙ sym (take-add half (count - half) terms) ∙ ap (λ n. take n terms) sum in
+    ap (λ p. join_of p right) l ∙ ap (λ p. join_of (sum_of marked (terms_of (take half terms))) p) r
+    ∙ sym (sum_of-append marked (terms_of (take half terms)) (terms_of (take (count - half) rest)))
+    ∙ ap (sum_of marked) (sym (map-append (λ (term : Bool × Valued). (term.0, pair_of term.1)) (take half terms) (take (count - half) rest)) ∙ ap terms_of whole)
 
--- a list of length one holds its first term alone
-pub one_term : (terms : List (Bool × Valued)) (term : Bool × Valued) → length terms ≡ 1 → term ≡ get_or terms 0 term → terms ≡ term ∷ []
-one_term [] term l e = absurd (omega arith)
-one_term (x ∷ []) term l e = ap (λ y. y ∷ []) (sym e)
-one_term (x ∷ y ∷ terms) term l e = absurd (omega arith)
+-- there are no next terms
+pub sum_of-ended : (marked : Bool) (count : ℕ) (terms : List (Bool × Valued)) → length terms ≡ 0 → sum_of marked [] ≡ sum_of marked (terms_of (take count terms))
+sum_of-ended marked zero [] e = refl
+sum_of-ended marked (suc count) [] e = refl
+sum_of-ended marked count (term ∷ terms) e = absurd (omega arith)
 
 -- a disjunction has a marked term just where one of the terms that are kept is marked
 pub is_any_marked-terms : (terms : List (Bool × Valued)) → is_any_marked (terms_of terms) ≡ list_any (λ term. term.0) terms
 is_any_marked-terms [] = refl
 is_any_marked-terms (term ∷ terms) = ap (λ b. term.0 || b) (is_any_marked-terms terms)
 
--- a value that lets no scalar stand is the disjunction of no terms
-pub empty_pair : (set : Scalars) → ((s : Scalar) → set s ≡ false) → record { value = set; usual = None } ≡ sum_of true []
-empty_pair set h = let value = fun_ext h in λ i. record { value = value i; usual = None }
-
--- the disjunctions of the front and of the back of a list of terms join to that of all
-pub sum_of-split : (marked : Bool) (n : ℕ) (terms front back : List (Bool × Valued)) (left right : Pair) → front ≡ take n terms → back ≡ drop n terms → left ≡ sum_of marked (terms_of front) → right ≡ sum_of marked (terms_of back) → join_of left right ≡ sum_of marked (terms_of terms)
-sum_of-split marked n terms front back left right f b l r =
-    ap (λ p. join_of p right) (l ∙ ap (λ ts. sum_of marked (terms_of ts)) f)
-    ∙ ap (λ p. join_of (sum_of marked (terms_of (take n terms))) p) (r ∙ ap (λ ts. sum_of marked (terms_of ts)) b)
-    ∙ sum_of-halves marked n terms
+-- all terms of a list are next
+pub sum_of-all :
+    (marked : Bool) (count : ℕ) (terms rest : List (Bool × Valued)) → rest ≡ terms → count ≡ length terms → marked ≡ list_any (λ term. term.0) terms
+    → sum_of marked (terms_of (take count rest)) ≡ disjunction (terms_of terms)
+sum_of-all marked count terms rest is all any =
+    ap (λ ts. sum_of marked (terms_of (take count ts))) is
+    ∙ ap (λ n. sum_of marked (terms_of (take n terms))) all
+    ∙ ap (λ ts. sum_of marked (terms_of ts)) (take-length terms)
+    ∙ ap (λ m. sum_of m (terms_of terms)) (any ∙ sym (is_any_marked-terms terms))

@@ -89,6 +89,34 @@ impl ScalarSet {
         })
     }
 
+    /// The members of both sets, whose texts are moved and not copied.
+    pub fn into_meet(self, alloc: Global, other: ScalarSet) -> Result<ScalarSet, Memory>
+        ensures { IfOk result (λ met. (scalar : Scalar) →
+            members met scalar ≡ (members self scalar && members other scalar)) }
+    {
+        Ok(ScalarSet {
+            null: self.null && other.null,
+            no: self.no && other.no,
+            yes: self.yes && other.yes,
+            ints: self.ints.meet(alloc, &other.ints)?,
+            texts: self.texts.into_meet(alloc, other.texts)?,
+        })
+    }
+
+    /// The members of either set, whose texts are moved and not copied.
+    pub fn into_union(self, alloc: Global, other: ScalarSet) -> Result<ScalarSet, Memory>
+        ensures { IfOk result (λ all. (scalar : Scalar) →
+            members all scalar ≡ (members self scalar || members other scalar)) }
+    {
+        Ok(ScalarSet {
+            null: self.null || other.null,
+            no: self.no || other.no,
+            yes: self.yes || other.yes,
+            ints: self.ints.union(alloc, &other.ints)?,
+            texts: self.texts.into_union(alloc, other.texts)?,
+        })
+    }
+
     /// The members of this set that the other lacks.
     pub fn without(&self, alloc: Global, other: &ScalarSet) -> Result<ScalarSet, Memory>
         ensures { IfOk result (λ rest. (scalar : Scalar) →

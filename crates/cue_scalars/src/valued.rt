@@ -1,12 +1,14 @@
-ghost use Rattle.std.specs.Prelude.{◌≡◌, ◌<◌, length, map, IfOk, IsSome, is_some, unwrap_or};
+ghost use Rattle.std.specs.Prelude.{◌≡◌, ◌<◌, ◌≤◌, Bool, [], drop, length, map, take, IfOk, OnOk, IsSome, is_some, unwrap_or};
 ghost use Rattle.std.specs.List.{list_any};
 ghost use Rattle.std.specs.Option.{ForSome};
 ghost use Rattle.std.specs.Result.{IsOk};
+ghost use Rattle.std.specs.Vec.Iter.{into_iter_items};
 ghost use Rattle.cue_scalars.specs.Scalars.{members, IsWithin};
 
 use crate::ScalarSet;
 use cue_lattice::{Memory, Narrow};
 use std::alloc::Global;
+use std::vec::IntoIter;
 
 /// The scalars that may stand, and the default where there is one: those among them that are meant where nothing is
 /// said. A default may be empty, which is not the same as none.
@@ -22,47 +24,57 @@ impl Valued {
     ghost use Rattle.cue_scalars.specs.Values.{pair_of, terms_of};
 
     /// The unification `&`: values meet, and so do defaults, where a side without a default brings its value.
-    pub fn and(&self, alloc: Global, other: &Valued) -> Result<Valued, Memory>
-        ensures { IfOk result (λ met. pair_of met ≡ both (pair_of self.now) (pair_of other.now)) }
+    pub fn and(self, alloc: Global, other: Valued) -> Result<Valued, Memory>
+        ensures { IfOk result (λ met. pair_of met ≡ both (pair_of self) (pair_of other)) }
     {
-        let value = self.value.meet(alloc, &other.value)?;
-        if self.has_default() || other.has_default() {
-            let usual = self.brought().meet(alloc, other.brought())?;
-            return Ok(Valued {
-                value,
-                usual: Some(usual),
-            });
+        if !self.has_default() && !other.has_default() {
+            let value = self.value.into_meet(alloc, other.value)?;
+            return Ok(Valued { value, usual: None });
         }
-        Ok(Valued { value, usual: None })
+        let (left, left_usual) = self.settle(alloc)?;
+        let (right, right_usual) = other.settle(alloc)?;
+        Ok(Valued {
+            value: left.into_meet(alloc, right)?,
+            usual: Some(left_usual.into_meet(alloc, right_usual)?),
+        })
     }
 
-    /// The unification of one or more. The values are halved, so that many are unified in balance.
-    pub fn and_all(alloc: Global, values: &[Valued]) -> Result<Valued, Memory>
-        requires { 0 < length values.now }
-        ensures { IfOk result (λ met. pair_of met ≡ all_of (map pair_of values.now)) }
+    /// The unification of one or more. They are taken over, and unified by halves, so that many are unified in balance.
+    pub fn and_all(alloc: Global, values: Vec<Valued>) -> Result<Valued, Memory>
+        requires { 0 < length values.items }
+        ensures { IfOk result (λ met. pair_of met ≡ all_of (map pair_of values.items)) }
     {
         let count = values.len();
-        if count == 1 {
-            return values[0].copy(alloc);
-        }
-        let (front, back) = values.split_at(count / 2);
-        let left = Valued::and_all(alloc, front)?;
-        let right = Valued::and_all(alloc, back)?;
-        left.and(alloc, &right)
+        let mut rest = values.into_iter();
+        Valued::next_met(alloc, &mut rest, count)
     }
 
     /// An equal value with an equal default.
     pub fn copy(&self, alloc: Global) -> Result<Valued, Memory>
         ensures { IfOk result (λ copied. pair_of copied ≡ pair_of self.now) }
     {
-        self.as_term(alloc, false, false)
+        let value = self.value.copy(alloc)?;
+        match &self.usual {
+            None => Ok(Valued { value, usual: None }),
+            Some(usual) => {
+                let usual = usual.copy(alloc)?;
+                Ok(Valued {
+                    value,
+                    usual: Some(usual),
+                })
+            }
+        }
     }
 
-    /// The disjunction `|` of marked and unmarked terms. Of no terms it is the empty value without a default.
-    pub fn or(alloc: Global, terms: &[(bool, Valued)]) -> Result<Valued, Memory>
-        ensures { IfOk result (λ all. pair_of all ≡ disjunction (terms_of terms.now)) }
+    /// The disjunction `|` of marked and unmarked terms, which are taken over. Of no terms it is the empty value without
+    /// a default. The terms are united by halves, so that many are united in balance.
+    pub fn or(alloc: Global, terms: Vec<(bool, Valued)>) -> Result<Valued, Memory>
+        ensures { IfOk result (λ all. pair_of all ≡ disjunction (terms_of terms.items)) }
     {
-        Valued::sum(alloc, is_any_marked(terms), terms)
+        let any_marked = is_any_marked(&terms);
+        let count = terms.len();
+        let mut rest = terms.into_iter();
+        Valued::next_joined(alloc, any_marked, &mut rest, count)
     }
 
     /// The values, and which of them are usual: the default, or all of them where there is none. This takes memory only
@@ -88,64 +100,85 @@ impl Valued {
         self.usual.is_some()
     }
 
-    /// The default, or the value where there is none.
-    fn brought(&self) -> &ScalarSet
-        ensures set { result.now ≡ unwrap_or self.now.usual self.now.value }
-        ensures within { IsWithin result.now self.now.value }
+    /// The unification of the next values of a list.
+    fn next_met(
+        alloc: Global,
+        rest: &mut IntoIter<Valued, Global>,
+        count: usize,
+    ) -> Result<Valued, Memory>
+        requires some { 0 < count }
+        requires there { count ≤ length (into_iter_items rest.old) }
+        ensures met { IfOk result (λ met. pair_of met ≡ all_of (map pair_of (take count (into_iter_items rest.old)))) }
+        ensures rest { OnOk result (into_iter_items rest.new ≡ drop count (into_iter_items rest.old)) }
     {
-        match &self.usual {
-            Some(usual) => usual,
-            None => &self.value,
+        if count == 1 {
+            return match rest.next() {
+                None => unreachable!(),
+                Some(value) => Ok(value),
+            };
         }
+        let half = count / 2;
+        let met = Valued::next_met(alloc, rest, half)?;
+        met.and(alloc, Valued::next_met(alloc, rest, count - half)?)
     }
 
-    /// The values of some terms of a disjunction, and the union of the defaults that they bring. `any_marked` says
-    /// whether some term of the disjunction is marked. The terms are halved, so that many are united in balance.
-    fn sum(alloc: Global, any_marked: bool, terms: &[(bool, Valued)]) -> Result<Valued, Memory>
-        ensures { IfOk result (λ all. pair_of all ≡ sum_of any_marked (terms_of terms.now)) }
+    /// The values of the next terms of a disjunction, and the union of the defaults that they bring. `any_marked` says
+    /// whether some term of the disjunction is marked.
+    fn next_joined(
+        alloc: Global,
+        any_marked: bool,
+        rest: &mut IntoIter<(bool, Valued), Global>,
+        count: usize,
+    ) -> Result<Valued, Memory>
+        ensures joined { IfOk result (λ all. pair_of all
+            ≡ sum_of any_marked (terms_of (take count (into_iter_items rest.old)))) }
+        ensures rest { OnOk result (into_iter_items rest.new ≡ drop count (into_iter_items rest.old)) }
     {
-        let count = terms.len();
         if count == 0 {
-            return Ok(Valued {
-                value: ScalarSet::empty(alloc)?,
-                usual: None,
-            });
+            return Valued::nothing(alloc);
         }
         if count == 1 {
-            let term = &terms[0];
-            return term.1.as_term(alloc, any_marked, term.0);
+            return match rest.next() {
+                None => Valued::nothing(alloc),
+                Some((marked, term)) => term.into_term(alloc, any_marked, marked),
+            };
         }
-        let (front, back) = terms.split_at(count / 2);
-        let left = Valued::sum(alloc, any_marked, front)?;
-        let right = Valued::sum(alloc, any_marked, back)?;
-        left.joined(alloc, right)
+        let half = count / 2;
+        let joined = Valued::next_joined(alloc, any_marked, rest, half)?;
+        joined.joined(
+            alloc,
+            Valued::next_joined(alloc, any_marked, rest, count - half)?,
+        )
+    }
+
+    /// The empty value without a default.
+    fn nothing(alloc: Global) -> Result<Valued, Memory>
+        ensures { IfOk result (λ none. (any_marked : Bool) → pair_of none ≡ sum_of any_marked []) }
+    {
+        Ok(Valued {
+            value: ScalarSet::empty(alloc)?,
+            usual: None,
+        })
     }
 
     /// What this value brings to a disjunction as a term, marked or not.
-    fn as_term(&self, alloc: Global, any_marked: bool, marked: bool) -> Result<Valued, Memory>
-        ensures { IfOk result (λ term. pair_of term ≡ term_of any_marked (marked, pair_of self.now)) }
+    fn into_term(self, alloc: Global, any_marked: bool, marked: bool) -> Result<Valued, Memory>
+        ensures { IfOk result (λ term. pair_of term ≡ term_of any_marked (marked, pair_of self)) }
     {
-        let value = self.value.copy(alloc)?;
-        if any_marked {
-            if marked {
-                let usual = self.brought().copy(alloc)?;
-                return Ok(Valued {
-                    value,
-                    usual: Some(usual),
-                });
-            }
-            return Ok(Valued { value, usual: None });
+        if !any_marked {
+            return Ok(self);
         }
-        match &self.usual {
-            None => Ok(Valued { value, usual: None }),
-            Some(usual) => {
-                let usual = usual.copy(alloc)?;
-                Ok(Valued {
-                    value,
-                    usual: Some(usual),
-                })
-            }
+        if !marked {
+            return Ok(Valued {
+                value: self.value,
+                usual: None,
+            });
         }
+        let (value, usual) = self.settle(alloc)?;
+        Ok(Valued {
+            value,
+            usual: Some(usual),
+        })
     }
 
     /// Two parts of a disjunction as one.
@@ -160,7 +193,7 @@ impl Valued {
             value: right,
             usual: right_usual,
         } = other;
-        let value = left.union(alloc, &right)?;
+        let value = left.into_union(alloc, right)?;
         match left_usual {
             None => Ok(Valued {
                 value,
@@ -172,7 +205,7 @@ impl Valued {
                     usual: Some(left),
                 }),
                 Some(right) => {
-                    let usual = left.union(alloc, &right)?;
+                    let usual = left.into_union(alloc, right)?;
                     Ok(Valued {
                         value,
                         usual: Some(usual),

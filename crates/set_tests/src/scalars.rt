@@ -78,7 +78,7 @@ fn one_of(
     second: Valued,
 ) -> Result<Valued, Memory> {
     let terms = vec![in alloc; (is_first_marked, first), (is_second_marked, second)]?;
-    Valued::or(alloc, terms.as_slice())
+    Valued::or(alloc, terms)
 }
 
 /// `*first | second`
@@ -104,7 +104,7 @@ fn one_of_three(alloc: Global, marked: i64) -> Result<Valued, Memory> {
     for integer in 1..4 {
         terms.push(term(alloc, integer == marked, integer)?)?;
     }
-    Valued::or(alloc, terms.as_slice())
+    Valued::or(alloc, terms)
 }
 
 /// `1 | 2`, one of which is marked.
@@ -115,7 +115,7 @@ fn one_of_two(alloc: Global, marked: i64) -> Result<Valued, Memory> {
 
 /// `left & right`
 fn both(alloc: Global, left: Valued, right: Valued) -> Result<Valued, Memory> {
-    left.and(alloc, &right)
+    left.and(alloc, right)
 }
 
 /// Whether these scalars may stand and these are the default.
@@ -404,7 +404,7 @@ fn two_defaults_that_do_not_meet(rt: HostRuntime) -> Result<(), Fail> {
 fn no_terms(rt: HostRuntime) -> Result<(), Fail> {
     let alloc = rt.alloc();
     let terms: Vec<(bool, Valued)> = Vec::new(alloc);
-    let none = Valued::or(alloc, terms.as_slice())?;
+    let none = Valued::or(alloc, terms)?;
     assert!(rt; none.value.is_empty());
     assert!(rt; none.usual.is_none());
     Ok(())
@@ -565,7 +565,7 @@ fn many_values_unified(rt: HostRuntime) -> Result<(), Fail> {
         first,
         without_default(between(alloc, 0, 2)?),
     ]?;
-    let met = Valued::and_all(alloc, values.as_slice())?;
+    let met = Valued::and_all(alloc, values)?;
     assert!(rt; is_pair(met, between(alloc, 1, 2)?, number(alloc, 1)?));
     Ok(())
 }
