@@ -20,7 +20,7 @@ use Rattle.cue_table.specs.Many.{IsOfBranches, IsUnified}
 use Rattle.cue_table.specs.Meet.{IsAdded}
 use Rattle.cue_table.specs.Refuses as tables
 use Rattle.cue_table.specs.Refuses.{TableRefuses}
-use Rattle.cue_table.specs.Tree.{Tree, empty, row_at}
+use Rattle.cue_table.specs.Tree.{Tree, node, empty, below, row_at, row_of}
 use Rattle.cue_table.proofs.Depth.{depth_rows, kept_at, row_depth}
 use Rattle.cue_eval.specs.Places.{Here, MarkRefuses}
 use Rattle.cue_eval.specs.Gathered.{Answers, GivenRefuse, LiteralAnswers}
@@ -68,14 +68,14 @@ pub answer_short : (table : Tree Row) (path : Path) (question : Question) → An
 answer_short table path question h = let row = told_row (row_at table path) question h in row_depth table path row.0 row.1
 
 -- a row that is put at the root
-pub rooted_answers : (old new : Tree Row) (at : Path) (row : Row) → at ≡ [] → IsAdded Refuses old at row new
+pub rooted_answers : (old new : Tree Row) (row : Row) → IsAdded Refuses old [] row new
     → SameAnswers (Answers new) (λ path question. Answers old path question ⊎ Here (RowRefuses row) path question)
-rooted_answers old new at row is added [] question =
+rooted_answers old new row added [] question =
     let e = added [] (asked_by question) in (
       λ h. ⊎_elim (λ g. inl ((asked old [] question).1 g)) (λ g. inr ((asked_back row question).1 g.1)) (e.0 ((asked new [] question).0 h)),
-      λ h. (asked new [] question).1 (e.1 (⊎_elim (λ g. inl ((asked old [] question).0 g)) (λ g. inr (sym is, (asked_back row question).0 g)) h)),
+      λ h. (asked new [] question).1 (e.1 (⊎_elim (λ g. inl ((asked old [] question).0 g)) (λ g. inr (refl, (asked_back row question).0 g)) h)),
     )
-rooted_answers old new at row is added (step ∷ path) question =
+rooted_answers old new row added (step ∷ path) question =
     let e = added (step ∷ path) (asked_by question) in (
       λ h. ⊎_elim (λ g. inl ((asked old (step ∷ path) question).1 g)) (λ g. let apart = g.0 in absurd (cc)) (e.0 ((asked new (step ∷ path) question).0 h)),
       λ h. (asked new (step ∷ path) question).1 (e.1 (⊎_elim (λ g. inl ((asked old (step ∷ path) question).0 g)) (λ g. absurd g) h)),
@@ -155,12 +155,39 @@ pub literal_result : {E : Type 0} (r : Result (Tree Row) E) (given : List (Step 
 literal_result (Ok table) given below row own branches rooted is = literal_answers given below table row own branches rooted is
 literal_result (Err e) given below row own branches rooted is = rooted
 
-pub own_result : {E : Type 0} (r : Result (Tree Row) E) (before : Tree Row) (row : Row) (own : Question → Type 0)
-    → IfOk r (λ after. SameAnswers (Answers after) (λ path question. Answers before path question ⊎ Here (RowRefuses row) path question))
-    → ((question : Question) → RowRefuses row question ↔ own question)
-    → IfOk r (λ after. SameAnswers (Answers after) (λ path question. Here own path question ⊎ Answers before path question))
-own_result (Ok after) before row own rooted is = own_answers before after row own rooted is
-own_result (Err e) before row own rooted is = rooted
+-- ---- the row at the root is taken off, and one with a mark put there
+-- what a row refuses, where there is one, and what a mark does
+abbrev pub IsMarked : Mark → Option Row → Row → Type 0
+IsMarked mark before row = (question : Question) → RowRefuses row question ↔ (tables.RowRefuses RowRefuses before question ⊎ MarkRefuses mark question)
+
+pub marked_none : (mark : Mark) (before : Option Row) (row : Row) → before ≡ None → ((question : Question) → RowRefuses row question ↔ MarkRefuses mark question) → IsMarked mark before row
+marked_none mark None row e is question = let o = is question in (λ h. inr (o.0 h), ⊎_elim (λ h. absurd h) (λ h. o.1 h))
+marked_none mark (Some old) row e is question = absurd (cc)
+
+pub marked_some : (mark : Mark) (before : Option Row) (old row : Row) → before ≡ Some old → ((question : Question) → RowRefuses row question ↔ (RowRefuses old question ⊎ MarkRefuses mark question)) → IsMarked mark before row
+marked_some mark before old row e is = subst (λ r. IsMarked mark r row) (sym e) is
+
+marked_answers : (before rest after : Tree Row) (mark : Mark) (row : Row) → rest ≡ node None (below before)
+    → SameAnswers (Answers after) (λ path question. Answers rest path question ⊎ Here (RowRefuses row) path question) → IsMarked mark (row_of before) row
+    → SameAnswers (Answers after) (λ path question. Here (MarkRefuses mark) path question ⊎ Answers before path question)
+marked_answers before rest after mark row e rooted is [] question =
+    let all = rooted [] question in
+    let o = is question in
+    let free : Answers rest [] question → ⊥ = λ h. subst (λ (t : Tree Row). Answers t [] question) e h in (
+      λ h. ⊎_elim (λ g. absurd (free g)) (λ g. ⊎_elim (λ k. inr k) (λ k. inl k) (o.0 g)) (all.0 h),
+      λ h. all.1 (inr (o.1 (⊎_elim (λ g. inr g) (λ g. inl g) h))),
+    )
+marked_answers before rest after mark row e rooted is (step ∷ path) question =
+    let all = rooted (step ∷ path) question in (
+      λ h. ⊎_elim (λ g. inr (subst (λ (t : Tree Row). Answers t (step ∷ path) question) e g)) (λ g. absurd g) (all.0 h),
+      λ h. ⊎_elim (λ g. absurd g) (λ g. all.1 (inl (subst (λ (t : Tree Row). Answers t (step ∷ path) question) (sym e) g))) h,
+    )
+
+pub marked_result : {E : Type 0} (r : Result (Tree Row) E) (before rest : Tree Row) (mark : Mark) (row : Row) → rest ≡ node None (below before)
+    → IfOk r (λ after. SameAnswers (Answers after) (λ path question. Answers rest path question ⊎ Here (RowRefuses row) path question)) → IsMarked mark (row_of before) row
+    → IfOk r (λ after. SameAnswers (Answers after) (λ path question. Here (MarkRefuses mark) path question ⊎ Answers before path question))
+marked_result (Ok after) before rest mark row e rooted is = marked_answers before rest after mark row e rooted is
+marked_result (Err x) before rest mark row e rooted is = rooted
 
 nothing_refused : (path : Path) (question : Question) → Answers empty path question → ⊥
 nothing_refused [] question h = h

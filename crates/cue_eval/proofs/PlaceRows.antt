@@ -1,6 +1,7 @@
--- The rows of structs and lists, which let no scalar stand.
-use Rattle.std.proofs.Common.{◌≡◌, ◌↔◌, ◌⊎◌, ◌≤◌, ◌<◌, inl, inr, ⊎_elim, ℕ, Bool, true, false, Option, Some, None, List, refl, sym, subst, arith}
+-- The rows of structs and lists, which let no scalar stand, and rows with another level.
+use Rattle.std.proofs.Common.{◌≡◌, ◌↔◌, ◌⊎◌, ◌≤◌, ◌<◌, inl, inr, ⊎_elim, ℕ, max, Bool, true, false, Option, Some, None, List, refl, sym, subst, arith}
 use Rattle.std.specs.Prelude.{ℤ, pos, negsuc, ◌≤ℤ◌}
+use Rattle.std.proofs.lemmas.Bool.{cases_lt}
 use Rattle.std.proofs.lemmas.Int.{ints}
 use Rattle.cue_lattice.specs.Question as questions
 use Rattle.cue_lattice.specs.Question.{Question, may_be, usual, allows, level_at_most, length_at_most, length_at_least}
@@ -14,8 +15,11 @@ use Rattle.cue_row.specs.LabelSets.{RefusesLabel}
 use Rattle.cue_row.specs.Lengths.{RefusesLength}
 use Rattle.cue_row.specs.Row.{RowRefuses}
 use Rattle.cue_row.specs.declared.row.Row.{Row}
+use Rattle.cue_row.specs.Levels.{level_of}
+use Rattle.cue_row.specs.declared.level.Level.{Level}
 use Rattle.cue_row.specs.declared.level.Level.TheVariants.{Optional}
-use Rattle.cue_eval.specs.Places.{StructRefuses, ListRefuses, IsAboveLength}
+use Rattle.cue_syntax.specs.declared.tree.Mark.{Mark}
+use Rattle.cue_eval.specs.Places.{StructRefuses, ListRefuses, MarkRefuses, level_of_mark, IsAboveLength}
 use Rattle.cue_eval.specs.Gathered.{LabelsRefuse}
 
 integer_from : (n : ℤ) → IsInt64 n → IsInteger n
@@ -77,3 +81,23 @@ list_refuses value usuals labels count goes_on most free is v u (level_at_most k
 list_refuses value usuals labels count goes_on most free is v u (length_at_most n) = (λ h. h, λ h. h)
 list_refuses value usuals labels count goes_on most free is v u (length_at_least n) =
     subst (λ (m : Option ℕ). RefusesLength m n ↔ IsAboveLength count goes_on n) (sym is) (above_length goes_on count n)
+
+-- a number below the greater of two is below one of them
+below_greater : (k a b : ℕ) → k < max a b → (k < a) ⊎ (k < b)
+below_greater k a b h = ⊎_elim (λ g. inl g) (λ g. let more : k < b = omega (arith, h, g) in inr more) (cases_lt k a)
+
+-- the row with another level
+abbrev pub raised_row : Row → Level → Row
+raised_row row level = record { level = level; value = row.value; usual = row.usual; struct_ok = row.struct_ok; list_ok = row.list_ok; labels = row.labels; least = row.least; most = row.most }
+
+pub raised_refuses : (row : Row) (level : Level) (mark : Mark) → level_of level ≡ max (level_of row.level) (level_of_mark mark)
+    → (question : Question) → RowRefuses (raised_row row level) question ↔ (RowRefuses row question ⊎ MarkRefuses mark question)
+raised_refuses row level mark e (may_be x) = (λ h. inl h, ⊎_elim (λ g. g) (λ g. absurd g))
+raised_refuses row level mark e (usual x) = (λ h. inl h, ⊎_elim (λ g. g) (λ g. absurd g))
+raised_refuses row level mark e questions.struct = (λ h. inl h, ⊎_elim (λ g. g) (λ g. absurd g))
+raised_refuses row level mark e questions.list = (λ h. inl h, ⊎_elim (λ g. g) (λ g. absurd g))
+raised_refuses row level mark e (allows l) = (λ h. inl h, ⊎_elim (λ g. g) (λ g. absurd g))
+raised_refuses row level mark e (level_at_most k) =
+    (λ h. below_greater k (level_of row.level) (level_of_mark mark) (subst (λ n. k < n) e h), ⊎_elim (λ g. omega (arith, e, g)) (λ g. omega (arith, e, g)))
+raised_refuses row level mark e (length_at_most n) = (λ h. inl h, ⊎_elim (λ g. g) (λ g. absurd g))
+raised_refuses row level mark e (length_at_least n) = (λ h. inl h, ⊎_elim (λ g. g) (λ g. absurd g))

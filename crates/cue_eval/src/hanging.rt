@@ -13,20 +13,20 @@ ghost use Rattle.cue_eval.specs.Evaluated.{HasAnswersOf};
 ghost use Rattle.cue_eval.specs.Gathered.{Answers, LabelsRefuse, LiteralAnswers};
 ghost use Rattle.cue_eval.specs.Places.{Here, ScalarRefuses, StructRefuses, ListRefuses, MarkRefuses};
 
-use crate::place::{list_row, mark_row, scalar_row, struct_row};
+use crate::place::{list_row, mark_row, raised, scalar_row, struct_row};
 use cue_lattice::Memory;
-use cue_row::{Labels, Path, Row, Step};
+use cue_row::{Labels, Row, Step};
 use cue_scalars::Valued;
 use cue_syntax::{Label, LabelName, Mark};
 use cue_table::Table;
 use std::alloc::Global;
 
 /// A table, and what a row says at its root.
-pub(crate) fn rooted(alloc: Global, mut table: Table<Row>, row: &Row) -> Result<Table<Row>, Memory>
+pub(crate) fn rooted(mut table: Table<Row>, row: Row) -> Result<Table<Row>, Memory>
     ensures form { IfOk result (IsTable Refuses IsRow) }
-    ensures answers { IfOk result (λ after. SameAnswers (Answers after) (λ path question. Answers table path question ⊎ Here (RowRefuses row.now) path question)) }
+    ensures answers { IfOk result (λ after. SameAnswers (Answers after) (λ path question. Answers table path question ⊎ Here (RowRefuses row) path question)) }
 {
-    table.add(&Path::root(alloc), row)?;
+    table.meet_row(row)?;
     Ok(table)
 }
 
@@ -35,7 +35,7 @@ pub(crate) fn scalar_table(alloc: Global, valued: Valued) -> Result<Table<Row>, 
     ensures form { IfOk result (IsTable Refuses IsRow) }
     ensures answers { IfOk result (λ table. SameAnswers (Answers table) (Here (ScalarRefuses (pair_of valued)))) }
 {
-    rooted(alloc, Table::new(alloc), &scalar_row(alloc, valued)?)
+    rooted(Table::new(alloc), scalar_row(alloc, valued)?)
 }
 
 /// A struct of these fields, with these labels alone.
@@ -49,7 +49,7 @@ pub(crate) fn struct_of(
     ensures answers { IfOk result (λ table. SameAnswers (Answers table) (LiteralAnswers (λ question. StructRefuses question ⊎ LabelsRefuse labels question) fields.items)) }
 {
     let below = Table::of_branches(alloc, fields)?;
-    rooted(alloc, below, &struct_row(alloc, labels)?)
+    rooted(below, struct_row(alloc, labels)?)
 }
 
 /// A list of these elements, and whether it ends in `...`.
@@ -65,15 +65,19 @@ pub(crate) fn list_of(
 {
     let count = elements.len();
     let below = Table::of_branches(alloc, elements)?;
-    rooted(alloc, below, &list_row(alloc, count, goes_on)?)
+    rooted(below, list_row(alloc, count, goes_on)?)
 }
 
 /// A field with its mark, of what is known of its value.
-pub(crate) fn marked(alloc: Global, table: Table<Row>, mark: Mark) -> Result<Table<Row>, Memory>
+pub(crate) fn marked(alloc: Global, mut table: Table<Row>, mark: Mark) -> Result<Table<Row>, Memory>
     ensures form { IfOk result (IsTable Refuses IsRow) }
     ensures answers { IfOk result (λ after. SameAnswers (Answers after) (λ path question. Here (MarkRefuses mark) path question ⊎ Answers table path question)) }
 {
-    rooted(alloc, table, &mark_row(alloc, mark)?)
+    let row = match table.take_row() {
+        None => mark_row(alloc, mark)?,
+        Some(row) => raised(row, mark),
+    };
+    rooted(table, row)
 }
 
 /// The step to the field of a label.

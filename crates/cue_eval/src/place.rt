@@ -81,6 +81,14 @@ pub(crate) fn mark_row(alloc: Global, mark: Mark) -> Result<Row, Memory>
     })
 }
 
+/// The row of a field with this mark, where its value has this row.
+pub(crate) fn raised(row: Row, mark: Mark) -> Row
+    ensures { (question : Asked) → RowRefuses result question ↔ (RowRefuses row question ⊎ MarkRefuses mark question) }
+{
+    let level = row.level.greater(level_of(mark));
+    Row { level, ..row }
+}
+
 /// The level of a field with this mark.
 fn level_of(mark: Mark) -> Level
     ensures { levels.level_of result ≡ level_of_mark mark }
