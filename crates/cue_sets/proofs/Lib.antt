@@ -1,6 +1,7 @@
 pub mod Inside
 pub mod Merged
 pub mod Neighbours
+pub mod OnePiece
 pub mod PieceTests
 pub mod Search
 pub mod Swept

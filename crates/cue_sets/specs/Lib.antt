@@ -1,4 +1,5 @@
 pub mod Combination
+pub mod Kept
 pub mod Merge
 pub mod PieceLaws
 pub mod Pieces

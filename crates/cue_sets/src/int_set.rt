@@ -4,6 +4,7 @@ ghost use Rattle.cue_sets.specs.Pieces.{is_member, is_int64, IsCanonical, IsFirs
 ghost use Rattle.cue_sets.specs.Combination.{keeps};
 
 use crate::combination::Combination;
+use crate::kept::Kept;
 use crate::pieces::{combine, has, is_canonical, is_within};
 use cue_lattice::{Memory, Narrow, Narrowed};
 use std::alloc::Global;
@@ -12,29 +13,31 @@ use std::marker::Model;
 /// A set of integers of 64 bits.
 ///
 /// It is kept as pieces from a first to a last number, both included, which ascend and neither overlap nor touch. So
-/// sets with equal members are equal values.
-#[derive(Debug, Drop)]
+/// sets with equal members are equal values. A set of one piece, such as all integers, one integer or all up to one,
+/// takes no memory besides the value itself.
+#[derive(Debug)]
 pub struct IntSet {
-    pieces: Vec<(i64, i64)>,
+    pieces: Kept,
 }
 
 impl Model for IntSet {
     ghost use Rattle.std.specs.Prelude.{List, ℤ};
+    ghost use Rattle.cue_sets.specs.Kept.{listed};
     ghost use Rattle.cue_sets.specs.Pieces.{IsCanonical};
 
     ghost Value = { List (ℤ × ℤ) };
 
-    ghost view = { λ set. set.pieces.items };
+    ghost view = { λ set. listed set.pieces };
 
-    ghost invariant = { λ set. IsCanonical set.pieces.items };
+    ghost invariant = { λ set. IsCanonical (listed set.pieces) };
 }
 
 impl IntSet {
-    /// All integers of 64 bits.
-    pub fn full(alloc: Global) -> Result<IntSet, Memory>
+    /// All integers of 64 bits. This takes no memory.
+    pub fn full(_alloc: Global) -> Result<IntSet, Memory>
         ensures { IfOk result (λ set. set ≡ (least, greatest) ∷ []) }
     {
-        IntSet::between(alloc, i64::MIN, i64::MAX)
+        Ok(IntSet::between(i64::MIN, i64::MAX))
     }
 
     /// No integer. This takes no memory.
@@ -42,29 +45,29 @@ impl IntSet {
         ensures { result ≡ Ok [] }
     {
         Ok(IntSet {
-            pieces: Vec::new(alloc),
+            pieces: Kept::none(alloc),
         })
     }
 
-    /// One integer.
-    pub fn one(alloc: Global, number: i64) -> Result<IntSet, Memory>
+    /// One integer. This takes no memory.
+    pub fn one(_alloc: Global, number: i64) -> Result<IntSet, Memory>
         ensures { IfOk result (λ set. set ≡ (number, number) ∷ []) }
     {
-        IntSet::between(alloc, number, number)
+        Ok(IntSet::between(number, number))
     }
 
-    /// The integers from a number upwards, with that number.
-    pub fn at_least(alloc: Global, number: i64) -> Result<IntSet, Memory>
+    /// The integers from a number upwards, with that number. This takes no memory.
+    pub fn at_least(_alloc: Global, number: i64) -> Result<IntSet, Memory>
         ensures { IfOk result (λ set. set ≡ (number, greatest) ∷ []) }
     {
-        IntSet::between(alloc, number, i64::MAX)
+        Ok(IntSet::between(number, i64::MAX))
     }
 
-    /// The integers up to a number, with that number.
-    pub fn at_most(alloc: Global, number: i64) -> Result<IntSet, Memory>
+    /// The integers up to a number, with that number. This takes no memory.
+    pub fn at_most(_alloc: Global, number: i64) -> Result<IntSet, Memory>
         ensures { IfOk result (λ set. set ≡ (least, number) ∷ []) }
     {
-        IntSet::between(alloc, i64::MIN, number)
+        Ok(IntSet::between(i64::MIN, number))
     }
 
     /// All integers of 64 bits but one.
@@ -78,7 +81,9 @@ impl IntSet {
                 let mut pieces = Vec::with_capacity(alloc, 2)?;
                 pieces.push((i64::MIN, number - 1))?;
                 pieces.push((number + 1, i64::MAX))?;
-                Ok(IntSet { pieces })
+                Ok(IntSet {
+                    pieces: Kept::Many(pieces),
+                })
             }
         }
     }
@@ -94,13 +99,18 @@ impl IntSet {
     pub fn is_empty(&self) -> bool
         ensures { IsTrue result ↔ (self.now ≡ []) }
     {
-        self.pieces.is_empty()
+        self.pieces.as_slice().is_empty()
     }
 
-    /// The members of both sets.
+    /// The members of both sets. Of two sets of one piece this takes no memory.
     pub fn meet(&self, alloc: Global, other: &IntSet) -> Result<IntSet, Memory>
         ensures { IfOk result (λ met. (n : ℤ) → is_member met n ≡ (is_member self.now n && is_member other.now n)) }
     {
+        if let (Some(left), Some(right)) = (self.pieces.only(), other.pieces.only()) {
+            return Ok(IntSet {
+                pieces: Kept::common(alloc, left, right),
+            });
+        }
         self.combined(alloc, Combination::Meet, other)
     }
 
@@ -145,7 +155,7 @@ impl IntSet {
         ensures list { result.now ≡ self.now }
         ensures canonical { IsCanonical self.now }
     {
-        &self.pieces
+        self.pieces.as_slice()
     }
 
     /// The set of these pieces, each a first and a last number, where they ascend, none is empty, and between neighbours
@@ -157,32 +167,45 @@ impl IntSet {
         if !is_canonical(pieces.as_slice()) {
             return None;
         }
-        Some(IntSet { pieces })
+        Some(IntSet {
+            pieces: Kept::of(pieces),
+        })
     }
 
     /// Whether each member is one of the other set too. This takes no memory.
     pub fn is_within(&self, other: &IntSet) -> bool
         ensures { IsTrue result ↔ ((n : ℤ) → is_member self.now n ≡ true → is_member other.now n ≡ true) }
     {
+        if let (Some(left), Some(right)) = (self.pieces.only(), other.pieces.only()) {
+            return right.0 <= left.0 && left.1 <= right.1;
+        }
         is_within(self.pieces.as_slice(), other.pieces.as_slice())
     }
 
     fn combined(&self, alloc: Global, how: Combination, other: &IntSet) -> Result<IntSet, Memory>
         ensures { IfOk result (λ set. (n : ℤ) → is_member set n ≡ keeps how (is_member self.now n) (is_member other.now n)) }
     {
+        let pieces = combine(alloc, how, self.pieces.as_slice(), other.pieces.as_slice())?;
         Ok(IntSet {
-            pieces: combine(alloc, how, self.pieces.as_slice(), other.pieces.as_slice())?,
+            pieces: Kept::of(pieces),
         })
     }
 
     /// The integers from `first` to `last`, with both.
-    fn between(alloc: Global, first: i64, last: i64) -> Result<IntSet, Memory>
+    fn between(first: i64, last: i64) -> IntSet
         requires { first ≤ℤ last }
-        ensures { IfOk result (λ set. set ≡ (first, last) ∷ []) }
+        ensures { result ≡ (first, last) ∷ [] }
     {
-        let mut pieces = Vec::with_capacity(alloc, 1)?;
-        pieces.push((first, last))?;
-        Ok(IntSet { pieces })
+        IntSet {
+            pieces: Kept::one(first, last),
+        }
+    }
+}
+
+/// A set is dropped by a call, so that nothing outside says how its pieces are kept.
+impl Drop for IntSet {
+    fn drop(self) {
+        let IntSet { pieces: _pieces } = self;
     }
 }
 
@@ -228,7 +251,7 @@ impl Narrow for IntSet {
 
     fn copy(&self, alloc: Global) -> Result<IntSet, Memory> {
         Ok(IntSet {
-            pieces: Vec::from_slice(alloc, self.pieces.as_slice())?,
+            pieces: self.pieces.copy(alloc)?,
         })
     }
 

@@ -6,6 +6,7 @@
 
 mod combination;
 mod int_set;
+mod kept;
 mod moving;
 mod pieces;
 mod text_set;
