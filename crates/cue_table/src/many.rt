@@ -1,5 +1,5 @@
 //! Many tables as one.
-ghost use Rattle.std.specs.Prelude.{◌≡◌, ◌<◌, drop, take, All, IfOk, OnOk};
+ghost use Rattle.std.specs.Prelude.{◌≡◌, ◌<◌, drop, map, take, All, IfOk, OnOk};
 ghost use Rattle.std.specs.List.Sorted.{IsPermutation};
 ghost use Rattle.std.specs.Vec.Iter.{into_iter_items};
 ghost use Rattle.cue_lattice.specs.Limits.{step_limit};
@@ -12,6 +12,7 @@ use crate::Table;
 use cue_lattice::{Memory, Narrow};
 use cue_row::Step;
 use std::alloc::Global;
+use std::cmp::Ordering;
 use std::vec::IntoIter;
 
 impl<R: Narrow> Table<R> {
@@ -34,16 +35,46 @@ impl<R: Narrow> Table<R> {
         ensures form { IfOk result (IsTable R.refuses R.is_value) }
         ensures refused { IfOk result (IsOfBranches R.refuses branches.items) }
     {
-        hung_together(alloc, by_step(branches)?)
+        hung_together(alloc, by_step(alloc, branches)?)
     }
 }
 
-/// The branches in the order of their steps.
-fn by_step<R: Narrow>(mut branches: Vec<(Step, Table<R>)>) -> Result<Vec<(Step, Table<R>)>, Memory>
+/// The branches in the order of their steps. Where they stand so already, none is moved; else they are sorted in boxes, so
+/// that few bytes are moved at each step of the sort.
+fn by_step<R: Narrow>(
+    alloc: Global,
+    branches: Vec<(Step, Table<R>)>,
+) -> Result<Vec<(Step, Table<R>)>, Memory>
     ensures { IfOk result (λ sorted. IsPermutation branches.items sorted.items) }
 {
-    branches.sort_by(|one, other| one.0.compare(&other.0))?;
-    Ok(branches)
+    if branches.is_sorted_by(|one, other| one.0.compare(&other.0) != Ordering::Greater) {
+        return Ok(branches);
+    }
+    let mut boxes = boxed(alloc, branches)?;
+    boxes.sort_by(|one, other| one.0.compare(&other.0))?;
+    unboxed(alloc, boxes)
+}
+
+/// The items, each in a box.
+fn boxed<T: Drop>(alloc: Global, items: Vec<T>) -> Result<Vec<Box<T>>, Memory>
+    ensures { IfOk result (λ boxes. map (λ one. one.value) boxes.items ≡ items.items) }
+{
+    let mut boxes = Vec::with_capacity(alloc, items.len())?;
+    for item in items {
+        boxes.push(Box::new(alloc, item)?)?;
+    }
+    Ok(boxes)
+}
+
+/// What is in the boxes.
+fn unboxed<T: Drop>(alloc: Global, boxes: Vec<Box<T>>) -> Result<Vec<T>, Memory>
+    ensures { IfOk result (λ items. items.items ≡ map (λ one. one.value) boxes.items) }
+{
+    let mut items = Vec::with_capacity(alloc, boxes.len())?;
+    for one in boxes {
+        items.push(Box::into_inner(one))?;
+    }
+    Ok(items)
 }
 
 /// The table of these branches. A branch at a step behind all others is hung in behind them; those that are left, where
