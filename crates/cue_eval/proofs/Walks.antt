@@ -1,9 +1,7 @@
 -- Tables of the parts of expressions, one after another.
-use Rattle.std.proofs.Common.{◌≡◌, ◌↔◌, ◌⊎◌, ◌+◌, ◌*◌, ◌≤◌, ◌<◌, inl, inr, ⊎_elim, ℕ, List, [], ◌∷◌, ◌++◌, All, length, refl, ap, subst, ◌∙◌, length-drop, drop, get_or, Vec, Global, arith, Result, Ok, Err}
-use Rattle.std.specs.Prelude.{IfOk}
+use Rattle.std.proofs.Common.{◌≡◌, ◌↔◌, ◌⊎◌, ◌+◌, ◌*◌, ◌≤◌, ◌<◌, inl, inr, ⊎_elim, ℕ, List, [], ◌∷◌, ◌++◌, All, length, refl, ap, subst, ◌∙◌, length-drop, drop, get_or, Vec, Global, arith}
 use Rattle.std.proofs.lemmas.List.Elements.{All-push}
 use Rattle.cue_lattice.specs.Limits.{step_limit}
-use Rattle.cue_lattice.specs.OneOf.{OneOf}
 use Rattle.cue_lattice.proofs.OneOf.{one_of-push}
 use Rattle.cue_lattice.specs.Path as paths
 use Rattle.cue_lattice.specs.Path.{Path, label, index}
@@ -15,7 +13,6 @@ use Rattle.cue_row.specs.declared.step.Step.{Step}
 use Rattle.cue_row.specs.declared.step.Step.TheVariants as steps
 use Rattle.cue_table.specs.Depth.{tree_depth}
 use Rattle.cue_table.specs.Form.{IsTable}
-use Rattle.cue_table.specs.Many.{IsUnified}
 use Rattle.cue_table.specs.Tree.{Tree}
 use Rattle.cue_syntax.specs.declared.tree.Expr.{Expr}
 use Rattle.cue_syntax.specs.declared.tree.Declaration.{Declaration}
@@ -24,12 +21,12 @@ use Rattle.cue_syntax.proofs.Views.{view-Field, view-Definition}
 use Rattle.cue_scope.proofs.Walking.{at_hand}
 use Rattle.cue_syntax.specs.declared.tree.Label.{Label}
 use Rattle.cue_syntax.specs.Syntax.{Expression, Entry, Entries, no_entries, entry, ellipsis, field, definition, expression, elements, entries, entry_tree}
-use Rattle.cue_scope.specs.Core.{Core, conjunction, Cores}
+use Rattle.cue_scope.specs.Core.{Core, Cores}
 use Rattle.cue_scope.specs.Limits.{size, depth}
 use Rattle.cue_scope.specs.Measures.{Total}
 use Rattle.cue_scope.specs.Meaning.{meaning, nested, text_of}
-use Rattle.cue_scope.specs.Terms.{terms, terms_of_elements, terms_of_entries}
-use Rattle.cue_scope.specs.Uses.{uses, uses_of_elements, uses_of_fields}
+use Rattle.cue_scope.specs.Terms.{terms, terms_of_entries}
+use Rattle.cue_scope.specs.Uses.{uses, uses_of_fields}
 use Rattle.cue_scope.proofs.Measuring.{total_nested}
 use Rattle.cue_scope.proofs.Nodes.{in_append_left, in_append_right}
 use Rattle.cue_eval.specs.declared.rows.Tables.{Tables}
@@ -37,10 +34,9 @@ use Rattle.cue_eval.specs.Evaluated.{HasAnswersOf}
 use Rattle.cue_eval.specs.Gathered.{Answers, GivenRefuse}
 use Rattle.cue_eval.specs.Known.{core_of, parts_of}
 use Rattle.cue_eval.specs.Places.{Here, MarkRefuses}
-use Rattle.cue_eval.specs.Ready.{all_definitions, members_of, AreKnown, IsReady, AreReadyParts, AreReadyFields, IsField, AreGiven, AtLabels}
-use Rattle.cue_eval.specs.Refuses.{PartsRefuse}
+use Rattle.cue_eval.specs.Ready.{all_definitions, members_of, AreKnown, IsReady, AreReadyFields, IsField, AreGiven, AtLabels}
 use Rattle.cue_eval.proofs.Depth.{paths_within_depth}
-use Rattle.cue_eval.proofs.Gathering.{shallow, unified_answers, marked_depth}
+use Rattle.cue_eval.proofs.Gathering.{shallow, marked_depth}
 use Rattle.cue_eval.proofs.Leaves.{nil_both}
 
 pub known_left : (known : Tables) (us vs : List ℕ) → AreKnown known (us ++ vs) → AreKnown known us
@@ -55,61 +51,6 @@ within_depth c table form same = shallow table (depth c) form (λ path question 
 
 abbrev pub each_of : Tables → List Expr → Cores
 each_of known es = parts_of known.pairs (elements es)
-
--- ---- the parts of a conjunction: the tables so far, and the parts that are left
-pub record Unifying (known : Tables) (given : List (Tree Row)) (all left : List Expr) : Type 0 where
-  pub refused : (path : Path) (question : Question) →
-      (OneOf (λ table. Answers table path question) given ⊎ PartsRefuse (each_of known left) path question) ↔ PartsRefuse (each_of known all) path question
-  pub others : AreReadyParts known (elements left)
-
-pub unifying_none : (known : Tables) (all : List Expr) → AreReadyParts known (elements all) → Unifying known [] all all
-unifying_none known all h = record { refused = λ path question. (λ k. ⊎_elim (λ g. absurd g) (λ g. g) k, λ k. inr k); others = h }
-
-pub part_ready : (known : Tables) (given : List (Tree Row)) (all left : List Expr) (e : Expr) (rest : List Expr) → Unifying known given all left → left ≡ e ∷ rest → IsReady known (expression e)
-part_ready known given all left e rest w is =
-    let here = (subst (λ z. Unifying known given all z) is w).others in
-    let ds = all_definitions known in
-    let s = here.size in
-    let d = here.depth in record {
-      right = here.right.0;
-      used = known_left known (uses ds (expression e)) (uses_of_elements ds (elements rest)) here.used;
-      terms = (nil_both (terms ds (meaning ds) (expression e)) (terms_of_elements ds (meaning ds) (elements rest)) here.terms).0;
-      size = omega arith;
-      depth = omega arith;
-    }
-
-pub part_unified : (known : Tables) (given : List (Tree Row)) (all left : List Expr) (e : Expr) (rest : List Expr) (table : Tree Row) → Unifying known given all left → left ≡ e ∷ rest
-    → HasAnswersOf (core_of known.pairs (expression e)) table → Unifying known (given ++ table ∷ []) all rest
-part_unified known given all left e rest table w is same =
-    let now = subst (λ z. Unifying known given all z) is w in
-    let here = now.others in
-    let ds = all_definitions known in
-    let s = here.size in
-    let d = here.depth in record {
-      refused = λ path question.
-          let h = now.refused path question in
-          let push = one_of-push (λ t. Answers t path question) given table in
-          let a = same path question in (
-            λ k. ⊎_elim (λ g. ⊎_elim (λ f. h.0 (inl f)) (λ f. h.0 (inr (inl (a.0 f)))) (push.0 g)) (λ g. h.0 (inr (inr g))) k,
-            λ k. ⊎_elim (λ g. inl (push.1 (inl g))) (λ g. ⊎_elim (λ f. inl (push.1 (inr (a.1 f)))) (λ f. inr f) g) (h.1 k),
-          );
-      others = record {
-        right = here.right.1;
-        used = known_right known (uses ds (expression e)) (uses_of_elements ds (elements rest)) here.used;
-        terms = (nil_both (terms ds (meaning ds) (expression e)) (terms_of_elements ds (meaning ds) (elements rest)) here.terms).1;
-        size = omega arith;
-        depth = omega arith;
-      };
-    }
-
-pub parts_unified : (known : Tables) (given : List (Tree Row)) (all left : List Expr) (met : Tree Row) → Unifying known given all left → left ≡ [] → IsUnified Refuses given met
-    → HasAnswersOf (conjunction (each_of known all)) met
-parts_unified known given all left met w is unified path question =
-    let h = (subst (λ z. Unifying known given all z) is w).refused path question in
-    let u = unified_answers given met path question unified in (
-      λ k. h.0 (inl (u.0 k)),
-      λ k. u.1 (⊎_elim (λ g. g) (λ g. absurd g) (h.1 k)),
-    )
 
 -- ---- the declarations of a struct literal or of a text
 pub record Gathering (known : Tables) (given : List (Step × Tree Row)) (all left : Entries) : Type 0 where
@@ -250,11 +191,6 @@ field_made l c step inner made is less inner_form same form marked =
             λ h. m.1 (⊎_elim (λ g. inl g) (λ g. inr (s.1 g)) h),
           );
     }
-
-pub parts_result : {E : Type 0} (r : Result (Tree Row) E) (known : Tables) (given : List (Tree Row)) (all left : List Expr) → Unifying known given all left → left ≡ []
-    → IfOk r (λ met. IsUnified Refuses given met) → IfOk r (HasAnswersOf (conjunction (each_of known all)))
-parts_result (Ok met) known given all left w is unified = parts_unified known given all left met w is unified
-parts_result (Err e) known given all left w is unified = unified
 
 no_length : {A : Type 0} (xs : List A) → length xs ≡ 0 → xs ≡ []
 no_length [] h = refl

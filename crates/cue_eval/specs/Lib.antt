@@ -17,4 +17,5 @@ pub mod Words
 pub mod Validity
 pub mod Gathered
 pub mod Ready
+pub mod Parts
 pub mod Finding

@@ -9,6 +9,7 @@ mod hanging;
 mod labels;
 mod laws;
 mod pair;
+mod parts;
 mod place;
 mod rows;
 mod scalars;

@@ -1,20 +1,22 @@
 //! What expressions refuse, as tables.
-ghost use Rattle.std.specs.Prelude.{◌≡◌, ◌<◌, IfOk};
+ghost use Rattle.std.specs.Prelude.{◌≡◌, ◌<◌, None, IfOk, OnOk, slice_index_or};
 ghost use Rattle.cue_lattice.specs.Limits.{step_limit};
 ghost use Rattle.cue_row.specs.Row.{Refuses, IsRow};
 ghost use Rattle.cue_scope.specs.Core as core;
 ghost use Rattle.cue_scope.specs.Limits as limits;
-ghost use Rattle.cue_scope.specs.Meaning.{nested};
+ghost use Rattle.cue_scope.specs.Meaning.{meaning, nested};
 ghost use Rattle.cue_scope.specs.Uses.{uses_of_name};
 ghost use Rattle.cue_syntax.specs.Syntax as tree;
 ghost use Rattle.cue_table.specs.Form.{IsTable};
 ghost use Rattle.cue_eval.specs.Evaluated.{HasAnswersOf};
 ghost use Rattle.cue_eval.specs.Known.{core_of, named_core, parts_of};
-ghost use Rattle.cue_eval.specs.Ready.{all_definitions, members_of, AreKnown, IsReady, AreReadyParts, AreReadyElements, AreReadyEntries, AreReadyFields, IsField, AreGiven, AtLabels, IsScalarLeaf};
+ghost use Rattle.cue_eval.specs.Parts.{AreAdded};
+ghost use Rattle.cue_eval.specs.Ready.{all_definitions, members_of, AreKnown, IsReady, IsTableAt, AreReadyParts, AreReadyElements, AreReadyEntries, AreReadyFields, IsField, AreGiven, AtLabels, IsScalarLeaf};
 
 use crate::hanging::{behind, list_of, marked, scalar_table, step_to, struct_of};
 use crate::labels::labels_of;
 use crate::pair::Pairs;
+use crate::parts::{distinct, number_of};
 use crate::scalars::nothing;
 use cue_lattice::Memory;
 use cue_row::{Labels, Row, Step};
@@ -107,15 +109,11 @@ impl<'a, 'f, 't> Tables<'a, 'f, 't> {
         let alloc = self.pairs.alloc;
         match self.pairs.definitions.number(name) {
             None => scalar_table(alloc, nothing(alloc)?),
-            Some(number) => match self.tables.get(number) {
-                None => Ok(Table::new(alloc)),
-                Some(None) => Ok(Table::new(alloc)),
-                Some(Some(table)) => table.copy(alloc),
-            },
+            Some(number) => self.defined(number),
         }
     }
 
-    /// Parts that are joined by `&`.
+    /// Parts that are joined by `&`. A definition that several of them name is copied once.
     #[cycle(rows)]
     fn conjunction(&self, parts: &[Expr]) -> Result<Table<Row>, Memory>
         requires { AreReadyParts self.now (tree.elements parts.now) }
@@ -123,11 +121,46 @@ impl<'a, 'f, 't> Tables<'a, 'f, 't> {
         ensures answers { IfOk result (HasAnswersOf (core.conjunction (parts_of self.now.pairs (tree.elements parts.now)))) }
     {
         let mut tables = Vec::new(self.pairs.alloc);
+        let mut numbers = Vec::new(self.pairs.alloc);
         for part in parts {
-            let table = self.rows(part)?;
-            tables.push(table)?;
+            match number_of(self.pairs.definitions, part) {
+                Some(number) => numbers.push(number)?,
+                None => tables.push(self.rows(part)?)?,
+            }
         }
+        self.push_definitions(&distinct(numbers), &mut tables)?;
         Table::unified(self.pairs.alloc, tables)
+    }
+
+    /// Copies of the tables of definitions.
+    fn push_definitions(
+        &self,
+        numbers: &[usize],
+        tables: &mut Vec<Table<Row>>,
+    ) -> Result<(), Memory>
+        requires { AreKnown self.now numbers.now }
+        ensures { OnOk result
+            (AreAdded (all_definitions self.now) tables.old.items numbers.now tables.new.items) }
+    {
+        for number in numbers {
+            tables.push(self.defined(*number)?)?;
+        }
+        Ok(())
+    }
+
+    /// A copy of the table of a definition.
+    fn defined(&self, number: usize) -> Result<Table<Row>, Memory>
+        requires { IsTableAt (meaning (all_definitions self.now) number)
+            (slice_index_or self.now.tables.now number None) }
+        ensures form { IfOk result (IsTable Refuses IsRow) }
+        ensures answers { IfOk result (HasAnswersOf (meaning (all_definitions self.now) number)) }
+    {
+        let alloc = self.pairs.alloc;
+        match self.tables.get(number) {
+            None => Ok(Table::new(alloc)),
+            Some(None) => Ok(Table::new(alloc)),
+            Some(Some(table)) => table.copy(alloc),
+        }
     }
 
     /// The struct of a literal's declarations, or of the regular ones of a text.
