@@ -1,5 +1,6 @@
 -- What a run makes of all inputs, on devices whose bytes are known or not.
 use Rattle.std.specs.Prelude.{◌≡◌, ◌⊎◌, ℕ, zero, suc, List, [], length, Option, IfSome}
+use Rattle.std.specs.Io.KnownBytes.{Appends}
 use Rattle.cue_replica.specs.Language.{Table}
 use Rattle.cue_program.specs.declared.reply.Question.{Question}
 use Rattle.cue_program.specs.declared.reply.Question.TheVariants as questions
@@ -25,10 +26,15 @@ HoldsAll (suc more) known table = HoldsSomeFiles (suc more) table
 abbrev pub IsReplyFor : Question → ℕ → Option (List ℕ) → Reply → Type 0
 IsReplyFor question files known reply = (table : Table) × HoldsAll files known table × Tells question table reply
 
--- nothing is said, once there was a reply for the file that is written, of the state of a site that has taken all inputs
-abbrev pub IsMergeOf : ℕ → Option (List ℕ) → Reply → Type 0
-IsMergeOf files known reply =
-    (state : Reply) × IsReplyFor questions.State files known state × Says reply [] statuses.Done
+-- a writer of this kind was handed these bytes, all of them
+abbrev pub WasHanded : {W : Type 0} → (W → Option (List ℕ)) → List ℕ → Type 0
+WasHanded {W} contents bytes = (before after : W) × Appends (contents before) (contents after) bytes
+
+-- nothing is said, once a file was handed the state bytes of a site that has taken all inputs
+abbrev pub IsMergeOf : {W : Type 0} → (W → Option (List ℕ)) → ℕ → Option (List ℕ) → Reply → Type 0
+IsMergeOf contents files known reply =
+    (state : Reply) × IsReplyFor questions.State files known state × WasHanded contents state.bytes.items
+    × Says reply [] statuses.Done
 
 -- what ends a run over files without a reply
 abbrev pub IsFilesStop : ℕ → Stop → Type 0

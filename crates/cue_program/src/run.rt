@@ -45,7 +45,7 @@ pub fn merge_into<H: AllocGlobal + Files, R: Read>(
     files: &[&str],
     input: &mut R,
 ) -> Result<Reply, Stop>
-    ensures reply { IfOk result (IsMergeOf (length files.now) (R.remaining input.old)) }
+    ensures reply { IfOk result (IsMergeOf H.File.contents (length files.now) (R.remaining input.old)) }
     ensures stop { IfErr result (IsStopFor (length files.now) (R.remaining input.old)) }
 {
     let state = reply_for(rt, Question::State, files, input)?;

@@ -1,13 +1,14 @@
-ghost use Rattle.std.specs.Prelude.{◌≡◌, ◌⊎◌, IfOk, IfErr, map, length, string_bytes};
+ghost use Rattle.std.specs.Prelude.{◌≡◌, ◌⊎◌, IfOk, IfErr, List, ℕ, map, length, string_bytes};
 ghost use Rattle.cuestore.specs.Faults.{IsStopped};
 ghost use Rattle.cuestore.specs.Runs.{inputs_of, IsReplyOf, IsReplyToWords, IsFaultFor, IsAnswered};
 ghost use Rattle.cuestore.specs.Words.{texts, HasEnough};
 ghost use Rattle.cue_program.specs.Runs.{IsStopFor};
 
-use crate::command::{Command, Request, request_of};
+use crate::command::{Command, Request, given_words, request_of};
 use crate::fault::Fault;
 use cue_program::{Question, Reply, Status, Stop, merge_into, reply_for, tell};
 use std::alloc::Global;
+use std::env::Env;
 use std::io::{Read, Write};
 use std::rt::Files;
 
@@ -31,7 +32,7 @@ pub fn act<H: AllocGlobal + Files, R: Read, W: Write, F: Write>(
 ) -> u8
     // It ends with 0, 2 or 3 only where what belongs to the command was added to the output: what is
     // told of a valid table with exactly the answers of the pieces in all inputs.
-    ensures { IsAnswered (map string_bytes words.now) (R.remaining input.old)
+    ensures { IsAnswered H.File.contents (map string_bytes words.now) (R.remaining input.old)
         (W.contents out.old) (W.contents out.new) result
         ⊎ (result ≡ 1) ⊎ (result ≡ 4) }
 {
@@ -45,13 +46,32 @@ pub fn act<H: AllocGlobal + Files, R: Read, W: Write, F: Write>(
     report(rt.alloc(), &fault, out, faults).code()
 }
 
+/// Runs the program on the words that the process was given, as `act` does. Words that can't be read
+/// are a usage fault, or there is no memory for them.
+pub fn run<H: AllocGlobal + Env + Files, R: Read, W: Write, F: Write>(
+    rt: &H,
+    input: &mut R,
+    out: &mut W,
+    faults: &mut F,
+) -> u8
+    ensures { ((words : List (List ℕ)) × IsAnswered H.File.contents words (R.remaining input.old)
+        (W.contents out.old) (W.contents out.new) result)
+        ⊎ (result ≡ 1) ⊎ (result ≡ 4) }
+{
+    match given_words(rt) {
+        Ok(words) => act(rt, &words, input, out, faults),
+        Err(fault) => report(rt.alloc(), &fault, out, faults).code(),
+    }
+}
+
 /// What the command that the words ask for prints.
 fn reply_to<H: AllocGlobal + Files, R: Read>(
     rt: &H,
     words: &[String],
     input: &mut R,
 ) -> Result<Reply, Fault>
-    ensures reply { IfOk result (IsReplyToWords (map string_bytes words.now) (R.remaining input.old)) }
+    ensures reply { IfOk result (IsReplyToWords H.File.contents (map string_bytes words.now)
+        (R.remaining input.old)) }
     ensures fault { IfErr result (IsFaultFor (map string_bytes words.now) (R.remaining input.old)) }
 {
     let request = request_of(rt.alloc(), words)?;
@@ -68,7 +88,7 @@ fn answer<H: AllocGlobal + Files, R: Read>(
     input: &mut R,
 ) -> Result<Reply, Stop>
     requires { HasEnough request.now.command (texts request.now.arguments.items) }
-    ensures reply { IfOk result (IsReplyOf request.now.command
+    ensures reply { IfOk result (IsReplyOf H.File.contents request.now.command
         (inputs_of request.now.command (length request.now.arguments.items)) (R.remaining input.old)) }
     ensures stop { IfErr result
         (IsStopFor (inputs_of request.now.command (length request.now.arguments.items)) (R.remaining input.old)) }

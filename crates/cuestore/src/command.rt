@@ -1,13 +1,17 @@
-ghost use Rattle.std.specs.Prelude.{◌≡◌, ◌↔◌, IfOk, IfErr, IfSome, IsTrue, List, ℕ, map, string_bytes};
-ghost use Rattle.cuestore.specs.Faults.{IsWordFault};
+ghost use Rattle.std.specs.Prelude.{◌≡◌, ◌≢◌, ◌↔◌, IfOk, IfErr, IfSome, IsTrue, List, ℕ};
+ghost use Rattle.std.specs.Prelude.{drop, map, string_bytes};
+ghost use Rattle.std.specs.IoError.{error_kind};
+ghost use Rattle.std.specs.Vec.Iter.{into_iter_items};
+ghost use Rattle.std.specs.declared.io.ErrorKind.TheVariants.{OutOfMemory};
+ghost use Rattle.cuestore.specs.Faults.{IsWordFault, TellsMemory};
 ghost use Rattle.cuestore.specs.Words.{name_of, texts, IsOption, AreArguments, Goes, AsksFor};
 
 use crate::fault::Fault;
 use clap::error::ErrorKind;
 use clap::{Arg, ArgAction, Error};
 use cue_program::{Memory, Stop};
-use std::alloc::Global;
-use std::env::Env;
+use std::alloc::{AllocError, Global};
+use std::env::{Args, Env};
 use std::{env, io};
 
 /// What the program is asked to do.
@@ -36,20 +40,24 @@ pub struct Request<'a> {
 pub fn given_words<H: AllocGlobal + Env>(rt: &H) -> Result<Vec<String>, Fault>
     ensures fault { IfErr result IsWordFault }
 {
-    let all = match env::args(rt) {
-        Ok(all) => all,
-        Err(error) => return Err(unread(&error)),
-    };
-    let mut words = Vec::new(rt.alloc());
-    for word in all.skip(1) {
-        words.push(word)?;
+    match env::args(rt) {
+        Ok(all) => Ok(after_the_name(rt.alloc(), all)?),
+        Err(error) => Err(unread(&error)),
     }
-    Ok(words)
+}
+
+/// The words after the first, which is the program's name.
+fn after_the_name(alloc: Global, all: Args) -> Result<Vec<String>, AllocError>
+    ensures { IfOk result (λ words. words.items ≡ drop 1 (into_iter_items all)) }
+{
+    all.skip(1).collect(alloc)
 }
 
 /// What is told where the words can't be read.
-fn unread(error: &io::Error) -> Fault
-    ensures { IsWordFault result }
+pub fn unread(error: &io::Error) -> Fault
+    ensures memory { error_kind error.now ≡ OutOfMemory → TellsMemory result }
+    ensures usage { error_kind error.now ≢ OutOfMemory → result ≡ Fault.Usage }
+    ensures fault { IsWordFault result }
 {
     match error.kind() {
         io::ErrorKind::OutOfMemory => Fault::from(Stop::from(Memory)),

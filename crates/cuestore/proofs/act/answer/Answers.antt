@@ -9,8 +9,9 @@ pub returns-in-Merge-clause-reply : goal.returns-in-Merge-clause-reply
 returns-in-Merge-clause-reply g c =
     let words = c.as_slice-arguments.result.now in
     let items = c.args.request.now.arguments.items in
+    let contents = g.H.File.Write.contents in
     let known = g.R.Read.remaining c.args.input.now in
     let count : length (take (length words - 1) (drop 1 words)) ≡ length items - 1 =
     omega (arith, length-take (length words - 1) (drop 1 words), length-drop 1 words, ap length c.as_slice-arguments.ensures.value) in
-    subst (λ (command : Command). IfOk c.merge_into.result (IsReplyOf command (inputs_of command (length items)) known)) (sym c.in-Merge.is)
-    (subst (λ (n : ℕ). IfOk c.merge_into.result (IsMergeOf n known)) count c.merge_into.ensures.reply)
+    subst (λ (command : Command). IfOk c.merge_into.result (IsReplyOf contents command (inputs_of command (length items)) known)) (sym c.in-Merge.is)
+    (subst (λ (n : ℕ). IfOk c.merge_into.result (IsMergeOf contents n known)) count c.merge_into.ensures.reply)
