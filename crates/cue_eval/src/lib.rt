@@ -13,8 +13,6 @@ mod parts;
 mod place;
 mod rows;
 mod scalars;
-#[cfg(test)]
-mod tests;
 mod told;
 
 pub use cue_lattice::{Memory, Narrow, Narrowed, Text};

@@ -11,6 +11,10 @@ mod listing;
 #[cfg(test)]
 mod places;
 #[cfg(test)]
+mod repeated;
+#[cfg(test)]
+mod scalars;
+#[cfg(test)]
 mod sites;
 #[cfg(test)]
 mod texts;

@@ -1,11 +1,10 @@
-use crate::{
-    bounded, integer_alone, integer_of, named_set, nothing, null_alone, other_integers,
-    other_texts, text_alone, truth_alone,
+//! The scalars and sets of scalars that a text writes, each function on its happy path.
+use cue_eval::{
+    Comparison, Memory, Named, Signed, Text, Valued, bounded, integer_alone, integer_of, named_set,
+    nothing, null_alone, other_integers, other_texts, text_alone, truth_alone,
 };
-use cue_lattice::{Memory, Scalar, Text};
-use cue_scalars::Valued;
-use cue_scope::Named;
-use cue_syntax::{Comparison, Sign, Signed};
+use cue_lattice::Scalar;
+use cue_syntax::Sign;
 use std::alloc::Global;
 use std::test::Fail;
 
