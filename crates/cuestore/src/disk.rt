@@ -1,7 +1,9 @@
 //! A runtime for tests, whose files lie in memory.
+ghost use Rattle.std.specs.Io.{WritesAtMost};
 
 use std::alloc::{Allocator, Global};
-use std::cell::Cell;
+use std::cell::{Cell, RefCell};
+use std::env::{Env, FillError};
 use std::fs::{Metadata, OpenFile, OpenOptions};
 use std::io;
 use std::io::{ErrorKind, Read, Seek, SeekFrom, Write};
@@ -15,18 +17,20 @@ pub enum Entry<'a> {
     Cut(&'a [u8]),
 }
 
-/// Files by their names, and how many bytes were written to a file. Only the names that begin with
-/// `out` can be written.
+/// The words of a process, its files by their names, and what was written to a file. Only the names
+/// that begin with `out` can be written.
 #[derive(Drop)]
 pub struct Disk<'a> {
     pub alloc: Global,
+    /// The first is the program's name.
+    pub words: &'a [&'a [u8]],
     pub files: &'a [(&'a str, Entry<'a>)],
     /// How often a file was opened to be read.
     pub opened: Cell<usize>,
     /// How many files were opened before the one that is written; nothing, where none is.
     pub created_after: Cell<Option<usize>>,
     pub room: usize,
-    pub written: &'a Cell<usize>,
+    pub written: &'a RefCell<Vec<u8>>,
 }
 
 /// An open file: what is left to read, whether the next read at its end fails, and how many bytes
@@ -36,7 +40,7 @@ pub struct Opened<'a> {
     rest: &'a [u8],
     fails: bool,
     room: usize,
-    written: &'a Cell<usize>,
+    written: &'a RefCell<Vec<u8>>,
 }
 
 impl<'a> Alloc for Disk<'a> {
@@ -44,6 +48,34 @@ impl<'a> Alloc for Disk<'a> {
 
     fn alloc(&self) -> Global {
         self.alloc
+    }
+}
+
+/// Copies a word to the start of the buffer, and answers how long it is.
+fn fill(word: &[u8], buf: &mut [u8]) -> Result<usize, FillError>
+    ensures bound { WritesAtMost result buf.new }
+{
+    if word.len() > buf.len() {
+        return Err(FillError::TooLong);
+    }
+    buf[..word.len()].copy_from_slice(word);
+    Ok(word.len())
+}
+
+impl<'a> Env for Disk<'a> {
+    fn arg(&self, i: usize, buf: &mut [u8]) -> Result<usize, FillError> {
+        match self.words.get(i) {
+            Some(word) => fill(word, buf),
+            None => Err(FillError::NotPresent),
+        }
+    }
+
+    fn var(&self, _name: &str, _buf: &mut [u8]) -> Result<usize, FillError> {
+        Err(FillError::NotPresent)
+    }
+
+    fn var_at(&self, _i: usize, _buf: &mut [u8]) -> Result<usize, FillError> {
+        Err(FillError::NotPresent)
     }
 }
 
@@ -137,8 +169,11 @@ impl<'a> Read for Opened<'a> {
 impl<'a> Write for Opened<'a> {
     fn write(&mut self, buf: &[u8]) -> io::Result<usize> {
         let count = buf.len().min(self.room);
+        let Ok(mut written) = self.written.try_borrow_mut() else {
+            return Err(io::Error::from(ErrorKind::ResourceBusy));
+        };
+        written.extend_from_slice(&buf[..count])?;
         self.room -= count;
-        self.written.set(self.written.get().saturating_add(count));
         Ok(count)
     }
 
