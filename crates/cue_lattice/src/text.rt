@@ -69,13 +69,39 @@ impl Text {
     pub fn compare(&self, other: &Text) -> Ordering
         ensures { result ≡ slice_cmp nat_cmp self.now other.now }
     {
-        self.as_bytes().cmp(other.as_bytes())
+        compare_bytes(self.as_bytes(), other.as_bytes(), SINGLY)
     }
 
     pub fn same(&self, other: &Text) -> bool
         ensures { IsTrue result ↔ (self.now ≡ other.now) }
     {
         self.as_bytes() == other.as_bytes()
+    }
+}
+
+/// How many bytes of two texts are compared one by one.
+const SINGLY: usize = 16;
+
+/// How two lists of bytes compare: so many first bytes one by one, and the rest by the library,
+/// which is quick on long lists but has much to set up for a label of a few bytes.
+fn compare_bytes(left: &[u8], right: &[u8], singly: usize) -> Ordering
+    ensures { result ≡ slice_cmp nat_cmp left.now right.now }
+{
+    if singly == 0 {
+        return left.cmp(right);
+    }
+    match left {
+        [] => match right {
+            [] => Ordering::Equal,
+            [_, ..] => Ordering::Less,
+        },
+        [first, left_rest @ ..] => match right {
+            [] => Ordering::Greater,
+            [other, right_rest @ ..] => match first.cmp(other) {
+                Ordering::Equal => compare_bytes(left_rest, right_rest, singly - 1),
+                unequal => unequal,
+            },
+        },
     }
 }
 
