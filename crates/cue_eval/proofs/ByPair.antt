@@ -117,16 +117,22 @@ one_here : (pairs : List Pair) (path : Path) (question : Question) → OneOf (λ
 one_here pairs [] question = (λ h. h, λ h. h)
 one_here pairs (step ∷ path) question = (λ h. none_refuses pairs h, λ h. absurd h)
 
+-- Scalars that are joined by `&` refuse, at their own place, exactly what one of them does: a scalar may stand, and is
+-- usual, where each of them says so.
+pub all_refuse : (first : Pair) (pairs : List Pair) (path : Path) (question : Question) →
+    OneOf (λ pair. Here (ScalarRefuses pair) path question) (first ∷ pairs) ↔ Here (ScalarRefuses (all_of (first ∷ pairs))) path question
+all_refuse first pairs path question =
+    let here = one_here (first ∷ pairs) path question in
+    let all = same_here (λ q. OneOf (λ pair. ScalarRefuses pair q) (first ∷ pairs)) (ScalarRefuses (all_of (first ∷ pairs))) path question (together first pairs question) in
+    (λ h. all.0 (here.0 h), λ h. here.1 (all.1 h))
+
 mutual
   pub by_pair : IsItsPair
   by_pair (conjunction no_cores) h parts path question = absurd parts
   by_pair (conjunction (core c cs)) h parts path question =
       let each = by_pairs (core c cs) h parts path question in
-      let here = one_here (pairs_of (core c cs)) path question in
-      let all = same_here (λ q. OneOf (λ pair. ScalarRefuses pair q) (pairs_of (core c cs))) (ScalarRefuses (all_of (pairs_of (core c cs)))) path question (together (pair c) (pairs_of cs) question) in (
-        λ r. all.0 (here.0 (each.0 r)),
-        λ r. each.1 (here.1 (all.1 r)),
-      )
+      let all = all_refuse (pair c) (pairs_of cs) path question in
+      (λ r. all.0 (each.0 r), λ r. each.1 (all.1 r))
   by_pair (closed c) h parts path question =
       let inner = by_pair c h parts path question in (
         λ r. ⊎_elim (λ g. inner.0 g) (λ out. absurd (nothing_closed c path question h out)) r,

@@ -1,6 +1,6 @@
 -- Tables of scalars and of names.
-use Rattle.std.proofs.Common.{◌≡◌, ◌↔◌, ◌⊎◌, inl, inr, ℕ, Bool, true, false, cond, List, [], ◌∷◌, ◌++◌, Option, Some, None, Result, Ok, Err, refl, sym, subst, ap, ◌∙◌}
-use Rattle.std.specs.Prelude.{IsTrue, ◌&&◌, codes, slice_index_or, IfOk}
+use Rattle.std.proofs.Common.{◌≡◌, ◌↔◌, ℕ, Bool, true, false, cond, List, [], ◌∷◌, ◌++◌, Option, Some, None, Result, Ok, Err, refl, sym, subst, ap, ◌∙◌}
+use Rattle.std.specs.Prelude.{IsTrue, ◌&&◌, codes, IfOk}
 use Rattle.std.specs.Option.{option_map_or}
 use Rattle.std.specs.Str.{bytes_eq}
 use Rattle.cue_lattice.specs.Path.{Path}
@@ -14,16 +14,14 @@ use Rattle.cue_syntax.specs.Syntax.{Expression, Branches, no_branches, next_bran
 use Rattle.cue_scope.specs.declared.named.Named.{Named}
 use Rattle.cue_scope.specs.Core.{Core, null, truth, named, top, bottom, is_scalar, are_scalar_choices}
 use Rattle.cue_scope.specs.Definitions.{Definition}
-use Rattle.cue_scope.specs.Meaning.{meaning, meant, meant_word, meant_branches}
+use Rattle.cue_scope.specs.Meaning.{meant, meant_word, meant_branches}
 use Rattle.cue_scope.specs.Named.{named_of}
 use Rattle.cue_scope.specs.Terms.{terms, terms_of_branches}
-use Rattle.cue_eval.specs.declared.rows.Tables.{Tables}
 use Rattle.cue_eval.specs.Evaluated.{HasAnswersOf}
 use Rattle.cue_eval.specs.Gathered.{Answers}
-use Rattle.cue_eval.specs.Known.{core_of}
 use Rattle.cue_eval.specs.Pairs.{pair}
 use Rattle.cue_eval.specs.Places.{Here, ScalarRefuses}
-use Rattle.cue_eval.specs.Ready.{IsScalarLeaf, IsTableAt, IsTableOf, all_definitions}
+use Rattle.cue_eval.specs.Ready.{IsScalarLeaf, IsTableAt, IsTableOf}
 use Rattle.cue_eval.specs.Refuses.{Refuses}
 
 pub nil_both : {A : Type 0} (xs ys : List A) → xs ++ ys ≡ [] → (xs ≡ []) × (ys ≡ [])
@@ -58,16 +56,27 @@ of_pair : (c : Core) (v : Valued) (table : Tree Row) → pair_of v ≡ pair c �
     → SameAnswers (Answers table) (Here (ScalarRefuses (pair c)))
 of_pair c v table is same path question = subst (λ p. Answers table path question ↔ Here (ScalarRefuses p) path question) is (same path question)
 
+pub leaf_refuses : (ds : List Definition) (m : ℕ → Core) (e : Expression) → IsScalarLeaf e → SameAnswers (Refuses (meant ds m e)) (Here (ScalarRefuses (pair (meant ds m e))))
+leaf_refuses ds m (tree.integer n) l path question = (λ h. h, λ h. h)
+leaf_refuses ds m (tree.text t) l path question = (λ h. h, λ h. h)
+leaf_refuses ds m tree.bottom l path question = (λ h. h, λ h. h)
+leaf_refuses ds m (tree.bound c n) l path question = (λ h. h, λ h. h)
+leaf_refuses ds m (tree.other_integer n) l path question = (λ h. h, λ h. h)
+leaf_refuses ds m (tree.other_text t) l path question = (λ h. h, λ h. h)
+leaf_refuses ds m (tree.disjunction bs) l path question = (λ h. h, λ h. h)
+leaf_refuses ds m _ l path question = absurd l
+
+-- what refuses as its pair does has the answers of a table that refuses as the pair does
+by_its_pair : (c : Core) (v : Valued) (table : Tree Row) → SameAnswers (Refuses c) (Here (ScalarRefuses (pair c))) → pair_of v ≡ pair c → SameAnswers (Answers table) (Here (ScalarRefuses (pair_of v)))
+    → HasAnswersOf c table
+by_its_pair c v table refused is same path question =
+    let e = of_pair c v table is same path question in
+    let r = refused path question in
+    (λ h. r.1 (e.0 h), λ h. e.1 (r.0 h))
+
 pub leaf_answers : (ds : List Definition) (m : ℕ → Core) (e : Expression) (v : Valued) (table : Tree Row) → IsScalarLeaf e → pair_of v ≡ pair (meant ds m e)
     → SameAnswers (Answers table) (Here (ScalarRefuses (pair_of v))) → HasAnswersOf (meant ds m e) table
-leaf_answers ds m (tree.integer n) v table l is same = of_pair (meant ds m (tree.integer n)) v table is same
-leaf_answers ds m (tree.text t) v table l is same = of_pair (meant ds m (tree.text t)) v table is same
-leaf_answers ds m tree.bottom v table l is same = of_pair (meant ds m tree.bottom) v table is same
-leaf_answers ds m (tree.bound c n) v table l is same = of_pair (meant ds m (tree.bound c n)) v table is same
-leaf_answers ds m (tree.other_integer n) v table l is same = of_pair (meant ds m (tree.other_integer n)) v table is same
-leaf_answers ds m (tree.other_text t) v table l is same = of_pair (meant ds m (tree.other_text t)) v table is same
-leaf_answers ds m (tree.disjunction bs) v table l is same = of_pair (meant ds m (tree.disjunction bs)) v table is same
-leaf_answers ds m _ v table l is same = absurd l
+leaf_answers ds m e v table l is same = by_its_pair (meant ds m e) v table (leaf_refuses ds m e l) is same
 
 -- scalar, and refuses what its pair does
 record IsPlain (c : Core) : Type 0 where
@@ -99,12 +108,12 @@ plain_word t =
 pub word_scalar : (t : List ℕ) → IsTrue (is_scalar (meant_word t))
 word_scalar t = (plain_word t).scalar
 
+pub word_refuses : (t : List ℕ) → SameAnswers (Refuses (meant_word t)) (Here (ScalarRefuses (pair (meant_word t))))
+word_refuses t = (plain_word t).refused
+
 pub word_answers : (t : List ℕ) (v : Valued) (table : Tree Row) → pair_of v ≡ pair (meant_word t) → SameAnswers (Answers table) (Here (ScalarRefuses (pair_of v)))
     → HasAnswersOf (meant_word t) table
-word_answers t v table is same path question =
-    let e = of_pair (meant_word t) v table is same path question in
-    let r = (plain_word t).refused path question in
-    (λ h. r.1 (e.0 h), λ h. e.1 (r.0 h))
+word_answers t v table is same = by_its_pair (meant_word t) v table (word_refuses t) is same
 
 pub bottom_answers : (v : Valued) (table : Tree Row) → pair_of v ≡ pair bottom → SameAnswers (Answers table) (Here (ScalarRefuses (pair_of v))) → HasAnswersOf bottom table
 bottom_answers v table is same = of_pair bottom v table is same

@@ -36,6 +36,7 @@ pub mod Gathering
 pub mod LiteralTables
 pub mod Leaves
 pub mod Walks
+pub mod Joined
 pub mod Repeated
 pub mod Chains
 pub mod Listings

@@ -27,13 +27,19 @@ use Rattle.cue_scope.proofs.Nodes.{in_append}
 use Rattle.cue_eval.specs.declared.rows.Tables.{Tables}
 use Rattle.cue_eval.specs.Known.{core_of}
 use Rattle.cue_eval.specs.Ready.{all_definitions, AreKnown, IsReady, AreReadyParts}
+use Rattle.cue_scalars.specs.Values.{pair_of}
+use Rattle.cue_scalars.specs.declared.valued.Valued.{Valued}
 use Rattle.cue_eval.proofs.Gathering.{unified_answers}
+use Rattle.cue_eval.proofs.Joined.{part_value, more_left, more_right}
 use Rattle.cue_eval.proofs.Leaves.{nil_both}
+use Rattle.cue_eval.proofs.TellingParts.{IsSplit, split_more, split_all, same_sides, itself}
 use Rattle.cue_eval.proofs.Walks.{known_left, known_right, each_of}
 use Rattle.std.specs.Prelude.{IfOk}
 use Rattle.cue_eval.specs.Evaluated.{HasAnswersOf}
 use Rattle.cue_eval.specs.Gathered.{Answers}
-use Rattle.cue_eval.specs.Parts.{AreAdded, IsUseOf}
+use Rattle.cue_eval.specs.Pairs.{pair}
+use Rattle.cue_eval.specs.Parts.{AreAdded, AreJoined, IsScalarPart, IsUseOf, OneScalarRefuses}
+use Rattle.cue_eval.specs.Places.{Here, ScalarRefuses}
 use Rattle.cue_eval.specs.Refuses.{Refuses, PartsRefuse}
 
 contains_in : (xs : List ℕ) (i : ℕ) → Contains xs i → IsIn i xs
@@ -91,24 +97,28 @@ added_more ds old now numbers k table h less same = rw taken (λ path question. 
 pub added_all : (ds : List Definition) (old now : List (Tree Row)) (numbers : List ℕ) (k : ℕ) → length numbers ≤ k → AreAdded ds old (take k numbers) now → AreAdded ds old numbers now
 added_all ds old now numbers k less h = subst (λ is. AreAdded ds old is now) (take_all k numbers less) h
 
--- ---- the parts of a conjunction: the tables so far, the definitions that are named, and the parts that are left
-pub record Joining (known : Tables) (given : List (Tree Row)) (numbers : List ℕ) (all left : List Expr) : Type 0 where
+-- ---- the parts of a conjunction: the tables, scalars and definitions so far, and the parts that are left
+abbrev pub SoFar : Tables → List (Tree Row) → List Valued → List ℕ → Path → Question → Type 0
+SoFar known given scalars numbers path question =
+    (OneOf (λ table. Answers table path question) given ⊎ OneScalarRefuses scalars path question) ⊎ OneOf (λ i. Refuses (meaning (all_definitions known) i) path question) numbers
+
+pub record Joining (known : Tables) (given : List (Tree Row)) (scalars : List Valued) (numbers : List ℕ) (all left : List Expr) : Type 0 where
   pub refused : (path : Path) (question : Question) →
-      ((OneOf (λ table. Answers table path question) given ⊎ OneOf (λ i. Refuses (meaning (all_definitions known) i) path question) numbers) ⊎ PartsRefuse (each_of known left) path question)
-      ↔ PartsRefuse (each_of known all) path question
+      IsSplit (PartsRefuse (each_of known all) path question) (SoFar known given scalars numbers path question) (PartsRefuse (each_of known left) path question)
   pub named : AreKnown known numbers
   pub others : AreReadyParts known (elements left)
 
-pub joining_none : (known : Tables) (all : List Expr) → AreReadyParts known (elements all) → Joining known [] [] all all
+pub joining_none : (known : Tables) (all : List Expr) → AreReadyParts known (elements all) → Joining known [] [] [] all all
 joining_none known all h = record {
-  refused = λ path question. (λ k. ⊎_elim (λ g. ⊎_elim (λ n. absurd n) (λ n. absurd n) g) (λ g. g) k, λ k. inr k);
+  refused = λ path question. (λ k. inr k, λ k. ⊎_elim (λ g. ⊎_elim (λ f. ⊎_elim (λ n. absurd n) (λ n. absurd n) f) (λ n. absurd n) g) (λ g. g) k);
   named = record { pairs = λ i there. absurd there; tables = λ i there. absurd there };
   others = h;
 }
 
-pub joined_ready : (known : Tables) (given : List (Tree Row)) (numbers : List ℕ) (all left : List Expr) (e : Expr) (rest : List Expr) → Joining known given numbers all left → left ≡ e ∷ rest → IsReady known (expression e)
-joined_ready known given numbers all left e rest w is =
-    let here = (subst (λ z. Joining known given numbers all z) is w).others in
+pub joined_ready : (known : Tables) (given : List (Tree Row)) (scalars : List Valued) (numbers : List ℕ) (all left : List Expr) (e : Expr) (rest : List Expr) → Joining known given scalars numbers all left → left ≡ e ∷ rest
+    → IsReady known (expression e)
+joined_ready known given scalars numbers all left e rest w is =
+    let here = (subst (λ z. Joining known given scalars numbers all z) is w).others in
     let ds = all_definitions known in
     let s = here.size in
     let d = here.depth in record {
@@ -120,9 +130,8 @@ joined_ready known given numbers all left e rest w is =
     }
 
 -- what the parts are that are left after one
-rest_ready : (known : Tables) (given : List (Tree Row)) (numbers : List ℕ) (all : List Expr) (e : Expr) (rest : List Expr) → Joining known given numbers all (e ∷ rest) → AreReadyParts known (elements rest)
-rest_ready known given numbers all e rest w =
-    let here = w.others in
+rest_ready : (known : Tables) (e : Expr) (rest : List Expr) → AreReadyParts known (elements (e ∷ rest)) → AreReadyParts known (elements rest)
+rest_ready known e rest here =
     let ds = all_definitions known in
     let s = here.size in
     let d = here.depth in record {
@@ -133,23 +142,27 @@ rest_ready known given numbers all e rest w =
       depth = omega arith;
     }
 
-pub table_joined : (known : Tables) (given : List (Tree Row)) (numbers : List ℕ) (all left : List Expr) (e : Expr) (rest : List Expr) (table : Tree Row) → Joining known given numbers all left → left ≡ e ∷ rest
-    → HasAnswersOf (core_of known.pairs (expression e)) table → Joining known (given ++ table ∷ []) numbers all rest
-table_joined known given numbers all left e rest table w is same =
-    let now = subst (λ z. Joining known given numbers all z) is w in record {
-      refused = λ path question.
-          let h = now.refused path question in
-          let push = one_of-push (λ t. Answers t path question) given table in
-          let a = same path question in (
-            λ k. ⊎_elim
-                (λ g. ⊎_elim (λ f. ⊎_elim (λ o. h.0 (inl (inl o))) (λ o. h.0 (inr (inl (a.0 o)))) (push.0 f)) (λ f. h.0 (inl (inr f))) g)
-                (λ g. h.0 (inr (inr g))) k,
-            λ k. ⊎_elim
-                (λ g. ⊎_elim (λ o. inl (inl (push.1 (inl o)))) (λ o. inl (inr o)) g)
-                (λ g. ⊎_elim (λ f. inl (inl (push.1 (inr (a.1 f))))) (λ f. inr f) g) (h.1 k),
-          );
+pub table_joined : (known : Tables) (given : List (Tree Row)) (scalars : List Valued) (numbers : List ℕ) (all left : List Expr) (e : Expr) (rest : List Expr) (table : Tree Row)
+    → Joining known given scalars numbers all left → left ≡ e ∷ rest → HasAnswersOf (core_of known.pairs (expression e)) table → Joining known (given ++ table ∷ []) scalars numbers all rest
+table_joined known given scalars numbers all left e rest table w is same =
+    let now = subst (λ z. Joining known given scalars numbers all z) is w in record {
+      refused = λ path question. split_more _ _ _ _ (Answers table path question) _ (now.refused path question)
+          (same_sides _ _ _ _ (let a = same path question in (a.1, a.0)) (itself _))
+          (more_left (more_left (one_of-push (λ t. Answers t path question) given table)));
       named = now.named;
-      others = rest_ready known given numbers all e rest now;
+      others = rest_ready known e rest now.others;
+    }
+
+pub scalar_joined : (known : Tables) (given : List (Tree Row)) (scalars : List Valued) (numbers : List ℕ) (all left : List Expr) (e : Expr) (rest : List Expr) (v : Valued)
+    → Joining known given scalars numbers all left → left ≡ e ∷ rest → IsScalarPart (expression e) → pair_of v ≡ pair (core_of known.pairs (expression e)) → Joining known given (scalars ++ v ∷ []) numbers all rest
+scalar_joined known given scalars numbers all left e rest v w is part same =
+    let ds = all_definitions known in
+    let now = subst (λ z. Joining known given scalars numbers all z) is w in record {
+      refused = λ path question. split_more _ _ _ _ (Here (ScalarRefuses (pair_of v)) path question) _ (now.refused path question)
+          (same_sides _ _ _ _ (part_value ds (meaning ds) (expression e) v part same path question) (itself _))
+          (more_left (more_right (one_of-push (λ (x : Valued). Here (ScalarRefuses (pair_of x)) path question) scalars v)));
+      named = now.named;
+      others = rest_ready known e rest now.others;
     }
 
 known_more : (known : Tables) (us : List ℕ) (i : ℕ) → AreKnown known us → AreKnown known (i ∷ []) → AreKnown known (us ++ i ∷ [])
@@ -158,43 +171,40 @@ known_more known us i h one = record {
   tables = λ j there. ⊎_elim (λ g. h.tables j g) (λ g. one.tables j g) (in_append us (i ∷ []) j there);
 }
 
-pub name_joined : (known : Tables) (given : List (Tree Row)) (numbers : List ℕ) (all left : List Expr) (e : Expr) (rest : List Expr) (i : ℕ) → Joining known given numbers all left → left ≡ e ∷ rest
-    → IsUseOf (all_definitions known) e i → Joining known given (numbers ++ i ∷ []) all rest
-name_joined known given numbers all left e rest i w is one =
+pub name_joined : (known : Tables) (given : List (Tree Row)) (scalars : List Valued) (numbers : List ℕ) (all left : List Expr) (e : Expr) (rest : List Expr) (i : ℕ)
+    → Joining known given scalars numbers all left → left ≡ e ∷ rest → IsUseOf (all_definitions known) e i → Joining known given scalars (numbers ++ i ∷ []) all rest
+name_joined known given scalars numbers all left e rest i w is one =
     let ds = all_definitions known in
-    let now = subst (λ z. Joining known given numbers all z) is w in
-    let used = known_left known (uses ds (expression e)) (uses_of_elements ds (elements rest)) now.others.used in record {
-      refused = λ path question.
-          let h = now.refused path question in
-          let push = one_of-push (λ j. Refuses (meaning ds j) path question) numbers i in
-          let means = one.means (meaning ds) in (
-            λ k. ⊎_elim
-                (λ g. ⊎_elim (λ f. h.0 (inl (inl f))) (λ f. ⊎_elim (λ o. h.0 (inl (inr o))) (λ o. h.0 (inr (inl (subst (λ c. Refuses c path question) (sym means) o)))) (push.0 f)) g)
-                (λ g. h.0 (inr (inr g))) k,
-            λ k. ⊎_elim
-                (λ g. ⊎_elim (λ o. inl (inl o)) (λ o. inl (inr (push.1 (inl o)))) g)
-                (λ g. ⊎_elim (λ f. inl (inr (push.1 (inr (subst (λ c. Refuses c path question) means f))))) (λ f. inr f) g) (h.1 k),
-          );
+    let now = subst (λ z. Joining known given scalars numbers all z) is w in
+    let used = known_left known (uses ds (expression e)) (uses_of_elements ds (elements rest)) now.others.used in
+    let means = one.means (meaning ds) in record {
+      refused = λ path question. split_more _ _ _ _ (Refuses (meaning ds i) path question) _ (now.refused path question)
+          (same_sides _ _ _ _ (λ h. subst (λ c. Refuses c path question) means h, λ h. subst (λ c. Refuses c path question) (sym means) h) (itself _))
+          (more_right (one_of-push (λ j. Refuses (meaning ds j) path question) numbers i));
       named = known_more known numbers i now.named (subst (λ us. AreKnown known us) one.used used);
-      others = rest_ready known given numbers all e rest now;
+      others = rest_ready known e rest now.others;
     }
 
 -- the same of each of these numbers
 pub named_same : (known : Tables) (us vs : List ℕ) → ((i : ℕ) → IsIn i vs ↔ IsIn i us) → AreKnown known us → AreKnown known vs
 named_same known us vs same h = record { pairs = λ i there. h.pairs i ((same i).0 there); tables = λ i there. h.tables i ((same i).0 there) }
 
-pub all_joined : (known : Tables) (given tables : List (Tree Row)) (numbers each : List ℕ) (all left : List Expr) (met : Tree Row) → Joining known given numbers all left → left ≡ []
-    → ((i : ℕ) → IsIn i each ↔ IsIn i numbers) → AreAdded (all_definitions known) given each tables → IsUnified rows.Refuses tables met → HasAnswersOf (conjunction (each_of known all)) met
-all_joined known given tables numbers each all left met w is same added unified path question =
-    let h = (subst (λ z. Joining known given numbers all z) is w).refused path question in
-    let u = unified_answers tables met path question unified in
+-- the tables of the parts, that of the scalars and those of the definitions, unified
+pub all_joined : (known : Tables) (given with_scalars tables : List (Tree Row)) (scalars : List Valued) (numbers each : List ℕ) (all left : List Expr) (met : Tree Row) → Joining known given scalars numbers all left → left ≡ []
+    → AreJoined given scalars with_scalars → ((i : ℕ) → IsIn i each ↔ IsIn i numbers) → AreAdded (all_definitions known) with_scalars each tables → IsUnified rows.Refuses tables met → HasAnswersOf (conjunction (each_of known all)) met
+all_joined known given with_scalars tables scalars numbers each all left met w is joined same added unified path question =
+    let N : ℕ → Type 0 = λ i. Refuses (meaning (all_definitions known) i) path question in
+    let here = split_all _ _ _ ((subst (λ z. Joining known given scalars numbers all z) is w).refused path question) (λ n. n) in
+    let of_numbers : OneOf N each ↔ OneOf N numbers =
+    (one_of_same N each numbers (λ i there. (same i).0 there), one_of_same N numbers each (λ i there. (same i).1 there)) in
+    let sides = same_sides _ _ _ _ (joined path question) of_numbers in
     let a = added path question in
-    let N : ℕ → Type 0 = λ i. Refuses (meaning (all_definitions known) i) path question in (
-      λ k. h.0 (inl (⊎_elim (λ g. inl g) (λ g. inr (one_of_same N each numbers (λ i there. (same i).0 there) g)) (a.0 (u.0 k)))),
-      λ k. u.1 (a.1 (⊎_elim (λ g. ⊎_elim (λ f. inl f) (λ f. inr (one_of_same N numbers each (λ i there. (same i).1 there) f)) g) (λ n. absurd n) (h.1 k))),
-    )
+    let u = unified_answers tables met path question unified in
+    (λ k. here.0 (sides.0 (a.0 (u.0 k))), λ k. u.1 (a.1 (sides.1 (here.1 k))))
 
-pub joined_result : {E : Type 0} (r : Result (Tree Row) E) (known : Tables) (given tables : List (Tree Row)) (numbers each : List ℕ) (all left : List Expr) → Joining known given numbers all left → left ≡ []
-    → ((i : ℕ) → IsIn i each ↔ IsIn i numbers) → AreAdded (all_definitions known) given each tables → IfOk r (λ met. IsUnified rows.Refuses tables met) → IfOk r (HasAnswersOf (conjunction (each_of known all)))
-joined_result (Ok met) known given tables numbers each all left w is same added unified = all_joined known given tables numbers each all left met w is same added unified
-joined_result (Err e) known given tables numbers each all left w is same added unified = unified
+pub joined_result : {E : Type 0} (r : Result (Tree Row) E) (known : Tables) (given with_scalars tables : List (Tree Row)) (scalars : List Valued) (numbers each : List ℕ) (all left : List Expr)
+    → Joining known given scalars numbers all left → left ≡ [] → AreJoined given scalars with_scalars → ((i : ℕ) → IsIn i each ↔ IsIn i numbers) → AreAdded (all_definitions known) with_scalars each tables
+    → IfOk r (λ met. IsUnified rows.Refuses tables met) → IfOk r (HasAnswersOf (conjunction (each_of known all)))
+joined_result (Ok met) known given with_scalars tables scalars numbers each all left w is joined same added unified =
+    all_joined known given with_scalars tables scalars numbers each all left met w is joined same added unified
+joined_result (Err e) known given with_scalars tables scalars numbers each all left w is joined same added unified = unified

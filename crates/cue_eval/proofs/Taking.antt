@@ -1,5 +1,5 @@
 -- Bodies of definitions, of which what is used once is taken over.
-use Rattle.std.proofs.Common.{◌≡◌, ◌+◌, ◌≤◌, ◌<◌, inr, ⊎_elim, ℕ, Option, None, Some, List, [], ◌∷◌, ◌++◌, length, drop, get_or, refl, sym, ap, subst, arith}
+use Rattle.std.proofs.Common.{◌≡◌, ◌+◌, ◌≤◌, ◌<◌, ◌⊎◌, inl, inr, ⊎_elim, ℕ, Option, None, Some, List, [], ◌∷◌, ◌++◌, length, drop, get_or, refl, sym, ap, subst, arith}
 use Rattle.std.proofs.lemmas.List.{drop_all}
 use Rattle.cue_lattice.specs.OneOf.{OneOf}
 use Rattle.cue_lattice.specs.Path.{Path}
@@ -7,6 +7,8 @@ use Rattle.cue_lattice.specs.Question.{Question}
 use Rattle.cue_lattice.proofs.OneOf.{one_of-push}
 use Rattle.cue_row.specs.Row.{Refuses, IsRow}
 use Rattle.cue_row.specs.declared.row.Row.{Row}
+use Rattle.cue_scalars.specs.Values.{pair_of}
+use Rattle.cue_scalars.specs.declared.valued.Valued.{Valued}
 use Rattle.cue_table.specs.Form.{IsTable}
 use Rattle.cue_table.specs.Many.{IsUnified}
 use Rattle.cue_table.specs.Refuses.{TableRefuses}
@@ -33,6 +35,9 @@ use Rattle.cue_eval.specs.declared.told.Whose.TheVariants.{Used}
 use Rattle.cue_eval.specs.Closing.{OneOfParts}
 use Rattle.cue_eval.specs.Finding.{IsFoundAt, IsKept, IsFindable, AreFindable, IsFoundBody}
 use Rattle.cue_eval.specs.Gathered.{Answers}
+use Rattle.cue_eval.specs.Pairs.{pair}
+use Rattle.cue_eval.specs.Parts.{AreJoined, IsScalarPart, OneScalarRefuses}
+use Rattle.cue_eval.specs.Places.{Here, ScalarRefuses}
 use Rattle.cue_eval.specs.Ready.{all_definitions, IsReady, IsTableOf, IsTableAt}
 use Rattle.cue_eval.specs.Refuses.{PartsRefuse}
 use Rattle.cue_eval.specs.Telling.{Tells, IsDeclared}
@@ -40,6 +45,7 @@ use Rattle.cue_eval.specs.Told.{AreDots, IsKnown, own_tells, used_tells}
 use Rattle.cue_eval.proofs.Defining.{known_of}
 use Rattle.cue_eval.proofs.Gathering.{unified_answers}
 use Rattle.cue_eval.proofs.Kept.{single_left, single_right, single_after, kept_itself, kept_both, room_kept, found_later}
+use Rattle.cue_eval.proofs.Joined.{part_value, part_tells, more_left, more_right}
 use Rattle.cue_eval.proofs.Leaves.{nil_both}
 use Rattle.cue_eval.proofs.TellingNames.{use_told}
 use Rattle.cue_eval.proofs.TellingParts.{IsSplit, split_more, split_all, same_sides, itself}
@@ -48,10 +54,10 @@ use Rattle.cue_eval.proofs.TellingParts.{IsSplit, split_more, split_all, same_si
 abbrev pub each_of : List Definition → List Expr → Cores
 each_of ds es = meant_elements ds (meaning ds) (elements es)
 
--- the parts of a conjunction: the tables so far, and the parts that are left
-pub record Taking (ds : List Definition) (rows : List (Tree Row)) (dots : List (Tree Declared)) (all left : List Expr) (start now : Found) : Type 0 where
+-- the parts of a conjunction: the tables and scalars so far, and the parts that are left
+pub record Taking (ds : List Definition) (rows : List (Tree Row)) (dots : List (Tree Declared)) (scalars : List Valued) (all left : List Expr) (start now : Found) : Type 0 where
   pub refused : (path : Path) (question : Question) →
-      IsSplit (PartsRefuse (each_of ds all) path question) (OneOf (λ table. Answers table path question) rows) (PartsRefuse (each_of ds left) path question)
+      IsSplit (PartsRefuse (each_of ds all) path question) (OneOf (λ table. Answers table path question) rows ⊎ OneScalarRefuses scalars path question) (PartsRefuse (each_of ds left) path question)
   pub told : (path : Path) (asked : Asked) →
       IsSplit (OneOfParts (own_tells Used asked) (used_tells Used) (each_of ds all) path) (OneOf (λ (t : Tree Declared). TableRefuses Tells t path asked) dots)
       (OneOfParts (own_tells Used asked) (used_tells Used) (each_of ds left) path)
@@ -60,9 +66,9 @@ pub record Taking (ds : List Definition) (rows : List (Tree Row)) (dots : List (
   pub kept : IsKept (uses_of_elements ds (elements all)) start now
 
 -- at first all parts are left
-pub taking_none : (ds : List Definition) (all : List Expr) (found : Found) → AreFindable ds (elements all) found → Taking ds [] [] all all found found
+pub taking_none : (ds : List Definition) (all : List Expr) (found : Found) → AreFindable ds (elements all) found → Taking ds [] [] [] all all found found
 taking_none ds all found h = record {
-  refused = λ path question. (λ k. inr k, λ k. ⊎_elim (λ g. absurd g) (λ g. g) k);
+  refused = λ path question. (λ k. inr k, λ k. ⊎_elim (λ g. ⊎_elim (λ n. absurd n) (λ n. absurd n) g) (λ g. g) k);
   told = λ path asked. (λ k. inr k, λ k. ⊎_elim (λ g. absurd g) (λ g. g) k);
   others = h;
   inside = λ i there. there;
@@ -70,14 +76,14 @@ taking_none ds all found h = record {
 }
 
 -- the next part is the first of those that are left
-pub taking_next : (ds : List Definition) (rows : List (Tree Row)) (dots : List (Tree Declared)) (all : List Expr) (i : ℕ) (e : Expr) (start now : Found) → Taking ds rows dots all (drop i all) start now
-    → i < length all → e ≡ get_or all i e → Taking ds rows dots all (e ∷ drop (i + 1) all) start now
-taking_next ds rows dots all i e start now w h is = subst (λ z. Taking ds rows dots all z start now) (at_hand all i e h is) w
+pub taking_next : (ds : List Definition) (rows : List (Tree Row)) (dots : List (Tree Declared)) (scalars : List Valued) (all : List Expr) (i : ℕ) (e : Expr) (start now : Found) → Taking ds rows dots scalars all (drop i all) start now
+    → i < length all → e ≡ get_or all i e → Taking ds rows dots scalars all (e ∷ drop (i + 1) all) start now
+taking_next ds rows dots scalars all i e start now w h is = subst (λ z. Taking ds rows dots scalars all z start now) (at_hand all i e h is) w
 
 -- what it needs is known
-pub taking_part : (ds : List Definition) (rows : List (Tree Row)) (dots : List (Tree Declared)) (all rest : List Expr) (e : Expr) (start now : Found) → Taking ds rows dots all (e ∷ rest) start now
+pub taking_part : (ds : List Definition) (rows : List (Tree Row)) (dots : List (Tree Declared)) (scalars : List Valued) (all rest : List Expr) (e : Expr) (start now : Found) → Taking ds rows dots scalars all (e ∷ rest) start now
     → IsFindable ds (expression e) now
-taking_part ds rows dots all rest e start now w =
+taking_part ds rows dots scalars all rest e start now w =
     let here = w.others in
     let s = here.size in
     let d = here.depth in record {
@@ -90,44 +96,69 @@ taking_part ds rows dots all rest e start now w =
       depth = omega arith;
     }
 
--- one part more
-pub taking_more : (ds : List Definition) (rows : List (Tree Row)) (dots : List (Tree Declared)) (all rest : List Expr) (e : Expr) (start now new : Found) (body : Body) → Taking ds rows dots all (e ∷ rest) start now
-    → IsFoundBody (meant ds (meaning ds) (expression e)) body → IsKept (uses ds (expression e)) now new → Taking ds (rows ++ body.rows ∷ []) (dots ++ body.dots ∷ []) all rest start new
-taking_more ds rows dots all rest e start now new body w is k =
-    let here = w.others in
+-- and what the parts need that are left after it
+rest_findable : (ds : List Definition) (e : Expr) (rest : List Expr) (now new : Found) → AreFindable ds (elements (e ∷ rest)) now → IsKept (uses ds (expression e)) now new → AreFindable ds (elements rest) new
+rest_findable ds e rest now new here k =
     let s = here.size in
     let d = here.depth in
     let us = uses ds (expression e) in
     let vs = uses_of_elements ds (elements rest) in record {
+      room = room_kept us now new (length ds) k here.room;
+      used = found_later ds us vs now new here.once k (λ i there. here.used i (in_append_right us vs i there));
+      once = single_after us vs now new k (single_right now us vs here.once);
+      right = here.right.1;
+      terms = (nil_both (terms ds (meaning ds) (expression e)) (terms_of_elements ds (meaning ds) (elements rest)) here.terms).1;
+      size = omega arith;
+      depth = omega arith;
+    }
+
+-- one part more
+pub taking_more : (ds : List Definition) (rows : List (Tree Row)) (dots : List (Tree Declared)) (scalars : List Valued) (all rest : List Expr) (e : Expr) (start now new : Found) (body : Body) → Taking ds rows dots scalars all (e ∷ rest) start now
+    → IsFoundBody (meant ds (meaning ds) (expression e)) body → IsKept (uses ds (expression e)) now new → Taking ds (rows ++ body.rows ∷ []) (dots ++ body.dots ∷ []) scalars all rest start new
+taking_more ds rows dots scalars all rest e start now new body w is k =
+    let us = uses ds (expression e) in
+    let vs = uses_of_elements ds (elements rest) in record {
       refused = λ path question. split_more _ _ _ _ (Answers body.rows path question) _ (w.refused path question)
           (same_sides _ _ _ _ (let a = is.answers path question in (a.1, a.0)) (itself _))
-          (one_of-push (λ t. Answers t path question) rows body.rows);
+          (more_left (one_of-push (λ t. Answers t path question) rows body.rows));
       told = λ path asked. split_more _ _ _ _ (TableRefuses Tells body.dots path asked) _ (w.told path asked)
           (same_sides _ _ _ _ (let a = is.dots.told path asked in (a.1, a.0)) (itself _))
           (one_of-push (λ (t : Tree Declared). TableRefuses Tells t path asked) dots body.dots);
-      others = record {
-        room = room_kept us now new (length ds) k here.room;
-        used = found_later ds us vs now new here.once k (λ i there. here.used i (in_append_right us vs i there));
-        once = single_after us vs now new k (single_right now us vs here.once);
-        right = here.right.1;
-        terms = (nil_both (terms ds (meaning ds) (expression e)) (terms_of_elements ds (meaning ds) (elements rest)) here.terms).1;
-        size = omega arith;
-        depth = omega arith;
-      };
+      others = rest_findable ds e rest now new w.others k;
       inside = λ i there. w.inside i (in_append_right us vs i there);
       kept = kept_both (uses_of_elements ds (elements all)) us (uses_of_elements ds (elements all)) start now new (λ i there. there) (λ i there. w.inside i (in_append_left us vs i there)) w.kept k;
     }
 
--- the tables of all parts, unified, are those of the conjunction
-pub all_taken : (ds : List Definition) (rows : List (Tree Row)) (dots : List (Tree Declared)) (all : List Expr) (i : ℕ) (start now : Found) (met : Tree Row) (marks : Tree Declared)
-    → Taking ds rows dots all (drop i all) start now → length all ≤ i → IsTable Refuses IsRow met → IsUnified Refuses rows met → IsTable Tells IsDeclared marks → IsUnified Tells dots marks
-    → IsFoundBody (conjunction (each_of ds all)) (record { rows = met; dots = marks })
-all_taken ds rows dots all i start now met marks w h form unified told_form told_unified = record {
+-- one that is scalar, which takes nothing over
+pub taking_scalar : (ds : List Definition) (rows : List (Tree Row)) (dots : List (Tree Declared)) (scalars : List Valued) (all rest : List Expr) (e : Expr) (start now : Found) (v : Valued) → Taking ds rows dots scalars all (e ∷ rest) start now
+    → IsScalarPart (expression e) → pair_of v ≡ pair (meant ds (meaning ds) (expression e)) → Taking ds rows dots (scalars ++ v ∷ []) all rest start now
+taking_scalar ds rows dots scalars all rest e start now v w part is =
+    let us = uses ds (expression e) in
+    let vs = uses_of_elements ds (elements rest) in record {
+      refused = λ path question. split_more _ _ _ _ (Here (ScalarRefuses (pair_of v)) path question) _ (w.refused path question)
+          (same_sides _ _ _ _ (part_value ds (meaning ds) (expression e) v part is path question) (itself _))
+          (more_right (one_of-push (λ (x : Valued). Here (ScalarRefuses (pair_of x)) path question) scalars v));
+      told = λ path asked.
+          let t = w.told path asked in (
+            λ h. ⊎_elim inl (λ g. ⊎_elim (λ n. absurd (part_tells Used ds (meaning ds) (expression e) part path asked n)) inr g) (t.0 h),
+            λ h. t.1 (⊎_elim inl (λ g. inr (inr g)) h),
+          );
+      others = rest_findable ds e rest now now w.others (kept_itself us now);
+      inside = λ i there. w.inside i (in_append_right us vs i there);
+      kept = w.kept;
+    }
+
+-- the tables of all parts, with that of the scalars, unified, are those of the conjunction
+pub all_taken : (ds : List Definition) (rows with_scalars : List (Tree Row)) (dots : List (Tree Declared)) (scalars : List Valued) (all : List Expr) (i : ℕ) (start now : Found) (met : Tree Row) (marks : Tree Declared)
+    → Taking ds rows dots scalars all (drop i all) start now → length all ≤ i → AreJoined rows scalars with_scalars → IsTable Refuses IsRow met → IsUnified Refuses with_scalars met → IsTable Tells IsDeclared marks
+    → IsUnified Tells dots marks → IsFoundBody (conjunction (each_of ds all)) (record { rows = met; dots = marks })
+all_taken ds rows with_scalars dots scalars all i start now met marks w h joined form unified told_form told_unified = record {
   form = form;
   answers = λ path question.
-      let u = unified_answers rows met path question unified in
+      let u = unified_answers with_scalars met path question unified in
+      let j = joined path question in
       let s = split_all _ _ _ (end.refused path question) (λ n. n) in
-      (λ r. s.0 (u.0 r), λ r. u.1 (s.1 r));
+      (λ r. s.0 (j.0 (u.0 r)), λ r. u.1 (j.1 (s.1 r)));
   dots = record {
     form = told_form;
     told = λ path asked.
@@ -136,8 +167,8 @@ all_taken ds rows dots all i start now met marks w h form unified told_form told
         (λ r. s.0 (u.0 r), λ r. u.1 (s.1 r));
   };
 } where
-  end : Taking ds rows dots all [] start now
-  end = subst (λ z. Taking ds rows dots all z start now) (drop_all i all h) w
+  end : Taking ds rows dots scalars all [] start now
+  end = subst (λ z. Taking ds rows dots scalars all z start now) (drop_all i all h) w
 
 -- ---- a use of a definition, which is taken over
 some_table : (c : Core) (o : Option (Tree Row)) → IsTableAt c o → (table : Tree Row) × (o ≡ Some table) × IsTableOf c table

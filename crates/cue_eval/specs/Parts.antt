@@ -1,17 +1,22 @@
--- Definitions that the parts of an `&` name.
+-- The parts of an `&`: scalars among them, and definitions that they name.
 use Rattle.std.specs.Prelude.{◌≡◌, ◌↔◌, ◌⊎◌, ℕ, List, [], ◌∷◌}
 use Rattle.cue_lattice.specs.OneOf.{OneOf}
 use Rattle.cue_lattice.specs.Path.{Path}
 use Rattle.cue_lattice.specs.Question.{Question}
 use Rattle.cue_row.specs.declared.row.Row.{Row}
+use Rattle.cue_scalars.specs.Values.{pair_of}
+use Rattle.cue_scalars.specs.declared.valued.Valued.{Valued}
 use Rattle.cue_table.specs.Tree.{Tree}
 use Rattle.cue_syntax.specs.declared.tree.Expr.{Expr}
-use Rattle.cue_syntax.specs.Syntax.{expression}
+use Rattle.cue_syntax.specs.declared.tree.Identifier.TheVariants.{Plain}
+use Rattle.cue_syntax.specs.Syntax.{Expression, expression, name, parenthesis}
 use Rattle.cue_scope.specs.Core.{Core}
 use Rattle.cue_scope.specs.Definitions.{Definition}
 use Rattle.cue_scope.specs.Meaning.{meaning, meant}
 use Rattle.cue_scope.specs.Uses.{uses}
 use Rattle.cue_eval.specs.Gathered.{Answers}
+use Rattle.cue_eval.specs.Places.{Here, ScalarRefuses}
+use Rattle.cue_eval.specs.Ready.{IsScalarLeaf}
 use Rattle.cue_eval.specs.Refuses.{Refuses}
 
 -- the part is a use of the definition of this number, and nothing else
@@ -23,3 +28,18 @@ pub record IsUseOf (ds : List Definition) (part : Expr) (number : ℕ) : Type 0 
 abbrev pub AreAdded : List Definition → List (Tree Row) → List ℕ → List (Tree Row) → Type 0
 AreAdded ds old numbers new = (path : Path) (question : Question) → OneOf (λ table. Answers table path question) new
     ↔ (OneOf (λ table. Answers table path question) old ⊎ OneOf (λ i. Refuses (meaning ds i) path question) numbers)
+
+-- a literal of scalars, a disjunction or a name of the language, also in parentheses
+abbrev pub IsScalarPart : Expression → Type 0
+IsScalarPart (name (Plain t) from) = Unit {0}
+IsScalarPart (parenthesis e comma) = IsScalarPart e
+IsScalarPart e = IsScalarLeaf e
+
+-- what one of these scalars refuses at its own place
+abbrev pub OneScalarRefuses : List Valued → Path → Question → Type 0
+OneScalarRefuses scalars path question = OneOf (λ valued. Here (ScalarRefuses (pair_of valued)) path question) scalars
+
+-- to the tables of a list comes what scalars refuse
+abbrev pub AreJoined : List (Tree Row) → List Valued → List (Tree Row) → Type 0
+AreJoined old scalars new = (path : Path) (question : Question) → OneOf (λ table. Answers table path question) new
+    ↔ (OneOf (λ table. Answers table path question) old ⊎ OneScalarRefuses scalars path question)

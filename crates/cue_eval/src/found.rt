@@ -18,6 +18,7 @@ ghost use Rattle.cue_eval.specs.Finding.{body_of, HasRoom, AreOnce, IsOnce, IsDe
 use crate::body::{Closed, close};
 use crate::declared::Declared;
 use crate::pair::Pairs;
+use crate::parts::is_scalar_part;
 use crate::rows::Tables;
 use crate::told::{Sight, Whose};
 use crate::{hanging, told};
@@ -142,7 +143,8 @@ impl Found {
         }
     }
 
-    /// Parts that are joined by `&` at the root of a body.
+    /// Parts that are joined by `&` at the root of a body. Scalars among them are joined as such and
+    /// make one table.
     #[cycle(body)]
     fn parts(
         &mut self,
@@ -156,11 +158,18 @@ impl Found {
     {
         let mut all_rows = Vec::new(alloc);
         let mut all_dots = Vec::new(alloc);
+        let mut scalars = Vec::new(alloc);
         for part in parts {
-            let Body { rows, dots } = self.body(alloc, definitions, part)?;
-            all_rows.push(rows)?;
-            all_dots.push(dots)?;
+            if is_scalar_part(part) {
+                let tables = self.tables(alloc, definitions);
+                scalars.push(tables.pairs.pair(part)?)?;
+            } else {
+                let Body { rows, dots } = self.body(alloc, definitions, part)?;
+                all_rows.push(rows)?;
+                all_dots.push(dots)?;
+            }
         }
+        hanging::push_scalars(alloc, scalars, &mut all_rows)?;
         let rows = Table::unified(alloc, all_rows)?;
         let dots = Table::unified(alloc, all_dots)?;
         Ok(Body { rows, dots })

@@ -1,5 +1,5 @@
 //! Tables of literals, made of those of their parts.
-ghost use Rattle.std.specs.Prelude.{◌≡◌, ◌≤◌, ◌<◌, ◌+◌, ◌⊎◌, All, IfOk, length};
+ghost use Rattle.std.specs.Prelude.{◌≡◌, ◌≤◌, ◌<◌, ◌+◌, ◌⊎◌, All, IfOk, length, OnOk};
 ghost use Rattle.cue_lattice.specs.Limits.{step_limit, length_limit};
 ghost use Rattle.cue_lattice.specs.Question.{Question as Asked, SameAnswers};
 ghost use Rattle.cue_lattice.specs.Path.{Path as Steps};
@@ -11,6 +11,7 @@ ghost use Rattle.cue_table.specs.Depth.{tree_depth};
 ghost use Rattle.cue_table.specs.Form.{IsTable};
 ghost use Rattle.cue_eval.specs.Evaluated.{HasAnswersOf};
 ghost use Rattle.cue_eval.specs.Gathered.{Answers, LabelsRefuse, LiteralAnswers};
+ghost use Rattle.cue_eval.specs.Parts.{AreJoined};
 ghost use Rattle.cue_eval.specs.Places.{Here, ScalarRefuses, StructRefuses, ListRefuses, MarkRefuses};
 
 use crate::place::{list_row, mark_row, raised, scalar_row, struct_row};
@@ -36,6 +37,22 @@ pub(crate) fn scalar_table(alloc: Global, valued: Valued) -> Result<Table<Row>, 
     ensures answers { IfOk result (λ table. SameAnswers (Answers table) (Here (ScalarRefuses (pair_of valued)))) }
 {
     rooted(Table::new(alloc), scalar_row(alloc, valued)?)
+}
+
+/// To the tables of the parts of an `&` comes one of the scalars among its parts, where there are some.
+pub(crate) fn push_scalars(
+    alloc: Global,
+    scalars: Vec<Valued>,
+    tables: &mut Vec<Table<Row>>,
+) -> Result<(), Memory>
+    ensures { OnOk result (AreJoined tables.old.items scalars.items tables.new.items) }
+{
+    if scalars.is_empty() {
+        return Ok(());
+    }
+    let joined = Valued::and_all(alloc, scalars)?;
+    tables.push(scalar_table(alloc, joined)?)?;
+    Ok(())
 }
 
 /// A struct of these fields, with these labels alone.

@@ -13,10 +13,10 @@ ghost use Rattle.cue_eval.specs.Known.{core_of, named_core, parts_of};
 ghost use Rattle.cue_eval.specs.Parts.{AreAdded};
 ghost use Rattle.cue_eval.specs.Ready.{all_definitions, members_of, AreKnown, IsReady, IsTableAt, AreReadyParts, AreReadyElements, AreReadyEntries, AreReadyFields, IsField, AreGiven, AtLabels, IsScalarLeaf};
 
-use crate::hanging::{behind, list_of, marked, scalar_table, step_to, struct_of};
+use crate::hanging::{behind, list_of, marked, push_scalars, scalar_table, step_to, struct_of};
 use crate::labels::labels_of;
 use crate::pair::Pairs;
-use crate::parts::{distinct, number_of};
+use crate::parts::{distinct, is_scalar_part, number_of};
 use crate::scalars::nothing;
 use cue_lattice::Memory;
 use cue_row::{Labels, Row, Step};
@@ -113,7 +113,8 @@ impl<'a, 'f, 't> Tables<'a, 'f, 't> {
         }
     }
 
-    /// Parts that are joined by `&`. A definition that several of them name is copied once.
+    /// Parts that are joined by `&`. Scalars among them are joined as such and make one table, and a
+    /// definition that several of them name is copied once.
     #[cycle(rows)]
     fn conjunction(&self, parts: &[Expr]) -> Result<Table<Row>, Memory>
         requires { AreReadyParts self.now (tree.elements parts.now) }
@@ -121,13 +122,19 @@ impl<'a, 'f, 't> Tables<'a, 'f, 't> {
         ensures answers { IfOk result (HasAnswersOf (core.conjunction (parts_of self.now.pairs (tree.elements parts.now)))) }
     {
         let mut tables = Vec::new(self.pairs.alloc);
+        let mut scalars = Vec::new(self.pairs.alloc);
         let mut numbers = Vec::new(self.pairs.alloc);
         for part in parts {
-            match number_of(self.pairs.definitions, part) {
-                Some(number) => numbers.push(number)?,
-                None => tables.push(self.rows(part)?)?,
+            if is_scalar_part(part) {
+                scalars.push(self.pairs.pair(part)?)?;
+            } else {
+                match number_of(self.pairs.definitions, part) {
+                    Some(number) => numbers.push(number)?,
+                    None => tables.push(self.rows(part)?)?,
+                }
             }
         }
+        push_scalars(self.pairs.alloc, scalars, &mut tables)?;
         self.push_definitions(&distinct(numbers), &mut tables)?;
         Table::unified(self.pairs.alloc, tables)
     }

@@ -14,11 +14,12 @@ use Rattle.cue_eval.specs.Parts.{AreAdded}
 use Rattle.cue_eval.specs.Ready.{all_definitions, members_of, AreKnown, IsReady, AreReadyFields, IsField}
 use Rattle.cue_eval.proofs.LiteralTables.{struct_result, close_result, list_result}
 use Rattle.cue_eval.proofs.Walks.{entry_first, definition_first, field_first, Gathering, gathering_none, ellipsis_passed, definition_passed, field_ready, field_within, field_gathered, fields_gathered, field_made, nested_depth, within_depth, none_behind}
-use Rattle.cue_eval.proofs.Repeated.{Joining, joining_none, joined_ready, table_joined, name_joined, named_same, joined_result}
+use Rattle.cue_eval.proofs.Joined.{part_pairable}
+use Rattle.cue_eval.proofs.Repeated.{Joining, joining_none, joined_ready, table_joined, scalar_joined, name_joined, named_same, joined_result}
 use Rattle.cue_eval.proofs.Listings.{Listing, listing_none, element_ready, element_listed, elements_listed, all_listed, elements_few}
 use Rattle.cue_eval.proofs.Regular.{fields_ready, struct_ready}
 use Rattle.cue_eval.proofs.rows.Tables.+rows.Goals as goal
-use Rattle.cue_eval.proofs.rows.Tables.+rows.Goals.{conjunction-in-Some+in_ok-push-in-Some, conjunction-in-None+in_ok-rows-in-None+in_ok-push-in-None, fields-in-Ellipsis, fields-in-Definition, fields-in-Field+in_ok-field-in-Field+in_ok-push-in-Field}
+use Rattle.cue_eval.proofs.rows.Tables.+rows.Goals.{conjunction-then-is_scalar_part+in_ok-pair+in_ok-push, conjunction-else-is_scalar_part+in-Some+in_ok-push-in-Some, conjunction-else-is_scalar_part+in-None+in_ok-rows-in-None+in_ok-push-in-None, fields-in-Ellipsis, fields-in-Definition, fields-in-Field+in_ok-field-in-Field+in_ok-push-in-Field}
 
 pub rows-literal-requires : goal.rows-literal-requires
 rows-literal-requires t c = (
@@ -47,12 +48,18 @@ literal-returns-clause-answers t c =
     all c.struct_of.ensures.answers c.in_ok-fields.ensures
 
 pub conjunction-loop-part-init : goal.conjunction-loop-part-init
-conjunction-loop-part-init t c = rw (c.new-tables.ensures.items, c.new-numbers.ensures.items) (joining_none c.args.self.now c.args.parts.now c.requires)
+conjunction-loop-part-init t c = rw (c.new-tables.ensures.items, c.new-scalars.ensures.items, c.new-numbers.ensures.items) (joining_none c.args.self.now c.args.parts.now c.requires)
+
+pub conjunction-pair-requires : goal.conjunction-pair-requires
+conjunction-pair-requires t c =
+    let left = at_hand c.args.parts.now c.loop-part.part-index c.part-item.result c.loop-part-test.true c.part-item.is in
+    part_pairable c.args.self.now (tree.expression c.part-item.result) (c.is_scalar_part.ensures c.if-is_scalar_part.true)
+    (joined_ready c.args.self.now c.loop-part.tables.items c.loop-part.scalars.items c.loop-part.numbers.items c.args.parts.now _ c.part-item.result _ c.loop-part.invariant left)
 
 pub conjunction-rows-requires : goal.conjunction-rows-requires
 conjunction-rows-requires t c =
     let left = at_hand c.args.parts.now c.loop-part.part-index c.part-item.result c.loop-part-test.true c.part-item.is in
-    let can = joined_ready c.args.self.now c.loop-part.tables.items c.loop-part.numbers.items c.args.parts.now _ c.part-item.result _ c.loop-part.invariant left in (
+    let can = joined_ready c.args.self.now c.loop-part.tables.items c.loop-part.scalars.items c.loop-part.numbers.items c.args.parts.now _ c.part-item.result _ c.loop-part.invariant left in (
       let among : size-Expr c.part-item.result ≤ most (λ e. size-Expr e) c.args.parts.now =
           subst (λ e. size-Expr e ≤ most (λ x. size-Expr x) c.args.parts.now) (sym c.part-item.is) (at_most (λ e. size-Expr e) c.args.parts.now c.loop-part.part-index c.part-item.result c.loop-part-test.true) in
           omega (arith, c.decreases, among),
@@ -66,14 +73,18 @@ conjunction-loop-part-preserved t c =
     let rest = drop (c.loop-part.part-index + 1) all in
     let left = at_hand all c.loop-part.part-index c.part-item.result c.loop-part-test.true c.part-item.is in
     let tables = c.loop-part.tables.items in
+    let scalars = c.loop-part.scalars.items in
     let numbers = c.loop-part.numbers.items in
-    elim c.match-number_of.branch [
-      | conjunction-in-Some+in_ok-push-in-Some w ↦
-          rw (w.tables-is, w.numbers-is) (subst (λ is. Joining known tables is all rest) (sym w.in_ok-push-in-Some.ensures.items)
-          (name_joined known tables numbers all _ c.part-item.result rest w.in-Some.number c.loop-part.invariant left w.in-Some.ensures))
-      | conjunction-in-None+in_ok-rows-in-None+in_ok-push-in-None w ↦
-          rw (w.tables-is, w.numbers-is) (subst (λ xs. Joining known xs numbers all rest) (sym w.in_ok-push-in-None.ensures.items)
-          (table_joined known tables numbers all _ c.part-item.result rest w.in_ok-rows-in-None.field-0 c.loop-part.invariant left w.in_ok-rows-in-None.ensures.answers))
+    elim c.if-is_scalar_part.branch [
+      | conjunction-then-is_scalar_part+in_ok-pair+in_ok-push w ↦
+          rw (w.tables-is, w.scalars-is, w.numbers-is) (subst (λ vs. Joining known tables vs numbers all rest) (sym w.in_ok-push.ensures.items)
+          (scalar_joined known tables scalars numbers all _ c.part-item.result rest w.in_ok-pair.field-0 c.loop-part.invariant left (c.is_scalar_part.ensures w.if-is_scalar_part.true) w.in_ok-pair.ensures))
+      | conjunction-else-is_scalar_part+in-Some+in_ok-push-in-Some w ↦
+          rw (w.tables-is, w.scalars-is, w.numbers-is) (subst (λ is. Joining known tables scalars is all rest) (sym w.in_ok-push-in-Some.ensures.items)
+          (name_joined known tables scalars numbers all _ c.part-item.result rest w.in-Some.number c.loop-part.invariant left w.in-Some.ensures))
+      | conjunction-else-is_scalar_part+in-None+in_ok-rows-in-None+in_ok-push-in-None w ↦
+          rw (w.tables-is, w.scalars-is, w.numbers-is) (subst (λ xs. Joining known xs scalars numbers all rest) (sym w.in_ok-push-in-None.ensures.items)
+          (table_joined known tables scalars numbers all _ c.part-item.result rest w.in_ok-rows-in-None.field-0 c.loop-part.invariant left w.in_ok-rows-in-None.ensures.answers))
     ]
 
 pub conjunction-push_definitions-requires : goal.conjunction-push_definitions-requires
@@ -84,10 +95,11 @@ conjunction-push_definitions-requires t c =
 pub conjunction-returns-clause-answers : goal.conjunction-returns-clause-answers
 conjunction-returns-clause-answers t c =
     let known = c.args.self.now in
+    let with_scalars = c.push_scalars.new.tables.items in
     let tables = c.push_definitions.new.tables.items in
-    let added = subst (λ is. AreAdded (all_definitions known) c.loop-part.tables.items is tables) c.deref.ensures.value c.in_ok-push_definitions.ensures in
-    joined_result c.unified.result known c.loop-part.tables.items tables c.loop-part.numbers.items c.distinct.result.items c.args.parts.now _ c.loop-part.invariant
-    (none_behind c.args.parts.now c.loop-part.part-index (let end = c.loop-part-test.false in omega arith)) c.distinct.ensures added c.unified.ensures.refused
+    let added = subst (λ is. AreAdded (all_definitions known) with_scalars is tables) c.deref.ensures.value c.in_ok-push_definitions.ensures in
+    joined_result c.unified.result known c.loop-part.tables.items with_scalars tables c.loop-part.scalars.items c.loop-part.numbers.items c.distinct.result.items c.args.parts.now _ c.loop-part.invariant
+    (none_behind c.args.parts.now c.loop-part.part-index (let end = c.loop-part-test.false in omega arith)) c.in_ok-push_scalars.ensures c.distinct.ensures added c.unified.ensures.refused
 
 pub field-behind-requires : goal.field-behind-requires
 field-behind-requires t c =

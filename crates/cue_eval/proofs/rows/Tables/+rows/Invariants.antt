@@ -6,7 +6,7 @@ use Rattle.cue_eval.proofs.Listings.{Listing}
 use Rattle.cue_eval.proofs.rows.Tables.+rows.Given as goal
 
 abbrev pub invariant-conjunction-loop-part : goal.invariant-conjunction-loop-part
-invariant-conjunction-loop-part l = Joining l.self l.tables.items l.numbers.items l.parts (drop l.part-index l.parts)
+invariant-conjunction-loop-part l = Joining l.self l.tables.items l.scalars.items l.numbers.items l.parts (drop l.part-index l.parts)
 
 abbrev pub invariant-fields-loop-declaration : goal.invariant-fields-loop-declaration
 invariant-fields-loop-declaration l = Gathering l.self l.fields.items (entries l.declarations) (entries (drop l.declaration-index l.declarations))
