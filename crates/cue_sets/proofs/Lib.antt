@@ -1,3 +1,4 @@
+pub mod Beside
 pub mod Inside
 pub mod Merged
 pub mod Neighbours

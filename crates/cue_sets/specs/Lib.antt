@@ -4,5 +4,6 @@ pub mod Merge
 pub mod PieceLaws
 pub mod Pieces
 pub mod Sweep
+pub mod Taken
 pub mod TextLaws
 pub mod Texts

@@ -1,6 +1,7 @@
 //! Two lists of texts as one, whose texts are moved.
 ghost use Rattle.std.specs.Prelude.{◌≡◌, ◌+◌, ◌<◌, Bool, [], length, IfOk, IfSome, IfNone};
 ghost use Rattle.cue_sets.specs.Merge.{lists, merged, prepended_if};
+ghost use Rattle.cue_sets.specs.Taken.{IsLeast, left_of};
 
 use crate::texts::Lists;
 use cue_lattice::{Memory, Text};
@@ -58,6 +59,67 @@ pub(crate) fn merge_moved(
     while let Some(least) = take_least(&mut on_left, &mut on_right) {
         if how.keeps(least.in_left, least.in_right) {
             texts.push(least.text)?;
+        }
+    }
+    Ok(texts)
+}
+
+/// The least text of two ascending lists, of which only the right one is taken over, and what is left of the left one.
+#[derive(Drop)]
+enum Taken<'a> {
+    /// Only the left list has it, where it stays.
+    Stays(&'a Text, &'a [Text]),
+    /// The right list had it. The truth value says whether the left list has it too.
+    Moves(Text, bool, &'a [Text]),
+}
+
+/// Takes the least text from two ascending lists, where one has a text. It is moved where the right list has it.
+fn take_beside<'a>(left: &'a [Text], right: &mut VecDeque<Text>) -> Option<Taken<'a>>
+    ensures some { IfSome result (λ taken. IsLeast taken left.now right.old.items right.new.items) }
+    ensures shorter { IfSome result (λ taken.
+        length (left_of taken) + length right.new.items < length left.now + length right.old.items) }
+    ensures none { IfNone result ((left.now ≡ []) × (right.old.items ≡ [])) }
+{
+    match left {
+        [] => Some(Taken::Moves(right.pop_front()?, false, left)),
+        [on_left, later @ ..] => match right.front() {
+            None => Some(Taken::Stays(on_left, later)),
+            Some(on_right) => match on_left.compare(on_right) {
+                Ordering::Less => Some(Taken::Stays(on_left, later)),
+                Ordering::Equal => Some(Taken::Moves(right.pop_front()?, true, later)),
+                Ordering::Greater => Some(Taken::Moves(right.pop_front()?, false, left)),
+            },
+        },
+    }
+}
+
+/// The list of a combination of two sets, where the left list stays as it is and the texts of the right one are moved.
+/// Both lists are walked once.
+pub(crate) fn merge_beside(
+    alloc: Global,
+    how: Lists,
+    left: &[Text],
+    right: Vec<Text>,
+) -> Result<Vec<Text>, Memory>
+    ensures { IfOk result (λ texts.
+        texts.items ≡ merged (lists how.how how.left_all_but how.right_all_but) left.now right.items) }
+{
+    let mut texts = Vec::with_capacity(alloc, left.len() + right.len())?;
+    let (mut on_left, mut on_right) = (left, VecDeque::from(right));
+    while let Some(taken) = take_beside(on_left, &mut on_right) {
+        match taken {
+            Taken::Stays(text, later) => {
+                if how.keeps(true, false) {
+                    texts.push(text.copy(alloc)?)?;
+                }
+                on_left = later;
+            }
+            Taken::Moves(text, in_left, later) => {
+                if how.keeps(in_left, true) {
+                    texts.push(text)?;
+                }
+                on_left = later;
+            }
         }
     }
     Ok(texts)

@@ -3,7 +3,7 @@ ghost use Rattle.cue_sets.specs.Combination.{keeps};
 ghost use Rattle.cue_sets.specs.Texts.{is_text_member, IsAscending, IsFirstText, IsOnlyText};
 
 use crate::combination::Combination;
-use crate::moving::merge_moved;
+use crate::moving::{merge_beside, merge_moved};
 use crate::texts::{
     Lists, are_same, ascends, copies, each_is_listed, has, is_member, merge, zeros, zeros_listed,
 };
@@ -227,6 +227,22 @@ impl TextSet {
         })
     }
 
+    /// The members of both sets. This set stays as it is, and the texts of the other are moved and not copied.
+    fn meet_moving(&self, alloc: Global, other: TextSet) -> Result<TextSet, Memory>
+        ensures { IfOk result (λ met. (text : List ℕ) →
+            is_text_member met text ≡ (is_text_member self.now text && is_text_member other text)) }
+    {
+        let lists = Lists {
+            how: Combination::Meet,
+            left_all_but: self.all_but,
+            right_all_but: other.all_but,
+        };
+        Ok(TextSet {
+            all_but: lists.all_but(),
+            texts: merge_beside(alloc, lists, self.texts.as_slice(), other.texts)?,
+        })
+    }
+
     fn is_all(&self) -> bool
         ensures all { IsTrue result ↔ (self.now ≡ (true, [])) }
         ensures ascending { IsAscending self.now.1 }
@@ -277,7 +293,7 @@ impl Narrow for TextSet {
         if other.is_within(self) {
             return Ok(Narrowed::To(other));
         }
-        Ok(Narrowed::To(TextSet::meet(self, alloc, &other)?))
+        Ok(Narrowed::To(self.meet_moving(alloc, other)?))
     }
 
     fn same(&self, other: &TextSet) -> bool {
