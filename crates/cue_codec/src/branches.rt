@@ -33,7 +33,8 @@ pub fn row_count(branch: &Branch<Row>) -> u64
 #[tactic(auto, unfolding(crate::specs::RowBytes::row_bytes_from))]
 fn put_own_row(out: &mut Vec<u8>, depth: u8, steps: &[u8], row: &Row) -> Result<(), Memory>
     requires { IsShortRow row.now }
-    ensures { OnOk result (out.new.items ≡ out.old.items ++ row_bytes_from depth steps.now ([], row.now)) }
+    ensures { OnOk result (out.new.items ≡ out.old.items
+        ++ row_bytes_from depth steps.now ([], row.now)) }
 {
     out.push(depth)?;
     out.extend_from_slice(steps)?;

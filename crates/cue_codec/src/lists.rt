@@ -4,7 +4,8 @@
 ghost use Rattle.std.specs.Prelude.{◌≡◌, IfOk, IfErr};
 ghost use Rattle.std.specs.List.{flat_map};
 ghost use Rattle.cue_codec.specs.Parts.{counted_bytes, piece_bytes, text_bytes};
-ghost use Rattle.cue_codec.specs.Reading.{Begins, BeginsNone, IsRefused, AreSo, AreCounted, IsPiece, IsShortText};
+ghost use Rattle.cue_codec.specs.Reading.{Begins, BeginsNone, IsRefused, AreSo, AreCounted};
+ghost use Rattle.cue_codec.specs.Reading.{IsPiece, IsShortText};
 
 use crate::reading::{piece_at, text_at, u64_at};
 use cue_lattice::{Kind, Text};
@@ -12,8 +13,10 @@ use std::alloc::Global;
 
 /// So many pieces of integers.
 fn each_piece(alloc: Global, count: u64, bytes: &[u8]) -> Result<(Vec<(i64, i64)>, &[u8]), Kind>
-    ensures ok { IfOk result (λ x. Begins (AreSo IsPiece count) (flat_map piece_bytes) x.0.items bytes.now x.1.now) }
-    ensures refused { IfErr result (λ kind. IsRefused kind (BeginsNone (AreSo IsPiece count) (flat_map piece_bytes) bytes.now)) }
+    ensures ok { IfOk result (λ x. Begins (AreSo IsPiece count)
+        (flat_map piece_bytes) x.0.items bytes.now x.1.now) }
+    ensures refused { IfErr result (λ kind. IsRefused kind
+        (BeginsNone (AreSo IsPiece count) (flat_map piece_bytes) bytes.now)) }
 {
     let mut pieces = Vec::new(alloc);
     let mut rest = bytes;
@@ -31,8 +34,10 @@ fn each_piece(alloc: Global, count: u64, bytes: &[u8]) -> Result<(Vec<(i64, i64)
 
 /// Pieces of integers.
 pub fn pieces_at(alloc: Global, bytes: &[u8]) -> Result<(Vec<(i64, i64)>, &[u8]), Kind>
-    ensures ok { IfOk result (λ x. Begins (AreCounted IsPiece) (counted_bytes piece_bytes) x.0.items bytes.now x.1.now) }
-    ensures refused { IfErr result (λ kind. IsRefused kind (BeginsNone (AreCounted IsPiece) (counted_bytes piece_bytes) bytes.now)) }
+    ensures ok { IfOk result (λ x. Begins (AreCounted IsPiece)
+        (counted_bytes piece_bytes) x.0.items bytes.now x.1.now) }
+    ensures refused { IfErr result (λ kind. IsRefused kind
+        (BeginsNone (AreCounted IsPiece) (counted_bytes piece_bytes) bytes.now)) }
 {
     let Some((count, rest)) = u64_at(bytes) else {
         return Err(Kind::NotState);
@@ -43,7 +48,8 @@ pub fn pieces_at(alloc: Global, bytes: &[u8]) -> Result<(Vec<(i64, i64)>, &[u8])
 /// A text.
 pub fn one_text(alloc: Global, bytes: &[u8]) -> Result<(Text, &[u8]), Kind>
     ensures ok { IfOk result (λ x. Begins IsShortText text_bytes x.0 bytes.now x.1.now) }
-    ensures refused { IfErr result (λ kind. IsRefused kind (BeginsNone IsShortText text_bytes bytes.now)) }
+    ensures refused { IfErr result (λ kind. IsRefused kind
+        (BeginsNone IsShortText text_bytes bytes.now)) }
 {
     let Some((text, rest)) = text_at(bytes) else {
         return Err(Kind::NotState);
@@ -56,8 +62,10 @@ pub fn one_text(alloc: Global, bytes: &[u8]) -> Result<(Text, &[u8]), Kind>
 
 /// So many texts.
 fn each_text(alloc: Global, count: u64, bytes: &[u8]) -> Result<(Vec<Text>, &[u8]), Kind>
-    ensures ok { IfOk result (λ x. Begins (AreSo IsShortText count) (flat_map text_bytes) x.0.items bytes.now x.1.now) }
-    ensures refused { IfErr result (λ kind. IsRefused kind (BeginsNone (AreSo IsShortText count) (flat_map text_bytes) bytes.now)) }
+    ensures ok { IfOk result (λ x. Begins (AreSo IsShortText count)
+        (flat_map text_bytes) x.0.items bytes.now x.1.now) }
+    ensures refused { IfErr result (λ kind. IsRefused kind
+        (BeginsNone (AreSo IsShortText count) (flat_map text_bytes) bytes.now)) }
 {
     let mut texts = Vec::new(alloc);
     let mut rest = bytes;
@@ -73,8 +81,10 @@ fn each_text(alloc: Global, count: u64, bytes: &[u8]) -> Result<(Vec<Text>, &[u8
 
 /// Texts, in whatever order they stand.
 pub fn texts_at(alloc: Global, bytes: &[u8]) -> Result<(Vec<Text>, &[u8]), Kind>
-    ensures ok { IfOk result (λ x. Begins (AreCounted IsShortText) (counted_bytes text_bytes) x.0.items bytes.now x.1.now) }
-    ensures refused { IfErr result (λ kind. IsRefused kind (BeginsNone (AreCounted IsShortText) (counted_bytes text_bytes) bytes.now)) }
+    ensures ok { IfOk result (λ x. Begins (AreCounted IsShortText)
+        (counted_bytes text_bytes) x.0.items bytes.now x.1.now) }
+    ensures refused { IfErr result (λ kind. IsRefused kind
+        (BeginsNone (AreCounted IsShortText) (counted_bytes text_bytes) bytes.now)) }
 {
     let Some((count, rest)) = u64_at(bytes) else {
         return Err(Kind::NotState);

@@ -19,7 +19,8 @@ const MOST_STEPS: u8 = 64;
 /// A label or an index.
 fn step_at(alloc: Global, bytes: &[u8]) -> Result<(Step, &[u8]), Kind>
     ensures ok { IfOk result (λ x. Begins IsStateStep step_bytes (step_of x.0) bytes.now x.1.now) }
-    ensures refused { IfErr result (λ kind. IsRefused kind (BeginsNone IsStateStep step_bytes bytes.now)) }
+    ensures refused { IfErr result (λ kind. IsRefused kind
+        (BeginsNone IsStateStep step_bytes bytes.now)) }
 {
     let Some((tag, rest)) = bytes.split_first() else {
         return Err(Kind::NotState);
@@ -41,8 +42,10 @@ fn step_at(alloc: Global, bytes: &[u8]) -> Result<(Step, &[u8]), Kind>
 
 /// So many steps.
 fn each_step(alloc: Global, count: u8, bytes: &[u8]) -> Result<(Vec<Step>, &[u8]), Kind>
-    ensures ok { IfOk result (λ x. Begins (AreSo IsStateStep count) (flat_map step_bytes) (map step_of x.0.items) bytes.now x.1.now) }
-    ensures refused { IfErr result (λ kind. IsRefused kind (BeginsNone (AreSo IsStateStep count) (flat_map step_bytes) bytes.now)) }
+    ensures ok { IfOk result (λ x. Begins (AreSo IsStateStep count) (flat_map step_bytes)
+        (map step_of x.0.items) bytes.now x.1.now) }
+    ensures refused { IfErr result (λ kind. IsRefused kind
+        (BeginsNone (AreSo IsStateStep count) (flat_map step_bytes) bytes.now)) }
 {
     let mut steps = Vec::new(alloc);
     let mut rest = bytes;
@@ -59,7 +62,8 @@ fn each_step(alloc: Global, count: u8, bytes: &[u8]) -> Result<(Vec<Step>, &[u8]
 /// A path.
 pub fn path_at(alloc: Global, bytes: &[u8]) -> Result<(Path, &[u8]), Kind>
     ensures ok { IfOk result (λ x. Begins IsStatePath path_bytes x.0 bytes.now x.1.now) }
-    ensures refused { IfErr result (λ kind. IsRefused kind (BeginsNone IsStatePath path_bytes bytes.now)) }
+    ensures refused { IfErr result (λ kind. IsRefused kind
+        (BeginsNone IsStatePath path_bytes bytes.now)) }
 {
     let Some((count, rest)) = bytes.split_first() else {
         return Err(Kind::NotState);

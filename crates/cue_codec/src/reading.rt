@@ -4,8 +4,10 @@ ghost use Rattle.std.specs.Prelude.{◌≡◌, ◌<◌, ◌++◌, length, IfSome
 ghost use Rattle.std.specs.Int.{w16, w32, w64};
 ghost use Rattle.std.specs.Option.{option_map};
 ghost use Rattle.cue_lattice.specs.Scalar.{IsInteger};
-ghost use Rattle.cue_codec.specs.Parts.{integer_bytes, piece_bytes, text_bytes, flags, most_bytes, lengths_bytes};
-ghost use Rattle.cue_codec.specs.Reading.{Begins, BeginsNone, IsPiece, IsShortText, AreWideLengths, IsMost, number_at};
+ghost use Rattle.cue_codec.specs.Parts.{integer_bytes, piece_bytes, text_bytes, flags, most_bytes};
+ghost use Rattle.cue_codec.specs.Parts.{lengths_bytes};
+ghost use Rattle.cue_codec.specs.Reading.{Begins, BeginsNone, IsPiece, IsShortText, AreWideLengths};
+ghost use Rattle.cue_codec.specs.Reading.{IsMost, number_at};
 
 #[tactic(auto, unfolding(crate::specs::Reading::number_at))]
 fn u16_at(bytes: &[u8]) -> Option<(u16, &[u8])>

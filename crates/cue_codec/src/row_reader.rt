@@ -14,7 +14,8 @@ use std::marker::Model;
 /// The row whose bytes stand in front, with its path, and the bytes after it.
 fn row_at(alloc: Global, bytes: &[u8]) -> Result<((Path, Row), &[u8]), Kind>
     ensures ok { IfOk result (λ x. Begins IsStateRow row_bytes x.0 bytes.now x.1.now) }
-    ensures refused { IfErr result (λ kind. IsRefused kind (BeginsNone IsStateRow row_bytes bytes.now)) }
+    ensures refused { IfErr result (λ kind. IsRefused kind
+        (BeginsNone IsStateRow row_bytes bytes.now)) }
 {
     let (path, behind) = path_at(alloc, bytes)?;
     let Some((number, rest)) = behind.split_first() else {
@@ -61,7 +62,8 @@ impl<'a> RowReader<'a> {
     /// for what was read.
     pub fn read(&mut self, alloc: Global) -> Result<(Path, Row), Kind>
         ensures ok { IfOk result (λ row. Begins IsStateRow row_bytes row self.old self.new) }
-        ensures refused { IfErr result (λ kind. IsRefused kind (BeginsNone IsStateRow row_bytes self.old)) }
+        ensures refused { IfErr result (λ kind.
+            IsRefused kind (BeginsNone IsStateRow row_bytes self.old)) }
         ensures unchanged { OnErr result (self.new ≡ self.old) }
     {
         let (row, rest) = row_at(alloc, self.rest)?;

@@ -1,7 +1,8 @@
 //! What a row says, as bytes.
 
 ghost use Rattle.std.specs.Prelude.{◌≡◌, ◌++◌, OnOk};
-ghost use Rattle.cue_codec.specs.RowBytes.{parts_bytes, parts_of, scalars_bytes, left_out_bytes, IsShortRow};
+ghost use Rattle.cue_codec.specs.RowBytes.{parts_bytes, parts_of, scalars_bytes, left_out_bytes};
+ghost use Rattle.cue_codec.specs.RowBytes.{IsShortRow};
 
 use crate::rows::is_empty;
 use crate::writing::{put_labels, put_lengths, put_set};
@@ -12,7 +13,8 @@ use cue_row::Row;
 #[tactic(auto, unfolding(crate::specs::RowBytes::scalars_bytes))]
 fn put_scalars(out: &mut Vec<u8>, row: &Row) -> Result<(), Memory>
     requires { IsShortRow row.now }
-    ensures { OnOk result (out.new.items ≡ out.old.items ++ scalars_bytes (row.now.value, row.now.usual)) }
+    ensures { OnOk result (out.new.items ≡ out.old.items
+        ++ scalars_bytes (row.now.value, row.now.usual)) }
 {
     put_set(out, &row.value)?;
     put_set(out, &row.usual)
@@ -22,7 +24,8 @@ fn put_scalars(out: &mut Vec<u8>, row: &Row) -> Result<(), Memory>
 #[tactic(auto, unfolding(crate::specs::RowBytes::left_out_bytes))]
 fn put_left_out(out: &mut Vec<u8>, row: &Row) -> Result<(), Memory>
     requires { IsShortRow row.now }
-    ensures { OnOk result (out.new.items ≡ out.old.items ++ left_out_bytes (row.now.labels, (row.now.least, row.now.most))) }
+    ensures { OnOk result (out.new.items ≡ out.old.items
+        ++ left_out_bytes (row.now.labels, (row.now.least, row.now.most))) }
 {
     put_labels(out, &row.labels)?;
     put_lengths(out, row.least, row.most)

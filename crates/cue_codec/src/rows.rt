@@ -4,7 +4,10 @@ ghost use Rattle.std.specs.Prelude.{◌≡◌, IfOk, IfErr};
 ghost use Rattle.cue_codec.specs.Parts.{labels_bytes, lengths_bytes};
 ghost use Rattle.cue_codec.specs.Reading.{Begins, BeginsNone, IsRefused, AreWideLengths};
 ghost use Rattle.cue_codec.specs.StateRow.{AreStateLabels};
-ghost use Rattle.cue_codec.specs.RowBytes.{free, scalar, struct, list, nothing, scalars_bytes, left_out_bytes, parts_bytes, is_empty_set, empty_set, full_set, row_of, AreScalars, AreLeftOut, IsStateParts, Reads};
+ghost use Rattle.cue_codec.specs.RowBytes.{free, scalar, struct, list, nothing, scalars_bytes};
+ghost use Rattle.cue_codec.specs.RowBytes.{left_out_bytes, parts_bytes, is_empty_set, empty_set};
+ghost use Rattle.cue_codec.specs.RowBytes.{full_set, row_of, AreScalars, AreLeftOut, IsStateParts};
+ghost use Rattle.cue_codec.specs.RowBytes.{Reads};
 
 use crate::reading::lengths_at;
 use crate::sets::{labels_at, set_at};
@@ -133,8 +136,11 @@ fn nothing_row(
 
 /// Some scalar, and the usual ones.
 fn scalar_at(alloc: Global, level: Level, bytes: &[u8]) -> Result<(Row, &[u8]), Kind>
-    ensures ok { IfOk result (λ x. Reads (λ sets. scalar sets.0 sets.1) AreScalars scalars_bytes level x.0 bytes.now x.1.now) }
-    ensures refused { IfErr result (λ kind. IsRefused kind (BeginsNone AreScalars scalars_bytes bytes.now)) }
+    ensures ok { IfOk result
+        (λ x. Reads (λ sets. scalar sets.0 sets.1) AreScalars scalars_bytes level x.0 bytes.now
+        x.1.now) }
+    ensures refused { IfErr result (λ kind. IsRefused kind
+        (BeginsNone AreScalars scalars_bytes bytes.now)) }
 {
     let (value, middle) = set_at(alloc, bytes)?;
     if is_empty(&value) {
@@ -149,8 +155,10 @@ fn scalar_at(alloc: Global, level: Level, bytes: &[u8]) -> Result<(Row, &[u8]), 
 
 /// A struct with certain labels.
 fn struct_at(alloc: Global, level: Level, bytes: &[u8]) -> Result<(Row, &[u8]), Kind>
-    ensures ok { IfOk result (λ x. Reads struct AreStateLabels labels_bytes level x.0 bytes.now x.1.now) }
-    ensures refused { IfErr result (λ kind. IsRefused kind (BeginsNone AreStateLabels labels_bytes bytes.now)) }
+    ensures ok { IfOk result
+        (λ x. Reads struct AreStateLabels labels_bytes level x.0 bytes.now x.1.now) }
+    ensures refused { IfErr result (λ kind. IsRefused kind
+        (BeginsNone AreStateLabels labels_bytes bytes.now)) }
 {
     let (labels, rest) = labels_at(alloc, bytes)?;
     let Ok(row) = struct_row(alloc, level, labels) else {
@@ -161,8 +169,10 @@ fn struct_at(alloc: Global, level: Level, bytes: &[u8]) -> Result<(Row, &[u8]), 
 
 /// A list of certain lengths.
 fn list_at(alloc: Global, level: Level, bytes: &[u8]) -> Result<(Row, &[u8]), Kind>
-    ensures ok { IfOk result (λ x. Reads list AreWideLengths lengths_bytes level x.0 bytes.now x.1.now) }
-    ensures refused { IfErr result (λ kind. IsRefused kind (BeginsNone AreWideLengths lengths_bytes bytes.now)) }
+    ensures ok { IfOk result
+        (λ x. Reads list AreWideLengths lengths_bytes level x.0 bytes.now x.1.now) }
+    ensures refused { IfErr result (λ kind. IsRefused kind
+        (BeginsNone AreWideLengths lengths_bytes bytes.now)) }
 {
     let Some(((least, most), rest)) = lengths_at(bytes) else {
         return Err(Kind::NotState);
@@ -175,8 +185,11 @@ fn list_at(alloc: Global, level: Level, bytes: &[u8]) -> Result<(Row, &[u8]), Ki
 
 /// Nothing, with the labels and lengths that are left out.
 fn nothing_at(alloc: Global, level: Level, bytes: &[u8]) -> Result<(Row, &[u8]), Kind>
-    ensures ok { IfOk result (λ x. Reads (λ parts. nothing parts.0 parts.1) AreLeftOut left_out_bytes level x.0 bytes.now x.1.now) }
-    ensures refused { IfErr result (λ kind. IsRefused kind (BeginsNone AreLeftOut left_out_bytes bytes.now)) }
+    ensures ok { IfOk result
+        (λ x. Reads (λ parts. nothing parts.0 parts.1) AreLeftOut left_out_bytes level x.0 bytes.now
+        x.1.now) }
+    ensures refused { IfErr result (λ kind. IsRefused kind
+        (BeginsNone AreLeftOut left_out_bytes bytes.now)) }
 {
     let (labels, middle) = labels_at(alloc, bytes)?;
     let Some(((least, most), rest)) = lengths_at(middle) else {
@@ -190,8 +203,10 @@ fn nothing_at(alloc: Global, level: Level, bytes: &[u8]) -> Result<(Row, &[u8]),
 
 /// The row of this level whose kind and parts these are.
 pub fn parts_at(alloc: Global, level: Level, bytes: &[u8]) -> Result<(Row, &[u8]), Kind>
-    ensures ok { IfOk result (λ x. Reads (λ parts. parts) IsStateParts parts_bytes level x.0 bytes.now x.1.now) }
-    ensures refused { IfErr result (λ kind. IsRefused kind (BeginsNone IsStateParts parts_bytes bytes.now)) }
+    ensures ok { IfOk result
+        (λ x. Reads (λ parts. parts) IsStateParts parts_bytes level x.0 bytes.now x.1.now) }
+    ensures refused { IfErr result (λ kind. IsRefused kind
+        (BeginsNone IsStateParts parts_bytes bytes.now)) }
 {
     let Some((tag, rest)) = bytes.split_first() else {
         return Err(Kind::NotState);

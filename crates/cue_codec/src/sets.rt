@@ -1,9 +1,11 @@
 //! Sets, read from the front of the bytes.
 
 ghost use Rattle.std.specs.Prelude.{◌≡◌, ◌<◌, IfOk, IfErr, IfSome, IfNone};
-ghost use Rattle.cue_codec.specs.Parts.{bit, counted_bytes, piece_bytes, text_set_bytes, set_bytes, labels_bytes};
+ghost use Rattle.cue_codec.specs.Parts.{bit, counted_bytes, piece_bytes, text_set_bytes, set_bytes};
+ghost use Rattle.cue_codec.specs.Parts.{labels_bytes};
 ghost use Rattle.cue_codec.specs.Reading.{Begins, BeginsNone, IsRefused};
-ghost use Rattle.cue_codec.specs.StateRow.{IsStateIntegers, IsStateTexts, IsStateSet, AreStateLabels};
+ghost use Rattle.cue_codec.specs.StateRow.{IsStateIntegers, IsStateTexts, IsStateSet};
+ghost use Rattle.cue_codec.specs.StateRow.{AreStateLabels};
 
 use crate::lists::{pieces_at, texts_at};
 use crate::reading::flags_of;
@@ -15,8 +17,10 @@ use std::alloc::Global;
 
 /// A set of integers.
 fn int_set_at(alloc: Global, bytes: &[u8]) -> Result<(IntSet, &[u8]), Kind>
-    ensures ok { IfOk result (λ x. Begins IsStateIntegers (counted_bytes piece_bytes) x.0 bytes.now x.1.now) }
-    ensures refused { IfErr result (λ kind. IsRefused kind (BeginsNone IsStateIntegers (counted_bytes piece_bytes) bytes.now)) }
+    ensures ok { IfOk result (λ x. Begins IsStateIntegers
+        (counted_bytes piece_bytes) x.0 bytes.now x.1.now) }
+    ensures refused { IfErr result (λ kind. IsRefused kind
+        (BeginsNone IsStateIntegers (counted_bytes piece_bytes) bytes.now)) }
 {
     let (pieces, rest) = pieces_at(alloc, bytes)?;
     let Some(set) = IntSet::from_pieces(pieces) else {
@@ -41,7 +45,8 @@ fn bit_of(byte: u8) -> Option<bool>
 /// A set of texts.
 fn text_set_at(alloc: Global, bytes: &[u8]) -> Result<(TextSet, &[u8]), Kind>
     ensures ok { IfOk result (λ x. Begins IsStateTexts text_set_bytes x.0 bytes.now x.1.now) }
-    ensures refused { IfErr result (λ kind. IsRefused kind (BeginsNone IsStateTexts text_set_bytes bytes.now)) }
+    ensures refused { IfErr result (λ kind. IsRefused kind
+        (BeginsNone IsStateTexts text_set_bytes bytes.now)) }
 {
     let Some((tag, rest)) = bytes.split_first() else {
         return Err(Kind::NotState);
@@ -60,7 +65,8 @@ fn text_set_at(alloc: Global, bytes: &[u8]) -> Result<(TextSet, &[u8]), Kind>
 /// A set of scalars.
 pub fn set_at(alloc: Global, bytes: &[u8]) -> Result<(ScalarSet, &[u8]), Kind>
     ensures ok { IfOk result (λ x. Begins IsStateSet set_bytes x.0 bytes.now x.1.now) }
-    ensures refused { IfErr result (λ kind. IsRefused kind (BeginsNone IsStateSet set_bytes bytes.now)) }
+    ensures refused { IfErr result (λ kind. IsRefused kind
+        (BeginsNone IsStateSet set_bytes bytes.now)) }
 {
     let Some((tag, rest)) = bytes.split_first() else {
         return Err(Kind::NotState);
@@ -83,7 +89,8 @@ pub fn set_at(alloc: Global, bytes: &[u8]) -> Result<(ScalarSet, &[u8]), Kind>
 /// Which labels may stand: all, or the listed ones.
 pub fn labels_at(alloc: Global, bytes: &[u8]) -> Result<(Labels, &[u8]), Kind>
     ensures ok { IfOk result (λ x. Begins AreStateLabels labels_bytes x.0 bytes.now x.1.now) }
-    ensures refused { IfErr result (λ kind. IsRefused kind (BeginsNone AreStateLabels labels_bytes bytes.now)) }
+    ensures refused { IfErr result (λ kind. IsRefused kind
+        (BeginsNone AreStateLabels labels_bytes bytes.now)) }
 {
     let Some((tag, rest)) = bytes.split_first() else {
         return Err(Kind::NotState);

@@ -11,7 +11,8 @@ ghost use Rattle.cue_table.specs.Valid.{IsValidTable};
 
 /// The bytes of a row in front tell the row and what stands after it. It computes nothing: it states a law.
 pub fn one_row_spelling()
-    ensures { (a b : Path × Row) (r s : List ℕ) → IsStateRow a → IsStateRow b → row_bytes a ++ r ≡ row_bytes b ++ s →
+    ensures { (a b : Path × Row) (r s : List ℕ) → IsStateRow a → IsStateRow b →
+        row_bytes a ++ r ≡ row_bytes b ++ s →
         (a ≡ b) × (r ≡ s) }
 {}
 

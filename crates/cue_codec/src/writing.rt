@@ -3,7 +3,9 @@
 ghost use Rattle.std.specs.Prelude.{◌≡◌, ◌++◌, OnOk};
 ghost use Rattle.std.specs.List.{flat_map, AllByRecursion};
 ghost use Rattle.cue_row.specs.Steps.{step_of};
-ghost use Rattle.cue_codec.specs.Parts.{integer_bytes, counted_bytes, piece_bytes, text_bytes, flags, text_set_bytes, set_bytes, labels_bytes, most_bytes, lengths_bytes, step_bytes};
+ghost use Rattle.cue_codec.specs.Parts.{integer_bytes, counted_bytes, piece_bytes, text_bytes};
+ghost use Rattle.cue_codec.specs.Parts.{flags, text_set_bytes, set_bytes, labels_bytes, most_bytes};
+ghost use Rattle.cue_codec.specs.Parts.{lengths_bytes, step_bytes};
 ghost use Rattle.cue_codec.specs.Reading.{IsShort, IsShortStep, AreShortLabels};
 
 use cue_lattice::{Memory, Text};

@@ -12,7 +12,8 @@ ghost use Rattle.cue_scope.specs.Core.{Core};
 ghost use Rattle.cue_scope.specs.Meaning.{nested};
 ghost use Rattle.cue_table.specs.Refuses.{TableRefuses};
 ghost use Rattle.cue_table.specs.Tree.{row_at};
-ghost use Rattle.cue_eval.specs.Adding.{OnlyLabels, LeftOut, AllowsAll, IsAddedBy, IsDotted, AreDotted, IsBodyKnown, IsClosedBody};
+ghost use Rattle.cue_eval.specs.Adding.{OnlyLabels, LeftOut, AllowsAll, IsAddedBy, IsDotted};
+ghost use Rattle.cue_eval.specs.Adding.{AreDotted, IsBodyKnown, IsClosedBody};
 ghost use Rattle.cue_eval.specs.Evaluated.{HasAnswersOf};
 ghost use Rattle.cue_eval.specs.Telling.{Tells};
 ghost use Rattle.cue_eval.specs.Told.{IsTold, means};
@@ -46,7 +47,8 @@ impl<'a, 'f, 't> Sight<'a, 'f, 't> {
         value: &Expr,
     ) -> Result<Table<Declared>, Memory>
         requires { IsBodyKnown self.now chain.now (tree.expression value.now) }
-        ensures { IfOk result (IsTold whose (nested chain.now (means self.now (tree.expression value.now)))) }
+        ensures { IfOk result
+            (IsTold whose (nested chain.now (means self.now (tree.expression value.now)))) }
     {
         let table = self.expression(whose, value)?;
         behind(self.alloc, whose, chain, table)
@@ -61,7 +63,8 @@ pub(crate) fn close(
     used: Table<Declared>,
     rows: Table<Row>,
 ) -> Result<Closed, Memory>
-    ensures { IfOk result (λ closed. (c : Core) → IsTold whoses.Own c own.now → IsTold whoses.Used c used → HasAnswersOf c rows → IsClosedBody c closed) }
+    ensures { IfOk result (λ closed. (c : Core) → IsTold whoses.Own c own.now →
+        IsTold whoses.Used c used → HasAnswersOf c rows → IsClosedBody c closed) }
 {
     let sets = label_sets(alloc, own, &used, &rows)?;
     let mut closed = rows;
@@ -93,7 +96,9 @@ fn label_sets(
 
 /// The labels that literals leave out at a path, as a table.
 fn label_set(alloc: Global, path: &Path, here: &Declared) -> Result<Table<Row>, Memory>
-    ensures { IfOk result (λ table. (at : paths.Path) (question : Questions) → TableRefuses Refuses table at question ↔ ((at ≡ path.now) × LeftOut here.now (question_of question))) }
+    ensures { IfOk result (λ table. (at : paths.Path) (question : Questions) →
+        TableRefuses Refuses table at question
+        ↔ ((at ≡ path.now) × LeftOut here.now (question_of question))) }
 {
     let mut table = Table::new(alloc);
     if here.stands {
@@ -106,7 +111,8 @@ fn label_set(alloc: Global, path: &Path, here: &Declared) -> Result<Table<Row>, 
 
 /// The row that lets these labels stand alone, and refuses nothing else.
 fn only(alloc: Global, labels: Labels) -> Result<Row, Memory>
-    ensures { IfOk result (λ row. (question : Questions) → Refuses row question ↔ OnlyLabels labels (question_of question)) }
+    ensures { IfOk result (λ row. (question : Questions) →
+        Refuses row question ↔ OnlyLabels labels (question_of question)) }
 {
     let mut row = Row::free(alloc)?;
     row.labels = labels;
@@ -115,7 +121,9 @@ fn only(alloc: Global, labels: Labels) -> Result<Row, Memory>
 
 /// The labels that are declared, where these are finitely many and all others are not.
 fn declared_labels(alloc: Global, undeclared: &TextSet) -> Result<Option<Labels>, Memory>
-    ensures some { IfOk result (λ found. IfSome found (λ labels. (undeclared.now.0 ≡ true) × ((l : List ℕ) → RefusesLabel labels l ↔ (is_text_member undeclared.now l ≡ true)))) }
+    ensures some { IfOk result (λ found. IfSome found
+        (λ labels. (undeclared.now.0 ≡ true) ×
+        ((l : List ℕ) → RefusesLabel labels l ↔ (is_text_member undeclared.now l ≡ true)))) }
     ensures none { IfOk result (λ found. IfNone found (undeclared.now.0 ≡ false)) }
 {
     let (all_but, labels) = undeclared.copy(alloc)?.into_texts();

@@ -1,5 +1,6 @@
 //! What is known of the definitions of a text, and what their bodies refuse.
-ghost use Rattle.std.specs.Prelude.{◌≡◌, ◌<◌, Some, None, [], ◌∷◌, IfOk, OnOk, IfSome, length, slice_set, slice_index_or};
+ghost use Rattle.std.specs.Prelude.{◌≡◌, ◌<◌, Some, None, [], ◌∷◌, IfOk, OnOk, IfSome, length};
+ghost use Rattle.std.specs.Prelude.{slice_set, slice_index_or};
 ghost use Rattle.cue_row.specs.declared.row.Row.{Row as Rows};
 ghost use Rattle.cue_scope.specs.Core as core;
 ghost use Rattle.cue_scope.specs.Core.{conjunction};
@@ -13,7 +14,8 @@ ghost use Rattle.cue_syntax.specs.Syntax as tree;
 ghost use Rattle.cue_table.specs.Tree.{Tree};
 ghost use Rattle.cue_eval.specs.declared.declared.Declared.{Declared as Declares};
 ghost use Rattle.cue_eval.specs.Adding.{IsClosedBody};
-ghost use Rattle.cue_eval.specs.Finding.{body_of, HasRoom, AreOnce, IsOnce, IsDefinable, IsDefined, IsFindable, AreFindable, IsFoundBody, IsKept};
+ghost use Rattle.cue_eval.specs.Finding.{body_of, HasRoom, AreOnce, IsOnce, IsDefinable, IsDefined};
+ghost use Rattle.cue_eval.specs.Finding.{IsFindable, AreFindable, IsFoundBody, IsKept};
 
 use crate::body::{Closed, close};
 use crate::declared::Declared;
@@ -85,10 +87,15 @@ impl Found {
         definition: &Definition,
         is_scalar: bool,
     ) -> Result<Defined, Memory>
-        requires definable { IsDefinable (all_of definitions.now) (definition_of definition.now) self.old }
-        requires is_scalar { is_scalar ≡ core.is_scalar (body_of (all_of definitions.now) (definition_of definition.now)) }
-        ensures defined { IfOk result (IsDefined (body_of (all_of definitions.now) (definition_of definition.now))) }
-        ensures kept { OnOk result (IsKept (uses (all_of definitions.now) (definition_of definition.now).value) self.old self.new) }
+        requires definable { IsDefinable (all_of definitions.now)
+            (definition_of definition.now) self.old }
+        requires is_scalar { is_scalar ≡ core.is_scalar
+            (body_of (all_of definitions.now) (definition_of definition.now)) }
+        ensures defined { IfOk result (IsDefined
+            (body_of (all_of definitions.now) (definition_of definition.now))) }
+        ensures kept { OnOk result
+            (IsKept (uses (all_of definitions.now) (definition_of definition.now).value) self.old
+            self.new) }
     {
         let closed = self.closed(alloc, definitions, definition)?;
         let pair = if is_scalar {
@@ -108,8 +115,13 @@ impl Found {
         definition: &Definition,
     ) -> Result<Closed, Memory>
         requires { IsDefinable (all_of definitions.now) (definition_of definition.now) self.old }
-        ensures closed { IfOk result (IsClosedBody (nested (definition_of definition.now).chain (meant (all_of definitions.now) (meaning (all_of definitions.now)) (definition_of definition.now).value))) }
-        ensures kept { OnOk result (IsKept (uses (all_of definitions.now) (definition_of definition.now).value) self.old self.new) }
+        ensures closed { IfOk result (IsClosedBody
+            (nested (definition_of definition.now).chain
+            (meant (all_of definitions.now) (meaning (all_of definitions.now))
+            (definition_of definition.now).value))) }
+        ensures kept { OnOk result
+            (IsKept (uses (all_of definitions.now) (definition_of definition.now).value) self.old
+            self.new) }
     {
         let sight = self.sight(alloc, &*definitions);
         let own = sight.body(Whose::Own, definition.chain, definition.value)?;
@@ -129,8 +141,12 @@ impl Found {
         expression: &Expr,
     ) -> Result<Body, Memory>
         requires { IsFindable (all_of definitions.now) (tree.expression expression.now) self.old }
-        ensures body { IfOk result (IsFoundBody (meant (all_of definitions.now) (meaning (all_of definitions.now)) (tree.expression expression.now))) }
-        ensures kept { OnOk result (IsKept (uses (all_of definitions.now) (tree.expression expression.now)) self.old self.new) }
+        ensures body { IfOk result (IsFoundBody
+            (meant (all_of definitions.now) (meaning (all_of definitions.now))
+            (tree.expression expression.now))) }
+        ensures kept { OnOk result
+            (IsKept (uses (all_of definitions.now) (tree.expression expression.now)) self.old
+            self.new) }
     {
         match expression {
             Expr::Parenthesis { inner, .. } => self.body(alloc, definitions, inner),
@@ -153,8 +169,12 @@ impl Found {
         parts: &[Expr],
     ) -> Result<Body, Memory>
         requires { AreFindable (all_of definitions.now) (tree.elements parts.now) self.old }
-        ensures body { IfOk result (IsFoundBody (conjunction (meant_elements (all_of definitions.now) (meaning (all_of definitions.now)) (tree.elements parts.now)))) }
-        ensures kept { OnOk result (IsKept (uses_of_elements (all_of definitions.now) (tree.elements parts.now)) self.old self.new) }
+        ensures body { IfOk result (IsFoundBody
+            (conjunction (meant_elements (all_of definitions.now) (meaning (all_of definitions.now))
+            (tree.elements parts.now)))) }
+        ensures kept { OnOk result
+            (IsKept (uses_of_elements (all_of definitions.now) (tree.elements parts.now)) self.old
+            self.new) }
     {
         let mut all_rows = Vec::new(alloc);
         let mut all_dots = Vec::new(alloc);
@@ -183,7 +203,9 @@ impl Found {
         expression: &Expr,
     ) -> Result<Body, Memory>
         requires { IsFindable (all_of definitions.now) (tree.expression expression.now) self.now }
-        ensures { IfOk result (IsFoundBody (meant (all_of definitions.now) (meaning (all_of definitions.now)) (tree.expression expression.now))) }
+        ensures { IfOk result
+            (IsFoundBody (meant (all_of definitions.now) (meaning (all_of definitions.now))
+            (tree.expression expression.now))) }
     {
         let rows = self.tables(alloc, definitions).rows(expression)?;
         let dots = self
@@ -195,8 +217,11 @@ impl Found {
     /// The number of the definition that a name stands for, where this is its only use.
     fn used_once(&self, definitions: &Definitions, name: &Identifier) -> Option<usize>
         ensures once { IfSome result (IsOnce self.now) }
-        ensures named { IfSome result (λ number. uses_of_name (all_of definitions.now) name.now ≡ number ∷ []) }
-        ensures means { IfSome result (λ number. meant_name (all_of definitions.now) (meaning (all_of definitions.now)) name.now ≡ meaning (all_of definitions.now) number) }
+        ensures named { IfSome result (λ number.
+            uses_of_name (all_of definitions.now) name.now ≡ number ∷ []) }
+        ensures means { IfSome result (λ number.
+            meant_name (all_of definitions.now) (meaning (all_of definitions.now)) name.now
+            ≡ meaning (all_of definitions.now) number) }
     {
         match name {
             Identifier::Definition(name) => {
@@ -216,8 +241,10 @@ impl Found {
     fn take(&mut self, alloc: Global, number: usize) -> Body
         requires tables { number < length self.old.tables.items }
         requires dots { number < length self.old.dots.items }
-        ensures rows { (table : Tree Rows) → slice_index_or self.old.tables.items number None ≡ Some table → result.rows ≡ table }
-        ensures marks { (table : Tree Declares) → slice_index_or self.old.dots.items number None ≡ Some table → result.dots ≡ table }
+        ensures rows { (table : Tree Rows) → slice_index_or self.old.tables.items number None
+            ≡ Some table → result.rows ≡ table }
+        ensures marks { (table : Tree Declares) →
+            slice_index_or self.old.dots.items number None ≡ Some table → result.dots ≡ table }
         ensures pairs { self.new.pairs.items ≡ self.old.pairs.items }
         ensures once { self.new.once.items ≡ self.old.once.items }
         ensures tables { self.new.tables.items ≡ slice_set self.old.tables.items number None }
@@ -237,8 +264,10 @@ impl Found {
         requires tables { number < length self.old.tables.items }
         requires dots { number < length self.old.dots.items }
         ensures pairs { self.new.pairs.items ≡ slice_set self.old.pairs.items number defined.pair }
-        ensures tables { self.new.tables.items ≡ slice_set self.old.tables.items number (Some defined.closed.rows) }
-        ensures dots { self.new.dots.items ≡ slice_set self.old.dots.items number (Some defined.closed.dots) }
+        ensures tables { self.new.tables.items
+            ≡ slice_set self.old.tables.items number (Some defined.closed.rows) }
+        ensures dots { self.new.dots.items ≡ slice_set self.old.dots.items number
+            (Some defined.closed.dots) }
         ensures once { self.new.once.items ≡ self.old.once.items }
     {
         let Defined { pair, closed } = defined;

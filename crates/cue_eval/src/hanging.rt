@@ -12,7 +12,8 @@ ghost use Rattle.cue_table.specs.Form.{IsTable};
 ghost use Rattle.cue_eval.specs.Evaluated.{HasAnswersOf};
 ghost use Rattle.cue_eval.specs.Gathered.{Answers, LabelsRefuse, LiteralAnswers};
 ghost use Rattle.cue_eval.specs.Parts.{AreJoined};
-ghost use Rattle.cue_eval.specs.Places.{Here, ScalarRefuses, StructRefuses, ListRefuses, MarkRefuses};
+ghost use Rattle.cue_eval.specs.Places.{Here, ScalarRefuses, StructRefuses, ListRefuses};
+ghost use Rattle.cue_eval.specs.Places.{MarkRefuses};
 
 use crate::place::{list_row, mark_row, raised, scalar_row, struct_row};
 use cue_lattice::Memory;
@@ -25,7 +26,8 @@ use std::alloc::Global;
 /// A table, and what a row says at its root.
 pub(crate) fn rooted(mut table: Table<Row>, row: Row) -> Result<Table<Row>, Memory>
     ensures form { IfOk result (IsTable Refuses IsRow) }
-    ensures answers { IfOk result (λ after. SameAnswers (Answers after) (λ path question. Answers table path question ⊎ Here (RowRefuses row) path question)) }
+    ensures answers { IfOk result (λ after. SameAnswers (Answers after)
+        (λ path question. Answers table path question ⊎ Here (RowRefuses row) path question)) }
 {
     table.meet_row(row)?;
     Ok(table)
@@ -34,7 +36,8 @@ pub(crate) fn rooted(mut table: Table<Row>, row: Row) -> Result<Table<Row>, Memo
 /// What is known where these scalars stand.
 pub(crate) fn scalar_table(alloc: Global, valued: Valued) -> Result<Table<Row>, Memory>
     ensures form { IfOk result (IsTable Refuses IsRow) }
-    ensures answers { IfOk result (λ table. SameAnswers (Answers table) (Here (ScalarRefuses (pair_of valued)))) }
+    ensures answers { IfOk result (λ table. SameAnswers (Answers table)
+        (Here (ScalarRefuses (pair_of valued)))) }
 {
     rooted(Table::new(alloc), scalar_row(alloc, valued)?)
 }
@@ -63,7 +66,9 @@ pub(crate) fn struct_of(
 ) -> Result<Table<Row>, Memory>
     requires { All (λ field. tree_depth field.1 < step_limit) fields.items }
     ensures form { IfOk result (IsTable Refuses IsRow) }
-    ensures answers { IfOk result (λ table. SameAnswers (Answers table) (LiteralAnswers (λ question. StructRefuses question ⊎ LabelsRefuse labels question) fields.items)) }
+    ensures answers { IfOk result (λ table. SameAnswers (Answers table)
+        (LiteralAnswers (λ question. StructRefuses question ⊎ LabelsRefuse labels question)
+        fields.items)) }
 {
     let below = Table::of_branches(alloc, fields)?;
     rooted(below, struct_row(alloc, labels)?)
@@ -78,7 +83,8 @@ pub(crate) fn list_of(
     requires count { length elements.items ≤ length_limit }
     requires depth { All (λ element. tree_depth element.1 < step_limit) elements.items }
     ensures form { IfOk result (IsTable Refuses IsRow) }
-    ensures answers { IfOk result (λ table. SameAnswers (Answers table) (LiteralAnswers (ListRefuses (length elements.items) goes_on) elements.items)) }
+    ensures answers { IfOk result (λ table. SameAnswers (Answers table)
+        (LiteralAnswers (ListRefuses (length elements.items) goes_on) elements.items)) }
 {
     let count = elements.len();
     let below = Table::of_branches(alloc, elements)?;
@@ -88,7 +94,8 @@ pub(crate) fn list_of(
 /// A field with its mark, of what is known of its value.
 pub(crate) fn marked(alloc: Global, mut table: Table<Row>, mark: Mark) -> Result<Table<Row>, Memory>
     ensures form { IfOk result (IsTable Refuses IsRow) }
-    ensures answers { IfOk result (λ after. SameAnswers (Answers after) (λ path question. Here (MarkRefuses mark) path question ⊎ Answers table path question)) }
+    ensures answers { IfOk result (λ after. SameAnswers (Answers after)
+        (λ path question. Here (MarkRefuses mark) path question ⊎ Answers table path question)) }
 {
     let row = match table.take_row() {
         None => mark_row(alloc, mark)?,
@@ -116,7 +123,8 @@ pub(crate) fn behind(
     requires { tree_depth table + length chain.now ≤ step_limit }
     ensures form { IfOk result (IsTable Refuses IsRow) }
     ensures depth { IfOk result (λ after. tree_depth after ≤ tree_depth table + length chain.now) }
-    ensures answers { IfOk result (λ after. (c : Core) → HasAnswersOf c table → HasAnswersOf (nested chain.now c) after) }
+    ensures answers { IfOk result (λ after. (c : Core) → HasAnswersOf c table →
+        HasAnswersOf (nested chain.now c) after) }
 {
     match chain {
         [] => Ok(table),

@@ -18,7 +18,8 @@ use std::alloc::Global;
 /// those that it declares, or all where it has `...`.
 pub(crate) fn labels_of(alloc: Global, declarations: &[Declaration]) -> Result<Labels, Memory>
     ensures { IfOk result (λ labels. (ds : List Definition) (meaning : ℕ → Core) (l : List ℕ) →
-        RefusesLabel labels l ↔ LeaveOut (meant_members ds meaning (entries declarations.now) ∷ []) l) }
+        RefusesLabel labels l ↔ LeaveOut (meant_members ds meaning (entries declarations.now) ∷ [])
+        l) }
 {
     if has_ellipsis(declarations) {
         return Labels::all(alloc);
@@ -32,7 +33,8 @@ pub(crate) fn labels_of(alloc: Global, declarations: &[Declaration]) -> Result<L
 
 /// Whether there is a `...` among the declarations.
 pub(crate) fn has_ellipsis(declarations: &[Declaration]) -> bool
-    ensures { (ds : List Definition) (meaning : ℕ → Core) → result ≡ has_dots (meant_members ds meaning (entries declarations.now)) }
+    ensures { (ds : List Definition) (meaning : ℕ → Core) →
+        result ≡ has_dots (meant_members ds meaning (entries declarations.now)) }
 {
     for declaration in declarations {
         match declaration {
@@ -65,7 +67,8 @@ pub(crate) fn declared(alloc: Global, declarations: &[Declaration]) -> Result<Te
 /// The label that a declaration has.
 fn declared_by(alloc: Global, declaration: &Declaration) -> Result<TextSet, Memory>
     ensures { IfOk result (λ set. (ds : List Definition) (meaning : ℕ → Core) (l : List ℕ) →
-        is_text_member set l ≡ declares l (meant_members ds meaning (entry (entry_tree declaration.now) no_entries))) }
+        is_text_member set l ≡ declares l (meant_members ds meaning
+        (entry (entry_tree declaration.now) no_entries))) }
 {
     match declaration {
         Declaration::Ellipsis => TextSet::none(alloc),

@@ -1,9 +1,15 @@
 //! What the definitions promise of unification, of closing and of scalar expressions.
 
-ghost use Rattle.cue_eval.specs.Laws.{UsesAreClosedBodies, IsUnification, IsMonotone, IsSplitAnywhere, IsClosedOnce, IsClosedForGood, IsClosedByParts, IsItsPair};
+ghost use Rattle.cue_eval.specs.Laws.{UsesAreClosedBodies, IsUnification, IsMonotone};
+ghost use Rattle.cue_eval.specs.Laws.{IsSplitAnywhere, IsClosedOnce, IsClosedForGood};
+ghost use Rattle.cue_eval.specs.Laws.{IsClosedByParts, IsItsPair};
 ghost use Rattle.cue_eval.specs.Closing.{AreOwnOrUsed, UsedAreClosed, IsClosedByOwn};
-ghost use Rattle.cue_eval.specs.Origins.{ComesFromSources, PlacesAreOfKinds, LabelsAreOfStructs, LengthsAreOfLists, FieldsAreOfStructs, ElementsAreOfLists, LevelsAreOfFields, PathsAreWithinDepth, UsualIsWithin};
-ghost use Rattle.cue_eval.specs.Validity.{PathsAreWritten, UnwrittenLabelsAreAlike, UnwrittenTextsAreAlike, LengthsAreWithinSize, TextsAreValid, TextsWriteWords};
+ghost use Rattle.cue_eval.specs.Origins.{ComesFromSources, PlacesAreOfKinds, LabelsAreOfStructs};
+ghost use Rattle.cue_eval.specs.Origins.{LengthsAreOfLists, FieldsAreOfStructs, ElementsAreOfLists};
+ghost use Rattle.cue_eval.specs.Origins.{LevelsAreOfFields, PathsAreWithinDepth, UsualIsWithin};
+ghost use Rattle.cue_eval.specs.Validity.{PathsAreWritten, UnwrittenLabelsAreAlike};
+ghost use Rattle.cue_eval.specs.Validity.{UnwrittenTextsAreAlike, LengthsAreWithinSize};
+ghost use Rattle.cue_eval.specs.Validity.{TextsAreValid, TextsWriteWords};
 
 /// A use of a definition means its body, closed. `a & b` refuses exactly what one of both refuses, so that
 /// declarations may stand in one struct or in several. Closing parts one by one is at least as narrow as closing them

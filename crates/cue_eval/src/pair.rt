@@ -4,7 +4,8 @@ ghost use Rattle.cue_scalars.specs.Pairs as joining;
 ghost use Rattle.cue_scalars.specs.Values.{pair_of};
 ghost use Rattle.cue_syntax.specs.Syntax as tree;
 ghost use Rattle.cue_scope.specs.Meaning.{meant_word};
-ghost use Rattle.cue_eval.specs.Known.{named_core, core_of, parts_of, choices_of, IsPairable, ArePairable, ArePairableTerms, IsPairableName};
+ghost use Rattle.cue_eval.specs.Known.{named_core, core_of, parts_of, choices_of, IsPairable};
+ghost use Rattle.cue_eval.specs.Known.{ArePairable, ArePairableTerms, IsPairableName};
 ghost use Rattle.cue_eval.specs.Pairs.{pair, pairs_of, terms_of};
 
 use crate::scalars::{
@@ -31,7 +32,8 @@ impl<'a, 'f, 't> Pairs<'a, 'f, 't> {
     #[cycle(pair)]
     pub(crate) fn pair(&self, expression: &Expr) -> Result<Valued, Memory>
         requires { IsPairable self.now (tree.expression expression.now) }
-        ensures { IfOk result (λ valued. pair_of valued ≡ pair (core_of self.now (tree.expression expression.now))) }
+        ensures { IfOk result (λ valued. pair_of valued
+            ≡ pair (core_of self.now (tree.expression expression.now))) }
     {
         match expression {
             Expr::Name { name, .. } => self.name(name),
@@ -59,7 +61,8 @@ impl<'a, 'f, 't> Pairs<'a, 'f, 't> {
     fn conjunction(&self, parts: &[Expr]) -> Result<Valued, Memory>
         requires some { 0 < length parts.now }
         requires parts { ArePairable self.now (tree.elements parts.now) }
-        ensures { IfOk result (λ valued. pair_of valued ≡ joining.all_of (pairs_of (parts_of self.now (tree.elements parts.now)))) }
+        ensures { IfOk result (λ valued. pair_of valued
+            ≡ joining.all_of (pairs_of (parts_of self.now (tree.elements parts.now)))) }
     {
         let mut pairs = Vec::new(self.alloc);
         for part in parts {
@@ -73,7 +76,8 @@ impl<'a, 'f, 't> Pairs<'a, 'f, 't> {
     #[cycle(pair)]
     fn disjunction(&self, terms: &[Term]) -> Result<Valued, Memory>
         requires { ArePairableTerms self.now (tree.branches terms.now) }
-        ensures { IfOk result (λ valued. pair_of valued ≡ joining.disjunction (terms_of (choices_of self.now (tree.branches terms.now)))) }
+        ensures { IfOk result (λ valued. pair_of valued
+            ≡ joining.disjunction (terms_of (choices_of self.now (tree.branches terms.now)))) }
     {
         let mut pairs = Vec::new(self.alloc);
         for term in terms {
@@ -98,7 +102,8 @@ impl<'a, 'f, 't> Pairs<'a, 'f, 't> {
     /// A use of a definition.
     fn used(&self, name: &str) -> Result<Valued, Memory>
         requires { IsPairableName self.now (Identifier.Definition name.now) }
-        ensures { IfOk result (λ valued. pair_of valued ≡ pair (named_core self.now (Identifier.Definition name.now))) }
+        ensures { IfOk result (λ valued. pair_of valued
+            ≡ pair (named_core self.now (Identifier.Definition name.now))) }
     {
         match self.definitions.number(name) {
             None => nothing(self.alloc),

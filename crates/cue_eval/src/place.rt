@@ -5,7 +5,8 @@ ghost use Rattle.cue_lattice.specs.Question.{Question as Asked};
 ghost use Rattle.cue_lattice.specs.Limits.{length_limit};
 ghost use Rattle.cue_scalars.specs.Values.{pair_of};
 ghost use Rattle.cue_row.specs.Row.{RowRefuses};
-ghost use Rattle.cue_eval.specs.Places.{ScalarRefuses, StructRefuses, ListRefuses, MarkRefuses, level_of_mark};
+ghost use Rattle.cue_eval.specs.Places.{ScalarRefuses, StructRefuses, ListRefuses, MarkRefuses};
+ghost use Rattle.cue_eval.specs.Places.{level_of_mark};
 ghost use Rattle.cue_eval.specs.Gathered.{LabelsRefuse};
 
 use cue_lattice::{Memory, Narrow};
@@ -16,7 +17,8 @@ use std::alloc::Global;
 
 /// The row of a place where these scalars stand.
 pub(crate) fn scalar_row(alloc: Global, valued: Valued) -> Result<Row, Memory>
-    ensures { IfOk result (λ row. (question : Asked) → RowRefuses row question ↔ ScalarRefuses (pair_of valued) question) }
+    ensures { IfOk result (λ row. (question : Asked) →
+        RowRefuses row question ↔ ScalarRefuses (pair_of valued) question) }
 {
     let (value, usual) = valued.settle(alloc)?;
     Ok(Row {
@@ -33,7 +35,8 @@ pub(crate) fn scalar_row(alloc: Global, valued: Valued) -> Result<Row, Memory>
 
 /// The row of a place where a struct stands that has these labels alone.
 pub(crate) fn struct_row(alloc: Global, labels: Labels) -> Result<Row, Memory>
-    ensures { IfOk result (λ row. (question : Asked) → RowRefuses row question ↔ (StructRefuses question ⊎ LabelsRefuse labels question)) }
+    ensures { IfOk result (λ row. (question : Asked) →
+        RowRefuses row question ↔ (StructRefuses question ⊎ LabelsRefuse labels question)) }
 {
     Ok(Row {
         level: Level::Optional,
@@ -50,7 +53,8 @@ pub(crate) fn struct_row(alloc: Global, labels: Labels) -> Result<Row, Memory>
 /// The row of a place where a list of so many elements stands, and whether it ends in `...`.
 pub(crate) fn list_row(alloc: Global, count: usize, goes_on: bool) -> Result<Row, Memory>
     requires { count ≤ length_limit }
-    ensures { IfOk result (λ row. (question : Asked) → RowRefuses row question ↔ ListRefuses count goes_on question) }
+    ensures { IfOk result (λ row. (question : Asked) →
+        RowRefuses row question ↔ ListRefuses count goes_on question) }
 {
     let count = count as u32;
     Ok(Row {
@@ -67,7 +71,8 @@ pub(crate) fn list_row(alloc: Global, count: usize, goes_on: bool) -> Result<Row
 
 /// The row that a field's mark alone makes.
 pub(crate) fn mark_row(alloc: Global, mark: Mark) -> Result<Row, Memory>
-    ensures { IfOk result (λ row. (question : Asked) → RowRefuses row question ↔ MarkRefuses mark question) }
+    ensures { IfOk result (λ row. (question : Asked) →
+        RowRefuses row question ↔ MarkRefuses mark question) }
 {
     Ok(Row {
         level: level_of(mark),
@@ -83,7 +88,8 @@ pub(crate) fn mark_row(alloc: Global, mark: Mark) -> Result<Row, Memory>
 
 /// The row of a field with this mark, where its value has this row.
 pub(crate) fn raised(row: Row, mark: Mark) -> Row
-    ensures { (question : Asked) → RowRefuses result question ↔ (RowRefuses row question ⊎ MarkRefuses mark question) }
+    ensures { (question : Asked) → RowRefuses result question
+        ↔ (RowRefuses row question ⊎ MarkRefuses mark question) }
 {
     let level = row.level.greater(level_of(mark));
     Row { level, ..row }

@@ -11,7 +11,9 @@ ghost use Rattle.cue_table.specs.Form.{IsTable};
 ghost use Rattle.cue_eval.specs.Evaluated.{HasAnswersOf};
 ghost use Rattle.cue_eval.specs.Known.{core_of, named_core, parts_of};
 ghost use Rattle.cue_eval.specs.Parts.{AreAdded};
-ghost use Rattle.cue_eval.specs.Ready.{all_definitions, members_of, AreKnown, IsReady, IsTableAt, AreReadyParts, AreReadyElements, AreReadyEntries, AreReadyFields, IsField, AreGiven, AtLabels, IsScalarLeaf};
+ghost use Rattle.cue_eval.specs.Ready.{all_definitions, members_of, AreKnown, IsReady, IsTableAt};
+ghost use Rattle.cue_eval.specs.Ready.{AreReadyParts, AreReadyElements, AreReadyEntries};
+ghost use Rattle.cue_eval.specs.Ready.{AreReadyFields, IsField, AreGiven, AtLabels, IsScalarLeaf};
 
 use crate::hanging::{behind, list_of, marked, push_scalars, scalar_table, step_to, struct_of};
 use crate::labels::labels_of;
@@ -38,7 +40,8 @@ impl<'a, 'f, 't> Tables<'a, 'f, 't> {
     pub(crate) fn rows(&self, expression: &Expr) -> Result<Table<Row>, Memory>
         requires { IsReady self.now (tree.expression expression.now) }
         ensures form { IfOk result (IsTable Refuses IsRow) }
-        ensures answers { IfOk result (HasAnswersOf (core_of self.now.pairs (tree.expression expression.now))) }
+        ensures answers { IfOk result (HasAnswersOf
+            (core_of self.now.pairs (tree.expression expression.now))) }
     {
         match expression {
             Expr::Name { name, .. } => self.name(name),
@@ -66,7 +69,8 @@ impl<'a, 'f, 't> Tables<'a, 'f, 't> {
         requires ready { IsReady self.now (tree.expression expression.now) }
         requires scalar { IsScalarLeaf (tree.expression expression.now) }
         ensures form { IfOk result (IsTable Refuses IsRow) }
-        ensures answers { IfOk result (HasAnswersOf (core_of self.now.pairs (tree.expression expression.now))) }
+        ensures answers { IfOk result (HasAnswersOf
+            (core_of self.now.pairs (tree.expression expression.now))) }
     {
         let valued = self.pairs.pair(expression)?;
         scalar_table(self.pairs.alloc, valued)
@@ -91,7 +95,8 @@ impl<'a, 'f, 't> Tables<'a, 'f, 't> {
     /// A name that begins with `_`.
     fn hidden(&self, name: &str) -> Result<Table<Row>, Memory>
         ensures form { IfOk result (IsTable Refuses IsRow) }
-        ensures answers { IfOk result (HasAnswersOf (named_core self.now.pairs (Identifier.Hidden name.now))) }
+        ensures answers { IfOk result (HasAnswersOf
+            (named_core self.now.pairs (Identifier.Hidden name.now))) }
     {
         let alloc = self.pairs.alloc;
         if name == "_" {
@@ -102,9 +107,11 @@ impl<'a, 'f, 't> Tables<'a, 'f, 't> {
 
     /// A use of a definition.
     fn used(&self, name: &str) -> Result<Table<Row>, Memory>
-        requires { AreKnown self.now (uses_of_name (all_definitions self.now) (Identifier.Definition name.now)) }
+        requires { AreKnown self.now (uses_of_name (all_definitions self.now)
+            (Identifier.Definition name.now)) }
         ensures form { IfOk result (IsTable Refuses IsRow) }
-        ensures answers { IfOk result (HasAnswersOf (named_core self.now.pairs (Identifier.Definition name.now))) }
+        ensures answers { IfOk result (HasAnswersOf
+            (named_core self.now.pairs (Identifier.Definition name.now))) }
     {
         let alloc = self.pairs.alloc;
         match self.pairs.definitions.number(name) {
@@ -119,7 +126,8 @@ impl<'a, 'f, 't> Tables<'a, 'f, 't> {
     fn conjunction(&self, parts: &[Expr]) -> Result<Table<Row>, Memory>
         requires { AreReadyParts self.now (tree.elements parts.now) }
         ensures form { IfOk result (IsTable Refuses IsRow) }
-        ensures answers { IfOk result (HasAnswersOf (core.conjunction (parts_of self.now.pairs (tree.elements parts.now)))) }
+        ensures answers { IfOk result (HasAnswersOf
+            (core.conjunction (parts_of self.now.pairs (tree.elements parts.now)))) }
     {
         let mut tables = Vec::new(self.pairs.alloc);
         let mut scalars = Vec::new(self.pairs.alloc);
@@ -175,7 +183,8 @@ impl<'a, 'f, 't> Tables<'a, 'f, 't> {
     pub(crate) fn literal(&self, declarations: &[Declaration]) -> Result<Table<Row>, Memory>
         requires { AreReadyFields self.now (tree.entries declarations.now) }
         ensures form { IfOk result (IsTable Refuses IsRow) }
-        ensures answers { IfOk result (HasAnswersOf (core.struct (members_of self.now (tree.entries declarations.now)))) }
+        ensures answers { IfOk result (HasAnswersOf
+            (core.struct (members_of self.now (tree.entries declarations.now)))) }
     {
         let fields = self.fields(declarations)?;
         let labels = Labels::all(self.pairs.alloc)?;
@@ -187,7 +196,8 @@ impl<'a, 'f, 't> Tables<'a, 'f, 't> {
     fn closed_literal(&self, declarations: &[Declaration]) -> Result<Table<Row>, Memory>
         requires { AreReadyEntries self.now (tree.entries declarations.now) }
         ensures form { IfOk result (IsTable Refuses IsRow) }
-        ensures answers { IfOk result (HasAnswersOf (core.close (members_of self.now (tree.entries declarations.now)))) }
+        ensures answers { IfOk result (HasAnswersOf
+            (core.close (members_of self.now (tree.entries declarations.now)))) }
     {
         let fields = self.fields(declarations)?;
         let labels = labels_of(self.pairs.alloc, declarations)?;
@@ -198,7 +208,8 @@ impl<'a, 'f, 't> Tables<'a, 'f, 't> {
     #[cycle(rows)]
     fn fields(&self, declarations: &[Declaration]) -> Result<Vec<(Step, Table<Row>)>, Memory>
         requires { AreReadyFields self.now (tree.entries declarations.now) }
-        ensures { IfOk result (λ fields. AreGiven (AtLabels (members_of self.now (tree.entries declarations.now))) fields.items) }
+        ensures { IfOk result (λ fields. AreGiven
+            (AtLabels (members_of self.now (tree.entries declarations.now))) fields.items) }
     {
         let mut fields = Vec::new(self.pairs.alloc);
         for declaration in declarations {
@@ -227,8 +238,10 @@ impl<'a, 'f, 't> Tables<'a, 'f, 't> {
         value: &Expr,
     ) -> Result<(Step, Table<Row>), Memory>
         requires ready { IsReady self.now (tree.expression value.now) }
-        requires depth { limits.depth (nested chain.now (core_of self.now.pairs (tree.expression value.now))) < step_limit }
-        ensures { IfOk result (IsField label.now (nested chain.now (core_of self.now.pairs (tree.expression value.now)))) }
+        requires depth { limits.depth (nested chain.now
+            (core_of self.now.pairs (tree.expression value.now))) < step_limit }
+        ensures { IfOk result (IsField label.now
+            (nested chain.now (core_of self.now.pairs (tree.expression value.now)))) }
     {
         let step = step_to(self.pairs.alloc, label)?;
         let inner = self.rows(value)?;
@@ -241,7 +254,8 @@ impl<'a, 'f, 't> Tables<'a, 'f, 't> {
     fn list(&self, elements: &[Expr], goes_on: bool) -> Result<Table<Row>, Memory>
         requires { AreReadyElements self.now (tree.elements elements.now) }
         ensures form { IfOk result (IsTable Refuses IsRow) }
-        ensures answers { IfOk result (HasAnswersOf (core.list (parts_of self.now.pairs (tree.elements elements.now)) goes_on)) }
+        ensures answers { IfOk result (HasAnswersOf
+            (core.list (parts_of self.now.pairs (tree.elements elements.now)) goes_on)) }
     {
         let mut steps = Vec::new(self.pairs.alloc);
         for element in elements {

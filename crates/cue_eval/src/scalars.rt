@@ -1,5 +1,6 @@
 //! The scalars and sets of scalars that a text writes by themselves, without a default.
-ghost use Rattle.std.specs.Prelude.{◌≡◌, ◌≤◌, ◌&&◌, Bool, false, true, List, ℕ, ℤ, pos, neg_ℤ, IfOk};
+ghost use Rattle.std.specs.Prelude.{◌≡◌, ◌≤◌, ◌&&◌, Bool, false, true, List, ℕ, ℤ, pos, neg_ℤ};
+ghost use Rattle.std.specs.Prelude.{IfOk};
 ghost use Rattle.cue_sets.specs.Pieces.{is_member, is_int64};
 ghost use Rattle.cue_sets.specs.Texts.{is_text_member};
 ghost use Rattle.cue_scalars.specs.Values.{pair_of};
@@ -161,7 +162,9 @@ fn between(alloc: Global, low: i64, high: i64) -> Result<Valued, Memory>
 
 /// The members of a set of integers.
 fn of_integers(alloc: Global, ints: IntSet) -> Result<Valued, Memory>
-    ensures { IfOk result (λ valued. (test : ℤ → Bool) → ((n : ℤ) → is_member ints n ≡ (is_int64 n && test n)) → pair_of valued ≡ plain (sets.integers test)) }
+    ensures { IfOk result (λ valued. (test : ℤ → Bool) →
+        ((n : ℤ) → is_member ints n ≡ (is_int64 n && test n)) →
+        pair_of valued ≡ plain (sets.integers test)) }
 {
     Ok(Valued {
         value: ScalarSet {
@@ -177,7 +180,9 @@ fn of_integers(alloc: Global, ints: IntSet) -> Result<Valued, Memory>
 
 /// The members of a set of texts.
 fn of_texts(alloc: Global, texts: TextSet) -> Result<Valued, Memory>
-    ensures { IfOk result (λ valued. (test : List ℕ → Bool) → ((t : List ℕ) → is_text_member texts t ≡ test t) → pair_of valued ≡ plain (sets.texts test)) }
+    ensures { IfOk result (λ valued. (test : List ℕ → Bool) →
+        ((t : List ℕ) → is_text_member texts t ≡ test t) →
+        pair_of valued ≡ plain (sets.texts test)) }
 {
     Ok(Valued {
         value: ScalarSet {
@@ -193,7 +198,8 @@ fn of_texts(alloc: Global, texts: TextSet) -> Result<Valued, Memory>
 
 /// False and true, each where it is a member.
 fn of_truths(alloc: Global, no: bool, yes: bool) -> Result<Valued, Memory>
-    ensures { IfOk result (λ valued. (test : Bool → Bool) → no ≡ test false → yes ≡ test true → pair_of valued ≡ plain (sets.truths test)) }
+    ensures { IfOk result (λ valued. (test : Bool → Bool) → no ≡ test false → yes ≡ test true →
+        pair_of valued ≡ plain (sets.truths test)) }
 {
     Ok(Valued {
         value: ScalarSet {

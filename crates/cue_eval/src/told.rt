@@ -11,7 +11,9 @@ ghost use Rattle.cue_scope.specs.Meaning.{meaning, meant_name, meant_members, ne
 ghost use Rattle.cue_scope.specs.Uses.{uses_of_name};
 ghost use Rattle.cue_table.specs.Depth.{tree_depth};
 ghost use Rattle.cue_eval.specs.Telling.{Tells, tells};
-ghost use Rattle.cue_eval.specs.Told.{IsTold, IsToldBelow, IsKnown, ArePartsKnown, AreElementsKnown, AreMembersKnown, IsNameKnown, IsRooted, means, mean_elements, mean_members};
+ghost use Rattle.cue_eval.specs.Told.{IsTold, IsToldBelow, IsKnown, ArePartsKnown};
+ghost use Rattle.cue_eval.specs.Told.{AreElementsKnown, AreMembersKnown, IsNameKnown, IsRooted};
+ghost use Rattle.cue_eval.specs.Told.{means, mean_elements, mean_members};
 ghost use Rattle.cue_eval.specs.declared.told.Whose.TheVariants as whoses;
 
 use crate::declared::{Asked, Declared};
@@ -73,7 +75,8 @@ impl<'a, 'f, 't> Sight<'a, 'f, 't> {
     #[cycle(told)]
     fn parts(&self, whose: Whose, parts: &[Expr]) -> Result<Table<Declared>, Memory>
         requires { ArePartsKnown self.now (tree.elements parts.now) }
-        ensures { IfOk result (IsTold whose (conjunction (mean_elements self.now (tree.elements parts.now)))) }
+        ensures { IfOk result
+            (IsTold whose (conjunction (mean_elements self.now (tree.elements parts.now)))) }
     {
         let mut tables = Vec::new(self.alloc);
         for part in parts {
@@ -86,7 +89,9 @@ impl<'a, 'f, 't> Sight<'a, 'f, 't> {
     #[cycle(told)]
     fn elements(&self, whose: Whose, elements: &[Expr]) -> Result<Table<Declared>, Memory>
         requires { AreElementsKnown self.now (tree.elements elements.now) }
-        ensures { IfOk result (λ table. (goes_on : Bool) → IsTold whose (list (mean_elements self.now (tree.elements elements.now)) goes_on) table) }
+        ensures { IfOk result (λ table. (goes_on : Bool) →
+            IsTold whose (list (mean_elements self.now (tree.elements elements.now)) goes_on)
+            table) }
     {
         let mut branches = Vec::new(self.alloc);
         let mut index: u32 = 0;
@@ -101,7 +106,8 @@ impl<'a, 'f, 't> Sight<'a, 'f, 't> {
     #[cycle(told)]
     fn literal(&self, whose: Whose, declarations: &[Declaration]) -> Result<Table<Declared>, Memory>
         requires { AreMembersKnown self.now (tree.entries declarations.now) }
-        ensures { IfOk result (IsTold whose (struct (mean_members self.now (tree.entries declarations.now)))) }
+        ensures { IfOk result
+            (IsTold whose (struct (mean_members self.now (tree.entries declarations.now)))) }
     {
         let table = self.fields(whose, declarations)?;
         match whose {
@@ -114,7 +120,8 @@ impl<'a, 'f, 't> Sight<'a, 'f, 't> {
     #[cycle(told)]
     fn fields(&self, whose: Whose, declarations: &[Declaration]) -> Result<Table<Declared>, Memory>
         requires { AreMembersKnown self.now (tree.entries declarations.now) }
-        ensures { IfOk result (IsToldBelow whose (mean_members self.now (tree.entries declarations.now))) }
+        ensures { IfOk result (IsToldBelow whose
+            (mean_members self.now (tree.entries declarations.now))) }
     {
         let mut branches = Vec::new(self.alloc);
         for declaration in declarations {
@@ -138,7 +145,9 @@ impl<'a, 'f, 't> Sight<'a, 'f, 't> {
     /// A name.
     fn name(&self, whose: Whose, name: &Identifier) -> Result<Table<Declared>, Memory>
         requires { IsNameKnown self.now name.now }
-        ensures { IfOk result (IsTold whose (meant_name (all_of self.now.definitions.now) (meaning (all_of self.now.definitions.now)) name.now)) }
+        ensures { IfOk result
+            (IsTold whose (meant_name (all_of self.now.definitions.now)
+            (meaning (all_of self.now.definitions.now)) name.now)) }
     {
         match name {
             Identifier::Plain(_) => Ok(Table::new(self.alloc)),
@@ -153,7 +162,9 @@ impl<'a, 'f, 't> Sight<'a, 'f, 't> {
     /// A use of a definition.
     fn used(&self, name: &str) -> Result<Table<Declared>, Memory>
         requires { IsNameKnown self.now (Identifier.Definition name.now) }
-        ensures { IfOk result (IsTold whoses.Used (meant_name (all_of self.now.definitions.now) (meaning (all_of self.now.definitions.now)) (Identifier.Definition name.now))) }
+        ensures { IfOk result (IsTold whoses.Used
+            (meant_name (all_of self.now.definitions.now)
+            (meaning (all_of self.now.definitions.now)) (Identifier.Definition name.now))) }
     {
         match self.definitions.number(name) {
             None => Ok(Table::new(self.alloc)),
@@ -176,7 +187,8 @@ pub(crate) fn behind(
     table: Table<Declared>,
 ) -> Result<Table<Declared>, Memory>
     requires { length chain.now + tree_depth table ≤ step_limit }
-    ensures told { IfOk result (λ all. (c : Core) → IsTold whose c table → IsTold whose (nested chain.now c) all) }
+    ensures told { IfOk result (λ all. (c : Core) → IsTold whose c table →
+        IsTold whose (nested chain.now c) all) }
     ensures depth { IfOk result (λ all. tree_depth all ≤ length chain.now + tree_depth table) }
 {
     match chain.split_first() {
@@ -196,7 +208,8 @@ fn one_field(
     below: Table<Declared>,
 ) -> Result<Table<Declared>, Memory>
     requires { tree_depth below < step_limit }
-    ensures told { IfOk result (λ all. (c : Core) → IsTold whose c below → IsTold whose (struct (member (text_of label.now.name) label.now.mark c no_members)) all) }
+    ensures told { IfOk result (λ all. (c : Core) → IsTold whose c below →
+        IsTold whose (struct (member (text_of label.now.name) label.now.mark c no_members)) all) }
     ensures depth { IfOk result (λ all. tree_depth all ≤ tree_depth below + 1) }
 {
     let mut branches = Vec::with_capacity(alloc, 1)?;
@@ -225,7 +238,9 @@ fn at_root(alloc: Global, table: Table<Declared>, row: &Declared) -> Result<Tabl
 
 /// What a struct literal declares.
 fn declared(alloc: Global, declarations: &[Declaration]) -> Result<Declared, Memory>
-    ensures { IfOk result (λ known. (ds : List DefinitionOf) (meaning : ℕ → Core) (asked : Asked) → Tells known asked ↔ (tells asked (meant_members ds meaning (tree.entries declarations.now)) ≡ true)) }
+    ensures { IfOk result (λ known. (ds : List DefinitionOf) (meaning : ℕ → Core) (asked : Asked) →
+        Tells known asked ↔ (tells asked (meant_members ds meaning (tree.entries declarations.now))
+        ≡ true)) }
 {
     let mut sets = Vec::new(alloc);
     for declaration in declarations {

@@ -4,10 +4,13 @@ ghost use Rattle.std.specs.Option.{option_map};
 ghost use Rattle.cue_table.specs.Tree.{below, row_of};
 ghost use Rattle.cue_row.specs.Quoted.{quoted};
 ghost use Rattle.cue_print.specs.Expressions.{top, all, no_parts};
-ghost use Rattle.cue_print.specs.Spelled.{joined, mark_text, value_text, field_texts, element_texts};
-ghost use Rattle.cue_print.specs.Printed.{struct_part, list_part, nothing_value, elements, inside, has_field, level_at};
+ghost use Rattle.cue_print.specs.Spelled.{joined, mark_text, value_text, field_texts};
+ghost use Rattle.cue_print.specs.Spelled.{element_texts};
+ghost use Rattle.cue_print.specs.Printed.{struct_part, list_part, nothing_value, elements, inside};
+ghost use Rattle.cue_print.specs.Printed.{has_field, level_at};
 ghost use Rattle.cue_print.specs.Printed.{value_of, fields_below, element_below};
-ghost use Rattle.cue_print.specs.Writing.{beside_text, struct_before, opening, goes_on, ellipsis_text, longest_text, list_before};
+ghost use Rattle.cue_print.specs.Writing.{beside_text, struct_before, opening, goes_on};
+ghost use Rattle.cue_print.specs.Writing.{ellipsis_text, longest_text, list_before};
 
 use crate::scalar::push_scalar;
 use crate::writer::separate;

@@ -1,5 +1,6 @@
 ghost use Rattle.std.specs.Prelude.{◌≡◌, ◌<◌, length, IfOk, IfErr};
-ghost use Rattle.cue_program.specs.Runs.{HoldsAll, HoldsSomeFiles, IsReplyFor, IsMergeOf, IsStopFor};
+ghost use Rattle.cue_program.specs.Runs.{HoldsAll, HoldsSomeFiles, IsReplyFor, IsMergeOf};
+ghost use Rattle.cue_program.specs.Runs.{IsStopFor};
 ghost use Rattle.cue_program.specs.Runs.{IsFilesStop};
 ghost use Rattle.cue_program.specs.Stops.{IsReadFault};
 
@@ -45,7 +46,8 @@ pub fn merge_into<H: AllocGlobal + Files, R: Read>(
     files: &[&str],
     input: &mut R,
 ) -> Result<Reply, Stop>
-    ensures reply { IfOk result (IsMergeOf H.File.contents (length files.now) (R.remaining input.old)) }
+    ensures reply { IfOk result (IsMergeOf H.File.contents (length files.now)
+        (R.remaining input.old)) }
     ensures stop { IfErr result (IsStopFor (length files.now) (R.remaining input.old)) }
 {
     let state = reply_for(rt, Question::State, files, input)?;

@@ -25,7 +25,8 @@ use std::alloc::Global;
 /// first check of names, definitions and limits that the text fails. And `Memory`.
 pub fn read(alloc: Global, text: &str) -> Result<Table<Row>, Refusal>
     ensures legal { OnOk result (IsLegal text.now) }
-    ensures answers { IfOk result (λ table. SameAnswers (TableRefuses RowRefuses table) (text_refuses text.now)) }
+    ensures answers { IfOk result (λ table. SameAnswers (TableRefuses RowRefuses table)
+        (text_refuses text.now)) }
     ensures valid { IfOk result IsValidTable }
     ensures refused { IfErr result (λ why. (why ≡ memory) ⊎ IsTextFault text.now why) }
     ensures long { text_limit < length text.now → IsErrOf result too_long }

@@ -53,7 +53,8 @@ impl<'a> Search<'a> {
     fn visit(&mut self, branch: &Branch<'a, Row>, not_allowed: bool) -> Result<(), Memory>
         ensures steps { OnOk result (self.new.steps.items ≡ self.old.steps.items) }
         ensures found { OnOk result (self.new.found.items
-            ≡ self.old.found.items ++ map (under (trail self.old)) (conflicts_in not_allowed branch.now)) }
+            ≡ self.old.found.items ++ map (under (trail self.old))
+            (conflicts_in not_allowed branch.now)) }
     {
         let row = branch.row();
         self.look_at(row, not_allowed)?;
@@ -72,7 +73,8 @@ impl<'a> Search<'a> {
         requires { IfSome row (λ row. IsRow row.now) }
         ensures steps { OnOk result (self.new.steps.items ≡ self.old.steps.items) }
         ensures found { OnOk result (self.new.found.items ≡ self.old.found.items
-            ++ map (under (trail self.old)) (conflict_here (has_no_value (option_map (λ row. row.now) row.entry)) not_allowed)) }
+            ++ map (under (trail self.old)) (conflict_here
+            (has_no_value (option_map (λ row. row.now) row.entry)) not_allowed)) }
     {
         let no_value = match row {
             None => false,

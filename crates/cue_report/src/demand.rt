@@ -23,7 +23,8 @@ pub(crate) fn lacks_value(row: &Row) -> bool
 /// Whether the step from one place to the next is demanded: to a field that is required or there, or to an element
 /// that each list has.
 pub(crate) fn is_demanded(above: Option<&Row>, step: &Step, row: Option<&Row>) -> bool
-    ensures { result ≡ search.is_demanded (option_map (λ row. row.now) above.entry) (step_of step.now)
+    ensures { result ≡ search.is_demanded (option_map (λ row. row.now) above.entry)
+        (step_of step.now)
         (option_map (λ row. row.now) row.entry) }
 {
     match step {
@@ -43,7 +44,8 @@ pub(crate) fn is_demanded(above: Option<&Row>, step: &Step, row: Option<&Row>) -
 
 /// Whether a place does not allow the label of a step.
 pub(crate) fn is_refused(above: Option<&Row>, step: &Step) -> bool
-    ensures { result ≡ search.is_refused (option_map (λ row. row.now) above.entry) (step_of step.now) }
+    ensures { result ≡ search.is_refused (option_map (λ row. row.now) above.entry)
+        (step_of step.now) }
 {
     match (above, step) {
         (Some(row), Step::Label(label)) => !row.labels.allows(label.as_str()),

@@ -52,7 +52,8 @@ impl Place {
 
 /// Copies of the steps.
 pub(crate) fn copied(alloc: Global, steps: &[&Step]) -> Result<Vec<Step>, Memory>
-    ensures { IfOk result (λ copies. map step_of copies.items ≡ map (λ step. step_of step.now) steps.now) }
+    ensures { IfOk result (λ copies. map step_of copies.items
+        ≡ map (λ step. step_of step.now) steps.now) }
 {
     let mut copies = Vec::with_capacity(alloc, steps.len())?;
     for step in steps {

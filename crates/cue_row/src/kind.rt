@@ -62,7 +62,8 @@ impl Row {
     /// memory only for a text.
     pub fn chosen(&self, alloc: Global) -> Result<Option<Scalar>, Memory>
         ensures some { IfOk result (λ found. IfSome found (IsChosen self.now)) }
-        ensures none { IfOk result (λ found. IfNone found ((scalar : Scalars) → ¬ IsChosen self.now scalar)) }
+        ensures none { IfOk result (λ found. IfNone found
+            ((scalar : Scalars) → ¬ IsChosen self.now scalar)) }
     {
         if self.usual.is_empty() {
             return self.value.single(alloc);

@@ -43,7 +43,8 @@ pub fn push_steps(out: &mut String, steps: &[Step]) -> Result<(), Memory>
 
 /// Writes a dot and the step, for each step.
 fn push_rest(out: &mut String, steps: &[Step]) -> Result<(), Memory>
-    ensures { OnOk result (string_bytes out.new ≡ string_bytes out.old ++ flat_map dotted steps.now) }
+    ensures { OnOk result (string_bytes out.new
+        ≡ string_bytes out.old ++ flat_map dotted steps.now) }
 {
     for step in steps {
         out.push('.')?;
@@ -54,7 +55,8 @@ fn push_rest(out: &mut String, steps: &[Step]) -> Result<(), Memory>
 
 /// Writes one step.
 fn push_step(out: &mut String, step: &Step) -> Result<(), Memory>
-    ensures { OnOk result (string_bytes out.new ≡ string_bytes out.old ++ step_text (step_of step.now)) }
+    ensures { OnOk result (string_bytes out.new
+        ≡ string_bytes out.old ++ step_text (step_of step.now)) }
 {
     match step {
         Step::Label(label) => {

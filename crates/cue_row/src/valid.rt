@@ -3,7 +3,8 @@ ghost use Rattle.cue_lattice.specs.Limits.{length_limit};
 ghost use Rattle.cue_row.specs.Row.{IsMetRow, IsRow};
 ghost use Rattle.cue_row.specs.Steps.{step_of};
 ghost use Rattle.cue_row.specs.declared.row.Row.{Row as RowValue};
-ghost use Rattle.cue_row.specs.ValidRow.{IsValidRow, UsualFits, LabelsFit, LengthsFit, AreLengths, IsWord, AreWords, HasWords, IsWordStep};
+ghost use Rattle.cue_row.specs.ValidRow.{IsValidRow, UsualFits, LabelsFit, LengthsFit, AreLengths};
+ghost use Rattle.cue_row.specs.ValidRow.{IsWord, AreWords, HasWords, IsWordStep};
 
 use crate::{Row, RowKind, Step};
 use cue_lattice::{LENGTH_LIMIT, Narrow, Text, WORD_LIMIT};

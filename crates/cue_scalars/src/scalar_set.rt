@@ -1,8 +1,10 @@
-ghost use Rattle.std.specs.Prelude.{◌≡◌, ◌↔◌, ◌<◌, [], true, false, not, ◌&&◌, ◌||◌, IfOk, IfSome, IfNone, IsTrue, Ok, Some, None};
+ghost use Rattle.std.specs.Prelude.{◌≡◌, ◌↔◌, ◌<◌, [], true, false, not, ◌&&◌, ◌||◌, IfOk, IfSome};
+ghost use Rattle.std.specs.Prelude.{IfNone, IsTrue, Ok, Some, None};
 ghost use Rattle.std.specs.Result.{IsOk, IsOkAnd};
 ghost use Rattle.cue_lattice.specs.declared.scalar.Scalar.{Scalar};
 ghost use Rattle.cue_lattice.specs.declared.scalar.Scalar.TheVariants as scalars;
-ghost use Rattle.cue_scalars.specs.Scalars.{members, kind, only_of, IsOnlyScalar, IsFirstScalar, IsWithin};
+ghost use Rattle.cue_scalars.specs.Scalars.{members, kind, only_of, IsOnlyScalar, IsFirstScalar};
+ghost use Rattle.cue_scalars.specs.Scalars.{IsWithin};
 
 use cue_lattice::{Memory, Narrow, Narrowed, Scalar, Text};
 use cue_sets::{IntSet, TextSet};
@@ -135,7 +137,8 @@ impl ScalarSet {
     pub fn single(&self, alloc: Global) -> Result<Option<Scalar>, Memory>
         ensures given { self.now.texts ≡ (false, []) → IsOk result }
         ensures some { IfOk result (λ found. IfSome found (IsOnlyScalar self.now)) }
-        ensures none { IfOk result (λ found. IfNone found ((scalar : Scalar) → ¬ IsOnlyScalar self.now scalar)) }
+        ensures none { IfOk result (λ found. IfNone found
+            ((scalar : Scalar) → ¬ IsOnlyScalar self.now scalar)) }
     {
         self.ints.known();
         if !self.texts.is_empty() {
@@ -165,9 +168,11 @@ impl ScalarSet {
     /// The first member, where there is one: in the order null, false, true, integers upwards, texts by their bytes. This
     /// takes memory only where all members are texts.
     pub fn first(&self, alloc: Global) -> Result<Option<Scalar>, Memory>
-        ensures given { (scalar : Scalar) → members self.now scalar ≡ true → kind scalar < 4 → IsOk result }
+        ensures given { (scalar : Scalar) → members self.now scalar ≡ true → kind scalar < 4 →
+            IsOk result }
         ensures some { IfOk result (λ found. IfSome found (IsFirstScalar self.now)) }
-        ensures none { IfOk result (λ found. IfNone found ((scalar : Scalar) → members self.now scalar ≡ false)) }
+        ensures none { IfOk result (λ found. IfNone found
+            ((scalar : Scalar) → members self.now scalar ≡ false)) }
     {
         if self.null {
             return Ok(Some(Scalar::Null));

@@ -1,4 +1,5 @@
-ghost use Rattle.std.specs.Prelude.{◌≡◌, ◌<◌, ◌≤◌, Bool, [], drop, length, map, take, IfOk, OnOk, IsSome, is_some, unwrap_or};
+ghost use Rattle.std.specs.Prelude.{◌≡◌, ◌<◌, ◌≤◌, Bool, [], drop, length, map, take, IfOk, OnOk};
+ghost use Rattle.std.specs.Prelude.{IsSome, is_some, unwrap_or};
 ghost use Rattle.std.specs.List.{list_any};
 ghost use Rattle.std.specs.Option.{ForSome};
 ghost use Rattle.std.specs.Result.{IsOk};
@@ -108,8 +109,10 @@ impl Valued {
     ) -> Result<Valued, Memory>
         requires some { 0 < count }
         requires there { count ≤ length (into_iter_items rest.old) }
-        ensures met { IfOk result (λ met. pair_of met ≡ all_of (map pair_of (take count (into_iter_items rest.old)))) }
-        ensures rest { OnOk result (into_iter_items rest.new ≡ drop count (into_iter_items rest.old)) }
+        ensures met { IfOk result (λ met. pair_of met
+            ≡ all_of (map pair_of (take count (into_iter_items rest.old)))) }
+        ensures rest { OnOk result (into_iter_items rest.new
+            ≡ drop count (into_iter_items rest.old)) }
     {
         if count == 1 {
             return match rest.next() {
@@ -132,7 +135,8 @@ impl Valued {
     ) -> Result<Valued, Memory>
         ensures joined { IfOk result (λ all. pair_of all
             ≡ sum_of any_marked (terms_of (take count (into_iter_items rest.old)))) }
-        ensures rest { OnOk result (into_iter_items rest.new ≡ drop count (into_iter_items rest.old)) }
+        ensures rest { OnOk result (into_iter_items rest.new
+            ≡ drop count (into_iter_items rest.old)) }
     {
         if count == 0 {
             return Valued::nothing(alloc);

@@ -73,7 +73,8 @@ impl Components {
 
     /// Whether no node points to a component of a greater number.
     pub fn falls(&self, graph: &[Vec<usize>]) -> bool
-        ensures { OnTrue result ((i j : ℕ) → PointsTo (graph_of graph.now) i j → slice_index self.now.numbers.items j ≤ slice_index self.now.numbers.items i) }
+        ensures { OnTrue result ((i j : ℕ) → PointsTo (graph_of graph.now) i j →
+            slice_index self.now.numbers.items j ≤ slice_index self.now.numbers.items i) }
     {
         for node in 0..graph.len() {
             for target in targets(graph, node) {
@@ -88,7 +89,8 @@ impl Components {
     /// Whether a node points to components of smaller numbers alone.
     pub fn falls_from(&self, graph: &[Vec<usize>], node: usize) -> bool
         requires { node < length graph.now }
-        ensures { OnTrue result ((j : ℕ) → PointsTo (graph_of graph.now) node j → slice_index self.now.numbers.items j < slice_index self.now.numbers.items node) }
+        ensures { OnTrue result ((j : ℕ) → PointsTo (graph_of graph.now) node j →
+            slice_index self.now.numbers.items j < slice_index self.now.numbers.items node) }
     {
         for target in targets(graph, node) {
             if at(&self.numbers, *target) >= at(&self.numbers, node) {

@@ -1,4 +1,5 @@
-ghost use Rattle.std.specs.Prelude.{◌≡◌, ◌<◌, ◌+◌, ◌-◌, ◌^◌, ◌++◌, min, ℕ, length, slice_index, IfOk, IfErr};
+ghost use Rattle.std.specs.Prelude.{◌≡◌, ◌<◌, ◌+◌, ◌-◌, ◌^◌, ◌++◌, min, ℕ, length, slice_index};
+ghost use Rattle.std.specs.Prelude.{IfOk, IfErr};
 ghost use Rattle.cue_lattice.specs.Refusal.{memory};
 ghost use Rattle.cue_scope.specs.Graph.{IsIn, IsClosed};
 ghost use Rattle.cue_scope.specs.Ordering.{graph_of};
@@ -20,7 +21,9 @@ pub fn counts_of(
     requires inside { (i : ℕ) → IsIn i from.now → i < length graph.now }
     requires nodes { (i : ℕ) → IsIn i nodes.now → i < length graph.now }
     ensures length { IfOk result (λ v. length v.items ≡ length graph.now) }
-    ensures counted { IfOk result (λ v. (i : ℕ) → i < length graph.now → slice_index v.items i ≡ min (times i (from.now ++ targets_of (graph_of graph.now) nodes.now)) (2 ^ 64 - 1)) }
+    ensures counted { IfOk result (λ v. (i : ℕ) → i < length graph.now →
+        slice_index v.items i
+        ≡ min (times i (from.now ++ targets_of (graph_of graph.now) nodes.now)) (2 ^ 64 - 1)) }
     ensures memory { IfErr result (λ r. r ≡ memory) }
 {
     let mut counts = zeros(alloc, graph.len())?;
@@ -35,7 +38,9 @@ pub fn counts_of(
 fn count(counts: &mut Vec<usize>, nodes: &[usize])
     requires { (i : ℕ) → IsIn i nodes.now → i < length counts.old.items }
     ensures length { length counts.new.items ≡ length counts.old.items }
-    ensures counted { (i : ℕ) → i < length counts.old.items → slice_index counts.new.items i ≡ min (slice_index counts.old.items i + times i nodes.now) (2 ^ 64 - 1) }
+    ensures counted { (i : ℕ) → i < length counts.old.items →
+        slice_index counts.new.items i ≡ min (slice_index counts.old.items i + times i nodes.now)
+        (2 ^ 64 - 1) }
 {
     for node in nodes {
         counts[*node] = counts[*node].saturating_add(1);

@@ -1,4 +1,5 @@
-ghost use Rattle.std.specs.Prelude.{◌≡◌, ◌⊎◌, ◌++◌, ◌∷◌, [], ℕ, List, IfOk, IfErr, OnOk, IsSome, None};
+ghost use Rattle.std.specs.Prelude.{◌≡◌, ◌⊎◌, ◌++◌, ◌∷◌, [], ℕ, List, IfOk, IfErr, OnOk, IsSome};
+ghost use Rattle.std.specs.Prelude.{None};
 ghost use Rattle.std.specs.HashMap as hash;
 ghost use Rattle.std.specs.Str.{bytes_eq};
 ghost use Rattle.std.specs.Map.{update};
@@ -30,7 +31,8 @@ pub struct Definition<'f, 't> {
 pub struct Definitions<'f, 't> {
     list: Vec<Definition<'f, 't>>,
     numbers: HashMap<&'f str, usize>,
-    ghost numbered: { (name : List ℕ) → hash.get_by (λ k. bytes_eq name k.now) numbers ≡ number_of name (listed list.items) },
+    ghost numbered: { (name : List ℕ) → hash.get_by (λ k. bytes_eq name k.now) numbers
+        ≡ number_of name (listed list.items) },
 }
 
 impl<'f, 't> Definitions<'f, 't> {
@@ -43,9 +45,11 @@ impl<'f, 't> Definitions<'f, 't> {
         alloc: Global,
         declarations: &'f [Declaration<'t>],
     ) -> Result<Definitions<'f, 't>, Refusal>
-        ensures all { IfOk result (λ r. listed r.list.items ≡ definitions (entries declarations.now)) }
+        ensures all { IfOk result (λ r. listed r.list.items
+            ≡ definitions (entries declarations.now)) }
         ensures unrepeated { OnOk result (repeats (definitions (entries declarations.now)) ≡ []) }
-        ensures refused { IfErr result (λ r. (r ≡ memory) ⊎ IsRepeat (definitions (entries declarations.now)) r) }
+        ensures refused { IfErr result (λ r. (r ≡ memory)
+            ⊎ IsRepeat (definitions (entries declarations.now)) r) }
     {
         let mut list = Vec::new(alloc);
         let mut numbers = HashMap::new(alloc);
@@ -93,11 +97,18 @@ fn add<'f, 't>(
     numbers: &mut HashMap<&'f str, usize>,
     definition: Definition<'f, 't>,
 ) -> Result<(), Refusal>
-    requires { (name : List ℕ) → hash.get_by (λ k. bytes_eq name k.now) numbers.old ≡ number_of name (listed list.old.items) }
-    ensures added { OnOk result (listed list.new.items ≡ listed list.old.items ++ definition_of definition.entry ∷ []) }
-    ensures numbered { OnOk result ((name : List ℕ) → hash.get_by (λ k. bytes_eq name k.now) numbers.new ≡ number_of name (listed list.new.items)) }
-    ensures unknown { OnOk result (number_of definition.entry.name.now (listed list.old.items) ≡ None) }
-    ensures refused { IfErr result (λ r. (r ≡ memory) ⊎ (IsSome (number_of definition.entry.name.now (listed list.old.items)) × (r ≡ refusal_at Kind.Repeated definition.entry.from))) }
+    requires { (name : List ℕ) → hash.get_by (λ k. bytes_eq name k.now) numbers.old
+        ≡ number_of name (listed list.old.items) }
+    ensures added { OnOk result (listed list.new.items
+        ≡ listed list.old.items ++ definition_of definition.entry ∷ []) }
+    ensures numbered { OnOk result ((name : List ℕ) →
+        hash.get_by (λ k. bytes_eq name k.now) numbers.new
+        ≡ number_of name (listed list.new.items)) }
+    ensures unknown { OnOk result (number_of definition.entry.name.now (listed list.old.items)
+        ≡ None) }
+    ensures refused { IfErr result (λ r. (r ≡ memory)
+        ⊎ (IsSome (number_of definition.entry.name.now (listed list.old.items))
+        × (r ≡ refusal_at Kind.Repeated definition.entry.from))) }
 {
     if numbers.contains_key(definition.name) {
         return Err(Refusal::at(Kind::Repeated, definition.from));
@@ -113,7 +124,10 @@ fn put<'f>(
     name: &'f str,
     number: usize,
 ) -> Result<(), Refusal>
-    ensures put { OnOk result ((other : List ℕ) → hash.get_by (λ k. bytes_eq other k.now) numbers.new ≡ update bytes_eq (λ t. hash.get_by (λ k. bytes_eq t k.now) numbers.old) name.now (Some number) other) }
+    ensures put { OnOk result ((other : List ℕ) →
+        hash.get_by (λ k. bytes_eq other k.now) numbers.new
+        ≡ update bytes_eq (λ t. hash.get_by (λ k. bytes_eq t k.now) numbers.old) name.now
+        (Some number) other) }
     ensures memory { IfErr result (λ r. r ≡ memory) }
 {
     match numbers.insert(name, number) {

@@ -1,10 +1,14 @@
-ghost use Rattle.std.specs.Prelude.{◌≡◌, ◌+◌, ◌<◌, ◌≤◌, ◌↔◌, ◌++◌, ◌∷◌, [], ℕ, List, length, slice_index, slice_index_or, slice_set, IfOk, IfErr, OnOk, MatchOption, vec_len, true, false, not};
+ghost use Rattle.std.specs.Prelude.{◌≡◌, ◌+◌, ◌<◌, ◌≤◌, ◌↔◌, ◌++◌, ◌∷◌, [], ℕ, List, length};
+ghost use Rattle.std.specs.Prelude.{slice_index, slice_index_or, slice_set, IfOk, IfErr, OnOk};
+ghost use Rattle.std.specs.Prelude.{MatchOption, vec_len, true, false, not};
 ghost use Rattle.std.specs.Vec.{vec_capacity};
 ghost use Rattle.std.specs.List.{count_by};
 ghost use Rattle.std.specs.Bool.{OnTrue};
 ghost use Rattle.cue_lattice.specs.Refusal.{memory};
-ghost use Rattle.cue_scope.specs.Graph.{IsIn, targets, PointsTo, IsReached, Reaches, IsClosed, IsFirstCycle};
-ghost use Rattle.cue_scope.specs.Ordering.{graph_of, first_open, is_ready, IsStuck, IsPlaced, IsOrderOf, Spread};
+ghost use Rattle.cue_scope.specs.Graph.{IsIn, targets, PointsTo, IsReached, Reaches, IsClosed};
+ghost use Rattle.cue_scope.specs.Graph.{IsFirstCycle};
+ghost use Rattle.cue_scope.specs.Ordering.{graph_of, first_open, is_ready, IsStuck, IsPlaced};
+ghost use Rattle.cue_scope.specs.Ordering.{IsOrderOf, Spread};
 
 use crate::components::Components;
 use crate::memory::{flags, push, room, zeros};
@@ -86,7 +90,8 @@ fn place(alloc: Global, graph: &[Vec<usize>], nodes: &[usize]) -> Result<Placed,
 fn add(order: &mut Vec<usize>, ranks: &mut Vec<usize>, node: usize) -> Result<(), Refusal>
     requires { node < vec_len ranks.old }
     ensures order { OnOk result (order.new.items ≡ order.old.items ++ node ∷ []) }
-    ensures ranks { OnOk result (ranks.new.items ≡ slice_set ranks.old.items node (length order.old.items + 1)) }
+    ensures ranks { OnOk result (ranks.new.items
+        ≡ slice_set ranks.old.items node (length order.old.items + 1)) }
     ensures memory { IfErr result (λ r. r ≡ memory) }
 {
     push(order, node)?;
@@ -123,7 +128,8 @@ fn is_ready(graph: &[Vec<usize>], ranks: &[usize], node: usize) -> bool
 fn first_ready(graph: &[Vec<usize>], ranks: &[usize]) -> Option<usize>
     requires closed { IsClosed (graph_of graph.now) }
     requires lengths { length ranks.now ≡ length graph.now }
-    ensures { MatchOption result (IsStuck (graph_of graph.now) ranks.now) (λ i. is_ready (graph_of graph.now) ranks.now i ≡ true) }
+    ensures { MatchOption result (IsStuck (graph_of graph.now) ranks.now)
+        (λ i. is_ready (graph_of graph.now) ranks.now i ≡ true) }
 {
     for node in 0..ranks.len() {
         if is_ready(graph, ranks, node) {
@@ -135,7 +141,8 @@ fn first_ready(graph: &[Vec<usize>], ranks: &[usize]) -> Option<usize>
 
 /// A node without a rank.
 fn unplaced(ranks: &[usize]) -> Option<usize>
-    ensures { MatchOption result ((i : ℕ) → i < length ranks.now → 0 < slice_index ranks.now i) (λ i. (i < length ranks.now) × (slice_index ranks.now i ≡ 0)) }
+    ensures { MatchOption result ((i : ℕ) → i < length ranks.now → 0 < slice_index ranks.now i)
+        (λ i. (i < length ranks.now) × (slice_index ranks.now i ≡ 0)) }
 {
     for (node, rank) in ranks.iter().enumerate() {
         if *rank == 0 {
@@ -209,7 +216,8 @@ fn is_cyclic(
     node: usize,
 ) -> bool
     requires closed { IsClosed (graph_of graph.now) }
-    requires falls { OnTrue falls ((i j : ℕ) → PointsTo (graph_of graph.now) i j → slice_index components.now.numbers.items j ≤ slice_index components.now.numbers.items i) }
+    requires falls { OnTrue falls ((i j : ℕ) → PointsTo (graph_of graph.now) i j →
+        slice_index components.now.numbers.items j ≤ slice_index components.now.numbers.items i) }
     requires inside { node < length graph.now }
     requires flags { length reached.old.items ≡ length graph.now }
     requires room { length graph.now ≤ vec_capacity waiting.old }
@@ -229,7 +237,8 @@ pub fn reached(alloc: Global, graph: &[Vec<usize>], from: &[usize]) -> Result<Ve
     requires closed { IsClosed (graph_of graph.now) }
     requires inside { (i : ℕ) → IsIn i from.now → i < length graph.now }
     ensures length { IfOk result (λ v. length v.items ≡ length graph.now) }
-    ensures reached { IfOk result (λ v. (i : ℕ) → (slice_index_or v.items i false ≡ true) ↔ IsReached (graph_of graph.now) from.now i) }
+    ensures reached { IfOk result (λ v. (i : ℕ) →
+        (slice_index_or v.items i false ≡ true) ↔ IsReached (graph_of graph.now) from.now i) }
     ensures memory { IfErr result (λ r. r ≡ memory) }
 {
     let mut reached = flags(alloc, graph.len())?;
@@ -245,7 +254,8 @@ fn flood(graph: &[Vec<usize>], reached: &mut Vec<bool>, waiting: &mut Vec<usize>
     requires inside { (i : ℕ) → IsIn i from.now → i < length graph.now }
     requires flags { length reached.old.items ≡ length graph.now }
     requires room { length graph.now ≤ vec_capacity waiting.old }
-    ensures reached { (i : ℕ) → (slice_index_or reached.new.items i false ≡ true) ↔ IsReached (graph_of graph.now) from.now i }
+    ensures reached { (i : ℕ) → (slice_index_or reached.new.items i false ≡ true)
+        ↔ IsReached (graph_of graph.now) from.now i }
     ensures flags { length reached.new.items ≡ length graph.now }
     ensures room { vec_capacity waiting.new ≡ vec_capacity waiting.old }
 {
@@ -271,8 +281,10 @@ fn unmark(reached: &mut Vec<bool>)
 /// room.
 fn spread(reached: &mut Vec<bool>, waiting: &mut Vec<usize>, nodes: &[usize])
     requires inside { (i : ℕ) → IsIn i nodes.now → i < vec_len reached.old }
-    requires room { count_by not reached.old.items + length waiting.old.items ≤ vec_capacity waiting.old }
-    ensures spread { Spread reached.old.items reached.new.items waiting.old.items waiting.new.items nodes.now }
+    requires room { count_by not reached.old.items + length waiting.old.items
+        ≤ vec_capacity waiting.old }
+    ensures spread { Spread reached.old.items reached.new.items waiting.old.items waiting.new.items
+        nodes.now }
     ensures room { vec_capacity waiting.new ≡ vec_capacity waiting.old }
 {
     for node in nodes {

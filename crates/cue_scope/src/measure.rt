@@ -57,7 +57,8 @@ impl Measure {
 
     /// Of parts side by side.
     pub fn beside(self, other: Measure) -> Measure
-        ensures { (a b : Total) → IsMeasured self a → IsMeasured other b → IsMeasured result (totals.join a b) }
+        ensures { (a b : Total) → IsMeasured self a → IsMeasured other b →
+            IsMeasured result (totals.join a b) }
     {
         Measure {
             scalar: self.scalar && other.scalar,
@@ -132,7 +133,8 @@ impl Measure {
 
     /// Behind a chain of labels, each of which is in a struct of its own.
     pub fn behind(self, chain: &[Label]) -> Measure
-        ensures { (t : Total) → IsMeasured self t → IsMeasured result (totals.behind_labels (length chain.now) t) }
+        ensures { (t : Total) → IsMeasured self t →
+            IsMeasured result (totals.behind_labels (length chain.now) t) }
     {
         let labels = chain.len();
         Measure {
@@ -153,7 +155,8 @@ impl Measure {
     /// `NotScalar`, `TooLarge` or `TooDeep`, the first that is.
     pub fn check(self) -> Result<(), Refusal>
         ensures within { OnOk result ((t : Total) → IsMeasured self t → totals.IsWithin t) }
-        ensures beyond { IfErr result (λ r. (t : Total) → IsMeasured self t → totals.IsBeyond t r.kind r.place) }
+        ensures beyond { IfErr result (λ r. (t : Total) → IsMeasured self t →
+            totals.IsBeyond t r.kind r.place) }
     {
         if let Some(place) = self.term {
             return Err(Refusal::at(Kind::NotScalar, place));
@@ -190,7 +193,10 @@ pub struct Known<'a, 'f, 't> {
 impl<'a, 'f, 't> Known<'a, 'f, 't> {
     /// A name.
     fn name(&self, name: &Identifier) -> Measure
-        ensures { IsKnown self.now (using.uses_of_name (all_of self.now.definitions.now) name.now) → IsMeasured result (totals.total_of (meaning.meant_name (all_of self.now.definitions.now) (meaning.meaning (all_of self.now.definitions.now)) name.now) []) }
+        ensures { IsKnown self.now (using.uses_of_name (all_of self.now.definitions.now) name.now) →
+            IsMeasured result (totals.total_of
+            (meaning.meant_name (all_of self.now.definitions.now)
+            (meaning.meaning (all_of self.now.definitions.now)) name.now) []) }
     {
         match name {
             Identifier::Plain(_) => Measure::leaf(true),
@@ -201,7 +207,12 @@ impl<'a, 'f, 't> Known<'a, 'f, 't> {
 
     /// A use of a definition.
     fn used(&self, name: &str) -> Measure
-        ensures { IsKnown self.now (using.uses_of_name (all_of self.now.definitions.now) (Identifier.Definition name.now)) → IsMeasured result (totals.total_of (meaning.meant_name (all_of self.now.definitions.now) (meaning.meaning (all_of self.now.definitions.now)) (Identifier.Definition name.now)) []) }
+        ensures { IsKnown self.now (using.uses_of_name (all_of self.now.definitions.now)
+            (Identifier.Definition name.now)) →
+            IsMeasured result (totals.total_of
+            (meaning.meant_name (all_of self.now.definitions.now)
+            (meaning.meaning (all_of self.now.definitions.now)) (Identifier.Definition name.now))
+            []) }
     {
         match self.definitions.number(name) {
             None => Measure::leaf(true),
@@ -220,7 +231,9 @@ impl<'a, 'f, 't> Known<'a, 'f, 't> {
     /// A use of a definition, by its number.
     pub fn definition(&self, number: usize) -> Measure
         requires { number < length (all_of self.now.definitions.now) }
-        ensures { (order : List ℕ) → IsOrder (using.graph (all_of self.now.definitions.now)) order → IsKnown self.now (targets (using.graph (all_of self.now.definitions.now)) number) → totals.IsUse result (meaning.meaning (all_of self.now.definitions.now) number) }
+        ensures { (order : List ℕ) → IsOrder (using.graph (all_of self.now.definitions.now)) order →
+            IsKnown self.now (targets (using.graph (all_of self.now.definitions.now)) number) →
+            totals.IsUse result (meaning.meaning (all_of self.now.definitions.now) number) }
     {
         let definition = &self.definitions.all()[number];
         let value = self.expression(definition.value);
@@ -229,7 +242,10 @@ impl<'a, 'f, 't> Known<'a, 'f, 't> {
 
     /// The regular declarations of a text, with the terms of its definitions.
     pub fn file(&self, declarations: &[Declaration]) -> Measure
-        ensures { IsKnown self.now (using.uses_of_entries (all_of self.now.definitions.now) (tree.entries declarations.now)) → IsMeasured result (totals.total_of_file (all_of self.now.definitions.now) (tree.entries declarations.now)) }
+        ensures { IsKnown self.now (using.uses_of_entries (all_of self.now.definitions.now)
+            (tree.entries declarations.now)) →
+            IsMeasured result (totals.total_of_file (all_of self.now.definitions.now)
+            (tree.entries declarations.now)) }
     {
         let mut all = Measure::none();
         for declaration in declarations {
@@ -249,7 +265,10 @@ impl<'a, 'f, 't> Known<'a, 'f, 't> {
     /// An expression.
     #[cycle(measure)]
     pub fn expression(&self, expression: &Expr) -> Measure
-        ensures { IsKnown self.now (using.uses (all_of self.now.definitions.now) (tree.expression expression.now)) → IsMeasured result (totals.total (all_of self.now.definitions.now) (tree.expression expression.now)) }
+        ensures { IsKnown self.now (using.uses (all_of self.now.definitions.now)
+            (tree.expression expression.now)) →
+            IsMeasured result (totals.total (all_of self.now.definitions.now)
+            (tree.expression expression.now)) }
     {
         match expression {
             Expr::Name { name, .. } => self.name(name),
@@ -278,7 +297,10 @@ impl<'a, 'f, 't> Known<'a, 'f, 't> {
     /// The declarations of a struct literal.
     #[cycle(measure)]
     fn declarations(&self, declarations: &[Declaration]) -> Measure
-        ensures { IsKnown self.now (using.uses_of_entries (all_of self.now.definitions.now) (tree.entries declarations.now)) → IsMeasured result (totals.total_of_entries (all_of self.now.definitions.now) (tree.entries declarations.now)) }
+        ensures { IsKnown self.now (using.uses_of_entries (all_of self.now.definitions.now)
+            (tree.entries declarations.now)) →
+            IsMeasured result (totals.total_of_entries (all_of self.now.definitions.now)
+            (tree.entries declarations.now)) }
     {
         let mut all = Measure::none();
         for declaration in declarations {
@@ -298,7 +320,9 @@ impl<'a, 'f, 't> Known<'a, 'f, 't> {
     /// The parts of a conjunction.
     #[cycle(measure)]
     fn parts(&self, parts: &[Expr]) -> Measure
-        ensures { IsKnown self.now (using.uses_of_elements (all_of self.now.definitions.now) (tree.elements parts.now)) → IsMeasured result (totals.total_of_parts (all_of self.now.definitions.now) (tree.elements parts.now)) }
+        ensures { IsKnown self.now (using.uses_of_elements (all_of self.now.definitions.now)
+            (tree.elements parts.now)) → IsMeasured result
+            (totals.total_of_parts (all_of self.now.definitions.now) (tree.elements parts.now)) }
     {
         let mut all = Measure::none();
         for part in parts {
@@ -310,7 +334,10 @@ impl<'a, 'f, 't> Known<'a, 'f, 't> {
     /// The elements of a list.
     #[cycle(measure)]
     fn elements(&self, elements: &[Expr]) -> Measure
-        ensures { IsKnown self.now (using.uses_of_elements (all_of self.now.definitions.now) (tree.elements elements.now)) → IsMeasured result (totals.total_of_elements (all_of self.now.definitions.now) (tree.elements elements.now)) }
+        ensures { IsKnown self.now (using.uses_of_elements (all_of self.now.definitions.now)
+            (tree.elements elements.now)) → IsMeasured result
+            (totals.total_of_elements (all_of self.now.definitions.now)
+            (tree.elements elements.now)) }
     {
         let mut all = Measure::none();
         for element in elements {
@@ -322,7 +349,9 @@ impl<'a, 'f, 't> Known<'a, 'f, 't> {
     /// The terms of a disjunction.
     #[cycle(measure)]
     fn terms(&self, terms: &[Term]) -> Measure
-        ensures { IsKnown self.now (using.uses_of_branches (all_of self.now.definitions.now) (tree.branches terms.now)) → IsMeasured result (totals.total_of_terms (all_of self.now.definitions.now) (tree.branches terms.now)) }
+        ensures { IsKnown self.now (using.uses_of_branches (all_of self.now.definitions.now)
+            (tree.branches terms.now)) → IsMeasured result
+            (totals.total_of_terms (all_of self.now.definitions.now) (tree.branches terms.now)) }
     {
         let mut all = Measure::none();
         for term in terms {

@@ -38,9 +38,12 @@ impl Uses {
     ) -> Result<Uses, Refusal>
         requires { all_of definitions.now ≡ defining.definitions (tree.entries declarations.now) }
         ensures named { OnOk result (naming.name_faults (tree.entries declarations.now) ≡ []) }
-        ensures graph { IfOk result (λ u. graph_of u.of_definitions.items ≡ using.graph (all_of definitions.now)) }
-        ensures fields { IfOk result (λ u. u.of_fields.items ≡ using.uses_of_fields (all_of definitions.now) (tree.entries declarations.now)) }
-        ensures refused { IfErr result (IsStopped (naming.name_faults (tree.entries declarations.now))) }
+        ensures graph { IfOk result (λ u. graph_of u.of_definitions.items
+            ≡ using.graph (all_of definitions.now)) }
+        ensures fields { IfOk result (λ u. u.of_fields.items
+            ≡ using.uses_of_fields (all_of definitions.now) (tree.entries declarations.now)) }
+        ensures refused { IfErr result (IsStopped
+            (naming.name_faults (tree.entries declarations.now))) }
     {
         let outside = Place {
             alloc,
@@ -63,10 +66,18 @@ pub struct Place<'a, 'f, 't> {
 impl<'a, 'f, 't> Place<'a, 'f, 't> {
     /// The declarations of a text, which is a struct literal of its own.
     fn file(&self, declarations: &'f [Declaration<'t>]) -> Result<Uses, Refusal>
-        ensures named { OnOk result (naming.faults_of_entries (definitions_at self.now) (naming.inside (tree.entries declarations.now) (scope_of self.now.scope)) (tree.entries declarations.now) ≡ []) }
-        ensures graph { IfOk result (λ u. graph_of u.of_definitions.items ≡ map (λ d. using.uses (definitions_at self.now) d.value) (defining.definitions (tree.entries declarations.now))) }
-        ensures fields { IfOk result (λ u. u.of_fields.items ≡ using.uses_of_fields (definitions_at self.now) (tree.entries declarations.now)) }
-        ensures refused { IfErr result (IsStopped (naming.faults_of_entries (definitions_at self.now) (naming.inside (tree.entries declarations.now) (scope_of self.now.scope)) (tree.entries declarations.now))) }
+        ensures named { OnOk result (naming.faults_of_entries (definitions_at self.now)
+            (naming.inside (tree.entries declarations.now) (scope_of self.now.scope))
+            (tree.entries declarations.now) ≡ []) }
+        ensures graph { IfOk result (λ u. graph_of u.of_definitions.items
+            ≡ map (λ d. using.uses (definitions_at self.now) d.value)
+            (defining.definitions (tree.entries declarations.now))) }
+        ensures fields { IfOk result (λ u. u.of_fields.items
+            ≡ using.uses_of_fields (definitions_at self.now) (tree.entries declarations.now)) }
+        ensures refused { IfErr result (IsStopped
+            (naming.faults_of_entries (definitions_at self.now)
+            (naming.inside (tree.entries declarations.now) (scope_of self.now.scope))
+            (tree.entries declarations.now))) }
     {
         let labels = labels_of(self.alloc, declarations)?;
         let inner = Place {
@@ -82,10 +93,16 @@ impl<'a, 'f, 't> Place<'a, 'f, 't> {
 
     /// The declarations of a text, from inside it.
     fn text(&self, declarations: &'f [Declaration<'t>]) -> Result<Uses, Refusal>
-        ensures named { OnOk result (naming.faults_of_entries (definitions_at self.now) (scope_of self.now.scope) (tree.entries declarations.now) ≡ []) }
-        ensures graph { IfOk result (λ u. graph_of u.of_definitions.items ≡ map (λ d. using.uses (definitions_at self.now) d.value) (defining.definitions (tree.entries declarations.now))) }
-        ensures fields { IfOk result (λ u. u.of_fields.items ≡ using.uses_of_fields (definitions_at self.now) (tree.entries declarations.now)) }
-        ensures refused { IfErr result (IsStopped (naming.faults_of_entries (definitions_at self.now) (scope_of self.now.scope) (tree.entries declarations.now))) }
+        ensures named { OnOk result (naming.faults_of_entries (definitions_at self.now)
+            (scope_of self.now.scope) (tree.entries declarations.now) ≡ []) }
+        ensures graph { IfOk result (λ u. graph_of u.of_definitions.items
+            ≡ map (λ d. using.uses (definitions_at self.now) d.value)
+            (defining.definitions (tree.entries declarations.now))) }
+        ensures fields { IfOk result (λ u. u.of_fields.items
+            ≡ using.uses_of_fields (definitions_at self.now) (tree.entries declarations.now)) }
+        ensures refused { IfErr result (IsStopped
+            (naming.faults_of_entries (definitions_at self.now) (scope_of self.now.scope)
+            (tree.entries declarations.now))) }
     {
         let mut of_definitions = Vec::new(self.alloc);
         let mut of_fields = Vec::new(self.alloc);
@@ -110,8 +127,11 @@ impl<'a, 'f, 't> Place<'a, 'f, 't> {
 
     /// Looks up a name.
     fn name(&self, uses: &mut Vec<usize>, name: &Identifier, from: usize) -> Result<(), Refusal>
-        ensures walked { OnOk result (IsWalked (naming.fault_of (definitions_at self.now) (scope_of self.now.scope) name.now from) (using.uses_of_name (definitions_at self.now) name.now) uses.old.items uses.new.items) }
-        ensures stopped { IfErr result (IsStopped (naming.fault_of (definitions_at self.now) (scope_of self.now.scope) name.now from)) }
+        ensures walked { OnOk result (IsWalked
+            (naming.fault_of (definitions_at self.now) (scope_of self.now.scope) name.now from)
+            (using.uses_of_name (definitions_at self.now) name.now) uses.old.items uses.new.items) }
+        ensures stopped { IfErr result (IsStopped
+            (naming.fault_of (definitions_at self.now) (scope_of self.now.scope) name.now from)) }
     {
         match name {
             Identifier::Definition(name) => match self.definitions.number(name.as_str()) {
@@ -131,8 +151,11 @@ impl<'a, 'f, 't> Place<'a, 'f, 't> {
 
     /// Looks up a plain name.
     fn plain(&self, name: &str, from: usize) -> Result<(), Refusal>
-        ensures walked { OnOk result (naming.fault_of (definitions_at self.now) (scope_of self.now.scope) (Identifier.Plain name.now) from ≡ []) }
-        ensures stopped { IfErr result (IsStopped (naming.fault_of (definitions_at self.now) (scope_of self.now.scope) (Identifier.Plain name.now) from)) }
+        ensures walked { OnOk result (naming.fault_of (definitions_at self.now)
+            (scope_of self.now.scope) (Identifier.Plain name.now) from ≡ []) }
+        ensures stopped { IfErr result (IsStopped
+            (naming.fault_of (definitions_at self.now) (scope_of self.now.scope)
+            (Identifier.Plain name.now) from)) }
     {
         if is_literal(name) {
             return Ok(());
@@ -149,7 +172,8 @@ impl<'a, 'f, 't> Place<'a, 'f, 't> {
     /// Looks up `close`, which is called.
     fn close(&self, from: usize) -> Result<(), Refusal>
         ensures walked { OnOk result (naming.fault_of_close (scope_of self.now.scope) from ≡ []) }
-        ensures stopped { IfErr result (IsStopped (naming.fault_of_close (scope_of self.now.scope) from)) }
+        ensures stopped { IfErr result (IsStopped
+            (naming.fault_of_close (scope_of self.now.scope) from)) }
     {
         if self.scope.has("close") {
             return Err(Refusal::at(Kind::FieldReference, from));
@@ -165,8 +189,14 @@ impl<'a, 'f, 't> Place<'a, 'f, 't> {
         chain: &'f [Label<'t>],
         value: &'f Expr<'t>,
     ) -> Result<(), Refusal>
-        ensures walked { OnOk result (IsWalked (naming.faults (definitions_at self.now) (naming.behind chain.now (scope_of self.now.scope)) (tree.expression value.now)) (using.uses (definitions_at self.now) (tree.expression value.now)) uses.old.items uses.new.items) }
-        ensures stopped { IfErr result (IsStopped (naming.faults (definitions_at self.now) (naming.behind chain.now (scope_of self.now.scope)) (tree.expression value.now))) }
+        ensures walked { OnOk result (IsWalked
+            (naming.faults (definitions_at self.now)
+            (naming.behind chain.now (scope_of self.now.scope)) (tree.expression value.now))
+            (using.uses (definitions_at self.now) (tree.expression value.now)) uses.old.items
+            uses.new.items) }
+        ensures stopped { IfErr result (IsStopped
+            (naming.faults (definitions_at self.now)
+            (naming.behind chain.now (scope_of self.now.scope)) (tree.expression value.now))) }
     {
         let inner = Place {
             alloc: self.alloc,
@@ -182,8 +212,14 @@ impl<'a, 'f, 't> Place<'a, 'f, 't> {
     /// An expression.
     #[cycle(names)]
     fn expression(&self, uses: &mut Vec<usize>, expression: &'f Expr<'t>) -> Result<(), Refusal>
-        ensures walked { OnOk result (IsWalked (naming.faults (definitions_at self.now) (scope_of self.now.scope) (tree.expression expression.now)) (using.uses (definitions_at self.now) (tree.expression expression.now)) uses.old.items uses.new.items) }
-        ensures stopped { IfErr result (IsStopped (naming.faults (definitions_at self.now) (scope_of self.now.scope) (tree.expression expression.now))) }
+        ensures walked { OnOk result (IsWalked
+            (naming.faults (definitions_at self.now) (scope_of self.now.scope)
+            (tree.expression expression.now))
+            (using.uses (definitions_at self.now) (tree.expression expression.now)) uses.old.items
+            uses.new.items) }
+        ensures stopped { IfErr result (IsStopped
+            (naming.faults (definitions_at self.now) (scope_of self.now.scope)
+            (tree.expression expression.now))) }
     {
         match expression {
             Expr::Name { name, from } => self.name(uses, name, *from),
@@ -216,8 +252,15 @@ impl<'a, 'f, 't> Place<'a, 'f, 't> {
         uses: &mut Vec<usize>,
         declarations: &'f [Declaration<'t>],
     ) -> Result<(), Refusal>
-        ensures walked { OnOk result (IsWalked (naming.faults_of_entries (definitions_at self.now) (naming.inside (tree.entries declarations.now) (scope_of self.now.scope)) (tree.entries declarations.now)) (using.uses_of_entries (definitions_at self.now) (tree.entries declarations.now)) uses.old.items uses.new.items) }
-        ensures stopped { IfErr result (IsStopped (naming.faults_of_entries (definitions_at self.now) (naming.inside (tree.entries declarations.now) (scope_of self.now.scope)) (tree.entries declarations.now))) }
+        ensures walked { OnOk result (IsWalked
+            (naming.faults_of_entries (definitions_at self.now)
+            (naming.inside (tree.entries declarations.now) (scope_of self.now.scope))
+            (tree.entries declarations.now)) (using.uses_of_entries (definitions_at self.now)
+            (tree.entries declarations.now)) uses.old.items uses.new.items) }
+        ensures stopped { IfErr result (IsStopped
+            (naming.faults_of_entries (definitions_at self.now)
+            (naming.inside (tree.entries declarations.now) (scope_of self.now.scope))
+            (tree.entries declarations.now))) }
     {
         let labels = labels_of(self.alloc, declarations)?;
         let inner = Place {
@@ -238,8 +281,13 @@ impl<'a, 'f, 't> Place<'a, 'f, 't> {
         uses: &mut Vec<usize>,
         declarations: &'f [Declaration<'t>],
     ) -> Result<(), Refusal>
-        ensures walked { OnOk result (IsWalked (naming.faults_of_entries (definitions_at self.now) (scope_of self.now.scope) (tree.entries declarations.now)) (using.uses_of_entries (definitions_at self.now) (tree.entries declarations.now)) uses.old.items uses.new.items) }
-        ensures stopped { IfErr result (IsStopped (naming.faults_of_entries (definitions_at self.now) (scope_of self.now.scope) (tree.entries declarations.now))) }
+        ensures walked { OnOk result (IsWalked
+            (naming.faults_of_entries (definitions_at self.now) (scope_of self.now.scope)
+            (tree.entries declarations.now)) (using.uses_of_entries (definitions_at self.now)
+            (tree.entries declarations.now)) uses.old.items uses.new.items) }
+        ensures stopped { IfErr result (IsStopped
+            (naming.faults_of_entries (definitions_at self.now) (scope_of self.now.scope)
+            (tree.entries declarations.now))) }
     {
         for declaration in declarations {
             match declaration {
@@ -254,8 +302,13 @@ impl<'a, 'f, 't> Place<'a, 'f, 't> {
     /// The elements of a list, or the parts of a conjunction.
     #[cycle(names)]
     fn elements(&self, uses: &mut Vec<usize>, elements: &'f [Expr<'t>]) -> Result<(), Refusal>
-        ensures walked { OnOk result (IsWalked (naming.faults_of_elements (definitions_at self.now) (scope_of self.now.scope) (tree.elements elements.now)) (using.uses_of_elements (definitions_at self.now) (tree.elements elements.now)) uses.old.items uses.new.items) }
-        ensures stopped { IfErr result (IsStopped (naming.faults_of_elements (definitions_at self.now) (scope_of self.now.scope) (tree.elements elements.now))) }
+        ensures walked { OnOk result (IsWalked
+            (naming.faults_of_elements (definitions_at self.now) (scope_of self.now.scope)
+            (tree.elements elements.now)) (using.uses_of_elements (definitions_at self.now)
+            (tree.elements elements.now)) uses.old.items uses.new.items) }
+        ensures stopped { IfErr result (IsStopped
+            (naming.faults_of_elements (definitions_at self.now) (scope_of self.now.scope)
+            (tree.elements elements.now))) }
     {
         for element in elements {
             self.expression(uses, element)?;
@@ -266,8 +319,13 @@ impl<'a, 'f, 't> Place<'a, 'f, 't> {
     /// The terms of a disjunction.
     #[cycle(names)]
     fn terms(&self, uses: &mut Vec<usize>, terms: &'f [Term<'t>]) -> Result<(), Refusal>
-        ensures walked { OnOk result (IsWalked (naming.faults_of_branches (definitions_at self.now) (scope_of self.now.scope) (tree.branches terms.now)) (using.uses_of_branches (definitions_at self.now) (tree.branches terms.now)) uses.old.items uses.new.items) }
-        ensures stopped { IfErr result (IsStopped (naming.faults_of_branches (definitions_at self.now) (scope_of self.now.scope) (tree.branches terms.now))) }
+        ensures walked { OnOk result (IsWalked
+            (naming.faults_of_branches (definitions_at self.now) (scope_of self.now.scope)
+            (tree.branches terms.now)) (using.uses_of_branches (definitions_at self.now)
+            (tree.branches terms.now)) uses.old.items uses.new.items) }
+        ensures stopped { IfErr result (IsStopped
+            (naming.faults_of_branches (definitions_at self.now) (scope_of self.now.scope)
+            (tree.branches terms.now))) }
     {
         for term in terms {
             self.expression(uses, &term.value)?;

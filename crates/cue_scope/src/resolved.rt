@@ -1,4 +1,5 @@
-ghost use Rattle.std.specs.Prelude.{◌≡◌, ◌<◌, ◌⊎◌, ◌-◌, ◌^◌, min, ℕ, List, length, slice_get, slice_index_or, IfOk, IfErr, OnOk};
+ghost use Rattle.std.specs.Prelude.{◌≡◌, ◌<◌, ◌⊎◌, ◌-◌, ◌^◌, min, ℕ, List, length, slice_get};
+ghost use Rattle.std.specs.Prelude.{slice_index_or, IfOk, IfErr, OnOk};
 ghost use Rattle.cue_lattice.specs.Refusal.{memory};
 ghost use Rattle.cue_syntax.specs.Syntax.{entries};
 ghost use Rattle.cue_scope.specs.Core as core;
@@ -48,7 +49,8 @@ impl<'f, 't> Model for Resolved<'f, 't> {
 
     ghost Value = { File };
 
-    ghost coded = { Prim.hlevel (codes, (whole.the_row (record { mir = named 0; lft = [] })).coded) };
+    ghost coded = { Prim.hlevel
+        (codes, (whole.the_row (record { mir = named 0; lft = [] })).coded) };
 
     ghost use Rattle.cue_scope.specs.Resolving.{IsResolved};
 
@@ -92,8 +94,10 @@ pub fn resolve<'f, 't>(alloc: Global, file: &'f File<'t>) -> Result<Resolved<'f,
 fn ordered(alloc: Global, definitions: &Definitions, uses: &Uses) -> Result<Vec<usize>, Refusal>
     requires { graph_of uses.now.of_definitions.items ≡ using.graph (all_of definitions.now) }
     ensures acyclic { OnOk result (graphs.IsAcyclic (using.graph (all_of definitions.now))) }
-    ensures ordered { IfOk result (λ v. graphs.IsOrder (using.graph (all_of definitions.now)) v.items) }
-    ensures refused { IfErr result (λ r. (r ≡ memory) ⊎ ((r.kind ≡ Kind.Cycle) × IsCycleAt (all_of definitions.now) r.place)) }
+    ensures ordered { IfOk result (λ v. graphs.IsOrder
+        (using.graph (all_of definitions.now)) v.items) }
+    ensures refused { IfErr result (λ r. (r ≡ memory)
+        ⊎ ((r.kind ≡ Kind.Cycle) × IsCycleAt (all_of definitions.now) r.place)) }
 {
     match order_of(alloc, &uses.of_definitions)? {
         Order::Ordered(order) => Ok(order),
@@ -112,7 +116,9 @@ fn measures_of(
 ) -> Result<Vec<Measure>, Refusal>
     requires { graphs.IsOrder (using.graph (all_of definitions.now)) order.now }
     ensures length { IfOk result (λ v. length v.items ≡ length (all_of definitions.now)) }
-    ensures measured { IfOk result (λ v. (i : ℕ) (d : Measure) → i < length (all_of definitions.now) → IsUse (slice_index_or v.items i d) (meaning.meaning (all_of definitions.now) i)) }
+    ensures measured { IfOk result (λ v. (i : ℕ) (d : Measure) →
+        i < length (all_of definitions.now) →
+        IsUse (slice_index_or v.items i d) (meaning.meaning (all_of definitions.now) i)) }
     ensures memory { IfErr result (λ r. r ≡ memory) }
 {
     let mut measures = unmeasured(alloc, definitions.all().len())?;
@@ -130,8 +136,10 @@ fn measures_of(
 /// The measure of the struct that a text means, with the terms of its definitions.
 fn measure(definitions: &Definitions, measures: &[Measure], declarations: &[Declaration]) -> Measure
     requires length { length measures.now ≡ length (all_of definitions.now) }
-    requires measured { (i : ℕ) (d : Measure) → i < length (all_of definitions.now) → IsUse (slice_index_or measures.now i d) (meaning.meaning (all_of definitions.now) i) }
-    ensures { totals.IsMeasured result (totals.as_literal 1 (totals.total_of_file (all_of definitions.now) (entries declarations.now))) }
+    requires measured { (i : ℕ) (d : Measure) → i < length (all_of definitions.now) →
+        IsUse (slice_index_or measures.now i d) (meaning.meaning (all_of definitions.now) i) }
+    ensures { totals.IsMeasured result (totals.as_literal 1
+        (totals.total_of_file (all_of definitions.now) (entries declarations.now))) }
 {
     let known = Known {
         definitions,
@@ -176,7 +184,9 @@ impl<'f, 't> Resolved<'f, 't> {
     /// The definitions of the text. A use of one means its body, closed.
     pub fn definitions(&self) -> &Definitions<'f, 't>
         ensures all { all_of result.now ≡ defining.definitions (entries_of self.now) }
-        ensures uses { (i : ℕ) → let ds = defining.definitions (entries_of self.now) in i < length ds → meaning.meaning ds i ≡ meaning.meant_use ds (meaning.meaning ds) (slice_get ds i) }
+        ensures uses { (i : ℕ) → let ds = defining.definitions (entries_of self.now) in i
+            < length ds → meaning.meaning ds i
+            ≡ meaning.meant_use ds (meaning.meaning ds) (slice_get ds i) }
     {
         &self.definitions
     }
@@ -184,7 +194,8 @@ impl<'f, 't> Resolved<'f, 't> {
     /// The numbers of the definitions that the regular declarations reach, each once, after those
     /// that it uses.
     pub fn order(&self) -> &[usize]
-        ensures { let ds = defining.definitions (entries_of self.now) in IsReachedOrder (using.graph ds) (using.uses_of_fields ds (entries_of self.now)) result.now }
+        ensures { let ds = defining.definitions (entries_of self.now) in IsReachedOrder
+            (using.graph ds) (using.uses_of_fields ds (entries_of self.now)) result.now }
     {
         &self.order
     }
@@ -192,7 +203,8 @@ impl<'f, 't> Resolved<'f, 't> {
     /// Whether the body of a definition is scalar, by its number.
     pub fn is_scalar(&self, number: usize) -> bool
         requires { number < length (defining.definitions (entries_of self.now)) }
-        ensures { result ≡ core.is_scalar (meaning.meaning (defining.definitions (entries_of self.now)) number) }
+        ensures { result ≡ core.is_scalar (meaning.meaning
+            (defining.definitions (entries_of self.now)) number) }
     {
         self.measures[number].scalar
     }
@@ -202,7 +214,10 @@ impl<'f, 't> Resolved<'f, 't> {
     /// `usize::MAX`.
     pub fn count(&self, number: usize) -> usize
         requires { number < length (defining.definitions (entries_of self.now)) }
-        ensures { (order : List ℕ) → let ds = defining.definitions (entries_of self.now) in IsReachedOrder (using.graph ds) (using.uses_of_fields ds (entries_of self.now)) order → result ≡ min (times number (written_uses ds (entries_of self.now) order)) (2 ^ 64 - 1) }
+        ensures { (order : List ℕ) → let ds = defining.definitions
+            (entries_of self.now) in IsReachedOrder (using.graph ds)
+            (using.uses_of_fields ds (entries_of self.now)) order →
+            result ≡ min (times number (written_uses ds (entries_of self.now) order)) (2 ^ 64 - 1) }
     {
         self.counts[number]
     }

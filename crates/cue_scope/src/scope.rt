@@ -68,7 +68,8 @@ pub fn labels_of<'f, 't>(
     alloc: Global,
     declarations: &'f [Declaration<'t>],
 ) -> Result<HashSet<&'f str>, Refusal>
-    ensures labels { IfOk result (λ s. (t : List ℕ) → bag.contains_by (λ k. bytes_eq t k.now) s ≡ has_label t (entries declarations.now)) }
+    ensures labels { IfOk result (λ s. (t : List ℕ) →
+        bag.contains_by (λ k. bytes_eq t k.now) s ≡ has_label t (entries declarations.now)) }
     ensures memory { IfErr result (λ r. r ≡ memory) }
 {
     let mut labels = HashSet::new(alloc);
@@ -84,7 +85,9 @@ pub fn labels_of<'f, 't>(
 
 /// Puts a label among the others.
 fn insert<'f>(labels: &mut HashSet<&'f str>, label: &'f str) -> Result<(), Refusal>
-    ensures inserted { OnOk result ((t : List ℕ) → bag.contains_by (λ k. bytes_eq t k.now) labels.new ≡ (bytes_eq t label.now || bag.contains_by (λ k. bytes_eq t k.now) labels.old)) }
+    ensures inserted { OnOk result ((t : List ℕ) →
+        bag.contains_by (λ k. bytes_eq t k.now) labels.new
+        ≡ (bytes_eq t label.now || bag.contains_by (λ k. bytes_eq t k.now) labels.old)) }
     ensures memory { IfErr result (λ r. r ≡ memory) }
 {
     match labels.insert(label) {

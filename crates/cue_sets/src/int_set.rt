@@ -1,6 +1,9 @@
-ghost use Rattle.std.specs.Prelude.{◌≡◌, ℤ, pos, ◌+ℤ◌, ◌-ℤ◌, ◌≤ℤ◌, ◌<ℤ◌, ◌≢◌, ◌↔◌, ◌&&◌, ◌||◌, not, true, false, [], ◌∷◌, IfOk, IfSome, IfNone, Ok, Some, None, IsTrue, int_le};
+ghost use Rattle.std.specs.Prelude.{◌≡◌, ℤ, pos, ◌+ℤ◌, ◌-ℤ◌, ◌≤ℤ◌, ◌<ℤ◌, ◌≢◌, ◌↔◌, ◌&&◌, ◌||◌, not};
+ghost use Rattle.std.specs.Prelude.{true, false, [], ◌∷◌, IfOk, IfSome, IfNone, Ok, Some, None};
+ghost use Rattle.std.specs.Prelude.{IsTrue, int_le};
 ghost use Rattle.std.specs.Ordering.{int_eq};
-ghost use Rattle.cue_sets.specs.Pieces.{is_member, is_int64, IsCanonical, IsFirstMember, IsOnlyMember, least, greatest};
+ghost use Rattle.cue_sets.specs.Pieces.{is_member, is_int64, IsCanonical, IsFirstMember};
+ghost use Rattle.cue_sets.specs.Pieces.{IsOnlyMember, least, greatest};
 ghost use Rattle.cue_sets.specs.Combination.{keeps};
 
 use crate::combination::Combination;
@@ -72,7 +75,8 @@ impl IntSet {
 
     /// All integers of 64 bits but one.
     pub fn but(alloc: Global, number: i64) -> Result<IntSet, Memory>
-        ensures { IfOk result (λ set. (n : ℤ) → is_member set n ≡ (is_int64 n && not (int_eq n number))) }
+        ensures { IfOk result (λ set. (n : ℤ) →
+            is_member set n ≡ (is_int64 n && not (int_eq n number))) }
     {
         match number {
             i64::MIN => IntSet::at_least(alloc, i64::MIN + 1),
@@ -104,7 +108,8 @@ impl IntSet {
 
     /// The members of both sets. Of two sets of one piece this takes no memory.
     pub fn meet(&self, alloc: Global, other: &IntSet) -> Result<IntSet, Memory>
-        ensures { IfOk result (λ met. (n : ℤ) → is_member met n ≡ (is_member self.now n && is_member other.now n)) }
+        ensures { IfOk result (λ met. (n : ℤ) →
+            is_member met n ≡ (is_member self.now n && is_member other.now n)) }
     {
         if let (Some(left), Some(right)) = (self.pieces.only(), other.pieces.only()) {
             return Ok(IntSet {
@@ -116,14 +121,16 @@ impl IntSet {
 
     /// The members of either set.
     pub fn union(&self, alloc: Global, other: &IntSet) -> Result<IntSet, Memory>
-        ensures { IfOk result (λ all. (n : ℤ) → is_member all n ≡ (is_member self.now n || is_member other.now n)) }
+        ensures { IfOk result (λ all. (n : ℤ) →
+            is_member all n ≡ (is_member self.now n || is_member other.now n)) }
     {
         self.combined(alloc, Combination::Union, other)
     }
 
     /// The members of this set that the other lacks.
     pub fn without(&self, alloc: Global, other: &IntSet) -> Result<IntSet, Memory>
-        ensures { IfOk result (λ rest. (n : ℤ) → is_member rest n ≡ (is_member self.now n && not (is_member other.now n))) }
+        ensures { IfOk result (λ rest. (n : ℤ) →
+            is_member rest n ≡ (is_member self.now n && not (is_member other.now n))) }
     {
         self.combined(alloc, Combination::Without, other)
     }
@@ -174,7 +181,8 @@ impl IntSet {
 
     /// Whether each member is one of the other set too. This takes no memory.
     pub fn is_within(&self, other: &IntSet) -> bool
-        ensures { IsTrue result ↔ ((n : ℤ) → is_member self.now n ≡ true → is_member other.now n ≡ true) }
+        ensures { IsTrue result ↔ ((n : ℤ) → is_member self.now n ≡ true →
+            is_member other.now n ≡ true) }
     {
         if let (Some(left), Some(right)) = (self.pieces.only(), other.pieces.only()) {
             return right.0 <= left.0 && left.1 <= right.1;
@@ -183,7 +191,8 @@ impl IntSet {
     }
 
     fn combined(&self, alloc: Global, how: Combination, other: &IntSet) -> Result<IntSet, Memory>
-        ensures { IfOk result (λ set. (n : ℤ) → is_member set n ≡ keeps how (is_member self.now n) (is_member other.now n)) }
+        ensures { IfOk result (λ set. (n : ℤ) →
+            is_member set n ≡ keeps how (is_member self.now n) (is_member other.now n)) }
     {
         let pieces = combine(alloc, how, self.pieces.as_slice(), other.pieces.as_slice())?;
         Ok(IntSet {

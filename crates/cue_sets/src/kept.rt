@@ -26,7 +26,8 @@ impl Kept {
     /// The numbers that both pieces have. This takes no memory.
     pub(crate) fn common(alloc: Global, left: (i64, i64), right: (i64, i64)) -> Kept
         ensures canonical { IsCanonical (listed result) }
-        ensures members { (n : ℤ) → is_member (listed result) n ≡ (is_member (left ∷ []) n && is_member (right ∷ []) n) }
+        ensures members { (n : ℤ) → is_member (listed result) n
+            ≡ (is_member (left ∷ []) n && is_member (right ∷ []) n) }
     {
         let (first, last) = (left.0.max(right.0), left.1.min(right.1));
         if last < first {

@@ -19,8 +19,10 @@ struct Least {
 
 /// Takes the least text from two ascending lists, where one has a text.
 fn take_least(left: &mut VecDeque<Text>, right: &mut VecDeque<Text>) -> Option<Least>
-    ensures some { IfSome result (λ least. (kept : Bool → Bool → Bool) → merged kept left.old.items right.old.items
-        ≡ prepended_if (kept least.in_left least.in_right) least.text (merged kept left.new.items right.new.items)) }
+    ensures some { IfSome result (λ least. (kept : Bool → Bool → Bool) →
+        merged kept left.old.items right.old.items
+        ≡ prepended_if (kept least.in_left least.in_right) least.text
+        (merged kept left.new.items right.new.items)) }
     ensures shorter { IfSome result (λ least.
         length left.new.items + length right.new.items < length left.old.items + length right.old.items) }
     ensures none { IfNone result ((left.old.items ≡ []) × (right.old.items ≡ [])) }
@@ -52,7 +54,8 @@ pub(crate) fn merge_moved(
     right: Vec<Text>,
 ) -> Result<Vec<Text>, Memory>
     ensures { IfOk result (λ texts.
-        texts.items ≡ merged (lists how.how how.left_all_but how.right_all_but) left.items right.items) }
+        texts.items ≡ merged (lists how.how how.left_all_but how.right_all_but) left.items
+        right.items) }
 {
     let mut texts = Vec::with_capacity(alloc, left.len() + right.len())?;
     let (mut on_left, mut on_right) = (VecDeque::from(left), VecDeque::from(right));
@@ -102,7 +105,8 @@ pub(crate) fn merge_beside(
     right: Vec<Text>,
 ) -> Result<Vec<Text>, Memory>
     ensures { IfOk result (λ texts.
-        texts.items ≡ merged (lists how.how how.left_all_but how.right_all_but) left.now right.items) }
+        texts.items ≡ merged (lists how.how how.left_all_but how.right_all_but) left.now
+        right.items) }
 {
     let mut texts = Vec::with_capacity(alloc, left.len() + right.len())?;
     let (mut on_left, mut on_right) = (left, VecDeque::from(right));

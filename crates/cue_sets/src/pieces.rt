@@ -1,4 +1,5 @@
-ghost use Rattle.std.specs.Prelude.{◌≡◌, ℤ, pos, ◌-ℤ◌, ◌+ℤ◌, ◌≤ℤ◌, ◌<ℤ◌, ◌++◌, IfOk, IfSome, Some, if◌then◌else◌, FitsSigned, is_some, true, ◌↔◌, IsTrue};
+ghost use Rattle.std.specs.Prelude.{◌≡◌, ℤ, pos, ◌-ℤ◌, ◌+ℤ◌, ◌≤ℤ◌, ◌<ℤ◌, ◌++◌, IfOk, IfSome, Some};
+ghost use Rattle.std.specs.Prelude.{if◌then◌else◌, FitsSigned, is_some, true, ◌↔◌, IsTrue};
 ghost use Rattle.cue_sets.specs.Combination.{keeps};
 ghost use Rattle.cue_sets.specs.Pieces.{is_member, IsCanonical};
 ghost use Rattle.cue_sets.specs.Sweep.{EndsFrom, closed, opened};
@@ -112,7 +113,8 @@ pub(crate) fn combine(
 pub(crate) fn is_within(left: &[(i64, i64)], right: &[(i64, i64)]) -> bool
     requires left { IsCanonical left.now }
     requires right { IsCanonical right.now }
-    ensures { IsTrue result ↔ ((n : ℤ) → is_member left.now n ≡ true → is_member right.now n ≡ true) }
+    ensures { IsTrue result ↔ ((n : ℤ) → is_member left.now n ≡ true →
+        is_member right.now n ≡ true) }
 {
     let mut from = i64::MIN;
     let (mut on_left, mut on_right) = (left, right);

@@ -1,4 +1,5 @@
-ghost use Rattle.std.specs.Prelude.{◌≡◌, ◌↔◌, ℕ, Bool, List, [], ◌∷◌, true, false, not, ◌&&◌, ◌||◌, IfOk, IfSome, IfNone, Ok, IsTrue};
+ghost use Rattle.std.specs.Prelude.{◌≡◌, ◌↔◌, ℕ, Bool, List, [], ◌∷◌, true, false, not, ◌&&◌, ◌||◌};
+ghost use Rattle.std.specs.Prelude.{IfOk, IfSome, IfNone, Ok, IsTrue};
 ghost use Rattle.cue_sets.specs.Combination.{keeps};
 ghost use Rattle.cue_sets.specs.Texts.{is_text_member, IsAscending, IsFirstText, IsOnlyText};
 
@@ -84,7 +85,8 @@ impl TextSet {
     /// The members of both sets.
     pub fn meet(&self, alloc: Global, other: &TextSet) -> Result<TextSet, Memory>
         ensures { IfOk result (λ met. (text : List ℕ) →
-            is_text_member met text ≡ (is_text_member self.now text && is_text_member other.now text)) }
+            is_text_member met text ≡ (is_text_member self.now text
+            && is_text_member other.now text)) }
     {
         self.combined(alloc, Combination::Meet, other)
     }
@@ -92,7 +94,8 @@ impl TextSet {
     /// The members of either set.
     pub fn union(&self, alloc: Global, other: &TextSet) -> Result<TextSet, Memory>
         ensures { IfOk result (λ all. (text : List ℕ) →
-            is_text_member all text ≡ (is_text_member self.now text || is_text_member other.now text)) }
+            is_text_member all text ≡ (is_text_member self.now text
+            || is_text_member other.now text)) }
     {
         self.combined(alloc, Combination::Union, other)
     }
@@ -116,7 +119,8 @@ impl TextSet {
     /// The members of this set that the other lacks.
     pub fn without(&self, alloc: Global, other: &TextSet) -> Result<TextSet, Memory>
         ensures { IfOk result (λ rest. (text : List ℕ) →
-            is_text_member rest text ≡ (is_text_member self.now text && not (is_text_member other.now text))) }
+            is_text_member rest text ≡ (is_text_member self.now text
+            && not (is_text_member other.now text))) }
     {
         self.combined(alloc, Combination::Without, other)
     }
@@ -183,7 +187,8 @@ impl TextSet {
     /// Whether each member is one of the other set too. This takes no memory.
     pub fn is_within(&self, other: &TextSet) -> bool
         ensures { IsTrue result ↔
-            ((text : List ℕ) → is_text_member self.now text ≡ true → is_text_member other.now text ≡ true) }
+            ((text : List ℕ) → is_text_member self.now text ≡ true →
+            is_text_member other.now text ≡ true) }
     {
         let (texts, others) = (self.texts.as_slice(), other.texts.as_slice());
         if self.all_but {
@@ -194,7 +199,8 @@ impl TextSet {
 
     fn combined(&self, alloc: Global, how: Combination, other: &TextSet) -> Result<TextSet, Memory>
         ensures { IfOk result (λ set. (text : List ℕ) →
-            is_text_member set text ≡ keeps how (is_text_member self.now text) (is_text_member other.now text)) }
+            is_text_member set text ≡ keeps how (is_text_member self.now text)
+            (is_text_member other.now text)) }
     {
         let lists = Lists {
             how,
@@ -214,7 +220,8 @@ impl TextSet {
         other: TextSet,
     ) -> Result<TextSet, Memory>
         ensures { IfOk result (λ set. (text : List ℕ) →
-            is_text_member set text ≡ keeps how (is_text_member self text) (is_text_member other text)) }
+            is_text_member set text ≡ keeps how (is_text_member self text)
+            (is_text_member other text)) }
     {
         let lists = Lists {
             how,

@@ -1,4 +1,5 @@
-ghost use Rattle.std.specs.Prelude.{◌≡◌, ℕ, ◌+◌, ◌<◌, Bool, ◌↔◌, [], List, length, IfOk, IfSome, IfNone, IsTrue, true, replicate};
+ghost use Rattle.std.specs.Prelude.{◌≡◌, ℕ, ◌+◌, ◌<◌, Bool, ◌↔◌, [], List, length, IfOk, IfSome};
+ghost use Rattle.std.specs.Prelude.{IfNone, IsTrue, true, replicate};
 ghost use Rattle.cue_sets.specs.Combination.{keeps};
 ghost use Rattle.cue_sets.specs.Merge.{lists, merged, prepended_if};
 ghost use Rattle.cue_sets.specs.Texts.{flipped, is_listed, IsAscending, IsFirstText};
@@ -58,8 +59,10 @@ struct Least<'a> {
 
 /// The least text of two ascending lists, where one has a text.
 fn least_text<'a>(left: &'a [Text], right: &'a [Text]) -> Option<Least<'a>>
-    ensures some { IfSome result (λ next. (kept : Bool → Bool → Bool) → merged kept left.now right.now
-        ≡ prepended_if (kept next.in_left next.in_right) next.text.now (merged kept next.left.now next.right.now)) }
+    ensures some { IfSome result (λ next. (kept : Bool → Bool → Bool) →
+        merged kept left.now right.now
+        ≡ prepended_if (kept next.in_left next.in_right) next.text.now
+        (merged kept next.left.now next.right.now)) }
     ensures shorter { IfSome result (λ next.
         length next.left.now + length next.right.now < length left.now + length right.now) }
     ensures none { IfNone result ((left.now ≡ []) × (right.now ≡ [])) }
@@ -118,7 +121,8 @@ pub(crate) fn merge(
     right: &[Text],
 ) -> Result<Vec<Text>, Memory>
     ensures { IfOk result (λ texts.
-        texts.items ≡ merged (lists how.how how.left_all_but how.right_all_but) left.now right.now) }
+        texts.items ≡ merged (lists how.how how.left_all_but how.right_all_but) left.now
+        right.now) }
 {
     let mut texts = Vec::with_capacity(alloc, left.len() + right.len())?;
     let (mut on_left, mut on_right) = (left, right);

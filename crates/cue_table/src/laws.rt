@@ -2,7 +2,8 @@
 ghost use Rattle.std.specs.Prelude.{◌≡◌};
 ghost use Rattle.cue_table.specs.Tree.{Tree, rows_of};
 ghost use Rattle.cue_table.specs.Form.{IsTable};
-ghost use Rattle.cue_table.specs.Narrower.{MeetsCommute, MeetsAssociate, MeetsRepeat, MeetsNarrow, MeetsAreWidest};
+ghost use Rattle.cue_table.specs.Narrower.{MeetsCommute, MeetsAssociate, MeetsRepeat, MeetsNarrow};
+ghost use Rattle.cue_table.specs.Narrower.{MeetsAreWidest};
 ghost use Rattle.cue_table.specs.Rows.{AreRows, InPathOrder};
 ghost use Rattle.cue_table.specs.Refuses.{SameRefusals, TableRefuses};
 

@@ -85,7 +85,8 @@ impl<R: Narrow> Node<R> {
     /// The branch at a path.
     pub(crate) fn walk(&self, steps: &[Step]) -> Option<&Node<R>>
         requires { IsTable R.refuses R.is_value self.now }
-        ensures found { option_map (λ node. node.now) result ≡ branch_at self.now (map step_of steps.now) }
+        ensures found { option_map (λ node. node.now) result
+            ≡ branch_at self.now (map step_of steps.now) }
         ensures form { IfSome result (λ node. IsTable R.refuses R.is_value node.now) }
     {
         let mut node = self;
@@ -174,7 +175,8 @@ fn copy_children<R: Narrow>(alloc: Global, children: &[Child<R>]) -> Result<Vec<
 /// Where the branch at a step is among the branches, or where it would stand.
 pub(crate) fn place<R: Narrow>(children: &[Child<R>], step: &Step) -> Result<usize, usize>
     requires { Rise (branches children.now) }
-    ensures { MatchResult result (IsPlace children.now (step_of step.now)) (IsGap children.now (step_of step.now)) }
+    ensures { MatchResult result (IsPlace children.now (step_of step.now))
+        (IsGap children.now (step_of step.now)) }
 {
     children.binary_search_by(|child| child.step.compare(step))
 }

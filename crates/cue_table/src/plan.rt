@@ -164,7 +164,8 @@ fn plan_slots<R: Narrow>(
 ) -> Result<Vec<Slot<R>>, Memory>
     requires left { AreBranches (IsKept R.refuses R.is_value) (branches left.now) }
     requires right { AreBranches (IsKept R.refuses R.is_value) (branches right.items) }
-    ensures room { IfOk result (λ slots. width (slots_of slots.items) ≤ length left.now + length right.items) }
+    ensures room { IfOk result (λ slots. width (slots_of slots.items)
+        ≤ length left.now + length right.items) }
     ensures union { IfOk result (λ slots. IsMerge R.refuses (IsKept R.refuses R.is_value)
         (branches left.now) (branches right.items)
         (merged (slots_of slots.items) (branches left.now))) }

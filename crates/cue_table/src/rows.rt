@@ -14,7 +14,8 @@ use std::alloc::Global;
 impl<R: Narrow> Table<R> {
     /// The rows with their paths, in path order.
     pub fn rows(&self, alloc: Global) -> Result<Vec<(Path, &R)>, Memory>
-        ensures rows { IfOk result (λ rows. map (λ row. (row.0, row.1.now)) rows.items ≡ rows_of self.now) }
+        ensures rows { IfOk result (λ rows. map (λ row. (row.0, row.1.now)) rows.items
+            ≡ rows_of self.now) }
         ensures form { IsTable R.refuses R.is_value self.now }
     {
         let mut rows = Vec::new(alloc);
@@ -32,7 +33,8 @@ fn push_rows<'a, R: Narrow>(
 ) -> Result<(), Memory>
     requires { length path.now + tree_depth branch.now ≤ step_limit }
     ensures { OnOk result (map (λ row. (row.0, row.1.now)) rows.new.items
-        ≡ map (λ row. (row.0, row.1.now)) rows.old.items ++ map (beyond path.now) (rows_of branch.now)) }
+        ≡ map (λ row. (row.0, row.1.now)) rows.old.items
+        ++ map (beyond path.now) (rows_of branch.now)) }
 {
     if let Some(row) = branch.row() {
         rows.push((path.copy(alloc)?, row))?;

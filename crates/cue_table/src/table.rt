@@ -47,7 +47,8 @@ impl<R: Narrow> Model for Table<R> {
     ghost use Rattle.cue_lattice.specs.Limits.{step_limit};
     ghost use Rattle.cue_table.specs.Depth.{tree_depth};
 
-    ghost invariant = { λ table. IsTable R.refuses R.is_value table.root × (tree_depth table.root ≤ step_limit) };
+    ghost invariant = { λ table. IsTable R.refuses R.is_value table.root
+        × (tree_depth table.root ≤ step_limit) };
 }
 
 impl<R: Narrow> Table<R> {
