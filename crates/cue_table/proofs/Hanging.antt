@@ -1,5 +1,5 @@
 -- Branches that are hung in behind all others.
-use Rattle.std.proofs.Common.{◌≡◌, ◌↔◌, ◌⊎◌, Option, Some, None, Bool, true, not, List, [], ◌∷◌, ◌++◌, append_assoc, append-nil, map, length, refl, sym, ap, subst, ◌∙◌, inl, inr, ⊎_elim, ℕ, ◌<◌, ◌≤◌, arith}
+use Rattle.std.proofs.Common.{◌≡◌, ◌↔◌, ◌⊎◌, Option, Some, None, Bool, true, not, List, [], ◌∷◌, ◌++◌, append_assoc, append-nil, map, length, refl, sym, ap, subst, ◌∙◌, inl, inr, ⊎_elim, ◌<◌, ◌≤◌, arith}
 use Rattle.std.specs.Option.{is_some, option_map}
 use Rattle.std.specs.declared.cmp.Ordering.{Ordering}
 use Rattle.std.specs.declared.cmp.Ordering.TheVariants.{Less, Equal, Greater}
@@ -12,7 +12,7 @@ use Rattle.cue_row.specs.declared.step.Step as program
 use Rattle.cue_table.specs.declared.node.Child.{Child}
 use Rattle.cue_table.specs.Tree.{Tree, node, Children, none, child, empty, taken, find}
 use Rattle.cue_table.specs.Depth.{tree_depth, children_depth}
-use Rattle.cue_table.specs.Form.{IsBelowAll, IsTaken, IsTree, AreBranches, IsKept}
+use Rattle.cue_table.specs.Form.{IsBelowAll, IsTaken, IsTree, AreBranches}
 use Rattle.cue_table.specs.Many.{IsOfBranches, IsUnified, under}
 use Rattle.cue_table.specs.Meet.{IsMet, IsAdded}
 use Rattle.cue_table.specs.Plan.{or_row}

@@ -142,19 +142,18 @@ module _ {R Q : Type 0} (refuses : R → Q → Type 0) (is_value : R → Type 0)
 
   pub altered :
       (left right rest others from after : List (Child R Q)) (slots more : List (Slot R Q)) (c d : Child R Q) (at : ℕ) (next : Change R) → GoesOn refuses is_value left right rest (c ∷ others) slots
-      → IsPlace rest (step_of c.step) at → d ≡ get_or rest at d → IsTable refuses is_value (changed next (get_or rest at d).node) → IsMet refuses (get_or rest at d).node c.node (changed next (get_or rest at d).node)
+      → IsPlace rest (step_of c.step) at → d ≡ get_or rest at d → IsTable refuses is_value (changed next d.node) → IsMet refuses d.node c.node (changed next d.node)
       → from ≡ drop at rest → after ≡ drop 1 from → more ≡ slots ++ Alter at next ∷ [] → GoesOn refuses is_value left right after others more
   altered left right rest others from after slots more c d at next g place is form met e f h =
       let end : after ≡ drop (at + 1) rest = f ∙ ap (drop 1) e ∙ drop_one at rest in
       subst (λ x. GoesOn refuses is_value left right x others more) (sym end)
-      (subst (λ x. GoesOn refuses is_value left right (drop (at + 1) rest) others x) (sym h) (goes_alter refuses is_value left right rest others slots c d at next g place is
-      (subst (λ x. IsTable refuses is_value (changed next x.node)) (sym is) form) (subst (λ x. IsMet refuses x.node c.node (changed next x.node)) (sym is) met)))
+      (subst (λ x. GoesOn refuses is_value left right (drop (at + 1) rest) others x) (sym h) (goes_alter refuses is_value left right rest others slots c d at next g place is form met))
 
   -- the branch at a place is in form
-  pub at_form : (cs : List (Child R Q)) (at : ℕ) (d : Child R Q) → AreBranches (IsKept refuses is_value) (branches cs) → at < length cs → IsTable refuses is_value (get_or cs at d).node
-  at_form [] at d h l = absurd (omega arith)
-  at_form (c ∷ cs) zero d h l = h.2
-  at_form (c ∷ cs) (suc at) d h l = at_form cs at d h.3 (omega arith)
+  pub at_form : (cs : List (Child R Q)) (at : ℕ) (d : Child R Q) → AreBranches (IsKept refuses is_value) (branches cs) → at < length cs → d ≡ get_or cs at d → IsTable refuses is_value d.node
+  at_form [] at d h l is = absurd (omega arith)
+  at_form (c ∷ cs) zero d h l is = subst (λ x. IsTable refuses is_value x.node) (sym is) h.2
+  at_form (c ∷ cs) (suc at) d h l is = at_form cs at d h.3 (omega arith) is
 
   pub first_form : (left right rest others : List (Child R Q)) (slots : List (Slot R Q)) (c : Child R Q) → GoesOn refuses is_value left right rest (c ∷ others) slots → IsTable refuses is_value c.node
   first_form left right rest others slots c g = let h = g.others_form in h.2

@@ -6,6 +6,7 @@ ghost use Rattle.cue_table.specs.Form.{IsKept, IsTable};
 ghost use Rattle.cue_table.specs.RowList.{Appends, last_cmp};
 ghost use Rattle.cue_table.specs.View.{branches};
 
+use crate::boxed::Boxed;
 use crate::chain::single;
 use crate::node::{Child, Node};
 use cue_lattice::{Memory, Narrow};
@@ -32,7 +33,7 @@ pub(crate) fn append<R: Narrow>(
         if node.row.is_some() || !node.children.is_empty() {
             return Ok(false);
         }
-        node.row = Some(row);
+        node.row = Some(Boxed::new(alloc, row)?);
         return Ok(true);
     };
     match last_against(&node.children, first) {

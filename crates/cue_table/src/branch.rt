@@ -45,7 +45,7 @@ impl<'a, R: Narrow> Branch<'a, R> {
         ensures form { IsTable R.refuses R.is_value self.now }
     {
         let node = self.node;
-        node.row.as_ref()
+        node.row()
     }
 
     /// The branch one step below.

@@ -4,6 +4,7 @@ ghost use Rattle.cue_row.specs.Steps.{step_of};
 ghost use Rattle.cue_table.specs.Meet.{chain};
 ghost use Rattle.cue_table.specs.Tree.{node, none, child};
 
+use crate::boxed::Boxed;
 use crate::node::{Child, Node};
 use cue_lattice::{Memory, Narrow};
 use cue_row::Step;
@@ -15,7 +16,7 @@ pub(crate) fn single<R: Narrow>(alloc: Global, steps: &[Step], row: R) -> Result
 {
     match steps {
         [] => Ok(Node {
-            row: Some(row),
+            row: Some(Boxed::new(alloc, row)?),
             children: Vec::new(alloc),
         }),
         [first, rest @ ..] => {

@@ -2,6 +2,7 @@
 #![tactic(auto)]
 
 mod append;
+mod boxed;
 mod branch;
 mod chain;
 mod fill;

@@ -1,11 +1,12 @@
 ghost use Rattle.std.specs.Prelude.{◌≡◌, ◌↔◌, map, IfOk, IfSome, IsTrue, MatchResult, None};
 ghost use Rattle.std.specs.Option.{option_map};
-ghost use Rattle.cue_table.specs.Tree.{empty, below, taken, find, branch_at};
+ghost use Rattle.cue_table.specs.Tree.{empty, below, row_of, taken, find, branch_at};
 ghost use Rattle.cue_table.specs.Form.{IsTable, Rise};
 ghost use Rattle.cue_row.specs.Steps.{step_of};
 ghost use Rattle.cue_table.specs.View.{branches};
 ghost use Rattle.cue_table.specs.Place.{IsGap, IsPlace};
 
+use crate::boxed::Boxed;
 use cue_lattice::{Memory, Narrow};
 use cue_row::Step;
 use std::alloc::Global;
@@ -16,7 +17,7 @@ use std::marker::Model;
 #[cycle(node)]
 pub struct Node<R: Narrow> {
     /// What is known at the place itself, unless that is nothing.
-    pub(crate) row: Option<R>,
+    pub(crate) row: Option<Boxed<R>>,
     /// The branches below, each at its step, in the order of the steps.
     pub(crate) children: Vec<Child<R>>,
 }
@@ -68,6 +69,16 @@ impl<R: Narrow> Node<R> {
             Some(_) => Some(self),
             None if self.children.is_empty() => None,
             None => Some(self),
+        }
+    }
+
+    /// The row at the place itself.
+    pub(crate) fn row(&self) -> Option<&R>
+        ensures { option_map (λ row. row.now) result ≡ row_of self.now }
+    {
+        match &self.row {
+            None => None,
+            Some(row) => Some(row.row()),
         }
     }
 
@@ -127,12 +138,12 @@ impl<R: Narrow> Child<R> {
     }
 }
 
-fn same_row<R: Narrow>(left: &Option<R>, right: &Option<R>) -> bool
+fn same_row<R: Narrow>(left: &Option<Boxed<R>>, right: &Option<Boxed<R>>) -> bool
     ensures { IsTrue result ↔ (left.now ≡ right.now) }
 {
     match (left, right) {
         (None, None) => true,
-        (Some(a), Some(b)) => a.same(b),
+        (Some(a), Some(b)) => a.row().same(b.row()),
         _ => false,
     }
 }
@@ -152,12 +163,12 @@ fn same_children<R: Narrow>(left: &[Child<R>], right: &[Child<R>]) -> bool
     true
 }
 
-fn copy_row<R: Narrow>(alloc: Global, row: &Option<R>) -> Result<Option<R>, Memory>
+fn copy_row<R: Narrow>(alloc: Global, row: &Option<Boxed<R>>) -> Result<Option<Boxed<R>>, Memory>
     ensures { IfOk result (λ copied. copied ≡ row.now) }
 {
     match row {
         None => Ok(None),
-        Some(row) => Ok(Some(row.copy(alloc)?)),
+        Some(row) => Ok(Some(Boxed::new(alloc, row.row().copy(alloc)?)?)),
     }
 }
 

@@ -1,6 +1,6 @@
 //! What becomes of a place that takes another one over: found out before it changes, so that the change itself takes no
 //! memory.
-ghost use Rattle.std.specs.Prelude.{◌≡◌, ◌+◌, ◌≤◌, drop, length, IfOk, IsTrue};
+ghost use Rattle.std.specs.Prelude.{◌≡◌, ◌+◌, ◌<◌, ◌≤◌, drop, length, slice_index_or, IfOk, IsTrue};
 ghost use Rattle.cue_table.specs.Form.{AreBranches, IsKept, IsRow, IsTable};
 ghost use Rattle.cue_table.specs.Meet.{IsMerge, IsMet, IsUnion};
 ghost use Rattle.cue_table.specs.Plan.{IsAmending, changed, changed_below, merged, or_row, width};
@@ -8,6 +8,7 @@ ghost use Rattle.cue_table.specs.PlanView.{HasRoom, below_of, slots_of};
 ghost use Rattle.cue_table.specs.Refuses.{RowRefuses};
 ghost use Rattle.cue_table.specs.View.{branches};
 
+use crate::boxed::Boxed;
 use crate::node::{Child, Node, place};
 use cue_lattice::{Memory, Narrow, Narrowed};
 use std::alloc::Global;
@@ -18,7 +19,7 @@ use std::marker::Model;
 #[cycle(plan)]
 pub(crate) struct Plan<R: Narrow> {
     /// The row that stands there then, unless it stays as it is.
-    pub(crate) row: Option<R>,
+    pub(crate) row: Option<Boxed<R>>,
     /// What becomes of the branches.
     pub(crate) below: Below<R>,
 }
@@ -91,9 +92,9 @@ pub(crate) fn planned<R: Narrow>(
 /// The row that stands at a place then, unless it stays as it is.
 pub(crate) fn plan_row<R: Narrow>(
     alloc: Global,
-    left: &Option<R>,
-    right: Option<R>,
-) -> Result<Option<R>, Memory>
+    left: &Option<Boxed<R>>,
+    right: Option<Boxed<R>>,
+) -> Result<Option<Boxed<R>>, Memory>
     requires left { IsRow (IsKept R.refuses R.is_value) left.now }
     requires right { IsRow (IsKept R.refuses R.is_value) right }
     ensures form { IfOk result (λ row. IsRow (IsKept R.refuses R.is_value) (or_row row left.now)) }
@@ -104,11 +105,11 @@ pub(crate) fn plan_row<R: Narrow>(
     match (left, right) {
         (None, row) => Ok(row),
         (Some(_), None) => Ok(None),
-        (Some(old), Some(row)) => match old.narrowed_by(alloc, row)? {
+        (Some(old), Some(row)) => match old.row().narrowed_by(alloc, row.into_row())? {
             Narrowed::Unchanged => Ok(None),
             Narrowed::To(met) => {
                 met.known();
-                Ok(Some(met))
+                Ok(Some(Boxed::new(alloc, met)?))
             }
         },
     }
@@ -176,7 +177,7 @@ fn plan_slots<R: Narrow>(
     while let Some(child) = others.next() {
         match place(rest, &child.step) {
             Ok(at) => {
-                let change = planned(alloc, &rest[at].node, child.node)?;
+                let change = planned(alloc, &branch_at(rest, at).node, child.node)?;
                 slots.push(Slot::Alter(at, change))?;
                 rest = behind(behind(rest, at), 1);
             }
@@ -188,6 +189,14 @@ fn plan_slots<R: Narrow>(
     }
     slots.push(Slot::Keep(rest.len()))?;
     Ok(slots)
+}
+
+/// The branch at a place of a list.
+fn branch_at<R: Narrow>(children: &[Child<R>], at: usize) -> &Child<R>
+    requires { at < length children.now }
+    ensures { result.now ≡ slice_index_or children.now at result.now }
+{
+    &children[at]
 }
 
 /// The branches behind the first ones.

@@ -12,6 +12,7 @@ ghost use Rattle.cue_table.specs.RowList.{AppendsKept, last_cmp};
 
 use crate::Branch;
 use crate::append::{append, last_against};
+use crate::boxed::Boxed;
 use crate::chain::{one_branch, single};
 use crate::fill::change;
 use crate::node::{Child, Node};
@@ -67,7 +68,7 @@ impl<R: Narrow> Table<R> {
         ensures row { option_map (λ row. row.now) result ≡ row_at self.now path.now }
         ensures form { IsTable R.refuses R.is_value self.now }
     {
-        self.root.walk(path.steps())?.row.as_ref()
+        self.root.walk(path.steps())?.row()
     }
 
     /// The branch at a path, where a row stands there or below.
@@ -155,7 +156,7 @@ impl<R: Narrow> Table<R> {
             return Ok(());
         }
         row.known();
-        let Some(met) = plan_row(self.alloc, &root.row, Some(row))? else {
+        let Some(met) = plan_row(self.alloc, &root.row, Some(Boxed::new(self.alloc, row)?))? else {
             return Ok(());
         };
         root.row = Some(met);
@@ -167,7 +168,7 @@ impl<R: Narrow> Table<R> {
         ensures row { result ≡ row_of self.old }
         ensures rest { self.new ≡ node None (below self.old) }
     {
-        self.root.row.take()
+        Some(self.root.row.take()?.into_row())
     }
 
     /// Adds a row that stands behind all others in path order, and says whether it does: where another row stands at the

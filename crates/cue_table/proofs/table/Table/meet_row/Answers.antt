@@ -1,8 +1,10 @@
-use Rattle.std.proofs.Common.{◌≡◌, ◌≤◌, ◌∙◌, Some, None, refl, sym, ap, subst}
+use Rattle.std.proofs.Common.{◌≤◌, ◌∙◌, Some, refl, sym, ap, subst}
 use Rattle.cue_lattice.specs.Limits.{step_limit}
 use Rattle.cue_table.specs.Form.{IsKept, IsRow, IsTree}
 use Rattle.cue_table.specs.Depth.{tree_depth}
+use Rattle.cue_table.specs.Meet.{IsUnion}
 use Rattle.cue_table.specs.Plan.{or_row}
+use Rattle.cue_table.specs.Refuses.{RowRefuses}
 use Rattle.cue_table.specs.Tree.{node}
 use Rattle.cue_table.specs.View.{branches}
 use Rattle.cue_table.proofs.Hanging.{added_row}
@@ -15,7 +17,15 @@ pub plan_row-requires-clause-left : goal.plan_row-requires-clause-left
 plan_row-requires-clause-left g c = (subst (IsTree (IsKept g.R.Narrow.refuses g.R.Narrow.is_value)) (sym c.root.view_is) c.self.invariant.0).0
 
 pub plan_row-requires-clause-right : goal.plan_row-requires-clause-right
-plan_row-requires-clause-right g c = (c.known.ensures, λ free. let no = c.if-refuses_nothing.ensures.1 free in cc)
+plan_row-requires-clause-right g c =
+    let kept : IsKept g.R.Narrow.refuses g.R.Narrow.is_value c.args.row = (c.known.ensures, λ free. let no = c.if-refuses_nothing.ensures.1 free in cc) in
+    subst (IsKept g.R.Narrow.refuses g.R.Narrow.is_value) (sym c.in_ok-new.ensures) kept
+
+pub same-root-in-Break-branch-2 : goal.same-root-in-Break-branch-2
+same-root-in-Break-branch-2 g c = refl
+
+pub invariant_of-self-in_err-new : goal.invariant_of-self-in_err-new
+invariant_of-self-in_err-new g c = c.self.invariant
 
 pub invariant_of-self-in_err-met : goal.invariant_of-self-in_err-met
 invariant_of-self-in_err-met g c = c.self.invariant
@@ -37,4 +47,5 @@ invariant_of-self-2 g c =
 pub returns-clause-ok : goal.returns-clause-ok
 returns-clause-ok g c =
     added_row g.R.Narrow.refuses c.root.inside.row (Some c.in-Some.met) c.in_ok-met.field-0 c.args.row (branches c.root.inside.children.items) c.args.self.now (c.root.view_is ∙ c.self.view_is)
-    (ap (λ row. or_row row c.root.inside.row) c.in-Some.is) c.in_ok-met.ensures.refused
+    (ap (λ row. or_row row c.root.inside.row) c.in-Some.is)
+    (subst (λ row. IsUnion (RowRefuses g.R.Narrow.refuses c.root.inside.row) (g.R.Narrow.refuses row) (RowRefuses g.R.Narrow.refuses (or_row c.in_ok-met.field-0 c.root.inside.row))) c.in_ok-new.ensures c.in_ok-met.ensures.refused)
