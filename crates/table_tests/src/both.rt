@@ -2,7 +2,7 @@
 use crate::plain::{Entry, Plain};
 use cue_lattice::{Memory, Narrow};
 use cue_row::Path;
-use cue_table::Table;
+use cue_table::{Branch, Table};
 use std::alloc::Global;
 use std::cmp::Ordering;
 
@@ -91,19 +91,50 @@ pub fn adds<R: Narrow>(alloc: Global, rows: &[Entry<R>]) -> Result<bool, Memory>
     Ok(copied.same(&tree) && again.same(&tree) && has_rows(alloc, &tree, &plain)?)
 }
 
+/// The unification of the trees of two lists of rows.
+fn met<R: Narrow>(
+    alloc: Global,
+    left: &[Entry<R>],
+    right: &[Entry<R>],
+) -> Result<Table<R>, Memory> {
+    tree(alloc, left)?.meet(alloc, &tree(alloc, right)?)
+}
+
+/// Whether the unification in place is the same.
+fn is_taken<R: Narrow>(
+    alloc: Global,
+    left: &[Entry<R>],
+    right: &[Entry<R>],
+    met: &Table<R>,
+) -> Result<bool, Memory> {
+    let mut mine = tree(alloc, left)?;
+    mine.meet_with(tree(alloc, right)?)?;
+    Ok(mine.same(met))
+}
+
+/// Whether the tree lists the rows that the plain list of both has.
+fn has_both<R: Narrow>(
+    alloc: Global,
+    left: &[Entry<R>],
+    right: &[Entry<R>],
+    met: &Table<R>,
+) -> Result<bool, Memory> {
+    has_rows(alloc, met, &plain(alloc, left)?.add_all(alloc, right)?)
+}
+
 /// Whether the unification of two tables is that of the plain lists, both ways round and in place.
 pub fn meets<R: Narrow>(
     alloc: Global,
     left: &[Entry<R>],
     right: &[Entry<R>],
 ) -> Result<bool, Memory> {
-    let mut mine = tree(alloc, left)?;
-    let theirs = tree(alloc, right)?;
-    let wanted = plain(alloc, left)?.add_all(alloc, right)?;
-    let met = mine.meet(alloc, &theirs)?;
-    let turned = theirs.meet(alloc, &mine)?;
-    mine.meet_with(theirs)?;
-    Ok(met.same(&turned) && mine.same(&met) && has_rows(alloc, &met, &wanted)?)
+    let first = met(alloc, left, right)?;
+    let turned = met(alloc, right, left)?;
+    Ok(
+        first.same(&turned)
+            && is_taken(alloc, left, right, &first)?
+            && has_both(alloc, left, right, &first)?,
+    )
 }
 
 /// Whether the tree tells two tables apart as the plain list does.
@@ -134,6 +165,21 @@ pub fn adds_or_stays<R: Narrow>(
     Ok(mine.same(&before))
 }
 
+/// Whether two tables have a unification.
+fn is_met<R: Narrow>(alloc: Global, mine: &Table<R>, theirs: &Table<R>) -> bool {
+    mine.meet(alloc, theirs).is_ok()
+}
+
+/// Whether a table has a copy.
+fn is_copied<R: Narrow>(alloc: Global, table: &Table<R>) -> bool {
+    table.copy(alloc).is_ok()
+}
+
+/// Whether the tree lists exactly these rows.
+fn has_all<R: Narrow>(alloc: Global, tree: &Table<R>, rows: &[Entry<R>]) -> Result<bool, Memory> {
+    has_rows(alloc, tree, &plain(alloc, rows)?)
+}
+
 /// Whether both tables are as they were after a unification into a third that was refused, and after copies that were.
 pub fn meets_or_stays<R: Narrow>(
     alloc: Global,
@@ -142,14 +188,9 @@ pub fn meets_or_stays<R: Narrow>(
 ) -> Result<bool, Memory> {
     let mine = tree(alloc, left)?;
     let theirs = tree(alloc, right)?;
-    let my_rows = plain(alloc, left)?;
-    let their_rows = plain(alloc, right)?;
-    let refused = mine.meet(alloc, &theirs).is_err();
-    let not_copied = mine.copy(alloc).is_err() || theirs.copy(alloc).is_err();
-    if refused || not_copied {
-        return Ok(has_rows(alloc, &mine, &my_rows)? && has_rows(alloc, &theirs, &their_rows)?);
-    }
-    Ok(true)
+    let met = is_met(alloc, &mine, &theirs);
+    let copied = is_copied(alloc, &mine) && is_copied(alloc, &theirs);
+    Ok(met && copied || has_all(alloc, &mine, left)? && has_all(alloc, &theirs, right)?)
 }
 
 /// Whether a unification in place that is refused leaves the table as it was.
@@ -164,20 +205,31 @@ pub fn takes_or_stays<R: Narrow>(
     Ok(!refused || mine.same(&before))
 }
 
-/// The labels and the indexes below a path, each with a comma, where something stands there.
-pub fn below<R: Narrow>(alloc: Global, rows: &[Entry<R>], path: &Path) -> Result<String, Memory> {
-    let mut out = String::new(alloc);
-    let tree = tree(alloc, rows)?;
-    let Some(branch) = tree.branch(path) else {
-        return Ok(out);
-    };
+/// Writes the labels below a branch, each with a comma.
+fn push_labels<R: Narrow>(out: &mut String, branch: &Branch<R>) -> Result<(), Memory> {
     for (label, _) in branch.labels() {
         out.push_str(label)?;
         out.push(',')?;
     }
+    Ok(())
+}
+
+/// Writes the indexes below a branch, each with a comma where a row stands there.
+fn push_indexes<R: Narrow>(out: &mut String, branch: &Branch<R>) -> Result<(), Memory> {
     for (index, lower) in branch.items() {
         out.push(if index == 0 { '0' } else { '1' })?;
         out.push(if lower.row().is_some() { ',' } else { ';' })?;
+    }
+    Ok(())
+}
+
+/// The labels and the indexes below a path, each with a comma, where something stands there.
+pub fn below<R: Narrow>(alloc: Global, rows: &[Entry<R>], path: &Path) -> Result<String, Memory> {
+    let mut out = String::new(alloc);
+    let tree = tree(alloc, rows)?;
+    if let Some(branch) = tree.branch(path) {
+        push_labels(&mut out, &branch)?;
+        push_indexes(&mut out, &branch)?;
     }
     Ok(out)
 }
