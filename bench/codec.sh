@@ -5,17 +5,18 @@
 # table that it made. The column `growth` is the exponent of growth for each byte from the first size to the last: 1.00 is
 # linear. Then, at the last size, the instructions for each byte, and how many times those of a copy of the bytes they
 # are. At the end a table of 160,000 fields. The script ends with 1 where a growth is above 1.15. It takes some minutes.
-# Usage, at the top of the repository: bench/codec.sh [PROGRAM], where PROGRAM is what `rt run` makes of bench_tables.
+# Usage, at the top of the repository: bench/codec.sh [PROGRAM], where PROGRAM is what `rt run` makes of bench.
 # It wants valgrind.
 set -eu
 . bench/instructions.sh
-program=${1:-$(built bench_tables)}
+program=${1:-$(built bench)}
+part=tables
 
 # the bytes of the state, and the instructions of encode, decode and copy: SHAPE COUNT
 costs() {
     local making work
     making=$(instructions copy "$@" 0)
-    "$program" copy "$@" 0
+    "$program" "$part" copy "$@" 0
     for work in encode decode copy; do
         echo $(($(instructions "$work" "$@" 1) - making))
     done

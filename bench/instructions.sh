@@ -9,9 +9,9 @@ built() {
     echo "$program"
 }
 
-# the instructions of a run of $program with these words
+# the instructions of a run of $program on its part $part with these words
 instructions() {
-    valgrind --tool=callgrind --callgrind-out-file=/dev/null "$program" "$@" 2>&1 > /dev/null |
+    valgrind --tool=callgrind --callgrind-out-file=/dev/null "$program" "$part" "$@" 2>&1 > /dev/null |
         awk '/Collected/ { print $4 }'
 }
 

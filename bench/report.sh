@@ -4,11 +4,12 @@
 # as many gaps as fields (open) or as many conflicts (clashing). The making of the table is taken off, and what is listed
 # is dropped again. The last column is the exponent of growth from the first size to the last: 1.00 is linear. The script
 # ends with 1 where one is above 1.15. It takes some minutes.
-# Usage, at the top of the repository: bench/report.sh [PROGRAM], where PROGRAM is what `rt run` makes of bench_tables.
+# Usage, at the top of the repository: bench/report.sh [PROGRAM], where PROGRAM is what `rt run` makes of bench.
 # It wants valgrind.
 set -eu
 . bench/instructions.sh
-program=${1:-$(built bench_tables)}
+program=${1:-$(built bench)}
+part=tables
 
 worst=0
 # a line: WORK SHAPE

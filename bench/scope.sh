@@ -6,11 +6,12 @@
 # lexing and parsing of the text are taken off. The last column is the exponent of growth from the first size to the last:
 # 1.00 is linear. At the end the longest chain that a text can have is resolved and dropped on a stack of 8 MiB. The
 # script ends with 1 where a growth is above 1.15 or the chain fails. It takes some minutes.
-# Usage, at the top of the repository: bench/scope.sh [PROGRAM], where PROGRAM is what `rt run` makes of bench_scope. It
+# Usage, at the top of the repository: bench/scope.sh [PROGRAM], where PROGRAM is what `rt run` makes of bench. It
 # wants valgrind.
 set -eu
 . bench/instructions.sh
-program=${1:-$(built bench_scope)}
+program=${1:-$(built bench)}
+part=scope
 
 worst=0
 # a line: SHAPE COUNT COUNT COUNT, where the last count is four times the first
@@ -31,7 +32,7 @@ measure uses 5000 10000 20000
 measure nested 125 250 500
 
 printf 'reached, to the 13th, the 14th and the 17th: '
-(for count in 13 14 17; do "$program" reached "$count" 1; done) | paste -s -d '|' | sed 's/|/, /g'
+(for count in 13 14 17; do "$program" "$part" reached "$count" 1; done) | paste -s -d '|' | sed 's/|/, /g'
 printf 'the longest chain: '
-(ulimit -s 8192 && "$program" chain 74897 1) || worst=1
+(ulimit -s 8192 && "$program" "$part" chain 74897 1) || worst=1
 exit "$worst"

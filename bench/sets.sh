@@ -4,18 +4,18 @@
 # it stands in the conjunction `!=0 & !=8 & ..`). Then how the time grows for each piece from the first size to the last:
 # 1.00 is linear, and a list that is unified by halves has 1.15. It is the processor's time in the program itself, the
 # least of five runs, with the making of the sets taken off. The script ends with 1 where a growth is above 1.20.
-# Usage, at the top of the repository: bench/sets.sh [PROGRAM], where PROGRAM is what `rt run` makes of bench_sets.
+# Usage, at the top of the repository: bench/sets.sh [PROGRAM], where PROGRAM is what `rt run` makes of bench.
 set -eu
-program=${1:-crates/bench_sets/out/bench_sets}
+program=${1:-crates/bench/out/bench}
 if [ ! -x "$program" ]; then
-    (cd crates/bench_sets && rt run > /dev/null)
+    (cd crates/bench && rt run > /dev/null)
 fi
 
 # the least milliseconds of five runs of the program: OPERATION PIECES ROUNDS
 measure() {
     local TIMEFORMAT=%3U
     for _ in 1 2 3 4 5; do
-        { time "$program" "$1" "$2" "$3" > /dev/null; } 2>&1 | tr -d . | sed 's/^0*//; s/^$/0/'
+        { time "$program" sets "$1" "$2" "$3" > /dev/null; } 2>&1 | tr -d . | sed 's/^0*//; s/^$/0/'
     done | sort -n | head -n 1
 }
 

@@ -5,11 +5,12 @@
 # The making of the tables is taken off.
 # The last column is the exponent of growth from the first size to the last: 1.00 is linear. The script ends with 1 where
 # one is above 1.15. It takes some minutes.
-# Usage, at the top of the repository: bench/table.sh [PROGRAM], where PROGRAM is what `rt run` makes of bench_table. It
+# Usage, at the top of the repository: bench/table.sh [PROGRAM], where PROGRAM is what `rt run` makes of bench. It
 # wants valgrind.
 set -eu
 . bench/instructions.sh
-program=${1:-$(built bench_table)}
+program=${1:-$(built bench)}
+part=unify
 
 worst=0
 # a line: WORK SHAPE

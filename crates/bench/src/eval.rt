@@ -1,8 +1,8 @@
 //! Evaluates long texts that it makes itself, to see how the cost grows with their size.
 //!
-//! Without arguments it prints how many rows the tables of small texts have. With the words SHAPE
-//! COUNT ROUNDS it makes the text, parses and resolves it and evaluates it so many times; it prints
-//! 0 rows, or why the text is refused. SHAPE is one of these, each with COUNT parts:
+//! The samples are how many rows the tables of small texts have. With the words SHAPE COUNT ROUNDS
+//! the text is made, parsed and resolved, and evaluated so many times; 0 rows are told, or why the
+//! text is refused. SHAPE is one of these, each with COUNT parts:
 //! - `wide`: fields with an integer each; `deep`: 62 structs one in the other, with COUNT such fields
 //!   each.
 //! - `services`: services that use one definition, each declared six times.
@@ -17,10 +17,7 @@
 //!   closes 5,000 fields again.
 //! - `same-label`: declarations of one label; `conjunction`: a field with a long `&` of structs.
 //! - `nested`: fields with an integer in 64 parentheses; `long-texts`: fields with the longest labels.
-#![tactic(auto)]
-
-mod shape;
-
+use crate::fault::{Fault, number};
 use crate::shape::Shape;
 use anyhow::Error;
 use cue_eval::evaluate;
@@ -29,19 +26,6 @@ use cue_lex::{Token, lex};
 use cue_scope::{Resolved, resolve};
 use cue_syntax::{File, parse};
 use std::alloc::Global;
-use std::{env, error, fmt};
-
-/// The words are not SHAPE COUNT ROUNDS.
-#[derive(Debug, Clone, Copy)]
-struct Usage;
-
-impl fmt::Display for Usage {
-    fn fmt<W: fmt::Write>(&self, f: &mut fmt::Formatter<W>) -> fmt::Result {
-        f.write_str("usage: bench_eval [SHAPE COUNT ROUNDS]")
-    }
-}
-
-impl error::Error for Usage {}
 
 /// What is done with a text that was resolved.
 #[derive(Clone, Copy)]
@@ -114,32 +98,25 @@ fn answer(alloc: Global, shape: Shape, count: u32, work: Work) -> Result<String,
 }
 
 /// What is asked for in words, and what came of it.
-fn asked(alloc: Global, words: &[String]) -> Result<String, Error> {
-    if words.len() < 4 {
-        return Err(Usage.into());
+pub fn asked(alloc: Global, words: &[String]) -> Result<String, Error> {
+    if words.len() < 3 {
+        return Err(Fault::Usage.into());
     }
-    let shape = Shape::named(words[1].as_str()).ok_or(Usage)?;
-    let count = words[2].as_str().parse::<u32>().ok().ok_or(Usage)?;
-    let rounds = words[3].as_str().parse::<u32>().ok().ok_or(Usage)?;
+    let shape = Shape::named(words[0].as_str()).ok_or(Fault::Usage)?;
+    let count = number(&words[1])?;
+    let rounds = number(&words[2])?;
     Ok(answer(alloc, shape, count, Work::Rounds(rounds))?)
 }
 
-fn main(rt: HostRuntime) -> Result<(), Error> {
-    let alloc = rt.alloc();
-    let mut words = Vec::new(alloc);
-    for word in env::args(&rt)? {
-        words.push(word)?;
-    }
-    if words.len() > 1 {
-        println!(rt; "{}", asked(alloc, &words)?)?;
-        return Ok(());
-    }
+/// How many rows the tables of small texts have, a line for each form.
+pub fn samples(alloc: Global) -> Result<String, Memory> {
+    let mut out = String::new(alloc);
+    let mut separator = "";
     for shape in Shape::ALL {
-        println!(rt;
-            "{} {}",
-            shape.name(),
-            answer(alloc, shape, 3, Work::Count)?
-        )?;
+        let answer = answer(alloc, shape, 3, Work::Count)?;
+        let line = format!(in alloc; "{separator}{} {answer}", shape.name())?;
+        out.push_str(line.as_str())?;
+        separator = "\n";
     }
-    Ok(())
+    Ok(out)
 }

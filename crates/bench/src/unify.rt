@@ -1,12 +1,13 @@
 //! Unifies tables of many rows, to see how the cost grows with their size.
 //!
-//! Without arguments it prints how many rows come of small tables. With the words WORK SHAPE ROWS ROUNDS it does the
-//! work on a table of so many rows, and prints whether the first row is there. WORK is `fragments` (tables of 30 new
-//! rows each, as many as ROUNDS, are unified into it, one after the other), `known` (tables of 30 rows that it has
-//! already), `equal` (it is unified with an equal one, at most once) or `disjoint` (with one of as many rows that lie
-//! between its own, at most once). With no rounds the tables are only made. SHAPE is `wide` (all rows under one parent) or `deep` (all rows under one parent 61 levels down).
-#![tactic(auto)]
-
+//! The samples are how many rows come of small tables. With the words WORK SHAPE ROWS ROUNDS the
+//! work is done on a table of so many rows, and it is told whether the first row is there. WORK is
+//! `fragments` (tables of 30 new rows each, as many as ROUNDS, are unified into it, one after the
+//! other), `known` (tables of 30 rows that it has already), `equal` (it is unified with an equal
+//! one, at most once) or `disjoint` (with one of as many rows that lie between its own, at most
+//! once). With no rounds the tables are only made. SHAPE is `wide` (all rows under one parent) or
+//! `deep` (all rows under one parent 61 levels down).
+use crate::fault::{Fault, number};
 use anyhow::Error;
 use cue_lattice::{Memory, Narrow, Text};
 use cue_row::{Labels, Level};
@@ -14,19 +15,6 @@ use cue_scalars::ScalarSet;
 use cue_sets::{IntSet, TextSet};
 use cue_table::{Path, Row, Step, Table};
 use std::alloc::Global;
-use std::{env, error, fmt};
-
-/// The words are not WORK SHAPE ROWS ROUNDS.
-#[derive(Debug, Clone, Copy)]
-struct Usage;
-
-impl fmt::Display for Usage {
-    fn fmt<W: fmt::Write>(&self, f: &mut fmt::Formatter<W>) -> fmt::Result {
-        f.write_str("usage: bench_table [fragments|known|equal|disjoint wide|deep ROWS ROUNDS]")
-    }
-}
-
-impl error::Error for Usage {}
 
 /// Where the parent of all rows is.
 #[derive(Clone, Copy)]
@@ -202,7 +190,7 @@ fn is_there<R: Narrow>(
 }
 
 /// How many rows small tables have, a line for each work.
-fn samples<R: Narrow>(alloc: Global, shape: Shape, row: &R) -> Result<String, Memory> {
+fn sampled<R: Narrow>(alloc: Global, shape: Shape, row: &R) -> Result<String, Memory> {
     let fragments = unified(alloc, Work::Fragments, shape, 60, 2, row)?;
     let known = unified(alloc, Work::Known, shape, 60, 2, row)?;
     let equal = unified(alloc, Work::Equal, shape, 60, 1, row)?;
@@ -214,32 +202,29 @@ fn samples<R: Narrow>(alloc: Global, shape: Shape, row: &R) -> Result<String, Me
     Ok(format!(in alloc; "{first}\n{second}\n{third}\n{fourth}")?)
 }
 
-/// What is asked for in words, and what came of it.
-fn asked<R: Narrow>(alloc: Global, words: &[String], row: &R) -> Result<bool, Error> {
-    if words.len() < 5 {
-        return Err(Usage.into());
+/// Whether the first row is there after the work that the words ask for.
+fn done<R: Narrow>(alloc: Global, words: &[String], row: &R) -> Result<bool, Error> {
+    if words.len() < 4 {
+        return Err(Fault::Usage.into());
     }
-    let work = Work::named(words[1].as_str()).ok_or(Usage)?;
-    let shape = Shape::named(words[2].as_str()).ok_or(Usage)?;
-    let rows = words[3].as_str().parse::<u32>().ok().ok_or(Usage)?;
-    let rounds = words[4].as_str().parse::<u32>().ok().ok_or(Usage)?;
+    let work = Work::named(words[0].as_str()).ok_or(Fault::Usage)?;
+    let shape = Shape::named(words[1].as_str()).ok_or(Fault::Usage)?;
+    let rows = number(&words[2])?;
+    let rounds = number(&words[3])?;
     let made = unified(alloc, work, shape, rows, rounds, row)?;
     Ok(is_there(alloc, shape, 0, &made)?)
 }
 
-fn main(rt: HostRuntime) -> Result<(), Error> {
-    let alloc = rt.alloc();
+/// What is asked for in words, and what came of it.
+pub fn asked(alloc: Global, words: &[String]) -> Result<String, Error> {
+    let found = done(alloc, words, &number_row(alloc, 7)?)?;
+    Ok(format!(in alloc; "{found}")?)
+}
+
+/// How many rows small tables of both shapes have, a line for each work.
+pub fn samples(alloc: Global) -> Result<String, Memory> {
     let row = number_row(alloc, 7)?;
-    let mut words = Vec::new(alloc);
-    for word in env::args(&rt)? {
-        words.push(word)?;
-    }
-    if words.len() > 1 {
-        let found = asked(alloc, &words, &row)?;
-        println!(rt; "{found}")?;
-        return Ok(());
-    }
-    println!(rt; "{}", samples(alloc, Shape::Wide, &row)?)?;
-    println!(rt; "{}", samples(alloc, Shape::Deep, &row)?)?;
-    Ok(())
+    let wide = sampled(alloc, Shape::Wide, &row)?;
+    let deep = sampled(alloc, Shape::Deep, &row)?;
+    Ok(format!(in alloc; "{wide}\n{deep}")?)
 }

@@ -1,27 +1,14 @@
 //! Combines two large sets of integers, to see how the time grows with their size.
 //!
-//! Without arguments it prints how many pieces each combination of sets of 1,000 pieces has. With the words OP COUNT
-//! ROUNDS, where OP is `meet`, `union` or `without`, it combines two sets of COUNT pieces ROUNDS times and prints how
-//! many pieces the last answer has; where OP is `meet_all`, it unifies COUNT sets, each of which lacks one integer.
-#![tactic(auto)]
-
+//! The samples are how many pieces each combination of sets of 1,000 pieces has. With the words OP
+//! COUNT ROUNDS, where OP is `meet`, `union` or `without`, two sets of COUNT pieces are combined
+//! ROUNDS times, and it is told how many pieces the last answer has; where OP is `meet_all`, COUNT
+//! sets are unified, each of which lacks one integer.
+use crate::fault::{Fault, number};
 use anyhow::Error;
 use cue_lattice::{Memory, meet_all};
 use cue_sets::IntSet;
 use std::alloc::Global;
-use std::{env, error, fmt};
-
-/// The words are not OP COUNT ROUNDS.
-#[derive(Debug, Clone, Copy)]
-struct Usage;
-
-impl fmt::Display for Usage {
-    fn fmt<W: fmt::Write>(&self, f: &mut fmt::Formatter<W>) -> fmt::Result {
-        f.write_str("usage: bench_sets [meet|union|without|meet_all COUNT ROUNDS]")
-    }
-}
-
-impl error::Error for Usage {}
 
 /// The pieces from `8 k + first` to `8 k + last` for each k from `from` up to `to`, made in balance.
 fn spaced(alloc: Global, from: u32, to: u32, first: u8, last: u8) -> Result<IntSet, Memory> {
@@ -104,26 +91,30 @@ fn count_named(alloc: Global, name: &str, pieces: u32, rounds: u32) -> Result<us
     if name == "meet_all" {
         return Ok(count_of_all(alloc, pieces, rounds)?);
     }
-    let operation = Operation::named(name).ok_or(Usage)?;
+    let operation = Operation::named(name).ok_or(Fault::Usage)?;
     Ok(count(alloc, operation, pieces, rounds)?)
 }
 
-fn main(rt: HostRuntime) -> Result<(), Error> {
-    let mut words = Vec::new(rt.alloc());
-    for word in env::args(&rt)? {
-        words.push(word)?;
+/// How many pieces the answer has that the words ask for.
+pub fn asked(alloc: Global, words: &[String]) -> Result<String, Error> {
+    if words.len() < 3 {
+        return Err(Fault::Usage.into());
     }
-    if words.len() < 4 {
-        for operation in Operation::ALL {
-            let pieces = count(rt.alloc(), operation, 1000, 1)?;
-            println!(rt; "{} {pieces}", operation.name())?;
-        }
-        println!(rt; "meet_all {}", count_of_all(rt.alloc(), 1000, 1)?)?;
-        return Ok(());
+    let pieces = number(&words[1])?;
+    let rounds = number(&words[2])?;
+    let count = count_named(alloc, words[0].as_str(), pieces, rounds)?;
+    Ok(format!(in alloc; "{count}")?)
+}
+
+/// How many pieces the combinations of small sets have, a line for each.
+pub fn samples(alloc: Global) -> Result<String, Memory> {
+    let mut out = String::new(alloc);
+    for operation in Operation::ALL {
+        let pieces = count(alloc, operation, 1000, 1)?;
+        let line = format!(in alloc; "{} {pieces}\n", operation.name())?;
+        out.push_str(line.as_str())?;
     }
-    let pieces = words[2].as_str().parse::<u32>().ok().ok_or(Usage)?;
-    let rounds = words[3].as_str().parse::<u32>().ok().ok_or(Usage)?;
-    let count = count_named(rt.alloc(), words[1].as_str(), pieces, rounds)?;
-    println!(rt; "{count}")?;
-    Ok(())
+    let all = format!(in alloc; "meet_all {}", count_of_all(alloc, 1000, 1)?)?;
+    out.push_str(all.as_str())?;
+    Ok(out)
 }

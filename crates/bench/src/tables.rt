@@ -1,8 +1,8 @@
 //! Writes, reads, prints and reports on large tables, to see how the cost grows with their size.
 //!
-//! Without arguments it prints how many bytes the states of small tables have. With the words WORK
-//! SHAPE COUNT ROUNDS it makes a table and its state, does the work so many times and prints how
-//! many bytes the state has. WORK is `encode`, `decode`, `copy` (the bytes alone are copied),
+//! The samples are how many bytes the states of small tables have. With the words WORK SHAPE COUNT
+//! ROUNDS a table and its state are made, the work is done so many times, and it is told how many
+//! bytes the state has. WORK is `encode`, `decode`, `copy` (the bytes alone are copied),
 //! `conflicts`, `incomplete`, `export` or `print`. SHAPE is one of these:
 //! - `wide`: COUNT fields, each with an integer, at the top.
 //! - `deep`: COUNT such fields under a parent 61 levels down.
@@ -10,13 +10,12 @@
 //! - `open`: COUNT fields at the top, each of which may be any integer.
 //! - `clashing`: COUNT fields at the top, in each of which nothing may stand.
 //! - `closed`: COUNT fields, each with an integer, of a struct that allows their labels alone.
-#![tactic(auto)]
-
 ghost use Rattle.cue_table.specs.Valid.{IsValidTable};
 
+use crate::fault::{Fault, number};
 use anyhow::Error;
 use cue_codec::{decode, encode};
-use cue_lattice::{Kind, Memory, Narrow, Text};
+use cue_lattice::{Memory, Narrow, Text};
 use cue_print::print;
 use cue_report::{conflicts, export, incomplete};
 use cue_row::{Labels, Level};
@@ -24,30 +23,6 @@ use cue_scalars::ScalarSet;
 use cue_sets::{IntSet, TextSet};
 use cue_table::{Path, Row, Step, Table};
 use std::alloc::Global;
-use std::{env, error, fmt};
-
-/// Why nothing is measured.
-#[derive(Debug, Clone, Copy)]
-enum Fault {
-    /// The words are not WORK SHAPE COUNT ROUNDS.
-    Usage,
-    /// The table that was made is not valid.
-    Invalid,
-    /// The state of the table is refused.
-    Refused(Kind),
-}
-
-impl fmt::Display for Fault {
-    fn fmt<W: fmt::Write>(&self, f: &mut fmt::Formatter<W>) -> fmt::Result {
-        match self {
-            Fault::Usage => f.write_str("usage: bench_tables [WORK SHAPE COUNT ROUNDS]"),
-            Fault::Invalid => f.write_str("the table is not valid"),
-            Fault::Refused(kind) => f.write_str(kind.name()),
-        }
-    }
-}
-
-impl error::Error for Fault {}
 
 /// What is done with a table or its state.
 #[derive(Clone, Copy)]
@@ -324,30 +299,27 @@ fn measured(
 }
 
 /// What is asked for in words, and what came of it.
-fn asked(alloc: Global, words: &[String]) -> Result<usize, Error> {
-    if words.len() < 5 {
+pub fn asked(alloc: Global, words: &[String]) -> Result<String, Error> {
+    if words.len() < 4 {
         return Err(Fault::Usage.into());
     }
-    let work = Work::named(words[1].as_str()).ok_or(Fault::Usage)?;
-    let shape = Shape::named(words[2].as_str()).ok_or(Fault::Usage)?;
-    let count = words[3].as_str().parse::<u32>().ok().ok_or(Fault::Usage)?;
-    let rounds = words[4].as_str().parse::<u32>().ok().ok_or(Fault::Usage)?;
-    measured(alloc, work, shape, count, rounds)
+    let work = Work::named(words[0].as_str()).ok_or(Fault::Usage)?;
+    let shape = Shape::named(words[1].as_str()).ok_or(Fault::Usage)?;
+    let count = number(&words[2])?;
+    let rounds = number(&words[3])?;
+    let bytes = measured(alloc, work, shape, count, rounds)?;
+    Ok(format!(in alloc; "{bytes}")?)
 }
 
-fn main(rt: HostRuntime) -> Result<(), Error> {
-    let alloc = rt.alloc();
-    let mut words = Vec::new(alloc);
-    for word in env::args(&rt)? {
-        words.push(word)?;
-    }
-    if words.len() > 1 {
-        println!(rt; "{}", asked(alloc, &words)?)?;
-        return Ok(());
-    }
+/// How many bytes the states of small tables have, a line for each shape.
+pub fn samples(alloc: Global) -> Result<String, Error> {
+    let mut out = String::new(alloc);
+    let mut separator = "";
     for shape in Shape::ALL {
         let bytes = measured(alloc, Work::Decode, shape, 3, 1)?;
-        println!(rt; "{} {bytes}", shape.name())?;
+        let line = format!(in alloc; "{separator}{} {bytes}", shape.name())?;
+        out.push_str(line.as_str())?;
+        separator = "\n";
     }
-    Ok(())
+    Ok(out)
 }

@@ -1,41 +1,27 @@
 //! Resolves long texts that it makes itself, to see how the cost grows with their size.
 //!
-//! Without arguments it prints what comes of small texts. With the words SHAPE COUNT ROUNDS it
-//! makes the text, parses it, resolves it so many times and prints its size, or why it is refused;
-//! with no rounds it prints the size 0. SHAPE is one of these:
+//! The samples are what comes of small texts. With the words SHAPE COUNT ROUNDS the text is made,
+//! parsed and resolved so many times, and its size is told, or why it is refused; with no rounds
+//! the size is 0. SHAPE is one of these:
 //! - `chain`: a definition and COUNT more, each of which uses the one before; nothing else does.
 //! - `doubled`: the same, where each uses the one before twice.
 //! - `reached`: the same, and a field uses the last one.
 //! - `wide`: COUNT fields, each with an integer.
 //! - `uses`: COUNT fields, each of which uses one definition.
 //! - `nested`: 60 structs one in the other, with COUNT more fields each, whose values are names.
-#![tactic(auto)]
-
+use crate::fault::{Fault, number};
 use anyhow::Error;
 use cue_lattice::{Memory, Refusal};
 use cue_lex::{Token, lex};
 use cue_scope::resolve;
 use cue_syntax::{File, parse};
 use std::alloc::Global;
-use std::{env, error, fmt};
 
 /// The letters of names, each of which has the number of its place.
 const LETTERS: &[u8; 52] = b"ABCDEFGHIJKLMNOPQRSTUVWXYZabcdefghijklmnopqrstuvwxyz";
 
 /// How many structs stand one in the other.
 const LEVELS: u32 = 60;
-
-/// The words are not SHAPE COUNT ROUNDS.
-#[derive(Debug, Clone, Copy)]
-struct Usage;
-
-impl fmt::Display for Usage {
-    fn fmt<W: fmt::Write>(&self, f: &mut fmt::Formatter<W>) -> fmt::Result {
-        f.write_str("usage: bench_scope [chain|doubled|reached|wide|uses|nested COUNT ROUNDS]")
-    }
-}
-
-impl error::Error for Usage {}
 
 /// The form of a text.
 #[derive(Clone, Copy)]
@@ -200,29 +186,25 @@ fn answer(alloc: Global, shape: Shape, count: u32, rounds: u32) -> Result<String
 }
 
 /// What is asked for in words, and what came of it.
-fn asked(alloc: Global, words: &[String]) -> Result<String, Error> {
-    if words.len() < 4 {
-        return Err(Usage.into());
+pub fn asked(alloc: Global, words: &[String]) -> Result<String, Error> {
+    if words.len() < 3 {
+        return Err(Fault::Usage.into());
     }
-    let shape = Shape::named(words[1].as_str()).ok_or(Usage)?;
-    let count = words[2].as_str().parse::<u32>().ok().ok_or(Usage)?;
-    let rounds = words[3].as_str().parse::<u32>().ok().ok_or(Usage)?;
+    let shape = Shape::named(words[0].as_str()).ok_or(Fault::Usage)?;
+    let count = number(&words[1])?;
+    let rounds = number(&words[2])?;
     Ok(answer(alloc, shape, count, rounds)?)
 }
 
-fn main(rt: HostRuntime) -> Result<(), Error> {
-    let alloc = rt.alloc();
-    let mut words = Vec::new(alloc);
-    for word in env::args(&rt)? {
-        words.push(word)?;
-    }
-    if words.len() > 1 {
-        println!(rt; "{}", asked(alloc, &words)?)?;
-        return Ok(());
-    }
+/// What comes of small texts, a line for each form.
+pub fn samples(alloc: Global) -> Result<String, Memory> {
+    let mut out = String::new(alloc);
     for shape in Shape::ALL {
-        println!(rt; "{} {}", shape.name(), answer(alloc, shape, 13, 1)?)?;
+        let answer = answer(alloc, shape, 13, 1)?;
+        let line = format!(in alloc; "{} {answer}\n", shape.name())?;
+        out.push_str(line.as_str())?;
     }
-    println!(rt; "reached {}", answer(alloc, Shape::Reached, 14, 1)?)?;
-    Ok(())
+    let refused = format!(in alloc; "reached {}", answer(alloc, Shape::Reached, 14, 1)?)?;
+    out.push_str(refused.as_str())?;
+    Ok(out)
 }
