@@ -2,46 +2,55 @@
 use crate::texts::{evaluated, refused};
 use cue_lattice::{Memory, Text};
 use cue_row::Level::{Given, Optional, Required};
-use cue_row::{Row, RowKind, path_text};
+use cue_row::{Path, Row, RowKind, path_text};
 use cue_table::Table;
 use std::alloc::Global;
+use std::process::Abort;
+use std::test::Fail;
 
-/// The level of a row, where it is not optional, and what may stand there.
-fn place(row: &Row) -> (&'static str, &'static str) {
-    let level = match row.level {
+/// The level of a row, where it is not optional.
+fn level_of(row: &Row) -> &'static str {
+    match row.level {
         Optional => "",
         Required => " required",
         Given => " given",
-    };
-    let kind = match row.kind() {
+    }
+}
+
+/// What may stand at the place of a row.
+fn kind_of(row: &Row) -> &'static str {
+    match row.kind() {
         Some(RowKind::Free) => " anything",
         Some(RowKind::Scalar) => " scalar",
         Some(RowKind::Struct) => " struct",
         Some(RowKind::List) => " list",
         Some(RowKind::Nothing) => " nothing",
         None => " mixed",
-    };
-    (level, kind)
+    }
+}
+
+/// Writes a label that may stand, with a space before.
+fn push_label(out: &mut String, label: &Text) -> Result<(), Memory> {
+    out.push(' ')?;
+    out.push_str(label.as_str())?;
+    Ok(())
 }
 
 /// Writes which labels may stand, each with a space before.
 fn push_labels(out: &mut String, labels: &[Text]) -> Result<(), Memory> {
     out.push_str(", labels")?;
     for label in labels {
-        out.push(' ')?;
-        out.push_str(label.as_str())?;
+        push_label(out, label)?;
     }
     Ok(())
 }
 
-/// Writes the least length of a list, and the greatest where there is one.
-fn push_lengths(alloc: Global, out: &mut String, row: &Row) -> Result<(), Memory> {
-    let lengths = match row.most {
-        Some(most) => format!(in alloc; ", {} to {most}", row.least)?,
-        None => format!(in alloc; ", {} or more", row.least)?,
-    };
-    out.push_str(lengths.as_str())?;
-    Ok(())
+/// The least length of a list, and the greatest where there is one.
+fn lengths_of(alloc: Global, row: &Row) -> Result<String, Memory> {
+    match row.most {
+        Some(most) => Ok(format!(in alloc; ", {} to {most}", row.least)?),
+        None => Ok(format!(in alloc; ", {} or more", row.least)?),
+    }
 }
 
 /// Writes what a row says of labels and lengths, where it says anything.
@@ -50,23 +59,39 @@ fn push_row(alloc: Global, out: &mut String, row: &Row) -> Result<(), Memory> {
         push_labels(out, labels)?;
     }
     if row.least > 0 || row.most.is_some() {
-        push_lengths(alloc, out, row)?;
+        out.push_str(lengths_of(alloc, row)?.as_str())?;
     }
     out.push('\n')?;
     Ok(())
 }
 
-/// A line for each row of a table, in path order.
-fn listed(alloc: Global, table: &Table<Row>) -> Result<String, Memory> {
+/// Writes the path of a row.
+fn push_path(alloc: Global, out: &mut String, path: &Path) -> Result<(), Memory> {
+    out.push_str(path_text(alloc, path)?.as_str())?;
+    Ok(())
+}
+
+/// Writes a line for a row.
+fn push_line(alloc: Global, out: &mut String, path: &Path, row: &Row) -> Result<(), Memory> {
+    push_path(alloc, out, path)?;
+    out.push_str(level_of(row))?;
+    out.push_str(kind_of(row))?;
+    push_row(alloc, out, row)
+}
+
+/// A line for each of these rows.
+fn lines_of(alloc: Global, rows: &[(Path, &Row)]) -> Result<String, Memory> {
     let mut out = String::new(alloc);
-    for (path, row) in table.rows(alloc)? {
-        out.push_str(path_text(alloc, &path)?.as_str())?;
-        let (level, kind) = place(row);
-        out.push_str(level)?;
-        out.push_str(kind)?;
-        push_row(alloc, &mut out, row)?;
+    for (path, row) in rows {
+        push_line(alloc, &mut out, path, row)?;
     }
     Ok(out)
+}
+
+/// A line for each row of a table, in path order.
+fn listed(alloc: Global, table: &Table<Row>) -> Result<String, Memory> {
+    let rows = table.rows(alloc)?;
+    lines_of(alloc, &rows)
 }
 
 /// The rows of a copy of a table, which is the same as the table.
@@ -79,9 +104,16 @@ fn copied(alloc: Global, table: &Table<Row>) -> Result<String, Memory> {
 }
 
 /// The rows of the table of a text, in path order, or why the text is refused.
-pub fn rows(alloc: Global, text: &str) -> Result<String, Memory> {
+fn rows(alloc: Global, text: &str) -> Result<String, Memory> {
     match evaluated(alloc, text) {
         Ok(table) => copied(alloc, &table),
         Err(refusal) => refused(alloc, refusal),
     }
+}
+
+/// Asserts what the rows of the table of a text are, or why the text is refused.
+pub fn assert_rows<H: AllocGlobal + Abort>(rt: &H, text: &str, wanted: &str) -> Result<(), Fail> {
+    let text = rows(rt.alloc(), text)?;
+    assert_eq!(rt; text.as_str(), wanted);
+    Ok(())
 }

@@ -15,8 +15,75 @@ fn has(valued: &Valued, number: i64) -> bool {
 
 /// Whether the text may stand.
 fn has_text(alloc: Global, valued: &Valued, text: &str) -> Result<bool, Memory> {
-    let text = Text::from_str(alloc, text)?;
-    Ok(valued.value.contains(&Scalar::Text(text)))
+    let text = Scalar::Text(Text::from_str(alloc, text)?);
+    Ok(valued.value.contains(&text))
+}
+
+/// Whether null alone may stand.
+fn is_null(alloc: Global, valued: &Valued) -> Result<bool, Memory> {
+    let single = valued.value.single(alloc)?;
+    Ok(matches!(single, Some(Scalar::Null)))
+}
+
+/// Whether `true` alone may stand.
+fn is_true(alloc: Global, valued: &Valued) -> Result<bool, Memory> {
+    let single = valued.value.single(alloc)?;
+    Ok(matches!(single, Some(Scalar::Bool(true))))
+}
+
+/// Whether null alone may stand where null is written.
+fn null_is_null(alloc: Global) -> Result<bool, Memory> {
+    is_null(alloc, &null_alone(alloc)?)
+}
+
+/// Whether `true` alone may stand where it is written.
+fn true_is_true(alloc: Global) -> Result<bool, Memory> {
+    is_true(alloc, &truth_alone(alloc, true)?)
+}
+
+/// Whether an integer may stand where this one is written.
+fn one_has(alloc: Global, one: i64, number: i64) -> Result<bool, Memory> {
+    Ok(has(&integer_alone(alloc, one)?, number))
+}
+
+/// Whether an integer may stand where all but this one are written.
+fn others_have(alloc: Global, one: i64, number: i64) -> Result<bool, Memory> {
+    Ok(has(&other_integers(alloc, one)?, number))
+}
+
+/// Whether a text may stand where this one is written.
+fn one_has_text(alloc: Global, one: &str, text: &str) -> Result<bool, Memory> {
+    has_text(alloc, &text_alone(alloc, one)?, text)
+}
+
+/// Whether a text may stand where all but this one are written.
+fn others_have_text(alloc: Global, one: &str, text: &str) -> Result<bool, Memory> {
+    has_text(alloc, &other_texts(alloc, one)?, text)
+}
+
+/// Whether an integer may stand where a bound is written.
+fn bound_has(
+    alloc: Global,
+    comparison: Comparison,
+    bound: i64,
+    number: i64,
+) -> Result<bool, Memory> {
+    Ok(has(&bounded(alloc, comparison, bound)?, number))
+}
+
+/// Whether nothing may stand where a bound is written.
+fn bound_is_empty(alloc: Global, comparison: Comparison, bound: i64) -> Result<bool, Memory> {
+    Ok(bounded(alloc, comparison, bound)?.value.is_empty())
+}
+
+/// Whether nothing may stand where nothing is written.
+fn nothing_is_empty(alloc: Global) -> Result<bool, Memory> {
+    Ok(nothing(alloc)?.value.is_empty())
+}
+
+/// Whether an integer may stand where `uint8` is written.
+fn byte_has(alloc: Global, number: i64) -> Result<bool, Memory> {
+    Ok(has(&named_set(alloc, Named::Uint8)?, number))
 }
 
 #[test]
@@ -36,66 +103,55 @@ fn the_integers_that_are_written(rt: HostRuntime) {
 #[test]
 fn null_and_truth_alone(rt: HostRuntime) -> Result<(), Fail> {
     let alloc = rt.alloc();
-    let null = null_alone(alloc)?.value.single(alloc)?;
-    assert!(rt; matches!(null, Some(Scalar::Null)));
-    let truth = truth_alone(alloc, true)?.value.single(alloc)?;
-    assert!(rt; matches!(truth, Some(Scalar::Bool(true))));
+    assert!(rt; null_is_null(alloc)?);
+    assert!(rt; true_is_true(alloc)?);
     Ok(())
 }
 
 #[test]
 fn one_integer_and_all_others(rt: HostRuntime) -> Result<(), Fail> {
     let alloc = rt.alloc();
-    let seven = integer_alone(alloc, 7)?;
-    assert!(rt; has(&seven, 7));
-    assert!(rt; !has(&seven, 8));
-    let others = other_integers(alloc, 7)?;
-    assert!(rt; !has(&others, 7));
-    assert!(rt; has(&others, 8));
+    assert!(rt; one_has(alloc, 7, 7)?);
+    assert!(rt; !one_has(alloc, 7, 8)?);
+    assert!(rt; !others_have(alloc, 7, 7)?);
+    assert!(rt; others_have(alloc, 7, 8)?);
     Ok(())
 }
 
 #[test]
 fn one_text_and_all_others(rt: HostRuntime) -> Result<(), Fail> {
     let alloc = rt.alloc();
-    let one = text_alone(alloc, "x")?;
-    assert!(rt; has_text(alloc, &one, "x")?);
-    let others = other_texts(alloc, "x")?;
-    assert!(rt; !has_text(alloc, &others, "x")?);
-    assert!(rt; has_text(alloc, &others, "y")?);
+    assert!(rt; one_has_text(alloc, "x", "x")?);
+    assert!(rt; !others_have_text(alloc, "x", "x")?);
+    assert!(rt; others_have_text(alloc, "x", "y")?);
     Ok(())
 }
 
 #[test]
 fn bounds_at_their_number(rt: HostRuntime) -> Result<(), Fail> {
     let alloc = rt.alloc();
-    assert!(rt; !has(&bounded(alloc, Comparison::Less, 4)?, 4));
-    assert!(rt; has(&bounded(alloc, Comparison::AtMost, 4)?, 4));
-    assert!(rt; !has(&bounded(alloc, Comparison::Greater, 4)?, 4));
-    assert!(rt; has(&bounded(alloc, Comparison::AtLeast, 4)?, 4));
+    assert!(rt; !bound_has(alloc, Comparison::Less, 4, 4)?);
+    assert!(rt; bound_has(alloc, Comparison::AtMost, 4, 4)?);
+    assert!(rt; !bound_has(alloc, Comparison::Greater, 4, 4)?);
+    assert!(rt; bound_has(alloc, Comparison::AtLeast, 4, 4)?);
     Ok(())
 }
 
 #[test]
 fn nothing_is_above_the_greatest(rt: HostRuntime) -> Result<(), Fail> {
     let alloc = rt.alloc();
-    assert!(rt;
-        bounded(alloc, Comparison::Greater, i64::MAX)?
-            .value
-            .is_empty()
-    );
-    assert!(rt; bounded(alloc, Comparison::Less, i64::MIN)?.value.is_empty());
-    assert!(rt; nothing(alloc)?.value.is_empty());
+    assert!(rt; bound_is_empty(alloc, Comparison::Greater, i64::MAX)?);
+    assert!(rt; bound_is_empty(alloc, Comparison::Less, i64::MIN)?);
+    assert!(rt; nothing_is_empty(alloc)?);
     Ok(())
 }
 
 #[test]
 fn a_byte_and_its_neighbours(rt: HostRuntime) -> Result<(), Fail> {
     let alloc = rt.alloc();
-    let byte = named_set(alloc, Named::Uint8)?;
-    assert!(rt; has(&byte, 0));
-    assert!(rt; has(&byte, 255));
-    assert!(rt; !has(&byte, -1));
-    assert!(rt; !has(&byte, 256));
+    assert!(rt; byte_has(alloc, 0)?);
+    assert!(rt; byte_has(alloc, 255)?);
+    assert!(rt; !byte_has(alloc, -1)?);
+    assert!(rt; !byte_has(alloc, 256)?);
     Ok(())
 }

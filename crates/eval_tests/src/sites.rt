@@ -6,6 +6,7 @@ use cue_print::print;
 use cue_row::Row;
 use cue_table::Table;
 use std::alloc::Global;
+use std::process::Abort;
 use std::test::Fail;
 
 /// The table of these texts, which are all legal.
@@ -52,25 +53,41 @@ fn printed(alloc: Global, texts: &[&str]) -> Result<String, Memory> {
     print(alloc, &known(alloc, texts)?)
 }
 
+/// Asserts what comes of taking the tables of three sites with these numbers.
+fn assert_merged<H: AllocGlobal + Abort>(
+    rt: &H,
+    numbers: &[usize],
+    wanted: &str,
+) -> Result<(), Fail> {
+    let text = merged(rt.alloc(), numbers)?;
+    assert_eq!(rt; text.as_str(), wanted);
+    Ok(())
+}
+
+/// Asserts what these texts, unified, are printed as.
+fn assert_printed<H: AllocGlobal + Abort>(
+    rt: &H,
+    texts: &[&str],
+    wanted: &str,
+) -> Result<(), Fail> {
+    let text = printed(rt.alloc(), texts)?;
+    assert_eq!(rt; text.as_str(), wanted);
+    Ok(())
+}
+
 #[test]
 fn a_site_takes_what_the_others_sent(rt: HostRuntime) -> Result<(), Fail> {
-    let text = merged(rt.alloc(), &[0, 2, 1, 1, 2])?;
-    assert_eq!(rt; text.as_str(), "{\"a\":4,\"b\":1,\"c\":{}}");
-    Ok(())
+    assert_merged(&rt, &[0, 2, 1, 1, 2], "{\"a\":4,\"b\":1,\"c\":{}}")
 }
 
 #[test]
 fn the_order_of_messages_makes_no_difference(rt: HostRuntime) -> Result<(), Fail> {
-    let text = merged(rt.alloc(), &[1, 2, 0, 0, 2])?;
-    assert_eq!(rt; text.as_str(), "{\"a\":4,\"b\":1,\"c\":{}}");
-    Ok(())
+    assert_merged(&rt, &[1, 2, 0, 0, 2], "{\"a\":4,\"b\":1,\"c\":{}}")
 }
 
 #[test]
 fn a_message_that_never_comes_is_not_known(rt: HostRuntime) -> Result<(), Fail> {
-    let text = merged(rt.alloc(), &[2, 0])?;
-    assert_eq!(rt; text.as_str(), "{\"a\":4,\"c\":{}}");
-    Ok(())
+    assert_merged(&rt, &[2, 0], "{\"a\":4,\"c\":{}}")
 }
 
 #[test]
@@ -83,14 +100,18 @@ fn defaults_clash_in_whatever_order(rt: HostRuntime) -> Result<(), Fail> {
 
 #[test]
 fn bounds_of_both_sites_hold(rt: HostRuntime) -> Result<(), Fail> {
-    let text = printed(rt.alloc(), &["a: >=0 & <=7\n", "a: >=3 & <=10\n"])?;
-    assert_eq!(rt; text.as_str(), "\"a\": >=3 & <=7\n");
-    Ok(())
+    assert_printed(
+        &rt,
+        &["a: >=0 & <=7\n", "a: >=3 & <=10\n"],
+        "\"a\": >=3 & <=7\n",
+    )
 }
 
 #[test]
 fn a_default_may_be_left_empty(rt: HostRuntime) -> Result<(), Fail> {
-    let text = printed(rt.alloc(), &["port: *80 | 443\n", "port: 443\n"])?;
-    assert_eq!(rt; text.as_str(), "\"port\": *_|_ | 443\n");
-    Ok(())
+    assert_printed(
+        &rt,
+        &["port: *80 | 443\n", "port: 443\n"],
+        "\"port\": *_|_ | 443\n",
+    )
 }
