@@ -1,7 +1,9 @@
-//! Tests of sets, sets of scalars and values with defaults, kept in a crate above them, so that none of these is
-//! proved a second time with its tests.
+//! Tests of sets, sets of scalars and values with defaults, kept in a crate above them, so that
+//! none of these is proved a second time with its tests.
 #![tactic(auto)]
 
+#[cfg(test)]
+mod made;
 #[cfg(test)]
 mod scalars;
 #[cfg(test)]
