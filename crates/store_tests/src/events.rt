@@ -1,31 +1,53 @@
 //! Events, and what they came to.
-use cue_replica::{Event, Memory, Outcome, Text, World};
+use cue_replica::{Event, Memory, Outcome, Text, World, run};
 use std::alloc::Global;
 
-/// A text is handed to a site.
-pub fn submit(alloc: Global, site: usize, text: &str) -> Result<Event, Memory> {
-    Ok(Event::Submit {
-        site,
-        text: Text::from_str(alloc, text)?,
-    })
+/// A further event.
+fn push(events: &mut Vec<Event>, event: Event) -> Result<(), Memory> {
+    events.push(event)?;
+    Ok(())
 }
 
-/// A site sends its state.
-pub fn send(site: usize) -> Event {
-    Event::Send { site }
+/// A copy of a text.
+fn copied(alloc: Global, text: &str) -> Result<Text, Memory> {
+    Text::from_str(alloc, text)
 }
 
-/// A message is handed to a site.
-pub fn deliver(site: usize, message: usize) -> Event {
-    Event::Deliver { site, message }
+/// Then a text is handed to a site.
+pub fn submit(
+    alloc: Global,
+    events: &mut Vec<Event>,
+    site: usize,
+    text: &str,
+) -> Result<(), Memory> {
+    let text = copied(alloc, text)?;
+    push(events, Event::Submit { site, text })
 }
 
-/// Bytes are handed to a site.
-pub fn foreign(alloc: Global, site: usize, bytes: &[u8]) -> Result<Event, Memory> {
-    Ok(Event::Foreign {
-        site,
-        bytes: bytes.to_vec(alloc)?,
-    })
+/// Then a site sends its state.
+pub fn send(events: &mut Vec<Event>, site: usize) -> Result<(), Memory> {
+    push(events, Event::Send { site })
+}
+
+/// Then a message is handed to a site.
+pub fn deliver(events: &mut Vec<Event>, site: usize, message: usize) -> Result<(), Memory> {
+    push(events, Event::Deliver { site, message })
+}
+
+/// Then bytes are handed to a site.
+pub fn foreign(
+    alloc: Global,
+    events: &mut Vec<Event>,
+    site: usize,
+    bytes: &[u8],
+) -> Result<(), Memory> {
+    let bytes = bytes.to_vec(alloc)?;
+    push(events, Event::Foreign { site, bytes })
+}
+
+/// So many sites after these events. As with the calls of a site, it promises nothing.
+pub fn after(alloc: Global, sites: usize, events: &[Event]) -> Result<World, Memory> {
+    run(alloc, sites, events)
 }
 
 /// Whether each event was accepted, or sent a message.

@@ -1,72 +1,102 @@
 //! Sites that take the same texts in different ways have equal state bytes, and tell the same.
-use crate::events::{all_happened, deliver, send, submit};
-use crate::sites::{gives, has_state, is_printed, site};
-use cue_replica::{Event, Memory, Refusal, Replica, World, run};
+use crate::events::{after, all_happened, deliver, send, submit};
+use crate::sites::{
+    are_same, exports, hand, hand_all, has_state, new_site, printed, prints, site, state, taken,
+};
+use cue_replica::{Event, Memory, Refusal, Replica, World};
 use std::alloc::Global;
+use std::process::Abort;
 use std::test::Fail;
 
-/// A site that was handed the texts from the last to the first, each of them twice.
-fn backwards(alloc: Global, texts: &[&str]) -> Result<Replica, Refusal> {
-    let mut site = Replica::new(alloc);
-    for text in texts.iter().rev() {
-        site.submit(text)?;
-        site.submit(text)?;
-    }
-    Ok(site)
+/// Hands a text to a site twice.
+fn hand_twice(site: &mut Replica, text: &str) -> Result<(), Refusal> {
+    hand(site, text)?;
+    hand(site, text)
 }
 
-/// The texts from this one on, and after them those before it.
-fn turned<'a>(
+/// Hands texts to a site from the last to the first, each of them twice.
+fn hand_back(site: &mut Replica, texts: &[&str]) -> Result<(), Refusal> {
+    match texts.split_last() {
+        Some((last, others)) => {
+            hand_twice(site, last)?;
+            hand_back(site, others)
+        }
+        None => Ok(()),
+    }
+}
+
+/// Whether a site that is handed these texts, and after them those that stand before them, has
+/// these state bytes.
+fn forwards(alloc: Global, before: &[&str], texts: &[&str], bytes: &[u8]) -> Result<bool, Refusal> {
+    let mut site = site(alloc, texts)?;
+    hand_all(&mut site, before)?;
+    Ok(has_state(alloc, &site, bytes)?)
+}
+
+/// Whether a site that is handed the texts as in [`forwards`], but from the last to the first and
+/// each of them twice, has these state bytes.
+fn backwards(
     alloc: Global,
-    before: &[&'a str],
-    after: &[&'a str],
-) -> Result<Vec<&'a str>, Memory> {
-    let mut texts = Vec::new(alloc);
-    for text in after {
-        texts.push(*text)?;
-    }
-    for text in before {
-        texts.push(*text)?;
-    }
-    Ok(texts)
+    before: &[&str],
+    texts: &[&str],
+    bytes: &[u8],
+) -> Result<bool, Refusal> {
+    let mut site = new_site(alloc);
+    hand_back(&mut site, before)?;
+    hand_back(&mut site, texts)?;
+    Ok(has_state(alloc, &site, bytes)?)
 }
 
-/// Whether sites that are handed the texts forwards and backwards have these state bytes.
-fn both_ways(alloc: Global, texts: &[&str], bytes: &[u8]) -> Result<bool, Fail> {
-    let there = site(alloc, texts)?;
-    let back = backwards(alloc, texts)?;
-    Ok(has_state(alloc, &there, bytes)? && has_state(alloc, &back, bytes)?)
+/// Whether [`forwards`] and [`backwards`] hold of the texts, begun with the one at this place.
+fn both_ways(alloc: Global, texts: &[&str], first: usize, bytes: &[u8]) -> Result<bool, Refusal> {
+    if first > texts.len() {
+        return Ok(false);
+    }
+    let (before, texts) = texts.split_at(first);
+    Ok(forwards(alloc, before, texts, bytes)? && backwards(alloc, before, texts, bytes)?)
 }
 
 /// Whether sites that begin with any of the texts, and go on forwards or backwards, have these
 /// state bytes. Of up to three texts these are all orders.
-fn in_turns(alloc: Global, texts: &[&str], bytes: &[u8]) -> Result<bool, Fail> {
+fn in_turns(alloc: Global, texts: &[&str], bytes: &[u8]) -> Result<bool, Refusal> {
     for first in 0..texts.len() {
-        let (before, after) = texts.split_at(first);
-        let texts = turned(alloc, before, after)?;
-        if !both_ways(alloc, &texts, bytes)? {
+        if !both_ways(alloc, texts, first, bytes)? {
             return Ok(false);
         }
     }
     Ok(true)
 }
 
+/// Each text is handed to a site of its own, which sends its state then.
+fn send_each(alloc: Global, events: &mut Vec<Event>, texts: &[&str]) -> Result<(), Memory> {
+    for (site, text) in texts.iter().enumerate() {
+        submit(alloc, events, site, text)?;
+        send(events, site)?;
+    }
+    Ok(())
+}
+
+/// A site takes so many messages from the last to the first, each of them twice.
+fn deliver_back(events: &mut Vec<Event>, site: usize, messages: usize) -> Result<(), Memory> {
+    if messages == 0 {
+        return Ok(());
+    }
+    let last = messages - 1;
+    deliver(events, site, last)?;
+    deliver(events, site, last)?;
+    deliver_back(events, site, last)
+}
+
 /// Each text is handed to a site of its own, which sends its state then. A further site takes
 /// these from the last to the first, each twice, and sends its own state, which the first site
 /// takes.
-fn passed_on(alloc: Global, texts: &[&str]) -> Result<Vec<Event>, Fail> {
+fn passed_on(alloc: Global, texts: &[&str]) -> Result<Vec<Event>, Memory> {
     let mut events = Vec::new(alloc);
-    for (site, text) in texts.iter().enumerate() {
-        events.push(submit(alloc, site, text)?)?;
-        events.push(send(site))?;
-    }
     let last = texts.len();
-    for message in (0..last).rev() {
-        events.push(deliver(last, message))?;
-        events.push(deliver(last, message))?;
-    }
-    events.push(send(last))?;
-    events.push(deliver(0, last))?;
+    send_each(alloc, &mut events, texts)?;
+    deliver_back(&mut events, last, last)?;
+    send(&mut events, last)?;
+    deliver(&mut events, 0, last)?;
     Ok(events)
 }
 
@@ -78,63 +108,91 @@ fn has_state_at(alloc: Global, world: &World, site: usize, bytes: &[u8]) -> Resu
     }
 }
 
-/// Whether sites that are handed one text each have these state bytes once their states were passed
-/// on.
-fn across_sites(alloc: Global, texts: &[&str], bytes: &[u8]) -> Result<bool, Fail> {
-    let events = passed_on(alloc, texts)?;
-    let world = run(alloc, texts.len() + 1, &events)?;
+/// Whether all events of a world happened, and its first site and this one have these state bytes.
+fn have_states(alloc: Global, world: &World, site: usize, bytes: &[u8]) -> Result<bool, Memory> {
     Ok(
-        all_happened(&world)
-            && has_state_at(alloc, &world, 0, bytes)?
-            && has_state_at(alloc, &world, texts.len(), bytes)?,
+        all_happened(world)
+            && has_state_at(alloc, world, 0, bytes)?
+            && has_state_at(alloc, world, site, bytes)?,
     )
 }
 
+/// Whether sites that are handed one text each have these state bytes once their states were passed
+/// on.
+fn across_sites(alloc: Global, texts: &[&str], bytes: &[u8]) -> Result<bool, Memory> {
+    let last = texts.len();
+    let events = passed_on(alloc, texts)?;
+    let world = after(alloc, last + 1, &events)?;
+    have_states(alloc, &world, last, bytes)
+}
+
+/// A new site that was handed what is printed of a site.
+fn read_again(alloc: Global, other: &Replica) -> Result<Replica, Refusal> {
+    let text = printed(alloc, other)?;
+    site(alloc, &[text.as_str()])
+}
+
 /// Whether a new site that is handed what is printed of a site has the same table.
-fn is_read_again(alloc: Global, site: &Replica, bytes: &[u8]) -> Result<bool, Fail> {
-    let mut other = Replica::new(alloc);
-    other.submit(site.print(alloc)?.as_str())?;
-    Ok(other.same(site) && has_state(alloc, &other, bytes)?)
+fn is_read_again(alloc: Global, site: &Replica, bytes: &[u8]) -> Result<bool, Refusal> {
+    let other = read_again(alloc, site)?;
+    Ok(are_same(&other, site) && has_state(alloc, &other, bytes)?)
 }
 
 /// Whether a new site that takes the state bytes of a site has the same table.
-fn is_taken_again(alloc: Global, site: &Replica, bytes: &[u8]) -> Result<bool, Fail> {
-    let mut other = Replica::new(alloc);
-    other.take(bytes)?;
-    Ok(other.same(site) && has_state(alloc, &other, bytes)?)
+fn is_taken_again(alloc: Global, site: &Replica, bytes: &[u8]) -> Result<bool, Refusal> {
+    let other = taken(alloc, bytes)?;
+    Ok(are_same(&other, site) && has_state(alloc, &other, bytes)?)
 }
 
 /// Whether the texts give the state bytes of this site in any order, and handed to different sites,
 /// and whether its bytes and its printed text give them again.
-fn is_agreed(alloc: Global, texts: &[&str], site: &Replica) -> Result<bool, Fail> {
-    let bytes = site.state(alloc)?;
+fn is_agreed(alloc: Global, texts: &[&str], site: &Replica, bytes: &[u8]) -> Result<bool, Refusal> {
     Ok(
-        in_turns(alloc, texts, &bytes)?
-            && across_sites(alloc, texts, &bytes)?
-            && is_taken_again(alloc, site, &bytes)?
-            && is_read_again(alloc, site, &bytes)?,
+        in_turns(alloc, texts, bytes)?
+            && across_sites(alloc, texts, bytes)?
+            && is_taken_again(alloc, site, bytes)?
+            && is_read_again(alloc, site, bytes)?,
     )
 }
 
-/// Whether sites that have accepted these texts export this JSON, or these lines, and are printed
-/// so: whatever order the texts came in, and whichever site they were handed to first.
-pub fn tells(alloc: Global, texts: &[&str], export: &str, printed: &str) -> Result<bool, Fail> {
+/// Whether [`is_agreed`] holds of a site that has accepted these texts.
+fn agree(alloc: Global, texts: &[&str]) -> Result<bool, Refusal> {
     let site = site(alloc, texts)?;
-    Ok(
-        gives(alloc, &site, export)?
-            && is_printed(alloc, &site, printed)?
-            && is_agreed(alloc, texts, &site)?,
-    )
+    let bytes = state(alloc, &site)?;
+    is_agreed(alloc, texts, &site, &bytes)
 }
 
-/// Whether sites that have accepted these texts export this JSON, or these lines.
-pub fn exports(alloc: Global, texts: &[&str], export: &str) -> Result<bool, Fail> {
-    let site = site(alloc, texts)?;
-    Ok(gives(alloc, &site, export)? && is_agreed(alloc, texts, &site)?)
+/// Asserts that sites that have accepted these texts export this JSON, or these lines: whatever
+/// order the texts came in, and whichever site they were handed to first.
+pub fn assert_exports<H: AllocGlobal + Abort>(
+    rt: &H,
+    texts: &[&str],
+    export: &str,
+) -> Result<(), Fail> {
+    assert!(rt; exports(rt.alloc(), texts, export)?);
+    assert!(rt; agree(rt.alloc(), texts)?);
+    Ok(())
 }
 
-/// Whether sites that have accepted these texts are printed so.
-pub fn prints(alloc: Global, texts: &[&str], printed: &str) -> Result<bool, Fail> {
-    let site = site(alloc, texts)?;
-    Ok(is_printed(alloc, &site, printed)? && is_agreed(alloc, texts, &site)?)
+/// Asserts that sites that have accepted these texts are printed so, as [`assert_exports`] does.
+pub fn assert_prints<H: AllocGlobal + Abort>(
+    rt: &H,
+    texts: &[&str],
+    printed: &str,
+) -> Result<(), Fail> {
+    assert!(rt; prints(rt.alloc(), texts, printed)?);
+    assert!(rt; agree(rt.alloc(), texts)?);
+    Ok(())
+}
+
+/// Asserts that sites that have accepted these texts export this and are printed so, as
+/// [`assert_exports`] does.
+pub fn assert_tells<H: AllocGlobal + Abort>(
+    rt: &H,
+    texts: &[&str],
+    export: &str,
+    printed: &str,
+) -> Result<(), Fail> {
+    assert!(rt; prints(rt.alloc(), texts, printed)?);
+    assert_exports(rt, texts, export)
 }

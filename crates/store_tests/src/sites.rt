@@ -1,50 +1,150 @@
 //! Sites that were handed texts, and what they answer.
-use cue_replica::{Export, Memory, Replica, lines};
+//!
+//! Each call of a site stands in a function of its own, which promises nothing: so the tests that
+//! use these are proved without all that the calls promise.
+use cue_replica::{Conflict, Export, Gap, Memory, Refusal, Replica, lines};
 use std::alloc::Global;
+use std::process::Abort;
 use std::test::Fail;
 
-/// A site that has accepted these texts.
-pub fn site(alloc: Global, texts: &[&str]) -> Result<Replica, Fail> {
-    let mut site = Replica::new(alloc);
+/// A site that has accepted nothing.
+pub fn new_site(alloc: Global) -> Replica {
+    Replica::new(alloc)
+}
+
+/// Hands a text to a site.
+pub fn hand(site: &mut Replica, text: &str) -> Result<(), Refusal> {
+    site.submit(text)
+}
+
+/// Hands texts to a site, from the first to the last.
+pub fn hand_all(site: &mut Replica, texts: &[&str]) -> Result<(), Refusal> {
     for text in texts {
-        site.submit(text)?;
+        hand(site, text)?;
     }
+    Ok(())
+}
+
+/// A site that has accepted these texts.
+pub fn site(alloc: Global, texts: &[&str]) -> Result<Replica, Refusal> {
+    let mut site = new_site(alloc);
+    hand_all(&mut site, texts)?;
     Ok(site)
 }
 
-/// The JSON of an export, or the lines of what is in its way.
-pub fn exported(alloc: Global, site: &Replica) -> Result<String, Memory> {
-    match site.export(alloc)? {
-        Export::Json(json) => Ok(json),
-        Export::Conflicts(conflicts) => lines(alloc, &conflicts, &[]),
-        Export::Incomplete(gaps) => lines(alloc, &[], &gaps),
-    }
+/// Hands state bytes to a site.
+pub fn pass(site: &mut Replica, bytes: &[u8]) -> Result<(), Refusal> {
+    site.take(bytes)
 }
 
-/// The lines of the conflicts, and then those of the gaps.
-fn reported(alloc: Global, site: &Replica) -> Result<String, Memory> {
-    let conflicts = site.conflicts(alloc)?;
-    let gaps = site.incomplete(alloc)?;
-    lines(alloc, &conflicts, &gaps)
+/// A site that has taken these state bytes.
+pub fn taken(alloc: Global, bytes: &[u8]) -> Result<Replica, Refusal> {
+    let mut site = new_site(alloc);
+    pass(&mut site, bytes)?;
+    Ok(site)
 }
 
-/// Whether the export of a site is this JSON, or these lines.
-pub fn gives(alloc: Global, site: &Replica, wanted: &str) -> Result<bool, Fail> {
-    Ok(exported(alloc, site)?.as_str() == wanted)
+/// Another site with the same table.
+pub fn copied(alloc: Global, site: &Replica) -> Result<Replica, Memory> {
+    site.copy(alloc)
 }
 
-/// Whether a site is printed so.
-pub fn is_printed(alloc: Global, site: &Replica, wanted: &str) -> Result<bool, Fail> {
-    Ok(site.print(alloc)?.as_str() == wanted)
+/// Whether both sites have the same table.
+pub fn are_same(left: &Replica, right: &Replica) -> bool {
+    left.same(right)
 }
 
-/// Whether the report of a site that has accepted these texts has these lines.
-pub fn reports(alloc: Global, texts: &[&str], wanted: &str) -> Result<bool, Fail> {
-    let site = site(alloc, texts)?;
-    Ok(reported(alloc, &site)?.as_str() == wanted)
+/// The state bytes of a site.
+pub fn state(alloc: Global, site: &Replica) -> Result<Vec<u8>, Memory> {
+    site.state(alloc)
 }
 
 /// Whether a site has these state bytes.
 pub fn has_state(alloc: Global, site: &Replica, bytes: &[u8]) -> Result<bool, Memory> {
-    Ok(site.state(alloc)?.as_slice() == bytes)
+    Ok(state(alloc, site)?.as_slice() == bytes)
+}
+
+/// The printed text of a site.
+pub fn printed(alloc: Global, site: &Replica) -> Result<String, Memory> {
+    site.print(alloc)
+}
+
+/// Whether a site is printed so.
+pub fn is_printed(alloc: Global, site: &Replica, wanted: &str) -> Result<bool, Memory> {
+    Ok(printed(alloc, site)?.as_str() == wanted)
+}
+
+/// The conflicts of a site.
+pub fn conflicts(alloc: Global, site: &Replica) -> Result<Vec<Conflict>, Memory> {
+    site.conflicts(alloc)
+}
+
+/// The gaps of a site.
+pub fn gaps(alloc: Global, site: &Replica) -> Result<Vec<Gap>, Memory> {
+    site.incomplete(alloc)
+}
+
+/// The lines of conflicts, and then those of gaps.
+fn told(alloc: Global, conflicts: &[Conflict], gaps: &[Gap]) -> Result<String, Memory> {
+    lines(alloc, conflicts, gaps)
+}
+
+/// The lines of the conflicts of a site, and then those of its gaps.
+fn reported(alloc: Global, site: &Replica) -> Result<String, Memory> {
+    let conflicts = conflicts(alloc, site)?;
+    let gaps = gaps(alloc, site)?;
+    told(alloc, &conflicts, &gaps)
+}
+
+/// What an export of a site comes to.
+fn export(alloc: Global, site: &Replica) -> Result<Export, Memory> {
+    site.export(alloc)
+}
+
+/// The JSON of an export, or the lines of what is in its way.
+pub fn exported(alloc: Global, site: &Replica) -> Result<String, Memory> {
+    match export(alloc, site)? {
+        Export::Json(json) => Ok(json),
+        Export::Conflicts(conflicts) => told(alloc, &conflicts, &[]),
+        Export::Incomplete(gaps) => told(alloc, &[], &gaps),
+    }
+}
+
+/// Whether the export of a site is this JSON, or these lines.
+pub fn gives(alloc: Global, site: &Replica, wanted: &str) -> Result<bool, Memory> {
+    Ok(exported(alloc, site)?.as_str() == wanted)
+}
+
+/// Whether the export of a site that has accepted these texts is this JSON, or these lines.
+pub fn exports(alloc: Global, texts: &[&str], wanted: &str) -> Result<bool, Refusal> {
+    let site = site(alloc, texts)?;
+    Ok(gives(alloc, &site, wanted)?)
+}
+
+/// Whether a site that has accepted these texts is printed so.
+pub fn prints(alloc: Global, texts: &[&str], wanted: &str) -> Result<bool, Refusal> {
+    let site = site(alloc, texts)?;
+    Ok(is_printed(alloc, &site, wanted)?)
+}
+
+/// Whether a site that has accepted these texts has these state bytes.
+pub fn writes(alloc: Global, texts: &[&str], bytes: &[u8]) -> Result<bool, Refusal> {
+    let site = site(alloc, texts)?;
+    Ok(has_state(alloc, &site, bytes)?)
+}
+
+/// Whether the report of a site that has accepted these texts has these lines.
+fn reports(alloc: Global, texts: &[&str], wanted: &str) -> Result<bool, Refusal> {
+    let site = site(alloc, texts)?;
+    Ok(reported(alloc, &site)?.as_str() == wanted)
+}
+
+/// Asserts that [`reports`] holds of these texts.
+pub fn assert_reports<H: AllocGlobal + Abort>(
+    rt: &H,
+    texts: &[&str],
+    wanted: &str,
+) -> Result<(), Fail> {
+    assert!(rt; reports(rt.alloc(), texts, wanted)?);
+    Ok(())
 }

@@ -1,17 +1,26 @@
 //! State bytes that sites write and take.
 use crate::bytes::{CLASH, FREE, LIST, ONE, PORT, TWO};
-use crate::sites::{exported, gives, has_state, is_printed, site};
+use crate::refusals::is_refused;
+use crate::sites::{
+    are_same, copied, exported, exports, gaps, hand, new_site, pass, printed, prints, site, taken,
+    writes,
+};
 use cue_replica::{Kind, Memory, Refusal, Replica};
 use std::alloc::Global;
 use std::test::Fail;
 
+/// Whether a new site that takes these state bytes has the same table as a site that has accepted
+/// these texts.
+fn is_taken_as(alloc: Global, texts: &[&str], bytes: &[u8]) -> Result<bool, Refusal> {
+    let site = site(alloc, texts)?;
+    let taken = taken(alloc, bytes)?;
+    Ok(are_same(&taken, &site))
+}
+
 /// Whether a site that has accepted these texts has these state bytes, and whether a new site that
 /// takes them has the same table.
-fn is_state_of(alloc: Global, texts: &[&str], bytes: &[u8]) -> Result<bool, Fail> {
-    let site = site(alloc, texts)?;
-    let mut taken = Replica::new(alloc);
-    taken.take(bytes)?;
-    Ok(has_state(alloc, &site, bytes)? && taken.same(&site))
+fn is_state_of(alloc: Global, texts: &[&str], bytes: &[u8]) -> Result<bool, Refusal> {
+    Ok(writes(alloc, texts, bytes)? && is_taken_as(alloc, texts, bytes)?)
 }
 
 #[test]
@@ -29,40 +38,46 @@ fn states_of_integers(rt: HostRuntime) -> Result<(), Fail> {
 #[test]
 fn a_site_that_knows_nothing(rt: HostRuntime) -> Result<(), Fail> {
     let alloc = rt.alloc();
-    let new = Replica::new(alloc);
-    assert!(rt; gives(alloc, &new, "incomplete . not a single value\n")?);
-    assert!(rt; is_printed(alloc, &new, "_\n")?);
-    assert!(rt; has_state(alloc, &new, &FREE)?);
+    assert!(rt; exports(alloc, &[], "incomplete . not a single value\n")?);
+    assert!(rt; prints(alloc, &[], "_\n")?);
+    assert!(rt; writes(alloc, &[], &FREE)?);
     Ok(())
 }
 
+/// Whether a copy of a site is the same.
+fn is_copied(alloc: Global, site: &Replica) -> Result<bool, Memory> {
+    let copied = copied(alloc, site)?;
+    Ok(are_same(&copied, site))
+}
+
+/// Whether a new site is the same as a copy of a site.
+fn is_new(alloc: Global, site: &Replica) -> Result<bool, Memory> {
+    let copied = copied(alloc, site)?;
+    let new = new_site(alloc);
+    Ok(are_same(&copied, &new))
+}
+
 /// Whether a copy of a site is the same, and a new site isn't.
-fn is_copied(alloc: Global) -> Result<bool, Fail> {
+fn is_copied_alone(alloc: Global) -> Result<bool, Refusal> {
     let both = site(alloc, &["port: int\n", "port: 443\n"])?;
-    let copied = both.copy(alloc)?;
-    let new = Replica::new(alloc);
-    Ok(copied.same(&both) && !copied.same(&new))
+    Ok(is_copied(alloc, &both)? && !is_new(alloc, &both)?)
 }
 
 #[test]
 fn copies_are_the_same(rt: HostRuntime) -> Result<(), Fail> {
-    let alloc = rt.alloc();
-    assert!(rt; is_copied(alloc)?);
+    assert!(rt; is_copied_alone(rt.alloc())?);
     Ok(())
 }
 
 /// Whether a site refuses these bytes for this reason, and keeps what it had.
-fn refuses(alloc: Global, bytes: &[u8], kind: Kind) -> Result<bool, Fail> {
-    let mut kept = site(alloc, &["a: int\n"])?;
-    let before = kept.copy(alloc)?;
-    match kept.take(bytes) {
-        Ok(()) => Ok(false),
-        Err(why) => Ok(why == Refusal { kind, place: 0 } && kept.same(&before)),
-    }
+fn refuses(alloc: Global, bytes: &[u8], kind: Kind) -> Result<bool, Refusal> {
+    let before = site(alloc, &["a: int\n"])?;
+    let mut kept = copied(alloc, &before)?;
+    Ok(is_refused(pass(&mut kept, bytes), kind, 0) && are_same(&kept, &before))
 }
 
 /// Whether a site refuses these bytes cut at each length.
-fn refuses_each_cut(alloc: Global, bytes: &[u8]) -> Result<bool, Fail> {
+fn refuses_each_cut(alloc: Global, bytes: &[u8]) -> Result<bool, Refusal> {
     for length in 0..bytes.len() {
         if !refuses(alloc, &bytes[..length], Kind::NotState)? {
             return Ok(false);
@@ -88,62 +103,82 @@ fn with_rows_swapped(alloc: Global) -> Result<Vec<u8>, Memory> {
     Ok(bytes)
 }
 
-/// The state of `a: 1` with a third row, of the label b, that refuses nothing.
-fn with_a_free_row(alloc: Global) -> Result<Vec<u8>, Memory> {
+/// The state of `a: 1` with so many rows told, and more bytes at its end.
+fn with_more(alloc: Global, rows: u8, more: &[u8]) -> Result<Vec<u8>, Memory> {
     let mut bytes = ONE.to_vec(alloc)?;
-    bytes[12] = 3;
-    bytes.extend_from_slice(&[1, 0, 0, 1, 0x62, 0, 0])?;
+    bytes[12] = rows;
+    bytes.extend_from_slice(more)?;
     Ok(bytes)
 }
 
-/// The state of `a: 1` with its second row twice.
-fn with_a_row_twice(alloc: Global) -> Result<Vec<u8>, Memory> {
-    let mut bytes = ONE.to_vec(alloc)?;
-    bytes[12] = 3;
-    bytes.extend_from_slice(&ONE[17..])?;
-    Ok(bytes)
+/// Whether a site refuses the state of `a: 1` with its two rows in the other order.
+fn refuses_rows_swapped(alloc: Global) -> Result<bool, Refusal> {
+    let bytes = with_rows_swapped(alloc)?;
+    refuses(alloc, &bytes, Kind::NotState)
+}
+
+/// Whether a site refuses the state of `a: 1` with a third row that has these bytes.
+fn refuses_third_row(alloc: Global, row: &[u8]) -> Result<bool, Refusal> {
+    let bytes = with_more(alloc, 3, row)?;
+    refuses(alloc, &bytes, Kind::NotState)
+}
+
+/// Whether a site refuses the state of `a: 1` as one of a newer version.
+fn refuses_newer(alloc: Global) -> Result<bool, Refusal> {
+    let mut newer = ONE;
+    newer[4] = 9;
+    refuses(alloc, &newer, Kind::Version)
+}
+
+/// Whether a site refuses the longest list with one more element.
+fn refuses_longer(alloc: Global) -> Result<bool, Refusal> {
+    let mut longer = LIST;
+    longer[27] = 1;
+    refuses(alloc, &longer, Kind::NotState)
 }
 
 #[test]
 fn bytes_of_no_table_are_refused(rt: HostRuntime) -> Result<(), Fail> {
     let alloc = rt.alloc();
-    assert!(rt; refuses(alloc, &with_rows_swapped(alloc)?, Kind::NotState)?);
-    assert!(rt; refuses(alloc, &with_a_free_row(alloc)?, Kind::NotState)?);
-    assert!(rt; refuses(alloc, &with_a_row_twice(alloc)?, Kind::NotState)?);
-    let mut newer = ONE;
-    newer[4] = 9;
-    assert!(rt; refuses(alloc, &newer, Kind::Version)?);
-    let mut longer = LIST;
-    longer[27] = 1;
-    assert!(rt; refuses(alloc, &longer, Kind::NotState)?);
+    assert!(rt; refuses_rows_swapped(alloc)?);
+    // A row of the label b that refuses nothing.
+    assert!(rt; refuses_third_row(alloc, &[1, 0, 0, 1, 0x62, 0, 0])?);
+    // The second row once more.
+    assert!(rt; refuses_third_row(alloc, &ONE[17..])?);
+    assert!(rt; refuses_newer(alloc)?);
+    assert!(rt; refuses_longer(alloc)?);
     Ok(())
 }
 
+/// Whether a site has so many gaps.
+fn has_gaps(alloc: Global, site: &Replica, count: usize) -> Result<bool, Memory> {
+    Ok(gaps(alloc, site)?.len() == count)
+}
+
+/// Whether what a site exports begins and ends so.
+fn exports_between(alloc: Global, site: &Replica, first: &str, last: &str) -> Result<bool, Memory> {
+    let lines = exported(alloc, site)?;
+    Ok(lines.as_str().starts_with(first) && lines.as_str().ends_with(last))
+}
+
 /// Whether the report of the longest list has a line for each of its elements.
-fn lists_each_element(alloc: Global) -> Result<bool, Fail> {
-    let mut site = Replica::new(alloc);
-    site.take(&LIST)?;
-    let lines = exported(alloc, &site)?;
-    Ok(
-        site.incomplete(alloc)?.len() == 65_536
-            && lines
-                .as_str()
-                .starts_with("incomplete l.0 not a single value\n")
-            && lines
-                .as_str()
-                .ends_with("incomplete l.65535 not a single value\n"),
-    )
+fn lists_each_element(alloc: Global) -> Result<bool, Refusal> {
+    let site = taken(alloc, &LIST)?;
+    let first = "incomplete l.0 not a single value\n";
+    let last = "incomplete l.65535 not a single value\n";
+    Ok(has_gaps(alloc, &site, 65_536)? && exports_between(alloc, &site, first, last)?)
+}
+
+/// Whether the printed text of a site is too large to be read again by it.
+fn prints_too_much(alloc: Global, site: &mut Replica) -> Result<bool, Memory> {
+    let text = printed(alloc, site)?;
+    Ok(is_refused(hand(site, text.as_str()), Kind::TooLarge, 0))
 }
 
 /// Whether the printed text of the longest list is too large to be read again.
-fn is_too_large(alloc: Global) -> Result<bool, Fail> {
-    let mut site = Replica::new(alloc);
-    site.take(&LIST)?;
-    let text = site.print(alloc)?;
-    match site.submit(text.as_str()) {
-        Ok(()) => Ok(false),
-        Err(why) => Ok(why.kind == Kind::TooLarge && why.place == 0),
-    }
+fn is_too_large(alloc: Global) -> Result<bool, Refusal> {
+    let mut site = taken(alloc, &LIST)?;
+    Ok(prints_too_much(alloc, &mut site)?)
 }
 
 #[test]
