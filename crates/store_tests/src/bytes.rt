@@ -1,10 +1,10 @@
 //! State bytes that were written down by hand.
 
 /// The state of a site that has accepted nothing.
-pub const FREE: [u8; 13] = [0xFE, 0x43, 0x55, 0x45, 1, 0, 0, 0, 0, 0, 0, 0, 0];
+pub const FREE: &[u8] = &[0xFE, 0x43, 0x55, 0x45, 1, 0, 0, 0, 0, 0, 0, 0, 0];
 
 /// The state of `a: 1`.
-pub const ONE: [u8; 92] = [
+pub const ONE: &[u8] = &[
     0xFE, 0x43, 0x55, 0x45, 1, 0, 0, 0, 0, 0, 0, 0, 2, // two rows
     0, 0, 2, 0, // the root
     1, 0, 0, 1, 0x61, 2, 1, // a scalar at the label a
@@ -17,7 +17,7 @@ pub const ONE: [u8; 92] = [
 ];
 
 /// The state of `port: 443`.
-pub const PORT: [u8; 95] = [
+pub const PORT: &[u8] = &[
     0xFE, 0x43, 0x55, 0x45, 1, 0, 0, 0, 0, 0, 0, 0, 2, // two rows
     0, 0, 2, 0, // the root
     1, 0, 0, 4, 0x70, 0x6F, 0x72, 0x74, 2, 1, // a scalar at the label port
@@ -30,7 +30,7 @@ pub const PORT: [u8; 95] = [
 ];
 
 /// The state of `a: 1` and `a: 2`.
-pub const CLASH: [u8; 30] = [
+pub const CLASH: &[u8] = &[
     0xFE, 0x43, 0x55, 0x45, 1, 0, 0, 0, 0, 0, 0, 0, 2, // two rows
     0, 0, 2, 0, // the root
     1, 0, 0, 1, 0x61, 2, 4, // nothing at the label a
@@ -38,7 +38,7 @@ pub const CLASH: [u8; 30] = [
 ];
 
 /// The state of `a: int` and `b: -1`.
-pub const TWO: [u8; 167] = [
+pub const TWO: &[u8] = &[
     0xFE, 0x43, 0x55, 0x45, 1, 0, 0, 0, 0, 0, 0, 0, 3, // three rows
     0, 0, 2, 0, // the root
     1, 0, 0, 1, 0x61, 2, 1, // a scalar at the label a
@@ -61,7 +61,7 @@ pub const TWO: [u8; 167] = [
 ];
 
 /// The state of a list of at least 65,536 elements at `l`.
-pub const LIST: [u8; 29] = [
+pub const LIST: &[u8] = &[
     0xFE, 0x43, 0x55, 0x45, 1, 0, 0, 0, 0, 0, 0, 0, 2, // two rows
     0, 0, 2, 0, // the root
     1, 0, 0, 1, 0x6C, 2, 3, // a list at the label l

@@ -26,12 +26,12 @@ fn is_state_of(alloc: Global, texts: &[&str], bytes: &[u8]) -> Result<bool, Refu
 #[test]
 fn states_of_integers(rt: HostRuntime) -> Result<(), Fail> {
     let alloc = rt.alloc();
-    assert!(rt; is_state_of(alloc, &[], &FREE)?);
-    assert!(rt; is_state_of(alloc, &["a: 1\n"], &ONE)?);
-    assert!(rt; is_state_of(alloc, &["port: 443\n"], &PORT)?);
-    assert!(rt; is_state_of(alloc, &["port: int\n", "port: 443\n"], &PORT)?);
-    assert!(rt; is_state_of(alloc, &["a: 1\n", "a: 2\n"], &CLASH)?);
-    assert!(rt; is_state_of(alloc, &["a: int\nb: -1\n"], &TWO)?);
+    assert!(rt; is_state_of(alloc, &[], FREE)?);
+    assert!(rt; is_state_of(alloc, &["a: 1\n"], ONE)?);
+    assert!(rt; is_state_of(alloc, &["port: 443\n"], PORT)?);
+    assert!(rt; is_state_of(alloc, &["port: int\n", "port: 443\n"], PORT)?);
+    assert!(rt; is_state_of(alloc, &["a: 1\n", "a: 2\n"], CLASH)?);
+    assert!(rt; is_state_of(alloc, &["a: int\nb: -1\n"], TWO)?);
     Ok(())
 }
 
@@ -40,7 +40,7 @@ fn a_site_that_knows_nothing(rt: HostRuntime) -> Result<(), Fail> {
     let alloc = rt.alloc();
     assert!(rt; exports(alloc, &[], "incomplete . not a single value\n")?);
     assert!(rt; prints(alloc, &[], "_\n")?);
-    assert!(rt; writes(alloc, &[], &FREE)?);
+    assert!(rt; writes(alloc, &[], FREE)?);
     Ok(())
 }
 
@@ -89,9 +89,9 @@ fn refuses_each_cut(alloc: Global, bytes: &[u8]) -> Result<bool, Refusal> {
 #[test]
 fn cut_states_are_refused(rt: HostRuntime) -> Result<(), Fail> {
     let alloc = rt.alloc();
-    assert!(rt; refuses_each_cut(alloc, &ONE)?);
-    assert!(rt; refuses_each_cut(alloc, &CLASH)?);
-    assert!(rt; refuses_each_cut(alloc, &LIST)?);
+    assert!(rt; refuses_each_cut(alloc, ONE)?);
+    assert!(rt; refuses_each_cut(alloc, CLASH)?);
+    assert!(rt; refuses_each_cut(alloc, LIST)?);
     Ok(())
 }
 
@@ -123,18 +123,32 @@ fn refuses_third_row(alloc: Global, row: &[u8]) -> Result<bool, Refusal> {
     refuses(alloc, &bytes, Kind::NotState)
 }
 
+/// The state of `a: 1`, as one of a newer version.
+fn newer(alloc: Global) -> Result<Vec<u8>, Memory> {
+    let mut bytes = Vec::from_slice(alloc, &ONE[..4])?;
+    bytes.push(9)?;
+    bytes.extend_from_slice(&ONE[5..])?;
+    Ok(bytes)
+}
+
+/// The state of the longest list, with one more element.
+fn longer(alloc: Global) -> Result<Vec<u8>, Memory> {
+    let mut bytes = Vec::from_slice(alloc, &LIST[..27])?;
+    bytes.push(1)?;
+    bytes.extend_from_slice(&LIST[28..])?;
+    Ok(bytes)
+}
+
 /// Whether a site refuses the state of `a: 1` as one of a newer version.
 fn refuses_newer(alloc: Global) -> Result<bool, Refusal> {
-    let mut newer = ONE;
-    newer[4] = 9;
-    refuses(alloc, &newer, Kind::Version)
+    let bytes = newer(alloc)?;
+    refuses(alloc, &bytes, Kind::Version)
 }
 
 /// Whether a site refuses the longest list with one more element.
 fn refuses_longer(alloc: Global) -> Result<bool, Refusal> {
-    let mut longer = LIST;
-    longer[27] = 1;
-    refuses(alloc, &longer, Kind::NotState)
+    let bytes = longer(alloc)?;
+    refuses(alloc, &bytes, Kind::NotState)
 }
 
 #[test]
@@ -163,7 +177,7 @@ fn exports_between(alloc: Global, site: &Replica, first: &str, last: &str) -> Re
 
 /// Whether the report of the longest list has a line for each of its elements.
 fn lists_each_element(alloc: Global) -> Result<bool, Refusal> {
-    let site = taken(alloc, &LIST)?;
+    let site = taken(alloc, LIST)?;
     let first = "incomplete l.0 not a single value\n";
     let last = "incomplete l.65535 not a single value\n";
     Ok(has_gaps(alloc, &site, 65_536)? && exports_between(alloc, &site, first, last)?)
@@ -177,7 +191,7 @@ fn prints_too_much(alloc: Global, site: &mut Replica) -> Result<bool, Memory> {
 
 /// Whether the printed text of the longest list is too large to be read again.
 fn is_too_large(alloc: Global) -> Result<bool, Refusal> {
-    let mut site = taken(alloc, &LIST)?;
+    let mut site = taken(alloc, LIST)?;
     Ok(prints_too_much(alloc, &mut site)?)
 }
 
