@@ -221,26 +221,62 @@ fn labels(alloc: Global, fields: u32) -> Result<Labels, Memory> {
     }
 }
 
+/// How many fields the table of this shape has, with so many fields or texts.
+fn fields(shape: Shape, count: u32) -> u32 {
+    match shape {
+        Shape::Texts => 1,
+        Shape::Wide | Shape::Deep | Shape::Open | Shape::Clashing | Shape::Closed => count,
+    }
+}
+
+/// What may stand at each field of the table of this shape.
+fn value(alloc: Global, shape: Shape, count: u32) -> Result<ScalarSet, Memory> {
+    match shape {
+        Shape::Wide | Shape::Deep | Shape::Closed => integers(alloc, IntSet::one(alloc, 7)?),
+        Shape::Open => integers(alloc, IntSet::full(alloc)?),
+        Shape::Clashing => ScalarSet::empty(alloc),
+        Shape::Texts => texts(alloc, count),
+    }
+}
+
+/// The labels that the parent of the fields allows.
+fn allowed(alloc: Global, shape: Shape, count: u32) -> Result<Labels, Memory> {
+    match shape {
+        Shape::Closed => labels(alloc, count),
+        Shape::Wide | Shape::Deep | Shape::Texts | Shape::Open | Shape::Clashing => {
+            Labels::all(alloc)
+        }
+    }
+}
+
+/// The row at the top.
+fn top(alloc: Global) -> Result<Row, Memory> {
+    a_struct(alloc, Level::Optional, Labels::all(alloc)?)
+}
+
+/// The row of the parent of the fields.
+fn outer(alloc: Global, shape: Shape, count: u32) -> Result<Row, Memory> {
+    a_struct(alloc, Level::Given, allowed(alloc, shape, count)?)
+}
+
+/// The row of a field.
+fn inner(alloc: Global, shape: Shape, count: u32) -> Result<Row, Memory> {
+    scalar(alloc, value(alloc, shape, count)?)
+}
+
 /// The table of this shape with so many fields or texts.
 fn shaped(alloc: Global, shape: Shape, count: u32) -> Result<Table<Row>, Memory> {
-    let (fields, value) = match shape {
-        Shape::Wide | Shape::Deep | Shape::Closed => {
-            (count, integers(alloc, IntSet::one(alloc, 7)?)?)
-        }
-        Shape::Open => (count, integers(alloc, IntSet::full(alloc)?)?),
-        Shape::Clashing => (count, ScalarSet::empty(alloc)?),
-        Shape::Texts => (1, texts(alloc, count)?),
-    };
-    let allowed = match shape {
-        Shape::Closed => labels(alloc, count)?,
-        Shape::Wide | Shape::Deep | Shape::Texts | Shape::Open | Shape::Clashing => {
-            Labels::all(alloc)?
-        }
-    };
-    let root = a_struct(alloc, Level::Optional, Labels::all(alloc)?)?;
-    let outer = a_struct(alloc, Level::Given, allowed)?;
-    let row = scalar(alloc, value)?;
-    table(alloc, shape.levels(), fields, &root, &outer, &row)
+    let root = top(alloc)?;
+    let outer = outer(alloc, shape, count)?;
+    let row = inner(alloc, shape, count)?;
+    table(
+        alloc,
+        shape.levels(),
+        fields(shape, count),
+        &root,
+        &outer,
+        &row,
+    )
 }
 
 /// Reads a state.

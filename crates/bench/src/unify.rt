@@ -189,17 +189,25 @@ fn is_there<R: Narrow>(
     Ok(table.row(&path(alloc, shape, number)?).is_some())
 }
 
+/// How many rows a small table has after the work.
+fn sample<R: Narrow>(
+    alloc: Global,
+    work: Work,
+    shape: Shape,
+    rounds: u32,
+    row: &R,
+) -> Result<usize, Memory> {
+    let made = unified(alloc, work, shape, 60, rounds, row)?;
+    count(alloc, &made)
+}
+
 /// How many rows small tables have, a line for each work.
 fn sampled<R: Narrow>(alloc: Global, shape: Shape, row: &R) -> Result<String, Memory> {
-    let fragments = unified(alloc, Work::Fragments, shape, 60, 2, row)?;
-    let known = unified(alloc, Work::Known, shape, 60, 2, row)?;
-    let equal = unified(alloc, Work::Equal, shape, 60, 1, row)?;
-    let disjoint = unified(alloc, Work::Disjoint, shape, 60, 1, row)?;
-    let first = count(alloc, &fragments)?;
-    let second = count(alloc, &known)?;
-    let third = count(alloc, &equal)?;
-    let fourth = count(alloc, &disjoint)?;
-    Ok(format!(in alloc; "{first}\n{second}\n{third}\n{fourth}")?)
+    let fragments = sample(alloc, Work::Fragments, shape, 2, row)?;
+    let known = sample(alloc, Work::Known, shape, 2, row)?;
+    let equal = sample(alloc, Work::Equal, shape, 1, row)?;
+    let disjoint = sample(alloc, Work::Disjoint, shape, 1, row)?;
+    Ok(format!(in alloc; "{fragments}\n{known}\n{equal}\n{disjoint}")?)
 }
 
 /// Whether the first row is there after the work that the words ask for.
