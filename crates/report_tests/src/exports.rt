@@ -1,20 +1,37 @@
 //! What an export comes to.
 use crate::sample::Place::{Default, Integers, List, Nothing, Null, Struct, Text, Truth};
-use crate::sample::{Place, table};
-use cue_report::{Export, Memory, export, lines};
-use cue_row::Level;
+use crate::sample::{Made, Place, assert_text, table};
+use cue_report::{Export, export, lines};
 use cue_row::Level::{Given, Optional, Required};
+use cue_row::{Level, Row};
+use cue_table::Table;
 use std::alloc::Global;
+use std::process::Abort;
 use std::test::Fail;
 
-/// The JSON of the table with these places, or the lines of what is in its way.
-fn exported(alloc: Global, places: &[(&str, Level, Place)]) -> Result<String, Memory> {
-    let table = table(alloc, places)?;
-    match export(alloc, &table)? {
+/// The export of a table.
+fn exported(alloc: Global, table: Made<Table<Row>>) -> Made<Export> {
+    export(alloc, &table?)
+}
+
+/// The JSON of an export, or the lines of what is in its way.
+fn told(alloc: Global, export: Made<Export>) -> Made<String> {
+    match export? {
         Export::Json(text) => Ok(text),
         Export::Conflicts(found) => lines(alloc, &found, &[]),
         Export::Incomplete(gaps) => lines(alloc, &[], &gaps),
     }
+}
+
+/// Asserts what the table with these places is exported as.
+fn assert_exported<H: AllocGlobal + Abort>(
+    rt: &H,
+    places: &[(&str, Level, Place)],
+    wanted: &str,
+) -> Result<(), Fail> {
+    let alloc = rt.alloc();
+    let export = exported(alloc, table(alloc, places));
+    assert_text(rt, told(alloc, export), wanted)
 }
 
 #[test]
@@ -24,9 +41,7 @@ fn members_stand_in_byte_order(rt: HostRuntime) -> Result<(), Fail> {
         ("a", Given, Struct),
         ("ac", Given, Integers(-1, -1)),
     ];
-    let text = exported(rt.alloc(), &places)?;
-    assert_eq!(rt; text.as_str(), "{\"a\":{\"c\":-1},\"b\":2}");
-    Ok(())
+    assert_exported(&rt, &places, "{\"a\":{\"c\":-1},\"b\":2}")
 }
 
 #[test]
@@ -35,9 +50,7 @@ fn an_optional_field_is_not_exported(rt: HostRuntime) -> Result<(), Fail> {
         ("a", Optional, Integers(1, 1)),
         ("b", Given, Integers(2, 2)),
     ];
-    let text = exported(rt.alloc(), &places)?;
-    assert_eq!(rt; text.as_str(), "{\"b\":2}");
-    Ok(())
+    assert_exported(&rt, &places, "{\"b\":2}")
 }
 
 #[test]
@@ -48,28 +61,23 @@ fn a_list_has_its_least_length(rt: HostRuntime) -> Result<(), Fail> {
         ("l1", Optional, List(0, None)),
         ("l2", Optional, Integers(3, 3)),
     ];
-    let text = exported(rt.alloc(), &places)?;
-    assert_eq!(rt; text.as_str(), "{\"l\":[1,[]]}");
-    Ok(())
+    assert_exported(&rt, &places, "{\"l\":[1,[]]}")
 }
 
 #[test]
 fn conflicts_come_before_gaps(rt: HostRuntime) -> Result<(), Fail> {
     let places = [("a", Given, Integers(1, 2)), ("b", Given, Nothing)];
-    let text = exported(rt.alloc(), &places)?;
-    assert_eq!(rt; text.as_str(), "conflict b no value\n");
-    Ok(())
+    assert_exported(&rt, &places, "conflict b no value\n")
 }
 
 #[test]
 fn no_integer_is_chosen_of_two(rt: HostRuntime) -> Result<(), Fail> {
     let places = [("a", Given, Integers(1, 2)), ("b", Required, Struct)];
-    let text = exported(rt.alloc(), &places)?;
-    assert_eq!(rt;
-        text.as_str(),
-        "incomplete a not a single value\nincomplete b missing\n"
-    );
-    Ok(())
+    assert_exported(
+        &rt,
+        &places,
+        "incomplete a not a single value\nincomplete b missing\n",
+    )
 }
 
 #[test]
@@ -80,10 +88,9 @@ fn each_kind_of_scalar_is_exported(rt: HostRuntime) -> Result<(), Fail> {
         ("c", Given, Text("x\n")),
         ("d", Given, Default(1, 3, 2)),
     ];
-    let text = exported(rt.alloc(), &places)?;
-    assert_eq!(rt;
-        text.as_str(),
-        "{\"a\":null,\"b\":true,\"c\":\"x\\n\",\"d\":2}"
-    );
-    Ok(())
+    assert_exported(
+        &rt,
+        &places,
+        "{\"a\":null,\"b\":true,\"c\":\"x\\n\",\"d\":2}",
+    )
 }

@@ -1,4 +1,5 @@
-//! Tests of reports, kept in a crate above `cue_report`, so that it is not proved a second time with them.
+//! Tests of reports, kept in a crate above `cue_report`, so that it is not proved a second time
+//! with them.
 #![tactic(auto)]
 
 #[cfg(test)]

@@ -1,46 +1,53 @@
 //! What stands in the way of an export, as lines.
 use crate::sample;
 use crate::sample::Place::{Closed, Integers, List, Nothing, Struct};
-use crate::sample::{path, table};
-use cue_report::{Memory, Place, conflicts, incomplete, lines, path_text};
-use cue_row::Level;
+use crate::sample::{Made, assert_text, path, table};
+use cue_report::{Conflict, Gap, Place, conflicts, incomplete, lines, path_text};
 use cue_row::Level::{Given, Optional, Required};
+use cue_row::{Level, Path, Row};
+use cue_table::Table;
 use std::alloc::Global;
+use std::process::Abort;
 use std::test::Fail;
 
-/// The lines of the conflicts of the table with these places.
-fn told(alloc: Global, places: &[(&str, Level, sample::Place)]) -> Result<String, Memory> {
-    let table = table(alloc, places)?;
-    let found = conflicts(alloc, &table)?;
-    lines(alloc, &found, &[])
+/// The conflicts of a table.
+fn found(alloc: Global, table: Made<Table<Row>>) -> Made<Vec<Conflict>> {
+    conflicts(alloc, &table?)
+}
+
+/// The lines of conflicts.
+fn conflict_lines(alloc: Global, found: Made<Vec<Conflict>>) -> Made<String> {
+    lines(alloc, &found?, &[])
+}
+
+/// Asserts the lines of the conflicts of the table with these places.
+fn assert_conflicts<H: AllocGlobal + Abort>(
+    rt: &H,
+    places: &[(&str, Level, sample::Place)],
+    wanted: &str,
+) -> Result<(), Fail> {
+    let alloc = rt.alloc();
+    let found = found(alloc, table(alloc, places));
+    assert_text(rt, conflict_lines(alloc, found), wanted)
 }
 
 #[test]
 fn a_table_without_conflicts_has_no_lines(rt: HostRuntime) -> Result<(), Fail> {
-    let alloc = rt.alloc();
-    let text = told(
-        alloc,
+    assert_conflicts(
+        &rt,
         &[("a", Given, Struct), ("ab", Given, Integers(1, 2))],
-    )?;
-    assert_eq!(rt; text.as_str(), "");
-    Ok(())
+        "",
+    )
 }
 
 #[test]
 fn a_required_field_may_conflict(rt: HostRuntime) -> Result<(), Fail> {
-    let text = told(rt.alloc(), &[("a", Required, Nothing)])?;
-    assert_eq!(rt; text.as_str(), "conflict a no value\n");
-    Ok(())
+    assert_conflicts(&rt, &[("a", Required, Nothing)], "conflict a no value\n")
 }
 
 #[test]
 fn nothing_is_demanded_below_an_optional_field(rt: HostRuntime) -> Result<(), Fail> {
-    let text = told(
-        rt.alloc(),
-        &[("a", Optional, Struct), ("ab", Given, Nothing)],
-    )?;
-    assert_eq!(rt; text.as_str(), "");
-    Ok(())
+    assert_conflicts(&rt, &[("a", Optional, Struct), ("ab", Given, Nothing)], "")
 }
 
 #[test]
@@ -50,9 +57,7 @@ fn a_closed_struct_refuses_other_labels(rt: HostRuntime) -> Result<(), Fail> {
         ("vx", Given, Integers(1, 1)),
         ("vz", Given, Integers(1, 1)),
     ];
-    let text = told(rt.alloc(), &places)?;
-    assert_eq!(rt; text.as_str(), "conflict v.z label not allowed\n");
-    Ok(())
+    assert_conflicts(&rt, &places, "conflict v.z label not allowed\n")
 }
 
 #[test]
@@ -62,9 +67,7 @@ fn both_causes_are_told(rt: HostRuntime) -> Result<(), Fail> {
         ("xa", Given, Integers(1, 1)),
         ("xb", Given, Nothing),
     ];
-    let text = told(rt.alloc(), &places)?;
-    assert_eq!(rt; text.as_str(), "conflict x.b no value, label not allowed\n");
-    Ok(())
+    assert_conflicts(&rt, &places, "conflict x.b no value, label not allowed\n")
 }
 
 #[test]
@@ -74,12 +77,7 @@ fn a_list_may_have_no_length(rt: HostRuntime) -> Result<(), Fail> {
         ("l0", Optional, Integers(1, 1)),
         ("l1", Optional, Nothing),
     ];
-    let text = told(rt.alloc(), &places)?;
-    assert_eq!(rt;
-        text.as_str(),
-        "conflict l no value\nconflict l.1 no value\n"
-    );
-    Ok(())
+    assert_conflicts(&rt, &places, "conflict l no value\nconflict l.1 no value\n")
 }
 
 #[test]
@@ -89,32 +87,41 @@ fn conflicts_stand_in_path_order(rt: HostRuntime) -> Result<(), Fail> {
         ("a", Given, Nothing),
         ("ab", Given, Nothing),
     ];
-    let text = told(rt.alloc(), &places)?;
-    assert_eq!(rt;
-        text.as_str(),
-        "conflict a no value\nconflict a.b no value\nconflict b no value\n"
-    );
-    Ok(())
+    assert_conflicts(
+        &rt,
+        &places,
+        "conflict a no value\nconflict a.b no value\nconflict b no value\n",
+    )
 }
 
-/// The lines of the gaps of the table with these places.
-fn lacking(alloc: Global, places: &[(&str, Level, sample::Place)]) -> Result<String, Memory> {
-    let table = table(alloc, places)?;
-    let gaps = incomplete(alloc, &table)?;
-    lines(alloc, &[], &gaps)
+/// The gaps of a table.
+fn gaps(alloc: Global, table: Made<Table<Row>>) -> Made<Vec<Gap>> {
+    incomplete(alloc, &table?)
+}
+
+/// The lines of gaps.
+fn gap_lines(alloc: Global, gaps: Made<Vec<Gap>>) -> Made<String> {
+    lines(alloc, &[], &gaps?)
+}
+
+/// Asserts the lines of the gaps of the table with these places.
+fn assert_gaps<H: AllocGlobal + Abort>(
+    rt: &H,
+    places: &[(&str, Level, sample::Place)],
+    wanted: &str,
+) -> Result<(), Fail> {
+    let alloc = rt.alloc();
+    let gaps = gaps(alloc, table(alloc, places));
+    assert_text(rt, gap_lines(alloc, gaps), wanted)
 }
 
 #[test]
 fn below_a_missing_field_is_looked_at(rt: HostRuntime) -> Result<(), Fail> {
-    let text = lacking(
-        rt.alloc(),
+    assert_gaps(
+        &rt,
         &[("a", Required, Struct), ("ab", Given, Integers(1, 2))],
-    )?;
-    assert_eq!(rt;
-        text.as_str(),
-        "incomplete a missing\nincomplete a.b not a single value\n"
-    );
-    Ok(())
+        "incomplete a missing\nincomplete a.b not a single value\n",
+    )
 }
 
 #[test]
@@ -123,12 +130,11 @@ fn free_elements_are_gaps(rt: HostRuntime) -> Result<(), Fail> {
         ("l", Given, List(3, None)),
         ("l1", Optional, Integers(1, 1)),
     ];
-    let text = lacking(rt.alloc(), &places)?;
-    assert_eq!(rt;
-        text.as_str(),
-        "incomplete l.0 not a single value\nincomplete l.2 not a single value\n"
-    );
-    Ok(())
+    assert_gaps(
+        &rt,
+        &places,
+        "incomplete l.0 not a single value\nincomplete l.2 not a single value\n",
+    )
 }
 
 #[test]
@@ -138,19 +144,28 @@ fn a_conflict_is_no_gap(rt: HostRuntime) -> Result<(), Fail> {
         ("vx", Required, Nothing),
         ("vz", Given, Integers(1, 2)),
     ];
-    let text = lacking(rt.alloc(), &places)?;
-    assert_eq!(rt; text.as_str(), "");
-    Ok(())
+    assert_gaps(&rt, &places, "")
+}
+
+/// The text of a path.
+fn path_told(alloc: Global, path: Made<Path>) -> Made<String> {
+    path_text(alloc, &path?)
+}
+
+/// The place to which a path leads.
+fn place(path: Made<Path>) -> Made<Place> {
+    Ok(Place::new(path?.into_steps()))
+}
+
+/// The text of a place.
+fn place_told(alloc: Global, place: Made<Place>) -> Made<String> {
+    place?.to_text(alloc)
 }
 
 #[test]
 fn paths_are_told_step_by_step(rt: HostRuntime) -> Result<(), Fail> {
     let alloc = rt.alloc();
-    let root = path_text(alloc, &path(alloc, "")?)?;
-    assert_eq!(rt; root.as_str(), ".");
-    let below = path_text(alloc, &path(alloc, "a1b")?)?;
-    assert_eq!(rt; below.as_str(), "a.1.b");
-    let place = Place::new(path(alloc, "a1b")?.into_steps());
-    assert_eq!(rt; place.to_text(alloc)?.as_str(), "a.1.b");
-    Ok(())
+    assert_text(&rt, path_told(alloc, path(alloc, "")), ".")?;
+    assert_text(&rt, path_told(alloc, path(alloc, "a1b")), "a.1.b")?;
+    assert_text(&rt, place_told(alloc, place(path(alloc, "a1b"))), "a.1.b")
 }

@@ -1,25 +1,81 @@
 //! Tables for the tests of reports, told by words.
-use cue_lattice::{Memory, Narrow, Text};
+use cue_lattice::{Memory, Text};
 use cue_row::{Labels, Level, Path, Row, Step};
 use cue_scalars::ScalarSet;
 use cue_sets::{IntSet, TextSet};
 use cue_table::Table;
 use std::alloc::Global;
+use std::process::Abort;
+use std::test::Fail;
 
-/// A path of one-letter labels and one-digit indexes: `a1b` is the label `a`, the index 1 and the label `b`.
-pub fn path(alloc: Global, word: &str) -> Result<Path, Memory> {
-    let mut steps = Vec::new(alloc);
-    for letter in word.chars() {
-        match letter.to_digit(10) {
-            Some(number) => steps.push(Step::Index(number))?,
-            None => {
-                let mut label = String::new(alloc);
-                label.push(letter)?;
-                steps.push(Step::Label(Text::new(label)))?;
-            }
-        }
+/// What a call has made where memory was there. It goes on to the next call as it is, so that a
+/// test holds no value that is dropped on its ways out.
+pub type Made<T> = Result<T, Memory>;
+
+/// Asserts that the text is the one that is wanted.
+pub fn assert_text<H: Abort>(rt: &H, text: Made<String>, wanted: &str) -> Result<(), Fail> {
+    let text = text?;
+    assert_eq!(rt; text.as_str(), wanted);
+    Ok(())
+}
+
+/// The list with one more at its end.
+fn pushed<T: Drop>(list: Made<Vec<T>>, last: Made<T>) -> Made<Vec<T>> {
+    let mut list = list?;
+    list.push(last?)?;
+    Ok(list)
+}
+
+/// The text of one letter.
+fn text(alloc: Global, letter: char) -> Made<Text> {
+    let mut text = String::new(alloc);
+    text.push(letter)?;
+    Ok(Text::new(text))
+}
+
+/// The texts of one letter each.
+fn texts(alloc: Global, letters: &str) -> Made<Vec<Text>> {
+    let mut texts = Ok(Vec::new(alloc));
+    for letter in letters.chars() {
+        texts = pushed(texts, text(alloc, letter));
     }
-    Ok(Path::new(steps).unwrap_or(Path::root(alloc)))
+    texts
+}
+
+/// The step to a label of one letter.
+fn label(label: Made<Text>) -> Made<Step> {
+    Ok(Step::Label(label?))
+}
+
+/// The step that a letter or a digit tells.
+fn step(alloc: Global, letter: char) -> Made<Step> {
+    match letter.to_digit(10) {
+        Some(index) => Ok(Step::Index(index)),
+        None => label(text(alloc, letter)),
+    }
+}
+
+/// The steps that the letters and digits of a word tell.
+fn steps(alloc: Global, word: &str) -> Made<Vec<Step>> {
+    let mut steps = Ok(Vec::new(alloc));
+    for letter in word.chars() {
+        steps = pushed(steps, step(alloc, letter));
+    }
+    steps
+}
+
+/// The path of these steps, or the root where they are too many.
+fn path_of(alloc: Global, steps: Made<Vec<Step>>) -> Made<Path> {
+    match Path::new(steps?) {
+        Some(path) => Ok(path),
+        None => Ok(Path::root(alloc)),
+    }
+}
+
+/// A path of one-letter labels and one-digit indexes: `a1b` is the label `a`, the index 1 and the
+/// label `b`.
+pub fn path(alloc: Global, word: &str) -> Made<Path> {
+    path_of(alloc, steps(alloc, word))
 }
 
 /// What a table of the tests says of a place.
@@ -42,105 +98,127 @@ pub enum Place<'a> {
     Nothing,
 }
 
-/// The row of a place where no scalar may stand.
-fn compound(alloc: Global, struct_ok: bool, list_ok: bool) -> Result<Row, Memory> {
-    Ok(Row {
-        level: Level::Optional,
-        value: ScalarSet::empty(alloc)?,
-        usual: ScalarSet::empty(alloc)?,
-        struct_ok,
-        list_ok,
-        labels: Labels::all(alloc)?,
-        least: 0,
-        most: None,
+/// The set of null, false and true, of each where it is asked for, and of these integers and texts.
+fn all_kinds(
+    null: bool,
+    no: bool,
+    yes: bool,
+    ints: Made<IntSet>,
+    texts: Made<TextSet>,
+) -> Made<ScalarSet> {
+    Ok(ScalarSet {
+        null,
+        no,
+        yes,
+        ints: ints?,
+        texts: texts?,
     })
 }
 
-/// A struct in which only these one-letter labels may stand.
-fn closed(alloc: Global, letters: &str) -> Result<Row, Memory> {
-    let mut labels = Vec::new(alloc);
-    for letter in letters.chars() {
-        let mut label = String::new(alloc);
-        label.push(letter)?;
-        labels.push(Text::new(label))?;
+/// The set of null, false and true, of each where it is asked for.
+fn plain(alloc: Global, null: bool, no: bool, yes: bool) -> Made<ScalarSet> {
+    all_kinds(null, no, yes, IntSet::empty(alloc), TextSet::none(alloc))
+}
+
+/// The integers of both sets.
+fn common(alloc: Global, left: Made<IntSet>, right: Made<IntSet>) -> Made<IntSet> {
+    left?.meet(alloc, &right?)
+}
+
+/// The set of the integers from the first to the last.
+fn integers(alloc: Global, first: i64, last: i64) -> Made<ScalarSet> {
+    let high = IntSet::at_most(alloc, last);
+    let ints = common(alloc, IntSet::at_least(alloc, first), high);
+    all_kinds(false, false, false, ints, TextSet::none(alloc))
+}
+
+/// The set of one text.
+fn one_text(alloc: Global, text: &str) -> Made<ScalarSet> {
+    let texts = TextSet::one(alloc, text);
+    all_kinds(false, false, false, IntSet::empty(alloc), texts)
+}
+
+/// The scalars that may stand at a place.
+fn value(alloc: Global, place: Place) -> Made<ScalarSet> {
+    match place {
+        Place::Integers(first, last) => integers(alloc, first, last),
+        Place::Default(first, last, _) => integers(alloc, first, last),
+        Place::Null => plain(alloc, true, false, false),
+        Place::Truth(truth) => plain(alloc, false, !truth, truth),
+        Place::Text(text) => one_text(alloc, text),
+        _ => plain(alloc, false, false, false),
     }
-    let mut row = compound(alloc, true, false)?;
-    if let Some(labels) = Labels::listing(labels) {
-        row.labels = labels;
+}
+
+/// The usual scalars of a place.
+fn usual(alloc: Global, place: Place) -> Made<ScalarSet> {
+    match place {
+        Place::Default(_, _, usual) => integers(alloc, usual, usual),
+        _ => value(alloc, place),
     }
-    Ok(row)
 }
 
-/// The integers from the first to the last, each of them usual.
-fn integers(alloc: Global, first: i64, last: i64) -> Result<Row, Memory> {
-    let low = IntSet::at_least(alloc, first)?;
-    let high = IntSet::at_most(alloc, last)?;
-    let mut row = compound(alloc, false, false)?;
-    row.value.ints = low.meet(alloc, &high)?;
-    row.usual.ints = low.meet(alloc, &high)?;
-    Ok(row)
+/// These labels alone, or all where they do not ascend.
+fn listing(alloc: Global, labels: Made<Vec<Text>>) -> Made<Labels> {
+    match Labels::listing(labels?) {
+        Some(labels) => Ok(labels),
+        None => Labels::all(alloc),
+    }
 }
 
-/// The integers from the first to the last, of which one is usual.
-fn default(alloc: Global, first: i64, last: i64, usual: i64) -> Result<Row, Memory> {
-    let mut row = integers(alloc, first, last)?;
-    row.usual.ints = IntSet::one(alloc, usual)?;
-    Ok(row)
+/// The labels that may stand directly below a place.
+fn labels(alloc: Global, place: Place) -> Made<Labels> {
+    match place {
+        Place::Closed(letters) => listing(alloc, texts(alloc, letters)),
+        _ => Labels::all(alloc),
+    }
 }
 
-fn null(alloc: Global) -> Result<Row, Memory> {
-    let mut row = compound(alloc, false, false)?;
-    row.value.null = true;
-    row.usual.null = true;
-    Ok(row)
+/// The least and the greatest length of a list at a place.
+fn lengths(place: Place) -> (u32, Option<u32>) {
+    match place {
+        Place::List(least, most) => (least, most),
+        _ => (0, None),
+    }
 }
 
-fn truth(alloc: Global, truth: bool) -> Result<Row, Memory> {
-    let mut row = compound(alloc, false, false)?;
-    row.value.no = !truth;
-    row.value.yes = truth;
-    row.usual.no = !truth;
-    row.usual.yes = truth;
-    Ok(row)
+/// Whether a struct may stand at a place.
+fn is_struct(place: Place) -> bool {
+    matches!(place, Place::Struct | Place::Closed(_))
 }
 
-fn text(alloc: Global, text: &str) -> Result<Row, Memory> {
-    let mut row = compound(alloc, false, false)?;
-    row.value.texts = TextSet::one(alloc, text)?;
-    row.usual.texts = TextSet::one(alloc, text)?;
-    Ok(row)
+/// Whether a list may stand at a place.
+fn is_list(place: Place) -> bool {
+    matches!(place, Place::List(_, _))
 }
 
-fn list(alloc: Global, least: u32, most: Option<u32>) -> Result<Row, Memory> {
-    let mut row = compound(alloc, false, true)?;
-    row.least = least;
-    row.most = most;
-    Ok(row)
+/// The row of a place.
+fn row(alloc: Global, level: Level, place: Place) -> Made<Row> {
+    let (least, most) = lengths(place);
+    Ok(Row {
+        level,
+        value: value(alloc, place)?,
+        usual: usual(alloc, place)?,
+        struct_ok: is_struct(place),
+        list_ok: is_list(place),
+        labels: labels(alloc, place)?,
+        least,
+        most,
+    })
 }
 
-fn row(alloc: Global, level: Level, place: Place) -> Result<Row, Memory> {
-    let mut row = match place {
-        Place::Struct => compound(alloc, true, false)?,
-        Place::Closed(letters) => closed(alloc, letters)?,
-        Place::List(least, most) => list(alloc, least, most)?,
-        Place::Integers(first, last) => integers(alloc, first, last)?,
-        Place::Default(first, last, usual) => default(alloc, first, last, usual)?,
-        Place::Null => null(alloc)?,
-        Place::Truth(value) => truth(alloc, value)?,
-        Place::Text(value) => text(alloc, value)?,
-        Place::Nothing => compound(alloc, false, false)?,
-    };
-    row.level = level;
-    Ok(row)
+/// Adds a row to a table.
+fn add(table: &mut Table<Row>, path: Made<Path>, row: Made<Row>) -> Made<()> {
+    table.add(&path?, &row?)
 }
 
 /// The table of an open struct with these places, each with its level.
-pub fn table(alloc: Global, places: &[(&str, Level, Place)]) -> Result<Table<Row>, Memory> {
+pub fn table(alloc: Global, places: &[(&str, Level, Place)]) -> Made<Table<Row>> {
     let mut table = Table::new(alloc);
-    let root = row(alloc, Level::Optional, Place::Struct)?;
-    table.add(&Path::root(alloc), &root)?;
+    let open = row(alloc, Level::Optional, Place::Struct);
+    add(&mut table, Ok(Path::root(alloc)), open)?;
     for (word, level, place) in places {
-        table.add(&path(alloc, word)?, &row(alloc, *level, *place)?)?;
+        add(&mut table, path(alloc, word), row(alloc, *level, *place))?;
     }
     Ok(table)
 }
