@@ -1,24 +1,34 @@
 //! What tables are printed as.
 use crate::sample::Place::{Closed, Free, List, Nothing, Struct, Values};
-use crate::sample::{NONE, Place, Scalars, integers, table};
-use cue_print::{Memory, others_are_left, print};
+use crate::sample::{Made, NONE, Place, Scalars, assert_text, integers, table};
+use cue_print::{others_are_left, print};
 use cue_row::Level::{Given, Optional, Required};
 use cue_row::{Level, Row};
 use cue_table::Table;
 use std::alloc::Global;
+use std::process::Abort;
 use std::test::Fail;
 
-/// The text of the table with these places.
-fn printed(alloc: Global, places: &[(&str, Level, Place)]) -> Result<String, Memory> {
-    print(alloc, &table(alloc, places)?)
+/// The text of a table.
+fn printed(alloc: Global, table: Made<Table<Row>>) -> Made<String> {
+    print(alloc, &table?)
+}
+
+/// Asserts what the table with these places is printed as.
+fn assert_printed<H: AllocGlobal + Abort>(
+    rt: &H,
+    places: &[(&str, Level, Place)],
+    wanted: &str,
+) -> Result<(), Fail> {
+    let alloc = rt.alloc();
+    assert_text(rt, printed(alloc, table(alloc, places)), wanted)
 }
 
 #[test]
 fn nothing_known_is_one_line(rt: HostRuntime) -> Result<(), Fail> {
     let alloc = rt.alloc();
-    let table: Table<Row> = Table::new(alloc);
-    assert_eq!(rt; print(alloc, &table)?.as_str(), "_\n");
-    assert_eq!(rt; printed(alloc, &[])?.as_str(), "");
+    assert_text(&rt, printed(alloc, Ok(Table::new(alloc))), "_\n")?;
+    assert_printed(&rt, &[], "")?;
     others_are_left();
     Ok(())
 }
@@ -48,17 +58,16 @@ fn defaults_stand_in_front(rt: HostRuntime) -> Result<(), Fail> {
         ("c", Given, Values(mixed, others)),
         ("d", Given, Values(mixed, one)),
     ];
-    let text = printed(rt.alloc(), &places)?;
-    assert_eq!(rt;
-        text.as_str(),
+    assert_printed(
+        &rt,
+        &places,
         concat!(
             "\"a\": *1 | 2\n",
             "\"b\": *_|_ | >=1 & <=2\n",
             "\"c\": *(!=\"x\" & !=\"y\") | 1\n",
             "\"d\": *1 | !=\"x\" & !=\"y\"\n"
-        )
-    );
-    Ok(())
+        ),
+    )
 }
 
 #[test]
@@ -75,12 +84,11 @@ fn terms_stand_in_order(rt: HostRuntime) -> Result<(), Fail> {
         ("c", Optional, integers(i64::MIN, i64::MAX)),
         ("d", Given, integers(5, i64::MAX)),
     ];
-    let text = printed(rt.alloc(), &places)?;
-    assert_eq!(rt;
-        text.as_str(),
-        "\"a\": bool | <=7 | \"x\" | \"y\"\n\"b\"!: _\n\"c\"?: int\n\"d\": >=5\n"
-    );
-    Ok(())
+    assert_printed(
+        &rt,
+        &places,
+        "\"a\": bool | <=7 | \"x\" | \"y\"\n\"b\"!: _\n\"c\"?: int\n\"d\": >=5\n",
+    )
 }
 
 #[test]
@@ -92,12 +100,11 @@ fn closed_structs_name_their_labels(rt: HostRuntime) -> Result<(), Fail> {
         ("xa", Given, integers(1, 1)),
         ("xb", Given, Nothing),
     ];
-    let text = printed(rt.alloc(), &places)?;
-    assert_eq!(rt;
-        text.as_str(),
-        "\"w\": {\"b\": 1}\n\"x\": close({\"a\": 1, \"c\"?: _}) & {\"b\": _|_}\n"
-    );
-    Ok(())
+    assert_printed(
+        &rt,
+        &places,
+        "\"w\": {\"b\": 1}\n\"x\": close({\"a\": 1, \"c\"?: _}) & {\"b\": _|_}\n",
+    )
 }
 
 #[test]
@@ -109,18 +116,15 @@ fn lists_tell_their_lengths(rt: HostRuntime) -> Result<(), Fail> {
         ("m", Given, List(2, Some(2))),
         ("m1", Optional, integers(2, 2)),
     ];
-    let text = printed(rt.alloc(), &places)?;
-    assert_eq!(rt;
-        text.as_str(),
-        "\"k\": [...]\n\"l\": [1, _, ...] & [_]\n\"m\": [_, 2]\n"
-    );
-    Ok(())
+    assert_printed(
+        &rt,
+        &places,
+        "\"k\": [...]\n\"l\": [1, _, ...] & [_]\n\"m\": [_, 2]\n",
+    )
 }
 
 #[test]
 fn nothing_keeps_what_stands_below(rt: HostRuntime) -> Result<(), Fail> {
     let places = [("a", Given, Nothing), ("ab", Given, integers(1, 1))];
-    let text = printed(rt.alloc(), &places)?;
-    assert_eq!(rt; text.as_str(), "\"a\": {\"b\": 1} & _|_\n");
-    Ok(())
+    assert_printed(&rt, &places, "\"a\": {\"b\": 1} & _|_\n")
 }

@@ -5,22 +5,77 @@ use cue_scalars::ScalarSet;
 use cue_sets::{IntSet, TextSet};
 use cue_table::Table;
 use std::alloc::Global;
+use std::process::Abort;
+use std::test::Fail;
+
+/// What a call has made where memory was there. It goes on to the next call as it is, so that a
+/// test holds no value that is dropped on its ways out.
+pub type Made<T> = Result<T, Memory>;
+
+/// Asserts that the text is the one that is wanted.
+pub fn assert_text<H: Abort>(rt: &H, text: Made<String>, wanted: &str) -> Result<(), Fail> {
+    let text = text?;
+    assert_eq!(rt; text.as_str(), wanted);
+    Ok(())
+}
+
+/// The list with one more at its end.
+fn pushed<T: Drop>(list: Made<Vec<T>>, last: Made<T>) -> Made<Vec<T>> {
+    let mut list = list?;
+    list.push(last?)?;
+    Ok(list)
+}
+
+/// The text of one letter.
+fn text(alloc: Global, letter: char) -> Made<Text> {
+    let mut text = String::new(alloc);
+    text.push(letter)?;
+    Ok(Text::new(text))
+}
+
+/// The texts of one letter each.
+fn texts(alloc: Global, letters: &str) -> Made<Vec<Text>> {
+    let mut texts = Ok(Vec::new(alloc));
+    for letter in letters.chars() {
+        texts = pushed(texts, text(alloc, letter));
+    }
+    texts
+}
+
+/// The step to a label of one letter.
+fn label(label: Made<Text>) -> Made<Step> {
+    Ok(Step::Label(label?))
+}
+
+/// The step that a letter or a digit tells.
+fn step(alloc: Global, letter: char) -> Made<Step> {
+    match letter.to_digit(10) {
+        Some(index) => Ok(Step::Index(index)),
+        None => label(text(alloc, letter)),
+    }
+}
+
+/// The steps that the letters and digits of a word tell.
+fn steps(alloc: Global, word: &str) -> Made<Vec<Step>> {
+    let mut steps = Ok(Vec::new(alloc));
+    for letter in word.chars() {
+        steps = pushed(steps, step(alloc, letter));
+    }
+    steps
+}
+
+/// The path of these steps, or the root where they are too many.
+fn path_of(alloc: Global, steps: Made<Vec<Step>>) -> Made<Path> {
+    match Path::new(steps?) {
+        Some(path) => Ok(path),
+        None => Ok(Path::root(alloc)),
+    }
+}
 
 /// A path of one-letter labels and one-digit indexes: `a1b` is the label `a`, the index 1 and the
 /// label `b`.
-fn path(alloc: Global, word: &str) -> Result<Path, Memory> {
-    let mut steps = Vec::new(alloc);
-    for letter in word.chars() {
-        match letter.to_digit(10) {
-            Some(number) => steps.push(Step::Index(number))?,
-            None => {
-                let mut label = String::new(alloc);
-                label.push(letter)?;
-                steps.push(Step::Label(Text::new(label)))?;
-            }
-        }
-    }
-    Ok(Path::new(steps).unwrap_or(Path::root(alloc)))
+fn path(alloc: Global, word: &str) -> Made<Path> {
+    path_of(alloc, steps(alloc, word))
 }
 
 /// Scalars: truth values as they are wanted, the integers from a first to a last, where there are
@@ -67,81 +122,118 @@ pub fn integers<'a>(first: i64, last: i64) -> Place<'a> {
     Place::Values(all, all)
 }
 
-/// The row of a place where no scalar may stand.
-fn compound(alloc: Global, struct_ok: bool, list_ok: bool) -> Result<Row, Memory> {
-    Ok(Row {
-        level: Level::Optional,
-        value: ScalarSet::empty(alloc)?,
-        usual: ScalarSet::empty(alloc)?,
-        struct_ok,
-        list_ok,
-        labels: Labels::all(alloc)?,
-        least: 0,
-        most: None,
+/// The integers of both sets.
+fn common(alloc: Global, left: Made<IntSet>, right: Made<IntSet>) -> Made<IntSet> {
+    left?.meet(alloc, &right?)
+}
+
+/// The integers from the first to the last, where there are any.
+fn integers_of(alloc: Global, ends: Option<(i64, i64)>) -> Made<IntSet> {
+    let Some((first, last)) = ends else {
+        return IntSet::empty(alloc);
+    };
+    let high = IntSet::at_most(alloc, last);
+    common(alloc, IntSet::at_least(alloc, first), high)
+}
+
+/// These texts or all others; none where they do not ascend.
+fn texts_of(alloc: Global, all_but: bool, texts: Made<Vec<Text>>) -> Made<TextSet> {
+    match TextSet::from_texts(all_but, texts?) {
+        Some(set) => Ok(set),
+        None => TextSet::none(alloc),
+    }
+}
+
+/// The set of these scalars.
+fn set(alloc: Global, scalars: Scalars) -> Made<ScalarSet> {
+    let texts = texts(alloc, scalars.letters);
+    Ok(ScalarSet {
+        null: false,
+        no: scalars.truths,
+        yes: scalars.truths,
+        ints: integers_of(alloc, scalars.integers)?,
+        texts: texts_of(alloc, scalars.all_but, texts)?,
     })
 }
 
-/// Texts of one letter each.
-fn texts(alloc: Global, letters: &str) -> Result<Vec<Text>, Memory> {
-    let mut texts = Vec::new(alloc);
-    for letter in letters.chars() {
-        let mut text = String::new(alloc);
-        text.push(letter)?;
-        texts.push(Text::new(text))?;
+/// The scalars that may stand at a place.
+fn value(alloc: Global, place: Place) -> Made<ScalarSet> {
+    match place {
+        Place::Free => ScalarSet::free(alloc),
+        Place::Values(value, _) => set(alloc, value),
+        _ => ScalarSet::empty(alloc),
     }
-    Ok(texts)
 }
 
-fn set(alloc: Global, scalars: Scalars) -> Result<ScalarSet, Memory> {
-    let mut set = ScalarSet::empty(alloc)?;
-    set.no = scalars.truths;
-    set.yes = scalars.truths;
-    if let Some((first, last)) = scalars.integers {
-        let low = IntSet::at_least(alloc, first)?;
-        set.ints = low.meet(alloc, &IntSet::at_most(alloc, last)?)?;
+/// The usual scalars of a place.
+fn usual(alloc: Global, place: Place) -> Made<ScalarSet> {
+    match place {
+        Place::Values(_, usual) => set(alloc, usual),
+        _ => value(alloc, place),
     }
-    if let Some(texts) = TextSet::from_texts(scalars.all_but, texts(alloc, scalars.letters)?) {
-        set.texts = texts;
-    }
-    Ok(set)
 }
 
-fn closed(alloc: Global, letters: &str) -> Result<Row, Memory> {
-    let mut row = compound(alloc, true, false)?;
-    if let Some(labels) = Labels::listing(texts(alloc, letters)?) {
-        row.labels = labels;
+/// These labels alone, or all where they do not ascend.
+fn listing(alloc: Global, labels: Made<Vec<Text>>) -> Made<Labels> {
+    match Labels::listing(labels?) {
+        Some(labels) => Ok(labels),
+        None => Labels::all(alloc),
     }
-    Ok(row)
 }
 
-fn row(alloc: Global, level: Level, place: Place) -> Result<Row, Memory> {
-    let mut row = match place {
-        Place::Free => Row::free(alloc)?,
-        Place::Struct => compound(alloc, true, false)?,
-        Place::Closed(letters) => closed(alloc, letters)?,
-        Place::List(_, _) => compound(alloc, false, true)?,
-        Place::Values(_, _) => compound(alloc, false, false)?,
-        Place::Nothing => compound(alloc, false, false)?,
-    };
-    if let Place::List(least, most) = place {
-        row.least = least;
-        row.most = most;
+/// The labels that may stand directly below a place.
+fn labels(alloc: Global, place: Place) -> Made<Labels> {
+    match place {
+        Place::Closed(letters) => listing(alloc, texts(alloc, letters)),
+        _ => Labels::all(alloc),
     }
-    if let Place::Values(value, usual) = place {
-        row.value = set(alloc, value)?;
-        row.usual = set(alloc, usual)?;
+}
+
+/// The least and the greatest length of a list at a place.
+fn lengths(place: Place) -> (u32, Option<u32>) {
+    match place {
+        Place::List(least, most) => (least, most),
+        _ => (0, None),
     }
-    row.level = level;
-    Ok(row)
+}
+
+/// Whether a struct may stand at a place.
+fn is_struct(place: Place) -> bool {
+    matches!(place, Place::Free | Place::Struct | Place::Closed(_))
+}
+
+/// Whether a list may stand at a place.
+fn is_list(place: Place) -> bool {
+    matches!(place, Place::Free | Place::List(_, _))
+}
+
+/// The row of a place.
+fn row(alloc: Global, level: Level, place: Place) -> Made<Row> {
+    let (least, most) = lengths(place);
+    Ok(Row {
+        level,
+        value: value(alloc, place)?,
+        usual: usual(alloc, place)?,
+        struct_ok: is_struct(place),
+        list_ok: is_list(place),
+        labels: labels(alloc, place)?,
+        least,
+        most,
+    })
+}
+
+/// Adds a row to a table.
+fn add(table: &mut Table<Row>, path: Made<Path>, row: Made<Row>) -> Made<()> {
+    table.add(&path?, &row?)
 }
 
 /// The table of an open struct with these places, each with its level.
-pub fn table(alloc: Global, places: &[(&str, Level, Place)]) -> Result<Table<Row>, Memory> {
+pub fn table(alloc: Global, places: &[(&str, Level, Place)]) -> Made<Table<Row>> {
     let mut table = Table::new(alloc);
-    let root = row(alloc, Level::Optional, Place::Struct)?;
-    table.add(&Path::root(alloc), &root)?;
+    let open = row(alloc, Level::Optional, Place::Struct);
+    add(&mut table, Ok(Path::root(alloc)), open)?;
     for (word, level, place) in places {
-        table.add(&path(alloc, word)?, &row(alloc, *level, *place)?)?;
+        add(&mut table, path(alloc, word), row(alloc, *level, *place))?;
     }
     Ok(table)
 }
