@@ -13,7 +13,8 @@ mod texts;
 mod words;
 
 use crate::act::act;
-use std::process::Abort;
+use std::alloc::Global;
+use std::io::Read;
 use std::rt::Files;
 use std::test::Fail;
 
@@ -25,38 +26,62 @@ struct Run {
     faults: Vec<u8>,
 }
 
-fn ran<H: AllocGlobal + Files>(rt: &H, words: &[&str], mut input: &[u8]) -> Result<Run, Fail> {
-    let alloc = rt.alloc();
+impl Run {
+    /// Whether it ended with this status, and wrote just this.
+    fn is(&self, status: u8, out: &[u8], faults: &[u8]) -> bool {
+        self.status == status && self.out.as_slice() == out && self.faults.as_slice() == faults
+    }
+}
+
+/// The words as the program takes them.
+fn owned(alloc: Global, words: &[&str]) -> Result<Vec<String>, Fail> {
     let mut owned = Vec::new(alloc);
     for word in words {
         owned.push(String::from_str(alloc, word)?)?;
     }
-    let mut out = Vec::new(alloc);
-    let mut faults = Vec::new(alloc);
-    let status = act(rt, &owned, &mut input, &mut out, &mut faults);
-    Ok(Run {
+    Ok(owned)
+}
+
+/// The run over these words and this input. No contract says what it writes, so that the proof of a
+/// caller is short.
+fn acted<H: AllocGlobal + Files, R: Read>(rt: &H, words: &[String], input: &mut R) -> Run {
+    let mut out = Vec::new(rt.alloc());
+    let mut faults = Vec::new(rt.alloc());
+    let status = act(rt, words, input, &mut out, &mut faults);
+    Run {
         status,
         out,
         faults,
-    })
+    }
 }
 
-fn assert_run(rt: &impl Abort, run: &Run, status: u8, out: &str, faults: &str) {
-    assert_eq!(rt; run.out.as_slice(), out.as_bytes());
-    assert_eq!(rt; run.faults.as_slice(), faults.as_bytes());
-    assert_eq!(rt; run.status, status);
+fn ran<H: AllocGlobal + Files>(rt: &H, words: &[&str], mut input: &[u8]) -> Result<Run, Fail> {
+    let words = owned(rt.alloc(), words)?;
+    Ok(acted(rt, &words, &mut input))
 }
 
-/// Whether a run over these texts ends with this status, prints this and tells no fault.
-fn ends<H: AllocGlobal + Files>(
+/// Whether a run over these words and this input ends with this status, and writes this.
+fn answers<H: AllocGlobal + Files>(
     rt: &H,
-    command: &str,
-    texts: &str,
+    words: &[&str],
+    input: &[u8],
     status: u8,
     out: &str,
+    faults: &str,
 ) -> Result<bool, Fail> {
-    let run = ran(rt, &[command], texts.as_bytes())?;
-    Ok(run.status == status && run.out.as_slice() == out.as_bytes() && run.faults.is_empty())
+    let run = ran(rt, words, input)?;
+    Ok(run.is(status, out.as_bytes(), faults.as_bytes()))
+}
+
+/// Whether a run over these words and this input ends well and writes just these bytes.
+fn writes<H: AllocGlobal + Files>(
+    rt: &H,
+    words: &[&str],
+    input: &[u8],
+    bytes: &[u8],
+) -> Result<bool, Fail> {
+    let run = ran(rt, words, input)?;
+    Ok(run.is(0, bytes, b""))
 }
 
 /// Whether the export of these texts ends with this status, and prints this.
@@ -66,12 +91,22 @@ fn exports<H: AllocGlobal + Files>(
     status: u8,
     out: &str,
 ) -> Result<bool, Fail> {
-    ends(rt, "export", texts, status, out)
+    exports_bytes(rt, texts.as_bytes(), status, out)
+}
+
+/// Whether the export of these bytes ends with this status, and prints this.
+fn exports_bytes<H: AllocGlobal + Files>(
+    rt: &H,
+    bytes: &[u8],
+    status: u8,
+    out: &str,
+) -> Result<bool, Fail> {
+    answers(rt, &["export"], bytes, status, out, "")
 }
 
 /// Whether these texts are printed so.
 fn prints<H: AllocGlobal + Files>(rt: &H, texts: &str, out: &str) -> Result<bool, Fail> {
-    ends(rt, "print", texts, 0, out)
+    answers(rt, &["print"], texts.as_bytes(), 0, out, "")
 }
 
 /// The state bytes of a site that has taken these texts.

@@ -30,8 +30,8 @@ fn defaults_that_differ_leave_no_choice(rt: HostRuntime) -> Result<(), Fail> {
 #[test]
 fn defaults_that_differ_do_so_in_every_order(rt: HostRuntime) -> Result<(), Fail> {
     let texts = ["x: *1|2\n", "x: 1|*2\n", "x: *1|2\n"];
-    assert!(rt; agrees_in_every_order(&rt, "state", &texts)?);
-    assert!(rt; agrees_in_every_order(&rt, "export", &texts)?);
+    assert!(rt; agrees_in_every_order(&rt, "state", texts)?);
+    assert!(rt; agrees_in_every_order(&rt, "export", texts)?);
     Ok(())
 }
 

@@ -1,8 +1,9 @@
 //! Readers and writers that fail, and how often one is read.
+use super::{acted, owned};
 use crate::act::act;
-use std::alloc::Global;
 use std::io;
 use std::io::{ErrorKind, Read, Write};
+use std::rt::Files;
 use std::test::Fail;
 
 /// A reader and a writer that fail.
@@ -56,56 +57,70 @@ impl Write for Stuck {
     }
 }
 
-fn export(alloc: Global) -> Result<Vec<String>, Fail> {
-    let mut words = Vec::new(alloc);
-    words.push(String::from_str(alloc, "export")?)?;
-    Ok(words)
+/// Exports what the reader gives, and answers how that ended.
+fn exported<H: AllocGlobal + Files, R: Read, W: Write>(
+    rt: &H,
+    input: &mut R,
+    out: &mut W,
+    faults: &mut Vec<u8>,
+) -> Result<u8, Fail> {
+    let words = owned(rt.alloc(), &["export"])?;
+    Ok(act(rt, &words, input, out, faults))
+}
+
+/// Whether an export from this reader to this writer tells that a device failed.
+fn tells_a_fault<H: AllocGlobal + Files, R: Read, W: Write>(
+    rt: &H,
+    input: &mut R,
+    out: &mut W,
+) -> Result<bool, Fail> {
+    let mut faults = Vec::new(rt.alloc());
+    let status = exported(rt, input, out, &mut faults)?;
+    Ok(status == 4 && faults.as_slice() == b"device fault\n".as_slice())
+}
+
+/// Whether an export from a reader that fails tells it, and writes nothing.
+fn tells_a_failing_reader<H: AllocGlobal + Files>(rt: &H) -> Result<bool, Fail> {
+    let mut out = Vec::new(rt.alloc());
+    Ok(tells_a_fault(rt, &mut Broken, &mut out)? && out.is_empty())
+}
+
+/// Whether an export of this text to a writer that fails tells it.
+fn tells_a_failing_writer<H: AllocGlobal + Files>(rt: &H, text: &str) -> Result<bool, Fail> {
+    tells_a_fault(rt, &mut text.as_bytes(), &mut Broken)
 }
 
 #[test]
 fn tells_failing_devices(rt: HostRuntime) -> Result<(), Fail> {
-    let alloc = rt.alloc();
-    let words = export(alloc)?;
-    let mut out = Vec::new(alloc);
-    let mut faults = Vec::new(alloc);
-    assert_eq!(rt; act(&rt, &words, &mut Broken, &mut out, &mut faults), 4);
-    assert_eq!(rt; out.len(), 0);
-    assert_eq!(rt; faults.as_slice(), b"device fault\n".as_slice());
-    let mut faults = Vec::new(alloc);
-    let mut input = b"a: 1\n".as_slice();
-    assert_eq!(rt; act(&rt, &words, &mut input, &mut Broken, &mut faults), 4);
-    assert_eq!(rt; faults.as_slice(), b"device fault\n".as_slice());
-    let mut faults = Vec::new(alloc);
-    let mut input = b"a 1\n".as_slice();
-    assert_eq!(rt; act(&rt, &words, &mut input, &mut Broken, &mut faults), 4);
-    assert_eq!(rt; faults.as_slice(), b"device fault\n".as_slice());
+    assert!(rt; tells_a_failing_reader(&rt)?);
+    assert!(rt; tells_a_failing_writer(&rt, "a: 1\n")?);
+    assert!(rt; tells_a_failing_writer(&rt, "a 1\n")?);
     Ok(())
+}
+
+/// Whether an export of this text tells that its bytes do not get out.
+fn tells_a_stuck_writer<H: AllocGlobal + Files>(rt: &H, text: &str) -> Result<bool, Fail> {
+    tells_a_fault(rt, &mut text.as_bytes(), &mut Stuck)
 }
 
 #[test]
 fn tells_bytes_that_do_not_get_out(rt: HostRuntime) -> Result<(), Fail> {
-    let alloc = rt.alloc();
-    let words = export(alloc)?;
-    for text in ["a: 1\n", "a: ]\n"] {
-        let mut faults = Vec::new(alloc);
-        let mut input = text.as_bytes();
-        assert_eq!(rt; act(&rt, &words, &mut input, &mut Stuck, &mut faults), 4);
-        assert_eq!(rt; faults.as_slice(), b"device fault\n".as_slice());
-    }
+    assert!(rt; tells_a_stuck_writer(&rt, "a: 1\n")?);
+    assert!(rt; tells_a_stuck_writer(&rt, "a: ]\n")?);
     Ok(())
+}
+
+/// Whether the export of so many empty lines, each read for itself, ends with this status, and
+/// prints this.
+fn drips<H: AllocGlobal + Files>(rt: &H, left: usize, status: u8, out: &str) -> Result<bool, Fail> {
+    let words = owned(rt.alloc(), &["export"])?;
+    let run = acted(rt, &words, &mut Drip { left });
+    Ok(run.is(status, out.as_bytes(), b""))
 }
 
 #[test]
 fn reads_so_often_and_no_more(rt: HostRuntime) -> Result<(), Fail> {
-    let alloc = rt.alloc();
-    let words = export(alloc)?;
-    for (left, status, text) in [(65_535, 0, "{}\n"), (65_536, 1, "refused 21 TurnsUsed\n")] {
-        let mut out = Vec::new(alloc);
-        let mut faults = Vec::new(alloc);
-        let mut input = Drip { left };
-        assert_eq!(rt; act(&rt, &words, &mut input, &mut out, &mut faults), status);
-        assert_eq!(rt; out.as_slice(), text.as_bytes());
-        assert_eq!(rt; faults.len(), 0);
-    }
+    assert!(rt; drips(&rt, 65_535, 0, "{}\n")?);
+    assert!(rt; drips(&rt, 65_536, 1, "refused 21 TurnsUsed\n")?);
     Ok(())
 }

@@ -1,6 +1,6 @@
 //! Files that are named, in their order, and those that fail.
 use super::states::ONE;
-use super::{assert_run, ran};
+use super::{Run, answers, ran, writes};
 use crate::disk::{Disk, Entry};
 use std::alloc::Global;
 use std::cell::{Cell, RefCell};
@@ -34,6 +34,48 @@ const FILES: [(&str, Entry); 7] = [
     ("cut", Entry::Cut(b"a: 1\n")),
 ];
 
+/// The run over these words, this input and files that are written nowhere else.
+pub fn ran_over(
+    alloc: Global,
+    files: &[(&str, Entry)],
+    words: &[&str],
+    input: &[u8],
+) -> Result<Run, Fail> {
+    let written = RefCell::new(Vec::new(alloc));
+    ran(&disk(alloc, files, &written), words, input)
+}
+
+/// Whether a run over the files that these words name ends with this status, and prints this.
+fn takes(alloc: Global, words: &[&str], status: u8, out: &str) -> Result<bool, Fail> {
+    let run = ran_over(alloc, &FILES, words, b"z: 9\n")?;
+    Ok(run.is(status, out.as_bytes(), b""))
+}
+
+#[test]
+fn takes_files_in_their_order(rt: HostRuntime) -> Result<(), Fail> {
+    let alloc = rt.alloc();
+    let open = "incomplete b not a single value\n";
+    assert!(rt; takes(alloc, &["export", "a", "state"], 0, "{\"a\":1}\n")?);
+    assert!(rt; takes(alloc, &["export", "a", "b"], 3, open)?);
+    assert!(rt; takes(alloc, &["report", "b", "clash"], 3, open)?);
+    assert!(rt;
+        takes(
+            alloc,
+            &["report", "state", "clash"],
+            2,
+            "conflict a no value\n"
+        )?
+    );
+    assert!(rt; takes(alloc, &["report", "a", "--"], 0, "")?);
+    let left_out = "refused 9 LeftOut at 5 in 2\n";
+    assert!(rt; takes(alloc, &["export", "a", "lines"], 1, left_out)?);
+    let wrong = "refused 7 Syntax at 3 in 1\n";
+    assert!(rt; takes(alloc, &["export", "wrong", "none"], 1, wrong)?);
+    let lines = "conflict a no value\nincomplete b not a single value\n";
+    assert!(rt; takes(alloc, &["report", "--", "clash", "b", "state"], 2, lines)?);
+    Ok(())
+}
+
 /// Whether just these bytes were written.
 fn has(written: &RefCell<Vec<u8>>, bytes: &[u8]) -> bool {
     match written.try_borrow() {
@@ -42,84 +84,63 @@ fn has(written: &RefCell<Vec<u8>>, bytes: &[u8]) -> bool {
     }
 }
 
-#[test]
-fn takes_files_in_their_order(rt: HostRuntime) -> Result<(), Fail> {
-    let written = RefCell::new(Vec::new(rt.alloc()));
-    let disk = disk(rt.alloc(), &FILES, &written);
-    for (words, status, out) in [
-        (["export", "a", "state"], 0, "{\"a\":1}\n"),
-        (["export", "a", "b"], 3, "incomplete b not a single value\n"),
-        (
-            ["report", "b", "clash"],
-            3,
-            "incomplete b not a single value\n",
-        ),
-        (["report", "state", "clash"], 2, "conflict a no value\n"),
-        (["report", "a", "--"], 0, ""),
-        (["export", "a", "lines"], 1, "refused 9 LeftOut at 5 in 2\n"),
-        (
-            ["export", "wrong", "none"],
-            1,
-            "refused 7 Syntax at 3 in 1\n",
-        ),
-    ] {
-        let run = ran(&disk, words.as_slice(), b"z: 9\n".as_slice())?;
-        assert_run(&rt, &run, status, out, "");
-    }
-    let all = ["report", "--", "clash", "b", "state"];
-    let run = ran(&disk, all.as_slice(), b"z: 9\n".as_slice())?;
-    let lines = "conflict a no value\nincomplete b not a single value\n";
-    assert_run(&rt, &run, 2, lines, "");
-    Ok(())
+/// Whether the state of `a: 1` is written to the output, of a file and of the input.
+fn writes_to_the_output(disk: &Disk) -> Result<bool, Fail> {
+    Ok(
+        writes(disk, &["state", "a"], b"z: 9\n", &ONE)?
+            && writes(disk, &["state"], b"a: 1\n", &ONE)?,
+    )
+}
+
+/// Whether merging these words' files ends with nothing to tell.
+fn merges(disk: &Disk, words: &[&str], input: &[u8]) -> Result<bool, Fail> {
+    answers(disk, words, input, 0, "", "")
 }
 
 #[test]
 fn writes_states(rt: HostRuntime) -> Result<(), Fail> {
     let written = RefCell::new(Vec::new(rt.alloc()));
     let disk = disk(rt.alloc(), &FILES, &written);
-    let run = ran(&disk, &["state", "a"], b"z: 9\n".as_slice())?;
-    assert_eq!(rt; run.out.as_slice(), ONE.as_slice());
-    assert_eq!(rt; run.status, 0);
-    let run = ran(&disk, &["state"], b"a: 1\n".as_slice())?;
-    assert_eq!(rt; run.out.as_slice(), ONE.as_slice());
-    let merged = ["merge", "out", "a", "state", "a"];
-    let run = ran(&disk, merged.as_slice(), b"".as_slice())?;
-    assert_run(&rt, &run, 0, "", "");
+    assert!(rt; writes_to_the_output(&disk)?);
+    assert!(rt; merges(&disk, &["merge", "out", "a", "state", "a"], b"")?);
     assert!(rt; has(&written, &ONE));
     assert_eq!(rt; disk.created_after.get(), Some(4));
-    let run = ran(&disk, &["merge", "out"], b"a: 1\n---\nb: 2\n".as_slice())?;
-    assert_run(&rt, &run, 0, "", "");
+    assert!(rt; merges(&disk, &["merge", "out"], b"a: 1\n---\nb: 2\n")?);
     Ok(())
+}
+
+/// Whether a run over these words tells that a device failed.
+fn fails(disk: &Disk, words: &[&str]) -> Result<bool, Fail> {
+    answers(disk, words, b"", 4, "", "device fault\n")
+}
+
+/// Whether files that can't be read or written are told, and none is created.
+fn creates_no_file(disk: &Disk) -> Result<bool, Fail> {
+    Ok(
+        fails(disk, &["export", "a", "none"])?
+            && fails(disk, &["state", "cut", "a"])?
+            && fails(disk, &["merge", "a", "b"])?
+            && disk.created_after.get().is_none(),
+    )
 }
 
 #[test]
 fn tells_failing_files(rt: HostRuntime) -> Result<(), Fail> {
     let written = RefCell::new(Vec::new(rt.alloc()));
     let mut disk = disk(rt.alloc(), &FILES, &written);
-    for words in [
-        ["export", "a", "none"],
-        ["state", "cut", "a"],
-        ["merge", "a", "b"],
-    ] {
-        let run = ran(&disk, words.as_slice(), b"".as_slice())?;
-        assert_run(&rt, &run, 4, "", "device fault\n");
-    }
-    assert_eq!(rt; disk.created_after.get(), None);
-    let run = ran(&disk, &["merge", "out", "a", "wrong"], b"".as_slice())?;
-    assert_run(&rt, &run, 1, "refused 7 Syntax at 3 in 2\n", "");
+    assert!(rt; creates_no_file(&disk)?);
+    let refused = "refused 7 Syntax at 3 in 2\n";
+    assert!(rt; answers(&disk, &["merge", "out", "a", "wrong"], b"", 1, refused, "")?);
     assert_eq!(rt; disk.created_after.get(), None);
     disk.room = 91;
-    let run = ran(&disk, &["merge", "out", "a"], b"".as_slice())?;
-    assert_run(&rt, &run, 4, "", "device fault\n");
+    assert!(rt; fails(&disk, &["merge", "out", "a"])?);
     Ok(())
 }
 
 #[test]
 fn a_dash_alone_names_a_file(rt: HostRuntime) -> Result<(), Fail> {
     let files = [("-", Entry::Bytes(b"a: 1\n"))];
-    let written = RefCell::new(Vec::new(rt.alloc()));
-    let disk = disk(rt.alloc(), &files, &written);
-    let run = ran(&disk, &["export", "-"], b"z: 9\n".as_slice())?;
-    assert_run(&rt, &run, 0, "{\"a\":1}\n", "");
+    let run = ran_over(rt.alloc(), &files, &["export", "-"], b"z: 9\n")?;
+    assert!(rt; run.is(0, b"{\"a\":1}\n", b""));
     Ok(())
 }

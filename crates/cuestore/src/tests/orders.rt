@@ -1,170 +1,173 @@
 //! Sites that take the same inputs in another order, again, or by way of other sites.
-use super::files::disk;
-use super::{assert_run, ran, state_of};
+use super::files::ran_over;
+use super::{Run, exports_bytes, ran, state_of, writes};
 use crate::disk::Entry;
 use std::alloc::Global;
-use std::cell::RefCell;
 use std::rt::Files;
 use std::test::Fail;
 
-/// The texts from one on, and after them those before it.
-fn turned<'a>(alloc: Global, before: &[&'a str], after: &[&'a str]) -> Result<Vec<&'a str>, Fail> {
-    let mut texts = Vec::new(alloc);
-    texts.extend_from_slice(after)?;
-    texts.extend_from_slice(before)?;
-    Ok(texts)
-}
-
-/// The texts from the last to the first, each of them twice.
-fn backwards<'a>(alloc: Global, texts: &[&'a str]) -> Result<Vec<&'a str>, Fail> {
-    let mut back = Vec::new(alloc);
-    for text in texts.iter().rev() {
-        back.push(*text)?;
-        back.push(*text)?;
+/// Adds a text behind a separating line.
+fn add(all: &mut String, text: &str) -> Result<(), Fail> {
+    if !all.is_empty() {
+        all.push_str("---\n")?;
     }
-    Ok(back)
+    all.push_str(text)?;
+    Ok(())
 }
 
 /// The texts, divided by separating lines.
 fn divided(alloc: Global, texts: &[&str]) -> Result<String, Fail> {
     let mut all = String::new(alloc);
     for text in texts {
-        if !all.is_empty() {
-            all.push_str("---\n")?;
-        }
-        all.push_str(text)?;
+        add(&mut all, text)?;
     }
     Ok(all)
+}
+
+/// The run of a command over these texts.
+fn ran_on<H: AllocGlobal + Files>(rt: &H, command: &str, texts: &[&str]) -> Result<Run, Fail> {
+    let all = divided(rt.alloc(), texts)?;
+    ran(rt, &[command], all.as_bytes())
+}
+
+/// Whether a command writes these bytes over the texts.
+fn gives<H: AllocGlobal + Files>(
+    rt: &H,
+    command: &str,
+    texts: &[&str],
+    bytes: &[u8],
+) -> Result<bool, Fail> {
+    let run = ran_on(rt, command, texts)?;
+    Ok(run.out.as_slice() == bytes)
 }
 
 /// Whether a command writes these bytes over the texts, and over the same backwards, each twice.
 fn both_ways<H: AllocGlobal + Files>(
     rt: &H,
     command: &str,
-    texts: &[&str],
+    [one, two, three]: [&str; 3],
     bytes: &[u8],
 ) -> Result<bool, Fail> {
-    let there = divided(rt.alloc(), texts)?;
-    let back = divided(rt.alloc(), &backwards(rt.alloc(), texts)?)?;
-    let first = ran(rt, &[command], there.as_bytes())?;
-    let second = ran(rt, &[command], back.as_bytes())?;
-    Ok(first.out.as_slice() == bytes && second.out.as_slice() == bytes)
+    let back = [three, three, two, two, one, one];
+    Ok(gives(rt, command, &[one, two, three], bytes)? && gives(rt, command, &back, bytes)?)
 }
 
-/// Whether a command writes the same whichever of the texts comes first, and in which direction it
-/// goes on. Of up to three texts these are all orders.
+/// Whether a command writes these bytes over the texts in each of their orders.
+fn gives_in_every_order<H: AllocGlobal + Files>(
+    rt: &H,
+    command: &str,
+    [one, two, three]: [&str; 3],
+    bytes: &[u8],
+) -> Result<bool, Fail> {
+    Ok(
+        both_ways(rt, command, [one, two, three], bytes)?
+            && both_ways(rt, command, [two, three, one], bytes)?
+            && both_ways(rt, command, [three, one, two], bytes)?,
+    )
+}
+
+/// Whether a command refuses none of the texts, and writes the same in each of their orders.
 pub fn agrees_in_every_order<H: AllocGlobal + Files>(
     rt: &H,
     command: &str,
-    texts: &[&str],
+    texts: [&str; 3],
 ) -> Result<bool, Fail> {
-    let all = divided(rt.alloc(), texts)?;
-    let run = ran(rt, &[command], all.as_bytes())?;
-    for first in 0..texts.len() {
-        let (before, after) = texts.split_at(first);
-        let texts = turned(rt.alloc(), before, after)?;
-        if !both_ways(rt, command, &texts, &run.out)? {
-            return Ok(false);
-        }
-    }
-    Ok(run.status != 1)
+    let run = ran_on(rt, command, &texts)?;
+    Ok(run.status != 1 && gives_in_every_order(rt, command, texts, &run.out)?)
 }
 
 /// Whether a new site that takes what is printed of these texts has their state.
 pub fn is_printed_again<H: AllocGlobal + Files>(rt: &H, texts: &str) -> Result<bool, Fail> {
     let printed = ran(rt, &["print"], texts.as_bytes())?;
-    let again = ran(rt, &["state"], &printed.out)?;
-    Ok(again.out == state_of(rt, texts)? && again.status == 0)
+    let state = state_of(rt, texts)?;
+    writes(rt, &["state"], &printed.out, &state)
 }
 
 #[test]
 fn labels_are_refused_in_every_order(rt: HostRuntime) -> Result<(), Fail> {
     let texts = ["#P: {a: 1}\nx: #P\n", "x: b: 1\n", "x: b: 2\n"];
-    assert!(rt; agrees_in_every_order(&rt, "state", &texts)?);
-    assert!(rt; agrees_in_every_order(&rt, "report", &texts)?);
+    assert!(rt; agrees_in_every_order(&rt, "state", texts)?);
+    assert!(rt; agrees_in_every_order(&rt, "report", texts)?);
     Ok(())
 }
 
-/// Two texts, and the states of two sites that took one each.
-fn two<'a>(states: &'a [Vec<u8>; 2]) -> [(&'a str, Entry<'a>); 4] {
-    [
-        ("low", Entry::Bytes(b"a: >=0 & <=7\n")),
-        ("high", Entry::Bytes(b"a: >=3 & <=10\n")),
-        ("first", Entry::Bytes(&states[0])),
-        ("second", Entry::Bytes(&states[1])),
-    ]
+/// What a site prints that takes a text and a state.
+fn printed_of<'a>(alloc: Global, text: &'a [u8], state: &'a [u8]) -> Result<Run, Fail> {
+    let files = [("text", Entry::Bytes(text)), ("state", Entry::Bytes(state))];
+    ran_over(alloc, &files, &["print", "text", "state"], b"")
+}
+
+/// Whether a site that takes a text, and the state of a site that took another one, prints this.
+fn prints_with_the_other<H: AllocGlobal + Files>(
+    rt: &H,
+    text: &str,
+    other: &str,
+    out: &str,
+) -> Result<bool, Fail> {
+    let state = state_of(rt, other)?;
+    let run = printed_of(rt.alloc(), text.as_bytes(), &state)?;
+    Ok(run.is(0, out.as_bytes(), b""))
 }
 
 #[test]
 fn two_sites_that_take_each_other_print_the_same(rt: HostRuntime) -> Result<(), Fail> {
-    let states = [
-        state_of(&rt, "a: >=0 & <=7\n")?,
-        state_of(&rt, "a: >=3 & <=10\n")?,
-    ];
-    let files = two(&states);
-    let written = RefCell::new(Vec::new(rt.alloc()));
-    let disk = disk(rt.alloc(), &files, &written);
-    let run = ran(&disk, &["print", "low", "second"], b"".as_slice())?;
-    assert_run(&rt, &run, 0, "\"a\": >=3 & <=7\n", "");
-    let run = ran(&disk, &["print", "high", "first"], b"".as_slice())?;
-    assert_run(&rt, &run, 0, "\"a\": >=3 & <=7\n", "");
+    let low = "a: >=0 & <=7\n";
+    let high = "a: >=3 & <=10\n";
+    assert!(rt; prints_with_the_other(&rt, low, high, "\"a\": >=3 & <=7\n")?);
+    assert!(rt; prints_with_the_other(&rt, high, low, "\"a\": >=3 & <=7\n")?);
     Ok(())
 }
 
-/// What three sites took, and the states that each sent after its first two texts.
-fn three<'a>(states: &'a [Vec<u8>; 3]) -> [(&'a str, Entry<'a>); 9] {
-    [
+/// The run of a site on what three sites took, and on the states that each sent after its first two
+/// texts.
+fn ran_on_sent(alloc: Global, states: [&[u8]; 3], words: &[&str]) -> Result<Run, Fail> {
+    let [first, second, third] = states;
+    let files = [
         ("a0", Entry::Bytes(b"a: >=0\n")),
         ("a9", Entry::Bytes(b"a: <=9\n")),
         ("b1", Entry::Bytes(b"b: *1 | 2\n")),
         ("b", Entry::Bytes(b"b: int\n")),
         ("c", Entry::Bytes(b"c: {d?: string}\n")),
         ("a4", Entry::Bytes(b"a: 4\n")),
-        ("0", Entry::Bytes(&states[0])),
-        ("1", Entry::Bytes(&states[1])),
-        ("2", Entry::Bytes(&states[2])),
-    ]
+        ("0", Entry::Bytes(first)),
+        ("1", Entry::Bytes(second)),
+        ("2", Entry::Bytes(third)),
+    ];
+    ran_over(alloc, &files, words, b"")
 }
 
-/// The states of three sites that took two texts each.
-fn sent<H: AllocGlobal + Files>(rt: &H) -> Result<[Vec<u8>; 3], Fail> {
-    Ok([
-        state_of(rt, "a: >=0\n---\na: <=9\n")?,
-        state_of(rt, "b: *1 | 2\n---\nb: int\n")?,
-        state_of(rt, "c: {d?: string}\n---\na: 4\n")?,
-    ])
+/// The same, once the three sites have sent their states.
+fn ran_among_three<H: AllocGlobal + Files>(rt: &H, words: &[&str]) -> Result<Run, Fail> {
+    let first = state_of(rt, "a: >=0\n---\na: <=9\n")?;
+    let second = state_of(rt, "b: *1 | 2\n---\nb: int\n")?;
+    let third = state_of(rt, "c: {d?: string}\n---\na: 4\n")?;
+    ran_on_sent(rt.alloc(), [&first, &second, &third], words)
+}
+
+/// Whether a site that has run on these words of three, and one that has on those, wrote the same,
+/// which is exported so.
+fn are_equal<H: AllocGlobal + Files>(
+    rt: &H,
+    words: &[&str],
+    others: &[&str],
+    json: &str,
+) -> Result<bool, Fail> {
+    let first = ran_among_three(rt, words)?;
+    let second = ran_among_three(rt, others)?;
+    Ok(first.is(0, &second.out, b"") && exports_bytes(rt, &first.out, 0, json)?)
 }
 
 #[test]
 fn sites_that_took_the_same_states_are_equal(rt: HostRuntime) -> Result<(), Fail> {
-    let states = sent(&rt)?;
-    let files = three(&states);
-    let written = RefCell::new(Vec::new(rt.alloc()));
-    let disk = disk(rt.alloc(), &files, &written);
-    let first = ran(
-        &disk,
-        &["state", "a0", "a9", "2", "1", "1", "2"],
-        b"".as_slice(),
-    )?;
-    let second = ran(
-        &disk,
-        &["state", "b1", "b", "2", "0", "0", "2"],
-        b"".as_slice(),
-    )?;
-    assert_eq!(rt; first.out.as_slice(), second.out.as_slice());
-    assert_eq!(rt; first.status, 0);
-    let export = ran(&rt, &["export"], &first.out)?;
-    assert_run(&rt, &export, 0, "{\"a\":4,\"b\":1,\"c\":{}}\n", "");
+    let first = ["state", "a0", "a9", "2", "1", "1", "2"];
+    let second = ["state", "b1", "b", "2", "0", "0", "2"];
+    assert!(rt; are_equal(&rt, &first, &second, "{\"a\":4,\"b\":1,\"c\":{}}\n")?);
     Ok(())
 }
 
 #[test]
 fn a_site_lacks_the_state_that_it_never_took(rt: HostRuntime) -> Result<(), Fail> {
-    let states = sent(&rt)?;
-    let files = three(&states);
-    let written = RefCell::new(Vec::new(rt.alloc()));
-    let disk = disk(rt.alloc(), &files, &written);
-    let run = ran(&disk, &["export", "c", "a4", "0"], b"".as_slice())?;
-    assert_run(&rt, &run, 0, "{\"a\":4,\"c\":{}}\n", "");
+    let run = ran_among_three(&rt, &["export", "c", "a4", "0"])?;
+    assert!(rt; run.is(0, b"{\"a\":4,\"c\":{}}\n", b""));
     Ok(())
 }

@@ -1,27 +1,28 @@
 //! Inputs that are refused: which, why and where.
-use super::{assert_run, ends, exports, ran};
+use super::{answers, exports, exports_bytes};
 use std::alloc::Global;
+use std::rt::Files;
 use std::test::Fail;
+
+/// Whether a text of one byte more than may be is refused.
+fn refuses_the_longest<H: AllocGlobal + Files>(rt: &H) -> Result<bool, Fail> {
+    let long = vec![in rt.alloc(); b'\n'; 1_048_577]?;
+    exports_bytes(rt, &long, 1, "refused 1 TooLong at 1048576 in 1\n")
+}
 
 #[test]
 fn refuses_bytes(rt: HostRuntime) -> Result<(), Fail> {
     let free = b"\xFECUE\x01\0\0\0\0\0\0\0\0";
     let other = b"\xFECUE\x09\0\0\0\0\0\0\0\0";
-    let run = ran(&rt, &["export"], free.as_slice())?;
-    assert_run(&rt, &run, 3, "incomplete . not a single value\n", "");
-    let run = ran(&rt, &["export"], other.as_slice())?;
-    assert_run(&rt, &run, 1, "refused 17 Version at 0 in 1\n", "");
-    let run = ran(&rt, &["export"], b"\xFE".as_slice())?;
-    assert_run(&rt, &run, 1, "refused 18 NotState at 0 in 1\n", "");
-    let run = ran(&rt, &["export"], b"a: \xFF\n".as_slice())?;
-    assert_run(&rt, &run, 1, "refused 2 BadCharacter at 3 in 1\n", "");
-    let run = ran(&rt, &["export"], b"a: \"\xC3\xA9\xFF\"\n".as_slice())?;
-    assert_run(&rt, &run, 1, "refused 2 BadCharacter at 6 in 1\n", "");
-    let run = ran(&rt, &["export"], b"a: 1\n---\n\xFECUE".as_slice())?;
-    assert_run(&rt, &run, 1, "refused 2 BadCharacter at 0 in 2\n", "");
-    let long = vec![in rt.alloc(); b'\n'; 1_048_577]?;
-    let run = ran(&rt, &["export"], long.as_slice())?;
-    assert_run(&rt, &run, 1, "refused 1 TooLong at 1048576 in 1\n", "");
+    assert!(rt; exports_bytes(&rt, free, 3, "incomplete . not a single value\n")?);
+    assert!(rt; exports_bytes(&rt, other, 1, "refused 17 Version at 0 in 1\n")?);
+    assert!(rt; exports_bytes(&rt, b"\xFE", 1, "refused 18 NotState at 0 in 1\n")?);
+    assert!(rt; exports_bytes(&rt, b"a: \xFF\n", 1, "refused 2 BadCharacter at 3 in 1\n")?);
+    let quoted = b"a: \"\xC3\xA9\xFF\"\n";
+    assert!(rt; exports_bytes(&rt, quoted, 1, "refused 2 BadCharacter at 6 in 1\n")?);
+    let second = b"a: 1\n---\n\xFECUE";
+    assert!(rt; exports_bytes(&rt, second, 1, "refused 2 BadCharacter at 0 in 2\n")?);
+    assert!(rt; refuses_the_longest(&rt)?);
     Ok(())
 }
 
@@ -70,28 +71,49 @@ fn a_number_has_no_zero_in_front(rt: HostRuntime) -> Result<(), Fail> {
     Ok(())
 }
 
+/// Adds the definition of this number, which uses the one before twice.
+fn add_doubled(alloc: Global, text: &mut String, before: u32) -> Result<(), Fail> {
+    let next = u64::from(before) + 1;
+    let line = format!(in alloc; "#A{next}: {{l: #A{before}, r: #A{before}}}\n")?;
+    text.push_str(line.as_str())?;
+    Ok(())
+}
+
+/// Adds so many definitions, and then a field that uses the last one.
+fn add_lines(alloc: Global, text: &mut String, count: u32) -> Result<(), Fail> {
+    for before in 0..count {
+        add_doubled(alloc, text, before)?;
+    }
+    let line = format!(in alloc; "x: #A{count}\n")?;
+    text.push_str(line.as_str())?;
+    Ok(())
+}
+
 /// `#A0`, and so many further definitions, each of which uses the one before twice; and a field
 /// that uses the last one.
 fn doubled(alloc: Global, count: u32) -> Result<String, Fail> {
     let mut text = String::from_str(alloc, "#A0: {a: 1}\n")?;
-    for before in 0..count {
-        let next = u64::from(before) + 1;
-        let line = format!(in alloc; "#A{next}: {{l: #A{before}, r: #A{before}}}\n")?;
-        text.push_str(line.as_str())?;
-    }
-    text.push_str(format!(in alloc; "x: #A{count}\n")?.as_str())?;
+    add_lines(alloc, &mut text, count)?;
     Ok(text)
+}
+
+/// Whether nothing is reported of that text.
+fn takes_doubled<H: AllocGlobal + Files>(rt: &H, count: u32) -> Result<bool, Fail> {
+    let text = doubled(rt.alloc(), count)?;
+    answers(rt, &["report"], text.as_bytes(), 0, "", "")
+}
+
+/// Whether that text is refused as too large.
+fn refuses_doubled<H: AllocGlobal + Files>(rt: &H, count: u32) -> Result<bool, Fail> {
+    let text = doubled(rt.alloc(), count)?;
+    exports_bytes(rt, text.as_bytes(), 1, "refused 14 TooLarge at 0 in 1\n")
 }
 
 #[test]
 fn doubled_fields_are_taken_up_to_the_limit(rt: HostRuntime) -> Result<(), Fail> {
-    for count in [10, 13] {
-        let text = doubled(rt.alloc(), count)?;
-        assert!(rt; ends(&rt, "report", text.as_str(), 0, "")?);
-    }
-    for count in [14, 17] {
-        let text = doubled(rt.alloc(), count)?;
-        assert!(rt; exports(&rt, text.as_str(), 1, "refused 14 TooLarge at 0 in 1\n")?);
-    }
+    assert!(rt; takes_doubled(&rt, 10)?);
+    assert!(rt; takes_doubled(&rt, 13)?);
+    assert!(rt; refuses_doubled(&rt, 14)?);
+    assert!(rt; refuses_doubled(&rt, 17)?);
     Ok(())
 }

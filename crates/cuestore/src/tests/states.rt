@@ -1,6 +1,8 @@
 //! State bytes that are taken, refused and written.
-use super::{assert_run, exports, ran, state_of};
+use super::{answers, exports_bytes, state_of, writes};
 use std::alloc::Global;
+use std::process::Abort;
+use std::rt::Files;
 use std::test::Fail;
 
 /// The state of `a: 1`.
@@ -45,65 +47,79 @@ fn with_a_free_row(alloc: Global) -> Result<Vec<u8>, Fail> {
 
 #[test]
 fn takes_a_state(rt: HostRuntime) -> Result<(), Fail> {
-    let run = ran(&rt, &["export"], ONE.as_slice())?;
-    assert_run(&rt, &run, 0, "{\"a\":1}\n", "");
-    let run = ran(&rt, &["export"], CLASH.as_slice())?;
-    assert_run(&rt, &run, 2, "conflict a no value\n", "");
+    assert!(rt; exports_bytes(&rt, &ONE, 0, "{\"a\":1}\n")?);
+    assert!(rt; exports_bytes(&rt, &CLASH, 2, "conflict a no value\n")?);
     Ok(())
 }
 
 #[test]
 fn a_state_that_refuses_nothing_is_printed(rt: HostRuntime) -> Result<(), Fail> {
-    let run = ran(&rt, &["print"], FREE.as_slice())?;
-    assert_run(&rt, &run, 0, "_\n", "");
+    assert!(rt; answers(&rt, &["print"], &FREE, 0, "_\n", "")?);
     Ok(())
 }
 
 #[test]
 fn a_state_that_refuses_nothing_has_no_rows(rt: HostRuntime) -> Result<(), Fail> {
-    let run = ran(&rt, &["state"], FREE.as_slice())?;
-    assert_eq!(rt; run.out.as_slice(), FREE.as_slice());
-    assert_eq!(rt; run.status, 0);
+    assert!(rt; writes(&rt, &["state"], &FREE, &FREE)?);
     Ok(())
 }
 
 #[test]
 fn a_clash_is_kept_in_the_state(rt: HostRuntime) -> Result<(), Fail> {
-    let state = state_of(&rt, "a: 1\n---\na: 2\n")?;
-    assert_eq!(rt; state.as_slice(), CLASH.as_slice());
+    assert!(rt; writes(&rt, &["state"], b"a: 1\n---\na: 2\n", &CLASH)?);
     Ok(())
+}
+
+/// Whether both texts give the same state, of so many bytes.
+fn give_one_state<H: AllocGlobal + Files>(
+    rt: &H,
+    text: &str,
+    other: &str,
+    length: usize,
+) -> Result<bool, Fail> {
+    let state = state_of(rt, text)?;
+    Ok(state.len() == length && writes(rt, &["state"], other.as_bytes(), &state)?)
 }
 
 #[test]
 fn what_is_known_already_adds_nothing_to_a_state(rt: HostRuntime) -> Result<(), Fail> {
-    let alone = state_of(&rt, "port: 443\n")?;
-    let both = state_of(&rt, "port: int\n---\nport: 443\n")?;
-    assert_eq!(rt; both.as_slice(), alone.as_slice());
-    assert_eq!(rt; alone.len(), 95);
+    assert!(rt; give_one_state(&rt, "port: 443\n", "port: int\n---\nport: 443\n", 95)?);
     Ok(())
 }
 
-#[test]
-fn refuses_a_cut_state(rt: HostRuntime) -> Result<(), Fail> {
-    for length in 1..ONE.len() {
-        let run = ran(&rt, &["export"], &ONE[..length])?;
-        assert_run(&rt, &run, 1, "refused 18 NotState at 0 in 1\n", "");
+/// Whether these bytes are refused as no state.
+fn are_no_state<H: AllocGlobal + Files>(rt: &H, bytes: &[u8]) -> Result<bool, Fail> {
+    exports_bytes(rt, bytes, 1, "refused 18 NotState at 0 in 1\n")
+}
+
+/// Asserts that no part of this state from its start is one.
+fn assert_cuts_are_refused<H: AllocGlobal + Files + Abort>(
+    rt: &H,
+    state: &[u8],
+) -> Result<(), Fail> {
+    for length in 1..state.len() {
+        assert!(rt; are_no_state(rt, &state[..length])?);
     }
     Ok(())
 }
 
 #[test]
+fn refuses_a_cut_state(rt: HostRuntime) -> Result<(), Fail> {
+    assert_cuts_are_refused(&rt, &ONE)
+}
+
+/// Whether the state of `a: 1` is refused with its rows swapped, and with a free row.
+fn refuses_other_rows<H: AllocGlobal + Files>(rt: &H) -> Result<bool, Fail> {
+    let swapped = with_rows_swapped(rt.alloc())?;
+    let free_row = with_a_free_row(rt.alloc())?;
+    Ok(are_no_state(rt, &swapped)? && are_no_state(rt, &free_row)?)
+}
+
+#[test]
 fn refuses_a_changed_state(rt: HostRuntime) -> Result<(), Fail> {
-    let alloc = rt.alloc();
-    let swapped = with_rows_swapped(alloc)?;
-    let run = ran(&rt, &["export"], &swapped)?;
-    assert_run(&rt, &run, 1, "refused 18 NotState at 0 in 1\n", "");
-    let free_row = with_a_free_row(alloc)?;
-    let run = ran(&rt, &["export"], &free_row)?;
-    assert_run(&rt, &run, 1, "refused 18 NotState at 0 in 1\n", "");
+    assert!(rt; refuses_other_rows(&rt)?);
     let mut newer = ONE;
     newer[4] = 9;
-    let run = ran(&rt, &["export"], &newer)?;
-    assert_run(&rt, &run, 1, "refused 17 Version at 0 in 1\n", "");
+    assert!(rt; exports_bytes(&rt, &newer, 1, "refused 17 Version at 0 in 1\n")?);
     Ok(())
 }

@@ -1,6 +1,6 @@
 //! Words of the command line.
 use super::files::disk;
-use super::{assert_run, ran};
+use super::{Run, answers, owned};
 use crate::act::{report, run};
 use crate::command::{given_words, unread};
 use crate::disk::Disk;
@@ -13,23 +13,34 @@ use std::rt::Files;
 use std::test::Fail;
 
 fn assert_usage<H: AllocGlobal + Files + Abort>(rt: &H, words: &[&str]) -> Result<(), Fail> {
-    let run = ran(rt, words, b"a: 1\n".as_slice())?;
-    assert_run(rt, &run, 1, "", "usage fault\n");
+    assert!(rt; answers(rt, words, b"a: 1\n".as_slice(), 1, "", "usage fault\n")?);
+    Ok(())
+}
+
+/// Asserts that each of these words alone is a usage fault.
+fn assert_no_commands<H: AllocGlobal + Files + Abort>(rt: &H, words: &[&str]) -> Result<(), Fail> {
+    for word in words {
+        assert_usage(rt, &[word])?;
+    }
+    Ok(())
+}
+
+/// Asserts that each of these words after a command is a usage fault.
+fn assert_no_files<H: AllocGlobal + Files + Abort>(rt: &H, words: &[&str]) -> Result<(), Fail> {
+    for word in words {
+        assert_usage(rt, &["export", word])?;
+    }
     Ok(())
 }
 
 #[test]
 fn wants_its_words(rt: HostRuntime) -> Result<(), Fail> {
     assert_usage(&rt, &[])?;
-    for word in ["exp", "--help", "help", "-1", "--", "", "Export"] {
-        assert_usage(&rt, &[word])?;
-    }
-    for word in ["--help", "-h", "-1", "---", "--file"] {
-        assert_usage(&rt, &["export", word])?;
-    }
-    for word in ["serve", "push", "loop"] {
-        assert_usage(&rt, &[word, "80"])?;
-    }
+    assert_no_commands(&rt, &["exp", "--help", "help", "-1", "--", "", "Export"])?;
+    assert_no_files(&rt, &["--help", "-h", "-1", "---", "--file"])?;
+    assert_usage(&rt, &["serve", "80"])?;
+    assert_usage(&rt, &["push", "80"])?;
+    assert_usage(&rt, &["loop", "80"])?;
     assert_usage(&rt, &["merge"])?;
     assert_usage(&rt, &["merge", "--"])?;
     assert_usage(&rt, &["report", "-", "-x"])?;
@@ -44,49 +55,72 @@ fn process<'a>(alloc: Global, words: &'a [&'a [u8]], written: &'a RefCell<Vec<u8
     }
 }
 
+/// The words of a process that was given these.
+fn words_of(alloc: Global, given: &[&[u8]]) -> Result<Vec<String>, Fail> {
+    let written = RefCell::new(Vec::new(alloc));
+    Ok(given_words(&process(alloc, given, &written))?)
+}
+
+/// Whether the words of a process that was given these are the wanted ones.
+fn takes(alloc: Global, given: &[&[u8]], wanted: &[&str]) -> Result<bool, Fail> {
+    let words = words_of(alloc, given)?;
+    let wanted = owned(alloc, wanted)?;
+    Ok(words == wanted)
+}
+
 #[test]
 fn the_words_are_those_after_the_name(rt: HostRuntime) -> Result<(), Fail> {
-    let written = RefCell::new(Vec::new(rt.alloc()));
     let given = [b"cuestore".as_slice(), b"merge", b"b", b"", b"a", b"b"];
-    let words = given_words(&process(rt.alloc(), &given, &written))?;
-    let wanted = ["merge", "b", "", "a", "b"];
-    assert_eq!(rt; words.len(), wanted.len());
-    for (word, wanted) in words.iter().zip(&wanted) {
-        assert_eq!(rt; word.as_str(), *wanted);
+    assert!(rt; takes(rt.alloc(), &given, &["merge", "b", "", "a", "b"])?);
+    Ok(())
+}
+
+/// What a process does with this input.
+fn done(process: &Disk, mut input: &[u8]) -> Run {
+    let mut out = Vec::new(process.alloc());
+    let mut faults = Vec::new(process.alloc());
+    let status = run(process, &mut input, &mut out, &mut faults);
+    Run {
+        status,
+        out,
+        faults,
     }
-    Ok(())
+}
+
+/// Whether a process that was given these words ends with this status, and writes this.
+fn does(alloc: Global, given: &[&[u8]], status: u8, out: &str, faults: &str) -> bool {
+    let written = RefCell::new(Vec::new(alloc));
+    let run = done(&process(alloc, given, &written), b"a: 1\n");
+    run.is(status, out.as_bytes(), faults.as_bytes())
 }
 
 #[test]
-fn does_what_the_words_of_its_process_ask_for(rt: HostRuntime) -> Result<(), Fail> {
-    let written = RefCell::new(Vec::new(rt.alloc()));
+fn does_what_the_words_of_its_process_ask_for(rt: HostRuntime) {
     let given = [b"cuestore".as_slice(), b"print"];
-    let process = process(rt.alloc(), &given, &written);
-    let (mut out, mut faults) = (Vec::new(rt.alloc()), Vec::new(rt.alloc()));
-    let status = run(&process, &mut b"a: 1\n".as_slice(), &mut out, &mut faults);
-    assert_eq!(rt; out.as_slice(), b"\"a\": 1\n".as_slice());
-    assert_eq!(rt; status, 0);
-    Ok(())
+    assert!(rt; does(rt.alloc(), &given, 0, "\"a\": 1\n", ""));
 }
 
 #[test]
-fn a_word_that_is_no_text_is_a_usage_fault(rt: HostRuntime) -> Result<(), Fail> {
-    let written = RefCell::new(Vec::new(rt.alloc()));
+fn a_word_that_is_no_text_is_a_usage_fault(rt: HostRuntime) {
     let given = [b"cuestore".as_slice(), b"export", b"\xFF"];
-    let process = process(rt.alloc(), &given, &written);
-    let (mut out, mut faults) = (Vec::new(rt.alloc()), Vec::new(rt.alloc()));
-    let status = run(&process, &mut b"a: 1\n".as_slice(), &mut out, &mut faults);
-    assert_eq!(rt; faults.as_slice(), b"usage fault\n".as_slice());
-    assert_eq!(rt; (out.len(), status), (0, 1));
-    Ok(())
+    assert!(rt; does(rt.alloc(), &given, 1, "", "usage fault\n"));
+}
+
+/// What is told where words can't be read, for this reason.
+fn told(alloc: Global, kind: ErrorKind) -> Run {
+    let fault = unread(&io::Error::from(kind));
+    let mut out = Vec::new(alloc);
+    let mut faults = Vec::new(alloc);
+    let status = report(alloc, &fault, &mut out, &mut faults).code();
+    Run {
+        status,
+        out,
+        faults,
+    }
 }
 
 #[test]
-fn words_without_memory_are_refused(rt: HostRuntime) -> Result<(), Fail> {
-    let fault = unread(&io::Error::from(ErrorKind::OutOfMemory));
-    let (mut out, mut faults) = (Vec::new(rt.alloc()), Vec::new(rt.alloc()));
-    let status = report(rt.alloc(), &fault, &mut out, &mut faults);
-    assert_eq!(rt; out.as_slice(), b"refused 24 Memory\n".as_slice());
-    assert_eq!(rt; (faults.len(), status.code()), (0, 1));
-    Ok(())
+fn words_without_memory_are_refused(rt: HostRuntime) {
+    let run = told(rt.alloc(), ErrorKind::OutOfMemory);
+    assert!(rt; run.is(1, b"refused 24 Memory\n", b""));
 }
