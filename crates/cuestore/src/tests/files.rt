@@ -24,12 +24,12 @@ pub fn disk<'a>(
 }
 
 /// Four texts, the state of `a: 1`, and a file that fails.
-const FILES: [(&str, Entry); 7] = [
+const FILES: &[(&str, Entry)] = &[
     ("a", Entry::Bytes(b"a: 1\n")),
     ("b", Entry::Bytes(b"b: int\n")),
     ("clash", Entry::Bytes(b"a: 2\n")),
     ("lines", Entry::Bytes(b"a: 1\n---\nb: 2\n")),
-    ("state", Entry::Bytes(&ONE)),
+    ("state", Entry::Bytes(ONE)),
     ("wrong", Entry::Bytes(b"a: ]\n")),
     ("cut", Entry::Cut(b"a: 1\n")),
 ];
@@ -47,7 +47,7 @@ pub fn ran_over(
 
 /// Whether a run over the files that these words name ends with this status, and prints this.
 fn takes(alloc: Global, words: &[&str], status: u8, out: &str) -> Result<bool, Fail> {
-    let run = ran_over(alloc, &FILES, words, b"z: 9\n")?;
+    let run = ran_over(alloc, FILES, words, b"z: 9\n")?;
     Ok(run.is(status, out.as_bytes(), b""))
 }
 
@@ -86,10 +86,7 @@ fn has(written: &RefCell<Vec<u8>>, bytes: &[u8]) -> bool {
 
 /// Whether the state of `a: 1` is written to the output, of a file and of the input.
 fn writes_to_the_output(disk: &Disk) -> Result<bool, Fail> {
-    Ok(
-        writes(disk, &["state", "a"], b"z: 9\n", &ONE)?
-            && writes(disk, &["state"], b"a: 1\n", &ONE)?,
-    )
+    Ok(writes(disk, &["state", "a"], b"z: 9\n", ONE)? && writes(disk, &["state"], b"a: 1\n", ONE)?)
 }
 
 /// Whether merging these words' files ends with nothing to tell.
@@ -100,10 +97,10 @@ fn merges(disk: &Disk, words: &[&str], input: &[u8]) -> Result<bool, Fail> {
 #[test]
 fn writes_states(rt: HostRuntime) -> Result<(), Fail> {
     let written = RefCell::new(Vec::new(rt.alloc()));
-    let disk = disk(rt.alloc(), &FILES, &written);
+    let disk = disk(rt.alloc(), FILES, &written);
     assert!(rt; writes_to_the_output(&disk)?);
     assert!(rt; merges(&disk, &["merge", "out", "a", "state", "a"], b"")?);
-    assert!(rt; has(&written, &ONE));
+    assert!(rt; has(&written, ONE));
     assert_eq!(rt; disk.created_after.get(), Some(4));
     assert!(rt; merges(&disk, &["merge", "out"], b"a: 1\n---\nb: 2\n")?);
     Ok(())
@@ -127,7 +124,7 @@ fn creates_no_file(disk: &Disk) -> Result<bool, Fail> {
 #[test]
 fn tells_failing_files(rt: HostRuntime) -> Result<(), Fail> {
     let written = RefCell::new(Vec::new(rt.alloc()));
-    let mut disk = disk(rt.alloc(), &FILES, &written);
+    let mut disk = disk(rt.alloc(), FILES, &written);
     assert!(rt; creates_no_file(&disk)?);
     let refused = "refused 7 Syntax at 3 in 2\n";
     assert!(rt; answers(&disk, &["merge", "out", "a", "wrong"], b"", 1, refused, "")?);

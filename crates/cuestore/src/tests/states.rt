@@ -6,7 +6,7 @@ use std::rt::Files;
 use std::test::Fail;
 
 /// The state of `a: 1`.
-pub const ONE: [u8; 92] = [
+pub const ONE: &[u8] = &[
     0xFE, 0x43, 0x55, 0x45, 1, 0, 0, 0, 0, 0, 0, 0, 2, // two rows
     0, 0, 2, 0, // the root
     1, 0, 0, 1, 0x61, 2, 1, // a scalar at the label a
@@ -19,10 +19,10 @@ pub const ONE: [u8; 92] = [
 ];
 
 /// The state that refuses nothing.
-const FREE: [u8; 13] = [0xFE, 0x43, 0x55, 0x45, 1, 0, 0, 0, 0, 0, 0, 0, 0];
+const FREE: &[u8] = &[0xFE, 0x43, 0x55, 0x45, 1, 0, 0, 0, 0, 0, 0, 0, 0];
 
 /// The state of a label a at which nothing may stand.
-const CLASH: [u8; 30] = [
+const CLASH: &[u8] = &[
     0xFE, 0x43, 0x55, 0x45, 1, 0, 0, 0, 0, 0, 0, 0, 2, // two rows
     0, 0, 2, 0, // the root
     1, 0, 0, 1, 0x61, 2, 4, // nothing at the label a
@@ -47,26 +47,26 @@ fn with_a_free_row(alloc: Global) -> Result<Vec<u8>, Fail> {
 
 #[test]
 fn takes_a_state(rt: HostRuntime) -> Result<(), Fail> {
-    assert!(rt; exports_bytes(&rt, &ONE, 0, "{\"a\":1}\n")?);
-    assert!(rt; exports_bytes(&rt, &CLASH, 2, "conflict a no value\n")?);
+    assert!(rt; exports_bytes(&rt, ONE, 0, "{\"a\":1}\n")?);
+    assert!(rt; exports_bytes(&rt, CLASH, 2, "conflict a no value\n")?);
     Ok(())
 }
 
 #[test]
 fn a_state_that_refuses_nothing_is_printed(rt: HostRuntime) -> Result<(), Fail> {
-    assert!(rt; answers(&rt, &["print"], &FREE, 0, "_\n", "")?);
+    assert!(rt; answers(&rt, &["print"], FREE, 0, "_\n", "")?);
     Ok(())
 }
 
 #[test]
 fn a_state_that_refuses_nothing_has_no_rows(rt: HostRuntime) -> Result<(), Fail> {
-    assert!(rt; writes(&rt, &["state"], &FREE, &FREE)?);
+    assert!(rt; writes(&rt, &["state"], FREE, FREE)?);
     Ok(())
 }
 
 #[test]
 fn a_clash_is_kept_in_the_state(rt: HostRuntime) -> Result<(), Fail> {
-    assert!(rt; writes(&rt, &["state"], b"a: 1\n---\na: 2\n", &CLASH)?);
+    assert!(rt; writes(&rt, &["state"], b"a: 1\n---\na: 2\n", CLASH)?);
     Ok(())
 }
 
@@ -105,7 +105,7 @@ fn assert_cuts_are_refused<H: AllocGlobal + Files + Abort>(
 
 #[test]
 fn refuses_a_cut_state(rt: HostRuntime) -> Result<(), Fail> {
-    assert_cuts_are_refused(&rt, &ONE)
+    assert_cuts_are_refused(&rt, ONE)
 }
 
 /// Whether the state of `a: 1` is refused with its rows swapped, and with a free row.
@@ -115,11 +115,23 @@ fn refuses_other_rows<H: AllocGlobal + Files>(rt: &H) -> Result<bool, Fail> {
     Ok(are_no_state(rt, &swapped)? && are_no_state(rt, &free_row)?)
 }
 
+/// The state of `a: 1`, as one of a newer version.
+fn newer(alloc: Global) -> Result<Vec<u8>, Fail> {
+    let mut bytes = ONE[..4].to_vec(alloc)?;
+    bytes.push(9)?;
+    bytes.extend_from_slice(&ONE[5..])?;
+    Ok(bytes)
+}
+
+/// Whether that state is refused for its version.
+fn refuses_newer<H: AllocGlobal + Files>(rt: &H) -> Result<bool, Fail> {
+    let bytes = newer(rt.alloc())?;
+    exports_bytes(rt, &bytes, 1, "refused 17 Version at 0 in 1\n")
+}
+
 #[test]
 fn refuses_a_changed_state(rt: HostRuntime) -> Result<(), Fail> {
     assert!(rt; refuses_other_rows(&rt)?);
-    let mut newer = ONE;
-    newer[4] = 9;
-    assert!(rt; exports_bytes(&rt, &newer, 1, "refused 17 Version at 0 in 1\n")?);
+    assert!(rt; refuses_newer(&rt)?);
     Ok(())
 }
