@@ -1,13 +1,17 @@
 use cue_codec::{decode, encode};
-use cue_lattice::Kind;
+use cue_lattice::{Kind, Memory};
 use std::alloc::Global;
 use std::test::Fail;
 
+/// What a call has made where memory was there. It goes on to the next call as it is, so that a
+/// test holds no value that is dropped on its ways out.
+pub type Made<T> = Result<T, Memory>;
+
 /// The state with no row.
-const EMPTY: [u8; 13] = [0xfe, 0x43, 0x55, 0x45, 1, 0, 0, 0, 0, 0, 0, 0, 0];
+const EMPTY: &[u8] = &[0xfe, 0x43, 0x55, 0x45, 1, 0, 0, 0, 0, 0, 0, 0, 0];
 
 /// The state of `a: 1`: an open struct at the root, and the integer 1.
-pub const INTEGER: [u8; 92] = [
+pub const INTEGER: &[u8] = &[
     0xfe, 0x43, 0x55, 0x45, 1, 0, 0, 0, 0, 0, 0, 0, 2, 0, 0, 2, 0, 1, 0, 0, 1, 0x61, 2, 1, 0, 0, 0,
     0, 0, 0, 0, 0, 1, 0, 0, 0, 0, 0, 0, 0, 1, 0, 0, 0, 0, 0, 0, 0, 1, 0, 0, 0, 0, 0, 0, 0, 0, 0, 0,
     0, 0, 0, 0, 0, 0, 0, 1, 0, 0, 0, 0, 0, 0, 0, 1, 0, 0, 0, 0, 0, 0, 0, 1, 0, 0, 0, 0, 0, 0, 0, 0,
@@ -15,7 +19,7 @@ pub const INTEGER: [u8; 92] = [
 ];
 
 /// The state of `port: 443`.
-const PORT: [u8; 95] = [
+const PORT: &[u8] = &[
     0xfe, 0x43, 0x55, 0x45, 1, 0, 0, 0, 0, 0, 0, 0, 2, 0, 0, 2, 0, 1, 0, 0, 4, 0x70, 0x6f, 0x72,
     0x74, 2, 1, 0, 0, 0, 0, 0, 0, 0, 0, 1, 0, 0, 0, 0, 0, 0, 1, 0xbb, 0, 0, 0, 0, 0, 0, 1, 0xbb, 0,
     0, 0, 0, 0, 0, 0, 0, 0, 0, 0, 0, 0, 0, 0, 0, 0, 1, 0, 0, 0, 0, 0, 0, 1, 0xbb, 0, 0, 0, 0, 0, 0,
@@ -23,13 +27,13 @@ const PORT: [u8; 95] = [
 ];
 
 /// The state of a conflict at `a`: an open struct at the root, and nothing.
-const CONFLICT: [u8; 30] = [
+const CONFLICT: &[u8] = &[
     0xfe, 0x43, 0x55, 0x45, 1, 0, 0, 0, 0, 0, 0, 0, 2, 0, 0, 2, 0, 1, 0, 0, 1, 0x61, 2, 4, 0, 0, 0,
     0, 0, 0,
 ];
 
 /// The state of a list of at least 65,536 elements at `l`.
-pub const LIST: [u8; 29] = [
+pub const LIST: &[u8] = &[
     0xfe, 0x43, 0x55, 0x45, 1, 0, 0, 0, 0, 0, 0, 0, 2, 0, 0, 2, 0, 1, 0, 0, 1, 0x6c, 2, 3, 0, 1, 0,
     0, 0,
 ];
@@ -41,52 +45,113 @@ pub const HEAD: usize = 13;
 pub const SECOND: usize = 17;
 
 /// The bits of a byte.
-const BITS: [u8; 8] = [1, 2, 4, 8, 16, 32, 64, 128];
+const BITS: &[u8] = &[1, 2, 4, 8, 16, 32, 64, 128];
+
+/// The bytes of the table that these bytes are those of, or why they are no state.
+fn rewritten(alloc: Global, bytes: &[u8]) -> Result<Vec<u8>, Kind> {
+    let table = decode(alloc, bytes)?;
+    match encode(alloc, &table) {
+        Ok(written) => Ok(written),
+        Err(Memory) => Err(Kind::Memory),
+    }
+}
+
+/// Why the bytes are no state, where they are none.
+fn refusal(alloc: Global, bytes: &[u8]) -> Option<Kind> {
+    decode(alloc, bytes).err()
+}
 
 /// Whether the bytes are those of a table, which is written as they are.
-pub fn is_kept(alloc: Global, bytes: &[u8]) -> Result<bool, Fail> {
-    let table = decode(alloc, bytes)?;
-    let written = encode(alloc, &table)?;
-    Ok(written.as_slice() == bytes)
+pub fn is_kept(alloc: Global, bytes: &[u8]) -> Result<bool, Kind> {
+    Ok(rewritten(alloc, bytes)?.as_slice() == bytes)
 }
 
 /// Whether the bytes are no state.
 pub fn is_refused(alloc: Global, bytes: &[u8]) -> bool {
-    matches!(decode(alloc, bytes), Err(Kind::NotState))
+    matches!(refusal(alloc, bytes), Some(Kind::NotState))
 }
 
-/// The state of `a: 1` with another byte at a place.
-fn altered(alloc: Global, at: usize, byte: u8) -> Result<Vec<u8>, Fail> {
-    let mut bytes = Vec::from_slice(alloc, &INTEGER)?;
+/// Whether the bytes are those of another version.
+fn is_other_version(alloc: Global, bytes: &[u8]) -> bool {
+    matches!(refusal(alloc, bytes), Some(Kind::Version))
+}
+
+/// Whether the bytes are refused, or else those of a table, which is written as they are.
+fn is_exact(alloc: Global, bytes: &[u8]) -> Result<bool, Kind> {
+    match refusal(alloc, bytes) {
+        Some(kind) => Ok(matches!(kind, Kind::NotState | Kind::Version)),
+        None => is_kept(alloc, bytes),
+    }
+}
+
+/// Whether the state that is made is kept.
+pub fn keeps(alloc: Global, state: Made<Vec<u8>>) -> Result<bool, Kind> {
+    match state {
+        Ok(bytes) => is_kept(alloc, &bytes),
+        Err(Memory) => Err(Kind::Memory),
+    }
+}
+
+/// Whether what is made is no state.
+pub fn refuses(alloc: Global, state: Made<Vec<u8>>) -> Made<bool> {
+    Ok(is_refused(alloc, &state?))
+}
+
+/// Whether what is made is refused, or else kept.
+fn tells(alloc: Global, state: Made<Vec<u8>>) -> Result<bool, Kind> {
+    match state {
+        Ok(bytes) => is_exact(alloc, &bytes),
+        Err(Memory) => Err(Kind::Memory),
+    }
+}
+
+/// A copy of the bytes.
+pub fn copied(alloc: Global, bytes: &[u8]) -> Made<Vec<u8>> {
+    Ok(Vec::from_slice(alloc, bytes)?)
+}
+
+/// The bytes with these behind them.
+pub fn extended(bytes: Made<Vec<u8>>, more: &[u8]) -> Made<Vec<u8>> {
+    let mut bytes = bytes?;
+    bytes.extend_from_slice(more)?;
+    Ok(bytes)
+}
+
+/// The bytes with another one at a place.
+pub fn altered(bytes: Made<Vec<u8>>, at: usize, byte: u8) -> Made<Vec<u8>> {
+    let mut bytes = bytes?;
     if at < bytes.len() {
         bytes[at] = byte;
     }
     Ok(bytes)
 }
 
+/// The state of `a: 1` with another byte at a place.
+fn other(alloc: Global, at: usize, byte: u8) -> Made<Vec<u8>> {
+    altered(copied(alloc, INTEGER), at, byte)
+}
+
 #[test]
 fn states_are_written_as_they_were_read(rt: HostRuntime) -> Result<(), Fail> {
     let alloc = rt.alloc();
-    assert!(rt; is_kept(alloc, &EMPTY)?);
-    assert!(rt; is_kept(alloc, &INTEGER)?);
-    assert!(rt; is_kept(alloc, &PORT)?);
-    assert!(rt; is_kept(alloc, &CONFLICT)?);
-    assert!(rt; is_kept(alloc, &LIST)?);
+    assert!(rt; is_kept(alloc, EMPTY)?);
+    assert!(rt; is_kept(alloc, INTEGER)?);
+    assert!(rt; is_kept(alloc, PORT)?);
+    assert!(rt; is_kept(alloc, CONFLICT)?);
+    assert!(rt; is_kept(alloc, LIST)?);
     Ok(())
 }
 
 /// Whether both are the bytes of one table.
-fn are_same(alloc: Global, left: &[u8], right: &[u8]) -> Result<bool, Fail> {
-    let left = decode(alloc, left)?;
-    let right = decode(alloc, right)?;
-    Ok(left.same(&right))
+fn are_same(alloc: Global, left: &[u8], right: &[u8]) -> Result<bool, Kind> {
+    Ok(decode(alloc, left)?.same(&decode(alloc, right)?))
 }
 
 #[test]
 fn equal_states_are_equal_tables(rt: HostRuntime) -> Result<(), Fail> {
     let alloc = rt.alloc();
-    assert!(rt; are_same(alloc, &INTEGER, &INTEGER)?);
-    assert!(rt; !are_same(alloc, &INTEGER, &CONFLICT)?);
+    assert!(rt; are_same(alloc, INTEGER, INTEGER)?);
+    assert!(rt; !are_same(alloc, INTEGER, CONFLICT)?);
     Ok(())
 }
 
@@ -99,40 +164,35 @@ fn each_cut_is_no_state(rt: HostRuntime) -> Result<(), Fail> {
     Ok(())
 }
 
-/// Whether the bytes are refused, or else those of a table.
-fn is_exact(alloc: Global, bytes: &[u8]) -> Result<bool, Fail> {
-    match decode(alloc, bytes) {
-        Err(kind) => Ok(matches!(kind, Kind::NotState | Kind::Version)),
-        Ok(table) => {
-            let written = encode(alloc, &table)?;
-            Ok(written.as_slice() == bytes)
+/// Whether the state of `a: 1` with any one bit of that byte turned is refused, or else kept.
+fn tells_each_bit(alloc: Global, at: usize, byte: u8) -> Result<bool, Kind> {
+    for bit in BITS {
+        if !tells(alloc, other(alloc, at, byte ^ *bit))? {
+            return Ok(false);
         }
     }
+    Ok(true)
 }
 
 #[test]
 fn each_turned_bit_is_told(rt: HostRuntime) -> Result<(), Fail> {
     let alloc = rt.alloc();
     for (at, byte) in INTEGER.iter().enumerate() {
-        for bit in &BITS {
-            let turned = altered(alloc, at, *byte ^ *bit)?;
-            assert!(rt; is_exact(alloc, turned.as_slice())?, "a bit of byte {at}");
-        }
+        assert!(rt; tells_each_bit(alloc, at, *byte)?, "a bit of byte {at}");
     }
     Ok(())
+}
+
+/// Whether what is made is of another version.
+fn has_other_version(alloc: Global, state: Made<Vec<u8>>) -> Made<bool> {
+    Ok(is_other_version(alloc, &state?))
 }
 
 #[test]
 fn other_versions_are_told_by_the_mark(rt: HostRuntime) -> Result<(), Fail> {
     let alloc = rt.alloc();
-    let other = altered(alloc, 4, 9)?;
-    assert!(rt; matches!(decode(alloc, other.as_slice()), Err(Kind::Version)));
-    assert!(rt;
-        matches!(
-            decode(alloc, &[0xfe, 0x43, 0x55, 0x45, 2]),
-            Err(Kind::Version)
-        )
-    );
+    assert!(rt; has_other_version(alloc, other(alloc, 4, 9))?);
+    assert!(rt; is_other_version(alloc, &[0xfe, 0x43, 0x55, 0x45, 2]));
     assert!(rt; is_refused(alloc, &[0xfe, 0x43, 0x55, 0x44, 2]));
     assert!(rt; is_refused(alloc, &[]));
     Ok(())
@@ -141,8 +201,8 @@ fn other_versions_are_told_by_the_mark(rt: HostRuntime) -> Result<(), Fail> {
 #[test]
 fn counts_are_exact(rt: HostRuntime) -> Result<(), Fail> {
     let alloc = rt.alloc();
-    assert!(rt; is_refused(alloc, altered(alloc, 12, 1)?.as_slice()));
-    assert!(rt; is_refused(alloc, altered(alloc, 12, 3)?.as_slice()));
+    assert!(rt; refuses(alloc, other(alloc, 12, 1))?);
+    assert!(rt; refuses(alloc, other(alloc, 12, 3))?);
     assert!(rt;
         is_refused(
             alloc,
@@ -151,30 +211,24 @@ fn counts_are_exact(rt: HostRuntime) -> Result<(), Fail> {
             ]
         )
     );
-    let mut longer = Vec::from_slice(alloc, &INTEGER)?;
-    longer.push(0)?;
-    assert!(rt; is_refused(alloc, longer.as_slice()));
+    assert!(rt; refuses(alloc, extended(copied(alloc, INTEGER), &[0]))?);
     Ok(())
 }
 
 #[test]
 fn rows_out_of_order_are_no_state(rt: HostRuntime) -> Result<(), Fail> {
     let alloc = rt.alloc();
-    let mut swapped = Vec::from_slice(alloc, &INTEGER[..HEAD])?;
-    swapped.extend_from_slice(&INTEGER[SECOND..])?;
-    swapped.extend_from_slice(&INTEGER[HEAD..SECOND])?;
-    assert!(rt; is_refused(alloc, swapped.as_slice()));
-    let mut twice = altered(alloc, 12, 3)?;
-    twice.extend_from_slice(&INTEGER[SECOND..])?;
-    assert!(rt; is_refused(alloc, twice.as_slice()));
+    let swapped = extended(copied(alloc, &INTEGER[..HEAD]), &INTEGER[SECOND..]);
+    assert!(rt; refuses(alloc, extended(swapped, &INTEGER[HEAD..SECOND]))?);
+    let twice = extended(other(alloc, 12, 3), &INTEGER[SECOND..]);
+    assert!(rt; refuses(alloc, twice)?);
     Ok(())
 }
 
 #[test]
 fn a_free_row_is_no_state(rt: HostRuntime) -> Result<(), Fail> {
     let alloc = rt.alloc();
-    let mut free = altered(alloc, 12, 3)?;
-    free.extend_from_slice(&[1, 0, 0, 1, 0x62, 0, 0])?;
-    assert!(rt; is_refused(alloc, free.as_slice()));
+    let free = extended(other(alloc, 12, 3), &[1, 0, 0, 1, 0x62, 0, 0]);
+    assert!(rt; refuses(alloc, free)?);
     Ok(())
 }
