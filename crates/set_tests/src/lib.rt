@@ -8,3 +8,5 @@ mod made;
 mod scalars;
 #[cfg(test)]
 mod sets;
+#[cfg(test)]
+mod values;
