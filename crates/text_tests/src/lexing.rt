@@ -1,27 +1,50 @@
-use cue_lattice::Kind;
-use cue_lex::{Quoted, TokenKind, Word, lex};
+use crate::texts::{Made, debugged, joined, long, repeated};
+use cue_lattice::{Kind, Refusal};
+use cue_lex::{Quoted, Token, TokenKind, Word, lex};
 use std::alloc::Global;
 use std::cmp::Ordering;
 use std::process::Abort;
 use std::test::Fail;
 
-/// The tokens of a text, each as its kind and its places, or the refusal's number and place.
-fn shown(alloc: Global, text: &str) -> Result<String, Fail> {
-    match lex(alloc, text) {
-        Ok(tokens) => {
-            let mut all = String::new(alloc);
-            for token in &tokens {
-                let line = format!(in alloc; "{:?} {}..{}\n", token.kind, token.from, token.to)?;
-                all.push_str(line.as_str())?;
-            }
-            Ok(all)
-        }
-        Err(refusal) => Ok(format!(in alloc;
-            "refused {} {}",
-            refusal.kind.number(),
-            refusal.place
-        )?),
+/// The places of a token in a line.
+fn places_of(alloc: Global, token: &Token) -> Made<String> {
+    Ok(format!(in alloc; " {}..{}\n", token.from, token.to)?)
+}
+
+/// Writes a line for a token: its kind and its places.
+fn push_token(alloc: Global, all: &mut String, token: &Token) -> Made<()> {
+    all.push_str(debugged(alloc, &token.kind)?.as_str())?;
+    all.push_str(places_of(alloc, token)?.as_str())?;
+    Ok(())
+}
+
+/// A line for each token.
+fn lines_of(alloc: Global, tokens: &[Token]) -> Made<String> {
+    let mut all = String::new(alloc);
+    for token in tokens {
+        push_token(alloc, &mut all, token)?;
     }
+    Ok(all)
+}
+
+/// The number and the place of a refusal.
+fn words_of(alloc: Global, refusal: Refusal) -> Made<String> {
+    Ok(format!(in alloc; "refused {} {}", refusal.kind.number(), refusal.place)?)
+}
+
+/// The tokens of a text, each as its kind and its places, or the refusal's number and place.
+fn shown(alloc: Global, text: &str) -> Made<String> {
+    match lex(alloc, text) {
+        Ok(tokens) => lines_of(alloc, &tokens),
+        Err(refusal) => words_of(alloc, refusal),
+    }
+}
+
+/// Asserts what the tokens of a text are.
+fn assert_tokens<H: AllocGlobal + Abort>(rt: &H, text: &str, wanted: &str) -> Result<(), Fail> {
+    let all = shown(rt.alloc(), text)?;
+    assert_eq!(rt; all.as_str(), wanted);
+    Ok(())
 }
 
 /// How many tokens a text has, or the refusal's number and place.
@@ -40,67 +63,145 @@ fn refuses(rt: &impl Abort, alloc: Global, text: &str, number: u8, place: u64) {
     assert_eq!(rt; answer(alloc, text), (0, number, place), "{text}");
 }
 
-/// The texts of the names and strings of a text, each followed by `;`.
-fn texts(alloc: Global, text: &str) -> Result<String, Fail> {
-    let mut all = String::new(alloc);
-    if let Ok(tokens) = lex(alloc, text) {
-        for token in &tokens {
-            let spelled = match &token.kind {
-                TokenKind::Name(name) | TokenKind::Definition(name) | TokenKind::Hidden(name) => {
-                    name.as_str()
-                }
-                TokenKind::Text(text) => text.as_str(),
-                _ => continue,
-            };
-            all.push_str(spelled)?;
-            all.push(';')?;
+/// Asserts how many tokens a text has with what stands after it.
+fn accepts_before<H: AllocGlobal + Abort>(
+    rt: &H,
+    text: &str,
+    after: &str,
+    count: usize,
+) -> Result<(), Fail> {
+    let text = joined(rt.alloc(), &[text, after])?;
+    accepts(rt, rt.alloc(), text.as_str(), count);
+    Ok(())
+}
+
+/// Asserts that each of these texts has so many tokens with what stands after it.
+fn each_accepts_before<H: AllocGlobal + Abort>(
+    rt: &H,
+    texts: &[&str],
+    after: &str,
+    count: usize,
+) -> Result<(), Fail> {
+    for text in texts {
+        accepts_before(rt, text, after, count)?;
+    }
+    Ok(())
+}
+
+/// Asserts why this is refused as the value of a field.
+fn refuses_value<H: AllocGlobal + Abort>(
+    rt: &H,
+    value: &str,
+    number: u8,
+    place: u64,
+) -> Result<(), Fail> {
+    let text = joined(rt.alloc(), &["a: ", value])?;
+    refuses(rt, rt.alloc(), text.as_str(), number, place);
+    Ok(())
+}
+
+/// Asserts why each of these is refused as the value of a field.
+fn refuses_values<H: AllocGlobal + Abort>(
+    rt: &H,
+    values: &[&str],
+    number: u8,
+    place: u64,
+) -> Result<(), Fail> {
+    for value in values {
+        refuses_value(rt, value, number, place)?;
+    }
+    Ok(())
+}
+
+/// Asserts that a text has one token.
+fn accepts_made<H: AllocGlobal + Abort>(rt: &H, text: Made<String>) -> Result<(), Fail> {
+    accepts(rt, rt.alloc(), text?.as_str(), 1);
+    Ok(())
+}
+
+/// Asserts why a text is refused.
+fn refuses_made<H: AllocGlobal + Abort>(
+    rt: &H,
+    text: Made<String>,
+    number: u8,
+    place: u64,
+) -> Result<(), Fail> {
+    refuses(rt, rt.alloc(), text?.as_str(), number, place);
+    Ok(())
+}
+
+/// Writes a text, and `;` after it.
+fn push_text(all: &mut String, text: &str) -> Made<()> {
+    all.push_str(text)?;
+    all.push(';')?;
+    Ok(())
+}
+
+/// Writes the text of a name or of a string, and `;` after it.
+fn push_spelled(all: &mut String, kind: &TokenKind) -> Made<()> {
+    match kind {
+        TokenKind::Name(name) | TokenKind::Definition(name) | TokenKind::Hidden(name) => {
+            push_text(all, name.as_str())
         }
+        TokenKind::Text(text) => push_text(all, text.as_str()),
+        _ => Ok(()),
+    }
+}
+
+/// The texts of the names and strings, each followed by `;`.
+fn texts_of(alloc: Global, tokens: &[Token]) -> Made<String> {
+    let mut all = String::new(alloc);
+    for token in tokens {
+        push_spelled(&mut all, &token.kind)?;
     }
     Ok(all)
 }
 
-/// A text of a unit, so many times, between a start and an end.
-fn long(alloc: Global, start: &str, unit: &str, times: u32, end: &str) -> Result<String, Fail> {
-    let mut all = String::from_str(alloc, start)?;
-    for _ in 0..times {
-        all.push_str(unit)?;
+/// The texts of the names and strings of a text, each followed by `;`.
+fn texts(alloc: Global, text: &str) -> Made<String> {
+    match lex(alloc, text) {
+        Ok(tokens) => texts_of(alloc, &tokens),
+        Err(_) => Ok(String::new(alloc)),
     }
-    all.push_str(end)?;
-    Ok(all)
 }
 
-#[test]
-fn line_breaks_insert_commas(rt: HostRuntime) -> Result<(), Fail> {
-    let all = shown(rt.alloc(), "a: 1\nb: 2\n")?;
-    let wanted = concat!(
-        "Name(\"a\") 0..1\nMark(Colon) 1..2\nInteger(1) 3..4\nMark(Comma) 4..4\n",
-        "Name(\"b\") 5..6\nMark(Colon) 6..7\nInteger(2) 8..9\nMark(Comma) 9..9\n"
-    );
-    assert_eq!(rt; all.as_str(), wanted);
-    let all = shown(rt.alloc(), "l: [1\n2] // end\n")?;
-    let wanted = concat!(
-        "Name(\"l\") 0..1\nMark(Colon) 1..2\nMark(OpenBracket) 3..4\nInteger(1) 4..5\n",
-        "Mark(Comma) 5..5\n",
-        "Integer(2) 6..7\nMark(CloseBracket) 7..8\nMark(Comma) 8..8\n"
-    );
+/// Asserts what the names and strings of a text are.
+fn assert_texts<H: AllocGlobal + Abort>(rt: &H, text: &str, wanted: &str) -> Result<(), Fail> {
+    let all = texts(rt.alloc(), text)?;
     assert_eq!(rt; all.as_str(), wanted);
     Ok(())
 }
 
 #[test]
+fn line_breaks_insert_commas(rt: HostRuntime) -> Result<(), Fail> {
+    assert_tokens(
+        &rt,
+        "a: 1\nb: 2\n",
+        concat!(
+            "Name(\"a\") 0..1\nMark(Colon) 1..2\nInteger(1) 3..4\nMark(Comma) 4..4\n",
+            "Name(\"b\") 5..6\nMark(Colon) 6..7\nInteger(2) 8..9\nMark(Comma) 9..9\n"
+        ),
+    )?;
+    assert_tokens(
+        &rt,
+        "l: [1\n2] // end\n",
+        concat!(
+            "Name(\"l\") 0..1\nMark(Colon) 1..2\nMark(OpenBracket) 3..4\nInteger(1) 4..5\n",
+            "Mark(Comma) 5..5\n",
+            "Integer(2) 6..7\nMark(CloseBracket) 7..8\nMark(Comma) 8..8\n"
+        ),
+    )
+}
+
+#[test]
 fn which_tokens_end_a_line(rt: HostRuntime) -> Result<(), Fail> {
-    for ends in [
-        "a", "#a", "_a", "_", "1", "\"\"", "_|_", ")", "]", "}", "...", "?", "!",
-    ] {
-        let text = format!(in rt.alloc(); "{ends} // so\n\n")?;
-        accepts(&rt, rt.alloc(), text.as_str(), 2);
-    }
-    for goes_on in [
-        "(", "[", "{", ":", ",", "|", "&", "*", "-", "+", "<", "<=", ">", ">=", "!=",
-    ] {
-        let text = format!(in rt.alloc(); "{goes_on}\n")?;
-        accepts(&rt, rt.alloc(), text.as_str(), 1);
-    }
+    let so = " // so\n\n";
+    each_accepts_before(&rt, &["a", "#a", "_a", "_"], so, 2)?;
+    each_accepts_before(&rt, &["1", "\"\"", "_|_"], so, 2)?;
+    each_accepts_before(&rt, &[")", "]", "}", "...", "?", "!"], so, 2)?;
+    each_accepts_before(&rt, &["(", "[", "{", ":", ","], "\n", 1)?;
+    each_accepts_before(&rt, &["|", "&", "*", "-", "+"], "\n", 1)?;
+    each_accepts_before(&rt, &["<", "<=", ">", ">=", "!="], "\n", 1)?;
     accepts(&rt, rt.alloc(), "a\n", 2);
     accepts(&rt, rt.alloc(), "a", 1);
     accepts(&rt, rt.alloc(), "( a )", 3);
@@ -110,31 +211,34 @@ fn which_tokens_end_a_line(rt: HostRuntime) -> Result<(), Fail> {
 
 #[test]
 fn punctuation(rt: HostRuntime) -> Result<(), Fail> {
-    let all = shown(rt.alloc(), "{}[]():,?!|&*-+<>...<=>=!=_|_")?;
-    let wanted = concat!(
-        "Mark(OpenBrace) 0..1\nMark(CloseBrace) 1..2\nMark(OpenBracket) 2..3\n",
-        "Mark(CloseBracket) 3..4\nMark(OpenParenthesis) 4..5\n",
-        "Mark(CloseParenthesis) 5..6\nMark(Colon) 6..7\nMark(Comma) 7..8\n",
-        "Mark(Question) 8..9\nMark(Exclamation) 9..10\nMark(Bar) 10..11\n",
-        "Mark(Ampersand) 11..12\nMark(Star) 12..13\nMark(Minus) 13..14\nMark(Plus) 14..15\n",
-        "Mark(Less) 15..16\nMark(Greater) 16..17\n",
-        "Mark(Ellipsis) 17..20\nMark(AtMost) 20..22\nMark(AtLeast) 22..24\n",
-        "Mark(NotEqual) 24..26\nBottom 26..29\n"
-    );
-    assert_eq!(rt; all.as_str(), wanted);
-    Ok(())
+    assert_tokens(
+        &rt,
+        "{}[]():,?!|&*-+<>...<=>=!=_|_",
+        concat!(
+            "Mark(OpenBrace) 0..1\nMark(CloseBrace) 1..2\nMark(OpenBracket) 2..3\n",
+            "Mark(CloseBracket) 3..4\nMark(OpenParenthesis) 4..5\n",
+            "Mark(CloseParenthesis) 5..6\nMark(Colon) 6..7\nMark(Comma) 7..8\n",
+            "Mark(Question) 8..9\nMark(Exclamation) 9..10\nMark(Bar) 10..11\n",
+            "Mark(Ampersand) 11..12\nMark(Star) 12..13\nMark(Minus) 13..14\nMark(Plus) 14..15\n",
+            "Mark(Less) 15..16\nMark(Greater) 16..17\n",
+            "Mark(Ellipsis) 17..20\nMark(AtMost) 20..22\nMark(AtLeast) 22..24\n",
+            "Mark(NotEqual) 24..26\nBottom 26..29\n"
+        ),
+    )
 }
 
 #[test]
 fn names(rt: HostRuntime) -> Result<(), Fail> {
-    let all = shown(rt.alloc(), "ab #A_1 _ _x _#y $")?;
-    let wanted = concat!(
-        "Name(\"ab\") 0..2\nDefinition(\"#A_1\") 3..7\n",
-        "Hidden(\"_\") 8..9\nHidden(\"_x\") 10..12\n",
-        "Hidden(\"_#y\") 13..16\nName(\"$\") 17..18\n"
-    );
-    assert_eq!(rt; all.as_str(), wanted);
-    assert_eq!(rt; texts(rt.alloc(), "é٣ ñ")?.as_str(), "é٣;ñ;");
+    assert_tokens(
+        &rt,
+        "ab #A_1 _ _x _#y $",
+        concat!(
+            "Name(\"ab\") 0..2\nDefinition(\"#A_1\") 3..7\n",
+            "Hidden(\"_\") 8..9\nHidden(\"_x\") 10..12\n",
+            "Hidden(\"_#y\") 13..16\nName(\"$\") 17..18\n"
+        ),
+    )?;
+    assert_texts(&rt, "é٣ ñ", "é٣;ñ;")?;
     refuses(&rt, rt.alloc(), "#1: 1\n", 2, 0);
     refuses(&rt, rt.alloc(), "_#1", 2, 1);
     refuses(&rt, rt.alloc(), "a: ٣", 2, 3);
@@ -143,19 +247,19 @@ fn names(rt: HostRuntime) -> Result<(), Fail> {
 
 #[test]
 fn integers(rt: HostRuntime) -> Result<(), Fail> {
-    let all = shown(rt.alloc(), "0 0x1F 0Xff 1_000 0o17 0b1_01 1é")?;
-    let wanted = concat!(
-        "Integer(0) 0..1\nInteger(31) 2..6\nInteger(255) 7..11\nInteger(1000) 12..17\n",
-        "Integer(15) 18..22\nInteger(5) 23..29\nInteger(1) 30..31\nName(\"é\") 31..33\n"
-    );
-    assert_eq!(rt; all.as_str(), wanted);
-    for bad in [
+    assert_tokens(
+        &rt,
+        "0 0x1F 0Xff 1_000 0o17 0b1_01 1é",
+        concat!(
+            "Integer(0) 0..1\nInteger(31) 2..6\nInteger(255) 7..11\nInteger(1000) 12..17\n",
+            "Integer(15) 18..22\nInteger(5) 23..29\nInteger(1) 30..31\nName(\"é\") 31..33\n"
+        ),
+    )?;
+    let bad = [
         "1__0", "1.5", "1K", "01", "1_", "0x", "0x_1", "0b2", "0o8", "00", "0_1", "1...", "0xg",
         "0B1",
-    ] {
-        let text = format!(in rt.alloc(); "a: {bad}")?;
-        refuses(&rt, rt.alloc(), text.as_str(), 4, 3);
-    }
+    ];
+    refuses_values(&rt, &bad, 4, 3)?;
     accepts(&rt, rt.alloc(), "a: -9223372036854775808", 4);
     accepts(&rt, rt.alloc(), "a: - // so\n 9223372036854775808", 4);
     accepts(&rt, rt.alloc(), "a: 9223372036854775807", 3);
@@ -168,34 +272,21 @@ fn integers(rt: HostRuntime) -> Result<(), Fail> {
 
 #[test]
 fn strings(rt: HostRuntime) -> Result<(), Fail> {
-    assert_eq!(rt;
-        texts(rt.alloc(), "a: \"\\ud83d\\ude00\"")?.as_str(),
-        "a;\u{1F600};"
-    );
-    assert_eq!(rt;
-        texts(rt.alloc(), "\"\\n\\t\\/\\\\\\\"\\u00e9\\U0001F600é\"")?.as_str(),
-        "\n\t/\\\"é\u{1F600}é;"
-    );
-    assert_eq!(rt;
-        texts(rt.alloc(), "\"\\a\\b\\f\\r\\v\" \"\"")?.as_str(),
-        "\u{07}\u{08}\u{0C}\r\u{0B};;"
-    );
-    for bad in [
-        "\"\\q\"",
-        "\"\\ud800\"",
-        "\"\\(b)\"",
-        "\"\\udc00\"",
-        "\"\\ud800\\u0041\"",
-        "\"\\U00110000\"",
-        "\"\\",
-    ] {
-        let text = format!(in rt.alloc(); "a: {bad}")?;
-        refuses(&rt, rt.alloc(), text.as_str(), 3, 4);
-    }
-    for bad in ["\"x\n", "\"x", "\"\"\"x\"\"\""] {
-        let text = format!(in rt.alloc(); "a: {bad}")?;
-        refuses(&rt, rt.alloc(), text.as_str(), 3, 3);
-    }
+    assert_texts(&rt, "a: \"\\ud83d\\ude00\"", "a;\u{1F600};")?;
+    assert_texts(
+        &rt,
+        "\"\\n\\t\\/\\\\\\\"\\u00e9\\U0001F600é\"",
+        "\n\t/\\\"é\u{1F600}é;",
+    )?;
+    assert_texts(
+        &rt,
+        "\"\\a\\b\\f\\r\\v\" \"\"",
+        "\u{07}\u{08}\u{0C}\r\u{0B};;",
+    )?;
+    refuses_values(&rt, &["\"\\q\"", "\"\\(b)\"", "\"\\"], 3, 4)?;
+    refuses_values(&rt, &["\"\\ud800\"", "\"\\udc00\""], 3, 4)?;
+    refuses_values(&rt, &["\"\\ud800\\u0041\"", "\"\\U00110000\""], 3, 4)?;
+    refuses_values(&rt, &["\"x\n", "\"x", "\"\"\"x\"\"\""], 3, 3)?;
     refuses(&rt, rt.alloc(), "a: =1", 2, 3);
     Ok(())
 }
@@ -203,56 +294,20 @@ fn strings(rt: HostRuntime) -> Result<(), Fail> {
 #[test]
 fn limits(rt: HostRuntime) -> Result<(), Fail> {
     let alloc = rt.alloc();
-    refuses(
-        &rt,
-        alloc,
-        long(alloc, "=", " ", 1_048_576, "")?.as_str(),
-        1,
-        1_048_576,
-    );
-    refuses(
-        &rt,
-        alloc,
-        long(alloc, "=", " ", 1_048_575, "")?.as_str(),
-        2,
-        0,
-    );
-    accepts(&rt, alloc, long(alloc, "", "a", 65_535, "")?.as_str(), 1);
-    refuses(
-        &rt,
-        alloc,
-        long(alloc, "#", "a", 65_535, "")?.as_str(),
-        6,
-        0,
-    );
-    accepts(
-        &rt,
-        alloc,
-        long(alloc, "\"", "\\n", 65_535, "\"")?.as_str(),
-        1,
-    );
-    refuses(
-        &rt,
-        alloc,
-        long(alloc, "a: \"", "é", 32_768, "\"")?.as_str(),
-        6,
-        3,
-    );
-    refuses(
-        &rt,
-        alloc,
-        long(alloc, "a: \"", "é", 32_768, "\\q\"")?.as_str(),
-        3,
-        65_540,
-    );
-    refuses(
-        &rt,
-        alloc,
-        long(alloc, "a: \"", "é", 32_768, "\n")?.as_str(),
-        3,
-        3,
-    );
+    refuses_made(&rt, long(alloc, "=", " ", 1_048_576, ""), 1, 1_048_576)?;
+    refuses_made(&rt, long(alloc, "=", " ", 1_048_575, ""), 2, 0)?;
+    accepts_made(&rt, long(alloc, "", "a", 65_535, ""))?;
+    refuses_made(&rt, long(alloc, "#", "a", 65_535, ""), 6, 0)?;
+    accepts_made(&rt, long(alloc, "\"", "\\n", 65_535, "\""))?;
+    refuses_made(&rt, long(alloc, "a: \"", "é", 32_768, "\""), 6, 3)?;
+    refuses_made(&rt, long(alloc, "a: \"", "é", 32_768, "\\q\""), 3, 65_540)?;
+    refuses_made(&rt, long(alloc, "a: \"", "é", 32_768, "\n"), 3, 3)?;
     Ok(())
+}
+
+/// Whether a text is refused for this.
+fn is_refused(alloc: Global, text: &str, kind: Kind) -> bool {
+    matches!(lex(alloc, text), Err(refusal) if refusal.kind == kind)
 }
 
 #[test]
@@ -260,45 +315,124 @@ fn first_fault(rt: HostRuntime) -> Result<(), Fail> {
     refuses(&rt, rt.alloc(), "a: = 01", 2, 3);
     refuses(&rt, rt.alloc(), "a: 01 =", 4, 3);
     refuses(&rt, rt.alloc(), "// = 01\n\"", 3, 8);
-    let refusal = lex(rt.alloc(), "/");
-    assert!(rt; matches!(&refusal, Err(refusal) if refusal.kind == Kind::BadCharacter));
+    assert!(rt; is_refused(rt.alloc(), "/", Kind::BadCharacter));
     Ok(())
 }
 
-/// The word that a short text is.
-fn word<'a>(rt: &impl Abort, text: &'a str) -> Word<'a> {
-    Word::new(text).expect(rt, "the text is too long")
+/// The word that a text is.
+fn word(text: &str) -> Option<Word> {
+    Word::new(text)
+}
+
+/// The same word once more.
+fn shared(word: Option<Word>) -> Option<Word> {
+    Some(word?.share())
+}
+
+/// Whether it is a word of this text.
+fn has_text(word: Option<Word>, text: &str) -> bool {
+    matches!(word, Some(word) if word.as_str() == text)
+}
+
+/// Whether it is a word of these bytes.
+fn has_bytes(word: Option<Word>, bytes: &[u8]) -> bool {
+    matches!(word, Some(word) if word.as_bytes() == bytes)
+}
+
+/// Whether a copy of the word is this text.
+fn is_copied(alloc: Global, word: Option<Word>, text: &str) -> Made<bool> {
+    match word {
+        Some(word) => Ok(word.to_text(alloc)?.as_str() == text),
+        None => Ok(false),
+    }
+}
+
+/// Whether the first word comes after the second.
+fn is_after(first: Option<Word>, second: Option<Word>) -> bool {
+    match (first, second) {
+        (Some(first), Some(second)) => first.compare(&second) == Ordering::Greater,
+        _ => false,
+    }
+}
+
+/// Whether both are one word, where both are words.
+fn are_same(left: Option<Word>, right: Option<Word>) -> Option<bool> {
+    Some(left?.same(&right?))
 }
 
 #[test]
 fn words(rt: HostRuntime) -> Result<(), Fail> {
-    let alloc = rt.alloc();
-    let short = word(&rt, "é");
-    assert_eq!(rt; short.share().as_str(), "é");
-    assert_eq!(rt; short.as_bytes(), [0xC3, 0xA9].as_slice());
-    assert_eq!(rt; short.to_text(alloc)?.as_str(), "é");
-    assert_eq!(rt; short.compare(&word(&rt, "z")), Ordering::Greater);
-    assert!(rt; short.same(&word(&rt, "é")));
-    assert!(rt; !short.same(&word(&rt, "e")));
+    assert!(rt; has_text(shared(word("é")), "é"));
+    assert!(rt; has_bytes(word("é"), &[0xC3, 0xA9]));
+    assert!(rt; is_copied(rt.alloc(), word("é"), "é")?);
+    assert!(rt; is_after(word("é"), word("z")));
+    assert!(rt; are_same(word("é"), word("é")) == Some(true));
+    assert!(rt; are_same(word("é"), word("e")) == Some(false));
     Ok(())
+}
+
+/// Whether a text is a word, which is that text.
+fn is_word(text: Made<String>) -> Made<bool> {
+    let text = text?;
+    Ok(has_text(word(text.as_str()), text.as_str()))
+}
+
+/// Whether a text is no word.
+fn is_no_word(text: Made<String>) -> Made<bool> {
+    Ok(word(text?.as_str()).is_none())
 }
 
 #[test]
 fn word_limit(rt: HostRuntime) -> Result<(), Fail> {
-    let longest = long(rt.alloc(), "", "a", 65_535, "")?;
-    assert!(rt; word(&rt, longest.as_str()).as_str() == longest.as_str());
-    let longer = long(rt.alloc(), "", "a", 65_536, "")?;
-    assert!(rt; Word::new(longer.as_str()).is_none());
+    assert!(rt; is_word(repeated(rt.alloc(), "a", 65_535))?);
+    assert!(rt; is_no_word(repeated(rt.alloc(), "a", 65_536))?);
     Ok(())
+}
+
+/// A plain string of a word.
+fn plain(word: Option<Word>) -> Option<Quoted> {
+    Some(Quoted::plain(word?))
+}
+
+/// A string with an escape.
+fn decoded<'a>(alloc: Global) -> Made<Quoted<'a>> {
+    Quoted::decoded(alloc, String::from_str(alloc, "a\n")?)
+}
+
+/// Whether it is a string of this text.
+fn is_quoted(quoted: Option<Quoted>, text: &str) -> bool {
+    matches!(quoted, Some(quoted) if quoted.as_str() == text)
+}
+
+/// Whether the word of a string is this text.
+fn is_word_of(quoted: Made<Quoted>, text: &str) -> Made<bool> {
+    Ok(quoted?.word().as_str() == text)
+}
+
+/// A string as it is written for debugging.
+fn for_debugging(alloc: Global, quoted: Made<Quoted>) -> Made<String> {
+    debugged(alloc, &quoted?)
+}
+
+/// A string as it stands.
+fn as_it_stands(alloc: Global, quoted: Option<Quoted>) -> Made<String> {
+    match quoted {
+        Some(quoted) => Ok(format!(in alloc; "{quoted}")?),
+        None => Ok(String::new(alloc)),
+    }
+}
+
+/// Whether it is this text.
+fn is_text(found: Made<String>, text: &str) -> Made<bool> {
+    Ok(found?.as_str() == text)
 }
 
 #[test]
 fn quoted_texts(rt: HostRuntime) -> Result<(), Fail> {
     let alloc = rt.alloc();
-    assert_eq!(rt; Quoted::plain(word(&rt, "ab")).as_str(), "ab");
-    let decoded = Quoted::decoded(alloc, String::from_str(alloc, "a\n")?)?;
-    assert_eq!(rt; decoded.word().as_str(), "a\n");
-    let shown = format!(in alloc; "{:?} {}", decoded, Quoted::plain(word(&rt, "b")))?;
-    assert_eq!(rt; shown.as_str(), "\"a\\n\" b");
+    assert!(rt; is_quoted(plain(word("ab")), "ab"));
+    assert!(rt; is_word_of(decoded(alloc), "a\n")?);
+    assert!(rt; is_text(for_debugging(alloc, decoded(alloc)), "\"a\\n\"")?);
+    assert!(rt; is_text(as_it_stands(alloc, plain(word("b"))), "b")?);
     Ok(())
 }

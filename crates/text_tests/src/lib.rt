@@ -6,3 +6,5 @@
 mod lexing;
 #[cfg(test)]
 mod parsing;
+#[cfg(test)]
+mod texts;
