@@ -1,4 +1,6 @@
-use crate::states::{HEAD, INTEGER, LIST, Made, SECOND, altered, copied, extended, keeps, refuses};
+use crate::states::{
+    HEAD, Made, SECOND, altered, copied, extended, integer, keeps, list, part, refuses,
+};
 use std::alloc::Global;
 use std::test::Fail;
 
@@ -25,24 +27,24 @@ const ELEMENT: &[u8] = &[2, 0, 0, 1, 0x6c, 1, 0, 0, 0, 0, 0, 4, 0, 0, 0, 0, 0, 0
 
 /// The state of a list of at least 65,537 elements.
 fn longer_list(alloc: Global) -> Made<Vec<u8>> {
-    altered(copied(alloc, LIST), LEAST_LOW, 1)
+    altered(copied(alloc, list()), LEAST_LOW, 1)
 }
 
 /// The state of a list of at least no element.
 fn open_list(alloc: Global) -> Made<Vec<u8>> {
-    altered(copied(alloc, LIST), LEAST_HIGH, 0)
+    altered(copied(alloc, list()), LEAST_HIGH, 0)
 }
 
 /// The state of a list with three rows, of which the last is its first element.
-fn with_element(list: Made<Vec<u8>>) -> Made<Vec<u8>> {
-    extended(altered(list, COUNT, 3), ELEMENT)
+fn with_element(state: Made<Vec<u8>>) -> Made<Vec<u8>> {
+    extended(altered(state, COUNT, 3), ELEMENT)
 }
 
 #[test]
 fn lengths_of_lists(rt: HostRuntime) -> Result<(), Fail> {
     let alloc = rt.alloc();
     assert!(rt; refuses(alloc, longer_list(alloc))?);
-    assert!(rt; keeps(alloc, with_element(copied(alloc, LIST)))?);
+    assert!(rt; keeps(alloc, with_element(copied(alloc, list())))?);
     assert!(rt; keeps(alloc, open_list(alloc))?);
     assert!(rt; refuses(alloc, with_element(open_list(alloc)))?);
     Ok(())
@@ -59,7 +61,7 @@ fn with_struct(state: Made<Vec<u8>>, level: u8) -> Made<Vec<u8>> {
 
 /// The state of structs one in the other, that many below the root, each at `a` in the one before.
 fn nested(alloc: Global, levels: u8) -> Made<Vec<u8>> {
-    let root = copied(alloc, &INTEGER[..SECOND]);
+    let root = copied(alloc, part(integer(), 0, SECOND));
     let mut state = altered(root, COUNT, levels.wrapping_add(1));
     for level in 1..=levels {
         state = with_struct(state, level);
@@ -77,7 +79,7 @@ fn paths_have_at_most_64_steps(rt: HostRuntime) -> Result<(), Fail> {
 
 /// The state of `a: 1` with another byte as its label.
 fn with_label(alloc: Global, byte: u8) -> Made<Vec<u8>> {
-    altered(copied(alloc, INTEGER), LABEL, byte)
+    altered(copied(alloc, integer()), LABEL, byte)
 }
 
 #[test]
@@ -91,7 +93,7 @@ fn labels_are_utf8(rt: HostRuntime) -> Result<(), Fail> {
 #[test]
 fn usual_lies_within_value(rt: HostRuntime) -> Result<(), Fail> {
     let alloc = rt.alloc();
-    let outside = altered(altered(copied(alloc, INTEGER), FIRST, 2), LAST, 2);
+    let outside = altered(altered(copied(alloc, integer()), FIRST, 2), LAST, 2);
     assert!(rt; refuses(alloc, outside)?);
     Ok(())
 }
@@ -99,7 +101,7 @@ fn usual_lies_within_value(rt: HostRuntime) -> Result<(), Fail> {
 /// The state of `a: 1` with another level and kind of the root.
 fn with_root(alloc: Global, level: u8, kind: u8) -> Made<Vec<u8>> {
     altered(
-        altered(copied(alloc, INTEGER), HEAD + 1, level),
+        altered(copied(alloc, integer()), HEAD + 1, level),
         HEAD + 2,
         kind,
     )

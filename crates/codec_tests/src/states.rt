@@ -8,35 +8,45 @@ use std::test::Fail;
 pub type Made<T> = Result<T, Memory>;
 
 /// The state with no row.
-const EMPTY: &[u8] = &[0xfe, 0x43, 0x55, 0x45, 1, 0, 0, 0, 0, 0, 0, 0, 0];
+fn empty() -> &'static [u8] {
+    &[0xfe, 0x43, 0x55, 0x45, 1, 0, 0, 0, 0, 0, 0, 0, 0]
+}
 
 /// The state of `a: 1`: an open struct at the root, and the integer 1.
-pub const INTEGER: &[u8] = &[
-    0xfe, 0x43, 0x55, 0x45, 1, 0, 0, 0, 0, 0, 0, 0, 2, 0, 0, 2, 0, 1, 0, 0, 1, 0x61, 2, 1, 0, 0, 0,
-    0, 0, 0, 0, 0, 1, 0, 0, 0, 0, 0, 0, 0, 1, 0, 0, 0, 0, 0, 0, 0, 1, 0, 0, 0, 0, 0, 0, 0, 0, 0, 0,
-    0, 0, 0, 0, 0, 0, 0, 1, 0, 0, 0, 0, 0, 0, 0, 1, 0, 0, 0, 0, 0, 0, 0, 1, 0, 0, 0, 0, 0, 0, 0, 0,
-    0,
-];
+pub fn integer() -> &'static [u8] {
+    &[
+        0xfe, 0x43, 0x55, 0x45, 1, 0, 0, 0, 0, 0, 0, 0, 2, 0, 0, 2, 0, 1, 0, 0, 1, 0x61, 2, 1, 0,
+        0, 0, 0, 0, 0, 0, 0, 1, 0, 0, 0, 0, 0, 0, 0, 1, 0, 0, 0, 0, 0, 0, 0, 1, 0, 0, 0, 0, 0, 0,
+        0, 0, 0, 0, 0, 0, 0, 0, 0, 0, 0, 1, 0, 0, 0, 0, 0, 0, 0, 1, 0, 0, 0, 0, 0, 0, 0, 1, 0, 0,
+        0, 0, 0, 0, 0, 0, 0,
+    ]
+}
 
 /// The state of `port: 443`.
-const PORT: &[u8] = &[
-    0xfe, 0x43, 0x55, 0x45, 1, 0, 0, 0, 0, 0, 0, 0, 2, 0, 0, 2, 0, 1, 0, 0, 4, 0x70, 0x6f, 0x72,
-    0x74, 2, 1, 0, 0, 0, 0, 0, 0, 0, 0, 1, 0, 0, 0, 0, 0, 0, 1, 0xbb, 0, 0, 0, 0, 0, 0, 1, 0xbb, 0,
-    0, 0, 0, 0, 0, 0, 0, 0, 0, 0, 0, 0, 0, 0, 0, 0, 1, 0, 0, 0, 0, 0, 0, 1, 0xbb, 0, 0, 0, 0, 0, 0,
-    1, 0xbb, 0, 0, 0, 0, 0, 0, 0, 0, 0,
-];
+fn port() -> &'static [u8] {
+    &[
+        0xfe, 0x43, 0x55, 0x45, 1, 0, 0, 0, 0, 0, 0, 0, 2, 0, 0, 2, 0, 1, 0, 0, 4, 0x70, 0x6f,
+        0x72, 0x74, 2, 1, 0, 0, 0, 0, 0, 0, 0, 0, 1, 0, 0, 0, 0, 0, 0, 1, 0xbb, 0, 0, 0, 0, 0, 0,
+        1, 0xbb, 0, 0, 0, 0, 0, 0, 0, 0, 0, 0, 0, 0, 0, 0, 0, 0, 0, 1, 0, 0, 0, 0, 0, 0, 1, 0xbb,
+        0, 0, 0, 0, 0, 0, 1, 0xbb, 0, 0, 0, 0, 0, 0, 0, 0, 0,
+    ]
+}
 
 /// The state of a conflict at `a`: an open struct at the root, and nothing.
-const CONFLICT: &[u8] = &[
-    0xfe, 0x43, 0x55, 0x45, 1, 0, 0, 0, 0, 0, 0, 0, 2, 0, 0, 2, 0, 1, 0, 0, 1, 0x61, 2, 4, 0, 0, 0,
-    0, 0, 0,
-];
+fn conflict() -> &'static [u8] {
+    &[
+        0xfe, 0x43, 0x55, 0x45, 1, 0, 0, 0, 0, 0, 0, 0, 2, 0, 0, 2, 0, 1, 0, 0, 1, 0x61, 2, 4, 0,
+        0, 0, 0, 0, 0,
+    ]
+}
 
 /// The state of a list of at least 65,536 elements at `l`.
-pub const LIST: &[u8] = &[
-    0xfe, 0x43, 0x55, 0x45, 1, 0, 0, 0, 0, 0, 0, 0, 2, 0, 0, 2, 0, 1, 0, 0, 1, 0x6c, 2, 3, 0, 1, 0,
-    0, 0,
-];
+pub fn list() -> &'static [u8] {
+    &[
+        0xfe, 0x43, 0x55, 0x45, 1, 0, 0, 0, 0, 0, 0, 0, 2, 0, 0, 2, 0, 1, 0, 0, 1, 0x6c, 2, 3, 0,
+        1, 0, 0, 0,
+    ]
+}
 
 /// How many bytes stand before the rows.
 pub const HEAD: usize = 13;
@@ -105,6 +115,19 @@ fn tells(alloc: Global, state: Made<Vec<u8>>) -> Result<bool, Kind> {
     }
 }
 
+/// The bytes from a place up to another one, where there are so many.
+pub fn part(bytes: &[u8], from: usize, to: usize) -> &[u8] {
+    match bytes.get(from..to) {
+        Some(part) => part,
+        None => &[],
+    }
+}
+
+/// The bytes from a place on.
+fn after(bytes: &[u8], from: usize) -> &[u8] {
+    part(bytes, from, bytes.len())
+}
+
 /// A copy of the bytes.
 pub fn copied(alloc: Global, bytes: &[u8]) -> Made<Vec<u8>> {
     Ok(Vec::from_slice(alloc, bytes)?)
@@ -128,17 +151,17 @@ pub fn altered(bytes: Made<Vec<u8>>, at: usize, byte: u8) -> Made<Vec<u8>> {
 
 /// The state of `a: 1` with another byte at a place.
 fn other(alloc: Global, at: usize, byte: u8) -> Made<Vec<u8>> {
-    altered(copied(alloc, INTEGER), at, byte)
+    altered(copied(alloc, integer()), at, byte)
 }
 
 #[test]
 fn states_are_written_as_they_were_read(rt: HostRuntime) -> Result<(), Fail> {
     let alloc = rt.alloc();
-    assert!(rt; is_kept(alloc, EMPTY)?);
-    assert!(rt; is_kept(alloc, INTEGER)?);
-    assert!(rt; is_kept(alloc, PORT)?);
-    assert!(rt; is_kept(alloc, CONFLICT)?);
-    assert!(rt; is_kept(alloc, LIST)?);
+    assert!(rt; is_kept(alloc, empty())?);
+    assert!(rt; is_kept(alloc, integer())?);
+    assert!(rt; is_kept(alloc, port())?);
+    assert!(rt; is_kept(alloc, conflict())?);
+    assert!(rt; is_kept(alloc, list())?);
     Ok(())
 }
 
@@ -150,16 +173,16 @@ fn are_same(alloc: Global, left: &[u8], right: &[u8]) -> Result<bool, Kind> {
 #[test]
 fn equal_states_are_equal_tables(rt: HostRuntime) -> Result<(), Fail> {
     let alloc = rt.alloc();
-    assert!(rt; are_same(alloc, INTEGER, INTEGER)?);
-    assert!(rt; !are_same(alloc, INTEGER, CONFLICT)?);
+    assert!(rt; are_same(alloc, integer(), integer())?);
+    assert!(rt; !are_same(alloc, integer(), conflict())?);
     Ok(())
 }
 
 #[test]
 fn each_cut_is_no_state(rt: HostRuntime) -> Result<(), Fail> {
     let alloc = rt.alloc();
-    for cut in 0..INTEGER.len() {
-        assert!(rt; is_refused(alloc, &INTEGER[..cut]), "cut at {cut}");
+    for cut in 0..integer().len() {
+        assert!(rt; is_refused(alloc, part(integer(), 0, cut)), "cut at {cut}");
     }
     Ok(())
 }
@@ -177,7 +200,7 @@ fn tells_each_bit(alloc: Global, at: usize, byte: u8) -> Result<bool, Kind> {
 #[test]
 fn each_turned_bit_is_told(rt: HostRuntime) -> Result<(), Fail> {
     let alloc = rt.alloc();
-    for (at, byte) in INTEGER.iter().enumerate() {
+    for (at, byte) in integer().iter().enumerate() {
         assert!(rt; tells_each_bit(alloc, at, *byte)?, "a bit of byte {at}");
     }
     Ok(())
@@ -211,16 +234,18 @@ fn counts_are_exact(rt: HostRuntime) -> Result<(), Fail> {
             ]
         )
     );
-    assert!(rt; refuses(alloc, extended(copied(alloc, INTEGER), &[0]))?);
+    assert!(rt; refuses(alloc, extended(copied(alloc, integer()), &[0]))?);
     Ok(())
 }
 
 #[test]
 fn rows_out_of_order_are_no_state(rt: HostRuntime) -> Result<(), Fail> {
     let alloc = rt.alloc();
-    let swapped = extended(copied(alloc, &INTEGER[..HEAD]), &INTEGER[SECOND..]);
-    assert!(rt; refuses(alloc, extended(swapped, &INTEGER[HEAD..SECOND]))?);
-    let twice = extended(other(alloc, 12, 3), &INTEGER[SECOND..]);
+    let head = copied(alloc, part(integer(), 0, HEAD));
+    let second = extended(head, after(integer(), SECOND));
+    let swapped = extended(second, part(integer(), HEAD, SECOND));
+    assert!(rt; refuses(alloc, swapped)?);
+    let twice = extended(other(alloc, 12, 3), after(integer(), SECOND));
     assert!(rt; refuses(alloc, twice)?);
     Ok(())
 }
