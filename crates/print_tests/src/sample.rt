@@ -189,11 +189,19 @@ fn labels(alloc: Global, place: Place) -> Made<Labels> {
     }
 }
 
-/// The least and the greatest length of a list at a place.
-fn lengths(place: Place) -> (u32, Option<u32>) {
+/// The least length of a list at a place.
+fn least(place: Place) -> u32 {
     match place {
-        Place::List(least, most) => (least, most),
-        _ => (0, None),
+        Place::List(least, _) => least,
+        _ => 0,
+    }
+}
+
+/// The greatest length of a list at a place, where there is one.
+fn most(place: Place) -> Option<u32> {
+    match place {
+        Place::List(_, most) => most,
+        _ => None,
     }
 }
 
@@ -209,7 +217,6 @@ fn is_list(place: Place) -> bool {
 
 /// The row of a place.
 fn row(alloc: Global, level: Level, place: Place) -> Made<Row> {
-    let (least, most) = lengths(place);
     Ok(Row {
         level,
         value: value(alloc, place)?,
@@ -217,8 +224,8 @@ fn row(alloc: Global, level: Level, place: Place) -> Made<Row> {
         struct_ok: is_struct(place),
         list_ok: is_list(place),
         labels: labels(alloc, place)?,
-        least,
-        most,
+        least: least(place),
+        most: most(place),
     })
 }
 
