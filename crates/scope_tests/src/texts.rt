@@ -1,10 +1,14 @@
-use cue_lattice::{Kind, Refusal};
+use cue_lattice::{Kind, Memory, Refusal};
 use cue_lex::{Token, lex};
 use cue_scope::resolve;
 use cue_syntax::{File, parse};
 use std::alloc::Global;
 use std::process::Abort;
 use std::test::Fail;
+
+/// What a call has made where memory was there. It goes on to the next call as it is, so that a
+/// test holds no value that is dropped on its ways out.
+pub type Made<T> = Result<T, Memory>;
 
 /// The size of the text that has these declarations, or why it is refused.
 fn size_of(alloc: Global, file: &File) -> Result<u64, Refusal> {
@@ -38,8 +42,42 @@ pub fn refused(rt: &impl Abort, alloc: Global, text: &str, kind: Kind, place: u6
     assert_eq!(rt; size(alloc, text), Err(Refusal { kind, place }), "{text}");
 }
 
+/// Asserts of which size each text is.
+pub fn each_sized(rt: &impl Abort, alloc: Global, texts: &[(&str, u64)]) {
+    for (text, wanted) in texts {
+        sized(rt, alloc, text, *wanted);
+    }
+}
+
+/// Asserts that each text is refused for this reason, and at which place.
+pub fn each_refused(rt: &impl Abort, alloc: Global, kind: Kind, texts: &[(&str, u64)]) {
+    for (text, place) in texts {
+        refused(rt, alloc, text, kind, *place);
+    }
+}
+
+/// Asserts of which size the text is.
+pub fn sized_made<H: AllocGlobal + Abort>(
+    rt: &H,
+    text: Made<String>,
+    wanted: u64,
+) -> Result<(), Fail> {
+    sized(rt, rt.alloc(), text?.as_str(), wanted);
+    Ok(())
+}
+
+/// Asserts that the text is refused for this reason, at its start.
+pub fn refused_made<H: AllocGlobal + Abort>(
+    rt: &H,
+    text: Made<String>,
+    kind: Kind,
+) -> Result<(), Fail> {
+    refused(rt, rt.alloc(), text?.as_str(), kind, 0);
+    Ok(())
+}
+
 /// A text some times, and what follows it.
-pub fn repeated(alloc: Global, part: &str, count: usize, then: &str) -> Result<String, Fail> {
+pub fn repeated(alloc: Global, part: &str, count: usize, then: &str) -> Made<String> {
     let mut text = String::new(alloc);
     for _ in 0..count {
         text.push_str(part)?;
@@ -48,18 +86,44 @@ pub fn repeated(alloc: Global, part: &str, count: usize, then: &str) -> Result<S
     Ok(text)
 }
 
-/// `#A0` and so many further definitions, each of which uses the one before, and what follows.
-pub fn chain(alloc: Global, count: u32, twice: bool, then: &str) -> Result<String, Fail> {
-    let mut text = format!(in alloc; "#A0: {{a: 1}}\n")?;
-    for before in 0..count {
-        let number = before + 1;
-        let line = if twice {
-            format!(in alloc; "#A{number}: {{l: #A{before}, r: #A{before}}}\n")?
-        } else {
-            format!(in alloc; "#A{number}: {{l: #A{before}}}\n")?
-        };
-        text.push_str(line.as_str())?;
+/// A text with what stands before it.
+pub fn after(alloc: Global, before: &str, text: Made<String>) -> Made<String> {
+    let mut all = String::from_str(alloc, before)?;
+    all.push_str(text?.as_str())?;
+    Ok(all)
+}
+
+/// A definition that uses the one before once.
+fn once(alloc: Global, before: u32, number: u32) -> Made<String> {
+    Ok(format!(in alloc; "#A{number}: {{l: #A{before}}}\n")?)
+}
+
+/// A definition that uses the one before twice.
+fn doubled(alloc: Global, before: u32, number: u32) -> Made<String> {
+    Ok(format!(in alloc; "#A{number}: {{l: #A{before}, r: #A{before}}}\n")?)
+}
+
+/// A definition that uses the one before.
+fn line(alloc: Global, before: u32, number: u32, twice: bool) -> Made<String> {
+    if twice {
+        doubled(alloc, before, number)
+    } else {
+        once(alloc, before, number)
     }
+}
+
+/// Writes so many definitions, each of which uses the one before.
+fn push_lines(alloc: Global, text: &mut String, count: u32, twice: bool) -> Made<()> {
+    for before in 0..count {
+        text.push_str(line(alloc, before, before + 1, twice)?.as_str())?;
+    }
+    Ok(())
+}
+
+/// `#A0` and so many further definitions, each of which uses the one before, and what follows.
+pub fn chain(alloc: Global, count: u32, twice: bool, then: &str) -> Made<String> {
+    let mut text = String::from_str(alloc, "#A0: {a: 1}\n")?;
+    push_lines(alloc, &mut text, count, twice)?;
     text.push_str(then)?;
     Ok(text)
 }
