@@ -1,15 +1,18 @@
 #!/bin/bash
 # How many instructions it takes to evaluate a text that was resolved, in millions, at three sizes of it: n, 2n and 4n
-# parts. The shapes are told in crates/bench/src/eval.rt: fields, structs one in the other, services, disjunctions,
-# texts, lists, uses of definitions, and texts that are made to cost much. The making, lexing, parsing and resolving of
-# the text are taken off, and the table is dropped again. The last column is the exponent of growth from the first size
-# to the last: 1.00 is linear. The script ends with 1 where one is above 1.15. It takes some minutes.
+# parts. The shapes are told in bench/texts.awk: fields, structs one in the other, services, disjunctions, texts, lists,
+# uses of definitions, and texts that are made to cost much. The reading, lexing, parsing and resolving of the text are
+# taken off, and the table is dropped again. The last column is the exponent of growth from the first size to the last:
+# 1.00 is linear. The script ends with 1 where one is above 1.15. It takes some minutes.
 # Usage, at the top of the repository: bench/eval.sh [PROGRAM [SHAPE..]], where PROGRAM is what `rt run` makes of
 # bench, and only these shapes are measured. It wants valgrind.
 set -eu
 . bench/instructions.sh
 program=${1:-$(built bench)}
 part=eval
+text=$(mktemp)
+trap "rm -f '$text'" EXIT
+counted() { counted_on_text "$@"; }
 shift $(($# > 0))
 wanted=" $* "
 

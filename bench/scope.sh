@@ -2,7 +2,7 @@
 # How many instructions it takes to resolve a text that was parsed, in thousands, at three sizes of it: chains of
 # definitions that nothing uses, by their number; definitions that use the one before twice, by their number, where
 # nothing uses the last one and where a field does (from the 14th on that is too large); fields with integers, and fields
-# that use one definition; and 60 structs one in the other, by the fields of each, whose values are names. The making,
+# that use one definition; and 60 structs one in the other, by the fields of each, whose values are names. The reading,
 # lexing and parsing of the text are taken off. The last column is the exponent of growth from the first size to the last:
 # 1.00 is linear. At the end the longest chain that a text can have is resolved and dropped on a stack of 8 MiB. The
 # script ends with 1 where a growth is above 1.15 or the chain fails. It takes some minutes.
@@ -12,6 +12,9 @@ set -eu
 . bench/instructions.sh
 program=${1:-$(built bench)}
 part=scope
+text=$(mktemp)
+trap "rm -f '$text'" EXIT
+counted() { counted_on_text "$@"; }
 
 worst=0
 # a line: SHAPE COUNT COUNT COUNT, where the last count is four times the first
@@ -32,7 +35,8 @@ measure uses 5000 10000 20000
 measure nested 125 250 500
 
 printf 'reached, to the 13th, the 14th and the 17th: '
-(for count in 13 14 17; do "$program" "$part" reached "$count" 1; done) | paste -s -d '|' | sed 's/|/, /g'
+(for count in 13 14 17; do write_text reached "$count" && "$program" "$part" "$text" 1; done) | paste -s -d '|' | sed 's/|/, /g'
 printf 'the longest chain: '
-(ulimit -s 8192 && "$program" "$part" chain 74897 1) || worst=1
+write_text chain 74897
+(ulimit -s 8192 && "$program" "$part" "$text" 1) || worst=1
 exit "$worst"

@@ -26,6 +26,6 @@ impl fmt::Display for Fault {
 impl error::Error for Fault {}
 
 /// The number that a word writes.
-pub fn number(word: &String) -> Result<u32, Fault> {
-    word.as_str().parse::<u32>().ok().ok_or(Fault::Usage)
+pub fn number(word: &str) -> Result<u32, Fault> {
+    word.parse::<u32>().ok().ok_or(Fault::Usage)
 }

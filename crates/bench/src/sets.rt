@@ -100,8 +100,8 @@ pub fn asked(alloc: Global, words: &[String]) -> Result<String, Error> {
     if words.len() < 3 {
         return Err(Fault::Usage.into());
     }
-    let pieces = number(&words[1])?;
-    let rounds = number(&words[2])?;
+    let pieces = number(words[1].as_str())?;
+    let rounds = number(words[2].as_str())?;
     let count = count_named(alloc, words[0].as_str(), pieces, rounds)?;
     Ok(format!(in alloc; "{count}")?)
 }

@@ -180,6 +180,11 @@ fn scalar(alloc: Global, value: ScalarSet) -> Result<Row, Memory> {
     })
 }
 
+/// The row of a field that has an integer as its value.
+pub fn integer_row(alloc: Global) -> Result<Row, Memory> {
+    scalar(alloc, integers(alloc, IntSet::one(alloc, 7)?)?)
+}
+
 /// The members of a set of integers.
 fn integers(alloc: Global, ints: IntSet) -> Result<ScalarSet, Memory> {
     Ok(ScalarSet {
@@ -341,8 +346,8 @@ pub fn asked(alloc: Global, words: &[String]) -> Result<String, Error> {
     }
     let work = Work::named(words[0].as_str()).ok_or(Fault::Usage)?;
     let shape = Shape::named(words[1].as_str()).ok_or(Fault::Usage)?;
-    let count = number(&words[2])?;
-    let rounds = number(&words[3])?;
+    let count = number(words[2].as_str())?;
+    let rounds = number(words[3].as_str())?;
     let bytes = measured(alloc, work, shape, count, rounds)?;
     Ok(format!(in alloc; "{bytes}")?)
 }

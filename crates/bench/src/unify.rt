@@ -8,12 +8,10 @@
 //! once). With no rounds the tables are only made. SHAPE is `wide` (all rows under one parent) or
 //! `deep` (all rows under one parent 61 levels down).
 use crate::fault::{Fault, number};
+use crate::tables::integer_row;
 use anyhow::Error;
 use cue_lattice::{Memory, Narrow, Text};
-use cue_row::{Labels, Level};
-use cue_scalars::ScalarSet;
-use cue_sets::{IntSet, TextSet};
-use cue_table::{Path, Row, Step, Table};
+use cue_table::{Path, Step, Table};
 use std::alloc::Global;
 
 /// Where the parent of all rows is.
@@ -149,31 +147,6 @@ fn unified<R: Narrow>(
     Ok(made)
 }
 
-/// The row of a field that has this number as its value.
-fn number_row(alloc: Global, number: i64) -> Result<Row, Memory> {
-    Ok(Row {
-        level: Level::Given,
-        value: integer(alloc, number)?,
-        usual: integer(alloc, number)?,
-        struct_ok: false,
-        list_ok: false,
-        labels: Labels::all(alloc)?,
-        least: 0,
-        most: None,
-    })
-}
-
-/// The set of one integer.
-fn integer(alloc: Global, number: i64) -> Result<ScalarSet, Memory> {
-    Ok(ScalarSet {
-        null: false,
-        no: false,
-        yes: false,
-        ints: IntSet::one(alloc, number)?,
-        texts: TextSet::none(alloc)?,
-    })
-}
-
 /// How many rows the table has.
 fn count<R: Narrow>(alloc: Global, table: &Table<R>) -> Result<usize, Memory> {
     Ok(table.rows(alloc)?.len())
@@ -217,21 +190,21 @@ fn done<R: Narrow>(alloc: Global, words: &[String], row: &R) -> Result<bool, Err
     }
     let work = Work::named(words[0].as_str()).ok_or(Fault::Usage)?;
     let shape = Shape::named(words[1].as_str()).ok_or(Fault::Usage)?;
-    let rows = number(&words[2])?;
-    let rounds = number(&words[3])?;
+    let rows = number(words[2].as_str())?;
+    let rounds = number(words[3].as_str())?;
     let made = unified(alloc, work, shape, rows, rounds, row)?;
     Ok(is_there(alloc, shape, 0, &made)?)
 }
 
 /// What is asked for in words, and what came of it.
 pub fn asked(alloc: Global, words: &[String]) -> Result<String, Error> {
-    let found = done(alloc, words, &number_row(alloc, 7)?)?;
+    let found = done(alloc, words, &integer_row(alloc)?)?;
     Ok(format!(in alloc; "{found}")?)
 }
 
 /// How many rows small tables of both shapes have, a line for each work.
 pub fn samples(alloc: Global) -> Result<String, Memory> {
-    let row = number_row(alloc, 7)?;
+    let row = integer_row(alloc)?;
     let wide = sampled(alloc, Shape::Wide, &row)?;
     let deep = sampled(alloc, Shape::Deep, &row)?;
     Ok(format!(in alloc; "{wide}\n{deep}")?)

@@ -11,8 +11,6 @@ mod narrow;
 mod pair;
 mod refusal;
 mod scalar;
-#[cfg(test)]
-mod tests;
 mod text;
 
 pub use limits::{LENGTH_LIMIT, LEVEL_LIMIT, SIZE_LIMIT, STEP_LIMIT, TEXT_LIMIT, WORD_LIMIT};

@@ -1,5 +1,5 @@
-//! Tests of sets, sets of scalars and values with defaults, kept in a crate above them, so that
-//! none of these is proved a second time with its tests.
+//! Tests of texts, refusals, sets, sets of scalars and values with defaults, kept in a crate above
+//! them, so that none of these is proved a second time with its tests.
 #![tactic(auto)]
 
 #[cfg(test)]
@@ -8,5 +8,7 @@ mod made;
 mod scalars;
 #[cfg(test)]
 mod sets;
+#[cfg(test)]
+mod texts;
 #[cfg(test)]
 mod values;

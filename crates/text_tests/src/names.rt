@@ -1,4 +1,5 @@
-use crate::texts::{each_refused, each_sized, sized};
+//! Refusals of names, definitions and terms.
+use crate::resolving::{each_refused, each_sized, sized};
 use cue_lattice::Kind;
 
 #[test]

@@ -1,6 +1,6 @@
 //! What tables are printed as.
-use crate::sample::Place::{Closed, Free, List, Nothing, Struct, Values};
-use crate::sample::{Made, NONE, Place, Scalars, assert_text, integers, table};
+use crate::sample::Place::{Closed, Free, Integers, List, Nothing, Struct, Values};
+use crate::sample::{Made, NONE, Place, Scalars, assert_text, table};
 use cue_print::{others_are_left, print};
 use cue_row::Level::{Given, Optional, Required};
 use cue_row::{Level, Row};
@@ -81,8 +81,8 @@ fn terms_stand_in_order(rt: HostRuntime) -> Result<(), Fail> {
     let places = [
         ("a", Given, Values(all, all)),
         ("b", Required, Free),
-        ("c", Optional, integers(i64::MIN, i64::MAX)),
-        ("d", Given, integers(5, i64::MAX)),
+        ("c", Optional, Integers(i64::MIN, i64::MAX)),
+        ("d", Given, Integers(5, i64::MAX)),
     ];
     assert_printed(
         &rt,
@@ -95,9 +95,9 @@ fn terms_stand_in_order(rt: HostRuntime) -> Result<(), Fail> {
 fn closed_structs_name_their_labels(rt: HostRuntime) -> Result<(), Fail> {
     let places = [
         ("w", Given, Struct),
-        ("wb", Given, integers(1, 1)),
+        ("wb", Given, Integers(1, 1)),
         ("x", Given, Closed("ac")),
-        ("xa", Given, integers(1, 1)),
+        ("xa", Given, Integers(1, 1)),
         ("xb", Given, Nothing),
     ];
     assert_printed(
@@ -112,9 +112,9 @@ fn lists_tell_their_lengths(rt: HostRuntime) -> Result<(), Fail> {
     let places = [
         ("k", Given, List(0, None)),
         ("l", Given, List(2, Some(1))),
-        ("l0", Optional, integers(1, 1)),
+        ("l0", Optional, Integers(1, 1)),
         ("m", Given, List(2, Some(2))),
-        ("m1", Optional, integers(2, 2)),
+        ("m1", Optional, Integers(2, 2)),
     ];
     assert_printed(
         &rt,
@@ -125,6 +125,6 @@ fn lists_tell_their_lengths(rt: HostRuntime) -> Result<(), Fail> {
 
 #[test]
 fn nothing_keeps_what_stands_below(rt: HostRuntime) -> Result<(), Fail> {
-    let places = [("a", Given, Nothing), ("ab", Given, integers(1, 1))];
+    let places = [("a", Given, Nothing), ("ab", Given, Integers(1, 1))];
     assert_printed(&rt, &places, "\"a\": {\"b\": 1} & _|_\n")
 }

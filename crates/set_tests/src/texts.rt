@@ -1,4 +1,5 @@
-use crate::{Form, Kind, Memory, Refusal, TEXT_LIMIT, Text};
+//! Texts, and the words of refusals.
+use cue_lattice::{Form, Kind, Memory, Refusal, TEXT_LIMIT, Text};
 use std::cmp::Ordering;
 use std::test::Fail;
 

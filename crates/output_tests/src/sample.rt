@@ -1,5 +1,5 @@
-//! Tables for the tests of reports, told by words.
-use cue_lattice::{Memory, Text};
+//! Tables for the tests of reports and printed text, told by words.
+use cue_lattice::{Memory, Narrow, Text};
 use cue_row::{Labels, Level, Path, Row, Step};
 use cue_scalars::ScalarSet;
 use cue_sets::{IntSet, TextSet};
@@ -78,9 +78,29 @@ pub fn path(alloc: Global, word: &str) -> Made<Path> {
     path_of(alloc, steps(alloc, word))
 }
 
+/// Scalars: truth values as they are wanted, the integers from a first to a last, where there are
+/// any, and texts of one letter: these, or all others.
+#[derive(Clone, Copy)]
+pub struct Scalars<'a> {
+    pub truths: bool,
+    pub integers: Option<(i64, i64)>,
+    pub all_but: bool,
+    pub letters: &'a str,
+}
+
+/// No scalar.
+pub const NONE: Scalars<'static> = Scalars {
+    truths: false,
+    integers: None,
+    all_but: false,
+    letters: "",
+};
+
 /// What a table of the tests says of a place.
 #[derive(Clone, Copy)]
 pub enum Place<'a> {
+    /// Anything.
+    Free,
     /// An open struct.
     Struct,
     /// A struct in which only these one-letter labels may stand.
@@ -94,6 +114,8 @@ pub enum Place<'a> {
     Null,
     Truth(bool),
     Text(&'a str),
+    /// Scalars, of which some are usual.
+    Values(Scalars<'a>, Scalars<'a>),
     /// Nothing.
     Nothing,
 }
@@ -125,10 +147,15 @@ fn common(alloc: Global, left: Made<IntSet>, right: Made<IntSet>) -> Made<IntSet
     left?.meet(alloc, &right?)
 }
 
+/// The integers from the first to the last.
+fn between(alloc: Global, first: i64, last: i64) -> Made<IntSet> {
+    let high = IntSet::at_most(alloc, last);
+    common(alloc, IntSet::at_least(alloc, first), high)
+}
+
 /// The set of the integers from the first to the last.
 fn integers(alloc: Global, first: i64, last: i64) -> Made<ScalarSet> {
-    let high = IntSet::at_most(alloc, last);
-    let ints = common(alloc, IntSet::at_least(alloc, first), high);
+    let ints = between(alloc, first, last);
     all_kinds(false, false, false, ints, TextSet::none(alloc))
 }
 
@@ -138,14 +165,34 @@ fn one_text(alloc: Global, text: &str) -> Made<ScalarSet> {
     all_kinds(false, false, false, IntSet::empty(alloc), texts)
 }
 
+/// These texts or all others; none where they do not ascend.
+fn texts_of(alloc: Global, all_but: bool, texts: Made<Vec<Text>>) -> Made<TextSet> {
+    match TextSet::from_texts(all_but, texts?) {
+        Some(set) => Ok(set),
+        None => TextSet::none(alloc),
+    }
+}
+
+/// The set of these scalars.
+fn set(alloc: Global, scalars: Scalars) -> Made<ScalarSet> {
+    let ints = match scalars.integers {
+        Some((first, last)) => between(alloc, first, last),
+        None => IntSet::empty(alloc),
+    };
+    let texts = texts_of(alloc, scalars.all_but, texts(alloc, scalars.letters));
+    all_kinds(false, scalars.truths, scalars.truths, ints, texts)
+}
+
 /// The scalars that may stand at a place.
 fn value(alloc: Global, place: Place) -> Made<ScalarSet> {
     match place {
+        Place::Free => ScalarSet::free(alloc),
         Place::Integers(first, last) => integers(alloc, first, last),
         Place::Default(first, last, _) => integers(alloc, first, last),
         Place::Null => plain(alloc, true, false, false),
         Place::Truth(truth) => plain(alloc, false, !truth, truth),
         Place::Text(text) => one_text(alloc, text),
+        Place::Values(value, _) => set(alloc, value),
         _ => plain(alloc, false, false, false),
     }
 }
@@ -154,6 +201,7 @@ fn value(alloc: Global, place: Place) -> Made<ScalarSet> {
 fn usual(alloc: Global, place: Place) -> Made<ScalarSet> {
     match place {
         Place::Default(_, _, usual) => integers(alloc, usual, usual),
+        Place::Values(_, usual) => set(alloc, usual),
         _ => value(alloc, place),
     }
 }
@@ -192,12 +240,12 @@ fn most(place: Place) -> Option<u32> {
 
 /// Whether a struct may stand at a place.
 fn is_struct(place: Place) -> bool {
-    matches!(place, Place::Struct | Place::Closed(_))
+    matches!(place, Place::Free | Place::Struct | Place::Closed(_))
 }
 
 /// Whether a list may stand at a place.
 fn is_list(place: Place) -> bool {
-    matches!(place, Place::List(_, _))
+    matches!(place, Place::Free | Place::List(_, _))
 }
 
 /// The row of a place.

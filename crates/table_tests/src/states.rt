@@ -1,3 +1,4 @@
+//! States that are known, read and written.
 use cue_codec::{decode, encode};
 use cue_lattice::{Kind, Memory};
 use std::alloc::Global;

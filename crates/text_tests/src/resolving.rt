@@ -1,14 +1,12 @@
-use cue_lattice::{Kind, Memory, Refusal};
+//! What comes of texts whose names are resolved.
+use crate::texts::Made;
+use cue_lattice::{Kind, Refusal};
 use cue_lex::{Token, lex};
 use cue_scope::resolve;
 use cue_syntax::{File, parse};
 use std::alloc::Global;
 use std::process::Abort;
 use std::test::Fail;
-
-/// What a call has made where memory was there. It goes on to the next call as it is, so that a
-/// test holds no value that is dropped on its ways out.
-pub type Made<T> = Result<T, Memory>;
 
 /// The size of the text that has these declarations, or why it is refused.
 fn size_of(alloc: Global, file: &File) -> Result<u64, Refusal> {
@@ -34,11 +32,13 @@ pub fn size(alloc: Global, text: &str) -> Result<u64, Refusal> {
     }
 }
 
+/// Asserts of which size the text is.
 pub fn sized(rt: &impl Abort, alloc: Global, text: &str, wanted: u64) {
     assert_eq!(rt; size(alloc, text), Ok(wanted), "{text}");
 }
 
-pub fn refused(rt: &impl Abort, alloc: Global, text: &str, kind: Kind, place: u64) {
+/// Asserts that the text is refused for this reason, and at which place.
+fn refused(rt: &impl Abort, alloc: Global, text: &str, kind: Kind, place: u64) {
     assert_eq!(rt; size(alloc, text), Err(Refusal { kind, place }), "{text}");
 }
 
@@ -56,7 +56,7 @@ pub fn each_refused(rt: &impl Abort, alloc: Global, kind: Kind, texts: &[(&str, 
     }
 }
 
-/// Asserts of which size the text is.
+/// Asserts of which size the text is, where it was made.
 pub fn sized_made<H: AllocGlobal + Abort>(
     rt: &H,
     text: Made<String>,
@@ -74,16 +74,6 @@ pub fn refused_made<H: AllocGlobal + Abort>(
 ) -> Result<(), Fail> {
     refused(rt, rt.alloc(), text?.as_str(), kind, 0);
     Ok(())
-}
-
-/// A text some times, and what follows it.
-pub fn repeated(alloc: Global, part: &str, count: usize, then: &str) -> Made<String> {
-    let mut text = String::new(alloc);
-    for _ in 0..count {
-        text.push_str(part)?;
-    }
-    text.push_str(then)?;
-    Ok(text)
 }
 
 /// A text with what stands before it.

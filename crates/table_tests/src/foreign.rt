@@ -1,3 +1,4 @@
+//! States that no site here wrote.
 use crate::states::{
     HEAD, Made, SECOND, altered, copied, extended, integer, keeps, list, part, refuses,
 };

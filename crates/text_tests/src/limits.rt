@@ -1,4 +1,6 @@
-use crate::texts::{Made, after, chain, each_sized, refused_made, repeated, size, sized_made};
+//! Sizes, depths and paths at their limits, and what a legal text keeps.
+use crate::resolving::{after, chain, each_sized, refused_made, size, sized_made};
+use crate::texts::{Made, long};
 use cue_lattice::{Kind, Refusal};
 use cue_lex::{Token, lex};
 use cue_scope::{Resolved, resolve};
@@ -34,8 +36,8 @@ fn sizes(rt: HostRuntime) {
 #[test]
 fn steps(rt: HostRuntime) -> Result<(), Fail> {
     let alloc = rt.alloc();
-    sized_made(&rt, repeated(alloc, "a: ", 64, "1"), 129)?;
-    refused_made(&rt, repeated(alloc, "a: ", 65, "1"), Kind::TooDeep)?;
+    sized_made(&rt, long(alloc, "", "a: ", 64, "1"), 129)?;
+    refused_made(&rt, long(alloc, "", "a: ", 65, "1"), Kind::TooDeep)?;
     sized_made(&rt, chain(alloc, 62, false, "x: #A62\n"), 192)?;
     refused_made(&rt, chain(alloc, 63, false, "x: #A63\n"), Kind::TooDeep)?;
     Ok(())
@@ -58,8 +60,8 @@ fn is_too_deep(alloc: Global, text: Made<String>) -> Made<bool> {
 /// So many labels and what follows give this size, and one label more is too deep.
 fn longest(alloc: Global, (label, last): (&str, &str), count: u8, wanted: u64) -> Made<bool> {
     let count = usize::from(count);
-    let legal = repeated(alloc, label, count, last);
-    let deeper = repeated(alloc, label, count + 1, last);
+    let legal = long(alloc, "", label, count, last);
+    let deeper = long(alloc, "", label, count + 1, last);
     Ok(has_size(alloc, legal, wanted)? && is_too_deep(alloc, deeper)?)
 }
 
@@ -95,7 +97,7 @@ fn definitions_that_nothing_reaches(rt: HostRuntime) -> Result<(), Fail> {
 
 /// `1 | 1 | 1` and so on, of 65,533 terms.
 fn wide(alloc: Global) -> Made<String> {
-    repeated(alloc, "1 | ", 65_532, "1")
+    long(alloc, "", "1 | ", 65_532, "1")
 }
 
 #[test]
