@@ -1,9 +1,9 @@
 #!/bin/bash
 # How many instructions it takes to list the conflicts of a table, its gaps, and to export it, in millions: tables of
 # 30,000, 60,000 and 120,000 fields with an integer each, at the top (wide) or under a parent 61 levels down (deep), with
-# as many gaps as fields (open) or as many conflicts (clashing). The making of the table is taken off, and what is listed
-# is dropped again. The last column is the exponent of growth from the first size to the last: 1.00 is linear. The script
-# ends with 1 where one is above 1.15. It takes some minutes.
+# as many gaps as fields (open) or as many conflicts (clashing). What is counted is the second of two rounds, so that the
+# making of the table is taken off; what is listed is dropped again. The last column is the exponent of growth from the
+# first size to the last: 1.00 is linear. The script ends with 1 where one is above 1.15. It takes some minutes.
 # Usage, at the top of the repository: bench/report.sh [PROGRAM], where PROGRAM is what `rt run` makes of bench.
 # It wants valgrind.
 set -eu
@@ -14,10 +14,10 @@ part=tables
 worst=0
 # a line: WORK SHAPE
 measure() {
-    local costs= count making growth
+    local costs= count first growth
     for count in 30000 60000 120000; do
-        making=$(instructions copy "$2" "$count" 0)
-        costs="$costs $(($(instructions "$1" "$2" "$count" 1) - making))"
+        first=$(instructions "$1" "$2" "$count" 1)
+        costs="$costs $(($(instructions "$1" "$2" "$count" 2) - first))"
     done
     set -- "$1" "$2" $costs
     growth=$(growth_of "$3" "$5")
