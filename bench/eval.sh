@@ -12,7 +12,6 @@ program=${1:-$(built bench)}
 part=eval
 text=$(mktemp)
 trap "rm -f '$text'" EXIT
-counted() { counted_on_text "$@"; }
 shift $(($# > 0))
 wanted=" $* "
 

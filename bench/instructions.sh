@@ -15,31 +15,21 @@ instructions() {
         awk '/Collected/ { print $4 }'
 }
 
-# the instructions of so many rounds on a shape: SHAPE COUNT ROUNDS
-counted() {
-    instructions "$@"
-}
-
 # writes the text of a shape to $text: SHAPE COUNT
 write_text() {
     awk -v part="$part" -v shape="$1" -v count="$2" -f bench/texts.awk > "$text"
 }
 
-# the instructions of so many rounds on the text of a shape: SHAPE COUNT ROUNDS
-counted_on_text() {
-    write_text "$1" "$2"
-    instructions "$text" "$3"
-}
-
-# What a shape costs at three sizes, of which the last is four times the first: SHAPE COUNT COUNT COUNT. It leaves the
-# counts and costs in turn in `row`, the exponent in `growth`, and 1 in `worst` where that is steep.
+# What a round on the text of a shape costs at three sizes, of which the last is four times the first: SHAPE COUNT COUNT
+# COUNT. It leaves the counts and costs in turn in `row`, the exponent in `growth`, and 1 in `worst` where that is steep.
 measure_growth() {
     local shape=$1 count making
     row=
     shift
     for count in "$@"; do
-        making=$(counted "$shape" "$count" 0)
-        row="$row $count $(($(counted "$shape" "$count" 1) - making))"
+        write_text "$shape" "$count"
+        making=$(instructions "$text" 0)
+        row="$row $count $(($(instructions "$text" 1) - making))"
     done
     set -- $row
     growth=$(growth_of "$2" "$6")

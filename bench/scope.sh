@@ -14,7 +14,6 @@ program=${1:-$(built bench)}
 part=scope
 text=$(mktemp)
 trap "rm -f '$text'" EXIT
-counted() { counted_on_text "$@"; }
 
 worst=0
 # a line: SHAPE COUNT COUNT COUNT, where the last count is four times the first
@@ -35,7 +34,10 @@ measure uses 5000 10000 20000
 measure nested 125 250 500
 
 printf 'reached, to the 13th, the 14th and the 17th: '
-(for count in 13 14 17; do write_text reached "$count" && "$program" "$part" "$text" 1; done) | paste -s -d '|' | sed 's/|/, /g'
+(for count in 13 14 17; do
+    write_text reached "$count"
+    "$program" "$part" "$text" 1
+done) | paste -s -d '|' | sed 's/|/, /g'
 printf 'the longest chain: '
 write_text chain 74897
 (ulimit -s 8192 && "$program" "$part" "$text" 1) || worst=1
