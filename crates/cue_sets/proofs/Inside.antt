@@ -4,6 +4,7 @@ use Rattle.std.proofs.lemmas.Bool.{false≢true}
 use Rattle.std.proofs.lemmas.Int.{ints, by_lt_z}
 use Rattle.cue_sets.specs.Pieces.{is_member, least, greatest, IsCanonical}
 use Rattle.cue_sets.specs.PieceLaws.{is_member-below, is_member-above}
+use Rattle.cue_sets.proofs.Steps.{IsStep, le_le}
 use Rattle.cue_sets.proofs.Swept.{IsAhead, IsAhead-none, by_place}
 
 -- each member of the left set below `from` is one of the right set
@@ -36,15 +37,18 @@ both false b h = absurd (false≢true h)
 
 -- one step: up to `last` both sets go on as they are at `from`
 pub AreInside-more :
-    (left right : List (ℤ × ℤ)) (from : ℤ) (on_left on_right : List (ℤ × ℤ)) (last : ℤ) (in_left in_right : Bool)
-    → IsInside left right from on_left on_right → from ≤ℤ last
-    → ((n : ℤ) → from ≤ℤ n → n ≤ℤ last → is_member on_left n ≡ in_left)
-    → ((n : ℤ) → from ≤ℤ n → n ≤ℤ last → is_member on_right n ≡ in_right)
-    → (in_left && not in_right) ≡ false → AreInside left right (last +ℤ pos 1)
-AreInside-more left right from on_left on_right last in_left in_right s h l r e n below m =
+    (left right : List (ℤ × ℤ)) (from : ℤ) (on_left on_right : List (ℤ × ℤ)) (left_last right_last last : ℤ) (in_left in_right : Bool) (next : ℤ)
+    → IsInside left right from on_left on_right → IsStep from left_last right_last last
+    → ((n : ℤ) → from ≤ℤ n → n ≤ℤ left_last → is_member on_left n ≡ in_left)
+    → ((n : ℤ) → from ≤ℤ n → n ≤ℤ right_last → is_member on_right n ≡ in_right)
+    → (in_left && not in_right) ≡ false → next ≡ last +ℤ pos 1 → AreInside left right next
+AreInside-more left right from on_left on_right left_last right_last last in_left in_right next s step l r none e n below m =
     by_place _ from last n
     (λ k. s.inside n k m)
-    (λ low high. sym (s.ahead_right.members n low) ∙ r n low high ∙ implied in_left in_right e (sym (l n low high) ∙ s.ahead_left.members n low ∙ m))
+    (λ low high.
+    let to_left = le_le n last left_last high step.to_left in
+    let to_right = le_le n last right_last high step.to_right in
+    sym (s.ahead_right.members n low) ∙ r n low to_right ∙ implied in_left in_right none (sym (l n low to_left) ∙ s.ahead_left.members n low ∙ m))
     (λ above. absurd (omega (arith, ints)))
 
 -- all is swept

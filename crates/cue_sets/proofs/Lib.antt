@@ -1,3 +1,4 @@
+pub mod Ahead
 pub mod Beside
 pub mod Inside
 pub mod Merged
@@ -5,6 +6,7 @@ pub mod Neighbours
 pub mod OnePiece
 pub mod PieceTests
 pub mod Search
+pub mod Steps
 pub mod Swept
 pub mod TextSearch
 pub mod Within

@@ -1,8 +1,9 @@
 -- Sets of one piece: what two of them have in common, and when one lies within the other.
-use Rattle.std.proofs.Common.{◌≡◌, ◌↔◌, true, false, ◌&&◌, IsTrue, List, [], ◌∷◌, ℤ, ◌≤ℤ◌, ◌<ℤ◌, refl, sym, subst, ◌∙◌, arith}
-use Rattle.std.specs.Prelude.{int_le}
+use Rattle.std.proofs.Common.{◌≡◌, ◌↔◌, Bool, true, false, cond, ◌&&◌, IsTrue, List, [], ◌∷◌, ℤ, ◌≤ℤ◌, ◌<ℤ◌, SFits, to_z, of_z, w64, refl, sym, subst, ◌∙◌, arith}
+use Rattle.std.specs.Prelude.{int_le, int_lt}
+use Rattle.std.specs.Int.{int_max, int_min}
 use Rattle.std.proofs.lemmas.Bool.{and_left, and_right, false≢true}
-use Rattle.std.proofs.lemmas.Int.{ints, by_lt_z}
+use Rattle.std.proofs.lemmas.Int.{ints, clamps, by_lt_z, to_z-of_z}
 use Rattle.cue_sets.specs.Pieces.{is_member, IsCanonical}
 use Rattle.cue_sets.specs.PieceLaws.{le_true, le_false, is_within-below, is_within-above, is_within-inside}
 
@@ -37,6 +38,57 @@ common_piece a b first last la lb least ha hb greatest n =
 pub none_between : (first last : ℤ) → last <ℤ first → (n : ℤ) → false ≡ is_member ((first, last) ∷ []) n
 none_between first last h n =
     by_lt_z n first (λ k. sym (below (first, last) n k)) (λ k. sym (above (first, last) n (omega (arith, ints))))
+
+-- what holds of two numbers holds of the one that is chosen
+one_of : (P : ℤ → Type 0) (t : Bool) (x y : ℤ) → P x → P y → P (cond t x y)
+one_of P true x y p q = p
+one_of P false x y p q = q
+
+max_bounds : (x y : ℤ) → (x ≤ℤ int_max x y) × (y ≤ℤ int_max x y)
+max_bounds x y = (omega (arith, ints, clamps), omega (arith, ints, clamps))
+
+min_bounds : (x y : ℤ) → (int_min x y ≤ℤ x) × (int_min x y ≤ℤ y)
+min_bounds x y = (omega (arith, ints, clamps), omega (arith, ints, clamps))
+
+-- from the later of their first numbers to the earlier of their last ones
+common_between : (a b : ℤ × ℤ) (n : ℤ) → is_member ((int_max a.0 b.0, int_min a.1 b.1) ∷ []) n ≡ (is_member (a ∷ []) n && is_member (b ∷ []) n)
+common_between a b =
+    let low = max_bounds a.0 b.0 in
+    let high = min_bounds a.1 b.1 in
+    common_piece a b (int_max a.0 b.0) (int_min a.1 b.1)
+    low.0 low.1 (λ n h k. one_of (λ m. m ≤ℤ n) (int_lt b.0 a.0) a.0 b.0 h k)
+    high.0 high.1 (λ n h k. one_of (λ m. n ≤ℤ m) (int_lt b.1 a.1) b.1 a.1 k h)
+
+-- a number, as the code passes it on
+abbrev pub passed : ℤ → ℤ
+passed n = to_z w64 (of_z w64 n)
+
+abbrev pub EndsFit : ℤ × ℤ → Type 0
+EndsFit piece = SFits w64 piece.0 × SFits w64 piece.1
+
+-- the same of the ends that the code takes
+pub common_ends :
+    (a b : ℤ × ℤ) (first last : ℤ) → EndsFit a → EndsFit b → EndsFit (first, last)
+    → first ≡ int_max (passed a.0) (passed b.0) → last ≡ int_min (passed a.1) (passed b.1)
+    → (n : ℤ) → is_member ((passed first, passed last) ∷ []) n ≡ (is_member (a ∷ []) n && is_member (b ∷ []) n)
+common_ends a b first last f g h d e n =
+    rw (to_z-of_z w64 first h.0, to_z-of_z w64 last h.1, d, e, to_z-of_z w64 a.0 f.0, to_z-of_z w64 a.1 f.1, to_z-of_z w64 b.0 g.0, to_z-of_z w64 b.1 g.1)
+    (common_between a b n)
+
+is_less : {x y : ℤ} → int_lt x y ≡ true → x <ℤ y
+is_less h = omega (arith, ints)
+
+-- where they end before they begin
+pub no_common_ends :
+    (a b : ℤ × ℤ) (first last : ℤ) → EndsFit a → EndsFit b → EndsFit (first, last)
+    → first ≡ int_max (passed a.0) (passed b.0) → last ≡ int_min (passed a.1) (passed b.1) → int_lt (passed last) (passed first) ≡ true
+    → (n : ℤ) → false ≡ (is_member (a ∷ []) n && is_member (b ∷ []) n)
+no_common_ends a b first last f g k d e h n =
+    none_between (passed first) (passed last) (is_less h) n ∙ common_ends a b first last f g k d e n
+
+-- a piece that does not end before it begins
+pub canonical_piece : (first last : ℤ) → SFits w64 first → SFits w64 last → int_lt (passed last) (passed first) ≡ false → IsCanonical ((passed first, passed last) ∷ [])
+canonical_piece first last f g h = (omega (arith, ints), omega (arith, ints), omega (arith, ints), tt)
 
 -- one piece lies within another that begins no later and ends no earlier
 pub within_one :

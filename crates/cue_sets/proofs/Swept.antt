@@ -9,6 +9,7 @@ use Rattle.cue_sets.specs.Combination.{keeps}
 use Rattle.cue_sets.specs.Sweep.{EndsFrom, opened, closed}
 use Rattle.cue_sets.specs.declared.combination.Combination.{Combination}
 use Rattle.cue_sets.specs.declared.combination.Combination.TheVariants.{Meet, Union, Without}
+use Rattle.cue_sets.proofs.Steps.{IsStep, to_greatest, le_le}
 use Rattle.cue_sets.specs.PieceLaws.{lt_true, lt_false, le_true, le_false, is_member-append, AscendsFrom-lower, is_member-below, is_member-above}
 
 -- whether the piece that is being made has n
@@ -151,10 +152,17 @@ IsCombined-none how left right l r = record {
 }
 
 -- one step: up to `last` both sets go on as they are at `from`
-pub IsSwept-both : (how : Combination) (left right made : List (ℤ × ℤ)) (begun : Option ℤ) (from : ℤ) (on_left on_right : List (ℤ × ℤ)) (last : ℤ) (in_left in_right kept : Bool) (made' : List (ℤ × ℤ)) (begun' : Option ℤ) (next : ℤ) → IsCombined how left right made begun from on_left on_right → from ≤ℤ last → last ≤ℤ greatest → ((n : ℤ) → from ≤ℤ n → n ≤ℤ last → is_member on_left n ≡ in_left) → ((n : ℤ) → from ≤ℤ n → n ≤ℤ last → is_member on_right n ≡ in_right) → kept ≡ keeps how in_left in_right → begun' ≡ opened begun from kept → made' ≡ made ++ closed begun from kept → next ≡ last +ℤ pos 1 → IsSwept made' begun' next (wanted_of how left right)
-IsSwept-both how left right made begun from on_left on_right last in_left in_right kept made' begun' next s h top l r k b m e =
-    rw (m, b, e) (IsSwept-more made begun from last kept (wanted_of how left right) h top s.swept
-    (λ n low high. rw (← s.ahead_left.members n low, ← s.ahead_right.members n low, l n low high, r n low high) (sym k)))
+pub IsSwept-both :
+    (how : Combination) (left right made : List (ℤ × ℤ)) (begun : Option ℤ) (from : ℤ) (on_left on_right : List (ℤ × ℤ)) (left_last right_last last : ℤ)
+    (in_left in_right kept : Bool) (made' : List (ℤ × ℤ)) (begun' : Option ℤ) (next : ℤ)
+    → IsCombined how left right made begun from on_left on_right → IsStep from left_last right_last last
+    → ((n : ℤ) → from ≤ℤ n → n ≤ℤ left_last → is_member on_left n ≡ in_left)
+    → ((n : ℤ) → from ≤ℤ n → n ≤ℤ right_last → is_member on_right n ≡ in_right)
+    → kept ≡ keeps how in_left in_right → begun' ≡ opened begun from kept → made' ≡ made ++ closed begun from kept → next ≡ last +ℤ pos 1
+    → IsSwept made' begun' next (wanted_of how left right)
+IsSwept-both how left right made begun from on_left on_right left_last right_last last in_left in_right kept made' begun' next s step l r k b m e =
+    rw (m, b, e) (IsSwept-more made begun from last kept (wanted_of how left right) step.forward (to_greatest last step.fits) s.swept
+    (λ n low high. rw (← s.ahead_left.members n low, ← s.ahead_right.members n low, l n low (le_le n last left_last high step.to_left), r n low (le_le n last right_last high step.to_right)) (sym k)))
 
 -- pieces that have from a later number on what those ahead have are ahead from there
 pub IsAhead-more : (from next : ℤ) (pieces rest later : List (ℤ × ℤ)) → from ≤ℤ next → IsAhead from pieces rest → IsCanonical later → EndsFrom next later → ((n : ℤ) → next ≤ℤ n → is_member later n ≡ is_member rest n) → IsAhead next pieces later
