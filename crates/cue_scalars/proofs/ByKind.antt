@@ -4,8 +4,9 @@ use Rattle.std.specs.Prelude.{IfNone}
 use Rattle.std.proofs.lemmas.Bool.{false≢true}
 use Rattle.cue_lattice.specs.declared.scalar.Scalar.{Scalar}
 use Rattle.cue_lattice.specs.declared.scalar.Scalar.TheVariants as scalars
-use Rattle.cue_sets.specs.Pieces.{is_member, Refuses, IsOnlyMember}
+use Rattle.cue_sets.specs.Pieces.{is_member, IsCanonical, Refuses, IsOnlyMember}
 use Rattle.cue_sets.specs.Texts.{is_text_member, RefusesText, IsOnlyText}
+use Rattle.cue_sets.specs.PieceLaws.{some_member}
 use Rattle.cue_sets.specs.TextLaws.{some_text, first_is_listed, is_listed-zeros, greatest_length, zeros}
 use Rattle.cue_scalars.specs.Scalars.{members, kind, only_of, RefusesScalar, IsOnlyScalar}
 use Rattle.cue_scalars.specs.declared.scalar_set.ScalarSet.{ScalarSet}
@@ -32,6 +33,24 @@ some_plain set e = cases set.null set.no set.yes refl refl refl e where
 pub two_kinds : (set : ScalarSet) (a b : Scalar) → members set a ≡ true → members set b ≡ true → kind a < kind b → (s : Scalar) → IsOnlyScalar set s → ⊥
 two_kinds set a b p q l s o = let e = ap kind (o.only a p ∙ sym (o.only b q)) in omega (arith, e)
 
+-- null or a truth value beside an integer
+pub plain_and_int : (set : ScalarSet) → IsCanonical set.ints → has_plain set ≡ true → (set.ints ≡ [] → ⊥) → (s : Scalar) → IsOnlyScalar set s → ⊥
+plain_and_int set known e i =
+    let w = some_plain set e in let n = some_member set.ints known i in
+    two_kinds set w.0 (scalars.Int n.0) w.2 n.1 (omega (arith, w.1))
+
+-- null or a truth value beside a text
+pub plain_and_text : (set : ScalarSet) → has_plain set ≡ true → (set.texts ≡ (false, []) → ⊥) → (s : Scalar) → IsOnlyScalar set s → ⊥
+plain_and_text set e f =
+    let w = some_plain set e in let t = some_text set.texts f in
+    two_kinds set w.0 (scalars.Text t.0) w.2 t.1 (omega (arith, w.1))
+
+-- an integer beside a text
+pub int_and_text : (set : ScalarSet) → IsCanonical set.ints → (set.ints ≡ [] → ⊥) → (set.texts ≡ (false, []) → ⊥) → (s : Scalar) → IsOnlyScalar set s → ⊥
+int_and_text set known i f =
+    let n = some_member set.ints known i in let t = some_text set.texts f in
+    two_kinds set (scalars.Int n.0) (scalars.Text t.0) n.1 t.1 (omega arith)
+
 no_plain : (set : ScalarSet) → has_plain set ≡ false → (set.null ≡ false) × (set.no ≡ false) × (set.yes ≡ false)
 no_plain set e = parts set.null set.no set.yes e
 
@@ -41,7 +60,7 @@ no_int set e n = ap (λ pieces. is_member pieces n) e
 no_text : (set : ScalarSet) → set.texts ≡ (false, []) → (t : List ℕ) → members set (scalars.Text t) ≡ false
 no_text set e t = ap (λ texts. is_text_member texts t) e
 
-clash : (b : Bool) → b ≡ true → b ≡ false → ⊥
+pub clash : (b : Bool) → b ≡ true → b ≡ false → ⊥
 clash b p q = false≢true (sym q ∙ p)
 
 -- the only scalar is a text, where nothing but texts is a member

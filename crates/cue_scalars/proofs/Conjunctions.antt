@@ -83,11 +83,16 @@ all_of-append xs ys =
     λ i. record { value = value i; usual = usual i }
 
 -- the unification of one value is that value
-pub all_of-one : (pair : Pair) → all_of (pair ∷ []) ≡ pair
+all_of-one : (pair : Pair) → all_of (pair ∷ []) ≡ pair
 all_of-one pair =
     let value = fun_ext (λ x. and_true (pair.value x)) in
     let usual = one_default pair.usual pair.value in
     λ i. record { value = value i; usual = usual i }
+
+-- the next value of a list, alone
+pub all_of-next : (count : ℕ) (value : Valued) (values rest : List Valued) → count ≡ 1 → values ≡ value ∷ rest → pair_of value ≡ all_of (map pair_of (take count values))
+all_of-next count value values rest one is =
+    sym (ap (λ n. all_of (map pair_of (take n values))) one ∙ ap (λ vs. all_of (map pair_of (take 1 vs))) is ∙ all_of-one (pair_of value))
 
 -- the next values of a list, in two parts
 pub all_of-more :
@@ -110,11 +115,6 @@ is_some_members (Some set) = refl
 brought_members : (usual : Option ScalarSet) (value : ScalarSet) → unwrap_or (option_map members usual) (members value) ≡ members (unwrap_or usual value)
 brought_members None value = refl
 brought_members (Some set) value = refl
-
--- the second of two has a default
-pub other_given : (left right : Bool) → right ≡ true → (left || right) ≡ true
-other_given true right e = refl
-other_given false right e = e
 
 -- what two values bring lies within them
 brought_within : (usual : Option ScalarSet) (value : ScalarSet) → ForSome usual (λ default. IsWithin default value) → IsWithin (unwrap_or usual value) value

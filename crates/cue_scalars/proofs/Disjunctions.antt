@@ -32,11 +32,18 @@ united-one None = refl
 united-one (Some set) = ap Some (fun_ext (λ s. or_false (set s)))
 
 -- the disjunction of one term is what that term brings
-pub sum_of-one : (marked : Bool) (term : Bool × Pair) → sum_of marked (term ∷ []) ≡ term_of marked term
+sum_of-one : (marked : Bool) (term : Bool × Pair) → sum_of marked (term ∷ []) ≡ term_of marked term
 sum_of-one marked term =
     let value = fun_ext (λ s. or_false (term.1.value s)) in
     let usual = united-one (default_of marked term) in
     λ i. record { value = value i; usual = usual i }
+
+-- the next term of a list, alone
+pub sum_of-next :
+    (marked : Bool) (count : ℕ) (term : Bool × Valued) (terms rest : List (Bool × Valued)) → count ≡ 1 → terms ≡ term ∷ rest
+    → term_of marked (term.0, pair_of term.1) ≡ sum_of marked (terms_of (take count terms))
+sum_of-next marked count term terms rest one is =
+    sym (ap (λ n. sum_of marked (terms_of (take n terms))) one ∙ ap (λ ts. sum_of marked (terms_of (take 1 ts))) is ∙ sum_of-one marked (term.0, pair_of term.1))
 
 -- the next terms of a list, in two parts
 pub sum_of-more :

@@ -1,5 +1,5 @@
 ghost use Rattle.std.specs.Prelude.{◌≡◌, ◌<◌, ◌≤◌, Bool, [], drop, length, map, take, IfOk, OnOk};
-ghost use Rattle.std.specs.Prelude.{IsSome, is_some, unwrap_or};
+ghost use Rattle.std.specs.Prelude.{◌||◌, true, false, IsSome, is_some, unwrap_or};
 ghost use Rattle.std.specs.List.{list_any};
 ghost use Rattle.std.specs.Option.{ForSome};
 ghost use Rattle.std.specs.Result.{IsOk};
@@ -29,15 +29,9 @@ impl Valued {
         ensures { IfOk result (λ met. pair_of met ≡ both (pair_of self) (pair_of other)) }
     {
         if !self.has_default() && !other.has_default() {
-            let value = self.value.into_meet(alloc, other.value)?;
-            return Ok(Valued { value, usual: None });
+            return self.and_plain(alloc, other);
         }
-        let (left, left_usual) = self.settle(alloc)?;
-        let (right, right_usual) = other.settle(alloc)?;
-        Ok(Valued {
-            value: left.into_meet(alloc, right)?,
-            usual: Some(left_usual.into_meet(alloc, right_usual)?),
-        })
+        self.and_usual(alloc, other)
     }
 
     /// The unification of one or more. They are taken over, and unified by halves, so that many are unified in balance.
@@ -99,6 +93,33 @@ impl Valued {
         ensures { result ≡ is_some self.now.usual }
     {
         self.usual.is_some()
+    }
+
+    /// The unification where neither value has a default.
+    fn and_plain(self, alloc: Global, other: Valued) -> Result<Valued, Memory>
+        requires left { is_some self.usual ≡ false }
+        requires right { is_some other.usual ≡ false }
+        ensures { IfOk result (λ met. pair_of met ≡ both (pair_of self) (pair_of other)) }
+    {
+        Ok(Valued {
+            value: self.value.into_meet(alloc, other.value)?,
+            usual: None,
+        })
+    }
+
+    /// The unification where a value has a default.
+    fn and_usual(self, alloc: Global, other: Valued) -> Result<Valued, Memory>
+        requires { (is_some self.usual || is_some other.usual) ≡ true }
+        ensures { IfOk result (λ met. pair_of met ≡ both (pair_of self) (pair_of other)) }
+    {
+        let (left, left_usual) = self.settle(alloc)?;
+        let (right, right_usual) = other.settle(alloc)?;
+        let value = left.into_meet(alloc, right)?;
+        let usual = left_usual.into_meet(alloc, right_usual)?;
+        Ok(Valued {
+            value,
+            usual: Some(usual),
+        })
     }
 
     /// The unification of the next values of a list.

@@ -1,26 +1,17 @@
-use Rattle.std.proofs.Common.{◌≡◌, [], false, sym, subst, ◌∙◌, arith}
+use Rattle.std.proofs.Common.{◌≡◌, [], false, sym, subst, ◌∙◌}
 use Rattle.std.specs.Prelude.{IfNone}
 use Rattle.cue_lattice.specs.declared.scalar.Scalar.{Scalar}
-use Rattle.cue_lattice.specs.declared.scalar.Scalar.TheVariants as scalars
-use Rattle.cue_sets.specs.PieceLaws.{some_member}
-use Rattle.cue_sets.specs.TextLaws.{some_text}
 use Rattle.cue_scalars.specs.Scalars.{IsOnlyScalar}
-use Rattle.cue_scalars.proofs.ByKind.{has_plain, some_plain, two_kinds, only_text, only_int, no_only_plain}
+use Rattle.cue_scalars.proofs.ByKind.{has_plain, clash, plain_and_int, plain_and_text, int_and_text, only_text, only_int, no_only_plain}
 use Rattle.cue_scalars.proofs.scalar_set.ScalarSet.single.Goals as goal
 
 pub returns-then-has_plain-clause-none : goal.returns-then-has_plain-clause-none
 returns-then-has_plain-clause-none c =
-    let set = c.args.self.now in
-    let p = some_plain set (sym c.has_plain.ensures ∙ c.if-has_plain.true) in
-    let t = some_text set.texts (λ e. let t = c.is_empty.ensures.1 e in cc (t, c.if-not-is_empty.true)) in
-    two_kinds set p.0 (scalars.Text t.0) p.2 t.1 (omega (arith, p.1))
+    plain_and_text c.args.self.now (sym c.has_plain.ensures ∙ c.if-has_plain.true) (λ e. clash _ (c.is_empty.ensures.1 e) c.if-not-is_empty.true)
 
 pub returns-then-not-is_empty-2-clause-none : goal.returns-then-not-is_empty-2-clause-none
 returns-then-not-is_empty-2-clause-none c =
-    let set = c.args.self.now in
-    let n = some_member set.ints c.known.ensures (λ e. let t = c.is_empty-then-not-is_empty.ensures.1 e in cc (t, c.if-not-is_empty-2.true)) in
-    let t = some_text set.texts (λ e. let t = c.is_empty.ensures.1 e in cc (t, c.if-not-is_empty.true)) in
-    two_kinds set (scalars.Int n.0) (scalars.Text t.0) n.1 t.1 (omega arith)
+    int_and_text c.args.self.now c.known.ensures (λ e. clash _ (c.is_empty-then-not-is_empty.ensures.1 e) c.if-not-is_empty-2.true) (λ e. clash _ (c.is_empty.ensures.1 e) c.if-not-is_empty.true)
 
 pub returns-in-None-clause-none : goal.returns-in-None-clause-none
 returns-in-None-clause-none c =
@@ -31,10 +22,7 @@ returns-in-None-clause-none c =
 
 pub returns-then-has_plain-2-clause-none : goal.returns-then-has_plain-2-clause-none
 returns-then-has_plain-2-clause-none c =
-    let set = c.args.self.now in
-    let p = some_plain set (sym c.has_plain-then-not-is_empty-3.ensures ∙ c.if-has_plain-2.true) in
-    let n = some_member set.ints c.known.ensures (λ e. let t = c.is_empty-2.ensures.1 e in cc (t, c.if-not-is_empty-3.true)) in
-    two_kinds set p.0 (scalars.Int n.0) p.2 n.1 (omega (arith, p.1))
+    plain_and_int c.args.self.now c.known.ensures (sym c.has_plain-then-not-is_empty-3.ensures ∙ c.if-has_plain-2.true) (λ e. clash _ (c.is_empty-2.ensures.1 e) c.if-not-is_empty-3.true)
 
 pub returns-in-None-single-clause-none : goal.returns-in-None-single-clause-none
 returns-in-None-single-clause-none c =
