@@ -34,6 +34,16 @@ pub fn lex<'a>(alloc: Global, text: &'a str) -> Result<Vec<Token<'a>>, Refusal>
     if text.len() > TEXT_LIMIT {
         return Err(Refusal::at(Kind::TooLong, TEXT_LIMIT));
     }
+    tokens_of(alloc, text)
+}
+
+/// The tokens of a text that is not too long.
+#[tactic(auto, unfolding(crate::specs::Tokens::tokens))]
+fn tokens_of<'a>(alloc: Global, text: &'a str) -> Result<Vec<Token<'a>>, Refusal>
+    requires { length text.now ≤ text_limit }
+    ensures found { IfOk result (λ all. tokens text.now ≡ Ok all.items) }
+    ensures refused { IfErr result (λ refusal. refusal ≢ memory → tokens text.now ≡ Err refusal) }
+{
     let mut tokens = Vec::new(alloc);
     let mut before = Before {
         is_minus: false,

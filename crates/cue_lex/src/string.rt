@@ -5,7 +5,7 @@ ghost use Rattle.std.specs.List.{prefix_len};
 ghost use Rattle.std.specs.Str.{IsCharBoundary};
 ghost use Rattle.cue_lattice.specs.Limits.{word_limit};
 ghost use Rattle.cue_lattice.specs.Refusal.{memory};
-ghost use Rattle.cue_lex.specs.Strings.{bad_string, body, with_front, escape, short_escape};
+ghost use Rattle.cue_lex.specs.Strings.{bad_string, body, with_front, escape, short_escape, pair};
 ghost use Rattle.cue_lex.specs.Strings.{simple_escape, eight_digits, four_digits, hexadecimal};
 ghost use Rattle.cue_lex.specs.Strings.{is_plain};
 ghost use Rattle.cue_lex.specs.Lexemes.{Gives, string, kept, EndsAscii, len_of};
@@ -191,19 +191,25 @@ fn short_escape(digits: &[u8]) -> Option<(char, usize)>
     if unit < 0xD800 || unit > 0xDBFF {
         return Some((char::from_u32(unit)?, 5));
     }
-    match &digits[4..] {
-        [b'\\', b'u', more @ ..] => {
-            let low = four_digits(more)?;
-            if low < 0xDC00 || low > 0xDFFF {
-                return None;
-            }
-            Some((
-                char::from_u32((unit - 0xD800) * 0x400 + (low - 0xDC00) + 0x1_0000)?,
-                11,
-            ))
-        }
-        _ => None,
+    pair(unit, &digits[4..])
+}
+
+/// The character of a high surrogate and of the low one whose escape is at the front.
+fn pair(high: u32, bytes: &[u8]) -> Option<(char, usize)>
+    requires at_least { 0xD800 ≤ high }
+    requires at_most { high ≤ 0xDBFF }
+    ensures value { result ≡ pair high bytes.now }
+    ensures ends { IfSome result (λ found. EndsAscii bytes.now 6 × (found.1 ≡ 11)) }
+{
+    let [b'\\', b'u', digits @ ..] = bytes else {
+        return None;
+    };
+    let low = four_digits(digits)?;
+    if low < 0xDC00 || low > 0xDFFF {
+        return None;
     }
+    let c = char::from_u32((high - 0xD800) * 0x400 + (low - 0xDC00) + 0x1_0000)?;
+    Some((c, 11))
 }
 
 /// The number that eight hexadecimal digits at the front spell.

@@ -2,7 +2,7 @@ use Rattle.std.proofs.Common.{length}
 use denote.Text.{Utf8}
 use denote.Shadow.{shadow}
 use Rattle.cue_lex.proofs.Lexing.{LexedSoFar}
-use Rattle.cue_lex.proofs.lexer.lex.Given as goal
+use Rattle.cue_lex.proofs.lexer.tokens_of.Given as goal
 
 -- the rest is text, and what stands before it was lexed
 abbrev pub invariant-loop-rest : goal.invariant-loop-rest

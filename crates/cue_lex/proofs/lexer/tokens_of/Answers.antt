@@ -1,7 +1,7 @@
 use Rattle.std.proofs.Common.{◌+◌, drop, sym, subst, ◌∙◌, arith, false-eqb}
 use Rattle.std.proofs.lemmas.Result.{err_from_is_err_and}
 use Rattle.cue_lex.proofs.Lexing.{LexedSoFar, lexing_next, lexing_fails, tokens-short}
-use Rattle.cue_lex.proofs.lexer.lex.Goals as goal
+use Rattle.cue_lex.proofs.lexer.tokens_of.Goals as goal
 
 pub returns-in_err-found-clause-refused : goal.returns-in_err-found-clause-refused
 returns-in_err-found-clause-refused c =
