@@ -108,28 +108,27 @@ fn the_longest_disjunction(rt: HostRuntime) -> Result<(), Fail> {
     refused_made(&rt, wider, Kind::TooLarge)
 }
 
-/// Asserts which declarations and definitions are kept, and in which order they are placed.
-fn assert_definitions(rt: &impl Abort, resolved: &Resolved) {
-    assert_eq!(rt; resolved.order(), &[2, 0][..]);
-    assert_eq!(rt; resolved.declarations().len(), 4);
-    assert_eq!(rt; resolved.definitions().number("#B"), Some(2));
+/// Whether these are the declarations and definitions that are kept, in the order in which they
+/// are placed.
+fn keeps_definitions(resolved: &Resolved) -> bool {
+    resolved.order() == [2, 0].as_slice()
+        && resolved.declarations().len() == 4
+        && resolved.definitions().number("#B") == Some(2)
 }
 
-/// Asserts what is kept of each definition.
-fn assert_uses(rt: &impl Abort, resolved: &Resolved) {
-    assert_eq!(rt; resolved.definitions().all().len(), 3);
+/// Whether this is kept of each definition.
+fn keeps_uses(resolved: &Resolved) -> bool {
+    if resolved.definitions().all().len() != 3 {
+        return false;
+    }
     let counts = [resolved.count(0), resolved.count(1), resolved.count(2)];
-    assert_eq!(rt; counts, [1, 0, 2]);
-    assert!(rt; resolved.is_scalar(0) && resolved.is_scalar(2));
+    counts == [1, 0, 2] && resolved.is_scalar(0) && resolved.is_scalar(2)
 }
 
 /// Asserts what is kept of the text that has these declarations.
 fn kept(rt: &impl Abort, alloc: Global, file: &File) {
     match resolve(alloc, file) {
-        Ok(resolved) => {
-            assert_definitions(rt, &resolved);
-            assert_uses(rt, &resolved);
-        }
+        Ok(resolved) => assert!(rt; keeps_definitions(&resolved) && keeps_uses(&resolved)),
         Err(_) => panic!(rt; "refused"),
     }
 }
