@@ -1,7 +1,7 @@
 //! Lists after their counts, read from the front of the bytes. Room is made for what was read, never for what a count
 //! claims.
 
-ghost use Rattle.std.specs.Prelude.{◌≡◌, IfOk, IfErr};
+ghost use Rattle.std.specs.Prelude.{IfOk, IfErr};
 ghost use Rattle.std.specs.List.{flat_map};
 ghost use Rattle.cue_codec.specs.Parts.{counted_bytes, piece_bytes, text_bytes};
 ghost use Rattle.cue_codec.specs.Reading.{Begins, BeginsNone, IsRefused, AreSo, AreCounted};

@@ -1,6 +1,6 @@
 //! Paths, read from the front of the bytes.
 
-ghost use Rattle.std.specs.Prelude.{◌≡◌, map, IfOk, IfErr};
+ghost use Rattle.std.specs.Prelude.{map, IfOk, IfErr};
 ghost use Rattle.std.specs.List.{flat_map};
 ghost use Rattle.cue_row.specs.Steps.{step_of};
 ghost use Rattle.cue_codec.specs.Parts.{step_bytes, path_bytes};

@@ -1,6 +1,6 @@
 //! Rows, read one after another.
 
-ghost use Rattle.std.specs.Prelude.{◌≡◌, ◌↔◌, ◌++◌, [], IsTrue, IfOk, IfErr, OnErr};
+ghost use Rattle.std.specs.Prelude.{◌≡◌, ◌↔◌, [], IsTrue, IfOk, IfErr, OnErr};
 ghost use Rattle.cue_codec.specs.Reading.{Begins, BeginsNone, IsRefused};
 ghost use Rattle.cue_codec.specs.RowBytes.{row_bytes, IsStateRow};
 

@@ -2,7 +2,7 @@
 
 ghost use Rattle.std.specs.Prelude.{◌≡◌, IfOk, IfErr};
 ghost use Rattle.cue_codec.specs.Parts.{labels_bytes, lengths_bytes};
-ghost use Rattle.cue_codec.specs.Reading.{Begins, BeginsNone, IsRefused, AreWideLengths};
+ghost use Rattle.cue_codec.specs.Reading.{BeginsNone, IsRefused, AreWideLengths};
 ghost use Rattle.cue_codec.specs.StateRow.{AreStateLabels};
 ghost use Rattle.cue_codec.specs.RowBytes.{free, scalar, struct, list, nothing, scalars_bytes};
 ghost use Rattle.cue_codec.specs.RowBytes.{left_out_bytes, parts_bytes, is_empty_set, empty_set};

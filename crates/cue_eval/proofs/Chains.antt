@@ -1,11 +1,9 @@
 -- Tables behind chains of labels, each of which is in a struct of its own.
-use Rattle.std.proofs.Common.{◌≡◌, ◌↔◌, ◌⊎◌, ◌+◌, ◌*◌, ◌≤◌, ◌<◌, inl, inr, ⊎_elim, ℕ, zero, suc, List, [], ◌∷◌, ◌++◌, All, length, refl, sym, ap, subst, ◌∙◌, length-append, length-drop, take, drop, ◌-◌, get_or, Vec, Global, arith, Option, None, Result, Ok, Err}
+use Rattle.std.proofs.Common.{◌≡◌, ◌↔◌, ◌⊎◌, ◌≤◌, ◌<◌, inl, inr, ⊎_elim, ℕ, List, [], ◌∷◌, All, length, sym, ap, subst, ◌∙◌, length-drop, take, drop, ◌-◌, get_or, arith, Option, None, Result, Ok, Err}
 use Rattle.std.specs.Prelude.{IfOk}
 use Rattle.std.proofs.lemmas.List.{take_all}
 use Rattle.std.proofs.lemmas.List.Elements.{All-push}
-use Rattle.cue_lattice.specs.Limits.{size_limit, step_limit}
-use Rattle.cue_lattice.specs.OneOf.{OneOf}
-use Rattle.cue_lattice.proofs.OneOf.{one_of-push}
+use Rattle.cue_lattice.specs.Limits.{step_limit}
 use Rattle.cue_lattice.specs.Path as paths
 use Rattle.cue_lattice.specs.Path.{Path, label, index}
 use Rattle.cue_lattice.specs.Question.{Question, SameAnswers}
@@ -16,37 +14,21 @@ use Rattle.cue_row.specs.declared.step.Step.{Step}
 use Rattle.cue_row.specs.declared.step.Step.TheVariants as steps
 use Rattle.cue_table.specs.Depth.{tree_depth}
 use Rattle.cue_table.specs.Form.{IsTable}
-use Rattle.cue_table.specs.Many.{IsUnified}
 use Rattle.cue_table.specs.Tree.{Tree}
-use Rattle.cue_syntax.specs.declared.tree.Expr.{Expr}
-use Rattle.cue_syntax.specs.declared.tree.Declaration.{Declaration}
 use Rattle.cue_syntax.specs.declared.tree.Declaration.TheVariants as declarations
-use Rattle.cue_syntax.proofs.Views.{view-Field, view-Definition}
 use Rattle.cue_scope.proofs.Walking.{at_hand}
 use Rattle.cue_syntax.specs.declared.tree.Label.{Label}
-use Rattle.cue_syntax.specs.declared.tree.Mark.{Mark}
-use Rattle.cue_syntax.specs.Syntax.{Expression, Elements, Entry, Entries, no_entries, entry, ellipsis, field, definition, expression, elements, entries, entry_tree}
-use Rattle.cue_scope.specs.Core.{Core, conjunction, struct, Cores, core, no_cores, Members, member, no_members}
-use Rattle.cue_scope.specs.Definitions.{Definition}
-use Rattle.cue_scope.specs.Limits.{size, size_of_cores, size_of_members, depth, depth_of_cores, depth_of_elements, depth_of_members}
-use Rattle.cue_scope.specs.Measures.{Total}
-use Rattle.cue_scope.specs.Meaning.{meaning, nested, text_of}
-use Rattle.cue_scope.specs.Terms.{terms, terms_of_elements, terms_of_entries}
-use Rattle.cue_scope.specs.Uses.{uses, uses_of_elements, uses_of_entries}
-use Rattle.cue_scope.proofs.Measuring.{total_nested}
-use Rattle.cue_scope.proofs.Nodes.{in_append_left, in_append_right}
+use Rattle.cue_syntax.specs.Syntax.{field}
+use Rattle.cue_scope.specs.Core.{Core, struct, member, no_members}
+use Rattle.cue_scope.specs.Meaning.{nested, text_of}
 use Rattle.cue_eval.specs.declared.rows.Tables.{Tables}
 use Rattle.cue_eval.specs.Evaluated.{HasAnswersOf}
 use Rattle.cue_eval.specs.Gathered.{Answers, GivenRefuse, LabelsRefuse, LiteralAnswers}
-use Rattle.cue_eval.specs.Known.{core_of, parts_of}
 use Rattle.cue_eval.specs.Places.{Here, MarkRefuses, StructRefuses}
-use Rattle.cue_eval.specs.Ready.{all_definitions, members_of, AreKnown, IsReady, AreReadyParts, AreReadyElements, AreReadyEntries, IsField, AreGiven, AtLabels, AtIndexes}
+use Rattle.cue_eval.specs.Ready.{IsField, AreGiven, AtLabels}
 use Rattle.cue_eval.specs.Refuses as refusing
-use Rattle.cue_eval.specs.Refuses.{PartsRefuse, FieldRefuses, ElementRefuses, count}
-use Rattle.cue_eval.proofs.Depth.{paths_within_depth}
-use Rattle.cue_eval.proofs.Gathering.{shallow, unified_answers, marked_depth, answer_short}
+use Rattle.cue_eval.proofs.Gathering.{shallow, answer_short}
 use Rattle.cue_eval.proofs.LiteralTables.{struct_table}
-use Rattle.cue_eval.proofs.Leaves.{nil_both}
 
 one_refused : (l : Label) (c : Core) (one : Step × Tree Row) → IsField l c one → (step : paths.Step) (path : Path) (question : Question)
     → GivenRefuse (one ∷ []) step path question ↔ AtLabels (member (text_of l.name) l.mark c no_members) step path question

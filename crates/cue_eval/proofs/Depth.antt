@@ -2,7 +2,7 @@
 use Rattle.std.proofs.Common.{ℕ, zero, suc, ◌≤◌, inl, inr, List, [], ◌∷◌, length, arith}
 use Rattle.cue_lattice.specs.Path.{Path, label, index}
 use Rattle.cue_lattice.specs.Question as questions
-use Rattle.cue_lattice.specs.Question.{Question, allows}
+use Rattle.cue_lattice.specs.Question.{Question}
 use Rattle.cue_scope.specs.Core.{top, conjunction, struct, close, list, closed, Cores, no_cores, core, Members, no_members, member, dots}
 use Rattle.cue_scope.specs.Limits.{depth_of_cores, depth_of_elements, depth_of_members}
 use Rattle.cue_eval.specs.Refuses.{PartsRefuse, FieldRefuses, ElementRefuses}

@@ -1,7 +1,7 @@
 -- Tables of the elements of a list, one after another.
-use Rattle.std.proofs.Common.{◌≡◌, ◌↔◌, ◌⊎◌, ◌+◌, ◌≤◌, ◌<◌, inl, inr, ⊎_elim, ℕ, zero, suc, List, [], ◌∷◌, ◌++◌, All, length, refl, sym, ap, subst, ◌∙◌, length-append, arith}
+use Rattle.std.proofs.Common.{◌≡◌, ◌↔◌, ◌⊎◌, ◌+◌, ◌≤◌, ◌<◌, inl, inr, ⊎_elim, ℕ, zero, suc, List, [], ◌∷◌, ◌++◌, All, length, refl, sym, ap, subst, length-append, arith}
 use Rattle.std.proofs.lemmas.List.Elements.{All-push}
-use Rattle.cue_lattice.specs.Limits.{size_limit, step_limit, length_limit}
+use Rattle.cue_lattice.specs.Limits.{step_limit, length_limit}
 use Rattle.cue_lattice.proofs.OneOf.{one_of-push}
 use Rattle.cue_lattice.specs.Path as paths
 use Rattle.cue_lattice.specs.Path.{Path, label, index}
@@ -15,18 +15,18 @@ use Rattle.cue_table.specs.Depth.{tree_depth}
 use Rattle.cue_table.specs.Form.{IsTable}
 use Rattle.cue_table.specs.Tree.{Tree}
 use Rattle.cue_syntax.specs.declared.tree.Expr.{Expr}
-use Rattle.cue_syntax.specs.Syntax.{Elements, expression, elements}
+use Rattle.cue_syntax.specs.Syntax.{expression, elements}
 use Rattle.cue_scope.specs.Core.{Core, null, truth, integer, text, named, top, bottom, bound, other_integer, other_text, conjunction, disjunction, struct, close, list, closed, Cores, core, no_cores}
-use Rattle.cue_scope.specs.Limits.{size, size_of_cores, depth, depth_of_elements}
+use Rattle.cue_scope.specs.Limits.{size, size_of_cores, depth}
 use Rattle.cue_scope.specs.Meaning.{meaning}
 use Rattle.cue_scope.specs.Terms.{terms, terms_of_elements}
 use Rattle.cue_scope.specs.Uses.{uses, uses_of_elements}
 use Rattle.cue_eval.specs.declared.rows.Tables.{Tables}
 use Rattle.cue_eval.specs.Evaluated.{HasAnswersOf}
 use Rattle.cue_eval.specs.Gathered.{Answers, GivenRefuse}
-use Rattle.cue_eval.specs.Known.{core_of, parts_of}
-use Rattle.cue_eval.specs.Ready.{all_definitions, AreKnown, IsReady, AreReadyElements, AreGiven, AtIndexes}
-use Rattle.cue_eval.specs.Refuses.{ElementRefuses, count}
+use Rattle.cue_eval.specs.Known.{core_of}
+use Rattle.cue_eval.specs.Ready.{all_definitions, IsReady, AreReadyElements, AreGiven, AtIndexes}
+use Rattle.cue_eval.specs.Refuses.{count}
 use Rattle.cue_eval.proofs.Leaves.{nil_both}
 use Rattle.cue_eval.proofs.Walks.{known_left, known_right, within_depth, each_of}
 

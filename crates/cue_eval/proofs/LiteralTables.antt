@@ -1,5 +1,5 @@
 -- Tables of literals refuse what the literals do.
-use Rattle.std.proofs.Common.{◌≡◌, ◌↔◌, ◌⊎◌, ◌+◌, inl, inr, ⊎_elim, ℕ, Bool, true, false, List, [], ◌∷◌, Option, Some, None, Result, Ok, Err, length, refl, sym, subst, arith}
+use Rattle.std.proofs.Common.{◌≡◌, ◌↔◌, ◌⊎◌, ◌+◌, inl, inr, ⊎_elim, ℕ, Bool, List, [], ◌∷◌, Option, None, Result, Ok, Err, length, subst, arith}
 use Rattle.std.specs.Prelude.{IfOk}
 use Rattle.cue_lattice.specs.Path.{label, index}
 use Rattle.cue_lattice.specs.Question as questions
@@ -8,7 +8,7 @@ use Rattle.cue_row.specs.LabelSets.{RefusesLabel}
 use Rattle.cue_row.specs.declared.row.Row.{Row}
 use Rattle.cue_row.specs.declared.step.Step.{Step}
 use Rattle.cue_table.specs.Tree.{Tree}
-use Rattle.cue_scope.specs.Core.{Core, struct, close, list, Cores, Members}
+use Rattle.cue_scope.specs.Core.{struct, close, list, Cores, Members}
 use Rattle.cue_eval.specs.Evaluated.{HasAnswersOf}
 use Rattle.cue_eval.specs.Gathered.{Answers, LabelsRefuse, LiteralAnswers}
 use Rattle.cue_eval.specs.Literals.{LeaveOut}

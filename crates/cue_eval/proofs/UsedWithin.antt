@@ -3,7 +3,7 @@ use Rattle.std.proofs.Common.{◌≤◌, ℕ, inl, inr, ⊎_elim, Option, None, 
 use Rattle.std.specs.Option.{option_to_list, option_map_or}
 use Rattle.cue_syntax.specs.declared.tree.Identifier.TheVariants as identifiers
 use Rattle.cue_syntax.specs.Syntax as tree
-use Rattle.cue_syntax.specs.Syntax.{Expression, Elements, no_elements, element, Branch, branch, Branches, no_branches, next_branch, Entries, no_entries, entry, ellipsis, field, definition}
+use Rattle.cue_syntax.specs.Syntax.{Expression, Elements, no_elements, element, branch, Branches, no_branches, next_branch, Entries, no_entries, entry, ellipsis, field, definition}
 use Rattle.cue_syntax.specs.Grammar.{IsRight, AreRight, AreRightBranches, AreRightEntries, AreNested}
 use Rattle.cue_scope.specs.Core.{Core, bottom}
 use Rattle.cue_scope.specs.Definitions.{Definition, number_of}

@@ -4,7 +4,7 @@ use Rattle.std.specs.Prelude.{unwrap_or, filter_map}
 use Rattle.std.specs.List.{list_any, list_all, cons_option}
 use Rattle.cue_lattice.specs.declared.scalar.Scalar.{Scalar}
 use Rattle.cue_lattice.specs.Question as questions
-use Rattle.cue_lattice.specs.Question.{Question, may_be, usual, allows, level_at_most, length_at_most, length_at_least}
+use Rattle.cue_lattice.specs.Question.{Question, may_be, usual, level_at_most}
 use Rattle.cue_scalars.specs.Pairs.{Scalars, Pair, brought, default_of, united, is_any_marked}
 use Rattle.cue_scope.specs.Core.{Core, conjunction, disjunction, closed, Cores, no_cores, core, Choices, no_choices, choice}
 use Rattle.cue_eval.specs.Pairs.{pair, pairs_of, terms_of}

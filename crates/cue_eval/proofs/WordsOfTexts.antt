@@ -13,7 +13,7 @@ use Rattle.cue_syntax.specs.declared.tree.LabelName.{LabelName}
 use Rattle.cue_syntax.specs.declared.tree.Mark.{Mark}
 use Rattle.cue_syntax.specs.declared.tree.LabelName.TheVariants as names
 use Rattle.cue_syntax.specs.Syntax as tree
-use Rattle.cue_syntax.specs.Syntax.{Expression, Elements, no_elements, element, Branch, branch, Branches, no_branches, next_branch, Entry, ellipsis, field, definition, Entries, no_entries, entry}
+use Rattle.cue_syntax.specs.Syntax.{Expression, Elements, no_elements, element, branch, Branches, no_branches, next_branch, ellipsis, field, definition, Entries, no_entries, entry}
 use Rattle.cue_syntax.specs.Words.{HasWordLabel, HasWords, HaveWords, HaveWordsBranches, HaveWordsEntries}
 use Rattle.cue_scope.specs.Core.{Core, null, truth, named, bottom, top}
 use Rattle.cue_scope.specs.Definitions.{Definition, definitions, number_of}

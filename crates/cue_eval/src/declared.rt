@@ -1,6 +1,3 @@
-ghost use Rattle.std.specs.Prelude.{◌≡◌, ◌↔◌, ℕ, List, ◌⊎◌, IfOk};
-ghost use Rattle.cue_sets.specs.Texts.{RefusesText};
-
 use cue_lattice::{Memory, Narrow, Narrowed, Text};
 use cue_sets::TextSet;
 use std::alloc::Global;

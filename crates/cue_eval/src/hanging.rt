@@ -1,8 +1,7 @@
 //! Tables of literals, made of those of their parts.
 ghost use Rattle.std.specs.Prelude.{◌≡◌, ◌≤◌, ◌<◌, ◌+◌, ◌⊎◌, All, IfOk, length, OnOk};
 ghost use Rattle.cue_lattice.specs.Limits.{step_limit, length_limit};
-ghost use Rattle.cue_lattice.specs.Question.{Question as Asked, SameAnswers};
-ghost use Rattle.cue_lattice.specs.Path.{Path as Steps};
+ghost use Rattle.cue_lattice.specs.Question.{SameAnswers};
 ghost use Rattle.cue_row.specs.Row.{RowRefuses, Refuses, IsRow};
 ghost use Rattle.cue_scalars.specs.Values.{pair_of};
 ghost use Rattle.cue_scope.specs.Core.{Core};

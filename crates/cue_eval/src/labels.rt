@@ -1,5 +1,5 @@
 //! The labels of struct literals.
-ghost use Rattle.std.specs.Prelude.{◌≡◌, ◌↔◌, ◌||◌, ℕ, List, IfOk, [], ◌∷◌};
+ghost use Rattle.std.specs.Prelude.{◌≡◌, ◌↔◌, ℕ, List, IfOk, [], ◌∷◌};
 ghost use Rattle.cue_sets.specs.Texts.{is_text_member};
 ghost use Rattle.cue_row.specs.LabelSets.{RefusesLabel};
 ghost use Rattle.cue_scope.specs.Core.{Core};

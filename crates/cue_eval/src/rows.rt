@@ -1,5 +1,5 @@
 //! What expressions refuse, as tables.
-ghost use Rattle.std.specs.Prelude.{◌≡◌, ◌<◌, None, IfOk, OnOk, slice_index_or};
+ghost use Rattle.std.specs.Prelude.{◌<◌, None, IfOk, OnOk, slice_index_or};
 ghost use Rattle.cue_lattice.specs.Limits.{step_limit};
 ghost use Rattle.cue_row.specs.Row.{Refuses, IsRow};
 ghost use Rattle.cue_scope.specs.Core as core;

@@ -8,7 +8,6 @@ ghost use Rattle.cue_scope.specs.Definitions.{Definition as DefinitionOf};
 ghost use Rattle.cue_scope.specs.Kept.{all_of};
 ghost use Rattle.cue_scope.specs.Limits.{depth};
 ghost use Rattle.cue_scope.specs.Meaning.{meaning, meant_name, meant_members, nested, text_of};
-ghost use Rattle.cue_scope.specs.Uses.{uses_of_name};
 ghost use Rattle.cue_table.specs.Depth.{tree_depth};
 ghost use Rattle.cue_eval.specs.Telling.{Tells, tells};
 ghost use Rattle.cue_eval.specs.Told.{IsTold, IsToldBelow, IsKnown, ArePartsKnown};

@@ -1,5 +1,3 @@
-ghost use Rattle.std.specs.Prelude.{◌≡◌};
-
 use std::alloc::{AllocError, AllocFailed};
 use std::error::Error;
 use std::fmt;

@@ -1,5 +1,3 @@
-ghost use Rattle.std.specs.Prelude.{◌≡◌, ◌↔◌, ◌⊎◌, IsTrue, IfOk};
-
 use crate::{Memory, Narrow, Narrowed};
 use std::alloc::Global;
 

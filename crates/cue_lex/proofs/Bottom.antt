@@ -1,5 +1,5 @@
 -- Where _|_ stands, each identifier is shorter.
-use Rattle.std.proofs.Common.{◌≡◌, ℕ, ◌+◌, ◌<◌, ◌≤◌, ◌∙◌, ◌⊎◌, Bool, true, false, List, [], ◌∷◌, ◌++◌, length, drop, get_or, lit<, refl, sym, ap, subst, arith, append_assoc, length-append, ⊎_elim, rules, codes}
+use Rattle.std.proofs.Common.{◌≡◌, ℕ, ◌+◌, ◌<◌, ◌∙◌, ◌⊎◌, Bool, true, false, List, [], ◌∷◌, ◌++◌, length, drop, get_or, lit<, refl, ap, subst, arith, append_assoc, ⊎_elim, rules, codes}
 use Rattle.std.specs.Prelude.{encode_utf8, encode_utf8_all}
 use Rattle.std.specs.List.{list_all}
 use Rattle.std.proofs.lemmas.Bool.{and_parts}
@@ -11,7 +11,7 @@ use Rattle.cue_lex.specs.declared.lexeme.Lexeme.TheVariants.{Word}
 use Rattle.cue_lex.specs.Characters.{is_letter, is_name_part}
 use Rattle.cue_lex.specs.Lexemes.{lexeme}
 use Rattle.cue_lex.specs.Names.{IsIdentifier}
-use Rattle.cue_lex.specs.Longest.{IsTakenAsBottom, TakesBottomBeforeNames}
+use Rattle.cue_lex.specs.Longest.{TakesBottomBeforeNames}
 use Rattle.std.specs.Prelude.{Ok}
 
 no_bar : is_name_part 124 ≡ false

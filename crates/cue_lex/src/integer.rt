@@ -1,8 +1,7 @@
-ghost use Rattle.std.specs.Prelude.{◌≡◌, ◌≤◌, ◌<◌, ◌+◌, ◌^◌, length, slice_index, nat_lt, min};
+ghost use Rattle.std.specs.Prelude.{◌≡◌, ◌≤◌, ◌<◌, ◌+◌, length, slice_index, min};
 ghost use Rattle.std.specs.Prelude.{Some, None, if◌then◌else◌, IfOk};
 ghost use Rattle.std.specs.List.{prefix_len};
 ghost use Rattle.std.specs.Option.{option_map};
-ghost use Rattle.std.specs.Char.{digit_value};
 ghost use Rattle.cue_lex.specs.Integers.{is_literal_byte, digits_number, literal_number, digit};
 ghost use Rattle.cue_lex.specs.Lexemes.{integer, EndsAscii, len_of};
 

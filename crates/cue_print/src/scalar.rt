@@ -1,4 +1,4 @@
-ghost use Rattle.std.specs.Prelude.{◌≡◌, ◌++◌, Some, map, codes, IfOk, OnOk, string_bytes};
+ghost use Rattle.std.specs.Prelude.{◌≡◌, ◌++◌, Some, map, IfOk, OnOk, string_bytes};
 ghost use Rattle.cue_print.specs.Difference.{without};
 ghost use Rattle.cue_print.specs.Printed.{scalar_value};
 ghost use Rattle.cue_print.specs.Spelled.{default_text, value_text};

@@ -1,5 +1,5 @@
 //! The terms of a set of scalars.
-ghost use Rattle.std.specs.Prelude.{◌≡◌, ◌++◌, [], ◌∷◌, map, codes, IfOk, OnOk, string_bytes};
+ghost use Rattle.std.specs.Prelude.{◌≡◌, ◌++◌, [], map, codes, IfOk, OnOk, string_bytes};
 ghost use Rattle.cue_print.specs.Expressions.{text};
 ghost use Rattle.cue_print.specs.Spelled.{joined, term_text, is_compound, terms_text, operand_text};
 ghost use Rattle.cue_print.specs.Terms.{truth_terms, piece_term, text_terms, terms_of};

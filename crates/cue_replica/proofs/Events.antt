@@ -6,7 +6,7 @@ use Rattle.cue_lattice.specs.Refusal.{memory}
 use Rattle.cue_lattice.specs.Question.{Refusals, SameAnswers}
 use Rattle.cue_lattice.specs.declared.text.Text.{Text}
 use Rattle.cue_lattice.specs.World as world
-use Rattle.cue_lattice.specs.World.{Piece, Sets, AllAlong, IsUnified, IsOutcome, IsAnswer, IsThere, pieces_at, pieces_refuse}
+use Rattle.cue_lattice.specs.World.{Piece, Sets, IsUnified, IsAnswer, IsThere, pieces_at, pieces_refuse}
 use Rattle.cue_replica.specs.declared.world.Event.{Event}
 use Rattle.cue_replica.specs.declared.world.Event.TheVariants.{Submit, Send, Deliver, Foreign}
 use Rattle.cue_replica.specs.declared.world.Outcome.{Outcome}

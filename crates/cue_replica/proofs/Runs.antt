@@ -4,7 +4,7 @@ use Rattle.std.specs.Prelude.{replicate}
 use Rattle.std.proofs.lemmas.List.{take_all, drop_all}
 use Rattle.cue_table.specs.Tree.{empty}
 use Rattle.cue_lattice.specs.World as world
-use Rattle.cue_lattice.specs.World.{Meaning, Piece, Sets, AllAlong, IsOutcome, AreOutcomes, IsUnified, SamePieces, reach, start, pieces_at, pieces_refuse}
+use Rattle.cue_lattice.specs.World.{Meaning, Piece, Sets, AllAlong, IsOutcome, AreOutcomes, IsUnified, reach, start, pieces_at}
 use Rattle.cue_replica.specs.declared.world.Event.{Event}
 use Rattle.cue_replica.specs.declared.world.Outcome.{Outcome}
 use Rattle.cue_replica.specs.Language.{Table, language}

@@ -8,7 +8,7 @@ use Rattle.cue_row.specs.Row.{RowRefuses}
 use Rattle.cue_table.specs.Tree.{rows_of}
 use Rattle.cue_table.specs.Refuses.{TableRefuses}
 use Rattle.cue_table.specs.Valid.{IsValidTable}
-use Rattle.cue_codec.specs.State.{mark, table_bytes}
+use Rattle.cue_codec.specs.State.{table_bytes}
 use Rattle.cue_codec.specs.Decoding.{IsOtherVersion}
 use Rattle.cue_codec.proofs.ReadStates as codec
 use Rattle.cue_codec.proofs.WrittenStates.{state_parts}

@@ -1,11 +1,10 @@
 -- Texts have one tree, and legal ones no fault.
-use Rattle.std.proofs.Common.{◌≡◌, ◌⊎◌, inl, inr, ◌<◌, ◌≤◌, ℕ, Bool, true, false, List, Ok, Err, refl, subst, length, nat_le, arith}
+use Rattle.std.proofs.Common.{◌≡◌, inl, inr, ◌≤◌, ℕ, Bool, true, false, List, Ok, Err, refl, subst, length, nat_le, arith}
 use Rattle.std.specs.Prelude.{None, if◌then◌else◌}
 use Rattle.std.proofs.lemmas.Bool.{leb-true}
 use Rattle.cue_lattice.specs.Limits.{text_limit}
 use Rattle.cue_lattice.specs.Limits.{level_limit}
-use Rattle.cue_lattice.specs.Path.{Path}
-use Rattle.cue_lattice.specs.Question.{Question, Refusals, SameAnswers}
+use Rattle.cue_lattice.specs.Question.{Refusals, SameAnswers}
 use Rattle.cue_lattice.specs.Refusal.{memory}
 use Rattle.cue_lattice.specs.declared.refusal.Kind.{Kind}
 use Rattle.cue_lattice.specs.declared.refusal.Kind.TheVariants as kinds
@@ -18,7 +17,7 @@ use Rattle.cue_syntax.specs.Syntax.{FileTree, Entries}
 use Rattle.cue_syntax.proofs.OneTree.{one_tree}
 use Rattle.cue_scope.specs.Refusing as checks
 use Rattle.cue_eval.specs.Texts as meaning
-use Rattle.cue_replica.specs.Texts.{IsTreeOf, IsUnspelled, IsLegal, text_refuses, IsTextFault}
+use Rattle.cue_replica.specs.Texts.{IsTreeOf, IsLegal, text_refuses, IsTextFault}
 
 -- a text has one list of tokens
 one_lexing : (text : List ℕ) (a b : List Token) → tokens text ≡ Ok a → tokens text ≡ Ok b → a ≡ b

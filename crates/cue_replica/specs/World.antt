@@ -3,7 +3,7 @@ use Rattle.std.specs.Prelude.{◌≡◌, ◌⊎◌, ℕ, ◌+◌, ◌^◌, ◌<�
 use Rattle.std.specs.Global.{Global}
 use Rattle.cue_lattice.specs.Refusal.{memory}
 use Rattle.cue_lattice.specs.World as world
-use Rattle.cue_lattice.specs.World.{Piece, Sets, AllAlong, IsUnified, IsMessageOf, IsOutcome, AreOutcomes, SamePieces, reach, start, pieces_at}
+use Rattle.cue_lattice.specs.World.{Piece, Sets, AllAlong, IsUnified, IsMessageOf, IsOutcome, SamePieces, reach, start, pieces_at}
 use Rattle.cue_replica.specs.declared.world.Event.{Event}
 use Rattle.cue_replica.specs.declared.world.Event.TheVariants.{Submit, Send, Deliver, Foreign}
 use Rattle.cue_replica.specs.declared.world.Outcome.{Outcome}

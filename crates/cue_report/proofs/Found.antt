@@ -11,7 +11,7 @@ use Rattle.cue_lattice.specs.Question.{level_at_most}
 use Rattle.cue_row.specs.declared.row.Row.{Row}
 use Rattle.cue_row.specs.Row.{Refuses, IsRow}
 use Rattle.cue_table.specs.Form as form
-use Rattle.cue_table.specs.Form.{IsTree, AreBranches, IsBelowAll, IsKept, IsTable}
+use Rattle.cue_table.specs.Form.{AreBranches, IsBelowAll, IsKept, IsTable}
 use Rattle.cue_table.specs.Tree.{Tree, node, Children, none, child, row_of, below, if_equal, find}
 use Rattle.cue_report.specs.Answers.{IsDemanded, HasNoValue, IsNotAllowed}
 use Rattle.cue_report.specs.GapSearch.{IsBarred}

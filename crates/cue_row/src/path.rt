@@ -1,5 +1,4 @@
 ghost use Rattle.std.specs.Prelude.{◌≡◌, ◌<◌, [], ◌∷◌, ◌++◌, length, map, IfOk, IfSome, IfNone};
-ghost use Rattle.std.specs.Option.{OnSome};
 ghost use Rattle.std.specs.Cmp.Lexicographic.{slice_cmp};
 ghost use Rattle.cue_lattice.specs.Path.{path_cmp, step_cmp};
 ghost use Rattle.cue_lattice.specs.Limits.{step_limit};

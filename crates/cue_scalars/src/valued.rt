@@ -4,7 +4,7 @@ ghost use Rattle.std.specs.List.{list_any};
 ghost use Rattle.std.specs.Option.{ForSome};
 ghost use Rattle.std.specs.Result.{IsOk};
 ghost use Rattle.std.specs.Vec.Iter.{into_iter_items};
-ghost use Rattle.cue_scalars.specs.Scalars.{members, IsWithin};
+ghost use Rattle.cue_scalars.specs.Scalars.{IsWithin};
 
 use crate::ScalarSet;
 use cue_lattice::{Memory, Narrow};

@@ -1,4 +1,4 @@
-ghost use Rattle.std.specs.Prelude.{◌≡◌, ◌+◌, ◌<◌, ◌≤◌, ◌↔◌, ◌++◌, ◌∷◌, [], ℕ, List, length};
+ghost use Rattle.std.specs.Prelude.{◌≡◌, ◌+◌, ◌<◌, ◌≤◌, ◌↔◌, ◌++◌, ◌∷◌, [], ℕ, length};
 ghost use Rattle.std.specs.Prelude.{slice_index, slice_index_or, slice_set, IfOk, IfErr, OnOk};
 ghost use Rattle.std.specs.Prelude.{MatchOption, vec_len, true, false, not};
 ghost use Rattle.std.specs.Vec.{vec_capacity};

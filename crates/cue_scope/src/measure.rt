@@ -1,4 +1,4 @@
-ghost use Rattle.std.specs.Prelude.{◌≡◌, [], ℕ, List, true, length, ◌<◌, IfErr, OnOk};
+ghost use Rattle.std.specs.Prelude.{[], ℕ, List, true, length, ◌<◌, IfErr, OnOk};
 ghost use Rattle.cue_syntax.specs.Syntax as tree;
 ghost use Rattle.cue_scope.specs.Kept.{all_of};
 ghost use Rattle.cue_scope.specs.Meaning as meaning;

@@ -1,5 +1,5 @@
-ghost use Rattle.std.specs.Prelude.{◌≡◌, ℤ, pos, ◌-ℤ◌, ◌+ℤ◌, ◌≤ℤ◌, ◌<ℤ◌, ◌++◌, IfOk, IfSome, Some};
-ghost use Rattle.std.specs.Prelude.{if◌then◌else◌, FitsSigned, is_some, true, ◌↔◌, IsTrue};
+ghost use Rattle.std.specs.Prelude.{◌≡◌, ℤ, pos, ◌-ℤ◌, ◌≤ℤ◌, ◌<ℤ◌, ◌++◌, IfOk, IfSome, Some};
+ghost use Rattle.std.specs.Prelude.{true, ◌↔◌, IsTrue};
 ghost use Rattle.cue_sets.specs.Combination.{keeps};
 ghost use Rattle.cue_sets.specs.Pieces.{is_member, IsCanonical};
 ghost use Rattle.cue_sets.specs.Sweep.{EndsFrom, closed, opened};

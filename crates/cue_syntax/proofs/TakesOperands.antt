@@ -13,7 +13,7 @@ use Rattle.cue_syntax.specs.declared.tree.Signed.{Signed}
 use Rattle.cue_syntax.specs.Syntax.{Expression, name, integer, text, bottom, bound, other_integer, other_text, parenthesis, conjunction, disjunction, Elements, no_elements, element, Branch, branch, Branches, no_branches, next_branch}
 use Rattle.cue_syntax.specs.Spelling.{Reads, one, placed, comma_if, comparison_kind, spell, spell_signed, spell_more_elements, spell_branch, spell_more_branches}
 use Rattle.cue_syntax.specs.Grammar.{Limit, Within, IsRight, IsUnary, IsConjunct, AreUnary, TwoElements, TwoBranches, IsRightBranch, AreRightBranches, levels, levels_of_elements, levels_of_branch, levels_of_branches, IsInRange}
-use Rattle.cue_syntax.specs.Recogniser.{Stack, step, stuck, depth, is_keyword, entries, more_entries, mark, colon, value, chained, expression, term, unary, more_parts, bar, more_terms, signed, signed_or_text, behind_close, closed, elements, more_elements, bracket}
+use Rattle.cue_syntax.specs.Recogniser.{Stack, step, stuck, depth, expression, term, unary, more_parts, bar, more_terms, signed, signed_or_text}
 use Rattle.cue_syntax.specs.Recogniser as goals
 use Rattle.cue_syntax.proofs.WhatMayFollow.{HeadIs, BeginsOperand, ClosesExpression, ClosesTerm, ClosesOperand, EndsExpression, EndsTerm, EndsOperand}
 use Rattle.cue_syntax.proofs.TakesOneToken.{reads_split, reads_unplaced, at_end_before, begins, ends_term, ends_operand, within_less, took, over_parts, over_terms}

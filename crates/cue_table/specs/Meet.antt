@@ -2,7 +2,7 @@
 use Rattle.std.specs.Prelude.{◌≡◌, ◌↔◌, ◌⊎◌, [], ◌∷◌, Some, None}
 use Rattle.std.specs.Option.{option_and_then}
 use Rattle.cue_lattice.specs.Path as paths
-use Rattle.cue_lattice.specs.Path.{Path, step_cmp}
+use Rattle.cue_lattice.specs.Path.{Path}
 use Rattle.cue_table.specs.Tree.{Tree, node, Children, none, child, row_of, find, branch_at}
 use Rattle.cue_table.specs.Refuses.{RowRefuses, TableRefuses}
 use Rattle.cue_table.specs.Form.{IsBelowAll, AreBranches}

@@ -9,8 +9,8 @@ ghost use Rattle.cue_row.specs.Steps.{step_of};
 ghost use Rattle.cue_table.specs.Tree.{Tree, row_of, below, none};
 ghost use Rattle.cue_table.specs.Form.{IsTable};
 ghost use Rattle.cue_table.specs.Meet.{IsMet};
-ghost use Rattle.cue_table.specs.Valid.{IsOpenStruct, IsValidTable, MayHold, IsElement};
-ghost use Rattle.cue_table.specs.ValidWalk.{HasChild, IsLevelAt, IsSound, MayStand};
+ghost use Rattle.cue_table.specs.Valid.{IsOpenStruct, IsValidTable};
+ghost use Rattle.cue_table.specs.ValidWalk.{HasChild, IsSound, MayStand};
 
 use crate::{Branch, Table};
 use cue_row::{Level, Row, RowKind, Step};

@@ -1,4 +1,4 @@
-use Rattle.std.proofs.Common.{◌↔◌, ◌∙◌, length, subst, sym}
+use Rattle.std.proofs.Common.{◌↔◌, ◌∙◌, length, subst}
 use Rattle.cue_lattice.specs.Question.{Question}
 use Rattle.cue_row.specs.Row.{RowRefuses}
 use Rattle.cue_eval.specs.Places.{ListRefuses}

@@ -1,4 +1,3 @@
-use Rattle.std.proofs.Common.{arith}
 use Rattle.cue_eval.proofs.LabelLists.{declared_result}
 use Rattle.cue_eval.proofs.labels.+declared.Goals as goal
 

@@ -1,4 +1,4 @@
-use Rattle.std.proofs.Common.{◌≡◌, None, ap, sym, ◌∙◌, refl}
+use Rattle.std.proofs.Common.{◌≡◌, None, ap, sym, ◌∙◌}
 use Rattle.cue_eval.proofs.PlaceRows.{list_refuses, most_of}
 use Rattle.cue_eval.proofs.place.list_row.Goals as goal
 use Rattle.cue_eval.proofs.place.list_row.Goals.{then-goes_on, else-goes_on}

@@ -1,4 +1,4 @@
-use Rattle.std.proofs.Common.{◌<◌, All, subst, sym}
+use Rattle.std.proofs.Common.{◌<◌}
 use Rattle.std.proofs.lemmas.List.Elements.{All-push}
 use Rattle.cue_lattice.specs.Limits.{step_limit}
 use Rattle.cue_table.specs.Depth.{tree_depth}

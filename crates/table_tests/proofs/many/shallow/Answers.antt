@@ -1,7 +1,6 @@
-use Rattle.std.proofs.Common.{◌≡◌, ◌<◌, length, map, sym, subst, ap, ◌∙◌, ⊎_elim, arith}
+use Rattle.std.proofs.Common.{length, sym, subst, ap, ◌∙◌, ⊎_elim, arith}
 use Rattle.std.proofs.lemmas.List.{length-map}
 use Rattle.cue_row.specs.Steps.{step_of}
-use Rattle.cue_lattice.specs.Limits.{step_limit}
 use Rattle.cue_table.specs.Refuses.{TableRefuses}
 use Rattle.cue_table.proofs.ByHalves.{free}
 use Rattle.cue_table.proofs.Depth.{refusals_depth}
