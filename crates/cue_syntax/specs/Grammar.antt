@@ -1,17 +1,23 @@
 -- Which trees the grammar has, and how many levels they open.
-use Rattle.std.specs.Prelude.{◌≡◌, ◌+◌, ◌≤◌, ◌⊎◌, ℕ, max, Bool, true, false, List, [], length, ◌++◌, codes, ⊤, Option, None, Some, slice_index}
+use Rattle.std.specs.Prelude.{◌≡◌, ◌+◌, ◌≤◌, ◌⊎◌, ℕ, max, Bool, true, false, List, [], length, ◌++◌}
+use Rattle.std.specs.Prelude.{codes, ⊤, Option, None, Some, slice_index}
 use Rattle.cue_lattice.specs.Limits.{level_limit}
 use Rattle.cue_lex.specs.declared.token.Token.{Token}
 use Rattle.cue_syntax.specs.declared.tree.Identifier.{Identifier}
 use Rattle.cue_syntax.specs.declared.tree.Identifier.TheVariants as identifiers
 use Rattle.cue_lex.specs.declared.token.TokenKind.TheVariants as kinds
 use Rattle.cue_lex.specs.declared.punctuation.Punctuation.TheVariants as points
-use Rattle.cue_syntax.specs.Spelling.{Reads, one, comma_if, spell, spell_elements, spell_branch, spell_entry, spell_entries, spell_file}
+use Rattle.cue_syntax.specs.Spelling.{Reads, one, comma_if, spell, spell_elements, spell_branch}
+use Rattle.cue_syntax.specs.Spelling.{spell_entry, spell_entries, spell_file}
 use Rattle.cue_syntax.specs.declared.tree.Package.{Package}
 use Rattle.cue_syntax.specs.declared.tree.Sign.{Sign}
 use Rattle.cue_syntax.specs.declared.tree.Sign.TheVariants as signs
 use Rattle.cue_syntax.specs.declared.tree.Signed.{Signed}
-use Rattle.cue_syntax.specs.Syntax.{FileTree, Expression, name, integer, text, bottom, bound, other_integer, other_text, parenthesis, struct, close, list, conjunction, disjunction, Elements, no_elements, element, Branch, branch, Branches, no_branches, next_branch, Entry, ellipsis, field, definition, Entries, no_entries, entry}
+use Rattle.cue_syntax.specs.Syntax.{FileTree, Expression, name, integer, text, bottom, bound}
+use Rattle.cue_syntax.specs.Syntax.{other_integer, other_text, parenthesis, struct, close, list}
+use Rattle.cue_syntax.specs.Syntax.{conjunction, disjunction, Elements, no_elements, element}
+use Rattle.cue_syntax.specs.Syntax.{Branch, branch, Branches, no_branches, next_branch, Entry}
+use Rattle.cue_syntax.specs.Syntax.{ellipsis, field, definition, Entries, no_entries, entry}
 use Rattle.cue_syntax.specs.Words.{HaveWordsEntries}
 
 -- names that begin a clause, which is left out
@@ -118,8 +124,8 @@ abbrev mutual
   AreRightEntries no_entries = ⊤
   AreRightEntries (entry e es) = IsRightEntry e × AreRightEntries es
 
--- how many levels a tree opens at its deepest place: one for each parenthesis, brace and bracket, and one for each
--- label of a chain after the first
+-- how many levels a tree opens at its deepest place: one for each parenthesis, brace and bracket,
+-- and one for each label of a chain after the first
 abbrev mutual
   pub levels : Expression → ℕ
   levels (name n from) = 0
@@ -157,7 +163,8 @@ abbrev mutual
   levels_of_entries (entry e es) = max (levels_of_entry e) (levels_of_entries es)
 
 -- The tokens up to the rest are a tree of the grammar, which opens at most so many levels.
-pub record IsExpression (room : ℕ) (tokens : List Token) (e : Expression) (rest : List Token) : Type 0 where
+pub record IsExpression (room : ℕ) (tokens : List Token) (e : Expression)
+    (rest : List Token) : Type 0 where
   pub reads : Reads tokens (spell e) rest
   pub right : IsRight e
   pub levels : levels e ≤ room
@@ -180,21 +187,25 @@ pub record IsLiteral (tokens : List Token) (e : Expression) (rest : List Token) 
   pub levels : levels e ≡ 0
 
 -- elements and then a comma, where the truth value says that one follows
-pub record AreElements (room : ℕ) (tokens : List Token) (es : Elements) (comma : Bool) (rest : List Token) : Type 0 where
+pub record AreElements (room : ℕ) (tokens : List Token) (es : Elements) (comma : Bool)
+    (rest : List Token) : Type 0 where
   pub reads : Reads tokens (spell_elements (kinds.Mark points.Comma) es ++ comma_if comma) rest
   pub right : AreRight es
   pub ends : EndsElements comma false es
   pub levels : levels_of_elements es ≤ room
 
-pub record AreEntries (room : ℕ) (tokens : List Token) (es : Entries) (comma : Bool) (rest : List Token) : Type 0 where
+pub record AreEntries (room : ℕ) (tokens : List Token) (es : Entries) (comma : Bool)
+    (rest : List Token) : Type 0 where
   pub reads : Reads tokens (spell_entries es ++ comma_if comma) rest
   pub right : AreRightEntries es
   pub ends : EndsEntries comma es
   pub levels : levels_of_entries es ≤ room
 
 -- declarations, and the brace that closes them
-pub record AreBraced (room : ℕ) (tokens : List Token) (es : Entries) (comma : Bool) (rest : List Token) : Type 0 where
-  pub reads : Reads tokens (spell_entries es ++ comma_if comma ++ one (kinds.Mark points.CloseBrace)) rest
+pub record AreBraced (room : ℕ) (tokens : List Token) (es : Entries) (comma : Bool)
+    (rest : List Token) : Type 0 where
+  pub reads : Reads tokens
+      (spell_entries es ++ comma_if comma ++ one (kinds.Mark points.CloseBrace)) rest
   pub right : AreRightEntries es
   pub nested : AreNested es
   pub ends : EndsEntries comma es
@@ -213,7 +224,8 @@ IsPackageName (identifiers.Hidden t) = ¬ HidesDefinition t
 -- where no comma stands after the name of a package, no declaration does
 abbrev pub IsRightPackage : Option Package → Entries → Type 0
 IsRightPackage None es = ⊤
-IsRightPackage (Some clause) es = IsPackageName clause.name × (clause.comma ≡ false → es ≡ no_entries)
+IsRightPackage (Some clause) es =
+    IsPackageName clause.name × (clause.comma ≡ false → es ≡ no_entries)
 
 -- where no comma stands after the name of a package, nothing stands there
 abbrev pub IsWellPackaged : Option Package → Entries → Type 0
@@ -221,9 +233,10 @@ IsWellPackaged None es = ⊤
 IsWellPackaged (Some clause) no_entries = IsPackageName clause.name
 IsWellPackaged (Some clause) (entry e es) = IsPackageName clause.name × (clause.comma ≡ true)
 
--- A file is well formed: it follows the grammar, opens no more levels than a text may, and its names, labels and strings
--- are words.
-pub record IsWellFormed (clause : Option Package) (declarations : Entries) (comma : Bool) : Type 0 where
+-- These are the parts of a well-formed fragment: it follows the grammar, opens no more levels than
+-- a text may, and its names, labels and strings are words.
+pub record IsFragment (clause : Option Package) (declarations : Entries)
+    (comma : Bool) : Type 0 where
   pub package_clause : IsWellPackaged clause declarations
   pub right : AreRightEntries declarations
   pub ends : EndsEntries comma declarations

@@ -10,9 +10,18 @@ use Rattle.cue_syntax.specs.declared.tree.LabelName.{LabelName}
 use Rattle.cue_syntax.specs.declared.tree.LabelName.TheVariants as names
 use Rattle.cue_syntax.specs.declared.tree.Package.{Package}
 use Rattle.cue_syntax.specs.Spelling.{identifier_kind, label_kind}
-use Rattle.cue_syntax.specs.Syntax.{Expression, name, integer, text, bottom, bound, other_integer, other_text, parenthesis, struct, close, list, conjunction, disjunction, Elements, no_elements, element, Branch, branch, Branches, no_branches, next_branch, Entry, ellipsis, field, definition, Entries, no_entries, entry}
-use Rattle.cue_syntax.specs.Words.{HasWordLabel, HasWords, HaveWords, HasWordsBranch, HaveWordsBranches, HasWordsEntry, HaveWordsEntries}
-use Rattle.cue_syntax.specs.Grammar.{IsOperand, IsUnary, IsConjunct, IsNested, AreUnary, AreNested, TwoElements, TwoBranches, IsTerm, EndsEntries, EndsElements, IsRight, AreRight, IsRightBranch, AreRightBranches, IsRightEntry, AreRightEntries, IsPackageName, IsWellPackaged, IsWellFormed}
+use Rattle.cue_syntax.specs.Syntax.{Expression, name, integer, text, bottom, bound, other_integer}
+use Rattle.cue_syntax.specs.Syntax.{other_text, parenthesis, struct, close, list, conjunction}
+use Rattle.cue_syntax.specs.Syntax.{disjunction, Elements, no_elements, element, Branch, branch}
+use Rattle.cue_syntax.specs.Syntax.{Branches, no_branches, next_branch, Entry, ellipsis, field}
+use Rattle.cue_syntax.specs.Syntax.{definition, Entries, no_entries, entry}
+use Rattle.cue_syntax.specs.Words.{HasWordLabel, HasWords, HaveWords, HasWordsBranch}
+use Rattle.cue_syntax.specs.Words.{HaveWordsBranches, HasWordsEntry, HaveWordsEntries}
+use Rattle.cue_syntax.specs.Grammar.{IsOperand, IsUnary, IsConjunct, IsNested, AreUnary, AreNested}
+use Rattle.cue_syntax.specs.Grammar.{TwoElements, TwoBranches, IsTerm, EndsEntries, EndsElements}
+use Rattle.cue_syntax.specs.Grammar.{IsRight, AreRight, IsRightBranch, AreRightBranches}
+use Rattle.cue_syntax.specs.Grammar.{IsRightEntry, AreRightEntries, IsPackageName, IsWellPackaged}
+use Rattle.cue_syntax.specs.Grammar.{IsFragment}
 
 operand_prop : (n : Identifier) → IsProp (IsOperand n)
 operand_prop (identifiers.Plain t) = hlevel
@@ -75,9 +84,12 @@ mutual
   right_prop (other_integer n) = hlevel props
   right_prop (other_text t) = hlevel
   right_prop (parenthesis e comma) = right_prop e
-  right_prop (struct es comma) = hlevel (right_entries_prop es, nested_prop es, ends_entries_prop comma es)
-  right_prop (close from es inner comma) = hlevel (right_entries_prop es, nested_prop es, ends_entries_prop inner es)
-  right_prop (list es goes_on comma) = hlevel (all_right_prop es, ends_elements_prop comma goes_on es)
+  right_prop (struct es comma) =
+      hlevel (right_entries_prop es, nested_prop es, ends_entries_prop comma es)
+  right_prop (close from es inner comma) =
+      hlevel (right_entries_prop es, nested_prop es, ends_entries_prop inner es)
+  right_prop (list es goes_on comma) =
+      hlevel (all_right_prop es, ends_elements_prop comma goes_on es)
   right_prop (conjunction es) = hlevel (all_right_prop es, all_unary_prop es, two_elements_prop es)
   right_prop (disjunction bs) = hlevel (right_branches_prop bs, two_branches_prop bs)
 
@@ -146,7 +158,8 @@ mutual
   entry_words_prop : (e : Entry) → IsProp (HasWordsEntry e)
   entry_words_prop ellipsis = hlevel
   entry_words_prop (field label chain e) = hlevel (props, label_prop, words_prop e)
-  entry_words_prop (definition t from chain e) = hlevel (props, word_prop t, label_prop, words_prop e)
+  entry_words_prop (definition t from chain e) =
+      hlevel (props, word_prop t, label_prop, words_prop e)
 
   entries_words_prop : (es : Entries) → IsProp (HaveWordsEntries es)
   entries_words_prop no_entries = hlevel
@@ -163,5 +176,13 @@ packaged_prop (Some clause) no_entries = package_name_prop clause.name
 packaged_prop (Some clause) (entry e es) = hlevel (props, package_name_prop clause.name)
 
 -- Well-formedness is a proposition, so that a file may promise it.
-pub well_formed_prop : (clause : Option Package) (es : Entries) (comma : Bool) → IsProp (IsWellFormed clause es comma)
-well_formed_prop clause es comma = hlevel (props, packaged_prop clause es, right_entries_prop es, ends_entries_prop comma es, entries_words_prop es)
+pub prop : {clause : Option Package} {es : Entries} {comma : Bool}
+    → IsProp (IsFragment clause es comma)
+prop {clause} {es} {comma} =
+    hlevel (
+      props,
+      packaged_prop clause es,
+      right_entries_prop es,
+      ends_entries_prop comma es,
+      entries_words_prop es,
+    )

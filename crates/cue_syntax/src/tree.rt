@@ -1,19 +1,19 @@
 ghost use Rattle.cue_syntax.specs.Syntax.{entries};
-ghost use Rattle.cue_syntax.specs.Grammar.{IsWellFormed};
-ghost use Rattle.cue_syntax.specs.WellFormed.{well_formed_prop};
+ghost use Rattle.cue_syntax.specs.Grammar.{IsFragment};
+ghost use Rattle.cue_syntax.specs.WellFormed.{prop};
 
 use cue_lex::Word;
 
 /// A fragment: its package clause, if any, and its declarations. By its type it follows the
-/// grammar, opens at most 64 levels, and its names, labels and strings have at most 65,535 bytes, so
-/// that what reads it needs no premise.
+/// grammar, opens at most 64 levels, and its names, labels and strings have at most 65,535 bytes,
+/// so that what reads it needs no premise.
 #[derive(Debug, Drop)]
 pub struct File<'t> {
     pub package: Option<Package<'t>>,
     pub declarations: Vec<Declaration<'t>>,
     /// Whether a comma, written or inserted, stands after the last declaration.
     pub comma: bool,
-    pub ghost well_formed: { IsWellFormed «package» (entries declarations.items) comma } by { well_formed_prop «package» (entries declarations.items) comma },
+    pub ghost well_formed: { IsFragment «package» (entries declarations.items) comma } by { prop },
 }
 
 /// A package clause. It says nothing of the fragment's value.
