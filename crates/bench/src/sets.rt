@@ -10,7 +10,8 @@ use cue_lattice::{Memory, meet_all};
 use cue_sets::IntSet;
 use std::alloc::Global;
 
-/// The pieces from `8 k + first` to `8 k + last` for each k from `from` up to `to`, made in balance.
+/// The pieces from `8 k + first` to `8 k + last` for each k from `from` up to `to`, made in
+/// balance.
 fn spaced(alloc: Global, from: u32, to: u32, first: u8, last: u8) -> Result<IntSet, Memory> {
     if to <= from {
         return IntSet::empty(alloc);

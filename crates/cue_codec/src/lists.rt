@@ -1,5 +1,5 @@
-//! Lists after their counts, read from the front of the bytes. Room is made for what was read, never for what a count
-//! claims.
+//! Lists after their counts, read from the front of the bytes. Room is made for what was read,
+//! never for what a count claims.
 
 ghost use Rattle.std.specs.Prelude.{IfOk, IfErr};
 ghost use Rattle.std.specs.List.{flat_map};

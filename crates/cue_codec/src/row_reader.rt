@@ -57,9 +57,9 @@ impl<'a> RowReader<'a> {
         self.rest.is_empty()
     }
 
-    /// The row whose bytes stand in front, with its path; the reader goes on after it. Where no row's bytes stand there
-    /// it is refused as `NotState`, and where memory ran out as `Memory`; the reader is then as before. Room is made only
-    /// for what was read.
+    /// The row whose bytes stand in front, with its path; the reader goes on after it. Where no
+    /// row's bytes stand there it is refused as `NotState`, and where memory ran out as `Memory`;
+    /// the reader is then as before. Room is made only for what was read.
     pub fn read(&mut self, alloc: Global) -> Result<(Path, Row), Kind>
         ensures ok { IfOk result (λ row. Begins IsStateRow row_bytes row self.old self.new) }
         ensures refused { IfErr result (λ kind.

@@ -9,7 +9,8 @@ ghost use Rattle.cue_codec.specs.State.{state_bytes, table_bytes};
 ghost use Rattle.cue_table.specs.Tree.{Tree};
 ghost use Rattle.cue_table.specs.Valid.{IsValidTable};
 
-/// The bytes of a row in front tell the row and what stands after it. It computes nothing: it states a law.
+/// The bytes of a row in front tell the row and what stands after it. It computes nothing: it
+/// states a law.
 pub fn one_row_spelling()
     ensures { (a b : Path × Row) (r s : List ℕ) → IsStateRow a → IsStateRow b →
         row_bytes a ++ r ≡ row_bytes b ++ s →
@@ -22,7 +23,8 @@ pub fn one_state_spelling()
         state_bytes a ≡ state_bytes b → a ≡ b }
 {}
 
-/// No two valid tables share bytes, of any number that a memory can hold. It computes nothing: it states a law.
+/// No two valid tables share bytes, of any number that a memory can hold. It computes nothing: it
+/// states a law.
 pub fn one_table_spelling()
     ensures { (a b : Tree Row) → IsValidTable a → IsValidTable b → length (table_bytes a) < 2 ^ 64 →
         table_bytes a ≡ table_bytes b → a ≡ b }

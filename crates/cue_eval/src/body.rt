@@ -1,5 +1,5 @@
-//! Closing the body of a definition: where it writes struct literals itself, the labels that these don't declare are
-//! left out.
+//! Closing the body of a definition: where it writes struct literals itself, the labels that these
+//! don't declare are left out.
 ghost use Rattle.std.specs.Prelude.{◌≡◌, ◌↔◌, ℕ, List, IsTrue, IfOk, IfSome, IfNone, true, false};
 ghost use Rattle.cue_lattice.specs.Path as paths;
 ghost use Rattle.cue_row.specs.LabelSets.{RefusesLabel};
@@ -55,8 +55,8 @@ impl<'a, 'f, 't> Sight<'a, 'f, 't> {
     }
 }
 
-/// Closes the body of a definition, of which the rows are given, with what its own literals declare,
-/// and where literals of definitions that it names have a `...`.
+/// Closes the body of a definition, of which the rows are given, with what its own literals
+/// declare, and where literals of definitions that it names have a `...`.
 pub(crate) fn close(
     alloc: Global,
     own: &Table<Declared>,
@@ -74,8 +74,8 @@ pub(crate) fn close(
     Ok(Closed { rows: closed, dots })
 }
 
-/// The labels that are left out besides, as a table, by what a body's own literals declare, where a literal of a
-/// definition that it names has a `...`, and what it refuses already.
+/// The labels that are left out besides, as a table, by what a body's own literals declare, where a
+/// literal of a definition that it names has a `...`, and what it refuses already.
 fn label_sets(
     alloc: Global,
     own: &Table<Declared>,

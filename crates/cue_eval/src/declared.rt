@@ -20,7 +20,8 @@ pub struct Declared {
     pub undeclared: TextSet,
 }
 
-/// Unification unites: what one side tells is told. So "to refuse" a question is here to say yes to it.
+/// Unification unites: what one side tells is told. So "to refuse" a question is here to say yes to
+/// it.
 impl Narrow for Declared {
     ghost use Rattle.cue_eval.specs.Telling.{Tells, IsDeclared};
     ghost use Rattle.cue_eval.specs.TellingLaws.{same_declared};

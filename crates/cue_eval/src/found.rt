@@ -159,8 +159,8 @@ impl Found {
         }
     }
 
-    /// Parts that are joined by `&` at the root of a body. Scalars among them are joined as such and
-    /// make one table.
+    /// Parts that are joined by `&` at the root of a body. Scalars among them are joined as such
+    /// and make one table.
     #[cycle(body)]
     fn parts(
         &mut self,

@@ -41,7 +41,8 @@ pub(crate) fn scalar_table(alloc: Global, valued: Valued) -> Result<Table<Row>, 
     rooted(Table::new(alloc), scalar_row(alloc, valued)?)
 }
 
-/// To the tables of the parts of an `&` comes one of the scalars among its parts, where there are some.
+/// To the tables of the parts of an `&` comes one of the scalars among its parts, where there are
+/// some.
 pub(crate) fn push_scalars(
     alloc: Global,
     scalars: Vec<Valued>,

@@ -11,10 +11,11 @@ ghost use Rattle.cue_eval.specs.Validity.{PathsAreWritten, UnwrittenLabelsAreAli
 ghost use Rattle.cue_eval.specs.Validity.{UnwrittenTextsAreAlike, LengthsAreWithinSize};
 ghost use Rattle.cue_eval.specs.Validity.{TextsAreValid, TextsWriteWords};
 
-/// A use of a definition means its body, closed. `a & b` refuses exactly what one of both refuses, so that
-/// declarations may stand in one struct or in several. Closing parts one by one is at least as narrow as closing them
-/// together; closing twice is closing once; and a place where labels are left out already is changed by no closing
-/// around it. A scalar expression refuses what its value and its default do. It computes nothing: it states laws.
+/// A use of a definition means its body, closed. `a & b` refuses exactly what one of both refuses,
+/// so that declarations may stand in one struct or in several. Closing parts one by one is at least
+/// as narrow as closing them together; closing twice is closing once; and a place where labels are
+/// left out already is changed by no closing around it. A scalar expression refuses what its value
+/// and its default do. It computes nothing: it states laws.
 pub fn laws_of_meaning()
     ensures uses { UsesAreClosedBodies }
     ensures unified { IsUnification }
@@ -26,11 +27,12 @@ pub fn laws_of_meaning()
     ensures scalars { IsItsPair }
 {}
 
-/// What is refused at a place comes from something written there, which refuses all that its kind does. So where
-/// anything but a level is refused, nothing but scalars, nothing but a struct, or nothing but a list may stand; labels
-/// and fields belong to structs, lengths and elements to lists, levels to fields; no path has more steps than the
-/// expression is deep; and what may not stand isn't usual. That is what the rules of valid tables ask of kinds, parents,
-/// levels, lengths and paths. It computes nothing: it states laws.
+/// What is refused at a place comes from something written there, which refuses all that its kind
+/// does. So where anything but a level is refused, nothing but scalars, nothing but a struct, or
+/// nothing but a list may stand; labels and fields belong to structs, lengths and elements to
+/// lists, levels to fields; no path has more steps than the expression is deep; and what may not
+/// stand isn't usual. That is what the rules of valid tables ask of kinds, parents, levels, lengths
+/// and paths. It computes nothing: it states laws.
 pub fn laws_of_places()
     ensures origins { ComesFromSources }
     ensures kinds { PlacesAreOfKinds }
@@ -43,20 +45,20 @@ pub fn laws_of_places()
     ensures usual { UsualIsWithin }
 {}
 
-/// What closing adds to an expression: where labels are left out already it adds nothing (`laws_of_meaning`), and
-/// elsewhere it leaves out what the expression's own struct literals don't declare, where there are some and none, also
-/// in the definitions that it names, has a `...`. So evaluation closes a body by walking what it writes itself. It
-/// computes nothing: it states laws.
+/// What closing adds to an expression: where labels are left out already it adds nothing
+/// (`laws_of_meaning`), and elsewhere it leaves out what the expression's own struct literals don't
+/// declare, where there are some and none, also in the definitions that it names, has a `...`. So
+/// evaluation closes a body by walking what it writes itself. It computes nothing: it states laws.
 pub fn laws_of_closing()
     ensures written { AreOwnOrUsed }
     ensures used { UsedAreClosed }
     ensures closed { IsClosedByOwn }
 {}
 
-/// A table in its one form that has the answers of a legal text is valid, where the text's labels and strings are in
-/// UTF-8 and not too long, as the grammar's are. For the labels and texts that an answer speaks of are written, or they
-/// are among those that are not, of which all are left out or none is; and no list is longer than the text is large. It
-/// computes nothing: it states laws.
+/// A table in its one form that has the answers of a legal text is valid, where the text's labels
+/// and strings are in UTF-8 and not too long, as the grammar's are. For the labels and texts that
+/// an answer speaks of are written, or they are among those that are not, of which all are left out
+/// or none is; and no list is longer than the text is large. It computes nothing: it states laws.
 pub fn laws_of_validity()
     ensures paths { PathsAreWritten }
     ensures labels { UnwrittenLabelsAreAlike }

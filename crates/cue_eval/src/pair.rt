@@ -18,7 +18,8 @@ use cue_scope::{Definitions, Named};
 use cue_syntax::{Expr, Identifier, Term};
 use std::alloc::Global;
 
-/// The definitions of a text, and the value and default of those that are scalar, as far as they are known.
+/// The definitions of a text, and the value and default of those that are scalar, as far as they
+/// are known.
 #[derive(Clone, Copy, Drop)]
 pub(crate) struct Pairs<'a, 'f, 't> {
     pub alloc: Global,

@@ -8,7 +8,8 @@ ghost use Rattle.cue_eval.specs.Parts.{IsScalarPart, IsUseOf};
 use cue_scope::Definitions;
 use cue_syntax::{Expr, Identifier};
 
-/// Whether a part is a literal of scalars, a disjunction or a name of the language, also in parentheses.
+/// Whether a part is a literal of scalars, a disjunction or a name of the language, also in
+/// parentheses.
 pub(crate) fn is_scalar_part(part: &Expr) -> bool
     ensures { IsTrue result → IsScalarPart (expression part.now) }
 {

@@ -120,8 +120,8 @@ impl<'a, 'f, 't> Tables<'a, 'f, 't> {
         }
     }
 
-    /// Parts that are joined by `&`. Scalars among them are joined as such and make one table, and a
-    /// definition that several of them name is copied once.
+    /// Parts that are joined by `&`. Scalars among them are joined as such and make one table, and
+    /// a definition that several of them name is copied once.
     #[cycle(rows)]
     fn conjunction(&self, parts: &[Expr]) -> Result<Table<Row>, Memory>
         requires { AreReadyParts self.now (tree.elements parts.now) }

@@ -1,5 +1,5 @@
-//! What the struct literals at each place of an expression declare together: those that it writes itself, and those in
-//! definitions that it names apart.
+//! What the struct literals at each place of an expression declare together: those that it writes
+//! itself, and those in definitions that it names apart.
 ghost use Rattle.std.specs.Prelude.{◌≡◌, ◌↔◌, ◌+◌, ◌≤◌, ◌<◌, ℕ, Bool, List, [], true, length, IfOk};
 ghost use Rattle.cue_lattice.specs.Limits.{step_limit};
 ghost use Rattle.cue_syntax.specs.Syntax as tree;
@@ -34,7 +34,8 @@ pub(crate) enum Whose {
     Used,
 }
 
-/// What is known of definitions: where a literal in each has a `...`, as far as they were looked at.
+/// What is known of definitions: where a literal in each has a `...`, as far as they were looked
+/// at.
 #[derive(Clone, Copy, Drop)]
 pub(crate) struct Sight<'a, 'f, 't> {
     pub(crate) alloc: Global,
@@ -178,7 +179,8 @@ impl<'a, 'f, 't> Sight<'a, 'f, 't> {
     }
 }
 
-/// What is told of an expression, behind a chain of labels, each of which is in a struct of its own.
+/// What is told of an expression, behind a chain of labels, each of which is in a struct of its
+/// own.
 pub(crate) fn behind(
     alloc: Global,
     whose: Whose,

@@ -36,12 +36,13 @@ impl<N: Narrow> Narrowed<N> {
     }
 }
 
-/// What may be unified. A value refuses some questions, and unification refuses what one side refuses.
+/// What may be unified. A value refuses some questions, and unification refuses what one side
+/// refuses.
 ///
 /// Values with equal answers are equal: there is one form for each answer.
 pub trait Narrow: Sized + Drop {
-    /// What a value may be asked. Clauses range over all of its values, and a number in it is a whole number of any
-    /// size.
+    /// What a value may be asked. Clauses range over all of its values, and a number in it is a
+    /// whole number of any size.
     type Question;
 
     /// The value refuses the question.
@@ -63,8 +64,8 @@ pub trait Narrow: Sized + Drop {
         ensures { IfOk result (λ met. (question : Self.Question) →
             refuses met question ↔ (refuses self.now question ⊎ refuses other.now question)) };
 
-    /// The unification with a value that is not needed any more: what this one becomes. A side that the
-    /// other leaves as it is, is kept or moved, and not made anew.
+    /// The unification with a value that is not needed any more: what this one becomes. A side that
+    /// the other leaves as it is, is kept or moved, and not made anew.
     fn narrowed_by(&self, alloc: Global, other: Self) -> Result<Narrowed<Self>, Memory>
         ensures { IfOk result (IsNarrowedBy refuses self.now other) }
     {
@@ -98,7 +99,8 @@ pub trait Narrow: Sized + Drop {
         → ((question : Self.Question) → refuses a question ↔ refuses b question) → a ≡ b };
 }
 
-/// The unification of a list: refuses exactly what one of its values refuses. Of an empty list it is free.
+/// The unification of a list: refuses exactly what one of its values refuses. Of an empty list it
+/// is free.
 ///
 /// The list is halved, so that many values are unified in balance.
 pub fn meet_all<N: Narrow>(alloc: Global, values: &[N]) -> Result<N, Memory>

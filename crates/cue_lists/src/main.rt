@@ -82,7 +82,7 @@ fn main(rt: HostRuntime) -> anyhow::Result<()> {
         compare(&rt, number, line, &mut counts)?;
     }
     println!(rt;
-        "{number} lists: {} exported, {} with conflicts, {} incomplete, {} refused; {} answers wrong",
+        "{number} lists: {} exported, {} in conflict, {} incomplete, {} refused; {} answers wrong",
         counts.exported, counts.conflicting, counts.incomplete, counts.refused, counts.wrong
     )?;
     Ok(())

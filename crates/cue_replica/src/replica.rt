@@ -61,9 +61,9 @@ impl Replica {
     /// # Errors
     ///
     /// The first fault among the text's tokens: `TooLong`, `BadCharacter`, `BadString`,
-    /// `BadNumber`, `IntRange`, `TextTooLong`; else `Syntax`, `Nesting` or `LeftOut`; else the first
-    /// of `Repeated`, `FieldReference` and `UnknownName`, `Cycle`, `NotScalar`, `TooLarge` and
-    /// `TooDeep`. Each comes with its place in the text. And `Memory`.
+    /// `BadNumber`, `IntRange`, `TextTooLong`; else `Syntax`, `Nesting` or `LeftOut`; else the
+    /// first of `Repeated`, `FieldReference` and `UnknownName`, `Cycle`, `NotScalar`, `TooLarge`
+    /// and `TooDeep`. Each comes with its place in the text. And `Memory`.
     pub fn submit(&mut self, text: &str) -> Result<(), Refusal>
         ensures legal { OnOk result (language.IsLegal text.now) }
         ensures ok { OnOk result (Adds self.old (language.text_refuses text.now) self.new) }

@@ -25,8 +25,8 @@ pub struct Conflict {
     pub not_allowed: bool,
 }
 
-/// The conflicts of a table, in the order of their paths: the demanded places where no value may stand, or whose label
-/// the place above does not allow.
+/// The conflicts of a table, in the order of their paths: the demanded places where no value may
+/// stand, or whose label the place above does not allow.
 pub fn conflicts(alloc: Global, table: &Table<Row>) -> Result<Vec<Conflict>, Memory>
     ensures { IfOk result (λ found. AreConflicts (TableRefuses RowRefuses table.now) found.items) }
 {
@@ -49,7 +49,8 @@ struct Search<'a> {
 }
 
 impl<'a> Search<'a> {
-    /// Looks for conflicts at a place, of which the place above refuses the label or not, and below it.
+    /// Looks for conflicts at a place, of which the place above refuses the label or not, and below
+    /// it.
     fn visit(&mut self, branch: &Branch<'a, Row>, not_allowed: bool) -> Result<(), Memory>
         ensures steps { OnOk result (self.new.steps.items ≡ self.old.steps.items) }
         ensures found { OnOk result (self.new.found.items
@@ -90,7 +91,11 @@ impl<'a> Search<'a> {
     fn report(&mut self, no_value: bool, not_allowed: bool) -> Result<(), Memory>
         ensures steps { OnOk result (self.new.steps.items ≡ self.old.steps.items) }
         ensures found { OnOk result (self.new.found.items ≡ self.old.found.items
-            ++ (record { path = trail self.old; no_value = no_value; not_allowed = not_allowed } ∷ [])) }
+            ++ (record {
+              path = trail self.old;
+              no_value = no_value;
+              not_allowed = not_allowed;
+            } ∷ [])) }
     {
         let path = Place::new(copied(self.alloc, &self.steps)?);
         self.found.push(Conflict {

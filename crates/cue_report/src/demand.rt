@@ -20,8 +20,8 @@ pub(crate) fn lacks_value(row: &Row) -> bool
     !row.struct_ok && row.value.is_empty()
 }
 
-/// Whether the step from one place to the next is demanded: to a field that is required or there, or to an element
-/// that each list has.
+/// Whether the step from one place to the next is demanded: to a field that is required or there,
+/// or to an element that each list has.
 pub(crate) fn is_demanded(above: Option<&Row>, step: &Step, row: Option<&Row>) -> bool
     ensures { result ≡ search.is_demanded (option_map (λ row. row.now) above.entry)
         (step_of step.now)

@@ -7,8 +7,9 @@ use cue_row::{Step, push_steps};
 use std::alloc::Global;
 use std::marker::Model;
 
-/// A place that is reported: the steps that lead there from the root. The element of a list at the end of the longest
-/// path of a table is one step further than a [`cue_row::Path`] leads. Contracts see the list of the steps.
+/// A place that is reported: the steps that lead there from the root. The element of a list at the
+/// end of the longest path of a table is one step further than a [`cue_row::Path`] leads. Contracts
+/// see the list of the steps.
 #[derive(Debug, Drop)]
 pub struct Place {
     steps: Vec<Step>,

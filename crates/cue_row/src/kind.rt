@@ -24,8 +24,8 @@ pub enum RowKind {
 }
 
 impl Row {
-    /// What may stand at the place. Each row of a valid table has a kind; a row that lets two kinds of things stand, but
-    /// not all, has none.
+    /// What may stand at the place. Each row of a valid table has a kind; a row that lets two kinds
+    /// of things stand, but not all, has none.
     pub fn kind(&self) -> Option<RowKind>
         ensures some { IfSome result (IsKind self.now) }
         ensures none { IfNone result ((kind : Kinds) → ¬ IsKind self.now kind) }
@@ -58,8 +58,8 @@ impl Row {
         }
     }
 
-    /// The chosen scalar: the only usual one, or, where no scalar is usual, the only one that may stand. This takes
-    /// memory only for a text.
+    /// The chosen scalar: the only usual one, or, where no scalar is usual, the only one that may
+    /// stand. This takes memory only for a text.
     pub fn chosen(&self, alloc: Global) -> Result<Option<Scalar>, Memory>
         ensures some { IfOk result (λ found. IfSome found (IsChosen self.now)) }
         ensures none { IfOk result (λ found. IfNone found

@@ -9,8 +9,8 @@ use cue_sets::TextSet;
 use std::alloc::Global;
 use std::marker::Model;
 
-/// Which labels may stand directly below a place: all, or a finite set. Contracts see nothing where all may stand, and
-/// otherwise the list of those that may, strictly ascending by their bytes.
+/// Which labels may stand directly below a place: all, or a finite set. Contracts see nothing where
+/// all may stand, and otherwise the list of those that may, strictly ascending by their bytes.
 #[derive(Debug, Drop)]
 pub struct Labels {
     set: TextSet,

@@ -4,7 +4,8 @@ ghost use Rattle.cue_row.specs.Levels.{level_of};
 /// How much a fragment asks of a field. Unification takes the greater level.
 #[derive(Clone, Copy, Debug, PartialEq, Eq)]
 pub enum Level {
-    /// The field is constrained where it is there. This is level 0, which the root and the elements of lists have too.
+    /// The field is constrained where it is there. This is level 0, which the root and the elements
+    /// of lists have too.
     Optional,
     /// The field has to be given. This is level 1.
     Required,

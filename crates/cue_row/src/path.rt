@@ -10,8 +10,8 @@ use std::alloc::Global;
 use std::cmp::Ordering;
 use std::marker::Model;
 
-/// Where something stands in a configuration: the steps that lead there from the root, at most [`STEP_LIMIT`] of them.
-/// Contracts see the list of them.
+/// Where something stands in a configuration: the steps that lead there from the root, at most
+/// [`STEP_LIMIT`] of them. Contracts see the list of them.
 #[derive(Debug, Drop)]
 pub struct Path {
     steps: Vec<Step>,

@@ -26,8 +26,8 @@ pub enum Question {
     LengthAtLeast(u32),
 }
 
-/// The questions of rows are just the questions of places: each is asked by one of these, and no two ask the same. It
-/// computes nothing: it states a law.
+/// The questions of rows are just the questions of places: each is asked by one of these, and no
+/// two ask the same. It computes nothing: it states a law.
 pub fn one_question()
     ensures asked { (question : places.Question) → question_of (asked_by question) ≡ question }
     ensures back { (question : Questions) → asked_by (question_of question) ≡ question }

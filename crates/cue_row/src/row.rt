@@ -6,8 +6,8 @@ use cue_lattice::{Memory, Narrow, Narrowed};
 use cue_scalars::ScalarSet;
 use std::alloc::Global;
 
-/// What is known of one place of a configuration. A row refuses questions, and unification refuses what one side
-/// refuses.
+/// What is known of one place of a configuration. A row refuses questions, and unification refuses
+/// what one side refuses.
 #[derive(Debug, Drop)]
 pub struct Row {
     pub level: Level,

@@ -9,8 +9,9 @@ use cue_lattice::Memory;
 use itoa::Buffer;
 use std::alloc::Global;
 
-/// The path as reports write it: `.` for the root, and otherwise its steps with `.` between them. An index is its
-/// decimal digits. A label is bare where [`is_bare`] says so, and otherwise quoted, as a CUE string literal.
+/// The path as reports write it: `.` for the root, and otherwise its steps with `.` between them.
+/// An index is its decimal digits. A label is bare where [`is_bare`] says so, and otherwise quoted,
+/// as a CUE string literal.
 pub fn path_text(alloc: Global, path: &Path) -> Result<String, Memory>
     ensures { IfOk result (λ text. string_bytes text ≡ path_text path.now) }
 {
@@ -74,8 +75,8 @@ fn push_step(out: &mut String, step: &Step) -> Result<(), Memory>
     Ok(())
 }
 
-/// Whether a label of these bytes needs no quotation marks in a path: it consists of ASCII letters and digits, `_` and
-/// `$`, is not empty and does not begin with a digit.
+/// Whether a label of these bytes needs no quotation marks in a path: it consists of ASCII letters
+/// and digits, `_` and `$`, is not empty and does not begin with a digit.
 pub fn is_bare(label: &[u8]) -> bool
     ensures { result ≡ is_bare label.now }
 {

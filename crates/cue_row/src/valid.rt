@@ -9,7 +9,8 @@ use crate::{Row, RowKind, Step};
 use cue_lattice::{LENGTH_LIMIT, Narrow, Text, WORD_LIMIT};
 
 impl Row {
-    /// Whether the row may stand in a valid table, as far as it alone decides. This takes no memory.
+    /// Whether the row may stand in a valid table, as far as it alone decides. This takes no
+    /// memory.
     pub fn is_valid(&self) -> bool
         ensures { IsTrue result ↔ IsValidRow self.now }
     {
@@ -34,8 +35,8 @@ impl Row {
         !self.is_free()
     }
 
-    /// Whether the usual scalars fit a kind: all of a free place, some of those that may stand where scalars do, and
-    /// none elsewhere.
+    /// Whether the usual scalars fit a kind: all of a free place, some of those that may stand
+    /// where scalars do, and none elsewhere.
     fn usual_fits(&self, kind: RowKind) -> bool
         ensures { IsTrue result ↔ UsualFits self.now kind }
     {
@@ -81,7 +82,8 @@ impl Row {
         }
     }
 
-    /// Whether no label and no text of the sets is too long. That they are in UTF-8 is what their type says.
+    /// Whether no label and no text of the sets is too long. That they are in UTF-8 is what their
+    /// type says.
     fn has_words(&self) -> bool
         ensures { IsTrue result ↔ HasWords self.now }
     {

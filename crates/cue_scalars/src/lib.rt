@@ -1,7 +1,7 @@
 //! Sets of scalars, and values with defaults as the CUE language has them.
 //!
-//! A set of scalars is its members, in one form. A value with a default is a pair of such sets, which follows the CUE
-//! language specification's rules for `&`, for `|` and for marks.
+//! A set of scalars is its members, in one form. A value with a default is a pair of such sets,
+//! which follows the CUE language specification's rules for `&`, for `|` and for marks.
 #![tactic(auto)]
 
 mod scalar_set;

@@ -165,8 +165,8 @@ impl ScalarSet {
         Ok(only_plain(self.null, self.no, self.yes))
     }
 
-    /// The first member, where there is one: in the order null, false, true, integers upwards, texts by their bytes. This
-    /// takes memory only where all members are texts.
+    /// The first member, where there is one: in the order null, false, true, integers upwards,
+    /// texts by their bytes. This takes memory only where all members are texts.
     pub fn first(&self, alloc: Global) -> Result<Option<Scalar>, Memory>
         ensures given { (scalar : Scalar) → members self.now scalar ≡ true → kind scalar < 4 →
             IsOk result }

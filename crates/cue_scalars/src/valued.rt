@@ -11,8 +11,8 @@ use cue_lattice::{Memory, Narrow};
 use std::alloc::Global;
 use std::vec::IntoIter;
 
-/// The scalars that may stand, and the default where there is one: those among them that are meant where nothing is
-/// said. A default may be empty, which is not the same as none.
+/// The scalars that may stand, and the default where there is one: those among them that are meant
+/// where nothing is said. A default may be empty, which is not the same as none.
 #[derive(Debug, Drop)]
 pub struct Valued {
     pub value: ScalarSet,
@@ -24,7 +24,8 @@ impl Valued {
     ghost use Rattle.cue_scalars.specs.Pairs.{all_of, both, disjunction, join_of, sum_of, term_of};
     ghost use Rattle.cue_scalars.specs.Values.{pair_of, terms_of};
 
-    /// The unification `&`: values meet, and so do defaults, where a side without a default brings its value.
+    /// The unification `&`: values meet, and so do defaults, where a side without a default brings
+    /// its value.
     pub fn and(self, alloc: Global, other: Valued) -> Result<Valued, Memory>
         ensures { IfOk result (λ met. pair_of met ≡ both (pair_of self) (pair_of other)) }
     {
@@ -34,7 +35,8 @@ impl Valued {
         self.and_usual(alloc, other)
     }
 
-    /// The unification of one or more. They are taken over, and unified by halves, so that many are unified in balance.
+    /// The unification of one or more. They are taken over, and unified by halves, so that many are
+    /// unified in balance.
     pub fn and_all(alloc: Global, values: Vec<Valued>) -> Result<Valued, Memory>
         requires { 0 < length values.items }
         ensures { IfOk result (λ met. pair_of met ≡ all_of (map pair_of values.items)) }
@@ -61,8 +63,9 @@ impl Valued {
         }
     }
 
-    /// The disjunction `|` of marked and unmarked terms, which are taken over. Of no terms it is the empty value without
-    /// a default. The terms are united by halves, so that many are united in balance.
+    /// The disjunction `|` of marked and unmarked terms, which are taken over. Of no terms it is
+    /// the empty value without a default. The terms are united by halves, so that many are united
+    /// in balance.
     pub fn or(alloc: Global, terms: Vec<(bool, Valued)>) -> Result<Valued, Memory>
         ensures { IfOk result (λ all. pair_of all ≡ disjunction (terms_of terms.items)) }
     {
@@ -72,8 +75,8 @@ impl Valued {
         Valued::next_joined(alloc, any_marked, &mut rest, count)
     }
 
-    /// The values, and which of them are usual: the default, or all of them where there is none. This takes memory only
-    /// where there is no default.
+    /// The values, and which of them are usual: the default, or all of them where there is none.
+    /// This takes memory only where there is no default.
     pub fn settle(self, alloc: Global) -> Result<(ScalarSet, ScalarSet), Memory>
         ensures given { IsSome self.usual → IsOk result }
         ensures value { IfOk result (λ settled. settled.0 ≡ self.value) }
@@ -146,8 +149,8 @@ impl Valued {
         met.and(alloc, Valued::next_met(alloc, rest, count - half)?)
     }
 
-    /// The values of the next terms of a disjunction, and the union of the defaults that they bring. `any_marked` says
-    /// whether some term of the disjunction is marked.
+    /// The values of the next terms of a disjunction, and the union of the defaults that they
+    /// bring. `any_marked` says whether some term of the disjunction is marked.
     fn next_joined(
         alloc: Global,
         any_marked: bool,

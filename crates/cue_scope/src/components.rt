@@ -9,7 +9,8 @@ use crate::memory::{push, zeros};
 use cue_lattice::Refusal;
 use std::alloc::Global;
 
-/// A guess at the strongly connected components of a graph, by Tarjan's search. Nothing rests on it but time.
+/// A guess at the strongly connected components of a graph, by Tarjan's search. Nothing rests on it
+/// but time.
 #[derive(Drop)]
 pub struct Components {
     /// The nodes, each component after those that it points to.

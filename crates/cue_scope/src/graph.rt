@@ -65,8 +65,8 @@ pub fn targets<'g>(graph: &'g [Vec<usize>], node: usize) -> &'g [usize]
     graph[node].as_slice()
 }
 
-/// Places each node that can be placed. The list of nodes only saves time: nodes that come in it after those that they
-/// point to are placed at once.
+/// Places each node that can be placed. The list of nodes only saves time: nodes that come in it
+/// after those that they point to are placed at once.
 fn place(alloc: Global, graph: &[Vec<usize>], nodes: &[usize]) -> Result<Placed, Refusal>
     requires { IsClosed (graph_of graph.now) }
     ensures placed { IfOk result (λ r. IsPlaced (graph_of graph.now) r.order.items r.ranks.items) }

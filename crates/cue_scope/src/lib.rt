@@ -1,4 +1,5 @@
-//! Names, definitions and limits: what the definitions of a text are, and in which order they can be taken.
+//! Names, definitions and limits: what the definitions of a text are, and in which order they can
+//! be taken.
 #![tactic(auto)]
 
 mod components;

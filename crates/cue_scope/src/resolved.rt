@@ -64,8 +64,8 @@ impl<'f, 't> Model for Resolved<'f, 't> {
 /// # Errors
 ///
 /// The first of these checks that the text fails: `Repeated`; `FieldReference` and `UnknownName`,
-/// by the first name; `Cycle`; `NotScalar`; `TooLarge`; `TooDeep`. Each comes with the place that it
-/// names. And `Memory`.
+/// by the first name; `Cycle`; `NotScalar`; `TooLarge`; `TooDeep`. Each comes with the place that
+/// it names. And `Memory`.
 pub fn resolve<'f, 't>(alloc: Global, file: &'f File<'t>) -> Result<Resolved<'f, 't>, Refusal>
     ensures legal { OnOk result (IsLegal (entries_of file.now)) }
     ensures resolved { IfOk result (λ r. r ≡ file.now) }

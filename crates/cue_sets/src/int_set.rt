@@ -15,9 +15,9 @@ use std::marker::Model;
 
 /// A set of integers of 64 bits.
 ///
-/// It is kept as pieces from a first to a last number, both included, which ascend and neither overlap nor touch. So
-/// sets with equal members are equal values. A set of one piece, such as all integers, one integer or all up to one,
-/// takes no memory besides the value itself.
+/// It is kept as pieces from a first to a last number, both included, which ascend and neither
+/// overlap nor touch. So sets with equal members are equal values. A set of one piece, such as all
+/// integers, one integer or all up to one, takes no memory besides the value itself.
 #[derive(Debug)]
 pub struct IntSet {
     pieces: Kept,
@@ -157,7 +157,8 @@ impl IntSet {
         }
     }
 
-    /// The pieces: each a first and a last number, ascending, with at least one number left out between neighbours.
+    /// The pieces: each a first and a last number, ascending, with at least one number left out
+    /// between neighbours.
     pub fn pieces(&self) -> &[(i64, i64)]
         ensures list { result.now ≡ self.now }
         ensures canonical { IsCanonical self.now }
@@ -165,8 +166,8 @@ impl IntSet {
         self.pieces.as_slice()
     }
 
-    /// The set of these pieces, each a first and a last number, where they ascend, none is empty, and between neighbours
-    /// at least one number is left out. This takes no memory.
+    /// The set of these pieces, each a first and a last number, where they ascend, none is empty,
+    /// and between neighbours at least one number is left out. This takes no memory.
     pub fn from_pieces(pieces: Vec<(i64, i64)>) -> Option<IntSet>
         ensures some { IfSome result (λ set. set ≡ pieces.items) }
         ensures none { IfNone result (¬ IsCanonical pieces.items) }

@@ -6,7 +6,8 @@ use cue_lattice::Memory;
 use std::alloc::Global;
 use std::slice;
 
-/// The pieces of a set as they are kept. One piece lies in the value itself, and only several take memory.
+/// The pieces of a set as they are kept. One piece lies in the value itself, and only several take
+/// memory.
 #[derive(Debug, Drop)]
 pub(crate) enum Kept {
     /// One piece.

@@ -1,7 +1,7 @@
 //! Sets of integers of 64 bits and sets of texts, each with one form for its members.
 //!
-//! A set is its members: the contract of each call says which members its answer has, and what a set lists is its one
-//! form, so that sets with equal members are equal values.
+//! A set is its members: the contract of each call says which members its answer has, and what a
+//! set lists is its one form, so that sets with equal members are equal values.
 #![tactic(auto)]
 
 mod combination;

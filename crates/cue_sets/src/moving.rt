@@ -24,7 +24,8 @@ fn take_least(left: &mut VecDeque<Text>, right: &mut VecDeque<Text>) -> Option<L
         ≡ prepended_if (kept least.in_left least.in_right) least.text
         (merged kept left.new.items right.new.items)) }
     ensures shorter { IfSome result (λ least.
-        length left.new.items + length right.new.items < length left.old.items + length right.old.items) }
+        length left.new.items + length right.new.items
+        < length left.old.items + length right.old.items) }
     ensures none { IfNone result ((left.old.items ≡ []) × (right.old.items ≡ [])) }
 {
     let order = match left.front() {
@@ -67,7 +68,8 @@ pub(crate) fn merge_moved(
     Ok(texts)
 }
 
-/// The least text of two ascending lists, of which only the right one is taken over, and what is left of the left one.
+/// The least text of two ascending lists, of which only the right one is taken over, and what is
+/// left of the left one.
 #[derive(Drop)]
 enum Taken<'a> {
     /// Only the left list has it, where it stays.
@@ -76,11 +78,13 @@ enum Taken<'a> {
     Moves(Text, bool, &'a [Text]),
 }
 
-/// Takes the least text from two ascending lists, where one has a text. It is moved where the right list has it.
+/// Takes the least text from two ascending lists, where one has a text. It is moved where the right
+/// list has it.
 fn take_beside<'a>(left: &'a [Text], right: &mut VecDeque<Text>) -> Option<Taken<'a>>
     ensures some { IfSome result (λ taken. IsLeast taken left.now right.old.items right.new.items) }
     ensures shorter { IfSome result (λ taken.
-        length (left_of taken) + length right.new.items < length left.now + length right.old.items) }
+        length (left_of taken) + length right.new.items
+        < length left.now + length right.old.items) }
     ensures none { IfNone result ((left.now ≡ []) × (right.old.items ≡ [])) }
 {
     match left {
@@ -96,8 +100,8 @@ fn take_beside<'a>(left: &'a [Text], right: &mut VecDeque<Text>) -> Option<Taken
     }
 }
 
-/// The list of a combination of two sets, where the left list stays as it is and the texts of the right one are moved.
-/// Both lists are walked once.
+/// The list of a combination of two sets, where the left list stays as it is and the texts of the
+/// right one are moved. Both lists are walked once.
 pub(crate) fn merge_beside(
     alloc: Global,
     how: Lists,

@@ -55,7 +55,8 @@ fn ahead(rest: &[(i64, i64)], from: i64) -> &[(i64, i64)]
     }
 }
 
-/// Goes on at `from` with numbers that are kept or not. `begun` is where the piece begins that is being made.
+/// Goes on at `from` with numbers that are kept or not. `begun` is where the piece begins that is
+/// being made.
 fn go_on(
     pieces: &mut Vec<(i64, i64)>,
     begun: Option<i64>,

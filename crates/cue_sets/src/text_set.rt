@@ -14,8 +14,8 @@ use std::marker::Model;
 
 /// A set of texts: a finite one, or all texts but finitely many.
 ///
-/// It lists its members, or the texts that it lacks, strictly ascending by their bytes. So sets with equal members are
-/// equal values.
+/// It lists its members, or the texts that it lacks, strictly ascending by their bytes. So sets
+/// with equal members are equal values.
 #[derive(Debug, Drop)]
 pub struct TextSet {
     all_but: bool,
@@ -139,8 +139,8 @@ impl TextSet {
         Some(self.texts[0].as_str())
     }
 
-    /// The least member by bytes, where there is one. Of all texts but some it is the first of the texts of zero, one,
-    /// two, .. characters U+0000 that the set has.
+    /// The least member by bytes, where there is one. Of all texts but some it is the first of the
+    /// texts of zero, one, two, .. characters U+0000 that the set has.
     pub fn first(&self, alloc: Global) -> Result<Option<Text>, Memory>
         ensures some { IfOk result (λ found. IfSome found (IsFirstText self.now)) }
         ensures none { IfOk result (λ found. IfNone found (self.now ≡ (false, []))) }
@@ -154,7 +154,8 @@ impl TextSet {
         Ok(Some(self.texts[0].copy(alloc)?))
     }
 
-    /// Whether the set has all texts but the listed ones, and the listed texts, strictly ascending by their bytes.
+    /// Whether the set has all texts but the listed ones, and the listed texts, strictly ascending
+    /// by their bytes.
     pub fn listed(&self) -> (bool, &[Text])
         ensures all_but { result.0 ≡ self.now.0 }
         ensures texts { result.1.now ≡ self.now.1 }
@@ -163,8 +164,8 @@ impl TextSet {
         (self.all_but, self.texts.as_slice())
     }
 
-    /// The set that has these texts, or, if `all_but` is true, all others, where they ascend strictly by their bytes.
-    /// This takes no memory.
+    /// The set that has these texts, or, if `all_but` is true, all others, where they ascend
+    /// strictly by their bytes. This takes no memory.
     pub fn from_texts(all_but: bool, texts: Vec<Text>) -> Option<TextSet>
         ensures some { IfSome result (λ set. set ≡ (all_but, texts.items)) }
         ensures none { IfNone result (¬ IsAscending texts.items) }
@@ -234,7 +235,8 @@ impl TextSet {
         })
     }
 
-    /// The members of both sets. This set stays as it is, and the texts of the other are moved and not copied.
+    /// The members of both sets. This set stays as it is, and the texts of the other are moved and
+    /// not copied.
     fn meet_moving(&self, alloc: Global, other: TextSet) -> Result<TextSet, Memory>
         ensures { IfOk result (λ met. (text : List ℕ) →
             is_text_member met text ≡ (is_text_member self.now text && is_text_member other text)) }

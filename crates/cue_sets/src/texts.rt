@@ -9,8 +9,8 @@ use cue_lattice::{Memory, Text};
 use std::alloc::Global;
 use std::cmp::Ordering;
 
-/// Whether a text is a member of a set, by whether it is listed. `all_but` says that the set has all texts but the
-/// listed ones.
+/// Whether a text is a member of a set, by whether it is listed. `all_but` says that the set has
+/// all texts but the listed ones.
 pub(crate) fn is_member(all_but: bool, listed: bool) -> bool
     ensures { result ≡ flipped all_but listed }
 {
@@ -159,8 +159,8 @@ pub(crate) fn ascends(texts: &[Text]) -> bool
     true
 }
 
-/// Whether the other list has each of these texts, or, if `wanted` is false, has none of them. A few texts are looked up
-/// one by one, and many are walked side by side with the other list.
+/// Whether the other list has each of these texts, or, if `wanted` is false, has none of them. A
+/// few texts are looked up one by one, and many are walked side by side with the other list.
 pub(crate) fn each_is_listed(texts: &[Text], others: &[Text], wanted: bool) -> bool
     requires texts { IsAscending texts.now }
     requires others { IsAscending others.now }
@@ -231,8 +231,8 @@ pub(crate) fn copies(alloc: Global, texts: &[Text]) -> Result<Vec<Text>, Memory>
     Ok(copied)
 }
 
-/// How many texts at the front of an ascending list are those of zero, one, two, .. characters U+0000. No text is below
-/// these, so the next of them is the least that is not listed.
+/// How many texts at the front of an ascending list are those of zero, one, two, .. characters
+/// U+0000. No text is below these, so the next of them is the least that is not listed.
 pub(crate) fn zeros_listed(texts: &[Text]) -> usize
     requires { IsAscending texts.now }
     ensures { IsFirstText (true, texts.now) (replicate result 0) }

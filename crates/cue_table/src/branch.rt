@@ -10,7 +10,8 @@ use cue_lattice::Narrow;
 use cue_row::Step;
 use std::marker::Model;
 
-/// A place of a table, with all that is known there and below. Contracts see it as a tree. Its readers take no memory.
+/// A place of a table, with all that is known there and below. Contracts see it as a tree. Its
+/// readers take no memory.
 #[derive(Drop)]
 pub struct Branch<'a, R: Narrow> {
     node: &'a Node<R>,

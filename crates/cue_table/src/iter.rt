@@ -12,7 +12,8 @@ use cue_lattice::Narrow;
 use cue_row::Step;
 use std::marker::Model;
 
-/// The branches below a place, each with its step, in the order of the steps. Contracts see those that are left.
+/// The branches below a place, each with its step, in the order of the steps. Contracts see those
+/// that are left.
 #[derive(Drop)]
 pub struct Children<'a, R: Narrow> {
     rest: &'a [Child<R>],
@@ -57,7 +58,8 @@ impl<'a, R: Narrow> Iterator for Children<'a, R> {
     }
 }
 
-/// The branches at the labels below a place, in the order of the labels. Contracts see the list of those that are left.
+/// The branches at the labels below a place, in the order of the labels. Contracts see the list of
+/// those that are left.
 #[derive(Drop)]
 pub struct Labels<'a, R: Narrow> {
     rest: &'a [Child<R>],
@@ -110,8 +112,8 @@ impl<'a, R: Narrow> Iterator for Labels<'a, R> {
     }
 }
 
-/// The branches at the indexes below a place, in the order of the indexes. Contracts see the list of those that are
-/// left.
+/// The branches at the indexes below a place, in the order of the indexes. Contracts see the list
+/// of those that are left.
 #[derive(Drop)]
 pub struct Items<'a, R: Narrow> {
     rest: &'a [Child<R>],

@@ -27,8 +27,9 @@ pub fn equal_rows<R: Narrow>()
         → rows_of a ≡ rows_of b → a ≡ b }
 {}
 
-/// What `Table::meet` makes is the greatest lower bound: the order of tables, how often each comes and which are met
-/// first make no difference, the met table is at least as narrow as both, and it is the widest such table.
+/// What `Table::meet` makes is the greatest lower bound: the order of tables, how often each comes
+/// and which are met first make no difference, the met table is at least as narrow as both, and it
+/// is the widest such table.
 pub fn meet_is_greatest_lower_bound<R: Narrow>()
     ensures commutative { MeetsCommute R.refuses R.is_value }
     ensures associative { MeetsAssociate R.refuses R.is_value }

@@ -15,8 +15,9 @@ use std::cmp::Ordering;
 use std::vec::IntoIter;
 
 impl<R: Narrow> Table<R> {
-    /// What the tables of a list know together: refuses exactly what one of them does. Of an empty list it is the table
-    /// without rows. The tables are taken over and not copied, and unified by halves.
+    /// What the tables of a list know together: refuses exactly what one of them does. Of an empty
+    /// list it is the table without rows. The tables are taken over and not copied, and unified by
+    /// halves.
     pub fn unified(alloc: Global, tables: Vec<Table<R>>) -> Result<Table<R>, Memory>
         ensures form { IfOk result (IsTable R.refuses R.is_value) }
         ensures refused { IfOk result (IsUnified R.refuses tables.items) }
@@ -26,9 +27,10 @@ impl<R: Narrow> Table<R> {
         next_unified(alloc, &mut rest, count)
     }
 
-    /// The table of branches that are given in any order: it knows nothing at the root, and below a step what the tables
-    /// given for this step know together. The tables are taken over and not copied. They are put in the order of their
-    /// steps, and each is hung in behind the last one; those at a step that is there already are unified by halves.
+    /// The table of branches that are given in any order: it knows nothing at the root, and below a
+    /// step what the tables given for this step know together. The tables are taken over and not
+    /// copied. They are put in the order of their steps, and each is hung in behind the last one;
+    /// those at a step that is there already are unified by halves.
     pub fn of_branches(alloc: Global, branches: Vec<(Step, Table<R>)>) -> Result<Table<R>, Memory>
         requires { All (λ one. tree_depth one.1 < step_limit) branches.items }
         ensures form { IfOk result (IsTable R.refuses R.is_value) }
@@ -38,8 +40,8 @@ impl<R: Narrow> Table<R> {
     }
 }
 
-/// The branches in the order of their steps. Where they stand so already, none is moved; else they are sorted in boxes, so
-/// that few bytes are moved at each step of the sort.
+/// The branches in the order of their steps. Where they stand so already, none is moved; else they
+/// are sorted in boxes, so that few bytes are moved at each step of the sort.
 fn by_step<R: Narrow>(
     alloc: Global,
     branches: Vec<(Step, Table<R>)>,
@@ -76,8 +78,8 @@ fn unboxed<T: Drop>(alloc: Global, boxes: Vec<Box<T>>) -> Result<Vec<T>, Memory>
     Ok(items)
 }
 
-/// The table of these branches. A branch at a step behind all others is hung in behind them; those that are left, where
-/// a step is given again, are unified by halves.
+/// The table of these branches. A branch at a step behind all others is hung in behind them; those
+/// that are left, where a step is given again, are unified by halves.
 fn hung_together<R: Narrow>(
     alloc: Global,
     branches: Vec<(Step, Table<R>)>,

@@ -1,5 +1,5 @@
-//! What becomes of a place that takes another one over: found out before it changes, so that the change itself takes no
-//! memory.
+//! What becomes of a place that takes another one over: found out before it changes, so that the
+//! change itself takes no memory.
 ghost use Rattle.std.specs.Prelude.{◌≡◌, ◌+◌, ◌<◌, ◌≤◌, drop, length, slice_index_or, IfOk, IsTrue};
 ghost use Rattle.cue_table.specs.Form.{AreBranches, IsKept, IsRow, IsTable};
 ghost use Rattle.cue_table.specs.Meet.{IsMerge, IsMet, IsUnion};

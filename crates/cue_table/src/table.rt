@@ -24,8 +24,9 @@ use std::cmp::Ordering;
 use std::marker::Model;
 use std::mem;
 
-/// What is known at each path of a configuration. Contracts see it as a tree of rows, in the one form that it has for
-/// what it refuses, and with no path of more than [`cue_lattice::STEP_LIMIT`] steps.
+/// What is known at each path of a configuration. Contracts see it as a tree of rows, in the one
+/// form that it has for what it refuses, and with no path of more than [`cue_lattice::STEP_LIMIT`]
+/// steps.
 #[derive(Drop)]
 pub struct Table<R: Narrow> {
     alloc: Global,
@@ -115,8 +116,8 @@ impl<R: Narrow> Table<R> {
         Ok(met)
     }
 
-    /// Unifies the other table into this one, which then refuses exactly what one of both did. After want of memory it
-    /// is as it was.
+    /// Unifies the other table into this one, which then refuses exactly what one of both did.
+    /// After want of memory it is as it was.
     pub fn meet_with(&mut self, other: Table<R>) -> Result<(), Memory>
         ensures form { IsTable R.refuses R.is_value self.new }
         ensures ok { OnOk result (IsMet R.refuses self.old other self.new) }
@@ -144,7 +145,8 @@ impl<R: Narrow> Table<R> {
         self.meet_with(Table { alloc, root })
     }
 
-    /// Unifies a row into the one at the root, and takes it over. After want of memory the table is as it was.
+    /// Unifies a row into the one at the root, and takes it over. After want of memory the table is
+    /// as it was.
     pub fn meet_row(&mut self, row: R) -> Result<(), Memory>
         ensures form { IsTable R.refuses R.is_value self.new }
         ensures ok { OnOk result (IsAdded R.refuses self.old [] row self.new) }
@@ -171,9 +173,10 @@ impl<R: Narrow> Table<R> {
         Some(self.root.row.take()?.into_row())
     }
 
-    /// Adds a row that stands behind all others in path order, and says whether it does: where another row stands at the
-    /// path or behind it, and where the row refuses nothing, the table is left as it is. So it is after want of memory.
-    /// This costs what the path costs, however many rows there are.
+    /// Adds a row that stands behind all others in path order, and says whether it does: where
+    /// another row stands at the path or behind it, and where the row refuses nothing, the table is
+    /// left as it is. So it is after want of memory. This costs what the path costs, however many
+    /// rows there are.
     pub fn append(&mut self, path: &Path, row: R) -> Result<bool, Memory>
         ensures form { IsTable R.refuses R.is_value self.new }
         ensures appends { IfOk result (AppendsKept R.refuses self.old path.now row self.new) }
@@ -195,7 +198,8 @@ impl<R: Narrow> Table<R> {
         last_against(&self.root.children, step) == Ordering::Less
     }
 
-    /// Hangs a table in at a step behind those of all branches at the root. One without rows adds nothing.
+    /// Hangs a table in at a step behind those of all branches at the root. One without rows adds
+    /// nothing.
     pub(crate) fn hang_last(&mut self, step: Step, table: Table<R>) -> Result<(), Memory>
         requires depth { tree_depth table < step_limit }
         requires last { last_cmp (step_of step) (below self.old) ≡ Less }

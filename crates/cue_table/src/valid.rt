@@ -58,7 +58,8 @@ fn is_end(branch: &Branch<Row>) -> bool
     }
 }
 
-/// Whether a valid row stands at the place and at each below it, and each may stand below its parent.
+/// Whether a valid row stands at the place and at each below it, and each may stand below its
+/// parent.
 fn is_sound(branch: &Branch<Row>) -> bool
     ensures { IsTrue result ↔ IsSound branch.now }
 {

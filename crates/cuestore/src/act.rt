@@ -30,8 +30,8 @@ pub fn act<H: AllocGlobal + Files, R: Read, W: Write, F: Write>(
     out: &mut W,
     faults: &mut F,
 ) -> u8
-    // It ends with 0, 2 or 3 only where what belongs to the command was added to the output: what is
-    // told of a valid table with exactly the answers of the pieces in all inputs.
+    // It ends with 0, 2 or 3 only where what belongs to the command was added to the output: what
+    // is told of a valid table with exactly the answers of the pieces in all inputs.
     ensures { IsAnswered H.File.contents (map string_bytes words.now) (R.remaining input.old)
         (W.contents out.old) (W.contents out.new) result
         ⊎ (result ≡ 1) ⊎ (result ≡ 4) }
@@ -46,8 +46,8 @@ pub fn act<H: AllocGlobal + Files, R: Read, W: Write, F: Write>(
     report(rt.alloc(), &fault, out, faults).code()
 }
 
-/// Runs the program on the words that the process was given, as `act` does. Words that can't be read
-/// are a usage fault, or there is no memory for them.
+/// Runs the program on the words that the process was given, as `act` does. Words that can't be
+/// read are a usage fault, or there is no memory for them.
 pub fn run<H: AllocGlobal + Env + Files, R: Read, W: Write, F: Write>(
     rt: &H,
     input: &mut R,
@@ -89,9 +89,11 @@ fn answer<H: AllocGlobal + Files, R: Read>(
 ) -> Result<Reply, Stop>
     requires { HasEnough request.now.command (texts request.now.arguments.items) }
     ensures reply { IfOk result (IsReplyOf H.File.contents request.now.command
-        (inputs_of request.now.command (length request.now.arguments.items)) (R.remaining input.old)) }
+        (inputs_of request.now.command (length request.now.arguments.items))
+        (R.remaining input.old)) }
     ensures stop { IfErr result
-        (IsStopFor (inputs_of request.now.command (length request.now.arguments.items)) (R.remaining input.old)) }
+        (IsStopFor (inputs_of request.now.command (length request.now.arguments.items))
+        (R.remaining input.old)) }
 {
     let arguments = request.arguments.as_slice();
     match request.command {

@@ -1,5 +1,5 @@
-//! Tests of evaluation, from a text to the rows of its table, its printed text and its export, kept in a crate above
-//! `cue_eval`, so that it is not proved a second time with them.
+//! Tests of evaluation, from a text to the rows of its table, its printed text and its export, kept
+//! in a crate above `cue_eval`, so that it is not proved a second time with them.
 #![tactic(auto)]
 
 #[cfg(test)]

@@ -15,8 +15,8 @@ pub fn tree<R: Narrow>(alloc: Global, rows: &[Entry<R>]) -> Result<Table<R>, Mem
     Ok(made)
 }
 
-/// The tree of these rows, each given twice. The row at the root is taken off before another one is unified into it, and
-/// put back.
+/// The tree of these rows, each given twice. The row at the root is taken off before another one is
+/// unified into it, and put back.
 fn tree_by_root<R: Narrow>(alloc: Global, rows: &[Entry<R>]) -> Result<Table<R>, Memory> {
     let mut made = Table::new(alloc);
     for entry in rows.iter().chain(rows.iter()) {
@@ -71,8 +71,8 @@ pub fn agree_at<R: Narrow>(tree: &Table<R>, plain: &Plain<R>, path: &Path) -> bo
     }
 }
 
-/// Whether these rows make the same table both ways, which a copy is equal to, and which is made again by its rows in
-/// path order.
+/// Whether these rows make the same table both ways, which a copy is equal to, and which is made
+/// again by its rows in path order.
 pub fn adds<R: Narrow>(alloc: Global, rows: &[Entry<R>]) -> Result<bool, Memory> {
     let tree = tree(alloc, rows)?;
     let plain = plain(alloc, rows)?;
@@ -180,7 +180,8 @@ fn has_all<R: Narrow>(alloc: Global, tree: &Table<R>, rows: &[Entry<R>]) -> Resu
     has_rows(alloc, tree, &plain(alloc, rows)?)
 }
 
-/// Whether both tables are as they were after a unification into a third that was refused, and after copies that were.
+/// Whether both tables are as they were after a unification into a third that was refused, and
+/// after copies that were.
 pub fn meets_or_stays<R: Narrow>(
     alloc: Global,
     left: &[Entry<R>],

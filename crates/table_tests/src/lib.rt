@@ -1,6 +1,6 @@
-//! Tests of tables and of state bytes, kept in a crate above `cue_table` and `cue_codec`, so that neither of these is
-//! proved a second time with them. Each list of rows goes through the tree and through a plain list of rows with the
-//! same calls.
+//! Tests of tables and of state bytes, kept in a crate above `cue_table` and `cue_codec`, so that
+//! neither of these is proved a second time with them. Each list of rows goes through the tree and
+//! through a plain list of rows with the same calls.
 #![tactic(auto)]
 
 #[cfg(test)]

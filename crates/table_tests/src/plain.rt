@@ -1,4 +1,5 @@
-//! A table as the list of its rows in strict path order, without free rows: the plainest form there is.
+//! A table as the list of its rows in strict path order, without free rows: the plainest form there
+//! is.
 use cue_lattice::{Memory, Narrow};
 use cue_row::Path;
 use std::alloc::Global;

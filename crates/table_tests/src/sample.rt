@@ -17,7 +17,8 @@ fn step(alloc: Global, name: char) -> Result<Step, Memory> {
     Ok(Step::Label(Text::new(label)))
 }
 
-/// A path of one-letter labels and one-digit indexes: `a1b` is the label `a`, the index 1 and the label `b`.
+/// A path of one-letter labels and one-digit indexes: `a1b` is the label `a`, the index 1 and the
+/// label `b`.
 pub fn path(alloc: Global, word: &str) -> Result<Path, Memory> {
     let mut steps = Vec::new(alloc);
     for name in word.chars() {
@@ -39,7 +40,8 @@ fn between(alloc: Global, first: i64, last: i64) -> Result<ScalarSet, Memory> {
     })
 }
 
-/// The row of a field that is one of these integers, from the first to the last, of which some are usual.
+/// The row of a field that is one of these integers, from the first to the last, of which some are
+/// usual.
 fn integers(alloc: Global, value: (i64, i64), usual: (i64, i64)) -> Result<Row, Memory> {
     Ok(Row {
         level: Level::Given,
