@@ -13,7 +13,8 @@ use Rattle.cue_codec.specs.State.{mark, table_bytes}
 
 -- the mark, and after it a version that is not known
 abbrev pub IsOtherVersion : List ℕ → Type 0
-IsOtherVersion bytes = (version : ℕ) × (rest : List ℕ) × (bytes ≡ mark ++ (version ∷ rest)) × ¬ (version ≡ 1)
+IsOtherVersion bytes =
+    (version : ℕ) × (rest : List ℕ) × (bytes ≡ mark ++ (version ∷ rest)) × ¬ (version ≡ 1)
 
 -- the bytes of no valid table
 abbrev pub IsNoState : List ℕ → Type 0
@@ -22,9 +23,11 @@ IsNoState bytes = (tree : Tree Row) → IsValidTable tree → ¬ (table_bytes tr
 -- The version is not known; or it is, or there is none, and no valid table has these bytes.
 abbrev pub IsRejected : List ℕ → Kind → Type 0
 IsRejected bytes kind =
-    ((kind ≡ kinds.Version) × IsOtherVersion bytes) ⊎ ((kind ≡ kinds.NotState) × ¬ IsOtherVersion bytes × IsNoState bytes)
+    ((kind ≡ kinds.Version) × IsOtherVersion bytes)
+    ⊎ ((kind ≡ kinds.NotState) × ¬ IsOtherVersion bytes × IsNoState bytes)
 
--- memory ran out while the rows were read, and so not where the version is not known; or the bytes are rejected
+-- memory ran out while the rows were read, and so not where the version is not known; or the bytes
+-- are rejected
 abbrev pub IsUndecoded : List ℕ → Kind → Type 0
 IsUndecoded bytes kind = ((kind ≡ kinds.Memory) × ¬ IsOtherVersion bytes) ⊎ IsRejected bytes kind
 

@@ -1,5 +1,7 @@
--- The bytes of the parts of a row. Numbers are written from the highest byte to the lowest, integers in two's complement.
-use Rattle.std.specs.Prelude.{ℕ, ◌+◌, ◌*◌, ℤ, Bool, true, false, List, [], ◌∷◌, ◌++◌, length, Option, Some, None}
+-- The bytes of the parts of a row. Numbers are written from the highest byte to the lowest,
+-- integers in two's complement.
+use Rattle.std.specs.Prelude.{ℕ, ◌+◌, ◌*◌, ℤ, Bool, true, false, List, [], ◌∷◌, ◌++◌, length}
+use Rattle.std.specs.Prelude.{Option, Some, None}
 use Rattle.std.specs.List.{flat_map}
 use Rattle.std.specs.Int.{w16, w32, w64, to_be_bytes, cast_unsigned}
 use Rattle.cue_lattice.specs.Path.{Step, label, index, Path}
@@ -36,7 +38,8 @@ text_set_bytes set = bit set.0 ∷ counted_bytes text_bytes set.1
 
 -- null and the truth values, the pieces of integers, the texts
 unfoldable pub set_bytes : ScalarSet → List ℕ
-set_bytes set = flags set.null set.no set.yes ∷ (counted_bytes piece_bytes set.ints ++ text_set_bytes set.texts)
+set_bytes set =
+    flags set.null set.no set.yes ∷ (counted_bytes piece_bytes set.ints ++ text_set_bytes set.texts)
 
 -- all labels, or the listed ones
 unfoldable pub labels_bytes : Option (List (List ℕ)) → List ℕ

@@ -1,5 +1,6 @@
 -- What a reader promises of the bytes in front of it.
-use Rattle.std.specs.Prelude.{◌≡◌, ◌⊎◌, ℕ, ◌^◌, ◌<◌, ℤ, List, ◌++◌, length, take, drop, nat_lt, if◌then◌else◌, Option, Some, None}
+use Rattle.std.specs.Prelude.{◌≡◌, ◌⊎◌, ℕ, ◌^◌, ◌<◌, ℤ, List, ◌++◌, length, take, drop, nat_lt}
+use Rattle.std.specs.Prelude.{if◌then◌else◌, Option, Some, None}
 use Rattle.std.specs.Int.{Width, byte_len, from_be_bytes}
 use Rattle.std.specs.List.{AllByRecursion}
 use Rattle.std.specs.Str.{IsUtf8}
@@ -9,13 +10,15 @@ use Rattle.cue_lattice.specs.declared.refusal.Kind.{Kind}
 use Rattle.cue_lattice.specs.declared.refusal.Kind.TheVariants as kinds
 
 -- the bytes of the value stand in front, and after them the rest
-pub record Begins {X : Type 0} (is_value : X → Type 0) (code : X → List ℕ) (item : X) (bytes rest : List ℕ) : Type 0 where
+pub record Begins {X : Type 0} (is_value : X → Type 0) (code : X → List ℕ) (item : X)
+    (bytes rest : List ℕ) : Type 0 where
   pub value : is_value item
   pub parts : bytes ≡ code item ++ rest
 
 -- the bytes of no value stand in front
 abbrev pub BeginsNone : {X : Type 0} → (X → Type 0) → (X → List ℕ) → List ℕ → Type 0
-BeginsNone {X} is_value code bytes = (item : X) (rest : List ℕ) → is_value item → bytes ≡ code item ++ rest → ⊥
+BeginsNone {X} is_value code bytes =
+    (item : X) (rest : List ℕ) → is_value item → bytes ≡ code item ++ rest → ⊥
 
 -- a number, and the bytes after it
 unfoldable pub number_at : Width → List ℕ → Option (ℕ × List ℕ)

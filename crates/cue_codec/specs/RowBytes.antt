@@ -1,5 +1,6 @@
 -- The bytes of a row: its path, its level, its kind, and what the kind leaves open.
-use Rattle.std.specs.Prelude.{◌≡◌, ℕ, ◌+◌, Bool, true, false, not, ◌&&◌, List, [], ◌∷◌, ◌++◌, length, Option, None}
+use Rattle.std.specs.Prelude.{◌≡◌, ℕ, ◌+◌, Bool, true, false, not, ◌&&◌, List, [], ◌∷◌, ◌++◌}
+use Rattle.std.specs.Prelude.{length, Option, None}
 use Rattle.std.specs.List.{flat_map, AllByRecursion}
 use Rattle.cue_lattice.specs.Path.{Path}
 use Rattle.cue_sets.specs.Pieces.{least, greatest}
@@ -11,8 +12,8 @@ use Rattle.cue_codec.specs.Parts.{set_bytes, labels_bytes, lengths_bytes, step_b
 use Rattle.cue_codec.specs.Reading.{Begins, AreWideLengths, IsShort, AreShortLabels}
 use Rattle.cue_codec.specs.StateRow.{IsStateSet, AreStateLabels, IsStatePath}
 
--- what a row says beside its level: anything may stand; some scalar, with the usual ones; a struct with these labels; a
--- list of these lengths; or nothing, where labels and lengths are left out
+-- what a row says beside its level: anything may stand; some scalar, with the usual ones; a struct
+-- with these labels; a list of these lengths; or nothing, where labels and lengths are left out
 pub data Parts : Type 0 where
   free : Parts
   scalar : ScalarSet → ScalarSet → Parts
@@ -42,7 +43,9 @@ is_nil (x ∷ xs) = false
 
 -- whether a set has no member
 abbrev pub is_empty_set : ScalarSet → Bool
-is_empty_set set = not set.null && (not set.no && (not set.yes && (is_nil set.ints && (not set.texts.0 && is_nil set.texts.1))))
+is_empty_set set =
+    not set.null
+    && (not set.no && (not set.yes && (is_nil set.ints && (not set.texts.0 && is_nil set.texts.1))))
 
 -- the kind, by whether a struct may stand, whether a list may, and whether no scalar may
 abbrev pub parts_by : Bool → Bool → Bool → Row → Parts
@@ -63,15 +66,66 @@ abbrev pub empty_set : ScalarSet
 empty_set = record { null = false; no = false; yes = false; ints = []; texts = (false, []) }
 
 abbrev pub full_set : ScalarSet
-full_set = record { null = true; no = true; yes = true; ints = (least, greatest) ∷ []; texts = (true, []) }
+full_set = record {
+  null = true;
+  no = true;
+  yes = true;
+  ints = (least, greatest) ∷ [];
+  texts = (true, []);
+}
 
 -- the row of a kind that says no more than this
 abbrev pub row_of : Level → Parts → Row
-row_of level free = record { level = level; value = full_set; usual = full_set; struct_ok = true; list_ok = true; labels = None; least = 0; most = None }
-row_of level (scalar value usual) = record { level = level; value = value; usual = usual; struct_ok = false; list_ok = false; labels = None; least = 0; most = None }
-row_of level (struct labels) = record { level = level; value = empty_set; usual = empty_set; struct_ok = true; list_ok = false; labels = labels; least = 0; most = None }
-row_of level (list lengths) = record { level = level; value = empty_set; usual = empty_set; struct_ok = false; list_ok = true; labels = None; least = lengths.0; most = lengths.1 }
-row_of level (nothing labels lengths) = record { level = level; value = empty_set; usual = empty_set; struct_ok = false; list_ok = false; labels = labels; least = lengths.0; most = lengths.1 }
+row_of level free = record {
+  level = level;
+  value = full_set;
+  usual = full_set;
+  struct_ok = true;
+  list_ok = true;
+  labels = None;
+  least = 0;
+  most = None;
+}
+row_of level (scalar value usual) = record {
+  level = level;
+  value = value;
+  usual = usual;
+  struct_ok = false;
+  list_ok = false;
+  labels = None;
+  least = 0;
+  most = None;
+}
+row_of level (struct labels) = record {
+  level = level;
+  value = empty_set;
+  usual = empty_set;
+  struct_ok = true;
+  list_ok = false;
+  labels = labels;
+  least = 0;
+  most = None;
+}
+row_of level (list lengths) = record {
+  level = level;
+  value = empty_set;
+  usual = empty_set;
+  struct_ok = false;
+  list_ok = true;
+  labels = None;
+  least = lengths.0;
+  most = lengths.1;
+}
+row_of level (nothing labels lengths) = record {
+  level = level;
+  value = empty_set;
+  usual = empty_set;
+  struct_ok = false;
+  list_ok = false;
+  labels = labels;
+  least = lengths.0;
+  most = lengths.1;
+}
 
 -- some scalar, and the usual ones
 pub record AreScalars (sets : ScalarSet × ScalarSet) : Type 0 where
@@ -96,7 +150,8 @@ pub record IsStateRow (row : Path × Row) : Type 0 where
   pub says : row.1 ≡ row_of row.1.level (parts_of row.1)
 
 -- A part of a row was read, and the row of this level that says it was made.
-pub record Reads {X : Type 0} (made : X → Parts) (is_value : X → Type 0) (code : X → List ℕ) (level : Level) (row : Row) (bytes rest : List ℕ) : Type 0 where
+pub record Reads {X : Type 0} (made : X → Parts) (is_value : X → Type 0) (code : X → List ℕ)
+    (level : Level) (row : Row) (bytes rest : List ℕ) : Type 0 where
   pub item : X
   pub says : row ≡ row_of level (made item)
   pub begins : Begins is_value code item bytes rest
@@ -107,7 +162,10 @@ pub record IsShortRow (row : Row) : Type 0 where
   pub value : AllByRecursion IsShort row.value.texts.1
   pub usual : AllByRecursion IsShort row.usual.texts.1
 
--- A row whose path goes on from a place that is so many steps from the root. These steps are the bytes in front.
+-- A row whose path goes on from a place that is so many steps from the root. These steps are the
+-- bytes in front.
 unfoldable pub row_bytes_from : ℕ → List ℕ → Path × Row → List ℕ
 row_bytes_from depth steps row =
-    (depth + length row.0) ∷ (steps ++ (flat_map step_bytes row.0 ++ (level_of row.1.level ∷ parts_bytes (parts_of row.1))))
+    (depth + length row.0)
+    ∷ (steps
+    ++ (flat_map step_bytes row.0 ++ (level_of row.1.level ∷ parts_bytes (parts_of row.1))))

@@ -1,4 +1,5 @@
--- The state bytes of a table, version 1: a mark, the version, how many rows there are, and the rows in path order.
+-- The state bytes of a table, version 1: a mark, the version, how many rows there are, and the rows
+-- in path order.
 use Rattle.std.specs.Prelude.{ℕ, List, [], ◌∷◌, ◌++◌}
 use Rattle.cue_lattice.specs.Path.{Path}
 use Rattle.cue_row.specs.declared.row.Row.{Row}

@@ -35,34 +35,45 @@ OnlyLabels labels _ = ⊥
 
 -- the labels that these literals don't declare are left out, where these are all but finitely many
 abbrev pub LeftOut : Declared → Question → Type 0
-LeftOut here (allows l) = (here.stands ≡ true) × (here.undeclared.0 ≡ true) × (is_text_member here.undeclared l ≡ true)
+LeftOut here (allows l) =
+    (here.stands ≡ true) × (here.undeclared.0 ≡ true) × (is_text_member here.undeclared l ≡ true)
 LeftOut here _ = ⊥
 
 -- the row leaves out no label
 abbrev pub AllowsAll : Option Row → Type 0
-AllowsAll row = (l : List ℕ) → ¬ RowRefuses (λ (r : Row) (k : List ℕ). RefusesLabel r.labels k) row l
+AllowsAll row =
+    (l : List ℕ) → ¬ RowRefuses (λ (r : Row) (k : List ℕ). RefusesLabel r.labels k) row l
 
--- what is left out at a place, where no definition that is used has a `...` there, and no label is left out yet
+-- what is left out at a place, where no definition that is used has a `...` there, and no label is
+-- left out yet
 abbrev pub AddedAt : Tree Declared → Tree Row → Path → Declared → Question → Type 0
 AddedAt dots rows path here question =
     (¬ TableRefuses Tells dots path Stands) × AllowsAll (row_at rows path) × LeftOut here question
 
 abbrev pub IsAddedBy : Tree Declared → Tree Declared → Tree Row → Tree Row → Type 0
 IsAddedBy own dots rows sets = (path : Path) (question : program.Question) →
-    TableRefuses Refuses sets path question ↔ OneOf (λ row. (row.0 ≡ path) × AddedAt dots rows row.0 row.1 (question_of question)) (rows_of own)
+    TableRefuses Refuses sets path question
+    ↔ OneOf (λ row. (row.0 ≡ path) × AddedAt dots rows row.0 row.1 (question_of question))
+    (rows_of own)
 
 -- each label is declared
 abbrev pub IsDotted : Declared → Type 0
 IsDotted here = (here.stands ≡ true) × ((l : List ℕ) → RefusesText here.undeclared l)
 
 abbrev pub AreDotted : Tree Declared → Tree Declared → Type 0
-AreDotted own dots = (path : Path) (asked : Asked) → TableRefuses Tells dots path asked ↔ OneOf (λ row. (row.0 ≡ path) × IsDotted row.1) (rows_of own)
+AreDotted own dots =
+    (path : Path) (asked : Asked)
+    → TableRefuses Tells dots path asked
+    ↔ OneOf (λ row. (row.0 ≡ path) × IsDotted row.1) (rows_of own)
 
 -- of a body it is known what closing asks
 abbrev pub IsBodyKnown : Sight → List Label → Expression → Type 0
-IsBodyKnown known chain e = AreKnown known (uses (all_of known.definitions.now) e) (size (means known e)) (depth (nested chain (means known e)))
+IsBodyKnown known chain e =
+    AreKnown known (uses (all_of known.definitions.now) e) (size (means known e))
+    (depth (nested chain (means known e)))
 
--- The rows refuse what the body refuses where it is closed, and the dots are those of all its literals.
+-- The rows refuse what the body refuses where it is closed, and the dots are those of all its
+-- literals.
 pub record IsClosedBody (c : Core) (body : Closed) : Type 0 where
   pub form : IsTable Refuses IsRow body.rows
   pub answers : HasAnswersOf (closed c) body.rows

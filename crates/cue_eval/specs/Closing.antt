@@ -1,10 +1,11 @@
--- What closing adds to an expression: it looks at the struct literals that the expression writes itself, since those in
--- definitions that it names are closed already.
+-- What closing adds to an expression: it looks at the struct literals that the expression writes
+-- itself, since those in definitions that it names are closed already.
 use Rattle.std.specs.Prelude.{◌≡◌, ◌⊎◌, ◌↔◌, ℕ, zero, suc, Bool, true, List, [], ◌∷◌}
 use Rattle.std.specs.List.{list_any}
 use Rattle.cue_lattice.specs.Path.{Path, label, index}
 use Rattle.cue_lattice.specs.Question.{allows}
-use Rattle.cue_scope.specs.Core.{Core, conjunction, struct, close, list, closed, Cores, no_cores, core, Members, no_members, member, dots}
+use Rattle.cue_scope.specs.Core.{Core, conjunction, struct, close, list, closed, Cores, no_cores}
+use Rattle.cue_scope.specs.Core.{core, Members, no_members, member, dots}
 use Rattle.cue_eval.specs.Literals.{literals, declares, has_dots, LeaveOut}
 use Rattle.cue_eval.specs.Refuses.{Refuses}
 
@@ -20,8 +21,8 @@ AtList elements [] = ⊥
 AtList elements (label l ∷ path) = ⊥
 AtList elements (index i ∷ path) = elements i path
 
--- One of the struct literals at a path does: of those that the expression writes itself `own` says which, and `used`
--- whether one does in a definition that it names.
+-- One of the struct literals at a path does: of those that the expression writes itself `own` says
+-- which, and `used` whether one does in a definition that it names.
 abbrev mutual
   pub OneDoes : (Members → Type 0) → (Core → Path → Type 0) → Core → Path → Type 0
   OneDoes own used (conjunction cs) path = OneOfParts own used cs path
@@ -38,7 +39,8 @@ abbrev mutual
   -- at a path below a label
   pub OneOfFields : (Members → Type 0) → (Core → Path → Type 0) → Members → List ℕ → Path → Type 0
   OneOfFields own used no_members l path = ⊥
-  OneOfFields own used (member k mark c ms) l path = ((k ≡ l) × OneDoes own used c path) ⊎ OneOfFields own used ms l path
+  OneOfFields own used (member k mark c ms) l path =
+      ((k ≡ l) × OneDoes own used c path) ⊎ OneOfFields own used ms l path
   OneOfFields own used (dots ms) l path = OneOfFields own used ms l path
 
   -- at a path below an index
@@ -59,25 +61,30 @@ OneOfUsed test = OneDoes (λ ms. ⊥) (λ c path. list_any test (literals c path
 abbrev pub any_literal : Members → Bool
 any_literal ms = true
 
--- Some struct literals are written by the expression itself, none at the path has a `...`, and its own don't declare
--- the label.
+-- Some struct literals are written by the expression itself, none at the path has a `...`, and its
+-- own don't declare the label.
 pub record LeaveOutOwn (c : Core) (path : Path) (l : List ℕ) : Type 0 where
   pub some : OneOfOwn any_literal c path
   pub without_dots : ¬ OneOfOwn has_dots c path
   pub used_without_dots : ¬ OneOfUsed has_dots c path
   pub undeclared : ¬ OneOfOwn (declares l) c path
 
--- The struct literals at a path are those that the expression writes itself, and those in definitions that it names.
+-- The struct literals at a path are those that the expression writes itself, and those in
+-- definitions that it names.
 abbrev pub AreOwnOrUsed : Type 0
 AreOwnOrUsed = (test : Members → Bool) (c : Core) (path : Path) →
     (list_any test (literals c path) ≡ true) ↔ (OneOfOwn test c path ⊎ OneOfUsed test c path)
 
--- Where definitions that are named write struct literals, one has a `...`, or labels are left out already.
+-- Where definitions that are named write struct literals, one has a `...`, or labels are left out
+-- already.
 abbrev pub UsedAreClosed : Type 0
 UsedAreClosed = (c : Core) (path : Path) →
-    OneOfUsed any_literal c path → OneOfUsed has_dots c path ⊎ ((k : List ℕ) × Refuses c path (allows k))
+    OneOfUsed any_literal c path
+    → OneOfUsed has_dots c path ⊎ ((k : List ℕ) × Refuses c path (allows k))
 
--- Where no label is left out yet, closing leaves out what the expression's own literals don't declare.
+-- Where no label is left out yet, closing leaves out what the expression's own literals don't
+-- declare.
 abbrev pub IsClosedByOwn : Type 0
 IsClosedByOwn = (c : Core) (path : Path) (l : List ℕ) →
-    ((k : List ℕ) → ¬ Refuses c path (allows k)) → LeaveOut (literals c path) l ↔ LeaveOutOwn c path l
+    ((k : List ℕ) → ¬ Refuses c path (allows k))
+    → LeaveOut (literals c path) l ↔ LeaveOutOwn c path l

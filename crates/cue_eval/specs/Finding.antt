@@ -1,5 +1,6 @@
 -- What is known of the definitions of a text that were evaluated.
-use Rattle.std.specs.Prelude.{◌≡◌, ◌≤◌, ◌<◌, ℕ, Bool, true, false, List, [], ◌++◌, Option, Some, None, IsTrue, length, drop, slice_index, slice_index_or}
+use Rattle.std.specs.Prelude.{◌≡◌, ◌≤◌, ◌<◌, ℕ, Bool, true, false, List, [], ◌++◌, Option, Some}
+use Rattle.std.specs.Prelude.{None, IsTrue, length, drop, slice_index, slice_index_or}
 use Rattle.cue_lattice.specs.Limits.{size_limit, step_limit}
 use Rattle.cue_row.specs.Row.{Refuses, IsRow}
 use Rattle.cue_row.specs.declared.row.Row.{Row}
@@ -40,7 +41,9 @@ pub record IsDefined (c : Core) (defined : Defined) : Type 0 where
 pub record IsFoundAt (c : Core) (i : ℕ) (found : Found) : Type 0 where
   pub pair : IsTrue (is_scalar c) → IsPairOf c (slice_index_or found.pairs.items i None)
   pub rows : IsTableAt c (slice_index_or found.tables.items i None)
-  pub dots : (table : Tree Declared) × ((d : Option (Tree Declared)) → slice_index_or found.dots.items i d ≡ Some table) × AreDots c table
+  pub dots : (table : Tree Declared)
+      × ((d : Option (Tree Declared)) → slice_index_or found.dots.items i d ≡ Some table)
+      × AreDots c table
 
 -- of these definitions all is known
 abbrev pub AreFound : List Definition → List ℕ → Found → Type 0
@@ -54,8 +57,11 @@ pub record HasRoom (count : ℕ) (found : Found) : Type 0 where
 
 -- of the definitions that are used once in all, these say which
 abbrev pub AreOnce : Entries → List Bool → Type 0
-AreOnce es once = (order : List ℕ) → IsReachedOrder (graph (definitions es)) (uses_of_fields (definitions es) es) order
-    → (i : ℕ) → slice_index_or once i false ≡ true → times i (written_uses (definitions es) es order) ≡ 1
+AreOnce es once =
+    (order : List ℕ)
+    → IsReachedOrder (graph (definitions es)) (uses_of_fields (definitions es) es) order
+    → (i : ℕ) → slice_index_or once i false ≡ true
+    → times i (written_uses (definitions es) es order) ≡ 1
 
 abbrev pub IsOnce : Found → ℕ → Type 0
 IsOnce found i = slice_index_or found.once.items i false ≡ true
@@ -64,7 +70,8 @@ IsOnce found i = slice_index_or found.once.items i false ≡ true
 abbrev pub AreSingle : Found → List ℕ → Type 0
 AreSingle found us = (i : ℕ) → IsOnce found i → times i us ≤ 1
 
--- A definition of the grammar with scalar terms, that is neither too large nor too deep, and that uses known definitions.
+-- A definition of the grammar with scalar terms, that is neither too large nor too deep, and that
+-- uses known definitions.
 pub record IsDefinable (ds : List Definition) (d : Definition) (found : Found) : Type 0 where
   pub room : HasRoom (length ds) found
   pub used : AreFound ds (uses ds d.value) found
@@ -106,16 +113,21 @@ pub record IsKept (us : List ℕ) (old new : Found) : Type 0 where
   pub once : new.once.items ≡ old.once.items
   pub count_tables : length new.tables.items ≡ length old.tables.items
   pub count_dots : length new.dots.items ≡ length old.dots.items
-  pub tables : (i : ℕ) (d : Option (Tree Row)) → ¬ (IsOnce old i × IsIn i us) → slice_index_or new.tables.items i d ≡ slice_index_or old.tables.items i d
-  pub dots : (i : ℕ) (d : Option (Tree Declared)) → ¬ (IsOnce old i × IsIn i us) → slice_index_or new.dots.items i d ≡ slice_index_or old.dots.items i d
+  pub tables : (i : ℕ) (d : Option (Tree Row)) → ¬ (IsOnce old i × IsIn i us)
+      → slice_index_or new.tables.items i d ≡ slice_index_or old.tables.items i d
+  pub dots : (i : ℕ) (d : Option (Tree Declared)) → ¬ (IsOnce old i × IsIn i us)
+      → slice_index_or new.dots.items i d ≡ slice_index_or old.dots.items i d
 
--- the uses that are written in the text's fields, and in those definitions of the order that come later
+-- the uses that are written in the text's fields, and in those definitions of the order that come
+-- later
 abbrev pub later_uses : List Definition → List ℕ → List ℕ → ℕ → List ℕ
 later_uses ds from order count = from ++ targets_of (graph ds) (drop count order)
 
 -- so many definitions of the order are known, as far as they are used later
-pub record IsFoundSoFar (ds : List Definition) (from order : List ℕ) (count : ℕ) (found : Found) : Type 0 where
+pub record IsFoundSoFar (ds : List Definition) (from order : List ℕ) (count : ℕ)
+    (found : Found) : Type 0 where
   pub room : HasRoom (length ds) found
   pub once : AreSingle found (later_uses ds from order count)
-  pub each : (k : ℕ) → k < count → k < length order → IsIn (slice_index order k) (later_uses ds from order count)
+  pub each : (k : ℕ) → k < count → k < length order
+      → IsIn (slice_index order k) (later_uses ds from order count)
       → IsFoundAt (meaning ds (slice_index order k)) (slice_index order k) found

@@ -23,7 +23,8 @@ LabelsRefuse labels _ = ⊥
 
 -- at a step and then a path: what the tables refuse that are given for this step
 abbrev pub GivenRefuse : List (Step × Tree Row) → paths.Step → Path → Question → Type 0
-GivenRefuse given step path question = OneOf (λ one. (step_of one.0 ≡ step) × Answers one.1 path question) given
+GivenRefuse given step path question =
+    OneOf (λ one. (step_of one.0 ≡ step) × Answers one.1 path question) given
 
 -- a literal: at its own place what it refuses itself, and below it what is given
 abbrev pub LiteralAnswers : (Question → Type 0) → List (Step × Tree Row) → Refusals

@@ -38,7 +38,8 @@ IsPairOf c (Some valued) = pair_of valued ≡ pair c
 -- the pair of each of these definitions that is scalar is known
 abbrev pub ArePairsKnown : Pairs → List ℕ → Type 0
 ArePairsKnown known is =
-    (i : ℕ) → IsIn i is → IsTrue (is_scalar (meaning (definitions_of known) i)) → IsPairOf (meaning (definitions_of known) i) (slice_index_or known.pairs.now i None)
+    (i : ℕ) → IsIn i is → IsTrue (is_scalar (meaning (definitions_of known) i))
+    → IsPairOf (meaning (definitions_of known) i) (slice_index_or known.pairs.now i None)
 
 -- A scalar expression of the grammar has a pair that can be found.
 pub record IsPairable (known : Pairs) (e : Expression) : Type 0 where

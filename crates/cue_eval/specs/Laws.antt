@@ -2,7 +2,8 @@
 use Rattle.std.specs.Prelude.{◌≡◌, ◌<◌, ◌↔◌, ◌⊎◌, List, ℕ, IsTrue, length, slice_get}
 use Rattle.cue_lattice.specs.Path.{Path}
 use Rattle.cue_lattice.specs.Question.{Question, allows, SameAnswers, IsAsNarrowAs}
-use Rattle.cue_scope.specs.Core.{Core, conjunction, struct, closed, Cores, no_cores, core, Members, no_members, member, dots, is_scalar}
+use Rattle.cue_scope.specs.Core.{Core, conjunction, struct, closed, Cores, no_cores, core, Members}
+use Rattle.cue_scope.specs.Core.{no_members, member, dots, is_scalar}
 use Rattle.cue_scope.specs.Definitions.{Definition}
 use Rattle.cue_scope.specs.Graph.{IsOrder}
 use Rattle.cue_scope.specs.Uses.{graph}
@@ -18,7 +19,8 @@ both a b = conjunction (core a (core b no_cores))
 
 -- Where definitions can be ordered by use, a use of one means its body, closed.
 abbrev pub UsesAreClosedBodies : Type 0
-UsesAreClosedBodies = (ds : List Definition) (order : List ℕ) → IsOrder (graph ds) order → (i : ℕ) → i < length ds →
+UsesAreClosedBodies =
+    (ds : List Definition) (order : List ℕ) → IsOrder (graph ds) order → (i : ℕ) → i < length ds →
     meaning ds i ≡ meant_use ds (meaning ds) (slice_get ds i)
 
 -- `a & b` refuses exactly what one of both refuses
@@ -28,7 +30,9 @@ IsUnification = (a b : Core) (path : Path) (question : Question) →
 
 -- What refuses more, refuses more with b too.
 abbrev pub IsMonotone : Type 0
-IsMonotone = (a c b : Core) → IsAsNarrowAs (Refuses a) (Refuses c) → IsAsNarrowAs (Refuses (both a b)) (Refuses (both c b))
+IsMonotone =
+    (a c b : Core) → IsAsNarrowAs (Refuses a) (Refuses c)
+    → IsAsNarrowAs (Refuses (both a b)) (Refuses (both c b))
 
 -- the declarations of two struct literals as one
 abbrev pub joined : Members → Members → Members
@@ -38,7 +42,10 @@ joined (dots rest) ms = dots (joined rest ms)
 
 -- Declarations may stand in one struct literal or in several that are unified.
 abbrev pub IsSplitAnywhere : Type 0
-IsSplitAnywhere = (some others : Members) → SameAnswers (Refuses (struct (joined some others))) (Refuses (both (struct some) (struct others)))
+IsSplitAnywhere =
+    (some others : Members)
+    → SameAnswers (Refuses (struct (joined some others)))
+    (Refuses (both (struct some) (struct others)))
 
 -- A place where labels are left out already is changed by no closing around it.
 abbrev pub IsClosedOnce : Type 0
@@ -49,11 +56,14 @@ IsClosedOnce = (c : Core) (path : Path) (k l : List ℕ) →
 abbrev pub IsClosedForGood : Type 0
 IsClosedForGood = (c : Core) → SameAnswers (Refuses (closed (closed c))) (Refuses (closed c))
 
--- Parts that are closed one by one are at least as narrow as what is closed whole: each part must allow a label then.
+-- Parts that are closed one by one are at least as narrow as what is closed whole: each part must
+-- allow a label then.
 abbrev pub IsClosedByParts : Type 0
-IsClosedByParts = (a b : Core) → IsAsNarrowAs (Refuses (both (closed a) (closed b))) (Refuses (closed (both a b)))
+IsClosedByParts =
+    (a b : Core) → IsAsNarrowAs (Refuses (both (closed a) (closed b))) (Refuses (closed (both a b)))
 
--- Each `&` has parts, as the grammar has it. Of what stands in terms, structs and lists nothing is asked.
+-- Each `&` has parts, as the grammar has it. Of what stands in terms, structs and lists nothing is
+-- asked.
 abbrev mutual
   pub HasParts : Core → Type 0
   HasParts (conjunction no_cores) = ⊥
@@ -67,4 +77,6 @@ abbrev mutual
 
 -- A scalar expression refuses what its value and default refuse, at its own place alone.
 abbrev pub IsItsPair : Type 0
-IsItsPair = (c : Core) → IsTrue (is_scalar c) → HasParts c → SameAnswers (Refuses c) (Here (ScalarRefuses (pair c)))
+IsItsPair =
+    (c : Core) → IsTrue (is_scalar c) → HasParts c
+    → SameAnswers (Refuses c) (Here (ScalarRefuses (pair c)))

@@ -1,9 +1,12 @@
--- Which struct literals stand at a path of an expression, and which labels they leave out where they are closed.
-use Rattle.std.specs.Prelude.{◌≡◌, ◌≢◌, ℕ, zero, suc, Bool, true, false, ◌||◌, cond, List, [], ◌∷◌, ◌++◌}
+-- Which struct literals stand at a path of an expression, and which labels they leave out where
+-- they are closed.
+use Rattle.std.specs.Prelude.{◌≡◌, ◌≢◌, ℕ, zero, suc, Bool, true, false, ◌||◌, cond, List, [], ◌∷◌}
+use Rattle.std.specs.Prelude.{◌++◌}
 use Rattle.std.specs.List.{list_any}
 use Rattle.std.specs.Str.{bytes_eq}
 use Rattle.cue_lattice.specs.Path.{Path, label, index}
-use Rattle.cue_scope.specs.Core.{Core, conjunction, struct, close, list, closed, Cores, no_cores, core, Members, no_members, member, dots}
+use Rattle.cue_scope.specs.Core.{Core, conjunction, struct, close, list, closed, Cores, no_cores}
+use Rattle.cue_scope.specs.Core.{core, Members, no_members, member, dots}
 
 -- it has a declaration of this label, with any mark
 abbrev pub declares : List ℕ → Members → Bool
@@ -28,7 +31,8 @@ with_elements elements [] = []
 with_elements elements (label l ∷ path) = []
 with_elements elements (index i ∷ path) = elements i path
 
--- the struct literals that are written at a path: by all parts of `&`, also in the bodies of definitions and in `close`
+-- the struct literals that are written at a path: by all parts of `&`, also in the bodies of
+-- definitions and in `close`
 abbrev mutual
   pub literals : Core → Path → List Members
   literals (conjunction cs) path = literals_of_parts cs path
@@ -45,7 +49,8 @@ abbrev mutual
   -- those at a path below a label, in each declaration of this label
   pub literals_of_field : Members → List ℕ → Path → List Members
   literals_of_field no_members l path = []
-  literals_of_field (member k mark c ms) l path = cond (bytes_eq k l) (literals c path) [] ++ literals_of_field ms l path
+  literals_of_field (member k mark c ms) l path =
+      cond (bytes_eq k l) (literals c path) [] ++ literals_of_field ms l path
   literals_of_field (dots ms) l path = literals_of_field ms l path
 
   -- those at a path below an index

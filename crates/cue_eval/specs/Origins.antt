@@ -1,14 +1,17 @@
--- Where answers come from: what is written at a place refuses all that its kind does, so that a place is of one kind.
+-- Where answers come from: what is written at a place refuses all that its kind does, so that a
+-- place is of one kind.
 use Rattle.std.specs.Prelude.{◌⊎◌, ◌<◌, ◌≤◌, ℕ, Bool, false, List, [], ◌∷◌, ◌++◌, length}
 use Rattle.cue_lattice.specs.Path.{Path, label, index}
 use Rattle.cue_lattice.specs.declared.scalar.Scalar.{Scalar}
 use Rattle.cue_lattice.specs.Question as questions
-use Rattle.cue_lattice.specs.Question.{Question, may_be, usual, allows, level_at_most, length_at_most, length_at_least}
+use Rattle.cue_lattice.specs.Question.{Question, may_be, usual, allows, level_at_most}
+use Rattle.cue_lattice.specs.Question.{length_at_most, length_at_least}
 use Rattle.cue_syntax.specs.declared.tree.Mark.{Mark}
 use Rattle.cue_scope.specs.Core.{Core, Members}
 use Rattle.cue_scope.specs.Limits.{depth}
 use Rattle.cue_eval.specs.Pairs.{pair}
-use Rattle.cue_eval.specs.Places.{ScalarRefuses, StructRefuses, ListRefuses, MarkRefuses, ClosingRefuses}
+use Rattle.cue_eval.specs.Places.{ScalarRefuses, StructRefuses, ListRefuses, MarkRefuses}
+use Rattle.cue_eval.specs.Places.{ClosingRefuses}
 use Rattle.cue_eval.specs.Refuses.{Refuses}
 
 pub data Source : Type 0 where
@@ -33,25 +36,31 @@ pub record HasOrigin (refuses : Question → Type 0) (question : Question) : Typ
   pub all : (other : Question) → SourceRefuses source other → refuses other
 
 abbrev pub ComesFromSources : Type 0
-ComesFromSources = (c : Core) (path : Path) (question : Question) → Refuses c path question → HasOrigin (Refuses c path) question
+ComesFromSources =
+    (c : Core) (path : Path) (question : Question) → Refuses c path question
+    → HasOrigin (Refuses c path) question
 
 -- what a struct refuses, or a list of so many elements, is refused here
 abbrev pub IsStruct : (Question → Type 0) → Type 0
 IsStruct refuses = (question : Question) → StructRefuses question → refuses question
 
 abbrev pub IsList : (Question → Type 0) → ℕ → Bool → Type 0
-IsList refuses count goes_on = (question : Question) → ListRefuses count goes_on question → refuses question
+IsList refuses count goes_on =
+    (question : Question) → ListRefuses count goes_on question → refuses question
 
 -- labels are left out where nothing but a struct may stand
 abbrev pub LabelsAreOfStructs : Type 0
-LabelsAreOfStructs = (c : Core) (path : Path) (l : List ℕ) → Refuses c path (allows l) → IsStruct (Refuses c path)
+LabelsAreOfStructs =
+    (c : Core) (path : Path) (l : List ℕ) → Refuses c path (allows l) → IsStruct (Refuses c path)
 
--- lengths are refused where nothing but a list may stand; a greatest length is that of a list without `...`, which is its
--- least length too
+-- lengths are refused where nothing but a list may stand; a greatest length is that of a list
+-- without `...`, which is its least length too
 abbrev pub LengthsAreOfLists : Type 0
 LengthsAreOfLists =
-    ((c : Core) (path : Path) (n : ℕ) → Refuses c path (length_at_most n) → (count : ℕ) × (goes_on : Bool) × (n < count) × IsList (Refuses c path) count goes_on)
-    × ((c : Core) (path : Path) (n : ℕ) → Refuses c path (length_at_least n) → (count : ℕ) × (count < n) × IsList (Refuses c path) count false)
+    ((c : Core) (path : Path) (n : ℕ) → Refuses c path (length_at_most n)
+    → (count : ℕ) × (goes_on : Bool) × (n < count) × IsList (Refuses c path) count goes_on)
+    × ((c : Core) (path : Path) (n : ℕ) → Refuses c path (length_at_least n)
+    → (count : ℕ) × (count < n) × IsList (Refuses c path) count false)
 
 -- fields stand below structs, and elements below lists that are long enough
 abbrev pub FieldsAreOfStructs : Type 0
@@ -60,7 +69,8 @@ FieldsAreOfStructs = (c : Core) (path : Path) (l : List ℕ) (rest : Path) (ques
 
 abbrev pub ElementsAreOfLists : Type 0
 ElementsAreOfLists = (c : Core) (path : Path) (i : ℕ) (rest : Path) (question : Question) →
-    Refuses c (path ++ index i ∷ rest) question → (count : ℕ) × (goes_on : Bool) × (i < count) × IsList (Refuses c path) count goes_on
+    Refuses c (path ++ index i ∷ rest) question
+    → (count : ℕ) × (goes_on : Bool) × (i < count) × IsList (Refuses c path) count goes_on
 
 -- the path ends in a label
 abbrev pub EndsInLabel : Path → Type 0
@@ -71,23 +81,28 @@ EndsInLabel (step ∷ next ∷ path) = EndsInLabel (next ∷ path)
 
 -- levels above 0 are those of fields, and none is above 2
 abbrev pub LevelsAreOfFields : Type 0
-LevelsAreOfFields = (c : Core) (path : Path) (k : ℕ) → Refuses c path (level_at_most k) → EndsInLabel path × (k < 2)
+LevelsAreOfFields =
+    (c : Core) (path : Path) (k : ℕ) → Refuses c path (level_at_most k) → EndsInLabel path × (k < 2)
 
 -- what is refused stands at a path with no more steps than the expression is deep
 abbrev pub PathsAreWithinDepth : Type 0
-PathsAreWithinDepth = (c : Core) (path : Path) (question : Question) → Refuses c path question → length path ≤ depth c
+PathsAreWithinDepth =
+    (c : Core) (path : Path) (question : Question) → Refuses c path question → length path ≤ depth c
 
 -- What may not stand isn't usual.
 abbrev pub UsualIsWithin : Type 0
-UsualIsWithin = (c : Core) (path : Path) (x : Scalar) → Refuses c path (may_be x) → Refuses c path (usual x)
+UsualIsWithin =
+    (c : Core) (path : Path) (x : Scalar) → Refuses c path (may_be x) → Refuses c path (usual x)
 
 abbrev pub IsLevel : Question → Type 0
 IsLevel (level_at_most k) = Unit {0}
 IsLevel _ = ⊥
 
--- Where anything but a level is refused, nothing but scalars, nothing but a struct or nothing but a list may stand.
+-- Where anything but a level is refused, nothing but scalars, nothing but a struct or nothing but a
+-- list may stand.
 abbrev pub PlacesAreOfKinds : Type 0
 PlacesAreOfKinds = (c : Core) (path : Path) (question : Question) → Refuses c path question →
     IsLevel question
     ⊎ ((Refuses c path questions.struct × Refuses c path questions.list)
-    ⊎ (IsStruct (Refuses c path) ⊎ ((count : ℕ) × (goes_on : Bool) × IsList (Refuses c path) count goes_on)))
+    ⊎ (IsStruct (Refuses c path)
+    ⊎ ((count : ℕ) × (goes_on : Bool) × IsList (Refuses c path) count goes_on)))

@@ -2,14 +2,18 @@
 use Rattle.std.specs.Prelude.{Bool, List, [], ◌∷◌, None}
 use Rattle.cue_scalars.specs.Pairs as pairs
 use Rattle.cue_scalars.specs.Pairs.{Scalars, Pair, all_of}
-use Rattle.cue_scope.specs.Core.{Core, null, truth, integer, text, named, bottom, bound, other_integer, other_text, conjunction, disjunction, closed, Cores, no_cores, core, Choices, no_choices, choice}
-use Rattle.cue_eval.specs.Sets.{integer_of, nothing, null_alone, truth_alone, integer_alone, text_alone, other_integers, other_texts, bounded, named_set}
+use Rattle.cue_scope.specs.Core.{Core, null, truth, integer, text, named, bottom, bound}
+use Rattle.cue_scope.specs.Core.{other_integer, other_text, conjunction, disjunction, closed, Cores}
+use Rattle.cue_scope.specs.Core.{no_cores, core, Choices, no_choices, choice}
+use Rattle.cue_eval.specs.Sets.{integer_of, nothing, null_alone, truth_alone, integer_alone}
+use Rattle.cue_eval.specs.Sets.{text_alone, other_integers, other_texts, bounded, named_set}
 
 -- these scalars, without a default
 abbrev pub plain : Scalars → Pair
 plain scalars = record { value = scalars; usual = None }
 
--- A definition's name means what its body means. Of an expression that isn't scalar nothing is asked.
+-- A definition's name means what its body means. Of an expression that isn't scalar nothing is
+-- asked.
 abbrev mutual
   pub pair : Core → Pair
   pair null = plain null_alone

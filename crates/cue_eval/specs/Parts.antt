@@ -26,8 +26,10 @@ pub record IsUseOf (ds : List Definition) (part : Expr) (number : ℕ) : Type 0 
 
 -- to the tables of a list come those of definitions: what is refused then
 abbrev pub AreAdded : List Definition → List (Tree Row) → List ℕ → List (Tree Row) → Type 0
-AreAdded ds old numbers new = (path : Path) (question : Question) → OneOf (λ table. Answers table path question) new
-    ↔ (OneOf (λ table. Answers table path question) old ⊎ OneOf (λ i. Refuses (meaning ds i) path question) numbers)
+AreAdded ds old numbers new =
+    (path : Path) (question : Question) → OneOf (λ table. Answers table path question) new
+    ↔ (OneOf (λ table. Answers table path question) old
+    ⊎ OneOf (λ i. Refuses (meaning ds i) path question) numbers)
 
 -- a literal of scalars, a disjunction or a name of the language, also in parentheses
 abbrev pub IsScalarPart : Expression → Type 0
@@ -37,9 +39,11 @@ IsScalarPart e = IsScalarLeaf e
 
 -- what one of these scalars refuses at its own place
 abbrev pub OneScalarRefuses : List Valued → Path → Question → Type 0
-OneScalarRefuses scalars path question = OneOf (λ valued. Here (ScalarRefuses (pair_of valued)) path question) scalars
+OneScalarRefuses scalars path question =
+    OneOf (λ valued. Here (ScalarRefuses (pair_of valued)) path question) scalars
 
 -- to the tables of a list comes what scalars refuse
 abbrev pub AreJoined : List (Tree Row) → List Valued → List (Tree Row) → Type 0
-AreJoined old scalars new = (path : Path) (question : Question) → OneOf (λ table. Answers table path question) new
+AreJoined old scalars new =
+    (path : Path) (question : Question) → OneOf (λ table. Answers table path question) new
     ↔ (OneOf (λ table. Answers table path question) old ⊎ OneScalarRefuses scalars path question)

@@ -2,7 +2,8 @@
 use Rattle.std.specs.Prelude.{◌≡◌, ◌<◌, ℕ, Bool, true, false, List, [], ◌∷◌}
 use Rattle.cue_lattice.specs.Path.{Path}
 use Rattle.cue_lattice.specs.Question as questions
-use Rattle.cue_lattice.specs.Question.{Question, may_be, usual, allows, level_at_most, length_at_most, length_at_least}
+use Rattle.cue_lattice.specs.Question.{Question, may_be, usual, allows, level_at_most}
+use Rattle.cue_lattice.specs.Question.{length_at_most, length_at_least}
 use Rattle.cue_lattice.specs.Scalar.{IsScalar}
 use Rattle.cue_scalars.specs.Pairs.{Pair, brought}
 use Rattle.cue_syntax.specs.declared.tree.Mark.{Mark}
@@ -15,8 +16,8 @@ abbrev pub Here : (Question → Type 0) → Path → Question → Type 0
 Here refuses [] question = refuses question
 Here refuses (step ∷ path) question = ⊥
 
--- where scalars stand: every scalar but those of the value, as usual all but those of the default (of the value where
--- there is none), and that a struct or a list stands
+-- where scalars stand: every scalar but those of the value, as usual all but those of the default
+-- (of the value where there is none), and that a struct or a list stands
 abbrev pub ScalarRefuses : Pair → Question → Type 0
 ScalarRefuses pair (may_be scalar) = IsScalar scalar × (pair.value scalar ≡ false)
 ScalarRefuses pair (usual scalar) = IsScalar scalar × (brought pair scalar ≡ false)
@@ -31,13 +32,14 @@ StructRefuses (usual scalar) = IsScalar scalar
 StructRefuses questions.list = Unit {0}
 StructRefuses _ = ⊥
 
--- a list of so many elements has no greatest length below their number; without `...` it has none above it
+-- a list of so many elements has no greatest length below their number; without `...` it has none
+-- above it
 abbrev pub IsAboveLength : ℕ → Bool → ℕ → Type 0
 IsAboveLength count true n = ⊥
 IsAboveLength count false n = count < n
 
--- where a list of so many elements stands: that a scalar or a struct does, and other lengths, but greater ones only
--- where it doesn't end in `...`
+-- where a list of so many elements stands: that a scalar or a struct does, and other lengths, but
+-- greater ones only where it doesn't end in `...`
 abbrev pub ListRefuses : ℕ → Bool → Question → Type 0
 ListRefuses count goes_on (may_be scalar) = IsScalar scalar
 ListRefuses count goes_on (usual scalar) = IsScalar scalar

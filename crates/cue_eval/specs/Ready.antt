@@ -1,5 +1,7 @@
--- Expressions whose tables can be made: what is known of the definitions that they use, and their limits.
-use Rattle.std.specs.Prelude.{◌≡◌, ◌≤◌, ◌<◌, ◌+◌, ◌↔◌, ◌⊎◌, ℕ, List, [], Option, Some, None, All, slice_index_or}
+-- Expressions whose tables can be made: what is known of the definitions that they use, and their
+-- limits.
+use Rattle.std.specs.Prelude.{◌≡◌, ◌≤◌, ◌<◌, ◌+◌, ◌↔◌, ◌⊎◌, ℕ, List, [], Option, Some, None, All}
+use Rattle.std.specs.Prelude.{slice_index_or}
 use Rattle.cue_lattice.specs.Limits.{size_limit, step_limit}
 use Rattle.cue_lattice.specs.Path as paths
 use Rattle.cue_lattice.specs.Path.{Path, label, index}
@@ -18,7 +20,8 @@ use Rattle.cue_syntax.specs.declared.tree.Label.{Label}
 use Rattle.cue_scope.specs.Core.{Core, Cores, Members}
 use Rattle.cue_scope.specs.Definitions.{Definition}
 use Rattle.cue_scope.specs.Graph.{IsIn}
-use Rattle.cue_scope.specs.Limits.{size, size_of_cores, size_of_members, depth, depth_of_cores, depth_of_elements, depth_of_members}
+use Rattle.cue_scope.specs.Limits.{size, size_of_cores, size_of_members, depth, depth_of_cores}
+use Rattle.cue_scope.specs.Limits.{depth_of_elements, depth_of_members}
 use Rattle.cue_scope.specs.Meaning.{meaning, meant_members, meant_fields, text_of}
 use Rattle.cue_scope.specs.Terms.{terms, terms_of_elements, terms_of_entries}
 use Rattle.cue_scope.specs.Uses.{uses, uses_of_elements, uses_of_entries, uses_of_fields}
@@ -52,9 +55,11 @@ IsTableAt c (Some table) = IsTableOf c table
 -- of each of these definitions the table is known, and the pair where it is scalar
 pub record AreKnown (known : Tables) (is : List ℕ) : Type 0 where
   pub pairs : ArePairsKnown known.pairs is
-  pub tables : (i : ℕ) → IsIn i is → IsTableAt (meaning (all_definitions known) i) (slice_index_or known.tables.now i None)
+  pub tables : (i : ℕ) → IsIn i is
+      → IsTableAt (meaning (all_definitions known) i) (slice_index_or known.tables.now i None)
 
--- An expression of the grammar whose terms are scalar, that is neither too large nor too deep, and that uses known definitions.
+-- An expression of the grammar whose terms are scalar, that is neither too large nor too deep, and
+-- that uses known definitions.
 pub record IsReady (known : Tables) (e : Expression) : Type 0 where
   pub right : IsRight e
   pub used : AreKnown known (uses (all_definitions known) e)
@@ -98,11 +103,14 @@ pub record AreReadyFields (known : Tables) (es : Entries) : Type 0 where
 pub record IsField (l : Label) (c : Core) (field : Step × Tree Row) : Type 0 where
   pub step : step_of field.0 ≡ label (text_of l.name)
   pub deep : tree_depth field.1 < step_limit
-  pub answers : SameAnswers (Answers field.1) (λ path question. Here (MarkRefuses l.mark) path question ⊎ refusing.Refuses c path question)
+  pub answers : SameAnswers (Answers field.1)
+      (λ path question. Here (MarkRefuses l.mark) path question ⊎ refusing.Refuses c path question)
 
 -- what is given refuses at each step what it is to refuse there, and can be hung in
-pub record AreGiven (all : paths.Step → Path → Question → Type 0) (given : List (Step × Tree Row)) : Type 0 where
-  pub refused : (step : paths.Step) (path : Path) (question : Question) → GivenRefuse given step path question ↔ all step path question
+pub record AreGiven (all : paths.Step → Path → Question → Type 0)
+    (given : List (Step × Tree Row)) : Type 0 where
+  pub refused : (step : paths.Step) (path : Path) (question : Question)
+      → GivenRefuse given step path question ↔ all step path question
   pub deep : All (λ one. tree_depth one.1 < step_limit) given
 
 -- the fields of declarations, by their steps
@@ -113,7 +121,8 @@ AtLabels ms (index i) path question = ⊥
 -- elements, by their steps, of which the first has this index
 abbrev pub AtIndexes : ℕ → Cores → paths.Step → Path → Question → Type 0
 AtIndexes first cs (label l) path question = ⊥
-AtIndexes first cs (index i) path question = (k : ℕ) × (first + k ≡ i) × ElementRefuses cs k path question
+AtIndexes first cs (index i) path question =
+    (k : ℕ) × (first + k ≡ i) × ElementRefuses cs k path question
 
 -- a literal of scalars, or a disjunction
 abbrev pub IsScalarLeaf : Expression → Type 0

@@ -2,10 +2,12 @@
 use Rattle.std.specs.Prelude.{◌≡◌, ◌⊎◌, ◌+◌, ℕ, zero, suc, List, [], ◌∷◌}
 use Rattle.cue_lattice.specs.Path.{Path, label, index}
 use Rattle.cue_lattice.specs.Question.{Question}
-use Rattle.cue_scope.specs.Core.{Core, top, conjunction, struct, close, list, closed, Cores, no_cores, core, Members, no_members, member, dots}
+use Rattle.cue_scope.specs.Core.{Core, top, conjunction, struct, close, list, closed, Cores}
+use Rattle.cue_scope.specs.Core.{no_cores, core, Members, no_members, member, dots}
 use Rattle.cue_eval.specs.Pairs.{pair}
 use Rattle.cue_eval.specs.Literals.{literals}
-use Rattle.cue_eval.specs.Places.{Here, ScalarRefuses, StructRefuses, ListRefuses, MarkRefuses, ClosingRefuses}
+use Rattle.cue_eval.specs.Places.{Here, ScalarRefuses, StructRefuses, ListRefuses, MarkRefuses}
+use Rattle.cue_eval.specs.Places.{ClosingRefuses}
 
 -- a struct literal, of whose fields it is told what they refuse
 abbrev pub LiteralRefuses : (List ℕ → Path → Question → Type 0) → Path → Question → Type 0
@@ -14,7 +16,8 @@ LiteralRefuses fields (label l ∷ path) question = fields l path question
 LiteralRefuses fields (index i ∷ path) question = ⊥
 
 -- a list literal of so many elements
-abbrev pub ElementsRefuse : (Question → Type 0) → (ℕ → Path → Question → Type 0) → Path → Question → Type 0
+abbrev pub ElementsRefuse : (Question → Type 0) → (ℕ → Path → Question → Type 0) → Path
+    → Question → Type 0
 ElementsRefuse here elements [] question = here question
 ElementsRefuse here elements (label l ∷ path) question = ⊥
 ElementsRefuse here elements (index i ∷ path) question = elements i path question
@@ -29,12 +32,14 @@ abbrev mutual
   Refuses top path question = ⊥
   Refuses (conjunction cs) path question = PartsRefuse cs path question
   Refuses (struct ms) path question = LiteralRefuses (FieldRefuses ms) path question
-  Refuses (list cs goes_on) path question = ElementsRefuse (ListRefuses (count cs) goes_on) (ElementRefuses cs) path question
+  Refuses (list cs goes_on) path question =
+      ElementsRefuse (ListRefuses (count cs) goes_on) (ElementRefuses cs) path question
   -- `close` closes its own place alone
   Refuses (close ms) path question =
       LiteralRefuses (FieldRefuses ms) path question ⊎ Here (ClosingRefuses (ms ∷ [])) path question
   -- a definition is closed wherever its body writes a struct
-  Refuses (closed c) path question = Refuses c path question ⊎ ClosingRefuses (literals c path) question
+  Refuses (closed c) path question =
+      Refuses c path question ⊎ ClosingRefuses (literals c path) question
   -- all else is scalar
   Refuses c path question = Here (ScalarRefuses (pair c)) path question
 
@@ -47,7 +52,8 @@ abbrev mutual
   pub FieldRefuses : Members → List ℕ → Path → Question → Type 0
   FieldRefuses no_members l path question = ⊥
   FieldRefuses (member k mark c ms) l path question =
-      ((k ≡ l) × (Here (MarkRefuses mark) path question ⊎ Refuses c path question)) ⊎ FieldRefuses ms l path question
+      ((k ≡ l) × (Here (MarkRefuses mark) path question ⊎ Refuses c path question))
+      ⊎ FieldRefuses ms l path question
   FieldRefuses (dots ms) l path question = FieldRefuses ms l path question
 
   -- what the element at an index refuses, at a path below it

@@ -1,5 +1,6 @@
 -- Which scalars the names, bounds and literals of the language let stand.
-use Rattle.std.specs.Prelude.{ℕ, Bool, true, false, not, ◌&&◌, List, ℤ, pos, negsuc, neg_ℤ, int_lt, int_le}
+use Rattle.std.specs.Prelude.{ℕ, Bool, true, false, not, ◌&&◌, List, ℤ, pos, negsuc, neg_ℤ, int_lt}
+use Rattle.std.specs.Prelude.{int_le}
 use Rattle.std.specs.Ordering.{int_eq}
 use Rattle.std.specs.Str.{bytes_eq}
 use Rattle.cue_lattice.specs.declared.scalar.Scalar.TheVariants as scalars

@@ -7,8 +7,8 @@ use Rattle.cue_eval.specs.declared.declared.Asked.{Asked}
 use Rattle.cue_eval.specs.declared.declared.Asked.TheVariants.{Stands, Declares}
 use Rattle.cue_eval.specs.Literals.{declares, has_dots}
 
--- What it tells is what it refuses as a row of a table, so that unification unites: that a literal stands there, and
--- each label that is declared.
+-- What it tells is what it refuses as a row of a table, so that unification unites: that a literal
+-- stands there, and each label that is declared.
 abbrev pub Tells : Declared → Asked → Type 0
 Tells known Stands = known.stands ≡ true
 Tells known (Declares l) = RefusesText known.undeclared l

@@ -14,14 +14,16 @@ same_flag false true h k = k refl
 same_flag false false h k = refl
 
 -- equal answers are equal values
-pub same_declared : (a b : Declared) → IsDeclared a → IsDeclared b → ((asked : Asked) → Tells a asked ↔ Tells b asked) → a ≡ b
+pub same_declared : (a b : Declared) → IsDeclared a → IsDeclared b
+    → ((asked : Asked) → Tells a asked ↔ Tells b asked) → a ≡ b
 same_declared a b p q e =
     let stands = same_flag a.stands b.stands (e Stands).0 (e Stands).1 in
     let undeclared = same_texts a.undeclared b.undeclared p q (λ l. e (Declares l)) in
     λ i. record { stands = stands i; undeclared = undeclared i }
 
 -- nothing is told where no literal stands and no label is declared
-pub free_told : (d : Declared) → d.stands ≡ false → ((l : List ℕ) → ¬ RefusesText d.undeclared l) → (asked : Asked) → ¬ Tells d asked
+pub free_told : (d : Declared) → d.stands ≡ false → ((l : List ℕ) → ¬ RefusesText d.undeclared l)
+    → (asked : Asked) → ¬ Tells d asked
 free_told d h k Stands e = false≢true (sym h ∙ e)
 free_told d h k (Declares l) e = k l e
 

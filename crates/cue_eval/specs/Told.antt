@@ -1,5 +1,6 @@
 -- What the struct literals at a place declare together, place by place of an expression.
-use Rattle.std.specs.Prelude.{◌≡◌, ◌↔◌, ◌≤◌, ◌<◌, true, List, [], ℕ, Option, Some, length, slice_index_or}
+use Rattle.std.specs.Prelude.{◌≡◌, ◌↔◌, ◌≤◌, ◌<◌, true, List, [], ℕ, Option, Some, length}
+use Rattle.std.specs.Prelude.{slice_index_or}
 use Rattle.std.specs.List.{list_any}
 use Rattle.cue_lattice.specs.Path.{Path}
 use Rattle.cue_table.specs.Tree.{Tree}
@@ -11,7 +12,8 @@ use Rattle.cue_syntax.specs.Syntax.{Expression, Elements, Entries}
 use Rattle.cue_scope.specs.Core.{Core, Cores, Members}
 use Rattle.cue_scope.specs.Graph.{IsIn}
 use Rattle.cue_scope.specs.Kept.{all_of}
-use Rattle.cue_scope.specs.Limits.{size, size_of_cores, size_of_members, depth, depth_of_cores, depth_of_elements, depth_of_members}
+use Rattle.cue_scope.specs.Limits.{size, size_of_cores, size_of_members, depth, depth_of_cores}
+use Rattle.cue_scope.specs.Limits.{depth_of_elements, depth_of_members}
 use Rattle.cue_scope.specs.Meaning.{meaning, meant, meant_name, meant_elements, meant_members}
 use Rattle.cue_scope.specs.Uses.{uses, uses_of_name, uses_of_elements, uses_of_entries}
 use Rattle.cue_eval.specs.declared.declared.Declared.{Declared}
@@ -40,17 +42,21 @@ ToldOf whose c path asked = OneDoes (own_tells whose asked) (used_tells whose) c
 -- The table says at each path just what is told of the expression.
 pub record IsTold (whose : Whose) (c : Core) (table : Tree Declared) : Type 0 where
   pub form : IsTable Tells IsDeclared table
-  pub told : (path : Path) (asked : Asked) → TableRefuses Tells table path asked ↔ ToldOf whose c path asked
+  pub told : (path : Path) (asked : Asked)
+      → TableRefuses Tells table path asked ↔ ToldOf whose c path asked
 
 -- The table says so of the fields of a struct literal, and nothing of the literal itself.
 pub record IsToldBelow (whose : Whose) (ms : Members) (table : Tree Declared) : Type 0 where
   pub form : IsTable Tells IsDeclared table
-  pub told : (path : Path) (asked : Asked) → TableRefuses Tells table path asked ↔ AtStruct ⊥ (OneOfFields (own_tells whose asked) (used_tells whose) ms) path
+  pub told : (path : Path) (asked : Asked)
+      → TableRefuses Tells table path asked
+      ↔ AtStruct ⊥ (OneOfFields (own_tells whose asked) (used_tells whose) ms) path
 
 -- The table has a row just where one of the struct literals has a `...`.
 pub record AreDots (c : Core) (table : Tree Declared) : Type 0 where
   pub form : IsTable Tells IsDeclared table
-  pub told : (path : Path) (asked : Asked) → TableRefuses Tells table path asked ↔ (list_any has_dots (literals c path) ≡ true)
+  pub told : (path : Path) (asked : Asked)
+      → TableRefuses Tells table path asked ↔ (list_any has_dots (literals c path) ≡ true)
 
 -- the table with a row at its root besides
 pub record IsRooted (table : Tree Declared) (row : Declared) (all : Tree Declared) : Type 0 where
@@ -62,28 +68,44 @@ abbrev pub means : Sight → Expression → Core
 means known e = meant (all_of known.definitions.now) (meaning (all_of known.definitions.now)) e
 
 abbrev pub mean_elements : Sight → Elements → Cores
-mean_elements known es = meant_elements (all_of known.definitions.now) (meaning (all_of known.definitions.now)) es
+mean_elements known es =
+    meant_elements (all_of known.definitions.now) (meaning (all_of known.definitions.now)) es
 
 abbrev pub mean_members : Sight → Entries → Members
-mean_members known es = meant_members (all_of known.definitions.now) (meaning (all_of known.definitions.now)) es
+mean_members known es =
+    meant_members (all_of known.definitions.now) (meaning (all_of known.definitions.now)) es
 
 -- The dots of the definitions that are used are known, and the limits are kept.
 pub record AreKnown (known : Sight) (us : List ℕ) (size depth : ℕ) : Type 0 where
-  pub used : (i : ℕ) → IsIn i us → (table : Tree Declared) × (i < length known.dots.now) × ((d : Option (Tree Declared)) → slice_index_or known.dots.now i d ≡ Some table) × AreDots (meaning (all_of known.definitions.now) i) table
+  pub used : (i : ℕ) → IsIn i us
+      → (table : Tree Declared) × (i < length known.dots.now)
+      × ((d : Option (Tree Declared)) → slice_index_or known.dots.now i d ≡ Some table)
+      × AreDots (meaning (all_of known.definitions.now) i) table
   pub small : size ≤ 65536
   pub flat : depth ≤ 64
 
 abbrev pub IsKnown : Sight → Expression → Type 0
-IsKnown known e = AreKnown known (uses (all_of known.definitions.now) e) (size (means known e)) (depth (means known e))
+IsKnown known e =
+    AreKnown known (uses (all_of known.definitions.now) e) (size (means known e))
+    (depth (means known e))
 
 abbrev pub ArePartsKnown : Sight → Elements → Type 0
-ArePartsKnown known es = AreKnown known (uses_of_elements (all_of known.definitions.now) es) (size_of_cores (mean_elements known es)) (depth_of_cores (mean_elements known es))
+ArePartsKnown known es =
+    AreKnown known (uses_of_elements (all_of known.definitions.now) es)
+    (size_of_cores (mean_elements known es)) (depth_of_cores (mean_elements known es))
 
 abbrev pub AreElementsKnown : Sight → Elements → Type 0
-AreElementsKnown known es = AreKnown known (uses_of_elements (all_of known.definitions.now) es) (size_of_cores (mean_elements known es)) (depth_of_elements (mean_elements known es))
+AreElementsKnown known es =
+    AreKnown known (uses_of_elements (all_of known.definitions.now) es)
+    (size_of_cores (mean_elements known es)) (depth_of_elements (mean_elements known es))
 
 abbrev pub AreMembersKnown : Sight → Entries → Type 0
-AreMembersKnown known es = AreKnown known (uses_of_entries (all_of known.definitions.now) es) (size_of_members (mean_members known es)) (depth_of_members (mean_members known es))
+AreMembersKnown known es =
+    AreKnown known (uses_of_entries (all_of known.definitions.now) es)
+    (size_of_members (mean_members known es)) (depth_of_members (mean_members known es))
 
 abbrev pub IsNameKnown : Sight → Identifier → Type 0
-IsNameKnown known n = AreKnown known (uses_of_name (all_of known.definitions.now) n) 1 (depth (meant_name (all_of known.definitions.now) (meaning (all_of known.definitions.now)) n))
+IsNameKnown known n =
+    AreKnown known (uses_of_name (all_of known.definitions.now) n) 1
+    (depth
+    (meant_name (all_of known.definitions.now) (meaning (all_of known.definitions.now)) n))

@@ -27,25 +27,33 @@ IsUnwritten c t = is_listed (words c) t ≡ false
 
 -- the labels on the paths of what is refused are written
 abbrev pub PathsAreWritten : Type 0
-PathsAreWritten = (c : Core) → WritesWords c → (path : Path) (question : Question) → Refuses c path question → AllByRecursion IsWordStep path
+PathsAreWritten =
+    (c : Core) → WritesWords c → (path : Path) (question : Question) → Refuses c path question
+    → AllByRecursion IsWordStep path
 
 -- where one label is left out, each one is that isn't written
 abbrev pub UnwrittenLabelsAreAlike : Type 0
-UnwrittenLabelsAreAlike = (c : Core) (path : Path) (k l : List ℕ) → IsUnwritten c l → Refuses c path (allows k) → Refuses c path (allows l)
+UnwrittenLabelsAreAlike =
+    (c : Core) (path : Path) (k l : List ℕ) → IsUnwritten c l → Refuses c path (allows k)
+    → Refuses c path (allows l)
 
 -- of the texts that aren't written, all may stand or none may, and all are usual or none is
 abbrev pub UnwrittenTextsAreAlike : Type 0
-UnwrittenTextsAreAlike = (c : Core) (path : Path) (t u : List ℕ) → IsUnwritten c t → IsUnwritten c u →
+UnwrittenTextsAreAlike =
+    (c : Core) (path : Path) (t u : List ℕ) → IsUnwritten c t → IsUnwritten c u →
     (Refuses c path (may_be (Text t)) → Refuses c path (may_be (Text u)))
     × (Refuses c path (usual (Text t)) → Refuses c path (usual (Text u)))
 
 -- a length that is refused as too small is below the size
 abbrev pub LengthsAreWithinSize : Type 0
-LengthsAreWithinSize = (c : Core) (path : Path) (n : ℕ) → Refuses c path (length_at_most n) → n < size c
+LengthsAreWithinSize =
+    (c : Core) (path : Path) (n : ℕ) → Refuses c path (length_at_most n) → n < size c
 
 -- A table in its one form, with the answers of a legal text that writes words, is valid.
 abbrev pub TextsAreValid : Type 0
-TextsAreValid = (es : Entries) (table : Tree Row) → IsLegal es → WritesWords (meant_text es) → IsTable rows.Refuses rows.IsRow table →
+TextsAreValid =
+    (es : Entries) (table : Tree Row) → IsLegal es → WritesWords (meant_text es)
+    → IsTable rows.Refuses rows.IsRow table →
     HasAnswersOf (meant_text es) table → IsValidTable table
 
 -- A text whose names, labels and strings are words means what writes words.

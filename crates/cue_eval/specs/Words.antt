@@ -1,7 +1,9 @@
 -- The labels and texts that an expression writes.
 use Rattle.std.specs.Prelude.{ℕ, List, [], ◌∷◌, ◌++◌}
 use Rattle.cue_row.specs.ValidRow.{AreWords}
-use Rattle.cue_scope.specs.Core.{Core, text, other_text, conjunction, disjunction, struct, close, list, closed, Cores, no_cores, core, Choices, no_choices, choice, Members, no_members, member, dots}
+use Rattle.cue_scope.specs.Core.{Core, text, other_text, conjunction, disjunction, struct, close}
+use Rattle.cue_scope.specs.Core.{list, closed, Cores, no_cores, core, Choices, no_choices, choice}
+use Rattle.cue_scope.specs.Core.{Members, no_members, member, dots}
 
 abbrev mutual
   pub words : Core → List (List ℕ)

@@ -1,5 +1,6 @@
--- What a configuration is in the end: a document. It is a scalar, a list of documents, or a finite map from texts to
--- documents. A map is written as its members in the order of their labels, each label once.
+-- What a configuration is in the end: a document. It is a scalar, a list of documents, or a finite
+-- map from texts to documents. A map is written as its members in the order of their labels, each
+-- label once.
 use Rattle.std.specs.Prelude.{◌≡◌, ℕ, List}
 use Rattle.std.specs.Ordering.{nat_cmp}
 use Rattle.std.specs.Cmp.Lexicographic.{slice_cmp}
@@ -39,4 +40,5 @@ abbrev mutual
 
   pub AreMembers : Members → Type 0
   AreMembers no_members = Unit {0}
-  AreMembers (member label document members) = IsBefore label members × IsDocument document × AreMembers members
+  AreMembers (member label document members) =
+      IsBefore label members × IsDocument document × AreMembers members

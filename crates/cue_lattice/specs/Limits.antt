@@ -9,7 +9,8 @@ text_limit = 1048576
 abbrev pub word_limit : ℕ
 word_limit = 65535
 
--- the levels that are open at once: parentheses, braces and brackets, and each label of a chain after its first
+-- the levels that are open at once: parentheses, braces and brackets, and each label of a chain
+-- after its first
 abbrev pub level_limit : ℕ
 level_limit = 64
 

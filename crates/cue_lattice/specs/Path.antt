@@ -1,4 +1,5 @@
--- Where something stands in a document: a list of steps, each a label or an index. The root is the empty path.
+-- Where something stands in a document: a list of steps, each a label or an index. The root is the
+-- empty path.
 use Rattle.std.specs.Prelude.{ℕ, List}
 use Rattle.std.specs.declared.cmp.Ordering.{Ordering}
 use Rattle.std.specs.declared.cmp.Ordering.TheVariants.{Less, Greater}

@@ -1,5 +1,5 @@
--- What a place of a configuration can be asked, and who refuses what. A level is 0 for an optional field, 1 for a
--- required one, 2 for a field that is there; a length is that of a list.
+-- What a place of a configuration can be asked, and who refuses what. A level is 0 for an optional
+-- field, 1 for a required one, 2 for a field that is there; a length is that of a list.
 use Rattle.std.specs.Prelude.{◌≡◌, ◌↔◌, ℕ, List}
 use Rattle.cue_lattice.specs.declared.scalar.Scalar.{Scalar}
 use Rattle.cue_lattice.specs.Path.{Path}

@@ -8,7 +8,8 @@ abbrev pub IsInteger : ℤ → Type 0
 IsInteger (pos n) = n < 2 ^ 63
 IsInteger (negsuc n) = n < 2 ^ 63
 
--- A scalar of the language. Every list of bytes counts as a text, and an integer is one of the 64-bit range.
+-- A scalar of the language. Every list of bytes counts as a text, and an integer is one of the
+-- 64-bit range.
 abbrev pub IsScalar : Scalar → Type 0
 IsScalar scalars.Null = Unit {0}
 IsScalar (scalars.Bool b) = Unit {0}

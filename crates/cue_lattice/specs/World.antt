@@ -1,20 +1,21 @@
--- Sites that take texts and pass their states on. A world is told by sets of pieces: which texts and which foreign
--- states each site has accepted, directly or inside the states that it took, and which each message was made of. A
--- list of pieces stands for the set of its members.
-use Rattle.std.specs.Prelude.{◌≡◌, ◌↔◌, ◌⊎◌, ℕ, ◌<◌, ◌^◌, List, [], ◌∷◌, ◌++◌, length, replicate, slice_get, slice_set, unwrap_or}
+-- Sites that take texts and pass their states on. A world is told by sets of pieces: which texts
+-- and which foreign states each site has accepted, directly or inside the states that it took, and
+-- which each message was made of. A list of pieces stands for the set of its members.
+use Rattle.std.specs.Prelude.{◌≡◌, ◌↔◌, ◌⊎◌, ℕ, ◌<◌, ◌^◌, List, [], ◌∷◌, ◌++◌, length, replicate}
+use Rattle.std.specs.Prelude.{slice_get, slice_set, unwrap_or}
 use Rattle.cue_lattice.specs.declared.refusal.Refusal.{Refusal}
 use Rattle.cue_lattice.specs.Refusal.{memory}
 use Rattle.cue_lattice.specs.OneOf.{OneOf}
 use Rattle.cue_lattice.specs.Question.{Refusals, OneRefuses, SameAnswers}
 
--- What a site can accept from outside: a text, or state bytes handed in from outside the world. The same text twice
--- is one piece.
+-- What a site can accept from outside: a text, or state bytes handed in from outside the world. The
+-- same text twice is one piece.
 pub data Piece : Type 0 where
   text : List ℕ → Piece
   state : List ℕ → Piece
 
--- What a language and a format of states make of texts, bytes and tables. A site may one day read two versions of
--- states, so the bytes that it reads are apart from those that it writes.
+-- What a language and a format of states make of texts, bytes and tables. A site may one day read
+-- two versions of states, so the bytes that it reads are apart from those that it writes.
 pub record Meaning (T : Type 0) : Type 1 where
   pub IsValid : T → Type 0  -- the table is a valid one
   pub table_refuses : T → Refusals  -- what a table refuses
@@ -31,14 +32,18 @@ pub record IsSound (T : Type 0) (m : Meaning T) : Type 0 where
   -- a legal text has no fault, so that nothing but want of memory refuses it
   pub no_text_fault : (t : List ℕ) (why : Refusal) → m.IsLegal t → m.IsTextFault t why → ⊥
   -- the bytes of a state have none either
-  pub no_state_fault : (bytes : List ℕ) (why : Refusal) → m.IsState bytes → m.IsStateFault bytes why → ⊥
+  pub no_state_fault : (bytes : List ℕ) (why : Refusal) → m.IsState bytes
+      → m.IsStateFault bytes why → ⊥
   -- out of memory is no fault of a text or of bytes
-  pub memory_apart : (bytes : List ℕ) → (m.IsTextFault bytes memory ⊎ m.IsStateFault bytes memory) → ⊥
+  pub memory_apart : (bytes : List ℕ)
+      → (m.IsTextFault bytes memory ⊎ m.IsStateFault bytes memory) → ⊥
   -- sites read what they write, with the same answers, as far as a memory can hold it
   pub reads_own : (table : T) → m.IsValid table → length (m.written table) < 2 ^ 64 →
-      m.IsState (m.written table) × SameAnswers (m.state_refuses (m.written table)) (m.table_refuses table)
+      m.IsState (m.written table)
+      × SameAnswers (m.state_refuses (m.written table)) (m.table_refuses table)
   -- valid tables with equal answers are equal, so that the answers tell the bytes and every report
-  pub one_table : (a b : T) → m.IsValid a → m.IsValid b → SameAnswers (m.table_refuses a) (m.table_refuses b) → a ≡ b
+  pub one_table : (a b : T) → m.IsValid a → m.IsValid b
+      → SameAnswers (m.table_refuses a) (m.table_refuses b) → a ≡ b
 
 -- what a piece refuses
 abbrev pub piece_refuses : {T : Type 0} → Meaning T → Piece → Refusals
@@ -61,7 +66,8 @@ SamePieces a b = (piece : Piece) → Has a piece ↔ Has b piece
 pub data Event : Type 0 where
   submit : (site : ℕ) (t : List ℕ) → Event  -- a text is handed in
   send : (site : ℕ) → Event  -- the site's state becomes the next message
-  deliver : (site message : ℕ) → Event  -- the site takes a message: late, again, in any order, or never
+  -- the site takes a message: late, again, in any order, or never
+  deliver : (site message : ℕ) → Event
   foreign : (site : ℕ) (bytes : List ℕ) → Event  -- the site is handed bytes from outside
 
 pub data Outcome : Type 0 where
@@ -86,7 +92,10 @@ pieces_at sets number = unwrap_or (slice_get sets number) []
 -- a site accepts more pieces
 abbrev pub add : Sets → ℕ → List Piece → Sets
 add sets site pieces =
-    record { sites = slice_set sets.sites site (pieces_at sets.sites site ++ pieces); messages = sets.messages }
+    record {
+      sites = slice_set sets.sites site (pieces_at sets.sites site ++ pieces);
+      messages = sets.messages;
+    }
 
 -- the sets after an event with this outcome
 abbrev pub after : Sets → Event → Outcome → Sets
@@ -110,7 +119,8 @@ IsThere sets (send site) = site < length sets.sites
 IsThere sets (deliver site message) = (site < length sets.sites) × (message < length sets.messages)
 IsThere sets (foreign site bytes) = site < length sets.sites
 
--- What an event may come to where they are there and memory suffices. A site's own message is never refused.
+-- What an event may come to where they are there and memory suffices. A site's own message is never
+-- refused.
 abbrev pub IsAnswer : {T : Type 0} → Meaning T → Sets → Event → Outcome → Type 0
 IsAnswer m sets (submit site t) accepted = m.IsLegal t
 IsAnswer m sets (submit site t) (refused why) = m.IsTextFault t why
@@ -139,10 +149,13 @@ AllAlong R [] [] = Unit {0}
 AllAlong R (x ∷ xs) (y ∷ ys) = R x y × AllAlong R xs ys
 AllAlong R xs ys = ⊥
 
--- a site's table is valid, and the unification of exactly these pieces: it refuses what one of them refuses
+-- a site's table is valid, and the unification of exactly these pieces: it refuses what one of them
+-- refuses
 abbrev pub IsUnified : {T : Type 0} → Meaning T → T → List Piece → Type 0
-IsUnified m table pieces = m.IsValid table × SameAnswers (m.table_refuses table) (pieces_refuse m pieces)
+IsUnified m table pieces =
+    m.IsValid table × SameAnswers (m.table_refuses table) (pieces_refuse m pieces)
 
--- a message has the bytes that a site writes for the table that is the unification of exactly these pieces
+-- a message has the bytes that a site writes for the table that is the unification of exactly these
+-- pieces
 abbrev pub IsMessageOf : {T : Type 0} → Meaning T → List ℕ → List Piece → Type 0
 IsMessageOf {T} m bytes pieces = (table : T) × IsUnified m table pieces × (bytes ≡ m.written table)

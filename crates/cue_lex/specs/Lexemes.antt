@@ -1,5 +1,7 @@
 -- What stands at a place of a text.
-use Rattle.std.specs.Prelude.{ℕ, Bool, List, Option, Some, None, Result, Ok, Err, ◌-◌, ◌==◌, ◌<◌, ◌≤◌, ◌≢◌, ◌≡◌, ◌&&◌, ◌||◌, not, codes, drop, take, length, nat_eq, nat_lt, nat_le, slice_index, if◌then◌else◌}
+use Rattle.std.specs.Prelude.{ℕ, Bool, List, Option, Some, None, Result, Ok, Err, ◌-◌, ◌==◌, ◌<◌}
+use Rattle.std.specs.Prelude.{◌≤◌, ◌≢◌, ◌≡◌, ◌&&◌, ◌||◌, not, codes, drop, take, length, nat_eq}
+use Rattle.std.specs.Prelude.{nat_lt, nat_le, slice_index, if◌then◌else◌}
 use Rattle.std.specs.List.{starts_with, prefix_len}
 use Rattle.cue_lattice.specs.declared.refusal.Kind.{Kind}
 use Rattle.cue_lattice.specs.declared.refusal.Kind.TheVariants as refusals
@@ -21,12 +23,15 @@ refused kind place = Err (refusal_at kind place)
 
 -- a number may be a token: the one above the greatest of 64 bits only after a minus
 abbrev pub is_in_range : Bool → ℕ → Bool
-is_in_range after_minus n = nat_le n 9223372036854775807 || (after_minus && (n == 9223372036854775808))
+is_in_range after_minus n =
+    nat_le n 9223372036854775807 || (after_minus && (n == 9223372036854775808))
 
 -- a number that so many bytes spell, if they spell one
 abbrev pub number : Bool → ℕ → ℕ → Option ℕ → Result Lexeme Refusal
 number after_minus place len None = refused refusals.BadNumber place
-number after_minus place len (Some n) = if is_in_range after_minus n then Ok (Word (kinds.Integer n) len) else refused refusals.IntRange place
+number after_minus place len (Some n) =
+    if is_in_range after_minus n then Ok (Word (kinds.Integer n) len)
+    else refused refusals.IntRange place
 
 -- how many ASCII letters, ASCII digits, _ and . stand at the front
 abbrev pub literal_len : List ℕ → ℕ
@@ -34,12 +39,15 @@ literal_len bytes = prefix_len is_literal_byte bytes
 
 -- an integer, which a digit begins
 unfoldable pub integer : Bool → ℕ → List ℕ → Result Lexeme Refusal
-integer after_minus place bytes = number after_minus place (literal_len bytes) (literal_number (take (literal_len bytes) bytes))
+integer after_minus place bytes =
+    number after_minus place (literal_len bytes) (literal_number (take (literal_len bytes) bytes))
 
 -- the text of a string with its end, unless it is too long
 abbrev pub kept : ℕ → Result (List ℕ × ℕ) Refusal → Result Lexeme Refusal
 kept place (Err refusal) = Err refusal
-kept place (Ok (text, end)) = if nat_le (length text) word_limit then Ok (Word (kinds.Text text) (end - place)) else refused refusals.TextTooLong place
+kept place (Ok (text, end)) =
+    if nat_le (length text) word_limit then Ok (Word (kinds.Text text) (end - place))
+    else refused refusals.TextTooLong place
 
 -- a string, which a quote begins
 unfoldable pub string : ℕ → List ℕ → Result Lexeme Refusal
@@ -54,7 +62,9 @@ name_kind name =
 
 -- an identifier of so many bytes
 unfoldable pub name : ℕ → ℕ → List ℕ → Result Lexeme Refusal
-name place len bytes = if nat_le len word_limit then Ok (Word (name_kind (take len bytes)) len) else refused refusals.TextTooLong place
+name place len bytes =
+    if nat_le len word_limit then Ok (Word (name_kind (take len bytes)) len)
+    else refused refusals.TextTooLong place
 
 -- punctuation, if there is some
 abbrev pub punctuation : ℕ → Option (Punctuation × ℕ) → Result Lexeme Refusal
@@ -65,14 +75,17 @@ punctuation place (Some (mark, len)) = Ok (Word (kinds.Mark mark) len)
 abbrev pub is_space : ℕ → Bool
 is_space b = ((b == 32) || (b == 9)) || (b == 13)
 
--- What stands at the front of a text that isn't empty: white space, a comment, or the longest token, or the fault there.
+-- What stands at the front of a text that isn't empty: white space, a comment, or the longest
+-- token, or the fault there.
 unfoldable pub lexeme : Bool → ℕ → List ℕ → Result Lexeme Refusal
 lexeme after_minus place bytes =
     if is_space (slice_index bytes 0) then Ok (Blank 1)
     else (if slice_index bytes 0 == 10 then Ok LineBreak
     else (if slice_index bytes 0 == 34 then string place bytes
-    else (if nat_le 48 (slice_index bytes 0) && nat_le (slice_index bytes 0) 57 then integer after_minus place bytes
-    else (if starts_with nat_eq bytes (codes "//") then Ok (Blank (prefix_len (λ b. not (b == 10)) bytes))
+    else (if nat_le 48 (slice_index bytes 0) && nat_le (slice_index bytes 0) 57
+    then integer after_minus place bytes
+    else (if starts_with nat_eq bytes (codes "//")
+    then Ok (Blank (prefix_len (λ b. not (b == 10)) bytes))
     else (if starts_with nat_eq bytes (codes "_|_") then Ok (Word kinds.Bottom 3)
     else (if nat_lt 0 (identifier_len bytes) then name place (identifier_len bytes) bytes
     else punctuation place (mark bytes)))))))

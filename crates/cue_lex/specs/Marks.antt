@@ -1,5 +1,6 @@
 -- Punctuation.
-use Rattle.std.specs.Prelude.{◌≡◌, ◌≤◌, ℕ, true, false, List, [], ◌∷◌, ◌++◌, map, length, Option, Some, None, MatchOption, ◌==◌, codes, nat_eq, if◌then◌else◌}
+use Rattle.std.specs.Prelude.{◌≡◌, ◌≤◌, ℕ, true, false, List, [], ◌∷◌, ◌++◌, map, length, Option}
+use Rattle.std.specs.Prelude.{Some, None, MatchOption, ◌==◌, codes, nat_eq, if◌then◌else◌}
 use Rattle.std.specs.List.{starts_with, AllByRecursion}
 use Rattle.std.specs.Option.{option_map}
 use Rattle.cue_lattice.specs.OneOf.{OneOf}
@@ -9,14 +10,19 @@ use Rattle.cue_lex.specs.declared.punctuation.Punctuation.TheVariants as points
 -- the marks of one byte
 abbrev pub single_marks : List (ℕ × Punctuation)
 single_marks =
-    (123, points.OpenBrace) ∷ (125, points.CloseBrace) ∷ (91, points.OpenBracket) ∷ (93, points.CloseBracket)
-    ∷ (40, points.OpenParenthesis) ∷ (41, points.CloseParenthesis) ∷ (58, points.Colon) ∷ (44, points.Comma)
+    (123, points.OpenBrace) ∷ (125, points.CloseBrace)
+    ∷ (91, points.OpenBracket) ∷ (93, points.CloseBracket)
+    ∷ (40, points.OpenParenthesis) ∷ (41, points.CloseParenthesis)
+    ∷ (58, points.Colon) ∷ (44, points.Comma)
     ∷ (63, points.Question) ∷ (33, points.Exclamation) ∷ (124, points.Bar) ∷ (38, points.Ampersand)
-    ∷ (42, points.Star) ∷ (45, points.Minus) ∷ (43, points.Plus) ∷ (60, points.Less) ∷ (62, points.Greater) ∷ []
+    ∷ (42, points.Star) ∷ (45, points.Minus) ∷ (43, points.Plus)
+    ∷ (60, points.Less) ∷ (62, points.Greater) ∷ []
 
 -- the longer ones
 abbrev pub longer_marks : List (List ℕ × Punctuation)
-longer_marks = (codes "...", points.Ellipsis) ∷ (codes "<=", points.AtMost) ∷ (codes ">=", points.AtLeast) ∷ (codes "!=", points.NotEqual) ∷ []
+longer_marks =
+    (codes "...", points.Ellipsis) ∷ (codes "<=", points.AtMost) ∷ (codes ">=", points.AtLeast)
+    ∷ (codes "!=", points.NotEqual) ∷ []
 
 -- all marks, each with its bytes
 abbrev pub marks : List (List ℕ × Punctuation)
@@ -49,11 +55,13 @@ pub record IsLongest (bytes : List ℕ) (found : Punctuation × ℕ) : Type 0 wh
   pub is : OneOf (λ m. m ≡ (spelled, found.0)) marks
   pub size : length spelled ≡ found.1
   pub begins : starts_with nat_eq bytes spelled ≡ true
-  pub longest : AllByRecursion (λ m. starts_with nat_eq bytes m.0 ≡ true → length m.0 ≤ found.1) marks
+  pub longest : AllByRecursion
+      (λ m. starts_with nat_eq bytes m.0 ≡ true → length m.0 ≤ found.1) marks
 
 abbrev pub BeginsWithNone : List ℕ → Type 0
 BeginsWithNone bytes = AllByRecursion (λ m. starts_with nat_eq bytes m.0 ≡ false) marks
 
 -- of all the marks that stand at the front the longest is taken
 abbrev pub TakesTheLongest : Type 0
-TakesTheLongest = (bytes : List ℕ) → MatchOption (mark bytes) (BeginsWithNone bytes) (IsLongest bytes)
+TakesTheLongest =
+    (bytes : List ℕ) → MatchOption (mark bytes) (BeginsWithNone bytes) (IsLongest bytes)

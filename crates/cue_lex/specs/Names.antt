@@ -1,5 +1,7 @@
 -- Identifiers: optionally # or _#, then a letter, then letters and digits.
-use Rattle.std.specs.Prelude.{◌≡◌, ℕ, true, false, List, [], ◌∷◌, ◌++◌, ◌⊎◌, ◌+◌, ◌&&◌, codes, drop, length, take_while, slice_get, encode_utf8_all, nat_eq, nat_lt, max, if◌then◌else◌}
+use Rattle.std.specs.Prelude.{◌≡◌, ℕ, true, false, List, [], ◌∷◌, ◌++◌, ◌⊎◌, ◌+◌, ◌&&◌, codes, drop}
+use Rattle.std.specs.Prelude.{length, take_while, slice_get, encode_utf8_all, nat_eq, nat_lt, max}
+use Rattle.std.specs.Prelude.{if◌then◌else◌}
 use Rattle.std.specs.List.{starts_with, list_all}
 use Rattle.std.specs.Option.{option_map_or}
 use Rattle.std.specs.Str.{chars, all_scalars}
@@ -9,9 +11,11 @@ use Rattle.cue_lex.specs.Characters.{is_letter, is_name_part}
 unfoldable pub run_len : List ℕ → ℕ
 run_len bytes = length (encode_utf8_all (take_while is_name_part (chars bytes)))
 
--- how many bytes a letter and the letters and digits after it have, 0 where no letter stands at the front
+-- how many bytes a letter and the letters and digits after it have, 0 where no letter stands at the
+-- front
 unfoldable pub word_len : List ℕ → ℕ
-word_len bytes = if option_map_or is_letter (slice_get (chars bytes) 0) false then run_len bytes else 0
+word_len bytes =
+    if option_map_or is_letter (slice_get (chars bytes) 0) false then run_len bytes else 0
 
 -- the same after a sign, the sign included
 unfoldable pub signed_len : List ℕ → List ℕ → ℕ
@@ -22,7 +26,8 @@ signed_len sign bytes =
 
 -- how many bytes the longest identifier at the front has, 0 where none stands there
 unfoldable pub identifier_len : List ℕ → ℕ
-identifier_len bytes = max (max (word_len bytes) (signed_len (codes "#") bytes)) (signed_len (codes "_#") bytes)
+identifier_len bytes =
+    max (max (word_len bytes) (signed_len (codes "#") bytes)) (signed_len (codes "_#") bytes)
 
 -- an identifier, as the language has it: optionally # or _#, then a letter, then letters and digits
 pub record IsIdentifier (spelled : List ℕ) : Type 0 where

@@ -1,5 +1,7 @@
 -- Strings and their escapes.
-use Rattle.std.specs.Prelude.{ℕ, zero, suc, Bool, List, [], ◌∷◌, ◌++◌, Option, Some, None, Result, Ok, Err, ◌+◌, ◌-◌, ◌*◌, ◌==◌, ◌&&◌, ◌||◌, not, codes, drop, encode_utf8, option_and_then, nat_eq, nat_lt, nat_le, if◌then◌else◌}
+use Rattle.std.specs.Prelude.{ℕ, zero, suc, Bool, List, [], ◌∷◌, ◌++◌, Option, Some, None, Result}
+use Rattle.std.specs.Prelude.{Ok, Err, ◌+◌, ◌-◌, ◌*◌, ◌==◌, ◌&&◌, ◌||◌, not, codes, drop}
+use Rattle.std.specs.Prelude.{encode_utf8, option_and_then, nat_eq, nat_lt, nat_le, if◌then◌else◌}
 use Rattle.std.specs.List.{starts_with}
 use Rattle.std.specs.Option.{option_map}
 use Rattle.std.specs.Char.{digit_value}
@@ -54,21 +56,32 @@ simple_escape b =
     else (if b == 34 then Some 34
     else None)))))))))
 
+-- the character of a high surrogate and a low one, and how many bytes stand for both after the
+-- first backslash
+abbrev pub character_of_pair : ℕ → ℕ → Option (ℕ × ℕ)
+character_of_pair high low =
+    if is_between 0xDC00 0xDFFF low
+    then Some ((high - 0xD800) * 0x400 + (low - 0xDC00) + 0x1_0000, 11)
+    else None
+
 -- the character of a high surrogate and the low one whose escape is at the front
 abbrev pub pair : ℕ → List ℕ → Option (ℕ × ℕ)
 pair high bytes =
     if starts_with nat_eq bytes (codes "\\u")
-    then option_and_then (λ low. if is_between 0xDC00 0xDFFF low then Some ((high - 0xD800) * 0x400 + (low - 0xDC00) + 0x1_0000, 11) else None) (four_digits (drop 2 bytes))
+    then option_and_then (character_of_pair high) (four_digits (drop 2 bytes))
     else None
 
--- The character of a \u whose digits are at the front, and how many bytes stand after its backslash. A high surrogate
--- needs a low one at once after it, and the two are one character.
+-- The character of a \u whose digits are at the front, and how many bytes stand after its
+-- backslash. A high surrogate needs a low one at once after it, and the two are one character.
 unfoldable pub short_escape : List ℕ → Option (ℕ × ℕ)
 short_escape bytes = do
   unit ← four_digits bytes
-  if is_between 0xD800 0xDBFF unit then pair unit (drop 4 bytes) else option_map (λ c. (c, 5)) (character unit)
+  if is_between 0xD800 0xDBFF unit
+      then pair unit (drop 4 bytes)
+      else option_map (λ c. (c, 5)) (character unit)
 
--- the character of an escape whose backslash stands before the bytes, and how many bytes stand after the backslash
+-- the character of an escape whose backslash stands before the bytes, and how many bytes stand
+-- after the backslash
 unfoldable pub escape : List ℕ → Option (ℕ × ℕ)
 escape [] = None
 escape (b ∷ bytes) =
@@ -88,23 +101,28 @@ abbrev pub with_front : List ℕ → Result (List ℕ × ℕ) Refusal → Result
 with_front front (Ok (text, end)) = Ok (front ++ text, end)
 with_front front (Err refusal) = Err refusal
 
--- what an escape gives: a bad one is a fault at its backslash, a good one is its character in front of the rest
-abbrev pub with_escape : ℕ → Option (ℕ × ℕ) → (ℕ → Result (List ℕ × ℕ) Refusal) → Result (List ℕ × ℕ) Refusal
+-- what an escape gives: a bad one is a fault at its backslash, a good one is its character in front
+-- of the rest
+abbrev pub with_escape : ℕ → Option (ℕ × ℕ) → (ℕ → Result (List ℕ × ℕ) Refusal)
+    → Result (List ℕ × ℕ) Refusal
 with_escape backslash None rest = Err (bad_string backslash)
 with_escape backslash (Some (c, width)) rest = with_front (encode_utf8 c) (rest width)
 
--- What the inside of a string stands for, and where its closing quote ends, or the first fault. The string starts at
--- start, the bytes stand at place, and the first of them, as many as inside says, still belong to an escape.
+-- What the inside of a string stands for, and where its closing quote ends, or the first fault. The
+-- string starts at start, the bytes stand at place, and the first of them, as many as inside says,
+-- still belong to an escape.
 abbrev pub body : ℕ → ℕ → ℕ → List ℕ → Result (List ℕ × ℕ) Refusal
 body start inside place [] = Err (bad_string start)
 body start (suc inside) place (b ∷ bytes) = body start inside (place + 1) bytes
 body start zero place (b ∷ bytes) =
     if b == 34 then Ok ([], place + 1)
     else (if b == 10 then Err (bad_string start)
-    else (if b == 92 then with_escape place (escape bytes) (λ width. body start width (place + 1) bytes)
+    else (if b == 92
+    then with_escape place (escape bytes) (λ width. body start width (place + 1) bytes)
     else with_front (b ∷ []) (body start zero (place + 1) bytes)))
 
--- the text of the string that opens at a place, its opening quote in front of the bytes, and where it ends
+-- the text of the string that opens at a place, its opening quote in front of the bytes, and where
+-- it ends
 unfoldable pub string_text : ℕ → List ℕ → Result (List ℕ × ℕ) Refusal
 string_text place bytes =
     if starts_with nat_eq bytes (codes "\"\"") then Err (bad_string place)

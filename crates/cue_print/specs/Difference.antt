@@ -1,5 +1,6 @@
 -- The members of one set that another lacks, in the one form of sets.
-use Rattle.std.specs.Prelude.{ℕ, ℤ, pos, ◌+ℤ◌, ◌-ℤ◌, Bool, true, false, not, ◌&&◌, List, [], ◌∷◌, ◌++◌, if◌then◌else◌, int_le, filter}
+use Rattle.std.specs.Prelude.{ℕ, ℤ, pos, ◌+ℤ◌, ◌-ℤ◌, Bool, true, false, not, ◌&&◌, List, [], ◌∷◌}
+use Rattle.std.specs.Prelude.{◌++◌, if◌then◌else◌, int_le, filter}
 use Rattle.std.specs.List.{flat_map}
 use Rattle.std.specs.declared.cmp.Ordering.{Ordering}
 use Rattle.std.specs.declared.cmp.Ordering.TheVariants.{Less, Equal, Greater}
@@ -20,7 +21,8 @@ greater m n = if int_le m n then n else m
 -- what is left of a piece without another one: what is before that and what is behind it
 abbrev pub piece_without : ℤ × ℤ → ℤ × ℤ → List (ℤ × ℤ)
 piece_without gap piece =
-    span piece.0 (lesser piece.1 (gap.0 -ℤ pos 1)) ++ span (greater piece.0 (gap.1 +ℤ pos 1)) piece.1
+    span piece.0 (lesser piece.1 (gap.0 -ℤ pos 1))
+    ++ span (greater piece.0 (gap.1 +ℤ pos 1)) piece.1
 
 -- the pieces without one piece
 abbrev pub cut : ℤ × ℤ → List (ℤ × ℤ) → List (ℤ × ℤ)
@@ -47,8 +49,9 @@ abbrev pub all_inserted : List (List ℕ) → List (List ℕ) → List (List ℕ
 all_inserted [] texts = texts
 all_inserted (t ∷ ts) texts = inserted t (all_inserted ts texts)
 
--- Of a finite set those stay that the other lacks. All texts but some, without all but others, are those of the others
--- that are not left out already; without a finite set they leave out its members too.
+-- Of a finite set those stay that the other lacks. All texts but some, without all but others, are
+-- those of the others that are not left out already; without a finite set they leave out its
+-- members too.
 abbrev pub texts_without : Bool × List (List ℕ) → Bool × List (List ℕ) → Bool × List (List ℕ)
 texts_without (false, texts) other = (false, filter (λ t. not (is_text_member other t)) texts)
 texts_without (true, texts) (true, others) = (false, filter (λ t. not (is_listed texts t)) others)

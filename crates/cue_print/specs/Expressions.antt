@@ -2,8 +2,9 @@
 use Rattle.std.specs.Prelude.{ℕ, ℤ, Bool, List, Option}
 use Rattle.cue_row.specs.declared.level.Level.{Level}
 
--- A term of a disjunction of scalars: `null`; `bool`, or one truth value; `int`, one integer, all up to one, all from one
--- on, or all from one to another; `string`, one text, or all texts but these.
+-- A term of a disjunction of scalars: `null`; `bool`, or one truth value; `int`, one integer, all
+-- up to one, all from one on, or all from one to another; `string`, one text, or all texts but
+-- these.
 pub data Term : Type 0 where
   null : Term
   truths : Term
@@ -18,13 +19,15 @@ pub data Term : Type 0 where
   other_texts : List (List ℕ) → Term
 
 mutual
-  -- anything; a disjunction of scalars, with the terms of its default where one is written; or parts that are unified
+  -- anything; a disjunction of scalars, with the terms of its default where one is written; or
+  -- parts that are unified
   pub data Value : Type 0 where
     top : Value
     scalar : Option (List Term) → List Term → Value
     all : Parts → Value
 
-  -- a struct literal; one in `close`; a list literal, and whether `...` ends it; or `_|_`: each in front of other parts
+  -- a struct literal; one in `close`; a list literal, and whether `...` ends it; or `_|_`: each in
+  -- front of other parts
   pub data Parts : Type 0 where
     no_parts : Parts
     struct : Fields → Parts → Parts

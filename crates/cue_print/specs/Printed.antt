@@ -1,5 +1,6 @@
 -- The expressions that a table is printed as.
-use Rattle.std.specs.Prelude.{ℕ, zero, suc, ◌+◌, Bool, true, false, ◌||◌, ◌==◌, List, [], ◌∷◌, Option, None, Some, is_some, nat_lt, if◌then◌else◌}
+use Rattle.std.specs.Prelude.{ℕ, zero, suc, ◌+◌, Bool, true, false, ◌||◌, ◌==◌, List, [], ◌∷◌}
+use Rattle.std.specs.Prelude.{Option, None, Some, is_some, nat_lt, if◌then◌else◌}
 use Rattle.std.specs.Str.{bytes_eq}
 use Rattle.cue_lattice.specs.Path.{label, index}
 use Rattle.cue_sets.specs.Texts.{is_listed}
@@ -8,7 +9,8 @@ use Rattle.cue_row.specs.declared.level.Level.TheVariants.{Optional}
 use Rattle.cue_row.specs.declared.row.Row.{Row}
 use Rattle.cue_table.specs.Tree.{Tree, node, Children, none, child, row_of}
 use Rattle.cue_print.specs.Difference.{without}
-use Rattle.cue_print.specs.Expressions.{Term, Value, top, scalar, all, Parts, no_parts, struct, close, list, bottom}
+use Rattle.cue_print.specs.Expressions.{Term, Value, top, scalar, all, Parts, no_parts, struct}
+use Rattle.cue_print.specs.Expressions.{close, list, bottom}
 use Rattle.cue_print.specs.Expressions.{Fields, no_more, field, Elements, no_elements, element}
 use Rattle.cue_print.specs.Terms.{terms_of}
 
@@ -28,7 +30,8 @@ inside (l ∷ labels) fields = declared l fields (inside labels fields)
 abbrev pub outside : List (List ℕ) → Fields → Fields
 outside labels no_more = no_more
 outside labels (field name level value fields) =
-    if is_listed labels name then outside labels fields else field name level value (outside labels fields)
+    if is_listed labels name then outside labels fields
+    else field name level value (outside labels fields)
 
 -- a struct literal, where it has a field
 abbrev pub struct_if_any : Fields → Parts → Parts
@@ -38,13 +41,15 @@ struct_if_any (field name level value fields) parts = struct (field name level v
 -- the struct part, by the labels that may stand: all, or these alone
 abbrev pub struct_part : Option (List (List ℕ)) → Fields → Parts → Parts
 struct_part None fields parts = struct fields parts
-struct_part (Some labels) fields parts = close (inside labels fields) (struct_if_any (outside labels fields) parts)
+struct_part (Some labels) fields parts =
+    close (inside labels fields) (struct_if_any (outside labels fields) parts)
 
 -- ---- lists: `value_at` gives the value of each element
 -- so many elements, from a first one on
 abbrev pub elements_from : ℕ → ℕ → (ℕ → Value) → Elements
 elements_from first zero value_at = no_elements
-elements_from first (suc count) value_at = element (value_at first) (elements_from (first + 1) count value_at)
+elements_from first (suc count) value_at =
+    element (value_at first) (elements_from (first + 1) count value_at)
 
 abbrev pub elements : ℕ → (ℕ → Value) → Elements
 elements count value_at = elements_from 0 count value_at
@@ -68,13 +73,17 @@ has_field no_more = false
 has_field (field name level value fields) = true
 
 abbrev pub struct_left : Row → Fields → Parts → Parts
-struct_left row fields parts = if is_some row.labels || has_field fields then struct_part row.labels fields parts else parts
+struct_left row fields parts =
+    if is_some row.labels || has_field fields then struct_part row.labels fields parts else parts
 
 abbrev pub list_left : Row → (ℕ → Value) → Parts → Parts
-list_left row value_at parts = if nat_lt 0 row.least || is_some row.most then list_part row.least row.most value_at parts else parts
+list_left row value_at parts =
+    if nat_lt 0 row.least || is_some row.most then list_part row.least row.most value_at parts
+    else parts
 
 abbrev pub nothing_value : Row → Fields → (ℕ → Value) → Value
-nothing_value row fields value_at = all (struct_left row fields (list_left row value_at (bottom no_parts)))
+nothing_value row fields value_at =
+    all (struct_left row fields (list_left row value_at (bottom no_parts)))
 
 -- ---- places
 -- where neither a struct nor a list may stand, by the terms of the scalars that may
@@ -83,12 +92,14 @@ scalar_or_nothing [] row fields value_at = nothing_value row fields value_at
 scalar_or_nothing (term ∷ terms) row fields value_at =
     scalar_value (term ∷ terms) (terms_of row.usual) (terms_of (without row.value row.usual))
 
--- by whether a struct may stand, and whether a list may: anything, a struct, a list, a scalar or nothing
+-- by whether a struct may stand, and whether a list may: anything, a struct, a list, a scalar or
+-- nothing
 abbrev pub value_by : Bool → Bool → Row → Fields → (ℕ → Value) → Value
 value_by true true row fields value_at = top
 value_by true false row fields value_at = all (struct_part row.labels fields no_parts)
 value_by false true row fields value_at = all (list_part row.least row.most value_at no_parts)
-value_by false false row fields value_at = scalar_or_nothing (terms_of row.value) row fields value_at
+value_by false false row fields value_at =
+    scalar_or_nothing (terms_of row.value) row fields value_at
 
 -- the value of a row, by the fields and the elements below
 unfoldable pub row_value : Row → Fields → (ℕ → Value) → Value
@@ -102,19 +113,22 @@ unfoldable mutual
   -- what a place is printed as
   pub value_of : Tree Row → Value
   value_of (node None children) = top
-  value_of (node (Some row) children) = row_value row (fields_below children) (element_below children)
+  value_of (node (Some row) children) =
+      row_value row (fields_below children) (element_below children)
 
   -- the fields of the rows below
   pub fields_below : Children Row → Fields
   fields_below none = no_more
-  fields_below (child (label l) tree children) = field l (level_at (row_of tree)) (value_of tree) (fields_below children)
+  fields_below (child (label l) tree children) =
+      field l (level_at (row_of tree)) (value_of tree) (fields_below children)
   fields_below (child (index n) tree children) = fields_below children
 
   -- the element of a number, anything where no row is below
   pub element_below : Children Row → ℕ → Value
   element_below none number = top
   element_below (child (label l) tree children) number = element_below children number
-  element_below (child (index n) tree children) number = if n == number then value_of tree else element_below children number
+  element_below (child (index n) tree children) number =
+      if n == number then value_of tree else element_below children number
 
 -- the declarations of a table's file; nothing where the root is free
 unfoldable pub file_of : Tree Row → Option Fields

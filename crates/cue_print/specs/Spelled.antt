@@ -1,12 +1,15 @@
 -- The text of printed expressions.
-use Rattle.std.specs.Prelude.{ℕ, Bool, true, false, List, [], ◌∷◌, ◌++◌, map, Option, None, Some, codes, if◌then◌else◌}
+use Rattle.std.specs.Prelude.{ℕ, Bool, true, false, List, [], ◌∷◌, ◌++◌, map, Option, None, Some}
+use Rattle.std.specs.Prelude.{codes, if◌then◌else◌}
 use Rattle.std.specs.List.{flat_map}
 use Rattle.std.specs.Fmt.{signed_decimal}
 use Rattle.cue_row.specs.declared.level.Level.{Level}
 use Rattle.cue_row.specs.declared.level.Level.TheVariants.{Optional, Required, Given}
 use Rattle.cue_row.specs.Quoted.{quoted}
-use Rattle.cue_print.specs.Expressions.{Term, null, truths, truth, integers, number, at_most, at_least, between, texts, text, other_texts}
-use Rattle.cue_print.specs.Expressions.{Value, top, scalar, all, Parts, no_parts, struct, close, list, bottom}
+use Rattle.cue_print.specs.Expressions.{Term, null, truths, truth, integers, number, at_most}
+use Rattle.cue_print.specs.Expressions.{at_least, between, texts, text, other_texts}
+use Rattle.cue_print.specs.Expressions.{Value, top, scalar, all, Parts, no_parts, struct, close}
+use Rattle.cue_print.specs.Expressions.{list, bottom}
 use Rattle.cue_print.specs.Expressions.{Fields, no_more, field, Elements, no_elements, element}
 
 -- the texts, with a separator between each two
@@ -55,7 +58,9 @@ is_compound (first ∷ second ∷ others) = true
 
 -- a disjunction as one operand
 unfoldable pub operand_text : List Term → List ℕ
-operand_text terms = if is_compound terms then enclosed (codes "(") (terms_text terms) (codes ")") else terms_text terms
+operand_text terms =
+    if is_compound terms then enclosed (codes "(") (terms_text terms) (codes ")")
+    else terms_text terms
 
 -- the default, marked and in front of other terms
 unfoldable pub default_text : Option (List Term) → List ℕ
@@ -80,7 +85,8 @@ rest_texts true = codes "..." ∷ []
 
 -- a list literal of some elements
 abbrev pub list_text : List (List ℕ) → Bool → List ℕ
-list_text elements goes_on = enclosed (codes "[") (joined (codes ", ") (elements ++ rest_texts goes_on)) (codes "]")
+list_text elements goes_on =
+    enclosed (codes "[") (joined (codes ", ") (elements ++ rest_texts goes_on)) (codes "]")
 
 unfoldable mutual
   pub value_text : Value → List ℕ
@@ -91,13 +97,16 @@ unfoldable mutual
   pub part_texts : Parts → List (List ℕ)
   part_texts no_parts = []
   part_texts (struct fields parts) = struct_text (field_texts fields) ∷ part_texts parts
-  part_texts (close fields parts) = enclosed (codes "close(") (struct_text (field_texts fields)) (codes ")") ∷ part_texts parts
-  part_texts (list elements goes_on parts) = list_text (element_texts elements) goes_on ∷ part_texts parts
+  part_texts (close fields parts) =
+      enclosed (codes "close(") (struct_text (field_texts fields)) (codes ")") ∷ part_texts parts
+  part_texts (list elements goes_on parts) =
+      list_text (element_texts elements) goes_on ∷ part_texts parts
   part_texts (bottom parts) = codes "_|_" ∷ part_texts parts
 
   pub field_texts : Fields → List (List ℕ)
   field_texts no_more = []
-  field_texts (field label level value fields) = (quoted label ++ (mark_text level ++ value_text value)) ∷ field_texts fields
+  field_texts (field label level value fields) =
+      (quoted label ++ (mark_text level ++ value_text value)) ∷ field_texts fields
 
   pub element_texts : Elements → List (List ℕ)
   element_texts no_elements = []

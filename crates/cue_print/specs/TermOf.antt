@@ -1,7 +1,8 @@
 -- The terms that the program writes, as terms of expressions.
 use Rattle.cue_print.specs.declared.term.Term as program
 use Rattle.cue_print.specs.declared.term.Term.TheVariants as terms
-use Rattle.cue_print.specs.Expressions.{Term, null, truths, truth, integers, number, at_most, at_least, between, texts, text, other_texts}
+use Rattle.cue_print.specs.Expressions.{Term, null, truths, truth, integers, number, at_most}
+use Rattle.cue_print.specs.Expressions.{at_least, between, texts, text, other_texts}
 
 abbrev pub term_of : program.Term → Term
 term_of terms.Null = null

@@ -1,9 +1,11 @@
 -- The terms that say which scalars are in a set.
-use Rattle.std.specs.Prelude.{ℕ, ℤ, Bool, true, false, ◌&&◌, List, [], ◌∷◌, ◌++◌, map, if◌then◌else◌}
+use Rattle.std.specs.Prelude.{ℕ, ℤ, Bool, true, false, ◌&&◌, List, [], ◌∷◌, ◌++◌, map}
+use Rattle.std.specs.Prelude.{if◌then◌else◌}
 use Rattle.std.specs.Ordering.{int_eq}
 use Rattle.cue_sets.specs.Pieces.{least, greatest}
 use Rattle.cue_scalars.specs.declared.scalar_set.ScalarSet.{ScalarSet}
-use Rattle.cue_print.specs.Expressions.{Term, null, truths, truth, integers, number, at_most, at_least, between, texts, text, other_texts}
+use Rattle.cue_print.specs.Expressions.{Term, null, truths, truth, integers, number, at_most}
+use Rattle.cue_print.specs.Expressions.{at_least, between, texts, text, other_texts}
 
 abbrev pub null_terms : Bool → List Term
 null_terms false = []
@@ -16,7 +18,8 @@ truth_terms true false = truth false ∷ []
 truth_terms false true = truth true ∷ []
 truth_terms true true = truths ∷ []
 
--- the integers from first to last: all, one, those from the least one on, those up to the greatest one, or others
+-- the integers from first to last: all, one, those from the least one on, those up to the greatest
+-- one, or others
 abbrev pub piece_term : ℤ × ℤ → Term
 piece_term piece =
     if int_eq piece.0 least && int_eq piece.1 greatest then integers else
@@ -32,4 +35,6 @@ text_terms (true, t ∷ ts) = other_texts (t ∷ ts) ∷ []
 
 -- the terms of a set: null, truth values, integers, texts
 unfoldable pub terms_of : ScalarSet → List Term
-terms_of set = null_terms set.null ++ (truth_terms set.no set.yes ++ (map piece_term set.ints ++ text_terms set.texts))
+terms_of set =
+    null_terms set.null
+    ++ (truth_terms set.no set.yes ++ (map piece_term set.ints ++ text_terms set.texts))

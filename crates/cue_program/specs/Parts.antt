@@ -1,5 +1,6 @@
 -- Lines of bytes, and the parts that separating lines cut them into.
-use Rattle.std.specs.Prelude.{◌≡◌, ◌≢◌, ◌⊎◌, ℕ, List, [], ◌∷◌, ◌++◌, Option, Some, None, slice_get, codes, ◌==◌, if◌then◌else◌}
+use Rattle.std.specs.Prelude.{◌≡◌, ◌≢◌, ◌⊎◌, ℕ, List, [], ◌∷◌, ◌++◌, Option, Some, None, slice_get}
+use Rattle.std.specs.Prelude.{codes, ◌==◌, if◌then◌else◌}
 use Rattle.std.specs.List.{AllByRecursion, concat}
 use Rattle.cue_lattice.specs.World.{Piece, text, state, AllAlong}
 use Rattle.cue_replica.specs.Accepted.{IsOfTexts, IsOfState, IsOfPieces}
@@ -10,7 +11,8 @@ abbrev pub longer : ℕ → List (List ℕ) → List (List ℕ)
 longer b [] = (b ∷ []) ∷ []
 longer b (line ∷ lines) = (b ∷ line) ∷ lines
 
--- The lines, each with its line break U+000A, which the last one may lack. Joined they are the bytes.
+-- The lines, each with its line break U+000A, which the last one may lack. Joined they are the
+-- bytes.
 abbrev pub lines_of : List ℕ → List (List ℕ)
 lines_of [] = []
 lines_of (b ∷ bytes) = if b == 10 then (b ∷ []) ∷ lines_of bytes else longer b (lines_of bytes)
@@ -31,27 +33,35 @@ AreParts lines (part ∷ next ∷ parts) =
     (front back : List (List ℕ)) × (line : List ℕ) × (lines ≡ front ++ line ∷ back)
     × IsPart front × (concat front ≡ part) × IsSeparator line × AreParts back (next ∷ parts)
 
--- The part in front of the first separating line, and the bytes after that line, where there is one.
+-- The part in front of the first separating line, and the bytes after that line, where there is
+-- one.
 abbrev pub IsFirstPart : List ℕ → List ℕ → Option (List ℕ) → Type 0
 IsFirstPart bytes part None = (part ≡ bytes) × IsPart (lines_of bytes)
 IsFirstPart bytes part (Some rest) =
-    (front : List (List ℕ)) × (line : List ℕ) × IsPart front × (concat front ≡ part) × IsSeparator line
+    (front : List (List ℕ)) × (line : List ℕ) × IsPart front × (concat front ≡ part)
+    × IsSeparator line
     × (bytes ≡ part ++ (line ++ rest)) × (lines_of bytes ≡ front ++ line ∷ lines_of rest)
 
--- The table is valid, and the unification of the parts of the bytes, which are texts of the language.
+-- The table is valid, and the unification of the parts of the bytes, which are texts of the
+-- language.
 abbrev pub HoldsTexts : List ℕ → Table → Type 0
-HoldsTexts bytes table = (parts : List (List ℕ)) × AreParts (lines_of bytes) parts × IsOfTexts table parts
+HoldsTexts bytes table =
+    (parts : List (List ℕ)) × AreParts (lines_of bytes) parts × IsOfTexts table parts
 
--- What a new site holds that has taken an input: a state where the first byte is FE (hexadecimal), and otherwise texts.
+-- What a new site holds that has taken an input: a state where the first byte is FE (hexadecimal),
+-- and otherwise texts.
 abbrev pub HoldsInput : List ℕ → Table → Type 0
 HoldsInput bytes table =
-    ((slice_get bytes 0 ≡ Some 254) × IsOfState table bytes) ⊎ ((slice_get bytes 0 ≢ Some 254) × HoldsTexts bytes table)
+    ((slice_get bytes 0 ≡ Some 254) × IsOfState table bytes)
+    ⊎ ((slice_get bytes 0 ≢ Some 254) × HoldsTexts bytes table)
 
 -- what a file hands in: a state where its first byte is FE (hexadecimal), and otherwise one text
 abbrev pub IsFilePiece : List ℕ → Piece → Type 0
 IsFilePiece bytes piece =
-    ((slice_get bytes 0 ≡ Some 254) × (piece ≡ state bytes)) ⊎ ((slice_get bytes 0 ≢ Some 254) × (piece ≡ text bytes))
+    ((slice_get bytes 0 ≡ Some 254) × (piece ≡ state bytes))
+    ⊎ ((slice_get bytes 0 ≢ Some 254) × (piece ≡ text bytes))
 
 -- What a new site holds that has taken files with these bytes: one piece of each, all of them.
 abbrev pub HoldsFiles : List (List ℕ) → Table → Type 0
-HoldsFiles files table = (pieces : List Piece) × AllAlong IsFilePiece files pieces × IsOfPieces table pieces
+HoldsFiles files table =
+    (pieces : List Piece) × AllAlong IsFilePiece files pieces × IsOfPieces table pieces

@@ -5,7 +5,8 @@ use Rattle.cue_replica.specs.declared.Conflict.{Conflict}
 use Rattle.cue_replica.specs.declared.Gap.{Gap}
 use Rattle.cue_replica.specs.declared.Export.{Export}
 use Rattle.cue_replica.specs.declared.Export.TheVariants.{Json, Conflicts, Incomplete}
-use Rattle.cue_replica.specs.Reports.{IsExportOf, AreConflictsOf, AreGapsOf, conflict_line, gap_line, printed}
+use Rattle.cue_replica.specs.Reports.{IsExportOf, AreConflictsOf, AreGapsOf, conflict_line}
+use Rattle.cue_replica.specs.Reports.{gap_line, printed}
 use Rattle.cue_replica.specs.Language.{Table, language}
 use Rattle.cue_program.specs.declared.reply.Status.{Status}
 use Rattle.cue_program.specs.declared.reply.Status.TheVariants as statuses
@@ -28,7 +29,8 @@ Says reply bytes status = (reply.bytes.items ≡ bytes) × (reply.status ≡ sta
 -- What an export prints, and the status that goes with it: the JSON and a line break, or lines.
 abbrev pub IsReplyTo : Export → Reply → Type 0
 IsReplyTo (Json text) reply = Says reply (string_bytes text ++ 10 ∷ []) statuses.Done
-IsReplyTo (Conflicts conflicts) reply = Says reply (flat_map conflict_line conflicts.items) statuses.Conflicts
+IsReplyTo (Conflicts conflicts) reply =
+    Says reply (flat_map conflict_line conflicts.items) statuses.Conflicts
 IsReplyTo (Incomplete gaps) reply = Says reply (flat_map gap_line gaps.items) statuses.Incomplete
 
 -- the status of a report: by its conflicts, where it has any, and else by its gaps
@@ -43,9 +45,11 @@ lines_of conflicts gaps = flat_map conflict_line conflicts ++ flat_map gap_line 
 
 -- What the reply tells of the table.
 abbrev pub Tells : Question → Table → Reply → Type 0
-Tells questions.Export table reply = (export : Export) × IsExportOf table export × IsReplyTo export reply
+Tells questions.Export table reply =
+    (export : Export) × IsExportOf table export × IsReplyTo export reply
 Tells questions.Print table reply = Says reply (printed table) statuses.Done
 Tells questions.Report table reply =
-    (conflicts : List Conflict) × (gaps : List Gap) × AreConflictsOf table conflicts × AreGapsOf table gaps
+    (conflicts : List Conflict) × (gaps : List Gap) × AreConflictsOf table conflicts
+    × AreGapsOf table gaps
     × Says reply (lines_of conflicts gaps) (status_of conflicts gaps)
 Tells questions.State table reply = Says reply (language.written table) statuses.Done

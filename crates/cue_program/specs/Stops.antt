@@ -24,13 +24,15 @@ IsInputRefusedAs why input stop = stop ≡ stops.RefusedInput why input
 abbrev pub IsReadFault : Stop → Type 0
 IsReadFault stop = IsDevice stop ⊎ (stop ≡ stops.Refused kinds.TurnsUsed) ⊎ IsMemory stop
 
--- Why bytes are no text for a site: they are too many, or else they are not UTF-8, and the place is where the part that
--- is ends.
+-- Why bytes are no text for a site: they are too many, or else they are not UTF-8, and the place is
+-- where the part that is ends.
 abbrev pub IsByteFault : List ℕ → Refusal → Type 0
 IsByteFault bytes why =
     ((text_limit < length bytes) × (why ≡ refusal_at kinds.TooLong text_limit))
-    ⊎ ((length bytes ≤ text_limit) × (why.kind ≡ kinds.BadCharacter) × (IsUtf8 bytes → ⊥) × IsValidUpTo bytes why.place)
+    ⊎ ((length bytes ≤ text_limit) × (why.kind ≡ kinds.BadCharacter) × (IsUtf8 bytes → ⊥)
+    × IsValidUpTo bytes why.place)
 
--- Why a part of an input may be refused: it is no text for a site, or none of the language, or memory ran out.
+-- Why a part of an input may be refused: it is no text for a site, or none of the language, or
+-- memory ran out.
 abbrev pub IsPartFault : List ℕ → Refusal → Type 0
 IsPartFault part why = IsByteFault part why ⊎ language.IsTextFault part why ⊎ (why ≡ memory)

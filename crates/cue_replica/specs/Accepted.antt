@@ -8,7 +8,8 @@ use Rattle.cue_replica.specs.Language.{Table, language}
 
 -- The texts are of the language, and the table is valid, and the unification of exactly these.
 abbrev pub IsOfTexts : Table → List (List ℕ) → Type 0
-IsOfTexts table texts = AllByRecursion language.IsLegal texts × IsUnified language table (map text texts)
+IsOfTexts table texts =
+    AllByRecursion language.IsLegal texts × IsUnified language table (map text texts)
 
 -- The bytes are those of a state, and the table is valid, and has the answers of these bytes.
 abbrev pub IsOfState : Table → List ℕ → Type 0

@@ -8,4 +8,5 @@ use Rattle.cue_replica.specs.Language.{Table, language}
 abbrev pub Adds : Table → Refusals → Table → Type 0
 Adds old added new =
     (path : Path) (question : Question)
-    → language.table_refuses new path question ↔ (language.table_refuses old path question ⊎ added path question)
+    → language.table_refuses new path question
+    ↔ (language.table_refuses old path question ⊎ added path question)

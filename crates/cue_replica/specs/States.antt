@@ -24,6 +24,7 @@ abbrev pub state_refuses : List ℕ → Refusals
 state_refuses bytes path question =
     (table : Tree Row) × IsTableOf bytes table × TableRefuses RowRefuses table path question
 
--- Why bytes are refused: they are of another version; or else no valid table has them. Both are told at place 0.
+-- Why bytes are refused: they are of another version; or else no valid table has them. Both are
+-- told at place 0.
 abbrev pub IsStateFault : List ℕ → Refusal → Type 0
 IsStateFault bytes why = (why.place ≡ 0) × IsRejected bytes why.kind

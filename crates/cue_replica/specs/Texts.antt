@@ -18,8 +18,8 @@ pub record IsTreeOf (text : List ℕ) (tree : FileTree) : Type 0 where
   pub lexed : tokens text ≡ Ok words
   pub spelled : IsFile (at_most level_limit) words tree
 
--- A text is legal that has no fault among its tokens, is one of the grammar, and passes each check of names, definitions
--- and limits.
+-- A text is legal that has no fault among its tokens, is one of the grammar, and passes each check
+-- of names, definitions and limits.
 abbrev pub IsLegal : List ℕ → Type 0
 IsLegal text = (tree : FileTree) × IsTreeOf text tree × checks.IsLegal tree.declarations
 
@@ -33,8 +33,8 @@ pub record IsUnspelled (end : ℕ) (words : List Token) (why : Refusal) : Type 0
   pub none : (tree : FileTree) → ¬ IsFile (at_most level_limit) words tree
   pub fits : Fits level_limit end words why
 
--- Why a text is refused: the first fault among its tokens; else, where no tree spells these, a refusal that fits them;
--- else the first check that fails. Want of memory is none of these.
+-- Why a text is refused: the first fault among its tokens; else, where no tree spells these, a
+-- refusal that fits them; else the first check that fails. Want of memory is none of these.
 abbrev pub IsTextFault : List ℕ → Refusal → Type 0
 IsTextFault text why =
     ((why ≢ memory) × (tokens text ≡ Err why))

@@ -5,7 +5,8 @@ use Rattle.cue_lattice.specs.declared.scalar.Scalar.TheVariants as scalars
 use Rattle.cue_lattice.specs.Path as paths
 use Rattle.cue_lattice.specs.Path.{label, index}
 use Rattle.cue_lattice.specs.Question.{Refusals, struct, list}
-use Rattle.serde_json.specs.Data.{Data, null, boolean, number, string, array, object, Items, no_items, item, Members, no_members, member}
+use Rattle.serde_json.specs.Data.{Data, null, boolean, number, string, array, object, Items}
+use Rattle.serde_json.specs.Data.{no_items, item, Members, no_members, member}
 use Rattle.serde_json.specs.Find.{of_integer}
 use Rattle.serde_json.specs.Written.{compact_text}
 use Rattle.cue_report.specs.Answers.{IsStepDemanded}
@@ -49,8 +50,8 @@ pub record IsScalarOf (refuses : Refusals) (json : Data) : Type 0 where
   pub no_list : refuses [] list
   pub chosen : (scalar : Scalar) → IsChosen refuses [] scalar → json ≡ data_of scalar
 
--- The document: an object of the demanded labels where a struct may stand, a list of the least length where a list may
--- and no struct, and the chosen scalar elsewhere.
+-- The document: an object of the demanded labels where a struct may stand, a list of the least
+-- length where a list may and no struct, and the chosen scalar elsewhere.
 abbrev mutual
   pub IsDocument : Refusals → Data → Type 0
   IsDocument refuses null = IsScalarOf refuses null
@@ -58,24 +59,30 @@ abbrev mutual
   IsDocument refuses (number n) = IsScalarOf refuses (number n)
   IsDocument refuses (string s) = IsScalarOf refuses (string s)
   IsDocument refuses (array items) =
-      refuses [] struct × (¬ refuses [] list) × IsLeast refuses (count items) × AreElements refuses 0 items
-  IsDocument refuses (object members) = (¬ refuses [] struct) × AreKeys refuses (keys members) × AreMembers refuses members
+      refuses [] struct × (¬ refuses [] list) × IsLeast refuses (count items)
+      × AreElements refuses 0 items
+  IsDocument refuses (object members) =
+      (¬ refuses [] struct) × AreKeys refuses (keys members) × AreMembers refuses members
 
   -- each element from the first on is the document of its place
   pub AreElements : Refusals → ℕ → Items → Type 0
   AreElements refuses first no_items = Unit {0}
-  AreElements refuses first (item json items) = IsDocument (beyond refuses (index first)) json × AreElements refuses (suc first) items
+  AreElements refuses first (item json items) =
+      IsDocument (beyond refuses (index first)) json × AreElements refuses (suc first) items
 
   -- so is each member
   pub AreMembers : Refusals → Members → Type 0
   AreMembers refuses no_members = Unit {0}
-  AreMembers refuses (member key json members) = IsDocument (beyond refuses (label key)) json × AreMembers refuses members
+  AreMembers refuses (member key json members) =
+      IsDocument (beyond refuses (label key)) json × AreMembers refuses members
 
--- The conflicts, where there are any; otherwise the gaps, where there are any; otherwise the document in JSON without a
--- space. Without a gap, a scalar is chosen at each demanded place where only scalars may stand.
+-- The conflicts, where there are any; otherwise the gaps, where there are any; otherwise the
+-- document in JSON without a space. Without a gap, a scalar is chosen at each demanded place where
+-- only scalars may stand.
 abbrev pub IsExport : Refusals → Export → Type 0
 IsExport refuses (Conflicts found) = (found.items ≢ []) × AreConflicts refuses found.items
-IsExport refuses (Incomplete gaps) = AreConflicts refuses [] × (gaps.items ≢ []) × AreGaps refuses gaps.items
+IsExport refuses (Incomplete gaps) =
+    AreConflicts refuses [] × (gaps.items ≢ []) × AreGaps refuses gaps.items
 IsExport refuses (Json text) =
     AreConflicts refuses [] × AreGaps refuses []
     × ((json : Data) × IsDocument refuses json × (string_bytes text ≡ compact_text json))

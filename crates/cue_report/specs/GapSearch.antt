@@ -1,5 +1,6 @@
 -- How the gaps of a table are found, place by place.
-use Rattle.std.specs.Prelude.{◌≡◌, ◌↔◌, ◌⊎◌, ℕ, zero, suc, ◌+◌, ◌-◌, Bool, false, List, [], ◌∷◌, ◌++◌, map, Option, None, Some, IsTrue}
+use Rattle.std.specs.Prelude.{◌≡◌, ◌↔◌, ◌⊎◌, ℕ, zero, suc, ◌+◌, ◌-◌, Bool, false, List, [], ◌∷◌}
+use Rattle.std.specs.Prelude.{◌++◌, map, Option, None, Some, IsTrue}
 use Rattle.cue_lattice.specs.Path as paths
 use Rattle.cue_lattice.specs.Path.{label, index, Path}
 use Rattle.cue_lattice.specs.Question.{Refusals}
@@ -47,7 +48,8 @@ pub record IsGapHere (not_allowed : Bool) (row : Option Row) (gap : Gap) : Type 
 abbrev pub above : Path → Gap → Gap
 above path gap = record gap { path = path ++ gap.path }
 
--- To what was found before, a search at a path adds exactly those of which P holds, in the order of their paths.
+-- To what was found before, a search at a path adds exactly those of which P holds, in the order of
+-- their paths.
 pub record Adds (P : Gap → Type 0) (path : Path) (before after : List Gap) : Type 0 where
   pub found : List Gap
   pub lists : Lists (λ gap. gap.path) P found
@@ -65,7 +67,8 @@ free_at path = record { path = path; missing = false }
 -- so many free elements, from the first on
 abbrev pub free_elements : ℕ → ℕ → List Gap
 free_elements first zero = []
-free_elements first (suc count) = free_elements first count ++ free_at (index (first + count) ∷ []) ∷ []
+free_elements first (suc count) =
+    free_elements first count ++ free_at (index (first + count) ∷ []) ∷ []
 
 -- the free elements from the next on that are before the step
 abbrev pub free_before : ℕ → paths.Step → List Gap

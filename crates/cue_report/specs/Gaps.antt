@@ -32,7 +32,8 @@ IsChosen refuses path scalar =
 -- anything may stand
 abbrev pub IsFree : Refusals → Path → Type 0
 IsFree refuses path =
-    ((scalar : Scalar) → ¬ refuses path (may_be scalar)) × (¬ refuses path struct) × (¬ refuses path list)
+    ((scalar : Scalar) → ¬ refuses path (may_be scalar)) × (¬ refuses path struct)
+    × (¬ refuses path list)
 
 -- some scalar may stand, but no struct and no list, and no scalar is chosen
 abbrev pub HasNoChoice : Refusals → Path → Type 0
@@ -40,7 +41,8 @@ HasNoChoice refuses path =
     (¬ HasNoScalar refuses path) × refuses path struct × refuses path list
     × ((scalar : Scalar) → ¬ IsChosen refuses path scalar)
 
--- A demanded path without a conflict is a gap where it is missing, or where no single value is told.
+-- A demanded path without a conflict is a gap where it is missing, or where no single value is
+-- told.
 pub record IsGap (refuses : Refusals) (gap : Gap) : Type 0 where
   pub demanded : IsDemanded refuses gap.path
   pub has_value : ¬ HasNoValue refuses gap.path

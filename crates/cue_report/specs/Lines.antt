@@ -15,7 +15,8 @@ line_break = 0x0a
 abbrev pub line : List ℕ → Path → List ℕ → List ℕ
 line what path why = what ++ (path_text path ++ (space ∷ why ++ line_break ∷ []))
 
--- the causes of a conflict, by whether there is no value and whether the label is not allowed; with neither, no words
+-- the causes of a conflict, by whether there is no value and whether the label is not allowed; with
+-- neither, no words
 abbrev pub cause_text : Bool → Bool → List ℕ
 cause_text true true = codes "no value, label not allowed"
 cause_text true false = codes "no value"
@@ -28,7 +29,8 @@ lack_text true = codes "missing"
 lack_text false = codes "not a single value"
 
 abbrev pub conflict_line : Conflict → List ℕ
-conflict_line conflict = line (codes "conflict ") conflict.path (cause_text conflict.no_value conflict.not_allowed)
+conflict_line conflict =
+    line (codes "conflict ") conflict.path (cause_text conflict.no_value conflict.not_allowed)
 
 abbrev pub gap_line : Gap → List ℕ
 gap_line gap = line (codes "incomplete ") gap.path (lack_text gap.missing)

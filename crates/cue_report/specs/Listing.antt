@@ -11,7 +11,8 @@ use Rattle.cue_report.specs.declared.conflict.Conflict.{Conflict}
 -- each path is before all later ones
 abbrev pub IsRising : {X : Type 0} → (X → Path) → List X → Type 0
 IsRising path [] = Unit {0}
-IsRising path (x ∷ xs) = AllByRecursion (λ later. path_cmp (path x) (path later) ≡ Less) xs × IsRising path xs
+IsRising path (x ∷ xs) =
+    AllByRecursion (λ later. path_cmp (path x) (path later) ≡ Less) xs × IsRising path xs
 
 -- The list has exactly those of which P holds, each once, in the order of their paths.
 pub record Lists {X : Type 0} (path : X → Path) (P : X → Type 0) (xs : List X) : Type 0 where
@@ -19,7 +20,8 @@ pub record Lists {X : Type 0} (path : X → Path) (P : X → Type 0) (xs : List 
   pub complete : (x : X) → P x → OneOf (λ y. y ≡ x) xs
   pub rising : IsRising path xs
 
--- what the conflict says of its path is so: this is demanded, and one of both causes holds there, or both
+-- what the conflict says of its path is so: this is demanded, and one of both causes holds there,
+-- or both
 pub record IsConflict (refuses : Refusals) (conflict : Conflict) : Type 0 where
   pub demanded : IsDemanded refuses conflict.path
   pub no_value : IsTrue conflict.no_value ↔ HasNoValue refuses conflict.path

@@ -1,5 +1,6 @@
 -- How the lists of a report are found, place by place.
-use Rattle.std.specs.Prelude.{ℕ, Bool, true, false, not, ◌&&◌, ◌||◌, List, [], ◌∷◌, ◌++◌, map, nat_lt, Option, None, Some}
+use Rattle.std.specs.Prelude.{ℕ, Bool, true, false, not, ◌&&◌, ◌||◌, List, [], ◌∷◌, ◌++◌, map}
+use Rattle.std.specs.Prelude.{nat_lt, Option, None, Some}
 use Rattle.cue_lattice.specs.Path as paths
 use Rattle.cue_lattice.specs.Path.{label, index, Path}
 use Rattle.cue_scalars.specs.declared.scalar_set.ScalarSet.{ScalarSet}
@@ -16,7 +17,9 @@ is_nil (x ∷ xs) = false
 
 -- whether no scalar is in the set
 abbrev pub is_empty_set : ScalarSet → Bool
-is_empty_set set = not (set.null || set.no || set.yes) && (is_nil set.ints && (not set.texts.0 && is_nil set.texts.1))
+is_empty_set set =
+    not (set.null || set.no || set.yes)
+    && (is_nil set.ints && (not set.texts.0 && is_nil set.texts.1))
 
 -- whether the least length is above the greatest
 abbrev pub is_above : ℕ → Option ℕ → Bool
@@ -26,7 +29,8 @@ is_above least (Some most) = nat_lt most least
 -- whether no value may stand
 abbrev pub lacks_value : Row → Bool
 lacks_value row =
-    (row.list_ok && is_above row.least row.most) || (not row.list_ok && (not row.struct_ok && is_empty_set row.value))
+    (row.list_ok && is_above row.least row.most)
+    || (not row.list_ok && (not row.struct_ok && is_empty_set row.value))
 
 abbrev pub has_no_value : Option Row → Bool
 has_no_value None = false
@@ -70,15 +74,18 @@ only_if false xs = []
 -- the conflict at a place itself, by its two causes
 abbrev pub conflict_here : Bool → Bool → List Conflict
 conflict_here no_value not_allowed =
-    only_if (no_value || not_allowed) (record { path = []; no_value = no_value; not_allowed = not_allowed } ∷ [])
+    only_if (no_value || not_allowed)
+    (record { path = []; no_value = no_value; not_allowed = not_allowed } ∷ [])
 
 -- the conflicts at a place and below, of which the place above refuses the label or not
 abbrev mutual
   pub conflicts_in : Bool → Tree Row → List Conflict
-  conflicts_in not_allowed (node row children) = conflict_here (has_no_value row) not_allowed ++ conflicts_below row children
+  conflicts_in not_allowed (node row children) =
+      conflict_here (has_no_value row) not_allowed ++ conflicts_below row children
 
   pub conflicts_below : Option Row → Children Row → List Conflict
   conflicts_below row none = []
   conflicts_below row (child step tree children) =
-      only_if (is_demanded row step (row_of tree)) (map (under (step ∷ [])) (conflicts_in (is_refused row step) tree))
+      only_if (is_demanded row step (row_of tree))
+      (map (under (step ∷ [])) (conflicts_in (is_refused row step) tree))
       ++ conflicts_below row children

@@ -7,4 +7,5 @@ use Rattle.cue_row.specs.Kinds.{IsEmptySet}
 
 -- the only usual scalar, or, where none is usual, the only one that may stand
 abbrev pub IsChosen : Row → Scalar → Type 0
-IsChosen row scalar = IsOnlyScalar row.usual scalar ⊎ (IsEmptySet row.usual × IsOnlyScalar row.value scalar)
+IsChosen row scalar =
+    IsOnlyScalar row.usual scalar ⊎ (IsEmptySet row.usual × IsOnlyScalar row.value scalar)

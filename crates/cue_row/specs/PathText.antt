@@ -1,5 +1,6 @@
 -- How a path is written.
-use Rattle.std.specs.Prelude.{ℕ, List, [], ◌∷◌, Bool, false, not, ◌&&◌, ◌||◌, ◌==◌, if◌then◌else◌, map, decimal}
+use Rattle.std.specs.Prelude.{ℕ, List, [], ◌∷◌, Bool, false, not, ◌&&◌, ◌||◌, ◌==◌, if◌then◌else◌}
+use Rattle.std.specs.Prelude.{map, decimal}
 use Rattle.std.specs.Char.{is_ascii_digit, is_ascii_alphanumeric}
 use Rattle.std.specs.List.{list_all, join_with_byte}
 use Rattle.cue_lattice.specs.Path.{Step, Path, label, index}
@@ -20,7 +21,8 @@ dollar = 0x24
 abbrev pub is_word_byte : ℕ → Bool
 is_word_byte b = is_ascii_alphanumeric b || (b == underscore || b == dollar)
 
--- A label needs no quotation marks where it is not empty, doesn't begin with a digit, and has only such bytes.
+-- A label needs no quotation marks where it is not empty, doesn't begin with a digit, and has only
+-- such bytes.
 abbrev pub is_bare : List ℕ → Bool
 is_bare [] = false
 is_bare (b ∷ bs) = not (is_ascii_digit b) && list_all is_word_byte (b ∷ bs)

@@ -1,7 +1,10 @@
--- A row's question is one of the questions of a place, and each of these is asked by a row's question.
+-- A row's question is one of the questions of a place, and each of these is asked by a row's
+-- question.
 use Rattle.cue_lattice.specs.Question as places
 use Rattle.cue_row.specs.declared.question.Question.{Question}
-use Rattle.cue_row.specs.declared.question.Question.TheVariants.{MayBe, Usual, Struct, List, Allows, LevelAtMost, LengthAtMost, LengthAtLeast}
+use Rattle.cue_row.specs.declared.question.Question.TheVariants.{MayBe, Usual, Struct, List, Allows}
+use Rattle.cue_row.specs.declared.question.Question.TheVariants.{LevelAtMost, LengthAtMost}
+use Rattle.cue_row.specs.declared.question.Question.TheVariants.{LengthAtLeast}
 
 -- the question that a question of the program stands for
 abbrev pub question_of : Question → places.Question

@@ -1,5 +1,6 @@
 -- A text between quotation marks, as a string literal of the CUE Language Specification.
-use Rattle.std.specs.Prelude.{ℕ, ◌/◌, ◌%◌, List, [], ◌∷◌, ◌++◌, ◌||◌, ◌==◌, nat_lt, if◌then◌else◌, codes, encode_utf8}
+use Rattle.std.specs.Prelude.{ℕ, ◌/◌, ◌%◌, List, [], ◌∷◌, ◌++◌, ◌||◌, ◌==◌, nat_lt, if◌then◌else◌}
+use Rattle.std.specs.Prelude.{codes, encode_utf8}
 use Rattle.std.specs.Char.{digit_char}
 use Rattle.std.specs.List.{flat_map}
 use Rattle.std.specs.Str.{chars}
@@ -18,8 +19,9 @@ escape letter = backslash ∷ letter
 abbrev pub unicode_escape : ℕ → List ℕ
 unicode_escape c = escape (codes "u00") ++ digit_char (c / 16) ∷ digit_char (c % 16) ∷ []
 
--- A character between quotation marks. The mark, the backslash, U+000A, U+000D and U+0009 have escapes of their own;
--- other characters below U+0020 and U+007F are written by their number, and all else stands for itself.
+-- A character between quotation marks. The mark, the backslash, U+000A, U+000D and U+0009 have
+-- escapes of their own; other characters below U+0020 and U+007F are written by their number, and
+-- all else stands for itself.
 abbrev pub char_text : ℕ → List ℕ
 char_text c =
     if c == quotation_mark then escape (quotation_mark ∷ []) else

@@ -1,6 +1,7 @@
 -- What a row refuses.
 use Rattle.std.specs.Prelude.{◌≡◌, ◌↔◌, ◌⊎◌, ◌<◌, false}
-use Rattle.cue_lattice.specs.Question.{Question, may_be, usual, struct, list, allows, level_at_most, length_at_most, length_at_least}
+use Rattle.cue_lattice.specs.Question.{Question, may_be, usual, struct, list, allows, level_at_most}
+use Rattle.cue_lattice.specs.Question.{length_at_most, length_at_least}
 use Rattle.cue_scalars.specs.Scalars.{RefusesScalar, IsScalarSet}
 use Rattle.cue_row.specs.declared.row.Row.{Row}
 use Rattle.cue_row.specs.declared.question.Question as program
@@ -32,4 +33,5 @@ pub record IsRow (row : Row) : Type 0 where
 
 -- the row refuses what one of the two others refuses
 abbrev pub IsMetRow : Row → Row → Row → Type 0
-IsMetRow a b met = (question : program.Question) → Refuses met question ↔ (Refuses a question ⊎ Refuses b question)
+IsMetRow a b met =
+    (question : program.Question) → Refuses met question ↔ (Refuses a question ⊎ Refuses b question)

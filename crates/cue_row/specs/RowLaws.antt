@@ -1,5 +1,6 @@
 -- Laws of rows.
-use Rattle.std.proofs.Common.{◌≡◌, ◌↔◌, ℕ, ◌+◌, ◌<◌, Bool, true, false, Option, Some, None, refl, sym, ap, arith}
+use Rattle.std.proofs.Common.{◌≡◌, ◌↔◌, ℕ, ◌+◌, ◌<◌, Bool, true, false, Option, Some, None, refl}
+use Rattle.std.proofs.Common.{sym, ap, arith}
 use Rattle.cue_scalars.specs.ScalarLaws.{same_scalars}
 use Rattle.cue_row.specs.declared.level.Level.{Level}
 use Rattle.cue_row.specs.declared.level.Level.TheVariants.{Optional, Required, Given}
@@ -50,14 +51,27 @@ same_length (Some m) None e = absurd ((e (m + 1)).0 (omega arith))
 same_length (Some m) (Some n) e = ap (λ k. Some k) (same_upper_bound m n e)
 
 -- equal answers are equal rows
-pub same_rows : (a b : Row) → IsRow a → IsRow b → ((question : Question) → Refuses a question ↔ Refuses b question) → a ≡ b
+pub same_rows : (a b : Row) → IsRow a → IsRow b
+    → ((question : Question) → Refuses a question ↔ Refuses b question) → a ≡ b
 same_rows a b p q e =
-    let level = same_level a.level b.level (same_bound (level_of a.level) (level_of b.level) (λ k. e (questions.LevelAtMost k))) in
+    let level =
+    same_level a.level b.level
+    (same_bound (level_of a.level) (level_of b.level) (λ k. e (questions.LevelAtMost k))) in
     let value = same_scalars a.value b.value p.value q.value (λ x. e (questions.MayBe x)) in
     let usual = same_scalars a.usual b.usual p.usual q.usual (λ x. e (questions.Usual x)) in
-    let struct_ok = bool_same a.struct_ok b.struct_ok (e questions.Struct).0 (e questions.Struct).1 in
+    let struct_ok =
+    bool_same a.struct_ok b.struct_ok (e questions.Struct).0 (e questions.Struct).1 in
     let list_ok = bool_same a.list_ok b.list_ok (e questions.List).0 (e questions.List).1 in
     let labels = same_labels a.labels b.labels p.labels q.labels (λ l. e (questions.Allows l)) in
     let least = same_bound a.least b.least (λ k. e (questions.LengthAtMost k)) in
     let most = same_length a.most b.most (λ k. e (questions.LengthAtLeast k)) in
-    λ i. record { level = level i; value = value i; usual = usual i; struct_ok = struct_ok i; list_ok = list_ok i; labels = labels i; least = least i; most = most i }
+    λ i. record {
+      level = level i;
+      value = value i;
+      usual = usual i;
+      struct_ok = struct_ok i;
+      list_ok = list_ok i;
+      labels = labels i;
+      least = least i;
+      most = most i;
+    }

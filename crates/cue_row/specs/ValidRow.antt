@@ -1,5 +1,5 @@
--- The rows that may stand in a valid table, as far as a row alone decides: what it says of its parent and of what stands
--- below it is the table's.
+-- The rows that may stand in a valid table, as far as a row alone decides: what it says of its
+-- parent and of what stands below it is the table's.
 use Rattle.std.specs.Prelude.{◌≡◌, ◌≤◌, ℕ, List, Option, Some, None, length}
 use Rattle.std.specs.List.{AllByRecursion}
 use Rattle.std.specs.Str.{IsUtf8}
@@ -13,7 +13,8 @@ use Rattle.cue_row.specs.declared.question.Question.{Question}
 use Rattle.cue_row.specs.Row.{Refuses}
 use Rattle.cue_row.specs.Kinds.{IsEmptySet, IsFullSet, IsKind}
 
--- Usual are all scalars at a free place, some of those that may stand where scalars do, and none elsewhere.
+-- Usual are all scalars at a free place, some of those that may stand where scalars do, and none
+-- elsewhere.
 abbrev pub UsualFits : Row → RowKind → Type 0
 UsualFits row kinds.Free = IsFullSet row.usual
 UsualFits row kinds.Scalar = IsWithin row.usual row.value

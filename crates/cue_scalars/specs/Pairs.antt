@@ -1,5 +1,6 @@
 -- Value and default pairs, by the CUE language specification, over plain sets of scalars.
-use Rattle.std.specs.Prelude.{Bool, true, false, ◌&&◌, ◌||◌, List, [], ◌∷◌, Option, Some, None, is_some, unwrap_or, if◌then◌else◌, filter_map}
+use Rattle.std.specs.Prelude.{Bool, true, false, ◌&&◌, ◌||◌, List, [], ◌∷◌, Option, Some, None}
+use Rattle.std.specs.Prelude.{is_some, unwrap_or, if◌then◌else◌, filter_map}
 use Rattle.std.specs.List.{list_any, list_all}
 use Rattle.cue_lattice.specs.declared.scalar.Scalar.{Scalar}
 
@@ -7,7 +8,8 @@ use Rattle.cue_lattice.specs.declared.scalar.Scalar.{Scalar}
 abbrev pub Scalars : Type 0
 Scalars = Scalar → Bool
 
--- the scalars that may stand, and the default where there is one: those among them that are meant where nothing is said
+-- the scalars that may stand, and the default where there is one: those among them that are meant
+-- where nothing is said
 pub record Pair : Type 0 where
   pub value : Scalars
   pub usual : Option Scalars
@@ -26,25 +28,29 @@ union_all sets scalar = list_any (λ set. set scalar) sets
 abbrev pub brought : Pair → Scalars
 brought pair = unwrap_or pair.usual pair.value
 
--- Unification `a & b`: values meet, and so do defaults, where a side without a default brings its value. There is a
--- default where one side has one. An empty default stays a default.
+-- Unification `a & b`: values meet, and so do defaults, where a side without a default brings its
+-- value. There is a default where one side has one. An empty default stays a default.
 abbrev pub both : Pair → Pair → Pair
 both a b = record {
   value = meet_of a.value b.value;
-  usual = if is_some a.usual || is_some b.usual then Some (meet_of (brought a) (brought b)) else None;
+  usual =
+      if is_some a.usual || is_some b.usual then Some (meet_of (brought a) (brought b)) else None;
 }
 
--- Unification of one or more, whose order and halving do not matter: a scalar may stand where each lets it stand, and
--- there is a default where one has one.
+-- Unification of one or more, whose order and halving do not matter: a scalar may stand where each
+-- lets it stand, and there is a default where one has one.
 abbrev pub all_of : List Pair → Pair
 all_of pairs = record {
   value = λ scalar. list_all (λ pair. pair.value scalar) pairs;
-  usual = if list_any (λ pair. is_some pair.usual) pairs then Some (λ scalar. list_all (λ pair. brought pair scalar) pairs) else None;
+  usual =
+      if list_any (λ pair. is_some pair.usual) pairs
+      then Some (λ scalar. list_all (λ pair. brought pair scalar) pairs)
+      else None;
 }
 
--- What a term of a disjunction brings as default. The first argument says whether some term is marked. If none is, each
--- keeps its own. Otherwise a marked term brings its default, or its value where it has none, and an unmarked term loses
--- its default.
+-- What a term of a disjunction brings as default. The first argument says whether some term is
+-- marked. If none is, each keeps its own. Otherwise a marked term brings its default, or its value
+-- where it has none, and an unmarked term loses its default.
 abbrev pub default_of : Bool → Bool × Pair → Option Scalars
 default_of false term = term.1.usual
 default_of true (true, pair) = Some (brought pair)

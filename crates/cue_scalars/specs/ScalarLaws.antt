@@ -13,7 +13,8 @@ bool_same true true h k = refl
 bool_same true false h k = k refl
 
 -- sets that refuse the same scalars are equal
-pub same_scalars : (a b : ScalarSet) → IsScalarSet a → IsScalarSet b → ((q : Scalar) → RefusesScalar a q ↔ RefusesScalar b q) → a ≡ b
+pub same_scalars : (a b : ScalarSet) → IsScalarSet a → IsScalarSet b
+    → ((q : Scalar) → RefusesScalar a q ↔ RefusesScalar b q) → a ≡ b
 same_scalars a b p q e =
     let null = bool_same a.null b.null (e scalars.Null).0 (e scalars.Null).1 in
     let no = bool_same a.no b.no (e (scalars.Bool false)).0 (e (scalars.Bool false)).1 in

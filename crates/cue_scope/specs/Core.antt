@@ -1,4 +1,5 @@
--- What an expression means once the names in it are replaced: a tree without names, parentheses and commas.
+-- What an expression means once the names in it are replaced: a tree without names, parentheses and
+-- commas.
 use Rattle.std.specs.Prelude.{ℕ, Bool, true, false, ◌&&◌, List}
 use Rattle.cue_syntax.specs.declared.tree.Signed.{Signed}
 use Rattle.cue_syntax.specs.declared.tree.Comparison.{Comparison}

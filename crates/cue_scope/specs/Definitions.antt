@@ -19,7 +19,8 @@ pub record Definition : Type 0 where
 -- in text order; they are numbered from 0 in this order
 abbrev pub definitions : Entries → List Definition
 definitions no_entries = []
-definitions (entry (definition name place chain e) es) = record { name = name; place = place; chain = chain; value = e } ∷ definitions es
+definitions (entry (definition name place chain e) es) =
+    record { name = name; place = place; chain = chain; value = e } ∷ definitions es
 definitions (entry _ es) = definitions es
 
 -- the number of the first definition of this name
@@ -29,7 +30,9 @@ number_of name ds = position_from (λ d. bytes_eq name d.name) 0 ds
 -- the places of the definitions whose name an earlier one has, where these stood before
 abbrev pub repeats_after : List Definition → List Definition → List ℕ
 repeats_after before [] = []
-repeats_after before (d ∷ ds) = cond (is_some (number_of d.name before)) (d.place ∷ []) [] ++ repeats_after (before ++ d ∷ []) ds
+repeats_after before (d ∷ ds) =
+    cond (is_some (number_of d.name before)) (d.place ∷ []) []
+    ++ repeats_after (before ++ d ∷ []) ds
 
 abbrev pub repeats : List Definition → List ℕ
 repeats ds = repeats_after [] ds

@@ -42,5 +42,7 @@ IsClosed g = (i : ℕ) → AreNodes g (targets g i)
 pub record IsOrder (g : List (List ℕ)) (order : List ℕ) : Type 0 where
   pub nodes : AreNodes g order
   pub all : (i : ℕ) → i < length g → IsIn i order
-  pub after : (k j : ℕ) → k < length order → PointsTo g (slice_index order k) j → (m : ℕ) × (m < k) × (slice_index order m ≡ j)
-  pub once : (k m : ℕ) → k < length order → m < length order → slice_index order k ≡ slice_index order m → k ≡ m
+  pub after : (k j : ℕ) → k < length order → PointsTo g (slice_index order k) j
+      → (m : ℕ) × (m < k) × (slice_index order m ≡ j)
+  pub once : (k m : ℕ) → k < length order → m < length order
+      → slice_index order k ≡ slice_index order m → k ≡ m

@@ -1,13 +1,16 @@
 -- How large a tree is, and how long its paths are.
 use Rattle.std.specs.Prelude.{ℕ, ◌+◌, max, Bool, true, false}
-use Rattle.cue_scope.specs.Core.{Core, conjunction, disjunction, struct, close, list, closed, Cores, no_cores, core, Choices, no_choices, choice, Members, no_members, member, dots}
+use Rattle.cue_scope.specs.Core.{Core, conjunction, disjunction, struct, close, list, closed, Cores}
+use Rattle.cue_scope.specs.Core.{no_cores, core, Choices, no_choices, choice, Members, no_members}
+use Rattle.cue_scope.specs.Core.{member, dots}
 
 -- a list has one more for its `...`
 abbrev pub one_if : Bool → ℕ
 one_if true = 1
 one_if false = 0
 
--- 1 for each literal, name, operator chain, struct, list, `close`, label, `...` and use of a definition
+-- 1 for each literal, name, operator chain, struct, list, `close`, label, `...` and use of a
+-- definition
 abbrev mutual
   pub size : Core → ℕ
   size (conjunction cs) = 1 + size_of_cores cs

@@ -5,7 +5,12 @@ use Rattle.cue_scope.specs.declared.definitions.Definition as code
 use Rattle.cue_scope.specs.Definitions.{Definition}
 
 abbrev pub definition_of : code.Definition → Definition
-definition_of d = record { name = d.name.now; place = d.from; chain = d.chain.now; value = expression d.value.now }
+definition_of d = record {
+  name = d.name.now;
+  place = d.from;
+  chain = d.chain.now;
+  value = expression d.value.now;
+}
 
 abbrev pub listed : List code.Definition → List Definition
 listed ds = map definition_of ds

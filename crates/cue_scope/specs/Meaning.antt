@@ -1,5 +1,6 @@
 -- What expressions and texts mean.
-use Rattle.std.specs.Prelude.{ℕ, suc, zero, true, false, cond, List, [], ◌∷◌, length, Option, None, Some, codes, slice_get}
+use Rattle.std.specs.Prelude.{ℕ, suc, zero, true, false, cond, List, [], ◌∷◌, length, Option, None}
+use Rattle.std.specs.Prelude.{Some, codes, slice_get}
 use Rattle.std.specs.Option.{option_map_or}
 use Rattle.std.specs.Str.{bytes_eq}
 use Rattle.cue_syntax.specs.declared.tree.Identifier.{Identifier}
@@ -8,8 +9,13 @@ use Rattle.cue_syntax.specs.declared.tree.Label.{Label}
 use Rattle.cue_syntax.specs.declared.tree.LabelName.{LabelName}
 use Rattle.cue_syntax.specs.declared.tree.LabelName.TheVariants as names
 use Rattle.cue_syntax.specs.Syntax as tree
-use Rattle.cue_syntax.specs.Syntax.{Expression, Elements, no_elements, element, branch, Branches, no_branches, next_branch, ellipsis, field, definition, Entries, no_entries, entry}
-use Rattle.cue_scope.specs.Core.{Core, null, truth, integer, text, named, top, bottom, bound, other_integer, other_text, conjunction, disjunction, struct, close, list, closed, Cores, no_cores, core, Choices, no_choices, choice, Members, no_members, member, dots}
+use Rattle.cue_syntax.specs.Syntax.{Expression, Elements, no_elements, element, branch, Branches}
+use Rattle.cue_syntax.specs.Syntax.{no_branches, next_branch, ellipsis, field, definition, Entries}
+use Rattle.cue_syntax.specs.Syntax.{no_entries, entry}
+use Rattle.cue_scope.specs.Core.{Core, null, truth, integer, text, named, top, bottom, bound}
+use Rattle.cue_scope.specs.Core.{other_integer, other_text, conjunction, disjunction, struct, close}
+use Rattle.cue_scope.specs.Core.{list, closed, Cores, no_cores, core, Choices, no_choices, choice}
+use Rattle.cue_scope.specs.Core.{Members, no_members, member, dots}
 use Rattle.cue_scope.specs.Named.{named_of}
 use Rattle.cue_scope.specs.Definitions.{Definition, definitions, number_of}
 
@@ -54,16 +60,20 @@ abbrev mutual
 
   pub meant_elements : List Definition → (ℕ → Core) → Elements → Cores
   meant_elements ds meaning no_elements = no_cores
-  meant_elements ds meaning (element e es) = core (meant ds meaning e) (meant_elements ds meaning es)
+  meant_elements ds meaning (element e es) =
+      core (meant ds meaning e) (meant_elements ds meaning es)
 
   pub meant_branches : List Definition → (ℕ → Core) → Branches → Choices
   meant_branches ds meaning no_branches = no_choices
-  meant_branches ds meaning (next_branch (branch marked place e) bs) = choice marked (meant ds meaning e) (meant_branches ds meaning bs)
+  meant_branches ds meaning (next_branch (branch marked place e) bs) =
+      choice marked (meant ds meaning e) (meant_branches ds meaning bs)
 
   pub meant_members : List Definition → (ℕ → Core) → Entries → Members
   meant_members ds meaning no_entries = no_members
   meant_members ds meaning (entry ellipsis es) = dots (meant_members ds meaning es)
-  meant_members ds meaning (entry (field l chain e) es) = member (text_of l.name) l.mark (nested chain (meant ds meaning e)) (meant_members ds meaning es)
+  meant_members ds meaning (entry (field l chain e) es) =
+      member (text_of l.name) l.mark (nested chain (meant ds meaning e))
+      (meant_members ds meaning es)
   meant_members ds meaning (entry (definition t place chain e) es) = meant_members ds meaning es
 
 -- a use of a definition means its body, closed
@@ -83,9 +93,11 @@ meaning ds i = meaning_within (length ds) ds i
 -- the regular declarations of a text
 abbrev pub meant_fields : List Definition → (ℕ → Core) → Entries → Members
 meant_fields ds meaning no_entries = no_members
-meant_fields ds meaning (entry (field l chain e) es) = member (text_of l.name) l.mark (nested chain (meant ds meaning e)) (meant_fields ds meaning es)
+meant_fields ds meaning (entry (field l chain e) es) =
+    member (text_of l.name) l.mark (nested chain (meant ds meaning e)) (meant_fields ds meaning es)
 meant_fields ds meaning (entry _ es) = meant_fields ds meaning es
 
--- a text means the struct of its regular declarations; its package clause and a `...` at its top mean nothing
+-- a text means the struct of its regular declarations; its package clause and a `...` at its top
+-- mean nothing
 abbrev pub meant_text : Entries → Core
 meant_text es = struct (meant_fields (definitions es) (meaning (definitions es)) es)

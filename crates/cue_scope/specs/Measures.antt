@@ -1,5 +1,6 @@
 -- What the checks ask of an expression, and what the program keeps of it.
-use Rattle.std.specs.Prelude.{ℕ, ◌≡◌, ◌+◌, ◌*◌, ◌&&◌, eqb, min, max, Bool, true, false, cond, List, [], ◌∷◌, ◌++◌, Option, None, Some, ◌<◌, ◌≤◌, slice_index_or, length}
+use Rattle.std.specs.Prelude.{ℕ, ◌≡◌, ◌+◌, ◌*◌, ◌&&◌, eqb, min, max, Bool, true, false, cond, List}
+use Rattle.std.specs.Prelude.{[], ◌∷◌, ◌++◌, Option, None, Some, ◌<◌, ◌≤◌, slice_index_or, length}
 use Rattle.cue_lattice.specs.declared.refusal.Kind.{Kind}
 use Rattle.cue_lattice.specs.declared.refusal.Kind.TheVariants as kinds
 use Rattle.cue_lattice.specs.Limits.{size_limit, step_limit}
@@ -12,10 +13,12 @@ use Rattle.cue_scope.specs.First.{IsFirst}
 use Rattle.cue_scope.specs.Graph.{IsIn}
 use Rattle.cue_scope.specs.Kept.{all_of}
 use Rattle.cue_scope.specs.Limits as limits
-use Rattle.cue_scope.specs.Meaning.{meaning, meant, meant_elements, meant_branches, meant_members, meant_fields}
+use Rattle.cue_scope.specs.Meaning.{meaning, meant, meant_elements, meant_branches, meant_members}
+use Rattle.cue_scope.specs.Meaning.{meant_fields}
 use Rattle.cue_scope.specs.Terms.{terms, terms_of_elements, terms_of_branches, terms_of_entries}
 
--- whether all is scalar, how large it is, how many steps its longest path has, and where its terms stand that aren't scalar
+-- whether all is scalar, how large it is, how many steps its longest path has, and where its terms
+-- stand that aren't scalar
 pub record Total : Type 0 where
   pub scalar : Bool
   pub size : ℕ
@@ -40,14 +43,29 @@ abbrev pub leaf : Bool → Total
 leaf scalar = record { scalar = scalar; size = 1; depth = 0; places = [] }
 
 abbrev pub join : Total → Total → Total
-join a b = record { scalar = a.scalar && b.scalar; size = a.size + b.size; depth = max a.depth b.depth; places = a.places ++ b.places }
+join a b = record {
+  scalar = a.scalar && b.scalar;
+  size = a.size + b.size;
+  depth = max a.depth b.depth;
+  places = a.places ++ b.places;
+}
 
 abbrev pub larger : ℕ → Total → Total
-larger more t = record { scalar = t.scalar; size = more + t.size; depth = t.depth; places = t.places }
+larger more t = record {
+  scalar = t.scalar;
+  size = more + t.size;
+  depth = t.depth;
+  places = t.places;
+}
 
 -- as a struct or a list of these parts
 abbrev pub as_literal : ℕ → Total → Total
-as_literal more t = record { scalar = false; size = more + t.size; depth = t.depth; places = t.places }
+as_literal more t = record {
+  scalar = false;
+  size = more + t.size;
+  depth = t.depth;
+  places = t.places;
+}
 
 -- as a field of a struct, of which it matters no more whether it is scalar
 abbrev pub as_field : Total → Total
@@ -59,17 +77,32 @@ as_element t = record { scalar = true; size = t.size; depth = 1 + t.depth; place
 
 -- as a term that begins at this place
 abbrev pub as_term : ℕ → Total → Total
-as_term place t = record { scalar = t.scalar; size = t.size; depth = t.depth; places = cond t.scalar [] (place ∷ []) ++ t.places }
+as_term place t = record {
+  scalar = t.scalar;
+  size = t.size;
+  depth = t.depth;
+  places = cond t.scalar [] (place ∷ []) ++ t.places;
+}
 
 -- behind so many labels, each of which is in a struct of its own
 abbrev pub behind_labels : ℕ → Total → Total
-behind_labels n t = record { scalar = t.scalar && eqb n 0; size = t.size + 2 * n; depth = t.depth + n; places = t.places }
+behind_labels n t = record {
+  scalar = t.scalar && eqb n 0;
+  size = t.size + 2 * n;
+  depth = t.depth + n;
+  places = t.places;
+}
 
 abbrev pub only_places : Total → Total
 only_places t = record { scalar = true; size = 0; depth = 0; places = t.places }
 
 abbrev pub total_of : Core → List ℕ → Total
-total_of c places = record { scalar = is_scalar c; size = limits.size c; depth = limits.depth c; places = places }
+total_of c places = record {
+  scalar = is_scalar c;
+  size = limits.size c;
+  depth = limits.depth c;
+  places = places;
+}
 
 abbrev pub total : List Definition → Expression → Total
 total ds e = total_of (meant ds (meaning ds) e) (terms ds (meaning ds) e)
@@ -125,7 +158,8 @@ pub record IsWithin (t : Total) : Type 0 where
 abbrev pub IsBeyond : Total → Kind → ℕ → Type 0
 IsBeyond t kinds.NotScalar place = IsFirst place t.places
 IsBeyond t kinds.TooLarge place = (t.places ≡ []) × (size_limit < t.size) × (place ≡ 0)
-IsBeyond t kinds.TooDeep place = (t.places ≡ []) × (t.size ≤ size_limit) × (step_limit < t.depth) × (place ≡ 0)
+IsBeyond t kinds.TooDeep place =
+    (t.places ≡ []) × (t.size ≤ size_limit) × (step_limit < t.depth) × (place ≡ 0)
 IsBeyond t _ place = ⊥
 
 -- what is known of a use of a definition
@@ -136,4 +170,7 @@ pub record IsUse (m : Measure) (c : Core) : Type 0 where
 
 -- these definitions were measured
 abbrev pub IsKnown : Known → List ℕ → Type 0
-IsKnown known is = (i : ℕ) → IsIn i is → (i < length known.measures.now) × ((d : Measure) → IsUse (slice_index_or known.measures.now i d) (meaning (all_of known.definitions.now) i))
+IsKnown known is =
+    (i : ℕ) → IsIn i is → (i < length known.measures.now)
+    × ((d : Measure) → IsUse (slice_index_or known.measures.now i d)
+    (meaning (all_of known.definitions.now) i))

@@ -11,7 +11,9 @@ use Rattle.cue_syntax.specs.declared.tree.Label.{Label}
 use Rattle.cue_syntax.specs.declared.tree.LabelName.{LabelName}
 use Rattle.cue_syntax.specs.declared.tree.LabelName.TheVariants as names
 use Rattle.cue_syntax.specs.Syntax as tree
-use Rattle.cue_syntax.specs.Syntax.{Expression, Elements, no_elements, element, branch, Branches, no_branches, next_branch, ellipsis, field, definition, Entries, no_entries, entry}
+use Rattle.cue_syntax.specs.Syntax.{Expression, Elements, no_elements, element, branch, Branches}
+use Rattle.cue_syntax.specs.Syntax.{no_branches, next_branch, ellipsis, field, definition, Entries}
+use Rattle.cue_syntax.specs.Syntax.{no_entries, entry}
 use Rattle.cue_scope.specs.Named.{named_of, is_literal}
 use Rattle.cue_scope.specs.Definitions.{Definition, definitions, number_of}
 
@@ -23,7 +25,8 @@ abbrev pub is_unquoted : List ℕ → LabelName → Bool
 is_unquoted t (names.Plain u) = bytes_eq t u
 is_unquoted t (names.Quoted u) = false
 
--- a declaration of the struct literal has this label, unquoted; behind a chain's first label there are structs of their own
+-- a declaration of the struct literal has this label, unquoted; behind a chain's first label there
+-- are structs of their own
 abbrev pub has_label : List ℕ → Entries → Bool
 has_label t no_entries = false
 has_label t (entry (field l chain e) es) = is_unquoted t l.name || has_label t es
@@ -47,8 +50,10 @@ fault_of ds scope (identifiers.Plain t) place =
     cond (is_literal t) []
     (cond (scope t) (refuse kinds.FieldReference place)
     (cond (is_some (named_of t)) [] (refuse kinds.UnknownName place)))
-fault_of ds scope (identifiers.Definition t) place = cond (is_some (number_of t ds)) [] (refuse kinds.UnknownName place)
-fault_of ds scope (identifiers.Hidden t) place = cond (bytes_eq t (codes "_")) [] (refuse kinds.UnknownName place)
+fault_of ds scope (identifiers.Definition t) place =
+    cond (is_some (number_of t ds)) [] (refuse kinds.UnknownName place)
+fault_of ds scope (identifiers.Hidden t) place =
+    cond (bytes_eq t (codes "_")) [] (refuse kinds.UnknownName place)
 
 -- why `close` can't be called here
 abbrev pub fault_of_close : Scope → ℕ → List Refusal
@@ -60,7 +65,8 @@ abbrev mutual
   faults ds scope (tree.name n place) = fault_of ds scope n place
   faults ds scope (tree.parenthesis e comma) = faults ds scope e
   faults ds scope (tree.struct es comma) = faults_of_entries ds (inside es scope) es
-  faults ds scope (tree.close place es inner comma) = fault_of_close scope place ++ faults_of_entries ds (inside es scope) es
+  faults ds scope (tree.close place es inner comma) =
+      fault_of_close scope place ++ faults_of_entries ds (inside es scope) es
   faults ds scope (tree.list es goes_on comma) = faults_of_elements ds scope es
   faults ds scope (tree.conjunction es) = faults_of_elements ds scope es
   faults ds scope (tree.disjunction bs) = faults_of_branches ds scope bs
@@ -72,13 +78,16 @@ abbrev mutual
 
   pub faults_of_branches : List Definition → Scope → Branches → List Refusal
   faults_of_branches ds scope no_branches = []
-  faults_of_branches ds scope (next_branch (branch marked place e) bs) = faults ds scope e ++ faults_of_branches ds scope bs
+  faults_of_branches ds scope (next_branch (branch marked place e) bs) =
+      faults ds scope e ++ faults_of_branches ds scope bs
 
   pub faults_of_entries : List Definition → Scope → Entries → List Refusal
   faults_of_entries ds scope no_entries = []
   faults_of_entries ds scope (entry ellipsis es) = faults_of_entries ds scope es
-  faults_of_entries ds scope (entry (field l chain e) es) = faults ds (behind chain scope) e ++ faults_of_entries ds scope es
-  faults_of_entries ds scope (entry (definition t place chain e) es) = faults ds (behind chain scope) e ++ faults_of_entries ds scope es
+  faults_of_entries ds scope (entry (field l chain e) es) =
+      faults ds (behind chain scope) e ++ faults_of_entries ds scope es
+  faults_of_entries ds scope (entry (definition t place chain e) es) =
+      faults ds (behind chain scope) e ++ faults_of_entries ds scope es
 
 -- the faults of the names in a text
 abbrev pub name_faults : Entries → List Refusal

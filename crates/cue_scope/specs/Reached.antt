@@ -6,8 +6,10 @@ use Rattle.cue_scope.specs.Graph.{IsIn, IsReached, PointsTo, targets}
 -- the nodes that are reached from some nodes, each once, after those that it points to
 pub record IsReachedOrder (g : List (List ℕ)) (from order : List ℕ) : Type 0 where
   pub reached : (i : ℕ) → IsIn i order ↔ IsReached g from i
-  pub after : (k j : ℕ) → k < length order → PointsTo g (slice_index order k) j → (m : ℕ) × (m < k) × (slice_index order m ≡ j)
-  pub once : (k m : ℕ) → k < length order → m < length order → slice_index order k ≡ slice_index order m → k ≡ m
+  pub after : (k j : ℕ) → k < length order → PointsTo g (slice_index order k) j
+      → (m : ℕ) × (m < k) × (slice_index order m ≡ j)
+  pub once : (k m : ℕ) → k < length order → m < length order
+      → slice_index order k ≡ slice_index order m → k ≡ m
 
 -- how often a node is in a list
 abbrev pub times : ℕ → List ℕ → ℕ

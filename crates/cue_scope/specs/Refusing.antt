@@ -53,11 +53,15 @@ pub record IsCycleAt (ds : List Definition) (at : ℕ) : Type 0 where
 -- The checks in their order: each refuses a text that passes those before it.
 abbrev pub RefusesAs : Entries → Kind → ℕ → Type 0
 RefusesAs es kinds.Repeated place = IsFirst place (repeats (definitions es))
-RefusesAs es kinds.UnknownName place = IsUnrepeated es × IsFirst (record { kind = kinds.UnknownName; place = place }) (name_faults es)
-RefusesAs es kinds.FieldReference place = IsUnrepeated es × IsFirst (record { kind = kinds.FieldReference; place = place }) (name_faults es)
+RefusesAs es kinds.UnknownName place =
+    IsUnrepeated es × IsFirst (record { kind = kinds.UnknownName; place = place }) (name_faults es)
+RefusesAs es kinds.FieldReference place =
+    IsUnrepeated es
+    × IsFirst (record { kind = kinds.FieldReference; place = place }) (name_faults es)
 RefusesAs es kinds.Cycle place = IsNamed es × IsCycleAt (definitions es) place
 RefusesAs es kinds.NotScalar place = IsOrdered es × IsFirst place (bad_terms es)
-RefusesAs es kinds.TooLarge place = HasScalarTerms es × (size_limit < size (meant_text es)) × (place ≡ 0)
+RefusesAs es kinds.TooLarge place =
+    HasScalarTerms es × (size_limit < size (meant_text es)) × (place ≡ 0)
 RefusesAs es kinds.TooDeep place = IsSmall es × (step_limit < depth (meant_text es)) × (place ≡ 0)
 RefusesAs es _ place = ⊥
 

@@ -21,7 +21,8 @@ has_chained t (l ∷ ls) = is_unquoted t l.name || has_chained t ls
 -- the unquoted labels of the struct literals that enclose a place
 abbrev pub scope_of : code.Scope → Scope
 scope_of Outermost = λ t. false
-scope_of (Literal' labels p outer) = λ t. bag.contains_by (λ k. bytes_eq t k.now) labels.now || scope_of outer t
+scope_of (Literal' labels p outer) =
+    λ t. bag.contains_by (λ k. bytes_eq t k.now) labels.now || scope_of outer t
 scope_of (Chain' labels p outer) = λ t. has_chained t labels.now || scope_of outer t
 
 -- a walk over names met no fault, and put the definitions that they use behind those before

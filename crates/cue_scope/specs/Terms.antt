@@ -1,7 +1,9 @@
 -- Which terms of disjunctions aren't scalar.
 use Rattle.std.specs.Prelude.{ℕ, cond, List, [], ◌∷◌, ◌++◌}
 use Rattle.cue_syntax.specs.Syntax as tree
-use Rattle.cue_syntax.specs.Syntax.{Expression, Elements, no_elements, element, branch, Branches, no_branches, next_branch, ellipsis, field, definition, Entries, no_entries, entry}
+use Rattle.cue_syntax.specs.Syntax.{Expression, Elements, no_elements, element, branch, Branches}
+use Rattle.cue_syntax.specs.Syntax.{no_branches, next_branch, ellipsis, field, definition, Entries}
+use Rattle.cue_syntax.specs.Syntax.{no_entries, entry}
 use Rattle.cue_scope.specs.Core.{Core, is_scalar}
 use Rattle.cue_scope.specs.Definitions.{Definition, definitions}
 use Rattle.cue_scope.specs.Meaning.{meant, meaning}
@@ -19,18 +21,22 @@ abbrev mutual
 
   pub terms_of_elements : List Definition → (ℕ → Core) → Elements → List ℕ
   terms_of_elements ds meaning no_elements = []
-  terms_of_elements ds meaning (element e es) = terms ds meaning e ++ terms_of_elements ds meaning es
+  terms_of_elements ds meaning (element e es) =
+      terms ds meaning e ++ terms_of_elements ds meaning es
 
   pub terms_of_branches : List Definition → (ℕ → Core) → Branches → List ℕ
   terms_of_branches ds meaning no_branches = []
   terms_of_branches ds meaning (next_branch (branch marked place e) bs) =
-      (cond (is_scalar (meant ds meaning e)) [] (place ∷ []) ++ terms ds meaning e) ++ terms_of_branches ds meaning bs
+      (cond (is_scalar (meant ds meaning e)) [] (place ∷ []) ++ terms ds meaning e)
+      ++ terms_of_branches ds meaning bs
 
   pub terms_of_entries : List Definition → (ℕ → Core) → Entries → List ℕ
   terms_of_entries ds meaning no_entries = []
   terms_of_entries ds meaning (entry ellipsis es) = terms_of_entries ds meaning es
-  terms_of_entries ds meaning (entry (field l chain e) es) = terms ds meaning e ++ terms_of_entries ds meaning es
-  terms_of_entries ds meaning (entry (definition t place chain e) es) = terms ds meaning e ++ terms_of_entries ds meaning es
+  terms_of_entries ds meaning (entry (field l chain e) es) =
+      terms ds meaning e ++ terms_of_entries ds meaning es
+  terms_of_entries ds meaning (entry (definition t place chain e) es) =
+      terms ds meaning e ++ terms_of_entries ds meaning es
 
 -- those of a text
 abbrev pub bad_terms : Entries → List ℕ

@@ -4,7 +4,9 @@ use Rattle.std.specs.Option.{option_to_list}
 use Rattle.cue_syntax.specs.declared.tree.Identifier.{Identifier}
 use Rattle.cue_syntax.specs.declared.tree.Identifier.TheVariants as identifiers
 use Rattle.cue_syntax.specs.Syntax as tree
-use Rattle.cue_syntax.specs.Syntax.{Expression, Elements, no_elements, element, branch, Branches, no_branches, next_branch, ellipsis, field, definition, Entries, no_entries, entry}
+use Rattle.cue_syntax.specs.Syntax.{Expression, Elements, no_elements, element, branch, Branches}
+use Rattle.cue_syntax.specs.Syntax.{no_branches, next_branch, ellipsis, field, definition, Entries}
+use Rattle.cue_syntax.specs.Syntax.{no_entries, entry}
 use Rattle.cue_scope.specs.Definitions.{Definition, number_of}
 
 abbrev pub uses_of_name : List Definition → Identifier → List ℕ

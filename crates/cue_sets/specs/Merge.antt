@@ -15,24 +15,28 @@ abbrev pub right_merged : (Bool → Bool → Bool) → List (List ℕ) → List 
 right_merged kept [] = []
 right_merged kept (y ∷ ys) = prepended_if (kept false true) y (right_merged kept ys)
 
--- the texts from x on, by how x compares with the first of the right list; `more` merges what comes after x
-abbrev pub merged_at : (Bool → Bool → Bool) → List ℕ → (List (List ℕ) → List (List ℕ)) → Ordering → List ℕ → List (List ℕ) → List (List ℕ) → List (List ℕ)
+-- the texts from x on, by how x compares with the first of the right list; `more` merges what comes
+-- after x
+abbrev pub merged_at : (Bool → Bool → Bool) → List ℕ → (List (List ℕ) → List (List ℕ)) → Ordering
+    → List ℕ → List (List ℕ) → List (List ℕ) → List (List ℕ)
 merged_at kept x more Less y ys later = prepended_if (kept true false) x (more (y ∷ ys))
 merged_at kept x more Equal y ys later = prepended_if (kept true true) x (more ys)
 merged_at kept x more Greater y ys later = prepended_if (kept false true) y later
 
-abbrev pub merged_from : (Bool → Bool → Bool) → List ℕ → (List (List ℕ) → List (List ℕ)) → List (List ℕ) → List (List ℕ)
+abbrev pub merged_from : (Bool → Bool → Bool) → List ℕ → (List (List ℕ) → List (List ℕ))
+    → List (List ℕ) → List (List ℕ)
 merged_from kept x more [] = prepended_if (kept true false) x (more [])
-merged_from kept x more (y ∷ ys) = merged_at kept x more (text_cmp x y) y ys (merged_from kept x more ys)
+merged_from kept x more (y ∷ ys) =
+    merged_at kept x more (text_cmp x y) y ys (merged_from kept x more ys)
 
--- the texts of both lists in their order, of which those are kept that `kept` says, by whether the left list has the
--- text and whether the right one has
+-- the texts of both lists in their order, of which those are kept that `kept` says, by whether the
+-- left list has the text and whether the right one has
 abbrev pub merged : (Bool → Bool → Bool) → List (List ℕ) → List (List ℕ) → List (List ℕ)
 merged kept [] = right_merged kept
 merged kept (x ∷ xs) = merged_from kept x (merged kept xs)
 
--- Whether a combination of two sets lists a text, by whether each of the two lists it. `left` and `right` say which of
--- the two have all texts but the listed ones.
+-- Whether a combination of two sets lists a text, by whether each of the two lists it. `left` and
+-- `right` say which of the two have all texts but the listed ones.
 abbrev pub lists : Combination → Bool → Bool → Bool → Bool → Bool
 lists how left right in_left in_right =
     flipped (keeps how left right) (keeps how (flipped left in_left) (flipped right in_right))

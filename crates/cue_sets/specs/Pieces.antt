@@ -1,5 +1,6 @@
 -- A set of integers as pieces. A piece is its first and its last number.
-use Rattle.std.specs.Prelude.{◌≡◌, Bool, true, false, ◌&&◌, ◌||◌, List, [], ◌∷◌, ℤ, pos, negsuc, ◌+ℤ◌, ◌≤ℤ◌, int_le}
+use Rattle.std.specs.Prelude.{◌≡◌, Bool, true, false, ◌&&◌, ◌||◌, List, [], ◌∷◌, ℤ, pos, negsuc}
+use Rattle.std.specs.Prelude.{◌+ℤ◌, ◌≤ℤ◌, int_le}
 
 -- the least and the greatest integer of 64 bits
 abbrev pub least : ℤ
@@ -20,12 +21,13 @@ abbrev pub is_member : List (ℤ × ℤ) → ℤ → Bool
 is_member [] n = false
 is_member (piece ∷ pieces) n = is_within piece n || is_member pieces n
 
--- The pieces begin at `start` or later, ascend, and stay at or below the greatest integer. None is empty, and between
--- two neighbours at least one number is left out.
+-- The pieces begin at `start` or later, ascend, and stay at or below the greatest integer. None is
+-- empty, and between two neighbours at least one number is left out.
 abbrev pub AscendsFrom : ℤ → List (ℤ × ℤ) → Type 0
 AscendsFrom start [] = Unit {0}
 AscendsFrom start (piece ∷ pieces) =
-    (start ≤ℤ piece.0) × (piece.0 ≤ℤ piece.1) × (piece.1 ≤ℤ greatest) × AscendsFrom (piece.1 +ℤ pos 2) pieces
+    (start ≤ℤ piece.0) × (piece.0 ≤ℤ piece.1) × (piece.1 ≤ℤ greatest)
+    × AscendsFrom (piece.1 +ℤ pos 2) pieces
 
 -- the one form in which a set of integers of 64 bits is kept
 abbrev pub IsCanonical : List (ℤ × ℤ) → Type 0
@@ -35,7 +37,8 @@ IsCanonical pieces = AscendsFrom least pieces
 abbrev pub is_int64 : ℤ → Bool
 is_int64 n = is_within (least, greatest) n
 
--- A set of integers refuses the integers of 64 bits that are no members. It refuses no other number.
+-- A set of integers refuses the integers of 64 bits that are no members. It refuses no other
+-- number.
 abbrev pub Refuses : List (ℤ × ℤ) → ℤ → Type 0
 Refuses pieces n = IsInt64 n × (is_member pieces n ≡ false)
 

@@ -1,5 +1,6 @@
 -- A sweep over the numbers from the least integer upwards, which makes a list of pieces.
-use Rattle.std.specs.Prelude.{Bool, true, false, List, [], ◌∷◌, ℤ, pos, ◌-ℤ◌, ◌≤ℤ◌, Option, Some, None, unwrap_or}
+use Rattle.std.specs.Prelude.{Bool, true, false, List, [], ◌∷◌, ℤ, pos, ◌-ℤ◌, ◌≤ℤ◌, Option, Some}
+use Rattle.std.specs.Prelude.{None, unwrap_or}
 
 -- the first piece ends at `from` or later
 abbrev pub EndsFrom : ℤ → List (ℤ × ℤ) → Type 0

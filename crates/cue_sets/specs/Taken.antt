@@ -9,11 +9,14 @@ abbrev pub left_of : Taken → List (List ℕ)
 left_of (Stays text later) = later.now
 left_of (Moves text in_left later) = later.now
 
--- It is the least text of both lists: each merge of them goes on with it, and then with what is left of them.
+-- It is the least text of both lists: each merge of them goes on with it, and then with what is
+-- left of them.
 abbrev pub IsLeast : Taken → List (List ℕ) → List (List ℕ) → List (List ℕ) → Type 0
 IsLeast (Stays text later) left right right_later =
     (kept : Bool → Bool → Bool)
-    → merged kept left right ≡ prepended_if (kept true false) text.now (merged kept later.now right_later)
+    → merged kept left right
+    ≡ prepended_if (kept true false) text.now (merged kept later.now right_later)
 IsLeast (Moves text in_left later) left right right_later =
     (kept : Bool → Bool → Bool)
-    → merged kept left right ≡ prepended_if (kept in_left true) text (merged kept later.now right_later)
+    → merged kept left right
+    ≡ prepended_if (kept in_left true) text (merged kept later.now right_later)

@@ -1,5 +1,6 @@
 -- Laws of sets of texts.
-use Rattle.std.proofs.Common.{◌≡◌, ℕ, ◌+◌, ◌<◌, ◌≤◌, max, Bool, true, false, not, ◌||◌, ◌↔◌, List, [], ◌∷◌, length, get_or, replicate, refl, sym, ap, ◌∙◌, subst, arith}
+use Rattle.std.proofs.Common.{◌≡◌, ℕ, ◌+◌, ◌<◌, ◌≤◌, max, Bool, true, false, not, ◌||◌, ◌↔◌, List}
+use Rattle.std.proofs.Common.{[], ◌∷◌, length, get_or, replicate, refl, sym, ap, ◌∙◌, subst, arith}
 use Rattle.std.specs.Str.{bytes_eq}
 use Rattle.std.specs.Ordering.{is_eq, ordering_reverse}
 use Rattle.std.specs.declared.cmp.Ordering.{Ordering}
@@ -10,9 +11,11 @@ use Rattle.std.proofs.lemmas.List.{length-replicate}
 use Rattle.std.proofs.lemmas.Cmp.{nat_list_cmp_total}
 use Rattle.std.proofs.lemmas.Map.Text.{is_eq-slice_cmp}
 use Rattle.std.proofs.lemmas.Slice.Eq.{bytes_eq-Decides}
-use Rattle.cue_sets.specs.Texts.{is_listed, is_text_member, text_cmp, IsBelowAll, IsAscending, IsTextSet, RefusesText, IsOnlyText}
+use Rattle.cue_sets.specs.Texts.{is_listed, is_text_member, text_cmp, IsBelowAll, IsAscending}
+use Rattle.cue_sets.specs.Texts.{IsTextSet, RefusesText, IsOnlyText}
 
-pub reverse_cmp : (x y : List ℕ) (o : Ordering) → text_cmp x y ≡ o → text_cmp y x ≡ ordering_reverse o
+pub reverse_cmp : (x y : List ℕ) (o : Ordering) → text_cmp x y ≡ o
+    → text_cmp y x ≡ ordering_reverse o
 reverse_cmp x y o h = nat_list_cmp_total.antisymm y x ∙ ap ordering_reverse h
 
 pub same_from_equal : (x y : List ℕ) → text_cmp x y ≡ Equal → x ≡ y
@@ -32,57 +35,79 @@ pub is_listed-below : (x : List ℕ) (xs : List (List ℕ)) → IsBelowAll x xs 
 is_listed-below x [] b = refl
 is_listed-below x (y ∷ ys) b = rw (bytes_eq-greater y x b.0) (is_listed-below x ys b.1)
 
-pub IsBelowAll-lower : (x y : List ℕ) (ys : List (List ℕ)) → text_cmp x y ≡ Less → IsBelowAll y ys → IsBelowAll x ys
+pub IsBelowAll-lower : (x y : List ℕ) (ys : List (List ℕ)) → text_cmp x y ≡ Less → IsBelowAll y ys
+    → IsBelowAll x ys
 IsBelowAll-lower x y [] h b = tt
-IsBelowAll-lower x y (z ∷ zs) h b = (nat_list_cmp_total.trans x y z h b.0, IsBelowAll-lower x y zs h b.1)
+IsBelowAll-lower x y (z ∷ zs) h b =
+    (nat_list_cmp_total.trans x y z h b.0, IsBelowAll-lower x y zs h b.1)
 
 -- no text below the first is listed
-pub is_listed-before_first : (x y : List ℕ) (ys : List (List ℕ)) → text_cmp x y ≡ Less → IsBelowAll y ys → is_listed (y ∷ ys) x ≡ false
+pub is_listed-before_first : (x y : List ℕ) (ys : List (List ℕ)) → text_cmp x y ≡ Less
+    → IsBelowAll y ys → is_listed (y ∷ ys) x ≡ false
 is_listed-before_first x y ys h b = is_listed-below x (y ∷ ys) (h, IsBelowAll-lower x y ys h b)
 
 pub first_is_listed : (x : List ℕ) (xs : List (List ℕ)) → is_listed (x ∷ xs) x ≡ true
 first_is_listed x xs = rw (bytes_eq-itself x) refl
 
 -- ---- ascending lists of the same texts are equal
-rest_listed : (x t : List ℕ) (xs ys : List (List ℕ)) → IsBelowAll x xs → IsBelowAll x ys → is_listed (x ∷ xs) t ≡ is_listed (x ∷ ys) t → is_listed xs t ≡ is_listed ys t
+rest_listed : (x t : List ℕ) (xs ys : List (List ℕ)) → IsBelowAll x xs → IsBelowAll x ys
+    → is_listed (x ∷ xs) t ≡ is_listed (x ∷ ys) t → is_listed xs t ≡ is_listed ys t
 rest_listed x t xs ys a b e = cases (bytes_eq x t) refl e where
-  cases : (r : Bool) → bytes_eq x t ≡ r → (r || is_listed xs t) ≡ (r || is_listed ys t) → is_listed xs t ≡ is_listed ys t
+  cases : (r : Bool) → bytes_eq x t ≡ r → (r || is_listed xs t) ≡ (r || is_listed ys t)
+      → is_listed xs t ≡ is_listed ys t
   cases true h e =
       let same = (bytes_eq-Decides x t).0 h in
-      subst (λ s. is_listed xs s ≡ is_listed ys s) same (is_listed-below x xs a ∙ sym (is_listed-below x ys b))
+      subst (λ s. is_listed xs s ≡ is_listed ys s) same
+      (is_listed-below x xs a ∙ sym (is_listed-below x ys b))
   cases false h e = e
 
-pub same_from_listed : (xs ys : List (List ℕ)) → IsAscending xs → IsAscending ys → ((t : List ℕ) → is_listed xs t ≡ is_listed ys t) → xs ≡ ys
+pub same_from_listed : (xs ys : List (List ℕ)) → IsAscending xs → IsAscending ys
+    → ((t : List ℕ) → is_listed xs t ≡ is_listed ys t) → xs ≡ ys
 same_from_listed [] [] a b e = refl
 same_from_listed [] (y ∷ ys) a b e = absurd (false≢true (e y ∙ first_is_listed y ys))
 same_from_listed (x ∷ xs) [] a b e = absurd (false≢true (sym (e x) ∙ first_is_listed x xs))
-same_from_listed (x ∷ xs) (y ∷ ys) a b e = cases (λ d f. same_from_listed xs ys a.1 d f) (text_cmp x y) refl where
-  cases : (IsAscending ys → ((t : List ℕ) → is_listed xs t ≡ is_listed ys t) → xs ≡ ys) → (o : Ordering) → text_cmp x y ≡ o → x ∷ xs ≡ y ∷ ys
-  cases ih Less h = absurd (false≢true (sym (is_listed-before_first x y ys h b.0) ∙ sym (e x) ∙ first_is_listed x xs))
-  cases ih Greater h = absurd (false≢true (sym (is_listed-before_first y x xs (reverse_cmp x y Greater h) a.0) ∙ e y ∙ first_is_listed y ys))
-  cases ih Equal h =
-      let heads = same_from_equal x y h in
-      let b' : IsBelowAll x ys × IsAscending ys = subst (λ z. IsBelowAll z ys × IsAscending ys) (sym heads) b in
-      let e' : (t : List ℕ) → is_listed (x ∷ xs) t ≡ is_listed (x ∷ ys) t = λ t. e t ∙ ap (λ z. is_listed (z ∷ ys) t) (sym heads) in
-      let rests = ih b'.1 (λ t. rest_listed x t xs ys a.0 b'.0 (e' t)) in
-      λ i. heads i ∷ rests i
+same_from_listed (x ∷ xs) (y ∷ ys) a b e =
+    cases (λ d f. same_from_listed xs ys a.1 d f) (text_cmp x y) refl where
+      cases : (IsAscending ys → ((t : List ℕ) → is_listed xs t ≡ is_listed ys t) → xs ≡ ys)
+          → (o : Ordering) → text_cmp x y ≡ o → x ∷ xs ≡ y ∷ ys
+      cases ih Less h =
+          absurd
+          (false≢true
+          (sym (is_listed-before_first x y ys h b.0) ∙ sym (e x) ∙ first_is_listed x xs))
+      cases ih Greater h =
+          absurd
+          (false≢true
+          (sym (is_listed-before_first y x xs (reverse_cmp x y Greater h) a.0) ∙ e y
+          ∙ first_is_listed y ys))
+      cases ih Equal h =
+          let heads = same_from_equal x y h in
+          let b' : IsBelowAll x ys × IsAscending ys =
+          subst (λ z. IsBelowAll z ys × IsAscending ys) (sym heads) b in
+          let e' : (t : List ℕ) → is_listed (x ∷ xs) t ≡ is_listed (x ∷ ys) t =
+          λ t. e t ∙ ap (λ z. is_listed (z ∷ ys) t) (sym heads) in
+          let rests = ih b'.1 (λ t. rest_listed x t xs ys a.0 b'.0 (e' t)) in
+          λ i. heads i ∷ rests i
 
 -- ---- a text that is longer than each listed one is not listed
 abbrev pub greatest_length : List (List ℕ) → ℕ
 greatest_length [] = 0
 greatest_length (x ∷ xs) = max (length x) (greatest_length xs)
 
-pub is_listed-longer : (xs : List (List ℕ)) (t : List ℕ) → greatest_length xs < length t → is_listed xs t ≡ false
+pub is_listed-longer : (xs : List (List ℕ)) (t : List ℕ) → greatest_length xs < length t
+    → is_listed xs t ≡ false
 is_listed-longer [] t l = refl
-is_listed-longer (x ∷ xs) t l = rw (differ (bytes_eq x t) refl) (is_listed-longer xs t (omega arith)) where
-  differ : (r : Bool) → bytes_eq x t ≡ r → r ≡ false
-  differ false h = refl
-  differ true h = let same = ap length ((bytes_eq-Decides x t).0 h) in absurd (omega (arith, same))
+is_listed-longer (x ∷ xs) t l =
+    rw (differ (bytes_eq x t) refl) (is_listed-longer xs t (omega arith)) where
+      differ : (r : Bool) → bytes_eq x t ≡ r → r ≡ false
+      differ false h = refl
+      differ true h =
+          let same = ap length ((bytes_eq-Decides x t).0 h) in absurd (omega (arith, same))
 
 abbrev pub zeros : ℕ → List ℕ
 zeros n = replicate n 0
 
-pub is_listed-zeros : (xs : List (List ℕ)) (n : ℕ) → greatest_length xs < n → is_listed xs (zeros n) ≡ false
+pub is_listed-zeros : (xs : List (List ℕ)) (n : ℕ) → greatest_length xs < n
+    → is_listed xs (zeros n) ≡ false
 is_listed-zeros xs n l = is_listed-longer xs (zeros n) (rw length-replicate l)
 
 not_same : (a b : Bool) → not a ≡ not b → a ≡ b
@@ -100,20 +125,27 @@ bool_same true false h k = k refl
 apart : (xs ys : List (List ℕ)) → ((t : List ℕ) → is_listed xs t ≡ not (is_listed ys t)) → ⊥
 apart xs ys e =
     let n : ℕ = greatest_length xs + greatest_length ys + 1 in
-    false≢true (sym (is_listed-zeros xs n (omega arith)) ∙ e (zeros n) ∙ ap not (is_listed-zeros ys n (omega arith)))
+    false≢true
+    (sym (is_listed-zeros xs n (omega arith)) ∙ e (zeros n)
+    ∙ ap not (is_listed-zeros ys n (omega arith)))
 
-pub same_from_text_members : (a b : Bool × List (List ℕ)) → IsTextSet a → IsTextSet b → ((t : List ℕ) → is_text_member a t ≡ is_text_member b t) → a ≡ b
-same_from_text_members (false, xs) (false, ys) a b e = ap (λ zs. (false, zs)) (same_from_listed xs ys a b e)
-same_from_text_members (true, xs) (true, ys) a b e = ap (λ zs. (true, zs)) (same_from_listed xs ys a b (λ t. not_same _ _ (e t)))
+pub same_from_text_members : (a b : Bool × List (List ℕ)) → IsTextSet a → IsTextSet b
+    → ((t : List ℕ) → is_text_member a t ≡ is_text_member b t) → a ≡ b
+same_from_text_members (false, xs) (false, ys) a b e =
+    ap (λ zs. (false, zs)) (same_from_listed xs ys a b e)
+same_from_text_members (true, xs) (true, ys) a b e =
+    ap (λ zs. (true, zs)) (same_from_listed xs ys a b (λ t. not_same _ _ (e t)))
 same_from_text_members (false, xs) (true, ys) a b e = absurd (apart xs ys e)
 same_from_text_members (true, xs) (false, ys) a b e = absurd (apart ys xs (λ t. sym (e t)))
 
 -- sets that refuse the same texts are equal
-pub same_texts : (a b : Bool × List (List ℕ)) → IsTextSet a → IsTextSet b → ((t : List ℕ) → RefusesText a t ↔ RefusesText b t) → a ≡ b
+pub same_texts : (a b : Bool × List (List ℕ)) → IsTextSet a → IsTextSet b
+    → ((t : List ℕ) → RefusesText a t ↔ RefusesText b t) → a ≡ b
 same_texts a b p q e = same_from_text_members a b p q (λ t. bool_same _ _ (e t).0 (e t).1)
 
 -- the set of all texts is the one that refuses nothing
-pub free_is_all : (a : Bool × List (List ℕ)) → IsTextSet a → (a ≡ (true, [])) ↔ ((t : List ℕ) → ¬ RefusesText a t)
+pub free_is_all : (a : Bool × List (List ℕ)) → IsTextSet a
+    → (a ≡ (true, [])) ↔ ((t : List ℕ) → ¬ RefusesText a t)
 free_is_all a p = (
   λ e t r. false≢true (sym r ∙ ap (λ b. is_text_member b t) e),
   λ h. same_texts a (true, []) p tt (λ t. (λ r. absurd (h t r), λ r. absurd (false≢true (sym r)))),
@@ -121,7 +153,10 @@ free_is_all a p = (
 
 -- ---- only members
 pub only_listed : (x : List ℕ) → IsOnlyText (false, x ∷ []) x
-only_listed x = record { member = first_is_listed x []; only = λ t h. sym ((bytes_eq-Decides x t).0 (first_of (bytes_eq x t) h)) } where
+only_listed x = record {
+  member = first_is_listed x [];
+  only = λ t h. sym ((bytes_eq-Decides x t).0 (first_of (bytes_eq x t) h));
+} where
   first_of : (r : Bool) → (r || false) ≡ true → r ≡ true
   first_of true h = refl
   first_of false h = h
@@ -129,11 +164,14 @@ only_listed x = record { member = first_is_listed x []; only = λ t h. sym ((byt
 pub none_listed : (t : List ℕ) → IsOnlyText (false, []) t → ⊥
 none_listed t o = false≢true o.member
 
-pub several_listed : (xs : List (List ℕ)) → IsAscending xs → 2 ≤ length xs → (t : List ℕ) → IsOnlyText (false, xs) t → ⊥
+pub several_listed : (xs : List (List ℕ)) → IsAscending xs → 2 ≤ length xs → (t : List ℕ)
+    → IsOnlyText (false, xs) t → ⊥
 several_listed [] a l t o = absurd (omega arith)
 several_listed (x ∷ []) a l t o = absurd (omega arith)
 several_listed (x ∷ y ∷ xs) a l t o =
-    let same = o.only x (first_is_listed x (y ∷ xs)) ∙ sym (o.only y (rw (first_is_listed y xs) (or_true _))) in
+    let same =
+    o.only x (first_is_listed x (y ∷ xs))
+    ∙ sym (o.only y (rw (first_is_listed y xs) (or_true _))) in
     false≢true (sym (bytes_eq-less x y a.0.0) ∙ (bytes_eq-Decides x y).1 same)
   where
     or_true : (r : Bool) → (r || true) ≡ true
@@ -148,18 +186,24 @@ all_but_several xs t o =
     let e = ap length (a ∙ sym b) in
     omega (arith, e, length-replicate {A = ℕ})
 
-pub one_listed : (xs : List (List ℕ)) (x : List ℕ) → length xs ≡ 1 → x ≡ get_or xs 0 x → IsOnlyText (false, xs) x
+pub one_listed : (xs : List (List ℕ)) (x : List ℕ) → length xs ≡ 1 → x ≡ get_or xs 0 x
+    → IsOnlyText (false, xs) x
 one_listed [] x l e = absurd (omega arith)
 one_listed (y ∷ []) x l e = subst (λ z. IsOnlyText (false, y ∷ []) z) (sym e) (only_listed y)
 one_listed (y ∷ z ∷ xs) x l e = absurd (omega arith)
 
-pub not_one_text : (xs : List (List ℕ)) → IsAscending xs → (length xs ≡ 1 → ⊥) → (t : List ℕ) → IsOnlyText (false, xs) t → ⊥
+pub not_one_text : (xs : List (List ℕ)) → IsAscending xs → (length xs ≡ 1 → ⊥) → (t : List ℕ)
+    → IsOnlyText (false, xs) t → ⊥
 not_one_text [] a n t o = none_listed t o
 not_one_text (x ∷ []) a n t o = n refl
 not_one_text (x ∷ y ∷ xs) a n t o = several_listed (x ∷ y ∷ xs) a (omega arith) t o
 
 -- a set that is not empty has a member
-pub some_text : (set : Bool × List (List ℕ)) → (set ≡ (false, []) → ⊥) → (t : List ℕ) × (is_text_member set t ≡ true)
+pub some_text : (set : Bool × List (List ℕ)) → (set ≡ (false, []) → ⊥)
+    → (t : List ℕ) × (is_text_member set t ≡ true)
 some_text (false, []) h = absurd (h refl)
 some_text (false, x ∷ xs) h = (x, first_is_listed x xs)
-some_text (true, xs) h = (zeros (greatest_length xs + 1), ap not (is_listed-zeros xs (greatest_length xs + 1) (omega arith)))
+some_text (true, xs) h = (
+  zeros (greatest_length xs + 1),
+  ap not (is_listed-zeros xs (greatest_length xs + 1) (omega arith)),
+)

@@ -1,5 +1,5 @@
--- Sets of texts: a finite set lists its members, and a set of all but finitely many texts lists those that it lacks. A
--- text is the list of its bytes.
+-- Sets of texts: a finite set lists its members, and a set of all but finitely many texts lists
+-- those that it lacks. A text is the list of its bytes.
 use Rattle.std.specs.Prelude.{◌≡◌, ℕ, Bool, true, false, not, ◌||◌, List, [], ◌∷◌}
 use Rattle.std.specs.Str.{bytes_eq}
 use Rattle.std.specs.Ordering.{nat_cmp}
@@ -12,7 +12,8 @@ abbrev pub is_listed : List (List ℕ) → List ℕ → Bool
 is_listed [] text = false
 is_listed (first ∷ texts) text = bytes_eq first text || is_listed texts text
 
--- whether a text is a member, by whether it is listed; `all_but` says that all texts are members but the listed ones
+-- whether a text is a member, by whether it is listed; `all_but` says that all texts are members
+-- but the listed ones
 abbrev pub flipped : Bool → Bool → Bool
 flipped false listed = listed
 flipped true listed = not listed

@@ -16,7 +16,10 @@ open_from opened (token ∷ tokens) = open_from (open_after opened token.kind) t
 
 -- what is open at the symbol, by what was open where the way back has come to
 abbrev pub seen : Back → List Inside → Option Inside
-seen back opened = innermost (if back.has_rest then after_ellipsis (drop back.closed opened) else drop back.closed opened)
+seen back opened =
+    innermost
+    (if back.has_rest then after_ellipsis (drop back.closed opened)
+    else drop back.closed opened)
 
 -- a step back tells this of the symbol, where so much is open before the token
 abbrev pub Tells : Step → List Inside → Option Inside → Type 0

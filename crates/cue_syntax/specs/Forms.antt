@@ -1,5 +1,6 @@
--- The forms that the profile leaves out: at which spot each is looked for, and what is seen there. At one spot the first
--- row that holds counts, so each row says what the earlier rows of its spot do not see.
+-- The forms that the profile leaves out: at which spot each is looked for, and what is seen there.
+-- At one spot the first row that holds counts, so each row says what the earlier rows of its spot
+-- do not see.
 use Rattle.std.specs.Prelude.{◌≡◌, ◌⊎◌, List, ⊤}
 use Rattle.cue_lattice.specs.declared.refusal.Form.{Form}
 use Rattle.cue_lattice.specs.declared.refusal.Form.TheVariants as forms
@@ -9,7 +10,9 @@ use Rattle.cue_lex.specs.declared.token.TokenKind.TheVariants as kinds
 use Rattle.cue_lex.specs.declared.punctuation.Punctuation.TheVariants as points
 use Rattle.cue_syntax.specs.declared.spot.Spot.{Spot}
 use Rattle.cue_syntax.specs.declared.spot.Spot.TheVariants as spots
-use Rattle.cue_syntax.specs.Viability.{Stands, Next, StandsSign, NextSign, IsMark, IsHidden, IsDefinition, IsCallable, BeginsClause, BeginsExpression, BeginsInteger}
+use Rattle.cue_syntax.specs.Viability.{Stands, Next, StandsSign, NextSign, IsMark, IsHidden}
+use Rattle.cue_syntax.specs.Viability.{IsDefinition, IsCallable, BeginsClause, BeginsExpression}
+use Rattle.cue_syntax.specs.Viability.{BeginsInteger}
 
 -- a declaration begins here
 abbrev pub IsOfDeclaration : Spot → Type 0
@@ -53,7 +56,9 @@ SeesLabel ts = Stands CanBeLabel ts × Next IsMark ts
 
 -- a label in brackets or parentheses
 abbrev pub SeesDynamicLabel : List Token → Type 0
-SeesDynamicLabel ts = StandsSign (kinds.Mark points.OpenBracket) ts ⊎ StandsSign (kinds.Mark points.OpenParenthesis) ts
+SeesDynamicLabel ts =
+    StandsSign (kinds.Mark points.OpenBracket) ts
+    ⊎ StandsSign (kinds.Mark points.OpenParenthesis) ts
 
 -- `?` or `!` after the first token
 abbrev pub NextMark : List Token → Type 0
@@ -69,15 +74,21 @@ IsNoArgument _ ts = ⊥
 abbrev pub IsAt : Form → Spot → List Token → Type 0
 IsAt forms.HiddenLabel spot ts = IsOfLabel spot × Stands IsHidden ts × Next IsMark ts
 IsAt forms.MarkedDefinition spot ts = IsOfLabel spot × Stands IsDefinition ts × NextMark ts
-IsAt forms.NestedDefinition spot ts = IsOfField spot × Stands IsDefinition ts × NextSign (kinds.Mark points.Colon) ts
+IsAt forms.NestedDefinition spot ts =
+    IsOfField spot × Stands IsDefinition ts × NextSign (kinds.Mark points.Colon) ts
 IsAt forms.Clause spot ts = IsOfDeclaration spot × Stands BeginsClause ts × ¬ SeesLabel ts
 IsAt forms.DynamicLabel spot ts = IsOfDeclaration spot × SeesDynamicLabel ts
-IsAt forms.Embedding spot ts = IsOfDeclaration spot × Stands BeginsExpression ts × ¬ SeesLabel ts × ¬ Stands BeginsClause ts × ¬ SeesDynamicLabel ts
+IsAt forms.Embedding spot ts =
+    IsOfDeclaration spot × Stands BeginsExpression ts × ¬ SeesLabel ts × ¬ Stands BeginsClause ts
+    × ¬ SeesDynamicLabel ts
 IsAt forms.TypedEllipsis spot ts = (spot ≡ spots.Ellipsis) × Stands BeginsExpression ts
 IsAt forms.TypedRest spot ts = (spot ≡ spots.Rest) × Stands BeginsExpression ts
 IsAt forms.Bound spot ts = IsNoArgument spot ts × Stands BeginsExpression ts
-IsAt forms.Call spot ts = IsOfOperand spot × Stands IsCallable ts × NextSign (kinds.Mark points.OpenParenthesis) ts
-IsAt forms.CloseArgument spot ts = (spot ≡ spots.CloseArgument) × Stands BeginsExpression ts × ¬ StandsSign (kinds.Mark points.OpenBrace) ts
+IsAt forms.Call spot ts =
+    IsOfOperand spot × Stands IsCallable ts × NextSign (kinds.Mark points.OpenParenthesis) ts
+IsAt forms.CloseArgument spot ts =
+    (spot ≡ spots.CloseArgument) × Stands BeginsExpression ts
+    × ¬ StandsSign (kinds.Mark points.OpenBrace) ts
 
 -- no form stands there
 abbrev pub HasNoForm : Spot → List Token → Type 0

@@ -6,4 +6,6 @@ use Rattle.cue_syntax.specs.Grammar.{Limit, IsFile}
 
 -- two trees of the grammar that the same tokens spell are one, whatever levels are allowed
 abbrev pub NoTwoTrees : Type 0
-NoTwoTrees = (limit other : Limit) (tokens : List Token) (a b : FileTree) → IsFile limit tokens a → IsFile other tokens b → a ≡ b
+NoTwoTrees =
+    (limit other : Limit) (tokens : List Token) (a b : FileTree) → IsFile limit tokens a
+    → IsFile other tokens b → a ≡ b

@@ -11,7 +11,8 @@ use Rattle.cue_syntax.specs.declared.literal.Beginning.{Beginning}
 use Rattle.cue_syntax.specs.declared.literal.Beginning.TheVariants as beginnings
 use Rattle.cue_syntax.specs.declared.tree.Sign.{Sign}
 use Rattle.cue_syntax.specs.declared.tree.Sign.TheVariants as signs
-use Rattle.cue_syntax.specs.Viability.{BeginsLabel, BeginsDefinition, BeginsInteger, IsComparison, Stands, StandsSign, Opens, IsCallOfClose}
+use Rattle.cue_syntax.specs.Viability.{BeginsLabel, BeginsDefinition, BeginsInteger, IsComparison}
+use Rattle.cue_syntax.specs.Viability.{Stands, StandsSign, Opens, IsCallOfClose}
 
 -- what the rule of an operand begins with
 abbrev pub IsOperandAt : Operand → List Token → Type 0
@@ -26,7 +27,8 @@ abbrev pub IsBeginning : Beginning → Punctuation → Type 0
 IsBeginning beginnings.Integer mark = BeginsInteger (kinds.Mark mark)
 IsBeginning beginnings.Bound mark = IsComparison (kinds.Mark mark)
 IsBeginning beginnings.NotEqual mark = mark ≡ points.NotEqual
-IsBeginning beginnings.Nothing mark = ¬ BeginsInteger (kinds.Mark mark) × ¬ IsComparison (kinds.Mark mark) × (mark ≢ points.NotEqual)
+IsBeginning beginnings.Nothing mark =
+    ¬ BeginsInteger (kinds.Mark mark) × ¬ IsComparison (kinds.Mark mark) × (mark ≢ points.NotEqual)
 
 -- the sign that a token is
 abbrev pub IsSign : Sign → TokenKind → Type 0

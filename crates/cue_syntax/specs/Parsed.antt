@@ -1,4 +1,5 @@
--- What the functions of the parser say of what they read, and of where they stop, from one cursor to the next.
+-- What the functions of the parser say of what they read, and of where they stop, from one cursor
+-- to the next.
 use Rattle.std.specs.Prelude.{◌≡◌, ◌≤◌, ◌<◌, ℕ, length}
 use Rattle.cue_syntax.specs.declared.cursor.Cursor.{Cursor}
 use Rattle.cue_syntax.specs.declared.stop.Stop.{Stop}
@@ -21,11 +22,14 @@ pub record IsOnward (before after : Cursor) : Type 0 where
   -- the text ends where it did
   pub end : after.end ≡ before.end
 
--- the tokens between the cursors spell the expression, which is one of the grammar and opens no more levels than there is room for
+-- the tokens between the cursors spell the expression, which is one of the grammar and opens no
+-- more levels than there is room for
 abbrev pub ReadsExpression : ℕ → Cursor → Expr × Cursor → Type 0
-ReadsExpression room before read = IsExpression room before.rest.now (expression read.0) read.1.rest.now
+ReadsExpression room before read =
+    IsExpression room before.rest.now (expression read.0) read.1.rest.now
 
--- the tokens between the cursors spell the expression, which is one of the grammar and holds no other
+-- the tokens between the cursors spell the expression, which is one of the grammar and holds no
+-- other
 abbrev pub ReadsLiteral : Cursor → Expr × Cursor → Type 0
 ReadsLiteral before read = IsLiteral before.rest.now (expression read.0) read.1.rest.now
 
@@ -33,7 +37,8 @@ ReadsLiteral before read = IsLiteral before.rest.now (expression read.0) read.1.
 abbrev pub MovesBetween : ℕ → Stack → Stack → Cursor → Cursor → Type 0
 MovesBetween room goals next before after = Moves room goals before.rest.now next after.rest.now
 
--- the parser stops for want of memory, or because the goals can't read the tokens from the cursor on with this room for levels
+-- the parser stops for want of memory, or because the goals can't read the tokens from the cursor
+-- on with this room for levels
 abbrev pub Refuses : ℕ → Stack → Cursor → Stop → Type 0
 Refuses room goals before stop = Refused room before.end goals before.rest.now stop
 

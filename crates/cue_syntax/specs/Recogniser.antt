@@ -1,8 +1,10 @@
--- A recogniser of the grammar: it takes the tokens of a text one by one, and keeps on a stack what has still to come.
--- It tells at which symbol tokens leave the grammar. It defines nothing and no public contract speaks of it: the grammar
--- is that of `Grammar`, and two laws say that the recogniser takes just what the grammar spells
--- (proofs/NoTextWhereStuck: where it is stuck no text begins so; proofs/TakenBeginsAText: what it takes begins a text).
-use Rattle.std.specs.Prelude.{◌≡◌, ◌+◌, ◌⊎◌, drop, length, ℕ, Bool, true, false, List, [], ◌∷◌, ◌++◌, codes, Option, None, Some, nat_eq, nat_le, if◌then◌else◌, ◌||◌}
+-- A recogniser of the grammar: it takes the tokens of a text one by one, and keeps on a stack what
+-- has still to come. It tells at which symbol tokens leave the grammar. It defines nothing and no
+-- public contract speaks of it: the grammar is that of `Grammar`, and two laws say that the
+-- recogniser takes just what the grammar spells (proofs/NoTextWhereStuck: where it is stuck no text
+-- begins so; proofs/TakenBeginsAText: what it takes begins a text).
+use Rattle.std.specs.Prelude.{◌≡◌, ◌+◌, ◌⊎◌, drop, length, ℕ, Bool, true, false, List, [], ◌∷◌}
+use Rattle.std.specs.Prelude.{◌++◌, codes, Option, None, Some, nat_eq, nat_le, if◌then◌else◌, ◌||◌}
 use Rattle.std.specs.Cmp.Lexicographic.{pointwise}
 use Rattle.std.specs.List.{starts_with}
 use Rattle.cue_lex.specs.declared.token.Token.{Token}
@@ -58,7 +60,9 @@ abbrev pub is_word : List ℕ → List ℕ → Bool
 is_word word t = pointwise nat_eq t word
 
 abbrev pub is_keyword : List ℕ → Bool
-is_keyword t = is_word (codes "let") t || is_word (codes "for") t || is_word (codes "if") t || is_word (codes "import") t
+is_keyword t =
+    is_word (codes "let") t || is_word (codes "for") t || is_word (codes "if") t
+    || is_word (codes "import") t
     || is_word (codes "in") t || is_word (codes "package") t
 
 -- how many levels are open
@@ -66,7 +70,8 @@ abbrev pub levels_of : Goal → ℕ
 levels_of (entries false) = 1
 levels_of (more_entries false) = 1
 levels_of chained = 1
-levels_of (value_name t) = if is_keyword t then 1 else 0  -- a keyword goes on as a label alone, which opens a level
+-- a keyword goes on as a label alone, which opens a level
+levels_of (value_name t) = if is_keyword t then 1 else 0
 levels_of closed = 2
 levels_of parenthesis = 1
 levels_of parenthesis_end = 1
@@ -93,7 +98,9 @@ take_mark goals _ = None
 
 -- a name as an operand
 abbrev pub take_name : Stack → List ℕ → Option Stack
-take_name goals t = if is_keyword t then None else (if is_word (codes "close") t then Some (behind_close ∷ goals) else Some goals)
+take_name goals t =
+    if is_keyword t then None
+    else (if is_word (codes "close") t then Some (behind_close ∷ goals) else Some goals)
 
 -- an integer with this sign, where it is in range
 abbrev pub take_integer : Sign → Stack → ℕ → Option Stack
@@ -147,26 +154,36 @@ take_entry top goals _ = None
 
 -- after an operand that begins a value
 abbrev pub take_behind_operand : Stack → Option Stack → TokenKind → Option Stack
-take_behind_operand goals behind (kinds.Mark points.Ampersand) = Some (unary ∷ more_parts ∷ more_terms ∷ goals)
+take_behind_operand goals behind (kinds.Mark points.Ampersand) =
+    Some (unary ∷ more_parts ∷ more_terms ∷ goals)
 take_behind_operand goals behind (kinds.Mark points.Bar) = Some (term ∷ more_terms ∷ goals)
 take_behind_operand goals behind _ = behind
 
 -- after a name that begins a value and is no label
 abbrev pub take_behind_name : List ℕ → Stack → Option Stack → TokenKind → Option Stack
 take_behind_name t goals behind (kinds.Mark points.OpenParenthesis) =
-    if is_keyword t then None else (if is_word (codes "close") t then Some (closed ∷ more_parts ∷ more_terms ∷ goals) else behind)
-take_behind_name t goals behind kind = if is_keyword t then None else take_behind_operand goals behind kind
+    if is_keyword t then None
+    else (if is_word (codes "close") t then Some (closed ∷ more_parts ∷ more_terms ∷ goals)
+    else behind)
+take_behind_name t goals behind kind =
+    if is_keyword t then None else take_behind_operand goals behind kind
 
 abbrev pub take_value_name : List ℕ → Stack → Option Stack → TokenKind → Option Stack
-take_value_name t goals behind (kinds.Mark points.Colon) = take_mark (value ∷ chained ∷ goals) (kinds.Mark points.Colon)
-take_value_name t goals behind (kinds.Mark points.Question) = take_mark (value ∷ chained ∷ goals) (kinds.Mark points.Question)
-take_value_name t goals behind (kinds.Mark points.Exclamation) = take_mark (value ∷ chained ∷ goals) (kinds.Mark points.Exclamation)
+take_value_name t goals behind (kinds.Mark points.Colon) =
+    take_mark (value ∷ chained ∷ goals) (kinds.Mark points.Colon)
+take_value_name t goals behind (kinds.Mark points.Question) =
+    take_mark (value ∷ chained ∷ goals) (kinds.Mark points.Question)
+take_value_name t goals behind (kinds.Mark points.Exclamation) =
+    take_mark (value ∷ chained ∷ goals) (kinds.Mark points.Exclamation)
 take_value_name t goals behind kind = take_behind_name t goals behind kind
 
 abbrev pub take_value_text : Stack → Option Stack → TokenKind → Option Stack
-take_value_text goals behind (kinds.Mark points.Colon) = take_mark (value ∷ chained ∷ goals) (kinds.Mark points.Colon)
-take_value_text goals behind (kinds.Mark points.Question) = take_mark (value ∷ chained ∷ goals) (kinds.Mark points.Question)
-take_value_text goals behind (kinds.Mark points.Exclamation) = take_mark (value ∷ chained ∷ goals) (kinds.Mark points.Exclamation)
+take_value_text goals behind (kinds.Mark points.Colon) =
+    take_mark (value ∷ chained ∷ goals) (kinds.Mark points.Colon)
+take_value_text goals behind (kinds.Mark points.Question) =
+    take_mark (value ∷ chained ∷ goals) (kinds.Mark points.Question)
+take_value_text goals behind (kinds.Mark points.Exclamation) =
+    take_mark (value ∷ chained ∷ goals) (kinds.Mark points.Exclamation)
 take_value_text goals behind kind = take_behind_operand goals behind kind
 
 -- it begins with `_#`
@@ -175,11 +192,14 @@ hides_definition t = starts_with nat_eq t (codes "_#")
 
 abbrev pub take_package : Stack → TokenKind → Option Stack
 take_package goals (kinds.Name t) = Some (package_end ∷ goals)
-take_package goals (kinds.Hidden t) = if hides_definition t then None else Some (package_end ∷ goals)
+take_package goals (kinds.Hidden t) =
+    if hides_definition t then None else Some (package_end ∷ goals)
 take_package goals kind = take_mark (value ∷ more_entries true ∷ goals) kind
 
 abbrev pub take_text : Stack → TokenKind → Option Stack
-take_text goals (kinds.Name t) = if is_word (codes "package") t then Some (package_word ∷ goals) else Some (mark ∷ value ∷ more_entries true ∷ goals)
+take_text goals (kinds.Name t) =
+    if is_word (codes "package") t then Some (package_word ∷ goals)
+    else Some (mark ∷ value ∷ more_entries true ∷ goals)
 take_text goals kind = take_entry true (more_entries true ∷ goals) kind
 
 abbrev pub take_element : Stack → TokenKind → Option Stack
@@ -261,15 +281,18 @@ abbrev pub is_over : Stack → Bool
 is_over [] = false
 is_over (goal ∷ goals) = over goal (is_over goals)
 
--- Where the tokens leave the grammar, and the tokens from there on: none of them where the end of the text can't stand
--- after the last one. None where they are a whole text.
-abbrev pub stuck_behind : Limit → Option Stack → List Token → (Stack → Option (List Token)) → Option (List Token)
+-- Where the tokens leave the grammar, and the tokens from there on: none of them where the end of
+-- the text can't stand after the last one. None where they are a whole text.
+abbrev pub stuck_behind : Limit → Option Stack → List Token → (Stack → Option (List Token))
+    → Option (List Token)
 stuck_behind limit None here further = Some here
-stuck_behind limit (Some goals) here further = if fits limit (depth goals) then further goals else Some here
+stuck_behind limit (Some goals) here further =
+    if fits limit (depth goals) then further goals else Some here
 
 abbrev pub stuck : Limit → Stack → List Token → Option (List Token)
 stuck limit goals [] = if is_over goals then None else Some []
-stuck limit goals (token ∷ tokens) = stuck_behind limit (step goals token.kind) (token ∷ tokens) (λ next. stuck limit next tokens)
+stuck limit goals (token ∷ tokens) =
+    stuck_behind limit (step goals token.kind) (token ∷ tokens) (λ next. stuck limit next tokens)
 
 -- the levels below count too
 abbrev pub raise : ℕ → Limit → Limit
@@ -296,7 +319,9 @@ row_goal first more false (item ∷ items) = more
 
 -- whatever has to come after the goals, the tokens leave the grammar here
 abbrev pub Sticks : Limit → Stack → List Token → List Token → Type 0
-Sticks limit goals tokens here = (below : Stack) → Closes below → stuck (raise (depth below) limit) (goals ++ below) tokens ≡ Some here
+Sticks limit goals tokens here =
+    (below : Stack) → Closes below
+    → stuck (raise (depth below) limit) (goals ++ below) tokens ≡ Some here
 
 -- the tokens from a place on are the last of the tokens
 pub record IsEnd (tokens at : List Token) : Type 0 where
@@ -349,6 +374,8 @@ pub record Refused (room end : ℕ) (goals : Stack) (tokens : List Token) (stop 
   pub why : (stop ≡ memory) ⊎ Stops room end goals tokens stop
 
 -- Up to b the goals have been read as far as the next ones, within so many levels.
-pub record Moves (room : ℕ) (goals : Stack) (a : List Token) (next : Stack) (b : List Token) : Type 0 where
+pub record Moves (room : ℕ) (goals : Stack) (a : List Token) (next : Stack)
+    (b : List Token) : Type 0 where
   pub inside : IsEnd a b
-  pub moves : (limit : Limit) (below : Stack) → Within limit (depth below + room) → stuck limit (goals ++ below) a ≡ stuck limit (next ++ below) b
+  pub moves : (limit : Limit) (below : Stack) → Within limit (depth below + room)
+      → stuck limit (goals ++ below) a ≡ stuck limit (next ++ below) b

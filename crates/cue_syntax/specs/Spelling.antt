@@ -1,5 +1,6 @@
 -- How a tree is spelled: the grammar as a writer of tokens.
-use Rattle.std.specs.Prelude.{◌≡◌, ℕ, Bool, true, false, List, [], ◌∷◌, ◌++◌, flat_map, codes, Option, None, Some}
+use Rattle.std.specs.Prelude.{◌≡◌, ℕ, Bool, true, false, List, [], ◌∷◌, ◌++◌, flat_map, codes}
+use Rattle.std.specs.Prelude.{Option, None, Some}
 use Rattle.cue_lex.specs.declared.token.Token.{Token}
 use Rattle.cue_lex.specs.declared.token.TokenKind.{TokenKind}
 use Rattle.cue_lex.specs.declared.token.TokenKind.TheVariants as kinds
@@ -17,7 +18,11 @@ use Rattle.cue_syntax.specs.declared.tree.Signed.{Signed}
 use Rattle.cue_syntax.specs.declared.tree.Comparison.{Comparison}
 use Rattle.cue_syntax.specs.declared.tree.Comparison.TheVariants as comparisons
 use Rattle.cue_syntax.specs.declared.tree.Package.{Package}
-use Rattle.cue_syntax.specs.Syntax.{FileTree, Expression, name, integer, text, bottom, bound, other_integer, other_text, parenthesis, struct, close, list, conjunction, disjunction, Elements, no_elements, element, Branch, branch, Branches, no_branches, next_branch, Entry, ellipsis, field, definition, Entries, no_entries, entry}
+use Rattle.cue_syntax.specs.Syntax.{FileTree, Expression, name, integer, text, bottom, bound}
+use Rattle.cue_syntax.specs.Syntax.{other_integer, other_text, parenthesis, struct, close, list}
+use Rattle.cue_syntax.specs.Syntax.{conjunction, disjunction, Elements, no_elements, element}
+use Rattle.cue_syntax.specs.Syntax.{Branch, branch, Branches, no_branches, next_branch, Entry}
+use Rattle.cue_syntax.specs.Syntax.{ellipsis, field, definition, Entries, no_entries, entry}
 
 -- a token as far as a tree knows it: its kind, and the places that the tree keeps of it
 pub record Piece : Type 0 where
@@ -72,7 +77,8 @@ spell_mark marks.Optional = one (kinds.Mark points.Question)
 spell_mark marks.Required = one (kinds.Mark points.Exclamation)
 
 abbrev pub spell_label : Label → List Piece
-spell_label label = one (label_kind label.name) ++ spell_mark label.mark ++ one (kinds.Mark points.Colon)
+spell_label label =
+    one (label_kind label.name) ++ spell_mark label.mark ++ one (kinds.Mark points.Colon)
 
 -- the `...` of a list, after a comma where elements stand before it
 abbrev pub spell_rest : Elements → Bool → List Piece
@@ -89,12 +95,20 @@ abbrev mutual
   spell (bound c n) = one (comparison_kind c) ++ spell_signed n
   spell (other_integer n) = one (kinds.Mark points.NotEqual) ++ spell_signed n
   spell (other_text t) = one (kinds.Mark points.NotEqual) ++ one (kinds.Text t)
-  spell (parenthesis e comma) = one (kinds.Mark points.OpenParenthesis) ++ spell e ++ comma_if comma ++ one (kinds.Mark points.CloseParenthesis)
-  spell (struct es comma) = one (kinds.Mark points.OpenBrace) ++ spell_entries es ++ comma_if comma ++ one (kinds.Mark points.CloseBrace)
-  spell (close from es inner comma) = one_at from (kinds.Name (codes "close")) ++ one (kinds.Mark points.OpenParenthesis)
-      ++ (one (kinds.Mark points.OpenBrace) ++ spell_entries es ++ comma_if inner ++ one (kinds.Mark points.CloseBrace))
+  spell (parenthesis e comma) =
+      one (kinds.Mark points.OpenParenthesis) ++ spell e ++ comma_if comma
+      ++ one (kinds.Mark points.CloseParenthesis)
+  spell (struct es comma) =
+      one (kinds.Mark points.OpenBrace) ++ spell_entries es ++ comma_if comma
+      ++ one (kinds.Mark points.CloseBrace)
+  spell (close from es inner comma) =
+      one_at from (kinds.Name (codes "close")) ++ one (kinds.Mark points.OpenParenthesis)
+      ++ (one (kinds.Mark points.OpenBrace) ++ spell_entries es ++ comma_if inner
+      ++ one (kinds.Mark points.CloseBrace))
       ++ comma_if comma ++ one (kinds.Mark points.CloseParenthesis)
-  spell (list es goes_on comma) = one (kinds.Mark points.OpenBracket) ++ spell_elements (kinds.Mark points.Comma) es ++ spell_rest es goes_on ++ comma_if comma ++ one (kinds.Mark points.CloseBracket)
+  spell (list es goes_on comma) =
+      one (kinds.Mark points.OpenBracket) ++ spell_elements (kinds.Mark points.Comma) es
+      ++ spell_rest es goes_on ++ comma_if comma ++ one (kinds.Mark points.CloseBracket)
   spell (conjunction es) = spell_elements (kinds.Mark points.Ampersand) es
   spell (disjunction bs) = spell_branches bs
 
@@ -116,12 +130,15 @@ abbrev mutual
 
   pub spell_more_branches : Branches → List Piece
   spell_more_branches no_branches = []
-  spell_more_branches (next_branch b bs) = one (kinds.Mark points.Bar) ++ spell_branch b ++ spell_more_branches bs
+  spell_more_branches (next_branch b bs) =
+      one (kinds.Mark points.Bar) ++ spell_branch b ++ spell_more_branches bs
 
   pub spell_entry : Entry → List Piece
   spell_entry ellipsis = one (kinds.Mark points.Ellipsis)
   spell_entry (field label chain e) = spell_label label ++ flat_map spell_label chain ++ spell e
-  spell_entry (definition t from chain e) = one_at from (kinds.Definition t) ++ one (kinds.Mark points.Colon) ++ flat_map spell_label chain ++ spell e
+  spell_entry (definition t from chain e) =
+      one_at from (kinds.Definition t) ++ one (kinds.Mark points.Colon)
+      ++ flat_map spell_label chain ++ spell e
 
   pub spell_entries : Entries → List Piece
   spell_entries no_entries = []
@@ -129,14 +146,17 @@ abbrev mutual
 
   pub spell_more_entries : Entries → List Piece
   spell_more_entries no_entries = []
-  spell_more_entries (entry e es) = one (kinds.Mark points.Comma) ++ spell_entry e ++ spell_more_entries es
+  spell_more_entries (entry e es) =
+      one (kinds.Mark points.Comma) ++ spell_entry e ++ spell_more_entries es
 
 abbrev pub spell_package : Option Package → List Piece
 spell_package None = []
-spell_package (Some clause) = one (kinds.Name (codes "package")) ++ one (identifier_kind clause.name) ++ comma_if clause.comma
+spell_package (Some clause) =
+    one (kinds.Name (codes "package")) ++ one (identifier_kind clause.name) ++ comma_if clause.comma
 
 abbrev pub spell_file : FileTree → List Piece
-spell_file file = spell_package file.package_clause ++ spell_entries file.declarations ++ comma_if file.comma
+spell_file file =
+    spell_package file.package_clause ++ spell_entries file.declarations ++ comma_if file.comma
 
 -- the token begins at each of the places
 abbrev pub StandsAt : Token → List ℕ → Type 0
@@ -147,7 +167,8 @@ StandsAt token (place ∷ places) = (token.from ≡ place) × StandsAt token pla
 abbrev pub Follows : List Token → List Piece → List Token → Type 0
 Follows tokens [] rest = tokens ≡ rest
 Follows [] (piece ∷ pieces) rest = ⊥
-Follows (token ∷ tokens) (piece ∷ pieces) rest = (token.kind ≡ piece.kind) × StandsAt token piece.places × Follows tokens pieces rest
+Follows (token ∷ tokens) (piece ∷ pieces) rest =
+    (token.kind ≡ piece.kind) × StandsAt token piece.places × Follows tokens pieces rest
 
 pub record Reads (tokens : List Token) (pieces : List Piece) (rest : List Token) : Type 0 where
   pub follows : Follows tokens pieces rest

@@ -1,5 +1,6 @@
 -- Where a symbol stands in a text. The tokens before it tell.
-use Rattle.std.specs.Prelude.{ℕ, Bool, List, [], ◌∷◌, drop, codes, nat_eq, Option, None, Some, if◌then◌else◌}
+use Rattle.std.specs.Prelude.{ℕ, Bool, List, [], ◌∷◌, drop, codes, nat_eq, Option, None, Some}
+use Rattle.std.specs.Prelude.{if◌then◌else◌}
 use Rattle.std.specs.Cmp.Lexicographic.{pointwise}
 use Rattle.cue_lex.specs.declared.token.Token.{Token}
 use Rattle.cue_lex.specs.declared.token.TokenKind.{TokenKind}
@@ -75,7 +76,8 @@ spot_after inside spot _ = spots.Other
 -- the spot after tokens, from an earlier spot on
 abbrev pub spot_from : List Inside → Spot → List Token → Spot
 spot_from opened spot [] = spot
-spot_from opened spot (token ∷ tokens) = spot_from (open_after opened token.kind) (spot_after (innermost opened) spot token.kind) tokens
+spot_from opened spot (token ∷ tokens) =
+    spot_from (open_after opened token.kind) (spot_after (innermost opened) spot token.kind) tokens
 
 -- the spot of the symbol that these tokens stand before
 abbrev pub spot_of : List Token → Spot

@@ -10,8 +10,8 @@ use Rattle.cue_syntax.specs.declared.tree.Term.{Term, fold-Term}
 use Rattle.cue_syntax.specs.declared.tree.Declaration.{Declaration, fold-Declaration}
 use Rattle.cue_syntax.specs.declared.tree.Declaration.TheOpen.{Expr-F, Term-F, Declaration-F}
 
--- A number beside a part is the place at which that part begins. The last truth values say whether a comma
--- stands before the closing sign; that of a list before them says whether it has `...`.
+-- A number beside a part is the place at which that part begins. The last truth values say whether
+-- a comma stands before the closing sign; that of a list before them says whether it has `...`.
 mutual
   pub data Expression : Type 0 where
     name : Identifier → ℕ → Expression
@@ -105,7 +105,8 @@ branches ts = branches_of (map branch_tree ts)
 abbrev pub entries : List Declaration → Entries
 entries ds = entries_of (map entry_tree ds)
 
--- a whole text: its package clause, if any, its declarations, and whether a comma stands after the last one
+-- a whole text: its package clause, if any, its declarations, and whether a comma stands after the
+-- last one
 pub record FileTree : Type 0 where
   pub package_clause : Option Package
   pub declarations : Entries

@@ -1,5 +1,6 @@
 -- Where tokens leave the grammar, and what a refusal of the parser says of that place.
-use Rattle.std.specs.Prelude.{◌≡◌, ◌≢◌, ◌≤◌, ◌⊎◌, ℕ, suc, Bool, true, false, List, [], ◌∷◌, take, drop, length, codes, ⊤}
+use Rattle.std.specs.Prelude.{◌≡◌, ◌≢◌, ◌≤◌, ◌⊎◌, ℕ, suc, Bool, true, false, List, [], ◌∷◌, take}
+use Rattle.std.specs.Prelude.{drop, length, codes, ⊤}
 use Rattle.cue_lex.specs.declared.token.Token.{Token}
 use Rattle.cue_lex.specs.declared.token.TokenKind.{TokenKind}
 use Rattle.cue_lex.specs.declared.token.TokenKind.TheVariants as kinds
@@ -21,7 +22,8 @@ pub record Begins (limit : Limit) (n : ℕ) (tokens : List Token) : Type 0 where
   pub alike : Alike n tokens whole
   pub is : IsFile limit whole tree
 
--- After k tokens the tokens leave the grammar: those k begin a text, and with the next symbol they begin none.
+-- After k tokens the tokens leave the grammar: those k begin a text, and with the next symbol they
+-- begin none.
 pub record Leaves (limit : Limit) (tokens : List Token) (k : ℕ) : Type 0 where
   pub inside : k ≤ length tokens
   pub before : Begins limit k tokens
@@ -131,11 +133,15 @@ BeginsLabel ts = Stands IsLabelName ts × Next IsMark ts
 
 -- a label, a `?` or `!` after it, and then no colon
 abbrev pub LacksColon : List Token → Type 0
-LacksColon ts = Stands IsLabelName ts × (NextSign (kinds.Mark points.Question) ts ⊎ NextSign (kinds.Mark points.Exclamation) ts) × ¬ StandsSign (kinds.Mark points.Colon) (drop 2 ts)
+LacksColon ts =
+    Stands IsLabelName ts
+    × (NextSign (kinds.Mark points.Question) ts ⊎ NextSign (kinds.Mark points.Exclamation) ts)
+    × ¬ StandsSign (kinds.Mark points.Colon) (drop 2 ts)
 
 -- `close` and a parenthesis
 abbrev pub IsCallOfClose : List Token → Type 0
-IsCallOfClose ts = StandsSign (kinds.Name (codes "close")) ts × NextSign (kinds.Mark points.OpenParenthesis) ts
+IsCallOfClose ts =
+    StandsSign (kinds.Name (codes "close")) ts × NextSign (kinds.Mark points.OpenParenthesis) ts
 
 -- a parenthesis, a brace or a bracket opens
 abbrev pub Opens : TokenKind → Type 0
@@ -144,11 +150,13 @@ Opens (kinds.Mark points.OpenBrace) = ⊤
 Opens (kinds.Mark points.OpenBracket) = ⊤
 Opens _ = ⊥
 
--- a label that is left out: a hidden one, a definition with `?` or `!`, and below the top any definition
+-- a label that is left out: a hidden one, a definition with `?` or `!`, and below the top any
+-- definition
 abbrev pub IsLabelLeftOut : Bool → List Token → Type 0
 IsLabelLeftOut top ts =
     (Stands IsHidden ts × Next IsMark ts)
-    ⊎ (Stands IsDefinition ts × (NextSign (kinds.Mark points.Question) ts ⊎ NextSign (kinds.Mark points.Exclamation) ts))
+    ⊎ (Stands IsDefinition ts
+    × (NextSign (kinds.Mark points.Question) ts ⊎ NextSign (kinds.Mark points.Exclamation) ts))
     ⊎ (Stands IsDefinition ts × NextSign (kinds.Mark points.Colon) ts × (top ≡ false))
 
 -- The parser stops at a label that is left out.

@@ -5,7 +5,11 @@ use Rattle.cue_lattice.specs.Word.{IsWord}
 use Rattle.cue_lex.specs.Kinds.{HasWord}
 use Rattle.cue_syntax.specs.declared.tree.Label.{Label}
 use Rattle.cue_syntax.specs.Spelling.{identifier_kind, label_kind}
-use Rattle.cue_syntax.specs.Syntax.{Expression, name, integer, text, bottom, bound, other_integer, other_text, parenthesis, struct, close, list, conjunction, disjunction, Elements, no_elements, element, Branch, branch, Branches, no_branches, next_branch, Entry, ellipsis, field, definition, Entries, no_entries, entry}
+use Rattle.cue_syntax.specs.Syntax.{Expression, name, integer, text, bottom, bound, other_integer}
+use Rattle.cue_syntax.specs.Syntax.{other_text, parenthesis, struct, close, list, conjunction}
+use Rattle.cue_syntax.specs.Syntax.{disjunction, Elements, no_elements, element, Branch, branch}
+use Rattle.cue_syntax.specs.Syntax.{Branches, no_branches, next_branch, Entry, ellipsis, field}
+use Rattle.cue_syntax.specs.Syntax.{definition, Entries, no_entries, entry}
 
 -- the name or the text of a label
 abbrev pub HasWordLabel : Label → Type 0
@@ -40,8 +44,10 @@ abbrev mutual
 
   pub HasWordsEntry : Entry → Type 0
   HasWordsEntry ellipsis = ⊤
-  HasWordsEntry (field label chain e) = HasWordLabel label × AllByRecursion HasWordLabel chain × HasWords e
-  HasWordsEntry (definition t from chain e) = IsWord t × AllByRecursion HasWordLabel chain × HasWords e
+  HasWordsEntry (field label chain e) =
+      HasWordLabel label × AllByRecursion HasWordLabel chain × HasWords e
+  HasWordsEntry (definition t from chain e) =
+      IsWord t × AllByRecursion HasWordLabel chain × HasWords e
 
   pub HaveWordsEntries : Entries → Type 0
   HaveWordsEntries no_entries = ⊤

@@ -37,7 +37,8 @@ pub row_gv : {R : Type 0} → (R → Gv) → Option R → Gv
 row_gv c None = gnil
 row_gv c (Some row) = gcons gnil (c row)
 
-pub row_inj : {R : Type 0} (c : Coded R) (q r : Option R) → row_gv c.code q ≡ row_gv c.code r → q ≡ r
+pub row_inj : {R : Type 0} (c : Coded R) (q r : Option R)
+    → row_gv c.code q ≡ row_gv c.code r → q ≡ r
 unfolding row_gv
 row_inj c None None e = refl
 row_inj c (Some q) (Some r) e = ap Some (c.inj q r (ap tail e))
@@ -50,18 +51,21 @@ mutual
 
   pub children_gv : {R : Type 0} → (R → Gv) → Children R → Gv
   children_gv c none = gnil
-  children_gv c (child step tree children) = gcons (step_gv step) (gcons (tree_gv c tree) (children_gv c children))
+  children_gv c (child step tree children) =
+      gcons (step_gv step) (gcons (tree_gv c tree) (children_gv c children))
 
 mutual
   unfolding tree_gv children_gv
 
-  pub tree_inj : {R : Type 0} (c : Coded R) (s t : Tree R) → tree_gv c.code s ≡ tree_gv c.code t → s ≡ t
+  pub tree_inj : {R : Type 0} (c : Coded R) (s t : Tree R)
+      → tree_gv c.code s ≡ tree_gv c.code t → s ≡ t
   tree_inj c (node q cs) (node r ds) e =
       let row = row_inj c q r (ap head e) in
       let children = children_inj c cs ds (ap tail e) in
       λ i. node (row i) (children i)
 
-  pub children_inj : {R : Type 0} (c : Coded R) (cs ds : Children R) → children_gv c.code cs ≡ children_gv c.code ds → cs ≡ ds
+  pub children_inj : {R : Type 0} (c : Coded R) (cs ds : Children R)
+      → children_gv c.code cs ≡ children_gv c.code ds → cs ≡ ds
   children_inj c none none e = refl
   children_inj c (child s t cs) (child u v ds) e =
       let step = step_inj s u (ap head e) in

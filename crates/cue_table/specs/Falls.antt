@@ -7,6 +7,8 @@ use Rattle.cue_table.specs.View.{branches}
 use Rattle.cue_table.specs.declared.node.Child.{Child}
 
 -- no branch is larger than all of them together
-pub branches_fall : {R Q : Type 0} (cs : List (Child R Q)) → max (most (λ (c : Child R Q). max (tree_size c.node + 1) 0) cs) 0 ≤ children_size (branches cs) + 1
+pub branches_fall : {R Q : Type 0} (cs : List (Child R Q))
+    → max (most (λ (c : Child R Q). max (tree_size c.node + 1) 0) cs) 0
+    ≤ children_size (branches cs) + 1
 branches_fall [] = omega arith
 branches_fall (c ∷ cs) = omega (arith, branches_fall cs)

@@ -1,4 +1,5 @@
--- The one form that a table has for its answers: the steps of branches rise, no branch is empty, no row is free.
+-- The one form that a table has for its answers: the steps of branches rise, no branch is empty, no
+-- row is free.
 use Rattle.std.specs.Prelude.{◌≡◌, Option, Some, None}
 use Rattle.std.specs.declared.cmp.Ordering.TheVariants.{Less}
 use Rattle.cue_lattice.specs.Path.{Step, label, index, step_cmp}

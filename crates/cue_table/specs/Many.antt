@@ -11,18 +11,23 @@ use Rattle.cue_table.specs.Refuses.{TableRefuses}
 -- the table refuses at each path exactly what one of the tables refuses there
 abbrev pub IsUnified : {R Q : Type 0} → (R → Q → Type 0) → List (Tree R) → Tree R → Type 0
 IsUnified {R} {Q} refuses tables met =
-    (path : Path) (question : Q) → TableRefuses refuses met path question ↔ OneOf (λ table. TableRefuses refuses table path question) tables
+    (path : Path) (question : Q)
+    → TableRefuses refuses met path question
+    ↔ OneOf (λ table. TableRefuses refuses table path question) tables
 
--- The table refuses nothing at the root; and at a step and then a path exactly what one of the tables that are given for
--- this step refuses at the path.
-pub record IsOfBranches {R Q : Type 0} (refuses : R → Q → Type 0) (given : List (Step × Tree R)) (table : Tree R) : Type 0 where
+-- The table refuses nothing at the root; and at a step and then a path exactly what one of the
+-- tables that are given for this step refuses at the path.
+pub record IsOfBranches {R Q : Type 0} (refuses : R → Q → Type 0) (given : List (Step × Tree R))
+    (table : Tree R) : Type 0 where
   pub root : (question : Q) → ¬ TableRefuses refuses table [] question
   pub below :
       (step : paths.Step) (path : Path) (question : Q)
-      → TableRefuses refuses table (step ∷ path) question ↔ OneOf (λ one. (step_of one.0 ≡ step) × TableRefuses refuses one.1 path question) given
+      → TableRefuses refuses table (step ∷ path) question
+      ↔ OneOf (λ one. (step_of one.0 ≡ step) × TableRefuses refuses one.1 path question) given
 
 -- the tree below a step; nothing, where it has no row
 abbrev pub under : {R : Type 0} → paths.Step → Tree R → Tree R
 under step (node None none) = empty
-under step (node None (child next tree children)) = node None (child step (node None (child next tree children)) none)
+under step (node None (child next tree children)) =
+    node None (child step (node None (child next tree children)) none)
 under step (node (Some row) children) = node None (child step (node (Some row) children) none)

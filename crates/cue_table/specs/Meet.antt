@@ -14,24 +14,33 @@ IsUnion {Q} a b met = (question : Q) → met question ↔ (a question ⊎ b ques
 -- the met table refuses exactly what one of both does
 abbrev pub IsMet : {R Q : Type 0} → (R → Q → Type 0) → Tree R → Tree R → Tree R → Type 0
 IsMet refuses a b met =
-    (path : Path) → IsUnion (TableRefuses refuses a path) (TableRefuses refuses b path) (TableRefuses refuses met path)
+    (path : Path)
+    → IsUnion (TableRefuses refuses a path) (TableRefuses refuses b path)
+    (TableRefuses refuses met path)
 
 -- what the branches refuse at a step and then a path
-abbrev pub BranchesRefuse : {R Q : Type 0} → (R → Q → Type 0) → Children R → paths.Step → Path → Q → Type 0
+abbrev pub BranchesRefuse : {R Q : Type 0} → (R → Q → Type 0) → Children R → paths.Step → Path
+    → Q → Type 0
 BranchesRefuse refuses children step path =
-    RowRefuses refuses (option_and_then row_of (option_and_then (λ branch. branch_at branch path) (find step children)))
+    RowRefuses refuses
+    (option_and_then row_of
+    (option_and_then (λ branch. branch_at branch path) (find step children)))
 
 -- the met branches refuse exactly what one of both lists does
-abbrev pub AreMet : {R Q : Type 0} → (R → Q → Type 0) → Children R → Children R → Children R → Type 0
+abbrev pub AreMet : {R Q : Type 0} → (R → Q → Type 0) → Children R → Children R
+    → Children R → Type 0
 AreMet refuses a b met =
     (step : paths.Step) (path : Path) →
-    IsUnion (BranchesRefuse refuses a step path) (BranchesRefuse refuses b step path) (BranchesRefuse refuses met step path)
+    IsUnion (BranchesRefuse refuses a step path) (BranchesRefuse refuses b step path)
+    (BranchesRefuse refuses met step path)
 
 -- The third list of branches is in form, refuses what the other two do, and starts no earlier.
-pub record IsMerge {R Q : Type 0} (refuses : R → Q → Type 0) (P : R → Type 0) (left right met : Children R) : Type 0 where
+pub record IsMerge {R Q : Type 0} (refuses : R → Q → Type 0) (P : R → Type 0)
+    (left right met : Children R) : Type 0 where
   pub form : AreBranches P met
   pub refused : AreMet refuses left right met
-  pub above : (step : paths.Step) → IsBelowAll step left → IsBelowAll step right → IsBelowAll step met
+  pub above : (step : paths.Step) → IsBelowAll step left → IsBelowAll step right
+      → IsBelowAll step met
 
 -- one row alone, at its path
 abbrev pub chain : {R : Type 0} → Path → R → Tree R
@@ -41,4 +50,6 @@ chain (step ∷ path) row = node None (child step (chain path row) none)
 -- the new table refuses what the old one did, and at the path what the row refuses
 abbrev pub IsAdded : {R Q : Type 0} → (R → Q → Type 0) → Tree R → Path → R → Tree R → Type 0
 IsAdded {R} {Q} refuses old path row new =
-    (at : Path) (question : Q) → TableRefuses refuses new at question ↔ (TableRefuses refuses old at question ⊎ ((at ≡ path) × refuses row question))
+    (at : Path) (question : Q)
+    → TableRefuses refuses new at question
+    ↔ (TableRefuses refuses old at question ⊎ ((at ≡ path) × refuses row question))

@@ -14,17 +14,21 @@ use Rattle.cue_table.specs.declared.node.Child.{Child}
 abbrev pub AreBefore : {R : Type 0} → ℕ → paths.Step → Children R → Type 0
 AreBefore zero step children = Unit {0}
 AreBefore (suc n) step none = ⊥
-AreBefore (suc n) step (child next tree children) = (step_cmp next step ≡ Less) × AreBefore n step children
+AreBefore (suc n) step (child next tree children) =
+    (step_cmp next step ≡ Less) × AreBefore n step children
 
 -- the branch at the step stands at this place of the list
-pub record IsPlace {R Q : Type 0} (children : List (Child R Q)) (step : paths.Step) (at : ℕ) : Type 0 where
+pub record IsPlace {R Q : Type 0} (children : List (Child R Q)) (step : paths.Step)
+    (at : ℕ) : Type 0 where
   pub in_range : at < length children
-  pub is_there : (d : Child R Q) → find step (branches children) ≡ Some (slice_index_or children at d).node
+  pub is_there : (d : Child R Q)
+      → find step (branches children) ≡ Some (slice_index_or children at d).node
   pub at_step : (d : Child R Q) → step_of (slice_index_or children at d).step ≡ step
   pub before : AreBefore at step (branches children)
 
 -- no branch is at the step, and one would stand at this place of the list
-pub record IsGap {R Q : Type 0} (children : List (Child R Q)) (step : paths.Step) (at : ℕ) : Type 0 where
+pub record IsGap {R Q : Type 0} (children : List (Child R Q)) (step : paths.Step)
+    (at : ℕ) : Type 0 where
   pub in_range : at ≤ length children
   pub absent : find step (branches children) ≡ None
   pub before : AreBefore at step (branches children)

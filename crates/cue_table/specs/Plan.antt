@@ -39,7 +39,8 @@ past (suc n) none = none
 past (suc n) (child step tree children) = past n children
 
 -- the first branch changed, and the others
-abbrev pub first_changed : {R : Type 0} → (Tree R → Tree R) → (Children R → Children R) → Children R → Children R
+abbrev pub first_changed : {R : Type 0} → (Tree R → Tree R) → (Children R → Children R) → Children R
+    → Children R
 first_changed f others none = others none
 first_changed f others (child step tree children) = child step (f tree) (others children)
 
@@ -51,7 +52,8 @@ or_row (Some row) old = Some row
 abbrev mutual
   -- the tree after a change
   pub changed : {R : Type 0} → Change R → Tree R → Tree R
-  changed (change row branches) tree = node (or_row row (row_of tree)) (changed_below branches (below tree))
+  changed (change row branches) tree =
+      node (or_row row (row_of tree)) (changed_below branches (below tree))
 
   -- its branches
   pub changed_below : {R : Type 0} → Branches R → Children R → Children R

@@ -3,8 +3,10 @@ use Rattle.std.specs.Prelude.{◌≡◌, refl}
 use Rattle.std.proofs.Common.{ap}
 use Rattle.std.specs.Coded.{Coded}
 use base.Stored.{Gv, gnil, gnum, gcons, num}
-use Rattle.cue_table.specs.Code.{head, tail, step_gv, step_inj, row_gv, row_inj, tree_gv, tree_inj, children_gv, children_inj}
-use Rattle.cue_table.specs.Plan.{Change, change, Branches, stay, take, merge, Slots, done, keep, insert, alter}
+use Rattle.cue_table.specs.Code.{head, tail, step_gv, step_inj, row_gv, row_inj, tree_gv, tree_inj}
+use Rattle.cue_table.specs.Code.{children_gv, children_inj}
+use Rattle.cue_table.specs.Plan.{Change, change, Branches, stay, take, merge, Slots, done, keep}
+use Rattle.cue_table.specs.Plan.{insert, alter}
 
 mutual
   pub change_gv : {R : Type 0} → (R → Gv) → Change R → Gv
@@ -18,19 +20,24 @@ mutual
   pub slots_gv : {R : Type 0} → (R → Gv) → Slots R → Gv
   slots_gv c done = gnil
   slots_gv c (keep n slots) = gcons (gnum 0) (gcons (gnum n) (slots_gv c slots))
-  slots_gv c (insert n step tree slots) = gcons (gnum 1) (gcons (gnum n) (gcons (step_gv step) (gcons (tree_gv c tree) (slots_gv c slots))))
-  slots_gv c (alter n next slots) = gcons (gnum 2) (gcons (gnum n) (gcons (change_gv c next) (slots_gv c slots)))
+  slots_gv c (insert n step tree slots) =
+      gcons (gnum 1)
+      (gcons (gnum n) (gcons (step_gv step) (gcons (tree_gv c tree) (slots_gv c slots))))
+  slots_gv c (alter n next slots) =
+      gcons (gnum 2) (gcons (gnum n) (gcons (change_gv c next) (slots_gv c slots)))
 
 mutual
   unfolding change_gv branches_gv slots_gv
 
-  pub change_inj : {R : Type 0} (c : Coded R) (a b : Change R) → change_gv c.code a ≡ change_gv c.code b → a ≡ b
+  pub change_inj : {R : Type 0} (c : Coded R) (a b : Change R)
+      → change_gv c.code a ≡ change_gv c.code b → a ≡ b
   change_inj c (change q cs) (change r ds) e =
       let row = row_inj c q r (ap head e) in
       let branches = branches_inj c cs ds (ap tail e) in
       λ i. change (row i) (branches i)
 
-  pub branches_inj : {R : Type 0} (c : Coded R) (a b : Branches R) → branches_gv c.code a ≡ branches_gv c.code b → a ≡ b
+  pub branches_inj : {R : Type 0} (c : Coded R) (a b : Branches R)
+      → branches_gv c.code a ≡ branches_gv c.code b → a ≡ b
   branches_inj c stay stay e = refl
   branches_inj c (take cs) (take ds) e = ap take (children_inj c cs ds (ap tail e))
   branches_inj c (merge cs) (merge ds) e = ap merge (slots_inj c cs ds (ap tail e))
@@ -41,7 +48,8 @@ mutual
   branches_inj c (take cs) (merge ds) e = cc
   branches_inj c (merge cs) (take ds) e = cc
 
-  pub slots_inj : {R : Type 0} (c : Coded R) (a b : Slots R) → slots_gv c.code a ≡ slots_gv c.code b → a ≡ b
+  pub slots_inj : {R : Type 0} (c : Coded R) (a b : Slots R)
+      → slots_gv c.code a ≡ slots_gv c.code b → a ≡ b
   slots_inj c done done e = refl
   slots_inj c (keep m cs) (keep n ds) e =
       let count : m ≡ n = ap (λ g. num (head (tail g))) e in

@@ -12,13 +12,15 @@ use Rattle.cue_table.specs.declared.plan.Slot.TheVariants.{Keep, Insert, Alter}
 use Rattle.cue_table.specs.declared.plan.Plan.TheDeep.{deep-Below, deep-Slot}
 
 module _ {R Q : Type 0} (narrow : Ghosts R Q) where
-  pub slots_fall : (slots : List (Slot R Q)) → most (deep-Slot R Q narrow) slots ≤ slots_size (slots_of slots) + 1
+  pub slots_fall : (slots : List (Slot R Q))
+      → most (deep-Slot R Q narrow) slots ≤ slots_size (slots_of slots) + 1
   slots_fall [] = omega arith
   slots_fall (Keep n ∷ slots) = omega (arith, slots_fall slots)
   slots_fall (Insert n c ∷ slots) = omega (arith, slots_fall slots)
   slots_fall (Alter n next ∷ slots) = omega (arith, slots_fall slots)
 
-  pub below_falls : (b : Below R Q) → max (deep-Below R Q narrow b) 0 ≤ branches_size (below_of b) + 1
+  pub below_falls : (b : Below R Q)
+      → max (deep-Below R Q narrow b) 0 ≤ branches_size (below_of b) + 1
   below_falls Stay = omega arith
   below_falls (Take children) = omega arith
   below_falls (Amend slots) = omega (arith, slots_fall slots.items)

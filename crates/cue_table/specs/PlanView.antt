@@ -5,7 +5,8 @@ use Rattle.cue_row.specs.Steps.{step_of}
 use Rattle.cue_table.specs.Tree.{Children}
 use Rattle.cue_table.specs.View.{branches}
 use Rattle.cue_table.specs.declared.node.Child.{Child}
-use Rattle.cue_table.specs.Plan.{Change, change, Branches, stay, take, merge, Slots, done, keep, insert, alter, join, width, IsAmending}
+use Rattle.cue_table.specs.Plan.{Change, change, Branches, stay, take, merge, Slots, done, keep}
+use Rattle.cue_table.specs.Plan.{insert, alter, join, width, IsAmending}
 use Rattle.cue_table.specs.declared.plan.Slot.{Slot}
 use Rattle.cue_table.specs.declared.plan.Slot.TheVariants.{Keep, Insert, Alter}
 use Rattle.cue_table.specs.declared.plan.Below.{Below}
@@ -33,7 +34,8 @@ change_of a = change a.row (below_of a.below)
 
 -- the branches before a place of a list, and what comes of the others
 abbrev pub amended : {R Q : Type 0} → ℕ → (Children R → Children R) → List (Child R Q) → Children R
-amended at others children = join (branches (first at children)) (others (branches (drop at children)))
+amended at others children =
+    join (branches (first at children)) (others (branches (drop at children)))
 
 -- there is room for all branches, or no more of them than before
 abbrev pub HasRoom : {R Q : Type 0} → Below R Q → Type 0

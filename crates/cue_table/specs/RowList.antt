@@ -13,15 +13,18 @@ AreBefore path = AllByRecursion (λ row. path_cmp row.0 path ≡ Less)
 -- each row stands before all later ones
 abbrev pub AreRising : {R : Type 0} → List (Path × R) → Type 0
 AreRising [] = Unit {0}
-AreRising (row ∷ rows) = AllByRecursion (λ later. path_cmp row.0 later.0 ≡ Less) rows × AreRising rows
+AreRising (row ∷ rows) =
+    AllByRecursion (λ later. path_cmp row.0 later.0 ≡ Less) rows × AreRising rows
 
--- The row was added to the list behind all others; or nothing is changed, since not all others stand before its path.
+-- The row was added to the list behind all others; or nothing is changed, since not all others
+-- stand before its path.
 abbrev pub Appends : {R : Type 0} → Tree R → Path → R → Tree R → Bool → Type 0
 Appends old path row new true = rows_of new ≡ rows_of old ++ (path, row) ∷ []
 Appends old path row new false = (new ≡ old) × ¬ AreBefore path (rows_of old)
 
 -- So was a row; it is not added either where it refuses nothing.
-abbrev pub AppendsKept : {R Q : Type 0} → (R → Q → Type 0) → Tree R → Path → R → Tree R → Bool → Type 0
+abbrev pub AppendsKept : {R Q : Type 0} → (R → Q → Type 0) → Tree R → Path → R → Tree R
+    → Bool → Type 0
 AppendsKept refuses old path row new true = rows_of new ≡ rows_of old ++ (path, row) ∷ []
 AppendsKept {R} {Q} refuses old path row new false =
     (new ≡ old) × ¬ (AreBefore path (rows_of old) × ¬ ((question : Q) → ¬ refuses row question))
@@ -30,4 +33,5 @@ AppendsKept {R} {Q} refuses old path row new false =
 abbrev pub last_cmp : {R : Type 0} → Step → Children R → Ordering
 last_cmp step none = Less
 last_cmp step (child next tree none) = step_cmp next step
-last_cmp step (child next tree (child other branch children)) = last_cmp step (child other branch children)
+last_cmp step (child next tree (child other branch children)) =
+    last_cmp step (child other branch children)

@@ -20,4 +20,6 @@ InPathOrder tree = IsStrictlySortedBy by_path (rows_of tree)
 
 -- the rows of the list are just those that stand at paths
 abbrev pub AreRows : {R : Type 0} → Tree R → Type 0
-AreRows {R} tree = (path : Path) (row : R) → OneOf (λ item. item ≡ (path, row)) (rows_of tree) ↔ (row_at tree path ≡ Some row)
+AreRows {R} tree =
+    (path : Path) (row : R)
+    → OneOf (λ item. item ≡ (path, row)) (rows_of tree) ↔ (row_at tree path ≡ Some row)

@@ -1,4 +1,5 @@
--- A table is a tree: at each place a row, where something is refused there, and below it the branches, each at its step.
+-- A table is a tree: at each place a row, where something is refused there, and below it the
+-- branches, each at its step.
 use Rattle.std.specs.Prelude.{ℕ, List, [], ◌∷◌, ◌++◌, map, Option, Some, None}
 use Rattle.std.specs.Option.{option_and_then, option_to_list}
 use Rattle.std.specs.declared.cmp.Ordering.{Ordering}
@@ -45,7 +46,8 @@ find step (child next tree children) = if_equal (step_cmp step next) tree (find 
 -- the branch at a path
 abbrev pub branch_at : {R : Type 0} → Tree R → Path → Option (Tree R)
 branch_at tree [] = Some tree
-branch_at tree (step ∷ path) = option_and_then (λ branch. branch_at branch path) (find step (below tree))
+branch_at tree (step ∷ path) =
+    option_and_then (λ branch. branch_at branch path) (find step (below tree))
 
 -- the row at a path
 abbrev pub row_at : {R : Type 0} → Tree R → Path → Option R

@@ -1,4 +1,5 @@
--- Which tables are valid: those that a site may hold, and that state bytes tell. Each rule speaks of the rows at paths.
+-- Which tables are valid: those that a site may hold, and that state bytes tell. Each rule speaks
+-- of the rows at paths.
 use Rattle.std.specs.Prelude.{◌≡◌, ◌⊎◌, ℕ, ◌<◌, [], ◌∷◌, ◌++◌, None, Some}
 use Rattle.std.specs.List.{AllByRecursion}
 use Rattle.cue_lattice.specs.Path.{Step, label, index, Path}
@@ -27,10 +28,11 @@ EachRow P tree = (path : Path) (row : Row) → Stands tree path row → P path r
 -- P holds of each two rows of which one stands one step below the other, and of that step
 abbrev pub EachBelow : (Row → Step → Row → Type 0) → Tree Row → Type 0
 EachBelow P tree =
-    (path : Path) (step : Step) (parent row : Row) → Stands tree path parent → Stands tree (further path step) row → P parent step row
+    (path : Path) (step : Step) (parent row : Row) → Stands tree path parent
+    → Stands tree (further path step) row → P parent step row
 
--- ---- the rules
--- Each row is of one of the five kinds, what it says beside fits its kind, it keeps the limits, and it is not free.
+-- ---- the rules Each row is of one of the five kinds, what it says beside fits its kind, it keeps
+-- the limits, and it is not free.
 abbrev pub HasValidRows : Tree Row → Type 0
 HasValidRows = EachRow (λ path row. IsValidRow row)
 
@@ -55,13 +57,18 @@ abbrev pub HasRootLevel : Tree Row → Type 0
 HasRootLevel tree = (row : Row) → Stands tree [] row → row.level ≡ Optional
 
 abbrev pub HasElementLevels : Tree Row → Type 0
-HasElementLevels tree = (path : Path) (n : ℕ) (row : Row) → Stands tree (further path (index n)) row → row.level ≡ Optional
+HasElementLevels tree =
+    (path : Path) (n : ℕ) (row : Row) → Stands tree (further path (index n)) row
+    → row.level ≡ Optional
 
 -- above each row but the root's stands a row
 abbrev pub HasParents : Tree Row → Type 0
-HasParents tree = (path : Path) (step : Step) (row : Row) → Stands tree (further path step) row → (parent : Row) × Stands tree path parent
+HasParents tree =
+    (path : Path) (step : Step) (row : Row) → Stands tree (further path step) row
+    → (parent : Row) × Stands tree path parent
 
--- Fields stand directly below structs alone and elements below lists alone, or below what allows nothing to stand.
+-- Fields stand directly below structs alone and elements below lists alone, or below what allows
+-- nothing to stand.
 abbrev pub MayHold : Row → Step → Type 0
 MayHold parent (label text) = IsKind parent kinds.Struct ⊎ IsKind parent kinds.Nothing
 MayHold parent (index n) = IsKind parent kinds.List ⊎ IsKind parent kinds.Nothing
@@ -77,7 +84,8 @@ IsElement parent (index n) = n < parent.least
 abbrev pub HasElements : Tree Row → Type 0
 HasElements = EachBelow (λ parent step row. IsElement parent step)
 
--- A valid table: its rows are kept in their one form, each at one path, and none is free; and it keeps the rules above.
+-- A valid table: its rows are kept in their one form, each at one path, and none is free; and it
+-- keeps the rules above.
 pub record IsValidTable (tree : Tree Row) : Type 0 where
   pub form : IsTable Refuses IsRow tree
   pub rows : HasValidRows tree

@@ -32,4 +32,5 @@ abbrev mutual
 
   pub AreSound : Row → Children Row → Type 0
   AreSound parent none = Unit {0}
-  AreSound parent (child step tree children) = HasChild parent step (row_of tree) × IsSound tree × AreSound parent children
+  AreSound parent (child step tree children) =
+      HasChild parent step (row_of tree) × IsSound tree × AreSound parent children

@@ -1,11 +1,13 @@
--- What a walk over the branches of a table needs: each is smaller than the tree, and their list is the tree's.
+-- What a walk over the branches of a table needs: each is smaller than the tree, and their list is
+-- the tree's.
 use Rattle.std.specs.Prelude.{◌≡◌, ℕ, ◌+◌, ◌<◌, List, ◌∷◌, Option, Some, refl}
 use Rattle.std.specs.List.{AllByRecursion}
 use Rattle.std.specs.declared.cmp.Ordering.{Ordering}
 use Rattle.std.specs.declared.cmp.Ordering.TheVariants.{Less, Equal, Greater}
 use Rattle.std.proofs.Common.{arith, subst}
 use Rattle.cue_lattice.specs.Path.{Step, label, index, step_cmp}
-use Rattle.cue_table.specs.Tree.{Tree, node, Children, none, child, below, if_equal, find, children_of, labels_of, items_of}
+use Rattle.cue_table.specs.Tree.{Tree, node, Children, none, child, below, if_equal, find}
+use Rattle.cue_table.specs.Tree.{children_of, labels_of, items_of}
 use Rattle.cue_table.specs.Size.{tree_size, children_size}
 
 -- each of the branches is smaller than n
@@ -27,7 +29,8 @@ module _ {R : Type 0} where
   same_children (child s t cs) none e = cc
 
   -- the branches that are left tell the first one and the others
-  pub first_child : (children rest : Children R) (step : Step) (tree : Tree R) → children_of children ≡ (step, tree) ∷ children_of rest → children ≡ child step tree rest
+  pub first_child : (children rest : Children R) (step : Step) (tree : Tree R)
+      → children_of children ≡ (step, tree) ∷ children_of rest → children ≡ child step tree rest
   first_child none rest step tree e = cc
   first_child (child s t cs) rest step tree e =
       let one : Step × Tree R = (s, t) in
@@ -37,44 +40,58 @@ module _ {R : Type 0} where
       let left = same_children cs rest others in
       λ i. child (head i).0 (head i).1 (left i)
 
-  smaller_children : (n : ℕ) (children : Children R) → children_size children < n → AreSmaller n (children_of children)
+  smaller_children : (n : ℕ) (children : Children R) → children_size children < n
+      → AreSmaller n (children_of children)
   smaller_children n none h = tt
-  smaller_children n (child step tree children) h = (omega arith, smaller_children n children (omega arith))
+  smaller_children n (child step tree children) h =
+      (omega arith, smaller_children n children (omega arith))
 
-  smaller_labels : (n : ℕ) (children : Children R) → children_size children < n → AreSmaller n (labels_of children)
+  smaller_labels : (n : ℕ) (children : Children R) → children_size children < n
+      → AreSmaller n (labels_of children)
   smaller_labels n none h = tt
-  smaller_labels n (child (label text) tree children) h = (omega arith, smaller_labels n children (omega arith))
+  smaller_labels n (child (label text) tree children) h =
+      (omega arith, smaller_labels n children (omega arith))
   smaller_labels n (child (index number) tree children) h = smaller_labels n children (omega arith)
 
-  smaller_items : (n : ℕ) (children : Children R) → children_size children < n → AreSmaller n (items_of children)
+  smaller_items : (n : ℕ) (children : Children R) → children_size children < n
+      → AreSmaller n (items_of children)
   smaller_items n none h = tt
   smaller_items n (child (label text) tree children) h = smaller_items n children (omega arith)
-  smaller_items n (child (index number) tree children) h = (omega arith, smaller_items n children (omega arith))
+  smaller_items n (child (index number) tree children) h =
+      (omega arith, smaller_items n children (omega arith))
 
   -- each branch is smaller than its tree
   pub children_smaller : (tree : Tree R) → AreSmaller (tree_size tree) (children_of (below tree))
-  children_smaller (node row children) = smaller_children (children_size children + 1) children (omega arith)
+  children_smaller (node row children) =
+      smaller_children (children_size children + 1) children (omega arith)
 
   -- so is each branch at a label
   pub labels_smaller : (tree : Tree R) → AreSmaller (tree_size tree) (labels_of (below tree))
-  labels_smaller (node row children) = smaller_labels (children_size children + 1) children (omega arith)
+  labels_smaller (node row children) =
+      smaller_labels (children_size children + 1) children (omega arith)
 
   -- and each branch at an index
   pub items_smaller : (tree : Tree R) → AreSmaller (tree_size tree) (items_of (below tree))
-  items_smaller (node row children) = smaller_items (children_size children + 1) children (omega arith)
+  items_smaller (node row children) =
+      smaller_items (children_size children + 1) children (omega arith)
 
-  smaller_found : (o : Ordering) (here tree : Tree R) (other : Option (Tree R)) (n : ℕ) → tree_size here < n → (other ≡ Some tree → tree_size tree < n) → if_equal o here other ≡ Some tree → tree_size tree < n
+  smaller_found : (o : Ordering) (here tree : Tree R) (other : Option (Tree R)) (n : ℕ)
+      → tree_size here < n → (other ≡ Some tree → tree_size tree < n)
+      → if_equal o here other ≡ Some tree → tree_size tree < n
   smaller_found Less here tree other n h k e = k e
-  smaller_found Equal here tree other n h k e = let same : here ≡ tree = cc in subst (λ t. tree_size t < n) same h
+  smaller_found Equal here tree other n h k e =
+      let same : here ≡ tree = cc in subst (λ t. tree_size t < n) same h
   smaller_found Greater here tree other n h k e = k e
 
-  smaller_in : (n : ℕ) (step : Step) (children : Children R) (tree : Tree R) → children_size children < n → find step children ≡ Some tree → tree_size tree < n
+  smaller_in : (n : ℕ) (step : Step) (children : Children R) (tree : Tree R)
+      → children_size children < n → find step children ≡ Some tree → tree_size tree < n
   smaller_in n step none tree h e = cc
   smaller_in n step (child next here children) tree h e =
       smaller_found (step_cmp step next) here tree (find step children) n (omega arith)
       (λ f. smaller_in n step children tree (omega arith) f) e
 
   -- and the branch that is found at a step
-  pub found_smaller : (step : Step) (tree branch : Tree R) → find step (below tree) ≡ Some branch → tree_size branch < tree_size tree
+  pub found_smaller : (step : Step) (tree branch : Tree R) → find step (below tree) ≡ Some branch
+      → tree_size branch < tree_size tree
   found_smaller step (node row children) branch e =
       smaller_in (children_size children + 1) step children branch (omega arith) e

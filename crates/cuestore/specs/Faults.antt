@@ -9,13 +9,15 @@ use Rattle.cue_program.specs.declared.Status.TheVariants as statuses
 use Rattle.cuestore.specs.declared.fault.Fault.{Fault}
 use Rattle.cuestore.specs.declared.fault.Fault.TheVariants as faults
 
--- What is told of a stop: of a refusal the number and the name of its kind, and of an input's the place in it, and which
--- input it is.
+-- What is told of a stop: of a refusal the number and the name of its kind, and of an input's the
+-- place in it, and which input it is.
 abbrev pub Tells : Stop → Fault → Type 0
 Tells stops.Device fault = fault ≡ faults.Device
-Tells (stops.Refused kind) (faults.Refused number name) = (number ≡ number_of kind) × (name_at (number_of kind) ≡ Some name.now)
+Tells (stops.Refused kind) (faults.Refused number name) =
+    (number ≡ number_of kind) × (name_at (number_of kind) ≡ Some name.now)
 Tells (stops.RefusedInput why input) (faults.RefusedInput number name place which) =
-    (number ≡ number_of why.kind) × (name_at (number_of why.kind) ≡ Some name.now) × (place ≡ why.place) × (which ≡ input)
+    (number ≡ number_of why.kind) × (name_at (number_of why.kind) ≡ Some name.now)
+    × (place ≡ why.place) × (which ≡ input)
 Tells stop fault = ⊥
 
 -- memory ran out

@@ -18,7 +18,8 @@ inputs_of commands.Merge arguments = arguments - 1
 inputs_of _ arguments = arguments
 
 -- The reply that belongs to a command. What files have got is told as `contents` tells it.
-abbrev pub IsReplyOf : {W : Type 0} → (W → Option (List ℕ)) → Command → ℕ → Option (List ℕ) → Reply → Type 0
+abbrev pub IsReplyOf : {W : Type 0} → (W → Option (List ℕ)) → Command → ℕ → Option (List ℕ)
+    → Reply → Type 0
 IsReplyOf contents commands.Export files known reply = IsReplyFor questions.Export files known reply
 IsReplyOf contents commands.Print files known reply = IsReplyFor questions.Print files known reply
 IsReplyOf contents commands.Report files known reply = IsReplyFor questions.Report files known reply
@@ -26,7 +27,8 @@ IsReplyOf contents commands.State files known reply = IsReplyFor questions.State
 IsReplyOf contents commands.Merge files known reply = IsMergeOf contents files known reply
 
 -- the words ask for something, to which this is the reply
-abbrev pub IsReplyToWords : {W : Type 0} → (W → Option (List ℕ)) → List (List ℕ) → Option (List ℕ) → Reply → Type 0
+abbrev pub IsReplyToWords : {W : Type 0} → (W → Option (List ℕ)) → List (List ℕ) → Option (List ℕ)
+    → Reply → Type 0
 IsReplyToWords contents words known reply =
     (command : Command) × (arguments : List (List ℕ)) × AsksFor words command arguments
     × IsReplyOf contents command (inputs_of command (length arguments)) known reply
@@ -36,11 +38,14 @@ abbrev pub IsFaultFor : List (List ℕ) → Option (List ℕ) → Fault → Type
 IsFaultFor words known fault =
     IsWordFault fault
     ⊎ ((command : Command) × (arguments : List (List ℕ)) × AsksFor words command arguments
-    × ((stop : Stop) × IsStopFor (inputs_of command (length arguments)) known stop × Tells stop fault))
+    × ((stop : Stop) × IsStopFor (inputs_of command (length arguments)) known stop
+    × Tells stop fault))
 
--- The run ends with an answer: the status is that of a reply to the words, whose bytes were added to the output.
+-- The run ends with an answer: the status is that of a reply to the words, whose bytes were added
+-- to the output.
 abbrev pub IsAnswered :
-    {W : Type 0} → (W → Option (List ℕ)) → List (List ℕ) → Option (List ℕ) → Option (List ℕ) → Option (List ℕ) → ℕ → Type 0
+    {W : Type 0} → (W → Option (List ℕ)) → List (List ℕ) → Option (List ℕ) → Option (List ℕ)
+    → Option (List ℕ) → ℕ → Type 0
 IsAnswered contents words input before after status =
     (reply : Reply) × IsReplyToWords contents words input reply × (status ≡ code_of reply.status)
     × Appends before after reply.bytes.items

@@ -1,5 +1,6 @@
 -- Which words ask for what.
-use Rattle.std.specs.Prelude.{◌≡◌, ◌≢◌, ◌⊎◌, ◌<◌, ℕ, List, [], ◌∷◌, ◌++◌, codes, length, map, Bool, true, false}
+use Rattle.std.specs.Prelude.{◌≡◌, ◌≢◌, ◌⊎◌, ◌<◌, ℕ, List, [], ◌∷◌, ◌++◌, codes, length, map, Bool}
+use Rattle.std.specs.Prelude.{true, false}
 use Rattle.std.specs.Borrow.{Bor}
 use Rattle.std.specs.List.{AllByRecursion}
 use Rattle.cuestore.specs.declared.command.Command.{Command}
@@ -28,7 +29,8 @@ AreArguments words arguments =
     × (((words ≡ front) × (arguments ≡ front))
     ⊎ ((back : List (List ℕ)) × (words ≡ front ++ codes "--" ∷ back) × (arguments ≡ front ++ back)))
 
--- Before the first `--` the words so far are plain, and the arguments; after it all further words are arguments.
+-- Before the first `--` the words so far are plain, and the arguments; after it all further words
+-- are arguments.
 abbrev pub AreSoFar : Bool → List (List ℕ) → List (List ℕ) → Type 0
 AreSoFar false words arguments = AllByRecursion IsPlain words × (arguments ≡ words)
 AreSoFar true words arguments =
@@ -37,7 +39,8 @@ AreSoFar true words arguments =
 
 -- one word more, after which the first `--` stands before all others or does not
 abbrev pub Goes : Bool → Bool → List ℕ → List (List ℕ) → List (List ℕ) → Type 0
-Goes before after word old new = (words : List (List ℕ)) → AreSoFar before words old → AreSoFar after (words ++ word ∷ []) new
+Goes before after word old new =
+    (words : List (List ℕ)) → AreSoFar before words old → AreSoFar after (words ++ word ∷ []) new
 
 -- the bytes of borrowed words
 abbrev pub texts : List (Bor (List ℕ)) → List (List ℕ)
@@ -51,4 +54,5 @@ HasEnough _ arguments = Unit {0}
 -- The first word names the command, and the others give its arguments.
 abbrev pub AsksFor : List (List ℕ) → Command → List (List ℕ) → Type 0
 AsksFor words command arguments =
-    (others : List (List ℕ)) × (words ≡ name_of command ∷ others) × AreArguments others arguments × HasEnough command arguments
+    (others : List (List ℕ)) × (words ≡ name_of command ∷ others) × AreArguments others arguments
+    × HasEnough command arguments
