@@ -25,6 +25,8 @@ pub record Meaning (T : Type 0) : Type 1 where
   pub IsState : List ℕ → Type 0  -- a site reads the bytes as those of a valid table
   pub state_refuses : List ℕ → Refusals  -- what that table refuses
   pub IsStateFault : List ℕ → Refusal → Type 0  -- why other bytes may be refused
+  pub IsTextRefusedAtOnce : List ℕ → Type 0  -- the text has a fault that is found with no memory
+  pub IsStateRefusedAtOnce : List ℕ → Type 0  -- and so have the bytes
   pub written : T → List ℕ  -- the bytes that a site writes for a valid table
 
 -- What every meaning must keep to.
@@ -37,6 +39,10 @@ pub record IsSound (T : Type 0) (m : Meaning T) : Type 0 where
   -- out of memory is no fault of a text or of bytes
   pub memory_apart : (bytes : List ℕ)
       → (m.IsTextFault bytes memory ⊎ m.IsStateFault bytes memory) → ⊥
+  -- what is refused before any memory is wanted has a fault, and so is no legal text and no state
+  pub text_at_once : (t : List ℕ) → m.IsTextRefusedAtOnce t → (why : Refusal) × m.IsTextFault t why
+  pub state_at_once : (bytes : List ℕ) → m.IsStateRefusedAtOnce bytes
+      → (why : Refusal) × m.IsStateFault bytes why
   -- sites read what they write, with the same answers, as far as a memory can hold it
   pub reads_own : (table : T) → m.IsValid table → length (m.written table) < 2 ^ 64 →
       m.IsState (m.written table)
@@ -130,10 +136,20 @@ IsAnswer m sets (foreign site bytes) accepted = m.IsState bytes
 IsAnswer m sets (foreign site bytes) (refused why) = m.IsStateFault bytes why
 IsAnswer m sets event outcome = ⊥
 
+-- what the event hands in from outside is refused before any memory is wanted
+abbrev pub IsRefusedAtOnce : {T : Type 0} → Meaning T → Event → Type 0
+IsRefusedAtOnce m (submit site t) = m.IsTextRefusedAtOnce t
+IsRefusedAtOnce m (foreign site bytes) = m.IsStateRefusedAtOnce bytes
+IsRefusedAtOnce m event = ⊥
+
+-- Memory may run out at any event, but hides no fault that is found with none.
+abbrev pub IsStarved : {T : Type 0} → Meaning T → Event → Outcome → Type 0
+IsStarved m event outcome = (outcome ≡ refused memory) × ¬ IsRefusedAtOnce m event
+
 -- what an event may come to
 abbrev pub IsOutcome : {T : Type 0} → Meaning T → Sets → Event → Outcome → Type 0
 IsOutcome m sets event outcome =
-    (IsThere sets event × (IsAnswer m sets event outcome ⊎ (outcome ≡ refused memory)))
+    (IsThere sets event × (IsAnswer m sets event outcome ⊎ IsStarved m event outcome))
     ⊎ ((IsThere sets event → ⊥) × (outcome ≡ no_such))
 
 -- each event has one outcome, and one that it may have at its moment

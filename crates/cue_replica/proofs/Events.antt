@@ -6,7 +6,7 @@ use Rattle.cue_lattice.specs.Refusal.{memory}
 use Rattle.cue_lattice.specs.Question.{Refusals, SameAnswers}
 use Rattle.cue_lattice.specs.declared.text.Text.{Text}
 use Rattle.cue_lattice.specs.World as world
-use Rattle.cue_lattice.specs.World.{Piece, Sets, IsUnified, IsAnswer, IsThere, pieces_at, pieces_refuse}
+use Rattle.cue_lattice.specs.World.{Piece, Sets, IsUnified, IsAnswer, IsRefusedAtOnce, IsThere, pieces_at, pieces_refuse}
 use Rattle.cue_replica.specs.declared.world.Event.{Event}
 use Rattle.cue_replica.specs.declared.world.Event.TheVariants.{Submit, Send, Deliver, Foreign}
 use Rattle.cue_replica.specs.declared.world.Outcome.{Outcome}
@@ -45,7 +45,7 @@ nothing_happens old new messages event outcome sets absent same none agrees =
 -- where it is refused
 refused_happens :
     (old new : List Table) (messages : List (Vec ℕ Global)) (event : Event) (why : Refusal) (sets : Sets)
-    → IsThere sets (event_of event) → (IsAnswer language sets (event_of event) (world.refused why) ⊎ (world.refused why ≡ world.refused memory))
+    → IsThere sets (event_of event) → (IsAnswer language sets (event_of event) (world.refused why) ⊎ ((world.refused why ≡ world.refused memory) × ¬ IsRefusedAtOnce language (event_of event)))
     → new ≡ old → Agrees old messages sets → Happens old messages event new messages (Refused why) sets
 refused_happens old new messages event why sets there answer same agrees =
     let Q : List Table → Type 0 = λ n. Happens old messages event n messages (Refused why) sets in
@@ -90,7 +90,7 @@ submits old messages site t Accepted sets before after found step agrees = recor
 submits old messages site t (Refused why) sets before after found step agrees =
     let same : slice_set old site after ≡ old = ap (λ (x : Table). slice_set old site x) step.0 ∙ set_same old site before found in
     refused_happens old (slice_set old site after) messages (Submit site t) why sets (site_there old messages sets site before agrees found)
-    (⊎_elim (λ e. inr (ap world.refused e)) (λ fault. inl fault) step.1) same agrees
+    (⊎_elim (λ e. inr (ap world.refused e.0, e.1)) (λ fault. inl fault) step.1) same agrees
 submits old messages site t (Sent number) sets before after found step agrees = absurd step
 submits old messages site t NoSuch sets before after found step agrees = absurd step
 
@@ -117,7 +117,7 @@ takes_foreign old messages site bytes Accepted sets before after found step agre
 takes_foreign old messages site bytes (Refused why) sets before after found step agrees =
     let same : slice_set old site after ≡ old = ap (λ (x : Table). slice_set old site x) step.0 ∙ set_same old site before found in
     refused_happens old (slice_set old site after) messages (Foreign site bytes) why sets (site_there old messages sets site before agrees found)
-    (⊎_elim (λ e. inr (ap world.refused e)) (λ fault. inl fault) step.1) same agrees
+    (⊎_elim (λ e. inr (ap world.refused e.0, e.1)) (λ fault. inl fault) step.1) same agrees
 takes_foreign old messages site bytes (Sent number) sets before after found step agrees = absurd step
 takes_foreign old messages site bytes NoSuch sets before after found step agrees = absurd step
 
@@ -165,7 +165,7 @@ takes_message old messages site message bytes (Refused why) sets before after se
     let same : slice_set old site after ≡ old = ap (λ (x : Table). slice_set old site x) step.0 ∙ set_same old site before found in
     refused_happens old (slice_set old site after) messages (Deliver site message) why sets
     (site_there old messages sets site before agrees found, omega (arith, length-along IsSentOf messages sets.messages agrees.sent))
-    (⊎_elim (λ e. inr (ap world.refused e)) (λ fault. absurd (sound.no_state_fault bytes.items why (read_back bytes (pieces_at sets.messages message) held known).0 fault)) step.1) same agrees
+    (⊎_elim (λ e. inr (ap world.refused e.0, λ never. never)) (λ fault. absurd (sound.no_state_fault bytes.items why (read_back bytes (pieces_at sets.messages message) held known).0 fault)) step.1) same agrees
 takes_message old messages site message bytes (Sent number) sets before after sent held found step agrees = absurd step
 takes_message old messages site message bytes NoSuch sets before after sent held found step agrees = absurd step
 
@@ -203,7 +203,7 @@ pub send_happens : (old : List Table) (messages new : List (Vec ℕ Global)) (si
 send_happens old messages new site (Sent number) sets step agrees = sends old messages new site number sets step agrees
 send_happens old messages new site (Refused why) sets step agrees =
     let P : List (Vec ℕ Global) → Type 0 = λ m. Happens old messages (Send site) old m (Refused why) sets in
-    subst P (sym step.2) (refused_happens old old messages (Send site) why sets (omega (arith, step.0, length-along (IsUnified language) old sets.sites agrees.sites)) (inr (ap world.refused step.1)) refl agrees)
+    subst P (sym step.2) (refused_happens old old messages (Send site) why sets (omega (arith, step.0, length-along (IsUnified language) old sets.sites agrees.sites)) (inr (ap world.refused step.1, λ never. never)) refl agrees)
 send_happens old messages new site NoSuch sets step agrees =
     let P : List (Vec ℕ Global) → Type 0 = λ m. Happens old messages (Send site) old m NoSuch sets in
     subst P (sym step.1) (nothing_happens old old messages (Send site) NoSuch sets (site_absent old messages sets site agrees step.0) refl refl agrees)

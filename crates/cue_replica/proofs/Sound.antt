@@ -1,8 +1,9 @@
 -- The language keeps to what is asked of every language.
-use Rattle.std.proofs.Common.{◌≡◌, ◌⊎◌, ◌<◌, ◌^◌, ℕ, List, length, refl, sym, ◌∙◌, subst, ⊎_elim, inl, inr}
+use Rattle.std.proofs.Common.{◌≡◌, ◌⊎◌, ◌<◌, ◌^◌, ℕ, List, length, refl, ap, sym, ◌∙◌, subst, ⊎_elim, inl, inr}
+use Rattle.cue_lattice.specs.declared.refusal.Kind.TheVariants as kinds
 use Rattle.cue_lattice.specs.declared.refusal.Refusal.{Refusal}
 use Rattle.cue_lattice.specs.Question.{SameAnswers}
-use Rattle.cue_lattice.specs.Refusal.{memory}
+use Rattle.cue_lattice.specs.Refusal.{memory, refusal_at}
 use Rattle.cue_lattice.specs.World.{IsSound}
 use Rattle.cue_row.specs.Row.{RowRefuses}
 use Rattle.cue_table.specs.Tree.{rows_of}
@@ -13,10 +14,10 @@ use Rattle.cue_codec.specs.Decoding.{IsOtherVersion}
 use Rattle.cue_codec.proofs.ReadStates as codec
 use Rattle.cue_codec.proofs.WrittenStates.{state_parts}
 use Rattle.cue_replica.specs.Language.{Table, language}
-use Rattle.cue_replica.specs.States.{IsTableOf, IsState, state_refuses, IsStateFault}
+use Rattle.cue_replica.specs.States.{IsTableOf, IsState, state_refuses, IsStateFault, IsStateRefusedAtOnce}
 use Rattle.cue_replica.specs.Texts.{IsTextFault}
 use Rattle.cue_replica.proofs.Asked.{one_table}
-use Rattle.cue_replica.proofs.Texts.{no_text_fault, memory_no_text_fault}
+use Rattle.cue_replica.proofs.Texts.{no_text_fault, memory_no_text_fault, text_at_once}
 
 -- a table that memory can spell is told by its bytes
 one_spelling : (bytes : List ℕ) (a b : Table) → length bytes < 2 ^ 64 → IsTableOf bytes a → IsTableOf bytes b → a ≡ b
@@ -52,6 +53,16 @@ memory_apart : (bytes : List ℕ) → (IsTextFault bytes memory ⊎ IsStateFault
 memory_apart bytes (inl fault) = memory_no_text_fault bytes fault
 memory_apart bytes (inr fault) = ⊎_elim (λ version. let no = version.0 in cc) (λ other. let no = other.0 in cc) fault.1
 
+state_at_once : (bytes : List ℕ) → IsStateRefusedAtOnce bytes → (why : Refusal) × IsStateFault bytes why
+state_at_once bytes other = (refusal_at kinds.Version 0, refl, inl (refl, other))
+
+-- memory that runs out hides no other version
+pub starved_state :
+    (bytes : List ℕ) (why : Refusal) → (IsOtherVersion bytes → why ≡ refusal_at kinds.Version 0) → (why ≡ memory) ⊎ IsStateFault bytes why
+    → ((why ≡ memory) × ¬ IsStateRefusedAtOnce bytes) ⊎ IsStateFault bytes why
+starved_state bytes why version (inl e) = inl (e, λ other. let k = ap (λ (r : Refusal). r.kind) (sym (version other) ∙ e) in cc)
+starved_state bytes why version (inr fault) = inr fault
+
 reads_own :
     (table : Table) → IsValidTable table → length (table_bytes table) < 2 ^ 64
     → IsState (table_bytes table) × SameAnswers (state_refuses (table_bytes table)) (TableRefuses RowRefuses table)
@@ -68,6 +79,8 @@ sound = record {
   no_text_fault = no_text_fault;
   no_state_fault = no_state_fault;
   memory_apart = memory_apart;
+  text_at_once = text_at_once;
+  state_at_once = state_at_once;
   reads_own = reads_own;
   one_table = one_table;
 }

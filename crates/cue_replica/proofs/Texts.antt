@@ -1,5 +1,5 @@
 -- Texts have one tree, and legal ones no fault.
-use Rattle.std.proofs.Common.{◌≡◌, inl, inr, ◌≤◌, ℕ, Bool, true, false, List, Ok, Err, refl, subst, length, nat_le, arith}
+use Rattle.std.proofs.Common.{◌≡◌, ◌≢◌, ◌⊎◌, ap, sym, ◌∙◌, ◌<◌, inl, inr, ◌≤◌, ℕ, Bool, true, false, List, Ok, Err, refl, subst, length, nat_le, arith}
 use Rattle.std.specs.Prelude.{None, if◌then◌else◌}
 use Rattle.std.proofs.lemmas.Bool.{leb-true}
 use Rattle.cue_lattice.specs.Limits.{text_limit}
@@ -17,7 +17,7 @@ use Rattle.cue_syntax.specs.Syntax.{FileTree, Entries}
 use Rattle.cue_syntax.proofs.OneTree.{one_tree}
 use Rattle.cue_scope.specs.Refusing as checks
 use Rattle.cue_eval.specs.Texts as meaning
-use Rattle.cue_replica.specs.Texts.{IsTreeOf, IsLegal, text_refuses, IsTextFault}
+use Rattle.cue_replica.specs.Texts.{IsTreeOf, IsLegal, text_refuses, IsTextFault, IsTextRefusedAtOnce}
 
 -- a text has one list of tokens
 one_lexing : (text : List ℕ) (a b : List Token) → tokens text ≡ Ok a → tokens text ≡ Ok b → a ≡ b
@@ -31,6 +31,15 @@ lexed_short text words e = go (nat_le (length text) text_limit) refl e
     go : (t : Bool) → nat_le (length text) text_limit ≡ t → (if t then commas None (pieces false 0 0 text) else Err too_long) ≡ Ok words → length text ≤ text_limit
     go true is e = leb-true (length text) text_limit is
     go false is e = cc
+
+-- a text that is too long is refused as such
+pub long_text : (text : List ℕ) → text_limit < length text → tokens text ≡ Err too_long
+unfolding tokens
+long_text text long = go (nat_le (length text) text_limit) refl
+  where
+    go : (t : Bool) → nat_le (length text) text_limit ≡ t → (if t then commas None (pieces false 0 0 text) else Err too_long) ≡ Err too_long
+    go true is = absurd (omega (arith, long, leb-true (length text) text_limit is))
+    go false is = refl
 
 -- and one tree
 pub one_reading : (text : List ℕ) (a b : FileTree) → IsTreeOf text a → IsTreeOf text b → a ≡ b
@@ -79,3 +88,17 @@ tree_answers text tree refuses is same path question = (
       let one = one_reading text h.0 tree h.1 is in
       (same path question).1 (subst (λ (t : FileTree). meaning.text_refuses t.declarations path question) one h.2),
 )
+
+long_not_memory : too_long ≢ memory
+long_not_memory e = let k = ap (λ (r : Refusal). r.kind) e in cc
+
+-- what is refused at once has a fault
+pub text_at_once : (text : List ℕ) → IsTextRefusedAtOnce text → (why : Refusal) × IsTextFault text why
+text_at_once text long = (too_long, inl (long_not_memory, long_text text long))
+
+-- memory that runs out hides no fault of a text that is too long
+pub starved_text :
+    (text : List ℕ) (why : Refusal) → (text_limit < length text → why ≡ too_long) → (why ≡ memory) ⊎ IsTextFault text why
+    → ((why ≡ memory) × ¬ IsTextRefusedAtOnce text) ⊎ IsTextFault text why
+starved_text text why long (inl e) = inl (e, λ more. long_not_memory (sym (long more) ∙ e))
+starved_text text why long (inr fault) = inr fault

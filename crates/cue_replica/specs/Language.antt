@@ -7,7 +7,8 @@ use Rattle.cue_table.specs.Refuses.{TableRefuses}
 use Rattle.cue_table.specs.Valid.{IsValidTable}
 use Rattle.cue_codec.specs.State.{table_bytes}
 use Rattle.cue_replica.specs.Texts.{IsLegal, text_refuses, IsTextFault}
-use Rattle.cue_replica.specs.States.{IsState, state_refuses, IsStateFault}
+use Rattle.cue_replica.specs.Texts.{IsTextRefusedAtOnce}
+use Rattle.cue_replica.specs.States.{IsState, state_refuses, IsStateFault, IsStateRefusedAtOnce}
 
 abbrev pub Table : Type 0
 Table = Tree Row
@@ -26,5 +27,7 @@ language = record {
   IsState = IsState;
   state_refuses = state_refuses;
   IsStateFault = IsStateFault;
+  IsTextRefusedAtOnce = IsTextRefusedAtOnce;
+  IsStateRefusedAtOnce = IsStateRefusedAtOnce;
   written = table_bytes;
 }

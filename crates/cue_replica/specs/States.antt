@@ -8,7 +8,7 @@ use Rattle.cue_table.specs.Tree.{Tree}
 use Rattle.cue_table.specs.Refuses.{TableRefuses}
 use Rattle.cue_table.specs.Valid.{IsValidTable}
 use Rattle.cue_codec.specs.State.{table_bytes}
-use Rattle.cue_codec.specs.Decoding.{IsRejected}
+use Rattle.cue_codec.specs.Decoding.{IsRejected, IsOtherVersion}
 
 -- the table is valid, and has these bytes
 pub record IsTableOf (bytes : List ℕ) (table : Tree Row) : Type 0 where
@@ -28,3 +28,7 @@ state_refuses bytes path question =
 -- told at place 0.
 abbrev pub IsStateFault : List ℕ → Refusal → Type 0
 IsStateFault bytes why = (why.place ≡ 0) × IsRejected bytes why.kind
+
+-- bytes of another version: no memory is wanted to find this
+abbrev pub IsStateRefusedAtOnce : List ℕ → Type 0
+IsStateRefusedAtOnce = IsOtherVersion

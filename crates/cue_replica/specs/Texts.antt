@@ -1,6 +1,6 @@
 -- What texts mean, and why a text is refused: the definitions of the crates below, put together.
-use Rattle.std.specs.Prelude.{◌≡◌, ◌≢◌, ◌⊎◌, ℕ, List, length, Ok, Err}
-use Rattle.cue_lattice.specs.Limits.{level_limit}
+use Rattle.std.specs.Prelude.{◌≡◌, ◌≢◌, ◌⊎◌, ◌<◌, ℕ, List, length, Ok, Err}
+use Rattle.cue_lattice.specs.Limits.{level_limit, text_limit}
 use Rattle.cue_lattice.specs.Question.{Refusals}
 use Rattle.cue_lattice.specs.Refusal.{memory}
 use Rattle.cue_lattice.specs.declared.refusal.Refusal.{Refusal}
@@ -40,3 +40,7 @@ IsTextFault text why =
     ((why ≢ memory) × (tokens text ≡ Err why))
     ⊎ (((words : List Token) × (tokens text ≡ Ok words) × IsUnspelled (length text) words why)
     ⊎ ((tree : FileTree) × IsTreeOf text tree × checks.Refuses tree.declarations why))
+
+-- a text that is too long: no memory is wanted to find this
+abbrev pub IsTextRefusedAtOnce : List ℕ → Type 0
+IsTextRefusedAtOnce text = text_limit < length text

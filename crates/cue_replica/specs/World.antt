@@ -62,7 +62,8 @@ abbrev pub Submits : List ℕ → Table → Table → Outcome → Type 0
 Submits text before after Accepted =
     language.IsLegal text × Adds before (language.text_refuses text) after × language.IsValid after
 Submits text before after (Refused why) =
-    (after ≡ before) × ((why ≡ memory) ⊎ language.IsTextFault text why)
+    (after ≡ before)
+    × (((why ≡ memory) × ¬ language.IsTextRefusedAtOnce text) ⊎ language.IsTextFault text why)
 Submits text before after outcome = ⊥
 
 -- state bytes are handed in
@@ -71,7 +72,8 @@ Takes bytes before after Accepted =
     language.IsState bytes × Adds before (language.state_refuses bytes) after
     × language.IsValid after
 Takes bytes before after (Refused why) =
-    (after ≡ before) × ((why ≡ memory) ⊎ language.IsStateFault bytes why)
+    (after ≡ before)
+    × (((why ≡ memory) × ¬ language.IsStateRefusedAtOnce bytes) ⊎ language.IsStateFault bytes why)
 Takes bytes before after outcome = ⊥
 
 -- a state is sent: it becomes the next message
