@@ -6,6 +6,7 @@ pub mod Fronts
 pub mod Bodies
 pub mod PlainStrings
 pub mod Lexing
+pub mod Beginning
 pub mod Longest
 pub mod Bottom
 pub mod LongestMark

@@ -8,3 +8,4 @@ pub mod Marks
 pub mod Lexemes
 pub mod Longest
 pub mod Tokens
+pub mod First

@@ -1,6 +1,8 @@
-ghost use Rattle.std.specs.Prelude.{◌≡◌, ◌<◌, ◌+◌, ◌^◌, length, not, ◌==◌, IfOk};
+ghost use Rattle.std.specs.Prelude.{◌≡◌, ◌<◌, ◌+◌, ◌^◌, length, not, ◌==◌, IfOk, IfErr};
+ghost use Rattle.std.specs.Prelude.{slice_index};
 ghost use Rattle.std.specs.List.{prefix_len};
 ghost use Rattle.std.specs.Str.{IsCharBoundary};
+ghost use Rattle.cue_lattice.specs.Refusal.{memory};
 ghost use Rattle.cue_lex.specs.Lexemes.{Gives, lexeme, len_of};
 
 use crate::TokenKind;
@@ -47,6 +49,8 @@ pub fn lexeme_at<'a>(
     ensures gives { Gives result (lexeme after_minus at text.now) }
     ensures some { IfOk result (λ found. 0 < len_of found) }
     ensures boundary { IfOk result (λ found. IsCharBoundary text.now (len_of found)) }
+    // Only a string wants memory.
+    ensures memory { IfErr result (λ refusal. refusal ≡ memory → slice_index text.now 0 ≡ 34) }
 {
     let bytes = text.as_bytes();
     if let Some((mark, len)) = mark(bytes) {

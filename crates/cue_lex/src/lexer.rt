@@ -1,8 +1,9 @@
-ghost use Rattle.std.specs.Prelude.{◌≡◌, ◌≢◌, ◌≤◌, ◌<◌, ◌+◌, ◌-◌, ℕ, Bool, List, Result};
-ghost use Rattle.std.specs.Prelude.{length, IfOk, IfErr, Ok, Err};
+ghost use Rattle.std.specs.Prelude.{◌≡◌, ◌≢◌, ◌≤◌, ◌<◌, ◌+◌, ◌-◌, ℕ, Bool, true, List, Result};
+ghost use Rattle.std.specs.Prelude.{length, IfOk, IfErr, Ok, Err, None};
 ghost use Rattle.cue_lattice.specs.Limits.{text_limit};
 ghost use Rattle.cue_lattice.specs.Refusal.{memory};
 ghost use Rattle.cue_lex.specs.Tokens.{tokens, too_long, Piece, at_place, commas, prepended};
+ghost use Rattle.cue_lex.specs.First.{begins_some, IsBlank};
 ghost use Rattle.cue_lex.specs.Lexemes.{len_of};
 
 use crate::lexeme::{Lexeme, lexeme_at};
@@ -21,7 +22,8 @@ use std::alloc::Global;
 ///
 /// The first fault from the left: `TooLong` (looked at before all others), `BadCharacter`,
 /// `BadString`, `BadNumber`, `IntRange` and `TextTooLong`, with its place; or `Memory`, where
-/// memory ran out before a fault was found. A text that is too long is always refused as such.
+/// memory ran out before a fault was found. A text that is too long is always refused as such, and
+/// so is a first byte, white space and comments apart, that begins no token.
 #[tactic(auto, unfolding(crate::specs::Tokens::tokens))]
 pub fn lex<'a>(alloc: Global, text: &'a str) -> Result<Vec<Token<'a>>, Refusal>
     // What is answered is the tokens of the text.
@@ -30,6 +32,7 @@ pub fn lex<'a>(alloc: Global, text: &'a str) -> Result<Vec<Token<'a>>, Refusal>
     ensures refused { IfErr result (λ refusal. refusal ≢ memory → tokens text.now ≡ Err refusal) }
     // What is found before any memory is wanted is always told.
     ensures long { IfErr result (λ refusal. text_limit < length text.now → refusal ≡ too_long) }
+    ensures begins { IfErr result (λ refusal. refusal ≡ memory → begins_some text.now ≡ true) }
 {
     if text.len() > TEXT_LIMIT {
         return Err(Refusal::at(Kind::TooLong, TEXT_LIMIT));
@@ -43,6 +46,7 @@ fn tokens_of<'a>(alloc: Global, text: &'a str) -> Result<Vec<Token<'a>>, Refusal
     requires { length text.now ≤ text_limit }
     ensures found { IfOk result (λ all. tokens text.now ≡ Ok all.items) }
     ensures refused { IfErr result (λ refusal. refusal ≢ memory → tokens text.now ≡ Err refusal) }
+    ensures begins { IfErr result (λ refusal. refusal ≡ memory → begins_some text.now ≡ true) }
 {
     let mut tokens = Vec::new(alloc);
     let mut before = Before {
@@ -78,11 +82,15 @@ fn add<'a>(
 ) -> Result<Before, Memory>
     requires { at + len_of found ≤ text_limit }
     // The tokens and what they say of what follows give the same tokens in all, whatever follows.
-    ensures { IfOk result (λ after. (rest : Bool → ℕ → Result (List Piece) Refusal) →
+    ensures adds { IfOk result (λ after. (rest : Bool → ℕ → Result (List Piece) Refusal) →
         prepended tokens.old.items
         (commas before.line_end (at_place before.is_minus at (Ok found.entry) rest))
         ≡ prepended tokens.new.items
         (commas after.line_end (rest after.is_minus (len_of found.entry - 1)))) }
+    // Blanks before the first token are not kept.
+    ensures stays { IfOk result (λ after. IsBlank found.entry → before.line_end ≡ None →
+        (after.line_end ≡ None) × (after.is_minus ≡ before.is_minus)) }
+    ensures memory { IfErr result (λ _. IsBlank found.entry → before.line_end ≡ None → ⊥) }
 {
     match found {
         Lexeme::Blank(_) => Ok(before),

@@ -8,6 +8,7 @@ use Rattle.cue_lex.specs.Marks.{mark}
 use Rattle.cue_lex.specs.Lexemes.{EndsAscii, name}
 use Rattle.cue_lex.proofs.Fronts.{ends_boundary, found_boundary, boundary_three, line_boundary}
 use Rattle.cue_lex.proofs.FirstBytes.{gives_same, some_of, lexeme_letter, lexeme_mark, run_letter}
+use Rattle.cue_lex.proofs.Beginning.{integer_told, name_told}
 use Rattle.cue_lex.proofs.lexeme.lexeme_at.Goals as goal
 use Rattle.cue_lex.proofs.lexeme.lexeme_at.Goals.{After-run_len}
 
@@ -63,3 +64,12 @@ returns-then-is_ascii_alphabetic-clause-gives c =
 pub returns-then-is_ascii_alphabetic-clause-some : goal.returns-then-is_ascii_alphabetic-clause-some
 returns-then-is_ascii_alphabetic-clause-some c =
     some_of c.name.result c.run_len.result (some_run (goal.at.returns-then-is_ascii_alphabetic-clause-some c).After-run_len) c.name.ensures.len
+
+pub returns-in-48-to-57-clause-memory : goal.returns-in-48-to-57-clause-memory
+returns-in-48-to-57-clause-memory c = integer_told _ c.args.after_minus c.args.at c.as_bytes-bytes.result.now c.integer.result c.integer.ensures.value
+
+pub returns-then-is_ascii_alphabetic-clause-memory : goal.returns-then-is_ascii_alphabetic-clause-memory
+returns-then-is_ascii_alphabetic-clause-memory c = name_told _ c.args.at c.run_len.result c.args.text.now c.name.result c.name.ensures.value
+
+pub returns-in_default-identifier_len-clause-memory : goal.returns-in_default-identifier_len-clause-memory
+returns-in_default-identifier_len-clause-memory c = name_told _ c.args.at c.identifier_len.result c.args.text.now c.name-in_default-identifier_len.result c.name-in_default-identifier_len.ensures.value
