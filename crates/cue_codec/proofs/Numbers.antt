@@ -3,13 +3,13 @@ use Rattle.std.proofs.Common.{◌≡◌, ℕ, suc, ◌^◌, ◌<◌, ◌≤◌, 
 use Rattle.std.specs.Int.{Width, w16, w32, w64, byte_len, from_be_bytes, to_be_bytes, cast_signed, cast_unsigned}
 use Rattle.std.specs.Str.{IsUtf8}
 use Rattle.std.proofs.lemmas.Bool.{cases_lt, ltb-false, ltb-true, lt-ltb, le-ltb}
-use Rattle.std.proofs.lemmas.Int.{of_z-to_z, to_z-of_z}
+use Rattle.std.proofs.lemmas.Int.{ints, of_z-to_z, to_z-of_z}
 use Rattle.std.proofs.lemmas.List.{take-append-drop, length-append, length-take, get_or-take, get_or_past}
 use Rattle.std.proofs.lemmas.Nat.{be_bytes_2, be_bytes_4, be_bytes_8}
 use mir.Val.{SFits}
 use Rattle.cue_lattice.specs.Scalar.{IsInteger}
 use Rattle.cue_codec.specs.Parts.{integer_bytes, piece_bytes, text_bytes, most_bytes, lengths_bytes}
-use Rattle.cue_codec.specs.Reading.{Begins, BeginsNone, number_at, IsPiece, IsShortText, IsMost, AreWideLengths}
+use Rattle.cue_codec.specs.Reading.{Begins, BeginsNone, number_at, IsPiece, IsWord, IsMost, AreWideLengths}
 use Rattle.cue_codec.proofs.Codes.{OneItem, same_fronts, wide16, wide32, wide64, one_number}
 
 abbrev pub IsBytes : List ℕ → Type 0
@@ -67,19 +67,25 @@ number_missing w bytes e =
 
 -- ---- integers and pieces
 
+integer_up : (n : ℕ) → n < 2 ^ 63 → IsInteger (pos n)
+integer_up n h = (omega (arith, ints), omega (arith, ints))
+
+integer_down : (n : ℕ) → n < 2 ^ 63 → IsInteger (negsuc n)
+integer_down n h = (omega (arith, ints), omega (arith, ints))
+
 IsInteger-cast : (n : ℕ) → n < 2 ^ 64 → IsInteger (cast_signed w64 n)
 IsInteger-cast n lt =
     elim (cases_lt n (2 ^ 63)) [
-      | inl low ↦ rw (lt-ltb n (2 ^ 63) low) low
-      | inr high ↦ rw (le-ltb n (2 ^ 63) high) (omega arith)
+      | inl low ↦ rw (lt-ltb n (2 ^ 63) low) (integer_up n low)
+      | inr high ↦ rw (le-ltb n (2 ^ 63) high) (integer_down _ (omega arith))
     ]
 
 fits_from_integer : (n : ℤ) → IsInteger n → SFits w64 n
-fits_from_integer (pos n) h = record { sfits = h }
-fits_from_integer (negsuc n) h = record { sfits = h }
+fits_from_integer (pos n) h = record { sfits = let b = h.1 in omega (arith, ints) }
+fits_from_integer (negsuc n) h = record { sfits = let a = h.0 in omega (arith, ints) }
 
 unsigned_below : (n : ℤ) → IsInteger n → cast_unsigned w64 n < 2 ^ 64
-unsigned_below (pos n) h = omega arith
+unsigned_below (pos n) h = let b = h.1 in omega (arith, ints)
 unsigned_below (negsuc n) h = omega arith
 
 -- an integer in front tells itself and the rest
@@ -148,36 +154,36 @@ unfolding text_bytes
 text_some text = omega (arith, length-append (to_be_bytes w16 (length text)) text, wide16.len (length text))
 
 -- a text in front tells itself and the rest
-pub one_text : OneItem IsShortText text_bytes
+pub one_text : OneItem IsWord text_bytes
 one_text t u r s ht hu e =
-    let f = one_number w16 (2 ^ 16) wide16 (length t) (length u) (t ++ r) (u ++ s) ht.short hu.short (sym (text_parts t r) ∙ e ∙ text_parts u s) in
+    let f = one_number w16 (2 ^ 16) wide16 (length t) (length u) (t ++ r) (u ++ s) (let k = ht.short in omega (arith, k)) (let k = hu.short in omega (arith, k)) (sym (text_parts t r) ∙ e ∙ text_parts u s) in
     same_fronts t u r s f.0 f.1
 
-pub text_short : (bytes : List ℕ) → None ≡ number_at w16 bytes → BeginsNone IsShortText text_bytes bytes
+pub text_short : (bytes : List ℕ) → None ≡ number_at w16 bytes → BeginsNone IsWord text_bytes bytes
 text_short bytes none = λ t r h e.
     omega (arith, number_missing w16 bytes none, ap length (e ∙ text_parts t r), length-append (to_be_bytes w16 (length t)) (t ++ r), wide16.len (length t))
 
-after_length : (bytes rest : List ℕ) (n : ℕ) → IsBytes bytes → Some (n, rest) ≡ number_at w16 bytes → (t r : List ℕ) → IsShortText t → bytes ≡ text_bytes t ++ r → (length t ≡ n) × (t ++ r ≡ rest)
+after_length : (bytes rest : List ℕ) (n : ℕ) → IsBytes bytes → Some (n, rest) ≡ number_at w16 bytes → (t r : List ℕ) → IsWord t → bytes ≡ text_bytes t ++ r → (length t ≡ n) × (t ++ r ≡ rest)
 after_length bytes rest n fits e t r h is =
     let found = number_takes w16 (2 ^ 16) read16 bytes n rest fits e in
-    one_number w16 (2 ^ 16) wide16 (length t) n (t ++ r) rest h.short found.1 (sym (text_parts t r) ∙ sym is ∙ found.0)
+    one_number w16 (2 ^ 16) wide16 (length t) n (t ++ r) rest (let k = h.short in omega (arith, k)) found.1 (sym (text_parts t r) ∙ sym is ∙ found.0)
 
-pub text_cut : (bytes rest : List ℕ) (n : ℕ) → IsBytes bytes → Some (n, rest) ≡ number_at w16 bytes → length rest < n → BeginsNone IsShortText text_bytes bytes
+pub text_cut : (bytes rest : List ℕ) (n : ℕ) → IsBytes bytes → Some (n, rest) ≡ number_at w16 bytes → length rest < n → BeginsNone IsWord text_bytes bytes
 text_cut bytes rest n fits e lt = λ t r h is.
     let a = after_length bytes rest n fits e t r h is in
     omega (arith, lt, a.0, ap length a.1, length-append t r)
 
-pub text_wrong : (bytes rest front after : List ℕ) (n : ℕ) → IsBytes bytes → Some (n, rest) ≡ number_at w16 bytes → rest ≡ front ++ after → length front ≡ n → (IsUtf8 front → ⊥) → BeginsNone IsShortText text_bytes bytes
+pub text_wrong : (bytes rest front after : List ℕ) (n : ℕ) → IsBytes bytes → Some (n, rest) ≡ number_at w16 bytes → rest ≡ front ++ after → length front ≡ n → (IsUtf8 front → ⊥) → BeginsNone IsWord text_bytes bytes
 text_wrong bytes rest front after n fits e parts len bad = λ t r h is.
     let a = after_length bytes rest n fits e t r h is in
     bad (subst IsUtf8 (same_fronts t front r after (a.0 ∙ sym len) (a.1 ∙ parts)).0 h.utf8)
 
-pub text_found : (bytes rest front after text : List ℕ) (n : ℕ) → IsBytes bytes → Some (n, rest) ≡ number_at w16 bytes → rest ≡ front ++ after → length front ≡ n → IsUtf8 front → text ≡ front → Begins IsShortText text_bytes text bytes after
+pub text_found : (bytes rest front after text : List ℕ) (n : ℕ) → IsBytes bytes → Some (n, rest) ≡ number_at w16 bytes → rest ≡ front ++ after → length front ≡ n → IsUtf8 front → text ≡ front → Begins IsWord text_bytes text bytes after
 text_found bytes rest front after text n fits e parts len good same =
     let found = number_takes w16 (2 ^ 16) read16 bytes n rest fits e in
     let whole : bytes ≡ text_bytes front ++ after = found.0 ∙ ap (λ (t : List ℕ). to_be_bytes w16 n ++ t) parts ∙ ap (λ (k : ℕ). to_be_bytes w16 k ++ (front ++ after)) (sym len) ∙ sym (text_parts front after) in
-    let b : Begins IsShortText text_bytes front bytes after = record { value = record { utf8 = good; short = omega (arith, len, found.1) }; parts = whole } in
-    subst (λ (t : List ℕ). Begins IsShortText text_bytes t bytes after) (sym same) b
+    let b : Begins IsWord text_bytes front bytes after = record { value = record { utf8 = good; short = omega (arith, len, found.1) }; parts = whole } in
+    subst (λ (t : List ℕ). Begins IsWord text_bytes t bytes after) (sym same) b
 
 -- ---- lengths
 

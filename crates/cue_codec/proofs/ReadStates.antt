@@ -1,7 +1,8 @@
 -- States read from their bytes: what is missing where they are refused.
-use Rattle.std.proofs.Common.{◌≡◌, ℕ, ◌+◌, ◌^◌, ◌<◌, ◌≤◌, true, false, List, [], ◌∷◌, ◌++◌, append_assoc, length, drop, Some, None, inl, inr, ⊎_elim, refl, sym, ap, subst, ◌∙◌, arith}
+use Rattle.std.proofs.Common.{◌≡◌, ℕ, ◌+◌, ◌^◌, ◌<◌, ◌≤◌, true, false, List, [], ◌∷◌, ◌++◌, append_assoc, length, get_or, drop, Some, None, ◌⊎◌, inl, inr, ⊎_elim, refl, sym, ap, subst, ◌∙◌, arith}
 use Rattle.std.specs.Int.{w64, to_be_bytes}
 use Rattle.std.specs.List.{flat_map, AllByRecursion}
+use Rattle.std.proofs.lemmas.Bool.{cases_eq}
 use Rattle.std.proofs.lemmas.List.{append-nil, length-append}
 use Rattle.std.proofs.lemmas.List.Concat.{flat_map-cons}
 use Rattle.cue_lattice.specs.declared.refusal.Kind.{Kind}
@@ -20,7 +21,7 @@ use Rattle.cue_table.proofs.RowLists.{all_weaker, rows_rise, rows_stand, front_b
 use Rattle.cue_codec.specs.Reading.{Begins, BeginsNone, IsRefused, number_at}
 use Rattle.cue_codec.specs.RowBytes.{row_bytes, IsStateRow}
 use Rattle.cue_codec.specs.State.{mark, table_bytes}
-use Rattle.cue_codec.specs.Decoding.{IsOtherVersion, IsNoState, IsRejected, IsUndecoded, AreReadRows, NoRows}
+use Rattle.cue_codec.specs.Decoding.{IsOtherVersion, IsNoState, IsRejected, BeginsAsState, IsUndecoded, AreReadRows, NoRows}
 use Rattle.cue_codec.proofs.Codes.{OneItem, wide64, one_number, one_list, list_step, items_none, items_more, all_more, refused_so}
 use Rattle.cue_codec.proofs.Numbers.{IsBytes, IsBytes-rest, read64, number_takes, number_missing}
 use Rattle.cue_codec.proofs.StateRows.{one_row}
@@ -71,6 +72,45 @@ head_found bytes rest after end version count fits e is one found =
     let whole = versioned bytes rest after version e is one in
     let numbers : IsBytes after = IsBytes-rest version rest after is (IsBytes-marked bytes rest e fits) in
     whole ∙ ap (λ t. mark ++ (1 ∷ t)) (number_takes w64 (2 ^ 64) read64 after count end numbers found).0
+
+-- bytes that begin as those of a state are of the known version
+pub begun_known : (bytes : List ℕ) → BeginsAsState bytes → IsOtherVersion bytes → ⊥
+begun_known bytes begun = known_version bytes (to_be_bytes w64 begun.0 ++ begun.1) begun.2
+
+-- the bytes of a table begin so
+pub table_begins : (tree : Tree Row) (bytes : List ℕ) → table_bytes tree ≡ bytes → BeginsAsState bytes
+table_begins tree bytes e = (length (rows_of tree), flat_map row_bytes (rows_of tree), sym e ∙ state_parts (rows_of tree))
+
+marked : (a b c d : ℕ) (rest : List ℕ) → ((a ≡ 254) × (b ≡ 67) × (c ≡ 85) × (d ≡ 69)) ⊎ ((a ≡ 254) × (b ≡ 67) × (c ≡ 85) × (d ≡ 69) → ⊥)
+marked a b c d rest =
+    ⊎_elim
+    (λ p. ⊎_elim
+    (λ q. ⊎_elim
+    (λ r. ⊎_elim (λ s. inl (p, q, r, s)) (λ s. inr (λ all. s all.3)) (cases_eq d 69))
+    (λ r. inr (λ all. r all.2)) (cases_eq c 85))
+    (λ q. inr (λ all. q all.1)) (cases_eq b 67))
+    (λ p. inr (λ all. p all.0)) (cases_eq a 254)
+
+byte_at : (bytes other : List ℕ) (i : ℕ) → bytes ≡ other → get_or bytes i 0 ≡ get_or other i 0
+byte_at bytes other i e = ap (λ (t : List ℕ). get_or t i 0) e
+
+-- whether bytes are of another version is decided by the first five
+other_or_not : (bytes : List ℕ) → IsOtherVersion bytes ⊎ (IsOtherVersion bytes → ⊥)
+other_or_not (a ∷ b ∷ c ∷ d ∷ version ∷ rest) =
+    ⊎_elim
+    (λ m. ⊎_elim
+    (λ one. inr (λ other. other.3 (sym (byte_at (a ∷ b ∷ c ∷ d ∷ version ∷ rest) (mark ++ (other.0 ∷ other.1)) 4 other.2) ∙ one)))
+    (λ new. inl (version, rest, (λ i. m.0 i ∷ m.1 i ∷ m.2 i ∷ m.3 i ∷ version ∷ rest), new)) (cases_eq version 1))
+    (λ none. inr (λ other.
+    let e = byte_at (a ∷ b ∷ c ∷ d ∷ version ∷ rest) (mark ++ (other.0 ∷ other.1)) in
+    none (e 0 other.2, e 1 other.2, e 2 other.2, e 3 other.2))) (marked a b c d rest)
+other_or_not bytes = inr (λ other. let e = ap length other.2 in omega (arith, e))
+
+-- bytes that do not begin as those of a state are refused with no memory
+pub headless_fault : (bytes : List ℕ) → (BeginsAsState bytes → ⊥) → (kind : Kind) × IsRejected bytes kind
+headless_fault bytes none =
+    ⊎_elim (λ other. (kinds.Version, inl (refl, other)))
+    (λ known. (kinds.NotState, inr (refl, known, λ tree h e. none (table_begins tree bytes e)))) (other_or_not bytes)
 
 -- ---- the rows
 
@@ -141,7 +181,7 @@ undecoded_head bytes kind h = inr h
 pub undecoded_rows :
     (bytes rest : List ℕ) (count : ℕ) (kind : Kind) → bytes ≡ mark ++ (1 ∷ (to_be_bytes w64 count ++ rest)) → count < 2 ^ 64 → length bytes < 2 ^ 64 → IsRefused kind (NoRows count rest) → IsUndecoded bytes kind
 undecoded_rows bytes rest count kind e lt fits refused =
-    ⊎_elim (λ memory. inl (memory, known_version bytes (to_be_bytes w64 count ++ rest) e))
+    ⊎_elim (λ memory. inl (memory, (count, rest, e)))
     (λ reason. inr (inr (reason.0, known_version bytes (to_be_bytes w64 count ++ rest) e, λ tree h is. reason.1 tree (valid_read bytes rest count tree e lt fits h is)))) refused
 
 -- where the rows that were read are no valid table, no valid table has the bytes

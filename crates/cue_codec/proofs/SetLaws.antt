@@ -2,7 +2,6 @@
 use Rattle.std.proofs.Common.{◌≡◌, ℕ, ℤ, pos, negsuc, ◌+ℤ◌, ◌≤ℤ◌, List, [], ◌∷◌, sym, subst, arith}
 use Rattle.std.specs.List.{AllByRecursion}
 use Rattle.std.proofs.lemmas.Int.{ints}
-use Rattle.cue_lattice.specs.Scalar.{IsInteger}
 use Rattle.cue_sets.specs.Pieces.{least, greatest, AscendsFrom, IsCanonical}
 use Rattle.cue_codec.specs.Parts.{counted_bytes, piece_bytes}
 use Rattle.cue_codec.specs.Reading.{Begins, BeginsNone, IsPiece, AreCounted}
@@ -10,17 +9,13 @@ use Rattle.cue_codec.specs.StateRow.{IsStateIntegers}
 use Rattle.cue_codec.proofs.Codes.{OneItem, one_counted, other_none}
 use Rattle.cue_codec.proofs.Numbers.{one_piece}
 
-integer_from : (n : ℤ) → least ≤ℤ n → n ≤ℤ greatest → IsInteger n
-integer_from (pos n) a b = omega (arith, ints)
-integer_from (negsuc n) a b = omega (arith, ints)
-
 pieces_from : (start : ℤ) (ps : List (ℤ × ℤ)) → least ≤ℤ start → AscendsFrom start ps → AllByRecursion IsPiece ps
 pieces_from start [] l h = tt
 pieces_from start (p ∷ ps) l h =
     let a = h.0 in
     let b = h.1 in
     let c = h.2 in
-    ((integer_from p.0 (omega (arith, ints)) (omega (arith, ints)), integer_from p.1 (omega (arith, ints)) (omega (arith, ints))), pieces_from (p.1 +ℤ pos 2) ps (omega (arith, ints)) h.3)
+    (((omega (arith, ints), omega (arith, ints)), (omega (arith, ints), omega (arith, ints))), pieces_from (p.1 +ℤ pos 2) ps (omega (arith, ints)) h.3)
 
 -- pieces in their one form have integers of 64 bits
 pub canonical_pieces : (ps : List (ℤ × ℤ)) → IsCanonical ps → AllByRecursion IsPiece ps

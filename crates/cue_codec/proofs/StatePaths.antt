@@ -8,7 +8,7 @@ use Rattle.cue_lattice.specs.Path.{label, index, Path}
 use Rattle.cue_row.specs.declared.step.Step as program
 use Rattle.cue_row.specs.Steps.{step_of}
 use Rattle.cue_codec.specs.Parts.{text_bytes, step_bytes, path_bytes}
-use Rattle.cue_codec.specs.Reading.{Begins, BeginsNone, number_at, IsShortText, AreSo}
+use Rattle.cue_codec.specs.Reading.{Begins, BeginsNone, number_at, IsWord, AreSo}
 use Rattle.cue_codec.specs.StateRow.{IsStateStep, IsStatePath}
 use Rattle.cue_codec.proofs.Codes.{OneItem, wide32, one_number, one_list, items_more}
 use Rattle.cue_codec.proofs.Numbers.{IsBytes, number_missing, number_takes, read32, one_text}
@@ -36,7 +36,7 @@ unfolding step_bytes
 step_tag bytes rest tag is more (label t) s h e = omega (arith, more, heads tag 0 rest _ (sym is ∙ e))
 step_tag bytes rest tag is more (index n) s h e = omega (arith, more, heads tag 1 rest _ (sym is ∙ e))
 
-pub step_text : (bytes rest : List ℕ) (tag : ℕ) → bytes ≡ tag ∷ rest → tag ≡ 0 → BeginsNone IsShortText text_bytes rest → BeginsNone IsStateStep step_bytes bytes
+pub step_text : (bytes rest : List ℕ) (tag : ℕ) → bytes ≡ tag ∷ rest → tag ≡ 0 → BeginsNone IsWord text_bytes rest → BeginsNone IsStateStep step_bytes bytes
 unfolding step_bytes
 step_text bytes rest tag is zero none (label t) s h e = none t s h (tails tag 0 rest _ (sym is ∙ e))
 step_text bytes rest tag is zero none (index n) s h e = omega (arith, zero, heads tag 1 rest _ (sym is ∙ e))
@@ -47,7 +47,7 @@ step_number bytes rest tag is one none (label t) s h e = omega (arith, one, head
 step_number bytes rest tag is one none (index n) s h e =
     omega (arith, number_missing w32 rest none, ap length (tails tag 1 rest _ (sym is ∙ e)), length-append (to_be_bytes w32 n) s, wide32.len n)
 
-pub label_found : (bytes rest after text : List ℕ) (tag : ℕ) → bytes ≡ tag ∷ rest → tag ≡ 0 → Begins IsShortText text_bytes text rest after → Begins IsStateStep step_bytes (label text) bytes after
+pub label_found : (bytes rest after text : List ℕ) (tag : ℕ) → bytes ≡ tag ∷ rest → tag ≡ 0 → Begins IsWord text_bytes text rest after → Begins IsStateStep step_bytes (label text) bytes after
 unfolding step_bytes
 label_found bytes rest after text tag is zero b = record { value = b.value; parts = is ∙ ap (λ (k : ℕ). k ∷ rest) zero ∙ ap (λ (x : List ℕ). 0 ∷ x) b.parts }
 

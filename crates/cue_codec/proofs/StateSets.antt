@@ -3,7 +3,7 @@ use Rattle.std.proofs.Common.{◌≡◌, ℕ, ◌<◌, ◌≤◌, ℤ, Bool, tru
 use Rattle.cue_sets.specs.Texts.{IsAscending}
 use Rattle.cue_scalars.specs.declared.scalar_set.ScalarSet.{ScalarSet}
 use Rattle.cue_codec.specs.Parts.{bit, flags, counted_bytes, piece_bytes, text_bytes, text_set_bytes, set_bytes, labels_bytes}
-use Rattle.cue_codec.specs.Reading.{Begins, BeginsNone, IsShortText, AreCounted}
+use Rattle.cue_codec.specs.Reading.{Begins, BeginsNone, IsWord, AreCounted}
 use Rattle.cue_codec.specs.StateRow.{IsStateIntegers, AreStateTexts, IsStateTexts, IsStateSet, AreStateLabels}
 use Rattle.cue_codec.proofs.Codes.{OneItem, one_counted}
 use Rattle.cue_codec.proofs.Numbers.{one_text}
@@ -34,14 +34,14 @@ no_byte bytes n r none e = omega (arith, none, ap length e)
 
 -- texts in their order in front tell themselves and the rest
 one_texts : OneItem AreStateTexts (counted_bytes text_bytes)
-one_texts a b r s p q e = one_counted IsShortText text_bytes one_text a b r s p.1 q.1 e
+one_texts a b r s p q e = one_counted IsWord text_bytes one_text a b r s p.1 q.1 e
 
-texts_none : (bytes : List ℕ) → BeginsNone (AreCounted IsShortText) (counted_bytes text_bytes) bytes → BeginsNone AreStateTexts (counted_bytes text_bytes) bytes
+texts_none : (bytes : List ℕ) → BeginsNone (AreCounted IsWord) (counted_bytes text_bytes) bytes → BeginsNone AreStateTexts (counted_bytes text_bytes) bytes
 texts_none bytes none = λ ts s h e. none ts s h.1 e
 
-texts_other : (texts : List (List ℕ)) (bytes rest : List ℕ) → Begins (AreCounted IsShortText) (counted_bytes text_bytes) texts bytes rest → (IsAscending texts → ⊥) → BeginsNone AreStateTexts (counted_bytes text_bytes) bytes
+texts_other : (texts : List (List ℕ)) (bytes rest : List ℕ) → Begins (AreCounted IsWord) (counted_bytes text_bytes) texts bytes rest → (IsAscending texts → ⊥) → BeginsNone AreStateTexts (counted_bytes text_bytes) bytes
 texts_other texts bytes rest b bad = λ ts s h e.
-    bad (subst IsAscending (sym (one_counted IsShortText text_bytes one_text texts ts rest s b.value h.1 (sym b.parts ∙ e)).0) h.0)
+    bad (subst IsAscending (sym (one_counted IsWord text_bytes one_text texts ts rest s b.value h.1 (sym b.parts ∙ e)).0) h.0)
 
 -- a set of texts in front tells itself and the rest
 pub one_text_set : OneItem IsStateTexts text_set_bytes
@@ -59,16 +59,16 @@ pub text_set_tag : (bytes rest : List ℕ) (tag : ℕ) → bytes ≡ tag ∷ res
 unfolding text_set_bytes
 text_set_tag bytes rest tag is more = λ set s h e. omega (arith, more, bit_small set.0, heads tag (bit set.0) rest _ (sym is ∙ e))
 
-pub text_set_rest : (bytes rest : List ℕ) (tag : ℕ) → bytes ≡ tag ∷ rest → BeginsNone (AreCounted IsShortText) (counted_bytes text_bytes) rest → BeginsNone IsStateTexts text_set_bytes bytes
+pub text_set_rest : (bytes rest : List ℕ) (tag : ℕ) → bytes ≡ tag ∷ rest → BeginsNone (AreCounted IsWord) (counted_bytes text_bytes) rest → BeginsNone IsStateTexts text_set_bytes bytes
 unfolding text_set_bytes
 text_set_rest bytes rest tag is none = λ set s h e. texts_none rest none set.1 s h (tails tag (bit set.0) rest _ (sym is ∙ e))
 
-pub text_set_other : (bytes rest after : List ℕ) (tag : ℕ) (texts : List (List ℕ)) → bytes ≡ tag ∷ rest → Begins (AreCounted IsShortText) (counted_bytes text_bytes) texts rest after → (IsAscending texts → ⊥) → BeginsNone IsStateTexts text_set_bytes bytes
+pub text_set_other : (bytes rest after : List ℕ) (tag : ℕ) (texts : List (List ℕ)) → bytes ≡ tag ∷ rest → Begins (AreCounted IsWord) (counted_bytes text_bytes) texts rest after → (IsAscending texts → ⊥) → BeginsNone IsStateTexts text_set_bytes bytes
 unfolding text_set_bytes
 text_set_other bytes rest after tag texts is b bad = λ set s h e. texts_other texts rest after b bad set.1 s h (tails tag (bit set.0) rest _ (sym is ∙ e))
 
 pub text_set_found : (bytes rest after : List ℕ) (tag : ℕ) (all_but : Bool) (texts : List (List ℕ)) (set : Bool × List (List ℕ)) → bytes ≡ tag ∷ rest → bit all_but ≡ tag
-    → Begins (AreCounted IsShortText) (counted_bytes text_bytes) texts rest after → set ≡ (all_but, texts) → IsAscending set.1 → Begins IsStateTexts text_set_bytes set bytes after
+    → Begins (AreCounted IsWord) (counted_bytes text_bytes) texts rest after → set ≡ (all_but, texts) → IsAscending set.1 → Begins IsStateTexts text_set_bytes set bytes after
 unfolding text_set_bytes
 text_set_found bytes rest after tag all_but texts set is t b same h =
     let found : Begins IsStateTexts text_set_bytes (all_but, texts) bytes after = record {
@@ -148,12 +148,12 @@ unfolding labels_bytes
 labels_tag bytes rest tag is more None s h e = omega (arith, more, heads tag 0 rest _ (sym is ∙ e))
 labels_tag bytes rest tag is more (Some x) s h e = omega (arith, more, heads tag 1 rest _ (sym is ∙ e))
 
-pub labels_rest : (bytes rest : List ℕ) (tag : ℕ) → bytes ≡ tag ∷ rest → tag ≡ 1 → BeginsNone (AreCounted IsShortText) (counted_bytes text_bytes) rest → BeginsNone AreStateLabels labels_bytes bytes
+pub labels_rest : (bytes rest : List ℕ) (tag : ℕ) → bytes ≡ tag ∷ rest → tag ≡ 1 → BeginsNone (AreCounted IsWord) (counted_bytes text_bytes) rest → BeginsNone AreStateLabels labels_bytes bytes
 unfolding labels_bytes
 labels_rest bytes rest tag is one none None s h e = omega (arith, one, heads tag 0 rest _ (sym is ∙ e))
 labels_rest bytes rest tag is one none (Some x) s h e = texts_none rest none x s h (tails tag 1 rest _ (sym is ∙ e))
 
-pub labels_other : (bytes rest after : List ℕ) (tag : ℕ) (texts : List (List ℕ)) → bytes ≡ tag ∷ rest → tag ≡ 1 → Begins (AreCounted IsShortText) (counted_bytes text_bytes) texts rest after → (IsAscending texts → ⊥) → BeginsNone AreStateLabels labels_bytes bytes
+pub labels_other : (bytes rest after : List ℕ) (tag : ℕ) (texts : List (List ℕ)) → bytes ≡ tag ∷ rest → tag ≡ 1 → Begins (AreCounted IsWord) (counted_bytes text_bytes) texts rest after → (IsAscending texts → ⊥) → BeginsNone AreStateLabels labels_bytes bytes
 unfolding labels_bytes
 labels_other bytes rest after tag texts is one b bad None s h e = omega (arith, one, heads tag 0 rest _ (sym is ∙ e))
 labels_other bytes rest after tag texts is one b bad (Some x) s h e = texts_other texts rest after b bad x s h (tails tag 1 rest _ (sym is ∙ e))
@@ -164,7 +164,7 @@ labels_all bytes rest tag labels is none same =
     let found : Begins AreStateLabels labels_bytes None bytes rest = record { value = tt; parts = is ∙ ap (λ (k : ℕ). k ∷ rest) none } in
     subst (λ (x : Option (List (List ℕ))). Begins AreStateLabels labels_bytes x bytes rest) (sym same) found
 
-pub labels_found : (bytes rest after : List ℕ) (tag : ℕ) (texts : List (List ℕ)) (labels : Option (List (List ℕ))) → bytes ≡ tag ∷ rest → tag ≡ 1 → Begins (AreCounted IsShortText) (counted_bytes text_bytes) texts rest after → labels ≡ Some texts → IsAscending texts
+pub labels_found : (bytes rest after : List ℕ) (tag : ℕ) (texts : List (List ℕ)) (labels : Option (List (List ℕ))) → bytes ≡ tag ∷ rest → tag ≡ 1 → Begins (AreCounted IsWord) (counted_bytes text_bytes) texts rest after → labels ≡ Some texts → IsAscending texts
     → Begins AreStateLabels labels_bytes labels bytes after
 unfolding labels_bytes
 labels_found bytes rest after tag texts labels is one b same h =

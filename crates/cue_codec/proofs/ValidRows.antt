@@ -1,11 +1,12 @@
 -- The rows of valid tables are rows that their bytes tell.
-use Rattle.std.proofs.Common.{◌≡◌, ◌↔◌, ℕ, ◌^◌, ◌<◌, ◌≤◌, ℤ, Bool, true, false, not, ◌&&◌, ◌||◌, List, [], ◌∷◌, length, map, Option, Some, None, refl, sym, ap, subst, ◌∙◌, arith}
+use Rattle.std.proofs.Common.{◌≡◌, ◌↔◌, ℕ, ◌^◌, ◌<◌, ◌≤◌, ℤ, Bool, true, false, not, ◌&&◌, ◌||◌, List, [], ◌∷◌, ◌++◌, length, map, Option, Some, None, refl, sym, ap, subst, ◌∙◌, arith}
 use Rattle.std.specs.Int.{w64, to_be_bytes}
 use Rattle.std.specs.List.{flat_map, AllByRecursion}
 use Rattle.std.proofs.lemmas.Bool.{false≢true}
 use Rattle.std.proofs.lemmas.Int.{ints}
 use Rattle.std.proofs.lemmas.List.{length-append}
 use Rattle.std.proofs.lemmas.List.Concat.{flat_map-cons}
+use Rattle.cue_lattice.specs.Bools.{is_nil}
 use Rattle.cue_lattice.specs.Limits.{step_limit}
 use Rattle.cue_lattice.specs.Path.{Step, label, index, Path}
 use Rattle.cue_lattice.specs.declared.scalar.Scalar.{Scalar}
@@ -32,9 +33,10 @@ use Rattle.cue_table.proofs.Depth.{kept_at}
 use Rattle.cue_table.proofs.RowLists.{all_append, all_map, all_weaker, all_both, rows_stand}
 use Rattle.cue_table.proofs.Validity.{valid_sound, valid_empty}
 use Rattle.cue_codec.specs.Parts.{counted_bytes, piece_bytes, text_bytes, text_set_bytes, set_bytes, labels_bytes, lengths_bytes, path_bytes}
-use Rattle.cue_codec.specs.Reading.{IsShortText, AreWideLengths}
+use Rattle.cue_codec.specs.Reading.{IsWord, AreWideLengths}
 use Rattle.cue_codec.specs.StateRow.{AreStateTexts, IsStateSet, AreStateLabels, IsStateStep, IsStatePath}
-use Rattle.cue_codec.specs.RowBytes.{Parts, free, scalar, struct, list, nothing, scalars_bytes, left_out_bytes, parts_bytes, is_nil, is_empty_set, parts_by, parts_of, row_bytes, empty_set, full_set, row_of as made_row, IsStateParts, IsStateRow}
+use Rattle.cue_codec.specs.RowBytes.{Parts, free, scalar, struct, list, nothing, scalars_bytes, left_out_bytes, parts_bytes, is_empty_set, parts_by, parts_of, row_bytes, empty_set, full_set, row_of as made_row, IsStateParts, IsStateRow}
+use Rattle.cue_codec.specs.KindBytes.{kind_bytes, AreBytesOfKinds}
 use Rattle.cue_codec.proofs.Numbers.{length-piece_bytes, text_some}
 
 -- ---- sets without and with all members
@@ -117,12 +119,8 @@ few_texts texts = few_counted text_bytes text_some texts
 few_pieces : (all : List (ℤ × ℤ)) → length all ≤ length (counted_bytes piece_bytes all)
 few_pieces all = few_counted piece_bytes (λ p. omega (arith, length-piece_bytes p)) all
 
-short_words : (texts : List (List ℕ)) → AreWords texts → AllByRecursion IsShortText texts
-short_words [] h = tt
-short_words (text ∷ texts) h = (record { utf8 = h.0.utf8; short = let s = h.0.short in omega (arith, s) }, short_words texts h.1)
-
 state_texts : (texts : List (List ℕ)) → IsAscending texts → AreWords texts → length (counted_bytes text_bytes texts) < 2 ^ 64 → AreStateTexts texts
-state_texts texts ascending words fits = (ascending, (short_words texts words, omega (arith, few_texts texts, fits)))
+state_texts texts ascending words fits = (ascending, (words, omega (arith, few_texts texts, fits)))
 
 set_parts_fit : (set : ScalarSet) → length (set_bytes set) < 2 ^ 64 → (length (counted_bytes piece_bytes set.ints) < 2 ^ 64) × (length (counted_bytes text_bytes set.texts.1) < 2 ^ 64)
 unfolding set_bytes text_set_bytes
@@ -163,6 +161,35 @@ told_as row parts e h fits = subst (IsTold row) (sym e) (h (subst (λ p. length 
 
 parts_are : (row : Row) (s l b : Bool) → row.struct_ok ≡ s → row.list_ok ≡ l → is_empty_set row.value ≡ b → parts_of row ≡ parts_by s l b row
 parts_are row s l b es el eb = λ i. parts_by (es i) (el i) (eb i) row
+
+-- what a row of a kind says
+abbrev said : RowKind → Row → Parts
+said kinds.Free row = free
+said kinds.Scalar row = scalar row.value row.usual
+said kinds.Struct row = struct row.labels
+said kinds.List row = list (row.least, row.most)
+said kinds.Nothing row = nothing row.labels (row.least, row.most)
+
+kind_parts : (row : Row) (kind : RowKind) → IsRow row → IsKind row kind → parts_of row ≡ said kind row
+kind_parts row kinds.Free form is = parts_are row true true (is_empty_set row.value) is.1 is.2 refl
+kind_parts row kinds.Scalar form is = parts_are row false false false is.1 is.2 (some_by_test row.value is.0)
+kind_parts row kinds.Struct form is = parts_are row true false (is_empty_set row.value) is.1 is.2 refl
+kind_parts row kinds.List form is = parts_are row false true (is_empty_set row.value) is.1 is.2 refl
+kind_parts row kinds.Nothing form is = parts_are row false false true is.1 is.2 (ap is_empty_set (empty_is row.value form.value is.0))
+
+said_bytes : (kind : RowKind) (row : Row) → parts_bytes (said kind row) ≡ kind_bytes kind row
+unfolding parts_bytes scalars_bytes left_out_bytes
+said_bytes kinds.Free row = refl
+said_bytes kinds.Scalar row = refl
+said_bytes kinds.Struct row = refl
+said_bytes kinds.List row = refl
+said_bytes kinds.Nothing row = refl
+
+-- a row of a kind has the bytes of its kind
+pub bytes_of_kinds : AreBytesOfKinds
+unfolding row_bytes
+bytes_of_kinds path row kind form is =
+    ap (λ (b : List ℕ). path_bytes path ++ (level_of row.level ∷ b)) (ap (λ (p : Parts). parts_bytes p) (kind_parts row kind form is) ∙ said_bytes kind row)
 
 -- what is known of a valid row
 record Facts (row : Row) (kind : RowKind) : Type 0 where
@@ -237,7 +264,7 @@ below_limit least n (Some most) h lt = let a = h.0 in omega (arith, a, lt)
 
 state_step : (parent : Row) (step : Step) (row : Option Row) → IsValidRow parent → HasChild parent step row → IsStateStep step
 state_step parent step None valid h = absurd h
-state_step parent (label text) (Some row) valid h = record { utf8 = h.word.utf8; short = let s = h.word.short in omega (arith, s) }
+state_step parent (label text) (Some row) valid h = h.word
 state_step parent (index n) (Some row) valid h = below_limit parent.least n parent.most valid.limits h.element
 
 -- a valid row on a path that bytes tell

@@ -1,5 +1,6 @@
 -- Which bytes are refused, and why.
 use Rattle.std.specs.Prelude.{◌≡◌, ◌⊎◌, ℕ, List, ◌∷◌, ◌++◌, length}
+use Rattle.std.specs.Int.{w64, to_be_bytes}
 use Rattle.std.specs.List.{flat_map, AllByRecursion}
 use Rattle.cue_lattice.specs.declared.refusal.Kind.{Kind}
 use Rattle.cue_lattice.specs.declared.refusal.Kind.TheVariants as kinds
@@ -26,10 +27,15 @@ IsRejected bytes kind =
     ((kind ≡ kinds.Version) × IsOtherVersion bytes)
     ⊎ ((kind ≡ kinds.NotState) × ¬ IsOtherVersion bytes × IsNoState bytes)
 
--- memory ran out while the rows were read, and so not where the version is not known; or the bytes
--- are rejected
+-- the mark, the version that is known, a count in 8 bytes, and whatever follows
+abbrev pub BeginsAsState : List ℕ → Type 0
+BeginsAsState bytes =
+    (count : ℕ) × (rest : List ℕ) × (bytes ≡ mark ++ (1 ∷ (to_be_bytes w64 count ++ rest)))
+
+-- Memory ran out while the rows were read, and so only where the bytes begin as those of a state
+-- do; or the bytes are rejected.
 abbrev pub IsUndecoded : List ℕ → Kind → Type 0
-IsUndecoded bytes kind = ((kind ≡ kinds.Memory) × ¬ IsOtherVersion bytes) ⊎ IsRejected bytes kind
+IsUndecoded bytes kind = ((kind ≡ kinds.Memory) × BeginsAsState bytes) ⊎ IsRejected bytes kind
 
 -- the table has so many rows, and these bytes are theirs
 pub record AreReadRows (count : ℕ) (bytes : List ℕ) (tree : Tree Row) : Type 0 where

@@ -4,3 +4,4 @@ pub mod Reading
 pub mod RowBytes
 pub mod State
 pub mod StateRow
+pub mod KindBytes

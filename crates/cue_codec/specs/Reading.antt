@@ -3,9 +3,9 @@ use Rattle.std.specs.Prelude.{◌≡◌, ◌⊎◌, ℕ, ◌^◌, ◌<◌, ℤ, 
 use Rattle.std.specs.Prelude.{if◌then◌else◌, Option, Some, None}
 use Rattle.std.specs.Int.{Width, byte_len, from_be_bytes}
 use Rattle.std.specs.List.{AllByRecursion}
-use Rattle.std.specs.Str.{IsUtf8}
 use Rattle.cue_lattice.specs.Path.{Step, label, index}
 use Rattle.cue_lattice.specs.Scalar.{IsInteger}
+pub use Rattle.cue_lattice.specs.Word.{IsWord}
 use Rattle.cue_lattice.specs.declared.refusal.Kind.{Kind}
 use Rattle.cue_lattice.specs.declared.refusal.Kind.TheVariants as kinds
 
@@ -34,11 +34,6 @@ IsRefused kind reason = (kind ≡ kinds.Memory) ⊎ ((kind ≡ kinds.NotState) �
 -- texts and labels have at most 65,535 bytes
 abbrev pub IsShort : List ℕ → Type 0
 IsShort text = length text < 2 ^ 16
-
--- a text in UTF-8 of at most 65,535 bytes
-pub record IsShortText (text : List ℕ) : Type 0 where
-  pub utf8 : IsUtf8 text
-  pub short : IsShort text
 
 -- a piece of integers of 64 bits
 abbrev pub IsPiece : ℤ × ℤ → Type 0

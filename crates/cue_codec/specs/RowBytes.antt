@@ -2,6 +2,7 @@
 use Rattle.std.specs.Prelude.{◌≡◌, ℕ, ◌+◌, Bool, true, false, not, ◌&&◌, List, [], ◌∷◌, ◌++◌}
 use Rattle.std.specs.Prelude.{length, Option, None}
 use Rattle.std.specs.List.{flat_map, AllByRecursion}
+use Rattle.cue_lattice.specs.Bools.{is_nil}
 use Rattle.cue_lattice.specs.Path.{Path}
 use Rattle.cue_sets.specs.Pieces.{least, greatest}
 use Rattle.cue_scalars.specs.declared.scalar_set.ScalarSet.{ScalarSet}
@@ -36,10 +37,6 @@ parts_bytes (scalar value usual) = 1 ∷ scalars_bytes (value, usual)
 parts_bytes (struct labels) = 2 ∷ labels_bytes labels
 parts_bytes (list lengths) = 3 ∷ lengths_bytes lengths
 parts_bytes (nothing labels lengths) = 4 ∷ left_out_bytes (labels, lengths)
-
-abbrev pub is_nil : {X : Type 0} → List X → Bool
-is_nil [] = true
-is_nil (x ∷ xs) = false
 
 -- whether a set has no member
 abbrev pub is_empty_set : ScalarSet → Bool

@@ -7,13 +7,13 @@ use Rattle.cue_lattice.specs.Path.{Step, label, index, Path}
 use Rattle.cue_sets.specs.Pieces.{IsCanonical}
 use Rattle.cue_sets.specs.Texts.{IsAscending}
 use Rattle.cue_scalars.specs.declared.scalar_set.ScalarSet.{ScalarSet}
-use Rattle.cue_codec.specs.Reading.{IsShortText, AreCounted}
+use Rattle.cue_codec.specs.Reading.{IsWord, AreCounted}
 
 abbrev pub IsStateIntegers : List (ℤ × ℤ) → Type 0
 IsStateIntegers pieces = IsCanonical pieces × (length pieces < 2 ^ 64)
 
 abbrev pub AreStateTexts : List (List ℕ) → Type 0
-AreStateTexts texts = IsAscending texts × AreCounted IsShortText texts
+AreStateTexts texts = IsAscending texts × AreCounted IsWord texts
 
 abbrev pub IsStateTexts : Bool × List (List ℕ) → Type 0
 IsStateTexts set = AreStateTexts set.1
@@ -28,7 +28,7 @@ AreStateLabels (Some labels) = AreStateTexts labels
 
 -- a label in UTF-8, or an index of 32 bits
 abbrev pub IsStateStep : Step → Type 0
-IsStateStep (label text) = IsShortText text
+IsStateStep (label text) = IsWord text
 IsStateStep (index number) = number < 2 ^ 32
 
 abbrev pub IsStatePath : Path → Type 0

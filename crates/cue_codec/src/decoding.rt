@@ -85,8 +85,8 @@ fn rows_at(alloc: Global, count: u64, bytes: &[u8]) -> Result<Table<Row>, Kind>
 
 /// The valid table whose state bytes these are. They are refused as `Version` exactly where they
 /// begin with the mark and a version that is not known; else as `NotState` where no valid table has
-/// them, and as `Memory` where memory ran out. Room is made only for what was read, never for what
-/// a count claims.
+/// them, and as `Memory` where memory ran out, which it does only where mark, version and count
+/// stand. Room is made only for what was read, never for what a count claims.
 pub fn decode(alloc: Global, bytes: &[u8]) -> Result<Table<Row>, Kind>
     ensures valid { IfOk result IsValidTable }
     ensures bytes { IfOk result (λ table. table_bytes table ≡ bytes.now) }

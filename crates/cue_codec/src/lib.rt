@@ -19,4 +19,4 @@ pub use cue_row::Row;
 pub use cue_table::Table;
 pub use decoding::decode;
 pub use encoding::encode;
-pub use spelling::{one_row_spelling, one_state_spelling, one_table_spelling};
+pub use spelling::{bytes_of_kinds, one_row_spelling, one_state_spelling, one_table_spelling};

@@ -5,7 +5,7 @@ ghost use Rattle.std.specs.Prelude.{IfOk, IfErr};
 ghost use Rattle.std.specs.List.{flat_map};
 ghost use Rattle.cue_codec.specs.Parts.{counted_bytes, piece_bytes, text_bytes};
 ghost use Rattle.cue_codec.specs.Reading.{Begins, BeginsNone, IsRefused, AreSo, AreCounted};
-ghost use Rattle.cue_codec.specs.Reading.{IsPiece, IsShortText};
+ghost use Rattle.cue_codec.specs.Reading.{IsPiece, IsWord};
 
 use crate::reading::{piece_at, text_at, u64_at};
 use cue_lattice::{Kind, Text};
@@ -47,9 +47,9 @@ pub fn pieces_at(alloc: Global, bytes: &[u8]) -> Result<(Vec<(i64, i64)>, &[u8])
 
 /// A text.
 pub fn one_text(alloc: Global, bytes: &[u8]) -> Result<(Text, &[u8]), Kind>
-    ensures ok { IfOk result (λ x. Begins IsShortText text_bytes x.0 bytes.now x.1.now) }
+    ensures ok { IfOk result (λ x. Begins IsWord text_bytes x.0 bytes.now x.1.now) }
     ensures refused { IfErr result (λ kind. IsRefused kind
-        (BeginsNone IsShortText text_bytes bytes.now)) }
+        (BeginsNone IsWord text_bytes bytes.now)) }
 {
     let Some((text, rest)) = text_at(bytes) else {
         return Err(Kind::NotState);
@@ -62,10 +62,10 @@ pub fn one_text(alloc: Global, bytes: &[u8]) -> Result<(Text, &[u8]), Kind>
 
 /// So many texts.
 fn each_text(alloc: Global, count: u64, bytes: &[u8]) -> Result<(Vec<Text>, &[u8]), Kind>
-    ensures ok { IfOk result (λ x. Begins (AreSo IsShortText count)
+    ensures ok { IfOk result (λ x. Begins (AreSo IsWord count)
         (flat_map text_bytes) x.0.items bytes.now x.1.now) }
     ensures refused { IfErr result (λ kind. IsRefused kind
-        (BeginsNone (AreSo IsShortText count) (flat_map text_bytes) bytes.now)) }
+        (BeginsNone (AreSo IsWord count) (flat_map text_bytes) bytes.now)) }
 {
     let mut texts = Vec::new(alloc);
     let mut rest = bytes;
@@ -81,10 +81,10 @@ fn each_text(alloc: Global, count: u64, bytes: &[u8]) -> Result<(Vec<Text>, &[u8
 
 /// Texts, in whatever order they stand.
 pub fn texts_at(alloc: Global, bytes: &[u8]) -> Result<(Vec<Text>, &[u8]), Kind>
-    ensures ok { IfOk result (λ x. Begins (AreCounted IsShortText)
+    ensures ok { IfOk result (λ x. Begins (AreCounted IsWord)
         (counted_bytes text_bytes) x.0.items bytes.now x.1.now) }
     ensures refused { IfErr result (λ kind. IsRefused kind
-        (BeginsNone (AreCounted IsShortText) (counted_bytes text_bytes) bytes.now)) }
+        (BeginsNone (AreCounted IsWord) (counted_bytes text_bytes) bytes.now)) }
 {
     let Some((count, rest)) = u64_at(bytes) else {
         return Err(Kind::NotState);

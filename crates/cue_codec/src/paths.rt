@@ -9,12 +9,9 @@ ghost use Rattle.cue_codec.specs.StateRow.{IsStateStep, IsStatePath};
 
 use crate::lists::one_text;
 use crate::reading::u32_at;
-use cue_lattice::Kind;
+use cue_lattice::{Kind, STEP_LIMIT};
 use cue_row::{Path, Step};
 use std::alloc::Global;
-
-/// How many steps a path has at most.
-const MOST_STEPS: u8 = 64;
 
 /// A label or an index.
 fn step_at(alloc: Global, bytes: &[u8]) -> Result<(Step, &[u8]), Kind>
@@ -68,7 +65,8 @@ pub fn path_at(alloc: Global, bytes: &[u8]) -> Result<(Path, &[u8]), Kind>
     let Some((count, rest)) = bytes.split_first() else {
         return Err(Kind::NotState);
     };
-    if *count > MOST_STEPS {
+    let asked = *count as usize;
+    if asked > STEP_LIMIT {
         return Err(Kind::NotState);
     }
     let (steps, rest) = each_step(alloc, *count, rest)?;

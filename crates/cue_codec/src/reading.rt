@@ -6,7 +6,7 @@ ghost use Rattle.std.specs.Option.{option_map};
 ghost use Rattle.cue_lattice.specs.Scalar.{IsInteger};
 ghost use Rattle.cue_codec.specs.Parts.{integer_bytes, piece_bytes, text_bytes, flags, most_bytes};
 ghost use Rattle.cue_codec.specs.Parts.{lengths_bytes};
-ghost use Rattle.cue_codec.specs.Reading.{Begins, BeginsNone, IsPiece, IsShortText, AreWideLengths};
+ghost use Rattle.cue_codec.specs.Reading.{Begins, BeginsNone, IsPiece, IsWord, AreWideLengths};
 ghost use Rattle.cue_codec.specs.Reading.{IsMost, number_at};
 
 #[tactic(auto, unfolding(crate::specs::Reading::number_at))]
@@ -64,8 +64,8 @@ fn front_at(len: usize, bytes: &[u8]) -> Option<(&[u8], &[u8])>
 
 /// A text after its length.
 pub fn text_at(bytes: &[u8]) -> Option<(&str, &[u8])>
-    ensures some { IfSome result (λ x. Begins IsShortText text_bytes x.0.now bytes.now x.1.now) }
-    ensures none { IfNone result (BeginsNone IsShortText text_bytes bytes.now) }
+    ensures some { IfSome result (λ x. Begins IsWord text_bytes x.0.now bytes.now x.1.now) }
+    ensures none { IfNone result (BeginsNone IsWord text_bytes bytes.now) }
 {
     let (len, rest) = u16_at(bytes)?;
     let (text, rest) = front_at(len as usize, rest)?;

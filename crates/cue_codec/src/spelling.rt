@@ -3,11 +3,18 @@
 ghost use Rattle.std.specs.Prelude.{◌≡◌, ◌<◌, ◌^◌, ℕ, List, ◌++◌, length};
 ghost use Rattle.cue_lattice.specs.Path.{Path};
 ghost use Rattle.cue_row.specs.declared.row.Row.{Row};
+ghost use Rattle.cue_codec.specs.KindBytes.{AreBytesOfKinds};
 ghost use Rattle.cue_codec.specs.Reading.{AreCounted};
 ghost use Rattle.cue_codec.specs.RowBytes.{row_bytes, IsStateRow};
 ghost use Rattle.cue_codec.specs.State.{state_bytes, table_bytes};
 ghost use Rattle.cue_table.specs.Tree.{Tree};
 ghost use Rattle.cue_table.specs.Valid.{IsValidTable};
+
+/// A row of a kind is written as its path, its level, the number of its kind, and what the kind
+/// leaves open. It computes nothing: it states a law.
+pub fn bytes_of_kinds()
+    ensures { AreBytesOfKinds }
+{}
 
 /// The bytes of a row in front tell the row and what stands after it. It computes nothing: it
 /// states a law.

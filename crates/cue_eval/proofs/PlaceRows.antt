@@ -5,10 +5,9 @@ use Rattle.std.proofs.lemmas.Bool.{cases_lt}
 use Rattle.std.proofs.lemmas.Int.{ints}
 use Rattle.cue_lattice.specs.Question as questions
 use Rattle.cue_lattice.specs.Question.{Question, may_be, usual, allows, level_at_most, length_at_most, length_at_least}
-use Rattle.cue_lattice.specs.Scalar.{IsScalar, IsInteger}
+use Rattle.cue_lattice.specs.Scalar.{IsScalar}
 use Rattle.cue_lattice.specs.declared.scalar.Scalar.{Scalar}
 use Rattle.cue_lattice.specs.declared.scalar.Scalar.TheVariants as scalars
-use Rattle.cue_sets.specs.Pieces.{IsInt64, least, greatest}
 use Rattle.cue_scalars.specs.Scalars.{members, RefusesScalar}
 use Rattle.cue_scalars.specs.declared.scalar_set.ScalarSet.{ScalarSet}
 use Rattle.cue_row.specs.LabelSets.{RefusesLabel}
@@ -22,20 +21,12 @@ use Rattle.cue_syntax.specs.declared.tree.Mark.{Mark}
 use Rattle.cue_eval.specs.Places.{StructRefuses, ListRefuses, MarkRefuses, level_of_mark, IsAboveLength}
 use Rattle.cue_eval.specs.Gathered.{LabelsRefuse}
 
-integer_from : (n : ℤ) → IsInt64 n → IsInteger n
-integer_from (pos n) h = let a = h.1 in omega (arith, ints)
-integer_from (negsuc n) h = let a = h.0 in omega (arith, ints)
-
-int64_from : (n : ℤ) → IsInteger n → IsInt64 n
-int64_from (pos n) h = (omega (arith, ints), omega (arith, ints))
-int64_from (negsuc n) h = (omega (arith, ints), omega (arith, ints))
-
 -- a set without members refuses the scalars of the language
 empty_refuses : (set : ScalarSet) (x : Scalar) → members set x ≡ false → RefusesScalar set x ↔ IsScalar x
 empty_refuses set scalars.Null e = (λ h. tt, λ h. e)
 empty_refuses set (scalars.Bool false) e = (λ h. tt, λ h. e)
 empty_refuses set (scalars.Bool true) e = (λ h. tt, λ h. e)
-empty_refuses set (scalars.Int n) e = (λ h. integer_from n h.0, λ h. (int64_from n h, e))
+empty_refuses set (scalars.Int n) e = (λ h. h.0, λ h. (h, e))
 empty_refuses set (scalars.Text t) e = (λ h. tt, λ h. e)
 
 -- the row of a struct with these labels

@@ -9,7 +9,7 @@ use Rattle.cue_lattice.specs.Question.{Question, may_be, usual, allows, length_a
 use Rattle.cue_lattice.specs.Scalar.{IsInteger, IsScalar}
 use Rattle.cue_lattice.specs.declared.scalar.Scalar.{Scalar}
 use Rattle.cue_lattice.specs.declared.scalar.Scalar.TheVariants as scalars
-use Rattle.cue_sets.specs.Pieces.{least, greatest, IsInt64}
+use Rattle.cue_sets.specs.Pieces.{least, greatest}
 use Rattle.cue_sets.specs.PieceLaws.{is_member-below, is_member-above}
 use Rattle.cue_scalars.specs.Scalars.{members, IsScalarSet, RefusesScalar}
 use Rattle.cue_scalars.specs.declared.scalar_set.ScalarSet.{ScalarSet}
@@ -41,28 +41,20 @@ clash : (b : Bool) → b ≡ true → b ≡ false → ⊥
 clash b p q = false≢true (sym q ∙ p)
 
 -- ---- scalars that a set refuses are those that it lacks
-integer_from : (n : ℤ) → least ≤ℤ n → n ≤ℤ greatest → IsInteger n
-integer_from (pos n) a b = omega (arith, ints)
-integer_from (negsuc n) a b = omega (arith, ints)
-
-int64_from : (n : ℤ) → IsInteger n → IsInt64 n
-int64_from (pos n) h = (omega (arith, ints), omega (arith, ints))
-int64_from (negsuc n) h = (omega (arith, ints), omega (arith, ints))
-
 lacks_refused : (set : ScalarSet) → IsScalarSet set → (x : Scalar) → (IsScalar x → RefusesScalar set x) → members set x ≡ false
 lacks_refused set form scalars.Null h = h tt
 lacks_refused set form (scalars.Bool false) h = h tt
 lacks_refused set form (scalars.Bool true) h = h tt
 lacks_refused set form (scalars.Int n) h =
     by_lt_z n least (λ low. is_member-below least set.ints n form.ints low)
-    (λ from. by_lt_z greatest n (λ high. is_member-above least set.ints n form.ints high) (λ to. (h (integer_from n from to)).1))
+    (λ from. by_lt_z greatest n (λ high. is_member-above least set.ints n form.ints high) (λ to. (h (from, to)).1))
 lacks_refused set form (scalars.Text t) h = h tt
 
 refuses_lacked : (set : ScalarSet) (x : Scalar) → IsScalar x → members set x ≡ false → RefusesScalar set x
 refuses_lacked set scalars.Null s e = e
 refuses_lacked set (scalars.Bool false) s e = e
 refuses_lacked set (scalars.Bool true) s e = e
-refuses_lacked set (scalars.Int n) s e = (int64_from n s, e)
+refuses_lacked set (scalars.Int n) s e = (s, e)
 refuses_lacked set (scalars.Text t) s e = e
 
 -- a row that says what an expression refuses at a path

@@ -1,3 +1,4 @@
+pub mod Bools
 pub mod OneOf
 pub mod Narrowed
 pub mod Limits

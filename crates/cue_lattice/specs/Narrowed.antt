@@ -12,6 +12,6 @@ IsNarrowedBy {N} {Q} refuses self other (To met) =
     (question : Q) → refuses met question ↔ (refuses self question ⊎ refuses other question)
 
 -- the value after it took the other one over
-abbrev pub after : {N : Type 0} → N → Narrowed N → N
-after before Unchanged = before
-after before (To met) = met
+abbrev pub value_after : {N : Type 0} → N → Narrowed N → N
+value_after before Unchanged = before
+value_after before (To met) = met

@@ -1,6 +1,6 @@
 -- What a place of a configuration can be asked, and who refuses what. A level is 0 for an optional
 -- field, 1 for a required one, 2 for a field that is there; a length is that of a list.
-use Rattle.std.specs.Prelude.{◌≡◌, ◌↔◌, ℕ, List}
+use Rattle.std.specs.Prelude.{◌↔◌, ℕ, List}
 use Rattle.cue_lattice.specs.declared.scalar.Scalar.{Scalar}
 use Rattle.cue_lattice.specs.Path.{Path}
 use Rattle.cue_lattice.specs.OneOf.{OneOf}
@@ -23,18 +23,14 @@ Refusals = Path → Question → Type 0
 abbrev pub Open : Refusals
 Open path question = ⊥
 
--- A table has rows at paths. It refuses what its rows refuse; a path without a row refuses nothing.
-abbrev pub RowsRefuse : {R : Type 0} → (R → Question → Type 0) → List (Path × R) → Refusals
-RowsRefuse refuses rows path question = OneOf (λ row. (row.0 ≡ path) × refuses row.1 question) rows
-
 -- Unification: a set refuses what one of its members refuses. The empty set refuses nothing.
 abbrev pub OneRefuses : {X : Type 0} → (X → Refusals) → List X → Refusals
 OneRefuses refuses members path question = OneOf (λ member. refuses member path question) members
 
--- the same answers everywhere
-abbrev pub SameAnswers : Refusals → Refusals → Type 0
-SameAnswers a b = (path : Path) (question : Question) → a path question ↔ b path question
+-- the same answers everywhere, whatever can be asked
+abbrev pub SameAnswers : {Q : Type 0} → (Path → Q → Type 0) → (Path → Q → Type 0) → Type 0
+SameAnswers {Q} a b = (path : Path) (question : Q) → a path question ↔ b path question
 
 -- a refuses whatever b refuses
-abbrev pub IsAsNarrowAs : Refusals → Refusals → Type 0
-IsAsNarrowAs a b = (path : Path) (question : Question) → b path question → a path question
+abbrev pub IsAsNarrowAs : {Q : Type 0} → (Path → Q → Type 0) → (Path → Q → Type 0) → Type 0
+IsAsNarrowAs {Q} a b = (path : Path) (question : Q) → b path question → a path question

@@ -16,11 +16,11 @@ pub enum Narrowed<N> {
 }
 
 impl<N: Narrow> Narrowed<N> {
-    ghost use Rattle.cue_lattice.specs.Narrowed.{after};
+    ghost use Rattle.cue_lattice.specs.Narrowed.{value_after};
 
     /// The value after it took the other one over. It is copied where it stays as it is.
     pub fn or_copy(self, alloc: Global, before: &N) -> Result<N, Memory>
-        ensures { IfOk result (λ value. value ≡ after before.now self) }
+        ensures { IfOk result (λ value. value ≡ value_after before.now self) }
     {
         match self {
             Narrowed::Unchanged => before.copy(alloc),

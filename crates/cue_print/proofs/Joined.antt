@@ -1,12 +1,9 @@
 -- Texts that are put together with separators.
 use Rattle.std.proofs.Common.{◌≡◌, ℕ, zero, suc, ◌+◌, ◌<◌, Bool, true, false, List, [], ◌∷◌, ◌++◌, length, get_or, take, map, nat_eq, refl, sym, ap, ◌∙◌, arith}
 use Rattle.std.proofs.lemmas.List.{append_assoc, append-nil, flat_map_more, take_more, map_push}
+use Rattle.cue_lattice.specs.Bools.{is_nil}
 use Rattle.cue_print.specs.Spelled.{joined}
 use Rattle.cue_print.specs.Writing.{lead}
-
-abbrev pub is_nil : {X : Type 0} → List X → Bool
-is_nil [] = true
-is_nil (x ∷ xs) = false
 
 -- one text more
 pub joined_more : (sep : List ℕ) (xs : List (List ℕ)) (x : List ℕ) → joined sep (xs ++ x ∷ []) ≡ joined sep xs ++ (lead sep (is_nil xs) ++ x)

@@ -2,11 +2,12 @@
 use Rattle.std.proofs.Common.{◌≡◌, ℕ, zero, suc, ◌+◌, false, List, [], ◌∷◌, ◌++◌, nat_eq, refl, sym, ap, ◌∙◌, arith}
 use Rattle.std.specs.Prelude.{codes}
 use Rattle.std.proofs.lemmas.List.{append-nil}
+use Rattle.cue_lattice.specs.Bools.{is_nil}
 use Rattle.cue_print.specs.Expressions.{Value, top}
 use Rattle.cue_print.specs.Printed.{elements_from, elements}
 use Rattle.cue_print.specs.Spelled.{joined, value_text, element_texts}
 use Rattle.cue_print.specs.Writing.{lead}
-use Rattle.cue_print.proofs.Joined.{is_nil, next_text}
+use Rattle.cue_print.proofs.Joined.{next_text}
 
 more_from : (first count : ℕ) (value_at : ℕ → Value) → element_texts (elements_from first (suc count) value_at) ≡ element_texts (elements_from first count value_at) ++ value_text (value_at (first + count)) ∷ []
 unfolding element_texts

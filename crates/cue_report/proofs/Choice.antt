@@ -15,7 +15,6 @@ use Rattle.cue_row.specs.Kinds.{IsEmptySet}
 use Rattle.cue_row.specs.Row.{IsRow}
 use Rattle.cue_row.specs.declared.row.Row.{Row}
 use Rattle.cue_report.specs.Gaps.{IsOnly, IsChosen}
-use Rattle.cue_report.proofs.Empty.{integer_from, int64_from}
 use Rattle.cue_report.proofs.Rows.{RefusedAt}
 
 -- a scalar that the set does not refuse
@@ -28,8 +27,8 @@ by_lt a b h = by_lt_z a b (λ l. absurd (h l)) (λ g. g)
 -- a member is an integer of 64 bits
 member_integer : (pieces : List (ℤ × ℤ)) (n : ℤ) → IsCanonical pieces → is_member pieces n ≡ true → IsInteger n
 member_integer pieces n a h =
-    integer_from n (by_lt n least (λ l. false≢true (sym (is_member-below least pieces n a l) ∙ h)))
-    (by_lt greatest n (λ l. false≢true (sym (is_member-above least pieces n a l) ∙ h)))
+    (by_lt n least (λ l. false≢true (sym (is_member-below least pieces n a l) ∙ h)),
+    by_lt greatest n (λ l. false≢true (sym (is_member-above least pieces n a l) ∙ h)))
 
 not_false : (b : Bool) → (b ≡ false → ⊥) → b ≡ true
 not_false true h = refl
@@ -43,7 +42,7 @@ pub member_is : (set : ScalarSet) (scalar : Scalar) → IsScalarSet set → memb
 member_is set scalars.Null f = (λ h. (tt, clash _ h), λ h. not_false _ h.1)
 member_is set (scalars.Bool false) f = (λ h. (tt, clash _ h), λ h. not_false _ h.1)
 member_is set (scalars.Bool true) f = (λ h. (tt, clash _ h), λ h. not_false _ h.1)
-member_is set (scalars.Int n) f = (λ h. (member_integer set.ints n f.ints h, λ r. clash _ h r.1), λ h. not_false _ (λ e. h.1 (int64_from n h.0, e)))
+member_is set (scalars.Int n) f = (λ h. (member_integer set.ints n f.ints h, λ r. clash _ h r.1), λ h. not_false _ (λ e. h.1 (h.0, e)))
 member_is set (scalars.Text t) f = (λ h. (tt, clash _ h), λ h. not_false _ h.1)
 
 only_is : (set : ScalarSet) (scalar : Scalar) → IsScalarSet set → IsOnlyScalar set scalar ↔ IsOnly (IsLeft set) scalar

@@ -3,10 +3,11 @@ use Rattle.std.proofs.Common.{◌≡◌, ℕ, Bool, true, false, not, ◌+◌, �
 use Rattle.std.specs.Bool.{IsTrue}
 use Rattle.std.proofs.lemmas.Bool.{false≢true}
 use Rattle.std.proofs.lemmas.Int.{ints}
+use Rattle.cue_lattice.specs.Bools.{is_nil}
 use Rattle.cue_lattice.specs.declared.scalar.Scalar.{Scalar}
 use Rattle.cue_lattice.specs.declared.scalar.Scalar.TheVariants as scalars
 use Rattle.cue_lattice.specs.Scalar.{IsInteger, IsScalar}
-use Rattle.cue_sets.specs.Pieces.{least, greatest, is_member, IsInt64, IsCanonical}
+use Rattle.cue_sets.specs.Pieces.{least, greatest, is_member, IsCanonical}
 use Rattle.cue_sets.specs.PieceLaws.{first_is_least}
 use Rattle.cue_sets.specs.Texts.{is_text_member}
 use Rattle.cue_sets.specs.TextLaws.{first_is_listed, is_listed-zeros, greatest_length, zeros}
@@ -14,22 +15,14 @@ use Rattle.cue_scalars.specs.Scalars.{IsScalarSet, RefusesScalar}
 use Rattle.cue_scalars.specs.declared.scalar_set.ScalarSet.{ScalarSet}
 use Rattle.cue_row.specs.Kinds.{IsEmptySet}
 use Rattle.cue_row.specs.declared.row.Row.{Row}
-use Rattle.cue_report.specs.Search.{is_nil, is_empty_set, lacks_value}
-
-pub integer_from : (n : ℤ) → least ≤ℤ n → n ≤ℤ greatest → IsInteger n
-integer_from (pos n) a b = omega (arith, ints)
-integer_from (negsuc n) a b = omega (arith, ints)
-
-pub int64_from : (n : ℤ) → IsInteger n → IsInt64 n
-int64_from (pos n) h = (omega (arith, ints), omega (arith, ints))
-int64_from (negsuc n) h = (omega (arith, ints), omega (arith, ints))
+use Rattle.cue_report.specs.Search.{is_empty_set, lacks_value}
 
 no_piece : (pieces : List (ℤ × ℤ)) → IsCanonical pieces → ((n : ℤ) → IsInteger n → is_member pieces n ≡ false) → pieces ≡ []
 no_piece [] a h = refl
 no_piece (piece ∷ pieces) a h =
     let first = first_is_least least (piece ∷ pieces) piece a (omega arith) in
     let high : piece.0 ≤ℤ greatest = omega (arith, ints, a.1, a.2) in
-    absurd (false≢true (sym (h piece.0 (integer_from piece.0 a.0 high)) ∙ first.member))
+    absurd (false≢true (sym (h piece.0 (a.0, high)) ∙ first.member))
 
 no_text : (texts : Bool × List (List ℕ)) → ((t : List ℕ) → is_text_member texts t ≡ false) → texts ≡ (false, [])
 no_text (false, []) h = refl
@@ -81,7 +74,7 @@ refused : (set : ScalarSet) → IsEmptySet set → (scalar : Scalar) → IsScala
 refused set h scalars.Null s = h scalars.Null
 refused set h (scalars.Bool false) s = h (scalars.Bool false)
 refused set h (scalars.Bool true) s = h (scalars.Bool true)
-refused set h (scalars.Int n) s = (int64_from n s, h (scalars.Int n))
+refused set h (scalars.Int n) s = (s, h (scalars.Int n))
 refused set h (scalars.Text t) s = h (scalars.Text t)
 
 -- so it refuses all scalars

@@ -1,6 +1,7 @@
 -- How the lists of a report are found, place by place.
 use Rattle.std.specs.Prelude.{ℕ, Bool, true, false, not, ◌&&◌, ◌||◌, List, [], ◌∷◌, ◌++◌, map}
 use Rattle.std.specs.Prelude.{nat_lt, Option, None, Some}
+use Rattle.cue_lattice.specs.Bools.{is_nil}
 use Rattle.cue_lattice.specs.Path as paths
 use Rattle.cue_lattice.specs.Path.{label, index, Path}
 use Rattle.cue_scalars.specs.declared.scalar_set.ScalarSet.{ScalarSet}
@@ -10,10 +11,6 @@ use Rattle.cue_row.specs.declared.level.Level.TheVariants.{Optional, Required, G
 use Rattle.cue_row.specs.declared.row.Row.{Row}
 use Rattle.cue_table.specs.Tree.{Tree, node, Children, none, child, row_of}
 use Rattle.cue_report.specs.declared.conflict.Conflict.{Conflict}
-
-abbrev pub is_nil : {X : Type 0} → List X → Bool
-is_nil [] = true
-is_nil (x ∷ xs) = false
 
 -- whether no scalar is in the set
 abbrev pub is_empty_set : ScalarSet → Bool

@@ -6,7 +6,8 @@ use Rattle.std.proofs.lemmas.Slice.Eq.{bytes_eq-Decides}
 use Rattle.std.specs.Str.{bytes_eq}
 use Rattle.cue_lattice.specs.declared.scalar.Scalar.{Scalar}
 use Rattle.cue_lattice.specs.declared.scalar.Scalar.TheVariants as scalars
-use Rattle.cue_sets.specs.Pieces.{is_member, least, greatest, IsCanonical, IsInt64, Refuses}
+use Rattle.cue_lattice.specs.Scalar.{IsInteger}
+use Rattle.cue_sets.specs.Pieces.{is_member, least, greatest, IsCanonical, Refuses}
 use Rattle.cue_sets.specs.PieceLaws.{is_member-below, is_member-above, some_member}
 use Rattle.cue_sets.specs.Texts.{is_listed, RefusesText}
 use Rattle.cue_sets.specs.TextLaws.{first_is_listed, some_text, greatest_length, zeros, is_listed-zeros}
@@ -47,7 +48,7 @@ int_met a b m n p r h =
     (λ low. is_member-below least m n r low ∙ sym (ap (λ c. c && is_member b n) (is_member-below least a n p low)))
     (λ from. by_lt_z greatest n
     (λ high. is_member-above least m n r high ∙ sym (ap (λ c. c && is_member b n) (is_member-above least a n p high)))
-    (λ to. let inside : IsInt64 n = (from, to) in
+    (λ to. let inside : IsInteger n = (from, to) in
     bool_met (is_member m n) (is_member a n) (is_member b n) (
       λ e. ⊎_elim (λ x. inl x.1) (λ x. inr x.1) (h.0 (inside, e)),
       λ e. (h.1 (⊎_elim (λ x. inl (inside, x)) (λ x. inr (inside, x)) e)).1,

@@ -2,15 +2,11 @@
 use Rattle.std.proofs.Common.{◌≡◌, ◌↔◌, ◌⊎◌, inl, inr, ⊎_elim, ℕ, ◌+◌, Bool, true, false, not, List}
 use Rattle.std.proofs.Common.{[], ◌∷◌, Option, Some, None, refl, sym, ap, ◌∙◌, arith}
 use Rattle.std.proofs.lemmas.Bool.{false≢true}
+use Rattle.cue_lattice.specs.Bools.{bool_same}
 use Rattle.cue_sets.specs.Texts.{is_listed, is_text_member, IsTextSet, RefusesText}
 use Rattle.cue_sets.specs.TextLaws.{same_from_listed, same_texts, greatest_length, zeros}
 use Rattle.cue_sets.specs.TextLaws.{is_listed-zeros}
 use Rattle.cue_row.specs.LabelSets.{allows_label, RefusesLabel, AreLabels, labels_of, IsLabelSet}
-
-bool_same : (a b : Bool) → (a ≡ false → b ≡ false) → (b ≡ false → a ≡ false) → a ≡ b
-bool_same false b h k = sym (h refl)
-bool_same true true h k = refl
-bool_same true false h k = k refl
 
 -- a text that is longer than all that are listed
 longer : List (List ℕ) → List ℕ

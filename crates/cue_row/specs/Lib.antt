@@ -8,6 +8,7 @@ pub mod Questions
 pub mod Lengths
 pub mod Forms
 pub mod Row
+pub mod Made
 pub mod RowLaws
 pub mod Kinds
 pub mod Chosen

@@ -1,6 +1,7 @@
 -- Laws of rows.
 use Rattle.std.proofs.Common.{◌≡◌, ◌↔◌, ℕ, ◌+◌, ◌<◌, Bool, true, false, Option, Some, None, refl}
 use Rattle.std.proofs.Common.{sym, ap, arith}
+use Rattle.cue_lattice.specs.Bools.{bool_same}
 use Rattle.cue_scalars.specs.ScalarLaws.{same_scalars}
 use Rattle.cue_row.specs.declared.level.Level.{Level}
 use Rattle.cue_row.specs.declared.level.Level.TheVariants.{Optional, Required, Given}
@@ -11,11 +12,6 @@ use Rattle.cue_row.specs.Levels.{level_of}
 use Rattle.cue_row.specs.LabelLaws.{same_labels}
 use Rattle.cue_row.specs.Lengths.{RefusesLength}
 use Rattle.cue_row.specs.Row.{Refuses, IsRow}
-
-bool_same : (a b : Bool) → (a ≡ false → b ≡ false) → (b ≡ false → a ≡ false) → a ≡ b
-bool_same false b h k = sym (h refl)
-bool_same true true h k = refl
-bool_same true false h k = k refl
 
 -- bounds that refuse the same numbers below them are equal
 same_bound : (m n : ℕ) → ((k : ℕ) → k < m ↔ k < n) → m ≡ n

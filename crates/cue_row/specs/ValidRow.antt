@@ -1,9 +1,9 @@
 -- The rows that may stand in a valid table, as far as a row alone decides: what it says of its
 -- parent and of what stands below it is the table's.
-use Rattle.std.specs.Prelude.{◌≡◌, ◌≤◌, ℕ, List, Option, Some, None, length}
+use Rattle.std.specs.Prelude.{◌≡◌, ◌≤◌, ℕ, List, Option, Some, None}
 use Rattle.std.specs.List.{AllByRecursion}
-use Rattle.std.specs.Str.{IsUtf8}
-use Rattle.cue_lattice.specs.Limits.{length_limit, word_limit}
+use Rattle.cue_lattice.specs.Limits.{length_limit}
+pub use Rattle.cue_lattice.specs.Word.{IsWord}
 use Rattle.cue_lattice.specs.Path.{Step, label, index}
 use Rattle.cue_scalars.specs.Scalars.{IsWithin}
 use Rattle.cue_row.specs.declared.row.Row.{Row}
@@ -43,15 +43,10 @@ abbrev pub AreLengths : ℕ → Option ℕ → Type 0
 AreLengths least None = least ≤ length_limit
 AreLengths least (Some most) = (least ≤ length_limit) × (most ≤ least)
 
--- a text in UTF-8 that is not too long
-pub record IsWord (text : List ℕ) : Type 0 where
-  pub utf8 : IsUtf8 text
-  pub short : length text ≤ word_limit
-
 abbrev pub AreWords : List (List ℕ) → Type 0
 AreWords = AllByRecursion IsWord
 
--- a label is such a text
+-- a label is a word
 abbrev pub IsWordStep : Step → Type 0
 IsWordStep (label text) = IsWord text
 IsWordStep (index number) = Unit {0}

@@ -4,6 +4,7 @@
 mod kind;
 mod labels;
 mod level;
+mod made;
 mod path;
 mod question;
 mod quoted;

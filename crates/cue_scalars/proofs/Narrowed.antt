@@ -3,7 +3,7 @@ use Rattle.std.proofs.Common.{◌≡◌, ◌↔◌, ◌⊎◌, inl, ⊎_elim, Bo
 use Rattle.std.proofs.lemmas.Bool.{false≢true}
 use Rattle.cue_lattice.specs.declared.narrow.Narrowed.{Narrowed}
 use Rattle.cue_lattice.specs.declared.narrow.Narrowed.TheVariants.{Unchanged, To}
-use Rattle.cue_lattice.specs.Narrowed.{IsNarrowedBy, after}
+use Rattle.cue_lattice.specs.Narrowed.{IsNarrowedBy, value_after}
 use Rattle.cue_lattice.specs.declared.scalar.Scalar.{Scalar}
 use Rattle.cue_lattice.specs.declared.scalar.Scalar.TheVariants as scalars
 use Rattle.cue_sets.specs.Pieces.{Refuses}
@@ -14,7 +14,7 @@ use Rattle.cue_scalars.specs.Scalars.{RefusesScalar}
 -- a value that took another over refuses exactly what one of the two refused
 pub after-refuses :
     {N Q : Type 0} (refuses : N → Q → Type 0) (self other : N) (narrowed : Narrowed N) → IsNarrowedBy refuses self other narrowed
-    → (question : Q) → refuses (after self narrowed) question ↔ (refuses self question ⊎ refuses other question)
+    → (question : Q) → refuses (value_after self narrowed) question ↔ (refuses self question ⊎ refuses other question)
 after-refuses refuses self other Unchanged kept question = (λ r. inl r, ⊎_elim (λ r. r) (kept question))
 after-refuses refuses self other (To met) both question = both question
 

@@ -1,16 +1,12 @@
 -- Laws of sets of scalars.
 use Rattle.std.proofs.Common.{◌≡◌, Bool, true, false, ◌↔◌, refl, sym}
+use Rattle.cue_lattice.specs.Bools.{bool_same}
 use Rattle.cue_lattice.specs.declared.scalar.Scalar.{Scalar}
 use Rattle.cue_lattice.specs.declared.scalar.Scalar.TheVariants as scalars
 use Rattle.cue_sets.specs.PieceLaws.{same_pieces}
 use Rattle.cue_sets.specs.TextLaws.{same_texts}
 use Rattle.cue_scalars.specs.Scalars.{IsScalarSet, RefusesScalar}
 use Rattle.cue_scalars.specs.declared.scalar_set.ScalarSet.{ScalarSet}
-
-bool_same : (a b : Bool) → (a ≡ false → b ≡ false) → (b ≡ false → a ≡ false) → a ≡ b
-bool_same false b h k = sym (h refl)
-bool_same true true h k = refl
-bool_same true false h k = k refl
 
 -- sets that refuse the same scalars are equal
 pub same_scalars : (a b : ScalarSet) → IsScalarSet a → IsScalarSet b

@@ -48,7 +48,9 @@ impl Valued {
 
     /// An equal value with an equal default.
     pub fn copy(&self, alloc: Global) -> Result<Valued, Memory>
-        ensures { IfOk result (λ copied. pair_of copied ≡ pair_of self.now) }
+        ensures value { IfOk result (λ copied. copied.value ≡ self.now.value) }
+        ensures usual { IfOk result (λ copied. copied.usual ≡ self.now.usual) }
+        ensures pair { IfOk result (λ copied. pair_of copied ≡ pair_of self.now) }
     {
         let value = self.value.copy(alloc)?;
         match &self.usual {

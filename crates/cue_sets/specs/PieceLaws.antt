@@ -5,8 +5,10 @@ use Rattle.std.proofs.Common.{arith}
 use Rattle.std.specs.Prelude.{int_le, int_lt}
 use Rattle.std.proofs.lemmas.Bool.{and_left, and_right, and_from, or_right, false≢true}
 use Rattle.std.proofs.lemmas.Int.{ints, by_lt_z}
+use Rattle.cue_lattice.specs.Bools.{bool_same}
+use Rattle.cue_lattice.specs.Scalar.{IsInteger}
 use Rattle.cue_sets.specs.Pieces.{is_within, is_member, least, greatest, AscendsFrom, IsCanonical}
-use Rattle.cue_sets.specs.Pieces.{IsInt64, Refuses, IsFirstMember, IsOnlyMember}
+use Rattle.cue_sets.specs.Pieces.{Refuses, IsFirstMember, IsOnlyMember}
 
 pub lt_true : (a b : ℤ) → a <ℤ b → int_lt a b ≡ true
 lt_true a b h = grind (arith, ints)
@@ -146,13 +148,8 @@ same_from_members s t (p ∷ ps) (q ∷ qs) a b e =
     (λ n. rest_same p ps qs n a.3 b' (e' n)) in
     λ i. heads i ∷ rests i
 
-bool_same : (a b : Bool) → (a ≡ false → b ≡ false) → (b ≡ false → a ≡ false) → a ≡ b
-bool_same false b h k = sym (h refl)
-bool_same true true h k = refl
-bool_same true false h k = k refl
-
 outside_same : (xs ys : List (ℤ × ℤ)) (n : ℤ) → IsCanonical xs → IsCanonical ys
-    → (IsInt64 n → is_member xs n ≡ is_member ys n) → is_member xs n ≡ is_member ys n
+    → (IsInteger n → is_member xs n ≡ is_member ys n) → is_member xs n ≡ is_member ys n
 outside_same xs ys n a b e =
     by_lt_z n least
     (λ h. is_member-below least xs n a h ∙ sym (is_member-below least ys n b h))

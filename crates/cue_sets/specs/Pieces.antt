@@ -1,16 +1,8 @@
 -- A set of integers as pieces. A piece is its first and its last number.
 use Rattle.std.specs.Prelude.{◌≡◌, Bool, true, false, ◌&&◌, ◌||◌, List, [], ◌∷◌, ℤ, pos, negsuc}
 use Rattle.std.specs.Prelude.{◌+ℤ◌, ◌≤ℤ◌, int_le}
-
--- the least and the greatest integer of 64 bits
-abbrev pub least : ℤ
-least = negsuc 9223372036854775807
-
-abbrev pub greatest : ℤ
-greatest = pos 9223372036854775807
-
-abbrev pub IsInt64 : ℤ → Type 0
-IsInt64 n = (least ≤ℤ n) × (n ≤ℤ greatest)
+pub use Rattle.cue_lattice.specs.Scalar.{least, greatest}
+use Rattle.cue_lattice.specs.Scalar.{IsInteger}
 
 -- whether the piece has n
 abbrev pub is_within : ℤ × ℤ → ℤ → Bool
@@ -40,7 +32,7 @@ is_int64 n = is_within (least, greatest) n
 -- A set of integers refuses the integers of 64 bits that are no members. It refuses no other
 -- number.
 abbrev pub Refuses : List (ℤ × ℤ) → ℤ → Type 0
-Refuses pieces n = IsInt64 n × (is_member pieces n ≡ false)
+Refuses pieces n = IsInteger n × (is_member pieces n ≡ false)
 
 -- n is in the set, and no other number is
 pub record IsOnlyMember (pieces : List (ℤ × ℤ)) (n : ℤ) : Type 0 where

@@ -11,6 +11,7 @@ use Rattle.std.proofs.lemmas.List.{length-replicate}
 use Rattle.std.proofs.lemmas.Cmp.{nat_list_cmp_total}
 use Rattle.std.proofs.lemmas.Map.Text.{is_eq-slice_cmp}
 use Rattle.std.proofs.lemmas.Slice.Eq.{bytes_eq-Decides}
+use Rattle.cue_lattice.specs.Bools.{bool_same}
 use Rattle.cue_sets.specs.Texts.{is_listed, is_text_member, text_cmp, IsBelowAll, IsAscending}
 use Rattle.cue_sets.specs.Texts.{IsTextSet, RefusesText, IsOnlyText}
 
@@ -115,11 +116,6 @@ not_same true true e = refl
 not_same true false e = sym e
 not_same false true e = sym e
 not_same false false e = refl
-
-bool_same : (a b : Bool) → (a ≡ false → b ≡ false) → (b ≡ false → a ≡ false) → a ≡ b
-bool_same false b h k = sym (h refl)
-bool_same true true h k = refl
-bool_same true false h k = k refl
 
 -- a text that neither set lists
 apart : (xs ys : List (List ℕ)) → ((t : List ℕ) → is_listed xs t ≡ not (is_listed ys t)) → ⊥

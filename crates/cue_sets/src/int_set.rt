@@ -38,7 +38,7 @@ impl Model for IntSet {
 impl IntSet {
     /// All integers of 64 bits. This takes no memory.
     pub fn full(_alloc: Global) -> Result<IntSet, Memory>
-        ensures { IfOk result (λ set. set ≡ (least, greatest) ∷ []) }
+        ensures { result ≡ Ok ((least, greatest) ∷ []) }
     {
         Ok(IntSet::between(i64::MIN, i64::MAX))
     }
@@ -54,21 +54,21 @@ impl IntSet {
 
     /// One integer. This takes no memory.
     pub fn one(_alloc: Global, number: i64) -> Result<IntSet, Memory>
-        ensures { IfOk result (λ set. set ≡ (number, number) ∷ []) }
+        ensures { result ≡ Ok ((number, number) ∷ []) }
     {
         Ok(IntSet::between(number, number))
     }
 
     /// The integers from a number upwards, with that number. This takes no memory.
     pub fn at_least(_alloc: Global, number: i64) -> Result<IntSet, Memory>
-        ensures { IfOk result (λ set. set ≡ (number, greatest) ∷ []) }
+        ensures { result ≡ Ok ((number, greatest) ∷ []) }
     {
         Ok(IntSet::between(number, i64::MAX))
     }
 
     /// The integers up to a number, with that number. This takes no memory.
     pub fn at_most(_alloc: Global, number: i64) -> Result<IntSet, Memory>
-        ensures { IfOk result (λ set. set ≡ (least, number) ∷ []) }
+        ensures { result ≡ Ok ((least, number) ∷ []) }
     {
         Ok(IntSet::between(i64::MIN, number))
     }

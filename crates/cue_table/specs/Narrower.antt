@@ -1,6 +1,6 @@
 -- The order of tables, and what unification is in it.
 use Rattle.std.specs.Prelude.{◌≡◌}
-use Rattle.cue_lattice.specs.Path.{Path}
+use Rattle.cue_lattice.specs.Question.{IsAsNarrowAs}
 use Rattle.cue_table.specs.Tree.{Tree}
 use Rattle.cue_table.specs.Form.{IsTable}
 use Rattle.cue_table.specs.Meet.{IsMet}
@@ -8,9 +8,7 @@ use Rattle.cue_table.specs.Refuses.{TableRefuses}
 
 -- the first table is at least as narrow as the second: it refuses all that the second refuses
 abbrev pub IsNarrower : {R Q : Type 0} → (R → Q → Type 0) → Tree R → Tree R → Type 0
-IsNarrower {R} {Q} refuses a b =
-    (path : Path) (question : Q) → TableRefuses refuses b path question
-    → TableRefuses refuses a path question
+IsNarrower refuses a b = IsAsNarrowAs (TableRefuses refuses a) (TableRefuses refuses b)
 
 -- both orders give one table
 abbrev pub MeetsCommute : {R Q : Type 0} → (R → Q → Type 0) → (R → Type 0) → Type 0

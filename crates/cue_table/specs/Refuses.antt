@@ -1,5 +1,5 @@
 -- What a table refuses.
-use Rattle.std.specs.Prelude.{◌↔◌, Option, Some, None}
+use Rattle.std.specs.Prelude.{Option, Some, None}
 use Rattle.cue_lattice.specs.Path.{Path}
 use Rattle.cue_table.specs.Tree.{Tree, row_at}
 
@@ -11,7 +11,3 @@ RowRefuses refuses (Some row) question = refuses row question
 -- A table refuses what its rows refuse; a path without a row refuses nothing.
 abbrev pub TableRefuses : {R Q : Type 0} → (R → Q → Type 0) → Tree R → Path → Q → Type 0
 TableRefuses refuses tree path = RowRefuses refuses (row_at tree path)
-
--- both refuse the same questions at the same paths
-abbrev pub SameRefusals : {Q : Type 0} → (Path → Q → Type 0) → (Path → Q → Type 0) → Type 0
-SameRefusals {Q} a b = (path : Path) (question : Q) → a path question ↔ b path question

@@ -1,18 +1,19 @@
 //! Laws of tables, each on a call that carries it and does nothing.
 ghost use Rattle.std.specs.Prelude.{◌≡◌};
+ghost use Rattle.cue_lattice.specs.Question.{SameAnswers};
 ghost use Rattle.cue_table.specs.Tree.{Tree, rows_of};
 ghost use Rattle.cue_table.specs.Form.{IsTable};
 ghost use Rattle.cue_table.specs.Narrower.{MeetsCommute, MeetsAssociate, MeetsRepeat, MeetsNarrow};
 ghost use Rattle.cue_table.specs.Narrower.{MeetsAreWidest};
 ghost use Rattle.cue_table.specs.Rows.{AreRows, InPathOrder};
-ghost use Rattle.cue_table.specs.Refuses.{SameRefusals, TableRefuses};
+ghost use Rattle.cue_table.specs.Refuses.{TableRefuses};
 
 use cue_lattice::Narrow;
 
 /// Tables with equal answers are equal.
 pub fn equal_answers<R: Narrow>()
     ensures { (a b : Tree R) → IsTable R.refuses R.is_value a → IsTable R.refuses R.is_value b
-        → SameRefusals (TableRefuses R.refuses a) (TableRefuses R.refuses b) → a ≡ b }
+        → SameAnswers (TableRefuses R.refuses a) (TableRefuses R.refuses b) → a ≡ b }
 {}
 
 /// The list of a table's rows is in strict path order, and has just the rows that stand at paths.

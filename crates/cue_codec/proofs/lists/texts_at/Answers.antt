@@ -3,23 +3,23 @@ use Rattle.std.specs.Int.{w64}
 use Rattle.std.specs.List.{flat_map}
 use Rattle.std.proofs.lemmas.Result.{IfOk-weaker, IfErr-weaker}
 use Rattle.cue_codec.specs.Parts.{counted_bytes, text_bytes}
-use Rattle.cue_codec.specs.Reading.{Begins, BeginsNone, IsRefused, AreSo, AreCounted, IsShortText}
+use Rattle.cue_codec.specs.Reading.{Begins, BeginsNone, IsRefused, AreSo, AreCounted, IsWord}
 use Rattle.cue_codec.proofs.Codes.{counted_found, counted_none, counted_short, refused_so}
 use Rattle.cue_codec.proofs.Numbers.{number_missing, number_takes, read64}
 use Rattle.cue_codec.proofs.lists.texts_at.Goals as goal
 
 pub returns-in_default-clause-refused : goal.returns-in_default-clause-refused
-returns-in_default-clause-refused c = inr (refl, counted_short IsShortText text_bytes c.args.bytes.now (number_missing w64 c.args.bytes.now c.in_default.ensures))
+returns-in_default-clause-refused c = inr (refl, counted_short IsWord text_bytes c.args.bytes.now (number_missing w64 c.args.bytes.now c.in_default.ensures))
 
 pub returns-clause-ok : goal.returns-clause-ok
 returns-clause-ok c =
     let t = number_takes w64 (2 ^ 64) read64 c.args.bytes.now c.in-Some.count c.in-Some.rest.now (λ i. omega (arith, c.type_inv.bytes i)) c.in-Some.ensures in
-    IfOk-weaker c.each_text.result (λ x. Begins (AreSo IsShortText c.in-Some.count) (flat_map text_bytes) x.0.items c.in-Some.rest.now x.1.now) (λ x. Begins (AreCounted IsShortText) (counted_bytes text_bytes) x.0.items c.args.bytes.now x.1.now)
-    (λ x b. counted_found IsShortText text_bytes c.in-Some.count x.0.items c.args.bytes.now c.in-Some.rest.now x.1.now t.1 t.0 b) c.each_text.ensures.ok
+    IfOk-weaker c.each_text.result (λ x. Begins (AreSo IsWord c.in-Some.count) (flat_map text_bytes) x.0.items c.in-Some.rest.now x.1.now) (λ x. Begins (AreCounted IsWord) (counted_bytes text_bytes) x.0.items c.args.bytes.now x.1.now)
+    (λ x b. counted_found IsWord text_bytes c.in-Some.count x.0.items c.args.bytes.now c.in-Some.rest.now x.1.now t.1 t.0 b) c.each_text.ensures.ok
 
 pub returns-clause-refused : goal.returns-clause-refused
 returns-clause-refused c =
     let t = number_takes w64 (2 ^ 64) read64 c.args.bytes.now c.in-Some.count c.in-Some.rest.now (λ i. omega (arith, c.type_inv.bytes i)) c.in-Some.ensures in
-    IfErr-weaker c.each_text.result (λ kind. IsRefused kind (BeginsNone (AreSo IsShortText c.in-Some.count) (flat_map text_bytes) c.in-Some.rest.now)) (λ kind. IsRefused kind (BeginsNone (AreCounted IsShortText) (counted_bytes text_bytes) c.args.bytes.now))
-    (λ kind. refused_so kind (BeginsNone (AreSo IsShortText c.in-Some.count) (flat_map text_bytes) c.in-Some.rest.now) (BeginsNone (AreCounted IsShortText) (counted_bytes text_bytes) c.args.bytes.now)
-    (counted_none IsShortText text_bytes c.in-Some.count c.args.bytes.now c.in-Some.rest.now t.1 t.0)) c.each_text.ensures.refused
+    IfErr-weaker c.each_text.result (λ kind. IsRefused kind (BeginsNone (AreSo IsWord c.in-Some.count) (flat_map text_bytes) c.in-Some.rest.now)) (λ kind. IsRefused kind (BeginsNone (AreCounted IsWord) (counted_bytes text_bytes) c.args.bytes.now))
+    (λ kind. refused_so kind (BeginsNone (AreSo IsWord c.in-Some.count) (flat_map text_bytes) c.in-Some.rest.now) (BeginsNone (AreCounted IsWord) (counted_bytes text_bytes) c.args.bytes.now)
+    (counted_none IsWord text_bytes c.in-Some.count c.args.bytes.now c.in-Some.rest.now t.1 t.0)) c.each_text.ensures.refused

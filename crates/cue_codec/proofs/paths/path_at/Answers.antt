@@ -16,10 +16,10 @@ pub returns-in_default-new-clause-refused : goal.returns-in_default-new-clause-r
 returns-in_default-new-clause-refused c =
     inr (refl, path_long c.args.bytes.now c.in-Some.rest.now c.in_ok-steps.rest.now c.in-Some.count.now c.in_ok-steps.steps.items c.in-Some.ensures.cases.0 c.in_ok-steps.ensures.ok c.in_default-new.ensures.none)
 
-pub returns-then-count-gt-MOST_STEPS-clause-refused : goal.returns-then-count-gt-MOST_STEPS-clause-refused
-returns-then-count-gt-MOST_STEPS-clause-refused c =
-    inr (refl, path_many c.args.bytes.now c.in-Some.rest.now c.in-Some.count.now c.in-Some.ensures.cases.0 (omega (arith, c.if-count-gt-MOST_STEPS.true)))
+pub returns-then-asked-gt-STEP_LIMIT-clause-refused : goal.returns-then-asked-gt-STEP_LIMIT-clause-refused
+returns-then-asked-gt-STEP_LIMIT-clause-refused c =
+    inr (refl, path_many c.args.bytes.now c.in-Some.rest.now c.in-Some.count.now c.in-Some.ensures.cases.0 (omega (arith, c.if-asked-gt-STEP_LIMIT.true)))
 
 pub returns-clause-ok : goal.returns-clause-ok
 returns-clause-ok c =
-    path_found c.args.bytes.now c.in-Some.rest.now c.in_ok-steps.rest.now c.in-Some.count.now c.in_ok-steps.steps.items c.in-Some-new.path c.in-Some.ensures.cases.0 c.in_ok-steps.ensures.ok c.in-Some-new.ensures.some (omega (arith, c.if-count-gt-MOST_STEPS.false))
+    path_found c.args.bytes.now c.in-Some.rest.now c.in_ok-steps.rest.now c.in-Some.count.now c.in_ok-steps.steps.items c.in-Some-new.path c.in-Some.ensures.cases.0 c.in_ok-steps.ensures.ok c.in-Some-new.ensures.some (omega (arith, c.if-asked-gt-STEP_LIMIT.false))

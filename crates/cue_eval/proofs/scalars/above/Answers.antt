@@ -15,7 +15,7 @@ returns-then-number-eq9223372036854775807 c =
 
 pub returns : goal.returns
 returns c =
-    let set = c.in_ok-at_least.ensures in
+    let set = same_ok [] _ _ c.in_ok-at_least.ensures in
     IfOk-weaker c.of_integers-2.result _ _
     (λ v h. h (λ n. int_lt c.args.number n) (λ n. ap (λ (s : List (ℤ × ℤ)). is_member s n) set ∙ above_all c.args.number _ n (omega (arith, ints)) (omega (arith, ints))))
     c.of_integers-2.ensures

@@ -16,5 +16,5 @@ returns-then-number-eqminus9223372036854775808 c =
 pub returns : goal.returns
 returns c =
     IfOk-weaker c.of_integers-2.result _ _
-    (λ v h. h (λ n. int_lt n c.args.number) (λ n. ap (λ (s : List (ℤ × ℤ)). is_member s n) c.in_ok-at_most.ensures ∙ below_all c.args.number _ n (omega (arith, ints)) (omega (arith, ints))))
+    (λ v h. h (λ n. int_lt n c.args.number) (λ n. ap (λ (s : List (ℤ × ℤ)). is_member s n) (same_ok [] _ _ c.in_ok-at_most.ensures) ∙ below_all c.args.number _ n (omega (arith, ints)) (omega (arith, ints))))
     c.of_integers-2.ensures

@@ -11,7 +11,7 @@ use Rattle.cue_eval.proofs.scalars.named_set.Goals as goal
 
 pub returns-in_ok-full-in-Int : goal.returns-in_ok-full-in-Int
 returns-in_ok-full-in-Int c =
-    IfOk-weaker c.of_integers.result _ _ (λ v h. h (λ n. true) (λ n. ap (λ (s : List (ℤ × ℤ)). is_member s n) c.in_ok-full-in-Int.ensures ∙ all_integers n) ∙ ap (λ k. plain (sets.named_set k)) (sym c.in-Int.is)) c.of_integers.ensures
+    IfOk-weaker c.of_integers.result _ _ (λ v h. h (λ n. true) (λ n. ap (λ (s : List (ℤ × ℤ)). is_member s n) (same_ok [] _ _ c.in_ok-full-in-Int.ensures) ∙ all_integers n) ∙ ap (λ k. plain (sets.named_set k)) (sym c.in-Int.is)) c.of_integers.ensures
 
 pub returns-in_ok-all-in-Text : goal.returns-in_ok-all-in-Text
 returns-in_ok-all-in-Text c =
@@ -23,8 +23,8 @@ returns-in-Bool c =
 
 pub returns-in_ok-full-in-Int64 : goal.returns-in_ok-full-in-Int64
 returns-in_ok-full-in-Int64 c =
-    IfOk-weaker c.of_integers-in-Int64.result _ _ (λ v h. h (λ n. true) (λ n. ap (λ (s : List (ℤ × ℤ)). is_member s n) c.in_ok-full-in-Int64.ensures ∙ all_integers n) ∙ ap (λ k. plain (sets.named_set k)) (sym c.in-Int64.is)) c.of_integers-in-Int64.ensures
+    IfOk-weaker c.of_integers-in-Int64.result _ _ (λ v h. h (λ n. true) (λ n. ap (λ (s : List (ℤ × ℤ)). is_member s n) (same_ok [] _ _ c.in_ok-full-in-Int64.ensures) ∙ all_integers n) ∙ ap (λ k. plain (sets.named_set k)) (sym c.in-Int64.is)) c.of_integers-in-Int64.ensures
 
 pub returns-in_ok-at_least-in-Uint : goal.returns-in_ok-at_least-in-Uint
 returns-in_ok-at_least-in-Uint c =
-    IfOk-weaker c.of_integers-in-Uint.result _ _ (λ v h. h (λ n. int_le (pos 0) n) (λ n. ap (λ (s : List (ℤ × ℤ)). is_member s n) c.in_ok-at_least-in-Uint.ensures ∙ from_below (pos 0) n (omega (arith, ints))) ∙ ap (λ k. plain (sets.named_set k)) (sym c.in-Uint.is)) c.of_integers-in-Uint.ensures
+    IfOk-weaker c.of_integers-in-Uint.result _ _ (λ v h. h (λ n. int_le (pos 0) n) (λ n. ap (λ (s : List (ℤ × ℤ)). is_member s n) (same_ok [] _ _ c.in_ok-at_least-in-Uint.ensures) ∙ from_below (pos 0) n (omega (arith, ints))) ∙ ap (λ k. plain (sets.named_set k)) (sym c.in-Uint.is)) c.of_integers-in-Uint.ensures
