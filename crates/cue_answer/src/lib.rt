@@ -1,0 +1,10 @@
+//! The questions that a site answers, and what is told of each: the bytes, and the status of a run
+//! that prints them. The program and the sessions both stand on it.
+#![tactic(auto)]
+
+mod question;
+mod told;
+
+pub use cue_replica::{Memory, Replica};
+pub use question::{Question, Status};
+pub use told::{Answer, answer_to, printed};

@@ -1,0 +1,37 @@
+ghost use Rattle.std.specs.Prelude.{◌≡◌};
+ghost use Rattle.cue_answer.specs.Answers.{code_of};
+
+/// What is asked of a site.
+#[derive(Clone, Copy, Debug, PartialEq, Eq)]
+pub enum Question {
+    /// The JSON, or the conflict lines, or the incomplete lines.
+    Export,
+    /// The canonical text.
+    Print,
+    /// The conflict lines, and then the incomplete lines.
+    Report,
+    /// The state bytes.
+    State,
+}
+
+/// How an answer ends the run that prints it. Refusals and failing devices have the numbers between
+/// and above these, 1 and 4.
+#[derive(Clone, Copy, Debug, PartialEq, Eq)]
+pub enum Status {
+    /// Nothing stands against what was asked.
+    Done = 0,
+    /// There are conflicts.
+    Conflicts = 2,
+    /// There is no conflict, and something is incomplete.
+    Incomplete = 3,
+}
+
+impl Status {
+    /// The status as a number: an exit status, and the first byte of what a session tells of an
+    /// export.
+    pub fn code(self) -> u8
+        ensures { result ≡ code_of self }
+    {
+        self as u8
+    }
+}
