@@ -1,11 +1,13 @@
 -- What a configuration is in the end: a document. It is a scalar, a list of documents, or a finite
 -- map from texts to documents. A map is written as its members in the order of their labels, each
 -- label once.
-use Rattle.std.specs.Prelude.{◌≡◌, ℕ, List}
+use Rattle.std.specs.Prelude.{◌≡◌, ◌⊎◌, ◌+◌, ℕ, List}
 use Rattle.std.specs.Ordering.{nat_cmp}
+use Rattle.std.specs.Str.{IsUtf8}
 use Rattle.std.specs.Cmp.Lexicographic.{slice_cmp}
 use Rattle.std.specs.declared.cmp.Ordering.TheVariants.{Less}
 use Rattle.cue_lattice.specs.declared.scalar.Scalar.{Scalar}
+use Rattle.cue_lattice.specs.declared.scalar.Scalar.TheVariants as scalars
 use Rattle.cue_lattice.specs.Scalar.{IsScalar}
 
 mutual
@@ -22,15 +24,31 @@ mutual
     no_members : Members
     member : List ℕ → Document → Members → Members
 
+-- how many elements a list has
+abbrev pub length_of : Items → ℕ
+length_of no_items = 0
+length_of (item document items) = length_of items + 1
+
+-- a member has this label
+abbrev pub Has : List ℕ → Members → Type 0
+Has label no_members = ⊥
+Has label (member next document members) = (next ≡ label) ⊎ Has label members
+
 -- the label is less than the first of the members, by bytes
 abbrev pub IsBefore : List ℕ → Members → Type 0
 IsBefore label no_members = Unit {0}
 IsBefore label (member next _ _) = slice_cmp nat_cmp label next ≡ Less
 
--- the scalars are scalars of the language, and the labels of each map rise
+-- a text is in UTF-8
+abbrev pub IsReadable : Scalar → Type 0
+IsReadable (scalars.Text text) = IsUtf8 text
+IsReadable _ = Unit {0}
+
+-- The scalars are scalars of the language, texts and labels are in UTF-8, and the labels of each
+-- map rise.
 abbrev mutual
   pub IsDocument : Document → Type 0
-  IsDocument (scalar x) = IsScalar x
+  IsDocument (scalar x) = IsScalar x × IsReadable x
   IsDocument (list items) = AreItems items
   IsDocument (map members) = AreMembers members
 
@@ -41,4 +59,4 @@ abbrev mutual
   pub AreMembers : Members → Type 0
   AreMembers no_members = Unit {0}
   AreMembers (member label document members) =
-      IsBefore label members × IsDocument document × AreMembers members
+      IsUtf8 label × IsBefore label members × IsDocument document × AreMembers members

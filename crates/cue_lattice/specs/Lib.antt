@@ -9,4 +9,5 @@ pub mod Scalar
 pub mod Document
 pub mod Path
 pub mod Question
+pub mod Meets
 pub mod World

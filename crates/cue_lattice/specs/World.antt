@@ -3,10 +3,13 @@
 -- which each message was made of. A list of pieces stands for the set of its members.
 use Rattle.std.specs.Prelude.{◌≡◌, ◌↔◌, ◌⊎◌, ℕ, ◌<◌, ◌^◌, List, [], ◌∷◌, ◌++◌, length, replicate}
 use Rattle.std.specs.Prelude.{slice_get, slice_set, unwrap_or}
+use Rattle.std.specs.List.{AllByRecursion}
 use Rattle.cue_lattice.specs.declared.refusal.Refusal.{Refusal}
 use Rattle.cue_lattice.specs.Refusal.{memory}
 use Rattle.cue_lattice.specs.OneOf.{OneOf}
 use Rattle.cue_lattice.specs.Question.{Refusals, OneRefuses, SameAnswers}
+use Rattle.cue_lattice.specs.Document.{Document, IsDocument}
+use Rattle.cue_lattice.specs.Meets.{Meets}
 
 -- What a site can accept from outside: a text, or state bytes handed in from outside the world. The
 -- same text twice is one piece.
@@ -21,9 +24,11 @@ pub record Meaning (T : Type 0) : Type 1 where
   pub table_refuses : T → Refusals  -- what a table refuses
   pub IsLegal : List ℕ → Type 0  -- the text is one of the language
   pub text_refuses : List ℕ → Refusals  -- what a legal text refuses
+  pub text_admits : List ℕ → Document → Type 0  -- which documents a legal text admits
   pub IsTextFault : List ℕ → Refusal → Type 0  -- why a text that is not legal may be refused
   pub IsState : List ℕ → Type 0  -- a site reads the bytes as those of a valid table
   pub state_refuses : List ℕ → Refusals  -- what that table refuses
+  pub state_admits : List ℕ → Document → Type 0  -- which documents that table admits
   pub IsStateFault : List ℕ → Refusal → Type 0  -- why other bytes may be refused
   pub IsTextRefusedAtOnce : List ℕ → Type 0  -- the text has a fault that is found with no memory
   pub IsStateRefusedAtOnce : List ℕ → Type 0  -- and so have the bytes
@@ -51,6 +56,14 @@ pub record IsSound (T : Type 0) (m : Meaning T) : Type 0 where
   pub one_table : (a b : T) → m.IsValid a → m.IsValid b
       → SameAnswers (m.table_refuses a) (m.table_refuses b) → a ≡ b
 
+-- What is refused is exact against documents: a text, and a state, admits just the documents that
+-- meet what it refuses.
+pub record IsExactOnDocuments (T : Type 0) (m : Meaning T) : Type 0 where
+  pub of_texts : (t : List ℕ) (d : Document) → IsDocument d
+      → m.text_admits t d ↔ Meets (m.text_refuses t) d
+  pub of_states : (bytes : List ℕ) (d : Document) → IsDocument d
+      → m.state_admits bytes d ↔ Meets (m.state_refuses bytes) d
+
 -- what a piece refuses
 abbrev pub piece_refuses : {T : Type 0} → Meaning T → Piece → Refusals
 piece_refuses m (text t) = m.text_refuses t
@@ -59,6 +72,17 @@ piece_refuses m (state b) = m.state_refuses b
 -- what a set of pieces refuses: what one of them refuses
 abbrev pub pieces_refuse : {T : Type 0} → Meaning T → List Piece → Refusals
 pieces_refuse m = OneRefuses (piece_refuses m)
+
+-- which documents a piece admits
+abbrev pub piece_admits : {T : Type 0} → Meaning T → Piece → Document → Type 0
+piece_admits m (text t) = m.text_admits t
+piece_admits m (state b) = m.state_admits b
+
+-- the document is one, and each piece of the set admits it
+pub record IsAdmitted {T : Type 0} (m : Meaning T) (pieces : List Piece) (d : Document)
+    : Type 0 where
+  pub is : IsDocument d
+  pub by_each : AllByRecursion (λ piece. piece_admits m piece d) pieces
 
 -- the piece is in the set
 abbrev pub Has : List Piece → Piece → Type 0

@@ -6,9 +6,10 @@ use Rattle.cue_table.specs.Tree.{Tree, empty}
 use Rattle.cue_table.specs.Refuses.{TableRefuses}
 use Rattle.cue_table.specs.Valid.{IsValidTable}
 use Rattle.cue_codec.specs.State.{table_bytes}
-use Rattle.cue_replica.specs.Texts.{IsLegal, text_refuses, IsTextFault}
+use Rattle.cue_replica.specs.Texts.{IsLegal, text_refuses, text_admits, IsTextFault}
 use Rattle.cue_replica.specs.Texts.{IsTextRefusedAtOnce}
-use Rattle.cue_replica.specs.States.{IsState, state_refuses, IsStateFault, IsStateRefusedAtOnce}
+use Rattle.cue_replica.specs.States.{IsState, state_refuses, state_admits, IsStateFault}
+use Rattle.cue_replica.specs.States.{IsStateRefusedAtOnce}
 
 abbrev pub Table : Type 0
 Table = Tree Row
@@ -23,9 +24,11 @@ language = record {
   table_refuses = TableRefuses RowRefuses;
   IsLegal = IsLegal;
   text_refuses = text_refuses;
+  text_admits = text_admits;
   IsTextFault = IsTextFault;
   IsState = IsState;
   state_refuses = state_refuses;
+  state_admits = state_admits;
   IsStateFault = IsStateFault;
   IsTextRefusedAtOnce = IsTextRefusedAtOnce;
   IsStateRefusedAtOnce = IsStateRefusedAtOnce;

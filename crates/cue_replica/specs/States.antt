@@ -1,5 +1,7 @@
 -- Which bytes are those of a state, and why others are refused.
 use Rattle.std.specs.Prelude.{◌≡◌, ℕ, List}
+use Rattle.cue_lattice.specs.Document.{Document}
+use Rattle.cue_lattice.specs.Meets.{Meets}
 use Rattle.cue_lattice.specs.Question.{Refusals}
 use Rattle.cue_lattice.specs.declared.refusal.Refusal.{Refusal}
 use Rattle.cue_row.specs.declared.row.Row.{Row}
@@ -23,6 +25,11 @@ IsState bytes = (table : Tree Row) × IsTableOf bytes table
 abbrev pub state_refuses : List ℕ → Refusals
 state_refuses bytes path question =
     (table : Tree Row) × IsTableOf bytes table × TableRefuses RowRefuses table path question
+
+-- which documents it admits: those that meet that table
+abbrev pub state_admits : List ℕ → Document → Type 0
+state_admits bytes d =
+    (table : Tree Row) → IsTableOf bytes table → Meets (TableRefuses RowRefuses table) d
 
 -- Why bytes are refused: they are of another version; or else no valid table has them. Both are
 -- told at place 0.

@@ -1,6 +1,8 @@
 -- What texts mean, and why a text is refused: the definitions of the crates below, put together.
 use Rattle.std.specs.Prelude.{◌≡◌, ◌≢◌, ◌⊎◌, ◌<◌, ℕ, List, length, Ok, Err}
 use Rattle.cue_lattice.specs.Limits.{level_limit, text_limit}
+use Rattle.cue_lattice.specs.Document.{Document}
+use Rattle.cue_lattice.specs.Meets.{Meets}
 use Rattle.cue_lattice.specs.Question.{Refusals}
 use Rattle.cue_lattice.specs.Refusal.{memory}
 use Rattle.cue_lattice.specs.declared.refusal.Refusal.{Refusal}
@@ -27,6 +29,10 @@ IsLegal text = (tree : FileTree) × IsTreeOf text tree × checks.IsLegal tree.de
 abbrev pub text_refuses : List ℕ → Refusals
 text_refuses text path question =
     (tree : FileTree) × IsTreeOf text tree × meaning.text_refuses tree.declarations path question
+
+-- which documents a text admits: those that meet what it refuses
+abbrev pub text_admits : List ℕ → Document → Type 0
+text_admits text = Meets (text_refuses text)
 
 -- the tokens are those of no tree, and the refusal fits them
 pub record IsUnspelled (end : ℕ) (words : List Token) (why : Refusal) : Type 0 where
