@@ -1,5 +1,5 @@
 -- The rows that say no more than what may stand: anything, some scalars, a struct, a list, nothing.
-use Rattle.std.specs.Prelude.{ℕ, Bool, true, false, List, [], ◌∷◌, Option, None}
+use Rattle.std.specs.Prelude.{ℕ, true, false, List, [], ◌∷◌, Option, None}
 use Rattle.cue_lattice.specs.Scalar.{least, greatest}
 use Rattle.cue_scalars.specs.declared.scalar_set.ScalarSet.{ScalarSet}
 use Rattle.cue_row.specs.declared.level.Level.{Level}

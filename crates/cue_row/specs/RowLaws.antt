@@ -1,6 +1,6 @@
 -- Laws of rows.
-use Rattle.std.proofs.Common.{◌≡◌, ◌↔◌, ℕ, ◌+◌, ◌<◌, Bool, true, false, Option, Some, None, refl}
-use Rattle.std.proofs.Common.{sym, ap, arith}
+use Rattle.std.proofs.Common.{◌≡◌, ◌↔◌, ℕ, ◌+◌, ◌<◌, Option, Some, None, refl}
+use Rattle.std.proofs.Common.{ap, arith}
 use Rattle.cue_lattice.specs.Bools.{bool_same}
 use Rattle.cue_scalars.specs.ScalarLaws.{same_scalars}
 use Rattle.cue_row.specs.declared.level.Level.{Level}

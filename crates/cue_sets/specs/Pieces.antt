@@ -1,5 +1,5 @@
 -- A set of integers as pieces. A piece is its first and its last number.
-use Rattle.std.specs.Prelude.{◌≡◌, Bool, true, false, ◌&&◌, ◌||◌, List, [], ◌∷◌, ℤ, pos, negsuc}
+use Rattle.std.specs.Prelude.{◌≡◌, Bool, true, false, ◌&&◌, ◌||◌, List, [], ◌∷◌, ℤ, pos}
 use Rattle.std.specs.Prelude.{◌+ℤ◌, ◌≤ℤ◌, int_le}
 pub use Rattle.cue_lattice.specs.Scalar.{least, greatest}
 use Rattle.cue_lattice.specs.Scalar.{IsInteger}
