@@ -1,0 +1,5 @@
+pub mod Calls
+pub mod Frames
+pub mod Requests
+pub mod Serving
+pub mod Sessions

@@ -1,0 +1,51 @@
+ghost use Rattle.std.specs.Prelude.{◌≡◌, [], IfSome, IfNone};
+ghost use Rattle.cue_wire.specs.Requests.{IsRequest, IsNoRequest};
+ghost use Rattle.cue_wire.specs.Calls.{request_of};
+
+use cue_answer::Question;
+use std::str;
+
+/// What a frame's body asks of a site.
+#[derive(Clone, Copy, Debug)]
+pub enum Call<'b> {
+    /// To accept a text.
+    Text(&'b str),
+    /// To accept state bytes.
+    State(&'b [u8]),
+    /// A question.
+    Ask(Question),
+}
+
+impl<'b> Call<'b> {
+    /// The call that a body says, where it says one.
+    pub fn of(body: &'b [u8]) -> Option<Call<'b>>
+        ensures some { IfSome result (λ call. IsRequest body.now (request_of call)) }
+        ensures none { IfNone result (IsNoRequest body.now) }
+    {
+        let (first, rest) = body.split_first()?;
+        match *first {
+            1 => match str::from_utf8(rest) {
+                Ok(text) => Some(Call::Text(text)),
+                Err(_) => None,
+            },
+            2 => Some(Call::State(rest)),
+            3 => alone(Question::State, rest),
+            4 => alone(Question::Export, rest),
+            5 => alone(Question::Report, rest),
+            6 => alone(Question::Print, rest),
+            _ => None,
+        }
+    }
+}
+
+/// A question behind which no more bytes come.
+fn alone<'b>(question: Question, rest: &[u8]) -> Option<Call<'b>>
+    ensures some { IfSome result (λ call. (rest.now ≡ []) × (call ≡ Call.Ask question)) }
+    ensures none { IfNone result (rest.now ≡ [] → ⊥) }
+{
+    if rest.is_empty() {
+        Some(Call::Ask(question))
+    } else {
+        None
+    }
+}
