@@ -1,0 +1,25 @@
+# Completions for bash: `source bin/completions/cuestore.bash`
+_cuestore() {
+  local words='export print report state merge'
+  if [ "$COMP_CWORD" -eq 1 ]; then
+    mapfile -t COMPREPLY < <(compgen -W "$words" -- "${COMP_WORDS[1]}")
+  else
+    mapfile -t COMPREPLY < <(compgen -f -X '!*.@(cue|state)' -- "${COMP_WORDS[COMP_CWORD]}"
+      compgen -d -- "${COMP_WORDS[COMP_CWORD]}")
+  fi
+}
+_cuestore_path() {
+  if [ "$COMP_CWORD" -gt 1 ]; then _cuestore; fi
+}
+_cuestore_carry() {
+  case $COMP_CWORD in
+    1) mapfile -t COMPREPLY < <(compgen -W 'push pull' -- "${COMP_WORDS[1]}") ;;
+    2) mapfile -t COMPREPLY < <(compgen -W 'folder: git: etcd: redis: blob:' -- "${COMP_WORDS[2]}") ;;
+    *) mapfile -t COMPREPLY < <(compgen -f -X '!*.state' -- "${COMP_WORDS[COMP_CWORD]}") ;;
+  esac
+}
+shopt -s extglob
+complete -o filenames -F _cuestore cuestore cuestore-explain
+complete -o filenames -F _cuestore_path cuestore-why cuestore-at
+complete -f -X '!*.@(cue|state)' -o plusdirs cuestore-diff
+complete -o filenames -o nospace -F _cuestore_carry carry
