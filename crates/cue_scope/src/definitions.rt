@@ -36,6 +36,8 @@ pub struct Definitions<'f, 't> {
 }
 
 impl<'f, 't> Definitions<'f, 't> {
+    ghost use Rattle.cue_scope.specs.Kept.{all_of};
+
     /// The definitions among the declarations of a text.
     ///
     /// # Errors
@@ -45,8 +47,7 @@ impl<'f, 't> Definitions<'f, 't> {
         alloc: Global,
         declarations: &'f [Declaration<'t>],
     ) -> Result<Definitions<'f, 't>, Refusal>
-        ensures all { IfOk result (λ r. listed r.list.items
-            ≡ definitions (entries declarations.now)) }
+        ensures all { IfOk result (λ r. all_of r ≡ definitions (entries declarations.now)) }
         ensures unrepeated { OnOk result (repeats (definitions (entries declarations.now)) ≡ []) }
         ensures refused { IfErr result (λ r. (r ≡ memory)
             ⊎ IsRepeat (definitions (entries declarations.now)) r) }
@@ -78,14 +79,14 @@ impl<'f, 't> Definitions<'f, 't> {
 
     /// The number of the definition of this name, if there is one.
     pub fn number(&self, name: &str) -> Option<usize>
-        ensures { result ≡ number_of name.now (listed self.now.list.items) }
+        ensures { result ≡ number_of name.now (all_of self.now) }
     {
         self.numbers.get(name).copied()
     }
 
     /// All of them, in order.
     pub fn all(&self) -> &[Definition<'f, 't>]
-        ensures { listed result.now ≡ listed self.now.list.items }
+        ensures { listed result.now ≡ all_of self.now }
     {
         &self.list
     }
