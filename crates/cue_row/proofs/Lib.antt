@@ -1,3 +1,4 @@
+pub mod Begun
 pub mod Free
 pub mod MetRows
 pub mod Texts

@@ -1,4 +1,5 @@
 pub mod Steps
+pub mod Begun
 pub mod Quoted
 pub mod PathText
 pub mod Levels

@@ -1,12 +1,15 @@
-ghost use Rattle.std.specs.Prelude.{◌≡◌, ◌<◌, ◌++◌, OnOk, string_bytes};
+ghost use Rattle.std.specs.Prelude.{◌≡◌, ◌<◌, ◌++◌, OnErr, OnOk, string_bytes};
 ghost use Rattle.std.specs.Char.{digit_char};
+ghost use Rattle.cue_row.specs.Begun.{StillBegins};
 ghost use Rattle.cue_row.specs.Quoted.{quoted, char_text};
 
 use cue_lattice::Memory;
 
 /// Writes a text between quotation marks, with the escapes of a CUE string literal.
 pub fn push_quoted(out: &mut String, text: &str) -> Result<(), Memory>
-    ensures { OnOk result (string_bytes out.new ≡ string_bytes out.old ++ quoted text.now) }
+    ensures written { OnOk result (string_bytes out.new ≡ string_bytes out.old ++ quoted text.now) }
+    // Where memory runs out, what stood there before still begins the text.
+    ensures kept { OnErr result (StillBegins (string_bytes out.old) (string_bytes out.new)) }
 {
     out.push('"')?;
     for character in text.chars() {
@@ -18,7 +21,9 @@ pub fn push_quoted(out: &mut String, text: &str) -> Result<(), Memory>
 
 /// Writes a character as it stands between quotation marks.
 fn push_char(out: &mut String, character: char) -> Result<(), Memory>
-    ensures { OnOk result (string_bytes out.new ≡ string_bytes out.old ++ char_text character) }
+    ensures written { OnOk result
+        (string_bytes out.new ≡ string_bytes out.old ++ char_text character) }
+    ensures kept { OnErr result (StillBegins (string_bytes out.old) (string_bytes out.new)) }
 {
     match character {
         '"' => out.push_str("\\\"")?,

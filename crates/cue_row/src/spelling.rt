@@ -1,5 +1,6 @@
-ghost use Rattle.std.specs.Prelude.{◌≡◌, ◌++◌, map, IfOk, OnOk, string_bytes};
+ghost use Rattle.std.specs.Prelude.{◌≡◌, ◌++◌, map, IfOk, OnErr, OnOk, string_bytes};
 ghost use Rattle.std.specs.List.{flat_map};
+ghost use Rattle.cue_row.specs.Begun.{StillBegins};
 ghost use Rattle.cue_row.specs.PathText.{dotted, is_word_byte, is_bare, step_text, path_text};
 ghost use Rattle.cue_row.specs.Steps.{step_of};
 
@@ -22,15 +23,19 @@ pub fn path_text(alloc: Global, path: &Path) -> Result<String, Memory>
 
 /// Writes a path.
 pub fn push_path(out: &mut String, path: &Path) -> Result<(), Memory>
-    ensures { OnOk result (string_bytes out.new ≡ string_bytes out.old ++ path_text path.now) }
+    ensures written { OnOk result
+        (string_bytes out.new ≡ string_bytes out.old ++ path_text path.now) }
+    ensures kept { OnErr result (StillBegins (string_bytes out.old) (string_bytes out.new)) }
 {
     push_steps(out, path.steps())
 }
 
 /// Writes the path of these steps, which may be more than a [`Path`] has.
 pub fn push_steps(out: &mut String, steps: &[Step]) -> Result<(), Memory>
-    ensures { OnOk result
+    ensures written { OnOk result
         (string_bytes out.new ≡ string_bytes out.old ++ path_text (map step_of steps.now)) }
+    // Where memory runs out, what stood there before still begins the text.
+    ensures kept { OnErr result (StillBegins (string_bytes out.old) (string_bytes out.new)) }
 {
     match steps {
         [] => out.push('.')?,
@@ -44,8 +49,9 @@ pub fn push_steps(out: &mut String, steps: &[Step]) -> Result<(), Memory>
 
 /// Writes a dot and the step, for each step.
 fn push_rest(out: &mut String, steps: &[Step]) -> Result<(), Memory>
-    ensures { OnOk result (string_bytes out.new
+    ensures written { OnOk result (string_bytes out.new
         ≡ string_bytes out.old ++ flat_map dotted steps.now) }
+    ensures kept { OnErr result (StillBegins (string_bytes out.old) (string_bytes out.new)) }
 {
     for step in steps {
         out.push('.')?;
@@ -56,8 +62,9 @@ fn push_rest(out: &mut String, steps: &[Step]) -> Result<(), Memory>
 
 /// Writes one step.
 fn push_step(out: &mut String, step: &Step) -> Result<(), Memory>
-    ensures { OnOk result (string_bytes out.new
+    ensures written { OnOk result (string_bytes out.new
         ≡ string_bytes out.old ++ step_text (step_of step.now)) }
+    ensures kept { OnErr result (StillBegins (string_bytes out.old) (string_bytes out.new)) }
 {
     match step {
         Step::Label(label) => {
