@@ -28,7 +28,7 @@ use Rattle.cue_row.specs.ValidRow.{UsualFits, LabelsFit, LengthsFit, AreLengths,
 use Rattle.cue_table.specs.Tree.{Tree, node, Children, none, child, row_of, row_at, behind, rows_of, rows_below}
 use Rattle.cue_table.specs.Form.{IsKept}
 use Rattle.cue_table.specs.Valid.{IsValidTable}
-use Rattle.cue_table.specs.ValidWalk.{IsSound, AreSound, HasChild}
+use Rattle.cue_table.specs.Inner.ValidWalk.{IsSound, AreSound, HasChild}
 use Rattle.cue_table.proofs.Depth.{kept_at}
 use Rattle.cue_table.proofs.RowLists.{all_append, all_map, all_weaker, all_both, rows_stand}
 use Rattle.cue_table.proofs.Validity.{valid_sound, valid_empty}

@@ -10,7 +10,7 @@ use Rattle.cue_row.specs.ValidRow.{IsWord, IsWordStep, AreLabelWords, IsValidRow
 use Rattle.cue_table.specs.Tree.{Tree, node, Children, none, child, row_of, below, behind, rows_of, rows_below, children_of}
 use Rattle.cue_table.specs.Size.{tree_size, children_size}
 use Rattle.cue_table.specs.Depth.{tree_depth, children_depth}
-use Rattle.cue_table.specs.ValidWalk.{IsSound, AreSound, HasChild}
+use Rattle.cue_table.specs.Inner.ValidWalk.{IsSound, AreSound, HasChild}
 use Rattle.cue_table.specs.Walks.{first_child}
 use Rattle.cue_codec.specs.Parts.{step_bytes}
 use Rattle.cue_codec.specs.Reading.{IsShort, IsShortStep, AreShortLabels}

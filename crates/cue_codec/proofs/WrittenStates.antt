@@ -11,7 +11,7 @@ use Rattle.cue_row.specs.declared.row.Row.{Row}
 use Rattle.cue_row.specs.Levels.{level_of}
 use Rattle.cue_table.specs.Tree.{Tree, row_of, rows_of}
 use Rattle.cue_table.specs.Valid.{IsValidTable}
-use Rattle.cue_table.specs.ValidWalk.{IsSound}
+use Rattle.cue_table.specs.Inner.ValidWalk.{IsSound}
 use Rattle.cue_table.proofs.Validity.{valid_sound, valid_empty}
 use Rattle.cue_codec.specs.Parts.{step_bytes, path_bytes, counted_bytes}
 use Rattle.cue_codec.specs.RowBytes.{parts_bytes, parts_of, row_bytes, row_bytes_from}

@@ -5,7 +5,7 @@ ghost use Rattle.std.specs.List.{flat_map};
 ghost use Rattle.cue_lattice.specs.Limits.{step_limit};
 ghost use Rattle.cue_table.specs.Tree.{rows_of};
 ghost use Rattle.cue_table.specs.Depth.{tree_depth};
-ghost use Rattle.cue_table.specs.ValidWalk.{IsSound};
+ghost use Rattle.cue_table.specs.Inner.ValidWalk.{IsSound};
 ghost use Rattle.cue_codec.specs.RowBytes.{row_bytes_from, IsShortRow};
 
 use crate::row_writing::put_parts;

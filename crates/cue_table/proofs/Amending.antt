@@ -6,9 +6,9 @@ use Rattle.cue_table.specs.declared.node.Child.{Child}
 use Rattle.cue_table.specs.declared.plan.Slot.{Slot}
 use Rattle.cue_table.specs.declared.plan.Slot.TheVariants.{Keep, Insert, Alter}
 use Rattle.cue_table.specs.Tree.{Children, child}
-use Rattle.cue_table.specs.Plan.{Change, Slots, done, changed, merged, join, front, past, first_changed, slots_size, IsAmending}
-use Rattle.cue_table.specs.PlanView.{amended, slot_before, slots_of}
-use Rattle.cue_table.specs.View.{branches}
+use Rattle.cue_table.specs.Inner.Plan.{Change, Slots, done, changed, merged, join, front, past, first_changed, slots_size, IsAmending}
+use Rattle.cue_table.specs.Inner.PlanView.{amended, slot_before, slots_of}
+use Rattle.cue_table.specs.Inner.View.{branches}
 use Rattle.cue_table.proofs.Planning.{past_drop}
 use Rattle.cue_table.proofs.Filling.{join_none, moved, one_more}
 

@@ -16,7 +16,7 @@ use Rattle.cue_table.specs.Depth.{tree_depth, children_depth}
 use Rattle.cue_table.specs.Form.{IsBelowAll, IsTaken, IsTree, AreBranches}
 use Rattle.cue_table.specs.Meet.{chain}
 use Rattle.cue_table.specs.RowList.{AreBefore, Appends, last_cmp}
-use Rattle.cue_table.specs.View.{branches}
+use Rattle.cue_table.specs.Inner.View.{branches}
 use Rattle.cue_table.proofs.Order.{equal_steps}
 use Rattle.cue_table.proofs.Exact.{below_all}
 

@@ -5,9 +5,9 @@ use Rattle.cue_table.specs.declared.node.Child.{Child}
 use Rattle.cue_table.specs.declared.plan.Slot.{Slot}
 use Rattle.cue_table.specs.declared.plan.Slot.TheVariants.{Keep, Insert, Alter}
 use Rattle.cue_table.specs.Tree.{Children, none, child}
-use Rattle.cue_table.specs.Plan.{Change, changed, merged, width, join, front, first_changed, slots_size}
-use Rattle.cue_table.specs.PlanView.{slots_of}
-use Rattle.cue_table.specs.View.{branches}
+use Rattle.cue_table.specs.Inner.Plan.{Change, changed, merged, width, join, front, first_changed, slots_size}
+use Rattle.cue_table.specs.Inner.PlanView.{slots_of}
+use Rattle.cue_table.specs.Inner.View.{branches}
 use Rattle.cue_table.proofs.Planning.{past_drop}
 
 module _ {R : Type 0} where

@@ -12,9 +12,9 @@ use Rattle.cue_row.specs.Steps.{step_of}
 use Rattle.cue_row.specs.declared.step.Step as steps
 use Rattle.cue_table.specs.Tree.{Tree, node, Children, none, child, below, find, if_equal, branch_at}
 use Rattle.cue_table.specs.Form.{IsBelowAll, Rise, IsTaken, IsTree, AreBranches}
-use Rattle.cue_table.specs.Place.{AreBefore, IsPlace, IsGap}
-use Rattle.cue_table.specs.Plan.{past}
-use Rattle.cue_table.specs.View.{branches}
+use Rattle.cue_table.specs.Inner.Place.{AreBefore, IsPlace, IsGap}
+use Rattle.cue_table.specs.Inner.Plan.{past}
+use Rattle.cue_table.specs.Inner.View.{branches}
 use Rattle.cue_table.specs.declared.node.Child.{Child}
 use Rattle.cue_table.proofs.Order.{step_total, equal_steps}
 

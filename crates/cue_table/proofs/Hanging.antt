@@ -15,10 +15,10 @@ use Rattle.cue_table.specs.Depth.{tree_depth, children_depth}
 use Rattle.cue_table.specs.Form.{IsBelowAll, IsTaken, IsTree, AreBranches}
 use Rattle.cue_table.specs.Many.{IsOfBranches, IsUnified, under}
 use Rattle.cue_table.specs.Meet.{IsMet, IsAdded}
-use Rattle.cue_table.specs.Plan.{or_row}
+use Rattle.cue_table.specs.Inner.Plan.{or_row}
 use Rattle.cue_table.specs.Refuses.{RowRefuses, TableRefuses}
 use Rattle.cue_table.specs.RowList.{last_cmp}
-use Rattle.cue_table.specs.View.{branches}
+use Rattle.cue_table.specs.Inner.View.{branches}
 use Rattle.cue_table.proofs.Appending.{form_more, depth_last}
 use Rattle.cue_table.proofs.ByHalves.{hung, free, one_branch, under_root, under_step, branches_given}
 use Rattle.cue_table.proofs.Exact.{FoundRefuses, find_first, find_before, find_past, found_refuses}

@@ -57,6 +57,10 @@ module _ {R : Type 0} where
   pub left_depth : (step : Step) (tree : Tree R) (rest left : Children R) → children_of rest ≡ (step, tree) ∷ children_of left → max (tree_depth tree + 1) (children_depth left) ≡ children_depth rest
   left_depth step tree rest left e = sym (ap children_depth (first_child rest left step tree e))
 
+  pub none_left : (rest : Children R) → children_of rest ≡ [] → children_depth rest ≡ 0
+  none_left none e = refl
+  none_left (child step tree rest) e = cc
+
   pub below_size : (tree : Tree R) → children_size (below tree) < tree_size tree
   below_size (node row children) = omega arith
 

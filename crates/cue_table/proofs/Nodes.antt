@@ -9,7 +9,7 @@ use Rattle.cue_row.specs.declared.step.Step.TheVariants.{Label, Index}
 use Rattle.cue_row.specs.Steps.{step_of}
 use Rattle.cue_table.specs.Tree.{Tree, node, Children, none, child, taken, labels_of, items_of}
 use Rattle.cue_table.specs.Form.{IsBelowAll, Rise, StartsAtIndex, IsTree, AreBranches}
-use Rattle.cue_table.specs.View.{branches, tree_of}
+use Rattle.cue_table.specs.Inner.View.{branches, tree_of}
 use Rattle.cue_table.specs.declared.node.Child.{Child}
 use Rattle.cue_table.specs.declared.node.Node.TheInside.{Inside}
 use Rattle.cue_table.proofs.Finding.{at_or_below}

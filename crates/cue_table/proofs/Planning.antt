@@ -9,11 +9,11 @@ use Rattle.cue_table.specs.declared.node.Node.TheInside.{Inside}
 use Rattle.cue_table.specs.Refuses.{RowRefuses}
 use Rattle.cue_table.specs.Form.{AreBranches, IsKept, IsTable}
 use Rattle.cue_table.specs.Meet.{IsMerge, IsMet, IsUnion}
-use Rattle.cue_table.specs.Place.{IsPlace, IsGap}
-use Rattle.cue_table.specs.Plan.{Change, change, Branches, changed, changed_below, merged, or_row, width, join, front, past}
-use Rattle.cue_table.specs.PlanView.{slots_of}
+use Rattle.cue_table.specs.Inner.Place.{IsPlace, IsGap}
+use Rattle.cue_table.specs.Inner.Plan.{Change, change, Branches, changed, changed_below, merged, or_row, width, join, front, past}
+use Rattle.cue_table.specs.Inner.PlanView.{slots_of}
 use Rattle.cue_table.specs.Size.{tree_size, children_size}
-use Rattle.cue_table.specs.View.{branches, tree_of}
+use Rattle.cue_table.specs.Inner.View.{branches, tree_of}
 use Rattle.cue_table.proofs.Merging.{merge_stay, merge_insert, merge_alter}
 
 module _ {R Q : Type 0} where

@@ -16,7 +16,7 @@ use Rattle.cue_table.specs.Form.{IsTaken, IsTree, AreBranches, IsKept, IsTable}
 use Rattle.cue_table.specs.Size.{tree_size, children_size}
 use Rattle.cue_table.specs.Walks.{first_child}
 use Rattle.cue_table.specs.Valid.{further, MayHold, IsElement, IsOpenStruct, IsValidTable}
-use Rattle.cue_table.specs.ValidWalk.{IsLevelAt, MayStand, HasChild, IsSound, AreSound}
+use Rattle.cue_table.specs.Inner.ValidWalk.{IsLevelAt, MayStand, HasChild, IsSound, AreSound}
 use Rattle.cue_table.proofs.Order.{equal_steps}
 use Rattle.cue_table.proofs.Exact.{find_first}
 use Rattle.cue_table.proofs.Depth.{found_row, row_found, found_later, taken_row, row_depth}

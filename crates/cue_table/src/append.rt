@@ -4,7 +4,7 @@ ghost use Rattle.cue_row.specs.Steps.{step_of};
 ghost use Rattle.cue_table.specs.Depth.{tree_depth};
 ghost use Rattle.cue_table.specs.Form.{IsKept, IsTable};
 ghost use Rattle.cue_table.specs.RowList.{Appends, last_cmp};
-ghost use Rattle.cue_table.specs.View.{branches};
+ghost use Rattle.cue_table.specs.Inner.View.{branches};
 
 use crate::boxed::Boxed;
 use crate::chain::single;

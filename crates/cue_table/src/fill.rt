@@ -3,10 +3,10 @@ ghost use Rattle.std.specs.Prelude.{◌≡◌, ◌+◌, ◌≤◌, ◌++◌, len
 ghost use Rattle.std.specs.Vec.{vec_len, vec_capacity};
 ghost use Rattle.std.specs.Vec.Iter.{into_iter_items};
 ghost use Rattle.cue_table.specs.Tree.{Children};
-ghost use Rattle.cue_table.specs.Plan.{Slots, done, IsAmending, changed, changed_below};
-ghost use Rattle.cue_table.specs.Plan.{first_changed, merged, width};
-ghost use Rattle.cue_table.specs.PlanView.{HasRoom, amended, below_of, slot_before, slots_of};
-ghost use Rattle.cue_table.specs.View.{branches};
+ghost use Rattle.cue_table.specs.Inner.Plan.{Slots, done, IsAmending, changed, changed_below};
+ghost use Rattle.cue_table.specs.Inner.Plan.{first_changed, merged, width};
+ghost use Rattle.cue_table.specs.Inner.PlanView.{HasRoom, amended, below_of, slot_before, slots_of};
+ghost use Rattle.cue_table.specs.Inner.View.{branches};
 
 use crate::node::{Child, Node};
 use crate::plan::{Below, Plan, Slot};

@@ -4,7 +4,7 @@ ghost use Rattle.std.specs.Iterator.{YieldsFirstBy, item_count};
 ghost use Rattle.cue_table.specs.Tree.{children_of, labels_of, items_of};
 ghost use Rattle.cue_table.specs.Form.{AreBranches, IsKept};
 ghost use Rattle.cue_row.specs.Steps.{step_of};
-ghost use Rattle.cue_table.specs.View.{branches};
+ghost use Rattle.cue_table.specs.Inner.View.{branches};
 
 use crate::Branch;
 use crate::node::Child;
@@ -27,7 +27,7 @@ impl<'a, R: Narrow> Model for Children<'a, R> {
 
     ghost coded = { children_code R.code };
 
-    ghost use Rattle.cue_table.specs.View.{branches};
+    ghost use Rattle.cue_table.specs.Inner.View.{branches};
     ghost use Rattle.cue_table.specs.Form.{AreBranches, IsKept};
 
     ghost view = { λ it. branches it.rest.now };
@@ -75,7 +75,7 @@ impl<'a, R: Narrow> Model for Labels<'a, R> {
     ghost coded = { labels_code R.code };
 
     ghost use Rattle.cue_table.specs.Tree.{labels_of};
-    ghost use Rattle.cue_table.specs.View.{branches};
+    ghost use Rattle.cue_table.specs.Inner.View.{branches};
     ghost use Rattle.cue_table.specs.Form.{AreBranches, IsKept};
 
     ghost view = { λ it. labels_of (branches it.rest.now) };
@@ -129,7 +129,7 @@ impl<'a, R: Narrow> Model for Items<'a, R> {
     ghost coded = { items_code R.code };
 
     ghost use Rattle.cue_table.specs.Tree.{items_of};
-    ghost use Rattle.cue_table.specs.View.{branches};
+    ghost use Rattle.cue_table.specs.Inner.View.{branches};
     ghost use Rattle.cue_table.specs.Form.{AreBranches, IsKept, StartsAtIndex};
 
     ghost view = { λ it. items_of (branches it.rest.now) };

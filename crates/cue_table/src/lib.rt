@@ -5,6 +5,7 @@ mod append;
 mod boxed;
 mod branch;
 mod chain;
+mod depth;
 mod fill;
 mod iter;
 mod laws;

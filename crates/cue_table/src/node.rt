@@ -3,8 +3,8 @@ ghost use Rattle.std.specs.Option.{option_map};
 ghost use Rattle.cue_table.specs.Tree.{empty, below, row_of, taken, find, branch_at};
 ghost use Rattle.cue_table.specs.Form.{IsTable, Rise};
 ghost use Rattle.cue_row.specs.Steps.{step_of};
-ghost use Rattle.cue_table.specs.View.{branches};
-ghost use Rattle.cue_table.specs.Place.{IsGap, IsPlace};
+ghost use Rattle.cue_table.specs.Inner.View.{branches};
+ghost use Rattle.cue_table.specs.Inner.Place.{IsGap, IsPlace};
 
 use crate::boxed::Boxed;
 use cue_lattice::{Memory, Narrow};
@@ -38,14 +38,14 @@ impl<R: Narrow> Model for Node<R> {
 
     ghost coded = { tree_code R.code };
 
-    ghost use Rattle.cue_table.specs.View.{tree_of};
+    ghost use Rattle.cue_table.specs.Inner.View.{tree_of};
     ghost use Rattle.cue_table.specs.Size.{tree_size};
 
     ghost view = { tree_of };
 
     ghost size = { tree_size };
 
-    ghost use Rattle.cue_table.specs.Falls.{branches_fall};
+    ghost use Rattle.cue_table.specs.Inner.Falls.{branches_fall};
 
     ghost size_decreases = { λ a h. branches_fall a.children.items };
 }

@@ -3,10 +3,11 @@
 ghost use Rattle.std.specs.Prelude.{◌≡◌, ◌+◌, ◌<◌, ◌≤◌, drop, length, slice_index_or, IfOk, IsTrue};
 ghost use Rattle.cue_table.specs.Form.{AreBranches, IsKept, IsRow, IsTable};
 ghost use Rattle.cue_table.specs.Meet.{IsMerge, IsMet, IsUnion};
-ghost use Rattle.cue_table.specs.Plan.{IsAmending, changed, changed_below, merged, or_row, width};
-ghost use Rattle.cue_table.specs.PlanView.{HasRoom, below_of, slots_of};
+ghost use Rattle.cue_table.specs.Inner.Plan.{IsAmending, changed, changed_below, merged};
+ghost use Rattle.cue_table.specs.Inner.Plan.{or_row, width};
+ghost use Rattle.cue_table.specs.Inner.PlanView.{HasRoom, below_of, slots_of};
 ghost use Rattle.cue_table.specs.Refuses.{RowRefuses};
-ghost use Rattle.cue_table.specs.View.{branches};
+ghost use Rattle.cue_table.specs.Inner.View.{branches};
 
 use crate::boxed::Boxed;
 use crate::node::{Child, Node, place};
@@ -18,7 +19,7 @@ use std::marker::Model;
 #[derive(Drop)]
 #[cycle(plan)]
 pub(crate) struct Plan<R: Narrow> {
-    /// The row that stands there then, unless it stays as it is.
+    /// The row that will stand there, unless it stays as it is.
     pub(crate) row: Option<Boxed<R>>,
     /// What becomes of the branches.
     pub(crate) below: Below<R>,
@@ -32,17 +33,17 @@ pub(crate) enum Below<R: Narrow> {
     Stay,
     /// These are the branches, where none were.
     Take(Vec<Child<R>>),
-    /// Some of them change, and no other one stands among them then.
+    /// Some of them change where they stand, and none is added.
     Amend(Vec<Slot<R>>),
-    /// Others stand among them then; and the room for all of them.
+    /// Some are added among them; the list has room for all.
     Merge(Vec<Slot<R>>, Vec<Child<R>>),
 }
 
-/// So many branches of a list stay as they are, and what comes then.
+/// How a list of branches goes on: so many stay as they are, and then comes this.
 #[derive(Drop)]
 #[cycle(plan)]
 pub(crate) enum Slot<R: Narrow> {
-    /// Nothing more.
+    /// The end of the list.
     Keep(usize),
     /// A new branch.
     Insert(usize, Child<R>),
@@ -51,14 +52,14 @@ pub(crate) enum Slot<R: Narrow> {
 }
 
 impl<R: Narrow> Model for Plan<R> {
-    ghost use Rattle.cue_table.specs.Plan.{Change, change_size};
-    ghost use Rattle.cue_table.specs.PlanCode.{change_code};
+    ghost use Rattle.cue_table.specs.Inner.Plan.{Change, change_size};
+    ghost use Rattle.cue_table.specs.Inner.PlanCode.{change_code};
 
     ghost Value = { Change R };
 
     ghost coded = { change_code R.code };
 
-    ghost use Rattle.cue_table.specs.PlanView.{HasRoom, change_of};
+    ghost use Rattle.cue_table.specs.Inner.PlanView.{HasRoom, change_of};
 
     ghost view = { change_of };
 
@@ -66,7 +67,7 @@ impl<R: Narrow> Model for Plan<R> {
 
     ghost size = { change_size };
 
-    ghost use Rattle.cue_table.specs.PlanFalls.{below_falls};
+    ghost use Rattle.cue_table.specs.Inner.PlanFalls.{below_falls};
 
     ghost size_decreases = { λ a h. below_falls R.Narrow a.below };
 }
@@ -89,7 +90,7 @@ pub(crate) fn planned<R: Narrow>(
     })
 }
 
-/// The row that stands at a place then, unless it stays as it is.
+/// The row that will stand at a place, unless it stays as it is.
 pub(crate) fn plan_row<R: Narrow>(
     alloc: Global,
     left: &Option<Boxed<R>>,
@@ -135,7 +136,7 @@ fn plan_below<R: Narrow>(
     if left.is_empty() {
         return Ok(Below::Take(right));
     }
-    let count = left.len().checked_add(right.len()).ok_or(Memory)?;
+    let count = left.len() + right.len();
     let slots = plan_slots(alloc, left, right)?;
     if is_amending(&slots) {
         return Ok(Below::Amend(slots));

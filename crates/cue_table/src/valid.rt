@@ -10,7 +10,7 @@ ghost use Rattle.cue_table.specs.Tree.{Tree, row_of, below, none};
 ghost use Rattle.cue_table.specs.Form.{IsTable};
 ghost use Rattle.cue_table.specs.Meet.{IsMet};
 ghost use Rattle.cue_table.specs.Valid.{IsOpenStruct, IsValidTable};
-ghost use Rattle.cue_table.specs.ValidWalk.{HasChild, IsSound, MayStand};
+ghost use Rattle.cue_table.specs.Inner.ValidWalk.{HasChild, IsSound, MayStand};
 
 use crate::{Branch, Table};
 use cue_row::{Level, Row, RowKind, Step};

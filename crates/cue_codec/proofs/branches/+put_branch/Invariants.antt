@@ -4,7 +4,7 @@ use Rattle.cue_row.specs.declared.row.Row.{Row}
 use Rattle.cue_table.specs.Tree.{row_of, below, rows_of, rows_below}
 use Rattle.cue_table.specs.Size.{tree_size, children_size}
 use Rattle.cue_table.specs.Depth.{children_depth}
-use Rattle.cue_table.specs.ValidWalk.{AreSound}
+use Rattle.cue_table.specs.Inner.ValidWalk.{AreSound}
 use Rattle.cue_codec.specs.RowBytes.{row_bytes_from}
 use Rattle.cue_codec.proofs.branches.+put_branch.Given as goal
 

@@ -9,7 +9,7 @@ use Rattle.cue_table.specs.Tree.{node, rows_of}
 use Rattle.cue_table.specs.Depth.{tree_depth}
 use Rattle.cue_table.specs.Form.{IsKept, IsTree}
 use Rattle.cue_table.specs.RowList.{Appends, last_cmp}
-use Rattle.cue_table.specs.View.{branches}
+use Rattle.cue_table.specs.Inner.View.{branches}
 use Rattle.cue_table.proofs.Appending.{appended_last, formed_last, deep_last, appended_more, formed_more, deep_more, item_form, last_some, not_before_greater, not_before_here, some_branches, taken_some, taken_under, result_taken}
 use Rattle.cue_table.proofs.append.+append.Goals as goal
 use Rattle.cue_table.proofs.append.+append.Goals.{then-is_some-via-then-is_some, then-is_some-via-else-is_some+then-not-is_empty}

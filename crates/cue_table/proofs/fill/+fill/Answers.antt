@@ -2,9 +2,9 @@ use Rattle.std.proofs.Common.{arith, ◌≡◌, ◌<◌, ◌≤◌, length, min,
 use Rattle.std.specs.Vec.{vec_capacity}
 use Rattle.std.specs.Vec.Iter.{into_iter_items}
 use Rattle.cue_table.specs.declared.plan.Slot.TheVariants.{Keep, Insert, Alter}
-use Rattle.cue_table.specs.Plan.{IsAmending, change_size, changed, first_changed, merged, slots_size}
-use Rattle.cue_table.specs.PlanView.{change_of, slot_before, slots_of}
-use Rattle.cue_table.specs.View.{branches}
+use Rattle.cue_table.specs.Inner.Plan.{IsAmending, change_size, changed, first_changed, merged, slots_size}
+use Rattle.cue_table.specs.Inner.PlanView.{change_of, slot_before, slots_of}
+use Rattle.cue_table.specs.Inner.View.{branches}
 use Rattle.cue_table.proofs.Amending.{altered_here, amends_more, amends_end, first_amends, first_size, passed}
 use Rattle.cue_table.proofs.Filling.{fills_next, fills_keep, fills_insert, fills_alter, fills_none, fills_as, fills_end, both_none}
 use Rattle.cue_table.proofs.fill.+fill.Goals as goal

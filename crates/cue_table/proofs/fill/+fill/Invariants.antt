@@ -1,8 +1,8 @@
 use Rattle.std.proofs.Common.{◌+◌, ◌*◌, vec_len}
 use Rattle.std.specs.Vec.{vec_capacity}
 use Rattle.std.specs.Vec.Iter.{into_iter_items, into_iter_len}
-use Rattle.cue_table.specs.Plan.{done, change_size, branches_size, slots_size}
-use Rattle.cue_table.specs.PlanView.{slot_before, slots_of, below_of}
+use Rattle.cue_table.specs.Inner.Plan.{done, change_size, branches_size, slots_size}
+use Rattle.cue_table.specs.Inner.PlanView.{slot_before, slots_of, below_of}
 use Rattle.cue_table.proofs.Amending.{Amends}
 use Rattle.cue_table.proofs.Filling.{Fills}
 use Rattle.cue_table.proofs.fill.+fill.Given as goal

@@ -1,9 +1,9 @@
 use Rattle.std.proofs.Common.{arith, ◌≡◌, ap, subst, sym, ◌∙◌}
 use Rattle.std.specs.Vec.Iter.{into_iter_items}
 use Rattle.cue_table.specs.Form.{IsKept, IsTree}
-use Rattle.cue_table.specs.PlanView.{below_of}
+use Rattle.cue_table.specs.Inner.PlanView.{below_of}
 use Rattle.cue_table.specs.Size.{tree_size}
-use Rattle.cue_table.specs.View.{branches, tree_of}
+use Rattle.cue_table.specs.Inner.View.{branches, tree_of}
 use Rattle.cue_table.proofs.Finding.{branches_rise}
 use Rattle.cue_table.proofs.Nodes.{branches_form}
 use Rattle.cue_table.proofs.Planning.{planned_views, goes_next, inserted, altered, ended, at_form, first_form, first_smaller}

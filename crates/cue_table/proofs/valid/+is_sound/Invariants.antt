@@ -1,7 +1,7 @@
 use Rattle.std.proofs.Common.{◌≤◌, ◌↔◌}
 use Rattle.cue_table.specs.Tree.{below}
 use Rattle.cue_table.specs.Size.{tree_size, children_size}
-use Rattle.cue_table.specs.ValidWalk.{AreSound}
+use Rattle.cue_table.specs.Inner.ValidWalk.{AreSound}
 use Rattle.cue_table.proofs.valid.+is_sound.Given as goal
 
 abbrev pub decreases-is_sound : goal.decreases-is_sound

@@ -1,7 +1,7 @@
 use Rattle.std.proofs.Common.{rules}
 use Rattle.std.proofs.lemmas.List.Sorted.{IsPartitionPoint-from_clause}
 use Rattle.cue_table.specs.Form.{IsKept}
-use Rattle.cue_table.specs.View.{branches}
+use Rattle.cue_table.specs.Inner.View.{branches}
 use Rattle.cue_table.proofs.Finding.{branches_rise}
 use Rattle.cue_table.proofs.Nodes.{is_label, labels_first, form_from, items_from, starts_from}
 use Rattle.cue_table.proofs.iter.Items.new.Goals as goal

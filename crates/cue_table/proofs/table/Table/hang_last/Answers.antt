@@ -5,7 +5,7 @@ use Rattle.cue_table.specs.Depth.{tree_depth}
 use Rattle.cue_table.specs.Form.{IsKept, IsTree}
 use Rattle.cue_table.specs.RowList.{last_cmp}
 use Rattle.cue_table.specs.Tree.{node, below, taken}
-use Rattle.cue_table.specs.View.{branches}
+use Rattle.cue_table.specs.Inner.View.{branches}
 use Rattle.cue_table.proofs.ByHalves.{is_there, under_taken}
 use Rattle.cue_table.proofs.Hanging.{is_absent, hung_none, hung_form, hung_depth, hung_ok}
 use Rattle.cue_table.proofs.table.Table.hang_last.Goals as goal

@@ -3,10 +3,10 @@ use Rattle.cue_lattice.specs.Limits.{step_limit}
 use Rattle.cue_table.specs.Form.{IsKept, IsRow, IsTree}
 use Rattle.cue_table.specs.Depth.{tree_depth}
 use Rattle.cue_table.specs.Meet.{IsUnion}
-use Rattle.cue_table.specs.Plan.{or_row}
+use Rattle.cue_table.specs.Inner.Plan.{or_row}
 use Rattle.cue_table.specs.Refuses.{RowRefuses}
 use Rattle.cue_table.specs.Tree.{node}
-use Rattle.cue_table.specs.View.{branches}
+use Rattle.cue_table.specs.Inner.View.{branches}
 use Rattle.cue_table.proofs.Hanging.{added_row}
 use Rattle.cue_table.proofs.table.Table.meet_row.Goals as goal
 

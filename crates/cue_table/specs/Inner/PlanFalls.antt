@@ -3,8 +3,8 @@ use Rattle.std.specs.Prelude.{◌+◌, ◌≤◌, max, List, [], ◌∷◌}
 use Rattle.std.proofs.Common.{arith}
 use denote.Param.Weighed.{most}
 use Rattle.cue_lattice.specs.declared.narrow.Narrow.{Ghosts}
-use Rattle.cue_table.specs.Plan.{slots_size, branches_size}
-use Rattle.cue_table.specs.PlanView.{slots_of, below_of}
+use Rattle.cue_table.specs.Inner.Plan.{slots_size, branches_size}
+use Rattle.cue_table.specs.Inner.PlanView.{slots_of, below_of}
 use Rattle.cue_table.specs.declared.plan.Below.{Below}
 use Rattle.cue_table.specs.declared.plan.Below.TheVariants.{Stay, Take, Amend, Merge}
 use Rattle.cue_table.specs.declared.plan.Slot.{Slot}

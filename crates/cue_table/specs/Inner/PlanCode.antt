@@ -5,8 +5,9 @@ use Rattle.std.specs.Coded.{Coded}
 use base.Stored.{Gv, gnil, gnum, gcons, num}
 use Rattle.cue_table.specs.Code.{head, tail, step_gv, step_inj, row_gv, row_inj, tree_gv, tree_inj}
 use Rattle.cue_table.specs.Code.{children_gv, children_inj}
-use Rattle.cue_table.specs.Plan.{Change, change, Branches, stay, take, merge, Slots, done, keep}
-use Rattle.cue_table.specs.Plan.{insert, alter}
+use Rattle.cue_table.specs.Inner.Plan.{Change, change, Branches, stay, take, merge, Slots}
+use Rattle.cue_table.specs.Inner.Plan.{done, keep}
+use Rattle.cue_table.specs.Inner.Plan.{insert, alter}
 
 mutual
   pub change_gv : {R : Type 0} → (R → Gv) → Change R → Gv

@@ -6,8 +6,8 @@ use Rattle.cue_lattice.specs.Path.{step_cmp}
 use Rattle.cue_row.specs.Steps.{step_of}
 use Rattle.cue_table.specs.Form.{IsBelowAll}
 use Rattle.cue_table.specs.Tree.{Children, none, child, find}
-use Rattle.cue_table.specs.Plan.{past}
-use Rattle.cue_table.specs.View.{branches}
+use Rattle.cue_table.specs.Inner.Plan.{past}
+use Rattle.cue_table.specs.Inner.View.{branches}
 use Rattle.cue_table.specs.declared.node.Child.{Child}
 
 -- the first n branches stand before the step

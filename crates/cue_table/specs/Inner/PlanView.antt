@@ -3,10 +3,11 @@ use Rattle.std.specs.Prelude.{◌≡◌, ◌≤◌, ℕ, List, [], ◌∷◌, dr
 use Rattle.std.specs.Vec.{vec_len, vec_capacity}
 use Rattle.cue_row.specs.Steps.{step_of}
 use Rattle.cue_table.specs.Tree.{Children}
-use Rattle.cue_table.specs.View.{branches}
+use Rattle.cue_table.specs.Inner.View.{branches}
 use Rattle.cue_table.specs.declared.node.Child.{Child}
-use Rattle.cue_table.specs.Plan.{Change, change, Branches, stay, take, merge, Slots, done, keep}
-use Rattle.cue_table.specs.Plan.{insert, alter, join, width, IsAmending}
+use Rattle.cue_table.specs.Inner.Plan.{Change, change, Branches, stay, take, merge, Slots}
+use Rattle.cue_table.specs.Inner.Plan.{done, keep}
+use Rattle.cue_table.specs.Inner.Plan.{insert, alter, join, width, IsAmending}
 use Rattle.cue_table.specs.declared.plan.Slot.{Slot}
 use Rattle.cue_table.specs.declared.plan.Slot.TheVariants.{Keep, Insert, Alter}
 use Rattle.cue_table.specs.declared.plan.Below.{Below}

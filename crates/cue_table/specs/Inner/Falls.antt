@@ -3,7 +3,7 @@ use Rattle.std.specs.Prelude.{◌+◌, ◌≤◌, max, List, [], ◌∷◌}
 use Rattle.std.proofs.Common.{arith}
 use denote.Param.Weighed.{most}
 use Rattle.cue_table.specs.Size.{tree_size, children_size}
-use Rattle.cue_table.specs.View.{branches}
+use Rattle.cue_table.specs.Inner.View.{branches}
 use Rattle.cue_table.specs.declared.node.Child.{Child}
 
 -- no branch is larger than all of them together
