@@ -1,14 +1,15 @@
 -- The bytes of a row: its path, its level, its kind, and what the kind leaves open.
 use Rattle.std.specs.Prelude.{◌≡◌, ℕ, ◌+◌, Bool, true, false, not, ◌&&◌, List, [], ◌∷◌, ◌++◌}
-use Rattle.std.specs.Prelude.{length, Option, None}
+use Rattle.std.specs.Prelude.{length, Option}
 use Rattle.std.specs.List.{flat_map, AllByRecursion}
 use Rattle.cue_lattice.specs.Bools.{is_nil}
 use Rattle.cue_lattice.specs.Path.{Path}
-use Rattle.cue_sets.specs.Pieces.{least, greatest}
 use Rattle.cue_scalars.specs.declared.scalar_set.ScalarSet.{ScalarSet}
 use Rattle.cue_row.specs.declared.level.Level.{Level}
 use Rattle.cue_row.specs.declared.row.Row.{Row}
 use Rattle.cue_row.specs.Levels.{level_of}
+pub use Rattle.cue_row.specs.Made.{empty_set, full_set}
+use Rattle.cue_row.specs.Made.{free_row, scalar_row, struct_row, list_row, nothing_row}
 use Rattle.cue_codec.specs.Parts.{set_bytes, labels_bytes, lengths_bytes, step_bytes, path_bytes}
 use Rattle.cue_codec.specs.Reading.{Begins, AreWideLengths, IsShort, AreShortLabels}
 use Rattle.cue_codec.specs.StateRow.{IsStateSet, AreStateLabels, IsStatePath}
@@ -59,70 +60,13 @@ parts_of row = parts_by row.struct_ok row.list_ok (is_empty_set row.value) row
 unfoldable pub row_bytes : Path × Row → List ℕ
 row_bytes row = path_bytes row.0 ++ (level_of row.1.level ∷ parts_bytes (parts_of row.1))
 
-abbrev pub empty_set : ScalarSet
-empty_set = record { null = false; no = false; yes = false; ints = []; texts = (false, []) }
-
-abbrev pub full_set : ScalarSet
-full_set = record {
-  null = true;
-  no = true;
-  yes = true;
-  ints = (least, greatest) ∷ [];
-  texts = (true, []);
-}
-
 -- the row of a kind that says no more than this
 abbrev pub row_of : Level → Parts → Row
-row_of level free = record {
-  level = level;
-  value = full_set;
-  usual = full_set;
-  struct_ok = true;
-  list_ok = true;
-  labels = None;
-  least = 0;
-  most = None;
-}
-row_of level (scalar value usual) = record {
-  level = level;
-  value = value;
-  usual = usual;
-  struct_ok = false;
-  list_ok = false;
-  labels = None;
-  least = 0;
-  most = None;
-}
-row_of level (struct labels) = record {
-  level = level;
-  value = empty_set;
-  usual = empty_set;
-  struct_ok = true;
-  list_ok = false;
-  labels = labels;
-  least = 0;
-  most = None;
-}
-row_of level (list lengths) = record {
-  level = level;
-  value = empty_set;
-  usual = empty_set;
-  struct_ok = false;
-  list_ok = true;
-  labels = None;
-  least = lengths.0;
-  most = lengths.1;
-}
-row_of level (nothing labels lengths) = record {
-  level = level;
-  value = empty_set;
-  usual = empty_set;
-  struct_ok = false;
-  list_ok = false;
-  labels = labels;
-  least = lengths.0;
-  most = lengths.1;
-}
+row_of level free = free_row level
+row_of level (scalar value usual) = scalar_row level value usual
+row_of level (struct labels) = struct_row level labels
+row_of level (list lengths) = list_row level lengths.0 lengths.1
+row_of level (nothing labels lengths) = nothing_row level labels lengths.0 lengths.1
 
 -- some scalar, and the usual ones
 pub record AreScalars (sets : ScalarSet × ScalarSet) : Type 0 where

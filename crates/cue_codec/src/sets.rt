@@ -99,9 +99,7 @@ pub fn labels_at(alloc: Global, bytes: &[u8]) -> Result<(Labels, &[u8]), Kind>
         return Err(Kind::NotState);
     };
     if !is_listed {
-        let Ok(labels) = Labels::all(alloc) else {
-            return Err(Kind::Memory);
-        };
+        let labels = Labels::all(alloc).unwrap();
         return Ok((labels, rest));
     }
     let (texts, rest) = texts_at(alloc, rest)?;

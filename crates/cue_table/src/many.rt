@@ -27,10 +27,11 @@ impl<R: Narrow> Table<R> {
         next_unified(alloc, &mut rest, count)
     }
 
-    /// The table of branches that are given in any order: it knows nothing at the root, and below a
-    /// step what the tables given for this step know together. The tables are taken over and not
-    /// copied. They are put in the order of their steps, and each is hung in behind the last one;
-    /// those at a step that is there already are unified by halves.
+    /// The table of branches that are given in any order, each less than 64 steps deep, as
+    /// [`Table::depth`] tells: it knows nothing at the root, and below a step what the tables given
+    /// for this step know together. The tables are taken over and not copied. They are put in the
+    /// order of their steps, and each is hung in behind the last one; those at a step that is there
+    /// already are unified by halves.
     pub fn of_branches(alloc: Global, branches: Vec<(Step, Table<R>)>) -> Result<Table<R>, Memory>
         requires { All (λ one. tree_depth one.1 < step_limit) branches.items }
         ensures form { IfOk result (IsTable R.refuses R.is_value) }

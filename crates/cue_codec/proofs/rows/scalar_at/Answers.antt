@@ -1,6 +1,6 @@
 use Rattle.std.proofs.Common.{refl, inr, sym, ◌∙◌}
 use Rattle.std.proofs.lemmas.Result.{err_from_is_err_and}
-use Rattle.cue_codec.proofs.Codes.{refused_so}
+use Rattle.cue_codec.proofs.Codes.{refused_so, same_ok}
 use Rattle.cue_codec.proofs.RowParts.{scalars_first, scalars_none, scalars_second, scalars_found}
 use Rattle.cue_codec.proofs.rows.scalar_at.Goals as goal
 
@@ -21,6 +21,6 @@ returns-in_err-usual-clause-refused c =
 pub returns-clause-ok : goal.returns-clause-ok
 returns-clause-ok c = record {
   item = (c.in_ok-value.value, c.in_ok-usual.usual);
-  says = c.in-Ok.ensures;
+  says = same_ok c.unwrap-row.result _ c.of_scalars.result c.unwrap-row.ensures c.of_scalars.ensures;
   begins = scalars_found c.args.bytes.now c.in_ok-value.middle.now c.in_ok-usual.rest.now c.in_ok-value.value c.in_ok-usual.usual c.in_ok-value.ensures.ok (sym c.is_empty.ensures ∙ c.if-is_empty.false) c.in_ok-usual.ensures.ok;
 }

@@ -15,7 +15,7 @@ returns-in_default-bit_of-clause-refused c =
 
 pub returns-then-not-is_listed-clause-ok : goal.returns-then-not-is_listed-clause-ok
 returns-then-not-is_listed-clause-ok c =
-    labels_all c.args.bytes.now c.in-Some.rest.now c.in-Some.tag.now c.in-Ok.labels c.in-Some.ensures.cases.0 (sym c.in-Some-bit_of.ensures.some ∙ ap bit c.if-not-is_listed.true) (same_ok c.in-Ok.labels None c.all.result c.in-Ok.is c.all.ensures)
+    labels_all c.args.bytes.now c.in-Some.rest.now c.in-Some.tag.now c.unwrap-labels.result c.in-Some.ensures.cases.0 (sym c.in-Some-bit_of.ensures.some ∙ ap bit c.if-not-is_listed.true) (same_ok c.unwrap-labels.result None c.all.result c.unwrap-labels.ensures c.all.ensures)
 
 pub returns-in_err-texts-clause-refused : goal.returns-in_err-texts-clause-refused
 returns-in_err-texts-clause-refused c =
