@@ -2,7 +2,7 @@ use Rattle.std.proofs.Common.{◌≡◌, ◌≤◌, max}
 use Rattle.cue_table.specs.Tree.{below}
 use Rattle.cue_table.specs.Size.{tree_size, children_size}
 use Rattle.cue_table.specs.Depth.{children_depth}
-use Rattle.cue_table.proofs.depth.+depth_of.Given as goal
+use Rattle.cue_table.proofs.measure.+depth_of.Given as goal
 
 abbrev pub decreases-depth_of : goal.decreases-depth_of
 decreases-depth_of g l = tree_size l.branch.now

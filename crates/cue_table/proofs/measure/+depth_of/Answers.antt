@@ -1,7 +1,7 @@
 use Rattle.std.proofs.Common.{arith}
 use Rattle.cue_row.specs.Steps.{step_of}
 use Rattle.cue_table.proofs.Listing.{left_size, left_depth, none_left, below_size, below_depth}
-use Rattle.cue_table.proofs.depth.+depth_of.Goals as goal
+use Rattle.cue_table.proofs.measure.+depth_of.Goals as goal
 
 pub depth_of-requires : goal.depth_of-requires
 depth_of-requires g t c =
@@ -22,3 +22,9 @@ returns g t c =
     let none = none_left c.loop-below.below-iterator c.in-None.ensures.steps.0 in
     let all = below_depth c.args.branch.now in
     omega (arith, c.loop-below.invariant.deepest)
+
+pub overflow_add-depth_of : goal.overflow_add-depth_of
+overflow_add-depth_of g t c =
+    let deep = left_depth (step_of c.in-Some.field-0-0.now) c.in-Some.below c.loop-below.below-iterator c.next.new.self c.in-Some.ensures.steps in
+    let all = below_depth c.args.branch.now in
+    omega (arith, c.loop-below.invariant.deepest, c.depth_of.ensures, c.requires)
