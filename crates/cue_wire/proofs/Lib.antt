@@ -1,3 +1,4 @@
 pub mod Answered
+pub mod Connections
 pub mod Cuts
 pub mod Streams

@@ -1,4 +1,5 @@
 pub mod Calls
+pub mod Connections
 pub mod Frames
 pub mod Requests
 pub mod Serving

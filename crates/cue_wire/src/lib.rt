@@ -7,9 +7,11 @@
 
 mod answer;
 mod call;
+mod connection;
 mod frame;
 mod reply;
 mod session;
 
+pub use connection::{Ended, serve};
 pub use cue_replica::{Kind, Memory, Replica};
 pub use session::Session;

@@ -52,6 +52,13 @@ impl Session {
         !self.ended
     }
 
+    /// Whether the stream so far ends between two frames: nothing of one that isn't whole is kept.
+    pub fn is_between_frames(&self) -> bool
+        ensures { IsTrue result ↔ self.now ≡ reading [] }
+    {
+        !self.ended && self.unread.is_empty()
+    }
+
     /// Takes the next piece of the stream, serves all frames that are whole by now, in order, and
     /// adds their replies to `out`. A request is applied exactly when its whole reply stands there.
     ///

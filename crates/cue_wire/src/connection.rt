@@ -1,0 +1,126 @@
+ghost use Rattle.std.specs.Prelude.{◌≡◌, ◌-◌, ◌+◌, ◌^◌, ◌≤◌, ◌++◌, List, ℕ, [], OnOk, IfErr};
+ghost use Rattle.std.specs.Io.KnownBytes.{Appends};
+ghost use Rattle.cue_wire.specs.Connections.{Passage, PassesBy, EndsAt, Replied, IsWriteFault};
+ghost use Rattle.cue_wire.specs.Sessions.{reading};
+
+use crate::session::Session;
+use cue_device::{Fault, Sink, Source};
+use cue_replica::{Kind, Replica};
+use std::alloc::Global;
+
+/// The most bytes that one read asks for.
+const PIECE: usize = 4096;
+
+/// How a connection ended that was served to its end.
+#[derive(Clone, Copy, Debug, PartialEq, Eq)]
+pub struct Ended {
+    /// Whether it ended between two frames.
+    pub whole: bool,
+}
+
+/// Serves a connection until its end: reads requests from the source, hands them to the site, and
+/// writes their replies to the sink. A turn is one read or one write.
+///
+/// Each read asks for at most 4,096 bytes, and none begins before all replies so far are written.
+///
+/// # Errors
+///
+/// `FrameTooLong` and `Memory`, where the replies to all that was served are written; `TurnsUsed`
+/// where a further turn would be needed; `Device` where a read or a write failed. In each case the
+/// site has taken what was served.
+pub fn serve<S: Source, K: Sink>(
+    alloc: Global,
+    source: &mut S,
+    sink: &mut K,
+    site: &mut Replica,
+    turns: u64,
+) -> Result<Ended, Kind>
+    requires reads { S.called source.old + turns ≤ 2 ^ 64 - 1 }
+    requires writes { K.called sink.old + turns ≤ 2 ^ 64 - 1 }
+    ensures passage { (passage : Passage site.old site.new)
+        × PassesBy passage (S.given source.old) (S.given source.new)
+        (S.to_come source.old) (S.to_come source.new) (K.taken sink.old) (K.taken sink.new)
+        × EndsAt result passage (S.to_come source.new)
+        (S.called source.old + K.called sink.old + turns)
+        (S.called source.new + K.called sink.new)
+        (S.failed source.old + K.failed sink.old) (S.failed source.new + K.failed sink.new) }
+    ensures reads { S.called source.old ≤ S.called source.new }
+    ensures writes { K.called sink.old ≤ K.called sink.new }
+    ensures turns { S.called source.new + K.called sink.new
+        ≤ S.called source.old + K.called sink.old + turns }
+{
+    let Ok(mut session) = Session::new(alloc) else {
+        return Err(Kind::Memory);
+    };
+    let mut out = Vec::new(alloc);
+    let mut piece = [0u8; PIECE];
+    let mut left = turns;
+    while left > 0 {
+        left -= 1;
+        let count = match source.read(&mut piece) {
+            Ok(count) => count,
+            Err(Fault) => return Err(Kind::Device),
+        };
+        if count == 0 {
+            let whole = session.is_between_frames();
+            return Ok(Ended { whole });
+        }
+        serve_piece(
+            &mut session,
+            site,
+            &piece[..count],
+            &mut out,
+            sink,
+            &mut left,
+        )?;
+    }
+    Err(Kind::TurnsUsed)
+}
+
+/// Serves what is whole with this piece, and writes the replies, while there are turns.
+fn serve_piece<K: Sink>(
+    session: &mut Session,
+    site: &mut Replica,
+    piece: &[u8],
+    out: &mut Vec<u8>,
+    sink: &mut K,
+    left: &mut u64,
+) -> Result<(), Kind>
+    requires { K.called sink.old + left.old ≤ 2 ^ 64 - 1 }
+    ensures served { (kept : List ℕ) → session.old ≡ reading kept
+        → Replied result (kept ++ piece.now) session.new site.old site.new
+        (K.taken sink.old) (K.taken sink.new) left.new (K.failed sink.old) (K.failed sink.new) }
+    ensures turns { K.called sink.new + left.new ≡ K.called sink.old + left.old }
+    ensures fewer { left.new ≤ left.old }
+    ensures sound { OnOk result (K.failed sink.new ≡ K.failed sink.old) }
+{
+    out.clear();
+    let fed = session.feed(site, piece, out);
+    write_all(sink, out, left)?;
+    fed
+}
+
+/// Writes bytes, each time all that is left of them, while there are turns.
+fn write_all<K: Sink>(sink: &mut K, bytes: &[u8], left: &mut u64) -> Result<(), Kind>
+    requires { K.called sink.old + left.old ≤ 2 ^ 64 - 1 }
+    ensures written { (front back : List ℕ) × (bytes.now ≡ front ++ back)
+        × Appends (K.taken sink.old) (K.taken sink.new) front × OnOk result (back ≡ []) }
+    ensures turns { K.called sink.new + left.new ≡ K.called sink.old + left.old }
+    ensures fewer { left.new ≤ left.old }
+    ensures sound { OnOk result (K.failed sink.new ≡ K.failed sink.old) }
+    ensures fault { IfErr result (λ kind. IsWriteFault kind left.new (K.failed sink.old)
+        (K.failed sink.new)) }
+{
+    let mut rest = bytes;
+    while !rest.is_empty() {
+        if *left == 0 {
+            return Err(Kind::TurnsUsed);
+        }
+        *left -= 1;
+        match sink.write(rest) {
+            Ok(count) => rest = &rest[count..],
+            Err(Fault) => return Err(Kind::Device),
+        }
+    }
+    Ok(())
+}
