@@ -10,7 +10,7 @@ use Rattle.cue_syntax.specs.declared.tree.LabelName.{LabelName}
 use Rattle.cue_syntax.specs.declared.tree.Mark.{Mark}
 use Rattle.cue_syntax.specs.Syntax.{Expression, Elements, no_elements, element, Entry, ellipsis, field, definition, Entries, no_entries, entry}
 use Rattle.cue_syntax.specs.Spelling.{Reads, one, comma_if, identifier_kind, label_kind, spell, spell_mark, spell_label, spell_elements, spell_more_elements, spell_rest, spell_entry, spell_entries, spell_more_entries}
-use Rattle.cue_syntax.specs.Grammar.{AreRight, AreRightEntries, IsNested, EndsEntries, EndsElements, IsPackageName, levels_of_elements, levels_of_entries, Limit}
+use Rattle.cue_syntax.specs.Grammar.{AreRight, AreRightEntries, IsNested, EndsEntries, EndsElements, IsPackageName, IsRightPackage, levels_of_elements, levels_of_entries, Limit}
 use Rattle.cue_syntax.proofs.ReadingsJoin.{reads_then, reads_none}
 use Rattle.cue_syntax.proofs.RowsGrow.{reads_same}
 use Rattle.cue_syntax.proofs.StillToRead.{Keeps, AnExpression, Valued, IsAllowed, AnEntry, closing, NestedIn, Declared, MoreDeclared, Listed, rest_behind, MoreListed, Closed, Whole, Packaged, Shuts, Marked}
@@ -226,13 +226,19 @@ comma_package t kind first = record {
   within = first.within;
 }
 
+-- a clause whose name is one of a package, and declarations after its comma alone
+packaged_right : (called : Identifier) (comma : Bool) (es : Entries) → IsPackageName called → (comma ≡ false → es ≡ no_entries) → IsRightPackage (Some (record { name = called; comma = comma })) es
+packaged_right called comma no_entries named parted = named
+packaged_right called true (entry e es) named parted = (named, refl)
+packaged_right called false (entry e es) named parted = absurd (let h : entry e es ≡ no_entries = parted refl in cc)
+
 -- `package`, the name of a package, and what may come after it are a whole text
 pub package_whole : {limit : Limit} {n : ℕ} {a b : List Token} (first t : Token) (called : Identifier) → first.kind ≡ kinds.Name (codes "package") → t.kind ≡ identifier_kind called
     → IsPackageName called → Packaged limit n a b → Whole limit n (first ∷ t ∷ a) b
 package_whole first t called word kind right packaged = record {
   tree = record { package_clause = Some (record { name = called; comma = packaged.comma }); declarations = packaged.tree; comma = packaged.last };
   reads = reads_kind first word (reads_kind t kind (reads_same (three (comma_if packaged.comma) (spell_entries packaged.tree) (comma_if packaged.last)) packaged.reads));
-  clause = (right, packaged.parted);
+  clause = packaged_right called packaged.comma packaged.tree right packaged.parted;
   right = packaged.right;
   ends = packaged.ends;
   within = packaged.within;

@@ -128,7 +128,7 @@ goal_ends limit n Goal.package_word keeps rest = (
   λ first kind. record {
     tree = record { package_clause = Some (record { name = identifiers.Plain []; comma = false }); declarations = no_entries; comma = false };
     reads = reads_kind first kind (is_one (kinds.Name []) rest);
-    clause = (tt, λ e. refl);
+    clause = tt;
     right = tt;
     ends = tt;
     within = keeps_from keeps (omega arith);

@@ -31,6 +31,7 @@ pub mod MovesOverRows
 pub mod MovesOverTexts
 pub mod TextsBeginSo
 pub mod SpotByTheLastToken
+pub mod SymbolsNamed
 pub mod RefusalsFit
 -- One tree: no two trees share a spelling.
 pub mod PartsByTheirTokens

@@ -10,8 +10,8 @@ use Rattle.cue_syntax.specs.declared.stop.Stop.{Stop}
 use Rattle.cue_syntax.specs.Grammar.{Limit, unlimited, at_most, Within}
 use Rattle.cue_syntax.specs.Spelling.{Reads, Piece}
 use Rattle.cue_syntax.specs.Stops.{memory, at_hand}
-use Rattle.cue_syntax.specs.Viability.{StandsSign}
-use Rattle.cue_syntax.specs.Recogniser.{Stack, depth, fits, step, is_over, stuck, stuck_behind, Closes, IsEnd, OpensNear, SticksBy, Stops, Refused, Moves, IsBrace}
+use Rattle.cue_syntax.specs.Viability.{Stands, StandsSign, IsMark}
+use Rattle.cue_syntax.specs.Recogniser.{Stack, depth, fits, step, is_over, stuck, stuck_behind, Closes, IsEnd, OpensAt, SticksBy, Stops, Refused, Moves, IsBrace}
 
 -- tokens are the last of themselves
 pub end_self : {a : List Token} → IsEnd a a
@@ -164,16 +164,7 @@ stops_here {n = n} {end = end} {g = g} {a = a} is halts = subst (λ z. Stops n e
   at = a;
   inside = end_self;
   left = refl;
-  by = record { here = a; sticks = halts_sticks g unlimited a halts; near = inl refl };
-})
-
--- refused at the symbol before
-pub stops_before : {n end free : ℕ} {g : Stack} {a b : List Token} {r : Stop} (h : Stack) → r ≡ at_hand reasons.Syntax end a → drop 1 a ≡ b → Moves free g a h b → Halts h b → Stops n end g a r
-stops_before {n = n} {end = end} {g = g} {a = a} {b = b} h is next m halts = subst (λ z. Stops n end g a z) (sym is) (record {
-  at = a;
-  inside = end_self;
-  left = refl;
-  by = record { here = b; sticks = λ below closes. m.moves unlimited below tt ∙ halts_sticks h unlimited b halts below closes; near = inr next };
+  by = halts_sticks g unlimited a halts;
 })
 
 -- refused at a later symbol
@@ -182,22 +173,24 @@ stops_there {n = n} {end = end} {g = g} {h = h} {a = a} {b = b} is m halts = sub
   at = b;
   inside = m.inside;
   left = refl;
-  by = record { here = b; sticks = λ below closes. m.moves unlimited below tt ∙ halts_sticks h unlimited b halts below closes; near = inl refl };
+  by = λ below closes. m.moves unlimited below tt ∙ halts_sticks h unlimited b halts below closes;
 })
 
-near_behind : {a b here at : List Token} → IsEnd a b → (at ≡ here) ⊎ (drop 1 at ≡ here) ⊎ IsBrace b here at → (at ≡ here) ⊎ (drop 1 at ≡ here) ⊎ IsBrace a here at
+near_behind : {a b here at : List Token} → IsEnd a b → ((at ≡ here) × ¬ Stands IsMark here) ⊎ ((drop 1 at ≡ here) × Stands IsMark here) ⊎ IsBrace b here at
+    → ((at ≡ here) × ¬ Stands IsMark here) ⊎ ((drop 1 at ≡ here) × Stands IsMark here) ⊎ IsBrace a here at
 near_behind inside (inl e) = inl e
 near_behind inside (inr (inl e)) = inr (inl e)
 near_behind inside (inr (inr brace)) = inr (inr (record { name = brace.name; inside = end_then inside brace.inside; call = brace.call; behind = brace.behind; is = brace.is; brace = brace.brace }))
 
-by_behind : {n : ℕ} {g h : Stack} {a b : List Token} (at : List Token) (kind : Why) → Moves n g a h b → SticksBy n h b kind at → SticksBy n g a kind at
-by_behind at reasons.Syntax m by = record { here = by.here; sticks = λ below closes. m.moves unlimited below tt ∙ by.sticks below closes; near = by.near }
-by_behind {n = n} at reasons.Nesting m by = record {
-  here = by.here;
-  sticks = λ below closes. m.moves (at_most (depth below + n)) below (let e : depth below + n ≤ depth below + n = omega arith in e) ∙ by.sticks below closes;
-  deeper = λ below. let d = by.deeper below in record { next = d.next; token = d.token; tokens_behind = d.tokens_behind; is = d.is; goes_on = m.moves unlimited below tt ∙ d.goes_on };
-  near = near_behind m.inside by.near;
+opens_after : {n : ℕ} {g h : Stack} {a b : List Token} (here : List Token) → Moves n g a h b → OpensAt n h b here → OpensAt n g a here
+opens_after {n = n} here m opens = record {
+  sticks = λ below closes. m.moves (at_most (depth below + n)) below (let e : depth below + n ≤ depth below + n = omega arith in e) ∙ opens.sticks below closes;
+  deeper = λ below. let d = opens.deeper below in record { next = d.next; token = d.token; tokens_behind = d.tokens_behind; is = d.is; goes_on = m.moves unlimited below tt ∙ d.goes_on };
 }
+
+by_behind : {n : ℕ} {g h : Stack} {a b : List Token} (at : List Token) (kind : Why) → Moves n g a h b → SticksBy n h b kind at → SticksBy n g a kind at
+by_behind at reasons.Syntax m by = λ below closes. m.moves unlimited below tt ∙ by below closes
+by_behind at reasons.Nesting m by = record { here = by.here; opens = opens_after by.here m by.opens; near = near_behind m.inside by.near }
 by_behind at reasons.Memory m by = by
 
 -- a stop at what is left after a move is a stop from its start
@@ -206,23 +199,22 @@ stops_behind {r = r} m s = record { at = s.at; inside = end_then m.inside s.insi
 
 by_under : {n : ℕ} (left : ℕ) (g : Stack) (a at : List Token) (kind : Why) (under : Stack) → depth under + left ≡ n → ((below : Stack) → Closes below → Closes (under ++ below))
     → SticksBy left g a kind at → SticksBy n (g ++ under) a kind at
-by_under left g a at reasons.Syntax under is close by = record {
-  here = by.here;
-  sticks = λ below closes. subst (λ z. stuck unlimited z a ≡ Some by.here) (sym (append_assoc g under below)) (by.sticks (under ++ below) (close below closes));
-  near = by.near;
-}
+by_under left g a at reasons.Syntax under is close by =
+    λ below closes. subst (λ z. stuck unlimited z a ≡ Some at) (sym (append_assoc g under below)) (by (under ++ below) (close below closes))
 by_under {n = n} left g a at reasons.Nesting under is close by = record {
   here = by.here;
-  sticks = λ below closes.
-      let e : depth (under ++ below) + left ≡ depth below + n = omega (arith, is, depth_append under below) in
-      subst (λ z. stuck (at_most (depth below + n)) z a ≡ Some by.here) (sym (append_assoc g under below))
-      (subst (λ z. stuck (at_most z) (g ++ (under ++ below)) a ≡ Some by.here) e (by.sticks (under ++ below) (close below closes)));
-  deeper = λ below. let d = by.deeper (under ++ below) in record {
-    next = d.next;
-    token = d.token;
-    tokens_behind = d.tokens_behind;
-    is = d.is;
-    goes_on = subst (λ z. stuck unlimited z a ≡ stuck unlimited d.next d.tokens_behind) (sym (append_assoc g under below)) d.goes_on;
+  opens = record {
+    sticks = λ below closes.
+        let e : depth (under ++ below) + left ≡ depth below + n = omega (arith, is, depth_append under below) in
+        subst (λ z. stuck (at_most (depth below + n)) z a ≡ Some by.here) (sym (append_assoc g under below))
+        (subst (λ z. stuck (at_most z) (g ++ (under ++ below)) a ≡ Some by.here) e (by.opens.sticks (under ++ below) (close below closes)));
+    deeper = λ below. let d = by.opens.deeper (under ++ below) in record {
+      next = d.next;
+      token = d.token;
+      tokens_behind = d.tokens_behind;
+      is = d.is;
+      goes_on = subst (λ z. stuck unlimited z a ≡ stuck unlimited d.next d.tokens_behind) (sym (append_assoc g under below)) d.goes_on;
+    };
   };
   near = by.near;
 }
@@ -231,13 +223,12 @@ by_under left g a at reasons.Memory under is close by = by
 -- goals stop in the same way where further goals lie below them
 pub stops_under : {n left end : ℕ} {g : Stack} {a : List Token} {r : Stop} (under : Stack) → depth under + left ≡ n → ((below : Stack) → Closes below → Closes (under ++ below))
     → Stops left end g a r → Stops n end (g ++ under) a r
-stops_under {r = r} under is close s = record { at = s.at; inside = s.inside; left = s.left; by = by_under _ _ _ s.at r.why under is close s.by }
+stops_under {left = left} {g = g} {a = a} {r = r} under is close s = record { at = s.at; inside = s.inside; left = s.left; by = by_under left g a s.at r.why under is close s.by }
 
 -- a token that opens a level has no room
 by_nesting : {left : ℕ} {g : Stack} {a b : List Token} (next : Stack) (t : Token) → a ≡ t ∷ b
-    → ((below : Stack) → step (g ++ below) t.kind ≡ Some (next ++ below)) → left < depth next → OpensNear left g a a
+    → ((below : Stack) → step (g ++ below) t.kind ≡ Some (next ++ below)) → left < depth next → OpensAt left g a a
 by_nesting {left = left} {g = g} {a = a} {b = b} next t is taken more = record {
-  here = a;
   sticks = λ below closes. subst (λ z. stuck (at_most (depth below + left)) (g ++ below) z ≡ Some z) (sym is)
       (ap (λ z. stuck_behind (at_most (depth below + left)) z (t ∷ b) (λ h. stuck (at_most (depth below + left)) h b)) (taken below)
       ∙ ap (λ z. if z then stuck (at_most (depth below + left)) (next ++ below) b else Some (t ∷ b))
@@ -249,40 +240,33 @@ by_nesting {left = left} {g = g} {a = a} {b = b} next t is taken more = record {
     is = is;
     goes_on = ap (stuck unlimited (g ++ below)) is ∙ step_taken unlimited (g ++ below) (next ++ below) t b (taken below) tt;
   };
-  near = inl refl;
 }
 
--- goals stop for nesting at a token that opens a level with no room for it
-pub opens_none : {end left : ℕ} {g : Stack} {a b : List Token} {r : Stop} (next : Stack) (t : Token) → a ≡ t ∷ b → r ≡ at_hand reasons.Nesting end a
+-- goals stop for nesting at a token that opens a level with no room for it, and is no mark
+pub opens_none : {end left : ℕ} {g : Stack} {a b : List Token} {r : Stop} (next : Stack) (t : Token) → a ≡ t ∷ b → ¬ IsMark t.kind → r ≡ at_hand reasons.Nesting end a
     → ((below : Stack) → step (g ++ below) t.kind ≡ Some (next ++ below)) → left < depth next → Stops left end g a r
-opens_none {end = end} {left = left} {g = g} {a = a} next t is refused taken more = subst (λ z. Stops left end g a z) (sym refused)
-    (record { at = a; inside = end_self; left = refl; by = by_nesting next t is taken more })
+opens_none {end = end} {left = left} {g = g} {a = a} next t is other refused taken more = subst (λ z. Stops left end g a z) (sym refused)
+    (record { at = a; inside = end_self; left = refl; by = record { here = a; opens = by_nesting next t is taken more; near = inl (refl, subst (λ z. ¬ Stands IsMark z) (sym is) other) } })
 
--- a token that opens a level has no room, and the one before it is refused
+-- a mark that opens a level has no room, and the label before it is refused
 pub opens_before : {end left : ℕ} {g h : Stack} {a b c : List Token} {r : Stop} (next : Stack) (t : Token) → r ≡ at_hand reasons.Nesting end a → drop 1 a ≡ b → Moves left g a h b
-    → b ≡ t ∷ c → ((below : Stack) → step (h ++ below) t.kind ≡ Some (next ++ below)) → left < depth next → Stops left end g a r
-unfolding by_behind by_nesting
-opens_before {end = end} {left = left} {g = g} {h = h} {a = a} {b = b} next t refused second m is taken more =
-    let later : OpensNear left g a b = by_behind b reasons.Nesting m (by_nesting next t is taken more) in
-    subst (λ z. Stops left end g a z) (sym refused) (record {
-      at = a;
-      inside = end_self;
-      left = refl;
-      by = record { here = later.here; sticks = later.sticks; deeper = later.deeper; near = inr (inl second) };
-    })
+    → b ≡ t ∷ c → IsMark t.kind → ((below : Stack) → step (h ++ below) t.kind ≡ Some (next ++ below)) → left < depth next → Stops left end g a r
+opens_before {end = end} {left = left} {g = g} {a = a} {b = b} next t refused second m is mark taken more = subst (λ z. Stops left end g a z) (sym refused) (record {
+  at = a;
+  inside = end_self;
+  left = refl;
+  by = record { here = b; opens = opens_after b m (by_nesting next t is taken more); near = inr (inl (second, subst (Stands IsMark) (sym is) mark)) };
+})
 
 -- the same, where the refusal is of the brace after the parenthesis of a `close({`
 pub opens_behind : {end left : ℕ} {g h : Stack} {a b c : List Token} {r : Stop} (next : Stack) (t : Token) → Moves left g a h b → b ≡ t ∷ c → r ≡ at_hand reasons.Nesting end c → IsBrace a b c
     → ((below : Stack) → step (h ++ below) t.kind ≡ Some (next ++ below)) → left < depth next → Stops left end g a r
-unfolding by_behind by_nesting
-opens_behind {end = end} {left = left} {g = g} {a = a} {b = b} {c = c} next t m is refused brace taken more =
-    let later : OpensNear left g a b = by_behind b reasons.Nesting m (by_nesting next t is taken more) in
-    subst (λ z. Stops left end g a z) (sym refused) (record {
-      at = c;
-      inside = end_then m.inside (end_next t is);
-      left = refl;
-      by = record { here = later.here; sticks = later.sticks; deeper = later.deeper; near = inr (inr brace) };
-    })
+opens_behind {end = end} {left = left} {g = g} {a = a} {b = b} {c = c} next t m is refused brace taken more = subst (λ z. Stops left end g a z) (sym refused) (record {
+  at = c;
+  inside = end_then m.inside (end_next t is);
+  left = refl;
+  by = record { here = b; opens = opens_after b m (by_nesting next t is taken more); near = inr (inr brace) };
+})
 
 -- refusals
 -- want of memory is a refusal

@@ -14,9 +14,9 @@ use Rattle.cue_syntax.specs.declared.tree.Mark.{Mark}
 use Rattle.cue_syntax.specs.declared.tree.Mark.TheVariants as marks
 use Rattle.cue_syntax.specs.Spelling.{Reads, one, label_kind, spell_mark, spell_label}
 use Rattle.cue_syntax.specs.Stops.{memory, at_hand}
-use Rattle.cue_syntax.specs.Viability.{StandsSign, IsMark, IsLabelName, BeginsLabel, LacksColon, MissesColon, RefusesLabel, IsLabelLeftOut, IsHidden, IsDefinition}
-use Rattle.cue_syntax.specs.Recogniser.{Goal, Stack, depth, levels_of, step, is_keyword, Closes, Moves, Stops, Refused, chains, value, value_name, value_text, chained, mark, colon, entries, more_entries, more_parts, more_terms}
-use Rattle.cue_syntax.proofs.MovesAndStops.{takes, moves_then, moves_more, moves_under, Halts, halts_at, halts_unless, stopped, stops_here, stops_before, stops_there, opens_none, opens_before, refused_behind, refused_under, refused_end, takes_first, takes_read, alike_moves, moves_none}
+use Rattle.cue_syntax.specs.Viability.{StandsSign, IsMark, IsLabelName, BeginsLabel, LacksColon, MissesColon}
+use Rattle.cue_syntax.specs.Recogniser.{Goal, Stack, depth, levels_of, step, is_keyword, Closes, Moves, Stops, Refused, chains, value, value_name, value_text, chained, mark, colon, entries, more_entries}
+use Rattle.cue_syntax.proofs.MovesAndStops.{takes, moves_then, moves_more, moves_under, Halts, halts_unless, stopped, stops_there, opens_none, opens_before, refused_behind, refused_under, refused_end, takes_first, takes_read, alike_moves, moves_none}
 
 colon_only : (g : Stack) (j : TokenKind) → (j ≡ (kinds.Mark points.Colon) → ⊥) → (below : Stack) → step ((colon ∷ g) ++ below) j ≡ None
 colon_only g (kinds.Mark points.Colon) other below = absurd (other refl)
@@ -171,8 +171,12 @@ opens_at : {end : ℕ} {r : Stop} (t u : Token) (ts : List Token) (n : LabelName
     → (levels_of (behind_name n) ≡ 0) ⊎ (levels_of (behind_name n) ≡ 1) → Stops 0 end (value ∷ []) (t ∷ u ∷ ts) r
 opens_at t u ts n kind sign is (inl level) =
     let m = mark_opens n u.kind sign in
-    opens_before {h = behind_name n ∷ []} m.0 u is refl (takes t refl (λ below. ap (step (value ∷ below)) kind ∙ value_step n below) (omega (arith, level))) refl m.1 m.2
-opens_at t u ts n kind sign is (inr level) = opens_none (behind_name n ∷ []) t refl is (λ below. ap (step (value ∷ below)) kind ∙ value_step n below) (omega (arith, level))
+    opens_before {h = behind_name n ∷ []} m.0 u is refl (takes t refl (λ below. ap (step (value ∷ below)) kind ∙ value_step n below) (omega (arith, level))) refl sign m.1 m.2
+opens_at t u ts n kind sign is (inr level) = opens_none (behind_name n ∷ []) t refl (λ m. no_mark n (subst IsMark kind m)) is (λ below. ap (step (value ∷ below)) kind ∙ value_step n below) (omega (arith, level))
+  where
+    no_mark : (n : LabelName) → ¬ IsMark (label_kind n)
+    no_mark (names.Plain t) m = m
+    no_mark (names.Quoted t) m = m
 
 opens_by : {end : ℕ} {r : Stop} (a : List Token) → BeginsLabel a → r ≡ at_hand reasons.Nesting end a → Stops 0 end (value ∷ []) a r
 opens_by [] begins is = absurd begins.0
@@ -182,84 +186,6 @@ opens_by (t ∷ u ∷ ts) begins is = let n = name_kind t.kind begins.0 in opens
 -- where no level is left, a label stops the goal of a value for nesting
 pub opens_label : {end : ℕ} {a : List Token} {r : Stop} → BeginsLabel a → r ≡ at_hand reasons.Nesting end a → Stops 0 end (value ∷ []) a r
 opens_label {a = a} begins is = opens_by a begins is
-
--- a label that is left out
-marked_halts : (g : Stack) (u : Token) (ts : List Token) → IsMark u.kind → ((k : TokenKind) → IsMark k → (below : Stack) → step (g ++ below) k ≡ step below k) → Halts g (u ∷ ts)
-marked_halts g u ts is pops = record { at = λ below closes. pops u.kind is below ∙ closed u.kind is below closes }
-  where
-    closed : (k : TokenKind) → IsMark k → (below : Stack) → Closes below → step below k ≡ None
-    closed (kinds.Mark points.Colon) is below closes = closes.colon
-    closed (kinds.Mark points.Question) is below closes = closes.question
-    closed (kinds.Mark points.Exclamation) is below closes = closes.exclamation
-    closed _ is below closes = absurd is
-
-marks_pop : (k : TokenKind) → IsMark k → (below : Stack) → step (more_parts ∷ more_terms ∷ below) k ≡ step below k
-marks_pop (kinds.Mark points.Colon) is below = refl
-marks_pop (kinds.Mark points.Question) is below = refl
-marks_pop (kinds.Mark points.Exclamation) is below = refl
-marks_pop _ is below = absurd is
-
-hidden_value : (k : TokenKind) → IsHidden k → (below : Stack) → step (value ∷ below) k ≡ Some (more_parts ∷ more_terms ∷ below)
-hidden_value (kinds.Hidden t) is below = refl
-hidden_value _ is below = absurd is
-
-definition_value : (k : TokenKind) → IsDefinition k → (below : Stack) → step (value ∷ below) k ≡ Some (more_parts ∷ more_terms ∷ below)
-definition_value (kinds.Definition t) is below = refl
-definition_value _ is below = absurd is
-
-marked_is : (k : TokenKind) → (k ≡ (kinds.Mark points.Question)) ⊎ (k ≡ (kinds.Mark points.Exclamation)) → IsMark k
-marked_is k (inl e) = subst IsMark (sym e) tt
-marked_is k (inr e) = subst IsMark (sym e) tt
-
-value_out : {n end : ℕ} {r : Stop} (a : List Token) → r ≡ at_hand reasons.Syntax end a → IsLabelLeftOut false a → Stops n end (value ∷ []) a r
-value_out (t ∷ u ∷ ts) is (inl fits) = stops_before {free = 0} (more_parts ∷ more_terms ∷ []) is refl (takes t refl (λ below. hidden_value t.kind fits.0 below) (omega arith)) (marked_halts _ u ts fits.1 marks_pop)
-value_out (t ∷ u ∷ ts) is (inr (inl fits)) = stops_before {free = 0} (more_parts ∷ more_terms ∷ []) is refl (takes t refl (λ below. definition_value t.kind fits.0 below) (omega arith)) (marked_halts _ u ts (marked_is u.kind fits.1) marks_pop)
-value_out (t ∷ u ∷ ts) is (inr (inr fits)) = stops_before {free = 0} (more_parts ∷ more_terms ∷ []) is refl (takes t refl (λ below. definition_value t.kind fits.0 below) (omega arith)) (marked_halts _ u ts (subst IsMark (sym fits.1) tt) marks_pop)
-value_out [] is (inl fits) = absurd fits.0
-value_out [] is (inr (inl fits)) = absurd fits.0
-value_out [] is (inr (inr fits)) = absurd fits.0
-value_out (t ∷ []) is (inl fits) = absurd fits.1
-value_out (t ∷ []) is (inr (inl fits)) = absurd (elim fits.1 [ inl e ↦ e | inr e ↦ e ])
-value_out (t ∷ []) is (inr (inr fits)) = absurd fits.1
-
--- the goal of a value refuses a label that is left out
-pub label_out_value : {n end : ℕ} {a : List Token} {r : Stop} → RefusesLabel false end a r → Refused n end (value ∷ []) a r
-label_out_value {a = a} refuses = stopped (value_out a refuses.is refuses.fits)
-
-hidden_entry : (top : Bool) (k : TokenKind) → IsHidden k → (below : Stack) → step (entries top ∷ below) k ≡ None
-hidden_entry true (kinds.Hidden t) is below = refl
-hidden_entry false (kinds.Hidden t) is below = refl
-hidden_entry top _ is below = absurd is
-
-definition_nested : (k : TokenKind) → IsDefinition k → (below : Stack) → step (entries false ∷ below) k ≡ None
-definition_nested (kinds.Definition t) is below = refl
-definition_nested _ is below = absurd is
-
-definition_top : (k : TokenKind) → IsDefinition k → (below : Stack) → step (entries true ∷ below) k ≡ Some (colon ∷ value ∷ more_entries true ∷ below)
-definition_top (kinds.Definition t) is below = refl
-definition_top _ is below = absurd is
-
-not_colon : (k : TokenKind) → (k ≡ (kinds.Mark points.Question)) ⊎ (k ≡ (kinds.Mark points.Exclamation)) → k ≡ (kinds.Mark points.Colon) → ⊥
-not_colon k (inl e) is = let h : (kinds.Mark points.Question) ≡ (kinds.Mark points.Colon) = sym e ∙ is in cc
-not_colon k (inr e) is = let h : (kinds.Mark points.Exclamation) ≡ (kinds.Mark points.Colon) = sym e ∙ is in cc
-
-entry_out : {n end : ℕ} {r : Stop} (top : Bool) (a : List Token) → r ≡ at_hand reasons.Syntax end a → IsLabelLeftOut top a → Stops n end (entries top ∷ []) a r
-entry_out top (t ∷ u ∷ ts) is (inl fits) = stops_here is (halts_at t refl (λ below closes. hidden_entry top t.kind fits.0 below))
-entry_out true (t ∷ u ∷ ts) is (inr (inl fits)) = stops_before {free = 0} (colon ∷ value ∷ more_entries true ∷ []) is refl (takes t refl (λ below. definition_top t.kind fits.0 below) (omega arith))
-    (colon_halts (not_colon u.kind fits.1))
-entry_out false (t ∷ u ∷ ts) is (inr (inl fits)) = stops_here is (halts_at t refl (λ below closes. definition_nested t.kind fits.0 below))
-entry_out true (t ∷ u ∷ ts) is (inr (inr fits)) = absurd (let e : true ≡ false = fits.2 in cc)
-entry_out false (t ∷ u ∷ ts) is (inr (inr fits)) = stops_here is (halts_at t refl (λ below closes. definition_nested t.kind fits.0 below))
-entry_out top [] is (inl fits) = absurd fits.0
-entry_out top [] is (inr (inl fits)) = absurd fits.0
-entry_out top [] is (inr (inr fits)) = absurd fits.0
-entry_out top (t ∷ []) is (inl fits) = absurd fits.1
-entry_out top (t ∷ []) is (inr (inl fits)) = absurd (elim fits.1 [ inl e ↦ e | inr e ↦ e ])
-entry_out top (t ∷ []) is (inr (inr fits)) = absurd fits.1
-
--- the goal of declarations refuses a label that is left out
-pub label_out_entry : {n end : ℕ} {a : List Token} {r : Stop} (top : Bool) → RefusesLabel top end a r → Refused n end (entries top ∷ []) a r
-label_out_entry {a = a} top refuses = stopped (entry_out top a refuses.is refuses.fits)
 
 -- a mark that has no colon
 marked_value : (n : LabelName) (k : TokenKind) → (k ≡ (kinds.Mark points.Question)) ⊎ (k ≡ (kinds.Mark points.Exclamation)) → (below : Stack) → step (behind_name n ∷ below) k ≡ Some (colon ∷ value ∷ chained ∷ below)

@@ -1,5 +1,5 @@
 -- How the recogniser goes through expressions that hold no other.
-use Rattle.std.proofs.Common.{◌≡◌, ◌∙◌, ap, sym, subst, refl, ℕ, inl, inr, Bool, true, false, List, [], ◌∷◌, drop, codes, arith, Some, None}
+use Rattle.std.proofs.Common.{◌≡◌, ◌∙◌, ap, subst, refl, ℕ, inl, inr, Bool, true, false, List, [], ◌∷◌, codes, arith, Some, None}
 use Rattle.std.specs.Prelude.{if◌then◌else◌, ◌||◌}
 use Rattle.std.specs.Cmp.Lexicographic.{bytes_decides}
 use Rattle.cue_lex.specs.declared.token.Token.{Token}
@@ -14,8 +14,8 @@ use Rattle.cue_syntax.specs.Spelling.{Reads, one, comparison_kind}
 use Rattle.cue_syntax.specs.Grammar.{IsKeyword}
 use Rattle.cue_syntax.specs.Stops.{at_hand}
 use Rattle.cue_syntax.specs.Viability.{Stands, StandsSign, BeginsInteger, IsCallOfClose}
-use Rattle.cue_syntax.specs.Recogniser.{Stack, step, Moves, Stops, Refused, is_word, is_keyword, unary, signed, signed_or_text, behind_close}
-use Rattle.cue_syntax.proofs.MovesAndStops.{takes, takes_read, alike_at, alike_moves, refused_behind, moves_then, Halts, HaltsAt, halts_at, stopped, stops_here, stops_before}
+use Rattle.cue_syntax.specs.Recogniser.{Stack, step, Moves, Refused, is_word, is_keyword, unary, signed, signed_or_text, behind_close}
+use Rattle.cue_syntax.proofs.MovesAndStops.{takes, takes_read, alike_at, alike_moves, refused_behind, moves_then, Halts, HaltsAt, halts_at, stopped, stops_there}
 use Rattle.cue_syntax.proofs.GoalsAtTokens.{signed_none, unary_signed, other_signed, behind_close_pops}
 
 -- words
@@ -79,25 +79,19 @@ paren_halts : (b : List Token) → StandsSign (kinds.Mark points.OpenParenthesis
 paren_halts [] stands = absurd stands
 paren_halts (t ∷ ts) stands = λ below closes. ap (step below) stands ∙ closes.call
 
-call_of_name : {room end : ℕ} {b : List Token} {n : List ℕ} (t : Token) (keyword : Bool) → t.kind ≡ kinds.Name n → is_keyword n ≡ keyword → (n ≡ codes "close" → ⊥)
-    → StandsSign (kinds.Mark points.OpenParenthesis) b → Stops room end (unary ∷ []) (t ∷ b) (at_hand reasons.Syntax end (t ∷ b))
-call_of_name {n = n} t true kind keyword other stands = stops_here refl (keyword_halts t refl kind keyword)
-call_of_name {b = b} {n = n} t false kind keyword other stands = stops_before [] refl refl
-    (takes {n = 0} t refl (λ below. ap (step (unary ∷ below)) kind ∙ name_step n false keyword (word_other (codes "close") n other) below) (omega arith)) (record { at = paren_halts b stands })
+-- a name with a parenthesis after it is refused there as an operand, unless that is a call of `close`
+pub name_called : {room end : ℕ} {a b : List Token} {n : List ℕ} {r : Stop} (t : Token) → a ≡ t ∷ b → t.kind ≡ kinds.Name n → ¬ IsKeyword n → ¬ IsCallOfClose a
+    → StandsSign (kinds.Mark points.OpenParenthesis) b → r ≡ at_hand reasons.Syntax end b → Refused room end (unary ∷ []) a r
+name_called {b = b} {n = n} t is kind keyword other stands refused =
+    let close : n ≡ codes "close" → ⊥ = λ e. subst (λ z. ¬ IsCallOfClose z) is other (kind ∙ ap kinds.Name e, stands) in
+    stopped (stops_there refused
+    (takes {n = 0} {next = []} t is (λ below. ap (step (unary ∷ below)) kind ∙ name_step n false (keyword_no n keyword) (word_other (codes "close") n close) below) (omega arith)) (record { at = paren_halts b stands }))
 
--- a name with a parenthesis after it is refused as an operand, unless that is a call of `close`
-pub name_called : {room end : ℕ} {a b : List Token} {n : List ℕ} {r : Stop} (t : Token) → a ≡ t ∷ b → t.kind ≡ kinds.Name n → ¬ IsCallOfClose a
-    → StandsSign (kinds.Mark points.OpenParenthesis) b → r ≡ at_hand reasons.Syntax end a → Refused room end (unary ∷ []) a r
-name_called {room = room} {end = end} {a = a} {b = b} {n = n} t is kind other stands refused =
-    let here : Stops room end (unary ∷ []) (t ∷ b) (at_hand reasons.Syntax end (t ∷ b)) =
-    call_of_name t (is_keyword n) kind refl (λ e. subst (λ z. ¬ IsCallOfClose z) is other (kind ∙ ap kinds.Name e, stands)) stands in
-    stopped (subst (λ z. Stops room end (unary ∷ []) a z) (sym refused) (subst (λ z. Stops room end (unary ∷ []) z (at_hand reasons.Syntax end z)) (sym is) here))
-
--- a hidden name with a parenthesis after it is refused as an operand
+-- a hidden name with a parenthesis after it is refused there as an operand
 pub hidden_called : {room end : ℕ} {a b : List Token} {n : List ℕ} {r : Stop} (t : Token) → a ≡ t ∷ b → t.kind ≡ kinds.Hidden n
-    → StandsSign (kinds.Mark points.OpenParenthesis) b → r ≡ at_hand reasons.Syntax end a → Refused room end (unary ∷ []) a r
-hidden_called {b = b} t is kind stands refused = stopped (stops_before [] refused (ap (drop 1) is)
-    (takes {n = 0} t is (λ below. ap (step (unary ∷ below)) kind) (omega arith)) (record { at = paren_halts b stands }))
+    → StandsSign (kinds.Mark points.OpenParenthesis) b → r ≡ at_hand reasons.Syntax end b → Refused room end (unary ∷ []) a r
+hidden_called {b = b} t is kind stands refused = stopped (stops_there refused
+    (takes {n = 0} {next = []} t is (λ below. ap (step (unary ∷ below)) kind) (omega arith)) (record { at = paren_halts b stands }))
 
 -- bounds
 -- the goal of an operand goes through a comparison to an integer

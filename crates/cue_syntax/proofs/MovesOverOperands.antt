@@ -8,20 +8,20 @@ use Rattle.cue_syntax.specs.declared.stop.Why.TheVariants as reasons
 use Rattle.cue_syntax.specs.declared.stop.Stop.{Stop}
 use Rattle.cue_syntax.specs.Spelling.{Reads, one, one_at, comma_if}
 use Rattle.cue_syntax.specs.Stops.{at_hand}
-use Rattle.cue_syntax.specs.Viability.{StandsSign, IsCallOfClose}
+use Rattle.cue_syntax.specs.Viability.{StandsSign, IsMark, IsCallOfClose}
 use Rattle.cue_syntax.specs.Recogniser.{Goal, Stack, depth, step, Closes, Moves, Stops, Refused, entries, more_parts, more_terms, bar, term, unary, expression, parenthesis, parenthesis_end, behind_close, closed}
 use Rattle.cue_syntax.proofs.MovesAndStops.{takes_read, moves_none, moves_then, moves_more, moves_under, alike_moves, Halts, HaltsAt, halts_unless, stopped, end_self, opens_none, opens_behind, refused_behind, refused_under, refused_end}
 
 -- a sign that opens a level with no room
-no_room_at : {n end : ℕ} {g : Stack} {r : Stop} (a : List Token) (k : TokenKind) (next : Stack) → StandsSign k a → ((below : Stack) → step (g ++ below) k ≡ Some (next ++ below)) → 0 < depth next
+no_room_at : {n end : ℕ} {g : Stack} {r : Stop} (a : List Token) (k : TokenKind) (next : Stack) → StandsSign k a → ¬ IsMark k → ((below : Stack) → step (g ++ below) k ≡ Some (next ++ below)) → 0 < depth next
     → n ≡ 0 → r ≡ at_hand reasons.Nesting end a → Stops n end g a r
-no_room_at [] k next stands taken more zero is = absurd stands
-no_room_at {g = g} (t ∷ ts) k next stands taken more zero is = opens_none next t refl is (λ below. ap (step (g ++ below)) stands ∙ taken below) (omega (arith, zero, more))
+no_room_at [] k next stands other taken more zero is = absurd stands
+no_room_at {g = g} (t ∷ ts) k next stands other taken more zero is = opens_none next t refl (λ m. other (subst IsMark stands m)) is (λ below. ap (step (g ++ below)) stands ∙ taken below) (omega (arith, zero, more))
 
 -- a sign that opens a level is refused where no level is left
-pub no_room : {n end : ℕ} {g : Stack} {a : List Token} {r : Stop} (k : TokenKind) (next : Stack) → StandsSign k a → ((below : Stack) → step (g ++ below) k ≡ Some (next ++ below)) → 0 < depth next
+pub no_room : {n end : ℕ} {g : Stack} {a : List Token} {r : Stop} (k : TokenKind) (next : Stack) → StandsSign k a → ¬ IsMark k → ((below : Stack) → step (g ++ below) k ≡ Some (next ++ below)) → 0 < depth next
     → n ≡ 0 → r ≡ at_hand reasons.Nesting end a → Refused n end g a r
-no_room {a = a} k next stands taken more zero is = stopped (no_room_at a k next stands taken more zero is)
+no_room {a = a} k next stands other taken more zero is = stopped (no_room_at a k next stands other taken more zero is)
 
 -- the end of a parenthesis
 -- what is to come, by whether a comma was read
@@ -109,7 +109,7 @@ call_by (s ∷ a) (t ∷ b) c first second = ((first.follows.0, subst (λ z. Sta
 pub call_no_room : {room end other from : ℕ} {a b : List Token} {r : Stop} → room ≡ 0 → other ≡ end → IsCallOfClose a → Reads a (one_at from (kinds.Name (codes "close"))) b → r ≡ at_hand reasons.Nesting other b
     → Refused room end (unary ∷ []) a r
 call_no_room zero same call first is =
-    refused_behind {h = behind_close ∷ []} (takes_read first (λ below. refl) (omega arith)) (refused_end same (no_room (kinds.Mark points.OpenParenthesis) (closed ∷ []) (call_paren call first) (λ below. refl) (omega arith) zero is))
+    refused_behind {h = behind_close ∷ []} (takes_read first (λ below. refl) (omega arith)) (refused_end same (no_room (kinds.Mark points.OpenParenthesis) (closed ∷ []) (call_paren call first) (λ m. m) (λ below. refl) (omega arith) zero is))
 
 closed_none : (k : TokenKind) → (k ≡ (kinds.Mark points.OpenBrace) → ⊥) → (below : Stack) → step (closed ∷ below) k ≡ None
 closed_none (kinds.Mark points.OpenBrace) other below = absurd (other refl)

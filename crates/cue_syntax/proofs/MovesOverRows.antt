@@ -1,5 +1,6 @@
 -- How the recogniser goes through lists and declarations.
-use Rattle.std.proofs.Common.{◌≡◌, ◌∙◌, ap, sym, subst, refl, ℕ, ◌+◌, ◌≤◌, ◌<◌, ◌⊎◌, inl, inr, Bool, true, false, List, [], ◌∷◌, ◌++◌, length, drop, arith, None}
+use Rattle.std.proofs.Common.{◌≡◌, ◌∙◌, ap, sym, subst, refl, ℕ, ◌+◌, ◌≤◌, ◌<◌, ◌⊎◌, inl, inr, Bool, true, false, List, [], ◌∷◌, ◌++◌, length, arith, None}
+use Rattle.std.specs.Prelude.{if◌then◌else◌}
 use Rattle.cue_lex.specs.declared.token.Token.{Token}
 use Rattle.cue_lex.specs.declared.token.TokenKind.{TokenKind}
 use Rattle.cue_lex.specs.declared.token.TokenKind.TheVariants as kinds
@@ -9,9 +10,9 @@ use Rattle.cue_syntax.specs.declared.stop.Stop.{Stop}
 use Rattle.cue_syntax.specs.declared.tree.Label.{Label}
 use Rattle.cue_syntax.specs.Spelling.{Reads, one, one_at, comma_if, spell_label}
 use Rattle.cue_syntax.specs.Stops.{at_hand}
-use Rattle.cue_syntax.specs.Viability.{Stands, StandsSign, IsMark, IsLabelName, BeginsLabel, BeginsDefinition, IsDefinition, EndsHere}
-use Rattle.cue_syntax.specs.Recogniser.{Goal, Stack, levels_of, step, Closes, Moves, Stops, Refused, chains, row_goal, value, mark, colon, entries, more_entries, unary, expression, elements, more_elements, bracket, bracket_end}
-use Rattle.cue_syntax.proofs.MovesAndStops.{takes, takes_read, moves_none, moves_then, moves_more, moves_under, alike_moves, Halts, HaltsAt, halts_at, stopped, stops_here, stops_before, refused_behind, refused_under, refused_end}
+use Rattle.cue_syntax.specs.Viability.{Stands, StandsSign, IsMark, IsLabelName, IsKeywordName, BeginsLabel, BeginsDefinition, IsDefinition, EndsHere, can_begin, behind_begun}
+use Rattle.cue_syntax.specs.Recogniser.{Goal, Stack, levels_of, step, Closes, Moves, Refused, chains, row_goal, value, mark, colon, entries, more_entries, unary, expression, elements, more_elements, bracket, bracket_end}
+use Rattle.cue_syntax.proofs.MovesAndStops.{takes, takes_read, moves_none, moves_then, moves_more, moves_under, alike_moves, Halts, HaltsAt, halts_at, stopped, stops_there, refused_behind, refused_under, refused_end}
 use Rattle.cue_syntax.proofs.MovesOverLabels.{label_entry, chains_depth, chains_close, chains_over, colon_halts}
 use Rattle.cue_syntax.proofs.ValuesAreExpressions.{value_moves, value_refused}
 use Rattle.cue_syntax.proofs.MovesOverOperands.{no_comma}
@@ -201,16 +202,16 @@ more_entries_close true below closes = record { call = refl; colon = refl; quest
 more_entries_close false below closes = record { call = refl; colon = refl; question = refl; exclamation = refl }
 
 -- the goal of a value goes through labels and then the expression after them
-pub chain_value : {room : ℕ} {b c d : List Token} (left : ℕ) (ls : List Label) → left + length ls ≡ room → Moves room (value ∷ []) b (value ∷ chains ls) c → ¬ BeginsLabel c → length d < length c
+pub chain_value : {room : ℕ} {b c d : List Token} (left : ℕ) (ls : List Label) → left + length ls ≡ room → Moves room (value ∷ []) b (value ∷ chains ls) c → ¬ BeginsLabel c → ¬ Stands IsKeywordName c
     → Moves left (expression ∷ []) c [] d → Moves room (value ∷ []) b [] d
-chain_value {d = d} left ls is first label shorter inner =
-    moves_then first (moves_then (moves_under (chains ls) (omega (arith, is, chains_depth ls)) (value_moves label shorter inner)) (chains_over ls d))
+chain_value {d = d} left ls is first label keyword inner =
+    moves_then first (moves_then (moves_under (chains ls) (omega (arith, is, chains_depth ls)) (value_moves label keyword inner)) (chains_over ls d))
 
 -- what is refused of the expression after labels is refused of the value
-pub chain_value_refused : {room end other : ℕ} {b c : List Token} {r : Stop} (left : ℕ) (ls : List Label) → left + length ls ≡ room → other ≡ end → Moves room (value ∷ []) b (value ∷ chains ls) c → ¬ BeginsLabel c
+pub chain_value_refused : {room end other : ℕ} {b c : List Token} {r : Stop} (left : ℕ) (ls : List Label) → left + length ls ≡ room → other ≡ end → Moves room (value ∷ []) b (value ∷ chains ls) c → ¬ BeginsLabel c → ¬ Stands IsKeywordName c
     → Refused left other (expression ∷ []) c r → Refused room end (value ∷ []) b r
-chain_value_refused left ls is same first label inner =
-    refused_behind first (refused_end same (refused_under (chains ls) (omega (arith, is, chains_depth ls)) (chains_close ls) (value_refused label inner)))
+chain_value_refused left ls is same first label keyword inner =
+    refused_behind first (refused_end same (refused_under (chains ls) (omega (arith, is, chains_depth ls)) (chains_close ls) (value_refused label keyword inner)))
 
 -- the goal of declarations goes through a label and its value
 pub field_moves : {room : ℕ} {a b d : List Token} (top : Bool) (l : Label) → Reads a (spell_label l) b → Moves room (value ∷ []) b [] d → Moves (levels_of (entries top) + room) (entries top ∷ []) a (more_entries top ∷ []) d
@@ -236,13 +237,15 @@ pub definition_refused : {room end other from : ℕ} {t : List ℕ} {a b c : Lis
 definition_refused first second same inner = refused_behind (definition_opens first second) (refused_end same (refused_under (more_entries true ∷ []) (omega arith) (more_entries_close true) inner))
 
 -- where no declaration begins
-data Near (g : Stack) (a : List Token) : Type 0 where
-  here : Halts g a → Near g a
-  before : (h : Stack) (n : ℕ) → Moves n g a h (drop 1 a) → Halts h (drop 1 a) → Near g a
+-- the goals come to a place and halt there
+record HaltsBehind (g : Stack) (a b : List Token) : Type 0 where
+  pub next : Stack
+  pub room : ℕ
+  pub moves : Moves room g a next b
+  pub halts : Halts next b
 
-near_by : {n end : ℕ} {g : Stack} {r : Stop} (a : List Token) → Near g a → r ≡ at_hand reasons.Syntax end a → Stops n end g a r
-near_by a (here halts) is = stops_here is halts
-near_by a (before h n m halts) is = stops_before h is refl m halts
+halts_here : {g : Stack} {a : List Token} → Halts g a → HaltsBehind g a a
+halts_here {g = g} halts = record { next = g; room = 0; moves = moves_none; halts = halts }
 
 mark_none : (g : Stack) (k : TokenKind) → ¬ IsMark k → (below : Stack) → step ((mark ∷ g) ++ below) k ≡ None
 mark_none g (kinds.Mark points.Colon) other below = absurd (other tt)
@@ -254,26 +257,26 @@ mark_at : (g : Stack) (a : List Token) → ¬ Stands IsMark a → HaltsAt (mark 
 mark_at g [] other = λ below. refl
 mark_at g (t ∷ ts) other = λ below closes. mark_none g t.kind other below
 
-near_entry : (top : Bool) (t : Token) (ts : List Token) (k : TokenKind) → t.kind ≡ k → (k ≡ (kinds.Mark points.Ellipsis) → ⊥) → ¬ (IsLabelName k × Stands IsMark ts) → (top ≡ true → ¬ (IsDefinition k × StandsSign (kinds.Mark points.Colon) ts))
-    → (top ≡ false → k ≡ (kinds.Mark points.CloseBrace) → ⊥) → Near (entries top ∷ []) (t ∷ ts)
-near_entry true t ts (kinds.Name n) is dots label other close = before (mark ∷ value ∷ more_entries true ∷ []) 0 (takes t refl (λ below. ap (step (entries true ∷ below)) is) (omega arith)) (record { at = mark_at (value ∷ more_entries true ∷ []) ts (λ m. label (tt, m)) })
-near_entry true t ts (kinds.Text n) is dots label other close = before (mark ∷ value ∷ more_entries true ∷ []) 0 (takes t refl (λ below. ap (step (entries true ∷ below)) is) (omega arith)) (record { at = mark_at (value ∷ more_entries true ∷ []) ts (λ m. label (tt, m)) })
-near_entry true t ts (kinds.Definition n) is dots label other close = before (colon ∷ value ∷ more_entries true ∷ []) 0 (takes t refl (λ below. ap (step (entries true ∷ below)) is) (omega arith)) (colon_halts (λ m. other refl (tt, m)))
-near_entry true t ts (kinds.Mark points.Ellipsis) is dots label other close = absurd (dots refl)
-near_entry true t ts k is dots label other close = here (halts_at t refl (λ below closes. ap (step (entries true ∷ below)) is))
-near_entry false t ts (kinds.Name n) is dots label other close = before (mark ∷ value ∷ more_entries false ∷ []) 1 (takes t refl (λ below. ap (step (entries false ∷ below)) is) (omega arith)) (record { at = mark_at (value ∷ more_entries false ∷ []) ts (λ m. label (tt, m)) })
-near_entry false t ts (kinds.Text n) is dots label other close = before (mark ∷ value ∷ more_entries false ∷ []) 1 (takes t refl (λ below. ap (step (entries false ∷ below)) is) (omega arith)) (record { at = mark_at (value ∷ more_entries false ∷ []) ts (λ m. label (tt, m)) })
-near_entry false t ts (kinds.Mark points.Ellipsis) is dots label other close = absurd (dots refl)
-near_entry false t ts (kinds.Mark points.CloseBrace) is dots label other close = absurd (close refl refl)
-near_entry false t ts k is dots label other close = here (halts_at t refl (λ below closes. ap (step (entries false ∷ below)) is))
+no_entry : (top : Bool) (t : Token) (ts : List Token) (k : TokenKind) → t.kind ≡ k → (k ≡ (kinds.Mark points.Ellipsis) → ⊥) → ¬ (IsLabelName k × Stands IsMark ts) → (top ≡ true → ¬ (IsDefinition k × StandsSign (kinds.Mark points.Colon) ts))
+    → (top ≡ false → k ≡ (kinds.Mark points.CloseBrace) → ⊥) → HaltsBehind (entries top ∷ []) (t ∷ ts) (if can_begin top k then ts else t ∷ ts)
+no_entry true t ts (kinds.Name n) is dots label other close = record { next = mark ∷ value ∷ more_entries true ∷ []; room = 0; moves = takes t refl (λ below. ap (step (entries true ∷ below)) is) (omega arith); halts = record { at = mark_at (value ∷ more_entries true ∷ []) ts (λ m. label (tt, m)) } }
+no_entry true t ts (kinds.Text n) is dots label other close = record { next = mark ∷ value ∷ more_entries true ∷ []; room = 0; moves = takes t refl (λ below. ap (step (entries true ∷ below)) is) (omega arith); halts = record { at = mark_at (value ∷ more_entries true ∷ []) ts (λ m. label (tt, m)) } }
+no_entry true t ts (kinds.Definition n) is dots label other close = record { next = colon ∷ value ∷ more_entries true ∷ []; room = 0; moves = takes t refl (λ below. ap (step (entries true ∷ below)) is) (omega arith); halts = colon_halts (λ m. other refl (tt, m)) }
+no_entry true t ts (kinds.Mark points.Ellipsis) is dots label other close = absurd (dots refl)
+no_entry true t ts k is dots label other close = halts_here (halts_at t refl (λ below closes. ap (step (entries true ∷ below)) is))
+no_entry false t ts (kinds.Name n) is dots label other close = record { next = mark ∷ value ∷ more_entries false ∷ []; room = 1; moves = takes t refl (λ below. ap (step (entries false ∷ below)) is) (omega arith); halts = record { at = mark_at (value ∷ more_entries false ∷ []) ts (λ m. label (tt, m)) } }
+no_entry false t ts (kinds.Text n) is dots label other close = record { next = mark ∷ value ∷ more_entries false ∷ []; room = 1; moves = takes t refl (λ below. ap (step (entries false ∷ below)) is) (omega arith); halts = record { at = mark_at (value ∷ more_entries false ∷ []) ts (λ m. label (tt, m)) } }
+no_entry false t ts (kinds.Mark points.Ellipsis) is dots label other close = absurd (dots refl)
+no_entry false t ts (kinds.Mark points.CloseBrace) is dots label other close = absurd (close refl refl)
+no_entry false t ts k is dots label other close = halts_here (halts_at t refl (λ below closes. ap (step (entries false ∷ below)) is))
 
-near_none : (top : Bool) (a : List Token) → ¬ StandsSign (kinds.Mark points.Ellipsis) a → ¬ BeginsLabel a → (top ≡ true → ¬ BeginsDefinition a) → ¬ EndsHere top a → Near (entries top ∷ []) a
-near_none true [] dots label other ends = absurd (ends refl)
-near_none false [] dots label other ends = here (record { at = λ below. refl })
-near_none true (t ∷ ts) dots label other ends = near_entry true t ts t.kind refl dots label other (λ e. let f : true ≡ false = e in cc)
-near_none false (t ∷ ts) dots label other ends = near_entry false t ts t.kind refl dots label other (λ e. ends)
+no_entry_at : (top : Bool) (a : List Token) → ¬ StandsSign (kinds.Mark points.Ellipsis) a → ¬ BeginsLabel a → (top ≡ true → ¬ BeginsDefinition a) → ¬ EndsHere top a → HaltsBehind (entries top ∷ []) a (behind_begun top a)
+no_entry_at true [] dots label other ends = absurd (ends refl)
+no_entry_at false [] dots label other ends = halts_here (record { at = λ below. refl })
+no_entry_at true (t ∷ ts) dots label other ends = no_entry true t ts t.kind refl dots label other (λ e. let f : true ≡ false = e in cc)
+no_entry_at false (t ∷ ts) dots label other ends = no_entry false t ts t.kind refl dots label other (λ e. ends)
 
 -- the goal of declarations refuses tokens with which none begins and where they don't end
-pub no_entry_refused : {n end : ℕ} {a : List Token} {r : Stop} (top : Bool) → ¬ StandsSign (kinds.Mark points.Ellipsis) a → ¬ BeginsLabel a → (top ≡ true → ¬ BeginsDefinition a) → ¬ EndsHere top a → r ≡ at_hand reasons.Syntax end a
-    → Refused n end (entries top ∷ []) a r
-no_entry_refused {a = a} top dots label other ends is = stopped (near_by a (near_none top a dots label other ends) is)
+pub no_entry_refused : {n end : ℕ} {a : List Token} {r : Stop} (top : Bool) → ¬ StandsSign (kinds.Mark points.Ellipsis) a → ¬ BeginsLabel a → (top ≡ true → ¬ BeginsDefinition a) → ¬ EndsHere top a
+    → r ≡ at_hand reasons.Syntax end (behind_begun top a) → Refused n end (entries top ∷ []) a r
+no_entry_refused {a = a} top dots label other ends is = let w = no_entry_at top a dots label other ends in stopped (stops_there is w.moves w.halts)

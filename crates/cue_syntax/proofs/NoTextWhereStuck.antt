@@ -121,6 +121,15 @@ takes_clause_end limit false no_entries true clause right end first second third
 takes_clause_end limit false no_entries false clause right end first second third within = ap (stuck limit (package_end ∷ [])) (first.follows ∙ second.follows ∙ third.follows)
 takes_clause_end limit false (entry e es) comma clause right end first second third within = absurd (let is : entry e es ≡ no_entries = clause refl in cc)
 
+-- a clause and the declarations after it
+package_named : (clause : Package) (es : Entries) → IsRightPackage (Some clause) es → IsPackageName clause.name
+package_named clause no_entries is = is
+package_named clause (entry e es) is = is.0
+
+package_parted : (clause : Package) (es : Entries) → IsRightPackage (Some clause) es → clause.comma ≡ false → es ≡ no_entries
+package_parted clause no_entries is none = refl
+package_parted clause (entry e es) is none = absurd (true≢false (sym is.1 ∙ none))
+
 takes_file : (limit : Limit) (a : List Token) (clause : Option Package) (es : Entries) (comma : Bool) → IsRightPackage clause es → AreRightEntries es → EndsEntries comma es
     → Reads a (spell_package clause ++ spell_entries es ++ comma_if comma) [] → Within limit (levels_of_entries es) → stuck limit (text ∷ []) a ≡ None
 takes_file limit a None es comma named right end reads within =
@@ -132,8 +141,8 @@ takes_file limit a (Some clause) es comma named right end reads within =
     let u = reads_split (one (kinds.Name (codes "package"))) (one (identifier_kind clause.name) ++ comma_if clause.comma) t.first in
     let v = reads_split (one (identifier_kind clause.name)) (comma_if clause.comma) u.second in
     took limit (text ∷ []) (package_word ∷ []) u.first refl (within_less limit _ (levels_of_entries es) (omega arith) within)
-    ∙ took limit (package_word ∷ []) (package_end ∷ []) v.first (package_step clause.name named.0) (within_less limit _ (levels_of_entries es) (omega arith) within)
-    ∙ takes_clause_end limit clause.comma es comma named.1 right end v.second t.second s.second within
+    ∙ took limit (package_word ∷ []) (package_end ∷ []) v.first (package_step clause.name (package_named clause es named)) (within_less limit _ (levels_of_entries es) (omega arith) within)
+    ∙ takes_clause_end limit clause.comma es comma (package_parted clause es named) right end v.second t.second s.second within
 
 -- each text of the grammar is taken whole
 pub takes_text : (limit : Limit) (tokens : List Token) (file : FileTree) → IsFile limit tokens file → stuck limit (text ∷ []) tokens ≡ None

@@ -1,5 +1,5 @@
 -- What a stop of the recogniser says of the grammar.
-use Rattle.std.proofs.Common.{◌≡◌, ◌∙◌, ap, sym, subst, refl, ℕ, suc, ◌+◌, ◌-◌, ◌<◌, ◌≤◌, ◌⊎◌, inl, inr, List, [], ◌∷◌, ◌++◌, length, take, drop, arith, Option, Some, None, length-append}
+use Rattle.std.proofs.Common.{◌≡◌, ◌∙◌, ap, sym, subst, refl, ℕ, suc, ◌+◌, ◌-◌, ◌<◌, ◌≤◌, ◌⊎◌, inl, inr, List, [], ◌∷◌, ◌++◌, length, drop, arith, Option, Some, None, length-append}
 use Rattle.cue_lex.specs.declared.token.Token.{Token}
 use Rattle.cue_lex.specs.declared.token.TokenKind.TheVariants as kinds
 use Rattle.cue_lex.specs.declared.punctuation.Punctuation.TheVariants as points
@@ -15,10 +15,9 @@ use Rattle.cue_syntax.specs.Stops as stopped
 use Rattle.cue_syntax.specs.Files.{file_tree}
 use Rattle.cue_syntax.specs.Syntax.{FileTree}
 use Rattle.cue_syntax.specs.Grammar.{Limit, unlimited, at_most, IsFile}
-use Rattle.cue_syntax.specs.Viability.{Begins, Leaves, LeavesNear, HasNoTree, StandsSign, IsCallOfClose}
-use Rattle.cue_syntax.specs.Spots.{spot_of}
-use Rattle.cue_syntax.specs.Refusals.{IsBraceOfClose, NestsNear, IsKindAt, FitsAt, Fits, TellsAt, Tells}
-use Rattle.cue_syntax.specs.Recogniser.{Stack, depth, stuck, Closes, IsEnd, SticksNear, OpensNear, SticksBy, Stops, Refused, IsBrace, text}
+use Rattle.cue_syntax.specs.Viability.{Begins, Leaves, HasNoTree, Stands, StandsSign, IsMark, IsCallOfClose}
+use Rattle.cue_syntax.specs.Refusals.{IsBraceOfClose, NestsNear, LeavesAt, FitsAt, Fits, TellsAt, Tells}
+use Rattle.cue_syntax.specs.Recogniser.{Stack, depth, stuck, Closes, IsEnd, Sticks, OpensNear, SticksBy, Stops, Refused, IsBrace, text}
 use Rattle.cue_syntax.proofs.NoTextWhereStuck.{stuck_inside, stuck_at_end, stuck_begins_none}
 use Rattle.cue_syntax.proofs.TakenBeginsAText.{begins, taken, fewer}
 use Rattle.cue_syntax.proofs.OneTree.{one_tree}
@@ -37,18 +36,14 @@ drop_read (t ∷ read) at = drop_read read at
 pub at_drop : {tokens at : List Token} (inside : IsEnd tokens at) → drop (length inside.read) tokens ≡ at
 at_drop {at = at} inside = ap (drop (length inside.read)) inside.is ∙ drop_read inside.read at
 
-near_count : {tokens : List Token} (at here : List Token) (inside : IsEnd tokens at) → (at ≡ here) ⊎ (drop 1 at ≡ here)
-    → (length inside.read ≡ length tokens - length here) ⊎ (suc (length inside.read) ≡ length tokens - length here)
-near_count at here inside (inl e) = inl (omega (arith, ap length e, ap length inside.is, length-append inside.read at))
-near_count [] here inside (inr e) = inl (omega (arith, ap length e, ap length inside.is, length-append inside.read []))
-near_count (t ∷ at) here inside (inr e) = inr (let f : at ≡ here = e in omega (arith, ap length f, ap length inside.is, length-append inside.read (t ∷ at)))
+end_count : {tokens here : List Token} (end : IsEnd tokens here) → length end.read ≡ length tokens - length here
+end_count {here = here} end = omega (arith, ap length end.is, length-append end.read here)
 
-leaves_near : {tokens at : List Token} (inside : IsEnd tokens at) → SticksNear (text ∷ []) tokens at → LeavesNear tokens (length inside.read)
-leaves_near {tokens = tokens} {at = at} inside by = record {
-  k = length tokens - length by.here;
-  leaves = leaves_at unlimited tokens by.here (by.sticks [] nothing_closes);
-  near = near_count at by.here inside by.near;
-}
+drop_end : {tokens here : List Token} (end : IsEnd tokens here) → drop (length tokens - length here) tokens ≡ here
+drop_end {tokens = tokens} {here = here} end = subst (λ n. drop n tokens ≡ here) (end_count end) (at_drop end)
+
+leaves_end : {tokens at : List Token} (inside : IsEnd tokens at) → Sticks unlimited (text ∷ []) tokens at → Leaves unlimited tokens (length inside.read)
+leaves_end {tokens = tokens} {at = at} inside sticks = subst (Leaves unlimited tokens) (sym (end_count inside)) (leaves_at unlimited tokens at (sticks [] nothing_closes))
 
 -- with more levels the tokens go on
 deeper_by : (tokens behind : List Token) (next : Stack) (k : ℕ) → k + length behind ≡ length tokens → stuck unlimited (text ∷ []) tokens ≡ stuck unlimited next behind → (o : Option (List Token)) → stuck unlimited next behind ≡ o
@@ -56,12 +51,6 @@ deeper_by : (tokens behind : List Token) (next : Stack) (k : ℕ) → k + length
 deeper_by tokens behind next k count same None is = let t = taken unlimited tokens (same ∙ is) in record { whole = tokens; tree = t.0; alike = refl; is = t.1 }
 deeper_by tokens behind next k count same (Some here) is =
     fewer unlimited k (length tokens - length here) tokens (begins unlimited tokens here (same ∙ is)) (omega (arith, count, stuck_inside unlimited next behind here is))
-
-end_count : {tokens here : List Token} (end : IsEnd tokens here) → length end.read ≡ length tokens - length here
-end_count {here = here} end = omega (arith, ap length end.is, length-append end.read here)
-
-drop_end : {tokens here : List Token} (end : IsEnd tokens here) → drop (length tokens - length here) tokens ≡ here
-drop_end {tokens = tokens} {here = here} end = subst (λ n. drop n tokens ≡ here) (end_count end) (at_drop end)
 
 -- the name of a call, and then its parenthesis
 name_count : (name : List Token) → IsCallOfClose name → length name ≡ suc (length (drop 1 name))
@@ -94,27 +83,39 @@ brace_of_close {tokens = tokens} {here = here} {at = at} inside end brace =
       },
     )
 
+same_count : {tokens : List Token} (at here : List Token) (inside : IsEnd tokens at) → at ≡ here → length inside.read ≡ length tokens - length here
+same_count at here inside same = omega (arith, ap length same, ap length inside.is, length-append inside.read at)
+
+next_count : {tokens : List Token} (at here : List Token) (inside : IsEnd tokens at) → drop 1 at ≡ here → 0 < length here → suc (length inside.read) ≡ length tokens - length here
+next_count [] here inside same some = absurd (let e : [] ≡ here = same in omega (arith, some, ap length e))
+next_count (t ∷ at) here inside same some = let f : at ≡ here = same in omega (arith, ap length f, ap length inside.is, length-append inside.read (t ∷ at))
+
+mark_some : (here : List Token) → Stands IsMark here → 0 < length here
+mark_some [] stands = absurd stands
+mark_some (t ∷ ts) stands = omega arith
+
 nests_near : {levels : ℕ} {tokens at : List Token} (inside : IsEnd tokens at) → OpensNear levels (text ∷ []) tokens at → NestsNear levels tokens (length inside.read)
 nests_near {levels = levels} {tokens = tokens} {at = at} inside by =
     let level : depth [] + levels ≡ levels = omega arith in
-    let is : stuck (at_most levels) (text ∷ []) tokens ≡ Some by.here = subst (λ n. stuck (at_most n) (text ∷ []) tokens ≡ Some by.here) level (by.sticks [] nothing_closes) in
+    let is : stuck (at_most levels) (text ∷ []) tokens ≡ Some by.here = subst (λ n. stuck (at_most n) (text ∷ []) tokens ≡ Some by.here) level (by.opens.sticks [] nothing_closes) in
     let end = stuck_at_end (at_most levels) (text ∷ []) tokens by.here is in
-    let d = by.deeper [] in
+    let d = by.opens.deeper [] in
+    let here : by.here ≡ drop (length tokens - length by.here) tokens = sym (drop_end end) in
     record {
       k = length tokens - length by.here;
       leaves = leaves_at (at_most levels) tokens by.here is;
       deeper = deeper_by tokens d.tokens_behind d.next (suc (length tokens - length by.here)) (omega (arith, ap length d.is, ap length end.is, length-append end.read by.here)) d.goes_on (stuck unlimited d.next d.tokens_behind) refl;
       near = elim by.near [
-        | inl e ↦ elim (near_count at by.here inside (inl e)) [ inl f ↦ inl f | inr f ↦ inr (inl f) ]
-        | inr (inl e) ↦ elim (near_count at by.here inside (inr e)) [ inl f ↦ inl f | inr f ↦ inr (inl f) ]
+        | inl e ↦ inl (same_count at by.here inside e.0, subst (λ z. ¬ Stands IsMark z) here e.1)
+        | inr (inl e) ↦ inr (inl (next_count at by.here inside e.0 (mark_some by.here e.1), subst (Stands IsMark) here e.1))
         | inr (inr e) ↦ inr (inr (brace_of_close inside end e))
       ];
     }
 
 -- what is told of a stop
-fits_kind : (levels : ℕ) (tokens : List Token) (kind : Kind) (j : ℕ) → LeavesNear tokens j → IsKindAt kind (spot_of (take j tokens)) (drop j tokens) → FitsAt levels tokens kind j
-fits_kind levels tokens refusals.Nesting j near is = absurd is
-fits_kind levels tokens _ j near is = (near, is)
+fits_kind : (levels : ℕ) (tokens : List Token) (kind : Kind) (j : ℕ) → LeavesAt tokens kind j → FitsAt levels tokens kind j
+fits_kind levels tokens refusals.Nesting j leaves = absurd leaves.told
+fits_kind levels tokens _ j leaves = leaves
 
 told_fits : {levels end : ℕ} {tokens at : List Token} {r : Refusal} (inside : IsEnd tokens at) (why : Why) → SticksBy levels (text ∷ []) tokens why at → TellsAt end tokens (length inside.read) why r
     → (r ≡ memory) ⊎ Fits levels end tokens r
@@ -122,7 +123,8 @@ told_fits inside reasons.Memory by told = absurd by
 told_fits {levels = levels} {end = end} {tokens = tokens} inside reasons.Nesting by told =
     inr (subst (λ z. Fits levels end tokens z) (sym told) (record { j = length inside.read; place = refl; fits = nests_near inside by }))
 told_fits {levels = levels} {tokens = tokens} {r = r} inside reasons.Syntax by told =
-    inr (record { j = length inside.read; place = told.0; fits = fits_kind levels tokens r.kind (length inside.read) (leaves_near inside by) told.1 })
+    let leaves : LeavesAt tokens r.kind told.j = record { k = length inside.read; leaves = leaves_end inside by; named = told.named; told = told.kind } in
+    inr (record { j = told.j; place = told.place; fits = fits_kind levels tokens r.kind told.j leaves })
 
 stop_fits : {levels end : ℕ} {tokens : List Token} {stop : Stop} {r : Refusal} → Stops levels end (text ∷ []) tokens stop → Tells end tokens stop r → (r ≡ memory) ⊎ Fits levels end tokens r
 stop_fits {end = end} {tokens = tokens} {stop = stop} {r = r} s told =
@@ -146,12 +148,12 @@ refused_left {tokens = tokens} s = elim (s.why) [
 leaves_none : {limit : Limit} {tokens : List Token} {k : ℕ} → Leaves limit tokens k → HasNoTree limit tokens
 leaves_none {tokens = tokens} leaves tree is = leaves.behind (record { whole = tokens; tree = tree; alike = refl; is = is })
 
-near_none : {levels : ℕ} {tokens : List Token} {j : ℕ} → LeavesNear tokens j → HasNoTree (at_most levels) tokens
-near_none near tree is = leaves_none near.leaves tree (record { reads = is.reads; clause = is.clause; right = is.right; ends = is.ends; levels = tt })
+all_none : {levels : ℕ} {tokens : List Token} {k : ℕ} → Leaves unlimited tokens k → HasNoTree (at_most levels) tokens
+all_none leaves tree is = leaves_none leaves tree (record { reads = is.reads; clause = is.clause; right = is.right; ends = is.ends; levels = tt })
 
 stop_none : {levels : ℕ} {tokens at : List Token} (inside : IsEnd tokens at) (why : Why) → SticksBy levels (text ∷ []) tokens why at → HasNoTree (at_most levels) tokens
 stop_none inside reasons.Memory by = absurd by
-stop_none inside reasons.Syntax by = near_none (leaves_near inside by)
+stop_none inside reasons.Syntax by = all_none (leaves_end inside by)
 stop_none inside reasons.Nesting by = let nests = nests_near inside by in leaves_none nests.leaves
 
 refused_none : {levels end : ℕ} {tokens : List Token} {stop : Stop} → Refused levels end (text ∷ []) tokens stop → (stop ≡ stopped.memory) ⊎ HasNoTree (at_most levels) tokens

@@ -8,7 +8,7 @@ use Rattle.cue_syntax.specs.declared.stop.Why.TheVariants as reasons
 use Rattle.cue_syntax.specs.Spelling.{Reads, one}
 use Rattle.cue_syntax.specs.Stops.{memory, at_hand}
 use Rattle.cue_syntax.specs.Viability.{StandsSign}
-use Rattle.cue_syntax.specs.Operands.{BeginsEntry}
+use Rattle.cue_syntax.specs.Begun.{BeginsEntry}
 
 -- What is said of the tokens at hand is said of the first ones.
 pub begun : (a b : List Token) → (a ≡ b) ⊎ BeginsEntry b → BeginsEntry a → BeginsEntry b

@@ -1,18 +1,17 @@
 -- A value that is no label is an expression.
-use Rattle.std.proofs.Common.{◌≡◌, ◌∙◌, ap, sym, subst, refl, ℕ, ◌≤◌, ◌<◌, ◌⊎◌, inl, inr, Bool, true, false, List, [], ◌∷◌, ◌++◌, length, drop, codes, arith, Some, None, length-append, length-drop}
+use Rattle.std.proofs.Common.{◌≡◌, ◌∙◌, ap, sym, refl, ℕ, Bool, true, false, List, [], ◌∷◌, drop, codes, arith, Some, None}
 use Rattle.std.specs.Prelude.{if◌then◌else◌}
 use Rattle.cue_lex.specs.declared.token.Token.{Token}
 use Rattle.cue_lex.specs.declared.token.TokenKind.{TokenKind}
 use Rattle.cue_lex.specs.declared.token.TokenKind.TheVariants as kinds
 use Rattle.cue_lex.specs.declared.punctuation.Punctuation.TheVariants as points
-use Rattle.cue_syntax.specs.declared.stop.Why.{Why}
 use Rattle.cue_syntax.specs.declared.stop.Why.TheVariants as reasons
 use Rattle.cue_syntax.specs.declared.stop.Stop.{Stop}
-use Rattle.cue_syntax.specs.Grammar.{unlimited, at_most}
-use Rattle.cue_syntax.specs.Viability.{Stands, IsMark, IsLabelName, BeginsLabel}
-use Rattle.cue_syntax.specs.Recogniser.{Stack, depth, raise, step, stuck, is_word, is_keyword, Closes, IsEnd, SticksBy, Moves, Refused, value, value_name, value_text, expression, behind_close, more_parts, more_terms}
-use Rattle.cue_syntax.proofs.MovesAndStops.{takes, moves_then, moves_meet, alike_moves, Alike, moves_more, Halts, HaltsAt, halts_at, halts_sticks, refused_behind}
-use Rattle.cue_syntax.proofs.NoTextWhereStuck.{stuck_inside}
+use Rattle.cue_syntax.specs.Stops.{at_hand}
+use Rattle.cue_syntax.specs.Viability.{Stands, IsMark, IsLabelName, IsKeywordName, BeginsLabel, RefusesKeyword}
+use Rattle.cue_syntax.specs.Recogniser.{Stack, step, is_word, is_keyword, Moves, Stops, Refused, value, value_name, value_text, expression, behind_close, more_parts, more_terms}
+use Rattle.cue_syntax.proofs.MovesAndStops.{takes, moves_then, moves_meet, alike_moves, Alike, moves_more, HaltsAt, stopped, stops_there, refused_behind}
+use Rattle.cue_syntax.proofs.MovesOverLiterals.{keyword_is, keyword_no}
 
 -- after a name
 name_behind : (n : List ℕ) (k : TokenKind) → ¬ IsMark k → is_keyword n ≡ false → is_word (codes "close") n ≡ false → (below : Stack) → step (value_name n ∷ below) k ≡ step (more_parts ∷ more_terms ∷ below) k
@@ -71,91 +70,35 @@ value_of_name t b n false kind mark keyword close = moves_meet (more_parts ∷ m
     (moves_then {h = value_name n ∷ []} (takes t refl (λ below. ap (step (value ∷ below)) kind) (rw keyword (omega arith))) (alike_moves b (name_alike n b mark keyword close)))
     (takes t refl (λ below. ap (step (expression ∷ below)) kind ∙ name_step n false keyword close below) (omega arith))
 
--- the tokens begin with a keyword
-pub record BeginsKeyword (a : List Token) : Type 0 where
-  pub token : Token
-  pub behind : List Token
-  pub name : List ℕ
-  pub is : a ≡ token ∷ behind
-  pub kind : token.kind ≡ kinds.Name name
-  pub keyword : is_keyword name ≡ true
-  pub mark : ¬ Stands IsMark behind
-
-by_keyword : (t : Token) (b : List Token) (n : List ℕ) (keyword : Bool) → t.kind ≡ kinds.Name n → ¬ Stands IsMark b → is_keyword n ≡ keyword → Moves 0 (value ∷ []) (t ∷ b) (expression ∷ []) (t ∷ b) ⊎ BeginsKeyword (t ∷ b)
-by_keyword t b n true kind mark is = inr (record { token = t; behind = b; name = n; is = refl; kind = kind; keyword = is; mark = mark })
-by_keyword t b n false kind mark is = inl (value_of_name t b n (is_word (codes "close") n) kind mark is refl)
-
-by_kind : (t : Token) (b : List Token) (k : TokenKind) → t.kind ≡ k → ¬ (IsLabelName k × Stands IsMark b) → Moves 0 (value ∷ []) (t ∷ b) (expression ∷ []) (t ∷ b) ⊎ BeginsKeyword (t ∷ b)
-by_kind t b (kinds.Name n) kind label = by_keyword t b n (is_keyword n) kind (λ m. label (tt, m)) refl
-by_kind t b (kinds.Text n) kind label = inl (moves_meet (more_parts ∷ more_terms ∷ [])
+value_by : (t : Token) (b : List Token) (k : TokenKind) → t.kind ≡ k → ¬ (IsLabelName k × Stands IsMark b) → ¬ IsKeywordName k → Moves 0 (value ∷ []) (t ∷ b) (expression ∷ []) (t ∷ b)
+value_by t b (kinds.Name n) kind label keyword = value_of_name t b n (is_word (codes "close") n) kind (λ m. label (tt, m)) (keyword_no n keyword) refl
+value_by t b (kinds.Text n) kind label keyword = moves_meet (more_parts ∷ more_terms ∷ [])
     (moves_then {h = value_text ∷ []} (takes t refl (λ below. ap (step (value ∷ below)) kind) (omega arith)) (alike_moves b (text_alike b (λ m. label (tt, m)))))
-    (takes t refl (λ below. ap (step (expression ∷ below)) kind) (omega arith)))
-by_kind t b k kind label = inl (alike_moves (t ∷ b) (λ below. ap (step (value ∷ below)) kind ∙ sym (ap (step (expression ∷ below)) kind)))
+    (takes t refl (λ below. ap (step (expression ∷ below)) kind) (omega arith))
+value_by t b k kind label keyword = alike_moves (t ∷ b) (λ below. ap (step (value ∷ below)) kind ∙ sym (ap (step (expression ∷ below)) kind))
 
-value_or : (a : List Token) → ¬ BeginsLabel a → Moves 0 (value ∷ []) a (expression ∷ []) a ⊎ BeginsKeyword a
-value_or [] label = inl (alike_moves [] (λ below. refl))
-value_or (t ∷ ts) label = by_kind t ts t.kind refl label
+value_is : (a : List Token) → ¬ BeginsLabel a → ¬ Stands IsKeywordName a → Moves 0 (value ∷ []) a (expression ∷ []) a
+value_is [] label keyword = alike_moves [] (λ below. refl)
+value_is (t ∷ ts) label keyword = value_by t ts t.kind refl label keyword
 
--- after a keyword
-some_inner : {a b : List Token} → Some a ≡ Some b → a ≡ b
-some_inner e = cc
+-- where neither a label nor a keyword begins, the goal of a value goes through an expression
+pub value_moves : {n : ℕ} {a b : List Token} → ¬ BeginsLabel a → ¬ Stands IsKeywordName a → Moves n (expression ∷ []) a [] b → Moves n (value ∷ []) a [] b
+value_moves {a = a} label keyword m = moves_then (moves_more (omega arith) (value_is a label keyword)) m
 
-expression_halts : {a : List Token} → BeginsKeyword a → Halts (expression ∷ []) a
-expression_halts {a = a} w = halts_at w.token w.is (λ below closes. ap (step (expression ∷ below)) w.kind ∙ keyword_none w.name w.keyword below)
-  where
-    keyword_none : (n : List ℕ) → is_keyword n ≡ true → (below : Stack) → step (expression ∷ below) (kinds.Name n) ≡ None
-    keyword_none n keyword below = rw keyword refl
+-- what is refused there of an expression is refused of a value
+pub value_refused : {n end : ℕ} {a : List Token} {r : Stop} → ¬ BeginsLabel a → ¬ Stands IsKeywordName a → Refused n end (expression ∷ []) a r → Refused n end (value ∷ []) a r
+value_refused {a = a} label keyword s = refused_behind (moves_more (omega arith) (value_is a label keyword)) s
 
-nothing_closes : Closes []
-nothing_closes = record { call = refl; colon = refl; question = refl; exclamation = refl }
+-- the goal of a value halts after a keyword that is no label
+keyword_by : {n end : ℕ} {r : Stop} (t : Token) (b : List Token) (k : TokenKind) → t.kind ≡ k → ¬ (IsLabelName k × Stands IsMark b) → IsKeywordName k → r ≡ at_hand reasons.Syntax end b → Stops n end (value ∷ []) (t ∷ b) r
+keyword_by t b (kinds.Name n) kind label keyword is =
+    let known = keyword_is n keyword in
+    stops_there is (takes {n = 1} {next = value_name n ∷ []} t refl (λ below. ap (step (value ∷ below)) kind) (rw known (omega arith))) (record { at = keyword_at n b (λ m. label (tt, m)) known })
+keyword_by t b _ kind label keyword is = absurd keyword
 
-stuck_none : (b : List Token) → stuck unlimited [] b ≡ Some b
-stuck_none [] = refl
-stuck_none (t ∷ ts) = refl
+keyword_stops : {n end : ℕ} {r : Stop} (a : List Token) → ¬ BeginsLabel a → Stands IsKeywordName a → r ≡ at_hand reasons.Syntax end (drop 1 a) → Stops n end (value ∷ []) a r
+keyword_stops [] label keyword is = absurd keyword
+keyword_stops (t ∷ ts) label keyword is = keyword_by t ts t.kind refl label keyword is
 
-keyword_moves : {n : ℕ} {a b : List Token} → BeginsKeyword a → Moves n (expression ∷ []) a [] b → length b < length a → ⊥
-keyword_moves {a = a} {b = b} w m shorter =
-    let same : a ≡ b = some_inner (sym (halts_sticks (expression ∷ []) unlimited a (expression_halts w) [] nothing_closes) ∙ m.moves unlimited [] tt ∙ stuck_none b) in
-    absurd (omega (arith, ap length same, shorter))
-
--- where no label begins, the goal of a value goes through an expression
-pub value_moves : {n : ℕ} {a b : List Token} → ¬ BeginsLabel a → length b < length a → Moves n (expression ∷ []) a [] b → Moves n (value ∷ []) a [] b
-value_moves {n = n} {a = a} {b = b} label shorter m = elim (value_or a label) [ inl same ↦ moves_then (moves_more (omega arith) same) m | inr w ↦ absurd (keyword_moves w m shorter) ]
-
-end_length : {a at : List Token} → IsEnd a at → length at ≤ length a
-end_length {at = at} e = omega (arith, ap length e.is, length-append e.read at)
-
-only_here : (a at : List Token) → IsEnd a at → 0 < length a → (at ≡ a) ⊎ (drop 1 at ≡ a) → at ≡ a
-only_here a at inside some (inl e) = e
-only_here a at inside some (inr e) = absurd (omega (arith, some, end_length inside, ap length e, length-drop 1 at))
-
-begins_some : {a : List Token} → BeginsKeyword a → 0 < length a
-begins_some w = omega (arith, ap length w.is)
-
-keyword_near : {a at here : List Token} → BeginsKeyword a → IsEnd a at → stuck unlimited (expression ∷ []) a ≡ Some here → (at ≡ here) ⊎ (drop 1 at ≡ here) → at ≡ a
-keyword_near {a = a} {at = at} {here = here} w inside sticks near =
-    let is : here ≡ a = some_inner (sym sticks ∙ halts_sticks (expression ∷ []) unlimited a (expression_halts w) [] nothing_closes) in
-    only_here a at inside (begins_some w) (subst (λ z. (at ≡ z) ⊎ (drop 1 at ≡ z)) is near)
-
-keyword_sticks : {a : List Token} (w : BeginsKeyword a) (below : Stack) → Closes below → stuck unlimited ((value ∷ []) ++ below) a ≡ Some w.behind
-keyword_sticks {a = a} w below closes =
-    let m : Moves 1 (value ∷ []) a (value_name w.name ∷ []) w.behind = takes w.token w.is (λ below. ap (step (value ∷ below)) w.kind) (let k = w.keyword in rw k (omega arith)) in
-    m.moves unlimited below tt ∙ halts_sticks (value_name w.name ∷ []) unlimited w.behind (record { at = keyword_at w.name w.behind w.mark w.keyword }) below closes
-
-keyword_by : (n : ℕ) (a at : List Token) (kind : Why) → BeginsKeyword a → IsEnd a at → SticksBy n (expression ∷ []) a kind at → SticksBy n (value ∷ []) a kind at
-keyword_by n a at reasons.Syntax w inside by =
-    record { here = w.behind; sticks = keyword_sticks w; near = inr (ap (drop 1) (keyword_near w inside (by.sticks [] nothing_closes) by.near ∙ w.is)) }
-keyword_by n a at reasons.Nesting w inside by =
-    let halts = expression_halts w in
-    let d = by.deeper [] in
-    let is : by.here ≡ a = some_inner (sym (by.sticks [] nothing_closes) ∙ halts_sticks (expression ∷ []) (raise (depth []) (at_most n)) a halts [] nothing_closes) in
-    let inner : length a ≤ length d.tokens_behind = stuck_inside unlimited d.next d.tokens_behind a (sym d.goes_on ∙ halts_sticks (expression ∷ []) unlimited a halts [] nothing_closes) in
-    absurd (omega (arith, inner, ap length is, ap length d.is))
-keyword_by n a at reasons.Memory w inside by = by
-
--- where no label begins, what is refused of an expression is refused of a value
-pub value_refused : {n end : ℕ} {a : List Token} {r : Stop} → ¬ BeginsLabel a → Refused n end (expression ∷ []) a r → Refused n end (value ∷ []) a r
-value_refused {a = a} {r = r} label s = elim (value_or a label) [
-  | inl same ↦ refused_behind (moves_more (omega arith) same) s
-  | inr w ↦ elim (s.why) [ inl e ↦ record { why = inl e } | inr e ↦ record { why = inr (record { at = e.at; inside = e.inside; left = e.left; by = keyword_by _ a e.at r.why w e.inside e.by }) } ]
-]
+pub keyword_refused : {n end : ℕ} {a : List Token} {r : Stop} → ¬ BeginsLabel a → RefusesKeyword end a r → Refused n end (value ∷ []) a r
+keyword_refused {a = a} label refuses = stopped (keyword_stops a label refuses.keyword refuses.is)

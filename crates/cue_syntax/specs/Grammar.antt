@@ -224,20 +224,14 @@ IsPackageName (identifiers.Hidden t) = ¬ HidesDefinition t
 -- where no comma stands after the name of a package, no declaration does
 abbrev pub IsRightPackage : Option Package → Entries → Type 0
 IsRightPackage None es = ⊤
-IsRightPackage (Some clause) es =
-    IsPackageName clause.name × (clause.comma ≡ false → es ≡ no_entries)
-
--- where no comma stands after the name of a package, nothing stands there
-abbrev pub IsWellPackaged : Option Package → Entries → Type 0
-IsWellPackaged None es = ⊤
-IsWellPackaged (Some clause) no_entries = IsPackageName clause.name
-IsWellPackaged (Some clause) (entry e es) = IsPackageName clause.name × (clause.comma ≡ true)
+IsRightPackage (Some clause) no_entries = IsPackageName clause.name
+IsRightPackage (Some clause) (entry e es) = IsPackageName clause.name × (clause.comma ≡ true)
 
 -- These are the parts of a well-formed fragment: it follows the grammar, opens no more levels than
 -- a text may, and its names, labels and strings are words.
 pub record IsFragment (clause : Option Package) (declarations : Entries)
     (comma : Bool) : Type 0 where
-  pub package_clause : IsWellPackaged clause declarations
+  pub package_clause : IsRightPackage clause declarations
   pub right : AreRightEntries declarations
   pub ends : EndsEntries comma declarations
   pub levels : levels_of_entries declarations ≤ level_limit

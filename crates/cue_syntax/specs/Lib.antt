@@ -2,7 +2,9 @@ pub mod Syntax
 pub mod Spelling
 pub mod Words
 pub mod Grammar
+pub mod Unplaced
 pub mod Files
+pub mod Begun
 pub mod Operands
 pub mod Viability
 pub mod Recogniser

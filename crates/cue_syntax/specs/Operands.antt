@@ -1,5 +1,5 @@
--- With which tokens the rules of operands, literals, declarations and texts begin.
-use Rattle.std.specs.Prelude.{◌≡◌, ◌≢◌, ◌⊎◌, List, codes}
+-- With which tokens the rules of operands and literals begin.
+use Rattle.std.specs.Prelude.{◌≡◌, ◌≢◌, List}
 use Rattle.cue_lex.specs.declared.token.Token.{Token}
 use Rattle.cue_lex.specs.declared.token.TokenKind.{TokenKind}
 use Rattle.cue_lex.specs.declared.token.TokenKind.TheVariants as kinds
@@ -11,7 +11,7 @@ use Rattle.cue_syntax.specs.declared.literal.Beginning.{Beginning}
 use Rattle.cue_syntax.specs.declared.literal.Beginning.TheVariants as beginnings
 use Rattle.cue_syntax.specs.declared.tree.Sign.{Sign}
 use Rattle.cue_syntax.specs.declared.tree.Sign.TheVariants as signs
-use Rattle.cue_syntax.specs.Viability.{BeginsLabel, BeginsDefinition, BeginsInteger, IsComparison}
+use Rattle.cue_syntax.specs.Viability.{BeginsInteger, IsComparison}
 use Rattle.cue_syntax.specs.Viability.{Stands, StandsSign, Opens, IsCallOfClose}
 
 -- what the rule of an operand begins with
@@ -35,11 +35,3 @@ abbrev pub IsSign : Sign → TokenKind → Type 0
 IsSign signs.Minus kind = kind ≡ kinds.Mark points.Minus
 IsSign signs.Plus kind = kind ≡ kinds.Mark points.Plus
 IsSign signs.Absent kind = (kind ≢ kinds.Mark points.Minus) × (kind ≢ kinds.Mark points.Plus)
-
--- a declaration may begin so
-abbrev pub BeginsEntry : List Token → Type 0
-BeginsEntry ts = StandsSign (kinds.Mark points.Ellipsis) ts ⊎ BeginsLabel ts ⊎ BeginsDefinition ts
-
--- a text may begin so: with a declaration, or with its package clause
-abbrev pub BeginsText : List Token → Type 0
-BeginsText ts = BeginsEntry ts ⊎ StandsSign (kinds.Name (codes "package")) ts

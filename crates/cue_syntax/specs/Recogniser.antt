@@ -19,7 +19,7 @@ use Rattle.cue_syntax.specs.declared.tree.Sign.{Sign}
 use Rattle.cue_syntax.specs.declared.tree.Sign.TheVariants as signs
 use Rattle.cue_syntax.specs.Stops.{memory}
 use Rattle.cue_syntax.specs.Grammar.{Limit, unlimited, at_most, Within, greatest}
-use Rattle.cue_syntax.specs.Viability.{StandsSign, IsCallOfClose}
+use Rattle.cue_syntax.specs.Viability.{Stands, StandsSign, IsMark, IsCallOfClose}
 
 -- what has still to come
 pub data Goal : Type 0 where
@@ -328,12 +328,6 @@ pub record IsEnd (tokens at : List Token) : Type 0 where
   pub read : List Token
   pub is : tokens ≡ read ++ at
 
--- the tokens leave the grammar of any number of levels at a place, or at the next symbol
-pub record SticksNear (goals : Stack) (tokens at : List Token) : Type 0 where
-  pub here : List Token
-  pub sticks : Sticks unlimited goals tokens here
-  pub near : (at ≡ here) ⊎ (drop 1 at ≡ here)
-
 -- whatever has to come after the goals, with more levels the tokens go on here
 pub record GoesOn (goals : Stack) (tokens here : List Token) (below : Stack) : Type 0 where
   pub next : Stack
@@ -351,15 +345,21 @@ pub record IsBrace (tokens here at : List Token) : Type 0 where
   pub is : at ≡ drop 1 here
   pub brace : StandsSign (kinds.Mark points.OpenBrace) at
 
-pub record OpensNear (room : ℕ) (goals : Stack) (tokens at : List Token) : Type 0 where
-  pub here : List Token
+-- with so many levels the tokens leave the grammar here, with more they go on
+pub record OpensAt (room : ℕ) (goals : Stack) (tokens here : List Token) : Type 0 where
   pub sticks : Sticks (at_most room) goals tokens here
   pub deeper : (below : Stack) → GoesOn goals tokens here below
-  pub near : (at ≡ here) ⊎ (drop 1 at ≡ here) ⊎ IsBrace tokens here at
+
+-- They do so at a place, or at the mark after it, or at the parenthesis before it.
+pub record OpensNear (room : ℕ) (goals : Stack) (tokens at : List Token) : Type 0 where
+  pub here : List Token
+  pub opens : OpensAt room goals tokens here
+  pub near : ((at ≡ here) × ¬ Stands IsMark here) ⊎ ((drop 1 at ≡ here) × Stands IsMark here)
+      ⊎ IsBrace tokens here at
 
 abbrev pub SticksBy : ℕ → Stack → List Token → Why → List Token → Type 0
 SticksBy room goals tokens reasons.Memory at = ⊥
-SticksBy room goals tokens reasons.Syntax at = SticksNear goals tokens at
+SticksBy room goals tokens reasons.Syntax at = Sticks unlimited goals tokens at
 SticksBy room goals tokens reasons.Nesting at = OpensNear room goals tokens at
 
 -- Why and where the parser stops at tokens that the goals have to read.

@@ -1,5 +1,6 @@
 -- What a refusal of the parser says of the tokens, and of its place.
-use Rattle.std.specs.Prelude.{◌≡◌, ◌⊎◌, ◌-◌, ℕ, suc, List, take, drop, length}
+use Rattle.std.specs.Prelude.{◌≡◌, ◌⊎◌, ◌-◌, ℕ, zero, suc, List, take, drop, length, codes}
+use Rattle.cue_lattice.specs.declared.refusal.Form.{Form}
 use Rattle.cue_lattice.specs.declared.refusal.Kind.{Kind}
 use Rattle.cue_lattice.specs.declared.refusal.Kind.TheVariants as refusals
 use Rattle.cue_lattice.specs.declared.refusal.Refusal.{Refusal}
@@ -7,15 +8,15 @@ use Rattle.cue_lattice.specs.Refusal.{memory, refusal_at}
 use Rattle.cue_lex.specs.declared.token.Token.{Token}
 use Rattle.cue_lex.specs.declared.token.TokenKind.TheVariants as kinds
 use Rattle.cue_lex.specs.declared.punctuation.Punctuation.TheVariants as points
-use Rattle.cue_syntax.specs.declared.spot.Spot.{Spot}
+use Rattle.cue_syntax.specs.declared.spot.Spot.TheVariants as spots
 use Rattle.cue_syntax.specs.declared.stop.Why.{Why}
 use Rattle.cue_syntax.specs.declared.stop.Why.TheVariants as reasons
 use Rattle.cue_syntax.specs.declared.stop.Stop.{Stop}
 use Rattle.cue_syntax.specs.Grammar.{unlimited, at_most}
-use Rattle.cue_syntax.specs.Viability.{Begins, Leaves, LeavesNear, place_of, StandsSign}
-use Rattle.cue_syntax.specs.Viability.{IsCallOfClose}
+use Rattle.cue_syntax.specs.Viability.{Begins, Leaves, place_of, Stands, Next, StandsSign, IsMark}
+use Rattle.cue_syntax.specs.Viability.{IsCallOfClose, IsKeywordName}
 use Rattle.cue_syntax.specs.Spots.{spot_of}
-use Rattle.cue_syntax.specs.Forms.{IsAt, HasNoForm}
+use Rattle.cue_syntax.specs.Forms.{IsAt}
 
 -- the symbols after k tokens are the parenthesis and the brace of a `close({`
 pub record IsBraceOfClose (k : ℕ) (tokens : List Token) : Type 0 where
@@ -24,27 +25,62 @@ pub record IsBraceOfClose (k : ℕ) (tokens : List Token) : Type 0 where
   pub call : IsCallOfClose (drop from tokens)
   pub brace : StandsSign (kinds.Mark points.OpenBrace) (drop (suc k) tokens)
 
--- Some symbol opens a level too many, where trees of more levels go on: the one after j tokens, the
--- next, or the one before it where that is the parenthesis of a `close({`.
+-- Some symbol opens a level too many, where trees of more levels go on: the one after k tokens. It
+-- is named itself, unless it is the mark of a label, which is named before it, or the parenthesis of
+-- a `close({`, where the brace may be named.
 pub record NestsNear (levels : ℕ) (tokens : List Token) (j : ℕ) : Type 0 where
   pub k : ℕ
   pub leaves : Leaves (at_most levels) tokens k
   pub deeper : Begins unlimited (suc k) tokens
-  pub near : (j ≡ k) ⊎ (suc j ≡ k) ⊎ ((j ≡ suc k) × IsBraceOfClose k tokens)
+  pub near : ((j ≡ k) × ¬ Stands IsMark (drop k tokens))
+      ⊎ ((suc j ≡ k) × Stands IsMark (drop k tokens))
+      ⊎ ((j ≡ suc k) × IsBraceOfClose k tokens)
 
--- what is said of a symbol that can't go on, at a spot: the form that stands there, or that none
--- does
-abbrev pub IsKindAt : Kind → Spot → List Token → Type 0
-IsKindAt refusals.Syntax spot ts = HasNoForm spot ts
-IsKindAt (refusals.LeftOut form) spot ts = IsAt form spot ts
-IsKindAt _ spot ts = ⊥
+-- a first name `package` begins the clause of a package, where no mark makes it a label
+abbrev pub BeginsPackage : ℕ → List Token → Type 0
+BeginsPackage zero tokens =
+    StandsSign (kinds.Name (codes "package")) tokens × ¬ Next IsMark tokens
+BeginsPackage (suc j) tokens = ⊥
 
--- Why the parser may refuse the tokens after j of them. Where they leave the grammar near by, the
--- form that stands there is told, and Syntax where none does.
+-- the form stands after so many of the tokens
+abbrev pub StandsAfter : ℕ → List Token → Form → Type 0
+StandsAfter j tokens form =
+    IsAt form (spot_of (take j tokens)) (drop j tokens) × ¬ BeginsPackage j tokens
+
+-- a keyword stands there as a value
+abbrev pub IsValueKeyword : ℕ → List Token → Type 0
+IsValueKeyword j tokens =
+    (spot_of (take j tokens) ≡ spots.Value) × Stands IsKeywordName (drop j tokens)
+
+-- Such a symbol is named, though the grammar has it, where the next symbol leaves the grammar: that
+-- one makes it a form that the profile leaves out, or lacks the mark of a label after a keyword.
+abbrev pub IsNamedEarly : ℕ → List Token → Type 0
+IsNamedEarly j tokens = ((form : Form) × StandsAfter j tokens form) ⊎ IsValueKeyword j tokens
+
+-- Where tokens leave the grammar after k of them, the symbol after j of them is named.
+abbrev pub IsNamed : List Token → ℕ → ℕ → Type 0
+IsNamed tokens k j =
+    ((suc j ≡ k) × IsNamedEarly j tokens)
+    ⊎ ((j ≡ k) × ((i : ℕ) → suc i ≡ k → ¬ IsNamedEarly i tokens))
+
+-- what is said of a symbol that is named: the form that stands there, or Syntax where none does
+abbrev pub IsKindAfter : ℕ → List Token → Kind → Type 0
+IsKindAfter j tokens refusals.Syntax = (form : Form) → ¬ StandsAfter j tokens form
+IsKindAfter j tokens (refusals.LeftOut form) = StandsAfter j tokens form
+IsKindAfter j tokens _ = ⊥
+
+-- The tokens leave the grammar of any number of levels, and this is said of the symbol after j of
+-- them.
+pub record LeavesAt (tokens : List Token) (kind : Kind) (j : ℕ) : Type 0 where
+  pub k : ℕ
+  pub leaves : Leaves unlimited tokens k
+  pub named : IsNamed tokens k j
+  pub told : IsKindAfter j tokens kind
+
+-- why the parser may refuse the tokens, at the symbol after j of them
 abbrev pub FitsAt : ℕ → List Token → Kind → ℕ → Type 0
 FitsAt levels tokens refusals.Nesting j = NestsNear levels tokens j
-FitsAt levels tokens kind j =
-    LeavesNear tokens j × IsKindAt kind (spot_of (take j tokens)) (drop j tokens)
+FitsAt levels tokens kind j = LeavesAt tokens kind j
 
 -- The refusal says why the tokens are no text within so many levels, and where.
 pub record Fits (levels end : ℕ) (tokens : List Token) (refusal : Refusal) : Type 0 where
@@ -52,14 +88,19 @@ pub record Fits (levels end : ℕ) (tokens : List Token) (refusal : Refusal) : T
   pub place : refusal.place ≡ place_of end (drop j tokens)
   pub fits : FitsAt levels tokens refusal.kind j
 
--- what is told of a stop after j tokens
+-- What is told where tokens leave the grammar after k of them.
+pub record TellsOf (end : ℕ) (tokens : List Token) (k : ℕ) (refusal : Refusal) : Type 0 where
+  pub j : ℕ
+  pub place : refusal.place ≡ place_of end (drop j tokens)
+  pub named : IsNamed tokens k j
+  pub kind : IsKindAfter j tokens refusal.kind
+
+-- what is told of a stop after k tokens
 abbrev pub TellsAt : ℕ → List Token → ℕ → Why → Refusal → Type 0
-TellsAt end tokens j reasons.Memory refusal = refusal ≡ memory
-TellsAt end tokens j reasons.Nesting refusal =
-    refusal ≡ refusal_at refusals.Nesting (place_of end (drop j tokens))
-TellsAt end tokens j reasons.Syntax refusal =
-    (refusal.place ≡ place_of end (drop j tokens))
-    × IsKindAt refusal.kind (spot_of (take j tokens)) (drop j tokens)
+TellsAt end tokens k reasons.Memory refusal = refusal ≡ memory
+TellsAt end tokens k reasons.Nesting refusal =
+    refusal ≡ refusal_at refusals.Nesting (place_of end (drop k tokens))
+TellsAt end tokens k reasons.Syntax refusal = TellsOf end tokens k refusal
 
 -- The refusal tells of the stop.
 abbrev pub Tells : ℕ → List Token → Stop → Refusal → Type 0

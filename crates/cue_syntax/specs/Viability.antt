@@ -1,6 +1,6 @@
 -- Where tokens leave the grammar, and what a refusal of the parser says of that place.
 use Rattle.std.specs.Prelude.{◌≡◌, ◌≢◌, ◌≤◌, ◌⊎◌, ℕ, suc, Bool, true, false, List, [], ◌∷◌, take}
-use Rattle.std.specs.Prelude.{drop, length, codes, ⊤}
+use Rattle.std.specs.Prelude.{drop, length, codes, ⊤, if◌then◌else◌}
 use Rattle.cue_lex.specs.declared.token.Token.{Token}
 use Rattle.cue_lex.specs.declared.token.TokenKind.{TokenKind}
 use Rattle.cue_lex.specs.declared.token.TokenKind.TheVariants as kinds
@@ -9,7 +9,7 @@ use Rattle.cue_syntax.specs.declared.stop.Stop.{Stop}
 use Rattle.cue_syntax.specs.declared.stop.Why.TheVariants as reasons
 use Rattle.cue_syntax.specs.Stops.{at_hand}
 use Rattle.cue_syntax.specs.Syntax.{FileTree}
-use Rattle.cue_syntax.specs.Grammar.{Limit, unlimited, IsFile, IsClause}
+use Rattle.cue_syntax.specs.Grammar.{Limit, IsFile, IsClause, IsKeyword}
 
 -- alike in their first n symbols, where the end of a text is a symbol too
 abbrev pub Alike : ℕ → List Token → List Token → Type 0
@@ -98,6 +98,10 @@ abbrev pub BeginsClause : TokenKind → Type 0
 BeginsClause (kinds.Name t) = IsClause t
 BeginsClause _ = ⊥
 
+abbrev pub IsKeywordName : TokenKind → Type 0
+IsKeywordName (kinds.Name t) = IsKeyword t
+IsKeywordName _ = ⊥
+
 abbrev pub IsHidden : TokenKind → Type 0
 IsHidden (kinds.Hidden t) = ⊤
 IsHidden _ = ⊥
@@ -150,19 +154,10 @@ Opens (kinds.Mark points.OpenBrace) = ⊤
 Opens (kinds.Mark points.OpenBracket) = ⊤
 Opens _ = ⊥
 
--- a label that is left out: a hidden one, a definition with `?` or `!`, and below the top any
--- definition
-abbrev pub IsLabelLeftOut : Bool → List Token → Type 0
-IsLabelLeftOut top ts =
-    (Stands IsHidden ts × Next IsMark ts)
-    ⊎ (Stands IsDefinition ts
-    × (NextSign (kinds.Mark points.Question) ts ⊎ NextSign (kinds.Mark points.Exclamation) ts))
-    ⊎ (Stands IsDefinition ts × NextSign (kinds.Mark points.Colon) ts × (top ≡ false))
-
--- The parser stops at a label that is left out.
-pub record RefusesLabel (top : Bool) (end : ℕ) (tokens : List Token) (stop : Stop) : Type 0 where
-  pub is : stop ≡ at_hand reasons.Syntax end tokens
-  pub fits : IsLabelLeftOut top tokens
+-- The parser stops after a keyword.
+pub record RefusesKeyword (end : ℕ) (tokens : List Token) (stop : Stop) : Type 0 where
+  pub is : stop ≡ at_hand reasons.Syntax end (drop 1 tokens)
+  pub keyword : Stands IsKeywordName tokens
 
 -- The parser stops after a label whose mark has no colon after it.
 pub record MissesColon (end : ℕ) (tokens : List Token) (stop : Stop) : Type 0 where
@@ -173,13 +168,19 @@ pub record MissesColon (end : ℕ) (tokens : List Token) (stop : Stop) : Type 0 
 abbrev pub BeginsDefinition : List Token → Type 0
 BeginsDefinition ts = Stands IsDefinition ts × NextSign (kinds.Mark points.Colon) ts
 
+-- a declaration can begin with such a token
+abbrev pub can_begin : Bool → TokenKind → Bool
+can_begin top (kinds.Name t) = true
+can_begin top (kinds.Text t) = true
+can_begin top (kinds.Definition t) = top
+can_begin top _ = false
+
+-- what is left after the first token, if a declaration can begin with it
+abbrev pub behind_begun : Bool → List Token → List Token
+behind_begun top [] = []
+behind_begun top (token ∷ tokens) = if can_begin top token.kind then tokens else token ∷ tokens
+
 -- declarations end here: at the top at the end of the text, else at a brace
 abbrev pub EndsHere : Bool → List Token → Type 0
 EndsHere true ts = ts ≡ []
 EndsHere false ts = StandsSign (kinds.Mark points.CloseBrace) ts
-
--- The tokens leave the grammar of any number of levels after j tokens, or after one more.
-pub record LeavesNear (tokens : List Token) (j : ℕ) : Type 0 where
-  pub k : ℕ
-  pub leaves : Leaves unlimited tokens k
-  pub near : (j ≡ k) ⊎ (suc j ≡ k)

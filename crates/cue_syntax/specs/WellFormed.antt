@@ -20,7 +20,7 @@ use Rattle.cue_syntax.specs.Words.{HaveWordsBranches, HasWordsEntry, HaveWordsEn
 use Rattle.cue_syntax.specs.Grammar.{IsOperand, IsUnary, IsConjunct, IsNested, AreUnary, AreNested}
 use Rattle.cue_syntax.specs.Grammar.{TwoElements, TwoBranches, IsTerm, EndsEntries, EndsElements}
 use Rattle.cue_syntax.specs.Grammar.{IsRight, AreRight, IsRightBranch, AreRightBranches}
-use Rattle.cue_syntax.specs.Grammar.{IsRightEntry, AreRightEntries, IsPackageName, IsWellPackaged}
+use Rattle.cue_syntax.specs.Grammar.{IsRightEntry, AreRightEntries, IsPackageName, IsRightPackage}
 use Rattle.cue_syntax.specs.Grammar.{IsFragment}
 
 operand_prop : (n : Identifier) → IsProp (IsOperand n)
@@ -170,7 +170,7 @@ package_name_prop (identifiers.Plain t) = hlevel
 package_name_prop (identifiers.Definition t) = hlevel
 package_name_prop (identifiers.Hidden t) = hlevel
 
-packaged_prop : (clause : Option Package) (es : Entries) → IsProp (IsWellPackaged clause es)
+packaged_prop : (clause : Option Package) (es : Entries) → IsProp (IsRightPackage clause es)
 packaged_prop None es = hlevel
 packaged_prop (Some clause) no_entries = package_name_prop clause.name
 packaged_prop (Some clause) (entry e es) = hlevel (props, package_name_prop clause.name)

@@ -4,19 +4,20 @@ ghost use Rattle.cue_syntax.specs.Syntax.{expression, branch_tree, entry_tree, e
 ghost use Rattle.cue_syntax.specs.Grammar.{IsUnary, IsConjunct, IsNested, AreNested};
 ghost use Rattle.cue_syntax.specs.Grammar.{IsTermOf, IsEntry, AreElements, AreEntries, AreBraced};
 ghost use Rattle.cue_syntax.specs.Viability.{StandsSign, IsCallOfClose, BeginsLabel};
-ghost use Rattle.cue_syntax.specs.Viability.{BeginsDefinition, EndsHere};
+ghost use Rattle.cue_syntax.specs.Viability.{BeginsDefinition, EndsHere, behind_begun};
 ghost use Rattle.cue_syntax.specs.Recogniser as goals;
 ghost use Rattle.cue_syntax.specs.Recogniser.{row_goal, levels_of};
 ghost use Rattle.cue_syntax.specs.Parsed.{IsFurther, IsOnward, ReadsExpression};
 ghost use Rattle.cue_syntax.specs.Parsed.{MovesBetween, Refuses};
 ghost use Rattle.std.specs.Prelude.{MatchResult};
-ghost use Rattle.cue_syntax.specs.Operands.{BeginsEntry};
-ghost use Rattle.cue_syntax.specs.Stops.{memory};
+ghost use Rattle.cue_syntax.specs.Begun.{BeginsEntry};
+ghost use Rattle.cue_syntax.specs.Stops.{memory, at_hand};
 
 use crate::cursor::{Cursor, Operand, Parsed};
-use crate::label::{begins_label, label, labels, refuse_label};
+use crate::label::{begins_label, label, labels};
 use crate::literal::literal;
 use crate::memory::{boxed, fitted, push};
+use crate::stop::{Stop, Why};
 use crate::tree::{Declaration, Expr, Term};
 use cue_lex::{Punctuation, TokenKind};
 use std::alloc::Global;
@@ -367,14 +368,28 @@ fn declaration<'a>(
     if let Some(after) = cursor.skip(Punctuation::Ellipsis) {
         return Ok((Declaration::Ellipsis, after));
     }
-    refuse_label(cursor, top)?;
     if begins_label(cursor) {
         return field(alloc, cursor, room);
     }
     if begins_definition(cursor, top) {
         return definition(alloc, cursor, room);
     }
-    Err(cursor.syntax())
+    Err(no_declaration(cursor, top))
+}
+
+/// Where the tokens leave the grammar if no declaration stands at hand: at the first token, or
+/// after it where a declaration can begin with it.
+fn no_declaration(cursor: Cursor, top: bool) -> Stop
+    ensures { result ≡ at_hand Why.Syntax cursor.entry.end (behind_begun top cursor.entry.rest.now) }
+{
+    match cursor.next() {
+        Some((token, after)) => match &token.kind {
+            TokenKind::Name(_) | TokenKind::Text(_) => after.syntax(),
+            TokenKind::Definition(_) => { if top { after.syntax() } else { cursor.syntax() } }
+            _ => cursor.syntax(),
+        },
+        None => cursor.syntax(),
+    }
 }
 
 /// Whether a definition stands at hand.

@@ -9,7 +9,7 @@ ghost use Rattle.cue_syntax.specs.Files.{file_tree};
 ghost use Rattle.cue_syntax.specs.Syntax.{FileTree};
 ghost use Rattle.cue_syntax.specs.Refusals.{Fits};
 ghost use Rattle.cue_syntax.specs.Viability.{Stands, IsMark};
-ghost use Rattle.cue_syntax.specs.Operands.{BeginsText};
+ghost use Rattle.cue_syntax.specs.Begun.{BeginsText};
 ghost use Rattle.cue_syntax.specs.Stops as stops;
 ghost use Rattle.cue_syntax.specs.Recogniser.{text, package_word, package_end};
 ghost use Rattle.cue_syntax.specs.Parsed.{MovesBetween, Refuses, RefusesAlways};

@@ -1,12 +1,15 @@
-ghost use Rattle.std.specs.Prelude.{◌≤◌, MatchOption, IsTrue, ◌↔◌, length};
-ghost use Rattle.cue_syntax.specs.Viability.{Stands, NextSign, Next, IsMark, IsHidden};
+ghost use Rattle.std.specs.Prelude.{◌≡◌, ◌≤◌, MatchOption, IsTrue, ◌↔◌, length, take, drop, codes};
+ghost use Rattle.cue_syntax.specs.Viability.{Stands, StandsSign, NextSign, Next, IsMark, IsHidden};
+ghost use Rattle.cue_syntax.specs.Viability.{IsKeywordName, place_of};
 ghost use Rattle.cue_syntax.specs.Viability.{IsDefinition, IsCallable, BeginsClause, BeginsInteger};
 ghost use Rattle.cue_syntax.specs.Forms.{IsAt, HasNoForm, IsOfDeclaration, IsText, SeesLabel};
 ghost use Rattle.cue_syntax.specs.Forms.{SeesDynamicLabel, NextMark};
-ghost use Rattle.cue_syntax.specs.Refusals.{Tells, IsKindAt};
+ghost use Rattle.cue_syntax.specs.Refusals.{Tells, TellsOf, IsNamedEarly, IsKindAfter};
+ghost use Rattle.cue_syntax.specs.Refusals.{StandsAfter, IsValueKeyword};
+ghost use Rattle.cue_syntax.specs.Spots.{spot_of};
 
 use crate::cursor::Cursor;
-use crate::literal::is_clause;
+use crate::literal::{is_clause, is_keyword};
 use crate::spot::{Spot, find_spot};
 use crate::stop::{Stop, Why};
 use cue_lattice::{Form, Kind, Memory, Refusal};
@@ -17,22 +20,119 @@ pub fn refusal<'t>(tokens: &'t [Token<'t>], end: usize, stop: Stop) -> Refusal
     requires { stop.left ≤ length tokens.now }
     ensures { Tells end tokens.now stop result }
 {
-    let (before, rest) = tokens.split_at(tokens.len() - stop.left);
-    let cursor = Cursor { rest, end };
+    let text = Cursor { rest: tokens, end };
+    let read = tokens.len() - stop.left;
     match stop.why {
         Why::Memory => Refusal::from(Memory),
-        Why::Nesting => cursor.refuse(Kind::Nesting),
-        Why::Syntax => cursor.refuse(kind(find_spot(before), cursor)),
+        Why::Nesting => after(text, read).refuse(Kind::Nesting),
+        Why::Syntax => leaving(text, read),
     }
 }
 
-/// Why the token at hand can't go on.
-fn kind(spot: Spot, cursor: Cursor) -> Kind
-    ensures { IsKindAt result spot cursor.entry.rest.now }
+/// What is said where the tokens leave the grammar after so many of them: of the last one that was
+/// read, if that is named early, or else of the symbol after it.
+fn leaving(text: Cursor, read: usize) -> Refusal
+    requires { read ≤ length text.rest.now }
+    ensures { TellsOf text.entry.end text.entry.rest.now read result }
 {
-    match form(spot, cursor) {
+    if read > 0 && is_named_early(text, read - 1) {
+        return named(text, read - 1);
+    }
+    named(text, read)
+}
+
+/// Whether the token after so many is named though the grammar has it, where the next symbol leaves
+/// the grammar.
+fn is_named_early(text: Cursor, read: usize) -> bool
+    requires { read ≤ length text.rest.now }
+    ensures { IsTrue result ↔ IsNamedEarly read text.entry.rest.now }
+{
+    form_after(text, read).is_some() || is_value_keyword(text, read)
+}
+
+/// What is said of the symbol after so many of the tokens.
+fn named(text: Cursor, read: usize) -> Refusal
+    requires { read ≤ length text.rest.now }
+    ensures place { result.place ≡ place_of text.entry.end (drop read text.entry.rest.now) }
+    ensures kind { IsKindAfter read text.entry.rest.now result.kind }
+{
+    let kind = match form_after(text, read) {
         Some(form) => Kind::LeftOut(form),
         None => Kind::Syntax,
+    };
+    after(text, read).refuse(kind)
+}
+
+/// The form that the profile leaves out and that stands after so many of the tokens, if one does.
+fn form_after(text: Cursor, read: usize) -> Option<Form>
+    requires { read ≤ length text.rest.now }
+    ensures { MatchOption result
+        ((form : Form) → ¬ StandsAfter read text.entry.rest.now form)
+        (λ form. StandsAfter read text.entry.rest.now form) }
+{
+    if read == 0 && begins_package(text) {
+        return None;
+    }
+    form(spot_after(text, read), after(text, read))
+}
+
+/// Whether a keyword stands as a value after so many of the tokens.
+fn is_value_keyword(text: Cursor, read: usize) -> bool
+    requires { read ≤ length text.rest.now }
+    ensures { IsTrue result ↔ IsValueKeyword read text.entry.rest.now }
+{
+    match spot_after(text, read) {
+        Spot::Value => stands_keyword(after(text, read)),
+        _ => false,
+    }
+}
+
+/// The tokens from the symbol after so many of them on.
+fn after<'a>(text: Cursor<'a>, read: usize) -> Cursor<'a>
+    requires { read ≤ length text.rest.now }
+    ensures rest { result.rest.now ≡ drop read text.entry.rest.now }
+    ensures end { result.end ≡ text.entry.end }
+{
+    let (_, rest) = text.rest.split_at(read);
+    Cursor {
+        rest,
+        end: text.end,
+    }
+}
+
+/// The spot of the symbol after so many of the tokens.
+fn spot_after(text: Cursor, read: usize) -> Spot
+    requires { read ≤ length text.rest.now }
+    ensures { result ≡ spot_of (take read text.entry.rest.now) }
+{
+    let (before, _) = text.rest.split_at(read);
+    find_spot(before)
+}
+
+/// Whether the name `package` stands at hand, and no mark after it.
+fn begins_package(cursor: Cursor) -> bool
+    ensures { IsTrue result ↔ StandsSign (TokenKind.Name (codes "package")) cursor.entry.rest.now
+        × ¬ Next IsMark cursor.entry.rest.now }
+{
+    match cursor.next() {
+        Some((token, after)) => match &token.kind {
+            TokenKind::Name(name) => name.as_str() == "package" && !after.stands_mark(),
+            _ => false,
+        },
+        None => false,
+    }
+}
+
+/// Whether a keyword stands at hand.
+fn stands_keyword(cursor: Cursor) -> bool
+    ensures { IsTrue result ↔ Stands IsKeywordName cursor.entry.rest.now }
+{
+    match cursor.next() {
+        Some((token, _)) => match &token.kind {
+            TokenKind::Name(name) => is_keyword(name),
+            _ => false,
+        },
+        None => false,
     }
 }
 

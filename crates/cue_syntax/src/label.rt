@@ -3,11 +3,12 @@ ghost use Rattle.std.specs.Prelude.{length, flat_map};
 ghost use Rattle.cue_syntax.specs.Stops.{memory};
 ghost use Rattle.cue_syntax.specs.Spelling.{Reads, one, spell_label, spell_mark, label_kind};
 ghost use Rattle.cue_syntax.specs.Viability.{Stands, StandsSign, BeginsLabel, IsLabelName};
-ghost use Rattle.cue_syntax.specs.Viability.{RefusesLabel, MissesColon};
+ghost use Rattle.cue_syntax.specs.Viability.{IsKeywordName, RefusesKeyword, MissesColon};
 ghost use Rattle.cue_syntax.specs.Recogniser.{value, chains};
 ghost use Rattle.cue_syntax.specs.Parsed.{IsFurther, IsOnward, MovesBetween, Refuses};
 
 use crate::cursor::{Cursor, Parsed};
+use crate::literal::is_keyword;
 use crate::memory::push;
 use crate::stop::Stop;
 use crate::tree::{Label, LabelName, Mark};
@@ -35,32 +36,21 @@ pub fn begins_label(cursor: Cursor) -> bool
     }
 }
 
-/// Refuses a label that the profile leaves out: a hidden one, a definition with `?` or `!`, and,
-/// where `top` is false, any definition.
-pub fn refuse_label(cursor: Cursor, top: bool) -> Result<(), Stop>
-    ensures { IfErr result (λ r. RefusesLabel top cursor.entry.end cursor.entry.rest.now r) }
+/// Refuses a keyword that is no label: after it only a mark could go on.
+fn refuse_keyword(cursor: Cursor) -> Result<(), Stop>
+    ensures refused { IfErr result (λ r.
+        RefusesKeyword cursor.entry.end cursor.entry.rest.now r) }
+    ensures other { IfOk result (λ _. ¬ Stands IsKeywordName cursor.entry.rest.now) }
 {
     let Some((token, after)) = cursor.next() else {
         return Ok(());
     };
     match &token.kind {
-        TokenKind::Hidden(_) => {
-            if after.stands_mark() {
-                return Err(cursor.syntax());
+        TokenKind::Name(name) => {
+            if is_keyword(name) {
+                return Err(after.syntax());
             }
             Ok(())
-        }
-        TokenKind::Definition(_) => {
-            if !after.stands_mark() {
-                return Ok(());
-            }
-            if !after.stands(Punctuation::Colon) {
-                return Err(cursor.syntax());
-            }
-            if top {
-                return Ok(());
-            }
-            Err(cursor.syntax())
         }
         _ => Ok(()),
     }
@@ -124,6 +114,7 @@ pub fn labels<'a>(alloc: Global, cursor: Cursor<'a>, room: usize) -> Result<Chai
     ensures spelled { IfOk result (λ c.
         Reads cursor.entry.rest.now (flat_map spell_label c.labels.items) c.after.rest.now) }
     ensures whole { IfOk result (λ c. ¬ BeginsLabel c.after.rest.now) }
+    ensures other { IfOk result (λ c. ¬ Stands IsKeywordName c.after.rest.now) }
     ensures moves { IfOk result (λ c.
         MovesBetween room (value ∷ []) (value ∷ chains c.labels.items) cursor.entry c.after) }
     ensures refused { IfErr result (Refuses room (value ∷ []) cursor.entry) }
@@ -137,7 +128,7 @@ pub fn labels<'a>(alloc: Global, cursor: Cursor<'a>, room: usize) -> Result<Chai
         push(&mut labels, label)?;
         rest = after;
     }
-    refuse_label(rest, false)?;
+    refuse_keyword(rest)?;
     Ok(Chain {
         labels,
         room: left,

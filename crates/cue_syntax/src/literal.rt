@@ -102,17 +102,17 @@ fn identifier<'a>(cursor: Cursor<'a>) -> Parsed<'a, Identifier<'a>>
     };
     match &token.kind {
         TokenKind::Name(name) => {
-            if after.stands(Punctuation::OpenParenthesis) {
-                return Err(cursor.syntax());
-            }
             if is_keyword(name) {
                 return Err(cursor.syntax());
+            }
+            if after.stands(Punctuation::OpenParenthesis) {
+                return Err(after.syntax());
             }
             Ok((Identifier::Plain(name.share()), after))
         }
         TokenKind::Hidden(name) => {
             if after.stands(Punctuation::OpenParenthesis) {
-                return Err(cursor.syntax());
+                return Err(after.syntax());
             }
             Ok((Identifier::Hidden(name.share()), after))
         }
@@ -122,7 +122,7 @@ fn identifier<'a>(cursor: Cursor<'a>) -> Parsed<'a, Identifier<'a>>
 }
 
 /// Whether a plain name is kept for clauses, and no operand.
-fn is_keyword(name: &Word) -> bool
+pub fn is_keyword(name: &Word) -> bool
     ensures { IsTrue result ↔ IsKeyword name.now }
 {
     is_clause(name) || name.as_str() == "in" || name.as_str() == "package"

@@ -10,14 +10,14 @@ use Rattle.cue_syntax.proofs.ReadingsJoin.{reads_one_at}
 use Rattle.cue_syntax.proofs.RowsGrow.{nested_pushed}
 use Rattle.cue_syntax.proofs.Views.{view-Parenthesis, view-Struct, view-Close, view-Conjunction, view-Disjunction, view-Field, view-Definition, view-List}
 use Rattle.cue_syntax.proofs.PartsMakeTrees.{AreTerms, AreParts, Between, terms_first, terms_next, terms_more, between_pushed, disjunction_is, parts_first, parts_next, parts_more, conjunction_is, elements_next, entries_next, braced_is, struct_is, close_is, parenthesis_is, list_is, open_list_is, field_is, definition_is}
-use Rattle.cue_syntax.specs.Viability.{StandsSign, BeginsLabel}
-use Rattle.cue_syntax.specs.Operands.{BeginsEntry}
+use Rattle.cue_syntax.specs.Viability.{StandsSign, BeginsLabel, behind_begun}
+use Rattle.cue_syntax.specs.Begun.{BeginsEntry}
 use Rattle.cue_syntax.specs.Stops.{memory}
-use Rattle.cue_syntax.proofs.TextsBeginSo.{begun, begins_always, no_memory, read_stands, refused_so}
+use Rattle.cue_syntax.proofs.TextsBeginSo.{begun, begins_always, no_memory, read_stands}
 use Rattle.cue_syntax.specs.Recogniser as goals
 use Rattle.cue_syntax.proofs.MovesAndStops.{moves_then, refused_behind, refused_end, if_ok, stopped, stops_here, stops_there}
 use Rattle.cue_syntax.proofs.RefusalsPassOn.{passed_on, passed_on_each, memory_passed_on}
-use Rattle.cue_syntax.proofs.MovesOverLabels.{label_out_entry, misses_entry}
+use Rattle.cue_syntax.proofs.MovesOverLabels.{misses_entry}
 use Rattle.cue_syntax.proofs.MovesOverOperands.{no_room, inner_comma, inner_closes, inner_halts, parenthesis_opens, parenthesis_refused, struct_moves, struct_refused, call_opens, call_paren, call_no_room, closed_halts, brace_no_room, close_moves, close_refused, unmarked_moves, marked_moves, parts_end, parts_go, part_moves, part_refused, terms_end, terms_go, term_moves, term_refused, first_moves, first_go, first_end, first_halts, first_refused}
 use Rattle.cue_syntax.proofs.MovesOverRows.{ellipsis_comma, ellipsis_closes, ellipsis_halts, list_opens, list_refused, row_ends, element_moves, element_refused, element_next, row_closes, row_halts, open_ellipsis, entry_next, braces_close, braces_halt, entry_ellipsis, chain_value, chain_value_refused, field_moves, field_refused, definition_moves, definition_refused, no_entry_refused}
 use Rattle.cue_syntax.proofs.expression.+parser.Goals as goal
@@ -252,7 +252,7 @@ pub term-returns-in_ok-value-in-Some-clause-moves : goal.term-returns-in_ok-valu
 term-returns-in_ok-value-in-Some-clause-moves t c = moves_then (marked_moves c.in-Some.ensures.reads) c.in_ok-value-in-Some.ensures.moves
 
 pub parenthesis-returns-in_err-inside-clause-refused : goal.parenthesis-returns-in_err-inside-clause-refused
-parenthesis-returns-in_err-inside-clause-refused t c = passed_on c.from_residual.result c.from_residual.ensures.1 (no_room (kinds.Mark points.OpenParenthesis) (goals.expression ∷ goals.parenthesis ∷ []) c.requires (λ below. refl) (omega arith) c.in_err-inside.ensures.none c.in_err-inside.ensures.refused)
+parenthesis-returns-in_err-inside-clause-refused t c = passed_on c.from_residual.result c.from_residual.ensures.1 (no_room (kinds.Mark points.OpenParenthesis) (goals.expression ∷ goals.parenthesis ∷ []) c.requires (λ m. m) (λ below. refl) (omega arith) c.in_err-inside.ensures.none c.in_err-inside.ensures.refused)
 
 pub parenthesis-returns-in_err-inner-clause-refused : goal.parenthesis-returns-in_err-inner-clause-refused
 parenthesis-returns-in_err-inner-clause-refused t c = passed_on c.from_residual-in_err-inner.result c.from_residual-in_err-inner.ensures.1 (parenthesis_refused c.in_ok-inside.ensures.left c.in_ok-open.ensures.further.end c.in_ok-open.ensures.reads c.in_err-inner.ensures.refused)
@@ -266,7 +266,7 @@ pub parenthesis-returns-clause-moves : goal.parenthesis-returns-clause-moves
 parenthesis-returns-clause-moves t c = moves_then (moves_then (parenthesis_opens c.in_ok-inside.ensures.left c.in_ok-open.ensures.reads c.in_ok-inner.ensures.moves) (inner_comma c.trailing_comma-comma.result.0 (omega (arith, c.in_ok-inside.ensures.left)) c.trailing_comma-comma.ensures.reads)) (inner_closes c.trailing_comma-comma.result.0 c.in_ok-rest.ensures.reads)
 
 pub structure-returns-in_err-inside-clause-refused : goal.structure-returns-in_err-inside-clause-refused
-structure-returns-in_err-inside-clause-refused t c = passed_on c.from_residual.result c.from_residual.ensures.1 (no_room (kinds.Mark points.OpenBrace) (goals.entries false ∷ []) c.requires (λ below. refl) (omega arith) c.in_err-inside.ensures.none c.in_err-inside.ensures.refused)
+structure-returns-in_err-inside-clause-refused t c = passed_on c.from_residual.result c.from_residual.ensures.1 (no_room (kinds.Mark points.OpenBrace) (goals.entries false ∷ []) c.requires (λ m. m) (λ below. refl) (omega arith) c.in_err-inside.ensures.none c.in_err-inside.ensures.refused)
 
 pub structure-returns-in_err-row-clause-refused : goal.structure-returns-in_err-row-clause-refused
 structure-returns-in_err-row-clause-refused t c = passed_on c.from_residual-in_err-row.result c.from_residual-in_err-row.ensures.1 (struct_refused c.in_ok-inside.inside c.in_ok-inside.ensures.left c.in_ok-open.ensures.further.end c.in_ok-open.ensures.reads c.in_err-row.ensures.refused)
@@ -328,7 +328,7 @@ elements-returns-then-not-comma-clause-moves t c =
     (moves_then l.invariant.moves (element_moves close dots c.in_ok-element.ensures.moves))
 
 pub list-returns-in_err-inside-clause-refused : goal.list-returns-in_err-inside-clause-refused
-list-returns-in_err-inside-clause-refused t c = passed_on c.from_residual.result c.from_residual.ensures.1 (no_room (kinds.Mark points.OpenBracket) (goals.elements ∷ []) c.requires (λ below. refl) (omega arith) c.in_err-inside.ensures.none c.in_err-inside.ensures.refused)
+list-returns-in_err-inside-clause-refused t c = passed_on c.from_residual.result c.from_residual.ensures.1 (no_room (kinds.Mark points.OpenBracket) (goals.elements ∷ []) c.requires (λ m. m) (λ below. refl) (omega arith) c.in_err-inside.ensures.none c.in_err-inside.ensures.refused)
 
 pub list-returns-in_err-row-clause-refused : goal.list-returns-in_err-row-clause-refused
 list-returns-in_err-row-clause-refused t c = passed_on c.from_residual-in_err-row.result c.from_residual-in_err-row.ensures.1 (list_refused c.in_ok-inside.inside c.in_ok-inside.ensures.left c.in_ok-open.ensures.further.end c.in_ok-open.ensures.reads c.in_err-row.ensures.refused)
@@ -386,11 +386,6 @@ declarations-returns-in_err-push-clause-begins t c = memory_passed_on c.from_res
 pub declaration-returns-in-Some-clause-begins : goal.declaration-returns-in-Some-clause-begins
 declaration-returns-in-Some-clause-begins t c = inl (read_stands _ _ _ c.in-Some.ensures.reads)
 
-pub declaration-returns-in_err-refuse_label-clause-begins : goal.declaration-returns-in_err-refuse_label-clause-begins
-declaration-returns-in_err-refuse_label-clause-begins t c =
-    refused_so (λ r. BeginsEntry c.args.cursor.rest.now) (λ r. r ≡ memory → BeginsEntry c.args.cursor.rest.now) c.from_residual.result c.from_residual.ensures.0
-    (memory_passed_on c.from_residual.result c.from_residual.ensures.1 (λ lacks. no_memory c.args.cursor.end c.args.cursor.rest.now c.in_err-refuse_label.ensures.is lacks))
-
 pub declaration-returns-then-begins_label-clause-begins : goal.declaration-returns-then-begins_label-clause-begins
 declaration-returns-then-begins_label-clause-begins t c =
     let label : BeginsLabel c.args.cursor.rest.now = search rules in
@@ -400,13 +395,10 @@ pub declaration-returns-then-begins_definition-clause-begins : goal.declaration-
 declaration-returns-then-begins_definition-clause-begins t c = begins_always c.definition.result (BeginsEntry c.args.cursor.rest.now) (inr (inr (c.begins_definition.ensures.begins c.if-begins_definition.true)))
 
 pub declaration-returns-clause-begins : goal.declaration-returns-clause-begins
-declaration-returns-clause-begins t c = λ lacks. no_memory c.args.cursor.end c.args.cursor.rest.now c.syntax.ensures lacks
+declaration-returns-clause-begins t c = λ lacks. no_memory c.args.cursor.end (behind_begun c.args.top c.args.cursor.rest.now) c.no_declaration.ensures lacks
 
 pub declaration-returns-in-Some-clause-moves : goal.declaration-returns-in-Some-clause-moves
 declaration-returns-in-Some-clause-moves t c = entry_ellipsis c.args.top (omega arith) c.in-Some.ensures.reads
-
-pub declaration-returns-in_err-refuse_label-clause-refused : goal.declaration-returns-in_err-refuse_label-clause-refused
-declaration-returns-in_err-refuse_label-clause-refused t c = passed_on c.from_residual.result c.from_residual.ensures.1 (label_out_entry c.args.top c.in_err-refuse_label.ensures)
 
 pub declaration-returns-then-begins_label-clause-moves : goal.declaration-returns-then-begins_label-clause-moves
 declaration-returns-then-begins_label-clause-moves t c = if_ok c.field.result (λ x m. m c.args.top) c.field.ensures.moves
@@ -415,7 +407,7 @@ pub declaration-returns-clause-refused : goal.declaration-returns-clause-refused
 declaration-returns-clause-refused t c =
     let dots : ¬ StandsSign (kinds.Mark points.Ellipsis) c.args.cursor.rest.now = search rules in
     let label : ¬ BeginsLabel c.args.cursor.rest.now = search rules in
-    no_entry_refused c.args.top dots label (c.begins_definition.ensures.no c.if-begins_definition.false) c.requires c.syntax.ensures
+    no_entry_refused c.args.top dots label (c.begins_definition.ensures.no c.if-begins_definition.false) c.requires c.no_declaration.ensures
 
 pub field-returns-in_err-label-clause-refused : goal.field-returns-in_err-label-clause-refused
 field-returns-in_err-label-clause-refused t c = passed_on_each c.args.room c.from_residual.result c.from_residual.ensures.1 (λ top. misses_entry top c.in_err-label.ensures.refused)
@@ -424,10 +416,10 @@ pub field-returns-in_err-chain-clause-refused : goal.field-returns-in_err-chain-
 field-returns-in_err-chain-clause-refused t c = passed_on_each c.args.room c.from_residual-in_err-chain.result c.from_residual-in_err-chain.ensures.1 (λ top. field_refused top c.in_ok-label.label c.in_ok-label.ensures.spelled c.in_ok-label.ensures.further.end c.in_err-chain.ensures.refused)
 
 pub field-returns-in_err-value-clause-refused : goal.field-returns-in_err-value-clause-refused
-field-returns-in_err-value-clause-refused t c = passed_on_each c.args.room c.from_residual-in_err-value.result c.from_residual-in_err-value.ensures.1 (λ top. field_refused top c.in_ok-label.label c.in_ok-label.ensures.spelled c.in_ok-label.ensures.further.end (chain_value_refused c.in_ok-chain.chain.room c.in_ok-chain.chain.labels.items c.in_ok-chain.ensures.levels c.in_ok-chain.ensures.onward.end c.in_ok-chain.ensures.moves c.in_ok-chain.ensures.whole c.in_err-value.ensures.refused))
+field-returns-in_err-value-clause-refused t c = passed_on_each c.args.room c.from_residual-in_err-value.result c.from_residual-in_err-value.ensures.1 (λ top. field_refused top c.in_ok-label.label c.in_ok-label.ensures.spelled c.in_ok-label.ensures.further.end (chain_value_refused c.in_ok-chain.chain.room c.in_ok-chain.chain.labels.items c.in_ok-chain.ensures.levels c.in_ok-chain.ensures.onward.end c.in_ok-chain.ensures.moves c.in_ok-chain.ensures.whole c.in_ok-chain.ensures.other c.in_err-value.ensures.refused))
 
 pub field-returns-clause-moves : goal.field-returns-clause-moves
-field-returns-clause-moves t c top = field_moves top c.in_ok-label.label c.in_ok-label.ensures.spelled (chain_value c.in_ok-chain.chain.room c.in_ok-chain.chain.labels.items c.in_ok-chain.ensures.levels c.in_ok-chain.ensures.moves c.in_ok-chain.ensures.whole c.in_ok-value.ensures.further.shorter c.in_ok-value.ensures.moves)
+field-returns-clause-moves t c top = field_moves top c.in_ok-label.label c.in_ok-label.ensures.spelled (chain_value c.in_ok-chain.chain.room c.in_ok-chain.chain.labels.items c.in_ok-chain.ensures.levels c.in_ok-chain.ensures.moves c.in_ok-chain.ensures.whole c.in_ok-chain.ensures.other c.in_ok-value.ensures.moves)
 
 pub definition-returns-in_err-chain-clause-refused : goal.definition-returns-in_err-chain-clause-refused
 definition-returns-in_err-chain-clause-refused t c =
@@ -437,12 +429,12 @@ definition-returns-in_err-chain-clause-refused t c =
 pub definition-returns-in_err-value-clause-refused : goal.definition-returns-in_err-value-clause-refused
 definition-returns-in_err-value-clause-refused t c =
     let kind : c.in-Some.token.now.kind ≡ kinds.Definition c.share-name.result = search rules in
-    passed_on c.from_residual-in_err-value.result c.from_residual-in_err-value.ensures.1 (definition_refused (reads_one_at c.in-Some.token.now c.in-Some.ensures.first kind) c.in_ok-after.ensures.reads (c.in_ok-after.ensures.further.end ∙ c.in-Some.ensures.end) (chain_value_refused c.in_ok-chain.chain.room c.in_ok-chain.chain.labels.items c.in_ok-chain.ensures.levels c.in_ok-chain.ensures.onward.end c.in_ok-chain.ensures.moves c.in_ok-chain.ensures.whole c.in_err-value.ensures.refused))
+    passed_on c.from_residual-in_err-value.result c.from_residual-in_err-value.ensures.1 (definition_refused (reads_one_at c.in-Some.token.now c.in-Some.ensures.first kind) c.in_ok-after.ensures.reads (c.in_ok-after.ensures.further.end ∙ c.in-Some.ensures.end) (chain_value_refused c.in_ok-chain.chain.room c.in_ok-chain.chain.labels.items c.in_ok-chain.ensures.levels c.in_ok-chain.ensures.onward.end c.in_ok-chain.ensures.moves c.in_ok-chain.ensures.whole c.in_ok-chain.ensures.other c.in_err-value.ensures.refused))
 
 pub definition-returns-clause-moves : goal.definition-returns-clause-moves
 definition-returns-clause-moves t c =
     let kind : c.in-Some.token.now.kind ≡ kinds.Definition c.share-name.result = search rules in
-    definition_moves (reads_one_at c.in-Some.token.now c.in-Some.ensures.first kind) c.in_ok-after.ensures.reads (chain_value c.in_ok-chain.chain.room c.in_ok-chain.chain.labels.items c.in_ok-chain.ensures.levels c.in_ok-chain.ensures.moves c.in_ok-chain.ensures.whole c.in_ok-value.ensures.further.shorter c.in_ok-value.ensures.moves)
+    definition_moves (reads_one_at c.in-Some.token.now c.in-Some.ensures.first kind) c.in_ok-after.ensures.reads (chain_value c.in_ok-chain.chain.room c.in_ok-chain.chain.labels.items c.in_ok-chain.ensures.levels c.in_ok-chain.ensures.moves c.in_ok-chain.ensures.whole c.in_ok-chain.ensures.other c.in_ok-value.ensures.moves)
 
 pub close-returns-in_err-open-clause-refused : goal.close-returns-in_err-open-clause-refused
 close-returns-in_err-open-clause-refused t c = absurd (c.in_err-open.ensures.missing (call_paren c.requires c.in_ok-from.ensures.reads))

@@ -2,7 +2,7 @@
 use Rattle.std.proofs.Common.{◌≡◌, ◌⊎◌, ℕ, ◌+◌, ◌*◌, ◌≤◌, false, [], ◌∷◌, length}
 use Rattle.cue_syntax.specs.Grammar.{AreElements, AreEntries, AreNested}
 use Rattle.cue_syntax.specs.Syntax.{elements, entries}
-use Rattle.cue_syntax.specs.Operands.{BeginsEntry}
+use Rattle.cue_syntax.specs.Begun.{BeginsEntry}
 use Rattle.cue_syntax.specs.Recogniser as goals
 use Rattle.cue_syntax.specs.Recogniser.{Moves, levels_of, expression, term, more_terms, unary, more_parts}
 use Rattle.cue_syntax.proofs.PartsMakeTrees.{AreTerms, AreParts, Between}

@@ -1,9 +1,11 @@
 use Rattle.std.proofs.Common.{◌≡◌, ◌∙◌, ◌++◌, [], ◌∷◌, length, ap, sym, subst, arith, rules}
 use Rattle.std.proofs.lemmas.List.{length-append}
+use Rattle.cue_syntax.specs.Viability.{BeginsLabel}
 use Rattle.cue_syntax.specs.Recogniser.{Moves, Refused, value, chains}
 use Rattle.cue_syntax.proofs.RowsGrow.{labels_push}
 use Rattle.cue_syntax.proofs.MovesAndStops.{err_from, stopped}
-use Rattle.cue_syntax.proofs.MovesOverLabels.{chain_next, chain_refused, opens_label, label_out_value, misses_value}
+use Rattle.cue_syntax.proofs.MovesOverLabels.{chain_next, chain_refused, opens_label, misses_value}
+use Rattle.cue_syntax.proofs.ValuesAreExpressions.{keyword_refused}
 use Rattle.cue_syntax.proofs.label.labels.Goals as goal
 
 pub chain-preserved : goal.chain-preserved
@@ -33,8 +35,9 @@ returns-in_err-label-clause-refused c =
     err_from (λ r. Refused c.args.room c.args.cursor.end (value ∷ []) c.args.cursor.rest.now r) c.from_residual-in_err-label.result _ c.from_residual-in_err-label.ensures.1
     (chain_refused l.left l.labels.items l.invariant.levels l.invariant.end l.invariant.moves (misses_value c.in_err-label.ensures.refused))
 
-pub returns-in_err-refuse_label-clause-refused : goal.returns-in_err-refuse_label-clause-refused
-returns-in_err-refuse_label-clause-refused c =
+pub returns-in_err-refuse_keyword-clause-refused : goal.returns-in_err-refuse_keyword-clause-refused
+returns-in_err-refuse_keyword-clause-refused c =
     let l = c.chain in
-    err_from (λ r. Refused c.args.room c.args.cursor.end (value ∷ []) c.args.cursor.rest.now r) c.from_residual-in_err-refuse_label.result _ c.from_residual-in_err-refuse_label.ensures.1
-    (chain_refused l.left l.labels.items l.invariant.levels l.invariant.end l.invariant.moves (label_out_value c.in_err-refuse_label.ensures))
+    let label : ¬ BeginsLabel l.rest.rest.now = search rules in
+    err_from (λ r. Refused c.args.room c.args.cursor.end (value ∷ []) c.args.cursor.rest.now r) c.from_residual-in_err-refuse_keyword.result _ c.from_residual-in_err-refuse_keyword.ensures.1
+    (chain_refused l.left l.labels.items l.invariant.levels l.invariant.end l.invariant.moves (keyword_refused label c.in_err-refuse_keyword.ensures.refused))

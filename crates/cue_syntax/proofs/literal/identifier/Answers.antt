@@ -10,7 +10,8 @@ use Rattle.cue_syntax.proofs.literal.identifier.Goals as goal
 
 pub returns-then-stands-clause-refused : goal.returns-then-stands-clause-refused
 returns-then-stands-clause-refused c room =
-    name_called c.in-Some.token.now c.in-Some.ensures.first c.in-Name.is c.requires.call (c.stands.ensures.0 c.if-stands.true) c.syntax-then-stands.ensures
+    let keyword : ¬ IsKeyword c.in-Name.name = search rules in
+    name_called c.in-Some.token.now c.in-Some.ensures.first c.in-Name.is keyword c.requires.call (c.stands.ensures.0 c.if-stands.true) c.syntax-then-stands.ensures
 
 pub returns-then-is_keyword-clause-refused : goal.returns-then-is_keyword-clause-refused
 returns-then-is_keyword-clause-refused c room =
@@ -20,8 +21,8 @@ pub returns-then-stands-2-clause-refused : goal.returns-then-stands-2-clause-ref
 returns-then-stands-2-clause-refused c room =
     hidden_called c.in-Some.token.now c.in-Some.ensures.first c.in-Hidden.is (c.stands-in-Hidden.ensures.0 c.if-stands-2.true) c.syntax-then-stands-2.ensures
 
-pub returns-else-is_keyword-clause-moves : goal.returns-else-is_keyword-clause-moves
-returns-else-is_keyword-clause-moves c =
+pub returns-else-stands-clause-moves : goal.returns-else-stands-clause-moves
+returns-else-stands-clause-moves c =
     let keyword : ¬ IsKeyword c.in-Name.name = search rules in
     let paren : ¬ StandsSign (kinds.Mark points.OpenParenthesis) c.in-Some.after.rest.now = search rules in
     name_moves c.in-Some.token.now c.in-Some.ensures.first c.in-Name.is keyword paren
