@@ -1,2 +1,0 @@
-pub mod Unplaced
-pub mod Anywhere
