@@ -1,20 +1,18 @@
 -- Where a frame is whole, the codec cuts it off.
-use Rattle.std.proofs.Common.{◌≡◌, ℕ, ◌+◌, ◌-◌, ◌*◌, ◌^◌, ◌<◌, ◌≤◌, List, [], ◌∷◌, ◌++◌, length, take, drop, Option, Some, None, Ok, Err, Result, IfSome, IfNone, refl, sym, ap, ◌∙◌, subst, arith, pos, length-append, length-drop, append-nil, append_assoc, get_or, inl, inr}
+use Rattle.std.proofs.Common.{◌≡◌, ℕ, ◌+◌, ◌-◌, ◌^◌, ◌<◌, ◌≤◌, List, [], ◌∷◌, ◌++◌, length, take, drop, Option, Some, None, Ok, IfSome, IfNone, sym, ap, ◌∙◌, subst, arith, pos, length-drop, append-nil, append_assoc, get_or, inl, inr}
 use Rattle.std.proofs.lemmas.List.{length-take-le, take-append-drop, get_or-take, get_or_past}
 use Rattle.std.proofs.lemmas.Bool.{cases_lt}
 use Rattle.std.proofs.lemmas.Bool.Decides.{nat_tests}
-use Rattle.std.specs.Int.{w32, to_be_bytes, from_be_bytes}
-use Rattle.std.specs.declared.io.Error.{Error}
+use Rattle.std.specs.Int.{w32, to_be_bytes}
 use Rattle.bytes.specs.Filled.{Filled}
 use Rattle.tokio_util.specs.declared.codec.length_delimited.LengthDelimitedCodec.{LengthDelimitedCodec}
-use Rattle.tokio_util.specs.declared.codec.length_delimited.DecodeState.{DecodeState}
-use Rattle.tokio_util.specs.declared.codec.length_delimited.DecodeState.TheVariants.{Head, Data}
 use Rattle.tokio_util.specs.Codec.Next.{Decodes, partial}
 use Rattle.tokio_util.specs.Codec.LengthField.{Layout, default_layout, field_value, add_adjustment}
-use Rattle.tokio_util.specs.Codec.LengthDelimited.{codec_layout, IsAtHead, Cut, cut_adjusted, cut_payload, cut_in, cut, Answers, IsUnfinished, gives_frames}
+use Rattle.tokio_util.specs.Codec.LengthDelimited.{codec_layout, IsAtHead, cut_adjusted, cut_payload, cut, Answers, IsUnfinished, gives_frames}
 use Rattle.tokio_util.specs.Codec.LengthDelimited as codec
 use Rattle.tokio_util.specs.Codec.LengthDelimitedLaws.{cut_frame_head, cut_payload_whole}
-use Rattle.cue_wire.specs.Frames.{frame_limit, named_length, framed, IsBody, IsWhole}
+use Rattle.cue_wire.specs.Frames.{frame_limit, named_length, framed, IsBody}
+use Rattle.cue_wire.specs.Inner.Pieces.{IsWhole}
 
 abbrev pub our_layout : Layout
 our_layout = record default_layout { max_frame_len = frame_limit }

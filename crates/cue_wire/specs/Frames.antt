@@ -30,14 +30,6 @@ IsUnfinished bytes =
 abbrev pub NamesTooMany : List ℕ → Type 0
 NamesTooMany bytes = (4 ≤ length bytes) × (frame_limit < named_length bytes)
 
--- The bytes begin with a whole frame, and this is the length of its body.
-pub record IsWhole (bytes : List ℕ) (len : ℕ) : Type 0 where
-  pub head : 4 ≤ length bytes
-  pub named : len ≡ named_length bytes
-  pub spelled : to_be_bytes w32 len ≡ take 4 bytes
-  pub short : len ≤ frame_limit
-  pub there : 4 + len ≤ length bytes
-
 -- The stream is the frames of these bodies, and then the rest.
 pub record AreFrames (stream : List ℕ) (bodies : List (List ℕ)) (rest : List ℕ) : Type 0 where
   pub whole : stream ≡ flat_map framed bodies ++ rest

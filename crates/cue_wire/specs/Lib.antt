@@ -1,6 +1,9 @@
-pub mod Calls
+pub mod Inner
+pub mod Clients
 pub mod Connections
 pub mod Frames
+pub mod Readings
 pub mod Requests
 pub mod Serving
 pub mod Sessions
+pub mod Worlds

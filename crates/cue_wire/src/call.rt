@@ -1,6 +1,6 @@
 ghost use Rattle.std.specs.Prelude.{◌≡◌, [], IfSome, IfNone};
 ghost use Rattle.cue_wire.specs.Requests.{IsRequest, IsNoRequest};
-ghost use Rattle.cue_wire.specs.Calls.{request_of};
+ghost use Rattle.cue_wire.specs.Inner.Calls.{request_of};
 
 use cue_answer::Question;
 use std::str;

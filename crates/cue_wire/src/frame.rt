@@ -4,7 +4,8 @@ ghost use Rattle.std.specs.Int.{w32, to_be_bytes};
 ghost use Rattle.tokio_util.specs.Codec.LengthField.{default_layout};
 ghost use Rattle.tokio_util.specs.Codec.LengthDelimited.{codec_layout, IsAtHead};
 ghost use Rattle.cue_wire.specs.Frames.{framed, frame_limit, named_length, IsBody};
-ghost use Rattle.cue_wire.specs.Frames.{IsUnfinished, IsWhole, NamesTooMany};
+ghost use Rattle.cue_wire.specs.Frames.{IsUnfinished, NamesTooMany};
+ghost use Rattle.cue_wire.specs.Inner.Pieces.{IsWhole};
 
 use bytes::BytesMut;
 use cue_replica::Kind;

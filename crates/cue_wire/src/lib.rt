@@ -1,5 +1,6 @@
-//! The serving end of a connection to a site: a session takes a stream of requests in pieces, cut
-//! anywhere, serves them in order and writes the replies.
+//! The two ends of a connection to a site: sessions, which serve a stream of requests and write
+//! the replies, and clients, which write requests and read the replies. Both take their streams in
+//! pieces, cut anywhere.
 //!
 //! A stream is frames: each is a length in four bytes, from the highest to the lowest, and so many
 //! bytes.
@@ -7,11 +8,17 @@
 
 mod answer;
 mod call;
+mod client;
 mod connection;
 mod frame;
+mod laws;
 mod reply;
+mod request;
 mod session;
 
+pub use client::Client;
 pub use connection::{Ended, serve};
 pub use cue_replica::{Kind, Memory, Replica};
+pub use laws::{sessions_are_events, streams_are_read_once};
+pub use request::Request;
 pub use session::Session;

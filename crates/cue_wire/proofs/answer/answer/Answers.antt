@@ -1,7 +1,7 @@
-use Rattle.std.proofs.Common.{inl, refl, subst, List, ℕ, ◌≡◌, ◌++◌}
+use Rattle.std.proofs.Common.{inl, subst}
 use Rattle.cue_replica.specs.World.{Submits, Takes}
 use Rattle.cue_wire.specs.Requests.{text, state, IsRequest}
-use Rattle.cue_wire.specs.Calls.{request_of}
+use Rattle.cue_wire.specs.Inner.Calls.{request_of}
 use Rattle.cue_wire.specs.Serving.{Serves}
 use Rattle.cue_wire.proofs.Answered.{submitted, took, served}
 use Rattle.cue_wire.proofs.answer.answer.Goals as goal

@@ -1,4 +1,4 @@
-use Rattle.std.proofs.Common.{◌∷◌, []}
+use Rattle.std.proofs.Common.{◌∷◌}
 use Rattle.cue_wire.proofs.Answered.{answered, told_export, told_other}
 use Rattle.cue_wire.proofs.answer.tell.Goals as goal
 

@@ -1,4 +1,4 @@
-use Rattle.std.proofs.Common.{◌≡◌, ◌+◌, ◌<◌, ◌≤◌, ◌∙◌, ◌↔◌, inl, inr, refl, ap, take, arith, IsTrue, []}
+use Rattle.std.proofs.Common.{◌≡◌, ◌+◌, ◌∙◌, ◌↔◌, inl, inr, refl, ap, take, arith, IsTrue, []}
 use Rattle.std.specs.Io.KnownBytes.{IsAtEnd}
 use Rattle.cue_lattice.specs.declared.refusal.Kind.TheVariants as kinds
 use Rattle.cue_wire.specs.Frames.{IsUnfinished}

@@ -1,5 +1,5 @@
-use Rattle.std.proofs.Common.{◌++◌, ap, sym, ◌∙◌}
-use Rattle.cue_wire.proofs.Connections.{cut_short, all_written}
+use Rattle.std.proofs.Common.{◌++◌, sym, ◌∙◌}
+use Rattle.cue_wire.proofs.Connections.{all_written}
 use Rattle.cue_wire.proofs.connection.serve_piece.Goals as goal
 
 pub returns-clause-served : goal.returns-clause-served

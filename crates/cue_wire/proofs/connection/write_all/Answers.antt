@@ -1,4 +1,4 @@
-use Rattle.std.proofs.Common.{◌≡◌, ◌+◌, ◌∙◌, arith}
+use Rattle.std.proofs.Common.{◌∙◌, arith}
 use Rattle.cue_wire.proofs.Connections.{written_more}
 use Rattle.cue_wire.proofs.connection.write_all.Goals as goal
 

@@ -1,4 +1,4 @@
-use Rattle.std.proofs.Common.{◌≡◌, ◌≤◌, take, ap, ◌∙◌, refl, arith}
+use Rattle.std.proofs.Common.{take, ap, ◌∙◌, refl, arith}
 use Rattle.std.proofs.lemmas.Nat.{be_bytes_4}
 use Rattle.std.proofs.lemmas.List.{length-take-le}
 use Rattle.std.specs.Int.{w32, from_be_bytes}

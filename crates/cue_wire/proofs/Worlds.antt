@@ -1,0 +1,245 @@
+-- Frames that are served, as events of a world.
+use Rattle.std.proofs.Common.{◌≡◌, ◌⊎◌, ◌<◌, ◌^◌, ℕ, zero, suc, List, [], ◌∷◌, ◌++◌, length, Some, All, refl, sym, ap, ◌∙◌, subst, inl, inr, ⊎_elim, arith}
+use Rattle.std.specs.Prelude.{slice_get, slice_set}
+use Rattle.std.proofs.lemmas.Bool.{cases_lt}
+use Rattle.std.proofs.lemmas.List.Elements.{All-head, All-tail}
+use Rattle.cue_lattice.specs.Question.{Refusals, SameAnswers}
+use Rattle.cue_lattice.specs.World as world
+use Rattle.cue_lattice.specs.World.{Piece, Sets, IsUnified, IsMessageOf, IsSound, pieces_at, pieces_refuse, reach}
+use Rattle.cue_replica.specs.Language.{Table, language}
+use Rattle.cue_replica.specs.Replica.{Adds}
+use Rattle.cue_replica.specs.World.{Submits, Takes}
+use Rattle.cue_replica.proofs.Adding.{one_piece, unified_more}
+use Rattle.cue_replica.proofs.Along.{length-along, along_at, along_set, along_push, set_same, found_within}
+use Rattle.cue_answer.specs.declared.question.Question.TheVariants as questions
+use Rattle.cue_wire.specs.Frames.{frame_limit, IsBody}
+use Rattle.cue_wire.specs.Requests.{Request, text, state, ask, body_of, IsRequest}
+use Rattle.cue_wire.specs.Serving.{Answers, IsHanded, Serves, ServesAll}
+use Rattle.cue_wire.specs.Worlds.{IsWorld, IsHandedOver, IsSent, AreEventsOf, ServesIn, ServesAllIn, ComesTo, AreEvents}
+
+-- a site accepts pieces
+accepts : (tables : List Table) (messages : List (List ℕ)) (sets : Sets) (site : ℕ) (before after : Table) (added : Refusals) (more : List Piece)
+    → IsWorld tables messages sets → slice_get tables site ≡ Some before → Adds before added after → language.IsValid after
+    → SameAnswers added (pieces_refuse language more) → IsWorld (slice_set tables site after) messages (world.add sets site more)
+accepts tables messages sets site before after added more w found adds valid same =
+    let here = along_at (IsUnified language) tables sets.sites site before [] w.sites found in
+    record {
+      sites = along_set (IsUnified language) tables sets.sites site after (pieces_at sets.sites site ++ more) w.sites
+          (unified_more before after added (pieces_at sets.sites site) more here adds valid same);
+      sent = w.sent;
+    }
+
+-- the world as it was
+kept : (tables : List Table) (messages : List (List ℕ)) (sets : Sets) (site : ℕ) (before after : Table)
+    → IsWorld tables messages sets → slice_get tables site ≡ Some before → after ≡ before → IsWorld (slice_set tables site after) messages sets
+kept tables messages sets site before after w found same =
+    subst (λ ts. IsWorld ts messages sets) (sym (ap (λ (t : Table). slice_set tables site t) same ∙ set_same tables site before found)) w
+
+there : (tables : List Table) (messages : List (List ℕ)) (sets : Sets) (site : ℕ) (before : Table) → IsWorld tables messages sets → slice_get tables site ≡ Some before → site < length sets.sites
+there tables messages sets site before w found =
+    let within = found_within tables site before found in
+    omega (arith, within, length-along (IsUnified language) tables sets.sites w.sites)
+
+-- no event
+nothing : (tables : List Table) (messages messages' : List (List ℕ)) (sets : Sets) (site : ℕ) (before after : Table) (events : List world.Event)
+    → IsWorld tables messages sets → slice_get tables site ≡ Some before → after ≡ before → events ≡ [] → messages' ≡ messages
+    → ComesTo sets events (slice_set tables site after) messages'
+nothing tables messages messages' sets site before after events w found same none kept_messages =
+    subst (λ es. ComesTo sets es (slice_set tables site after) messages') (sym none)
+    (subst (λ ms. ComesTo sets [] (slice_set tables site after) ms) (sym kept_messages)
+    ([], tt, kept tables messages sets site before after w found same))
+
+-- a text
+submits : (tables : List Table) (messages : List (List ℕ)) (sets : Sets) (site : ℕ) (before after : Table) (t reply : List ℕ)
+    → IsWorld tables messages sets → slice_get tables site ≡ Some before → IsHanded (Submits t) before after reply
+    → ComesTo sets (world.submit site t ∷ []) (slice_set tables site after) messages
+submits tables messages sets site before after t reply w found (inl done) = (
+  world.accepted ∷ [],
+  (inl (there tables messages sets site before w found, inl done.0.0), tt),
+  accepts tables messages sets site before after (language.text_refuses t) (world.text t ∷ []) w found done.0.1 done.0.2 (one_piece (world.text t)),
+)
+submits tables messages sets site before after t reply w found (inr refused) = (
+  world.refused refused.0 ∷ [],
+  (inl (there tables messages sets site before w found, inl (⊎_elim (λ m. absurd (refused.1 m.0)) (λ fault. fault) refused.2.1)), tt),
+  kept tables messages sets site before after w found refused.2.0,
+)
+
+-- bytes from outside
+takes_foreign : (tables : List Table) (messages : List (List ℕ)) (sets : Sets) (site : ℕ) (before after : Table) (bytes reply : List ℕ)
+    → IsWorld tables messages sets → slice_get tables site ≡ Some before → IsHanded (Takes bytes) before after reply
+    → ComesTo sets (world.foreign site bytes ∷ []) (slice_set tables site after) messages
+takes_foreign tables messages sets site before after bytes reply w found (inl done) = (
+  world.accepted ∷ [],
+  (inl (there tables messages sets site before w found, inl done.0.0), tt),
+  accepts tables messages sets site before after (language.state_refuses bytes) (world.state bytes ∷ []) w found done.0.1 done.0.2 (one_piece (world.state bytes)),
+)
+takes_foreign tables messages sets site before after bytes reply w found (inr refused) = (
+  world.refused refused.0 ∷ [],
+  (inl (there tables messages sets site before w found, inl (⊎_elim (λ m. absurd (refused.1 m.0)) (λ fault. fault) refused.2.1)), tt),
+  kept tables messages sets site before after w found refused.2.0,
+)
+
+-- a message is read as the unification of its pieces
+read_back : IsSound Table language → (bytes : List ℕ) (pieces : List Piece) → length bytes < 2 ^ 64 → IsMessageOf language bytes pieces
+    → language.IsState bytes × SameAnswers (language.state_refuses bytes) (pieces_refuse language pieces)
+read_back sound bytes pieces held sent =
+    let own = sound.reads_own sent.0 sent.1.0 (subst (λ (b : List ℕ). length b < 2 ^ 64) sent.2 held) in
+    let P : List ℕ → Type 0 = λ b. language.IsState b × SameAnswers (language.state_refuses b) (pieces_refuse language pieces) in
+    subst P (sym sent.2) (
+      own.0,
+      λ path question.
+          let o = own.1 path question in
+          let u = sent.1.1 path question in
+          (λ h. u.0 (o.0 h), λ h. o.1 (u.1 h)),
+    )
+
+message_there : (tables : List Table) (messages : List (List ℕ)) (sets : Sets) (site number : ℕ) (before : Table) (bytes : List ℕ)
+    → IsWorld tables messages sets → slice_get tables site ≡ Some before → slice_get messages number ≡ Some bytes
+    → (site < length sets.sites) × (number < length sets.messages)
+message_there tables messages sets site number before bytes w found sent =
+    let within = found_within messages number bytes sent in
+    (there tables messages sets site before w found, omega (arith, within, length-along (IsMessageOf language) messages sets.messages w.sent))
+
+-- a message
+takes_message : IsSound Table language → (tables : List Table) (messages : List (List ℕ)) (sets : Sets) (site number : ℕ) (before after : Table) (bytes reply : List ℕ)
+    → IsWorld tables messages sets → slice_get tables site ≡ Some before → slice_get messages number ≡ Some bytes → length bytes < 2 ^ 64
+    → IsHanded (Takes bytes) before after reply
+    → ComesTo sets (world.deliver site number ∷ []) (slice_set tables site after) messages
+takes_message sound tables messages sets site number before after bytes reply w found sent held (inl done) =
+    let known = along_at (IsMessageOf language) messages sets.messages number bytes [] w.sent sent in
+    let back = read_back sound bytes (pieces_at sets.messages number) held known in (
+      world.accepted ∷ [],
+      (inl (message_there tables messages sets site number before bytes w found sent, inl tt), tt),
+      accepts tables messages sets site before after (language.state_refuses bytes) (pieces_at sets.messages number) w found done.0.1 done.0.2 back.1,
+    )
+takes_message sound tables messages sets site number before after bytes reply w found sent held (inr refused) =
+    let known = along_at (IsMessageOf language) messages sets.messages number bytes [] w.sent sent in
+    let back = read_back sound bytes (pieces_at sets.messages number) held known in
+    absurd (⊎_elim (λ m. refused.1 m.0) (λ fault. sound.no_state_fault bytes refused.0 back.0 fault) refused.2.1)
+
+-- state bytes
+takes : IsSound Table language → (tables : List Table) (messages : List (List ℕ)) (sets : Sets) (site : ℕ) (before after : Table) (bytes reply : List ℕ) (events : List world.Event)
+    → IsWorld tables messages sets → slice_get tables site ≡ Some before → length bytes < 2 ^ 64 → IsHanded (Takes bytes) before after reply
+    → IsHandedOver site bytes messages events → ComesTo sets events (slice_set tables site after) messages
+takes sound tables messages sets site before after bytes reply events w found held handed (inl is) =
+    subst (λ es. ComesTo sets es (slice_set tables site after) messages) (sym is) (takes_foreign tables messages sets site before after bytes reply w found handed)
+takes sound tables messages sets site before after bytes reply events w found held handed (inr is) =
+    subst (λ es. ComesTo sets es (slice_set tables site after) messages) (sym is.2)
+    (takes_message sound tables messages sets site is.0 before after bytes reply w found is.1 held handed)
+
+-- a state is asked for
+sends : (tables : List Table) (messages messages' : List (List ℕ)) (sets : Sets) (site : ℕ) (before after : Table) (events : List world.Event)
+    → IsWorld tables messages sets → slice_get tables site ≡ Some before → after ≡ before
+    → IsSent site (language.written before) messages events messages' → ComesTo sets events (slice_set tables site after) messages'
+sends tables messages messages' sets site before after events w found same (inr long) =
+    nothing tables messages messages' sets site before after events w found same long.1 long.2
+sends tables messages messages' sets site before after events w found same (inl sent) =
+    let here = along_at (IsUnified language) tables sets.sites site before [] w.sites found in
+    let next : IsWorld tables (messages ++ language.written before ∷ []) (world.after sets (world.send site) (world.sent (length sets.messages))) =
+    record {
+      sites = w.sites;
+      sent = along_push (IsMessageOf language) messages sets.messages (language.written before) (pieces_at sets.sites site) w.sent (before, here, refl);
+    } in
+    subst (λ es. ComesTo sets es (slice_set tables site after) messages') (sym sent.1)
+    (subst (λ ms. ComesTo sets (world.send site ∷ []) (slice_set tables site after) ms) (sym sent.2) (
+      world.sent (length sets.messages) ∷ [],
+      (inl (there tables messages sets site before w found, inl refl), tt),
+      kept tables (messages ++ language.written before ∷ []) (world.after sets (world.send site) (world.sent (length sets.messages))) site before after next found same,
+    ))
+
+-- a request is no longer than its body
+fits_state : (body bytes : List ℕ) → IsBody body → body ≡ body_of (state bytes) → length bytes < 2 ^ 64
+fits_state body bytes fits is = omega (arith, fits, ap length is)
+
+-- one frame
+one_frame : IsSound Table language → (site : ℕ) (body : List ℕ) (before after : Table) (reply : List ℕ) (messages : List (List ℕ)) (events : List world.Event) (messages' : List (List ℕ))
+    (tables : List Table) (sets : Sets) → ServesIn site body before after reply messages events messages'
+    → IsBody body → slice_get tables site ≡ Some before → IsWorld tables messages sets
+    → ComesTo sets events (slice_set tables site after) messages'
+one_frame sound site body before after reply messages events messages' tables sets (inr none) fits found w =
+    nothing tables messages messages' sets site before after events w found none.1 none.3 none.4
+one_frame sound site body before after reply messages events messages' tables sets (inl some) fits found w =
+    requested some.0 some.1 some.2 some.3
+  where
+    requested : (request : Request) → IsRequest body request → Answers request before after reply
+        → AreEventsOf site request before messages events messages' → ComesTo sets events (slice_set tables site after) messages'
+    requested (text t) is answers are =
+        subst (λ es. ComesTo sets es (slice_set tables site after) messages') (sym are.0)
+        (subst (λ ms. ComesTo sets (world.submit site t ∷ []) (slice_set tables site after) ms) (sym are.1)
+        (submits tables messages sets site before after t reply w found answers))
+    requested (state bytes) is answers are =
+        subst (λ ms. ComesTo sets events (slice_set tables site after) ms) (sym are.1)
+        (takes sound tables messages sets site before after bytes reply events w found (fits_state body bytes fits is.0) answers are.0)
+    requested (ask questions.State) is answers are = sends tables messages messages' sets site before after events w found answers.0 are
+    requested (ask questions.Export) is answers are = nothing tables messages messages' sets site before after events w found answers.0 are.0 are.1
+    requested (ask questions.Report) is answers are = nothing tables messages messages' sets site before after events w found answers.0 are.0 are.1
+    requested (ask questions.Print) is answers are = nothing tables messages messages' sets site before after events w found answers.0 are.0 are.1
+
+-- some events, and then more
+then : (sets : Sets) (now later : List world.Event) (tables tables' : List Table) (messages messages' : List (List ℕ))
+    → (first : ComesTo sets now tables messages) → ComesTo (reach sets now first.0) later tables' messages' → ComesTo sets (now ++ later) tables' messages'
+then sets [] later tables tables' messages messages' first second = with_none first second
+  where
+    with_none : (first : ComesTo sets [] tables messages) → ComesTo (reach sets [] first.0) later tables' messages' → ComesTo sets later tables' messages'
+    with_none first second = second
+then sets (event ∷ now) later tables tables' messages messages' ([], bad, w) second = absurd bad
+then sets (event ∷ now) later tables tables' messages messages' (outcome ∷ outcomes, good, w) second =
+    let rest = then (world.after sets event outcome) now later tables tables' messages messages' (outcomes, good.1, w) second in
+    (outcome ∷ rest.0, (good.0, rest.1), rest.2)
+
+set_again : {X : Type 0} (xs : List X) (i : ℕ) (x y : X) → slice_set (slice_set xs i x) i y ≡ slice_set xs i y
+set_again [] i x y = refl
+set_again (z ∷ xs) zero x y = refl
+set_again (z ∷ xs) (suc i) x y = ap (λ zs. z ∷ zs) (set_again xs i x y)
+
+get_again : {X : Type 0} (xs : List X) (i : ℕ) (x y : X) → slice_get xs i ≡ Some x → slice_get (slice_set xs i y) i ≡ Some y
+get_again [] i x y e = cc
+get_again (z ∷ xs) zero x y e = refl
+get_again (z ∷ xs) (suc i) x y e = get_again xs i x y e
+
+all_frames : IsSound Table language → (site : ℕ) (bodies : List (List ℕ)) (before after : Table) (replies : List ℕ) (messages : List (List ℕ)) (events : List world.Event) (messages' : List (List ℕ))
+    (tables : List Table) (sets : Sets) → ServesAllIn site bodies before after replies messages events messages'
+    → All IsBody bodies → slice_get tables site ≡ Some before → IsWorld tables messages sets
+    → ComesTo sets events (slice_set tables site after) messages'
+unfolding ServesAllIn
+all_frames sound site [] before after replies messages events messages' tables sets served fits found w =
+    nothing tables messages messages' sets site before after events w found served.0 served.2 served.3
+all_frames sound site (body ∷ bodies) before after replies messages events messages' tables sets (between, first, rest, now, later, middle, one, more, joined, are) fits found w =
+    let here = one_frame sound site body before between first messages now middle tables sets one (All-head IsBody body bodies fits) found w in
+    let next = all_frames sound site bodies between after rest middle later messages' (slice_set tables site between) (reach sets now here.0) more (All-tail IsBody body bodies fits)
+    (get_again tables site before between found) here.2 in
+    subst (λ es. ComesTo sets es (slice_set tables site after) messages') (sym are)
+    (then sets now later (slice_set tables site between) (slice_set tables site after) middle messages' here
+    (subst (λ ts. ComesTo (reach sets now here.0) later ts messages') (set_again tables site between after) next))
+
+-- each frame is events, whatever messages there are
+some_events : (site : ℕ) (request : Request) (table : Table) (messages : List (List ℕ))
+    → (events : List world.Event) × (messages' : List (List ℕ)) × AreEventsOf site request table messages events messages'
+some_events site (text t) table messages = (world.submit site t ∷ [], messages, (refl, refl))
+some_events site (state bytes) table messages = (world.foreign site bytes ∷ [], messages, (inl refl, refl))
+some_events site (ask questions.State) table messages = elim (cases_lt (length (language.written table)) frame_limit) [
+  | inl short ↦ (world.send site ∷ [], messages ++ language.written table ∷ [], inl (short, refl, refl))
+  | inr long ↦ ([], messages, inr (long, refl, refl))
+]
+some_events site (ask questions.Export) table messages = ([], messages, (refl, refl))
+some_events site (ask questions.Report) table messages = ([], messages, (refl, refl))
+some_events site (ask questions.Print) table messages = ([], messages, (refl, refl))
+
+some_frame : (site : ℕ) (body : List ℕ) (before after : Table) (reply : List ℕ) (messages : List (List ℕ)) → Serves body before after reply
+    → (events : List world.Event) × (messages' : List (List ℕ)) × ServesIn site body before after reply messages events messages'
+some_frame site body before after reply messages (inl some) =
+    let are = some_events site some.0 before messages in
+    (are.0, are.1, inl (some.0, some.1, some.2, are.2))
+some_frame site body before after reply messages (inr none) = ([], messages, inr (none.0, none.1, none.2, refl, refl))
+
+some_frames : (site : ℕ) (bodies : List (List ℕ)) (before after : Table) (replies : List ℕ) (messages : List (List ℕ)) → ServesAll bodies before after replies
+    → (events : List world.Event) × (messages' : List (List ℕ)) × ServesAllIn site bodies before after replies messages events messages'
+unfolding ServesAll ServesAllIn
+some_frames site [] before after replies messages served = ([], messages, (served.0, served.1, refl, refl))
+some_frames site (body ∷ bodies) before after replies messages (between, first, rest, one, more, joined) =
+    let here = some_frame site body before between first messages one in
+    let next = some_frames site bodies between after rest here.1 more in
+    (here.0 ++ next.0, next.1, (between, first, rest, here.0, next.0, here.1, here.2, next.2, joined, refl))
+
+pub are_events : IsSound Table language → AreEvents
+are_events sound = record { some = some_frames; sites = all_frames sound }
