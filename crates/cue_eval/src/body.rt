@@ -74,8 +74,9 @@ pub(crate) fn close(
     Ok(Closed { rows: closed, dots })
 }
 
-/// The labels that are left out besides, as a table, by what a body's own literals declare, where a
-/// literal of a definition that it names has a `...`, and what it refuses already.
+/// The label sets that closing a body adds, as a table. One is added at each path where a struct
+/// literal of the body itself stands, but where no literal of a used definition wrote `...` and no
+/// label is refused yet.
 fn label_sets(
     alloc: Global,
     own: &Table<Declared>,

@@ -78,8 +78,8 @@ impl Found {
         })
     }
 
-    /// What a use of a definition means. What is known of a definition that its body alone names
-    /// may be known no longer then.
+    /// What a use of a definition means. A definition that the text names once, in this body, gives
+    /// its table away here: of it nothing is known afterwards.
     pub(crate) fn define(
         &mut self,
         alloc: Global,
@@ -314,7 +314,7 @@ impl Found {
     }
 }
 
-/// So many times nothing.
+/// A list with this many entries, all of them empty.
 fn unknown<T: Drop>(alloc: Global, count: usize) -> Result<Vec<Option<T>>, Memory>
     ensures { IfOk result (λ all. length all.items ≡ count) }
 {
@@ -325,7 +325,7 @@ fn unknown<T: Drop>(alloc: Global, count: usize) -> Result<Vec<Option<T>>, Memor
     Ok(all)
 }
 
-/// Of each definition of a text whether it is used once in all.
+/// For each definition of a text, whether the text names it exactly once.
 fn used_once(alloc: Global, resolved: &Resolved) -> Result<Vec<bool>, Memory>
     ensures { IfOk result (λ once. AreOnce (entries_of resolved.now) once.items) }
 {

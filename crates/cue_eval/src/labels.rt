@@ -25,10 +25,7 @@ pub(crate) fn labels_of(alloc: Global, declarations: &[Declaration]) -> Result<L
         return Labels::all(alloc);
     }
     let (_, labels) = declared(alloc, declarations)?.into_texts();
-    match Labels::listing(labels) {
-        Some(labels) => Ok(labels),
-        None => Err(Memory),
-    }
+    Ok(Labels::listing(labels).unwrap())
 }
 
 /// Whether there is a `...` among the declarations.

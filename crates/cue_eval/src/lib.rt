@@ -22,7 +22,6 @@ pub use cue_scope::{Named, Resolved};
 pub use cue_sets::TextSet;
 pub use cue_syntax::{Comparison, Signed};
 pub use cue_table::Table;
-pub use declared::{Asked, Declared};
 pub use evaluation::evaluate;
 pub use laws::{laws_of_closing, laws_of_meaning, laws_of_places, laws_of_validity};
 pub use scalars::{
