@@ -26,9 +26,10 @@ by_lt a b h = by_lt_z a b (λ l. absurd (h l)) (λ g. g)
 
 -- a member is an integer of 64 bits
 member_integer : (pieces : List (ℤ × ℤ)) (n : ℤ) → IsCanonical pieces → is_member pieces n ≡ true → IsInteger n
-member_integer pieces n a h =
-    (by_lt n least (λ l. false≢true (sym (is_member-below least pieces n a l) ∙ h)),
-    by_lt greatest n (λ l. false≢true (sym (is_member-above least pieces n a l) ∙ h)))
+member_integer pieces n a h = (
+  by_lt n least (λ l. false≢true (sym (is_member-below least pieces n a l) ∙ h)),
+  by_lt greatest n (λ l. false≢true (sym (is_member-above least pieces n a l) ∙ h)),
+)
 
 not_false : (b : Bool) → (b ≡ false → ⊥) → b ≡ true
 not_false true h = refl

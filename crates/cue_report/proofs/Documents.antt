@@ -1,5 +1,5 @@
 -- The document of a place is that of its row and of the branches below it.
-use Rattle.std.proofs.Common.{◌≡◌, ◌⊎◌, inl, inr, ⊎_elim, ℕ, suc, ◌+◌, ◌≤◌, Bool, true, false, ◌||◌, List, [], ◌∷◌, ◌++◌, BTreeMap, String, Global, Option, None, Some, refl, sym, ap, subst, ◌∙◌, arith, rules}
+use Rattle.std.proofs.Common.{◌≡◌, ◌⊎◌, ◌↔◌, inl, inr, ⊎_elim, ℕ, suc, ◌+◌, ◌<◌, ◌≤◌, Bool, true, false, ◌&&◌, ◌||◌, List, [], ◌∷◌, ◌++◌, BTreeMap, String, Vec, Global, Option, None, Some, refl, sym, ap, subst, ◌∙◌, arith, rules}
 use Rattle.std.specs.Prelude.{IfSome, IfNone}
 use Rattle.std.specs.Option.{option_and_then}
 use Rattle.std.specs.Ordering.{nat_cmp, match_ordering, ordering_then}
@@ -11,9 +11,10 @@ use Rattle.std.specs.declared.cmp.Ordering.TheVariants.{Less, Equal, Greater}
 use Rattle.cue_lattice.specs.OneOf.{OneOf}
 use Rattle.cue_lattice.specs.Path as paths
 use Rattle.cue_lattice.specs.Path.{label, index, step_cmp, Path, path_cmp}
-use Rattle.cue_lattice.specs.Question.{Refusals, struct, list, level_at_most}
+use Rattle.cue_lattice.specs.Question.{Refusals, may_be, struct, list, level_at_most, length_at_most}
 use Rattle.cue_lattice.specs.declared.scalar.Scalar.{Scalar}
 use Rattle.cue_lattice.specs.declared.scalar.Scalar.TheVariants as scalars
+use Rattle.cue_scalars.specs.Scalars.{members, RefusesScalar, IsFirstScalar}
 use Rattle.cue_row.specs.declared.row.Row.{Row}
 use Rattle.cue_row.specs.Row.{Refuses, IsRow}
 use Rattle.cue_row.specs.Chosen as chosen
@@ -24,83 +25,169 @@ use Rattle.cue_table.specs.Size.{tree_size, children_size}
 use Rattle.serde_json.specs.Data.{Data, null, object, Items, no_items, item, Members, no_members, member, put}
 use Rattle.serde_json.specs.View.{view, items_view, members_view}
 use Rattle.serde_json.specs.Written.{has_float, items_have_float, members_have_float}
-use Rattle.serde_json.specs.declared.value.Value.{Value, Null, Object, the_lemmas}
-use Rattle.serde_json.proofs.Views.{view-Object}
-use Rattle.cue_report.specs.Answers.{IsStepDemanded}
-use Rattle.cue_report.specs.Export.{beyond, data_of, keys, count, AreKeys, IsScalarOf, IsDocument, AreElements, AreMembers}
-use Rattle.cue_report.specs.Gaps.{IsChosen}
+use Rattle.serde_json.specs.declared.value.Value.{Value, Null, Array, Object, the_lemmas}
+use Rattle.serde_json.proofs.Views.{view-Array, view-Object}
+use Rattle.cue_report.specs.Answers.{IsStepDemanded, HasNoScalar}
+use Rattle.cue_report.specs.Export.{beyond, data_of, keys, count, AreKeys, IsAtom, IsShape, AreElements, AreMembers}
+use Rattle.cue_report.specs.GapSearch.{AtPlace, least_at}
+use Rattle.cue_report.specs.Gaps.{IsChosen, IsFree}
 use Rattle.cue_report.specs.Listing.{IsRising}
 use Rattle.cue_report.specs.Search.{is_demanded}
-use Rattle.cue_report.proofs.Choice.{IsChosenAt, chosen_is}
+use Rattle.cue_report.specs.Clear.{IsClear}
+use Rattle.cue_report.specs.Picks.{IsFirst, IsPicked}
+use Rattle.cue_report.proofs.Choice.{member_is, chosen_is}
+use Rattle.cue_report.proofs.Empty.{refused}
 use Rattle.cue_report.proofs.Descent.{Told, open_below, seen, first_demanded}
 use Rattle.cue_report.proofs.Found.{AreAmong, found_first, found_later, found_cases}
 use Rattle.cue_report.proofs.Order.{reverse_cmp, equal_steps, all_append, all_from, one_left, one_right, rising_append}
 use Rattle.cue_report.proofs.Rows.{RefusedAt}
+use Rattle.cue_report.proofs.Clear.{clear_here, clear_below}
 
 -- ---- a scalar
-same_chosen : (refuses : Refusals) (path : Path) (x y : Scalar) → IsChosen refuses path x → IsChosen refuses path y → x ≡ y
+pub same_chosen : (refuses : Refusals) (path : Path) (x y : Scalar) → IsChosen refuses path x → IsChosen refuses path y → x ≡ y
 same_chosen refuses path x y (inl a) (inl b) = b.1 x a.0
 same_chosen refuses path x y (inl a) (inr b) = absurd (b.0 x a.0)
 same_chosen refuses path x y (inr a) (inl b) = absurd (a.0 y b.0)
 same_chosen refuses path x y (inr a) (inr b) = b.1.1 x a.1.0
 
+-- what the row at a place picks
+abbrev pub IsPickedAt : Option Row → Scalar → Type 0
+IsPickedAt row = IsPicked (AtPlace row) []
+
+first_is : (row : Row) (scalar : Scalar) → IsRow row → IsFirstScalar row.value scalar → IsFirst (AtPlace (Some row)) [] scalar
+first_is row scalar form h = (
+  (member_is row.value scalar form.value).0 h.member,
+  λ other stands. h.first other ((member_is row.value other form.value).1 stands),
+)
+
+-- the chosen scalar, the first one, or none
+pub one_chosen : (row : Row) (found : Option Scalar) (scalar : Scalar) → found ≡ Some scalar → IfSome found (chosen.IsChosen row) → IsRow row → IsPickedAt (Some row) scalar
+one_chosen row None scalar e h form = cc
+one_chosen row (Some x) scalar e h form =
+    let same : x ≡ scalar = cc in
+    inl ((chosen_is row scalar form).0 (subst (chosen.IsChosen row) same h))
+
+pub one_first : (row : Row) (found first : Option Scalar) → found ≡ None → IfNone found ((other : Scalar) → ¬ chosen.IsChosen row other) → IfSome first (IsFirstScalar row.value)
+    → IsRow row → IfSome first (IsPickedAt (Some row))
+one_first row None None e n h form = tt
+one_first row None (Some x) e n h form = inr (λ other c. n other ((chosen_is row other form).1 c), first_is row x form h)
+one_first row (Some y) first e n h form = cc
+
+pub none_first : (row : Row) (first : Option Scalar) → IfNone first ((other : Scalar) → members row.value other ≡ false) → IsRow row → IfNone first (HasNoScalar (AtPlace (Some row)) [])
+none_first row None n form = refused row.value n
+none_first row (Some x) n form = tt
+
+-- what was found is what may be told
+pub told_one : (row : Row) (found : Option Scalar) (scalar : Scalar) (json : Data) → found ≡ Some scalar → IfSome found (IsPickedAt (Some row)) → json ≡ data_of scalar
+    → ((scalar : Scalar) × IsPickedAt (Some row) scalar × (json ≡ data_of scalar)) ⊎ HasNoScalar (AtPlace (Some row)) []
+told_one row None scalar json e h d = cc
+told_one row (Some x) scalar json e h d = let same : x ≡ scalar = cc in inl (scalar, subst (IsPickedAt (Some row)) same h, d)
+
+pub told_none : (row : Row) (found : Option Scalar) (json : Data) → found ≡ None → IfNone found (HasNoScalar (AtPlace (Some row)) [])
+    → ((scalar : Scalar) × IsPickedAt (Some row) scalar × (json ≡ data_of scalar)) ⊎ HasNoScalar (AtPlace (Some row)) []
+told_none row None json e h = inr h
+told_none row (Some x) json e h = cc
+
 scalar_place :
-    (tree : Tree Row) (row : Row) (json : Data) → row_of tree ≡ Some row → row.struct_ok ≡ false → row.list_ok ≡ false
-    → ((scalar : Scalar) → IsChosenAt (Some row) scalar → json ≡ data_of scalar) → IsScalarOf (Told tree) json
-scalar_place tree row json e s l k = record {
+    (tree : Tree Row) (row : Row) (scalar : Scalar) (json : Data) → row_of tree ≡ Some row → row.struct_ok ≡ false → row.list_ok ≡ false
+    → IsPickedAt (Some row) scalar → json ≡ data_of scalar → IsAtom IsPicked (Told tree) json
+scalar_place tree row scalar json e s l c d = inr (record {
   no_struct = subst (λ r. RefusedAt r struct) (sym e) s;
   no_list = subst (λ r. RefusedAt r list) (sym e) l;
-  chosen = λ scalar c. k scalar (subst (λ r. IsChosenAt r scalar) e c);
-}
+  picked = (scalar, subst (λ r. IsPickedAt r scalar) (sym e) c, d);
+})
 
-is_document : (refuses : Refusals) (scalar : Scalar) → IsScalarOf refuses (data_of scalar) → IsDocument refuses (data_of scalar)
-is_document refuses scalars.Null h = h
-is_document refuses (scalars.Bool b) h = h
-is_document refuses (scalars.Int n) h = h
-is_document refuses (scalars.Text t) h = h
+is_atom : (refuses : Refusals) (scalar : Scalar) → IsAtom IsPicked refuses (data_of scalar) → IsShape IsPicked refuses (data_of scalar)
+is_atom refuses scalars.Null h = h
+is_atom refuses (scalars.Bool b) h = h
+is_atom refuses (scalars.Int n) h = h
+is_atom refuses (scalars.Text t) h = h
 
 view-Null : view Null ≡ null
 view-Null = search (rules, the_lemmas)
 
-row_is : (tree : Tree Row) (row : Row) → row_of tree ≡ Some row → IsTable Refuses IsRow tree → IsRow row
+pub row_is : (tree : Tree Row) (row : Row) → row_of tree ≡ Some row → IsTable Refuses IsRow tree → IsRow row
 row_is (node None children) row e h = cc
 row_is (node (Some here) children) row e h = let same : here ≡ row = cc in subst IsRow same h.0.0
 
-pub no_scalar :
-    (tree : Tree Row) (row : Row) (found : Option Scalar) → row_of tree ≡ Some row → IsTable Refuses IsRow tree → row.struct_ok ≡ false → row.list_ok ≡ false
-    → found ≡ None → IfNone found ((scalar : Scalar) → ¬ chosen.IsChosen row scalar) → IsDocument (Told tree) (view Null)
-no_scalar tree row None e f s l o n =
-    subst (IsDocument (Told tree)) (sym view-Null) (scalar_place tree row null e s l (λ scalar c. absurd (n scalar ((chosen_is row scalar (row_is tree row e f)).1 c))))
-no_scalar tree row (Some x) e f s l o n = cc
+-- only scalars may stand: one is picked, or there is none
+pub only_scalars :
+    (tree : Tree Row) (row : Row) (json : Data) → row_of tree ≡ Some row → row.struct_ok ≡ false → row.list_ok ≡ false
+    → ((scalar : Scalar) × IsPickedAt (Some row) scalar × (json ≡ data_of scalar)) ⊎ HasNoScalar (AtPlace (Some row)) []
+    → IsClear (Told tree) → IsShape IsPicked (Told tree) json
+only_scalars tree row json e s l (inl h) z =
+    subst (IsShape IsPicked (Told tree)) (sym h.2) (is_atom (Told tree) h.0 (scalar_place tree row h.0 (data_of h.0) e s l h.1 refl))
+only_scalars tree row json e s l (inr lack) z =
+    absurd ((clear_here (Told tree) z).0 (inl (
+      subst (λ r. HasNoScalar (AtPlace r) []) (sym e) lack,
+      subst (λ r. RefusedAt r struct) (sym e) s,
+      subst (λ r. RefusedAt r list) (sym e) l,
+    )))
 
-pub one_scalar :
-    (tree : Tree Row) (row : Row) (found : Option Scalar) (scalar : Scalar) (json : Data) → row_of tree ≡ Some row → IsTable Refuses IsRow tree → row.struct_ok ≡ false → row.list_ok ≡ false
-    → found ≡ Some scalar → IfSome found (chosen.IsChosen row) → json ≡ data_of scalar → IsDocument (Told tree) json
-one_scalar tree row None scalar json e f s l o h d = cc
-one_scalar tree row (Some x) scalar json e f s l o h d =
-    let same : x ≡ scalar = cc in
-    let is : chosen.IsChosen row scalar = subst (chosen.IsChosen row) same h in
-    subst (IsDocument (Told tree)) (sym d) (is_document (Told tree) scalar
-    (scalar_place tree row (data_of scalar) e s l (λ other c. ap data_of (same_chosen (λ path. RefusedAt (Some row)) [] scalar other ((chosen_is row scalar (row_is tree row e f)).0 is) c))))
+-- anything may stand
+null_shape : (refuses : Refusals) (json : Data) → json ≡ null → IsFree refuses [] → IsShape IsPicked refuses json
+null_shape refuses json e free = subst (IsShape IsPicked refuses) (sym e) (inl (free, refl))
+
+pub free_place : (tree : Tree Row) (row : Option Row) (value : Value) → row_of tree ≡ row → value ≡ Null → IsFree (AtPlace row) [] → IsClear (Told tree) → IsShape IsPicked (Told tree) (view value)
+free_place tree row value e v free z =
+    null_shape (Told tree) (view value) (ap view v ∙ view-Null) (subst (λ r. IsFree (AtPlace r) []) (sym e) free)
+
+pub free_none : IsFree (AtPlace None) []
+free_none = (λ scalar r. r, λ r. r, λ r. r)
+
+-- a struct may stand, but not anything
+pub some_struct : (tree : Tree Row) (row : Row) → row_of tree ≡ Some row → row.struct_ok ≡ true → ¬ Told tree [] struct
+some_struct tree row e s r = false≢true (sym (subst (λ r. RefusedAt r struct) e r) ∙ s)
+
+pub not_free : (tree : Tree Row) (row : Row) → row_of tree ≡ Some row → (¬ IsFree (AtPlace (Some row)) []) → ¬ IsFree (Told tree) []
+not_free tree row e n free = n (subst (λ r. IsFree (AtPlace r) []) e free)
 
 -- ---- one step below
 abbrev Seen : Option (Tree Row) → Refusals
 Seen found path question = RefusedAt (option_and_then row_of (option_and_then (λ branch. branch_at branch path) found)) question
 
-document_below : (tree inner : Tree Row) (step : paths.Step) (json : Data) → find step (below tree) ≡ Some inner → IsDocument (Told inner) json → IsDocument (beyond (Told tree) step) json
-document_below tree inner step json f h = subst (λ found. IsDocument (Seen found) json) (sym f) h
+document_below :
+    (tree inner : Tree Row) (step : paths.Step) (json : Data) → find step (below tree) ≡ Some inner → IsStepDemanded (Told tree) [] step
+    → (IsClear (Told inner) → IsShape IsPicked (Told inner) json) → IsClear (Told tree) → IsShape IsPicked (beyond (Told tree) step) json
+document_below tree inner step json f d h z =
+    subst (λ found. IsShape IsPicked (Seen found) json) (sym f) (h (subst (λ found. IsClear (Seen found)) f (clear_below (Told tree) step z d)))
+
+-- each list is so long
+below_least : (row : Option Row) (n : ℕ) → n < least_at row → RefusedAt row (length_at_most n)
+below_least None n h = let no : n < 0 = h in omega arith
+below_least (Some row) n h = h
+
+index_demanded : (tree : Tree Row) (n : ℕ) → n < least_at (row_of tree) → IsStepDemanded (Told tree) [] (index n)
+index_demanded tree n h = below_least (row_of tree) n h
 
 -- an element of which nothing is known
-pub document_free : (tree : Tree Row) (step : paths.Step) → find step (below tree) ≡ None → IsDocument (beyond (Told tree) step) (object no_members)
-document_free tree step f = (
-  λ r. open_below tree step [] struct f r,
-  record {
-    sound = tt;
-    complete = λ key d. absurd (open_below tree step (label key ∷ []) (level_at_most 0) f d);
-    rising = tt;
-  },
-  tt,
-)
+pub document_free : (tree : Tree Row) (step : paths.Step) (json : Data) → find step (below tree) ≡ None → json ≡ null → IsShape IsPicked (beyond (Told tree) step) json
+document_free tree step json f e =
+    null_shape (beyond (Told tree) step) json e (λ scalar r. open_below tree step [] (may_be scalar) f r, λ r. open_below tree step [] struct f r, λ r. open_below tree step [] list f r)
+
+-- the shapes of a struct and of a list
+pub struct_shape :
+    (tree : Tree Row) (row : Row) (map : BTreeMap (String Global) Value) → row_of tree ≡ Some row → row.struct_ok ≡ true → (¬ IsFree (AtPlace (Some row)) [])
+    → AreKeys (Told tree) (keys (members_view map.entries)) → (IsClear (Told tree) → AreMembers IsPicked (Told tree) (members_view map.entries))
+    → IsClear (Told tree) → IsShape IsPicked (Told tree) (view (Object map))
+struct_shape tree row map e s n ks ms z =
+    subst (IsShape IsPicked (Told tree)) (sym (view-Object map)) (some_struct tree row e s, not_free tree row e n, ks, ms z)
+
+least_is : (row : Option Row) (n : ℕ) → RefusedAt row (length_at_most n) → n < least_at row
+least_is None n h = absurd h
+least_is (Some row) n h = h
+
+pub list_shape :
+    (tree : Tree Row) (row : Row) (values : Vec Value Global) → row_of tree ≡ Some row → row.struct_ok ≡ false → row.list_ok ≡ true
+    → count (items_view values.items) ≡ least_at (row_of tree) → (IsClear (Told tree) → AreElements IsPicked (Told tree) 0 (items_view values.items))
+    → IsClear (Told tree) → IsShape IsPicked (Told tree) (view (Array values))
+list_shape tree row values e s l c es z =
+    subst (IsShape IsPicked (Told tree)) (sym (view-Array values)) (
+      subst (λ r. RefusedAt r struct) (sym e) s,
+      (λ r. false≢true (sym (subst (λ r. RefusedAt r list) e r) ∙ l)),
+      (λ n. (λ h. subst (λ k. n < k) (sym c) (least_is (row_of tree) n h), λ h. index_demanded tree n (subst (λ k. n < k) c h))),
+      es z,
+    )
 
 or_false : (a b : Bool) → a ≡ false → b ≡ false → (a || b) ≡ false
 or_false true b p q = p
@@ -125,13 +212,13 @@ count_more (item first items) json =
     let more : count (with_item items json) ≡ count items + 1 = count_more items json in
     omega arith
 
-elements_more : (refuses : Refusals) (first : ℕ) (items : Items) (json : Data) → AreElements refuses first items → IsDocument (beyond refuses (index (first + count items))) json → AreElements refuses first (with_item items json)
+elements_more : (refuses : Refusals) (first : ℕ) (items : Items) (json : Data) → AreElements IsPicked refuses first items → IsShape IsPicked (beyond refuses (index (first + count items))) json → AreElements IsPicked refuses first (with_item items json)
 elements_more refuses first no_items json h d =
     let same : first + 0 ≡ first = omega arith in
-    (subst (λ n. IsDocument (beyond refuses (index n)) json) same d, tt)
+    (subst (λ n. IsShape IsPicked (beyond refuses (index n)) json) same d, tt)
 elements_more refuses first (item here items) json h d =
     let same : first + suc (count items) ≡ suc first + count items = omega arith in
-    (h.0, elements_more refuses (suc first) items json h.1 (subst (λ n. IsDocument (beyond refuses (index n)) json) same d))
+    (h.0, elements_more refuses (suc first) items json h.1 (subst (λ n. IsShape IsPicked (beyond refuses (index n)) json) same d))
 
 items_float : (items : Items) (json : Data) → items_have_float items ≡ false → has_float json ≡ false → items_have_float (with_item items json) ≡ false
 items_float no_items json h d = or_false (has_float json) false d refl
@@ -142,36 +229,40 @@ items_float (item first items) json h d =
 -- so many elements are built
 pub record IsCounted (tree : Tree Row) (number : ℕ) (values : List Value) : Type 0 where
   pub length : count (items_view values) ≡ number
-  pub elements : AreElements (Told tree) 0 (items_view values)
+  pub elements : IsClear (Told tree) → AreElements IsPicked (Told tree) 0 (items_view values)
   pub no_float : items_have_float (items_view values) ≡ false
 
 pub none_counted : (tree : Tree Row) (values : List Value) → values ≡ [] → IsCounted tree 0 values
-none_counted tree values e = subst (IsCounted tree 0) (sym e) (record { length = refl; elements = tt; no_float = refl })
+none_counted tree values e = subst (IsCounted tree 0) (sym e) (record { length = refl; elements = λ z. tt; no_float = refl })
 
 counted : (tree : Tree Row) (number : ℕ) (values after : List Value) (value : Value) → IsCounted tree number values → after ≡ values ++ value ∷ []
-    → IsDocument (beyond (Told tree) (index number)) (view value) → has_float (view value) ≡ false → IsCounted tree (number + 1) after
+    → (IsClear (Told tree) → IsShape IsPicked (beyond (Told tree) (index number)) (view value)) → has_float (view value) ≡ false → IsCounted tree (number + 1) after
 counted tree number values after value w a d f =
     let viewed : items_view after ≡ with_item (items_view values) (view value) = ap items_view a ∙ view_more values value in
     let from_zero : 0 + count (items_view values) ≡ count (items_view values) = omega arith in
-    let here : IsDocument (beyond (Told tree) (index (0 + count (items_view values)))) (view value) = subst (λ n. IsDocument (beyond (Told tree) (index n)) (view value)) (sym (from_zero ∙ w.length)) d in
+    let here : IsClear (Told tree) → IsShape IsPicked (beyond (Told tree) (index (0 + count (items_view values)))) (view value) =
+    λ z. subst (λ n. IsShape IsPicked (beyond (Told tree) (index n)) (view value)) (sym (from_zero ∙ w.length)) (d z) in
     record {
       length = ap count viewed ∙ count_more (items_view values) (view value) ∙ ap (λ n. n + 1) w.length;
-      elements = subst (AreElements (Told tree) 0) (sym viewed) (elements_more (Told tree) 0 (items_view values) (view value) w.elements here);
+      elements = λ z. subst (AreElements IsPicked (Told tree) 0) (sym viewed) (elements_more (Told tree) 0 (items_view values) (view value) (w.elements z) (here z));
       no_float = ap items_have_float viewed ∙ items_float (items_view values) (view value) w.no_float f;
     }
 
 pub counted_in :
     (tree inner : Tree Row) (number : ℕ) (values after : List Value) (value made : Value) → IsCounted tree number values → after ≡ values ++ value ∷ [] → value ≡ made
-    → find (index number) (below tree) ≡ Some inner → IsDocument (Told inner) (view made) → has_float (view made) ≡ false → IsCounted tree (number + 1) after
-counted_in tree inner number values after value made w a s f d n =
-    counted tree number values after value w a (document_below tree inner (index number) (view value) f (subst (λ v. IsDocument (Told inner) (view v)) (sym s) d)) (ap (λ v. has_float (view v)) s ∙ n)
+    → find (index number) (below tree) ≡ Some inner → number < least_at (row_of tree) → (IsClear (Told inner) → IsShape IsPicked (Told inner) (view made))
+    → has_float (view made) ≡ false → IsCounted tree (number + 1) after
+counted_in tree inner number values after value made w a s f below_end d n =
+    counted tree number values after value w a
+    (document_below tree inner (index number) (view value) f (index_demanded tree number below_end) (λ z. subst (λ v. IsShape IsPicked (Told inner) (view v)) (sym s) (d z)))
+    (ap (λ v. has_float (view v)) s ∙ n)
 
 pub counted_free :
-    (tree : Tree Row) (number : ℕ) (values after : List Value) (value : Value) (map : BTreeMap (String Global) Value) → IsCounted tree number values → after ≡ values ++ value ∷ []
-    → find (index number) (below tree) ≡ None → value ≡ Object map → map.entries ≡ [] → IsCounted tree (number + 1) after
-counted_free tree number values after value map w a f s m =
-    let v : view value ≡ object no_members = ap view s ∙ view-Object map ∙ ap (λ es. object (members_view es)) m in
-    counted tree number values after value w a (subst (IsDocument (beyond (Told tree) (index number))) (sym v) (document_free tree (index number) f)) (ap has_float v)
+    (tree : Tree Row) (number : ℕ) (values after : List Value) (value : Value) → IsCounted tree number values → after ≡ values ++ value ∷ []
+    → find (index number) (below tree) ≡ None → value ≡ Null → IsCounted tree (number + 1) after
+counted_free tree number values after value w a f v =
+    let n : view value ≡ null = ap view v ∙ view-Null in
+    counted tree number values after value w a (λ z. document_free tree (index number) (view value) f n) (ap has_float n)
 
 -- ---- the members of an object
 abbrev with_member : Members → List ℕ → Data → Members
@@ -189,7 +280,7 @@ keys_more : (members : Members) (key : List ℕ) (json : Data) → keys (with_me
 keys_more no_members key json = refl
 keys_more (member first here members) key json = ap (λ ks. first ∷ ks) (keys_more members key json)
 
-members_more : (refuses : Refusals) (members : Members) (key : List ℕ) (json : Data) → AreMembers refuses members → IsDocument (beyond refuses (label key)) json → AreMembers refuses (with_member members key json)
+members_more : (refuses : Refusals) (members : Members) (key : List ℕ) (json : Data) → AreMembers IsPicked refuses members → IsShape IsPicked (beyond refuses (label key)) json → AreMembers IsPicked refuses (with_member members key json)
 members_more refuses no_members key json h d = (d, tt)
 members_more refuses (member first here members) key json h d = (h.0, members_more refuses members key json h.1 d)
 
@@ -210,7 +301,7 @@ pub record IsGathered (tree : Tree Row) (rest : Children Row) (members : Members
   pub before : AllByRecursion (λ key. IsBelowAll (label key) rest) (keys members)
   pub among : AreAmong tree rest
   pub form : AreBranches (IsKept Refuses IsRow) rest
-  pub documents : AreMembers (Told tree) members
+  pub documents : IsClear (Told tree) → AreMembers IsPicked (Told tree) members
   pub no_float : members_have_float members ≡ false
   pub small : children_size rest ≤ children_size (below tree)
 
@@ -227,7 +318,7 @@ none_gathered tree rest members h r m = subst (λ cs. IsGathered tree cs members
     before = tt;
     among = λ step inner f. f;
     form = branches_form tree h;
-    documents = tt;
+    documents = λ z. tt;
     no_float = refl;
     small = omega arith;
   }
@@ -263,7 +354,7 @@ passed tree here step rest rest' members v r n =
 
 taken :
     (tree here : Tree Row) (name : List ℕ) (rest rest' : Children Row) (members after : Members) (json : Data) → IsGathered tree rest members → rest ≡ child (label name) here rest'
-    → is_demanded (row_of tree) (label name) (row_of here) ≡ true → after ≡ put name json members → IsDocument (Told here) json → has_float json ≡ false → IsGathered tree rest' after
+    → is_demanded (row_of tree) (label name) (row_of here) ≡ true → after ≡ put name json members → (IsClear (Told here) → IsShape IsPicked (Told here) json) → has_float json ≡ false → IsGathered tree rest' after
 taken tree here name rest rest' members after json v r asked a d n =
     let w : IsGathered tree (child (label name) here rest') members = subst (λ cs. IsGathered tree cs members) r v in
     let found : find (label name) (below tree) ≡ Some here = w.among (label name) here (found_first (label name) here rest') in
@@ -287,7 +378,7 @@ taken tree here name rest rest' members after json v r asked a d n =
           (all_from (λ key. IsBelowAll (label key) (child (label name) here rest')) (λ key. IsBelowAll (label key) rest') (keys members) (λ key b. b.1) w.before) (w.form.0, tt));
       among = λ s t f. w.among s t (found_later (label name) s here t rest' w.form.0 f);
       form = w.form.3;
-      documents = subst (AreMembers (Told tree)) (sym is) (members_more (Told tree) members name json w.documents (document_below tree here (label name) json found d));
+      documents = λ z. subst (AreMembers IsPicked (Told tree)) (sym is) (members_more (Told tree) members name json (w.documents z) (document_below tree here (label name) json found demanded d z));
       no_float = ap members_have_float is ∙ members_float members name json w.no_float n;
       small = let left : tree_size here + children_size rest' ≤ children_size (below tree) = w.small in omega arith;
     }
@@ -319,7 +410,7 @@ passed_label tree here step rest rest' members v c n =
 pub taken_label :
     (tree here : Tree Row) (step : paths.Step) (name key : List ℕ) (rest rest' : Children Row) (members after : Members) (json : Data) → IsGathered tree rest members
     → children_of rest ≡ (step, here) ∷ children_of rest' → step ≡ label name → is_demanded (row_of tree) step (row_of here) ≡ true → key ≡ name → after ≡ put key json members
-    → IsDocument (Told here) json → has_float json ≡ false → IsGathered tree rest' after
+    → (IsClear (Told here) → IsShape IsPicked (Told here) json) → has_float json ≡ false → IsGathered tree rest' after
 taken_label tree here step name key rest rest' members after json w c s asked k a d n =
     taken tree here name rest rest' members after json w (first_child rest rest' step here c ∙ ap (λ t. child t here rest') s)
     (subst (λ t. is_demanded (row_of tree) t (row_of here) ≡ true) s asked) (a ∙ ap (λ t. put t json members) k) d n

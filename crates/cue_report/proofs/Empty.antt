@@ -70,7 +70,7 @@ empty_members set e = each where
   each (scalars.Int n) = ap (λ ps. is_member ps n) parts.3
   each (scalars.Text t) = ap (λ ts. is_text_member ts t) parts.4
 
-refused : (set : ScalarSet) → IsEmptySet set → (scalar : Scalar) → IsScalar scalar → RefusesScalar set scalar
+pub refused : (set : ScalarSet) → IsEmptySet set → (scalar : Scalar) → IsScalar scalar → RefusesScalar set scalar
 refused set h scalars.Null s = h scalars.Null
 refused set h (scalars.Bool false) s = h (scalars.Bool false)
 refused set h (scalars.Bool true) s = h (scalars.Bool true)

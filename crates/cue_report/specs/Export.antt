@@ -1,5 +1,5 @@
 -- The document that is exported, told by what is refused at each path, and what an export comes to.
-use Rattle.std.specs.Prelude.{◌≡◌, ◌≢◌, ◌↔◌, ◌<◌, ℕ, zero, suc, List, [], ◌∷◌, string_bytes}
+use Rattle.std.specs.Prelude.{◌≡◌, ◌≢◌, ◌↔◌, ◌⊎◌, ◌<◌, ℕ, zero, suc, List, [], ◌∷◌, string_bytes}
 use Rattle.cue_lattice.specs.declared.scalar.Scalar.{Scalar}
 use Rattle.cue_lattice.specs.declared.scalar.Scalar.TheVariants as scalars
 use Rattle.cue_lattice.specs.Path as paths
@@ -10,8 +10,9 @@ use Rattle.serde_json.specs.Data.{no_items, item, Members, no_members, member}
 use Rattle.serde_json.specs.Find.{of_integer}
 use Rattle.serde_json.specs.Written.{compact_text}
 use Rattle.cue_report.specs.Answers.{IsStepDemanded}
-use Rattle.cue_report.specs.Gaps.{IsChosen, AreGaps}
+use Rattle.cue_report.specs.Gaps.{IsChosen, IsFree, AreGaps}
 use Rattle.cue_report.specs.Listing.{Lists, AreConflicts}
+use Rattle.cue_report.specs.Picks.{Pick}
 use Rattle.cue_report.specs.declared.outcome.Export.{Export}
 use Rattle.cue_report.specs.declared.outcome.Export.TheVariants.{Json, Conflicts, Incomplete}
 
@@ -44,45 +45,50 @@ AreKeys refuses = Lists (λ key. label key ∷ []) (λ key. IsStepDemanded refus
 abbrev pub IsLeast : Refusals → ℕ → Type 0
 IsLeast refuses length = (n : ℕ) → IsStepDemanded refuses [] (index n) ↔ (n < length)
 
--- Neither a struct nor a list may stand; where a scalar is chosen, it is this one.
-pub record IsScalarOf (refuses : Refusals) (json : Data) : Type 0 where
+-- Neither a struct nor a list may stand; a scalar is picked, and it is this one.
+pub record IsScalarOf (pick : Pick) (refuses : Refusals) (json : Data) : Type 0 where
   pub no_struct : refuses [] struct
   pub no_list : refuses [] list
-  pub chosen : (scalar : Scalar) → IsChosen refuses [] scalar → json ≡ data_of scalar
+  pub picked : (scalar : Scalar) × pick refuses [] scalar × (json ≡ data_of scalar)
 
--- The document: an object of the demanded labels where a struct may stand, a list of the least
--- length where a list may and no struct, and the chosen scalar elsewhere.
+-- null where anything may stand, and elsewhere the scalar that is picked
+abbrev pub IsAtom : Pick → Refusals → Data → Type 0
+IsAtom pick refuses json = (IsFree refuses [] × (json ≡ null)) ⊎ IsScalarOf pick refuses json
+
+-- The document: null where anything may stand, an object of the demanded labels where a struct may,
+-- a list of the least length where a list may and no struct, and the scalar that is picked
+-- elsewhere.
 abbrev mutual
-  pub IsDocument : Refusals → Data → Type 0
-  IsDocument refuses null = IsScalarOf refuses null
-  IsDocument refuses (boolean b) = IsScalarOf refuses (boolean b)
-  IsDocument refuses (number n) = IsScalarOf refuses (number n)
-  IsDocument refuses (string s) = IsScalarOf refuses (string s)
-  IsDocument refuses (array items) =
+  pub IsShape : Pick → Refusals → Data → Type 0
+  IsShape pick refuses null = IsAtom pick refuses null
+  IsShape pick refuses (boolean b) = IsAtom pick refuses (boolean b)
+  IsShape pick refuses (number n) = IsAtom pick refuses (number n)
+  IsShape pick refuses (string s) = IsAtom pick refuses (string s)
+  IsShape pick refuses (array items) =
       refuses [] struct × (¬ refuses [] list) × IsLeast refuses (count items)
-      × AreElements refuses 0 items
-  IsDocument refuses (object members) =
-      (¬ refuses [] struct) × AreKeys refuses (keys members) × AreMembers refuses members
+      × AreElements pick refuses 0 items
+  IsShape pick refuses (object members) =
+      (¬ refuses [] struct) × (¬ IsFree refuses []) × AreKeys refuses (keys members)
+      × AreMembers pick refuses members
 
   -- each element from the first on is the document of its place
-  pub AreElements : Refusals → ℕ → Items → Type 0
-  AreElements refuses first no_items = Unit {0}
-  AreElements refuses first (item json items) =
-      IsDocument (beyond refuses (index first)) json × AreElements refuses (suc first) items
+  pub AreElements : Pick → Refusals → ℕ → Items → Type 0
+  AreElements pick refuses first no_items = Unit {0}
+  AreElements pick refuses first (item json items) =
+      IsShape pick (beyond refuses (index first)) json × AreElements pick refuses (suc first) items
 
   -- so is each member
-  pub AreMembers : Refusals → Members → Type 0
-  AreMembers refuses no_members = Unit {0}
-  AreMembers refuses (member key json members) =
-      IsDocument (beyond refuses (label key)) json × AreMembers refuses members
+  pub AreMembers : Pick → Refusals → Members → Type 0
+  AreMembers pick refuses no_members = Unit {0}
+  AreMembers pick refuses (member key json members) =
+      IsShape pick (beyond refuses (label key)) json × AreMembers pick refuses members
 
 -- The conflicts, where there are any; otherwise the gaps, where there are any; otherwise the
--- document in JSON without a space. Without a gap, a scalar is chosen at each demanded place where
--- only scalars may stand.
+-- document in JSON without a space, with the chosen scalars.
 abbrev pub IsExport : Refusals → Export → Type 0
 IsExport refuses (Conflicts found) = (found.items ≢ []) × AreConflicts refuses found.items
 IsExport refuses (Incomplete gaps) =
     AreConflicts refuses [] × (gaps.items ≢ []) × AreGaps refuses gaps.items
 IsExport refuses (Json text) =
     AreConflicts refuses [] × AreGaps refuses []
-    × ((json : Data) × IsDocument refuses json × (string_bytes text ≡ compact_text json))
+    × ((json : Data) × IsShape IsChosen refuses json × (string_bytes text ≡ compact_text json))

@@ -1,8 +1,12 @@
 pub mod Answers
+pub mod Clear
+pub mod Documents
 pub mod Export
 pub mod GapSearch
 pub mod Gaps
 pub mod Lines
 pub mod Listing
+pub mod OneReport
+pub mod Picks
 pub mod Search
 pub mod Trail

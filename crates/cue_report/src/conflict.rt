@@ -1,7 +1,9 @@
-ghost use Rattle.std.specs.Prelude.{◌≡◌, ◌++◌, [], ◌∷◌, map, IfOk, IfSome, OnOk};
+ghost use Rattle.std.specs.Prelude.{◌≡◌, ◌↔◌, ◌++◌, [], ◌∷◌, map, IfOk, IfSome, OnOk};
 ghost use Rattle.std.specs.Option.{option_map};
 ghost use Rattle.cue_row.specs.Row.{IsRow, RowRefuses};
 ghost use Rattle.cue_table.specs.Refuses.{TableRefuses};
+ghost use Rattle.cue_table.specs.Valid.{IsValidTable};
+ghost use Rattle.cue_report.specs.Documents.{SomeMeets};
 ghost use Rattle.cue_report.specs.Listing.{AreConflicts};
 ghost use Rattle.cue_report.specs.Search.{under, has_no_value, conflict_here, conflicts_in};
 ghost use Rattle.cue_report.specs.Trail.{trail};
@@ -28,7 +30,11 @@ pub struct Conflict {
 /// The conflicts of a table, in the order of their paths: the demanded places where no value may
 /// stand, or whose label the place above does not allow.
 pub fn conflicts(alloc: Global, table: &Table<Row>) -> Result<Vec<Conflict>, Memory>
-    ensures { IfOk result (λ found. AreConflicts (TableRefuses RowRefuses table.now) found.items) }
+    ensures conflicts { IfOk result (λ found.
+        AreConflicts (TableRefuses RowRefuses table.now) found.items) }
+    // Of a valid table there are none exactly where some document meets it.
+    ensures exact { IsValidTable table.now → IfOk result (λ found.
+        (found.items ≡ []) ↔ SomeMeets (TableRefuses RowRefuses table.now)) }
 {
     let mut search = Search {
         alloc,

@@ -3,18 +3,21 @@
 
 mod conflict;
 mod demand;
-mod document;
 mod gap;
+mod law;
 mod outcome;
 mod place;
 mod report;
+mod shape;
 
 pub use conflict::{Conflict, conflicts};
 pub use cue_lattice::Memory;
 pub use cue_row::{Row, Step, path_text};
 pub use cue_table::Table;
-pub use document::export;
 pub use gap::{Gap, incomplete};
+pub use law::one_report;
 pub use outcome::Export;
 pub use place::Place;
 pub use report::lines;
+pub use serde_json::Value;
+pub use shape::{document, export};

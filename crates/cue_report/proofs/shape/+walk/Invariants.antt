@@ -2,7 +2,7 @@ use Rattle.std.proofs.Common.{◌+◌}
 use Rattle.cue_table.specs.Size.{tree_size}
 use Rattle.serde_json.specs.View.{members_view}
 use Rattle.cue_report.proofs.Documents.{IsCounted, IsGathered}
-use Rattle.cue_report.proofs.document.+walk.Given as goal
+use Rattle.cue_report.proofs.shape.+walk.Given as goal
 
 abbrev pub decreases-document_of : goal.decreases-document_of
 decreases-document_of l = tree_size l.branch.now + tree_size l.branch.now + 1

@@ -1,22 +1,38 @@
-use Rattle.std.proofs.Common.{sym, ap, ◌∙◌, arith}
+use Rattle.std.proofs.Common.{refl, sym, ap, ◌∙◌, ◌<◌, None, Some, arith}
+use Rattle.std.proofs.lemmas.Bool.{false≢true}
 use Rattle.cue_lattice.specs.Path.{index}
 use Rattle.cue_row.specs.Steps.{step_of}
+use Rattle.cue_table.specs.Tree.{row_of}
 use Rattle.cue_table.specs.Walks.{found_smaller}
 use Rattle.serde_json.specs.View.{view, members_view}
-use Rattle.cue_report.proofs.Documents.{no_scalar, one_scalar, counted_in, counted_free, none_gathered, passed_index, passed_label, taken_label, all_gathered}
+use Rattle.serde_json.specs.declared.value.Value.{Null}
+use Rattle.cue_report.specs.GapSearch.{least_at}
+use Rattle.cue_report.proofs.Documents.{free_place, free_none, struct_shape, list_shape, only_scalars, row_is, counted_in, counted_free, none_gathered, passed_index, passed_label, taken_label, all_gathered}
 use Rattle.cue_report.proofs.Walk.{inner_smaller, none_left, demand_is}
-use Rattle.cue_report.proofs.document.+walk.Goals.{elements_of-in-None, elements_of-in-Some+in_ok-document-in-Some}
-use Rattle.cue_report.proofs.document.+walk.Goals as goal
+use Rattle.cue_report.proofs.shape.+walk.Goals.{elements_of-in-None, elements_of-in-Some+in_ok-document-in-Some}
+use Rattle.cue_report.proofs.shape.+walk.Goals as goal
 
-pub document_of-returns-in-None-clause-document : goal.document_of-returns-in-None-clause-document
-document_of-returns-in-None-clause-document t c =
-    no_scalar c.args.branch.now c.in-Some.row.now c.in_ok-chosen.field-0 (sym c.in-Some.ensures.row) c.row.ensures.form
-    c.if-not-row.true c.if-row.false c.in-None.is c.in_ok-chosen.ensures.none
+pub document_of-returns-in_default-clause-document : goal.document_of-returns-in_default-clause-document
+document_of-returns-in_default-clause-document t c = free_place c.args.branch.now None Null (sym c.in_default.ensures.row) refl free_none
 
-pub document_of-returns-in-Some-2-clause-document : goal.document_of-returns-in-Some-2-clause-document
-document_of-returns-in-Some-2-clause-document t c =
-    one_scalar c.args.branch.now c.in-Some.row.now c.in_ok-chosen.field-0 c.in-Some-2.scalar (view c.json_of.result) (sym c.in-Some.ensures.row) c.row.ensures.form
-    c.if-not-row.true c.if-row.false c.in-Some-2.is c.in_ok-chosen.ensures.some c.json_of.ensures.json
+pub document_of-returns-then-is_free-clause-document : goal.document_of-returns-then-is_free-clause-document
+document_of-returns-then-is_free-clause-document t c =
+    free_place c.args.branch.now (Some c.in-Some.row.now) Null (sym c.in-Some.ensures.row) refl (c.is_free.ensures.0 c.if-is_free.true)
+
+pub document_of-returns-then-row-clause-document : goal.document_of-returns-then-row-clause-document
+document_of-returns-then-row-clause-document t c =
+    struct_shape c.args.branch.now c.in-Some.row.now c.in_ok-members.members (sym c.in-Some.ensures.row) c.if-row.true
+    (λ free. false≢true (sym c.if-is_free.false ∙ c.is_free.ensures.1 free)) c.in_ok-members.ensures.keys c.in_ok-members.ensures.members
+
+pub document_of-returns-then-row-2-clause-document : goal.document_of-returns-then-row-2-clause-document
+document_of-returns-then-row-2-clause-document t c =
+    list_shape c.args.branch.now c.in-Some.row.now c.in_ok-elements.elements (sym c.in-Some.ensures.row) c.if-row.false c.if-row-2.true
+    c.in_ok-elements.ensures.least c.in_ok-elements.ensures.elements
+
+pub document_of-returns-clause-document : goal.document_of-returns-clause-document
+document_of-returns-clause-document t c =
+    only_scalars c.args.branch.now c.in-Some.row.now (view c.in_ok-value.value) (sym c.in-Some.ensures.row) c.if-row.false c.if-row-2.false
+    (c.in_ok-value.ensures.picked (row_is c.args.branch.now c.in-Some.row.now (sym c.in-Some.ensures.row) c.row.ensures.form))
 
 pub elements_of-document_of-requires : goal.elements_of-document_of-requires
 elements_of-document_of-requires t c =
@@ -27,14 +43,15 @@ elements_of-loop-number-preserved t c =
     let tree = c.args.branch.now in
     let values = c.loop-number.elements.items in
     let document = c.match-find.document in
+    let below : c.loop-number.number < least_at (row_of tree) = omega (arith, c.least_of-number-end.ensures ∙ ap least_at c.row.ensures.row, c.loop-number-test.true) in
     elim c.match-find.branch [
       | elements_of-in-None w ↦
-          counted_free tree c.loop-number.number values c.push.new.self.items document w.new.result c.loop-number.invariant c.in_ok-push.ensures.items
-          (sym c.find.ensures.branch ∙ w.in-None.is) w.document-is w.new.ensures.empty
+          counted_free tree c.loop-number.number values c.push.new.self.items document c.loop-number.invariant c.in_ok-push.ensures.items
+          (sym c.find.ensures.branch ∙ w.in-None.is) w.document-is
       | elements_of-in-Some+in_ok-document-in-Some w ↦
           counted_in tree w.in-Some.child c.loop-number.number values c.push.new.self.items document w.in_ok-document-in-Some.document
           c.loop-number.invariant c.in_ok-push.ensures.items w.document-is
-          (sym c.find.ensures.branch ∙ w.in-Some.is) w.in_ok-document-in-Some.ensures.document w.in_ok-document-in-Some.ensures.no_float
+          (sym c.find.ensures.branch ∙ w.in-Some.is) below w.in_ok-document-in-Some.ensures.document w.in_ok-document-in-Some.ensures.no_float
     ]
 
 pub members_of-loop-step-init : goal.members_of-loop-step-init
