@@ -35,7 +35,7 @@ pub record AreFrames (stream : List ℕ) (bodies : List (List ℕ)) (rest : List
   pub whole : stream ≡ flat_map framed bodies ++ rest
   pub short : All IsBody bodies
 
--- No frame at the front of what comes behind the whole frames of a stream has the length there.
+-- Behind the whole frames of the stream stands a length that no frame has.
 abbrev pub HasFault : List ℕ → Type 0
 HasFault stream =
     (bodies : List (List ℕ)) × (rest : List ℕ) × AreFrames stream bodies rest × NamesTooMany rest
