@@ -1,11 +1,13 @@
 -- What the examples share.
-use Rattle.std.proofs.Common.{◌≡◌, ℕ, true, false, List, [], ◌∷◌, sym, ◌∙◌}
+use Rattle.std.proofs.Common.{◌≡◌, ◌<◌, ℕ, true, false, List, [], ◌∷◌, sym, ◌∙◌, arith}
 use Rattle.std.specs.Prelude.{codes, pos}
 use Rattle.std.specs.List.{list_any}
 use Rattle.std.specs.Str.{bytes_eq}
 use Rattle.std.proofs.lemmas.Bool.{false≢true}
+use Rattle.std.proofs.lemmas.Int.{ints}
 use Rattle.std.proofs.lemmas.Slice.Eq.{bytes_eq-Decides}
 use Rattle.cue_lattice.specs.Path.{Path, label}
+use Rattle.cue_lattice.specs.Scalar.{IsInteger}
 use Rattle.cue_lattice.specs.Question.{Question, may_be, usual}
 use Rattle.cue_lattice.specs.declared.scalar.Scalar.TheVariants as scalars
 use Rattle.cue_syntax.specs.declared.tree.Mark.TheVariants.{Regular, Optional, Required}
@@ -22,6 +24,10 @@ may_be_number n = may_be (scalars.Int (pos n))
 
 abbrev pub usual_number : ℕ → Question
 usual_number n = usual (scalars.Int (pos n))
+
+-- such a number is an integer of the language where it is not too large
+pub in_range : (n : ℕ) → n < 9223372036854775808 → IsInteger (pos n)
+in_range n h = (omega (arith, ints), omega (arith, ints))
 
 -- a field without a mark, one with `?`, one with `!`
 abbrev pub field : List ℕ → Core → Members → Members

@@ -7,7 +7,7 @@ use Rattle.cue_scope.specs.declared.named.Named.TheVariants as sets
 use Rattle.cue_scope.specs.Core.{Core, named, struct, no_members}
 use Rattle.cue_eval.specs.Refuses.{Refuses}
 use Rattle.cue_eval.specs.Laws.{both}
-use Rattle.cue_eval.proofs.Example.{number, may_be_number, field, optional, required, a, b, at, other}
+use Rattle.cue_eval.proofs.Example.{number, may_be_number, field, optional, required, a, b, at, other, in_range}
 
 -- a!: 3
 abbrev wanted : Core
@@ -30,10 +30,10 @@ abbrev unlikely : Core
 unlikely = both (struct (optional a (number 1) no_members)) (struct (optional a (number 2) no_members))
 
 one_may_not_stand : Refuses unlikely (at a) (may_be_number 1)
-one_may_not_stand = inr (inl (inl (refl, inr (lit< tt, refl))))
+one_may_not_stand = inr (inl (inl (refl, inr (in_range 1 (lit< tt), refl))))
 
 two_may_not_stand : Refuses unlikely (at a) (may_be_number 2)
-two_may_not_stand = inl (inl (refl, inr (lit< tt, refl)))
+two_may_not_stand = inl (inl (refl, inr (in_range 2 (lit< tt), refl)))
 
 but_it_may_lack : Refuses unlikely (at a) (level_at_most 0) → ⊥
 but_it_may_lack (inl (inl (e, inl h))) = omega (arith, h)
@@ -49,7 +49,7 @@ abbrev repeated : Core
 repeated = struct (field a (named sets.Int) (field a (number 3) no_members))
 
 a_repeated_label_unifies : Refuses repeated (at a) (may_be_number 4)
-a_repeated_label_unifies = inr (inl (refl, inr (lit< tt, refl)))
+a_repeated_label_unifies = inr (inl (refl, inr (in_range 4 (lit< tt), refl)))
 
 what_both_let_may_stand : Refuses repeated (at a) (may_be_number 3) → ⊥
 what_both_let_may_stand (inl (e, inl h)) = h
@@ -68,7 +68,7 @@ abbrev clash : Core
 clash = both (struct (field b (number 1) no_members)) (number 3)
 
 no_scalar_may_stand : Refuses clash [] (may_be_number 3)
-no_scalar_may_stand = inl (lit< tt)
+no_scalar_may_stand = inl (in_range 3 (lit< tt))
 
 no_struct_may_stand : Refuses clash [] questions.struct
 no_struct_may_stand = inr (inl tt)
@@ -77,7 +77,7 @@ no_list_may_stand : Refuses clash [] questions.list
 no_list_may_stand = inl tt
 
 below_a_conflict_two_is_refused : Refuses clash (at b) (may_be_number 2)
-below_a_conflict_two_is_refused = inl (inl (refl, inr (lit< tt, refl)))
+below_a_conflict_two_is_refused = inl (inl (refl, inr (in_range 2 (lit< tt), refl)))
 
 below_a_conflict_one_may_stand : Refuses clash (at b) (may_be_number 1) → ⊥
 below_a_conflict_one_may_stand (inl (inl (e, inl h))) = h

@@ -7,7 +7,7 @@ use Rattle.cue_lattice.specs.Question.{length_at_most, length_at_least}
 use Rattle.cue_scope.specs.Core.{Core, top, list, no_cores, core}
 use Rattle.cue_eval.specs.Refuses.{Refuses}
 use Rattle.cue_eval.specs.Laws.{both}
-use Rattle.cue_eval.proofs.Example.{number, may_be_number}
+use Rattle.cue_eval.proofs.Example.{number, may_be_number, in_range}
 
 -- [1, ...] & [_, 2]
 abbrev two : Core
@@ -34,7 +34,7 @@ shorter_lists_conflict : Refuses (both two (list (core (number 1) no_cores) fals
 shorter_lists_conflict = inr (inl (lit< tt))
 
 the_first_element : Refuses two (index 0 ∷ []) (may_be_number 2)
-the_first_element = inl (lit< tt, refl)
+the_first_element = inl (in_range 2 (lit< tt), refl)
 
 the_first_element_is_one : Refuses two (index 0 ∷ []) (may_be_number 1) → ⊥
 the_first_element_is_one (inl h) = false≢true (sym h.1)
@@ -42,7 +42,7 @@ the_first_element_is_one (inr (inl h)) = h
 the_first_element_is_one (inr (inr h)) = h
 
 the_second_element : Refuses two (index 1 ∷ []) (may_be_number 1)
-the_second_element = inr (inl (lit< tt, refl))
+the_second_element = inr (inl (in_range 1 (lit< tt), refl))
 
 behind_the_last_element : Refuses two (index 2 ∷ []) (may_be_number 1) → ⊥
 behind_the_last_element (inl h) = h
