@@ -13,7 +13,8 @@ use Rattle.cue_replica.specs.declared.world.Outcome.{Outcome}
 use Rattle.cue_replica.specs.declared.world.Outcome.TheVariants.{Accepted, Sent, Refused, NoSuch}
 use Rattle.cue_replica.specs.Language.{Table, language}
 use Rattle.cue_replica.specs.Replica.{Adds}
-use Rattle.cue_replica.specs.World.{event_of, IsSentOf, Agrees, HappensAt, Submits, Takes, Sends, Delivers, Happens, IsHeld}
+use Rattle.cue_replica.specs.Inner.Events.{Agrees, HappensAt, Sends, Delivers, Happens, IsHeld}
+use Rattle.cue_replica.specs.World.{event_of, IsSentOf, Submits, Takes}
 use Rattle.cue_replica.proofs.Adding.{one_piece, unified_more}
 use Rattle.cue_replica.proofs.Sound.{sound}
 use Rattle.cue_replica.proofs.Along.{length-along, along_at, along_set, along_push, set_same, found_within}

@@ -3,6 +3,8 @@ pub mod Adding
 pub mod Along
 pub mod Asked
 pub mod Events
+pub mod Example
+pub mod Lexed
 pub mod Runs
 pub mod Sound
 pub mod Texts

@@ -8,7 +8,10 @@ use Rattle.cue_lattice.specs.World.{Meaning, Piece, Sets, AllAlong, IsOutcome, A
 use Rattle.cue_replica.specs.declared.world.Event.{Event}
 use Rattle.cue_replica.specs.declared.world.Outcome.{Outcome}
 use Rattle.cue_replica.specs.Language.{Table, language}
-use Rattle.cue_replica.specs.World.{event_of, outcome_of, reached, Agrees, AreEqualSites, Happens}
+use Rattle.cue_replica.specs.Inner.Events.{Agrees, Happens}
+use Rattle.cue_replica.specs.World.{event_of, outcome_of, reached, AreEqualSites, AreSitesToldAlike}
+use Rattle.cue_replica.specs.Reports.{AreToldAlike}
+use Rattle.cue_report.proofs.OneReport.{one_report}
 use Rattle.cue_replica.proofs.Adding.{same_pieces_refuse}
 use Rattle.cue_replica.proofs.Along.{along_at}
 use Rattle.cue_replica.proofs.Accepted.{new_site}
@@ -89,6 +92,19 @@ equal_sites replicas sets along i j a b at_i at_j same =
     let r = there.1 path question in
     let s = refuse path question in
     (λ h. r.1 (s.0 (l.0 h)), λ h. l.1 (s.1 (r.0 h))))
+
+-- of a table nothing else is told than of itself
+alike : (a : Table) → AreToldAlike a a
+alike a = record {
+  reports = one_report (language.table_refuses a) (language.table_refuses a) (λ path question. (λ h. h, λ h. h));
+  text = refl;
+  bytes = refl;
+}
+
+-- and the same is told of them
+pub sites_told_alike : (replicas : List Table) (sets : List (List Piece)) → AllAlong (IsUnified language) replicas sets → AreSitesToldAlike replicas sets
+sites_told_alike replicas sets along i j a b at_i at_j same =
+    subst (AreToldAlike a) (equal_sites replicas sets along i j a b at_i at_j same) (alike a)
 
 -- a list that was lent whole and comes back with as many elements
 pub lent_whole : {X : Type 0} (old new : List X) (n : ℕ) → length new ≡ length old → n ≡ length old → take n (new ++ drop (length new) old) ≡ new

@@ -1,5 +1,6 @@
 -- The language keeps to what is asked of every language.
 use Rattle.std.proofs.Common.{◌≡◌, ◌⊎◌, ◌<◌, ◌^◌, ℕ, List, length, refl, ap, sym, ◌∙◌, subst, ⊎_elim, inl, inr}
+use Rattle.cue_lattice.specs.declared.refusal.Kind.{Kind}
 use Rattle.cue_lattice.specs.declared.refusal.Kind.TheVariants as kinds
 use Rattle.cue_lattice.specs.declared.refusal.Refusal.{Refusal}
 use Rattle.cue_lattice.specs.Question.{SameAnswers}
@@ -10,7 +11,7 @@ use Rattle.cue_table.specs.Tree.{rows_of}
 use Rattle.cue_table.specs.Refuses.{TableRefuses}
 use Rattle.cue_table.specs.Valid.{IsValidTable}
 use Rattle.cue_codec.specs.State.{table_bytes}
-use Rattle.cue_codec.specs.Decoding.{IsOtherVersion}
+use Rattle.cue_codec.specs.Decoding.{IsOtherVersion, IsUndecoded}
 use Rattle.cue_codec.proofs.ReadStates as codec
 use Rattle.cue_codec.proofs.WrittenStates.{state_parts}
 use Rattle.cue_replica.specs.Language.{Table, language}
@@ -54,14 +55,24 @@ memory_apart bytes (inl fault) = memory_no_text_fault bytes fault
 memory_apart bytes (inr fault) = ⊎_elim (λ version. let no = version.0 in cc) (λ other. let no = other.0 in cc) fault.1
 
 state_at_once : (bytes : List ℕ) → IsStateRefusedAtOnce bytes → (why : Refusal) × IsStateFault bytes why
-state_at_once bytes other = (refusal_at kinds.Version 0, refl, inl (refl, other))
+state_at_once bytes none = let fault = codec.headless_fault bytes none in (refusal_at fault.0 0, (refl, fault.1))
 
--- memory that runs out hides no other version
-pub starved_state :
-    (bytes : List ℕ) (why : Refusal) → (IsOtherVersion bytes → why ≡ refusal_at kinds.Version 0) → (why ≡ memory) ⊎ IsStateFault bytes why
-    → ((why ≡ memory) × ¬ IsStateRefusedAtOnce bytes) ⊎ IsStateFault bytes why
-starved_state bytes why version (inl e) = inl (e, λ other. let k = ap (λ (r : Refusal). r.kind) (sym (version other) ∙ e) in cc)
-starved_state bytes why version (inr fault) = inr fault
+-- what the decoder refuses, and where it may want memory
+pub decoder_refuses :
+    (bytes : List ℕ) (kind : Kind) → IsUndecoded bytes kind
+    → ((refusal_at kind 0 ≡ memory) × ¬ IsStateRefusedAtOnce bytes) ⊎ IsStateFault bytes (refusal_at kind 0)
+decoder_refuses bytes kind (inl h) = inl (ap (λ k. refusal_at k 0) h.0, λ none. none h.1)
+decoder_refuses bytes kind (inr h) = inr (refl, h)
+
+-- another version is told as such
+pub decoder_version : (bytes : List ℕ) (kind : Kind) → IsUndecoded bytes kind → IsOtherVersion bytes → kind ≡ kinds.Version
+decoder_version bytes kind (inl h) other = absurd (codec.begun_known bytes h.1 other)
+decoder_version bytes kind (inr (inl h)) other = h.0
+decoder_version bytes kind (inr (inr h)) other = absurd (h.1 other)
+
+-- the bytes of a state are not refused at once
+pub state_not_at_once : (bytes : List ℕ) → IsState bytes → IsStateRefusedAtOnce bytes → ⊥
+state_not_at_once bytes is first = let fault = state_at_once bytes first in no_state_fault bytes fault.0 is fault.1
 
 reads_own :
     (table : Table) → IsValidTable table → length (table_bytes table) < 2 ^ 64

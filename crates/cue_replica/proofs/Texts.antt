@@ -1,15 +1,15 @@
 -- Texts have one tree, and legal ones no fault.
-use Rattle.std.proofs.Common.{◌≡◌, ◌≢◌, ◌⊎◌, ap, sym, ◌∙◌, ◌<◌, inl, inr, ◌≤◌, ℕ, Bool, true, false, List, Ok, Err, refl, subst, length, nat_le, arith}
+use Rattle.std.proofs.Common.{◌≡◌, ◌≢◌, ◌⊎◌, ⊎_elim, ap, sym, ◌∙◌, ◌<◌, inl, inr, ◌≤◌, ℕ, zero, suc, Bool, true, false, List, Ok, Err, refl, subst, length, nat_le, arith}
 use Rattle.std.specs.Prelude.{None, if◌then◌else◌}
-use Rattle.std.proofs.lemmas.Bool.{leb-true}
-use Rattle.cue_lattice.specs.Limits.{text_limit}
-use Rattle.cue_lattice.specs.Limits.{level_limit}
+use Rattle.std.proofs.lemmas.Bool.{leb-true, false≢true}
+use Rattle.cue_lattice.specs.Limits.{text_limit, level_limit}
 use Rattle.cue_lattice.specs.Question.{Refusals, SameAnswers}
-use Rattle.cue_lattice.specs.Refusal.{memory}
+use Rattle.cue_lattice.specs.Refusal.{memory, refusal_at}
 use Rattle.cue_lattice.specs.declared.refusal.Kind.{Kind}
 use Rattle.cue_lattice.specs.declared.refusal.Kind.TheVariants as kinds
 use Rattle.cue_lattice.specs.declared.refusal.Refusal.{Refusal}
 use Rattle.cue_lex.specs.declared.token.Token.{Token}
+use Rattle.cue_lex.specs.First.{begins_some}
 use Rattle.cue_lex.specs.Tokens.{tokens, commas, pieces, too_long}
 use Rattle.cue_syntax.specs.Grammar.{at_most, IsFile}
 use Rattle.cue_syntax.specs.Refusals.{Fits}
@@ -70,7 +70,7 @@ no_text_fault text why legal (inr (inr fault)) =
 
 -- want of memory fits no tokens
 pub memory_unfit : (levels end : ℕ) (words : List Token) → Fits levels end words memory → ⊥
-memory_unfit levels end words fit = fit.fits.1
+memory_unfit levels end words fit = fit.fits.told
 
 -- want of memory is no fault of a text
 pub memory_no_text_fault : (text : List ℕ) → IsTextFault text memory → ⊥
@@ -94,11 +94,51 @@ long_not_memory e = let k = ap (λ (r : Refusal). r.kind) e in cc
 
 -- what is refused at once has a fault
 pub text_at_once : (text : List ℕ) → IsTextRefusedAtOnce text → (why : Refusal) × IsTextFault text why
-text_at_once text long = (too_long, inl (long_not_memory, long_text text long))
+text_at_once text (inl long) = (too_long, inl (long_not_memory, long_text text long))
+text_at_once text (inr first) = (first.1.0, inl first.1.1)
 
--- memory that runs out hides no fault of a text that is too long
-pub starved_text :
-    (text : List ℕ) (why : Refusal) → (text_limit < length text → why ≡ too_long) → (why ≡ memory) ⊎ IsTextFault text why
+is_memory : (why : Refusal) → (why ≡ memory) ⊎ (why ≢ memory)
+is_memory why = go why.kind why.place where
+  go : (kind : Kind) (place : ℕ) → (refusal_at kind place ≡ memory) ⊎ (refusal_at kind place ≢ memory)
+  go kinds.Memory zero = inl refl
+  go kinds.Memory (suc place) = inr (λ e. let p = ap (λ (r : Refusal). r.place) e in cc)
+  go kind place = inr (λ e. let k = ap (λ (r : Refusal). r.kind) e in cc)
+
+-- what the lexer refuses, and where it may want memory
+pub lexer_refuses :
+    (text : List ℕ) (why : Refusal) → (why ≢ memory → tokens text ≡ Err why) → (text_limit < length text → why ≡ too_long)
+    → (why ≡ memory → begins_some text ≡ true) → ((why ≡ memory) × ¬ IsTextRefusedAtOnce text) ⊎ IsTextFault text why
+lexer_refuses text why found long begins =
+    ⊎_elim (λ e. inl (e, ⊎_elim (λ more. long_not_memory (sym (long more) ∙ e)) (λ first. false≢true (sym first.0 ∙ begins e))))
+    (λ other. inr (inl (other, found other))) (is_memory why)
+
+-- a text that has tokens is not refused at once
+pub lexed_not_at_once : (text : List ℕ) (words : List Token) → tokens text ≡ Ok words → IsTextRefusedAtOnce text → ⊥
+lexed_not_at_once text words e (inl long) = omega (arith, long, lexed_short text words e)
+lexed_not_at_once text words e (inr first) = let f = first.1.1.1 in cc
+
+-- what the parser refuses, and where it may want memory
+pub parser_refuses :
+    (text : List ℕ) (words seen : List Token) (end : ℕ) (why : Refusal) → tokens text ≡ Ok words → seen ≡ words → end ≡ length text
+    → (why ≡ memory) ⊎ Fits level_limit end seen why → ((tree : FileTree) → IsFile (at_most level_limit) seen tree → why ≡ memory)
     → ((why ≡ memory) × ¬ IsTextRefusedAtOnce text) ⊎ IsTextFault text why
-starved_text text why long (inl e) = inl (e, λ more. long_not_memory (sym (long more) ∙ e))
-starved_text text why long (inr fault) = inr fault
+parser_refuses text words seen end why lexed same len (inl m) accepted = inl (m, lexed_not_at_once text words lexed)
+parser_refuses text words seen end why lexed same len (inr fits) accepted =
+    let unfit : (tree : FileTree) → IsFile (at_most level_limit) seen tree → ⊥ =
+    λ tree is. memory_unfit level_limit end seen (subst (Fits level_limit end seen) (accepted tree is) fits) in
+    let none : (tree : FileTree) → IsFile (at_most level_limit) words tree → ⊥ =
+    λ tree is. unfit tree (subst (λ (ts : List Token). IsFile (at_most level_limit) ts tree) (sym same) is) in
+    let there : Fits level_limit (length text) words why =
+    subst (λ (ts : List Token). Fits level_limit (length text) ts why) same (subst (λ n. Fits level_limit n seen why) len fits) in
+    inr (inr (inl (words, lexed, record { none = none; fits = there })))
+
+-- what the checks refuse, and where they may want memory
+pub checks_refuse :
+    (text : List ℕ) (tree : FileTree) (why : Refusal) → IsTreeOf text tree → (why ≡ memory) ⊎ checks.Refuses tree.declarations why
+    → ((why ≡ memory) × ¬ IsTextRefusedAtOnce text) ⊎ IsTextFault text why
+checks_refuse text tree why is (inl m) = inl (m, lexed_not_at_once text is.words is.lexed)
+checks_refuse text tree why is (inr fault) = inr (inr (inr (tree, is, fault)))
+
+-- nor is a legal text
+pub legal_not_at_once : (text : List ℕ) → IsLegal text → IsTextRefusedAtOnce text → ⊥
+legal_not_at_once text legal first = let fault = text_at_once text first in no_text_fault text fault.0 legal fault.1

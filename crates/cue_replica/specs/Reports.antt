@@ -1,11 +1,12 @@
 -- What is told of a site, by the table that it holds.
-use Rattle.std.specs.Prelude.{ℕ, List}
+use Rattle.std.specs.Prelude.{◌≡◌, ℕ, List}
 use Rattle.cue_report.specs.declared.conflict.Conflict.{Conflict}
 use Rattle.cue_report.specs.declared.gap.Gap.{Gap}
 use Rattle.cue_report.specs.declared.outcome.Export.{Export}
 use Rattle.cue_report.specs.Export.{IsExport}
 use Rattle.cue_report.specs.Gaps.{AreGaps}
 use Rattle.cue_report.specs.Listing.{AreConflicts}
+use Rattle.cue_report.specs.OneReport.{HaveOneReport}
 pub use Rattle.cue_report.specs.Lines.{conflict_line, gap_line}
 use Rattle.cue_print.specs.Printed.{file_of}
 use Rattle.cue_print.specs.Spelled.{file_text}
@@ -26,3 +27,10 @@ AreGapsOf table = AreGaps (language.table_refuses table)
 -- its canonical text
 abbrev pub printed : Table → List ℕ
 printed table = file_text (file_of table)
+
+-- The same is told of both: the same conflicts, the same that is incomplete, the same export, the
+-- same printed text and the same state bytes.
+pub record AreToldAlike (a b : Table) : Type 0 where
+  pub reports : HaveOneReport (language.table_refuses a) (language.table_refuses b)
+  pub text : printed a ≡ printed b
+  pub bytes : language.written a ≡ language.written b

@@ -10,7 +10,7 @@ use Rattle.cue_table.specs.Tree.{Tree}
 use Rattle.cue_table.specs.Refuses.{TableRefuses}
 use Rattle.cue_table.specs.Valid.{IsValidTable}
 use Rattle.cue_codec.specs.State.{table_bytes}
-use Rattle.cue_codec.specs.Decoding.{IsRejected, IsOtherVersion}
+use Rattle.cue_codec.specs.Decoding.{IsRejected, BeginsAsState}
 
 -- the table is valid, and has these bytes
 pub record IsTableOf (bytes : List ℕ) (table : Tree Row) : Type 0 where
@@ -36,6 +36,7 @@ state_admits bytes d =
 abbrev pub IsStateFault : List ℕ → Refusal → Type 0
 IsStateFault bytes why = (why.place ≡ 0) × IsRejected bytes why.kind
 
--- bytes of another version: no memory is wanted to find this
+-- Bytes whose fault is found with no memory: they do not begin as those of a state do, with the
+-- mark, the version and the count of the rows.
 abbrev pub IsStateRefusedAtOnce : List ℕ → Type 0
-IsStateRefusedAtOnce = IsOtherVersion
+IsStateRefusedAtOnce bytes = ¬ BeginsAsState bytes

@@ -1,11 +1,13 @@
 -- What texts mean, and why a text is refused: the definitions of the crates below, put together.
-use Rattle.std.specs.Prelude.{◌≡◌, ◌≢◌, ◌⊎◌, ◌<◌, ℕ, List, length, Ok, Err}
+use Rattle.std.specs.Prelude.{◌≡◌, ◌≢◌, ◌⊎◌, ◌<◌, ℕ, false, List, length, Ok, Err}
+use Rattle.std.specs.Str.{IsUtf8}
 use Rattle.cue_lattice.specs.Limits.{level_limit, text_limit}
 use Rattle.cue_lattice.specs.Document.{Document}
 use Rattle.cue_lattice.specs.Meets.{Meets}
 use Rattle.cue_lattice.specs.Question.{Refusals}
 use Rattle.cue_lattice.specs.Refusal.{memory}
 use Rattle.cue_lattice.specs.declared.refusal.Refusal.{Refusal}
+use Rattle.cue_lex.specs.First.{begins_some}
 use Rattle.cue_lex.specs.Tokens.{tokens}
 use Rattle.cue_lex.specs.declared.token.Token.{Token}
 use Rattle.cue_syntax.specs.Grammar.{at_most, IsFile}
@@ -21,9 +23,10 @@ pub record IsTreeOf (text : List ℕ) (tree : FileTree) : Type 0 where
   pub spelled : IsFile (at_most level_limit) words tree
 
 -- A text is legal that has no fault among its tokens, is one of the grammar, and passes each check
--- of names, definitions and limits.
+-- of names, definitions and limits. It is UTF-8, in its comments too.
 abbrev pub IsLegal : List ℕ → Type 0
-IsLegal text = (tree : FileTree) × IsTreeOf text tree × checks.IsLegal tree.declarations
+IsLegal text =
+    (tree : FileTree) × IsTreeOf text tree × checks.IsLegal tree.declarations × IsUtf8 text
 
 -- what a text refuses
 abbrev pub text_refuses : List ℕ → Refusals
@@ -34,6 +37,10 @@ text_refuses text path question =
 abbrev pub text_admits : List ℕ → Document → Type 0
 text_admits text = Meets (text_refuses text)
 
+-- it is the first fault among the tokens
+abbrev pub IsTokenFault : List ℕ → Refusal → Type 0
+IsTokenFault text why = (why ≢ memory) × (tokens text ≡ Err why)
+
 -- the tokens are those of no tree, and the refusal fits them
 pub record IsUnspelled (end : ℕ) (words : List Token) (why : Refusal) : Type 0 where
   pub none : (tree : FileTree) → ¬ IsFile (at_most level_limit) words tree
@@ -43,10 +50,13 @@ pub record IsUnspelled (end : ℕ) (words : List Token) (why : Refusal) : Type 0
 -- refusal that fits them; else the first check that fails. Want of memory is none of these.
 abbrev pub IsTextFault : List ℕ → Refusal → Type 0
 IsTextFault text why =
-    ((why ≢ memory) × (tokens text ≡ Err why))
+    IsTokenFault text why
     ⊎ (((words : List Token) × (tokens text ≡ Ok words) × IsUnspelled (length text) words why)
     ⊎ ((tree : FileTree) × IsTreeOf text tree × checks.Refuses tree.declarations why))
 
--- a text that is too long: no memory is wanted to find this
+-- A text whose fault is found with no memory: it is too long; or it has a fault among its tokens,
+-- and begins, white space and comments apart, with neither a token nor a string.
 abbrev pub IsTextRefusedAtOnce : List ℕ → Type 0
-IsTextRefusedAtOnce text = text_limit < length text
+IsTextRefusedAtOnce text =
+    (text_limit < length text)
+    ⊎ ((begins_some text ≡ false) × ((why : Refusal) × IsTokenFault text why))

@@ -1,17 +1,16 @@
 -- Worlds of sites: how the program's events, outcomes and sites stand to the definition of a world.
-use Rattle.std.specs.Prelude.{◌≡◌, ◌⊎◌, ℕ, ◌+◌, ◌^◌, ◌<◌, ◌≤◌, List, [], ◌∷◌, ◌++◌, map, length}
-use Rattle.std.specs.Prelude.{Some, slice_get, slice_set, Vec, vec_len, vec_capacity}
+use Rattle.std.specs.Prelude.{◌≡◌, ◌⊎◌, ℕ, List, map, Some, slice_get, Vec}
 use Rattle.std.specs.Global.{Global}
 use Rattle.cue_lattice.specs.Refusal.{memory}
 use Rattle.cue_lattice.specs.World as world
-use Rattle.cue_lattice.specs.World.{Piece, Sets, AllAlong, IsUnified, IsMessageOf, IsOutcome}
-use Rattle.cue_lattice.specs.World.{SamePieces, reach, start, pieces_at}
+use Rattle.cue_lattice.specs.World.{Piece, Sets, IsMessageOf, SamePieces, reach, start, pieces_at}
 use Rattle.cue_replica.specs.declared.world.Event.{Event}
 use Rattle.cue_replica.specs.declared.world.Event.TheVariants.{Submit, Send, Deliver, Foreign}
 use Rattle.cue_replica.specs.declared.world.Outcome.{Outcome}
 use Rattle.cue_replica.specs.declared.world.Outcome.TheVariants.{Accepted, Sent, Refused, NoSuch}
 use Rattle.cue_replica.specs.Language.{Table, language}
 use Rattle.cue_replica.specs.Replica.{Adds}
+use Rattle.cue_replica.specs.Reports.{AreToldAlike}
 
 -- an event of the program, as the definition has it
 abbrev pub event_of : Event → world.Event
@@ -36,26 +35,19 @@ reached sites events outcomes = reach (start sites) (map event_of events) (map o
 abbrev pub IsSentOf : Vec ℕ Global → List Piece → Type 0
 IsSentOf message pieces = IsMessageOf language message.items pieces
 
--- each site and each message is what its set of pieces makes it
-pub record Agrees (replicas : List Table) (messages : List (Vec ℕ Global))
-    (sets : Sets) : Type 0 where
-  pub sites : AllAlong (IsUnified language) replicas sets.sites
-  pub sent : AllAlong IsSentOf messages sets.messages
+-- R holds of the tables of each two sites with the same set of pieces
+abbrev pub HoldsOfAlike : (Table → Table → Type 0) → List Table → List (List Piece) → Type 0
+HoldsOfAlike R replicas sets =
+    (i j : ℕ) (a b : Table) → slice_get replicas i ≡ Some a → slice_get replicas j ≡ Some b
+    → SamePieces (pieces_at sets i) (pieces_at sets j) → R a b
 
 -- sites with the same set of pieces hold equal tables
 abbrev pub AreEqualSites : List Table → List (List Piece) → Type 0
-AreEqualSites replicas sets =
-    (i j : ℕ) (a b : Table) → slice_get replicas i ≡ Some a → slice_get replicas j ≡ Some b
-    → SamePieces (pieces_at sets i) (pieces_at sets j) → a ≡ b
+AreEqualSites = HoldsOfAlike (λ a b. a ≡ b)
 
--- What may happen at a site: there is none of this number, and nothing changes; or its table, and
--- no other, takes a step.
-abbrev pub HappensAt : (Table → Table → Outcome → Type 0) → List Table → ℕ → List Table
-    → Outcome → Type 0
-HappensAt Step old site new outcome =
-    ((length old ≤ site) × (new ≡ old) × (outcome ≡ NoSuch))
-    ⊎ ((before after : Table) × (slice_get old site ≡ Some before)
-    × (new ≡ slice_set old site after) × Step before after outcome)
+-- and the same is told of them
+abbrev pub AreSitesToldAlike : List Table → List (List Piece) → Type 0
+AreSitesToldAlike = HoldsOfAlike AreToldAlike
 
 -- a text is handed in
 abbrev pub Submits : List ℕ → Table → Table → Outcome → Type 0
@@ -75,38 +67,3 @@ Takes bytes before after (Refused why) =
     (after ≡ before)
     × (((why ≡ memory) × ¬ language.IsStateRefusedAtOnce bytes) ⊎ language.IsStateFault bytes why)
 Takes bytes before after outcome = ⊥
-
--- a state is sent: it becomes the next message
-abbrev pub Sends : List Table → ℕ → List (Vec ℕ Global) → List (Vec ℕ Global) → Outcome → Type 0
-Sends replicas site old new (Sent number) =
-    (table : Table) × (bytes : Vec ℕ Global) × (slice_get replicas site ≡ Some table)
-    × (bytes.items ≡ language.written table)
-    × (number ≡ length old) × (new ≡ old ++ bytes ∷ [])
-Sends replicas site old new (Refused why) = (site < length replicas) × (why ≡ memory) × (new ≡ old)
-Sends replicas site old new NoSuch = (length replicas ≤ site) × (new ≡ old)
-Sends replicas site old new Accepted = ⊥
-
--- a memory can hold the bytes
-abbrev pub IsHeld : List ℕ → Type 0
-IsHeld bytes = length bytes < 2 ^ 64
-
--- a message is handed to a site: there is none of this number, and nothing changes; or its bytes
--- are handed in
-abbrev pub Delivers : List (Vec ℕ Global) → ℕ → List Table → ℕ → List Table → Outcome → Type 0
-Delivers messages message old site new outcome =
-    ((length messages ≤ message) × (new ≡ old) × (outcome ≡ NoSuch))
-    ⊎ ((bytes : Vec ℕ Global) × (slice_get messages message ≡ Some bytes) × IsHeld bytes.items
-    × HappensAt (Takes bytes.items) old site new outcome)
-
--- at most one message more, and no less room
-pub record KeepsRoom (old new : Vec (Vec ℕ Global) Global) : Type 0 where
-  pub more : vec_len new ≤ vec_len old + 1
-  pub room : vec_capacity old ≤ vec_capacity new
-
--- What an event leaves, for all sets that agree with what was before: an outcome that the
--- definition allows, and what agrees with the sets after it.
-pub record Happens (replicas : List Table) (messages : List (Vec ℕ Global)) (event : Event)
-    (replicas' : List Table) (messages' : List (Vec ℕ Global)) (outcome : Outcome)
-    (sets : Sets) : Type 0 where
-  pub allowed : IsOutcome language sets (event_of event) (outcome_of outcome)
-  pub agrees : Agrees replicas' messages' (world.after sets (event_of event) (outcome_of outcome))

@@ -7,6 +7,7 @@ ghost use Rattle.cue_row.specs.Row.{RowRefuses};
 ghost use Rattle.cue_table.specs.Refuses.{TableRefuses};
 ghost use Rattle.cue_table.specs.Valid.{IsValidTable};
 ghost use Rattle.cue_replica.specs.Texts.{IsLegal, text_refuses, IsTextFault};
+ghost use Rattle.cue_replica.specs.Texts.{IsTextRefusedAtOnce};
 
 use cue_eval::evaluate;
 use cue_lattice::Refusal;
@@ -28,7 +29,9 @@ pub fn read(alloc: Global, text: &str) -> Result<Table<Row>, Refusal>
     ensures answers { IfOk result (λ table. SameAnswers (TableRefuses RowRefuses table)
         (text_refuses text.now)) }
     ensures valid { IfOk result IsValidTable }
-    ensures refused { IfErr result (λ why. (why ≡ memory) ⊎ IsTextFault text.now why) }
+    // Want of memory hides no fault that is found with none.
+    ensures refused { IfErr result (λ why.
+        ((why ≡ memory) × ¬ IsTextRefusedAtOnce text.now) ⊎ IsTextFault text.now why) }
     ensures long { text_limit < length text.now → IsErrOf result too_long }
 {
     let tokens = lex(alloc, text)?;

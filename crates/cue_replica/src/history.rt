@@ -2,9 +2,11 @@ ghost use Rattle.std.specs.Prelude.{◌≡◌, ◌<◌, map, replicate, IfOk, ve
 ghost use Rattle.cue_lattice.specs.World.{Sets, AreOutcomes, AllAlong, IsUnified, start};
 ghost use Rattle.cue_table.specs.Tree.{empty};
 ghost use Rattle.cue_replica.specs.Language.{language};
-ghost use Rattle.cue_replica.specs.World.{HappensAt, Submits, Takes, Sends, Delivers, KeepsRoom};
-ghost use Rattle.cue_replica.specs.World.{Agrees, Happens, event_of, outcome_of, reached, IsSentOf};
-ghost use Rattle.cue_replica.specs.World.{AreEqualSites};
+ghost use Rattle.cue_replica.specs.Inner.Events.{HappensAt, Sends, Delivers, KeepsRoom};
+ghost use Rattle.cue_replica.specs.World.{Submits, Takes};
+ghost use Rattle.cue_replica.specs.Inner.Events.{Agrees, Happens};
+ghost use Rattle.cue_replica.specs.World.{event_of, outcome_of, reached, IsSentOf};
+ghost use Rattle.cue_replica.specs.World.{AreEqualSites, AreSitesToldAlike};
 
 use crate::{Event, Outcome, Replica, World};
 use cue_lattice::{Memory, Refusal};
@@ -129,10 +131,15 @@ pub fn run(alloc: Global, sites: usize, events: &[Event]) -> Result<World, Memor
         AllAlong IsSentOf
         world.messages.items (reached sites events.now world.outcomes.items).messages) }
 
-    // Sites with the same set of pieces hold equal tables, and so give the same bytes, export and
-    // conflicts.
+    // Sites with the same set of pieces hold equal tables.
     ensures equal { IfOk result (λ world.
         AreEqualSites
+        world.replicas.items (reached sites events.now world.outcomes.items).sites) }
+
+    // And they give the same conflicts, the same gaps, the same export, the same printed text and
+    // the same state bytes.
+    ensures told { IfOk result (λ world.
+        AreSitesToldAlike
         world.replicas.items (reached sites events.now world.outcomes.items).sites) }
 {
     let mut replicas = opening(alloc, sites)?;

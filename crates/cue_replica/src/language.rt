@@ -1,3 +1,4 @@
+ghost use Rattle.std.specs.Prelude.{codes};
 ghost use Rattle.cue_lattice.specs.World.{IsSound};
 ghost use Rattle.cue_replica.specs.Language.{Table, language};
 
@@ -8,4 +9,11 @@ ghost use Rattle.cue_replica.specs.Language.{Table, language};
 /// It computes nothing: it states a law.
 pub fn sound_language()
     ensures { IsSound Table language }
+{}
+
+/// The language is not empty: `a: 1` is one of its texts.
+///
+/// It computes nothing: it states a law.
+pub fn legal_text()
+    ensures { language.IsLegal (codes "a: 1") }
 {}

@@ -15,6 +15,6 @@ pub use cue_lattice::{Form, Kind, Memory, Refusal, TEXT_LIMIT, Text};
 pub use cue_report::{Conflict, Export, Gap, Place, lines, path_text};
 pub use cue_row::{Path, Step};
 pub use history::run;
-pub use language::sound_language;
+pub use language::{legal_text, sound_language};
 pub use replica::Replica;
 pub use world::{Event, Outcome, World};

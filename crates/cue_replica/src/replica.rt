@@ -67,8 +67,10 @@ impl Replica {
     pub fn submit(&mut self, text: &str) -> Result<(), Refusal>
         ensures legal { OnOk result (language.IsLegal text.now) }
         ensures ok { OnOk result (Adds self.old (language.text_refuses text.now) self.new) }
+        // Want of memory hides no fault that is found with none.
         ensures refused { IfErr result (λ why.
-            (why ≡ memory) ⊎ language.IsTextFault text.now why) }
+            ((why ≡ memory) × ¬ language.IsTextRefusedAtOnce text.now)
+            ⊎ language.IsTextFault text.now why) }
         // A text that is too long is always refused as such: for it no memory is wanted.
         ensures long { text_limit < length text.now → IsErrOf result too_long }
         ensures err { OnErr result (self.new ≡ self.old) }
@@ -88,8 +90,10 @@ impl Replica {
     pub fn take(&mut self, bytes: &[u8]) -> Result<(), Refusal>
         ensures state { OnOk result (language.IsState bytes.now) }
         ensures ok { OnOk result (Adds self.old (language.state_refuses bytes.now) self.new) }
+        // Want of memory hides no fault that is found with none.
         ensures refused { IfErr result (λ why.
-            (why ≡ memory) ⊎ language.IsStateFault bytes.now why) }
+            ((why ≡ memory) × ¬ language.IsStateRefusedAtOnce bytes.now)
+            ⊎ language.IsStateFault bytes.now why) }
         // `Version` exactly where the bytes are of another version: for these no memory is wanted.
         ensures version { IsOtherVersion bytes.now → IsErrOf result (refusal_at Kind.Version 0) }
         ensures err { OnErr result (self.new ≡ self.old) }

@@ -1,6 +1,7 @@
 use Rattle.std.proofs.Common.{◌<◌, ◌^◌, inr, refl, length, arith, subst, List, ℕ}
 use Rattle.std.proofs.lemmas.Option.{slice_get_read}
-use Rattle.cue_replica.specs.World.{HappensAt, Takes, IsHeld}
+use Rattle.cue_replica.specs.Inner.Events.{HappensAt, IsHeld}
+use Rattle.cue_replica.specs.World.{Takes}
 use Rattle.cue_replica.proofs.history.deliver_to.Goals as goal
 
 pub returns : goal.returns

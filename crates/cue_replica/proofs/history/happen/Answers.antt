@@ -1,6 +1,7 @@
 use Rattle.std.proofs.Common.{ℕ, List, Vec, Global, subst, sym}
 use Rattle.cue_replica.specs.declared.world.Event.{Event}
-use Rattle.cue_replica.specs.World.{Happens, HappensAt, Submits, Takes, Delivers}
+use Rattle.cue_replica.specs.Inner.Events.{Happens, HappensAt, Delivers}
+use Rattle.cue_replica.specs.World.{Submits, Takes}
 use Rattle.cue_replica.proofs.Events.{submit_happens, send_happens, deliver_happens, foreign_happens}
 use Rattle.cue_replica.proofs.history.happen.Goals as goal
 

@@ -1,6 +1,5 @@
 use Rattle.std.proofs.Common.{refl, inr, get_or, arith}
 use Rattle.std.proofs.lemmas.Option.{slice_get-get_or}
-use Rattle.cue_replica.proofs.Texts.{starved_text}
 use Rattle.cue_replica.proofs.history.submit_at.Goals as goal
 
 pub returns-in-Ok : goal.returns-in-Ok
@@ -20,5 +19,5 @@ returns-in-Err c =
       c.submit.new.self,
       slice_get-get_or c.args.replicas.now c.args.site c.index-replicas-site.result (omega arith),
       refl,
-      (c.in-Err.ensures.err, starved_text c.args.text.now c.in-Err.why c.in-Err.ensures.long c.in-Err.ensures.refused),
+      (c.in-Err.ensures.err, c.in-Err.ensures.refused),
     )

@@ -1,6 +1,5 @@
 use Rattle.std.proofs.Common.{refl, inr, get_or, arith}
 use Rattle.std.proofs.lemmas.Option.{slice_get-get_or}
-use Rattle.cue_replica.proofs.Sound.{starved_state}
 use Rattle.cue_replica.proofs.history.take_at.Goals as goal
 
 pub returns-in-Ok : goal.returns-in-Ok
@@ -20,5 +19,5 @@ returns-in-Err c =
       c.take.new.self,
       slice_get-get_or c.args.replicas.now c.args.site c.index-replicas-site.result (omega arith),
       refl,
-      (c.in-Err.ensures.err, starved_state c.args.bytes.now c.in-Err.why c.in-Err.ensures.version c.in-Err.ensures.refused),
+      (c.in-Err.ensures.err, c.in-Err.ensures.refused),
     )

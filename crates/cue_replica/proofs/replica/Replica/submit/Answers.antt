@@ -1,9 +1,10 @@
-use Rattle.std.proofs.Common.{subst}
+use Rattle.std.proofs.Common.{rules, inl, subst}
 use Rattle.cue_table.proofs.MetTables.{met_tables}
 use Rattle.cue_replica.specs.Language.{Table}
 use Rattle.cue_replica.specs.Replica.{Adds}
 use Rattle.cue_replica.specs.Texts.{text_refuses}
 use Rattle.cue_replica.proofs.Adding.{adds_met}
+use Rattle.cue_replica.proofs.Texts.{legal_not_at_once}
 use Rattle.cue_replica.proofs.replica.Replica.submit.Goals as goal
 
 pub returns-clause-ok : goal.returns-clause-ok
@@ -21,3 +22,6 @@ pub returns-clause-valid : goal.returns-clause-valid
 returns-clause-valid c =
     met_tables c.self.inside.table c.in_ok-table.table c.meet_with.new.self c.in_ok-meet_with.ensures.form c.in_ok-meet_with.ensures.ok
     c.self.invariant c.in_ok-table.ensures.valid
+
+pub returns-in_err-meet_with-clause-refused : goal.returns-in_err-meet_with-clause-refused
+returns-in_err-meet_with-clause-refused c = inl (search rules, legal_not_at_once c.args.text.now c.in_ok-table.ensures.legal)

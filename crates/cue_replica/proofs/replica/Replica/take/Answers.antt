@@ -1,10 +1,12 @@
-use Rattle.std.proofs.Common.{◌<◌, ◌^◌, length, subst, arith}
+use Rattle.std.proofs.Common.{◌≡◌, ◌⊎◌, ◌<◌, ◌^◌, inl, length, rules, sym, ap, ◌∙◌, subst, arith}
+use Rattle.cue_lattice.specs.Refusal.{memory, refusal_at}
+use Rattle.cue_lattice.specs.declared.refusal.Refusal.{Refusal}
 use Rattle.cue_table.proofs.MetTables.{met_tables}
 use Rattle.cue_replica.specs.Language.{Table}
 use Rattle.cue_replica.specs.Replica.{Adds}
-use Rattle.cue_replica.specs.States.{state_refuses}
+use Rattle.cue_replica.specs.States.{state_refuses, IsStateFault, IsStateRefusedAtOnce}
 use Rattle.cue_replica.proofs.Adding.{adds_met}
-use Rattle.cue_replica.proofs.Sound.{state_answers, known_version}
+use Rattle.cue_replica.proofs.Sound.{state_answers, known_version, decoder_refuses, decoder_version, state_not_at_once}
 use Rattle.cue_replica.proofs.replica.Replica.take.Goals as goal
 
 pub returns-clause-ok : goal.returns-clause-ok
@@ -30,3 +32,17 @@ returns-in_err-meet_with-clause-version c other = absurd (known_version c.in-Ok.
 
 pub returns-clause-version : goal.returns-clause-version
 returns-clause-version c other = absurd (known_version c.in-Ok.taken c.args.bytes.now c.in-Ok.ensures.bytes other)
+
+pub returns-in-Err-clause-refused : goal.returns-in-Err-clause-refused
+returns-in-Err-clause-refused c =
+    let bytes = c.args.bytes.now in
+    subst (λ (why : Refusal). ((why ≡ memory) × ¬ IsStateRefusedAtOnce bytes) ⊎ IsStateFault bytes why) (sym c.at.ensures)
+    (decoder_refuses bytes c.in-Err.kind c.in-Err.ensures.refused)
+
+pub returns-in-Err-clause-version : goal.returns-in-Err-clause-version
+returns-in-Err-clause-version c other =
+    c.at.ensures ∙ ap (λ kind. refusal_at kind 0) (decoder_version c.args.bytes.now c.in-Err.kind c.in-Err.ensures.refused other)
+
+pub returns-in_err-meet_with-clause-refused : goal.returns-in_err-meet_with-clause-refused
+returns-in_err-meet_with-clause-refused c =
+    inl (search rules, state_not_at_once c.args.bytes.now (c.in-Ok.taken, record { valid = c.in-Ok.ensures.valid; spelled = c.in-Ok.ensures.bytes }))
