@@ -2,6 +2,7 @@ pub mod Accepted
 pub mod Adding
 pub mod Along
 pub mod Asked
+pub mod Documents
 pub mod Events
 pub mod Example
 pub mod Lexed

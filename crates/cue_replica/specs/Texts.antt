@@ -3,7 +3,6 @@ use Rattle.std.specs.Prelude.{◌≡◌, ◌≢◌, ◌⊎◌, ◌<◌, ℕ, fal
 use Rattle.std.specs.Str.{IsUtf8}
 use Rattle.cue_lattice.specs.Limits.{level_limit, text_limit}
 use Rattle.cue_lattice.specs.Document.{Document}
-use Rattle.cue_lattice.specs.Meets.{Meets}
 use Rattle.cue_lattice.specs.Question.{Refusals}
 use Rattle.cue_lattice.specs.Refusal.{memory}
 use Rattle.cue_lattice.specs.declared.refusal.Refusal.{Refusal}
@@ -15,6 +14,7 @@ use Rattle.cue_syntax.specs.Refusals.{Fits}
 use Rattle.cue_syntax.specs.Syntax.{FileTree}
 use Rattle.cue_scope.specs.Refusing as checks
 use Rattle.cue_eval.specs.Texts as meaning
+use Rattle.cue_documents.specs.Admits as documents
 
 -- the text is one of the grammar, and this is its tree
 pub record IsTreeOf (text : List ℕ) (tree : FileTree) : Type 0 where
@@ -33,9 +33,10 @@ abbrev pub text_refuses : List ℕ → Refusals
 text_refuses text path question =
     (tree : FileTree) × IsTreeOf text tree × meaning.text_refuses tree.declarations path question
 
--- which documents a text admits: those that meet what it refuses
+-- which documents a text admits: those that the declarations of its one tree admit
 abbrev pub text_admits : List ℕ → Document → Type 0
-text_admits text = Meets (text_refuses text)
+text_admits text d =
+    (tree : FileTree) → IsTreeOf text tree → documents.text_admits tree.declarations d
 
 -- it is the first fault among the tokens
 abbrev pub IsTokenFault : List ℕ → Refusal → Type 0

@@ -1,6 +1,7 @@
 ghost use Rattle.std.specs.Prelude.{◌≡◌, ◌<◌, map, replicate, IfOk, vec_len, vec_capacity};
 ghost use Rattle.cue_lattice.specs.World.{Sets, AreOutcomes, AllAlong, IsUnified, start};
 ghost use Rattle.cue_table.specs.Tree.{empty};
+ghost use Rattle.cue_replica.specs.Documents.{IsExactSite};
 ghost use Rattle.cue_replica.specs.Language.{language};
 ghost use Rattle.cue_replica.specs.Inner.Events.{HappensAt, Sends, Delivers, KeepsRoom};
 ghost use Rattle.cue_replica.specs.World.{Submits, Takes};
@@ -140,6 +141,12 @@ pub fn run(alloc: Global, sites: usize, events: &[Event]) -> Result<World, Memor
     // the same state bytes.
     ensures told { IfOk result (λ world.
         AreSitesToldAlike
+        world.replicas.items (reached sites events.now world.outcomes.items).sites) }
+
+    // Each site has no conflict exactly where some document is admitted by all that it has
+    // accepted, and what it exports is such a document, with the chosen scalars.
+    ensures exact { IfOk result (λ world.
+        AllAlong IsExactSite
         world.replicas.items (reached sites events.now world.outcomes.items).sites) }
 {
     let mut replicas = opening(alloc, sites)?;

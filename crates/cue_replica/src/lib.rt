@@ -12,7 +12,7 @@ mod replica;
 mod world;
 
 pub use cue_lattice::{Form, Kind, Memory, Refusal, TEXT_LIMIT, Text};
-pub use cue_report::{Conflict, Export, Gap, Place, lines, path_text};
+pub use cue_report::{Conflict, Export, Gap, Place, Value, lines, path_text};
 pub use cue_row::{Path, Step};
 pub use history::run;
 pub use language::{legal_text, sound_language};

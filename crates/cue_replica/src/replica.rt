@@ -1,16 +1,20 @@
-ghost use Rattle.std.specs.Prelude.{◌≡◌, ◌<◌, ◌⊎◌, ◌↔◌, length, string_bytes, IsTrue};
-ghost use Rattle.std.specs.Prelude.{IfOk, IfErr, OnOk, OnErr, IsErrOf};
+ghost use Rattle.std.specs.Prelude.{◌≡◌, ◌<◌, ◌⊎◌, ◌↔◌, [], false, length, string_bytes, IsTrue};
+ghost use Rattle.std.specs.Prelude.{IfOk, IfErr, IfSome, IfNone, OnOk, OnErr, IsErrOf};
 ghost use Rattle.cue_lattice.specs.Limits.{text_limit};
 ghost use Rattle.cue_lattice.specs.Refusal.{memory, refusal_at};
 ghost use Rattle.cue_codec.specs.Decoding.{IsOtherVersion};
 ghost use Rattle.cue_lex.specs.Tokens.{too_long};
+ghost use Rattle.serde_json.specs.View.{view};
+ghost use Rattle.serde_json.specs.Written.{has_float};
+ghost use Rattle.cue_report.specs.Documents.{SomeMeets, Tells, IsExactExport};
+ghost use Rattle.cue_report.specs.Picks.{IsPicked};
 ghost use Rattle.cue_replica.specs.Language.{language, opening};
 ghost use Rattle.cue_replica.specs.Reports.{IsExportOf, AreConflictsOf, AreGapsOf, printed};
 
 use crate::fragment::read;
 use cue_codec::{decode, encode};
 use cue_lattice::{Kind, Memory, Refusal};
-use cue_report::{Conflict, Export, Gap};
+use cue_report::{Conflict, Export, Gap, Value};
 use cue_row::Row;
 use cue_table::Table;
 use std::alloc::Global;
@@ -116,17 +120,39 @@ impl Replica {
 
     /// The JSON of the configuration; or, where there are any, the conflicts; or else what is
     /// incomplete.
+    ///
+    /// With conflicts no document meets the table; and what is told in JSON is one that does, with
+    /// the chosen scalars.
     pub fn export(&self, alloc: Global) -> Result<Export, Memory>
-        ensures { IfOk result (IsExportOf self.now) }
+        ensures export { IfOk result (IsExportOf self.now) }
+        ensures exact { IfOk result (IsExactExport (language.table_refuses self.now)) }
     {
         cue_report::export(alloc, &self.table)
     }
 
     /// The conflicts, in the order of their paths.
+    ///
+    /// There are none exactly where some document meets the table.
     pub fn conflicts(&self, alloc: Global) -> Result<Vec<Conflict>, Memory>
-        ensures { IfOk result (λ found. AreConflictsOf self.now found.items) }
+        ensures conflicts { IfOk result (λ found. AreConflictsOf self.now found.items) }
+        ensures exact { IfOk result (λ found.
+            (found.items ≡ []) ↔ SomeMeets (language.table_refuses self.now)) }
     {
         cue_report::conflicts(alloc, &self.table)
+    }
+
+    /// A document that meets the table, also where it is incomplete: where none is chosen, the
+    /// first scalar that may stand, and null where anything may. There is none exactly where there
+    /// are conflicts.
+    pub fn document(&self, alloc: Global) -> Result<Option<Value>, Memory>
+        ensures some { IfOk result (λ found. IfSome found
+            (λ value. Tells IsPicked (language.table_refuses self.now) (view value))) }
+        ensures none { IfOk result (λ found. IfNone found
+            (¬ SomeMeets (language.table_refuses self.now))) }
+        ensures no_float { IfOk result (λ found. IfSome found
+            (λ value. has_float (view value) ≡ false)) }
+    {
+        cue_report::document(alloc, &self.table)
     }
 
     /// What is incomplete, in the order of the paths.

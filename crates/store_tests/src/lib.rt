@@ -8,6 +8,8 @@ mod bytes;
 #[cfg(test)]
 mod defaults;
 #[cfg(test)]
+mod documents;
+#[cfg(test)]
 mod events;
 #[cfg(test)]
 mod limits;

@@ -6,5 +6,5 @@ use Rattle.cue_answer.proofs.told.exported.Goals as goal
 pub returns : goal.returns
 returns c = record {
   tells = IfOk-weaker c.told_of.result (IsToldOf c.in_ok-export.field-0) (Tells questions.Export c.args.site.now)
-      (λ told h. (c.in_ok-export.field-0, c.in_ok-export.ensures, h)) c.told_of.ensures.tells;
+      (λ told h. (c.in_ok-export.field-0, c.in_ok-export.ensures.export, h)) c.told_of.ensures.tells;
 }

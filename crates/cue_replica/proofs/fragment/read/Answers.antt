@@ -1,4 +1,5 @@
-use Rattle.std.proofs.Common.{List, rules, arith, subst, inl}
+use Rattle.std.proofs.Common.{List, length, refl, arith, subst, inl}
+use Rattle.std.proofs.lemmas.Result.{err_from_is_err_and}
 use Rattle.cue_lattice.specs.Limits.{level_limit}
 use Rattle.cue_lex.specs.declared.token.Token.{Token}
 use Rattle.cue_syntax.specs.Grammar.{at_most, IsFile}
@@ -37,25 +38,32 @@ returns-clause-answers c =
 pub returns-in_err-tokens-clause-refused : goal.returns-in_err-tokens-clause-refused
 returns-in_err-tokens-clause-refused c =
     let e = c.in_err-tokens.ensures in
-    lexer_refuses c.args.text.now c.in_err-tokens.field-0 e.refused e.long e.begins
+    let p = err_from_is_err_and c.from_residual.result c.from_residual.ensures.1 in
+    rw (p.1, p.2) (lexer_refuses c.args.text.now c.in_err-tokens.field-0.0 e.refused e.long e.begins)
 
 pub returns-in_err-file-clause-refused : goal.returns-in_err-file-clause-refused
 returns-in_err-file-clause-refused c =
-    parser_refuses c.args.text.now c.in_ok-tokens.tokens.items c.deref.result.now c.len.result c.in_err-file.field-0 c.in_ok-tokens.ensures.found c.deref.ensures.value c.len.ensures
-    c.in_err-file.ensures.refused c.in_err-file.ensures.accepted
+    let p = err_from_is_err_and c.from_residual-in_err-file.result c.from_residual-in_err-file.ensures.1 in
+    rw (p.1, p.2)
+    (parser_refuses c.args.text.now c.in_ok-tokens.tokens.items c.deref.result.now (length c.args.text.now) c.in_err-file.field-0.0 c.in_ok-tokens.ensures.found c.deref.ensures.value refl
+    c.in_err-file.ensures.refused c.in_err-file.ensures.accepted)
 
 pub returns-in_err-resolved-clause-refused : goal.returns-in_err-resolved-clause-refused
 returns-in_err-resolved-clause-refused c =
-    checks_refuse c.args.text.now (file_tree c.in_ok-file.file) c.in_err-resolved.field-0
+    let p = err_from_is_err_and c.from_residual-in_err-resolved.result c.from_residual-in_err-resolved.ensures.1 in
+    rw (p.1, p.2)
+    (checks_refuse c.args.text.now (file_tree c.in_ok-file.file) c.in_err-resolved.field-0.0
     (record {
       words = c.in_ok-tokens.tokens.items;
       lexed = c.in_ok-tokens.ensures.found;
       spelled = subst (λ (ts : List Token). IsFile (at_most level_limit) ts (file_tree c.in_ok-file.file)) c.deref.ensures.value c.in_ok-file.ensures.spelled;
     })
-    c.in_err-resolved.ensures.refused
+    c.in_err-resolved.ensures.refused)
 
 pub returns-in_err-table-clause-refused : goal.returns-in_err-table-clause-refused
-returns-in_err-table-clause-refused c = inl (search rules, lexed_not_at_once c.args.text.now c.in_ok-tokens.tokens.items c.in_ok-tokens.ensures.found)
+returns-in_err-table-clause-refused c =
+    let p = err_from_is_err_and c.from_residual-in_err-table.result c.from_residual-in_err-table.ensures.1 in
+    rw (p.1, p.2) (inl (refl, lexed_not_at_once c.args.text.now c.in_ok-tokens.tokens.items c.in_ok-tokens.ensures.found))
 
 pub returns-clause-legal : goal.returns-clause-legal
 returns-clause-legal c = (

@@ -5,6 +5,7 @@ use Rattle.cue_lattice.specs.World.{Sets}
 use Rattle.cue_replica.specs.declared.world.Event.{Event}
 use Rattle.cue_replica.specs.declared.world.Outcome.{Outcome}
 use Rattle.cue_replica.specs.Inner.Events.{Agrees, Happens}
+use Rattle.cue_replica.proofs.Documents.{exact_sites}
 use Rattle.cue_replica.proofs.Runs.{IsSoFar, so_far_none, so_far_more, equal_sites, sites_told_alike, lent_whole}
 use Rattle.cue_replica.proofs.history.run.Goals as goal
 
@@ -63,3 +64,9 @@ returns-clause-told c =
     let P : List Event → Type 0 = λ x. IsSoFar c.args.sites x c.loop-event.replicas.items c.loop-event.messages.items c.loop-event.outcomes.items in
     let done = subst P (take_all c.loop-event.event-index c.args.events.now (omega arith)) c.loop-event.invariant.so_far in
     sites_told_alike c.loop-event.replicas.items _ done.agrees.sites
+
+pub returns-clause-exact : goal.returns-clause-exact
+returns-clause-exact c =
+    let P : List Event → Type 0 = λ x. IsSoFar c.args.sites x c.loop-event.replicas.items c.loop-event.messages.items c.loop-event.outcomes.items in
+    let done = subst P (take_all c.loop-event.event-index c.args.events.now (omega arith)) c.loop-event.invariant.so_far in
+    exact_sites c.loop-event.replicas.items _ done.agrees.sites

@@ -1,4 +1,5 @@
-use Rattle.std.proofs.Common.{rules, inl, subst}
+use Rattle.std.proofs.Common.{refl, inl, subst}
+use Rattle.std.proofs.lemmas.Result.{err_from_is_err_and}
 use Rattle.cue_table.proofs.MetTables.{met_tables}
 use Rattle.cue_replica.specs.Language.{Table}
 use Rattle.cue_replica.specs.Replica.{Adds}
@@ -24,4 +25,6 @@ returns-clause-valid c =
     c.self.invariant c.in_ok-table.ensures.valid
 
 pub returns-in_err-meet_with-clause-refused : goal.returns-in_err-meet_with-clause-refused
-returns-in_err-meet_with-clause-refused c = inl (search rules, legal_not_at_once c.args.text.now c.in_ok-table.ensures.legal)
+returns-in_err-meet_with-clause-refused c =
+    let p = err_from_is_err_and c.from_residual-in_err-meet_with.result c.from_residual-in_err-meet_with.ensures.1 in
+    rw (p.1, p.2) (inl (refl, legal_not_at_once c.args.text.now c.in_ok-table.ensures.legal))

@@ -1,4 +1,5 @@
-use Rattle.std.proofs.Common.{◌≡◌, ◌⊎◌, ◌<◌, ◌^◌, inl, length, rules, sym, ap, ◌∙◌, subst, arith}
+use Rattle.std.proofs.Common.{◌≡◌, ◌⊎◌, ◌<◌, ◌^◌, inl, length, refl, sym, ap, ◌∙◌, subst, arith, Err}
+use Rattle.std.proofs.lemmas.Result.{err_from_is_err_and}
 use Rattle.cue_lattice.specs.Refusal.{memory, refusal_at}
 use Rattle.cue_lattice.specs.declared.refusal.Refusal.{Refusal}
 use Rattle.cue_table.proofs.MetTables.{met_tables}
@@ -41,8 +42,9 @@ returns-in-Err-clause-refused c =
 
 pub returns-in-Err-clause-version : goal.returns-in-Err-clause-version
 returns-in-Err-clause-version c other =
-    c.at.ensures ∙ ap (λ kind. refusal_at kind 0) (decoder_version c.args.bytes.now c.in-Err.kind c.in-Err.ensures.refused other)
+    ap (λ (why : Refusal). Err why) (c.at.ensures ∙ ap (λ kind. refusal_at kind 0) (decoder_version c.args.bytes.now c.in-Err.kind c.in-Err.ensures.refused other))
 
 pub returns-in_err-meet_with-clause-refused : goal.returns-in_err-meet_with-clause-refused
 returns-in_err-meet_with-clause-refused c =
-    inl (search rules, state_not_at_once c.args.bytes.now (c.in-Ok.taken, record { valid = c.in-Ok.ensures.valid; spelled = c.in-Ok.ensures.bytes }))
+    let p = err_from_is_err_and c.from_residual.result c.from_residual.ensures.1 in
+    rw (p.1, p.2) (inl (refl, state_not_at_once c.args.bytes.now (c.in-Ok.taken, record { valid = c.in-Ok.ensures.valid; spelled = c.in-Ok.ensures.bytes })))

@@ -1,0 +1,147 @@
+-- What closing refuses, and what the conjuncts declare.
+use Rattle.std.proofs.Common.{◌≡◌, ◌↔◌, ℕ, zero, suc, Bool, true, false, cond, List, [], ◌∷◌, ◌++◌, refl, sym, ap, ◌∙◌, subst, append_assoc, append-nil}
+use Rattle.std.specs.List.{list_any}
+use Rattle.std.specs.Str.{bytes_eq}
+use Rattle.std.proofs.lemmas.Bool.{true_from_ne_false, false≢true}
+use Rattle.cue_lattice.specs.Path.{Path, label, index}
+use Rattle.cue_lattice.specs.Question.{Refusals, Question, allows}
+use Rattle.cue_lattice.specs.Document as documents
+use Rattle.cue_lattice.specs.Document.{Document}
+use Rattle.cue_lattice.specs.Meets.{Meets, ItemsMeet, MembersMeet}
+use Rattle.cue_lattice.proofs.Meeting.{less}
+use Rattle.cue_scope.specs.Core as cores
+use Rattle.cue_scope.specs.Core.{Core, null, truth, integer, text, named, top, bottom, bound, other_integer, other_text, conjunction, disjunction, struct, close, list, closed, Cores, no_cores, core}
+use Rattle.cue_eval.specs.Literals.{declares, has_dots, with_fields, with_elements, literals, literals_of_parts, literals_of_field, literals_of_element, LeaveOut}
+use Rattle.cue_eval.specs.Places.{ClosingRefuses}
+use Rattle.cue_documents.specs.Conjuncts.{Part, fields, elements, conjuncts, conjuncts_of, declared, written, field_parts, item_parts, structs, Declares, Within, ItemsWithin, MembersWithin}
+
+-- what the parts write at a path
+abbrev pub lits : List Part → Path → List cores.Members
+lits [] path = []
+lits (fields ms ∷ parts) path = with_fields ms (literals_of_field ms) path ++ lits parts path
+lits (elements cs ∷ parts) path = with_elements (literals_of_element cs) path ++ lits parts path
+
+lits-append : (a b : List Part) (path : Path) → lits (a ++ b) path ≡ lits a path ++ lits b path
+lits-append [] b path = refl
+lits-append (fields ms ∷ a) b path = ap (λ zs. with_fields ms (literals_of_field ms) path ++ zs) (lits-append a b path) ∙ sym (append_assoc (with_fields ms (literals_of_field ms) path) (lits a path) (lits b path))
+lits-append (elements cs ∷ a) b path = ap (λ zs. with_elements (literals_of_element cs) path ++ zs) (lits-append a b path) ∙ sym (append_assoc (with_elements (literals_of_element cs) path) (lits a path) (lits b path))
+
+mutual
+  pub of_conjuncts : (c : Core) (path : Path) → literals c path ≡ lits (conjuncts c) path
+  of_conjuncts null path = refl
+  of_conjuncts (truth b) path = refl
+  of_conjuncts (integer n) path = refl
+  of_conjuncts (text t) path = refl
+  of_conjuncts (named name) path = refl
+  of_conjuncts bottom path = refl
+  of_conjuncts (bound comparison n) path = refl
+  of_conjuncts (other_integer n) path = refl
+  of_conjuncts (other_text t) path = refl
+  of_conjuncts (disjunction terms) path = refl
+  of_conjuncts top path = refl
+  of_conjuncts (conjunction cs) path = of_parts cs path
+  of_conjuncts (struct ms) path = sym (append-nil (with_fields ms (literals_of_field ms) path))
+  of_conjuncts (close ms) path = sym (append-nil (with_fields ms (literals_of_field ms) path))
+  of_conjuncts (list cs goes_on) path = sym (append-nil (with_elements (literals_of_element cs) path))
+  of_conjuncts (closed c) path = of_conjuncts c path
+
+  of_parts : (cs : Cores) (path : Path) → literals_of_parts cs path ≡ lits (conjuncts_of cs) path
+  of_parts no_cores path = refl
+  of_parts (core c cs) path = ap (λ zs. zs ++ literals_of_parts cs path) (of_conjuncts c path) ∙ ap (λ zs. lits (conjuncts c) path ++ zs) (of_parts cs path) ∙ sym (lits-append (conjuncts c) (conjuncts_of cs) path)
+
+if_lits : (b : Bool) (c : Core) (path : Path) → cond b (literals c path) [] ≡ lits (cond b (conjuncts c) []) path
+if_lits true c path = of_conjuncts c path
+if_lits false c path = refl
+
+of_field : (ms : cores.Members) (l : List ℕ) (path : Path) → literals_of_field ms l path ≡ lits (declared ms l) path
+of_field cores.no_members l path = refl
+of_field (cores.member k mark c ms) l path =
+    ap (λ zs. zs ++ literals_of_field ms l path) (if_lits (bytes_eq k l) c path) ∙ ap (λ zs. lits (cond (bytes_eq k l) (conjuncts c) []) path ++ zs) (of_field ms l path)
+    ∙ sym (lits-append (cond (bytes_eq k l) (conjuncts c) []) (declared ms l) path)
+of_field (cores.dots ms) l path = of_field ms l path
+
+of_element : (cs : Cores) (i : ℕ) (path : Path) → literals_of_element cs i path ≡ lits (written cs i) path
+of_element no_cores i path = refl
+of_element (core c cs) zero path = of_conjuncts c path
+of_element (core c cs) (suc i) path = of_element cs i path
+
+at_root : (parts : List Part) → lits parts [] ≡ structs parts
+at_root [] = refl
+at_root (fields ms ∷ parts) = ap (λ zs. ms ∷ zs) (at_root parts)
+at_root (elements cs ∷ parts) = at_root parts
+
+at_field : (parts : List Part) (l : List ℕ) (path : Path) → lits parts (label l ∷ path) ≡ lits (field_parts parts l) path
+at_field [] l path = refl
+at_field (fields ms ∷ parts) l path = ap (λ zs. zs ++ lits parts (label l ∷ path)) (of_field ms l path) ∙ ap (λ zs. lits (declared ms l) path ++ zs) (at_field parts l path) ∙ sym (lits-append (declared ms l) (field_parts parts l) path)
+at_field (elements cs ∷ parts) l path = at_field parts l path
+
+at_item : (parts : List Part) (i : ℕ) (path : Path) → lits parts (index i ∷ path) ≡ lits (item_parts parts i) path
+at_item [] i path = refl
+at_item (fields ms ∷ parts) i path = at_item parts i path
+at_item (elements cs ∷ parts) i path = ap (λ zs. zs ++ lits parts (index i ∷ path)) (of_element cs i path) ∙ ap (λ zs. lits (written cs i) path ++ zs) (at_item parts i path) ∙ sym (lits-append (written cs i) (item_parts parts i) path)
+
+clash : (b : Bool) → b ≡ true → b ≡ false → ⊥
+clash b e f = false≢true (sym f ∙ e)
+
+pub declares_them : (w : List cores.Members) (l : List ℕ) → ¬ LeaveOut w l → Declares w l
+declares_them w l h = λ some dotless. true_from_ne_false (list_any (declares l) w) (λ none. h (record { some = some; without_dots = dotless; undeclared = none }))
+
+pub leaves_none_out : (w : List cores.Members) (l : List ℕ) → Declares w l → ¬ LeaveOut w l
+leaves_none_out w l h = λ out. clash (list_any (declares l) w) (h out.some out.without_dots) out.undeclared
+
+-- what the literals leave out, where they are closed
+abbrev pub Closing : (Path → List cores.Members) → Refusals
+Closing written path question = ClosingRefuses (written path) question
+
+same_closing : (w v : Path → List cores.Members) → ((path : Path) → w path ≡ v path) → (path : Path) (question : Question) → Closing w path question → Closing v path question
+same_closing w v h path question g = subst (λ zs. ClosingRefuses zs question) (h path) g
+
+mutual
+  -- each label of the document is declared where one is left out
+  pub within : (parts : List Part) (d : Document) → Meets (Closing (lits parts)) d → Within parts d
+  within parts (documents.scalar x) m = tt
+  within parts (documents.list items) m = items_within (λ i path. lits parts (index i ∷ path)) (item_parts parts) (λ i path. at_item parts i path) items m.3
+  within parts (documents.map ms) m = members_within parts ms m.2
+
+  items_within : (w : ℕ → Path → List cores.Members) (parts : ℕ → List Part) → ((i : ℕ) (path : Path) → w i path ≡ lits (parts i) path) → (items : documents.Items) → ItemsMeet (λ i. Closing (w i)) items → ItemsWithin parts items
+  items_within w parts h documents.no_items m = tt
+  items_within w parts h (documents.item d items) m = (
+    within (parts 0) d (less (Closing (w 0)) (Closing (lits (parts 0))) (same_closing (lits (parts 0)) (w 0) (λ path. sym (h 0 path))) d m.0),
+    items_within (λ i. w (suc i)) (λ i. parts (suc i)) (λ i. h (suc i)) items m.1,
+  )
+
+  members_within : (parts : List Part) (ms : documents.Members) → MembersMeet (Closing (lits parts)) ms → MembersWithin parts ms
+  members_within parts documents.no_members m = tt
+  members_within parts (documents.member l d ms) m = (
+    subst (λ zs. Declares zs l) (at_root parts) (declares_them (lits parts []) l m.0),
+    within (field_parts parts l) d (less (Closing (λ path. lits parts (label l ∷ path))) (Closing (lits (field_parts parts l))) (same_closing (lits (field_parts parts l)) (λ path. lits parts (label l ∷ path)) (λ path. sym (at_field parts l path))) d m.1),
+    members_within parts ms m.2,
+  )
+
+mutual
+  pub without : (parts : List Part) (d : Document) → Within parts d → Meets (Closing (lits parts)) d
+  without parts (documents.scalar x) m = λ g. g
+  without parts (documents.list items) m = (λ g. g, λ g. g, λ g. g, items_without (λ i path. lits parts (index i ∷ path)) (item_parts parts) (λ i path. at_item parts i path) items m)
+  without parts (documents.map ms) m = (λ g. g, λ l g. absurd g, members_without parts ms m)
+
+  items_without : (w : ℕ → Path → List cores.Members) (parts : ℕ → List Part) → ((i : ℕ) (path : Path) → w i path ≡ lits (parts i) path) → (items : documents.Items) → ItemsWithin parts items → ItemsMeet (λ i. Closing (w i)) items
+  items_without w parts h documents.no_items m = tt
+  items_without w parts h (documents.item d items) m = (
+    less (Closing (lits (parts 0))) (Closing (w 0)) (same_closing (w 0) (lits (parts 0)) (h 0)) d (without (parts 0) d m.0),
+    items_without (λ i. w (suc i)) (λ i. parts (suc i)) (λ i. h (suc i)) items m.1,
+  )
+
+  members_without : (parts : List Part) (ms : documents.Members) → MembersWithin parts ms → MembersMeet (Closing (lits parts)) ms
+  members_without parts documents.no_members m = tt
+  members_without parts (documents.member l d ms) m = (
+    leaves_none_out (lits parts []) l (subst (λ zs. Declares zs l) (sym (at_root parts)) m.0),
+    less (Closing (lits (field_parts parts l))) (Closing (λ path. lits parts (label l ∷ path))) (same_closing (λ path. lits parts (label l ∷ path)) (lits (field_parts parts l)) (at_field parts l)) d (without (field_parts parts l) d m.1),
+    members_without parts ms m.2,
+  )
+
+-- a definition's body is closed exactly where the document is within its conjuncts
+pub closed_is_within : (c : Core) (d : Document) → Meets (Closing (literals c)) d ↔ Within (conjuncts c) d
+closed_is_within c d = (
+  λ m. within (conjuncts c) d (less (Closing (literals c)) (Closing (lits (conjuncts c))) (same_closing (lits (conjuncts c)) (literals c) (λ path. sym (of_conjuncts c path))) d m),
+  λ w. less (Closing (lits (conjuncts c))) (Closing (literals c)) (same_closing (literals c) (lits (conjuncts c)) (of_conjuncts c)) d (without (conjuncts c) d w),
+)

@@ -1,0 +1,3 @@
+pub mod Closings
+pub mod Exact
+pub mod Tables

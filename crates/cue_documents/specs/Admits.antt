@@ -1,0 +1,95 @@
+-- Which documents an expression admits: by cases on the expression and the document, without paths
+-- and questions.
+use Rattle.std.specs.Prelude.{◌≡◌, ◌≤◌, ◌↔◌, ℕ, Bool, true, false, List, [], ◌∷◌}
+use Rattle.cue_lattice.specs.Document as documents
+use Rattle.cue_lattice.specs.Document.{Document, IsDocument, length_of, Has}
+use Rattle.cue_lattice.specs.Meets.{Meets}
+use Rattle.cue_scalars.specs.Pairs.{Scalars}
+use Rattle.cue_syntax.specs.declared.tree.Mark.{Mark}
+use Rattle.cue_syntax.specs.declared.tree.Mark.TheVariants.{Regular, Optional, Required}
+use Rattle.cue_syntax.specs.Syntax.{Entries}
+use Rattle.cue_scope.specs.Core.{Core, top, conjunction, struct, close, list, closed, Cores}
+use Rattle.cue_scope.specs.Core.{no_cores, core, Members, no_members, member, dots}
+use Rattle.cue_scope.specs.Meaning.{meant_text}
+use Rattle.cue_eval.specs.Pairs.{pair}
+use Rattle.cue_eval.specs.Refuses.{Refuses, count}
+use Rattle.cue_documents.specs.Conjuncts.{conjuncts, Declares, Within}
+
+-- a scalar of the set
+abbrev pub IsScalarIn : Scalars → Document → Type 0
+IsScalarIn value (documents.scalar x) = value x ≡ true
+IsScalarIn value (documents.list items) = ⊥
+IsScalarIn value (documents.map members) = ⊥
+
+-- a map of which P holds
+abbrev pub IsMapOf : (documents.Members → Type 0) → Document → Type 0
+IsMapOf P (documents.scalar x) = ⊥
+IsMapOf P (documents.list items) = ⊥
+IsMapOf P (documents.map members) = P members
+
+-- a list of which P holds
+abbrev pub IsListOf : (documents.Items → Type 0) → Document → Type 0
+IsListOf P (documents.scalar x) = ⊥
+IsListOf P (documents.list items) = P items
+IsListOf P (documents.map members) = ⊥
+
+-- the length of a list that is written with so many elements, and with `...` or not
+abbrev pub IsLength : ℕ → Bool → ℕ → Type 0
+IsLength count true n = count ≤ n
+IsLength count false n = n ≡ count
+
+-- a field that is declared without `?` is there
+abbrev pub Wanted : Mark → Type 0 → Type 0
+Wanted Optional there = Unit {0}
+Wanted Required there = there
+Wanted Regular there = there
+
+-- each member with this label holds a document of which P holds
+abbrev pub EachAt : (Document → Type 0) → List ℕ → documents.Members → Type 0
+EachAt P l documents.no_members = Unit {0}
+EachAt P l (documents.member k d members) = (k ≡ l → P d) × EachAt P l members
+
+-- a struct literal declares each label, unless it wrote a `...`
+abbrev pub AllDeclared : Members → documents.Members → Type 0
+AllDeclared ms documents.no_members = Unit {0}
+AllDeclared ms (documents.member l d members) = Declares (ms ∷ []) l × AllDeclared ms members
+
+abbrev mutual
+  pub Admits : Core → Document → Type 0
+  Admits top d = Unit {0}
+  Admits (conjunction cs) d = AllAdmit cs d
+  Admits (struct ms) d = IsMapOf (FieldsAdmit ms) d
+  Admits (list cs goes_on) d =
+      IsListOf (λ items. IsLength (count cs) goes_on (length_of items) × ElementsAdmit cs items) d
+  -- `close` closes its own place alone
+  Admits (close ms) d = IsMapOf (λ members. FieldsAdmit ms members × AllDeclared ms members) d
+  -- a definition is closed wherever its body writes a struct
+  Admits (closed c) d = Admits c d × Within (conjuncts c) d
+  -- all else is scalar
+  Admits c d = IsScalarIn (pair c).value d
+
+  -- `a & b` admits what both admit
+  pub AllAdmit : Cores → Document → Type 0
+  AllAdmit no_cores d = Unit {0}
+  AllAdmit (core c cs) d = Admits c d × AllAdmit cs d
+
+  -- each label that is declared without `?` is there, and what is there is admitted
+  pub FieldsAdmit : Members → documents.Members → Type 0
+  FieldsAdmit no_members members = Unit {0}
+  FieldsAdmit (member l mark c ms) members =
+      Wanted mark (Has l members) × EachAt (Admits c) l members × FieldsAdmit ms members
+  FieldsAdmit (dots ms) members = FieldsAdmit ms members
+
+  -- each element that is written admits what stands there
+  pub ElementsAdmit : Cores → documents.Items → Type 0
+  ElementsAdmit no_cores items = Unit {0}
+  ElementsAdmit (core c cs) documents.no_items = Unit {0}
+  ElementsAdmit (core c cs) (documents.item d items) = Admits c d × ElementsAdmit cs items
+
+-- a text admits what the struct of its regular declarations admits
+abbrev pub text_admits : Entries → Document → Type 0
+text_admits es = Admits (meant_text es)
+
+-- An expression admits exactly the documents that meet what it refuses.
+abbrev pub IsExactOnDocuments : Type 0
+IsExactOnDocuments = (c : Core) (d : Document) → IsDocument d → Admits c d ↔ Meets (Refuses c) d

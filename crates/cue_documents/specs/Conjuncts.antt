@@ -1,0 +1,82 @@
+-- What the parts of an expression write at each place, and which labels they declare there
+-- together. A definition's body is closed by it: it admits no document with a label that its parts
+-- don't declare.
+use Rattle.std.specs.Prelude.{◌≡◌, ◌≢◌, ℕ, zero, suc, true, false, cond, List, [], ◌∷◌, ◌++◌}
+use Rattle.std.specs.List.{list_any}
+use Rattle.std.specs.Str.{bytes_eq}
+use Rattle.cue_lattice.specs.Document as documents
+use Rattle.cue_lattice.specs.Document.{Document}
+use Rattle.cue_scope.specs.Core.{Core, conjunction, struct, close, list, closed, Cores, no_cores}
+use Rattle.cue_scope.specs.Core.{core, Members, no_members, member, dots}
+use Rattle.cue_eval.specs.Literals.{declares, has_dots}
+
+-- a struct literal with its declarations, or a list literal with its elements
+pub data Part : Type 0 where
+  fields : Members → Part
+  elements : Cores → Part
+
+-- the literals that are the parts of an expression, taken apart through `&`, definitions and
+-- `close`
+abbrev mutual
+  pub conjuncts : Core → List Part
+  conjuncts (conjunction cs) = conjuncts_of cs
+  conjuncts (struct ms) = fields ms ∷ []
+  conjuncts (close ms) = fields ms ∷ []
+  conjuncts (list cs goes_on) = elements cs ∷ []
+  conjuncts (closed c) = conjuncts c
+  conjuncts _ = []
+
+  pub conjuncts_of : Cores → List Part
+  conjuncts_of no_cores = []
+  conjuncts_of (core c cs) = conjuncts c ++ conjuncts_of cs
+
+-- the parts of all values that a struct literal declares for a label
+abbrev pub declared : Members → List ℕ → List Part
+declared no_members l = []
+declared (member k mark c ms) l = cond (bytes_eq k l) (conjuncts c) [] ++ declared ms l
+declared (dots ms) l = declared ms l
+
+-- the parts of the value that a list literal writes at an index
+abbrev pub written : Cores → ℕ → List Part
+written no_cores i = []
+written (core c cs) zero = conjuncts c
+written (core c cs) (suc i) = written cs i
+
+-- the parts at a label, and at an index, of all these parts
+abbrev pub field_parts : List Part → List ℕ → List Part
+field_parts [] l = []
+field_parts (fields ms ∷ parts) l = declared ms l ++ field_parts parts l
+field_parts (elements cs ∷ parts) l = field_parts parts l
+
+abbrev pub item_parts : List Part → ℕ → List Part
+item_parts [] i = []
+item_parts (fields ms ∷ parts) i = item_parts parts i
+item_parts (elements cs ∷ parts) i = written cs i ++ item_parts parts i
+
+-- the struct literals among parts
+abbrev pub structs : List Part → List Members
+structs [] = []
+structs (fields ms ∷ parts) = ms ∷ structs parts
+structs (elements cs ∷ parts) = structs parts
+
+-- where there are struct literals, and none wrote a `...`, they declare the label together
+abbrev pub Declares : List Members → List ℕ → Type 0
+Declares literals l =
+    literals ≢ [] → list_any has_dots literals ≡ false → list_any (declares l) literals ≡ true
+
+-- at each place of a document the parts there declare the labels
+abbrev mutual
+  pub Within : List Part → Document → Type 0
+  Within parts (documents.scalar x) = Unit {0}
+  Within parts (documents.list items) = ItemsWithin (item_parts parts) items
+  Within parts (documents.map members) = MembersWithin parts members
+
+  pub ItemsWithin : (ℕ → List Part) → documents.Items → Type 0
+  ItemsWithin parts documents.no_items = Unit {0}
+  ItemsWithin parts (documents.item d items) =
+      Within (parts 0) d × ItemsWithin (λ i. parts (suc i)) items
+
+  pub MembersWithin : List Part → documents.Members → Type 0
+  MembersWithin parts documents.no_members = Unit {0}
+  MembersWithin parts (documents.member l d members) =
+      Declares (structs parts) l × Within (field_parts parts l) d × MembersWithin parts members

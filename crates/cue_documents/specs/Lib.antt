@@ -1,0 +1,3 @@
+pub mod Conjuncts
+pub mod Admits
+pub mod Tables
