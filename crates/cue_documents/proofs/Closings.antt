@@ -4,14 +4,14 @@ use Rattle.std.specs.List.{list_any}
 use Rattle.std.specs.Str.{bytes_eq}
 use Rattle.std.proofs.lemmas.Bool.{true_from_ne_false, false≢true}
 use Rattle.cue_lattice.specs.Path.{Path, label, index}
-use Rattle.cue_lattice.specs.Question.{Refusals, Question, allows}
+use Rattle.cue_lattice.specs.Question.{Refusals, Question}
 use Rattle.cue_lattice.specs.Document as documents
 use Rattle.cue_lattice.specs.Document.{Document}
 use Rattle.cue_lattice.specs.Meets.{Meets, ItemsMeet, MembersMeet}
 use Rattle.cue_lattice.proofs.Meeting.{less}
 use Rattle.cue_scope.specs.Core as cores
 use Rattle.cue_scope.specs.Core.{Core, null, truth, integer, text, named, top, bottom, bound, other_integer, other_text, conjunction, disjunction, struct, close, list, closed, Cores, no_cores, core}
-use Rattle.cue_eval.specs.Literals.{declares, has_dots, with_fields, with_elements, literals, literals_of_parts, literals_of_field, literals_of_element, LeaveOut}
+use Rattle.cue_eval.specs.Literals.{declares, with_fields, with_elements, literals, literals_of_parts, literals_of_field, literals_of_element, LeaveOut}
 use Rattle.cue_eval.specs.Places.{ClosingRefuses}
 use Rattle.cue_documents.specs.Conjuncts.{Part, fields, elements, conjuncts, conjuncts_of, declared, written, field_parts, item_parts, structs, Declares, Within, ItemsWithin, MembersWithin}
 

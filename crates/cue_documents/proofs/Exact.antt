@@ -1,5 +1,5 @@
 -- An expression admits exactly the documents that meet what it refuses.
-use Rattle.std.proofs.Common.{◌≡◌, ◌↔◌, ◌≤◌, ◌<◌, ◌+◌, ◌⊎◌, inl, inr, ⊎_elim, ℕ, zero, suc, Bool, true, false, List, [], ◌∷◌, refl, sym, ◌∙◌, subst, arith}
+use Rattle.std.proofs.Common.{◌≡◌, ◌↔◌, ◌<◌, ◌⊎◌, inl, inr, ⊎_elim, ℕ, Bool, true, false, List, [], ◌∷◌, refl, sym, ◌∙◌, subst, arith}
 use Rattle.std.specs.Str.{bytes_eq}
 use Rattle.std.proofs.lemmas.Slice.Eq.{bytes_eq-Decides}
 use Rattle.std.proofs.lemmas.Bool.{cases_Bool, true_from_ne_false, false≢true}
@@ -17,7 +17,6 @@ use Rattle.cue_eval.specs.Pairs.{pair}
 use Rattle.cue_eval.specs.Literals.{literals}
 use Rattle.cue_eval.specs.Places.{Here, ScalarRefuses, MarkRefuses, ClosingRefuses, IsAboveLength, level_of_mark}
 use Rattle.cue_eval.specs.Refuses.{Refuses, PartsRefuse, FieldRefuses, ElementRefuses, LiteralRefuses, count}
-use Rattle.cue_documents.specs.Conjuncts.{conjuncts, Declares, Within}
 use Rattle.cue_documents.specs.Admits.{Wanted, EachAt, IsScalarIn, IsLength, AllDeclared, Admits, AllAdmit, FieldsAdmit, ElementsAdmit, IsExactOnDocuments}
 use Rattle.cue_documents.proofs.Closings.{Closing, closed_is_within, declares_them, leaves_none_out}
 

@@ -1,7 +1,4 @@
 -- The table of a text is exact against documents.
-use Rattle.std.proofs.Common.{◌↔◌}
-use Rattle.cue_lattice.specs.Document.{Document, IsDocument}
-use Rattle.cue_lattice.specs.Meets.{Meets}
 use Rattle.cue_lattice.proofs.Meeting.{same}
 use Rattle.cue_row.specs.declared.row.Row.{Row}
 use Rattle.cue_row.specs.Row.{RowRefuses}

@@ -19,7 +19,7 @@ use Rattle.cue_documents.specs.Conjuncts.{conjuncts, Declares, Within}
 abbrev pub IsScalarIn : Scalars → Document → Type 0
 IsScalarIn value (documents.scalar x) = value x ≡ true
 IsScalarIn value (documents.list items) = ⊥
-IsScalarIn value (documents.map members) = ⊥
+IsScalarIn value (documents.map _) = ⊥
 
 -- a map of which P holds
 abbrev pub IsMapOf : (documents.Members → Type 0) → Document → Type 0
@@ -31,7 +31,7 @@ IsMapOf P (documents.map members) = P members
 abbrev pub IsListOf : (documents.Items → Type 0) → Document → Type 0
 IsListOf P (documents.scalar x) = ⊥
 IsListOf P (documents.list items) = P items
-IsListOf P (documents.map members) = ⊥
+IsListOf P (documents.map _) = ⊥
 
 -- the length of a list that is written with so many elements, and with `...` or not
 abbrev pub IsLength : ℕ → Bool → ℕ → Type 0
@@ -75,7 +75,7 @@ abbrev mutual
 
   -- each label that is declared without `?` is there, and what is there is admitted
   pub FieldsAdmit : Members → documents.Members → Type 0
-  FieldsAdmit no_members members = Unit {0}
+  FieldsAdmit no_members _ = Unit {0}
   FieldsAdmit (member l mark c ms) members =
       Wanted mark (Has l members) × EachAt (Admits c) l members × FieldsAdmit ms members
   FieldsAdmit (dots ms) members = FieldsAdmit ms members
