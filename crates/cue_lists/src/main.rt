@@ -8,7 +8,7 @@
 mod list;
 
 use anyhow::Context;
-use cue_program::{Question, Status};
+use cue_program::Question;
 use list::{agrees, answer, inputs_of, site_of};
 use serde_json::Value;
 use std::{env, fs};
@@ -43,12 +43,12 @@ impl Counts {
     }
 
     /// Counts a list by how its export ended.
-    fn add(&mut self, status: Status) {
+    fn add(&mut self, status: u8) {
         match status {
-            Status::Done => self.exported = self.exported.saturating_add(1),
-            Status::Conflicts => self.conflicting = self.conflicting.saturating_add(1),
-            Status::Incomplete => self.incomplete = self.incomplete.saturating_add(1),
-            Status::Refused | Status::Device => self.refused = self.refused.saturating_add(1),
+            0 => self.exported = self.exported.saturating_add(1),
+            2 => self.conflicting = self.conflicting.saturating_add(1),
+            3 => self.incomplete = self.incomplete.saturating_add(1),
+            _ => self.refused = self.refused.saturating_add(1),
         }
     }
 }

@@ -1,23 +1,44 @@
--- The files that were handed to a site so far.
-use Rattle.std.proofs.Common.{◌≡◌, ℕ, zero, suc, ◌+◌, ◌<◌, List, [], ◌∷◌, ◌++◌, Result, Ok, Err, OnOk, IfSome, Option, arith, refl, sym, ap, ◌∙◌, subst, inl, inr}
-use Rattle.std.proofs.lemmas.List.{length-append}
-use Rattle.cue_lattice.specs.World.{Piece, piece_refuses}
+-- The inputs that were handed to a site so far.
+use Rattle.std.proofs.Common.{◌≡◌, ℕ, suc, ◌+◌, ◌-◌, ◌^◌, ◌<◌, ◌≤◌, min, List, [], ◌∷◌, ◌++◌, Result, Ok, Err, OnOk, OnErr, IfErr, Option, Some, None, IfSome, map, take, drop, length, arith, Bor, refl, sym, ap, ◌∙◌, subst, inl, inr, ⊎_elim}
+use Rattle.std.specs.List.{AllByRecursion}
+use Rattle.std.proofs.lemmas.List.{append_assoc, length-append, length-take, map-append, map_push, take_more, take-append-drop, drop_more}
+use Rattle.cue_lattice.specs.World.{Piece, text, state, piece_refuses, AllAlong, IsUnified}
 use Rattle.cue_replica.specs.Language.{Table, language, opening}
 use Rattle.cue_replica.specs.Replica.{Adds}
-use Rattle.cue_replica.specs.Accepted.{IsAcceptable}
+use Rattle.cue_replica.specs.Accepted.{IsAcceptable, IsOfPieces, IsOfTexts}
 use Rattle.cue_replica.specs.declared.Refusal.{Refusal}
 use Rattle.cue_replica.proofs.Accepted.{of_no_piece, of_one_piece_more}
-use Rattle.cue_replica.proofs.Along.{along_push}
+use Rattle.cue_replica.proofs.Along.{along_push, length-along}
 use Rattle.cue_program.specs.declared.stop.Stop.{Stop}
-use Rattle.cue_program.specs.Parts.{IsFilePiece, HoldsInput}
-use Rattle.cue_program.specs.Refused.{IsFileFault, IsFileRefused, IsInputRefused}
-use Rattle.cue_program.specs.Runs.{HoldsSomeFiles, HoldsAll, IsFilesStop, IsStopFor}
-use Rattle.cue_program.specs.Stops.{IsInputRefusedAs, IsReadFault}
+use Rattle.std.specs.Prelude.{get_or}
+use Rattle.cue_program.specs.Files.{AreAll, texts}
+use Rattle.cue_program.specs.Inputs.{AreStreamPieces, ArePieces, Begin, Gives, Holds, Inputs, IsFilePiece, IsInputRefused, IsInputUnread, IsPieceRefusal, files, stream}
+use Rattle.cue_program.specs.Runs.{IsStopOn}
+use Rattle.cue_program.specs.Stops.{IsMemory, IsRefusedAs, IsUnreadable}
+use Rattle.cue_program.specs.inner.Texts.{AreTexts, IsTextRefused}
 
 -- the site has accepted the piece of these bytes
 abbrev pub Accepts : List ℕ → Table → Table → Type 0
 Accepts bytes old new =
     (piece : Piece) × IsFilePiece bytes piece × IsAcceptable piece × Adds old (piece_refuses language piece) new
+
+-- a further fact of what is answered without an error, or with one
+pub ok_more : {T E P Q : Type 0} (r : Result T E) → OnOk r P → (P → Q) → OnOk r Q
+ok_more (Ok x) h f = f h
+ok_more (Err e) h f = tt
+
+pub err_more : {T E P Q : Type 0} (r : Result T E) → OnErr r P → (P → Q) → OnErr r Q
+err_more (Ok x) h f = tt
+err_more (Err e) h f = f h
+
+pub err_both : {T E Q : Type 0} {P R : E → Type 0} (r : Result T E) → IfErr r P → OnErr r Q → ((e : E) → P e → Q → R e) → IfErr r R
+err_both (Ok x) h k f = tt
+err_both (Err e) h k f = f e h k
+
+-- some name
+pub some_name : (names : List (Bor (List ℕ))) → 0 < length names → Bor (List ℕ)
+some_name [] some = absurd (omega arith)
+some_name (name ∷ names) some = name
 
 -- two facts of what is answered without an error
 pub both_ok : {T E P Q R : Type 0} (r : Result T E) → OnOk r P → OnOk r Q → (P → Q → R) → OnOk r R
@@ -25,64 +46,81 @@ both_ok (Ok x) h k f = f h k
 both_ok (Err e) h k f = tt
 
 -- an empty site has taken no files
-pub files_none : HoldsSomeFiles 0 opening
-files_none = ([], refl, ([], tt, of_no_piece))
+pub files_none : Holds (files []) opening
+files_none = ([], tt, of_no_piece)
 
 -- a site that has accepted the piece of a further file has taken one file more
 pub files_more :
-    (count : ℕ) (old new : Table) (bytes : List ℕ) → HoldsSomeFiles count old → Accepts bytes old new
-    → language.IsValid new → HoldsSomeFiles (count + 1) new
-files_more count old new bytes h more valid = (
-  h.0 ++ bytes ∷ [],
-  length-append h.0 (bytes ∷ []) ∙ ap (λ n. n + 1) h.1,
-  (
-    h.2.0 ++ more.0 ∷ [],
-    along_push IsFilePiece h.0 h.2.0 bytes more.0 h.2.1 more.1,
-    of_one_piece_more old new h.2.0 more.0 h.2.2 more.2 more.3 valid,
-  ),
+    (known : List (Option (List ℕ))) (next : Option (List ℕ)) (old new : Table) (bytes : List ℕ) → Holds (files known) old → AreAll next bytes
+    → Accepts bytes old new → language.IsValid new → Holds (files (known ++ next ∷ [])) new
+files_more known next old new bytes h all more valid = (
+  h.0 ++ more.0 ∷ [],
+  along_push Gives known h.0 next more.0 h.1 (bytes, all, more.1),
+  of_one_piece_more old new h.0 more.0 h.2 more.2 more.3 valid,
 )
 
--- the first file that is refused after those that were taken is a stop of the files
+small : (n number : ℕ) → number ≡ n + 1 → n + 1 ≤ 2 ^ 64 - 1 → number ≡ min (n + 1) (2 ^ 64 - 1)
+small n number is less = omega (arith, is, less)
+
+-- the first file that is refused after those that were taken
 pub files_refused :
-    (count total number : ℕ) (old : Table) (bytes : List ℕ) (stop : Stop) → HoldsSomeFiles count old → count < total → number ≡ count + 1
-    → ((why : Refusal) × IsInputRefusedAs why number stop × IsFileFault bytes why) → IsFileRefused total stop
-files_refused count total number old bytes stop h less counted fault = record {
-  before = h.0;
-  pieces = h.2.0;
-  bytes = bytes;
-  why = fault.0;
-  read = h.2.1;
-  accepted = h.2.2.0;
-  fewer = omega (arith, h.1, less);
-  fault = fault.2;
-  refused = subst (λ (n : ℕ). IsInputRefusedAs fault.0 n stop) (counted ∙ ap (λ n. n + 1) (sym h.1)) fault.1;
-}
+    (front back : List (Option (List ℕ))) (next : Option (List ℕ)) (number : ℕ) (old : Table) (bytes : List ℕ) (stop : Stop)
+    → Holds (files front) old → AreAll next bytes → number ≡ length front + 1 → number ≤ 2 ^ 64 - 1
+    → ((piece : Piece) × (why : Refusal) × IsFilePiece bytes piece × IsPieceRefusal piece why × IsRefusedAs why number stop)
+    → IsInputRefused (files (front ++ next ∷ back)) stop
+files_refused front back next number old bytes stop h all counted most fault =
+    let along = along_push Gives front h.0 next fault.0 h.1 (bytes, all, fault.2) in
+    let long = length-along Gives front h.0 h.1 in
+    record {
+      before = h.0;
+      piece = fault.0;
+      why = fault.1;
+      begin = (front ++ next ∷ [], back, sym (append_assoc front (next ∷ []) back), along);
+      accepted = h.2.0;
+      refusal = fault.3;
+      told = subst (λ (n : ℕ). IsRefusedAs fault.1 n stop) (small (length h.0) number (counted ∙ ap (λ n. n + 1) long) (omega (arith, counted, long, most))) fault.4;
+    }
 
--- with files the reader is not asked
-pub holds_files : (count : ℕ) (known : Option (List ℕ)) (table : Table) → 0 < count → HoldsSomeFiles count table → HoldsAll count known table
-holds_files zero known table some h = absurd (omega arith)
-holds_files (suc more) known table some h = h
+-- the first file that can't be read after those that were taken
+pub files_unread :
+    (front back : List (Option (List ℕ))) (next : Option (List ℕ)) (old : Table) (stop : Stop)
+    → Holds (files front) old → IsUnreadable stop → IsInputUnread (files (front ++ next ∷ back)) stop
+files_unread front back next old stop h fault = (front, back, next, h.0, refl, h.1, h.2.0, fault)
 
--- with files what stops them stops the run
-pub files_stop : (count : ℕ) (known : Option (List ℕ)) (stop : Stop) → 0 < count → IsFilesStop count stop → IsStopFor count known stop
-files_stop zero known stop some h = absurd (omega arith)
-files_stop (suc more) known stop some h = h
+-- the names so far with one more
+pub take_known :
+    (K : List ℕ → Option (List ℕ)) (names : List (Bor (List ℕ))) (i : ℕ) (d : Bor (List ℕ)) → i < length names
+    → map K (texts (take (i + 1) names)) ≡ map K (texts (take i names)) ++ K (get_or names i d).now ∷ []
+take_known K names i d less =
+    ap (λ (ns : List (Bor (List ℕ))). map K (texts ns)) (take_more names i d less)
+    ∙ (ap (λ (ns : List (List ℕ)). map K ns) (map_push (λ (n : Bor (List ℕ)). n.now) (take i names) (get_or names i d))
+    ∙ map_push K (texts (take i names)) (get_or names i d).now)
 
--- without one it is
-pub holds_input :
-    (count : ℕ) (known : Option (List ℕ)) (table : Table) (bytes : List ℕ) → count ≡ 0 → IfSome known (λ all. bytes ≡ all) → HoldsInput bytes table
-    → HoldsAll count known table
-holds_input zero known table bytes none all h = (bytes, all, h)
-holds_input (suc more) known table bytes none all h = absurd (omega arith)
+-- the names so far, the next, and the others
+pub split_known :
+    (K : List ℕ → Option (List ℕ)) (names : List (Bor (List ℕ))) (i : ℕ) (d : Bor (List ℕ)) → i < length names
+    → map K (texts names) ≡ map K (texts (take i names)) ++ K (get_or names i d).now ∷ map K (texts (drop (i + 1) names))
+split_known K names i d less =
+    ap (λ (ns : List (Bor (List ℕ))). map K (texts ns)) (sym (take-append-drop i names) ∙ ap (λ (ns : List (Bor (List ℕ))). take i names ++ ns) (drop_more names i d less))
+    ∙ (ap (λ (ns : List (List ℕ)). map K ns) (map-append (λ (n : Bor (List ℕ)). n.now) (take i names) (get_or names i d ∷ drop (i + 1) names))
+    ∙ map-append K (texts (take i names)) ((get_or names i d).now ∷ texts (drop (i + 1) names)))
 
--- without files an input that is refused stops the run
-pub input_refused :
-    (count : ℕ) (known : Option (List ℕ)) (stop : Stop) (bytes : List ℕ) → count ≡ 0 → IfSome known (λ all. bytes ≡ all) → IsInputRefused bytes stop
-    → IsStopFor count known stop
-input_refused zero known stop bytes none all h = inr (bytes, all, h)
-input_refused (suc more) known stop bytes none all h = absurd (omega arith)
+length_mapped : {X Y : Type 0} (f : X → Y) (xs : List X) → length (map f xs) ≡ length xs
+length_mapped f [] = refl
+length_mapped f (x ∷ xs) = ap suc (length_mapped f xs)
 
--- with files or without, an input that can't be read stops the run
-pub read_stop : (count : ℕ) (known : Option (List ℕ)) (stop : Stop) → IsReadFault stop → IsStopFor count known stop
-read_stop zero known stop h = inl h
-read_stop (suc more) known stop h = inl h
+pub length_known : (K : List ℕ → Option (List ℕ)) (names : List (Bor (List ℕ))) (i : ℕ) → i < length names → length (map K (texts (take i names))) ≡ i
+length_known K names i less =
+    length_mapped K (texts (take i names)) ∙ (length_mapped (λ (n : Bor (List ℕ)). n.now) (take i names) ∙ omega (arith, length-take i names, less))
+
+pub acceptable_texts : (parts : List (List ℕ)) → AllByRecursion language.IsLegal parts → AllByRecursion IsAcceptable (map text parts)
+acceptable_texts [] h = tt
+acceptable_texts (part ∷ parts) h = (h.0, acceptable_texts parts h.1)
+
+pub length_texts : (parts : List (List ℕ)) → length (map text parts) ≡ length parts
+length_texts [] = refl
+length_texts (part ∷ parts) = ap suc (length_texts parts)
+
+pub map_texts : (front back : List (List ℕ)) → map text (front ++ back) ≡ map text front ++ map text back
+map_texts [] back = refl
+map_texts (part ∷ front) back = ap (λ ps. text part ∷ ps) (map_texts front back)

@@ -1,4 +1,6 @@
 pub mod Devices
+pub mod Drafts
 pub mod Files
 pub mod Lines
+pub mod Streams
 pub mod Texts

@@ -9,9 +9,10 @@ use Rattle.cue_replica.specs.Language.{Table, language, opening}
 use Rattle.cue_replica.specs.Replica.{Adds}
 use Rattle.cue_replica.specs.Accepted.{IsOfTexts}
 use Rattle.cue_replica.proofs.Accepted.{of_no_text, of_one_text_more}
-use Rattle.cue_program.specs.Parts.{lines_of, AreParts, IsSeparator, IsFirstPart, HoldsTexts}
-use Rattle.cue_program.specs.Stops.{IsInputRefusedAs, IsPartFault}
-use Rattle.cue_program.specs.Refused.{IsTextRefused}
+use Rattle.cue_program.specs.Parts.{lines_of, AreParts, IsSeparator, IsFirstPart}
+use Rattle.cue_program.specs.Inputs.{IsTextRefusal}
+use Rattle.cue_program.specs.Stops.{IsRefusedAs}
+use Rattle.cue_program.specs.inner.Texts.{AreTexts, IsTextRefused}
 use Rattle.cue_program.specs.declared.stop.Stop.{Stop}
 use Rattle.cue_replica.specs.declared.Refusal.{Refusal}
 use Rattle.cue_program.proofs.Lines.{joined}
@@ -98,14 +99,14 @@ submitted_more bytes rest part old new count number after s first next legal add
 )
 
 -- a site that has submitted each part holds the unification of the parts
-pub submitted_all : (bytes : List ℕ) (table : Table) (number : ℕ) → Submitted bytes table number None → HoldsTexts bytes table
+pub submitted_all : (bytes : List ℕ) (table : Table) (number : ℕ) → Submitted bytes table number None → AreTexts bytes table
 submitted_all bytes table number s = (s.0, s.2, s.1)
 
 -- where the next part is refused, the first refused part of the bytes stops the run
 pub submitted_not :
     (bytes rest part : List ℕ) (old : Table) (count number : ℕ) (after : Option (List ℕ)) (stop : Stop) → Submitted bytes old count (Some rest)
     → IsFirstPart rest part after → number ≡ min (count + 1) (2 ^ 64 - 1)
-    → ((why : Refusal) × IsInputRefusedAs why number stop × IsPartFault part why) → IsTextRefused bytes stop
+    → ((why : Refusal) × IsRefusedAs why number stop × IsTextRefusal part why) → IsTextRefused bytes stop
 submitted_not bytes rest part old count number after stop s first next fault =
     let from = parts_from bytes rest part s.0 after s.2 first in
     let at = counted s.0 part count number s.3 next in (
@@ -114,5 +115,5 @@ submitted_not bytes rest part old count number after stop s first next fault =
       from.0,
       from.1,
       s.1.0,
-      (fault.0, subst (λ (n : ℕ). IsInputRefusedAs fault.0 n stop) at fault.1, fault.2),
+      (fault.0, subst (λ (n : ℕ). IsRefusedAs fault.0 n stop) at fault.1, fault.2),
     )

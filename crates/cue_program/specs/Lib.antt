@@ -1,6 +1,6 @@
+pub mod Files
+pub mod Inputs
 pub mod Parts
-pub mod Reading
-pub mod Refused
-pub mod Replies
 pub mod Runs
 pub mod Stops
+pub mod inner

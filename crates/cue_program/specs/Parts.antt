@@ -1,10 +1,7 @@
 -- Lines of bytes, and the parts that separating lines cut them into.
-use Rattle.std.specs.Prelude.{◌≡◌, ◌≢◌, ◌⊎◌, ℕ, List, [], ◌∷◌, ◌++◌, Option, Some, None, slice_get}
+use Rattle.std.specs.Prelude.{◌≡◌, ◌⊎◌, ℕ, List, [], ◌∷◌, ◌++◌, Option, Some, None}
 use Rattle.std.specs.Prelude.{codes, ◌==◌, if◌then◌else◌}
 use Rattle.std.specs.List.{AllByRecursion, concat}
-use Rattle.cue_lattice.specs.World.{Piece, text, state, AllAlong}
-use Rattle.cue_replica.specs.Accepted.{IsOfTexts, IsOfState, IsOfPieces}
-use Rattle.cue_replica.specs.Language.{Table}
 
 -- one byte more in front of the first line
 abbrev pub longer : ℕ → List (List ℕ) → List (List ℕ)
@@ -41,27 +38,3 @@ IsFirstPart bytes part (Some rest) =
     (front : List (List ℕ)) × (line : List ℕ) × IsPart front × (concat front ≡ part)
     × IsSeparator line
     × (bytes ≡ part ++ (line ++ rest)) × (lines_of bytes ≡ front ++ line ∷ lines_of rest)
-
--- The table is valid, and the unification of the parts of the bytes, which are texts of the
--- language.
-abbrev pub HoldsTexts : List ℕ → Table → Type 0
-HoldsTexts bytes table =
-    (parts : List (List ℕ)) × AreParts (lines_of bytes) parts × IsOfTexts table parts
-
--- What a new site holds that has taken an input: a state where the first byte is FE (hexadecimal),
--- and otherwise texts.
-abbrev pub HoldsInput : List ℕ → Table → Type 0
-HoldsInput bytes table =
-    ((slice_get bytes 0 ≡ Some 254) × IsOfState table bytes)
-    ⊎ ((slice_get bytes 0 ≢ Some 254) × HoldsTexts bytes table)
-
--- what a file hands in: a state where its first byte is FE (hexadecimal), and otherwise one text
-abbrev pub IsFilePiece : List ℕ → Piece → Type 0
-IsFilePiece bytes piece =
-    ((slice_get bytes 0 ≡ Some 254) × (piece ≡ state bytes))
-    ⊎ ((slice_get bytes 0 ≢ Some 254) × (piece ≡ text bytes))
-
--- What a new site holds that has taken files with these bytes: one piece of each, all of them.
-abbrev pub HoldsFiles : List (List ℕ) → Table → Type 0
-HoldsFiles files table =
-    (pieces : List Piece) × AllAlong IsFilePiece files pieces × IsOfPieces table pieces

@@ -1,18 +1,24 @@
 //! What the program does with inputs, apart from its words: it reads an input to its end, tells a
 //! state from texts, splits texts at separating lines, hands each to one new site, and says what is
-//! printed of it.
+//! printed of it. A merged state takes the place of a file in one step.
 #![tactic(auto)]
 
+mod disk;
 mod input;
+mod out;
 mod parts;
-mod reply;
+mod put;
 mod run;
+mod shelf;
 mod site;
 mod stop;
 
+pub use cue_answer::{Answer, Question, Status, answer_to, printed};
+pub use cue_device::Fault;
 pub use cue_replica::{Kind, Memory, Refusal, Replica};
+pub use out::tell;
 pub use parts::first_part;
-pub use reply::{Question, Reply, Status, tell, told};
-pub use run::{merge_into, reply_for};
+pub use run::{answer_for, merge_into};
+pub use shelf::{Form, Shelf};
 pub use site::{site_of, take_file};
 pub use stop::Stop;

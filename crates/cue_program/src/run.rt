@@ -1,107 +1,137 @@
-ghost use Rattle.std.specs.Prelude.{◌≡◌, ◌<◌, length, IfOk, IfErr};
-ghost use Rattle.cue_program.specs.Runs.{HoldsAll, HoldsSomeFiles, IsReplyFor, IsMergeOf};
-ghost use Rattle.cue_program.specs.Runs.{IsStopFor};
-ghost use Rattle.cue_program.specs.Runs.{IsFilesStop};
-ghost use Rattle.cue_program.specs.Stops.{IsReadFault};
+ghost use Rattle.std.specs.Prelude.{◌≡◌, ◌<◌, length, map, IfOk, IfErr, OnOk};
+ghost use Rattle.cue_program.specs.Files.{AreAll, known_at, texts};
+ghost use Rattle.cue_program.specs.Inputs.{Holds, files, inputs_of};
+ghost use Rattle.cue_program.specs.Runs.{IsAnswerOn, IsMergeOn, IsMergeStopOn, IsStopOn};
+ghost use Rattle.cue_program.specs.Stops.{IsUnreadable};
 
 use crate::input::{read_all, room};
-use crate::reply::{Question, Reply, Status, tell, told};
+use crate::put::put;
+use crate::shelf::Shelf;
 use crate::site::{site_of, take_file};
 use crate::stop::Stop;
+use cue_answer::{Answer, Question, answer_to, printed};
+use cue_device::Reader;
 use cue_replica::Replica;
 use std::alloc::Global;
-use std::fs;
 use std::io::Read;
-use std::rt::Files;
 
-/// What one new site answers that has taken all inputs in their order: the files of these names,
-/// each read and handed on before the next is opened; or, without one, what the reader gives.
+/// What one new site answers that has taken all inputs in their order, as it is printed: the files
+/// of these names, each read and handed on before the next is opened; or, without one, what the
+/// reader gives.
 ///
 /// # Errors
 ///
 /// `RefusedInput` for the first input that is refused, with its number from 1; `Device`,
 /// `TurnsUsed` and `Memory`.
-pub fn reply_for<H: AllocGlobal + Files, R: Read>(
+pub fn answer_for<H: AllocGlobal + Shelf, R: Read>(
     rt: &H,
     question: Question,
     files: &[&str],
     input: &mut R,
-) -> Result<Reply, Stop>
-    ensures reply { IfOk result (IsReplyFor question (length files.now) (R.remaining input.old)) }
-    ensures stop { IfErr result (IsStopFor (length files.now) (R.remaining input.old)) }
+) -> Result<Answer, Stop>
+    ensures answer { IfOk result (IsAnswerOn question
+        (inputs_of (H.held rt.now) (texts files.now) (R.remaining input.old))) }
+    ensures stop { IfErr result (IsStopOn
+        (inputs_of (H.held rt.now) (texts files.now) (R.remaining input.old))) }
 {
-    let site = site_for(rt, files, input)?;
-    told(rt.alloc(), question, &site)
+    let site = match site_for(rt, files, input) {
+        Ok(site) => site,
+        Err(stop) => return Err(stop),
+    };
+    let told = answer_to(rt.alloc(), question, &site)?;
+    Ok(printed(question, told)?)
 }
 
-/// Writes the state of one new site that has taken all inputs to the file of this name, which is
-/// opened after the last input was taken. What was in the file is lost. The reply says nothing.
+/// Puts the state of one new site that has taken all inputs at this name, once the last input was
+/// taken. At no moment less than a whole file stands there.
 ///
 /// # Errors
 ///
-/// As `reply_for`.
-pub fn merge_into<H: AllocGlobal + Files, R: Read>(
-    rt: &H,
+/// As `answer_for`. A file that lay under the name is unharmed then.
+pub fn merge_into<H: AllocGlobal + Shelf, R: Read>(
+    rt: &mut H,
     name: &str,
     files: &[&str],
     input: &mut R,
-) -> Result<Reply, Stop>
-    ensures reply { IfOk result (IsMergeOf H.File.contents (length files.now)
-        (R.remaining input.old)) }
-    ensures stop { IfErr result (IsStopFor (length files.now) (R.remaining input.old)) }
+) -> Result<(), Stop>
+    ensures merges { OnOk result (IsMergeOn name.now
+        (inputs_of (H.held rt.old) (texts files.now) (R.remaining input.old))
+        (H.held rt.old) (H.held rt.new)) }
+    ensures stop { IfErr result (IsMergeStopOn name.now
+        (inputs_of (H.held rt.old) (texts files.now) (R.remaining input.old))
+        (H.held rt.old) (H.held rt.new)) }
 {
-    let state = reply_for(rt, Question::State, files, input)?;
-    let Ok(mut file) = fs::create(rt, name) else {
-        return Err(Stop::Device);
+    let site = match site_for(&*rt, files, input) {
+        Ok(site) => site,
+        Err(stop) => return Err(stop),
     };
-    tell(&mut file, &state.bytes)?;
-    Ok(Reply {
-        bytes: Vec::new(rt.alloc()),
-        status: Status::Done,
-    })
+    let alloc = rt.alloc();
+    let state = site.state(alloc)?;
+    put(rt, alloc, name, &state)
 }
 
 /// A new site that has taken all inputs.
-fn site_for<H: AllocGlobal + Files, R: Read>(
+fn site_for<H: AllocGlobal + Shelf, R: Read>(
     rt: &H,
     files: &[&str],
     input: &mut R,
 ) -> Result<Replica, Stop>
-    ensures holds { IfOk result (HoldsAll (length files.now) (R.remaining input.old)) }
-    ensures stop { IfErr result (IsStopFor (length files.now) (R.remaining input.old)) }
+    ensures holds { IfOk result (Holds
+        (inputs_of (H.held rt.now) (texts files.now) (R.remaining input.old))) }
+    ensures stop { IfErr result (IsStopOn
+        (inputs_of (H.held rt.now) (texts files.now) (R.remaining input.old))) }
 {
     if !files.is_empty() {
         return site_of_files(rt, files);
     }
-    let mut piece = room(rt.alloc())?;
-    let bytes = read_all(rt.alloc(), input, &mut piece)?;
-    site_of(rt.alloc(), &bytes)
+    match read_input(rt.alloc(), input) {
+        Ok(bytes) => site_of(rt.alloc(), &bytes),
+        Err(stop) => Err(stop),
+    }
+}
+
+/// All bytes of a reader.
+fn read_input<R: Read>(alloc: Global, input: &mut R) -> Result<Vec<u8>, Stop>
+    ensures all { IfOk result (λ all. AreAll (R.remaining input.old) all.items) }
+    ensures fault { IfErr result IsUnreadable }
+{
+    let mut piece = room(alloc)?;
+    read_all(alloc, &mut Reader::new(input), &mut piece)
 }
 
 /// A new site that has taken these files.
-fn site_of_files<H: AllocGlobal + Files>(rt: &H, files: &[&str]) -> Result<Replica, Stop>
-    ensures holds { IfOk result (HoldsSomeFiles (length files.now)) }
-    ensures stop { IfErr result (IsFilesStop (length files.now)) }
+fn site_of_files<H: AllocGlobal + Shelf>(rt: &H, names: &[&str]) -> Result<Replica, Stop>
+    ensures holds { IfOk result (Holds (files (map (known_at (H.held rt.now)) (texts names.now)))) }
+    ensures stop { IfErr result (IsStopOn
+        (files (map (known_at (H.held rt.now)) (texts names.now)))) }
 {
     let mut site = Replica::new(rt.alloc());
     let mut piece = room(rt.alloc())?;
     let mut number = 0;
-    for name in files {
+    for name in names {
         number += 1;
-        let bytes = read_file(rt, name, &mut piece)?;
-        take_file(&mut site, &bytes, number)?;
+        let bytes = match read_file(rt, name, &mut piece) {
+            Ok(bytes) => bytes,
+            Err(stop) => return Err(stop),
+        };
+        match take_file(&mut site, &bytes, number) {
+            Ok(()) => {}
+            Err(stop) => return Err(stop),
+        }
     }
     Ok(site)
 }
 
 /// All bytes of the file of this name, by reads into this room.
-fn read_file<H: AllocGlobal + Files>(rt: &H, name: &str, piece: &mut [u8]) -> Result<Vec<u8>, Stop>
+fn read_file<H: AllocGlobal + Shelf>(rt: &H, name: &str, piece: &mut [u8]) -> Result<Vec<u8>, Stop>
     requires { 0 < length piece.old }
-    ensures fault { IfErr result IsReadFault }
+    ensures all { IfOk result (λ all. AreAll (known_at (H.held rt.now) name.now) all.items) }
+    ensures fault { IfErr result IsUnreadable }
     ensures room { length piece.new ≡ length piece.old }
 {
-    let Ok(mut file) = fs::open(rt, name) else {
-        return Err(Stop::Device);
+    let file = match rt.open(name) {
+        Ok(file) => file,
+        Err(_) => return Err(Stop::Device),
     };
-    read_all(rt.alloc(), &mut file, piece)
+    read_all(rt.alloc(), &mut Reader::new(file), piece)
 }

@@ -1,12 +1,14 @@
-ghost use Rattle.std.specs.Prelude.{◌≡◌, ◌↔◌, Some, IsTrue, IfOk, IfErr, OnOk, MatchResult};
-ghost use Rattle.std.specs.Prelude.{slice_get};
+ghost use Rattle.std.specs.Prelude.{◌≡◌, ◌↔◌, ◌≤◌, Some, IsTrue, IfOk, IfErr, OnOk, OnErr};
+ghost use Rattle.std.specs.Prelude.{length, slice_get};
+ghost use Rattle.std.specs.Str.{IsUtf8};
 ghost use Rattle.cue_replica.specs.Language.{language};
 ghost use Rattle.cue_replica.specs.Replica.{Adds};
 ghost use Rattle.cue_lattice.specs.World.{Piece, piece_refuses};
-ghost use Rattle.cue_replica.specs.Accepted.{IsAcceptable};
-ghost use Rattle.cue_program.specs.Parts.{HoldsInput, HoldsTexts, IsFilePiece};
-ghost use Rattle.cue_program.specs.Refused.{IsTextRefused, IsInputRefused, IsFileFault};
-ghost use Rattle.cue_program.specs.Stops.{IsByteFault, IsInputRefusedAs, IsPartFault};
+ghost use Rattle.cue_replica.specs.Accepted.{IsAcceptable, text_limit};
+ghost use Rattle.cue_program.specs.Inputs.{IsFilePiece, IsPieceRefusal, IsTextRefusal, stream};
+ghost use Rattle.cue_program.specs.Inputs.{Holds, IsInputRefused};
+ghost use Rattle.cue_program.specs.Stops.{IsRefusedAs};
+ghost use Rattle.cue_program.specs.inner.Texts.{IsByteFault, AreTexts, IsTextRefused};
 
 use crate::parts::first_part;
 use crate::stop::Stop;
@@ -24,8 +26,8 @@ const STATE: u8 = 0xFE;
 ///
 /// `RefusedInput` for the first input that is refused, with its number from 1.
 pub fn site_of(alloc: Global, bytes: &[u8]) -> Result<Replica, Stop>
-    ensures holds { IfOk result (HoldsInput bytes.now) }
-    ensures refused { IfErr result (IsInputRefused bytes.now) }
+    ensures holds { IfOk result (Holds (stream (Some bytes.now))) }
+    ensures refused { IfErr result (IsInputRefused (stream (Some bytes.now))) }
 {
     if begins_a_state(bytes) {
         let mut site = Replica::new(alloc);
@@ -39,12 +41,17 @@ pub fn site_of(alloc: Global, bytes: &[u8]) -> Result<Replica, Stop>
 
 /// Hands the bytes of a file to a site, as the input of this number: a state, where they begin with
 /// the byte FE (hexadecimal), and otherwise one text.
+///
+/// # Errors
+///
+/// `RefusedInput`, and then the site is as before.
 pub fn take_file(site: &mut Replica, bytes: &[u8], number: usize) -> Result<(), Stop>
     ensures accepts { OnOk result ((piece : Piece) × IsFilePiece bytes.now piece
         × IsAcceptable piece × Adds site.old (piece_refuses language piece) site.new) }
     ensures valid { OnOk result (language.IsValid site.new) }
-    ensures refused { IfErr result (λ stop. (why : Refusal) ×
-        IsInputRefusedAs why number stop × IsFileFault bytes.now why) }
+    ensures refused { IfErr result (λ stop. (piece : Piece) × (why : Refusal)
+        × IsFilePiece bytes.now piece × IsPieceRefusal piece why × IsRefusedAs why number stop) }
+    ensures unchanged { OnErr result (site.new ≡ site.old) }
 {
     if !begins_a_state(bytes) {
         return submit(site, bytes, number);
@@ -55,7 +62,7 @@ pub fn take_file(site: &mut Replica, bytes: &[u8], number: usize) -> Result<(), 
     }
 }
 
-/// Whether the first byte is that of a state.
+/// Whether the first byte is FE (hexadecimal).
 fn begins_a_state(bytes: &[u8]) -> bool
     ensures { IsTrue result ↔ (slice_get bytes.now 0 ≡ Some 254) }
 {
@@ -64,7 +71,7 @@ fn begins_a_state(bytes: &[u8]) -> bool
 
 /// A new site that has accepted each part of these bytes as a text.
 fn site_of_texts(alloc: Global, bytes: &[u8]) -> Result<Replica, Stop>
-    ensures holds { IfOk result (HoldsTexts bytes.now) }
+    ensures holds { IfOk result (AreTexts bytes.now) }
     ensures refused { IfErr result (IsTextRefused bytes.now) }
 {
     let mut site = Replica::new(alloc);
@@ -87,7 +94,8 @@ fn submit(site: &mut Replica, part: &[u8], number: usize) -> Result<(), Stop>
     ensures adds { OnOk result (Adds site.old (language.text_refuses part.now) site.new) }
     ensures valid { OnOk result (language.IsValid site.new) }
     ensures refused { IfErr result (λ stop. (why : Refusal) ×
-        IsInputRefusedAs why number stop × IsPartFault part.now why) }
+        IsRefusedAs why number stop × IsTextRefusal part.now why) }
+    ensures unchanged { OnErr result (site.new ≡ site.old) }
 {
     let text = match text_of(part) {
         Ok(text) => text,
@@ -101,7 +109,9 @@ fn submit(site: &mut Replica, part: &[u8], number: usize) -> Result<(), Stop>
 
 /// The text in these bytes: neither too long, nor anything but UTF-8.
 fn text_of(bytes: &[u8]) -> Result<&str, Refusal>
-    ensures { MatchResult result (λ text. text.now ≡ bytes.now) (IsByteFault bytes.now) }
+    ensures text { IfOk result (λ text. (text.now ≡ bytes.now) × (length bytes.now ≤ text_limit)
+        × IsUtf8 bytes.now) }
+    ensures fault { IfErr result (IsByteFault bytes.now) }
 {
     if bytes.len() > TEXT_LIMIT {
         return Err(Refusal::at(Kind::TooLong, TEXT_LIMIT));

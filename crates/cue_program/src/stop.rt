@@ -1,3 +1,4 @@
+use cue_device::Fault;
 use cue_replica::{Kind, Memory, Refusal};
 use std::alloc::{AllocError, AllocFailed};
 
@@ -10,6 +11,16 @@ pub enum Stop {
     Refused(Kind),
     /// An input is refused: why, and the input's number, from 1.
     RefusedInput(Refusal, usize),
+}
+
+impl From<Fault> for Stop {
+    ghost use Rattle.cue_program.specs.Stops.{IsDevice};
+
+    ghost from_gives = { λ _ stop. IsDevice stop };
+
+    fn from(_fault: Fault) -> Stop {
+        Stop::Device
+    }
 }
 
 impl From<Memory> for Stop {

@@ -1,51 +1,77 @@
 -- Whole runs of the program, on devices whose bytes are known or not.
-use Rattle.std.specs.Prelude.{◌≡◌, ◌⊎◌, ◌-◌, ℕ, List, length, Option}
+use Rattle.std.specs.Prelude.{◌≡◌, ◌⊎◌, ℕ, List, [], Option, Some, None}
 use Rattle.std.specs.Io.KnownBytes.{Appends}
-use Rattle.cue_program.specs.declared.Question.TheVariants as questions
-use Rattle.cue_program.specs.declared.Reply.{Reply}
+use Rattle.cue_answer.specs.Answers.{Says, code_of}
+use Rattle.cue_program.specs.declared.Answer.{Answer}
+use Rattle.cue_program.specs.declared.Status.TheVariants as statuses
 use Rattle.cue_program.specs.declared.Stop.{Stop}
-use Rattle.cue_program.specs.Replies.{code_of}
-use Rattle.cue_program.specs.Runs.{IsReplyFor, IsMergeOf, IsStopFor}
-use Rattle.cuestore.specs.declared.command.Command.{Command}
-use Rattle.cuestore.specs.declared.command.Command.TheVariants as commands
+use Rattle.cue_program.specs.Files.{Holdings}
+use Rattle.cue_program.specs.Inputs.{inputs_of}
+use Rattle.cue_program.specs.Runs.{IsAnswerOn, IsMergeOn, IsMergeStopOn, IsStopOn}
 use Rattle.cuestore.specs.declared.fault.Fault.{Fault}
-use Rattle.cuestore.specs.Faults.{Tells, IsWordFault}
-use Rattle.cuestore.specs.Words.{AsksFor}
+use Rattle.cuestore.specs.declared.fault.Fault.TheVariants as faults
+use Rattle.cuestore.specs.Faults.{IsMemory, IsTold}
+use Rattle.cuestore.specs.Words.{Asked, asking, merging, asked}
 
--- how many inputs are named among so many arguments: merging has one for the file that it writes
-abbrev pub inputs_of : Command → ℕ → ℕ
-inputs_of commands.Merge arguments = arguments - 1
-inputs_of _ arguments = arguments
+-- What stands around a run: what lies where before it and after it, and what the reader had.
+pub record Around : Type 0 where
+  pub before : Option Holdings
+  pub after : Option Holdings
+  pub input : Option (List ℕ)
 
--- The reply that belongs to a command. What files have got is told as `contents` tells it.
-abbrev pub IsReplyOf : {W : Type 0} → (W → Option (List ℕ)) → Command → ℕ → Option (List ℕ)
-    → Reply → Type 0
-IsReplyOf contents commands.Export files known reply = IsReplyFor questions.Export files known reply
-IsReplyOf contents commands.Print files known reply = IsReplyFor questions.Print files known reply
-IsReplyOf contents commands.Report files known reply = IsReplyFor questions.Report files known reply
-IsReplyOf contents commands.State files known reply = IsReplyFor questions.State files known reply
-IsReplyOf contents commands.Merge files known reply = IsMergeOf contents files known reply
+-- The answer to what is asked for. Asking changes no file, and merging says nothing.
+abbrev pub IsAnswerTo : Asked → Around → Answer → Type 0
+IsAnswerTo (asking question files) around answer =
+    IsAnswerOn question (inputs_of around.before files around.input) answer
+    × (around.after ≡ around.before)
+IsAnswerTo (merging out files) around answer =
+    IsMergeOn out (inputs_of around.before files around.input) around.before around.after
+    × Says answer [] statuses.Done
 
--- the words ask for something, to which this is the reply
-abbrev pub IsReplyToWords : {W : Type 0} → (W → Option (List ℕ)) → List (List ℕ) → Option (List ℕ)
-    → Reply → Type 0
-IsReplyToWords contents words known reply =
-    (command : Command) × (arguments : List (List ℕ)) × AsksFor words command arguments
-    × IsReplyOf contents command (inputs_of command (length arguments)) known reply
+-- What stops what is asked for.
+abbrev pub IsStopTo : Asked → Around → Stop → Type 0
+IsStopTo (asking question files) around stop =
+    IsStopOn (inputs_of around.before files around.input) stop
+    × (around.after ≡ around.before)
+IsStopTo (merging out files) around stop =
+    IsMergeStopOn out (inputs_of around.before files around.input) around.before around.after stop
 
--- What is told of a run without a reply: of the words, or of what ended it.
-abbrev pub IsFaultFor : List (List ℕ) → Option (List ℕ) → Fault → Type 0
-IsFaultFor words known fault =
-    IsWordFault fault
-    ⊎ ((command : Command) × (arguments : List (List ℕ)) × AsksFor words command arguments
-    × ((stop : Stop) × IsStopFor (inputs_of command (length arguments)) known stop
-    × Tells stop fault))
+-- the words ask for something, to which this is the answer
+abbrev pub IsAnswerToWords : List (List ℕ) → Around → Answer → Type 0
+IsAnswerToWords words around answer =
+    (what : Asked) × (asked words ≡ Some what) × IsAnswerTo what around answer
 
--- The run ends with an answer: the status is that of a reply to the words, whose bytes were added
--- to the output.
+-- why there is no answer to the words: they ask for nothing, or memory ran out before anything was
+-- read, or what they ask for was stopped
+abbrev pub IsFaultOfWords : List (List ℕ) → Around → Fault → Type 0
+IsFaultOfWords words around fault =
+    ((fault ≡ faults.Usage) × (asked words ≡ None) × (around.after ≡ around.before))
+    ⊎ (IsMemory fault × (around.after ≡ around.before))
+    ⊎ ((what : Asked) × (asked words ≡ Some what)
+    × ((stop : Stop) × IsStopTo what around stop × (fault ≡ faults.Stopped stop)))
+
+-- the run ends with an answer to the words: its bytes were added to the output, and the status is
+-- the answer's
 abbrev pub IsAnswered :
-    {W : Type 0} → (W → Option (List ℕ)) → List (List ℕ) → Option (List ℕ) → Option (List ℕ)
-    → Option (List ℕ) → ℕ → Type 0
-IsAnswered contents words input before after status =
-    (reply : Reply) × IsReplyToWords contents words input reply × (status ≡ code_of reply.status)
-    × Appends before after reply.bytes.items
+    List (List ℕ) → Around → Option (List ℕ) → Option (List ℕ) → ℕ → Type 0
+IsAnswered words around before after status =
+    (answer : Answer) × IsAnswerToWords words around answer × (status ≡ code_of answer.status)
+    × Appends before after answer.bytes.items
+
+-- the run ends with a fault of the words, which is told
+abbrev pub IsStopped :
+    List (List ℕ) → Around → Option (List ℕ) → Option (List ℕ) → ℕ → Type 0
+IsStopped words around before after status =
+    (fault : Fault) × IsFaultOfWords words around fault × IsTold fault status before after
+
+-- an answer to the words could not be written
+abbrev pub IsUnwritten : List (List ℕ) → Around → ℕ → Type 0
+IsUnwritten words around status =
+    (answer : Answer) × IsAnswerToWords words around answer × (status ≡ 4)
+
+-- How a run on these words ends, by what the output has before and after.
+abbrev pub IsRun : List (List ℕ) → Around → Option (List ℕ) → Option (List ℕ) → ℕ → Type 0
+IsRun words around before after status =
+    IsAnswered words around before after status
+    ⊎ IsStopped words around before after status
+    ⊎ IsUnwritten words around status

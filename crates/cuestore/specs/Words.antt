@@ -1,58 +1,51 @@
 -- Which words ask for what.
-use Rattle.std.specs.Prelude.{◌≡◌, ◌≢◌, ◌⊎◌, ◌<◌, ℕ, List, [], ◌∷◌, ◌++◌, codes, length, map, Bool}
-use Rattle.std.specs.Prelude.{true, false}
-use Rattle.std.specs.Borrow.{Bor}
-use Rattle.std.specs.List.{AllByRecursion}
+use Rattle.std.specs.Prelude.{◌≡◌, ◌==◌, ◌&&◌, ℕ, List, [], ◌∷◌, ◌++◌, codes, map, Bool}
+use Rattle.std.specs.Prelude.{true, false, Option, Some, None, if◌then◌else◌}
+use Rattle.std.specs.Option.{option_map}
+use Rattle.std.specs.Prelude.{option_and_then}
+use Rattle.std.specs.Str.{bytes_eq}
+use Rattle.cue_program.specs.declared.Question.{Question}
+use Rattle.cue_program.specs.declared.Question.TheVariants as questions
+use Rattle.cue_program.specs.Files.{texts}
 use Rattle.cuestore.specs.declared.command.Command.{Command}
 use Rattle.cuestore.specs.declared.command.Command.TheVariants as commands
 
--- the word that names a command
-abbrev pub name_of : Command → List ℕ
-name_of commands.Export = codes "export"
-name_of commands.Print = codes "print"
-name_of commands.Report = codes "report"
-name_of commands.State = codes "state"
-name_of commands.Merge = codes "merge"
+-- What words can ask for: the answer to a question about files, or the state of files at a name.
+pub data Asked : Type 0 where
+  asking : Question → List (List ℕ) → Asked
+  merging : List ℕ → List (List ℕ) → Asked
+
+-- what a command asks for
+abbrev pub asked_by : Command → Asked
+asked_by (commands.Ask question files) = asking question (texts files.items)
+asked_by (commands.Merge out files) = merging out.now (texts files.items)
 
 -- the word begins with `-` and has more characters
-abbrev pub IsOption : List ℕ → Type 0
-IsOption word = (more : List ℕ) × (word ≡ codes "-" ++ more) × (more ≢ [])
+abbrev pub is_option : List ℕ → Bool
+is_option (c ∷ d ∷ more) = c == 45
+is_option _ = false
 
--- an argument as it stands
-abbrev pub IsPlain : List ℕ → Type 0
-IsPlain word = IsOption word → ⊥
+-- the arguments among words: all up to the first `--`, of which none is an option, and all after
+abbrev pub arguments : List (List ℕ) → Option (List (List ℕ))
+arguments [] = Some []
+arguments (word ∷ words) = if bytes_eq word (codes "--") then Some words
+    else (if is_option word then None else option_map (λ more. word ∷ more) (arguments words))
 
--- The arguments are the plain words up to the first `--`, and all words after it.
-abbrev pub AreArguments : List (List ℕ) → List (List ℕ) → Type 0
-AreArguments words arguments =
-    (front : List (List ℕ)) × AllByRecursion IsPlain front
-    × (((words ≡ front) × (arguments ≡ front))
-    ⊎ ((back : List (List ℕ)) × (words ≡ front ++ codes "--" ∷ back) × (arguments ≡ front ++ back)))
+-- merging asks for a file to write first
+abbrev pub merged : List (List ℕ) → Option Asked
+merged [] = None
+merged (out ∷ files) = Some (merging out files)
 
--- Before the first `--` the words so far are plain, and the arguments; after it all further words
--- are arguments.
-abbrev pub AreSoFar : Bool → List (List ℕ) → List (List ℕ) → Type 0
-AreSoFar false words arguments = AllByRecursion IsPlain words × (arguments ≡ words)
-AreSoFar true words arguments =
-    (front : List (List ℕ)) × (back : List (List ℕ)) × AllByRecursion IsPlain front
-    × (words ≡ front ++ codes "--" ∷ back) × (arguments ≡ front ++ back)
+-- what a command's name and its arguments ask for
+abbrev pub meant : List ℕ → List (List ℕ) → Option Asked
+meant name files = if bytes_eq name (codes "export") then Some (asking questions.Export files)
+    else (if bytes_eq name (codes "print") then Some (asking questions.Print files)
+    else (if bytes_eq name (codes "report") then Some (asking questions.Report files)
+    else (if bytes_eq name (codes "state") then Some (asking questions.State files)
+    else (if bytes_eq name (codes "merge") then merged files else None))))
 
--- one word more, after which the first `--` stands before all others or does not
-abbrev pub Goes : Bool → Bool → List ℕ → List (List ℕ) → List (List ℕ) → Type 0
-Goes before after word old new =
-    (words : List (List ℕ)) → AreSoFar before words old → AreSoFar after (words ++ word ∷ []) new
-
--- the bytes of borrowed words
-abbrev pub texts : List (Bor (List ℕ)) → List (List ℕ)
-texts words = map (λ word. word.now) words
-
--- merging asks for a file to write
-abbrev pub HasEnough : Command → List (List ℕ) → Type 0
-HasEnough commands.Merge arguments = 0 < length arguments
-HasEnough _ arguments = Unit {0}
-
--- The first word names the command, and the others give its arguments.
-abbrev pub AsksFor : List (List ℕ) → Command → List (List ℕ) → Type 0
-AsksFor words command arguments =
-    (others : List (List ℕ)) × (words ≡ name_of command ∷ others) × AreArguments others arguments
-    × HasEnough command arguments
+-- What the words after the program's name ask for: the first names the command, and the others give
+-- its arguments.
+abbrev pub asked : List (List ℕ) → Option Asked
+asked [] = None
+asked (name ∷ words) = option_and_then (meant name) (arguments words)

@@ -1,16 +1,17 @@
-ghost use Rattle.std.specs.Prelude.{◌≡◌, ◌⊎◌, IfOk, IfErr, List, ℕ, map, length, string_bytes};
-ghost use Rattle.cuestore.specs.Faults.{IsStopped};
-ghost use Rattle.cuestore.specs.Runs.{inputs_of, IsReplyOf, IsReplyToWords, IsFaultFor, IsAnswered};
-ghost use Rattle.cuestore.specs.Words.{texts, HasEnough};
-ghost use Rattle.cue_program.specs.Runs.{IsStopFor};
+ghost use Rattle.std.specs.Prelude.{◌≡◌, ◌⊎◌, IfOk, IfErr, List, ℕ, map, string_bytes};
+ghost use Rattle.cuestore.specs.Faults.{IsMemory, IsTold};
+ghost use Rattle.cuestore.specs.Runs.{Around, IsAnswerTo, IsAnswerToWords, IsFaultOfWords, IsRun};
+ghost use Rattle.cuestore.specs.Runs.{IsStopTo};
+ghost use Rattle.cuestore.specs.Words.{asked_by, merging};
+ghost use Rattle.cue_program.specs.Files.{texts};
+ghost use Rattle.std.specs.Io.KnownBytes.{Appends};
 
-use crate::command::{Command, Request, given_words, request_of};
+use crate::command::{Command, command_of, given_words};
 use crate::fault::Fault;
-use cue_program::{Question, Reply, Status, Stop, merge_into, reply_for, tell};
+use cue_program::{Answer, Shelf, Status, Stop, answer_for, merge_into, tell};
 use std::alloc::Global;
 use std::env::Env;
 use std::io::{Read, Write};
-use std::rt::Files;
 
 /// Runs the program on the words after its name, and answers the exit status: 0 done, 1 refused or
 /// a usage fault, 2 conflicts, 3 incomplete, 4 a device fault.
@@ -20,120 +21,160 @@ use std::rt::Files;
 /// `input` has: one state, or texts, which are split at lines that are exactly `---`. `export`
 /// writes to `out` the JSON and a line break, or the conflict lines, or the incomplete lines;
 /// `print` the canonical text; `report` the conflict lines and then the incomplete lines; `state`
-/// the state bytes. `merge` writes the state bytes to the file that it names first. The first
-/// refused input ends the run with the line `refused NUMBER NAME at PLACE in K`, which goes to
-/// `out` too. `usage fault` and `device fault` go to `faults`.
-pub fn act<H: AllocGlobal + Files, R: Read, W: Write, F: Write>(
-    rt: &H,
+/// the state bytes. `merge` puts the state bytes at the name that stands first. The first refused
+/// input ends the run with the line `refused NUMBER NAME at PLACE in K`, which goes to `out` too.
+/// `usage fault` and `device fault` go to `faults`.
+pub fn act<H: AllocGlobal + Shelf, R: Read, W: Write, F: Write>(
+    rt: &mut H,
     words: &[String],
     input: &mut R,
     out: &mut W,
     faults: &mut F,
 ) -> u8
-    // It ends with 0, 2 or 3 only where what belongs to the command was added to the output: what
-    // is told of a valid table with exactly the answers of the pieces in all inputs.
-    ensures { IsAnswered H.File.contents (map string_bytes words.now) (R.remaining input.old)
-        (W.contents out.old) (W.contents out.new) result
-        ⊎ (result ≡ 1) ⊎ (result ≡ 4) }
+    ensures { IsRun (map string_bytes words.now) (record {
+      before = H.held rt.old;
+      after = H.held rt.new;
+      input = R.remaining input.old;
+    })
+        (W.contents out.old) (W.contents out.new) result }
 {
-    let fault = match reply_to(rt, words, input) {
-        Ok(reply) => match tell(out, &reply.bytes) {
-            Ok(()) => return reply.status.code(),
-            Err(stop) => Fault::from(stop),
+    match reply_to(rt, words, input) {
+        Ok(answer) => match tell(out, &answer.bytes) {
+            Ok(()) => answer.status.code(),
+            Err(_) => {
+                let _ = tell(faults, b"device fault\n");
+                4
+            }
         },
-        Err(fault) => fault,
-    };
-    report(rt.alloc(), &fault, out, faults).code()
+        Err(fault) => report(rt.alloc(), &fault, out, faults),
+    }
 }
 
 /// Runs the program on the words that the process was given, as `act` does. Words that can't be
 /// read are a usage fault, or there is no memory for them.
-pub fn run<H: AllocGlobal + Env + Files, R: Read, W: Write, F: Write>(
-    rt: &H,
+pub fn run<H: AllocGlobal + Env + Shelf, R: Read, W: Write, F: Write>(
+    rt: &mut H,
     input: &mut R,
     out: &mut W,
     faults: &mut F,
 ) -> u8
-    ensures { ((words : List (List ℕ)) × IsAnswered H.File.contents words (R.remaining input.old)
+    ensures { ((words : List (List ℕ)) × IsRun words (record {
+      before = H.held rt.old;
+      after = H.held rt.new;
+      input = R.remaining input.old;
+    })
         (W.contents out.old) (W.contents out.new) result)
-        ⊎ (result ≡ 1) ⊎ (result ≡ 4) }
+        ⊎ ((fault : Fault) × ((fault ≡ Fault.Usage) ⊎ IsMemory fault)
+        × IsTold fault result (W.contents out.old) (W.contents out.new)) }
 {
-    match given_words(rt) {
+    match given_words(&*rt) {
         Ok(words) => act(rt, &words, input, out, faults),
-        Err(fault) => report(rt.alloc(), &fault, out, faults).code(),
+        Err(fault) => report(rt.alloc(), &fault, out, faults),
     }
 }
 
 /// What the command that the words ask for prints.
-fn reply_to<H: AllocGlobal + Files, R: Read>(
-    rt: &H,
+fn reply_to<H: AllocGlobal + Shelf, R: Read>(
+    rt: &mut H,
     words: &[String],
     input: &mut R,
-) -> Result<Reply, Fault>
-    ensures reply { IfOk result (IsReplyToWords H.File.contents (map string_bytes words.now)
-        (R.remaining input.old)) }
-    ensures fault { IfErr result (IsFaultFor (map string_bytes words.now) (R.remaining input.old)) }
+) -> Result<Answer, Fault>
+    ensures answer { IfOk result (IsAnswerToWords (map string_bytes words.now) (record {
+      before = H.held rt.old;
+      after = H.held rt.new;
+      input = R.remaining input.old;
+    })) }
+    ensures fault { IfErr result (IsFaultOfWords (map string_bytes words.now) (record {
+      before = H.held rt.old;
+      after = H.held rt.new;
+      input = R.remaining input.old;
+    })) }
 {
-    let request = request_of(rt.alloc(), words)?;
-    match answer(rt, &request, input) {
-        Ok(reply) => Ok(reply),
-        Err(stop) => Err(Fault::from(stop)),
+    let command = match command_of(rt.alloc(), words) {
+        Ok(command) => command,
+        Err(fault) => return Err(fault),
+    };
+    match answer(rt, &command, input) {
+        Ok(answer) => Ok(answer),
+        Err(stop) => Err(Fault::Stopped(stop)),
     }
 }
 
-/// What is printed for a request.
-fn answer<H: AllocGlobal + Files, R: Read>(
-    rt: &H,
-    request: &Request,
+/// What is printed for a command.
+fn answer<H: AllocGlobal + Shelf, R: Read>(
+    rt: &mut H,
+    command: &Command,
     input: &mut R,
-) -> Result<Reply, Stop>
-    requires { HasEnough request.now.command (texts request.now.arguments.items) }
-    ensures reply { IfOk result (IsReplyOf H.File.contents request.now.command
-        (inputs_of request.now.command (length request.now.arguments.items))
-        (R.remaining input.old)) }
-    ensures stop { IfErr result
-        (IsStopFor (inputs_of request.now.command (length request.now.arguments.items))
-        (R.remaining input.old)) }
+) -> Result<Answer, Stop>
+    ensures answer { IfOk result (IsAnswerTo (asked_by command.now) (record {
+      before = H.held rt.old;
+      after = H.held rt.new;
+      input = R.remaining input.old;
+    })) }
+    ensures stop { IfErr result (IsStopTo (asked_by command.now) (record {
+      before = H.held rt.old;
+      after = H.held rt.new;
+      input = R.remaining input.old;
+    })) }
 {
-    let arguments = request.arguments.as_slice();
-    match request.command {
-        Command::Export => reply_for(rt, Question::Export, arguments, input),
-        Command::Print => reply_for(rt, Question::Print, arguments, input),
-        Command::Report => reply_for(rt, Question::Report, arguments, input),
-        Command::State => reply_for(rt, Question::State, arguments, input),
-        Command::Merge => merge_into(rt, arguments[0], &arguments[1..], input),
+    match command {
+        Command::Ask { question, files } => answer_for(&*rt, *question, files, input),
+        Command::Merge { out, files } => merged(rt, out, files, input),
     }
 }
 
-/// Writes the line of what ended the run.
-pub fn report<W: Write, F: Write>(
-    alloc: Global,
-    fault: &Fault,
-    out: &mut W,
-    faults: &mut F,
-) -> Status
-    ensures { IsStopped result }
+/// Merges, and says nothing.
+fn merged<H: AllocGlobal + Shelf, R: Read>(
+    rt: &mut H,
+    out: &str,
+    files: &[&str],
+    input: &mut R,
+) -> Result<Answer, Stop>
+    ensures answer { IfOk result (IsAnswerTo (merging out.now (texts files.now)) (record {
+      before = H.held rt.old;
+      after = H.held rt.new;
+      input = R.remaining input.old;
+    })) }
+    ensures stop { IfErr result (IsStopTo (merging out.now (texts files.now)) (record {
+      before = H.held rt.old;
+      after = H.held rt.new;
+      input = R.remaining input.old;
+    })) }
 {
+    match merge_into(rt, out, files, input) {
+        Ok(()) => Ok(Answer {
+            bytes: Vec::new(rt.alloc()),
+            status: Status::Done,
+        }),
+        Err(stop) => Err(stop),
+    }
+}
+
+/// Writes the line of what ended the run, and answers the exit status.
+pub fn report<W: Write, F: Write>(alloc: Global, fault: &Fault, out: &mut W, faults: &mut F) -> u8
+    ensures { IsTold fault.now result (W.contents out.old) (W.contents out.new) }
+{
+    if !fault.is_answer() {
+        // Where nothing can be told, the status still is.
+        let _ = tell(faults, fault.word());
+        return fault.status();
+    }
     match format!(in alloc; "{fault}\n") {
-        Ok(line) if fault.is_answer() => refuse(line.as_str(), out, faults),
-        Ok(line) => {
-            // Where nothing can be told, the status still is.
-            let _ = tell(faults, line.as_bytes());
-            fault.status()
-        }
+        Ok(line) => refuse(line.as_str(), out, faults),
         Err(_) => refuse("refused 24 Memory\n", out, faults),
     }
 }
 
 /// Writes the line of a refusal.
-fn refuse<W: Write, F: Write>(line: &str, out: &mut W, faults: &mut F) -> Status
-    ensures { IsStopped result }
+fn refuse<W: Write, F: Write>(line: &str, out: &mut W, faults: &mut F) -> u8
+    ensures { ((result ≡ 1) × Appends (W.contents out.old) (W.contents out.new) line.now)
+        ⊎ (result ≡ 4) }
 {
     match tell(out, line.as_bytes()) {
-        Ok(()) => Status::Refused,
+        Ok(()) => 1,
         Err(_) => {
             let _ = tell(faults, b"device fault\n");
-            Status::Device
+            4
         }
     }
 }

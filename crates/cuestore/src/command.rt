@@ -1,44 +1,39 @@
-ghost use Rattle.std.specs.Prelude.{◌≡◌, ◌≢◌, ◌↔◌, IfOk, IfErr, IfSome, IsTrue};
+ghost use Rattle.std.specs.Prelude.{◌≡◌, ◌≢◌, ◌⊎◌, IfOk, IfErr, IfSome, None, Some};
 ghost use Rattle.std.specs.Prelude.{drop, map, string_bytes};
+ghost use Rattle.std.specs.Option.{option_map};
 ghost use Rattle.std.specs.IoError.{error_kind};
 ghost use Rattle.std.specs.Vec.Iter.{into_iter_items};
 ghost use Rattle.std.specs.declared.io.ErrorKind.TheVariants.{OutOfMemory};
-ghost use Rattle.cuestore.specs.Faults.{IsWordFault, TellsMemory};
-ghost use Rattle.cuestore.specs.Words.{name_of, texts, IsOption, AreArguments, Goes, AsksFor};
+ghost use Rattle.cue_program.specs.Files.{texts};
+ghost use Rattle.cuestore.specs.Faults.{IsMemory};
+ghost use Rattle.cuestore.specs.Words.{arguments, asked, asked_by, asking, is_option};
+ghost use Rattle.cuestore.specs.Words.{meant, merged};
+ghost use Rattle.cuestore.specs.inner.Scanning.{Goes, IsNone};
 
 use crate::fault::Fault;
-use clap::error::ErrorKind;
-use clap::{Arg, ArgAction, Error};
-use cue_program::{Memory, Stop};
+use cue_program::{Memory, Question, Stop};
 use std::alloc::{AllocError, Global};
 use std::env::{Args, Env};
 use std::{env, io};
 
 /// What the program is asked to do.
-#[derive(Clone, Copy, Debug, PartialEq, Eq)]
-pub enum Command {
-    /// Print the JSON, or the conflicts, or what is incomplete.
-    Export,
-    /// Print the canonical text.
-    Print,
-    /// Print the conflicts, and then what is incomplete.
-    Report,
-    /// Write the state bytes to the output.
-    State,
-    /// Write the state bytes to a file.
-    Merge,
-}
-
-/// A command, and its arguments: files, for `Merge` the one to write first.
 #[derive(Drop)]
-pub struct Request<'a> {
-    pub command: Command,
-    pub arguments: Vec<&'a str>,
+pub enum Command<'w> {
+    /// Print the answer to a question about the inputs.
+    Ask {
+        question: Question,
+        files: Vec<&'w str>,
+    },
+    /// Put the state of the inputs at a name.
+    Merge {
+        out: &'w str,
+        files: Vec<&'w str>,
+    },
 }
 
 /// The words after the program's name. One that is not UTF-8 is a usage fault.
 pub fn given_words<H: AllocGlobal + Env>(rt: &H) -> Result<Vec<String>, Fault>
-    ensures fault { IfErr result IsWordFault }
+    ensures fault { IfErr result (λ fault. (fault ≡ Fault.Usage) ⊎ IsMemory fault) }
 {
     match env::args(rt) {
         Ok(all) => Ok(after_the_name(rt.alloc(), all)?),
@@ -55,70 +50,105 @@ fn after_the_name(alloc: Global, all: Args) -> Result<Vec<String>, AllocError>
 
 /// What is told where the words can't be read.
 pub fn unread(error: &io::Error) -> Fault
-    ensures memory { error_kind error.now ≡ OutOfMemory → TellsMemory result }
+    ensures memory { error_kind error.now ≡ OutOfMemory → IsMemory result }
     ensures usage { error_kind error.now ≢ OutOfMemory → result ≡ Fault.Usage }
-    ensures fault { IsWordFault result }
+    ensures fault { (result ≡ Fault.Usage) ⊎ IsMemory result }
 {
     match error.kind() {
-        io::ErrorKind::OutOfMemory => Fault::from(Stop::from(Memory)),
+        io::ErrorKind::OutOfMemory => Fault::Stopped(Stop::from(Memory)),
         _ => Fault::Usage,
     }
 }
 
-/// What the words after the program's name ask for. All other words are a usage fault.
-pub fn request_of<'a>(alloc: Global, words: &'a [String]) -> Result<Request<'a>, Fault>
-    ensures asks { IfOk result (λ request. AsksFor (map string_bytes words.now)
-        request.command (texts request.arguments.items)) }
-    ensures fault { IfErr result IsWordFault }
+/// What the words after the program's name ask for.
+///
+/// # Errors
+///
+/// `Usage` where they ask for nothing, and want of memory.
+pub fn command_of<'w>(alloc: Global, words: &'w [String]) -> Result<Command<'w>, Fault>
+    ensures asks { IfOk result (λ command.
+        asked (map string_bytes words.now) ≡ Some (asked_by command)) }
+    ensures fault { IfErr result (λ fault.
+        ((fault ≡ Fault.Usage) × (asked (map string_bytes words.now) ≡ None))
+        ⊎ IsMemory fault) }
 {
-    let Some((first, others)) = words.split_first() else {
+    let Some((name, others)) = words.split_first() else {
         return Err(Fault::Usage);
     };
-    let Some(command) = named(first.as_str()) else {
-        return Err(Fault::Usage);
+    let files = match arguments_of(alloc, others) {
+        Ok(files) => files,
+        Err(fault) => return Err(fault),
     };
-    let arguments = arguments_of(alloc, others)?;
-    if command == Command::Merge && arguments.is_empty() {
-        return Err(Fault::Usage);
-    }
-    check(alloc, words)?;
-    Ok(Request { command, arguments })
-}
-
-/// The command of this name.
-fn named(word: &str) -> Option<Command>
-    ensures { IfSome result (λ command. word.now ≡ name_of command) }
-{
-    match word {
-        "export" => Some(Command::Export),
-        "print" => Some(Command::Print),
-        "report" => Some(Command::Report),
-        "state" => Some(Command::State),
-        "merge" => Some(Command::Merge),
-        _ => None,
+    match named(name.as_str(), files) {
+        Some(command) => Ok(command),
+        None => Err(Fault::Usage),
     }
 }
 
-/// The arguments that the words after a command's name give.
-fn arguments_of<'a>(alloc: Global, words: &'a [String]) -> Result<Vec<&'a str>, Fault>
-    ensures arguments { IfOk result (λ arguments. AreArguments (map string_bytes words.now)
-        (texts arguments.items)) }
-    ensures fault { IfErr result IsWordFault }
+/// The command of this name, with these arguments.
+fn named<'w>(name: &str, files: Vec<&'w str>) -> Option<Command<'w>>
+    ensures { option_map asked_by result ≡ meant name.now (texts files.entry.items) }
 {
-    let mut arguments = Vec::with_capacity(alloc, words.len())?;
+    if name == "export" {
+        Some(ask(Question::Export, files))
+    } else if name == "print" {
+        Some(ask(Question::Print, files))
+    } else if name == "report" {
+        Some(ask(Question::Report, files))
+    } else if name == "state" {
+        Some(ask(Question::State, files))
+    } else if name == "merge" {
+        merge(files)
+    } else {
+        None
+    }
+}
+
+fn ask<'w>(question: Question, files: Vec<&'w str>) -> Command<'w>
+    ensures { asked_by result ≡ asking question (texts files.entry.items) }
+{
+    Command::Ask { question, files }
+}
+
+/// A merge to the first of these files, of the others.
+fn merge<'w>(mut files: Vec<&'w str>) -> Option<Command<'w>>
+    ensures { option_map asked_by result ≡ merged (texts files.entry.items) }
+{
+    if files.is_empty() {
+        return None;
+    }
+    let out = files.remove(0);
+    Some(Command::Merge { out, files })
+}
+
+/// The arguments among the words after a command's name.
+#[tactic(auto, using(crate::proofs::Arguments::resumed_none))]
+fn arguments_of<'w>(alloc: Global, words: &'w [String]) -> Result<Vec<&'w str>, Fault>
+    ensures arguments { IfOk result (λ files.
+        Some (texts files.items) ≡ arguments (map string_bytes words.now)) }
+    ensures fault { IfErr result (λ fault.
+        ((fault ≡ Fault.Usage) × (arguments (map string_bytes words.now) ≡ None))
+        ⊎ IsMemory fault) }
+{
+    let mut files = Vec::with_capacity(alloc, words.len())?;
     let mut ended = false;
     for word in words {
-        ended = add(&mut arguments, ended, word.as_str())?;
+        match add(&mut files, ended, word.as_str()) {
+            Ok(after) => ended = after,
+            Err(fault) => return Err(fault),
+        }
     }
-    Ok(arguments)
+    Ok(files)
 }
 
 /// Adds a word to the arguments, where it is one, and says whether a `--` has stood before what
 /// follows, by whether one has stood before it.
-fn add<'a>(arguments: &mut Vec<&'a str>, ended: bool, word: &'a str) -> Result<bool, Fault>
+fn add<'w>(files: &mut Vec<&'w str>, ended: bool, word: &'w str) -> Result<bool, Fault>
     ensures goes { IfOk result (λ after. Goes ended after word.now
-        (texts arguments.old.items) (texts arguments.new.items)) }
-    ensures fault { IfErr result IsWordFault }
+        (texts files.old.items) (texts files.new.items)) }
+    ensures fault { IfErr result (λ fault.
+        ((fault ≡ Fault.Usage) × IsNone ended word.now (texts files.old.items))
+        ⊎ IsMemory fault) }
 {
     if !ended && word == "--" {
         return Ok(true);
@@ -126,45 +156,14 @@ fn add<'a>(arguments: &mut Vec<&'a str>, ended: bool, word: &'a str) -> Result<b
     if !ended && is_option(word) {
         return Err(Fault::Usage);
     }
-    arguments.push(word)?;
+    files.push(word)?;
     Ok(ended)
 }
 
 /// Whether the word begins with `-` and has more characters.
 fn is_option(word: &str) -> bool
-    ensures { IsTrue result ↔ IsOption word.now }
+    ensures { result ≡ is_option word.now }
 {
     let bytes = word.as_bytes();
     bytes.len() > 1 && bytes[0] == b'-'
-}
-
-/// Whether `clap` takes the words too.
-fn check(alloc: Global, words: &[String]) -> Result<(), Fault>
-    ensures { IfErr result IsWordFault }
-{
-    let mut all = Vec::with_capacity(alloc, 1 + words.len())?;
-    all.push("cuestore")?;
-    for word in words {
-        all.push(word.as_str())?;
-    }
-    match parsed(alloc, &all) {
-        Ok(()) => Ok(()),
-        Err(error) if error.kind() == ErrorKind::OutOfMemory => {
-            Err(Fault::from(Stop::from(Memory)))
-        }
-        Err(_) => Err(Fault::Usage),
-    }
-}
-
-/// Reads the words by `clap`.
-fn parsed<'a>(alloc: Global, words: &'a [&'a str]) -> Result<(), Error> {
-    let mut program = clap::Command::new(alloc, "cuestore");
-    for name in ["export", "print", "report", "state", "merge"] {
-        let files = Arg::new(alloc, "FILE")
-            .action(ArgAction::Append)
-            .num_args(0..);
-        program = program.subcommand(clap::Command::new(alloc, name).arg(files)?)?;
-    }
-    program.try_get_matches_from(words)?;
-    Ok(())
 }

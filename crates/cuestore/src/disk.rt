@@ -4,7 +4,7 @@ ghost use Rattle.std.specs.Io.{WritesAtMost};
 use std::alloc::{Allocator, Global};
 use std::cell::{Cell, RefCell};
 use std::env::{Env, FillError};
-use std::fs::{Metadata, OpenFile, OpenOptions};
+use std::fs::{Metadata, OpenFile, OpenOptions, Permissions};
 use std::io;
 use std::io::{ErrorKind, Read, Seek, SeekFrom, Write};
 use std::rt::Files;
@@ -17,29 +17,43 @@ pub enum Entry<'a> {
     Cut(&'a [u8]),
 }
 
-/// The words of a process, its files by their names, and what was written to a file. Only the names
-/// that begin with `out` can be written.
+/// What lies at the place `out`.
+#[derive(Clone, Copy, Debug, PartialEq, Eq)]
+pub enum Out {
+    Nothing,
+    File,
+    /// A file, beside which a file `out.part` lies that was left there.
+    FileAndPart,
+    /// Neither a file nor nothing.
+    Special,
+}
+
+/// The words of a process, its files by their names, and what was written. Only `out` and the names
+/// that begin with `out.` can be written.
 #[derive(Drop)]
 pub struct Disk<'a> {
     pub alloc: Global,
     /// The first is the program's name.
     pub words: &'a [&'a [u8]],
     pub files: &'a [(&'a str, Entry<'a>)],
-    /// How often a file was opened to be read.
-    pub opened: Cell<usize>,
-    /// How many files were opened before the one that is written; nothing, where none is.
-    pub created_after: Cell<Option<usize>>,
-    pub room: usize,
-    pub written: &'a RefCell<Vec<u8>>,
+    pub out: Out,
+    /// After so many further calls each call fails.
+    pub calls: &'a Cell<usize>,
+    /// What was done to `out` and beside it, a line for each call.
+    pub log: &'a RefCell<Vec<u8>>,
+    /// The bytes at `out`, and those of a new file beside it.
+    pub bytes: &'a RefCell<Vec<u8>>,
+    pub part: &'a RefCell<Vec<u8>>,
 }
 
-/// An open file: what is left to read, whether the next read at its end fails, and how many bytes
-/// can still be written.
+/// An open file: what is left to read, whether the next read at its end fails, and where what is
+/// written goes.
 #[derive(Drop)]
 pub struct Opened<'a> {
     rest: &'a [u8],
     fails: bool,
-    room: usize,
+    calls: &'a Cell<usize>,
+    log: &'a RefCell<Vec<u8>>,
     written: &'a RefCell<Vec<u8>>,
 }
 
@@ -83,6 +97,69 @@ fn unsupported<T>() -> io::Result<T> {
     Err(io::Error::from(ErrorKind::Unsupported))
 }
 
+/// Adds a line to a log, and fails once the calls are used up.
+fn note(calls: &Cell<usize>, log: &RefCell<Vec<u8>>, what: &str, name: &str) -> io::Result<()> {
+    let Ok(mut log) = log.try_borrow_mut() else {
+        return Err(io::Error::from(ErrorKind::ResourceBusy));
+    };
+    log.extend_from_slice(what.as_bytes())?;
+    log.extend_from_slice(name.as_bytes())?;
+    log.push(b'\n')?;
+    let left = calls.get();
+    if left == 0 {
+        return Err(io::Error::from(ErrorKind::Other));
+    }
+    calls.set(left - 1);
+    Ok(())
+}
+
+/// Puts these bytes in the place of others.
+fn put(to: &RefCell<Vec<u8>>, bytes: &[u8]) -> io::Result<()> {
+    let Ok(mut to) = to.try_borrow_mut() else {
+        return Err(io::Error::from(ErrorKind::ResourceBusy));
+    };
+    to.clear();
+    to.extend_from_slice(bytes)?;
+    Ok(())
+}
+
+impl<'a> Disk<'a> {
+    fn opened(&self, rest: &'a [u8], fails: bool, written: &'a RefCell<Vec<u8>>) -> Opened<'a> {
+        Opened {
+            rest,
+            fails,
+            calls: self.calls,
+            log: self.log,
+            written,
+        }
+    }
+
+    /// The file that is written: a new one, or `out` itself.
+    fn open_to_write(&self, how: &OpenOptions, path: &str) -> io::Result<Opened<'a>> {
+        if how.asks_create_new() {
+            note(self.calls, self.log, "new ", path)?;
+            if path == "out.part" && self.out == Out::FileAndPart {
+                return Err(io::Error::from(ErrorKind::AlreadyExists));
+            }
+            return Ok(self.opened(&[], false, self.part));
+        }
+        note(self.calls, self.log, "open ", path)?;
+        Ok(self.opened(&[], false, self.bytes))
+    }
+
+    fn open_to_read(&self, path: &str) -> io::Result<Opened<'a>> {
+        for (name, entry) in self.files {
+            if *name == path {
+                return Ok(match entry {
+                    Entry::Bytes(bytes) => self.opened(bytes, false, self.part),
+                    Entry::Cut(bytes) => self.opened(bytes, true, self.part),
+                });
+            }
+        }
+        Err(io::Error::from(ErrorKind::NotFound))
+    }
+}
+
 impl<'a> Files for Disk<'a> {
     type File = Opened<'a>;
 
@@ -90,58 +167,53 @@ impl<'a> Files for Disk<'a> {
 
     fn open_file(&self, how: &OpenOptions, path: &str) -> io::Result<Opened<'a>> {
         how.check()?;
-        if how.asks_write() {
-            if !path.starts_with("out") {
-                return Err(io::Error::from(ErrorKind::PermissionDenied));
-            }
-            self.created_after.set(Some(self.opened.get()));
-            return Ok(Opened {
-                rest: &[],
-                fails: false,
-                room: self.room,
-                written: self.written,
-            });
+        if !how.asks_write() {
+            return self.open_to_read(path);
         }
-        self.opened.set(self.opened.get().saturating_add(1));
-        for (name, entry) in self.files {
-            if *name == path {
-                let (rest, fails) = match entry {
-                    Entry::Bytes(bytes) => (*bytes, false),
-                    Entry::Cut(bytes) => (*bytes, true),
-                };
-                return Ok(Opened {
-                    rest,
-                    fails,
-                    room: 0,
-                    written: self.written,
-                });
-            }
+        if path != "out" && !path.starts_with("out.") {
+            return Err(io::Error::from(ErrorKind::PermissionDenied));
         }
-        Err(io::Error::from(ErrorKind::NotFound))
+        self.open_to_write(how, path)
     }
 
     fn open_dir(&self, _path: &str) -> io::Result<io::Empty> {
         unsupported()
     }
 
-    fn metadata(&self, _path: &str) -> io::Result<Metadata> {
-        unsupported()
+    fn metadata(&self, path: &str) -> io::Result<Metadata> {
+        note(self.calls, self.log, "look ", path)?;
+        match self.out {
+            Out::Nothing => Err(io::Error::from(ErrorKind::NotFound)),
+            Out::File | Out::FileAndPart => Ok(Metadata::of_file(0)),
+            Out::Special => Ok(Metadata::of_dir()),
+        }
     }
 
     fn symlink_metadata(&self, _path: &str) -> io::Result<Metadata> {
-        unsupported()
+        match self.out {
+            Out::Nothing => Err(io::Error::from(ErrorKind::NotFound)),
+            Out::File | Out::FileAndPart => Ok(Metadata::of_file(0)),
+            Out::Special => Ok(Metadata::of_dir()),
+        }
     }
 
     fn copy(&self, _from: &str, _to: &str) -> io::Result<u64> {
         unsupported()
     }
 
-    fn rename(&self, _from: &str, _to: &str) -> io::Result<()> {
-        unsupported()
+    fn rename(&self, from: &str, to: &str) -> io::Result<()> {
+        note(self.calls, self.log, "move ", from)?;
+        if to != "out" {
+            return unsupported();
+        }
+        match self.part.try_borrow() {
+            Ok(part) => put(self.bytes, &part),
+            Err(_) => Err(io::Error::from(ErrorKind::ResourceBusy)),
+        }
     }
 
-    fn remove_file(&self, _path: &str) -> io::Result<()> {
-        unsupported()
+    fn remove_file(&self, path: &str) -> io::Result<()> {
+        note(self.calls, self.log, "remove ", path)
     }
 
     fn create_dir(&self, _path: &str) -> io::Result<()> {
@@ -168,12 +240,12 @@ impl<'a> Read for Opened<'a> {
 
 impl<'a> Write for Opened<'a> {
     fn write(&mut self, buf: &[u8]) -> io::Result<usize> {
-        let count = buf.len().min(self.room);
+        note(self.calls, self.log, "write", "")?;
         let Ok(mut written) = self.written.try_borrow_mut() else {
             return Err(io::Error::from(ErrorKind::ResourceBusy));
         };
+        let count = buf.len().min(50);
         written.extend_from_slice(&buf[..count])?;
-        self.room -= count;
         Ok(count)
     }
 
@@ -198,10 +270,14 @@ impl<'a> OpenFile for Opened<'a> {
     }
 
     fn sync_all(&self) -> io::Result<()> {
-        unsupported()
+        note(self.calls, self.log, "sync", "")
     }
 
     fn sync_data(&self) -> io::Result<()> {
         unsupported()
+    }
+
+    fn set_permissions(&self, _perm: Permissions) -> io::Result<()> {
+        note(self.calls, self.log, "mode", "")
     }
 }

@@ -12,9 +12,9 @@ mod tests;
 use act::run;
 use std::process::ExitCode;
 
-fn main(rt: HostRuntime) -> ExitCode {
+fn main(mut rt: HostRuntime) -> ExitCode {
     let mut input = rt.stdin();
     let mut out = rt.stdout();
     let mut faults = rt.stderr();
-    ExitCode::from(run(&rt, &mut input, &mut out, &mut faults))
+    ExitCode::from(run(&mut rt, &mut input, &mut out, &mut faults))
 }

@@ -13,9 +13,9 @@ mod texts;
 mod words;
 
 use crate::act::act;
+use cue_program::Shelf;
 use std::alloc::Global;
 use std::io::Read;
-use std::rt::Files;
 use std::test::Fail;
 
 /// What a run wrote, and how it ended.
@@ -44,7 +44,7 @@ fn owned(alloc: Global, words: &[&str]) -> Result<Vec<String>, Fail> {
 
 /// The run over these words and this input. No contract says what it writes, so that the proof of a
 /// caller is short.
-fn acted<H: AllocGlobal + Files, R: Read>(rt: &H, words: &[String], input: &mut R) -> Run {
+fn acted<H: AllocGlobal + Shelf, R: Read>(rt: &mut H, words: &[String], input: &mut R) -> Run {
     let mut out = Vec::new(rt.alloc());
     let mut faults = Vec::new(rt.alloc());
     let status = act(rt, words, input, &mut out, &mut faults);
@@ -55,14 +55,14 @@ fn acted<H: AllocGlobal + Files, R: Read>(rt: &H, words: &[String], input: &mut 
     }
 }
 
-fn ran<H: AllocGlobal + Files>(rt: &H, words: &[&str], mut input: &[u8]) -> Result<Run, Fail> {
+fn ran<H: AllocGlobal + Shelf>(rt: &mut H, words: &[&str], mut input: &[u8]) -> Result<Run, Fail> {
     let words = owned(rt.alloc(), words)?;
     Ok(acted(rt, &words, &mut input))
 }
 
 /// Whether a run over these words and this input ends with this status, and writes this.
-fn answers<H: AllocGlobal + Files>(
-    rt: &H,
+fn answers<H: AllocGlobal + Shelf>(
+    rt: &mut H,
     words: &[&str],
     input: &[u8],
     status: u8,
@@ -74,8 +74,8 @@ fn answers<H: AllocGlobal + Files>(
 }
 
 /// Whether a run over these words and this input ends well and writes just these bytes.
-fn writes<H: AllocGlobal + Files>(
-    rt: &H,
+fn writes<H: AllocGlobal + Shelf>(
+    rt: &mut H,
     words: &[&str],
     input: &[u8],
     bytes: &[u8],
@@ -85,8 +85,8 @@ fn writes<H: AllocGlobal + Files>(
 }
 
 /// Whether the export of these texts ends with this status, and prints this.
-fn exports<H: AllocGlobal + Files>(
-    rt: &H,
+fn exports<H: AllocGlobal + Shelf>(
+    rt: &mut H,
     texts: &str,
     status: u8,
     out: &str,
@@ -95,8 +95,8 @@ fn exports<H: AllocGlobal + Files>(
 }
 
 /// Whether the export of these bytes ends with this status, and prints this.
-fn exports_bytes<H: AllocGlobal + Files>(
-    rt: &H,
+fn exports_bytes<H: AllocGlobal + Shelf>(
+    rt: &mut H,
     bytes: &[u8],
     status: u8,
     out: &str,
@@ -105,11 +105,11 @@ fn exports_bytes<H: AllocGlobal + Files>(
 }
 
 /// Whether these texts are printed so.
-fn prints<H: AllocGlobal + Files>(rt: &H, texts: &str, out: &str) -> Result<bool, Fail> {
+fn prints<H: AllocGlobal + Shelf>(rt: &mut H, texts: &str, out: &str) -> Result<bool, Fail> {
     answers(rt, &["print"], texts.as_bytes(), 0, out, "")
 }
 
 /// The state bytes of a site that has taken these texts.
-fn state_of<H: AllocGlobal + Files>(rt: &H, texts: &str) -> Result<Vec<u8>, Fail> {
+fn state_of<H: AllocGlobal + Shelf>(rt: &mut H, texts: &str) -> Result<Vec<u8>, Fail> {
     Ok(ran(rt, &["state"], texts.as_bytes())?.out)
 }

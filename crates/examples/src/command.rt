@@ -1,5 +1,5 @@
 use anyhow::{Context, anyhow};
-use cue_program::{Question, Stop, merge_into, reply_for};
+use cue_program::{Question, Stop, answer_for, merge_into};
 use std::alloc::Global;
 use std::fs;
 
@@ -128,17 +128,30 @@ fn told(
     for path in &paths {
         names.push(path.as_str())?;
     }
-    let reply = match (question_of(word), names.split_first()) {
-        (Some(question), _) => reply_for(rt, question, &names, &mut input),
-        (None, Some((out, files))) if word == "merge" => merge_into(rt, out, files, &mut input),
-        _ => return Err(anyhow!("no word of cuestore: {word}")),
-    };
-    match reply {
-        Ok(reply) => Ok(Printed {
-            status: reply.status.code(),
-            bytes: reply.bytes,
-        }),
-        Err(stop) => stopped(rt.alloc(), stop),
+    match (question_of(word), names.split_first()) {
+        (Some(question), _) => match answer_for(rt, question, &names, &mut input) {
+            Ok(answer) => Ok(Printed {
+                status: answer.status.code(),
+                bytes: answer.bytes,
+            }),
+            Err(stop) => stopped(rt.alloc(), stop),
+        },
+        (None, Some((out, files))) if word == "merge" => merged(rt, out, files, &mut input),
+        _ => Err(anyhow!("no word of cuestore: {word}")),
+    }
+}
+
+/// What `cuestore` prints that merges files of a folder.
+fn merged(
+    mut rt: &HostRuntime,
+    out: &str,
+    files: &[&str],
+    input: &mut &[u8],
+) -> anyhow::Result<Printed> {
+    let alloc = rt.alloc();
+    match merge_into(&mut rt, out, files, input) {
+        Ok(()) => Ok(Printed::nothing(alloc)),
+        Err(stop) => stopped(alloc, stop),
     }
 }
 

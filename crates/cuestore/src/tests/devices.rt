@@ -1,9 +1,9 @@
 //! Readers and writers that fail, and how often one is read.
 use super::{acted, owned};
 use crate::act::act;
+use cue_program::Shelf;
 use std::io;
 use std::io::{ErrorKind, Read, Write};
-use std::rt::Files;
 use std::test::Fail;
 
 /// A reader and a writer that fail.
@@ -58,8 +58,8 @@ impl Write for Stuck {
 }
 
 /// Exports what the reader gives, and answers how that ended.
-fn exported<H: AllocGlobal + Files, R: Read, W: Write>(
-    rt: &H,
+fn exported<H: AllocGlobal + Shelf, R: Read, W: Write>(
+    rt: &mut H,
     input: &mut R,
     out: &mut W,
     faults: &mut Vec<u8>,
@@ -69,8 +69,8 @@ fn exported<H: AllocGlobal + Files, R: Read, W: Write>(
 }
 
 /// Whether an export from this reader to this writer tells that a device failed.
-fn tells_a_fault<H: AllocGlobal + Files, R: Read, W: Write>(
-    rt: &H,
+fn tells_a_fault<H: AllocGlobal + Shelf, R: Read, W: Write>(
+    rt: &mut H,
     input: &mut R,
     out: &mut W,
 ) -> Result<bool, Fail> {
@@ -80,47 +80,52 @@ fn tells_a_fault<H: AllocGlobal + Files, R: Read, W: Write>(
 }
 
 /// Whether an export from a reader that fails tells it, and writes nothing.
-fn tells_a_failing_reader<H: AllocGlobal + Files>(rt: &H) -> Result<bool, Fail> {
+fn tells_a_failing_reader<H: AllocGlobal + Shelf>(rt: &mut H) -> Result<bool, Fail> {
     let mut out = Vec::new(rt.alloc());
     Ok(tells_a_fault(rt, &mut Broken, &mut out)? && out.is_empty())
 }
 
 /// Whether an export of this text to a writer that fails tells it.
-fn tells_a_failing_writer<H: AllocGlobal + Files>(rt: &H, text: &str) -> Result<bool, Fail> {
+fn tells_a_failing_writer<H: AllocGlobal + Shelf>(rt: &mut H, text: &str) -> Result<bool, Fail> {
     tells_a_fault(rt, &mut text.as_bytes(), &mut Broken)
 }
 
 #[test]
-fn tells_failing_devices(rt: HostRuntime) -> Result<(), Fail> {
-    assert!(rt; tells_a_failing_reader(&rt)?);
-    assert!(rt; tells_a_failing_writer(&rt, "a: 1\n")?);
-    assert!(rt; tells_a_failing_writer(&rt, "a 1\n")?);
+fn tells_failing_devices(mut rt: HostRuntime) -> Result<(), Fail> {
+    assert!(rt; tells_a_failing_reader(&mut rt)?);
+    assert!(rt; tells_a_failing_writer(&mut rt, "a: 1\n")?);
+    assert!(rt; tells_a_failing_writer(&mut rt, "a 1\n")?);
     Ok(())
 }
 
 /// Whether an export of this text tells that its bytes do not get out.
-fn tells_a_stuck_writer<H: AllocGlobal + Files>(rt: &H, text: &str) -> Result<bool, Fail> {
+fn tells_a_stuck_writer<H: AllocGlobal + Shelf>(rt: &mut H, text: &str) -> Result<bool, Fail> {
     tells_a_fault(rt, &mut text.as_bytes(), &mut Stuck)
 }
 
 #[test]
-fn tells_bytes_that_do_not_get_out(rt: HostRuntime) -> Result<(), Fail> {
-    assert!(rt; tells_a_stuck_writer(&rt, "a: 1\n")?);
-    assert!(rt; tells_a_stuck_writer(&rt, "a: ]\n")?);
+fn tells_bytes_that_do_not_get_out(mut rt: HostRuntime) -> Result<(), Fail> {
+    assert!(rt; tells_a_stuck_writer(&mut rt, "a: 1\n")?);
+    assert!(rt; tells_a_stuck_writer(&mut rt, "a: ]\n")?);
     Ok(())
 }
 
 /// Whether the export of so many empty lines, each read for itself, ends with this status, and
 /// prints this.
-fn drips<H: AllocGlobal + Files>(rt: &H, left: usize, status: u8, out: &str) -> Result<bool, Fail> {
+fn drips<H: AllocGlobal + Shelf>(
+    rt: &mut H,
+    left: usize,
+    status: u8,
+    out: &str,
+) -> Result<bool, Fail> {
     let words = owned(rt.alloc(), &["export"])?;
     let run = acted(rt, &words, &mut Drip { left });
     Ok(run.is(status, out.as_bytes(), b""))
 }
 
 #[test]
-fn reads_so_often_and_no_more(rt: HostRuntime) -> Result<(), Fail> {
-    assert!(rt; drips(&rt, 65_535, 0, "{}\n")?);
-    assert!(rt; drips(&rt, 65_536, 1, "refused 21 TurnsUsed\n")?);
+fn reads_so_often_and_no_more(mut rt: HostRuntime) -> Result<(), Fail> {
+    assert!(rt; drips(&mut rt, 65_535, 0, "{}\n")?);
+    assert!(rt; drips(&mut rt, 65_536, 1, "refused 21 TurnsUsed\n")?);
     Ok(())
 }

@@ -1,25 +1,42 @@
-//! Files that are named, in their order, and those that fail.
+//! Files that are named, in their order, those that fail, and the file that a merge writes.
 use super::states::ONE;
 use super::{Run, answers, ran, writes};
-use crate::disk::{Disk, Entry};
+use crate::disk::{Disk, Entry, Out};
 use std::alloc::Global;
 use std::cell::{Cell, RefCell};
 use std::test::Fail;
 
-/// Files, with a thousand bytes of room for the one that is written.
-pub fn disk<'a>(
-    alloc: Global,
-    files: &'a [(&'a str, Entry<'a>)],
-    written: &'a RefCell<Vec<u8>>,
-) -> Disk<'a> {
+/// What a disk writes to: its log, the bytes at `out`, those beside it, and the calls that it
+/// still takes.
+#[derive(Drop)]
+pub struct Pages {
+    log: RefCell<Vec<u8>>,
+    bytes: RefCell<Vec<u8>>,
+    part: RefCell<Vec<u8>>,
+    calls: Cell<usize>,
+}
+
+/// Nothing was written yet, and `out` is empty.
+pub fn blank_pages(alloc: Global) -> Pages {
+    Pages {
+        log: RefCell::new(Vec::new(alloc)),
+        bytes: RefCell::new(Vec::new(alloc)),
+        part: RefCell::new(Vec::new(alloc)),
+        calls: Cell::new(1_000),
+    }
+}
+
+/// Files, beside a file `out`.
+pub fn disk<'a>(alloc: Global, files: &'a [(&'a str, Entry<'a>)], pages: &'a Pages) -> Disk<'a> {
     Disk {
         alloc,
         words: &[],
         files,
-        opened: Cell::new(0),
-        created_after: Cell::new(None),
-        room: 1_000,
-        written,
+        out: Out::File,
+        calls: &pages.calls,
+        log: &pages.log,
+        bytes: &pages.bytes,
+        part: &pages.part,
     }
 }
 
@@ -41,8 +58,8 @@ pub fn ran_over(
     words: &[&str],
     input: &[u8],
 ) -> Result<Run, Fail> {
-    let written = RefCell::new(Vec::new(alloc));
-    ran(&disk(alloc, files, &written), words, input)
+    let pages = blank_pages(alloc);
+    ran(&mut disk(alloc, files, &pages), words, input)
 }
 
 /// Whether a run over the files that these words name ends with this status, and prints this.
@@ -76,7 +93,7 @@ fn takes_files_in_their_order(rt: HostRuntime) -> Result<(), Fail> {
     Ok(())
 }
 
-/// Whether just these bytes were written.
+/// Whether just these bytes were written there.
 fn has(written: &RefCell<Vec<u8>>, bytes: &[u8]) -> bool {
     match written.try_borrow() {
         Ok(written) => written.as_slice() == bytes,
@@ -84,53 +101,117 @@ fn has(written: &RefCell<Vec<u8>>, bytes: &[u8]) -> bool {
     }
 }
 
-/// Whether the state of `a: 1` is written to the output, of a file and of the input.
-fn writes_to_the_output(disk: &Disk) -> Result<bool, Fail> {
-    Ok(writes(disk, &["state", "a"], b"z: 9\n", ONE)? && writes(disk, &["state"], b"a: 1\n", ONE)?)
-}
-
-/// Whether merging these words' files ends with nothing to tell.
-fn merges(disk: &Disk, words: &[&str], input: &[u8]) -> Result<bool, Fail> {
-    answers(disk, words, input, 0, "", "")
+/// Whether merging these words' files, over what lies at `out`, writes the state of `a: 1` by these
+/// calls.
+fn merges(alloc: Global, out: Out, words: &[&str], input: &[u8], log: &str) -> Result<bool, Fail> {
+    let pages = blank_pages(alloc);
+    let mut disk = disk(alloc, FILES, &pages);
+    disk.out = out;
+    let told = answers(&mut disk, words, input, 0, "", "")?;
+    Ok(told && has(&pages.bytes, ONE) && has(&pages.log, log.as_bytes()))
 }
 
 #[test]
 fn writes_states(rt: HostRuntime) -> Result<(), Fail> {
-    let written = RefCell::new(Vec::new(rt.alloc()));
-    let disk = disk(rt.alloc(), FILES, &written);
-    assert!(rt; writes_to_the_output(&disk)?);
-    assert!(rt; merges(&disk, &["merge", "out", "a", "state", "a"], b"")?);
-    assert!(rt; has(&written, ONE));
-    assert_eq!(rt; disk.created_after.get(), Some(4));
-    assert!(rt; merges(&disk, &["merge", "out"], b"a: 1\n---\nb: 2\n")?);
+    let alloc = rt.alloc();
+    let pages = blank_pages(alloc);
+    let mut disk = disk(alloc, FILES, &pages);
+    assert!(rt; writes(&mut disk, &["state", "a"], b"z: 9\n", ONE)?);
+    assert!(rt; writes(&mut disk, &["state"], b"a: 1\n", ONE)?);
+    assert!(rt; has(&pages.log, b""));
     Ok(())
 }
 
-/// Whether a run over these words tells that a device failed.
-fn fails(disk: &Disk, words: &[&str]) -> Result<bool, Fail> {
-    answers(disk, words, b"", 4, "", "device fault\n")
+/// A file is replaced by a new one with its mode, which reached the disk.
+const REPLACED: &str =
+    "look out\nnew out.part\nlook out\nmode\nwrite\nwrite\nsync\nmove out.part\n";
+
+#[test]
+fn a_merge_replaces_a_file(rt: HostRuntime) -> Result<(), Fail> {
+    let alloc = rt.alloc();
+    let words = ["merge", "out", "a", "state", "a"];
+    assert!(rt; merges(alloc, Out::File, &words, b"", REPLACED)?);
+    assert!(rt; merges(alloc, Out::File, &["merge", "out"], b"a: 1\n", REPLACED)?);
+    let made = "look out\nnew out.part\nwrite\nwrite\nsync\nmove out.part\n";
+    assert!(rt; merges(alloc, Out::Nothing, &words, b"", made)?);
+    let next = "look out\nnew out.part\nnew out.part.part\nlook out\nmode\nwrite\nwrite\nsync\n\
+                move out.part.part\n";
+    assert!(rt; merges(alloc, Out::FileAndPart, &words, b"", next)?);
+    let in_place = "look out\nopen out\nwrite\nwrite\n";
+    assert!(rt; merges(alloc, Out::Special, &words, b"", in_place)?);
+    Ok(())
 }
 
-/// Whether files that can't be read or written are told, and none is created.
-fn creates_no_file(disk: &Disk) -> Result<bool, Fail> {
-    Ok(
-        fails(disk, &["export", "a", "none"])?
-            && fails(disk, &["state", "cut", "a"])?
-            && fails(disk, &["merge", "a", "b"])?
-            && disk.created_after.get().is_none(),
-    )
+/// What a merge does to `out` whose calls after so many fail: whether it tells it, leaves `out`
+/// empty, as it was, and ends its log so.
+fn spares(alloc: Global, calls: usize, end: &[u8]) -> Result<bool, Fail> {
+    let pages = blank_pages(alloc);
+    pages.calls.set(calls);
+    let mut disk = disk(alloc, FILES, &pages);
+    let told = answers(
+        &mut disk,
+        &["merge", "out", "a"],
+        b"",
+        4,
+        "",
+        "device fault\n",
+    )?;
+    Ok(told && has(&pages.bytes, b"") && ends(&pages.log, end))
+}
+
+fn ends(log: &RefCell<Vec<u8>>, end: &[u8]) -> bool {
+    match log.try_borrow() {
+        Ok(log) => log.as_slice().ends_with(end),
+        Err(_) => false,
+    }
+}
+
+#[test]
+fn a_merge_that_fails_spares_the_file(rt: HostRuntime) -> Result<(), Fail> {
+    let alloc = rt.alloc();
+    assert!(rt; spares(alloc, 0, b"look out\n")?);
+    assert!(rt; spares(alloc, 1, b"new out.part\n")?);
+    assert!(rt; spares(alloc, 2, b"look out\nremove out.part\n")?);
+    assert!(rt; spares(alloc, 3, b"mode\nremove out.part\n")?);
+    assert!(rt; spares(alloc, 4, b"mode\nwrite\nremove out.part\n")?);
+    assert!(rt; spares(alloc, 5, b"write\nwrite\nremove out.part\n")?);
+    assert!(rt; spares(alloc, 6, b"sync\nremove out.part\n")?);
+    assert!(rt; spares(alloc, 7, b"move out.part\nremove out.part\n")?);
+    Ok(())
+}
+
+/// Whether a run over these words tells that a device failed, and touches no file.
+fn fails(alloc: Global, words: &[&str]) -> Result<bool, Fail> {
+    let pages = blank_pages(alloc);
+    let mut disk = disk(alloc, FILES, &pages);
+    Ok(answers(&mut disk, words, b"", 4, "", "device fault\n")? && has(&pages.log, b""))
 }
 
 #[test]
 fn tells_failing_files(rt: HostRuntime) -> Result<(), Fail> {
-    let written = RefCell::new(Vec::new(rt.alloc()));
-    let mut disk = disk(rt.alloc(), FILES, &written);
-    assert!(rt; creates_no_file(&disk)?);
+    let alloc = rt.alloc();
+    assert!(rt; fails(alloc, &["export", "a", "none"])?);
+    assert!(rt; fails(alloc, &["state", "cut", "a"])?);
+    assert!(rt; fails(alloc, &["merge", "out", "cut"])?);
+    Ok(())
+}
+
+#[test]
+fn a_refused_file_is_told_before_any_is_written(rt: HostRuntime) -> Result<(), Fail> {
+    let pages = blank_pages(rt.alloc());
+    let mut disk = disk(rt.alloc(), FILES, &pages);
     let refused = "refused 7 Syntax at 3 in 2\n";
-    assert!(rt; answers(&disk, &["merge", "out", "a", "wrong"], b"", 1, refused, "")?);
-    assert_eq!(rt; disk.created_after.get(), None);
-    disk.room = 91;
-    assert!(rt; fails(&disk, &["merge", "out", "a"])?);
+    assert!(rt;
+        answers(
+            &mut disk,
+            &["merge", "out", "a", "wrong"],
+            b"",
+            1,
+            refused,
+            ""
+        )?
+    );
+    assert!(rt; has(&pages.log, b""));
     Ok(())
 }
 

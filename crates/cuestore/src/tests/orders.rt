@@ -2,8 +2,8 @@
 use super::files::ran_over;
 use super::{Run, exports_bytes, ran, state_of, writes};
 use crate::disk::Entry;
+use cue_program::Shelf;
 use std::alloc::Global;
-use std::rt::Files;
 use std::test::Fail;
 
 /// Adds a text behind a separating line.
@@ -25,14 +25,14 @@ fn divided(alloc: Global, texts: &[&str]) -> Result<String, Fail> {
 }
 
 /// The run of a command over these texts.
-fn ran_on<H: AllocGlobal + Files>(rt: &H, command: &str, texts: &[&str]) -> Result<Run, Fail> {
+fn ran_on<H: AllocGlobal + Shelf>(rt: &mut H, command: &str, texts: &[&str]) -> Result<Run, Fail> {
     let all = divided(rt.alloc(), texts)?;
     ran(rt, &[command], all.as_bytes())
 }
 
 /// Whether a command writes these bytes over the texts.
-fn gives<H: AllocGlobal + Files>(
-    rt: &H,
+fn gives<H: AllocGlobal + Shelf>(
+    rt: &mut H,
     command: &str,
     texts: &[&str],
     bytes: &[u8],
@@ -42,8 +42,8 @@ fn gives<H: AllocGlobal + Files>(
 }
 
 /// Whether a command writes these bytes over the texts, and over the same backwards, each twice.
-fn both_ways<H: AllocGlobal + Files>(
-    rt: &H,
+fn both_ways<H: AllocGlobal + Shelf>(
+    rt: &mut H,
     command: &str,
     [one, two, three]: [&str; 3],
     bytes: &[u8],
@@ -53,8 +53,8 @@ fn both_ways<H: AllocGlobal + Files>(
 }
 
 /// Whether a command writes these bytes over the texts in each of their orders.
-fn gives_in_every_order<H: AllocGlobal + Files>(
-    rt: &H,
+fn gives_in_every_order<H: AllocGlobal + Shelf>(
+    rt: &mut H,
     command: &str,
     [one, two, three]: [&str; 3],
     bytes: &[u8],
@@ -67,8 +67,8 @@ fn gives_in_every_order<H: AllocGlobal + Files>(
 }
 
 /// Whether a command refuses none of the texts, and writes the same in each of their orders.
-pub fn agrees_in_every_order<H: AllocGlobal + Files>(
-    rt: &H,
+pub fn agrees_in_every_order<H: AllocGlobal + Shelf>(
+    rt: &mut H,
     command: &str,
     texts: [&str; 3],
 ) -> Result<bool, Fail> {
@@ -77,17 +77,17 @@ pub fn agrees_in_every_order<H: AllocGlobal + Files>(
 }
 
 /// Whether a new site that takes what is printed of these texts has their state.
-pub fn is_printed_again<H: AllocGlobal + Files>(rt: &H, texts: &str) -> Result<bool, Fail> {
+pub fn is_printed_again<H: AllocGlobal + Shelf>(rt: &mut H, texts: &str) -> Result<bool, Fail> {
     let printed = ran(rt, &["print"], texts.as_bytes())?;
     let state = state_of(rt, texts)?;
     writes(rt, &["state"], &printed.out, &state)
 }
 
 #[test]
-fn labels_are_refused_in_every_order(rt: HostRuntime) -> Result<(), Fail> {
+fn labels_are_refused_in_every_order(mut rt: HostRuntime) -> Result<(), Fail> {
     let texts = ["#P: {a: 1}\nx: #P\n", "x: b: 1\n", "x: b: 2\n"];
-    assert!(rt; agrees_in_every_order(&rt, "state", texts)?);
-    assert!(rt; agrees_in_every_order(&rt, "report", texts)?);
+    assert!(rt; agrees_in_every_order(&mut rt, "state", texts)?);
+    assert!(rt; agrees_in_every_order(&mut rt, "report", texts)?);
     Ok(())
 }
 
@@ -98,8 +98,8 @@ fn printed_of<'a>(alloc: Global, text: &'a [u8], state: &'a [u8]) -> Result<Run,
 }
 
 /// Whether a site that takes a text, and the state of a site that took another one, prints this.
-fn prints_with_the_other<H: AllocGlobal + Files>(
-    rt: &H,
+fn prints_with_the_other<H: AllocGlobal + Shelf>(
+    rt: &mut H,
     text: &str,
     other: &str,
     out: &str,
@@ -110,11 +110,11 @@ fn prints_with_the_other<H: AllocGlobal + Files>(
 }
 
 #[test]
-fn two_sites_that_take_each_other_print_the_same(rt: HostRuntime) -> Result<(), Fail> {
+fn two_sites_that_take_each_other_print_the_same(mut rt: HostRuntime) -> Result<(), Fail> {
     let low = "a: >=0 & <=7\n";
     let high = "a: >=3 & <=10\n";
-    assert!(rt; prints_with_the_other(&rt, low, high, "\"a\": >=3 & <=7\n")?);
-    assert!(rt; prints_with_the_other(&rt, high, low, "\"a\": >=3 & <=7\n")?);
+    assert!(rt; prints_with_the_other(&mut rt, low, high, "\"a\": >=3 & <=7\n")?);
+    assert!(rt; prints_with_the_other(&mut rt, high, low, "\"a\": >=3 & <=7\n")?);
     Ok(())
 }
 
@@ -137,7 +137,7 @@ fn ran_on_sent(alloc: Global, states: [&[u8]; 3], words: &[&str]) -> Result<Run,
 }
 
 /// The same, once the three sites have sent their states.
-fn ran_among_three<H: AllocGlobal + Files>(rt: &H, words: &[&str]) -> Result<Run, Fail> {
+fn ran_among_three<H: AllocGlobal + Shelf>(rt: &mut H, words: &[&str]) -> Result<Run, Fail> {
     let first = state_of(rt, "a: >=0\n---\na: <=9\n")?;
     let second = state_of(rt, "b: *1 | 2\n---\nb: int\n")?;
     let third = state_of(rt, "c: {d?: string}\n---\na: 4\n")?;
@@ -146,8 +146,8 @@ fn ran_among_three<H: AllocGlobal + Files>(rt: &H, words: &[&str]) -> Result<Run
 
 /// Whether a site that has run on these words of three, and one that has on those, wrote the same,
 /// which is exported so.
-fn are_equal<H: AllocGlobal + Files>(
-    rt: &H,
+fn are_equal<H: AllocGlobal + Shelf>(
+    rt: &mut H,
     words: &[&str],
     others: &[&str],
     json: &str,
@@ -158,16 +158,16 @@ fn are_equal<H: AllocGlobal + Files>(
 }
 
 #[test]
-fn sites_that_took_the_same_states_are_equal(rt: HostRuntime) -> Result<(), Fail> {
+fn sites_that_took_the_same_states_are_equal(mut rt: HostRuntime) -> Result<(), Fail> {
     let first = ["state", "a0", "a9", "2", "1", "1", "2"];
     let second = ["state", "b1", "b", "2", "0", "0", "2"];
-    assert!(rt; are_equal(&rt, &first, &second, "{\"a\":4,\"b\":1,\"c\":{}}\n")?);
+    assert!(rt; are_equal(&mut rt, &first, &second, "{\"a\":4,\"b\":1,\"c\":{}}\n")?);
     Ok(())
 }
 
 #[test]
-fn a_site_lacks_the_state_that_it_never_took(rt: HostRuntime) -> Result<(), Fail> {
-    let run = ran_among_three(&rt, &["export", "c", "a4", "0"])?;
+fn a_site_lacks_the_state_that_it_never_took(mut rt: HostRuntime) -> Result<(), Fail> {
+    let run = ran_among_three(&mut rt, &["export", "c", "a4", "0"])?;
     assert!(rt; run.is(0, b"{\"a\":4,\"c\":{}}\n", b""));
     Ok(())
 }

@@ -1,73 +1,87 @@
 //! Inputs that are refused: which, why and where.
 use super::{answers, exports, exports_bytes};
+use cue_program::Shelf;
 use std::alloc::Global;
-use std::rt::Files;
 use std::test::Fail;
 
 /// Whether a text of one byte more than may be is refused.
-fn refuses_the_longest<H: AllocGlobal + Files>(rt: &H) -> Result<bool, Fail> {
+fn refuses_the_longest<H: AllocGlobal + Shelf>(rt: &mut H) -> Result<bool, Fail> {
     let long = vec![in rt.alloc(); b'\n'; 1_048_577]?;
     exports_bytes(rt, &long, 1, "refused 1 TooLong at 1048576 in 1\n")
 }
 
 #[test]
-fn refuses_bytes(rt: HostRuntime) -> Result<(), Fail> {
+fn refuses_bytes(mut rt: HostRuntime) -> Result<(), Fail> {
     let free = b"\xFECUE\x01\0\0\0\0\0\0\0\0";
     let other = b"\xFECUE\x09\0\0\0\0\0\0\0\0";
-    assert!(rt; exports_bytes(&rt, free, 3, "incomplete . not a single value\n")?);
-    assert!(rt; exports_bytes(&rt, other, 1, "refused 17 Version at 0 in 1\n")?);
-    assert!(rt; exports_bytes(&rt, b"\xFE", 1, "refused 18 NotState at 0 in 1\n")?);
-    assert!(rt; exports_bytes(&rt, b"a: \xFF\n", 1, "refused 2 BadCharacter at 3 in 1\n")?);
+    assert!(rt; exports_bytes(&mut rt, free, 3, "incomplete . not a single value\n")?);
+    assert!(rt; exports_bytes(&mut rt, other, 1, "refused 17 Version at 0 in 1\n")?);
+    assert!(rt; exports_bytes(&mut rt, b"\xFE", 1, "refused 18 NotState at 0 in 1\n")?);
+    assert!(rt;
+        exports_bytes(
+            &mut rt,
+            b"a: \xFF\n",
+            1,
+            "refused 2 BadCharacter at 3 in 1\n"
+        )?
+    );
     let quoted = b"a: \"\xC3\xA9\xFF\"\n";
-    assert!(rt; exports_bytes(&rt, quoted, 1, "refused 2 BadCharacter at 6 in 1\n")?);
+    assert!(rt; exports_bytes(&mut rt, quoted, 1, "refused 2 BadCharacter at 6 in 1\n")?);
     let second = b"a: 1\n---\n\xFECUE";
-    assert!(rt; exports_bytes(&rt, second, 1, "refused 2 BadCharacter at 0 in 2\n")?);
-    assert!(rt; refuses_the_longest(&rt)?);
+    assert!(rt; exports_bytes(&mut rt, second, 1, "refused 2 BadCharacter at 0 in 2\n")?);
+    assert!(rt; refuses_the_longest(&mut rt)?);
     Ok(())
 }
 
 #[test]
-fn an_integer_out_of_range_is_refused(rt: HostRuntime) -> Result<(), Fail> {
+fn an_integer_out_of_range_is_refused(mut rt: HostRuntime) -> Result<(), Fail> {
     let text = "a: 9223372036854775808\n";
-    assert!(rt; exports(&rt, text, 1, "refused 5 IntRange at 3 in 1\n")?);
+    assert!(rt; exports(&mut rt, text, 1, "refused 5 IntRange at 3 in 1\n")?);
     Ok(())
 }
 
 #[test]
-fn a_name_may_not_refer_to_a_field(rt: HostRuntime) -> Result<(), Fail> {
+fn a_name_may_not_refer_to_a_field(mut rt: HostRuntime) -> Result<(), Fail> {
     let text = "int: 3\na: int\n";
-    assert!(rt; exports(&rt, text, 1, "refused 11 FieldReference at 10 in 1\n")?);
+    assert!(rt; exports(&mut rt, text, 1, "refused 11 FieldReference at 10 in 1\n")?);
     Ok(())
 }
 
 #[test]
-fn a_definition_is_of_its_text_alone(rt: HostRuntime) -> Result<(), Fail> {
+fn a_definition_is_of_its_text_alone(mut rt: HostRuntime) -> Result<(), Fail> {
     let texts = "#P: {a: 1}\n---\nx: #P\n";
-    assert!(rt; exports(&rt, texts, 1, "refused 10 UnknownName at 3 in 2\n")?);
+    assert!(rt; exports(&mut rt, texts, 1, "refused 10 UnknownName at 3 in 2\n")?);
     Ok(())
 }
 
 #[test]
-fn a_mark_alone_makes_no_default(rt: HostRuntime) -> Result<(), Fail> {
-    assert!(rt; exports(&rt, "a: *1\n", 1, "refused 7 Syntax at 5 in 1\n")?);
+fn a_mark_alone_makes_no_default(mut rt: HostRuntime) -> Result<(), Fail> {
+    assert!(rt; exports(&mut rt, "a: *1\n", 1, "refused 7 Syntax at 5 in 1\n")?);
     Ok(())
 }
 
 #[test]
-fn patterns_of_labels_are_left_out(rt: HostRuntime) -> Result<(), Fail> {
-    assert!(rt; exports(&rt, "[string]: int\n", 1, "refused 9 LeftOut at 0 in 1\n")?);
+fn patterns_of_labels_are_left_out(mut rt: HostRuntime) -> Result<(), Fail> {
+    assert!(rt;
+        exports(
+            &mut rt,
+            "[string]: int\n",
+            1,
+            "refused 9 LeftOut at 0 in 1\n"
+        )?
+    );
     Ok(())
 }
 
 #[test]
-fn a_mark_stands_in_the_line_of_its_colon(rt: HostRuntime) -> Result<(), Fail> {
-    assert!(rt; exports(&rt, "a?\n: 1\n", 1, "refused 7 Syntax at 2 in 1\n")?);
+fn a_mark_stands_in_the_line_of_its_colon(mut rt: HostRuntime) -> Result<(), Fail> {
+    assert!(rt; exports(&mut rt, "a?\n: 1\n", 1, "refused 7 Syntax at 2 in 1\n")?);
     Ok(())
 }
 
 #[test]
-fn a_number_has_no_zero_in_front(rt: HostRuntime) -> Result<(), Fail> {
-    assert!(rt; exports(&rt, "a: 01\n", 1, "refused 4 BadNumber at 3 in 1\n")?);
+fn a_number_has_no_zero_in_front(mut rt: HostRuntime) -> Result<(), Fail> {
+    assert!(rt; exports(&mut rt, "a: 01\n", 1, "refused 4 BadNumber at 3 in 1\n")?);
     Ok(())
 }
 
@@ -98,22 +112,22 @@ fn doubled(alloc: Global, count: u32) -> Result<String, Fail> {
 }
 
 /// Whether nothing is reported of that text.
-fn takes_doubled<H: AllocGlobal + Files>(rt: &H, count: u32) -> Result<bool, Fail> {
+fn takes_doubled<H: AllocGlobal + Shelf>(rt: &mut H, count: u32) -> Result<bool, Fail> {
     let text = doubled(rt.alloc(), count)?;
     answers(rt, &["report"], text.as_bytes(), 0, "", "")
 }
 
 /// Whether that text is refused as too large.
-fn refuses_doubled<H: AllocGlobal + Files>(rt: &H, count: u32) -> Result<bool, Fail> {
+fn refuses_doubled<H: AllocGlobal + Shelf>(rt: &mut H, count: u32) -> Result<bool, Fail> {
     let text = doubled(rt.alloc(), count)?;
     exports_bytes(rt, text.as_bytes(), 1, "refused 14 TooLarge at 0 in 1\n")
 }
 
 #[test]
-fn doubled_fields_are_taken_up_to_the_limit(rt: HostRuntime) -> Result<(), Fail> {
-    assert!(rt; takes_doubled(&rt, 10)?);
-    assert!(rt; takes_doubled(&rt, 13)?);
-    assert!(rt; refuses_doubled(&rt, 14)?);
-    assert!(rt; refuses_doubled(&rt, 17)?);
+fn doubled_fields_are_taken_up_to_the_limit(mut rt: HostRuntime) -> Result<(), Fail> {
+    assert!(rt; takes_doubled(&mut rt, 10)?);
+    assert!(rt; takes_doubled(&mut rt, 13)?);
+    assert!(rt; refuses_doubled(&mut rt, 14)?);
+    assert!(rt; refuses_doubled(&mut rt, 17)?);
     Ok(())
 }

@@ -1,24 +1,28 @@
 //! Words of the command line.
-use super::files::disk;
+use super::files::{Pages, blank_pages, disk};
 use super::{Run, answers, owned};
 use crate::act::{report, run};
 use crate::command::{given_words, unread};
 use crate::disk::Disk;
+use cue_program::Shelf;
 use std::alloc::Global;
-use std::cell::RefCell;
 use std::io;
 use std::io::ErrorKind;
 use std::process::Abort;
-use std::rt::Files;
 use std::test::Fail;
 
-fn assert_usage<H: AllocGlobal + Files + Abort>(rt: &H, words: &[&str]) -> Result<(), Fail> {
-    assert!(rt; answers(rt, words, b"a: 1\n".as_slice(), 1, "", "usage fault\n")?);
+fn assert_usage<H: AllocGlobal + Shelf + Abort>(rt: &mut H, words: &[&str]) -> Result<(), Fail> {
+    let told = answers(rt, words, b"a: 1\n".as_slice(), 1, "", "usage fault\n")?;
+    let rt = &*rt;
+    assert!(rt; told);
     Ok(())
 }
 
 /// Asserts that each of these words alone is a usage fault.
-fn assert_no_commands<H: AllocGlobal + Files + Abort>(rt: &H, words: &[&str]) -> Result<(), Fail> {
+fn assert_no_commands<H: AllocGlobal + Shelf + Abort>(
+    rt: &mut H,
+    words: &[&str],
+) -> Result<(), Fail> {
     for word in words {
         assert_usage(rt, &[word])?;
     }
@@ -26,7 +30,7 @@ fn assert_no_commands<H: AllocGlobal + Files + Abort>(rt: &H, words: &[&str]) ->
 }
 
 /// Asserts that each of these words after a command is a usage fault.
-fn assert_no_files<H: AllocGlobal + Files + Abort>(rt: &H, words: &[&str]) -> Result<(), Fail> {
+fn assert_no_files<H: AllocGlobal + Shelf + Abort>(rt: &mut H, words: &[&str]) -> Result<(), Fail> {
     for word in words {
         assert_usage(rt, &["export", word])?;
     }
@@ -34,31 +38,34 @@ fn assert_no_files<H: AllocGlobal + Files + Abort>(rt: &H, words: &[&str]) -> Re
 }
 
 #[test]
-fn wants_its_words(rt: HostRuntime) -> Result<(), Fail> {
-    assert_usage(&rt, &[])?;
-    assert_no_commands(&rt, &["exp", "--help", "help", "-1", "--", "", "Export"])?;
-    assert_no_files(&rt, &["--help", "-h", "-1", "---", "--file"])?;
-    assert_usage(&rt, &["serve", "80"])?;
-    assert_usage(&rt, &["push", "80"])?;
-    assert_usage(&rt, &["loop", "80"])?;
-    assert_usage(&rt, &["merge"])?;
-    assert_usage(&rt, &["merge", "--"])?;
-    assert_usage(&rt, &["report", "-", "-x"])?;
-    assert_usage(&rt, &["--", "export"])
+fn wants_its_words(mut rt: HostRuntime) -> Result<(), Fail> {
+    assert_usage(&mut rt, &[])?;
+    assert_no_commands(
+        &mut rt,
+        &["exp", "--help", "help", "-1", "--", "", "Export"],
+    )?;
+    assert_no_files(&mut rt, &["--help", "-h", "-1", "---", "--file"])?;
+    assert_usage(&mut rt, &["serve", "80"])?;
+    assert_usage(&mut rt, &["push", "80"])?;
+    assert_usage(&mut rt, &["loop", "80"])?;
+    assert_usage(&mut rt, &["merge"])?;
+    assert_usage(&mut rt, &["merge", "--"])?;
+    assert_usage(&mut rt, &["report", "-", "-x"])?;
+    assert_usage(&mut rt, &["--", "export"])
 }
 
 /// A process that was given these words.
-fn process<'a>(alloc: Global, words: &'a [&'a [u8]], written: &'a RefCell<Vec<u8>>) -> Disk<'a> {
+fn process<'a>(alloc: Global, words: &'a [&'a [u8]], pages: &'a Pages) -> Disk<'a> {
     Disk {
         words,
-        ..disk(alloc, &[], written)
+        ..disk(alloc, &[], pages)
     }
 }
 
 /// The words of a process that was given these.
 fn words_of(alloc: Global, given: &[&[u8]]) -> Result<Vec<String>, Fail> {
-    let written = RefCell::new(Vec::new(alloc));
-    Ok(given_words(&process(alloc, given, &written))?)
+    let pages = blank_pages(alloc);
+    Ok(given_words(&process(alloc, given, &pages))?)
 }
 
 /// Whether the words of a process that was given these are the wanted ones.
@@ -76,7 +83,7 @@ fn the_words_are_those_after_the_name(rt: HostRuntime) -> Result<(), Fail> {
 }
 
 /// What a process does with this input.
-fn done(process: &Disk, mut input: &[u8]) -> Run {
+fn done(process: &mut Disk, mut input: &[u8]) -> Run {
     let mut out = Vec::new(process.alloc());
     let mut faults = Vec::new(process.alloc());
     let status = run(process, &mut input, &mut out, &mut faults);
@@ -89,8 +96,8 @@ fn done(process: &Disk, mut input: &[u8]) -> Run {
 
 /// Whether a process that was given these words ends with this status, and writes this.
 fn does(alloc: Global, given: &[&[u8]], status: u8, out: &str, faults: &str) -> bool {
-    let written = RefCell::new(Vec::new(alloc));
-    let run = done(&process(alloc, given, &written), b"a: 1\n");
+    let pages = blank_pages(alloc);
+    let run = done(&mut process(alloc, given, &pages), b"a: 1\n");
     run.is(status, out.as_bytes(), faults.as_bytes())
 }
 
@@ -111,7 +118,7 @@ fn told(alloc: Global, kind: ErrorKind) -> Run {
     let fault = unread(&io::Error::from(kind));
     let mut out = Vec::new(alloc);
     let mut faults = Vec::new(alloc);
-    let status = report(alloc, &fault, &mut out, &mut faults).code();
+    let status = report(alloc, &fault, &mut out, &mut faults);
     Run {
         status,
         out,

@@ -1,12 +1,28 @@
-use Rattle.std.proofs.Common.{List, ℕ, refl, subst}
-use Rattle.std.specs.Io.KnownBytes.{Appends}
+use Rattle.std.proofs.Common.{ℕ, List, ◌∙◌, ⊎_elim, inl, inr, subst}
+use Rattle.cue_replica.specs.Language.{language}
+use Rattle.cue_program.specs.Files.{IsPut, Turns}
+use Rattle.cue_program.proofs.Drafts.{known_unharmed, known_kept_none}
+use Rattle.cue_program.proofs.Files.{ok_more, err_both}
 use Rattle.cue_program.proofs.run.merge_into.Goals as goal
 
-pub returns-clause-reply : goal.returns-clause-reply
-returns-clause-reply g c =
-    let P : List ℕ → Type 0 = λ bytes. Appends (g.H.File.Write.contents c.in-Ok.file) (g.H.File.Write.contents c.tell.new.out) bytes in (
-      c.in_ok-state.state,
-      c.in_ok-state.ensures.reply,
-      (c.in-Ok.file, c.tell.new.out, subst P c.deref.ensures.value c.in_ok-tell.ensures.written),
-      (c.new.ensures.items, refl),
-    )
+pub returns-in-Err-clause-stop : goal.returns-in-Err-clause-stop
+returns-in-Err-clause-stop g c =
+    (inl c.in-Err.ensures.stop, known_unharmed c.args.name.now (g.H.Shelf.held c.args.rt.now) (g.H.Shelf.held c.args.rt.now) (known_kept_none (g.H.Shelf.held c.args.rt.now)))
+
+pub returns-clause-merges : goal.returns-clause-merges
+returns-clause-merges g c =
+    ok_more c.put.result c.put.ensures.put
+    (λ h. (
+      c.in-Ok.site,
+      c.in-Ok.ensures.holds,
+      subst (λ (b : List ℕ). Turns (IsPut c.args.name.now b) (g.H.Shelf.held c.args.rt.now) (g.H.Shelf.held c.put.new.shelf))
+          (c.deref.ensures.value ∙ c.in_ok-state.ensures) h,
+    ))
+
+pub returns-clause-stop : goal.returns-clause-stop
+returns-clause-stop g c =
+    err_both c.put.result c.put.ensures.fault c.put.ensures.unharmed
+    (λ stop why unharmed. (
+      ⊎_elim (λ device. inr (c.in-Ok.site, c.in-Ok.ensures.holds, device)) (λ memory. inl (inr (inr memory))) why,
+      unharmed,
+    ))

@@ -1,28 +1,56 @@
-use Rattle.std.proofs.Common.{rules, sym, subst, ap, inr, length, ◌+◌}
-use Rattle.std.proofs.lemmas.Result.{err_from_is_err_and}
-use Rattle.cue_program.specs.Runs.{HoldsSomeFiles}
-use Rattle.cue_program.proofs.Files.{files_none, files_more, files_refused}
+use Rattle.std.proofs.Common.{◌≡◌, ℕ, List, Option, rules, sym, subst, ap, inl, inr, ◌+◌, map, take, drop, ◌∙◌, arith, length, []}
+use Rattle.cue_lattice.specs.World.{Piece}
+use Rattle.cue_replica.specs.declared.Refusal.{Refusal}
+use Rattle.cue_program.specs.Stops.{IsRefusedAs}
+use Rattle.cue_program.specs.Files.{known_at, texts}
+use Rattle.cue_program.specs.Inputs.{Holds, IsFilePiece, IsInputRefused, IsInputUnread, IsPieceRefusal, files}
+use Rattle.cue_program.specs.Runs.{IsStopOn}
+use Rattle.cue_program.proofs.Files.{Accepts, some_name, files_none, files_more, files_refused, files_unread, take_known, split_known, length_known}
 use Rattle.cue_program.proofs.run.site_of_files.Goals as goal
 
 pub loop-name-init : goal.loop-name-init
 loop-name-init g c = record {
-  holds = subst (HoldsSomeFiles 0) (sym c.new-site.ensures) files_none;
+  holds = subst (Holds (files [])) (sym c.new-site.ensures) files_none;
   counted = search rules;
   room = search rules;
 }
+
+pub returns-in-Err-clause-stop : goal.returns-in-Err-clause-stop
+returns-in-Err-clause-stop g c =
+    let K = known_at (g.H.Shelf.held c.args.rt.now) in
+    let names = c.args.names.now in
+    let i = c.loop-name.name-index in
+    inr (inl (subst (λ (ks : List (Option (List ℕ))). IsInputUnread (files ks) c.in-Err.stop)
+    (sym (split_known K names i (some_name names (omega (arith, c.loop-name-test.true))) c.loop-name-test.true))
+    (files_unread (map K (texts (take i names))) (map K (texts (drop (i + 1) names))) _ c.loop-name.site c.in-Err.stop
+    c.loop-name.invariant.holds c.in-Err.ensures.fault)))
+
+pub returns-in-Err-take_file-clause-stop : goal.returns-in-Err-take_file-clause-stop
+returns-in-Err-take_file-clause-stop g c =
+    let K = known_at (g.H.Shelf.held c.args.rt.now) in
+    let names = c.args.names.now in
+    let i = c.loop-name.name-index in
+    let front = map K (texts (take i names)) in
+    inl (subst (λ (ks : List (Option (List ℕ))). IsInputRefused (files ks) c.in-Err-take_file.stop)
+    (sym (split_known K names i _ c.loop-name-test.true))
+    (files_refused front (map K (texts (drop (i + 1) names))) _ (c.loop-name.number + 1) c.loop-name.site
+    c.in-Ok.bytes.items c.in-Err-take_file.stop c.loop-name.invariant.holds c.in-Ok.ensures.all
+    (ap (λ n. n + 1) (c.loop-name.invariant.counted ∙ sym (length_known K names i c.loop-name-test.true)))
+    (omega (arith, c.loop-name.auto.number-fits))
+    (subst (λ (b : List ℕ). (piece : Piece) × (why : Refusal) × IsFilePiece b piece × IsPieceRefusal piece why × IsRefusedAs why (c.loop-name.number + 1) c.in-Err-take_file.stop)
+    c.deref.ensures.value c.in-Err-take_file.ensures.refused)))
 
 pub loop-name-preserved : goal.loop-name-preserved
-loop-name-preserved g c = record {
-  holds = files_more c.loop-name.name-index c.loop-name.site c.take_file.new.site c.deref.result.now c.loop-name.invariant.holds
-      c.in_ok-take_file.ensures.accepts c.in_ok-take_file.ensures.valid;
-  counted = search rules;
-  room = search rules;
-}
-
-pub returns-in_err-take_file-clause-stop : goal.returns-in_err-take_file-clause-stop
-returns-in_err-take_file-clause-stop g c =
-    let p = err_from_is_err_and c.from_residual-in_err-take_file.result c.from_residual-in_err-take_file.ensures.1 in
-    let refused = files_refused c.loop-name.name-index (length c.args.files.now) (c.loop-name.number + 1) c.loop-name.site
-    c.deref.result.now c.in_err-take_file.field-0.0 c.loop-name.invariant.holds c.loop-name-test.true
-    (ap (λ n. n + 1) c.loop-name.invariant.counted) c.in_err-take_file.ensures.refused in
-    rw (p.1, p.2) (inr refused)
+loop-name-preserved g c =
+    let K = known_at (g.H.Shelf.held c.args.rt.now) in
+    let names = c.args.names.now in
+    let i = c.loop-name.name-index in
+    record {
+      holds = subst (λ (ks : List (Option (List ℕ))). Holds (files ks) c.take_file.new.site)
+          (sym (take_known K names i _ c.loop-name-test.true))
+          (files_more (map K (texts (take i names))) _ c.loop-name.site c.take_file.new.site c.in-Ok.bytes.items
+          c.loop-name.invariant.holds c.in-Ok.ensures.all
+          (subst (λ (b : List ℕ). Accepts b c.loop-name.site c.take_file.new.site) c.deref.ensures.value c.in-Ok-take_file.ensures.accepts) c.in-Ok-take_file.ensures.valid);
+      counted = search rules;
+      room = search rules;
+    }

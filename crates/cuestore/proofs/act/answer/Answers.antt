@@ -1,17 +1,21 @@
-use Rattle.std.proofs.Common.{◌≡◌, ◌-◌, ℕ, take, drop, length, ap, sym, subst, arith, IfOk}
-use Rattle.std.proofs.lemmas.List.{length-take, length-drop}
-use Rattle.cue_program.specs.Runs.{IsMergeOf}
+use Rattle.std.proofs.Common.{◌≡◌, ℕ, List, Bor, Option, IfOk, refl, sym, subst}
+use Rattle.std.proofs.lemmas.Result.{IfOk-weaker}
+use Rattle.cue_program.specs.Files.{texts}
+use Rattle.cue_program.specs.Inputs.{inputs_of}
+use Rattle.cue_program.specs.Runs.{IsAnswerOn}
 use Rattle.cuestore.specs.declared.command.Command.{Command}
-use Rattle.cuestore.specs.Runs.{inputs_of, IsReplyOf}
+use Rattle.cuestore.specs.Runs.{Around, IsAnswerTo}
+use Rattle.cuestore.specs.Words.{asked_by, asking}
 use Rattle.cuestore.proofs.act.answer.Goals as goal
 
-pub returns-in-Merge-clause-reply : goal.returns-in-Merge-clause-reply
-returns-in-Merge-clause-reply g c =
-    let words = c.as_slice-arguments.result.now in
-    let items = c.args.request.now.arguments.items in
-    let contents = g.H.File.Write.contents in
+pub returns-in-Ask-clause-answer : goal.returns-in-Ask-clause-answer
+returns-in-Ask-clause-answer g c =
+    let held = g.H.Shelf.held c.args.rt.now in
     let known = g.R.Read.remaining c.args.input.now in
-    let count : length (take (length words - 1) (drop 1 words)) ≡ length items - 1 =
-    omega (arith, length-take (length words - 1) (drop 1 words), length-drop 1 words, ap length c.as_slice-arguments.ensures.value) in
-    subst (λ (command : Command). IfOk c.merge_into.result (IsReplyOf contents command (inputs_of command (length items)) known)) (sym c.in-Merge.is)
-    (subst (λ (n : ℕ). IfOk c.merge_into.result (IsMergeOf contents n known)) count c.merge_into.ensures.reply)
+    let around : Around = record { before = held; after = held; input = known } in
+    let question = c.in-Ask.question in
+    subst (λ (command : Command). IfOk c.answer_for.result (IsAnswerTo (asked_by command) around)) (sym c.in-Ask.is)
+    (IfOk-weaker c.answer_for.result (IsAnswerOn question (inputs_of held (texts c.deref.result.now) known))
+    (IsAnswerTo (asking question (texts c.in-Ask.files.items)) around)
+    (λ answer h. (subst (λ (files : List (Bor (List ℕ))). IsAnswerOn question (inputs_of held (texts files) known) answer) c.deref.ensures.value h, refl))
+    c.answer_for.ensures.answer)

@@ -1,5 +1,5 @@
-use Rattle.std.proofs.Common.{map, string_bytes, inl, inr, ⊎_elim}
+use Rattle.std.proofs.Common.{map, string_bytes, inl}
 use Rattle.cuestore.proofs.act.run.Goals as goal
 
 pub returns-in-Ok : goal.returns-in-Ok
-returns-in-Ok g c = ⊎_elim (λ h. inl (map string_bytes c.deref.result.now, h)) (λ h. inr h) c.act.ensures
+returns-in-Ok g c = inl (map string_bytes c.deref.result.now, c.act.ensures)

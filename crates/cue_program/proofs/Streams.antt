@@ -1,0 +1,89 @@
+-- What a site has taken of a reader's bytes.
+use Rattle.std.proofs.Common.{◌≡◌, ◌≢◌, ℕ, suc, ◌+◌, ◌-◌, ◌^◌, min, List, [], ◌∷◌, ◌++◌, Option, Some, None, map, length, Bor, ◌<◌, arith, refl, sym, ap, ◌∙◌, subst, inl, inr}
+use Rattle.std.specs.Prelude.{slice_get}
+use Rattle.std.specs.List.{AllByRecursion}
+use Rattle.std.proofs.lemmas.List.{append_assoc}
+use Rattle.cue_lattice.specs.World.{Piece, text, state}
+use Rattle.cue_replica.specs.Language.{Table, language, opening}
+use Rattle.cue_replica.specs.Replica.{Adds}
+use Rattle.cue_replica.specs.Accepted.{IsAcceptable}
+use Rattle.cue_replica.specs.declared.Refusal.{Refusal}
+use Rattle.cue_replica.proofs.Accepted.{of_no_piece, of_one_piece_more}
+use Rattle.cue_program.specs.declared.stop.Stop.{Stop}
+use Rattle.cue_program.specs.declared.stop.Stop.TheVariants as stops
+use Rattle.cue_program.specs.Files.{AreAll, Holdings, known_at, texts}
+use Rattle.cue_program.specs.Inputs.{AreStreamPieces, Begin, Holds, IsInputRefused, IsInputUnread, IsStateRefusal, files, inputs_of, stream}
+use Rattle.cue_program.specs.Stops.{IsRefusedAs, IsUnreadable}
+use Rattle.cue_program.specs.inner.Texts.{AreTexts, IsTextRefused}
+use Rattle.cue_program.proofs.Files.{acceptable_texts, length_texts, map_texts}
+
+-- one state
+pub of_one_state :
+    (bytes : List ℕ) (new : Table) → slice_get bytes 0 ≡ Some 254 → language.IsState bytes → Adds opening (language.state_refuses bytes) new
+    → language.IsValid new → Holds (stream (Some bytes)) new
+of_one_state bytes new first is adds valid =
+    (state bytes ∷ [], (bytes, refl, inl (first, refl)), of_one_piece_more opening new [] (state bytes) of_no_piece is adds valid)
+
+pub refused_state :
+    (bytes : List ℕ) (why : Refusal) → slice_get bytes 0 ≡ Some 254 → IsStateRefusal bytes why
+    → IsInputRefused (stream (Some bytes)) (stops.RefusedInput why 1)
+refused_state bytes why first fault = record {
+  before = [];
+  piece = state bytes;
+  why = why;
+  begin = (state bytes ∷ [], [], (bytes, refl, inl (first, refl)), refl);
+  accepted = tt;
+  refusal = fault;
+  told = refl;
+}
+
+-- texts
+pub texts_held : (bytes : List ℕ) (table : Table) → slice_get bytes 0 ≢ Some 254 → AreTexts bytes table → Holds (stream (Some bytes)) table
+texts_held bytes table first h =
+    (map text h.0, (bytes, refl, inr (first, (h.0, h.1, refl))), (acceptable_texts h.0 h.2.0, h.2.1))
+
+pub texts_refused : (bytes : List ℕ) (stop : Stop) → slice_get bytes 0 ≢ Some 254 → IsTextRefused bytes stop → IsInputRefused (stream (Some bytes)) stop
+texts_refused bytes stop first h =
+    let before = h.0 in
+    let part = h.1 in
+    let others = h.2 in
+    let whole : map text (before ++ part ∷ others) ≡ (map text before ++ text part ∷ []) ++ map text others =
+    map_texts before (part ∷ others) ∙ sym (append_assoc (map text before) (text part ∷ []) (map text others)) in
+    record {
+      before = map text before;
+      piece = text part;
+      why = h.5.0;
+      begin = (map text (before ++ part ∷ others), map text others, (bytes, refl, inr (first, (before ++ part ∷ others, h.3, refl))), whole);
+      accepted = acceptable_texts before h.4;
+      refusal = h.5.2;
+      told = subst (λ (n : ℕ). IsRefusedAs h.5.0 (min (n + 1) (2 ^ 64 - 1)) stop) (sym (length_texts before)) h.5.1;
+    }
+
+-- without a name the reader is the input, and otherwise the files are
+pub inputs_none : (held : Option Holdings) (names : List (Bor (List ℕ))) (known : Option (List ℕ)) → length names ≡ 0 → inputs_of held (texts names) known ≡ stream known
+inputs_none held [] known none = refl
+inputs_none held (name ∷ names) known none = absurd (omega arith)
+
+pub inputs_some :
+    (held : Option Holdings) (names : List (Bor (List ℕ))) (known : Option (List ℕ)) → 0 < length names
+    → inputs_of held (texts names) known ≡ files (map (known_at held) (texts names))
+inputs_some held [] known some = absurd (omega arith)
+inputs_some held (name ∷ names) known some = refl
+
+-- bytes that are all that a reader had
+pub held_of_known : (known : Option (List ℕ)) (bytes : List ℕ) (table : Table) → AreAll known bytes → Holds (stream (Some bytes)) table → Holds (stream known) table
+held_of_known known bytes table all h =
+    (h.0, (bytes, all, subst (λ (b : List ℕ). AreStreamPieces b h.0) h.1.1 h.1.2), h.2)
+
+pub refused_of_known :
+    (known : Option (List ℕ)) (bytes : List ℕ) (stop : Stop) → AreAll known bytes → IsInputRefused (stream (Some bytes)) stop
+    → IsInputRefused (stream known) stop
+refused_of_known known bytes stop all h = record {
+  before = h.before;
+  piece = h.piece;
+  why = h.why;
+  begin = (h.begin.0, h.begin.1, (bytes, all, subst (λ (b : List ℕ). AreStreamPieces b h.begin.0) h.begin.2.1 h.begin.2.2), h.begin.3);
+  accepted = h.accepted;
+  refusal = h.refusal;
+  told = h.told;
+}

@@ -1,0 +1,67 @@
+-- What lies where, as far as it is known: what is read of a name, and what becomes of the files when
+-- bytes are put at a name.
+use Rattle.std.specs.Prelude.{◌≡◌, ◌≢◌, ◌⊎◌, ℕ, List, Option, Some, None, Bool, true, false, Result}
+use Rattle.std.specs.Prelude.{Ok, Err, IfSome, map}
+use Rattle.std.specs.Borrow.{Bor}
+
+-- A name leads to a place, which is another one where the name is a link's. At a place lies a
+-- file with its bytes, or none; or something special, as a device or a pipe.
+pub record Holdings : Type 0 where
+  pub place_of : List ℕ → List ℕ
+  pub bytes_at : List ℕ → Option (List ℕ)
+  pub is_special : List ℕ → Bool
+
+-- the bytes under a name, where they are known
+abbrev pub known_at : Option Holdings → List ℕ → Option (List ℕ)
+known_at None name = None
+known_at (Some held) name = held.bytes_at (held.place_of name)
+
+-- the bytes of borrowed words
+abbrev pub texts : List (Bor (List ℕ)) → List (List ℕ)
+texts words = map (λ word. word.now) words
+
+-- these are all the bytes, where they are known
+abbrev pub AreAll : Option (List ℕ) → List ℕ → Type 0
+AreAll known bytes = IfSome known (λ all. bytes ≡ all)
+
+-- an opened file has the bytes that lie under its name still to give
+abbrev pub IsOpened : Option Holdings → List ℕ → Option (List ℕ) → Type 0
+IsOpened held name rest = IfSome (known_at held name) (λ all. rest ≡ Some all)
+
+-- R holds of what is known before and after, where anything is
+abbrev pub Turns : (Holdings → Holdings → Type 0) → Option Holdings → Option Holdings → Type 0
+Turns R None new = Unit {0}
+Turns R (Some old) None = ⊥
+Turns R (Some old) (Some new) = R old new
+
+-- R holds of what is known, where anything is
+abbrev pub Knows : (Holdings → Type 0) → Option Holdings → Type 0
+Knows R None = Unit {0}
+Knows R (Some held) = R held
+
+-- names lead where they did, and what is special stays so
+pub record IsSameTree (old new : Holdings) : Type 0 where
+  pub places : (name : List ℕ) → new.place_of name ≡ old.place_of name
+  pub special : (place : List ℕ) → new.is_special place ≡ old.is_special place
+
+-- nothing changed but what lies at these places
+pub record IsElsewhereSame (places : List ℕ → Type 0) (old new : Holdings) : Type 0 where
+  pub tree : IsSameTree old new
+  pub others : (place : List ℕ) → (places place → ⊥) → new.bytes_at place ≡ old.bytes_at place
+
+-- a file that lay anywhere still lies there, with its bytes
+abbrev pub KeepsFiles : Holdings → Holdings → Type 0
+KeepsFiles old new =
+    (place bytes : List ℕ) → old.bytes_at place ≡ Some bytes → new.bytes_at place ≡ Some bytes
+
+-- The bytes lie under the name, and all other files as before.
+pub record IsPut (name bytes : List ℕ) (old new : Holdings) : Type 0 where
+  pub put : new.bytes_at (old.place_of name) ≡ Some bytes
+  pub same : IsElsewhereSame (λ place. place ≡ old.place_of name) old new
+
+-- No file was harmed: where the name is that of a file, or of nothing, all files are as before, and
+-- where it is that of something special, all others.
+pub record IsUnharmed (name : List ℕ) (old new : Holdings) : Type 0 where
+  pub files : old.is_special (old.place_of name) ≡ false → KeepsFiles old new
+  pub others : (place bytes : List ℕ) → place ≢ old.place_of name
+      → old.bytes_at place ≡ Some bytes → new.bytes_at place ≡ Some bytes

@@ -1,0 +1,100 @@
+-- The inputs of a run, the pieces in them, and which of them is refused.
+use Rattle.std.specs.Prelude.{◌≡◌, ◌≢◌, ◌⊎◌, ℕ, ◌+◌, ◌-◌, ◌^◌, ◌<◌, ◌≤◌, min, List, [], ◌∷◌, ◌++◌, map}
+use Rattle.std.specs.Prelude.{Option, Some, length, slice_get}
+use Rattle.std.specs.List.{AllByRecursion}
+use Rattle.std.specs.Str.{IsUtf8, IsValidUpTo}
+use Rattle.cue_lattice.specs.World.{Piece, text, state, AllAlong}
+use Rattle.cue_replica.specs.Accepted.{text_limit, refusal_at, memory, IsAcceptable, IsOfPieces}
+use Rattle.cue_replica.specs.Language.{Table, language}
+use Rattle.cue_replica.specs.declared.Kind.TheVariants as kinds
+use Rattle.cue_replica.specs.declared.Refusal.{Refusal}
+use Rattle.cue_program.specs.Files.{AreAll, Holdings, known_at}
+use Rattle.cue_program.specs.Parts.{lines_of, AreParts}
+use Rattle.cue_program.specs.Stops.{IsRefusedAs, IsUnreadable}
+use Rattle.cue_program.specs.declared.stop.Stop.{Stop}
+
+-- The inputs, in their order: files; or, where none is named, what a reader gives. Of each this is
+-- what it holds, where that is known.
+pub data Inputs : Type 0 where
+  files : List (Option (List ℕ)) → Inputs
+  stream : Option (List ℕ) → Inputs
+
+-- the inputs that these names name, where the files lie so and the reader has these bytes
+abbrev pub inputs_of : Option Holdings → List (List ℕ) → Option (List ℕ) → Inputs
+inputs_of held [] known = stream known
+inputs_of held (name ∷ names) known = files (map (known_at held) (name ∷ names))
+
+-- what a file hands in: a state where its first byte is FE (hexadecimal), and otherwise one text
+abbrev pub IsFilePiece : List ℕ → Piece → Type 0
+IsFilePiece bytes piece =
+    ((slice_get bytes 0 ≡ Some 254) × (piece ≡ state bytes))
+    ⊎ ((slice_get bytes 0 ≢ Some 254) × (piece ≡ text bytes))
+
+-- what a reader hands in: a state where the first byte is FE (hexadecimal), and otherwise the parts
+-- as texts
+abbrev pub AreStreamPieces : List ℕ → List Piece → Type 0
+AreStreamPieces bytes pieces =
+    ((slice_get bytes 0 ≡ Some 254) × (pieces ≡ state bytes ∷ []))
+    ⊎ ((slice_get bytes 0 ≢ Some 254)
+    × ((parts : List (List ℕ)) × AreParts (lines_of bytes) parts × (pieces ≡ map text parts)))
+
+-- the file hands in the piece
+abbrev pub Gives : Option (List ℕ) → Piece → Type 0
+Gives known piece = (bytes : List ℕ) × AreAll known bytes × IsFilePiece bytes piece
+
+-- These inputs are these pieces.
+abbrev pub ArePieces : Inputs → List Piece → Type 0
+ArePieces (files known) pieces = AllAlong Gives known pieces
+ArePieces (stream known) pieces =
+    (bytes : List ℕ) × AreAll known bytes × AreStreamPieces bytes pieces
+
+-- the first of these inputs are these pieces
+abbrev pub Begin : Inputs → List Piece → Type 0
+Begin (files known) pieces =
+    (front back : List (Option (List ℕ))) × (known ≡ front ++ back) × AllAlong Gives front pieces
+Begin (stream known) pieces =
+    (all more : List Piece) × ArePieces (stream known) all × (all ≡ pieces ++ more)
+
+-- the table is valid, and the unification of the inputs, each of them acceptable
+abbrev pub Holds : Inputs → Table → Type 0
+Holds inputs table = (pieces : List Piece) × ArePieces inputs pieces × IsOfPieces table pieces
+
+-- Why a text is refused: it is too long; or else it is no UTF-8, at the place where the part that is
+-- ends; or else for a fault of its own, or for want of memory, which hides none that is found with
+-- no memory.
+abbrev pub IsTextRefusal : List ℕ → Refusal → Type 0
+IsTextRefusal bytes why =
+    ((text_limit < length bytes) × (why ≡ refusal_at kinds.TooLong text_limit))
+    ⊎ ((length bytes ≤ text_limit) × (IsUtf8 bytes → ⊥) × (why.kind ≡ kinds.BadCharacter)
+    × IsValidUpTo bytes why.place)
+    ⊎ ((length bytes ≤ text_limit) × IsUtf8 bytes
+    × (((why ≡ memory) × (language.IsTextRefusedAtOnce bytes → ⊥)) ⊎ language.IsTextFault bytes why))
+
+-- why a state is refused
+abbrev pub IsStateRefusal : List ℕ → Refusal → Type 0
+IsStateRefusal bytes why =
+    ((why ≡ memory) × (language.IsStateRefusedAtOnce bytes → ⊥)) ⊎ language.IsStateFault bytes why
+
+-- why a piece is refused
+abbrev pub IsPieceRefusal : Piece → Refusal → Type 0
+IsPieceRefusal (text bytes) why = IsTextRefusal bytes why
+IsPieceRefusal (state bytes) why = IsStateRefusal bytes why
+
+-- The first input that is refused: those before it are acceptable, and it is told with its number
+-- from 1 (or the greatest number that can be told).
+pub record IsInputRefused (inputs : Inputs) (stop : Stop) : Type 0 where
+  pub before : List Piece
+  pub piece : Piece
+  pub why : Refusal
+  pub begin : Begin inputs (before ++ piece ∷ [])
+  pub accepted : AllByRecursion IsAcceptable before
+  pub refusal : IsPieceRefusal piece why
+  pub told : IsRefusedAs why (min (length before + 1) (2 ^ 64 - 1)) stop
+
+-- The first input that can't be read: of files, those before it are acceptable.
+abbrev pub IsInputUnread : Inputs → Stop → Type 0
+IsInputUnread (files known) stop =
+    (front back : List (Option (List ℕ))) × (next : Option (List ℕ)) × (pieces : List Piece)
+    × (known ≡ front ++ next ∷ back) × AllAlong Gives front pieces
+    × AllByRecursion IsAcceptable pieces × IsUnreadable stop
+IsInputUnread (stream known) stop = IsUnreadable stop

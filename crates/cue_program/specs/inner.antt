@@ -1,0 +1,4 @@
+-- What private clauses alone cite.
+pub mod Drafts
+pub mod Reading
+pub mod Texts

@@ -1,0 +1,94 @@
+ghost use Rattle.std.specs.Prelude.{◌≡◌, ◌⊎◌, IfOk, IfErr, OnOk, OnErr, string_bytes};
+ghost use Rattle.cue_program.specs.Files.{IsPut, IsUnharmed, Turns};
+ghost use Rattle.cue_program.specs.inner.Drafts.{IsBeside, IsKept, IsPutAt};
+ghost use Rattle.cue_program.specs.Stops.{IsDevice, IsMemory};
+
+use crate::shelf::{Form, Shelf};
+use crate::stop::Stop;
+use std::alloc::Global;
+
+/// How many names are tried for the file that is written first.
+const MOST_DRAFTS: usize = 16;
+
+/// Puts these bytes at a name, so that at no moment less than a whole file stands there: they go to
+/// a new file beside it, reach the disk, and take its place in one step. The new file has the mode
+/// of the old one. Something special, as a device or a pipe, is written in place.
+///
+/// # Errors
+///
+/// `Device` and `Memory`. A file that lay there is unharmed then.
+pub fn put<S: Shelf>(shelf: &mut S, alloc: Global, name: &str, bytes: &[u8]) -> Result<(), Stop>
+    ensures put { OnOk result (Turns (IsPut name.now bytes.now)
+        (S.held shelf.old) (S.held shelf.new)) }
+    ensures unharmed { OnErr result (Turns (IsUnharmed name.now)
+        (S.held shelf.old) (S.held shelf.new)) }
+    ensures fault { IfErr result (λ stop. IsDevice stop ⊎ IsMemory stop) }
+{
+    let (place, form) = match shelf.find(alloc, name) {
+        Ok(found) => found,
+        Err(stop) => return Err(stop),
+    };
+    let place = place.as_str();
+    match form {
+        Form::Special => match shelf.overwrite(place, bytes) {
+            Ok(()) => Ok(()),
+            Err(_) => Err(Stop::Device),
+        },
+        Form::File => replace(shelf, alloc, place, Some(place), bytes),
+        Form::Nothing => replace(shelf, alloc, place, None, bytes),
+    }
+}
+
+/// Puts bytes at a place where a file lies, or nothing.
+fn replace<S: Shelf>(
+    shelf: &mut S,
+    alloc: Global,
+    place: &str,
+    like: Option<&str>,
+    bytes: &[u8],
+) -> Result<(), Stop>
+    ensures put { OnOk result (Turns (IsPutAt place.now bytes.now)
+        (S.held shelf.old) (S.held shelf.new)) }
+    ensures kept { OnErr result (Turns IsKept (S.held shelf.old) (S.held shelf.new)) }
+    ensures fault { IfErr result (λ stop. IsDevice stop ⊎ IsMemory stop) }
+{
+    let draft = match draft_beside(shelf, alloc, place, like, bytes) {
+        Ok(draft) => draft,
+        Err(stop) => return Err(stop),
+    };
+    match shelf.rename(draft.as_str(), place) {
+        Ok(()) => Ok(()),
+        Err(_) => {
+            // Where the new file can't be taken away, it stays beside the old one.
+            let _ = shelf.remove(draft.as_str());
+            Err(Stop::Device)
+        }
+    }
+}
+
+/// Makes a new file with these bytes beside a place, and answers where: the place's name with
+/// `.part` behind it, more than once where such files lie there already.
+fn draft_beside<S: Shelf>(
+    shelf: &mut S,
+    alloc: Global,
+    place: &str,
+    like: Option<&str>,
+    bytes: &[u8],
+) -> Result<String, Stop>
+    ensures made { IfOk result (λ draft.
+        Turns (IsBeside place.now (string_bytes draft) bytes.now)
+        (S.held shelf.old) (S.held shelf.new)) }
+    ensures kept { OnErr result (Turns IsKept (S.held shelf.old) (S.held shelf.new)) }
+    ensures fault { IfErr result (λ stop. IsDevice stop ⊎ IsMemory stop) }
+{
+    let mut beside = String::from_str(alloc, place)?;
+    for _ in 0..MOST_DRAFTS {
+        beside.push_str(".part")?;
+        match shelf.draft(beside.as_str(), like, bytes) {
+            Ok(true) => return Ok(beside),
+            Ok(false) => {}
+            Err(_) => return Err(Stop::Device),
+        }
+    }
+    Err(Stop::Device)
+}
