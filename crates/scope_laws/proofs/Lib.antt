@@ -1,0 +1,4 @@
+pub mod Bare
+pub mod Meant
+pub mod Named
+pub mod Checked
