@@ -1,5 +1,5 @@
 -- Definitions without their places have the same names, numbers and uses.
-use Rattle.std.proofs.Common.{◌≡◌, ◌∙◌, ap, subst, sym, refl, ℕ, ◌+◌, Bool, true, false, cond, Option, None, Some, List, [], ◌∷◌, ◌++◌, map, length}
+use Rattle.std.proofs.Common.{◌≡◌, ◌∙◌, ap, subst, sym, refl, ℕ, suc, ◌+◌, Bool, true, false, cond, Option, None, Some, List, [], ◌∷◌, ◌++◌, map, length}
 use Rattle.std.proofs.lemmas.List.{map-append}
 use Rattle.std.specs.List.{position_from}
 use Rattle.std.specs.Option.{option_to_list, is_some}
@@ -106,4 +106,4 @@ bare_graph ds = graph_same (map bare ds) ds (bare_numbers ds) ds
 
 pub bare_length : (ds : List Definition) → length (map bare ds) ≡ length ds
 bare_length [] = refl
-bare_length (d ∷ ds) = ap (λ n. 1 + n) (bare_length ds)
+bare_length (d ∷ ds) = ap suc (bare_length ds)

@@ -25,7 +25,7 @@ use Rattle.scope_laws.proofs.Named.{nowhere, name_faults_same}
 
 -- a list is empty exactly where it is without places
 empty_same : {A : Type 0} (f : A → A) (xs ys : List A) → ys ≡ map f xs → (xs ≡ []) ↔ (ys ≡ [])
-empty_same f xs ys same = (λ e. same ∙ ap (λ z. map f z) e, λ e. none xs (sym same ∙ e))
+empty_same {A = A} f xs ys same = (λ e. same ∙ ap (λ z. map f z) e, λ e. none xs (sym same ∙ e))
   where
     none : (zs : List A) → map f zs ≡ [] → zs ≡ []
     none [] e = refl

@@ -107,8 +107,8 @@ term_same true place = refl
 term_same false place = refl
 
 -- the lists of places that two parts give, put together
-both : {a b xs ys : List ℕ} → a ≡ zeros xs → b ≡ zeros ys → a ++ b ≡ zeros (xs ++ ys)
-both {a = a} {b = b} {xs = xs} {ys = ys} first second = ap (λ z. z ++ b) first ∙ ap (λ z. zeros xs ++ z) second ∙ zeros_then xs ys
+both : {a b : List ℕ} (xs ys : List ℕ) → a ≡ zeros xs → b ≡ zeros ys → a ++ b ≡ zeros (xs ++ ys)
+both {a = a} {b = b} xs ys first second = ap (λ z. z ++ b) first ∙ ap (λ z. zeros xs ++ z) second ∙ zeros_then xs ys
 
 mutual
   terms_same : (cs ds : List Definition) (f g : ℕ → Core) → SameNumbers cs ds → SameUses f g → (e : Expression) → terms cs f (unplaced e) ≡ zeros (terms ds g e)
@@ -128,20 +128,21 @@ mutual
 
   terms_of_elements_same : (cs ds : List Definition) (f g : ℕ → Core) → SameNumbers cs ds → SameUses f g → (es : Elements) → terms_of_elements cs f (unplaced_elements es) ≡ zeros (terms_of_elements ds g es)
   terms_of_elements_same cs ds f g same uses no_elements = refl
-  terms_of_elements_same cs ds f g same uses (element e es) = both (terms_same cs ds f g same uses e) (terms_of_elements_same cs ds f g same uses es)
+  terms_of_elements_same cs ds f g same uses (element e es) = both (terms ds g e) (terms_of_elements ds g es) (terms_same cs ds f g same uses e) (terms_of_elements_same cs ds f g same uses es)
 
   terms_of_branches_same : (cs ds : List Definition) (f g : ℕ → Core) → SameNumbers cs ds → SameUses f g → (bs : Branches) → terms_of_branches cs f (unplaced_branches bs) ≡ zeros (terms_of_branches ds g bs)
   terms_of_branches_same cs ds f g same uses no_branches = refl
   terms_of_branches_same cs ds f g same uses (next_branch (branch marked place e) bs) =
       let first : cond (is_scalar (meant cs f (unplaced e))) [] (0 ∷ []) ≡ zeros (cond (is_scalar (meant ds g e)) [] (place ∷ [])) =
       ap (λ z. cond (is_scalar z) [] (0 ∷ [])) (meant_same cs ds f g same uses e) ∙ term_same (is_scalar (meant ds g e)) place in
-      both (both first (terms_same cs ds f g same uses e)) (terms_of_branches_same cs ds f g same uses bs)
+      let here = cond (is_scalar (meant ds g e)) [] (place ∷ []) in
+      both (here ++ terms ds g e) (terms_of_branches ds g bs) (both here (terms ds g e) first (terms_same cs ds f g same uses e)) (terms_of_branches_same cs ds f g same uses bs)
 
   terms_of_entries_same : (cs ds : List Definition) (f g : ℕ → Core) → SameNumbers cs ds → SameUses f g → (es : Entries) → terms_of_entries cs f (unplaced_entries es) ≡ zeros (terms_of_entries ds g es)
   terms_of_entries_same cs ds f g same uses no_entries = refl
   terms_of_entries_same cs ds f g same uses (entry ellipsis es) = terms_of_entries_same cs ds f g same uses es
-  terms_of_entries_same cs ds f g same uses (entry (field l chain e) es) = both (terms_same cs ds f g same uses e) (terms_of_entries_same cs ds f g same uses es)
-  terms_of_entries_same cs ds f g same uses (entry (definition t place chain e) es) = both (terms_same cs ds f g same uses e) (terms_of_entries_same cs ds f g same uses es)
+  terms_of_entries_same cs ds f g same uses (entry (field l chain e) es) = both (terms ds g e) (terms_of_entries ds g es) (terms_same cs ds f g same uses e) (terms_of_entries_same cs ds f g same uses es)
+  terms_of_entries_same cs ds f g same uses (entry (definition t place chain e) es) = both (terms ds g e) (terms_of_entries ds g es) (terms_same cs ds f g same uses e) (terms_of_entries_same cs ds f g same uses es)
 
 pub bad_terms_same : (es : Entries) → bad_terms (unplaced_entries es) ≡ zeros (bad_terms es)
 bad_terms_same es =

@@ -63,8 +63,8 @@ close_same : (s t : Scope) → SameScope s t → (place : ℕ) → fault_of_clos
 close_same s t scope place = ap (λ z. cond z (refuse kinds.FieldReference 0) []) (scope (codes "close")) ∙ called (t (codes "close")) place
 
 -- the faults of two parts, put together
-both : {a b xs ys : List Refusal} → a ≡ map nowhere xs → b ≡ map nowhere ys → a ++ b ≡ map nowhere (xs ++ ys)
-both {a = a} {b = b} {xs = xs} {ys = ys} first second = ap (λ z. z ++ b) first ∙ ap (λ z. map nowhere xs ++ z) second ∙ sym (map-append nowhere xs ys)
+both : {a b : List Refusal} (xs ys : List Refusal) → a ≡ map nowhere xs → b ≡ map nowhere ys → a ++ b ≡ map nowhere (xs ++ ys)
+both {a = a} {b = b} xs ys first second = ap (λ z. z ++ b) first ∙ ap (λ z. map nowhere xs ++ z) second ∙ sym (map-append nowhere xs ys)
 
 mutual
   faults_same : (cs ds : List Definition) (s t : Scope) → SameNumbers cs ds → SameScope s t → (e : Expression) → faults cs s (unplaced e) ≡ map nowhere (faults ds t e)
@@ -78,26 +78,26 @@ mutual
   faults_same cs ds s t same scope (tree.parenthesis e comma) = faults_same cs ds s t same scope e
   faults_same cs ds s t same scope (tree.struct es comma) = entries_same cs ds (inside (unplaced_entries es) s) (inside es t) same (inside_same s t scope es) es
   faults_same cs ds s t same scope (tree.close place es inner comma) =
-      both (close_same s t scope place) (entries_same cs ds (inside (unplaced_entries es) s) (inside es t) same (inside_same s t scope es) es)
+      both (fault_of_close t place) (faults_of_entries ds (inside es t) es) (close_same s t scope place) (entries_same cs ds (inside (unplaced_entries es) s) (inside es t) same (inside_same s t scope es) es)
   faults_same cs ds s t same scope (tree.list es goes_on comma) = elements_same cs ds s t same scope es
   faults_same cs ds s t same scope (tree.conjunction es) = elements_same cs ds s t same scope es
   faults_same cs ds s t same scope (tree.disjunction bs) = branches_same cs ds s t same scope bs
 
   elements_same : (cs ds : List Definition) (s t : Scope) → SameNumbers cs ds → SameScope s t → (es : Elements) → faults_of_elements cs s (unplaced_elements es) ≡ map nowhere (faults_of_elements ds t es)
   elements_same cs ds s t same scope no_elements = refl
-  elements_same cs ds s t same scope (element e es) = both (faults_same cs ds s t same scope e) (elements_same cs ds s t same scope es)
+  elements_same cs ds s t same scope (element e es) = both (faults ds t e) (faults_of_elements ds t es) (faults_same cs ds s t same scope e) (elements_same cs ds s t same scope es)
 
   branches_same : (cs ds : List Definition) (s t : Scope) → SameNumbers cs ds → SameScope s t → (bs : Branches) → faults_of_branches cs s (unplaced_branches bs) ≡ map nowhere (faults_of_branches ds t bs)
   branches_same cs ds s t same scope no_branches = refl
-  branches_same cs ds s t same scope (next_branch (branch marked place e) bs) = both (faults_same cs ds s t same scope e) (branches_same cs ds s t same scope bs)
+  branches_same cs ds s t same scope (next_branch (branch marked place e) bs) = both (faults ds t e) (faults_of_branches ds t bs) (faults_same cs ds s t same scope e) (branches_same cs ds s t same scope bs)
 
   entries_same : (cs ds : List Definition) (s t : Scope) → SameNumbers cs ds → SameScope s t → (es : Entries) → faults_of_entries cs s (unplaced_entries es) ≡ map nowhere (faults_of_entries ds t es)
   entries_same cs ds s t same scope no_entries = refl
   entries_same cs ds s t same scope (entry ellipsis es) = entries_same cs ds s t same scope es
   entries_same cs ds s t same scope (entry (field l chain e) es) =
-      both (faults_same cs ds (behind chain s) (behind chain t) same (behind_same chain s t scope) e) (entries_same cs ds s t same scope es)
+      both (faults ds (behind chain t) e) (faults_of_entries ds t es) (faults_same cs ds (behind chain s) (behind chain t) same (behind_same chain s t scope) e) (entries_same cs ds s t same scope es)
   entries_same cs ds s t same scope (entry (definition name place chain e) es) =
-      both (faults_same cs ds (behind chain s) (behind chain t) same (behind_same chain s t scope) e) (entries_same cs ds s t same scope es)
+      both (faults ds (behind chain t) e) (faults_of_entries ds t es) (faults_same cs ds (behind chain s) (behind chain t) same (behind_same chain s t scope) e) (entries_same cs ds s t same scope es)
 
 pub name_faults_same : (es : Entries) → name_faults (unplaced_entries es) ≡ map nowhere (name_faults es)
 name_faults_same es =
