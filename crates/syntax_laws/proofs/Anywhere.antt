@@ -1,5 +1,5 @@
 -- Tokens of the kinds that a tree is spelled with spell that tree with other places.
-use Rattle.std.proofs.Common.{◌≡◌, ◌∙◌, ◌↔◌, ap, subst, sym, refl, ℕ, ◌≤◌, Bool, true, false, List, [], ◌∷◌, ◌++◌, map, flat_map, codes, Option, Some, None, arith}
+use Rattle.std.proofs.Common.{◌≡◌, ◌∙◌, ◌↔◌, ap, subst, sym, refl, ℕ, Bool, true, false, List, [], ◌∷◌, ◌++◌, flat_map, codes, Option, Some, None}
 use Rattle.std.specs.Prelude.{⊤}
 use Rattle.cue_lex.specs.declared.token.Token.{Token}
 use Rattle.cue_lex.specs.declared.token.TokenKind.{TokenKind}
@@ -13,12 +13,12 @@ use Rattle.cue_syntax.specs.declared.tree.Package.{Package}
 use Rattle.cue_syntax.specs.declared.tree.Sign.{Sign}
 use Rattle.cue_syntax.specs.declared.tree.Sign.TheVariants as signs
 use Rattle.cue_syntax.specs.declared.tree.Signed.{Signed}
-use Rattle.cue_syntax.specs.Syntax.{FileTree, Expression, name, integer, text, bottom, bound, other_integer, other_text, parenthesis, struct, close, list, conjunction, disjunction, Elements, no_elements, element, Branch, branch, Branches, no_branches, next_branch, Entry, ellipsis, field, definition, Entries, no_entries, entry}
-use Rattle.cue_syntax.specs.Spelling.{Piece, Reads, Follows, StandsAt, IsPlace, one, one_at, placed, comma_if, star_if, comparison_kind, identifier_kind, label_kind, spell_sign, spell_signed, spell_mark, spell_label, spell_rest, spell, spell_elements, spell_more_elements, spell_branch, spell_branches, spell_more_branches, spell_entry, spell_entries, spell_more_entries, spell_package, spell_file}
-use Rattle.cue_syntax.specs.Grammar.{Limit, unlimited, at_most, Within, IsFile, IsRightPackage, AreRightEntries, EndsEntries, levels_of_entries}
-use Rattle.cue_syntax.specs.Unplaced.{unplaced, unplaced_elements, unplaced_branch, unplaced_branches, unplaced_entry, unplaced_entries, unplaced_file}
+use Rattle.cue_syntax.specs.Syntax.{Expression, name, integer, text, bottom, bound, other_integer, other_text, parenthesis, struct, close, list, conjunction, disjunction, Elements, no_elements, element, Branch, branch, Branches, no_branches, next_branch, Entry, ellipsis, field, definition, Entries, no_entries, entry}
+use Rattle.cue_syntax.specs.Spelling.{Piece, Reads, Follows, StandsAt, IsPlace, one, one_at, placed, comma_if, star_if, identifier_kind, spell_sign, spell_signed, spell_mark, spell_label, spell_rest, spell, spell_elements, spell_more_elements, spell_branch, spell_branches, spell_more_branches, spell_entry, spell_entries, spell_more_entries, spell_package, spell_file}
+use Rattle.cue_syntax.specs.Grammar.{Limit, Within, IsRightPackage, AreRightEntries, EndsEntries, levels_of_entries}
+use Rattle.cue_syntax.specs.Unplaced.{unplaced, unplaced_elements, unplaced_branch, unplaced_branches, unplaced_entry, unplaced_entries}
 use Rattle.cue_syntax.proofs.ReadingsJoin.{reads_then, reads_placed}
-use Rattle.syntax_laws.specs.Places.{kinds_of, kinds_spelled, IsFileAnywhere, IsSpelledAnywhere}
+use Rattle.syntax_laws.specs.Places.{kinds_of, IsSpelledAnywhere}
 use Rattle.syntax_laws.proofs.Unplaced.{right_entries_same, levels_entries_same, package_same, comma_same}
 
 -- the tokens are of the kinds of these pieces, and then comes the rest

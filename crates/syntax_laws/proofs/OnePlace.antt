@@ -1,16 +1,15 @@
 -- Refusals that fit the same tokens name one place.
-use Rattle.std.proofs.Common.{◌≡◌, ◌≢◌, ◌∙◌, ap, sym, subst, refl, ℕ, suc, ◌≤◌, ◌<◌, ◌⊎◌, inl, inr, List, drop, arith}
+use Rattle.std.proofs.Common.{◌≡◌, ◌∙◌, ap, sym, subst, refl, ℕ, suc, ◌<◌, inl, inr, List, drop, arith}
 use Rattle.std.proofs.lemmas.Bool.{cases_order}
 use Rattle.cue_lattice.specs.declared.refusal.Form.{Form}
 use Rattle.cue_lattice.specs.declared.refusal.Kind.{Kind}
 use Rattle.cue_lattice.specs.declared.refusal.Kind.TheVariants as refusals
-use Rattle.cue_lattice.specs.declared.refusal.Refusal.{Refusal}
 use Rattle.cue_lex.specs.declared.token.Token.{Token}
 use Rattle.cue_syntax.specs.Grammar.{unlimited}
 use Rattle.cue_syntax.specs.Viability.{Leaves, place_of}
-use Rattle.cue_syntax.specs.Refusals.{Fits, FitsAt, LeavesAt, IsNamed, IsNamedEarly, IsKindAfter, StandsAfter}
+use Rattle.cue_syntax.specs.Refusals.{FitsAt, LeavesAt, IsNamed, IsKindAfter, StandsAfter}
 use Rattle.cue_syntax.proofs.TakenBeginsAText.{fewer}
-use Rattle.syntax_laws.specs.OnePlace.{AgreeOn, FitsOnePlace}
+use Rattle.syntax_laws.specs.OnePlace.{FitsOnePlace}
 
 leaves_at : (levels : ℕ) (tokens : List Token) (kind : Kind) (j : ℕ) → (kind ≡ refusals.Nesting → ⊥) → FitsAt levels tokens kind j → LeavesAt tokens kind j
 leaves_at levels tokens refusals.Nesting j other fits = absurd (other refl)

@@ -1,23 +1,21 @@
 -- The spot after tokens that begin a text tells what can come next.
-use Rattle.std.proofs.Common.{◌≡◌, ◌∙◌, ◌↔◌, ap, sym, subst, refl, ℕ, suc, ◌+◌, ◌-◌, ◌≤◌, ◌⊎◌, inl, inr, Bool, true, false, List, [], ◌∷◌, ◌++◌, length, codes, length-append, Option, Some, None, arith}
+use Rattle.std.proofs.Common.{◌≡◌, ◌∙◌, ◌↔◌, ap, sym, subst, refl, ℕ, suc, ◌-◌, ◌⊎◌, inl, inr, Bool, true, false, List, [], ◌∷◌, ◌++◌, length, Option, Some, None, arith}
 use Rattle.std.specs.Prelude.{if◌then◌else◌}
 use Rattle.cue_lex.specs.declared.token.Token.{Token}
-use Rattle.cue_lex.specs.declared.token.TokenKind.{TokenKind}
 use Rattle.cue_lex.specs.declared.token.TokenKind.TheVariants as kinds
 use Rattle.cue_lex.specs.declared.punctuation.Punctuation.TheVariants as points
 use Rattle.cue_syntax.specs.declared.spot.Spot.{Spot}
 use Rattle.cue_syntax.specs.declared.spot.Spot.TheVariants as spots
 use Rattle.cue_syntax.specs.declared.spot.Inside.{Inside}
-use Rattle.cue_syntax.specs.declared.tree.Sign.TheVariants as signs
 use Rattle.cue_syntax.specs.Grammar.{unlimited}
 use Rattle.cue_syntax.specs.Viability.{Begins}
 use Rattle.cue_syntax.specs.Spots.{is_close, innermost, open_after, spot_after, spot_from, spot_of}
 use Rattle.cue_syntax.specs.Forms.{IsOfLabel, IsOfOperand}
-use Rattle.cue_syntax.specs.Recogniser.{Goal, Stack, step, stuck, stuck_behind, is_over, is_keyword, take_behind_operand, text, package_word, package_end, entries, more_entries, mark, colon, value, value_name, value_text, chained, expression, term, unary, more_parts, bar, more_terms, signed, signed_or_text, magnitude, behind_close, closed, parenthesis, parenthesis_end, elements, more_elements, bracket, bracket_end}
+use Rattle.cue_syntax.specs.Recogniser.{Stack, step, stuck, stuck_behind, is_over, is_keyword, text, package_word, package_end, entries, more_entries, mark, colon, value, value_name, value_text, chained, expression, term, unary, more_parts, bar, more_terms, signed, signed_or_text, magnitude, behind_close, closed, parenthesis, parenthesis_end, elements, more_elements, bracket, bracket_end}
 use Rattle.cue_syntax.proofs.NoTextWhereStuck.{stuck_begins_none, stuck_inside}
 use Rattle.cue_syntax.proofs.TakenBeginsAText.{begins, taken, fewer}
-use Rattle.syntax_laws.specs.Following.{BeginText, token_of, OperandNext, LabelNext, DefinitionNext, SpotTellsNext, SpotsFollowTheGrammar}
-use Rattle.syntax_laws.proofs.SpotsOfGoals.{Quiet, SpotAt, SpotTop, IsAfter, Afters, BeforeValue, Shape, opened_of, Fit, next_fit}
+use Rattle.syntax_laws.specs.Following.{BeginText, token_of, OperandNext, LabelNext, SpotsFollowTheGrammar}
+use Rattle.syntax_laws.proofs.SpotsOfGoals.{Quiet, SpotTop, Afters, Shape, Fit, next_fit}
 
 -- the goals take all of the tokens
 abbrev Takes : Stack → List Token → Type 0

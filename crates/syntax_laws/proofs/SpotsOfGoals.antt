@@ -1,7 +1,6 @@
 -- The spot of a symbol and the goals of the recogniser there: what is open is told by both, and the spot by the goal on top.
-use Rattle.std.proofs.Common.{◌≡◌, ◌∙◌, ap, sym, subst, refl, ℕ, Bool, true, false, List, [], ◌∷◌, ◌++◌, codes, Option, Some, None}
+use Rattle.std.proofs.Common.{◌≡◌, ◌∙◌, ap, sym, subst, refl, ℕ, Bool, true, false, List, [], ◌∷◌, codes, Option, Some, None}
 use Rattle.std.specs.Prelude.{⊤, nat_le, if◌then◌else◌}
-use Rattle.cue_lex.specs.declared.token.Token.{Token}
 use Rattle.cue_lex.specs.declared.token.TokenKind.{TokenKind}
 use Rattle.cue_lex.specs.declared.token.TokenKind.TheVariants as kinds
 use Rattle.cue_lex.specs.declared.punctuation.Punctuation.TheVariants as points
@@ -12,9 +11,9 @@ use Rattle.cue_syntax.specs.declared.spot.Inside.TheVariants as insides
 use Rattle.cue_syntax.specs.declared.tree.Sign.{Sign}
 use Rattle.cue_syntax.specs.declared.tree.Sign.TheVariants as signs
 use Rattle.cue_syntax.specs.Grammar.{greatest}
-use Rattle.cue_syntax.specs.Spots.{is_close, innermost, open_after, spot_after, after_comma, after_dots, after_parenthesis}
+use Rattle.cue_syntax.specs.Spots.{is_close, innermost, open_after, spot_after, after_comma, after_parenthesis}
 use Rattle.cue_syntax.specs.Forms.{IsOfLabel, IsOfOperand}
-use Rattle.cue_syntax.specs.Recogniser.{Goal, Stack, is_word, is_keyword, hides_definition, step, take_name, take_integer, take_unary, take_term, take_expression, take_value, take_signed, take_entry, take_mark, take_package, take_text, take_element, take_behind_operand, take_behind_name, text, package_word, package_end, entries, more_entries, mark, colon, value, value_name, value_text, chained, expression, term, unary, more_parts, bar, more_terms, signed, signed_or_text, magnitude, behind_close, closed, parenthesis, parenthesis_end, elements, more_elements, bracket, bracket_end}
+use Rattle.cue_syntax.specs.Recogniser.{Goal, Stack, is_word, is_keyword, hides_definition, step, take_unary, take_term, take_expression, take_value, take_signed, take_entry, take_mark, take_behind_operand, text, package_word, package_end, entries, more_entries, mark, colon, value, value_name, value_text, chained, expression, term, unary, more_parts, bar, more_terms, signed, signed_or_text, magnitude, behind_close, closed, parenthesis, parenthesis_end, elements, more_elements, bracket, bracket_end}
 
 -- neither an operand nor a label begins there
 abbrev pub Quiet : Spot → Type 0

@@ -1,10 +1,9 @@
 -- Trees and the same trees without their places follow the grammar alike.
-use Rattle.std.proofs.Common.{◌≡◌, ◌∙◌, ◌↔◌, ap, subst, sym, refl, ℕ, ◌+◌, ◌≤◌, max, Bool, true, false, Option, Some, None, length, arith}
-use Rattle.std.specs.Prelude.{⊤}
+use Rattle.std.proofs.Common.{◌≡◌, ◌∙◌, ◌↔◌, ap, refl, ◌+◌, max, Bool, true, false, Option, Some, None, length, arith}
 use Rattle.cue_syntax.specs.declared.tree.Package.{Package}
 use Rattle.cue_syntax.specs.Syntax.{Expression, name, integer, text, bottom, bound, other_integer, other_text, parenthesis, struct, close, list, conjunction, disjunction, Elements, no_elements, element, Branch, branch, Branches, no_branches, next_branch, Entry, ellipsis, field, definition, Entries, no_entries, entry}
 use Rattle.cue_syntax.specs.Words.{HasWords, HaveWords, HasWordsBranch, HaveWordsBranches, HasWordsEntry, HaveWordsEntries}
-use Rattle.cue_syntax.specs.Grammar.{IsUnary, IsConjunct, IsNested, AreUnary, AreNested, TwoElements, TwoBranches, IsTerm, EndsEntries, EndsElements, IsRight, AreRight, IsRightBranch, AreRightBranches, IsRightEntry, AreRightEntries, IsRightPackage, IsFragment, levels, levels_of_elements, levels_of_branch, levels_of_branches, levels_of_entry, levels_of_entries}
+use Rattle.cue_syntax.specs.Grammar.{IsUnary, IsConjunct, IsNested, AreUnary, AreNested, TwoElements, TwoBranches, IsTerm, EndsEntries, EndsElements, IsRight, AreRight, IsRightBranch, AreRightBranches, IsRightEntry, AreRightEntries, IsRightPackage, levels, levels_of_elements, levels_of_branch, levels_of_branches, levels_of_entry, levels_of_entries}
 use Rattle.cue_syntax.specs.Unplaced.{unplaced, unplaced_elements, unplaced_branch, unplaced_branches, unplaced_entry, unplaced_entries}
 use Rattle.syntax_laws.specs.Places.{KeepsForm, KeepsLevels}
 
