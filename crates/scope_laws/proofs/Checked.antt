@@ -13,12 +13,11 @@ use Rattle.cue_scope.specs.Definitions.{Definition, definitions, repeats}
 use Rattle.cue_scope.specs.First.{IsFirst}
 use Rattle.cue_scope.specs.Graph.{IsAcyclic, IsFirstCycle}
 use Rattle.cue_scope.specs.Limits.{size, depth}
-use Rattle.cue_scope.specs.Meaning.{meant_text}
 use Rattle.cue_scope.specs.Names.{name_faults}
-use Rattle.cue_scope.specs.Refusing.{IsUnrepeated, IsNamed, IsOrdered, HasScalarTerms, IsSmall, IsLegal, IsCycleAt, RefusesAs}
+use Rattle.cue_scope.specs.Refusing.{IsUnrepeated, IsNamed, IsOrdered, HasScalarTerms, IsSmall, IsLegal, IsCycleAt}
 use Rattle.cue_scope.specs.Terms.{bad_terms}
 use Rattle.cue_scope.specs.Uses.{graph}
-use Rattle.scope_laws.specs.Places.{AreRefusedAs, AreCheckedAlike, KeepsChecks}
+use Rattle.scope_laws.specs.Places.{AreRefusedAs, KeepsChecks}
 use Rattle.scope_laws.proofs.Bare.{bare, bare_definitions, bare_repeats, bare_graph, zeros}
 use Rattle.scope_laws.proofs.Meant.{text_same, bad_terms_same}
 use Rattle.scope_laws.proofs.Named.{nowhere, name_faults_same}
@@ -73,9 +72,10 @@ named_same es =
     (λ n. record { unrepeated = (unrepeated_same es).0 n.unrepeated; names = names.0 n.names }, λ n. record { unrepeated = (unrepeated_same es).1 n.unrepeated; names = names.1 n.names })
 
 ordered_same : (es : Entries) → IsOrdered es ↔ IsOrdered (unplaced_entries es)
-ordered_same es =
-    (λ o. record { named = (named_same es).0 o.named; acyclic = subst IsAcyclic (sym (graph_same es)) o.acyclic },
-    λ o. record { named = (named_same es).1 o.named; acyclic = subst IsAcyclic (graph_same es) o.acyclic })
+ordered_same es = (
+  λ o. record { named = (named_same es).0 o.named; acyclic = subst IsAcyclic (sym (graph_same es)) o.acyclic },
+  λ o. record { named = (named_same es).1 o.named; acyclic = subst IsAcyclic (graph_same es) o.acyclic },
+)
 
 scalar_same : (es : Entries) → HasScalarTerms es ↔ HasScalarTerms (unplaced_entries es)
 scalar_same es =
@@ -83,14 +83,16 @@ scalar_same es =
     (λ s. record { ordered = (ordered_same es).0 s.ordered; terms = terms.0 s.terms }, λ s. record { ordered = (ordered_same es).1 s.ordered; terms = terms.1 s.terms })
 
 small_same : (es : Entries) → IsSmall es ↔ IsSmall (unplaced_entries es)
-small_same es =
-    (λ s. record { scalar = (scalar_same es).0 s.scalar; size = subst (λ z. size z ≤ size_limit) (sym (text_same es)) s.size },
-    λ s. record { scalar = (scalar_same es).1 s.scalar; size = subst (λ z. size z ≤ size_limit) (text_same es) s.size })
+small_same es = (
+  λ s. record { scalar = (scalar_same es).0 s.scalar; size = subst (λ z. size z ≤ size_limit) (sym (text_same es)) s.size },
+  λ s. record { scalar = (scalar_same es).1 s.scalar; size = subst (λ z. size z ≤ size_limit) (text_same es) s.size },
+)
 
 legal_same : (es : Entries) → IsLegal es ↔ IsLegal (unplaced_entries es)
-legal_same es =
-    (λ l. record { small = (small_same es).0 l.small; depth = subst (λ z. depth z ≤ step_limit) (sym (text_same es)) l.depth },
-    λ l. record { small = (small_same es).1 l.small; depth = subst (λ z. depth z ≤ step_limit) (text_same es) l.depth })
+legal_same es = (
+  λ l. record { small = (small_same es).0 l.small; depth = subst (λ z. depth z ≤ step_limit) (sym (text_same es)) l.depth },
+  λ l. record { small = (small_same es).1 l.small; depth = subst (λ z. depth z ≤ step_limit) (text_same es) l.depth },
+)
 
 -- a definition that reaches itself stands somewhere
 abbrev HasCycle : List Definition → Type 0
@@ -111,11 +113,15 @@ cycle_bare : (ds : List Definition) → HasCycle ds ↔ HasCycle (map bare ds)
 cycle_bare ds = (forth, back)
   where
     forth : HasCycle ds → HasCycle (map bare ds)
-    forth h = (0, record {
-      number = h.1.number;
-      first = subst (λ z. IsFirstCycle z h.1.number) (sym (bare_graph ds)) h.1.first;
-      place = ap place_of (slice_get-map bare ds h.1.number) ∙ bare_place (slice_get ds h.1.number) h.0 h.1.place;
-    })
+    forth h = (
+      0,
+      record {
+        number = h.1.number;
+        first = subst (λ z. IsFirstCycle z h.1.number) (sym (bare_graph ds)) h.1.first;
+        place = ap place_of (slice_get-map bare ds h.1.number) ∙ bare_place (slice_get ds h.1.number) h.0 h.1.place;
+      },
+    )
+
     back : HasCycle (map bare ds) → HasCycle ds
     back h =
         let at = some_place (slice_get ds h.1.number) h.0 (sym (ap place_of (slice_get-map bare ds h.1.number)) ∙ h.1.place) in
@@ -137,12 +143,14 @@ refused_same es kinds.Cycle =
 refused_same es kinds.NotScalar =
     let same = first_same (bad_terms es) (bad_terms (unplaced_entries es)) (bad_terms_same es) in
     (λ h. let f = same.0 (h.0, h.1.1) in (f.0, ((ordered_same es).0 h.1.0, f.1)), λ h. let f = same.1 (h.0, h.1.1) in (f.0, ((ordered_same es).1 h.1.0, f.1)))
-refused_same es kinds.TooLarge =
-    (λ h. (h.0, ((scalar_same es).0 h.1.0, subst (λ z. size_limit < size z) (sym (text_same es)) h.1.1, h.1.2)),
-    λ h. (h.0, ((scalar_same es).1 h.1.0, subst (λ z. size_limit < size z) (text_same es) h.1.1, h.1.2)))
-refused_same es kinds.TooDeep =
-    (λ h. (h.0, ((small_same es).0 h.1.0, subst (λ z. step_limit < depth z) (sym (text_same es)) h.1.1, h.1.2)),
-    λ h. (h.0, ((small_same es).1 h.1.0, subst (λ z. step_limit < depth z) (text_same es) h.1.1, h.1.2)))
+refused_same es kinds.TooLarge = (
+  λ h. (h.0, ((scalar_same es).0 h.1.0, subst (λ z. size_limit < size z) (sym (text_same es)) h.1.1, h.1.2)),
+  λ h. (h.0, ((scalar_same es).1 h.1.0, subst (λ z. size_limit < size z) (text_same es) h.1.1, h.1.2)),
+)
+refused_same es kinds.TooDeep = (
+  λ h. (h.0, ((small_same es).0 h.1.0, subst (λ z. step_limit < depth z) (sym (text_same es)) h.1.1, h.1.2)),
+  λ h. (h.0, ((small_same es).1 h.1.0, subst (λ z. step_limit < depth z) (text_same es) h.1.1, h.1.2)),
+)
 refused_same es _ = (λ h. absurd h.1, λ h. absurd h.1)
 
 -- the checks decide the same without places
