@@ -1,7 +1,8 @@
 /* The configuration store as a library: each call takes bytes and writes bytes.
  *
  * A site is its state's bytes. Nothing is kept between two calls, and there is nothing to free. Calls take memory by
- * malloc, give it back before they return, and may be made from several threads at once.
+ * malloc and realloc, give it back before they return, and may be made from several threads at once, but not from a
+ * signal handler, nor in the forked child of a process that has threads.
  *
  * Each call writes its answer to the front of `out`, which has `room` bytes and must not overlap an input. Where the
  * answer has no room, nothing is written, the status is CUESTORE_NO_ROOM, and `length` says how many bytes it wants: so
@@ -23,7 +24,7 @@ typedef struct {
     uint64_t place;  /* the byte of the input at which it is refused; 0 where none is */
     uint8_t status;  /* one of the statuses below */
     uint8_t refusal; /* the number of the refusal, below; 0 where there is none */
-    uint8_t input;   /* which input is refused, from 1; 0 where none is */
+    uint8_t input;   /* which input is refused, from 1; 0 where none is, also where memory ran out for the answer */
 } cuestore_outcome;
 
 /* Statuses. */
@@ -59,24 +60,24 @@ enum {
 };
 
 /* The state of a site that has accepted nothing. */
-cuestore_outcome cue_embed_new(uint8_t *out, size_t room);
+cuestore_outcome cuestore_new(uint8_t *out, size_t room);
 
 /* The state of a site that has accepted all that this state has, and the text. */
-cuestore_outcome cue_embed_submit(const uint8_t *state, size_t state_length, const uint8_t *text, size_t text_length,
-                                  uint8_t *out, size_t room);
-
-/* The state of a site that has accepted all that both states have. */
-cuestore_outcome cue_embed_merge(const uint8_t *state, size_t state_length, const uint8_t *other, size_t other_length,
+cuestore_outcome cuestore_submit(const uint8_t *state, size_t state_length, const uint8_t *text, size_t text_length,
                                  uint8_t *out, size_t room);
 
+/* The state of a site that has accepted all that both states have. */
+cuestore_outcome cuestore_merge(const uint8_t *state, size_t state_length, const uint8_t *other, size_t other_length,
+                                uint8_t *out, size_t room);
+
 /* The JSON of the configuration; or, where there are any, the conflict lines; or else the lines of what is incomplete. */
-cuestore_outcome cue_embed_export(const uint8_t *state, size_t state_length, uint8_t *out, size_t room);
+cuestore_outcome cuestore_export(const uint8_t *state, size_t state_length, uint8_t *out, size_t room);
 
 /* The conflict lines, and then the lines of what is incomplete. */
-cuestore_outcome cue_embed_report(const uint8_t *state, size_t state_length, uint8_t *out, size_t room);
+cuestore_outcome cuestore_report(const uint8_t *state, size_t state_length, uint8_t *out, size_t room);
 
 /* All that is known, as one text. */
-cuestore_outcome cue_embed_print(const uint8_t *state, size_t state_length, uint8_t *out, size_t room);
+cuestore_outcome cuestore_print(const uint8_t *state, size_t state_length, uint8_t *out, size_t room);
 
 #ifdef __cplusplus
 }

@@ -1,65 +1,25 @@
 -- What each call writes and tells, by the store's own meaning of states and texts.
-use Rattle.std.specs.Prelude.{◌≡◌, ◌⊎◌, ℕ, ◌<◌, ◌≤◌, List, [], ◌∷◌, length, Result, MatchResult}
-use Rattle.std.specs.Str.{IsUtf8, IsValidUpTo}
+use Rattle.std.specs.Prelude.{ℕ, List, [], ◌∷◌, Result, MatchResult}
 use Rattle.cue_lattice.specs.World.{Piece, text, state}
-use Rattle.cue_replica.specs.Accepted.{text_limit, refusal_at, memory, IsOfPieces}
-use Rattle.cue_replica.specs.Language.{Table, language}
-use Rattle.cue_replica.specs.declared.Kind.TheVariants as kinds
-use Rattle.cue_replica.specs.declared.Refusal.{Refusal}
+use Rattle.cue_replica.specs.Accepted.{IsOfPieces}
+use Rattle.cue_replica.specs.Language.{Table}
 use Rattle.cue_answer.specs.Answers.{Tells}
 use Rattle.cue_answer.specs.declared.question.Question.{Question}
 use Rattle.cue_answer.specs.declared.question.Question.TheVariants as questions
 use Rattle.cue_answer.specs.declared.told.Answer.{Answer}
 use Rattle.cue_embed.specs.declared.outcome.Outcome.{Outcome}
 use Rattle.cue_embed.specs.declared.outcome.Stop.{Stop}
-use Rattle.cue_embed.specs.Outcomes.{IsMemory, IsOutcomeOf}
+use Rattle.cue_embed.specs.Outcomes.{IsOutcomeOf}
+use Rattle.cue_embed.specs.Stops.{IsMemory, IsStateStop, IsSubmitStop, IsMergeStop}
 
--- The answer to the question of a site that has accepted exactly these pieces: its table is valid,
--- and their unification.
+-- The answer to the question of a site that has accepted exactly these pieces: each is acceptable,
+-- and its table is valid, and their unification.
 abbrev pub IsAnswerOf : Question → List Piece → Answer → Type 0
 IsAnswerOf question pieces answer =
     (table : Table) × IsOfPieces table pieces × Tells question table answer
 
--- The input of this number has this fault, or memory ran out while it was taken, and it is not
--- refused at once, with no memory.
-abbrev pub IsStopAt : ℕ → (Refusal → Type 0) → Type 0 → Stop → Type 0
-IsStopAt number Fault AtOnce stop =
-    (stop.input ≡ number) × (((stop.why ≡ memory) × (AtOnce → ⊥)) ⊎ Fault stop.why)
-
--- a state, as the input of this number, stops a call
-abbrev pub IsStateStopAt : ℕ → List ℕ → Stop → Type 0
-IsStateStopAt number bytes =
-    IsStopAt number (language.IsStateFault bytes) (language.IsStateRefusedAtOnce bytes)
-
--- Why bytes are no text: they are too many, or else they are not UTF-8, and the place is where the
--- part that is ends; or they are no text of the language.
-abbrev pub IsTextFault : List ℕ → Refusal → Type 0
-IsTextFault bytes why =
-    ((text_limit < length bytes) × (why ≡ refusal_at kinds.TooLong text_limit))
-    ⊎ ((length bytes ≤ text_limit) × (why.kind ≡ kinds.BadCharacter) × (IsUtf8 bytes → ⊥)
-    × IsValidUpTo bytes why.place)
-    ⊎ language.IsTextFault bytes why
-
--- why a call over one state has no answer
-abbrev pub IsStateStop : List ℕ → Stop → Type 0
-IsStateStop bytes stop = IsMemory stop ⊎ IsStateStopAt 1 bytes stop
-
--- a text, as the second input, stops a call
-abbrev pub IsTextStop : List ℕ → Stop → Type 0
-IsTextStop bytes = IsStopAt 2 (IsTextFault bytes) (language.IsTextRefusedAtOnce bytes)
-
--- why a call over a state and a text has none: the text is told only where the state is one
-abbrev pub IsSubmitStop : List ℕ → List ℕ → Stop → Type 0
-IsSubmitStop bytes more stop =
-    IsStateStop bytes stop ⊎ (language.IsState bytes × IsTextStop more stop)
-
--- why a call over two states has none: the second is told only where the first is one
-abbrev pub IsMergeStop : List ℕ → List ℕ → Stop → Type 0
-IsMergeStop bytes other stop =
-    IsStateStop bytes stop ⊎ (language.IsState bytes × IsStateStopAt 2 other stop)
-
--- What is written and told where an answer is one of these, and otherwise there is none for one of
--- these reasons.
+-- What is written and told where an answer is such a one, and otherwise there is none for such a
+-- reason.
 abbrev pub Comes : (Answer → Type 0) → (Stop → Type 0) → List ℕ → List ℕ → Outcome → Type 0
 Comes IsAnswer IsStop old new outcome =
     (answer : Result Answer Stop) × MatchResult answer IsAnswer IsStop

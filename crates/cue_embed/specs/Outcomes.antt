@@ -1,21 +1,17 @@
 -- What a call came to, and what it wrote.
 use Rattle.std.specs.Prelude.{◌≡◌, ◌⊎◌, ℕ, ◌<◌, ◌≤◌, List, ◌++◌, length, drop, Result, Ok, Err}
-use Rattle.cue_replica.specs.Accepted.{number_of, memory}
+use Rattle.cue_replica.specs.Accepted.{number_of}
 use Rattle.cue_answer.specs.Answers.{code_of}
 use Rattle.cue_answer.specs.declared.told.Answer.{Answer}
 use Rattle.cue_embed.specs.declared.outcome.Outcome.{Outcome}
 use Rattle.cue_embed.specs.declared.outcome.Stop.{Stop}
-
--- memory ran out, while no input was taken
-abbrev pub IsMemory : Stop → Type 0
-IsMemory stop = (stop.why ≡ memory) × (stop.input ≡ 0)
 
 -- the outcome of a call that has an answer of so many bytes
 abbrev pub answered : ℕ → ℕ → Outcome
 answered length status =
     record { length = length; place = 0; status = status; refusal = 0; input = 0 }
 
--- the outcome of a call that has none
+-- the outcome of a call that has none, for this reason
 abbrev pub refused : Stop → Outcome
 refused stop =
     record {

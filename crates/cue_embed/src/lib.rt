@@ -21,7 +21,7 @@ use std::alloc::Global;
 
 /// Writes the state of a site that has accepted nothing.
 #[unsafe(no_mangle)]
-pub extern "C" fn cue_embed_new(alloc: Global, out: &mut [u8]) -> Outcome
+pub extern "C" fn cuestore_new(alloc: Global, out: &mut [u8]) -> Outcome
     ensures { IsNew out.old out.new result }
 {
     outcome_of(new_state(alloc), out)
@@ -29,7 +29,7 @@ pub extern "C" fn cue_embed_new(alloc: Global, out: &mut [u8]) -> Outcome
 
 /// Writes the state of a site that has accepted all that this state has, and the text.
 #[unsafe(no_mangle)]
-pub extern "C" fn cue_embed_submit(
+pub extern "C" fn cuestore_submit(
     alloc: Global,
     bytes: &[u8],
     more: &[u8],
@@ -42,7 +42,7 @@ pub extern "C" fn cue_embed_submit(
 
 /// Writes the state of a site that has accepted all that both states have.
 #[unsafe(no_mangle)]
-pub extern "C" fn cue_embed_merge(
+pub extern "C" fn cuestore_merge(
     alloc: Global,
     bytes: &[u8],
     other: &[u8],
@@ -56,7 +56,7 @@ pub extern "C" fn cue_embed_merge(
 /// Writes the JSON of the configuration; or, where there are any, the conflict lines; or else the
 /// lines of what is incomplete.
 #[unsafe(no_mangle)]
-pub extern "C" fn cue_embed_export(alloc: Global, bytes: &[u8], out: &mut [u8]) -> Outcome
+pub extern "C" fn cuestore_export(alloc: Global, bytes: &[u8], out: &mut [u8]) -> Outcome
     ensures { IsTold questions.Export bytes.now out.old out.new result }
 {
     outcome_of(told(alloc, Question::Export, bytes), out)
@@ -64,7 +64,7 @@ pub extern "C" fn cue_embed_export(alloc: Global, bytes: &[u8], out: &mut [u8]) 
 
 /// Writes the conflict lines, and then the lines of what is incomplete.
 #[unsafe(no_mangle)]
-pub extern "C" fn cue_embed_report(alloc: Global, bytes: &[u8], out: &mut [u8]) -> Outcome
+pub extern "C" fn cuestore_report(alloc: Global, bytes: &[u8], out: &mut [u8]) -> Outcome
     ensures { IsTold questions.Report bytes.now out.old out.new result }
 {
     outcome_of(told(alloc, Question::Report, bytes), out)
@@ -72,7 +72,7 @@ pub extern "C" fn cue_embed_report(alloc: Global, bytes: &[u8], out: &mut [u8]) 
 
 /// Writes all that is known, as one text.
 #[unsafe(no_mangle)]
-pub extern "C" fn cue_embed_print(alloc: Global, bytes: &[u8], out: &mut [u8]) -> Outcome
+pub extern "C" fn cuestore_print(alloc: Global, bytes: &[u8], out: &mut [u8]) -> Outcome
     ensures { IsTold questions.Print bytes.now out.old out.new result }
 {
     outcome_of(told(alloc, Question::Print, bytes), out)

@@ -23,12 +23,12 @@ pub struct Outcome {
     pub status: u8,
     /// The number of the refusal; 0 where there is none.
     pub refusal: u8,
-    /// Which input is refused, from 1; 0 where none is, or memory ran out.
+    /// Which input is refused, from 1; 0 where none is, also where memory ran out for the answer.
     pub input: u8,
 }
 
 /// Why a call has no answer: the refusal, and the number of the input that is refused, from 1, or 0
-/// where memory ran out.
+/// where memory ran out for the answer.
 #[derive(Clone, Copy)]
 pub struct Stop {
     pub why: Refusal,
@@ -36,7 +36,7 @@ pub struct Stop {
 }
 
 impl From<Memory> for Stop {
-    ghost use Rattle.cue_embed.specs.Outcomes.{IsMemory};
+    ghost use Rattle.cue_embed.specs.Stops.{IsMemory};
 
     ghost from_gives = { λ _ stop. IsMemory stop };
 

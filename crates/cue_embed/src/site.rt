@@ -1,11 +1,13 @@
-ghost use Rattle.std.specs.Prelude.{◌≡◌, [], ◌∷◌, ◌++◌, List, OnOk, IfErr, MatchResult};
+ghost use Rattle.std.specs.Prelude.{◌≡◌, ◌≤◌, [], ◌∷◌, ◌++◌, List, OnOk, IfErr, MatchResult};
+ghost use Rattle.std.specs.Prelude.{length};
+ghost use Rattle.std.specs.Str.{IsUtf8};
 ghost use Rattle.cue_lattice.specs.World.{Piece, text, state};
-ghost use Rattle.cue_replica.specs.Accepted.{IsOfPieces};
+ghost use Rattle.cue_replica.specs.Accepted.{text_limit, IsOfPieces};
 ghost use Rattle.cue_answer.specs.Answers.{Tells};
 ghost use Rattle.cue_answer.specs.declared.question.Question.TheVariants as questions;
-ghost use Rattle.cue_embed.specs.Outcomes.{IsMemory};
-ghost use Rattle.cue_embed.specs.Calls.{IsAnswerOf, IsStateStop, IsStateStopAt, IsSubmitStop};
-ghost use Rattle.cue_embed.specs.Calls.{IsMergeStop, IsTextFault, IsTextStop};
+ghost use Rattle.cue_embed.specs.Calls.{IsAnswerOf};
+ghost use Rattle.cue_embed.specs.Stops.{IsMemory, IsRefusedAt, IsStateRefusal, IsTextRefusal};
+ghost use Rattle.cue_embed.specs.Stops.{IsStateStop, IsSubmitStop, IsMergeStop};
 
 use crate::outcome::Stop;
 use cue_answer::{Answer, Question, answer_to};
@@ -61,7 +63,7 @@ fn answered(alloc: Global, question: Question, site: &Replica) -> Result<Answer,
 /// A new site that has accepted a state, the first input.
 fn site_of(alloc: Global, bytes: &[u8]) -> Result<Replica, Stop>
     ensures { MatchResult result (λ site. IsOfPieces site (state bytes.now ∷ []))
-        (IsStateStopAt 1 bytes.now) }
+        (IsRefusedAt 1 (IsStateRefusal bytes.now)) }
 {
     let mut site = Replica::new(alloc);
     take(&mut site, bytes, 1)?;
@@ -72,7 +74,7 @@ fn site_of(alloc: Global, bytes: &[u8]) -> Result<Replica, Stop>
 fn take(site: &mut Replica, bytes: &[u8], number: u8) -> Result<(), Stop>
     ensures accepts { OnOk result ((pieces : List Piece) → IsOfPieces site.old pieces
         → IsOfPieces site.new (pieces ++ state bytes.now ∷ [])) }
-    ensures stop { IfErr result (IsStateStopAt number bytes.now) }
+    ensures stop { IfErr result (IsRefusedAt number (IsStateRefusal bytes.now)) }
 {
     match site.take(bytes) {
         Ok(()) => Ok(()),
@@ -84,7 +86,7 @@ fn take(site: &mut Replica, bytes: &[u8], number: u8) -> Result<(), Stop>
 fn submit(site: &mut Replica, bytes: &[u8]) -> Result<(), Stop>
     ensures accepts { OnOk result ((pieces : List Piece) → IsOfPieces site.old pieces
         → IsOfPieces site.new (pieces ++ text bytes.now ∷ [])) }
-    ensures stop { IfErr result (IsTextStop bytes.now) }
+    ensures stop { IfErr result (IsRefusedAt 2 (IsTextRefusal bytes.now)) }
 {
     let words = match text_of(bytes) {
         Ok(words) => words,
@@ -98,7 +100,9 @@ fn submit(site: &mut Replica, bytes: &[u8]) -> Result<(), Stop>
 
 /// The text in these bytes: neither too long, nor anything but UTF-8.
 fn text_of(bytes: &[u8]) -> Result<&str, Refusal>
-    ensures { MatchResult result (λ words. words.now ≡ bytes.now) (IsTextFault bytes.now) }
+    ensures { MatchResult result
+        (λ words. (words.now ≡ bytes.now) × (length bytes.now ≤ text_limit) × IsUtf8 bytes.now)
+        (IsTextRefusal bytes.now) }
 {
     if bytes.len() > TEXT_LIMIT {
         return Err(Refusal::at(Kind::TooLong, TEXT_LIMIT));
