@@ -108,8 +108,8 @@ class Replica:
 
     def __init__(self, state=None):
         """The site of these state bytes, or one that has accepted nothing. Raises `Refused` for what is no state."""
-        made = _call("new") if state is None else _call("submit", bytes(state), b"")
-        object.__setattr__(self, "state", made[1])
+        new = _call("new")[1]
+        object.__setattr__(self, "state", new if state is None else _call("merge", bytes(state), new)[1])
 
     @classmethod
     def _of(cls, state):

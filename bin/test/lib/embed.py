@@ -88,7 +88,8 @@ def test_refusals():
     assert refused(site.submit, "a: \ud800") == ("BadCharacter", 3, 2)
     assert refused(site.submit, " " * 1048577) == ("TooLong", 1048576, 2)
     assert refused(site.submit, b"\xff" * 1048577) == ("TooLong", 1048576, 2)
-    assert site.submit(" " * 1048576) == site.submit("") == site
+    # An empty text says that there is a struct, and a new site has not even heard that.
+    assert site.submit(" " * 1048576) == site.submit("") != site
 
 
 def test_values():
@@ -107,7 +108,7 @@ def test_values():
         pass
 
 
-assert doctest.testmod(cuestore) == (0, 6)
+assert doctest.testmod(cuestore) == (0, 5)
 for test in (test_names, test_lists, test_refusals, test_values):
     test()
 print(f"ok {LISTS} lists of inputs by four threads, the names of the refusals, refused inputs, and values")

@@ -37,7 +37,7 @@ void __wrap_free(void *block) {
 
 static uint8_t one[4096], two[4096];
 static size_t one_length, two_length;
-static const char text[] = "#S: {port!: uint16 | *80, tags: [...string], on?: bool}\na: #S\nb: {x: 1 | \"y\"}\n";
+static const char text[] = "#S: {port!: uint16 | *80, tags: [...], on?: bool}\na: #S\nb: {x: 1 | \"y\"}\n";
 
 /* The calls of the library by number, on two states and a text. */
 static cuestore_outcome called(int call, uint8_t *out, size_t room) {
