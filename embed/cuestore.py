@@ -1,0 +1,170 @@
+"""The configuration store in Python, over its library (`bin/build-embed` makes it).
+
+    >>> site = Replica().submit("port: >=1 & <=65535").submit("port: 443")
+    >>> site.export()
+    {'port': 443}
+    >>> other = Replica().submit('host: "db"')
+    >>> (site | other) == (other | site)
+    True
+    >>> site.submit("port: 0443")
+    Traceback (most recent call last):
+    cuestore.Refused: refused 4 BadNumber at 6 in 2
+"""
+import ctypes
+import json
+import os
+
+__all__ = ["Replica", "Refused", "NoExport", "Conflicts", "Incomplete", "NAMES"]
+
+FOLDER = os.path.dirname(os.path.realpath(__file__))
+LIBRARY = os.environ.get("CUESTORE_LIBRARY", os.path.join(FOLDER, "out", "libcuestore.so"))
+if not os.path.exists(LIBRARY):
+    raise ImportError(f"{LIBRARY} is not there: bin/build-embed makes it, and CUESTORE_LIBRARY names another one")
+_library = ctypes.CDLL(LIBRARY)
+
+NAMES = {
+    1: "TooLong", 2: "BadCharacter", 3: "BadString", 4: "BadNumber", 5: "IntRange", 6: "TextTooLong", 7: "Syntax",
+    8: "Nesting", 9: "LeftOut", 10: "UnknownName", 11: "FieldReference", 12: "Repeated", 13: "Cycle", 14: "TooLarge",
+    15: "TooDeep", 16: "NotScalar", 17: "Version", 18: "NotState", 24: "Memory",
+}
+DONE, REFUSED, CONFLICTS, INCOMPLETE, NO_ROOM = 0, 1, 2, 3, 5
+MEMORY = 24
+
+
+class _Outcome(ctypes.Structure):
+    """What a call of the library came to, as `cuestore.h` has it."""
+
+    _fields_ = [("length", ctypes.c_size_t), ("place", ctypes.c_uint64), ("status", ctypes.c_uint8),
+                ("refusal", ctypes.c_uint8), ("input", ctypes.c_uint8)]
+
+
+# How many inputs each call of the library has.
+_INPUTS = {"new": 0, "submit": 2, "merge": 2, "export": 1, "report": 1, "print": 1}
+for _name, _count in _INPUTS.items():
+    _function = getattr(_library, f"cuestore_{_name}")
+    _function.argtypes = [ctypes.c_char_p, ctypes.c_size_t] * (_count + 1)
+    _function.restype = _Outcome
+
+
+class Refused(Exception):
+    """An input is refused: the number and the name of the refusal, the byte of its place, and which input, from 1.
+
+    The inputs of a call are a replica's state and then what it is given; so a text or another state is the second one.
+    """
+
+    def __init__(self, number, place, position):
+        super().__init__(number, place, position)
+        self.number, self.name, self.place, self.input = number, NAMES[number], place, position
+
+    def __str__(self):
+        return f"refused {self.number} {self.name} at {self.place} in {self.input}"
+
+
+class NoExport(Exception):
+    """There is no JSON: the lines say why."""
+
+    def __init__(self, lines):
+        super().__init__(lines)
+        self.lines = lines
+
+    def __str__(self):
+        return "\n".join(self.lines)
+
+
+class Conflicts(NoExport):
+    """There are conflicts."""
+
+
+class Incomplete(NoExport):
+    """There is no conflict, and something is incomplete."""
+
+
+def _call(name, *inputs):
+    """The status and the bytes of the call of this name on these inputs."""
+    function = getattr(_library, f"cuestore_{name}")
+    words = [word for data in inputs for word in (data, len(data))]
+    room = 4096 + 2 * sum(map(len, inputs))
+    while True:
+        out = ctypes.create_string_buffer(room)
+        outcome = function(*words, out, room)
+        if outcome.status == REFUSED:
+            if outcome.refusal == MEMORY:
+                raise MemoryError
+            raise Refused(outcome.refusal, outcome.place, outcome.input)
+        if outcome.status != NO_ROOM:
+            return outcome.status, ctypes.string_at(out, outcome.length)
+        room = outcome.length
+
+
+def _lines(out):
+    """The lines of an answer. Only U+000A ends one: a label may have other breaks of lines."""
+    return out.decode().split("\n")[:-1]
+
+
+class Replica:
+    """A site. It never changes: what accepts more is another one. Its value is its state's bytes."""
+
+    __slots__ = ("state",)
+
+    def __init__(self, state=None):
+        """The site of these state bytes, or one that has accepted nothing. Raises `Refused` for what is no state."""
+        new = _call("new")[1]
+        object.__setattr__(self, "state", new if state is None else _call("merge", bytes(state), new)[1])
+
+    @classmethod
+    def _of(cls, state):
+        made = object.__new__(cls)
+        object.__setattr__(made, "state", state)
+        return made
+
+    def __setattr__(self, name, value):
+        raise AttributeError("a Replica doesn't change")
+
+    def submit(self, text):
+        """The site that has accepted the text too, a `str`, or bytes that may turn out to be none. Raises `Refused`."""
+        data = text.encode("utf-8", "surrogatepass") if isinstance(text, str) else bytes(text)
+        return self._of(_call("submit", self.state, data)[1])
+
+    def merge(self, other):
+        """The site that has accepted too what another one, or state bytes, have. Raises `Refused`."""
+        state = other.state if isinstance(other, Replica) else bytes(other)
+        return self._of(_call("merge", self.state, state)[1])
+
+    __or__ = merge
+
+    def export_bytes(self):
+        """The JSON of the configuration, as the program prints it, without a line break. Raises `NoExport`."""
+        status, out = _call("export", self.state)
+        if status == CONFLICTS:
+            raise Conflicts(_lines(out))
+        if status == INCOMPLETE:
+            raise Incomplete(_lines(out))
+        return out
+
+    def export(self):
+        """The configuration, as `dict`, `list`, `str`, `int`, `bool` and `None`. Raises `NoExport`."""
+        return json.loads(self.export_bytes())
+
+    def report(self):
+        """The status (0 nothing, 2 conflicts, 3 incomplete) and the lines of conflicts and of what is incomplete."""
+        status, out = _call("report", self.state)
+        return status, _lines(out)
+
+    def print(self):
+        """All that is known, as one text."""
+        return _call("print", self.state)[1].decode()
+
+    def __bytes__(self):
+        return self.state
+
+    def __eq__(self, other):
+        return self.state == other.state if isinstance(other, Replica) else NotImplemented
+
+    def __hash__(self):
+        return hash(self.state)
+
+    def __reduce__(self):
+        return Replica._of, (self.state,)
+
+    def __repr__(self):
+        return f"Replica({self.state!r})"
