@@ -1,5 +1,7 @@
 pub mod Asking
+pub mod Findings
 pub mod Hearing
 pub mod Looping
-pub mod Serving
+pub mod Passages
+pub mod Pushes
 pub mod Talks
