@@ -1,4 +1,5 @@
 pub mod Asking
+pub mod Bringing
 pub mod Findings
 pub mod Hearing
 pub mod Looping
