@@ -1,4 +1,4 @@
-use Rattle.std.proofs.Common.{◌≡◌, ◌+◌, ◌≤◌, length}
+use Rattle.std.proofs.Common.{◌≡◌, ◌+◌, ◌≤◌}
 use Rattle.cue_net.proofs.Bringing.{Bringing}
 use Rattle.cue_net.proofs.carrying.bring_back.Given as goal
 

@@ -1,4 +1,4 @@
-use Rattle.std.proofs.Common.{◌≡◌, ◌+◌, ◌≤◌, ◌++◌, [], length, take, refl, ◌∙◌, arith, length-append}
+use Rattle.std.proofs.Common.{◌++◌, take, ◌∙◌, arith, length-append}
 use Rattle.std.proofs.KnownBytes.{Appends-trans, Consumes-trans}
 use Rattle.std.proofs.lemmas.List.{length-take-le, length-take}
 use Rattle.cue_net.specs.Inner.Hearing.{Balks}
@@ -18,7 +18,7 @@ returns-in-Err-hear-clause-read g c =
       Consumes-trans (source.to_come c.args.source.now) (source.to_come s.source) (source.to_come new) h.0 piece h.2 c.in-Ok.ensures.takes.0,
       tt,
       takes_nothing c.in-Err-hear.halt c.read_some.new.left (source.failed c.args.source.now) (source.failed new) (source.to_come new)
-      (Balks s.hearing piece) (Balks c.args.hearing.now (h.0 ++ piece)) (balks_later c.args.hearing.now s.hearing h.0 piece h.4) c.in-Err-hear.ensures.err,
+          (Balks s.hearing piece) (Balks c.args.hearing.now (h.0 ++ piece)) (balks_later c.args.hearing.now s.hearing h.0 piece h.4) c.in-Err-hear.ensures.err,
     )
 
 pub loop-got-preserved : goal.loop-got-preserved

@@ -1,4 +1,4 @@
-use Rattle.std.proofs.Common.{◌≡◌, ◌+◌, ◌≤◌, ◌++◌, [], length, take, refl, ◌∙◌, arith, length-append}
+use Rattle.std.proofs.Common.{◌++◌, [], take, refl, ◌∙◌, arith, length-append}
 use Rattle.std.proofs.KnownBytes.{Appends-nil, Appends-trans, Consumes-nil, Consumes-trans}
 use Rattle.std.proofs.lemmas.List.{length-take-le, length-take}
 use Rattle.cue_net.specs.Inner.Looping.{Faults}
@@ -35,8 +35,8 @@ returns-in-Err-serve_piece-clause-read g c =
       Consumes-trans (source.to_come c.args.source.now) (source.to_come s.source) (source.to_come new) h.0 piece h.2 c.in-Ok.ensures.takes.0,
       tt,
       takes_nothing c.in-Err-serve_piece.halt c.read_some.new.left (source.failed c.args.source.now) (source.failed new) (source.to_come new)
-      (Faults s.serving.session piece) (Faults at.session (h.0 ++ piece))
-      (faults_later at.session s.serving.session at.site s.serving.site at.out.items s.serving.out.items h.0 piece h.4) c.in-Err-serve_piece.ensures.err,
+          (Faults s.serving.session piece) (Faults at.session (h.0 ++ piece))
+          (faults_later at.session s.serving.session at.site s.serving.site at.out.items s.serving.out.items h.0 piece h.4) c.in-Err-serve_piece.ensures.err,
     )
 
 pub loop-got-preserved : goal.loop-got-preserved
