@@ -8,3 +8,4 @@ pub mod Passages
 pub mod Pushes
 pub mod Rounds
 pub mod Talks
+pub mod Truth

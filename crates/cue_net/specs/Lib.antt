@@ -6,4 +6,5 @@ pub mod Printed
 pub mod Replies
 pub mod Talks
 pub mod Told
+pub mod Truth
 pub mod Turns
