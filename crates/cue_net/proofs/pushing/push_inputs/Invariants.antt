@@ -1,0 +1,20 @@
+use Rattle.std.proofs.Common.{◌≡◌, ◌+◌, ◌≤◌, All, length}
+use Rattle.cue_wire.specs.Clients.{IsSendable}
+use Rattle.cue_net.proofs.Pushes.{Pushed}
+use Rattle.cue_net.proofs.pushing.push_inputs.Given as goal
+
+-- the inputs so far are pushed, and the rest are left
+abbrev pub invariant-loop-rest : goal.invariant-loop-rest
+invariant-loop-rest g l = record {
+  pushed : Pushed l.fn.inputs l.rest l.asked l.fn.hearing l.hearing (g.S.Source.given l.fn.source) (g.S.Source.given l.source)
+      (g.S.Source.to_come l.fn.source) (g.S.Source.to_come l.source) (g.K.Sink.taken l.fn.sink) (g.K.Sink.taken l.sink) l.left
+      (g.S.Source.failed l.fn.source + g.K.Sink.failed l.fn.sink) (g.S.Source.failed l.source + g.K.Sink.failed l.sink);
+  fits : All IsSendable l.rest;
+  turns : g.S.Source.called l.source + g.K.Sink.called l.sink + l.left ≡ g.S.Source.called l.fn.source + g.K.Sink.called l.fn.sink + l.fn.left;
+  reads : g.S.Source.called l.fn.source ≤ g.S.Source.called l.source;
+  writes : g.K.Sink.called l.fn.sink ≤ g.K.Sink.called l.sink;
+  sound : g.S.Source.failed l.source + g.K.Sink.failed l.sink ≡ g.S.Source.failed l.fn.source + g.K.Sink.failed l.fn.sink;
+}
+
+abbrev pub decreases-loop-rest : goal.decreases-loop-rest
+decreases-loop-rest g l = length l.rest

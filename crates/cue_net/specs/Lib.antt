@@ -1,0 +1,10 @@
+-- What the words over a network answer.
+pub mod Inner
+pub mod Halts
+pub mod Loops
+pub mod Printed
+pub mod Replies
+pub mod Talks
+pub mod Told
+pub mod Truth
+pub mod Turns

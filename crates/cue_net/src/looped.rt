@@ -1,0 +1,235 @@
+ghost use Rattle.std.specs.Prelude.{◌≡◌, ◌+◌, ◌-◌, ◌^◌, ◌≤◌, ℕ, List, [], flat_map, All, OnOk};
+ghost use Rattle.std.specs.Prelude.{IfOk, IfErr};
+ghost use Rattle.cue_replica.specs.Language.{opening};
+ghost use Rattle.cue_wire.specs.Clients.{request_frame, IsSendable};
+ghost use Rattle.cue_wire.specs.Sessions.{reading};
+ghost use Rattle.cue_net.specs.Halts.{IsMemory};
+ghost use Rattle.cue_net.specs.Inner.Looping.{Exchanged};
+ghost use Rattle.cue_net.specs.Loops.{IsAnswerBetween};
+ghost use Rattle.cue_net.specs.Talks.{Talk, IsTalk};
+
+use crate::carrying::{Serving, bring_back, serve_so_many};
+use crate::halt::Halt;
+use crate::pushing::{all_fit, client_of};
+use crate::told::told_by;
+use crate::turns::write_some;
+use crate::{MAX_TURNS, PIECE};
+use cue_answer::Answer;
+use cue_device::{Reader, Sink, Source, Writer};
+use cue_replica::{Kind, Replica};
+use cue_wire::{Client, Request, Session};
+use std::alloc::Global;
+use std::net::{Ipv4Addr, Net, TcpListener, TcpStream};
+
+/// One end of a connection: where its bytes are read, and where they are written.
+#[derive(Drop)]
+pub struct End<S, K> {
+    pub source: S,
+    pub sink: K,
+}
+
+/// Does as `push_for` with both ends in this process, over a port of 127.0.0.1 that the system
+/// picks, in turns: the client's end writes at most 4,096 bytes, the site's end reads them and
+/// writes its whole answer, and the client's end reads that. There are at most 100,000 reads and
+/// writes, those of both ends together.
+///
+/// # Errors
+///
+/// As `push_for`.
+pub fn loop_for<H>(rt: &H, inputs: &[Request]) -> Result<Answer, Halt>
+where
+    H: AllocGlobal + Net<Listener = TcpListener, Stream = TcpStream>,
+{
+    let (near, far) = both_ends(rt)?;
+    let mut client = End {
+        source: Reader::new(&near),
+        sink: Writer::new(&near),
+    };
+    let mut server = End {
+        source: Reader::new(&far),
+        sink: Writer::new(&far),
+    };
+    converse(rt.alloc(), &mut client, &mut server, inputs, MAX_TURNS)
+}
+
+/// Both ends of a new connection.
+fn both_ends<H>(rt: &H) -> Result<(TcpStream, TcpStream), Halt>
+where
+    H: AllocGlobal + Net<Listener = TcpListener, Stream = TcpStream>,
+{
+    let Ok(listener) = TcpListener::bind(rt, (Ipv4Addr::LOCALHOST, 0)) else {
+        return Err(Halt::Device);
+    };
+    let Ok(address) = listener.local_addr() else {
+        return Err(Halt::Device);
+    };
+    let Ok(near) = TcpStream::connect(rt, address) else {
+        return Err(Halt::Device);
+    };
+    match listener.accept() {
+        Ok((far, _)) => Ok((near, far)),
+        Err(_) => Err(Halt::Device),
+    }
+}
+
+/// Does as `push_for` from the near end, with a new site at the far end, in so many turns, those of
+/// both ends together.
+///
+/// # Errors
+///
+/// As `push_for`.
+pub fn converse<S: Source, K: Sink>(
+    alloc: Global,
+    near: &mut End<S, K>,
+    far: &mut End<S, K>,
+    inputs: &[Request],
+    turns: u64,
+) -> Result<Answer, Halt>
+    requires near { (S.called near.old.source + turns ≤ 2 ^ 64 - 1)
+        × (K.called near.old.sink + turns ≤ 2 ^ 64 - 1) }
+    requires far { (S.called far.old.source + turns ≤ 2 ^ 64 - 1)
+        × (K.called far.old.sink + turns ≤ 2 ^ 64 - 1) }
+    ensures answer { (here there : Talk)
+        × IsTalk here (S.given near.old.source) (S.given near.new.source)
+        (S.to_come near.old.source) (S.to_come near.new.source)
+        (K.taken near.old.sink) (K.taken near.new.sink)
+        × IsTalk there (S.given far.old.source) (S.given far.new.source)
+        (S.to_come far.old.source) (S.to_come far.new.source)
+        (K.taken far.old.sink) (K.taken far.new.sink)
+        × IsAnswerBetween result inputs.now here there
+        (S.to_come near.new.source) (S.to_come far.new.source)
+        (S.called near.old.source + K.called near.old.sink + S.called far.old.source
+        + K.called far.old.sink + turns)
+        (S.called near.new.source + K.called near.new.sink + S.called far.new.source
+        + K.called far.new.sink)
+        (S.failed near.old.source + K.failed near.old.sink + S.failed far.old.source
+        + K.failed far.old.sink)
+        (S.failed near.new.source + K.failed near.new.sink + S.failed far.new.source
+        + K.failed far.new.sink) }
+    ensures turns { S.called near.new.source + K.called near.new.sink
+        + S.called far.new.source + K.called far.new.sink
+        ≤ S.called near.old.source + K.called near.old.sink
+        + S.called far.old.source + K.called far.old.sink + turns }
+{
+    if !all_fit(inputs) {
+        return Err(Halt::Refused(Kind::FrameTooLong));
+    }
+    let mut hearing = match client_of(alloc, &[]) {
+        Ok(client) => client,
+        Err(halt) => return Err(halt),
+    };
+    let mut serving = match new_site(alloc) {
+        Ok(serving) => serving,
+        Err(halt) => return Err(halt),
+    };
+    let mut left = turns;
+    match exchange(
+        alloc,
+        near,
+        far,
+        inputs,
+        &mut hearing,
+        &mut serving,
+        &mut left,
+    ) {
+        Ok(()) => {}
+        Err(halt) => return Err(halt),
+    }
+    let question = [Request::AskExport];
+    match exchange(
+        alloc,
+        near,
+        far,
+        &question,
+        &mut hearing,
+        &mut serving,
+        &mut left,
+    ) {
+        Ok(()) => {}
+        Err(halt) => return Err(halt),
+    }
+    told_by(alloc, hearing.replies(), inputs.len())
+}
+
+/// A new site, and a session that was sent nothing.
+fn new_site(alloc: Global) -> Result<Serving, Halt>
+    ensures site { IfOk result (λ serving. serving.site ≡ opening) }
+    ensures session { IfOk result (λ serving. serving.session ≡ reading []) }
+    ensures err { IfErr result IsMemory }
+{
+    let session = match Session::new(alloc) {
+        Ok(session) => session,
+        Err(memory) => return Err(Halt::from(memory)),
+    };
+    Ok(Serving {
+        site: Replica::new(alloc),
+        session,
+        out: Vec::new(alloc),
+    })
+}
+
+/// Sends requests from the near end, some bytes at a time. The far end reads and serves these, and
+/// all its replies are read, before the next are sent.
+fn exchange<S: Source, K: Sink>(
+    alloc: Global,
+    near: &mut End<S, K>,
+    far: &mut End<S, K>,
+    requests: &[Request],
+    hearing: &mut Client,
+    serving: &mut Serving,
+    left: &mut u64,
+) -> Result<(), Halt>
+    requires fits { All IsSendable requests.now }
+    requires near { (S.called near.old.source + left.old ≤ 2 ^ 64 - 1)
+        × (K.called near.old.sink + left.old ≤ 2 ^ 64 - 1) }
+    requires far { (S.called far.old.source + left.old ≤ 2 ^ 64 - 1)
+        × (K.called far.old.sink + left.old ≤ 2 ^ 64 - 1) }
+    ensures exchanged { Exchanged result (flat_map request_frame requests.now) hearing.old
+        hearing.new serving.old.session serving.new.session serving.old.site serving.new.site
+        (S.given near.old.source) (S.given near.new.source)
+        (S.to_come near.old.source) (S.to_come near.new.source)
+        (K.taken near.old.sink) (K.taken near.new.sink)
+        (S.given far.old.source) (S.given far.new.source)
+        (S.to_come far.old.source) (S.to_come far.new.source)
+        (K.taken far.old.sink) (K.taken far.new.sink) left.new
+        (S.failed near.old.source + K.failed near.old.sink + S.failed far.old.source
+        + K.failed far.old.sink)
+        (S.failed near.new.source + K.failed near.new.sink + S.failed far.new.source
+        + K.failed far.new.sink) }
+    ensures turns { S.called near.new.source + K.called near.new.sink
+        + S.called far.new.source + K.called far.new.sink + left.new
+        ≡ S.called near.old.source + K.called near.old.sink
+        + S.called far.old.source + K.called far.old.sink + left.old }
+    ensures more { (S.called near.old.source ≤ S.called near.new.source)
+        × (K.called near.old.sink ≤ K.called near.new.sink)
+        × (S.called far.old.source ≤ S.called far.new.source)
+        × (K.called far.old.sink ≤ K.called far.new.sink) }
+    ensures sound { OnOk result (S.failed near.new.source + K.failed near.new.sink
+        + S.failed far.new.source + K.failed far.new.sink
+        ≡ S.failed near.old.source + K.failed near.old.sink
+        + S.failed far.old.source + K.failed far.old.sink) }
+{
+    let asking = match client_of(alloc, requests) {
+        Ok(client) => client,
+        Err(halt) => return Err(halt),
+    };
+    let mut rest = asking.outgoing();
+    while !rest.is_empty() {
+        let most = rest.len().min(PIECE);
+        let count = match write_some(&mut near.sink, &rest[..most], left) {
+            Ok(count) => count,
+            Err(halt) => return Err(halt),
+        };
+        serving.out.clear();
+        match serve_so_many(&mut far.source, serving, count, left) {
+            Ok(()) => {}
+            Err(halt) => return Err(halt),
+        }
+        match bring_back(&mut far.sink, &mut near.source, &serving.out, hearing, left) {
+            Ok(()) => {}
+            Err(halt) => return Err(halt),
+        }
+        rest = &rest[count..];
+    }
+    Ok(())
+}

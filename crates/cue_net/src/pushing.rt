@@ -1,0 +1,272 @@
+ghost use Rattle.std.specs.Prelude.{◌≡◌, ◌⊎◌, ◌↔◌, ◌+◌, ◌-◌, ◌^◌, ◌≤◌, ◌++◌, ℕ, List, [], length};
+ghost use Rattle.std.specs.Prelude.{flat_map, All, IsTrue, IfOk, IfErr, OnOk};
+ghost use Rattle.std.specs.Io.KnownBytes.{Appends};
+ghost use Rattle.cue_wire.specs.Clients.{request_frame, IsSendable, HasTaken};
+ghost use Rattle.cue_net.specs.Halts.{IsDevice, IsMemory, IsTooLong};
+ghost use Rattle.cue_net.specs.Inner.Hearing.{Asked, Heard, Hears, Balks};
+ghost use Rattle.cue_net.specs.Talks.{Talk, IsTalk, IsAnswerOf};
+ghost use Rattle.cue_net.specs.Turns.{IsWriteHalt};
+
+use crate::halt::Halt;
+use crate::told::told_by;
+use crate::turns::{read_some, write_some};
+use crate::{FRAME_LIMIT, MAX_TURNS, PIECE};
+use cue_answer::Answer;
+use cue_device::{Reader, Sink, Source, Writer};
+use cue_replica::Kind;
+use cue_wire::{Client, Request};
+use std::alloc::Global;
+use std::net::{Ipv4Addr, Net, TcpListener, TcpStream};
+
+/// How many requests are sent before their replies are read. These replies are short, so that a
+/// site never waits for room to write them while it is still sent requests.
+const GROUP: usize = 256;
+
+/// Sends these inputs, in order, to the site that a process serves on this port of 127.0.0.1, asks
+/// it for its export, and answers that as it is printed. There are at most 100,000 reads and
+/// writes.
+///
+/// # Errors
+///
+/// `RefusedInput` for the first input that the site refuses, after all others were sent too;
+/// `RefusedExport` where it refuses to tell its export; `FrameTooLong` where a frame can't hold an
+/// input, before any is sent; `TurnsUsed` and `Memory`; `Device`, also where the replies end early
+/// or are none of a site.
+pub fn push_for<H>(rt: &H, port: u16, inputs: &[Request]) -> Result<Answer, Halt>
+where
+    H: AllocGlobal + Net<Listener = TcpListener, Stream = TcpStream>,
+{
+    let Ok(stream) = TcpStream::connect(rt, (Ipv4Addr::LOCALHOST, port)) else {
+        return Err(Halt::Device);
+    };
+    let mut source = Reader::new(&stream);
+    let mut sink = Writer::new(&stream);
+    push(rt.alloc(), &mut source, &mut sink, inputs, MAX_TURNS)
+}
+
+/// Does as `push_for` over any connection, with so many turns, each a read or a write.
+///
+/// # Errors
+///
+/// As `push_for`.
+pub fn push<S: Source, K: Sink>(
+    alloc: Global,
+    source: &mut S,
+    sink: &mut K,
+    inputs: &[Request],
+    turns: u64,
+) -> Result<Answer, Halt>
+    requires reads { S.called source.old + turns ≤ 2 ^ 64 - 1 }
+    requires writes { K.called sink.old + turns ≤ 2 ^ 64 - 1 }
+    ensures answer { (talk : Talk) × IsTalk talk (S.given source.old) (S.given source.new)
+        (S.to_come source.old) (S.to_come source.new) (K.taken sink.old) (K.taken sink.new)
+        × IsAnswerOf result inputs.now talk (S.to_come source.new)
+        (S.called source.old + K.called sink.old + turns)
+        (S.called source.new + K.called sink.new)
+        (S.failed source.old + K.failed sink.old) (S.failed source.new + K.failed sink.new) }
+    ensures turns { S.called source.new + K.called sink.new
+        ≤ S.called source.old + K.called sink.old + turns }
+{
+    if !all_fit(inputs) {
+        return Err(Halt::Refused(Kind::FrameTooLong));
+    }
+    let mut hearing = match client_of(alloc, &[]) {
+        Ok(client) => client,
+        Err(halt) => return Err(halt),
+    };
+    let mut left = turns;
+    match push_inputs(alloc, source, sink, inputs, &mut hearing, &mut left) {
+        Ok(()) => {}
+        Err(halt) => return Err(halt),
+    }
+    let count = inputs.len() + 1;
+    let question = [Request::AskExport];
+    match ask(
+        alloc,
+        source,
+        sink,
+        &question,
+        &mut hearing,
+        count,
+        &mut left,
+    ) {
+        Ok(()) => {}
+        Err(halt) => return Err(halt),
+    }
+    told_by(alloc, hearing.replies(), inputs.len())
+}
+
+/// Sends inputs, a group at a time, and hears at least so many replies.
+fn push_inputs<S: Source, K: Sink>(
+    alloc: Global,
+    source: &mut S,
+    sink: &mut K,
+    inputs: &[Request],
+    hearing: &mut Client,
+    left: &mut u64,
+) -> Result<(), Halt>
+    requires fits { All IsSendable inputs.now }
+    requires reads { S.called source.old + left.old ≤ 2 ^ 64 - 1 }
+    requires writes { K.called sink.old + left.old ≤ 2 ^ 64 - 1 }
+    ensures asked { Asked result (flat_map request_frame inputs.now) hearing.old hearing.new
+        (length inputs.now) (S.given source.old) (S.given source.new)
+        (S.to_come source.old) (S.to_come source.new) (K.taken sink.old) (K.taken sink.new)
+        left.new (S.failed source.old + K.failed sink.old)
+        (S.failed source.new + K.failed sink.new) }
+    ensures turns { S.called source.new + K.called sink.new + left.new
+        ≡ S.called source.old + K.called sink.old + left.old }
+    ensures reads { S.called source.old ≤ S.called source.new }
+    ensures writes { K.called sink.old ≤ K.called sink.new }
+    ensures sound { OnOk result (S.failed source.new + K.failed sink.new
+        ≡ S.failed source.old + K.failed sink.old) }
+{
+    let mut asked = 0usize;
+    let mut rest = inputs;
+    while !rest.is_empty() {
+        let most = rest.len().min(GROUP);
+        let group = &rest[..most];
+        asked += most;
+        match ask(alloc, source, sink, group, hearing, asked, left) {
+            Ok(()) => {}
+            Err(halt) => return Err(halt),
+        }
+        rest = &rest[most..];
+    }
+    Ok(())
+}
+
+/// Whether a frame can hold each of these requests.
+pub fn all_fit(requests: &[Request]) -> bool
+    ensures { IsTrue result ↔ All IsSendable requests.now }
+{
+    for request in requests {
+        if !fits(request) {
+            return false;
+        }
+    }
+    true
+}
+
+/// Whether a frame can hold a request: its bytes with the one before them.
+fn fits(request: &Request) -> bool
+    ensures { IsTrue result ↔ IsSendable request.now }
+{
+    match request {
+        Request::Text(text) => text.len() < FRAME_LIMIT,
+        Request::State(bytes) => bytes.len() < FRAME_LIMIT,
+        _ => true,
+    }
+}
+
+/// Sends requests, and reads until at least so many replies are there.
+fn ask<S: Source, K: Sink>(
+    alloc: Global,
+    source: &mut S,
+    sink: &mut K,
+    requests: &[Request],
+    hearing: &mut Client,
+    count: usize,
+    left: &mut u64,
+) -> Result<(), Halt>
+    requires fits { All IsSendable requests.now }
+    requires reads { S.called source.old + left.old ≤ 2 ^ 64 - 1 }
+    requires writes { K.called sink.old + left.old ≤ 2 ^ 64 - 1 }
+    ensures asked { Asked result (flat_map request_frame requests.now) hearing.old hearing.new
+        count (S.given source.old) (S.given source.new)
+        (S.to_come source.old) (S.to_come source.new) (K.taken sink.old) (K.taken sink.new)
+        left.new (S.failed source.old + K.failed sink.old)
+        (S.failed source.new + K.failed sink.new) }
+    ensures turns { S.called source.new + K.called sink.new + left.new
+        ≡ S.called source.old + K.called sink.old + left.old }
+    ensures reads { S.called source.old ≤ S.called source.new }
+    ensures writes { K.called sink.old ≤ K.called sink.new }
+    ensures sound { OnOk result (S.failed source.new + K.failed sink.new
+        ≡ S.failed source.old + K.failed sink.old) }
+{
+    let asking = match client_of(alloc, requests) {
+        Ok(client) => client,
+        Err(halt) => return Err(halt),
+    };
+    match send(sink, asking.outgoing(), left) {
+        Ok(()) => {}
+        Err(halt) => return Err(halt),
+    }
+    receive(source, hearing, count, left)
+}
+
+/// A client with these requests to send, that was fed nothing.
+pub fn client_of(alloc: Global, requests: &[Request]) -> Result<Client, Halt>
+    ensures outgoing { IfOk result (λ client.
+        client.outgoing ≡ flat_map request_frame requests.now) }
+    ensures taken { IfOk result (λ client. HasTaken client []) }
+    ensures err { IfErr result (λ halt. IsMemory halt ⊎ (IsTooLong halt
+        × (All IsSendable requests.now → ⊥))) }
+{
+    match Client::new(alloc, requests) {
+        Ok(client) => Ok(client),
+        Err(kind) => Err(Halt::Refused(kind)),
+    }
+}
+
+/// Writes bytes, each time all that is left of them, while there are turns.
+fn send<K: Sink>(sink: &mut K, bytes: &[u8], left: &mut u64) -> Result<(), Halt>
+    requires { K.called sink.old + left.old ≤ 2 ^ 64 - 1 }
+    ensures sent { (front back : List ℕ) × (bytes.now ≡ front ++ back)
+        × Appends (K.taken sink.old) (K.taken sink.new) front × OnOk result (back ≡ []) }
+    ensures turns { K.called sink.new + left.new ≡ K.called sink.old + left.old }
+    ensures fewer { left.new ≤ left.old }
+    ensures sound { OnOk result (K.failed sink.new ≡ K.failed sink.old) }
+    ensures halt { IfErr result (λ halt. IsWriteHalt halt left.new
+        (K.failed sink.old) (K.failed sink.new)) }
+{
+    let mut rest = bytes;
+    while !rest.is_empty() {
+        match write_some(sink, rest, left) {
+            Ok(count) => rest = &rest[count..],
+            Err(halt) => return Err(halt),
+        }
+    }
+    Ok(())
+}
+
+/// Reads until a client has at least so many replies.
+fn receive<S: Source>(
+    source: &mut S,
+    hearing: &mut Client,
+    count: usize,
+    left: &mut u64,
+) -> Result<(), Halt>
+    requires { S.called source.old + left.old ≤ 2 ^ 64 - 1 }
+    ensures heard { Heard result hearing.old hearing.new count (S.given source.old)
+        (S.given source.new) (S.to_come source.old) (S.to_come source.new) left.new
+        (S.failed source.old) (S.failed source.new) }
+    ensures turns { S.called source.new + left.new ≡ S.called source.old + left.old }
+    ensures fewer { left.new ≤ left.old }
+    ensures sound { OnOk result (S.failed source.new ≡ S.failed source.old) }
+{
+    let mut piece = [0u8; PIECE];
+    while hearing.replies().len() < count {
+        let got = match read_some(source, &mut piece, left) {
+            Ok(got) => got,
+            Err(halt) => return Err(halt),
+        };
+        match hear(hearing, &piece[..got]) {
+            Ok(()) => {}
+            Err(halt) => return Err(halt),
+        }
+    }
+    Ok(())
+}
+
+/// Hands a client the next bytes of its replies.
+pub fn hear(hearing: &mut Client, piece: &[u8]) -> Result<(), Halt>
+    ensures ok { OnOk result (Hears hearing.old hearing.new piece.now) }
+    ensures err { IfErr result (λ halt. IsMemory halt
+        ⊎ (IsDevice halt × Balks hearing.old piece.now)) }
+{
+    match hearing.feed(piece) {
+        Ok(()) => Ok(()),
+        Err(Kind::Memory) => Err(Halt::Refused(Kind::Memory)),
+        Err(_) => Err(Halt::Device),
+    }
+}

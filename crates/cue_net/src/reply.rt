@@ -1,0 +1,167 @@
+ghost use Rattle.std.specs.Prelude.{◌≡◌, ◌≢◌, ◌∷◌, ℕ, List, IfOk, IfSome, IfNone, IsErr, IsUtf8};
+ghost use Rattle.std.specs.Prelude.{length};
+ghost use Rattle.std.specs.Int.{w64, to_be_bytes};
+ghost use Rattle.cue_lattice.specs.Refusal.{number_of};
+ghost use Rattle.cue_answer.specs.Answers.{code_of};
+ghost use Rattle.cue_net.specs.Replies.{Says, SaysOfInput, SaysOfExport};
+ghost use Rattle.cue_net.specs.Replies.{IsNoReply, IsNoInputReply, IsNoExportReply};
+
+use cue_answer::Status;
+use cue_device::Fault;
+use cue_lattice::Form;
+use cue_replica::{Kind, Refusal};
+use std::str;
+
+/// What a reply says of its request.
+#[derive(Clone, Copy, Debug)]
+pub enum Verdict<'r> {
+    /// It is accepted, and this is told.
+    Accepted(&'r [u8]),
+    /// It is refused.
+    Refused(Refusal),
+}
+
+/// What the body of a reply's frame says.
+///
+/// # Errors
+///
+/// `Fault` where no site replies so.
+pub fn read_reply(reply: &[u8]) -> Result<Verdict<'_>, Fault>
+    ensures says { IfOk result (Says reply.now) }
+    ensures fault { IsErr result → IsNoReply reply.now }
+{
+    let Some((number, rest)) = reply.split_first() else {
+        return Err(Fault);
+    };
+    if *number == 0 {
+        return Ok(Verdict::Accepted(rest));
+    }
+    let Some(kind) = kind_of(*number) else {
+        return Err(Fault);
+    };
+    match place_in(rest) {
+        Some(place) => Ok(Verdict::Refused(Refusal { kind, place })),
+        None => Err(Fault),
+    }
+}
+
+/// The number in eight bytes, from the highest to the lowest, where there are just so many.
+fn place_in(bytes: &[u8]) -> Option<u64>
+    ensures some { IfSome result (λ place. bytes.now ≡ to_be_bytes w64 place) }
+    ensures none { IfNone result (length bytes.now ≢ 8) }
+{
+    if bytes.len() != 8 {
+        return None;
+    }
+    let (place, _) = bytes.split_first_chunk::<8>()?;
+    Some(u64::from_be_bytes(*place))
+}
+
+/// The kind of this number, where one has it. A reply doesn't say the form of what the language
+/// leaves out.
+pub fn kind_of(number: u8) -> Option<Kind>
+    ensures some { IfSome result (λ kind. number_of kind ≡ number) }
+    ensures none { IfNone result ((kind : Kind) → number_of kind ≢ number) }
+{
+    Some(match number {
+        1 => Kind::TooLong,
+        2 => Kind::BadCharacter,
+        3 => Kind::BadString,
+        4 => Kind::BadNumber,
+        5 => Kind::IntRange,
+        6 => Kind::TextTooLong,
+        7 => Kind::Syntax,
+        8 => Kind::Nesting,
+        9 => Kind::LeftOut(Form::Embedding),
+        10 => Kind::UnknownName,
+        11 => Kind::FieldReference,
+        12 => Kind::Repeated,
+        13 => Kind::Cycle,
+        14 => Kind::TooLarge,
+        15 => Kind::TooDeep,
+        16 => Kind::NotScalar,
+        17 => Kind::Version,
+        18 => Kind::NotState,
+        19 => Kind::FrameTooLong,
+        20 => Kind::BadRequest,
+        21 => Kind::TurnsUsed,
+        22 => Kind::Device,
+        23 => Kind::ReplyTooLong,
+        24 => Kind::Memory,
+        25 => Kind::Failed,
+        _ => return None,
+    })
+}
+
+/// Why the reply to an input refuses it, where it does. Nothing is told of one that is accepted.
+///
+/// # Errors
+///
+/// `Fault` where no site replies so to an input.
+pub fn refusal_in(reply: &[u8]) -> Result<Option<Refusal>, Fault>
+    ensures says { IfOk result (SaysOfInput reply.now) }
+    ensures fault { IsErr result → IsNoInputReply reply.now }
+{
+    match read_reply(reply) {
+        Ok(Verdict::Accepted(told)) if told.is_empty() => Ok(None),
+        Ok(Verdict::Accepted(_)) => Err(Fault),
+        Ok(Verdict::Refused(why)) => Ok(Some(why)),
+        Err(Fault) => Err(Fault),
+    }
+}
+
+/// What the reply to the question for the export says.
+#[derive(Clone, Copy, Debug)]
+pub enum Export<'r> {
+    /// Its status, and the JSON or the lines that go with that.
+    Told(Status, &'r [u8]),
+    /// The site refuses to tell it.
+    Refused(Kind),
+}
+
+/// What the reply to the question for the export says.
+///
+/// # Errors
+///
+/// `Fault` where no site replies so to it.
+pub fn export_in(reply: &[u8]) -> Result<Export<'_>, Fault>
+    ensures says { IfOk result (SaysOfExport reply.now) }
+    ensures fault { IsErr result → IsNoExportReply reply.now }
+{
+    match read_reply(reply) {
+        Ok(Verdict::Accepted(told)) => match told_in(told) {
+            Some((status, text)) => Ok(Export::Told(status, text)),
+            None => Err(Fault),
+        },
+        Ok(Verdict::Refused(why)) => Ok(Export::Refused(why.kind)),
+        Err(Fault) => Err(Fault),
+    }
+}
+
+/// The status and the text in what is told of an export.
+fn told_in(told: &[u8]) -> Option<(Status, &[u8])>
+    ensures some { IfSome result (λ found. (told.now ≡ code_of found.0 ∷ found.1.now)
+        × IsUtf8 found.1.now) }
+    ensures none { IfNone result ((status : Status) → (text : List ℕ)
+        → told.now ≡ code_of status ∷ text → IsUtf8 text → ⊥) }
+{
+    let (code, text) = told.split_first()?;
+    let status = status_of(*code)?;
+    match str::from_utf8(text) {
+        Ok(_) => Some((status, text)),
+        Err(_) => None,
+    }
+}
+
+/// The status with this number, where one has it.
+fn status_of(code: u8) -> Option<Status>
+    ensures some { IfSome result (λ status. code_of status ≡ code) }
+    ensures none { IfNone result ((status : Status) → code_of status ≢ code) }
+{
+    match code {
+        0 => Some(Status::Done),
+        2 => Some(Status::Conflicts),
+        3 => Some(Status::Incomplete),
+        _ => None,
+    }
+}
