@@ -1,0 +1,3 @@
+pub mod Halts
+pub mod Printed
+pub mod Replies

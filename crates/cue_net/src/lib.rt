@@ -1,0 +1,34 @@
+//! The program's words over a network: it serves connections one after the other, pushes requests
+//! to a site that another process serves, or does both in one process, in turns.
+//!
+//! All is said over devices that count their calls, and only what opens a connection names sockets.
+//! Connections are those of 127.0.0.1 alone.
+#![tactic(auto)]
+
+mod carrying;
+mod halt;
+mod looped;
+mod pushing;
+mod reply;
+mod serving;
+mod told;
+mod turns;
+
+pub use cue_answer::{Answer, Status};
+pub use cue_replica::{Kind, Refusal};
+pub use cue_wire::Request;
+pub use halt::Halt;
+pub use looped::{End, converse, loop_for};
+pub use pushing::{push, push_for};
+pub use reply::{Export, Verdict, export_in, kind_of, read_reply, refusal_in};
+pub use serving::{serve_for, serve_from};
+pub use told::told_by;
+
+/// The most reads and writes of one connection, those of both ends together where both are here.
+pub const MAX_TURNS: u64 = 100_000;
+
+/// The most bytes that one read or write moves.
+const PIECE: usize = 4096;
+
+/// The most bytes that a frame has after its length.
+const FRAME_LIMIT: usize = 16_777_216;

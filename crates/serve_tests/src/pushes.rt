@@ -1,0 +1,161 @@
+//! The client's end over replies in memory, and both ends over a connection of this process.
+
+use crate::devices::{Input, Output};
+use cue_answer::Status;
+use cue_device::{Reader, Writer};
+use cue_net::{Halt, MAX_TURNS, kind_of, loop_for, push};
+use cue_replica::{Kind, Refusal};
+use cue_wire::Request;
+use std::alloc::Global;
+use std::net::{Net, TcpListener, TcpStream};
+use std::test::Fail;
+
+/// What is told of texts whose replies are these, read by so many bytes.
+fn pushed(alloc: Global, texts: &[&str], replies: &[u8], most: usize) -> Result<Told, Fail> {
+    let mut source = Reader::new(Input {
+        rest: replies,
+        most,
+        good: 1_000_000,
+    });
+    let mut sink = Writer::new(Output {
+        written: Vec::new(alloc),
+        most,
+        good: 1_000_000,
+    });
+    let inputs = texts_of(alloc, texts)?;
+    Ok(told(match push(alloc, &mut source, &mut sink, &inputs, 1_000) {
+        Ok(answer) => Ok((answer.bytes, answer.status)),
+        Err(halt) => Err(halt),
+    }))
+}
+
+/// What was printed, and how it ends.
+#[derive(Drop)]
+struct Told {
+    answer: Result<(Vec<u8>, Status), Halt>,
+}
+
+fn told(answer: Result<(Vec<u8>, Status), Halt>) -> Told {
+    Told { answer }
+}
+
+impl Told {
+    fn prints(&self, bytes: &[u8], status: Status) -> bool {
+        match &self.answer {
+            Ok((told, code)) => told.as_slice() == bytes && *code == status,
+            Err(_) => false,
+        }
+    }
+
+    fn halts(&self, why: Halt) -> bool {
+        match &self.answer {
+            Ok(_) => false,
+            Err(halt) => *halt == why,
+        }
+    }
+}
+
+fn texts_of(alloc: Global, texts: &[&str]) -> Result<Vec<Request>, Fail> {
+    let mut inputs = Vec::new(alloc);
+    for text in texts {
+        inputs.push(Request::Text(String::from_str(alloc, text)?))?;
+    }
+    Ok(inputs)
+}
+
+/// What a run in this process tells of these texts.
+fn looped<H>(rt: &H, texts: &[&str]) -> Result<Told, Fail>
+where
+    H: AllocGlobal + Net<Listener = TcpListener, Stream = TcpStream>,
+{
+    let inputs = texts_of(rt.alloc(), texts)?;
+    Ok(told(match loop_for(rt, &inputs) {
+        Ok(answer) => Ok((answer.bytes, answer.status)),
+        Err(halt) => Err(halt),
+    }))
+}
+
+#[test]
+fn replies_in_memory(rt: HostRuntime) -> Result<(), Fail> {
+    let replies = b"\0\0\0\x01\0\0\0\0\x09\0\0{\"a\":1}";
+    for most in [1, 4096] {
+        let run = pushed(rt.alloc(), &["a: 1\n"], replies.as_slice(), most)?;
+        assert!(rt; run.prints(b"{\"a\":1}\n", Status::Done));
+    }
+    let run = pushed(rt.alloc(), &[], b"\0\0\0\x04\0\x02ab".as_slice(), 4096)?;
+    assert!(rt; run.prints(b"ab", Status::Conflicts));
+    Ok(())
+}
+
+#[test]
+fn the_first_refusal_is_told(rt: HostRuntime) -> Result<(), Fail> {
+    let replies =
+        b"\0\0\0\x01\0\0\0\0\x09\x07\0\0\0\0\0\0\0\x05\0\0\0\x09\x08\0\0\0\0\0\0\0\0\0\0\0\x04\0\0{}";
+    let run = pushed(rt.alloc(), &["", "a: *1", ""], replies.as_slice(), 4096)?;
+    assert!(rt;
+        run.halts(Halt::RefusedInput(
+            Refusal {
+                kind: Kind::Syntax,
+                place: 5
+            },
+            2
+        ))
+    );
+    Ok(())
+}
+
+#[test]
+fn what_is_no_reply_is_a_device_fault(rt: HostRuntime) -> Result<(), Fail> {
+    let none: [&[u8]; 8] = [
+        b"",
+        b"\0\0\0\x01",
+        b"\0\0\0\0",
+        b"\0\0\0\x01\0",
+        b"\0\0\0\x02\0\x01",
+        b"\0\0\0\x03\0\0\xff",
+        b"\0\0\0\x09\x1a\0\0\0\0\0\0\0\0",
+        b"\0\0\0\x08\x07\0\0\0\0\0\0\0",
+    ];
+    for replies in none {
+        assert!(rt; pushed(rt.alloc(), &[], replies, 4096)?.halts(Halt::Device));
+    }
+    Ok(())
+}
+
+#[test]
+fn refusals_of_no_input(rt: HostRuntime) -> Result<(), Fail> {
+    let long = pushed(rt.alloc(), &[], b"\x01\0\0\x01".as_slice(), 4096)?;
+    assert!(rt; long.halts(Halt::Device));
+    let reply = b"\0\0\0\x09\x17\0\0\0\0\0\0\0\0";
+    let too_long = pushed(rt.alloc(), &[], reply.as_slice(), 4096)?;
+    assert!(rt; too_long.halts(Halt::RefusedExport(Kind::ReplyTooLong)));
+    Ok(())
+}
+
+#[test]
+fn kinds_have_their_numbers(rt: HostRuntime) {
+    for number in 1..26u8 {
+        assert!(rt; kind_of(number).is_some());
+    }
+    assert!(rt; kind_of(0).is_none() && kind_of(26).is_none());
+    assert_eq!(rt; MAX_TURNS, 100_000);
+}
+
+#[test]
+fn both_ends_in_one_process(rt: HostRuntime) -> Result<(), Fail> {
+    let run = looped(&rt, &["port: int\n", "port: 443\n"])?;
+    assert!(rt; run.prints(b"{\"port\":443}\n", Status::Done));
+    let run = looped(&rt, &["a: 1\n", "a: 2\n"])?;
+    assert!(rt; run.prints(b"conflict a no value\n", Status::Conflicts));
+    let run = looped(&rt, &["a: 1\n", "a: *1"])?;
+    assert!(rt;
+        run.halts(Halt::RefusedInput(
+            Refusal {
+                kind: Kind::Syntax,
+                place: 5
+            },
+            2
+        ))
+    );
+    Ok(())
+}
