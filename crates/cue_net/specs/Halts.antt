@@ -1,6 +1,6 @@
--- Why a connection has no answer.
-use Rattle.std.specs.Prelude.{◌≡◌, ◌⊎◌}
-use Rattle.cue_replica.specs.declared.Kind.TheVariants as kinds
+-- Why a word has no answer.
+use Rattle.std.specs.Prelude.{◌≡◌}
+use Rattle.cue_lattice.specs.declared.refusal.Kind.TheVariants as kinds
 use Rattle.cue_net.specs.declared.halt.Halt.{Halt}
 use Rattle.cue_net.specs.declared.halt.Halt.TheVariants as halts
 
@@ -12,6 +12,10 @@ IsDevice halt = halt ≡ halts.Device
 abbrev pub IsMemory : Halt → Type 0
 IsMemory halt = halt ≡ halts.Refused kinds.Memory
 
--- a device failed or ended too early, or the turns are used
-abbrev pub IsDeviceOrTurns : Halt → Type 0
-IsDeviceOrTurns halt = IsDevice halt ⊎ (halt ≡ halts.Refused kinds.TurnsUsed)
+-- no turn is left
+abbrev pub IsTurnsUsed : Halt → Type 0
+IsTurnsUsed halt = halt ≡ halts.Refused kinds.TurnsUsed
+
+-- a frame can't hold an input
+abbrev pub IsTooLong : Halt → Type 0
+IsTooLong halt = halt ≡ halts.Refused kinds.FrameTooLong

@@ -1,3 +1,8 @@
+-- What the words over a network answer.
+pub mod Inner
 pub mod Halts
 pub mod Printed
 pub mod Replies
+pub mod Talks
+pub mod Told
+pub mod Turns

@@ -1,12 +1,25 @@
--- What is printed of an export.
-use Rattle.std.specs.Prelude.{◌++◌}
+-- What is printed of a site's export.
+use Rattle.std.specs.Prelude.{◌++◌, ℕ, List, All}
 use Rattle.cue_answer.specs.declared.question.Question.TheVariants as questions
 use Rattle.cue_answer.specs.declared.told.Answer.{Answer}
 use Rattle.cue_answer.specs.Answers.{Tells, Says, line_end}
-use Rattle.cue_replica.specs.Language.{Table}
+use Rattle.cue_replica.specs.Language.{Table, opening}
+use Rattle.cue_wire.specs.Frames.{IsBody}
+use Rattle.cue_wire.specs.Serving.{ServesAll}
 
--- the export of some site, as it is printed
-abbrev pub IsPrintedExport : Answer → Type 0
-IsPrintedExport answer =
-    (table : Table) × (told : Answer) × Tells questions.Export table told
+-- the export of a site with this table, as it is printed
+abbrev pub IsPrintedExport : Table → Answer → Type 0
+IsPrintedExport table answer =
+    (told : Answer) × Tells questions.Export table told
     × Says answer (told.bytes.items ++ line_end questions.Export told.status) told.status
+
+-- frames of some requests were served by a new site, one after the other, and leave it with this
+-- table
+abbrev pub IsServed : Table → Type 0
+IsServed table =
+    (bodies : List (List ℕ)) × (replies : List ℕ) × All IsBody bodies
+    × ServesAll bodies opening table replies
+
+-- the export of a new site that has served some requests
+abbrev pub IsServedExport : Answer → Type 0
+IsServedExport answer = (table : Table) × IsServed table × IsPrintedExport table answer

@@ -1,11 +1,53 @@
 -- What the body of a reply's frame says.
-use Rattle.std.specs.Prelude.{◌≡◌, ℕ, List, ◌∷◌}
+use Rattle.std.specs.Prelude.{◌≡◌, ◌≢◌, ℕ, List, [], ◌∷◌, Option, Some, None, IsUtf8}
 use Rattle.std.specs.Int.{w64, to_be_bytes}
-use Rattle.cue_lattice.specs.Refusal.{number_of}
+use Rattle.cue_lattice.specs.Refusal.{number_of, refusal_at}
+use Rattle.cue_lattice.specs.declared.refusal.Refusal.{Refusal}
+use Rattle.cue_answer.specs.declared.question.Status.{Status}
+use Rattle.cue_answer.specs.Answers.{code_of}
 use Rattle.cue_net.specs.declared.reply.Verdict.{Verdict}
 use Rattle.cue_net.specs.declared.reply.Verdict.TheVariants as verdicts
+use Rattle.cue_net.specs.declared.reply.Export.{Export}
+use Rattle.cue_net.specs.declared.reply.Export.TheVariants as exports
 
--- a byte 0 and what is told; or the number of a refusal and its place
+-- a byte 0 and what is told
+abbrev pub acceptance : List ℕ → List ℕ
+acceptance told = 0 ∷ told
+
+-- the number of a refusal and its place, in eight bytes from the highest to the lowest
+abbrev pub refusal : Refusal → List ℕ
+refusal why = number_of why.kind ∷ to_be_bytes w64 why.place
+
 abbrev pub Says : List ℕ → Verdict → Type 0
-Says reply (verdicts.Accepted told) = reply ≡ 0 ∷ told.now
-Says reply (verdicts.Refused why) = reply ≡ number_of why.kind ∷ to_be_bytes w64 why.place
+Says reply (verdicts.Accepted told) = reply ≡ acceptance told.now
+Says reply (verdicts.Refused why) = reply ≡ refusal why
+
+-- no site replies so
+pub record IsNoReply (reply : List ℕ) : Type 0 where
+  pub accepted : (told : List ℕ) → reply ≢ acceptance told
+  pub refused : (why : Refusal) → reply ≢ refusal why
+
+-- the reply to an input: why it is refused, where it is
+abbrev pub SaysOfInput : List ℕ → Option Refusal → Type 0
+SaysOfInput reply None = reply ≡ acceptance []
+SaysOfInput reply (Some why) = reply ≡ refusal why
+
+-- no site replies so to an input
+pub record IsNoInputReply (reply : List ℕ) : Type 0 where
+  pub accepted : reply ≢ acceptance []
+  pub refused : (why : Refusal) → reply ≢ refusal why
+
+-- the reply that tells an export with this status: the status, and the JSON or the lines
+pub record TellsExport (reply : List ℕ) (status : Status) (text : List ℕ) : Type 0 where
+  pub told : reply ≡ acceptance (code_of status ∷ text)
+  pub utf8 : IsUtf8 text
+
+-- the reply to the question for the export
+abbrev pub SaysOfExport : List ℕ → Export → Type 0
+SaysOfExport reply (exports.Told status text) = TellsExport reply status text.now
+SaysOfExport reply (exports.Refused kind) = (place : ℕ) × (reply ≡ refusal (refusal_at kind place))
+
+-- no site replies so to that question
+pub record IsNoExportReply (reply : List ℕ) : Type 0 where
+  pub told : (status : Status) (text : List ℕ) → TellsExport reply status text → ⊥
+  pub refused : (why : Refusal) → reply ≢ refusal why

@@ -1,3 +1,12 @@
+ghost use Rattle.std.specs.Prelude.{◌≡◌, ◌⊎◌, ◌↔◌, ◌+◌, ◌-◌, ◌^◌, ◌≤◌, ◌++◌, ℕ, List, [], length};
+ghost use Rattle.std.specs.Prelude.{flat_map, All, IsTrue, IfOk, IfErr, OnOk};
+ghost use Rattle.std.specs.Io.KnownBytes.{Appends};
+ghost use Rattle.cue_wire.specs.Clients.{request_frame, IsSendable, HasTaken};
+ghost use Rattle.cue_net.specs.Halts.{IsDevice, IsMemory, IsTooLong};
+ghost use Rattle.cue_net.specs.Inner.Hearing.{Asked, Heard, Hears, Balks};
+ghost use Rattle.cue_net.specs.Talks.{Talk, IsTalk, IsAnswerOf};
+ghost use Rattle.cue_net.specs.Turns.{IsWriteHalt};
+
 use crate::halt::Halt;
 use crate::told::told_by;
 use crate::turns::{read_some, write_some};
@@ -46,43 +55,80 @@ pub fn push<S: Source, K: Sink>(
     sink: &mut K,
     inputs: &[Request],
     turns: u64,
-) -> Result<Answer, Halt> {
+) -> Result<Answer, Halt>
+    requires reads { S.called source.old + turns ≤ 2 ^ 64 - 1 }
+    requires writes { K.called sink.old + turns ≤ 2 ^ 64 - 1 }
+    ensures answer { (talk : Talk) × IsTalk talk (S.given source.old) (S.given source.new)
+        (S.to_come source.old) (S.to_come source.new) (K.taken sink.old) (K.taken sink.new)
+        × IsAnswerOf result inputs.now talk (S.to_come source.new)
+        (S.called source.old + K.called sink.old + turns)
+        (S.called source.new + K.called sink.new)
+        (S.failed source.old + K.failed sink.old) (S.failed source.new + K.failed sink.new) }
+    ensures turns { S.called source.new + K.called sink.new
+        ≤ S.called source.old + K.called sink.old + turns }
+{
     if !all_fit(inputs) {
         return Err(Halt::Refused(Kind::FrameTooLong));
     }
-    let mut hearing = client_of(alloc, &[])?;
+    let mut hearing = match client_of(alloc, &[]) {
+        Ok(client) => client,
+        Err(halt) => return Err(halt),
+    };
     let mut left = turns;
+    let pushed = push_inputs(alloc, source, sink, inputs, &mut hearing, &mut left);
+    if let Err(halt) = pushed {
+        return Err(halt);
+    }
+    let count = inputs.len() + 1;
+    let question = [Request::AskExport];
+    let asked = ask(alloc, source, sink, &question, &mut hearing, count, &mut left);
+    if let Err(halt) = asked {
+        return Err(halt);
+    }
+    told_by(alloc, hearing.replies(), inputs.len())
+}
+
+/// Sends inputs, a group at a time, and hears at least so many replies.
+fn push_inputs<S: Source, K: Sink>(
+    alloc: Global,
+    source: &mut S,
+    sink: &mut K,
+    inputs: &[Request],
+    hearing: &mut Client,
+    left: &mut u64,
+) -> Result<(), Halt>
+    requires fits { All IsSendable inputs.now }
+    requires reads { S.called source.old + left.old ≤ 2 ^ 64 - 1 }
+    requires writes { K.called sink.old + left.old ≤ 2 ^ 64 - 1 }
+    ensures asked { Asked result (flat_map request_frame inputs.now) hearing.old hearing.new
+        (length inputs.now) (S.given source.old) (S.given source.new)
+        (S.to_come source.old) (S.to_come source.new) (K.taken sink.old) (K.taken sink.new)
+        left.new (S.failed source.old + K.failed sink.old)
+        (S.failed source.new + K.failed sink.new) }
+    ensures turns { S.called source.new + K.called sink.new + left.new
+        ≡ S.called source.old + K.called sink.old + left.old }
+    ensures reads { S.called source.old ≤ S.called source.new }
+    ensures writes { K.called sink.old ≤ K.called sink.new }
+    ensures sound { OnOk result (S.failed source.new + K.failed sink.new
+        ≡ S.failed source.old + K.failed sink.old) }
+{
     let mut asked = 0usize;
     let mut rest = inputs;
     while !rest.is_empty() {
         let (group, behind) = rest.split_at(rest.len().min(GROUP));
         asked += group.len();
-        ask(
-            alloc,
-            source,
-            sink,
-            group,
-            &mut hearing,
-            asked,
-            &mut left,
-        )?;
+        if let Err(halt) = ask(alloc, source, sink, group, hearing, asked, left) {
+            return Err(halt);
+        }
         rest = behind;
     }
-    let question = [Request::AskExport];
-    ask(
-        alloc,
-        source,
-        sink,
-        &question,
-        &mut hearing,
-        asked + 1,
-        &mut left,
-    )?;
-    told_by(alloc, hearing.replies(), asked)
+    Ok(())
 }
 
 /// Whether a frame can hold each of these requests.
-pub fn all_fit(requests: &[Request]) -> bool {
+pub fn all_fit(requests: &[Request]) -> bool
+    ensures { IsTrue result ↔ All IsSendable requests.now }
+{
     for request in requests {
         if !fits(request) {
             return false;
@@ -92,7 +138,9 @@ pub fn all_fit(requests: &[Request]) -> bool {
 }
 
 /// Whether a frame can hold a request: its bytes with the one before them.
-fn fits(request: &Request) -> bool {
+fn fits(request: &Request) -> bool
+    ensures { IsTrue result ↔ IsSendable request.now }
+{
     match request {
         Request::Text(text) => text.len() < FRAME_LIMIT,
         Request::State(bytes) => bytes.len() < FRAME_LIMIT,
@@ -100,7 +148,7 @@ fn fits(request: &Request) -> bool {
     }
 }
 
-/// Sends requests, and reads until so many replies are there.
+/// Sends requests, and reads until at least so many replies are there.
 fn ask<S: Source, K: Sink>(
     alloc: Global,
     source: &mut S,
@@ -109,47 +157,101 @@ fn ask<S: Source, K: Sink>(
     hearing: &mut Client,
     count: usize,
     left: &mut u64,
-) -> Result<(), Halt> {
-    let asking = client_of(alloc, requests)?;
-    send(sink, asking.outgoing(), left)?;
+) -> Result<(), Halt>
+    requires fits { All IsSendable requests.now }
+    requires reads { S.called source.old + left.old ≤ 2 ^ 64 - 1 }
+    requires writes { K.called sink.old + left.old ≤ 2 ^ 64 - 1 }
+    ensures asked { Asked result (flat_map request_frame requests.now) hearing.old hearing.new
+        count (S.given source.old) (S.given source.new)
+        (S.to_come source.old) (S.to_come source.new) (K.taken sink.old) (K.taken sink.new)
+        left.new (S.failed source.old + K.failed sink.old)
+        (S.failed source.new + K.failed sink.new) }
+    ensures turns { S.called source.new + K.called sink.new + left.new
+        ≡ S.called source.old + K.called sink.old + left.old }
+    ensures reads { S.called source.old ≤ S.called source.new }
+    ensures writes { K.called sink.old ≤ K.called sink.new }
+    ensures sound { OnOk result (S.failed source.new + K.failed sink.new
+        ≡ S.failed source.old + K.failed sink.old) }
+{
+    let asking = match client_of(alloc, requests) {
+        Ok(client) => client,
+        Err(halt) => return Err(halt),
+    };
+    if let Err(halt) = send(sink, asking.outgoing(), left) {
+        return Err(halt);
+    }
     receive(source, hearing, count, left)
 }
 
-/// A client with these requests to send.
-pub fn client_of(alloc: Global, requests: &[Request]) -> Result<Client, Halt> {
+/// A client with these requests to send, that was fed nothing.
+pub fn client_of(alloc: Global, requests: &[Request]) -> Result<Client, Halt>
+    ensures outgoing { IfOk result (λ client.
+        client.outgoing ≡ flat_map request_frame requests.now) }
+    ensures taken { IfOk result (λ client. HasTaken client []) }
+    ensures err { IfErr result (λ halt. IsMemory halt ⊎ (IsTooLong halt
+        × (All IsSendable requests.now → ⊥))) }
+{
     match Client::new(alloc, requests) {
         Ok(client) => Ok(client),
         Err(kind) => Err(Halt::Refused(kind)),
     }
 }
 
-/// Writes these bytes.
-fn send<K: Sink>(sink: &mut K, bytes: &[u8], left: &mut u64) -> Result<(), Halt> {
+/// Writes bytes, each time all that is left of them, while there are turns.
+fn send<K: Sink>(sink: &mut K, bytes: &[u8], left: &mut u64) -> Result<(), Halt>
+    requires { K.called sink.old + left.old ≤ 2 ^ 64 - 1 }
+    ensures sent { (front back : List ℕ) × (bytes.now ≡ front ++ back)
+        × Appends (K.taken sink.old) (K.taken sink.new) front × OnOk result (back ≡ []) }
+    ensures turns { K.called sink.new + left.new ≡ K.called sink.old + left.old }
+    ensures fewer { left.new ≤ left.old }
+    ensures sound { OnOk result (K.failed sink.new ≡ K.failed sink.old) }
+    ensures halt { IfErr result (λ halt. IsWriteHalt halt left.new
+        (K.failed sink.old) (K.failed sink.new)) }
+{
     let mut rest = bytes;
     while !rest.is_empty() {
-        let count = write_some(sink, rest, left)?;
-        rest = &rest[count..];
+        match write_some(sink, rest, left) {
+            Ok(count) => rest = &rest[count..],
+            Err(halt) => return Err(halt),
+        }
     }
     Ok(())
 }
 
-/// Reads until a client has so many replies.
+/// Reads until a client has at least so many replies.
 fn receive<S: Source>(
     source: &mut S,
     hearing: &mut Client,
     count: usize,
     left: &mut u64,
-) -> Result<(), Halt> {
+) -> Result<(), Halt>
+    requires { S.called source.old + left.old ≤ 2 ^ 64 - 1 }
+    ensures heard { Heard result hearing.old hearing.new count (S.given source.old)
+        (S.given source.new) (S.to_come source.old) (S.to_come source.new) left.new
+        (S.failed source.old) (S.failed source.new) }
+    ensures turns { S.called source.new + left.new ≡ S.called source.old + left.old }
+    ensures fewer { left.new ≤ left.old }
+    ensures sound { OnOk result (S.failed source.new ≡ S.failed source.old) }
+{
     let mut piece = [0u8; PIECE];
     while hearing.replies().len() < count {
-        let got = read_some(source, &mut piece, left)?;
-        hear(hearing, &piece[..got])?;
+        let got = match read_some(source, &mut piece, left) {
+            Ok(got) => got,
+            Err(halt) => return Err(halt),
+        };
+        if let Err(halt) = hear(hearing, &piece[..got]) {
+            return Err(halt);
+        }
     }
     Ok(())
 }
 
 /// Hands a client the next bytes of its replies.
-pub fn hear(hearing: &mut Client, piece: &[u8]) -> Result<(), Halt> {
+pub fn hear(hearing: &mut Client, piece: &[u8]) -> Result<(), Halt>
+    ensures ok { OnOk result (Hears hearing.old hearing.new piece.now) }
+    ensures err { IfErr result (λ halt. IsMemory halt
+        ⊎ (IsDevice halt × Balks hearing.old piece.now)) }
+{
     match hearing.feed(piece) {
         Ok(()) => Ok(()),
         Err(Kind::Memory) => Err(Halt::Refused(Kind::Memory)),

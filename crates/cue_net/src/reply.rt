@@ -1,6 +1,10 @@
-ghost use Rattle.std.specs.Prelude.{◌≡◌, ◌∷◌, ◌++◌, [], ℕ, List, IfOk, IfSome, OnOk};
+ghost use Rattle.std.specs.Prelude.{◌≡◌, ◌≢◌, ◌∷◌, ℕ, List, IfOk, IfSome, IfNone, IsErr, IsUtf8};
+ghost use Rattle.std.specs.Prelude.{length};
+ghost use Rattle.std.specs.Int.{w64, to_be_bytes};
 ghost use Rattle.cue_lattice.specs.Refusal.{number_of};
-ghost use Rattle.cue_net.specs.Replies.{Says};
+ghost use Rattle.cue_answer.specs.Answers.{code_of};
+ghost use Rattle.cue_net.specs.Replies.{Says, SaysOfInput, SaysOfExport};
+ghost use Rattle.cue_net.specs.Replies.{IsNoReply, IsNoInputReply, IsNoExportReply};
 
 use cue_answer::Status;
 use cue_device::Fault;
@@ -17,13 +21,14 @@ pub enum Verdict<'r> {
     Refused(Refusal),
 }
 
-/// What a reply says.
+/// What the body of a reply's frame says.
 ///
 /// # Errors
 ///
 /// `Fault` where no site replies so.
 pub fn read_reply(reply: &[u8]) -> Result<Verdict<'_>, Fault>
-    ensures { IfOk result (Says reply.now) }
+    ensures says { IfOk result (Says reply.now) }
+    ensures fault { IsErr result → IsNoReply reply.now }
 {
     let Some((number, rest)) = reply.split_first() else {
         return Err(Fault);
@@ -34,19 +39,29 @@ pub fn read_reply(reply: &[u8]) -> Result<Verdict<'_>, Fault>
     let Some(kind) = kind_of(*number) else {
         return Err(Fault);
     };
-    match rest.split_first_chunk::<8>() {
-        Some((place, [])) => Ok(Verdict::Refused(Refusal {
-            kind,
-            place: u64::from_be_bytes(*place),
-        })),
-        _ => Err(Fault),
+    match place_in(rest) {
+        Some(place) => Ok(Verdict::Refused(Refusal { kind, place })),
+        None => Err(Fault),
     }
+}
+
+/// The number in eight bytes, from the highest to the lowest, where there are just so many.
+fn place_in(bytes: &[u8]) -> Option<u64>
+    ensures some { IfSome result (λ place. bytes.now ≡ to_be_bytes w64 place) }
+    ensures none { IfNone result (length bytes.now ≢ 8) }
+{
+    if bytes.len() != 8 {
+        return None;
+    }
+    let (place, _) = bytes.split_first_chunk::<8>()?;
+    Some(u64::from_be_bytes(*place))
 }
 
 /// The kind of this number, where one has it. A reply doesn't say the form of what the language
 /// leaves out.
 pub fn kind_of(number: u8) -> Option<Kind>
-    ensures { IfSome result (λ kind. number_of kind ≡ number) }
+    ensures some { IfSome result (λ kind. number_of kind ≡ number) }
+    ensures none { IfNone result ((kind : Kind) → number_of kind ≢ number) }
 {
     Some(match number {
         1 => Kind::TooLong,
@@ -83,11 +98,15 @@ pub fn kind_of(number: u8) -> Option<Kind>
 /// # Errors
 ///
 /// `Fault` where no site replies so to an input.
-pub fn refusal_in(reply: &[u8]) -> Result<Option<Refusal>, Fault> {
+pub fn refusal_in(reply: &[u8]) -> Result<Option<Refusal>, Fault>
+    ensures says { IfOk result (SaysOfInput reply.now) }
+    ensures fault { IsErr result → IsNoInputReply reply.now }
+{
     match read_reply(reply) {
-        Ok(Verdict::Accepted([])) => Ok(None),
+        Ok(Verdict::Accepted(told)) if told.is_empty() => Ok(None),
+        Ok(Verdict::Accepted(_)) => Err(Fault),
         Ok(Verdict::Refused(why)) => Ok(Some(why)),
-        _ => Err(Fault),
+        Err(Fault) => Err(Fault),
     }
 }
 
@@ -105,30 +124,40 @@ pub enum Export<'r> {
 /// # Errors
 ///
 /// `Fault` where no site replies so to it.
-pub fn export_in(reply: &[u8]) -> Result<Export<'_>, Fault> {
+pub fn export_in(reply: &[u8]) -> Result<Export<'_>, Fault>
+    ensures says { IfOk result (SaysOfExport reply.now) }
+    ensures fault { IsErr result → IsNoExportReply reply.now }
+{
     match read_reply(reply) {
-        Ok(Verdict::Accepted(told)) => told_in(told),
+        Ok(Verdict::Accepted(told)) => match told_in(told) {
+            Some((status, text)) => Ok(Export::Told(status, text)),
+            None => Err(Fault),
+        },
         Ok(Verdict::Refused(why)) => Ok(Export::Refused(why.kind)),
         Err(Fault) => Err(Fault),
     }
 }
 
-/// The export in what is told of it.
-fn told_in(told: &[u8]) -> Result<Export<'_>, Fault> {
-    let Some((code, text)) = told.split_first() else {
-        return Err(Fault);
-    };
-    let Some(status) = status_of(*code) else {
-        return Err(Fault);
-    };
-    if str::from_utf8(text).is_err() {
-        return Err(Fault);
+/// The status and the text in what is told of an export.
+fn told_in(told: &[u8]) -> Option<(Status, &[u8])>
+    ensures some { IfSome result (λ found. (told.now ≡ code_of found.0 ∷ found.1.now)
+        × IsUtf8 found.1.now) }
+    ensures none { IfNone result ((status : Status) → (text : List ℕ)
+        → told.now ≡ code_of status ∷ text → IsUtf8 text → ⊥) }
+{
+    let (code, text) = told.split_first()?;
+    let status = status_of(*code)?;
+    match str::from_utf8(text) {
+        Ok(_) => Some((status, text)),
+        Err(_) => None,
     }
-    Ok(Export::Told(status, text))
 }
 
-/// The status with this number.
-fn status_of(code: u8) -> Option<Status> {
+/// The status with this number, where one has it.
+fn status_of(code: u8) -> Option<Status>
+    ensures some { IfSome result (λ status. code_of status ≡ code) }
+    ensures none { IfNone result ((status : Status) → code_of status ≢ code) }
+{
     match code {
         0 => Some(Status::Done),
         2 => Some(Status::Conflicts),

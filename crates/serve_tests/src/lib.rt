@@ -9,3 +9,5 @@ mod devices;
 mod pushes;
 #[cfg(test)]
 mod serves;
+#[cfg(test)]
+mod sockets;

@@ -1,7 +1,7 @@
 //! The client's end over replies in memory, and both ends over a connection of this process.
 
 use crate::devices::{Input, Output};
-use cue_answer::Status;
+use cue_answer::{Answer, Status};
 use cue_device::{Reader, Writer};
 use cue_net::{Halt, MAX_TURNS, kind_of, loop_for, push};
 use cue_replica::{Kind, Refusal};
@@ -23,26 +23,20 @@ fn pushed(alloc: Global, texts: &[&str], replies: &[u8], most: usize) -> Result<
         good: 1_000_000,
     });
     let inputs = texts_of(alloc, texts)?;
-    Ok(told(match push(alloc, &mut source, &mut sink, &inputs, 1_000) {
-        Ok(answer) => Ok((answer.bytes, answer.status)),
-        Err(halt) => Err(halt),
-    }))
+    let answer = push(alloc, &mut source, &mut sink, &inputs, 1_000);
+    Ok(Told { answer })
 }
 
-/// What was printed, and how it ends.
+/// What was answered.
 #[derive(Drop)]
 struct Told {
-    answer: Result<(Vec<u8>, Status), Halt>,
-}
-
-fn told(answer: Result<(Vec<u8>, Status), Halt>) -> Told {
-    Told { answer }
+    answer: Result<Answer, Halt>,
 }
 
 impl Told {
     fn prints(&self, bytes: &[u8], status: Status) -> bool {
         match &self.answer {
-            Ok((told, code)) => told.as_slice() == bytes && *code == status,
+            Ok(answer) => answer.bytes.as_slice() == bytes && answer.status == status,
             Err(_) => false,
         }
     }
@@ -69,10 +63,9 @@ where
     H: AllocGlobal + Net<Listener = TcpListener, Stream = TcpStream>,
 {
     let inputs = texts_of(rt.alloc(), texts)?;
-    Ok(told(match loop_for(rt, &inputs) {
-        Ok(answer) => Ok((answer.bytes, answer.status)),
-        Err(halt) => Err(halt),
-    }))
+    Ok(Told {
+        answer: loop_for(rt, &inputs),
+    })
 }
 
 #[test]

@@ -35,7 +35,7 @@ impl Served {
 
 /// Serves these requests on a new site, by reads and writes of so many bytes, of which so many
 /// succeed, in so many turns.
-fn served(alloc: Global, requests: &[u8], most: usize, good: (u64, u64), turns: u64) -> Served {
+fn outcome(alloc: Global, requests: &[u8], most: usize, good: (u64, u64), turns: u64) -> Served {
     let mut source = Reader::new(Input {
         rest: requests,
         most,
@@ -55,11 +55,11 @@ fn served(alloc: Global, requests: &[u8], most: usize, good: (u64, u64), turns: 
 }
 
 fn whole(alloc: Global, turns: u64) -> Served {
-    served(alloc, &REQUESTS, 4096, (ALL, ALL), turns)
+    outcome(alloc, &REQUESTS, 4096, (ALL, ALL), turns)
 }
 
 fn dripped(alloc: Global, turns: u64) -> Served {
-    served(alloc, &REQUESTS, 1, (ALL, ALL), turns)
+    outcome(alloc, &REQUESTS, 1, (ALL, ALL), turns)
 }
 
 const BETWEEN: Result<Ended, Kind> = Ok(Ended { whole: true });
@@ -85,21 +85,21 @@ fn byte_by_byte_takes_fifty_one_turns(rt: HostRuntime) {
 #[test]
 fn a_source_fails_at_each_read(rt: HostRuntime) {
     for good in 0..20u64 {
-        let run = served(rt.alloc(), &REQUESTS, 1, (good, ALL), 100_000);
+        let run = outcome(rt.alloc(), &REQUESTS, 1, (good, ALL), 100_000);
         assert!(rt; run.is_cut());
     }
-    let run = served(rt.alloc(), &REQUESTS, 1, (20, ALL), 100_000);
+    let run = outcome(rt.alloc(), &REQUESTS, 1, (20, ALL), 100_000);
     assert!(rt; run.is(BETWEEN, &REPLIES));
 }
 
 #[test]
 fn a_sink_fails_at_each_write(rt: HostRuntime) {
     for good in 0..31u64 {
-        let run = served(rt.alloc(), &REQUESTS, 1, (ALL, good), 100_000);
+        let run = outcome(rt.alloc(), &REQUESTS, 1, (ALL, good), 100_000);
         assert!(rt; run.is_cut());
         assert_eq!(rt; run.written.len() as u64, good);
     }
-    let run = served(rt.alloc(), &REQUESTS, 1, (ALL, 31), 100_000);
+    let run = outcome(rt.alloc(), &REQUESTS, 1, (ALL, 31), 100_000);
     assert!(rt; run.is(BETWEEN, &REPLIES));
 }
 
@@ -122,7 +122,7 @@ fn the_end_at_each_byte(rt: HostRuntime) {
         let Some(requests) = REQUESTS.get(..count) else {
             return;
         };
-        let run = served(rt.alloc(), requests, 4096, (ALL, ALL), 100);
+        let run = outcome(rt.alloc(), requests, 4096, (ALL, ALL), 100);
         let between = count == 0 || count == 10 || count == 15 || count == 19;
         assert_eq!(rt; run.ended, Ok(Ended { whole: between }));
         assert!(rt; REPLIES.starts_with(&run.written));
@@ -133,13 +133,13 @@ fn the_end_at_each_byte(rt: HostRuntime) {
 fn a_length_over_the_limit_ends_it(rt: HostRuntime) -> Result<(), Fail> {
     let mut requests = Vec::from_slice(rt.alloc(), &REQUESTS)?;
     requests.extend_from_slice(&[1, 0, 0, 1, 0])?;
-    let run = served(rt.alloc(), &requests, 4096, (ALL, ALL), 100);
+    let run = outcome(rt.alloc(), &requests, 4096, (ALL, ALL), 100);
     assert!(rt; run.is(Err(Kind::FrameTooLong), &REPLIES));
-    let run = served(rt.alloc(), &requests, 1, (ALL, ALL), 54);
+    let run = outcome(rt.alloc(), &requests, 1, (ALL, ALL), 54);
     assert!(rt; run.is(Err(Kind::FrameTooLong), &REPLIES));
-    let run = served(rt.alloc(), &requests, 4096, (ALL, ALL), 1);
+    let run = outcome(rt.alloc(), &requests, 4096, (ALL, ALL), 1);
     assert!(rt; run.is(USED, b""));
-    let run = served(rt.alloc(), &requests, 4096, (ALL, 0), 100);
+    let run = outcome(rt.alloc(), &requests, 4096, (ALL, 0), 100);
     assert!(rt; run.is(Err(Kind::Device), b""));
     Ok(())
 }
@@ -152,4 +152,15 @@ fn in_memory(rt: HostRuntime) {
     let ended = serve(rt.alloc(), &mut source, &mut sink, &mut site, 3);
     assert_eq!(rt; ended, BETWEEN);
     assert_eq!(rt; sink.into_inner().as_slice(), REPLIES.as_slice());
+}
+
+#[test]
+fn a_long_frame_takes_all_turns(rt: HostRuntime) -> Result<(), Fail> {
+    let mut requests = Vec::from_elem(rt.alloc(), 0u8, 100_003)?;
+    requests[0] = 1;
+    let run = outcome(rt.alloc(), &requests, 1, (ALL, ALL), 100_000);
+    assert!(rt; run.is(USED, b""));
+    let run = outcome(rt.alloc(), &requests, 1, (ALL, ALL), 100_004);
+    assert!(rt; run.is(Ok(Ended { whole: false }), b""));
+    Ok(())
 }

@@ -1,0 +1,38 @@
+-- What a client hears piece by piece, and what asking adds to a talk.
+use Rattle.std.proofs.Common.{◌≡◌, ◌⊎◌, ℕ, ◌+◌, ◌<◌, ◌≤◌, List, [], ◌∷◌, ◌++◌, length, map, refl, ap, sym, ◌∙◌, subst, arith, append_assoc, append-nil, inl, inr, ⊎_elim, Option, Result, Ok, Err, Vec, Global}
+use Rattle.std.proofs.lemmas.List.{length-map}
+use Rattle.std.proofs.KnownBytes.{Appends-nil, Appends-trans, Appends-kept, Consumes-nil, Consumes-trans, Consumes-kept}
+use Rattle.std.specs.Io.KnownBytes.{Appends, Consumes, Keeps, IsAtEnd}
+use Rattle.cue_wire.specs.Clients.{Exchange, HasTaken, all_items}
+use Rattle.cue_wire.specs.Frames.{HasFault}
+use Rattle.cue_net.specs.declared.halt.Halt.{Halt}
+use Rattle.cue_net.specs.Halts.{IsDevice, IsMemory, IsTurnsUsed}
+use Rattle.cue_net.specs.Turns.{IsReadHalt, IsWriteHalt}
+use Rattle.cue_net.specs.Talks.{Talk, IsTalk}
+use Rattle.cue_net.specs.Inner.Hearing.{Hears, Balks, IsHearHalt, HearsAt, Heard, AllSent, Asked}
+
+pub hears_nothing : (old : Exchange) → Hears old old []
+hears_nothing old stream taken = subst (HasTaken old) (sym (append-nil stream)) taken
+
+pub hears_more : (old mid new : Exchange) (p q : List ℕ) → Hears old mid p → Hears mid new q → Hears old new (p ++ q)
+hears_more old mid new p q one two stream taken = subst (HasTaken new) (append_assoc stream p q) (two (stream ++ p) (one stream taken))
+
+pub balks_later : (old mid : Exchange) (p q : List ℕ) → Hears old mid p → Balks mid q → Balks old (p ++ q)
+balks_later old mid p q one two stream taken = subst HasFault (append_assoc stream p q) (two (stream ++ p) (one stream taken))
+
+-- a read that has no bytes ends hearing
+pub stops_reading : (halt : Halt) (old new : Exchange) (piece : List ℕ) (count left failed failed' failed'' : ℕ) (to_come : Option (List ℕ))
+    → Hears old new piece → length new.replies < count → failed' ≡ failed → IsReadHalt halt left to_come failed' failed''
+    → IsHearHalt halt old new piece count to_come left failed failed''
+stops_reading halt old new piece count left failed failed' failed'' to_come hears few sound why =
+    ⊎_elim (λ used. inl (used.0, used.1)) (λ device. inr (inr (device.0, ⊎_elim (λ broke. inl (omega (arith, sound, broke))) (λ ended. inr (inl (ended.0, hears, few))) device.1))) why
+
+-- so does a piece that the client refuses
+pub stops_taking : (halt : Halt) (old mid new : Exchange) (p q : List ℕ) (count left failed failed' : ℕ) (to_come : Option (List ℕ))
+    → Hears old mid p → IsMemory halt ⊎ (IsDevice halt × Balks mid q)
+    → IsHearHalt halt old new (p ++ q) count to_come left failed failed'
+stops_taking halt old mid new p q count left failed failed' to_come hears why =
+    inr (⊎_elim inl (λ device. inr (device.0, inr (inr (balks_later old mid p q hears device.1)))) why)
+
+pub long_as : (vectors : List (Vec ℕ Global)) (replies : List (List ℕ)) → all_items vectors ≡ replies → length vectors ≡ length replies
+long_as vectors replies are = sym (length-map vectors (λ (v : Vec ℕ Global). v.items)) ∙ ap length are

@@ -1,0 +1,18 @@
+use Rattle.std.proofs.Common.{◌≡◌, ◌+◌, ◌≤◌, ℕ, List, length}
+use Rattle.std.specs.Io.KnownBytes.{Appends, Consumes}
+use Rattle.cue_net.specs.Inner.Hearing.{Hears}
+use Rattle.cue_net.proofs.pushing.receive.Given as goal
+
+-- what was heard so far
+abbrev pub invariant-loop : goal.invariant-loop
+invariant-loop g l = record {
+  heard : (piece : List ℕ) × Appends (g.S.Source.given l.fn.source) (g.S.Source.given l.source) piece
+      × Consumes (g.S.Source.to_come l.fn.source) (g.S.Source.to_come l.source) piece × Hears l.fn.hearing l.hearing piece;
+  turns : g.S.Source.called l.source + l.left ≡ g.S.Source.called l.fn.source + l.fn.left;
+  fewer : l.left ≤ l.fn.left;
+  sound : g.S.Source.failed l.source ≡ g.S.Source.failed l.fn.source;
+  room : length l.piece ≡ 4096;
+}
+
+abbrev pub decreases-loop : goal.decreases-loop
+decreases-loop g l = l.left

@@ -1,0 +1,58 @@
+-- What the functions that send requests and hear replies promise one another.
+use Rattle.std.specs.Prelude.{◌≡◌, ◌⊎◌, ◌<◌, ◌≤◌, ℕ, List, [], ◌++◌, length, Option, Result, Ok, Err}
+use Rattle.std.specs.Io.KnownBytes.{Appends, Consumes, IsAtEnd}
+use Rattle.cue_wire.specs.Clients.{Exchange, HasTaken}
+use Rattle.cue_wire.specs.Frames.{HasFault}
+use Rattle.cue_net.specs.declared.halt.Halt.{Halt}
+use Rattle.cue_net.specs.Halts.{IsDevice, IsMemory, IsTurnsUsed}
+use Rattle.cue_net.specs.Talks.{Talk, IsTalk}
+
+-- the client takes this piece
+abbrev pub Hears : Exchange → Exchange → List ℕ → Type 0
+Hears old new piece = (stream : List ℕ) → HasTaken old stream → HasTaken new (stream ++ piece)
+
+-- the client finds a length that no frame has
+abbrev pub Balks : Exchange → List ℕ → Type 0
+Balks old piece = (stream : List ℕ) → HasTaken old stream → HasFault (stream ++ piece)
+
+-- why so many replies are not heard
+abbrev pub IsHearHalt : Halt → Exchange → Exchange → List ℕ → ℕ → Option (List ℕ) → ℕ → ℕ → ℕ
+    → Type 0
+IsHearHalt halt old new piece count to_come left failed failed' =
+    (IsTurnsUsed halt × (left ≡ 0))
+    ⊎ IsMemory halt
+    ⊎ (IsDevice halt × ((failed < failed')
+    ⊎ (IsAtEnd to_come × Hears old new piece × (length new.replies < count))
+    ⊎ Balks old piece))
+
+-- so many replies are there, or not
+abbrev pub HearsAt : Result (Unit {0}) Halt → Exchange → Exchange → List ℕ → ℕ → Option (List ℕ)
+    → ℕ → ℕ → ℕ → Type 0
+HearsAt (Ok u) old new piece count to_come left failed failed' =
+    Hears old new piece × (count ≤ length new.replies)
+HearsAt (Err halt) old new piece count to_come left failed failed' =
+    IsHearHalt halt old new piece count to_come left failed failed'
+
+-- what was heard, and how hearing ends
+pub record Heard (result : Result (Unit {0}) Halt) (old new : Exchange) (count : ℕ)
+    (given given' to_come to_come' : Option (List ℕ)) (left failed failed' : ℕ) : Type 0 where
+  pub piece : List ℕ
+  pub gave : Appends given given' piece
+  pub took : Consumes to_come to_come' piece
+  pub ends : HearsAt result old new piece count to_come' left failed failed'
+
+-- nothing is left to be sent
+abbrev pub AllSent : Result (Unit {0}) Halt → List ℕ → Type 0
+AllSent (Ok u) unsent = unsent ≡ []
+AllSent (Err halt) unsent = Unit {0}
+
+-- what asking adds to a talk: these frames, or the front of them, are sent, and replies are heard
+pub record Asked (result : Result (Unit {0}) Halt) (frames : List ℕ) (old new : Exchange)
+    (count : ℕ) (given given' to_come to_come' taken taken' : Option (List ℕ))
+    (left failed failed' : ℕ) : Type 0 where
+  pub talk : Talk
+  pub unsent : List ℕ
+  pub passes : IsTalk talk given given' to_come to_come' taken taken'
+  pub front : frames ≡ talk.sent ++ unsent
+  pub all : AllSent result unsent
+  pub ends : HearsAt result old new talk.heard count to_come' left failed failed'

@@ -1,0 +1,71 @@
+-- What passes on a connection between a client and a site.
+use Rattle.std.specs.Prelude.{◌≡◌, ◌⊎◌, ◌<◌, ◌≤◌, ℕ, ◌+◌, List, [], ◌∷◌, ◌++◌, length, All, flat_map}
+use Rattle.std.specs.Prelude.{Option, Result, Ok, Err}
+use Rattle.std.specs.Io.KnownBytes.{Appends, Consumes, IsAtEnd}
+use Rattle.cue_answer.specs.declared.told.Answer.{Answer}
+use Rattle.cue_wire.specs.declared.request.Request as requests
+use Rattle.cue_wire.specs.declared.request.Request.TheVariants as asked
+use Rattle.cue_wire.specs.Clients.{request_frame, IsSendable}
+use Rattle.cue_wire.specs.Frames.{AreFrames, IsUnfinished, HasFault}
+use Rattle.cue_net.specs.declared.halt.Halt.{Halt}
+use Rattle.cue_net.specs.Halts.{IsDevice, IsMemory, IsTurnsUsed, IsTooLong}
+use Rattle.cue_net.specs.Told.{AreTold}
+
+-- what was written, and what was read
+pub record Talk : Type 0 where
+  pub sent : List ℕ
+  pub heard : List ℕ
+
+-- What a source gave is what was read, and what a sink took is what was written, as far as they
+-- tell it.
+pub record IsTalk (talk : Talk) (given given' to_come to_come' taken taken' : Option (List ℕ))
+    : Type 0 where
+  pub gave : Appends given given' talk.heard
+  pub took : Consumes to_come to_come' talk.heard
+  pub wrote : Appends taken taken' talk.sent
+
+-- the frames of the inputs, and that of the question for the export
+abbrev pub asking : List requests.Request → List ℕ
+asking inputs = flat_map request_frame inputs ++ request_frame asked.AskExport
+
+-- All was sent, and what was heard begins with these replies to the inputs and the last, to the
+-- question.
+pub record AreReplies (inputs : List requests.Request) (talk : Talk) (replies : List (List ℕ))
+    (last : List ℕ) : Type 0 where
+  pub rest : List ℕ
+  pub sent : talk.sent ≡ asking inputs
+  pub heard : AreFrames talk.heard (replies ++ last ∷ []) rest
+  pub count : length replies ≡ length inputs
+
+-- What was heard is no replies: a length that no frame has, or more replies than requests.
+abbrev pub AreNoReplies : List requests.Request → List ℕ → Type 0
+AreNoReplies inputs heard =
+    HasFault heard
+    ⊎ ((replies : List (List ℕ)) × (rest : List ℕ) × AreFrames heard replies rest
+    × (length inputs + 1 < length replies))
+
+-- The replies end before the last.
+abbrev pub EndEarly : List requests.Request → List ℕ → Option (List ℕ) → Type 0
+EndEarly inputs heard to_come =
+    IsAtEnd to_come × ((replies : List (List ℕ)) × (rest : List ℕ) × AreFrames heard replies rest
+    × IsUnfinished rest × (length replies ≤ length inputs))
+
+-- Why a talk ends without all replies. Nothing is written where a frame can't hold an input.
+abbrev pub IsCut : Halt → List requests.Request → Talk → Option (List ℕ) → ℕ → ℕ → ℕ → ℕ → Type 0
+IsCut halt inputs talk to_come allowed calls failed failed' =
+    (IsTooLong halt × (All IsSendable inputs → ⊥) × (talk.sent ≡ []) × (talk.heard ≡ []))
+    ⊎ (IsTurnsUsed halt × (calls ≡ allowed))
+    ⊎ IsMemory halt
+    ⊎ (IsDevice halt × ((failed < failed') ⊎ EndEarly inputs talk.heard to_come
+    ⊎ AreNoReplies inputs talk.heard))
+
+-- What is answered of a talk: what the replies tell; or why it was cut, where the front of the
+-- requests' frames was sent.
+abbrev pub IsAnswerOf : Result Answer Halt → List requests.Request → Talk → Option (List ℕ)
+    → ℕ → ℕ → ℕ → ℕ → Type 0
+IsAnswerOf result inputs talk to_come allowed calls failed failed' =
+    ((replies : List (List ℕ)) × (last : List ℕ) × AreReplies inputs talk replies last
+    × AreTold replies last result)
+    ⊎ ((halt : Halt) × (unsent : List ℕ) × (result ≡ Err halt)
+    × (asking inputs ≡ talk.sent ++ unsent)
+    × IsCut halt inputs talk to_come allowed calls failed failed')
