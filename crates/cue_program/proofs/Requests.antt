@@ -1,5 +1,5 @@
 -- The inputs that requests hand in so far.
-use Rattle.std.proofs.Common.{◌≡◌, ◌≢◌, ℕ, suc, ◌+◌, ◌-◌, ◌^◌, min, List, [], ◌∷◌, ◌++◌, Option, Some, None, map, length, refl, sym, ap, ◌∙◌, subst, inl, inr}
+use Rattle.std.proofs.Common.{◌≡◌, ◌≢◌, ◌⊎◌, Result, Ok, Err, IfOk, IfErr, OnOk, ℕ, suc, ◌+◌, ◌-◌, ◌^◌, min, List, [], ◌∷◌, ◌++◌, Option, Some, None, map, length, refl, sym, ap, ◌∙◌, subst, inl, inr}
 use Rattle.std.specs.Prelude.{slice_get}
 use Rattle.std.specs.List.{AllByRecursion}
 use Rattle.std.proofs.lemmas.List.{map_push}
@@ -126,3 +126,19 @@ pub files_sent_unread :
     (front back : List (Option (List ℕ))) (next : Option (List ℕ)) (asked : List requests.Request) (stop : Stop)
     → AreRequests (files front) asked → IsUnreadable stop → IsUnsentOn (files (front ++ next ∷ back)) stop
 files_sent_unread front back next asked stop h fault = inr (inl (files_unread CanBeSent front back next h.0 stop h.1 h.2 fault))
+
+-- a file that is one text
+pub file_text_sent :
+    {E : Type 0} (bytes now : List ℕ) (r : Result requests.Request E) → now ≡ bytes → slice_get bytes 0 ≢ Some 254
+    → IfOk r (λ request. request_of request ≡ asking.text now) → OnOk r (IsText now) → IfOk r (IsFileRequest bytes)
+file_text_sent bytes now (Ok request) is first means fits =
+    (text bytes, inr (first, refl), subst IsText is fits, means ∙ ap asking.text is)
+file_text_sent bytes now (Err e) is first means fits = tt
+
+pub file_text_unsent :
+    {T : Type 0} (bytes now : List ℕ) (number : ℕ) (r : Result T Stop) → now ≡ bytes → slice_get bytes 0 ≢ Some 254
+    → IfErr r (λ stop. IsNoText now number stop ⊎ IsMemory stop) → IfErr r (λ stop. IsFileUnsent bytes number stop ⊎ IsMemory stop)
+file_text_unsent bytes now number (Ok x) is first h = tt
+file_text_unsent bytes now number (Err stop) is first (inl fault) =
+    inl (text bytes, fault.0, inr (first, refl), subst (λ (b : List ℕ). IsByteFault b fault.0) is fault.2, fault.1)
+file_text_unsent bytes now number (Err stop) is first (inr memory) = inr memory
