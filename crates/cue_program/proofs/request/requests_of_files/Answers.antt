@@ -1,4 +1,3 @@
-use Rattle.std.specs.Prelude.{get_or}
 use Rattle.std.proofs.Common.{◌≡◌, ◌<◌, ◌++◌, ◌∷◌, ℕ, List, Option, rules, sym, subst, ap, inl, inr, ⊎_elim, ◌+◌, ◌-◌, ◌^◌, min, map, take, drop, ◌∙◌, arith, length, []}
 use Rattle.cue_wire.specs.declared.request.Request as requests
 use Rattle.cue_program.specs.Files.{known_at, texts}
@@ -31,7 +30,7 @@ returns-in-Err-request_of_file-clause-stop g c =
     let i = c.loop-name.name-index in
     ⊎_elim
     (λ fault. subst (λ (ks : List (Option (List ℕ))). IsUnsentOn (files ks) c.in-Err-request_of_file.stop)
-    (sym (split_known K names i (some_name names (omega (arith, c.loop-name-test.true))) c.loop-name-test.true))
+    (sym (split_known K names i _ c.loop-name-test.true))
     (files_unsent (map K (texts (take i names))) (map K (texts (drop (i + 1) names))) _ c.loop-name.requests.items c.saturating_add-number.result
     c.in-Ok.bytes.items c.in-Err-request_of_file.stop c.loop-name.invariant.sent c.in-Ok.ensures.all
     (c.saturating_add-number.ensures ∙ ap (λ n. min (n + 1) (2 ^ 64 - 1)) (c.len.ensures ∙ c.loop-name.requests.ok.0)) fault))
@@ -44,10 +43,9 @@ loop-name-preserved g c =
     let names = c.args.names.now in
     let i = c.loop-name.name-index in
     record {
-      sent = subst (λ (ks : List (Option (List ℕ))). AreRequests (files ks) c.push.new.self.items)
-          (sym (take_known K names i (some_name names (omega (arith, c.loop-name-test.true))) c.loop-name-test.true))
-          (subst (λ (rs : List requests.Request). AreRequests (files (map K (texts (take i names)) ++ K (get_or names i (some_name names (omega (arith, c.loop-name-test.true)))).now ∷ [])) rs)
-          (sym c.in_ok-push-in-Ok-request_of_file.ensures.items)
+      sent = subst (λ (rs : List requests.Request). AreRequests (files (map K (texts (take (i + 1) names)))) rs) (sym c.in_ok-push-in-Ok-request_of_file.ensures.items)
+          (subst (λ (ks : List (Option (List ℕ))). AreRequests (files ks) (c.loop-name.requests.items ++ c.in-Ok-request_of_file.request ∷ []))
+          (sym (take_known K names i _ c.loop-name-test.true))
           (files_sent_more (map K (texts (take i names))) _ c.in-Ok.bytes.items c.loop-name.requests.items c.in-Ok-request_of_file.request
           c.loop-name.invariant.sent c.in-Ok.ensures.all c.in-Ok-request_of_file.ensures.request));
       room = search rules;
