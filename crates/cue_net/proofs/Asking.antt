@@ -49,8 +49,8 @@ stops_later halt old mid new p q count count' left failed failed' failed'' to_co
     ⊎_elim inl (λ others. inr (⊎_elim inl (λ device. inr (
       device.0,
       ⊎_elim (λ broke. inl (omega (arith, sound, broke)))
-      (λ rest. inr (⊎_elim (λ ended. inl (ended.0, hears_more old mid new p q hears ended.1, omega (arith, fewer, ended.2)))
-      (λ balks. inr (balks_later old mid p q hears balks)) rest)) device.1,
+          (λ rest. inr (⊎_elim (λ ended. inl (ended.0, hears_more old mid new p q hears ended.1, omega (arith, fewer, ended.2)))
+          (λ balks. inr (balks_later old mid p q hears balks)) rest)) device.1,
     )) others)) why
 
 ends_later : (result : Result (Unit {0}) Halt) (old mid new : Exchange) (p q : List ℕ) (count left failed failed' failed'' : ℕ) (to_come : Option (List ℕ))

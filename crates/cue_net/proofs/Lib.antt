@@ -1,3 +1,5 @@
 pub mod Asking
 pub mod Hearing
+pub mod Looping
+pub mod Serving
 pub mod Talks

@@ -26,9 +26,9 @@ cut halt inputs old new count given given' to_come to_come' taken taken' left fa
     ⊎_elim (λ turns. inr (inl (turns.0, used turns.1))) (λ others. inr (inr (⊎_elim inl (λ device. inr (
       device.0,
       ⊎_elim inl (λ rest. inr (⊎_elim (λ ended.
-      let all = ended.1 [] new_taken in
-      inl (ended.0, new.replies, new.rest, all.frames, all.unfinished, omega (arith, fewer, ended.2)))
-      (λ balks. inr (inl (balks [] new_taken))) rest)) device.1,
+          let all = ended.1 [] new_taken in
+          inl (ended.0, new.replies, new.rest, all.frames, all.unfinished, omega (arith, fewer, ended.2)))
+          (λ balks. inr (inl (balks [] new_taken))) rest)) device.1,
     )) others))) asked.ends in
     (asked.talk, asked.passes, inr (halt, asked.unsent, refl, asked.front, why))
 
@@ -42,18 +42,35 @@ pub answered : (u : Unit {0}) (result : Result Answer Halt) (inputs : List reque
     → (talk : Talk) × IsTalk talk given given' to_come to_come' taken taken' × IsAnswerOf result inputs talk to_come' allowed calls failed failed'
 answered u result inputs old new vectors given given' to_come to_come' taken taken' left failed failed' allowed calls new_taken asked are told =
     let sent : asking inputs ≡ asked.talk.sent = asked.front ∙ ap (λ zs. asked.talk.sent ++ zs) asked.all ∙ append-nil asked.talk.sent in
-    let all = asked.ends.0 [] new_taken in
-    (asked.talk, asked.passes, ⊎_elim (λ t. inl (t.0, t.1, record {
-      rest = new.rest;
-      sent = sym sent;
-      heard = subst (λ rs. AreFrames asked.talk.heard rs new.rest) (sym are ∙ t.2) all.frames;
-      count = t.3;
-    }, t.4)) (λ s. inr (halts.Device, [], s.1, sent ∙ sym (append-nil asked.talk.sent), inr (inr (inr (refl, inr (inr (inr (
-      new.replies,
-      new.rest,
-      all.frames,
-      omega (arith, asked.ends.1, s.0, long_as vectors new.replies are),
-    )))))))) told)
+    let all = asked.ends.0 [] new_taken in (
+      asked.talk,
+      asked.passes,
+      ⊎_elim (λ t. inl (
+        t.0,
+        t.1,
+        record {
+          rest = new.rest;
+          sent = sym sent;
+          heard = subst (λ rs. AreFrames asked.talk.heard rs new.rest) (sym are ∙ t.2) all.frames;
+          count = t.3;
+        },
+        t.4,
+      )) (λ s. inr (
+        halts.Device,
+        [],
+        s.1,
+        sent ∙ sym (append-nil asked.talk.sent),
+        inr (inr (inr (
+          refl,
+          inr (inr (inr (
+            new.replies,
+            new.rest,
+            all.frames,
+            omega (arith, asked.ends.1, s.0, long_as vectors new.replies are),
+          ))),
+        ))),
+      )) told,
+    )
 
 -- an input that no frame can hold
 pub too_long : (inputs : List requests.Request) (given to_come taken : Option (List ℕ)) (failed allowed calls : ℕ) → (All IsSendable inputs → ⊥)

@@ -1,5 +1,5 @@
 -- Why a word has no answer.
-use Rattle.std.specs.Prelude.{◌≡◌}
+use Rattle.std.specs.Prelude.{◌≡◌, ◌⊎◌}
 use Rattle.cue_lattice.specs.declared.refusal.Kind.TheVariants as kinds
 use Rattle.cue_net.specs.declared.halt.Halt.{Halt}
 use Rattle.cue_net.specs.declared.halt.Halt.TheVariants as halts
@@ -19,3 +19,6 @@ IsTurnsUsed halt = halt ≡ halts.Refused kinds.TurnsUsed
 -- a frame can't hold an input
 abbrev pub IsTooLong : Halt → Type 0
 IsTooLong halt = halt ≡ halts.Refused kinds.FrameTooLong
+
+abbrev pub IsDeviceOrMemory : Halt → Type 0
+IsDeviceOrMemory halt = IsDevice halt ⊎ IsMemory halt

@@ -1,6 +1,7 @@
 -- What the words over a network answer.
 pub mod Inner
 pub mod Halts
+pub mod Loops
 pub mod Printed
 pub mod Replies
 pub mod Talks

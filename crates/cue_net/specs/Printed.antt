@@ -13,13 +13,14 @@ IsPrintedExport table answer =
     (told : Answer) × Tells questions.Export table told
     × Says answer (told.bytes.items ++ line_end questions.Export told.status) told.status
 
--- frames of some requests were served by a new site, one after the other, and leave it with this
--- table
-abbrev pub IsServed : Table → Type 0
-IsServed table =
+-- Frames of some requests were served, one after the other, and turned the one table into the
+-- other.
+abbrev pub ServesSome : Table → Table → Type 0
+ServesSome before after =
     (bodies : List (List ℕ)) × (replies : List ℕ) × All IsBody bodies
-    × ServesAll bodies opening table replies
+    × ServesAll bodies before after replies
 
 -- the export of a new site that has served some requests
 abbrev pub IsServedExport : Answer → Type 0
-IsServedExport answer = (table : Table) × IsServed table × IsPrintedExport table answer
+IsServedExport answer =
+    (table : Table) × ServesSome opening table × IsPrintedExport table answer

@@ -1,75 +1,142 @@
-ghost use Rattle.std.specs.Prelude.{◌≡◌, ◌+◌, ◌-◌, ◌^◌, ◌≤◌, ◌<◌, length, OnOk, IfOk};
+ghost use Rattle.std.specs.Prelude.{◌≡◌, ◌⊎◌, ◌+◌, ◌-◌, ◌^◌, ◌≤◌, ◌++◌, ℕ, List, length, OnOk, IfErr};
+ghost use Rattle.std.specs.Io.KnownBytes.{Appends, Consumes};
+ghost use Rattle.cue_net.specs.Halts.{IsDevice, IsMemory};
+ghost use Rattle.cue_net.specs.Inner.Hearing.{Hears, Balks};
+ghost use Rattle.cue_net.specs.Inner.Looping.{IsCarryHalt, ServesOnto, Faults, Brought};
 
+use crate::PIECE;
 use crate::halt::Halt;
 use crate::pushing::hear;
 use crate::turns::{read_some, write_some};
 use cue_device::{Sink, Source};
-use cue_wire::Client;
+use cue_replica::{Kind, Replica};
+use cue_wire::{Client, Session};
 
-/// Writes some bytes at one end, as many as there is room for at most, and reads them at the other.
-/// Answers how many.
-pub fn carry<S: Source, K: Sink>(
-    sink: &mut K,
-    source: &mut S,
-    bytes: &[u8],
-    room: &mut [u8],
-    left: &mut u64,
-) -> Result<usize, Halt>
-    requires reads { S.called source.old + left.old ≤ 2 ^ 64 - 1 }
-    requires writes { K.called sink.old + left.old ≤ 2 ^ 64 - 1 }
-    requires some { (0 < length bytes.now) × (0 < length room.old) }
-    ensures count { IfOk result (λ n. (0 < n) × (n ≤ length bytes.now) × (n ≤ length room.new)) }
-    ensures room { length room.new ≡ length room.old }
-    ensures turns { S.called source.new + K.called sink.new + left.new
-        ≡ S.called source.old + K.called sink.old + left.old }
-    ensures reads { S.called source.old ≤ S.called source.new }
-    ensures writes { K.called sink.old ≤ K.called sink.new }
-    ensures turn { OnOk result (left.new < left.old) }
-{
-    let most = bytes.len().min(room.len());
-    let sent = write_some(sink, &bytes[..most], left)?;
-    fill(source, &mut room[..sent], left)?;
-    Ok(sent)
+/// The serving end: a site and its session, and the replies that are still to be written.
+#[derive(Drop)]
+pub struct Serving {
+    pub site: Replica,
+    pub session: Session,
+    pub out: Vec<u8>,
 }
 
-/// Reads until all of the room has bytes.
-fn fill<S: Source>(source: &mut S, room: &mut [u8], left: &mut u64) -> Result<(), Halt>
+/// Reads just so many bytes, and serves all frames that are whole with them.
+pub fn serve_so_many<S: Source>(
+    source: &mut S,
+    serving: &mut Serving,
+    count: usize,
+    left: &mut u64,
+) -> Result<(), Halt>
     requires { S.called source.old + left.old ≤ 2 ^ 64 - 1 }
-    ensures room { length room.new ≡ length room.old }
+    ensures read { (read : List ℕ) × Appends (S.given source.old) (S.given source.new) read
+        × Consumes (S.to_come source.old) (S.to_come source.new) read
+        × OnOk result ((length read ≡ count) × ServesOnto serving.old.session serving.new.session
+        serving.old.site serving.new.site serving.old.out.items serving.new.out.items read)
+        × IfErr result (λ halt. IsCarryHalt halt left.new (S.to_come source.new)
+        (S.failed source.old) (S.failed source.new) (Faults serving.old.session read)) }
     ensures turns { S.called source.new + left.new ≡ S.called source.old + left.old }
     ensures fewer { left.new ≤ left.old }
+    ensures sound { OnOk result (S.failed source.new ≡ S.failed source.old) }
 {
+    let mut piece = [0u8; PIECE];
     let mut got = 0usize;
-    while got < room.len() {
-        got += read_some(source, &mut room[got..], left)?;
+    while got < count {
+        let most = (count - got).min(PIECE);
+        let some = match read_some(source, &mut piece[..most], left) {
+            Ok(some) => some,
+            Err(halt) => return Err(halt),
+        };
+        if let Err(halt) = serve_piece(serving, &piece[..some]) {
+            return Err(halt);
+        }
+        got += some;
     }
     Ok(())
 }
 
-/// Carries all these bytes from one end to the other, and hands them to the client there.
+/// Serves what is whole with this piece, and adds the replies to those to be written.
+fn serve_piece(serving: &mut Serving, piece: &[u8]) -> Result<(), Halt>
+    ensures ok { OnOk result (ServesOnto serving.old.session serving.new.session
+        serving.old.site serving.new.site serving.old.out.items serving.new.out.items piece.now) }
+    ensures err { IfErr result (λ halt. IsMemory halt
+        ⊎ (IsDevice halt × Faults serving.old.session piece.now)) }
+{
+    match serving
+        .session
+        .feed(&mut serving.site, piece, &mut serving.out)
+    {
+        Ok(()) => Ok(()),
+        Err(Kind::Memory) => Err(Halt::Refused(Kind::Memory)),
+        Err(_) => Err(Halt::Device),
+    }
+}
+
+/// Writes all these bytes at one end, some at a time, each of which the client reads at the other
+/// before the next are written.
 pub fn bring_back<S: Source, K: Sink>(
     sink: &mut K,
     source: &mut S,
     bytes: &[u8],
-    client: &mut Client,
-    room: &mut [u8],
+    hearing: &mut Client,
     left: &mut u64,
 ) -> Result<(), Halt>
     requires reads { S.called source.old + left.old ≤ 2 ^ 64 - 1 }
     requires writes { K.called sink.old + left.old ≤ 2 ^ 64 - 1 }
-    requires some { 0 < length room.old }
-    ensures room { length room.new ≡ length room.old }
+    ensures brought { Brought result bytes.now hearing.old hearing.new (S.given source.old)
+        (S.given source.new) (S.to_come source.old) (S.to_come source.new)
+        (K.taken sink.old) (K.taken sink.new) left.new
+        (S.failed source.old + K.failed sink.old) (S.failed source.new + K.failed sink.new) }
     ensures turns { S.called source.new + K.called sink.new + left.new
         ≡ S.called source.old + K.called sink.old + left.old }
     ensures reads { S.called source.old ≤ S.called source.new }
     ensures writes { K.called sink.old ≤ K.called sink.new }
-    ensures fewer { left.new ≤ left.old }
+    ensures sound { OnOk result (S.failed source.new + K.failed sink.new
+        ≡ S.failed source.old + K.failed sink.old) }
 {
     let mut rest = bytes;
     while !rest.is_empty() {
-        let count = carry(sink, source, rest, room, left)?;
-        hear(client, &room[..count])?;
+        let most = rest.len().min(PIECE);
+        let count = match write_some(sink, &rest[..most], left) {
+            Ok(count) => count,
+            Err(halt) => return Err(halt),
+        };
+        if let Err(halt) = hear_so_many(source, hearing, count, left) {
+            return Err(halt);
+        }
         rest = &rest[count..];
+    }
+    Ok(())
+}
+
+/// Reads just so many bytes, and hands them to the client.
+fn hear_so_many<S: Source>(
+    source: &mut S,
+    hearing: &mut Client,
+    count: usize,
+    left: &mut u64,
+) -> Result<(), Halt>
+    requires { S.called source.old + left.old ≤ 2 ^ 64 - 1 }
+    ensures read { (read : List ℕ) × Appends (S.given source.old) (S.given source.new) read
+        × Consumes (S.to_come source.old) (S.to_come source.new) read
+        × OnOk result ((length read ≡ count) × Hears hearing.old hearing.new read)
+        × IfErr result (λ halt. IsCarryHalt halt left.new (S.to_come source.new)
+        (S.failed source.old) (S.failed source.new) (Balks hearing.old read)) }
+    ensures turns { S.called source.new + left.new ≡ S.called source.old + left.old }
+    ensures fewer { left.new ≤ left.old }
+    ensures sound { OnOk result (S.failed source.new ≡ S.failed source.old) }
+{
+    let mut piece = [0u8; PIECE];
+    let mut got = 0usize;
+    while got < count {
+        let most = (count - got).min(PIECE);
+        let some = match read_some(source, &mut piece[..most], left) {
+            Ok(some) => some,
+            Err(halt) => return Err(halt),
+        };
+        if let Err(halt) = hear(hearing, &piece[..some]) {
+            return Err(halt);
+        }
+        got += some;
     }
     Ok(())
 }

@@ -1,7 +1,18 @@
-use crate::carrying::{bring_back, carry};
+ghost use Rattle.std.specs.Prelude.{◌≡◌, ◌+◌, ◌-◌, ◌^◌, ◌≤◌, ℕ, List, [], flat_map, All, OnOk};
+ghost use Rattle.std.specs.Prelude.{IfOk, IfErr};
+ghost use Rattle.cue_replica.specs.Language.{opening};
+ghost use Rattle.cue_wire.specs.Clients.{request_frame, IsSendable};
+ghost use Rattle.cue_wire.specs.Sessions.{reading};
+ghost use Rattle.cue_net.specs.Halts.{IsMemory};
+ghost use Rattle.cue_net.specs.Inner.Looping.{Exchanged};
+ghost use Rattle.cue_net.specs.Loops.{IsAnswerBetween};
+ghost use Rattle.cue_net.specs.Talks.{Talk, IsTalk};
+
+use crate::carrying::{Serving, bring_back, serve_so_many};
 use crate::halt::Halt;
 use crate::pushing::{all_fit, client_of};
 use crate::told::told_by;
+use crate::turns::write_some;
 use crate::{MAX_TURNS, PIECE};
 use cue_answer::Answer;
 use cue_device::{Reader, Sink, Source, Writer};
@@ -61,106 +72,163 @@ where
     }
 }
 
-/// Does as `push_for` from the client's end, with a new site at the server's end, in so many turns,
-/// those of both ends together.
+/// Does as `push_for` from the near end, with a new site at the far end, in so many turns, those of
+/// both ends together.
 ///
 /// # Errors
 ///
 /// As `push_for`.
 pub fn converse<S: Source, K: Sink>(
     alloc: Global,
-    client: &mut End<S, K>,
-    server: &mut End<S, K>,
+    near: &mut End<S, K>,
+    far: &mut End<S, K>,
     inputs: &[Request],
     turns: u64,
-) -> Result<Answer, Halt> {
+) -> Result<Answer, Halt>
+    requires near { (S.called near.old.source + turns ≤ 2 ^ 64 - 1)
+        × (K.called near.old.sink + turns ≤ 2 ^ 64 - 1) }
+    requires far { (S.called far.old.source + turns ≤ 2 ^ 64 - 1)
+        × (K.called far.old.sink + turns ≤ 2 ^ 64 - 1) }
+    ensures answer { (here there : Talk)
+        × IsTalk here (S.given near.old.source) (S.given near.new.source)
+        (S.to_come near.old.source) (S.to_come near.new.source)
+        (K.taken near.old.sink) (K.taken near.new.sink)
+        × IsTalk there (S.given far.old.source) (S.given far.new.source)
+        (S.to_come far.old.source) (S.to_come far.new.source)
+        (K.taken far.old.sink) (K.taken far.new.sink)
+        × IsAnswerBetween result inputs.now here there
+        (S.to_come near.new.source) (S.to_come far.new.source)
+        (S.called near.old.source + K.called near.old.sink + S.called far.old.source
+        + K.called far.old.sink + turns)
+        (S.called near.new.source + K.called near.new.sink + S.called far.new.source
+        + K.called far.new.sink)
+        (S.failed near.old.source + K.failed near.old.sink + S.failed far.old.source
+        + K.failed far.old.sink)
+        (S.failed near.new.source + K.failed near.new.sink + S.failed far.new.source
+        + K.failed far.new.sink) }
+    ensures turns { S.called near.new.source + K.called near.new.sink
+        + S.called far.new.source + K.called far.new.sink
+        ≤ S.called near.old.source + K.called near.old.sink
+        + S.called far.old.source + K.called far.old.sink + turns }
+{
     if !all_fit(inputs) {
         return Err(Halt::Refused(Kind::FrameTooLong));
     }
-    let mut hearing = client_of(alloc, &[])?;
-    let mut served = served_by(alloc)?;
+    let mut hearing = match client_of(alloc, &[]) {
+        Ok(client) => client,
+        Err(halt) => return Err(halt),
+    };
+    let mut serving = match new_site(alloc) {
+        Ok(serving) => serving,
+        Err(halt) => return Err(halt),
+    };
     let mut left = turns;
-    exchange(
+    let told = exchange(
         alloc,
-        client,
-        server,
+        near,
+        far,
         inputs,
         &mut hearing,
-        &mut served,
+        &mut serving,
         &mut left,
-    )?;
+    );
+    if let Err(halt) = told {
+        return Err(halt);
+    }
     let question = [Request::AskExport];
-    exchange(
+    let asked = exchange(
         alloc,
-        client,
-        server,
+        near,
+        far,
         &question,
         &mut hearing,
-        &mut served,
+        &mut serving,
         &mut left,
-    )?;
+    );
+    if let Err(halt) = asked {
+        return Err(halt);
+    }
     told_by(alloc, hearing.replies(), inputs.len())
 }
 
-/// The serving end: a site and its session, and the replies to the last piece.
-#[derive(Drop)]
-struct Served {
-    site: Replica,
-    session: Session,
-    out: Vec<u8>,
-}
-
-/// A new site that was sent nothing.
-fn served_by(alloc: Global) -> Result<Served, Halt> {
-    Ok(Served {
+/// A new site, and a session that was sent nothing.
+fn new_site(alloc: Global) -> Result<Serving, Halt>
+    ensures site { IfOk result (λ serving. serving.site ≡ opening) }
+    ensures session { IfOk result (λ serving. serving.session ≡ reading []) }
+    ensures err { IfErr result IsMemory }
+{
+    let session = match Session::new(alloc) {
+        Ok(session) => session,
+        Err(memory) => return Err(Halt::from(memory)),
+    };
+    Ok(Serving {
         site: Replica::new(alloc),
-        session: Session::new(alloc)?,
+        session,
         out: Vec::new(alloc),
     })
 }
 
-/// Sends requests from the client's end, a piece at a time, each of which is served before the next
-/// is sent.
+/// Sends requests from the near end, some bytes at a time. The far end reads and serves these, and
+/// all its replies are read, before the next are sent.
 fn exchange<S: Source, K: Sink>(
     alloc: Global,
-    client: &mut End<S, K>,
-    server: &mut End<S, K>,
+    near: &mut End<S, K>,
+    far: &mut End<S, K>,
     requests: &[Request],
     hearing: &mut Client,
-    served: &mut Served,
+    serving: &mut Serving,
     left: &mut u64,
-) -> Result<(), Halt> {
-    let asking = client_of(alloc, requests)?;
-    let mut room = [0u8; PIECE];
+) -> Result<(), Halt>
+    requires fits { All IsSendable requests.now }
+    requires near { (S.called near.old.source + left.old ≤ 2 ^ 64 - 1)
+        × (K.called near.old.sink + left.old ≤ 2 ^ 64 - 1) }
+    requires far { (S.called far.old.source + left.old ≤ 2 ^ 64 - 1)
+        × (K.called far.old.sink + left.old ≤ 2 ^ 64 - 1) }
+    ensures exchanged { Exchanged result (flat_map request_frame requests.now) hearing.old
+        hearing.new serving.old.session serving.new.session serving.old.site serving.new.site
+        (S.given near.old.source) (S.given near.new.source)
+        (S.to_come near.old.source) (S.to_come near.new.source)
+        (K.taken near.old.sink) (K.taken near.new.sink)
+        (S.given far.old.source) (S.given far.new.source)
+        (S.to_come far.old.source) (S.to_come far.new.source)
+        (K.taken far.old.sink) (K.taken far.new.sink) left.new
+        (S.failed near.old.source + K.failed near.old.sink + S.failed far.old.source
+        + K.failed far.old.sink)
+        (S.failed near.new.source + K.failed near.new.sink + S.failed far.new.source
+        + K.failed far.new.sink) }
+    ensures turns { S.called near.new.source + K.called near.new.sink
+        + S.called far.new.source + K.called far.new.sink + left.new
+        ≡ S.called near.old.source + K.called near.old.sink
+        + S.called far.old.source + K.called far.old.sink + left.old }
+    ensures more { (S.called near.old.source ≤ S.called near.new.source)
+        × (K.called near.old.sink ≤ K.called near.new.sink)
+        × (S.called far.old.source ≤ S.called far.new.source)
+        × (K.called far.old.sink ≤ K.called far.new.sink) }
+    ensures sound { OnOk result (S.failed near.new.source + K.failed near.new.sink
+        + S.failed far.new.source + K.failed far.new.sink
+        ≡ S.failed near.old.source + K.failed near.old.sink
+        + S.failed far.old.source + K.failed far.old.sink) }
+{
+    let asking = match client_of(alloc, requests) {
+        Ok(client) => client,
+        Err(halt) => return Err(halt),
+    };
     let mut rest = asking.outgoing();
     while !rest.is_empty() {
-        let count = carry(
-            &mut client.sink,
-            &mut server.source,
-            rest,
-            &mut room,
-            left,
-        )?;
+        let most = rest.len().min(PIECE);
+        let count = match write_some(&mut near.sink, &rest[..most], left) {
+            Ok(count) => count,
+            Err(halt) => return Err(halt),
+        };
+        serving.out.clear();
+        if let Err(halt) = serve_so_many(&mut far.source, serving, count, left) {
+            return Err(halt);
+        }
+        let back = bring_back(&mut far.sink, &mut near.source, &serving.out, hearing, left);
+        if let Err(halt) = back {
+            return Err(halt);
+        }
         rest = &rest[count..];
-        serve_piece(served, &room[..count])?;
-        bring_back(
-            &mut server.sink,
-            &mut client.source,
-            &served.out,
-            hearing,
-            &mut room,
-            left,
-        )?;
     }
     Ok(())
-}
-
-/// Serves what is whole with this piece, and leaves the replies to be written.
-fn serve_piece(served: &mut Served, piece: &[u8]) -> Result<(), Halt> {
-    served.out.clear();
-    match served.session.feed(&mut served.site, piece, &mut served.out) {
-        Ok(()) => Ok(()),
-        Err(Kind::Memory) => Err(Halt::Refused(Kind::Memory)),
-        Err(_) => Err(Halt::Device),
-    }
 }

@@ -81,7 +81,15 @@ pub fn push<S: Source, K: Sink>(
     }
     let count = inputs.len() + 1;
     let question = [Request::AskExport];
-    let asked = ask(alloc, source, sink, &question, &mut hearing, count, &mut left);
+    let asked = ask(
+        alloc,
+        source,
+        sink,
+        &question,
+        &mut hearing,
+        count,
+        &mut left,
+    );
     if let Err(halt) = asked {
         return Err(halt);
     }

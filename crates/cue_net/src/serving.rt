@@ -1,11 +1,12 @@
-ghost use Rattle.std.specs.Prelude.{IfOk};
-ghost use Rattle.cue_net.specs.Printed.{IsPrintedExport};
+ghost use Rattle.std.specs.Prelude.{IfOk, IfErr};
+ghost use Rattle.cue_net.specs.Halts.{IsMemory, IsDeviceOrMemory};
+ghost use Rattle.cue_net.specs.Printed.{IsPrintedExport, IsServedExport, ServesSome};
 
 use crate::MAX_TURNS;
 use crate::halt::Halt;
 use cue_answer::{Answer, Question, answer_to, printed};
 use cue_device::{Reader, Writer};
-use cue_replica::{Kind, Replica};
+use cue_replica::{Kind, Memory, Replica};
 use cue_wire::serve;
 use std::alloc::Global;
 use std::net::{Ipv4Addr, Net, TcpListener, TcpStream};
@@ -18,7 +19,8 @@ use std::net::{Ipv4Addr, Net, TcpListener, TcpStream};
 pub fn serve_for<H>(rt: &H, port: u16, count: u16) -> Result<Answer, Halt>
 where
     H: AllocGlobal + Net<Listener = TcpListener, Stream = TcpStream>,
-    ensures { IfOk result IsPrintedExport }
+    ensures export { IfOk result IsServedExport }
+    ensures halt { IfErr result IsDeviceOrMemory }
 {
     let Ok(listener) = TcpListener::bind(rt, (Ipv4Addr::LOCALHOST, port)) else {
         return Err(Halt::Device);
@@ -35,28 +37,37 @@ where
 ///
 /// `Device` where it can't accept a connection, and `Memory`.
 pub fn serve_from(alloc: Global, listener: &TcpListener, count: u16) -> Result<Answer, Halt>
-    ensures { IfOk result IsPrintedExport }
+    ensures export { IfOk result IsServedExport }
+    ensures halt { IfErr result IsDeviceOrMemory }
 {
     let mut site = Replica::new(alloc);
     for _ in 0..count {
         let Ok((stream, _)) = listener.accept() else {
             return Err(Halt::Device);
         };
-        serve_one(alloc, &stream, &mut site)?;
+        if let Err(halt) = serve_one(alloc, &stream, &mut site) {
+            return Err(halt);
+        }
     }
-    exported(alloc, &site)
+    match exported(alloc, &site) {
+        Ok(answer) => Ok(answer),
+        Err(memory) => Err(Halt::from(memory)),
+    }
 }
 
 /// The export of a site, as it is printed.
-fn exported(alloc: Global, site: &Replica) -> Result<Answer, Halt>
-    ensures { IfOk result IsPrintedExport }
+fn exported(alloc: Global, site: &Replica) -> Result<Answer, Memory>
+    ensures { IfOk result (IsPrintedExport site.now) }
 {
     let told = answer_to(alloc, Question::Export, site)?;
-    Ok(printed(Question::Export, told)?)
+    printed(Question::Export, told)
 }
 
 /// Serves one connection to its end.
-fn serve_one(alloc: Global, stream: &TcpStream, site: &mut Replica) -> Result<(), Halt> {
+fn serve_one(alloc: Global, stream: &TcpStream, site: &mut Replica) -> Result<(), Halt>
+    ensures served { ServesSome site.old site.new }
+    ensures halt { IfErr result IsMemory }
+{
     let mut source = Reader::new(stream);
     let mut sink = Writer::new(stream);
     match serve(alloc, &mut source, &mut sink, site, MAX_TURNS) {

@@ -1,0 +1,68 @@
+-- What a session and a client make of pieces that are carried to them.
+use Rattle.std.proofs.Common.{◌≡◌, ◌⊎◌, ℕ, ◌+◌, ◌<◌, ◌≤◌, List, [], ◌∷◌, ◌++◌, length, refl, ap, sym, ◌∙◌, subst, arith, append_assoc, append-nil, inl, inr, ⊎_elim, Option, Result, Ok, Err}
+use Rattle.std.specs.Io.KnownBytes.{IsAtEnd}
+use Rattle.cue_replica.specs.Language.{Table}
+use Rattle.cue_wire.specs.Clients.{Exchange}
+use Rattle.cue_wire.specs.Frames.{AreFrames, IsUnfinished, HasFault}
+use Rattle.cue_wire.specs.Sessions.{Standing, reading, Served}
+use Rattle.cue_wire.proofs.Connections.{served_on}
+use Rattle.cue_wire.proofs.Exchanges as exchanges
+use Rattle.cue_wire.proofs.Streams.{served_none}
+use Rattle.cue_net.specs.declared.halt.Halt.{Halt}
+use Rattle.cue_net.specs.Halts.{IsDevice, IsMemory, IsTurnsUsed}
+use Rattle.cue_net.specs.Turns.{IsReadHalt, IsWriteHalt}
+use Rattle.cue_net.specs.Inner.Hearing.{Hears, Balks}
+use Rattle.cue_net.specs.Inner.Looping.{IsCarryHalt, ServesOnto, Faults}
+use Rattle.cue_net.proofs.Hearing.{balks_later}
+
+plain : (stream rest : List ℕ) (before after : Table) (old new : List ℕ) → (s : Served stream rest before after old new) → Served stream rest before after [] s.replies
+plain stream rest before after old new s = record { bodies = s.bodies; replies = s.replies; frames = s.frames; tables = s.tables; added = refl }
+
+served_onto : (read kept piece rest : List ℕ) (before between after : Table) (old mid new : List ℕ)
+    → Served read kept before between old mid → Served (kept ++ piece) rest between after mid new → Served (read ++ piece) rest before after old new
+served_onto read kept piece rest before between after old mid new one two =
+    let both = served_on read kept piece rest before between after one.replies two.replies
+    (plain read kept before between old mid one) (plain (kept ++ piece) rest between after mid new two) in
+    record {
+      bodies = both.bodies;
+      replies = both.replies;
+      frames = both.frames;
+      tables = both.tables;
+      added = two.added ∙ ap (λ zs. zs ++ two.replies) one.added ∙ append_assoc old one.replies two.replies ∙ ap (λ zs. old ++ zs) both.added;
+    }
+
+pub serves_nothing : (session : Standing) (table : Table) (out : List ℕ) → ServesOnto session session table table out out []
+serves_nothing session table out kept is unfinished =
+    (kept, is, unfinished, subst (λ s. Served s kept table table out out) (sym (append-nil kept)) (served_none kept table out))
+
+pub serves_more : (old mid new : Standing) (before between after : Table) (out out' out'' p q : List ℕ)
+    → ServesOnto old mid before between out out' p → ServesOnto mid new between after out' out'' q → ServesOnto old new before after out out'' (p ++ q)
+serves_more old mid new before between after out out' out'' p q one two kept is unfinished =
+    let a = one kept is unfinished in
+    let b = two a.0 a.1 a.2 in (
+      b.0,
+      b.1,
+      b.2,
+      subst (λ s. Served s b.0 before after out out'') (append_assoc kept p q)
+          (served_onto (kept ++ p) a.0 q b.0 before between after out out' out'' a.3 b.3),
+    )
+
+pub faults_later : (old mid : Standing) (before between : Table) (out out' p q : List ℕ)
+    → ServesOnto old mid before between out out' p → Faults mid q → Faults old (p ++ q)
+faults_later old mid before between out out' p q one two kept is unfinished =
+    let a = one kept is unfinished in
+    let f = two a.0 a.1 a.2 in
+    subst HasFault (append_assoc kept p q)
+    (a.3.bodies ++ f.0, f.1, exchanges.joined (kept ++ p) a.0 q f.1 a.3.bodies f.0 a.3.frames f.2, f.3)
+
+-- a read that has no bytes ends carrying
+pub reads_nothing : (halt : Halt) (left failed failed' failed'' : ℕ) (to_come : Option (List ℕ)) (Balk : Type 0)
+    → failed' ≡ failed → IsReadHalt halt left to_come failed' failed'' → IsCarryHalt halt left to_come failed failed'' Balk
+reads_nothing halt left failed failed' failed'' to_come Balk sound why =
+    ⊎_elim (λ used. inl (used.0, used.1)) (λ device. inr (inr (device.0, ⊎_elim (λ broke. inl (omega (arith, sound, broke))) (λ ended. inr (inl ended.0)) device.1))) why
+
+-- so does a piece that is not taken
+pub takes_nothing : (halt : Halt) (left failed failed' : ℕ) (to_come : Option (List ℕ)) (Balk Balk' : Type 0)
+    → (Balk → Balk') → IsMemory halt ⊎ (IsDevice halt × Balk) → IsCarryHalt halt left to_come failed failed' Balk'
+takes_nothing halt left failed failed' to_come Balk Balk' later why =
+    inr (⊎_elim inl (λ device. inr (device.0, inr (inr (later device.1)))) why)

@@ -1,0 +1,43 @@
+-- What passes between a client and a site, both of whose ends are here.
+use Rattle.std.specs.Prelude.{◌≡◌, ◌⊎◌, ◌<◌, ℕ, List, [], ◌++◌, length, All, Option, Result, Ok, Err}
+use Rattle.std.specs.Io.KnownBytes.{IsAtEnd}
+use Rattle.cue_answer.specs.declared.told.Answer.{Answer}
+use Rattle.cue_replica.specs.Language.{Table, opening}
+use Rattle.cue_wire.specs.declared.request.Request as requests
+use Rattle.cue_wire.specs.Clients.{IsSendable}
+use Rattle.cue_wire.specs.Frames.{HasFault}
+use Rattle.cue_wire.specs.Sessions.{Served}
+use Rattle.cue_net.specs.declared.halt.Halt.{Halt}
+use Rattle.cue_net.specs.Halts.{IsDevice, IsMemory, IsTurnsUsed, IsTooLong}
+use Rattle.cue_net.specs.Talks.{Talk, asking, AreReplies, AreNoReplies}
+use Rattle.cue_net.specs.Told.{AreTold}
+
+-- All frames that the site's end read were served by a new site, one after the other, and all their
+-- replies were written there. As many bytes were read at each end as were written at the other.
+pub record AreServed (near far : Talk) : Type 0 where
+  pub table : Table
+  pub rest : List ℕ
+  pub served : Served far.heard rest opening table [] far.sent
+  pub there : length far.heard ≡ length near.sent
+  pub back : length near.heard ≡ length far.sent
+
+-- Why the ends have no answer. Nothing is written where a frame can't hold an input. What an end
+-- reads may be none of what the other writes.
+abbrev pub IsBroken : Halt → List requests.Request → Talk → Talk → Option (List ℕ) → Option (List ℕ)
+    → ℕ → ℕ → ℕ → ℕ → Type 0
+IsBroken halt inputs near far near_to_come far_to_come allowed calls failed failed' =
+    (IsTooLong halt × (All IsSendable inputs → ⊥) × (near.sent ≡ []) × (far.heard ≡ []))
+    ⊎ (IsTurnsUsed halt × (calls ≡ allowed))
+    ⊎ IsMemory halt
+    ⊎ (IsDevice halt × ((failed < failed') ⊎ IsAtEnd near_to_come ⊎ IsAtEnd far_to_come
+    ⊎ AreNoReplies inputs near.heard ⊎ HasFault far.heard))
+
+-- What is answered: what the replies tell of which all were served; or why not.
+abbrev pub IsAnswerBetween : Result Answer Halt → List requests.Request → Talk → Talk
+    → Option (List ℕ) → Option (List ℕ) → ℕ → ℕ → ℕ → ℕ → Type 0
+IsAnswerBetween result inputs near far near_to_come far_to_come allowed calls failed failed' =
+    (AreServed near far × ((replies : List (List ℕ)) × (last : List ℕ)
+    × AreReplies inputs near replies last × AreTold replies last result))
+    ⊎ ((halt : Halt) × (unsent : List ℕ) × (result ≡ Err halt)
+    × (asking inputs ≡ near.sent ++ unsent)
+    × IsBroken halt inputs near far near_to_come far_to_come allowed calls failed failed')
