@@ -2,7 +2,7 @@
 use Rattle.std.specs.Prelude.{◌≡◌, ◌⊎◌, List, Result, Err}
 use Rattle.cue_net.specs.declared.halt.Halt.{Halt}
 use Rattle.cue_net.specs.declared.halt.Halt.TheVariants as halts
-use Rattle.cue_net.specs.Talks.{IsTalkAnswer}
+use Rattle.cue_net.specs.Sockets.{IsTalkAnswer}
 use Rattle.cue_wire.specs.declared.request.Request.{Request}
 use Rattle.cue_program.specs.declared.Answer.{Answer}
 use Rattle.cue_program.specs.declared.Stop.{Stop}
