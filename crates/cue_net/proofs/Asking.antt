@@ -11,13 +11,13 @@ use Rattle.cue_net.specs.Talks.{Talk, IsTalk}
 use Rattle.cue_net.specs.Inner.Hearing.{Hears, Balks, IsHearHalt, HearsAt, Heard, AllSent, Asked}
 use Rattle.cue_net.proofs.Hearing.{hears_nothing, hears_more, balks_later}
 
-pub no_talk : Talk
+abbrev pub no_talk : Talk
 no_talk = record { sent = []; heard = [] }
 
 pub talks_nothing : (given to_come taken : Option (List ℕ)) → IsTalk no_talk given given to_come to_come taken taken
 talks_nothing given to_come taken = record { gave = Appends-nil given; took = Consumes-nil to_come; wrote = Appends-nil taken }
 
-pub joined : Talk → Talk → Talk
+abbrev pub joined : Talk → Talk → Talk
 joined one two = record { sent = one.sent ++ two.sent; heard = one.heard ++ two.heard }
 
 pub talks_more : (one two : Talk) (given given' given'' to_come to_come' to_come'' taken taken' taken'' : Option (List ℕ))
@@ -141,3 +141,7 @@ asks_all result frames old new count given given' to_come to_come' taken taken' 
   all = all_sent result;
   ends = hears_at result old new heard.piece count left failed failed' failures failures' to_come' more heard.ends;
 }
+
+pub on_ok : {T E : Type 0} (r : Result T E) (P Q : Type 0) → (P → Q) → OnOk r P → OnOk r Q
+on_ok (Ok x) P Q f p = f p
+on_ok (Err e) P Q f p = tt

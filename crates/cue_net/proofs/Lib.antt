@@ -1,6 +1,8 @@
 pub mod Asking
+pub mod Findings
 pub mod Hearing
 pub mod Looping
-pub mod Serving
+pub mod Passages
+pub mod Pushes
 pub mod Sockets
 pub mod Talks

@@ -5,8 +5,7 @@ use Rattle.cue_replica.specs.Language.{Table}
 use Rattle.cue_wire.specs.Clients.{Exchange}
 use Rattle.cue_wire.specs.Frames.{AreFrames, IsUnfinished, HasFault}
 use Rattle.cue_wire.specs.Sessions.{Standing, reading, Served}
-use Rattle.cue_wire.proofs.Connections.{served_on}
-use Rattle.cue_wire.proofs.Exchanges as exchanges
+use Rattle.cue_wire.proofs.Readings.{are_readings}
 use Rattle.cue_wire.proofs.Streams.{served_none}
 use Rattle.cue_net.specs.declared.halt.Halt.{Halt}
 use Rattle.cue_net.specs.Halts.{IsDevice, IsMemory, IsTurnsUsed}
@@ -15,21 +14,15 @@ use Rattle.cue_net.specs.Inner.Hearing.{Hears, Balks}
 use Rattle.cue_net.specs.Inner.Looping.{IsCarryHalt, ServesOnto, Faults}
 use Rattle.cue_net.proofs.Hearing.{balks_later}
 
-plain : (stream rest : List ℕ) (before after : Table) (old new : List ℕ) → (s : Served stream rest before after old new) → Served stream rest before after [] s.replies
-plain stream rest before after old new s = record { bodies = s.bodies; replies = s.replies; frames = s.frames; tables = s.tables; added = refl }
-
 served_onto : (read kept piece rest : List ℕ) (before between after : Table) (old mid new : List ℕ)
     → Served read kept before between old mid → Served (kept ++ piece) rest between after mid new → Served (read ++ piece) rest before after old new
-served_onto read kept piece rest before between after old mid new one two =
-    let both = served_on read kept piece rest before between after one.replies two.replies
-    (plain read kept before between old mid one) (plain (kept ++ piece) rest between after mid new two) in
-    record {
-      bodies = both.bodies;
-      replies = both.replies;
-      frames = both.frames;
-      tables = both.tables;
-      added = two.added ∙ ap (λ zs. zs ++ two.replies) one.added ∙ append_assoc old one.replies two.replies ∙ ap (λ zs. old ++ zs) both.added;
-    }
+served_onto read kept piece rest before between after old mid new one two = record {
+  bodies = one.bodies ++ two.bodies;
+  replies = one.replies ++ two.replies;
+  frames = are_readings.pieces read piece one.bodies two.bodies kept rest one.frames two.frames;
+  tables = are_readings.served one.bodies two.bodies before between after one.replies two.replies one.tables two.tables;
+  added = two.added ∙ ap (λ zs. zs ++ two.replies) one.added ∙ append_assoc old one.replies two.replies;
+}
 
 pub serves_nothing : (session : Standing) (table : Table) (out : List ℕ) → ServesOnto session session table table out out []
 serves_nothing session table out kept is unfinished =
@@ -53,7 +46,7 @@ faults_later old mid before between out out' p q one two kept is unfinished =
     let a = one kept is unfinished in
     let f = two a.0 a.1 a.2 in
     subst HasFault (append_assoc kept p q)
-    (a.3.bodies ++ f.0, f.1, exchanges.joined (kept ++ p) a.0 q f.1 a.3.bodies f.0 a.3.frames f.2, f.3)
+    (a.3.bodies ++ f.0, f.1, are_readings.pieces (kept ++ p) q a.3.bodies f.0 a.0 f.1 a.3.frames f.2, f.3)
 
 -- a read that has no bytes ends carrying
 pub reads_nothing : (halt : Halt) (left failed failed' failed'' : ℕ) (to_come : Option (List ℕ)) (Balk : Type 0)

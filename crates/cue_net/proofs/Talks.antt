@@ -27,7 +27,7 @@ cut halt inputs old new count given given' to_come to_come' taken taken' left fa
       device.0,
       ⊎_elim inl (λ rest. inr (⊎_elim (λ ended.
           let all = ended.1 [] new_taken in
-          inl (ended.0, new.replies, new.rest, all.frames, all.unfinished, omega (arith, fewer, ended.2)))
+          inl (ended.0, (new.replies, new.rest, all.frames, all.unfinished, omega (arith, fewer, ended.2))))
           (λ balks. inr (inl (balks [] new_taken))) rest)) device.1,
     )) others))) asked.ends in
     (asked.talk, asked.passes, inr (halt, asked.unsent, refl, asked.front, why))
@@ -75,8 +75,8 @@ answered u result inputs old new vectors given given' to_come to_come' taken tak
 -- an input that no frame can hold
 pub too_long : (inputs : List requests.Request) (given to_come taken : Option (List ℕ)) (failed allowed calls : ℕ) → (All IsSendable inputs → ⊥)
     → (talk : Talk) × IsTalk talk given given to_come to_come taken taken × IsAnswerOf (Err (halts.Refused kinds.FrameTooLong)) inputs talk to_come allowed calls failed failed
-too_long inputs given to_come taken failed allowed calls no =
-    (no_talk, talks_nothing given to_come taken, inr (halts.Refused kinds.FrameTooLong, asking inputs, refl, refl, inl (refl, no, refl, refl)))
+too_long inputs given to_come taken failed allowed calls unfit =
+    (no_talk, talks_nothing given to_come taken, inr (halts.Refused kinds.FrameTooLong, asking inputs, refl, refl, inl (refl, unfit, refl, refl)))
 
 -- a client that cannot be made
 pub no_client : (halt : Halt) (inputs : List requests.Request) (given to_come taken : Option (List ℕ)) (failed allowed calls : ℕ)

@@ -29,6 +29,12 @@ abbrev pub IsFound : List (List ℕ) → Option (Refusal × ℕ) → Type 0
 IsFound replies None = AllAccept replies
 IsFound replies (Some found) = IsFirstRefusal replies found.0 found.1
 
+-- the first of what was found before and what is found at this number
+abbrev pub first_of : Option (Refusal × ℕ) → Option Refusal → ℕ → Option (Refusal × ℕ)
+first_of (Some first) found number = Some first
+first_of None (Some why) number = Some (why, number)
+first_of None None number = None
+
 -- the answer is that of this status and text, as it is printed
 abbrev pub IsPrinted : Answer → Status → List ℕ → Type 0
 IsPrinted answer status text = Says answer (text ++ line_end questions.Export status) status

@@ -42,12 +42,14 @@ pub fn serve_so_many<S: Source>(
     let mut got = 0usize;
     while got < count {
         let most = (count - got).min(PIECE);
-        let some = match read_some(source, &mut piece[..most], left) {
+        let room = &mut piece[..most];
+        let some = match read_some(source, room, left) {
             Ok(some) => some,
             Err(halt) => return Err(halt),
         };
-        if let Err(halt) = serve_piece(serving, &piece[..some]) {
-            return Err(halt);
+        match serve_piece(serving, &room[..some]) {
+            Ok(()) => {}
+            Err(halt) => return Err(halt),
         }
         got += some;
     }
@@ -100,8 +102,9 @@ pub fn bring_back<S: Source, K: Sink>(
             Ok(count) => count,
             Err(halt) => return Err(halt),
         };
-        if let Err(halt) = hear_so_many(source, hearing, count, left) {
-            return Err(halt);
+        match hear_so_many(source, hearing, count, left) {
+            Ok(()) => {}
+            Err(halt) => return Err(halt),
         }
         rest = &rest[count..];
     }
@@ -129,12 +132,14 @@ fn hear_so_many<S: Source>(
     let mut got = 0usize;
     while got < count {
         let most = (count - got).min(PIECE);
-        let some = match read_some(source, &mut piece[..most], left) {
+        let room = &mut piece[..most];
+        let some = match read_some(source, room, left) {
             Ok(some) => some,
             Err(halt) => return Err(halt),
         };
-        if let Err(halt) = hear(hearing, &piece[..some]) {
-            return Err(halt);
+        match hear(hearing, &room[..some]) {
+            Ok(()) => {}
+            Err(halt) => return Err(halt),
         }
         got += some;
     }

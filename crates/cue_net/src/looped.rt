@@ -138,8 +138,9 @@ pub fn converse<S: Source, K: Sink>(
         &mut serving,
         &mut left,
     );
-    if let Err(halt) = told {
-        return Err(halt);
+    match told {
+        Ok(()) => {}
+        Err(halt) => return Err(halt),
     }
     let question = [Request::AskExport];
     let asked = exchange(
@@ -151,8 +152,9 @@ pub fn converse<S: Source, K: Sink>(
         &mut serving,
         &mut left,
     );
-    if let Err(halt) = asked {
-        return Err(halt);
+    match asked {
+        Ok(()) => {}
+        Err(halt) => return Err(halt),
     }
     told_by(alloc, hearing.replies(), inputs.len())
 }
@@ -227,12 +229,14 @@ fn exchange<S: Source, K: Sink>(
             Err(halt) => return Err(halt),
         };
         serving.out.clear();
-        if let Err(halt) = serve_so_many(&mut far.source, serving, count, left) {
-            return Err(halt);
+        match serve_so_many(&mut far.source, serving, count, left) {
+            Ok(()) => {}
+            Err(halt) => return Err(halt),
         }
         let back = bring_back(&mut far.sink, &mut near.source, &serving.out, hearing, left);
-        if let Err(halt) = back {
-            return Err(halt);
+        match back {
+            Ok(()) => {}
+            Err(halt) => return Err(halt),
         }
         rest = &rest[count..];
     }

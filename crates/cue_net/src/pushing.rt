@@ -77,13 +77,13 @@ pub fn push<S: Source, K: Sink>(
         Err(halt) => return Err(halt),
     };
     let mut left = turns;
-    let pushed = push_inputs(alloc, source, sink, inputs, &mut hearing, &mut left);
-    if let Err(halt) = pushed {
-        return Err(halt);
+    match push_inputs(alloc, source, sink, inputs, &mut hearing, &mut left) {
+        Ok(()) => {}
+        Err(halt) => return Err(halt),
     }
     let count = inputs.len() + 1;
     let question = [Request::AskExport];
-    let asked = ask(
+    match ask(
         alloc,
         source,
         sink,
@@ -91,9 +91,9 @@ pub fn push<S: Source, K: Sink>(
         &mut hearing,
         count,
         &mut left,
-    );
-    if let Err(halt) = asked {
-        return Err(halt);
+    ) {
+        Ok(()) => {}
+        Err(halt) => return Err(halt),
     }
     told_by(alloc, hearing.replies(), inputs.len())
 }
@@ -125,12 +125,14 @@ fn push_inputs<S: Source, K: Sink>(
     let mut asked = 0usize;
     let mut rest = inputs;
     while !rest.is_empty() {
-        let (group, behind) = rest.split_at(rest.len().min(GROUP));
-        asked += group.len();
-        if let Err(halt) = ask(alloc, source, sink, group, hearing, asked, left) {
-            return Err(halt);
+        let most = rest.len().min(GROUP);
+        let group = &rest[..most];
+        asked += most;
+        match ask(alloc, source, sink, group, hearing, asked, left) {
+            Ok(()) => {}
+            Err(halt) => return Err(halt),
         }
-        rest = behind;
+        rest = &rest[most..];
     }
     Ok(())
 }
@@ -187,8 +189,9 @@ fn ask<S: Source, K: Sink>(
         Ok(client) => client,
         Err(halt) => return Err(halt),
     };
-    if let Err(halt) = send(sink, asking.outgoing(), left) {
-        return Err(halt);
+    match send(sink, asking.outgoing(), left) {
+        Ok(()) => {}
+        Err(halt) => return Err(halt),
     }
     receive(source, hearing, count, left)
 }
@@ -249,8 +252,9 @@ fn receive<S: Source>(
             Ok(got) => got,
             Err(halt) => return Err(halt),
         };
-        if let Err(halt) = hear(hearing, &piece[..got]) {
-            return Err(halt);
+        match hear(hearing, &piece[..got]) {
+            Ok(()) => {}
+            Err(halt) => return Err(halt),
         }
     }
     Ok(())

@@ -45,8 +45,9 @@ pub fn serve_from(alloc: Global, listener: &TcpListener, count: u16) -> Result<A
         let Ok((stream, _)) = listener.accept() else {
             return Err(Halt::Device);
         };
-        if let Err(halt) = serve_one(alloc, &stream, &mut site) {
-            return Err(halt);
+        match serve_one(alloc, &stream, &mut site) {
+            Ok(()) => {}
+            Err(halt) => return Err(halt),
         }
     }
     match exported(alloc, &site) {

@@ -3,7 +3,7 @@ ghost use Rattle.std.specs.Prelude.{Any, length};
 ghost use Rattle.cue_answer.specs.Answers.{code_of};
 ghost use Rattle.cue_wire.specs.Clients.{all_items};
 ghost use Rattle.cue_net.specs.Replies.{IsNoInputReply};
-ghost use Rattle.cue_net.specs.Told.{AreTold, IsFound, IsPrinted};
+ghost use Rattle.cue_net.specs.Told.{AreTold, IsFound, IsPrinted, first_of};
 
 use crate::halt::Halt;
 use crate::reply::{Export, export_in, refusal_in};
@@ -77,11 +77,26 @@ fn first_refusal(replies: &[Vec<u8>]) -> Result<Option<(Refusal, usize)>, Fault>
     let mut number = 0usize;
     for reply in replies {
         number += 1;
-        match refusal_in(reply) {
-            Ok(Some(why)) if first.is_none() => first = Some((why, number)),
-            Ok(_) => {}
+        let found = match refusal_in(reply) {
+            Ok(found) => found,
             Err(Fault) => return Err(Fault),
-        }
+        };
+        first = first_of(first, found, number);
     }
     Ok(first)
+}
+
+/// The first of what was found before and what is found at this number.
+fn first_of(
+    first: Option<(Refusal, usize)>,
+    found: Option<Refusal>,
+    number: usize,
+) -> Option<(Refusal, usize)>
+    ensures { result ≡ first_of first found number }
+{
+    match (first, found) {
+        (Some(first), _) => Some(first),
+        (None, Some(why)) => Some((why, number)),
+        (None, None) => None,
+    }
 }

@@ -4,8 +4,8 @@ use Rattle.cue_net.specs.Inner.Hearing.{Hears}
 use Rattle.cue_net.proofs.pushing.receive.Given as goal
 
 -- what was heard so far
-abbrev pub invariant-loop : goal.invariant-loop
-invariant-loop g l = record {
+abbrev pub invariant-loop-piece : goal.invariant-loop-piece
+invariant-loop-piece g l = record {
   heard : (piece : List ℕ) × Appends (g.S.Source.given l.fn.source) (g.S.Source.given l.source) piece
       × Consumes (g.S.Source.to_come l.fn.source) (g.S.Source.to_come l.source) piece × Hears l.fn.hearing l.hearing piece;
   turns : g.S.Source.called l.source + l.left ≡ g.S.Source.called l.fn.source + l.fn.left;
@@ -14,5 +14,5 @@ invariant-loop g l = record {
   room : length l.piece ≡ 4096;
 }
 
-abbrev pub decreases-loop : goal.decreases-loop
-decreases-loop g l = l.left
+abbrev pub decreases-loop-piece : goal.decreases-loop-piece
+decreases-loop-piece g l = l.left

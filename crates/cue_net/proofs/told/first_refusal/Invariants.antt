@@ -6,6 +6,6 @@ use Rattle.cue_net.proofs.told.first_refusal.Given as goal
 -- the first refusal among the replies so far
 abbrev pub invariant-loop-reply : goal.invariant-loop-reply
 invariant-loop-reply l = record {
-  found : IsFound (take l.reply-index (all_items l.replies)) l.first;
+  found : IsFound (all_items (take l.reply-index l.replies)) l.first;
   counted : l.number ≡ l.reply-index;
 }

@@ -5,7 +5,7 @@ use Rattle.cue_replica.specs.Language.{Table}
 use Rattle.cue_wire.specs.Connections.{Passage}
 use Rattle.cue_wire.specs.Frames.{IsBody}
 use Rattle.cue_wire.specs.Serving.{ServesAll}
-use Rattle.cue_wire.proofs.Connections.{serves_all}
+use Rattle.cue_wire.proofs.Readings.{are_readings}
 use Rattle.cue_net.specs.Printed.{ServesSome}
 
 pub serves_none : (table : Table) → ServesSome table table
@@ -17,7 +17,7 @@ serves_on before between after one two = (
   one.0 ++ two.0,
   one.1 ++ two.1,
   All-append IsBody one.0 two.0 one.2 two.2,
-  serves_all one.0 two.0 before between after one.1 two.1 one.3 two.3,
+  are_readings.served one.0 two.0 before between after one.1 two.1 one.3 two.3,
 )
 
 -- what a connection served

@@ -1,0 +1,21 @@
+use Rattle.std.proofs.Common.{◌≡◌, ◌+◌, ◌-◌, ◌≤◌, ℕ, List, length}
+use Rattle.std.specs.Io.KnownBytes.{Appends, Consumes}
+use Rattle.cue_net.specs.Inner.Looping.{ServesOnto}
+use Rattle.cue_net.proofs.carrying.serve_so_many.Given as goal
+
+-- what was read and served so far
+abbrev pub invariant-loop-got : goal.invariant-loop-got
+invariant-loop-got g l = record {
+  served : (read : List ℕ) × Appends (g.S.Source.given l.fn.source) (g.S.Source.given l.source) read
+      × Consumes (g.S.Source.to_come l.fn.source) (g.S.Source.to_come l.source) read
+      × (length read ≡ l.got)
+      × ServesOnto l.fn.serving.session l.serving.session l.fn.serving.site l.serving.site l.fn.serving.out.items l.serving.out.items read;
+  within : l.got ≤ l.count;
+  turns : g.S.Source.called l.source + l.left ≡ g.S.Source.called l.fn.source + l.fn.left;
+  fewer : l.left ≤ l.fn.left;
+  sound : g.S.Source.failed l.source ≡ g.S.Source.failed l.fn.source;
+  room : length l.piece ≡ 4096;
+}
+
+abbrev pub decreases-loop-got : goal.decreases-loop-got
+decreases-loop-got g l = l.count - l.got
