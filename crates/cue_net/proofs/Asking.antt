@@ -1,14 +1,13 @@
 -- Asking for one thing after the other.
-use Rattle.std.proofs.Common.{◌≡◌, ◌⊎◌, ℕ, ◌+◌, ◌<◌, ◌≤◌, List, [], ◌∷◌, ◌++◌, length, refl, ap, sym, ◌∙◌, subst, arith, append_assoc, append-nil, inl, inr, ⊎_elim, Option, Result, Ok, Err, OnOk, flat_map}
+use Rattle.std.proofs.Common.{◌≡◌, ℕ, ◌<◌, ◌≤◌, List, [], ◌++◌, refl, ap, sym, ◌∙◌, arith, append_assoc, append-nil, inl, inr, ⊎_elim, Option, Result, Ok, Err, OnOk}
 use Rattle.std.proofs.KnownBytes.{Appends-nil, Appends-trans, Consumes-nil, Consumes-trans}
-use Rattle.std.specs.Io.KnownBytes.{Appends, Consumes, IsAtEnd}
-use Rattle.cue_wire.specs.Clients.{Exchange, HasTaken, request_frame}
-use Rattle.cue_wire.specs.declared.request.Request as requests
+use Rattle.std.specs.Io.KnownBytes.{Appends}
+use Rattle.cue_wire.specs.Clients.{Exchange}
 use Rattle.cue_net.specs.declared.halt.Halt.{Halt}
-use Rattle.cue_net.specs.Halts.{IsDevice, IsMemory, IsTurnsUsed}
+use Rattle.cue_net.specs.Halts.{IsMemory}
 use Rattle.cue_net.specs.Turns.{IsWriteHalt}
 use Rattle.cue_net.specs.Talks.{Talk, IsTalk}
-use Rattle.cue_net.specs.Inner.Hearing.{Hears, Balks, IsHearHalt, HearsAt, Heard, AllSent, Asked}
+use Rattle.cue_net.specs.Inner.Hearing.{Hears, IsHearHalt, HearsAt, Heard, AllSent, Asked}
 use Rattle.cue_net.proofs.Hearing.{hears_nothing, hears_more, balks_later}
 
 abbrev pub no_talk : Talk

@@ -1,5 +1,5 @@
 -- The first refusal among replies that grow by one.
-use Rattle.std.proofs.Common.{◌≡◌, ◌≢◌, ◌⊎◌, ℕ, ◌+◌, List, [], ◌∷◌, ◌++◌, length, All, refl, ap, sym, ◌∙◌, subst, append_assoc, inl, Option, Some, None, Result, Vec, Global, IsErrOf}
+use Rattle.std.proofs.Common.{◌≡◌, ◌≢◌, ◌⊎◌, ℕ, ◌+◌, List, [], ◌∷◌, ◌++◌, length, ap, sym, ◌∙◌, append_assoc, inl, Option, Some, None, Result, Vec, Global, IsErrOf}
 use Rattle.std.proofs.lemmas.List.{map-append, length-map}
 use Rattle.std.proofs.lemmas.List.Elements.{All-push}
 use Rattle.cue_lattice.specs.declared.refusal.Refusal.{Refusal}
@@ -8,7 +8,7 @@ use Rattle.cue_wire.specs.Clients.{all_items}
 use Rattle.cue_net.specs.declared.halt.Halt.{Halt}
 use Rattle.cue_net.specs.declared.halt.Halt.TheVariants as halts
 use Rattle.cue_net.specs.Replies.{acceptance, refusal, SaysOfInput}
-use Rattle.cue_net.specs.Told.{AreTold, IsFound, IsFirstRefusal, first_of}
+use Rattle.cue_net.specs.Told.{AreTold, IsFound, first_of}
 
 pub found_more : (replies : List (List ℕ)) (reply : List ℕ) (first : Option (Refusal × ℕ)) (found : Option Refusal) (number : ℕ)
     → IsFound replies first → SaysOfInput reply found → number ≡ length replies + 1 → IsFound (replies ++ reply ∷ []) (first_of first found number)

@@ -1,15 +1,12 @@
 -- What a client hears piece by piece, and what asking adds to a talk.
-use Rattle.std.proofs.Common.{◌≡◌, ◌⊎◌, ℕ, ◌+◌, ◌<◌, ◌≤◌, List, [], ◌∷◌, ◌++◌, length, map, refl, ap, sym, ◌∙◌, subst, arith, append_assoc, append-nil, inl, inr, ⊎_elim, Option, Result, Ok, Err, Vec, Global}
+use Rattle.std.proofs.Common.{◌≡◌, ◌⊎◌, ℕ, ◌<◌, List, [], ◌++◌, length, ap, sym, ◌∙◌, subst, arith, append_assoc, append-nil, inl, inr, ⊎_elim, Option, Vec, Global}
 use Rattle.std.proofs.lemmas.List.{length-map}
-use Rattle.std.proofs.KnownBytes.{Appends-nil, Appends-trans, Appends-kept, Consumes-nil, Consumes-trans, Consumes-kept}
-use Rattle.std.specs.Io.KnownBytes.{Appends, Consumes, Keeps, IsAtEnd}
 use Rattle.cue_wire.specs.Clients.{Exchange, HasTaken, all_items}
 use Rattle.cue_wire.specs.Frames.{HasFault}
 use Rattle.cue_net.specs.declared.halt.Halt.{Halt}
-use Rattle.cue_net.specs.Halts.{IsDevice, IsMemory, IsTurnsUsed}
-use Rattle.cue_net.specs.Turns.{IsReadHalt, IsWriteHalt}
-use Rattle.cue_net.specs.Talks.{Talk, IsTalk}
-use Rattle.cue_net.specs.Inner.Hearing.{Hears, Balks, IsHearHalt, HearsAt, Heard, AllSent, Asked}
+use Rattle.cue_net.specs.Halts.{IsDevice, IsMemory}
+use Rattle.cue_net.specs.Turns.{IsReadHalt}
+use Rattle.cue_net.specs.Inner.Hearing.{Hears, Balks, IsHearHalt}
 
 pub hears_nothing : (old : Exchange) → Hears old old []
 hears_nothing old stream taken = subst (HasTaken old) (sym (append-nil stream)) taken

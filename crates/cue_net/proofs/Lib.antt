@@ -1,8 +1,11 @@
 pub mod Asking
+pub mod Bringing
+pub mod Exchanging
 pub mod Findings
 pub mod Hearing
 pub mod Looping
 pub mod Passages
 pub mod Pushes
+pub mod Rounds
 pub mod Sockets
 pub mod Talks

@@ -1,18 +1,14 @@
 -- What a session and a client make of pieces that are carried to them.
-use Rattle.std.proofs.Common.{◌≡◌, ◌⊎◌, ℕ, ◌+◌, ◌<◌, ◌≤◌, List, [], ◌∷◌, ◌++◌, length, refl, ap, sym, ◌∙◌, subst, arith, append_assoc, append-nil, inl, inr, ⊎_elim, Option, Result, Ok, Err}
-use Rattle.std.specs.Io.KnownBytes.{IsAtEnd}
+use Rattle.std.proofs.Common.{◌≡◌, ◌⊎◌, ℕ, List, [], ◌++◌, ap, sym, ◌∙◌, subst, arith, append_assoc, append-nil, inl, inr, ⊎_elim, Option}
 use Rattle.cue_replica.specs.Language.{Table}
-use Rattle.cue_wire.specs.Clients.{Exchange}
-use Rattle.cue_wire.specs.Frames.{AreFrames, IsUnfinished, HasFault}
-use Rattle.cue_wire.specs.Sessions.{Standing, reading, Served}
+use Rattle.cue_wire.specs.Frames.{HasFault}
+use Rattle.cue_wire.specs.Sessions.{Standing, Served}
 use Rattle.cue_wire.proofs.Readings.{are_readings}
 use Rattle.cue_wire.proofs.Streams.{served_none}
 use Rattle.cue_net.specs.declared.halt.Halt.{Halt}
-use Rattle.cue_net.specs.Halts.{IsDevice, IsMemory, IsTurnsUsed}
-use Rattle.cue_net.specs.Turns.{IsReadHalt, IsWriteHalt}
-use Rattle.cue_net.specs.Inner.Hearing.{Hears, Balks}
+use Rattle.cue_net.specs.Halts.{IsDevice, IsMemory}
+use Rattle.cue_net.specs.Turns.{IsReadHalt}
 use Rattle.cue_net.specs.Inner.Looping.{IsCarryHalt, ServesOnto, Faults}
-use Rattle.cue_net.proofs.Hearing.{balks_later}
 
 served_onto : (read kept piece rest : List ℕ) (before between after : Table) (old mid new : List ℕ)
     → Served read kept before between old mid → Served (kept ++ piece) rest between after mid new → Served (read ++ piece) rest before after old new

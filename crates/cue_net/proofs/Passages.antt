@@ -1,5 +1,5 @@
 -- Frames that are served behind others.
-use Rattle.std.proofs.Common.{◌≡◌, List, [], ◌++◌, All, refl}
+use Rattle.std.proofs.Common.{[], ◌++◌, refl}
 use Rattle.std.proofs.lemmas.List.Elements.{All-nil, All-append}
 use Rattle.cue_replica.specs.Language.{Table}
 use Rattle.cue_wire.specs.Connections.{Passage}

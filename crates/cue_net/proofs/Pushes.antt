@@ -1,5 +1,5 @@
 -- Inputs that are pushed a group at a time.
-use Rattle.std.proofs.Common.{◌≡◌, ℕ, ◌+◌, ◌-◌, ◌<◌, ◌≤◌, List, [], ◌∷◌, ◌++◌, length, take, drop, refl, ap, sym, ◌∙◌, subst, arith, append_assoc, append-nil, Option, Result, Ok, Err, flat_map, All, length-append, length-drop, take-append-drop}
+use Rattle.std.proofs.Common.{◌≡◌, ℕ, ◌+◌, ◌-◌, ◌≤◌, List, [], ◌∷◌, ◌++◌, length, take, drop, ap, sym, ◌∙◌, subst, arith, append_assoc, append-nil, Option, Result, Ok, Err, flat_map, All, length-append, length-drop, take-append-drop}
 use Rattle.std.proofs.lemmas.List.{take_all, length-take-le}
 use Rattle.std.proofs.lemmas.List.Concat.{flat_map-append}
 use Rattle.std.proofs.lemmas.List.Elements.{All-take, All-drop}
@@ -12,7 +12,7 @@ use Rattle.cue_net.specs.Talks.{Talk, IsTalk, asking, IsAnswerOf}
 use Rattle.cue_net.proofs.Asking.{asks_more, asks_part}
 use Rattle.cue_net.proofs.Talks.{cut}
 
-abbrev frames : List requests.Request → List ℕ
+abbrev pub frames : List requests.Request → List ℕ
 frames requests = flat_map request_frame requests
 
 -- the front of what was left joins what was before it
@@ -78,7 +78,7 @@ fits_behind rest n fits = All-take IsSendable (length rest - n) (drop n rest) (A
 abbrev pub question : List requests.Request
 question = asked_of.AskExport ∷ []
 
-asks_both : (inputs : List requests.Request) → frames inputs ++ frames question ≡ asking inputs
+pub asks_both : (inputs : List requests.Request) → frames inputs ++ frames question ≡ asking inputs
 asks_both inputs = ap (λ zs. frames inputs ++ zs) (append-nil (request_frame asked_of.AskExport))
 
 -- the inputs are not all pushed

@@ -1,18 +1,17 @@
 -- What is answered of a talk.
-use Rattle.std.proofs.Common.{◌≡◌, ◌≢◌, ◌⊎◌, ℕ, ◌+◌, ◌<◌, ◌≤◌, List, [], ◌∷◌, ◌++◌, length, All, refl, ap, sym, ◌∙◌, subst, arith, append-nil, inl, inr, ⊎_elim, Option, Result, Ok, Err, IsErrOf, Vec, Global, flat_map}
+use Rattle.std.proofs.Common.{◌≡◌, ◌≢◌, ◌⊎◌, ℕ, ◌+◌, ◌≤◌, List, [], ◌∷◌, ◌++◌, length, All, refl, ap, sym, ◌∙◌, subst, arith, append-nil, inl, inr, ⊎_elim, Option, Result, Ok, Err, IsErrOf, Vec, Global}
 use Rattle.std.proofs.lemmas.List.Elements.{All-nil}
-use Rattle.std.specs.Io.KnownBytes.{Appends, Consumes, IsAtEnd}
 use Rattle.cue_answer.specs.declared.told.Answer.{Answer}
-use Rattle.cue_wire.specs.Clients.{Exchange, HasTaken, all_items, request_frame, IsSendable}
+use Rattle.cue_wire.specs.Clients.{Exchange, HasTaken, all_items, IsSendable}
 use Rattle.cue_wire.specs.Frames.{AreFrames}
 use Rattle.cue_wire.specs.declared.request.Request as requests
 use Rattle.cue_lattice.specs.declared.refusal.Kind.TheVariants as kinds
 use Rattle.cue_net.specs.declared.halt.Halt.{Halt}
 use Rattle.cue_net.specs.declared.halt.Halt.TheVariants as halts
-use Rattle.cue_net.specs.Halts.{IsDevice, IsMemory, IsTurnsUsed, IsTooLong}
-use Rattle.cue_net.specs.Talks.{Talk, IsTalk, asking, AreReplies, IsCut, IsAnswerOf}
+use Rattle.cue_net.specs.Halts.{IsMemory, IsTooLong}
+use Rattle.cue_net.specs.Talks.{Talk, IsTalk, asking, IsCut, IsAnswerOf}
 use Rattle.cue_net.specs.Told.{AreTold}
-use Rattle.cue_net.specs.Inner.Hearing.{Hears, Balks, HearsAt, Asked}
+use Rattle.cue_net.specs.Inner.Hearing.{Asked}
 use Rattle.cue_net.proofs.Asking.{no_talk, talks_nothing}
 use Rattle.cue_net.proofs.Hearing.{long_as}
 

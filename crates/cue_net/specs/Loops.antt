@@ -1,15 +1,15 @@
 -- What passes between a client and a site, both of whose ends are here.
-use Rattle.std.specs.Prelude.{◌≡◌, ◌⊎◌, ◌<◌, ℕ, List, [], ◌++◌, length, All, Option, Result, Ok, Err}
+use Rattle.std.specs.Prelude.{◌≡◌, ◌≢◌, ◌⊎◌, ◌<◌, ℕ, ◌+◌, List, [], ◌++◌, length, All, Option, Result, Err}
 use Rattle.std.specs.Io.KnownBytes.{IsAtEnd}
 use Rattle.cue_answer.specs.declared.told.Answer.{Answer}
 use Rattle.cue_replica.specs.Language.{Table, opening}
 use Rattle.cue_wire.specs.declared.request.Request as requests
 use Rattle.cue_wire.specs.Clients.{IsSendable}
-use Rattle.cue_wire.specs.Frames.{HasFault}
+use Rattle.cue_wire.specs.Frames.{AreFrames, HasFault}
 use Rattle.cue_wire.specs.Sessions.{Served}
 use Rattle.cue_net.specs.declared.halt.Halt.{Halt}
 use Rattle.cue_net.specs.Halts.{IsDevice, IsMemory, IsTurnsUsed, IsTooLong}
-use Rattle.cue_net.specs.Talks.{Talk, asking, AreReplies, AreNoReplies}
+use Rattle.cue_net.specs.Talks.{Talk, asking, AreReplies}
 use Rattle.cue_net.specs.Told.{AreTold}
 
 -- All frames that the site's end read were served by a new site, one after the other, and all their
@@ -21,6 +21,12 @@ pub record AreServed (near far : Talk) : Type 0 where
   pub there : length far.heard ≡ length near.sent
   pub back : length near.heard ≡ length far.sent
 
+-- What was heard is not just one reply to each input and one to the question.
+abbrev pub AreOtherReplies : List requests.Request → List ℕ → Type 0
+AreOtherReplies inputs heard =
+    (replies : List (List ℕ)) × (rest : List ℕ) × AreFrames heard replies rest
+    × (length replies ≢ length inputs + 1)
+
 -- Why the ends have no answer. Nothing is written where a frame can't hold an input. What an end
 -- reads may be none of what the other writes.
 abbrev pub IsBroken : Halt → List requests.Request → Talk → Talk → Option (List ℕ) → Option (List ℕ)
@@ -30,7 +36,7 @@ IsBroken halt inputs near far near_to_come far_to_come allowed calls failed fail
     ⊎ (IsTurnsUsed halt × (calls ≡ allowed))
     ⊎ IsMemory halt
     ⊎ (IsDevice halt × ((failed < failed') ⊎ IsAtEnd near_to_come ⊎ IsAtEnd far_to_come
-    ⊎ AreNoReplies inputs near.heard ⊎ HasFault far.heard))
+    ⊎ HasFault near.heard ⊎ HasFault far.heard ⊎ AreOtherReplies inputs near.heard))
 
 -- What is answered: what the replies tell of which all were served; or why not.
 abbrev pub IsAnswerBetween : Result Answer Halt → List requests.Request → Talk → Talk

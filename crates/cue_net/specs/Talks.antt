@@ -1,6 +1,6 @@
 -- What passes on a connection between a client and a site.
 use Rattle.std.specs.Prelude.{◌≡◌, ◌⊎◌, ◌<◌, ◌≤◌, ℕ, ◌+◌, List, [], ◌∷◌, ◌++◌, length, All, flat_map}
-use Rattle.std.specs.Prelude.{Option, Result, Ok, Err}
+use Rattle.std.specs.Prelude.{Option, Result, Err}
 use Rattle.std.specs.Io.KnownBytes.{Appends, Consumes, IsAtEnd}
 use Rattle.cue_answer.specs.declared.told.Answer.{Answer}
 use Rattle.cue_wire.specs.declared.request.Request as requests

@@ -129,7 +129,7 @@ pub fn converse<S: Source, K: Sink>(
         Err(halt) => return Err(halt),
     };
     let mut left = turns;
-    let told = exchange(
+    match exchange(
         alloc,
         near,
         far,
@@ -137,13 +137,12 @@ pub fn converse<S: Source, K: Sink>(
         &mut hearing,
         &mut serving,
         &mut left,
-    );
-    match told {
+    ) {
         Ok(()) => {}
         Err(halt) => return Err(halt),
     }
     let question = [Request::AskExport];
-    let asked = exchange(
+    match exchange(
         alloc,
         near,
         far,
@@ -151,8 +150,7 @@ pub fn converse<S: Source, K: Sink>(
         &mut hearing,
         &mut serving,
         &mut left,
-    );
-    match asked {
+    ) {
         Ok(()) => {}
         Err(halt) => return Err(halt),
     }
@@ -233,8 +231,7 @@ fn exchange<S: Source, K: Sink>(
             Ok(()) => {}
             Err(halt) => return Err(halt),
         }
-        let back = bring_back(&mut far.sink, &mut near.source, &serving.out, hearing, left);
-        match back {
+        match bring_back(&mut far.sink, &mut near.source, &serving.out, hearing, left) {
             Ok(()) => {}
             Err(halt) => return Err(halt),
         }

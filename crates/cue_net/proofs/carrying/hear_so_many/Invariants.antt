@@ -13,7 +13,6 @@ invariant-loop-got g l = record {
   turns : g.S.Source.called l.source + l.left ≡ g.S.Source.called l.fn.source + l.fn.left;
   fewer : l.left ≤ l.fn.left;
   sound : g.S.Source.failed l.source ≡ g.S.Source.failed l.fn.source;
-  room : length l.piece ≡ 4096;
 }
 
 abbrev pub decreases-loop-got : goal.decreases-loop-got

@@ -1,4 +1,4 @@
-use Rattle.std.proofs.Common.{◌≡◌, ◌+◌, ◌∙◌, [], ◌∷◌, sym, length, arith, Bool, true, false, IsTrue, All, Ok, Err}
+use Rattle.std.proofs.Common.{◌+◌, ◌∙◌, sym, length, arith, Ok, Err}
 use Rattle.std.proofs.lemmas.Bool.{false≢true}
 use Rattle.cue_net.proofs.Pushes.{stops_first, asks_on}
 use Rattle.cue_net.proofs.Talks.{cut, answered, too_long, no_client}

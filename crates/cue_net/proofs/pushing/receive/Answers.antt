@@ -1,4 +1,4 @@
-use Rattle.std.proofs.Common.{◌≡◌, ◌<◌, ◌++◌, [], length, take, refl, ◌∙◌, arith}
+use Rattle.std.proofs.Common.{◌<◌, ◌++◌, [], length, take, refl, ◌∙◌, arith}
 use Rattle.std.proofs.KnownBytes.{Appends-nil, Appends-trans, Appends-kept, Consumes-nil, Consumes-trans, Consumes-kept}
 use Rattle.cue_net.proofs.Hearing.{hears_nothing, hears_more, stops_reading, stops_taking, long_as}
 use Rattle.cue_net.proofs.pushing.receive.Goals as goal

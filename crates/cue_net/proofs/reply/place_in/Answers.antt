@@ -1,4 +1,4 @@
-use Rattle.std.proofs.Common.{take, ap, sym, ◌∙◌, ◌≡◌, length, arith}
+use Rattle.std.proofs.Common.{ap, sym, ◌∙◌, ◌≡◌, length, arith}
 use Rattle.std.proofs.lemmas.Nat.{be_bytes_8}
 use Rattle.std.proofs.lemmas.List.{take_all}
 use Rattle.std.specs.Int.{w64, from_be_bytes}

@@ -1,0 +1,95 @@
+-- Bytes that are written at one end and read at the other.
+use Rattle.std.proofs.Common.{◌≡◌, ℕ, ◌-◌, ◌<◌, ◌≤◌, List, [], ◌++◌, length, take, drop, refl, ap, sym, ◌∙◌, subst, arith, append_assoc, inl, inr, ⊎_elim, Option, Ok, Err, length-append, length-drop, take-append-drop}
+use Rattle.std.proofs.KnownBytes.{Appends-kept}
+use Rattle.std.proofs.lemmas.List.{take_all, take-take, length-take-le}
+use Rattle.std.specs.Io.KnownBytes.{Appends, Consumes, Keeps}
+use Rattle.cue_wire.specs.Clients.{Exchange}
+use Rattle.cue_net.specs.declared.halt.Halt.{Halt}
+use Rattle.cue_net.specs.Turns.{IsWriteHalt}
+use Rattle.cue_net.specs.Talks.{Talk, IsTalk}
+use Rattle.cue_net.specs.Inner.Hearing.{Hears, Balks}
+use Rattle.cue_net.specs.Inner.Looping.{IsCarryHalt, Brought}
+use Rattle.cue_net.proofs.Asking.{no_talk, talks_nothing, joined, talks_more}
+use Rattle.cue_net.proofs.Hearing.{hears_nothing, hears_more, balks_later}
+
+-- the front of what is left joins what was before it
+pub parts_more : (all front rest : List ℕ) (n : ℕ) → all ≡ front ++ rest → all ≡ (front ++ take n rest) ++ take (length rest - n) (drop n rest)
+parts_more all front rest n is =
+    is ∙ ap (λ zs. front ++ zs) (sym (take-append-drop n rest)) ∙ sym (append_assoc front (take n rest) (drop n rest))
+    ∙ ap (λ zs. (front ++ take n rest) ++ zs) (sym (take_all (length rest - n) (drop n rest) (omega (arith, length-drop n rest))))
+
+-- what a device took of a part is the front of the whole
+pub front_taken : (taken taken' : Option (List ℕ)) (rest : List ℕ) (n most : ℕ) → n ≤ length (take most rest) → most ≤ length rest
+    → Appends taken taken' (take n (take most rest)) → Appends taken taken' (take n rest)
+front_taken taken taken' rest n most within few wrote =
+    subst (Appends taken taken') (take-take n most rest (omega (arith, within, length-take-le most rest few))) wrote
+
+-- what was brought so far
+pub record Bringing (bytes rest : List ℕ) (old new : Exchange) (given given' to_come to_come' taken taken' : Option (List ℕ)) : Type 0 where
+  pub talk : Talk
+  pub passes : IsTalk talk given given' to_come to_come' taken taken'
+  pub parts : bytes ≡ talk.sent ++ rest
+  pub same : length talk.heard ≡ length talk.sent
+  pub hears : Hears old new talk.heard
+
+pub brings_nothing : (bytes : List ℕ) (old : Exchange) (given to_come taken : Option (List ℕ)) → Bringing bytes bytes old old given given to_come to_come taken taken
+brings_nothing bytes old given to_come taken = record {
+  talk = no_talk;
+  passes = talks_nothing given to_come taken;
+  parts = refl;
+  same = refl;
+  hears = hears_nothing old;
+}
+
+pub brings_more : (bytes rest : List ℕ) (n : ℕ) (old mid new : Exchange) (given given' given'' to_come to_come' to_come'' taken taken' taken'' : Option (List ℕ)) (read : List ℕ)
+    → n ≤ length rest → Bringing bytes rest old mid given given' to_come to_come' taken taken'
+    → Appends taken' taken'' (take n rest) → Appends given' given'' read → Consumes to_come' to_come'' read → length read ≡ n → Hears mid new read
+    → Bringing bytes (take (length rest - n) (drop n rest)) old new given given'' to_come to_come'' taken taken''
+brings_more bytes rest n old mid new given given' given'' to_come to_come' to_come'' taken taken' taken'' read within b wrote gave took long hears = record {
+  talk = joined b.talk (record { sent = take n rest; heard = read });
+  passes = talks_more b.talk (record { sent = take n rest; heard = read }) given given' given'' to_come to_come' to_come'' taken taken' taken'' b.passes
+      (record { gave = gave; took = took; wrote = wrote });
+  parts = parts_more bytes b.talk.sent rest n b.parts;
+  same = omega (arith, b.same, long, length-append b.talk.heard read, length-append b.talk.sent (take n rest), length-take-le n rest within);
+  hears = hears_more old mid new b.talk.heard read b.hears hears;
+}
+
+-- all is brought
+pub brings_all : (bytes rest : List ℕ) (old new : Exchange) (given given' to_come to_come' taken taken' : Option (List ℕ)) (left failed failed' : ℕ)
+    → rest ≡ [] → Bringing bytes rest old new given given' to_come to_come' taken taken'
+    → Brought (Ok tt) bytes old new given given' to_come to_come' taken taken' left failed failed'
+brings_all bytes rest old new given given' to_come to_come' taken taken' left failed failed' none b = record {
+  talk = b.talk;
+  unsent = rest;
+  passes = b.passes;
+  front = b.parts;
+  ends = (none, b.same, b.hears);
+}
+
+-- no more is written
+pub brings_stopped : (halt : Halt) (bytes rest : List ℕ) (old new : Exchange) (given given' to_come to_come' taken taken' taken'' : Option (List ℕ)) (left failed failed' failures failures' : ℕ)
+    → (failed < failed' → failures < failures') → Bringing bytes rest old new given given' to_come to_come' taken taken' → Keeps taken' taken''
+    → IsWriteHalt halt left failed failed' → Brought (Err halt) bytes old new given given' to_come to_come' taken taken'' left failures failures'
+brings_stopped halt bytes rest old new given given' to_come to_come' taken taken' taken'' left failed failed' failures failures' more b kept why = record {
+  talk = b.talk;
+  unsent = rest;
+  passes = record { gave = b.passes.gave; took = b.passes.took; wrote = Appends-kept taken taken' taken'' b.talk.sent b.passes.wrote kept };
+  front = b.parts;
+  ends = ⊎_elim (λ used. inl (used.0, used.1)) (λ device. inr (inr (device.0, inl (more device.1)))) why;
+}
+
+-- what is written is not read, or not taken
+pub brings_cut : (halt : Halt) (bytes rest : List ℕ) (n : ℕ) (old mid new : Exchange) (given given' given'' to_come to_come' to_come'' taken taken' taken'' : Option (List ℕ)) (read : List ℕ)
+    (left failed failed' failures failures' : ℕ) → (failed < failed' → failures < failures')
+    → Bringing bytes rest old mid given given' to_come to_come' taken taken'
+    → Appends taken' taken'' (take n rest) → Appends given' given'' read → Consumes to_come' to_come'' read
+    → IsCarryHalt halt left to_come'' failed failed' (Balks mid read)
+    → Brought (Err halt) bytes old new given given'' to_come to_come'' taken taken'' left failures failures'
+brings_cut halt bytes rest n old mid new given given' given'' to_come to_come' to_come'' taken taken' taken'' read left failed failed' failures failures' more b wrote gave took why = record {
+  talk = joined b.talk (record { sent = take n rest; heard = read });
+  unsent = take (length rest - n) (drop n rest);
+  passes = talks_more b.talk (record { sent = take n rest; heard = read }) given given' given'' to_come to_come' to_come'' taken taken' taken'' b.passes
+      (record { gave = gave; took = took; wrote = wrote });
+  front = parts_more bytes b.talk.sent rest n b.parts;
+  ends = ⊎_elim inl (λ others. inr (⊎_elim inl (λ device. inr (device.0, ⊎_elim (λ broke. inl (more broke)) (λ rest. inr (⊎_elim inl (λ balks. inr (balks_later old mid b.talk.heard read b.hears balks)) rest)) device.1)) others)) why;
+}

@@ -1,0 +1,80 @@
+use Rattle.std.proofs.Common.{◌≡◌, ◌+◌, ◌≤◌, [], length, refl, arith}
+use Rattle.std.proofs.lemmas.Grind.{common_steps}
+use Rattle.std.proofs.lemmas.List.{length-take}
+use Rattle.cue_net.proofs.Bringing.{front_taken, brings_nothing, brings_more, brings_all, brings_stopped, brings_cut}
+use Rattle.cue_net.proofs.carrying.bring_back.Goals as goal
+
+pub loop-rest-init : goal.loop-rest-init
+loop-rest-init g c = record {
+  brings = brings_nothing c.args.bytes.now c.args.hearing.now (g.S.Source.given c.args.source.now) (g.S.Source.to_come c.args.source.now) (g.K.Sink.taken c.args.sink.now);
+  turns = refl;
+  reads = omega arith;
+  writes = omega arith;
+  sound = refl;
+}
+
+pub loop-rest-preserved : goal.loop-rest-preserved
+loop-rest-preserved g c =
+    let source = g.S.Source in
+    let sink = g.K.Sink in
+    let s = c.loop-rest in
+    let rest = s.rest.now in
+    let most = c.min-most.result in
+    let n = c.in-Ok.count in
+    let w = c.write_some.new.sink in
+    let new = c.hear_so_many.new in
+    let h = c.in-Ok-hear_so_many.ensures.read in
+    let few : most ≤ length rest = omega (arith, c.min-most.ensures) in
+    let within : n ≤ length rest = omega (arith, c.in-Ok.ensures.bound, length-take most rest) in
+    record {
+      brings = brings_more c.args.bytes.now rest n c.args.hearing.now s.hearing new.hearing
+          (source.given c.args.source.now) (source.given s.source) (source.given new.source) (source.to_come c.args.source.now) (source.to_come s.source) (source.to_come new.source)
+          (sink.taken c.args.sink.now) (sink.taken s.sink) (sink.taken w) h.0 within s.invariant.brings
+          (front_taken (sink.taken s.sink) (sink.taken w) rest n most c.in-Ok.ensures.bound few c.in-Ok.ensures.takes) h.1 h.2 h.3.0 h.3.1;
+      turns = omega (arith, s.invariant.turns, c.in-Ok.ensures.turns, c.in-Ok-hear_so_many.ensures.turns);
+      reads = omega (arith, s.invariant.reads, c.in-Ok-hear_so_many.ensures.turns, c.in-Ok-hear_so_many.ensures.fewer);
+      writes = omega (arith, s.invariant.writes, c.in-Ok.ensures.turns, c.in-Ok.ensures.fewer);
+      sound = omega (arith, s.invariant.sound, c.in-Ok.ensures.sound, c.in-Ok-hear_so_many.ensures.sound);
+    }
+
+pub returns-in-Err-clause-brought : goal.returns-in-Err-clause-brought
+returns-in-Err-clause-brought g c =
+    let source = g.S.Source in
+    let sink = g.K.Sink in
+    let s = c.loop-rest in
+    let w = c.write_some.new in
+    brings_stopped c.in-Err.halt c.args.bytes.now s.rest.now c.args.hearing.now s.hearing
+    (source.given c.args.source.now) (source.given s.source) (source.to_come c.args.source.now) (source.to_come s.source)
+    (sink.taken c.args.sink.now) (sink.taken s.sink) (sink.taken w.sink) w.left (sink.failed s.sink) (sink.failed w.sink)
+    (source.failed c.args.source.now + sink.failed c.args.sink.now) (source.failed s.source + sink.failed w.sink)
+    (λ more. omega (arith, more, s.invariant.sound)) s.invariant.brings c.in-Err.ensures.takes c.in-Err.ensures.halt
+
+pub returns-in-Err-hear_so_many-clause-brought : goal.returns-in-Err-hear_so_many-clause-brought
+returns-in-Err-hear_so_many-clause-brought g c =
+    let source = g.S.Source in
+    let sink = g.K.Sink in
+    let s = c.loop-rest in
+    let rest = s.rest.now in
+    let most = c.min-most.result in
+    let n = c.in-Ok.count in
+    let w = c.write_some.new.sink in
+    let new = c.hear_so_many.new in
+    let h = c.in-Err-hear_so_many.ensures.read in
+    let few : most ≤ length rest = omega (arith, c.min-most.ensures) in
+    brings_cut c.in-Err-hear_so_many.halt c.args.bytes.now rest n c.args.hearing.now s.hearing new.hearing
+    (source.given c.args.source.now) (source.given s.source) (source.given new.source) (source.to_come c.args.source.now) (source.to_come s.source) (source.to_come new.source)
+    (sink.taken c.args.sink.now) (sink.taken s.sink) (sink.taken w) h.0 new.left (source.failed s.source) (source.failed new.source)
+    (source.failed c.args.source.now + sink.failed c.args.sink.now) (source.failed new.source + sink.failed w)
+    (λ more. omega (arith, more, s.invariant.sound, c.in-Ok.ensures.sound)) s.invariant.brings
+    (front_taken (sink.taken s.sink) (sink.taken w) rest n most c.in-Ok.ensures.bound few c.in-Ok.ensures.takes) h.1 h.2 h.4
+
+pub returns-clause-brought : goal.returns-clause-brought
+returns-clause-brought g c =
+    let source = g.S.Source in
+    let sink = g.K.Sink in
+    let s = c.loop-rest in
+    let none : s.rest.now ≡ [] = grind (arith, common_steps) in
+    brings_all c.args.bytes.now s.rest.now c.args.hearing.now s.hearing
+    (source.given c.args.source.now) (source.given s.source) (source.to_come c.args.source.now) (source.to_come s.source)
+    (sink.taken c.args.sink.now) (sink.taken s.sink) s.left
+    (source.failed c.args.source.now + sink.failed c.args.sink.now) (source.failed s.source + sink.failed s.sink) none s.invariant.brings

@@ -1,0 +1,45 @@
+use Rattle.std.proofs.Common.{◌++◌, take, ◌∙◌, arith, length-append}
+use Rattle.std.proofs.KnownBytes.{Appends-trans, Consumes-trans}
+use Rattle.std.proofs.lemmas.List.{length-take-le, length-take}
+use Rattle.cue_net.specs.Inner.Hearing.{Balks}
+use Rattle.cue_net.proofs.Hearing.{hears_more, balks_later}
+use Rattle.cue_net.proofs.Looping.{takes_nothing}
+use Rattle.cue_net.proofs.carrying.hear_so_many.Goals as goal
+
+pub returns-in-Err-hear-clause-read : goal.returns-in-Err-hear-clause-read
+returns-in-Err-hear-clause-read g c =
+    let source = g.S.Source in
+    let s = c.loop-got in
+    let h = s.invariant.heard in
+    let new = c.read_some.new.source in
+    let piece = take c.in-Ok.some c.read_some.new.into in (
+      h.0 ++ piece,
+      Appends-trans (source.given c.args.source.now) (source.given s.source) (source.given new) h.0 piece h.1 c.in-Ok.ensures.gives,
+      Consumes-trans (source.to_come c.args.source.now) (source.to_come s.source) (source.to_come new) h.0 piece h.2 c.in-Ok.ensures.takes.0,
+      tt,
+      takes_nothing c.in-Err-hear.halt c.read_some.new.left (source.failed c.args.source.now) (source.failed new) (source.to_come new)
+          (Balks s.hearing piece) (Balks c.args.hearing.now (h.0 ++ piece)) (balks_later c.args.hearing.now s.hearing h.0 piece h.4) c.in-Err-hear.ensures.err,
+    )
+
+pub loop-got-preserved : goal.loop-got-preserved
+loop-got-preserved g c =
+    let source = g.S.Source in
+    let s = c.loop-got in
+    let h = s.invariant.heard in
+    let r = c.in-Ok in
+    let new = c.read_some.new.source in
+    let into = c.read_some.new.into in
+    let piece = take r.some into in
+    record {
+      heard = (
+        h.0 ++ piece,
+        Appends-trans (source.given c.args.source.now) (source.given s.source) (source.given new) h.0 piece h.1 r.ensures.gives,
+        Consumes-trans (source.to_come c.args.source.now) (source.to_come s.source) (source.to_come new) h.0 piece h.2 r.ensures.takes.0,
+        omega (arith, length-append h.0 piece, length-take-le r.some into r.ensures.bound.1, h.3),
+        hears_more c.args.hearing.now s.hearing c.hear.new.hearing h.0 piece h.4 c.in-Ok-hear.ensures.ok,
+      );
+      within = omega (arith, r.ensures.bound.1, r.ensures.room, length-take c.min-most.result s.piece, c.min-most.ensures, c.loop-got-test.true);
+      turns = omega (arith, s.invariant.turns, r.ensures.turns);
+      fewer = omega (arith, s.invariant.fewer, r.ensures.fewer);
+      sound = r.ensures.sound ∙ s.invariant.sound;
+    }

@@ -1,0 +1,65 @@
+use Rattle.std.proofs.Common.{◌++◌, [], take, refl, ◌∙◌, arith, length-append}
+use Rattle.std.proofs.KnownBytes.{Appends-nil, Appends-trans, Consumes-nil, Consumes-trans}
+use Rattle.std.proofs.lemmas.List.{length-take-le, length-take}
+use Rattle.cue_net.specs.Inner.Looping.{Faults}
+use Rattle.cue_net.proofs.Looping.{serves_nothing, serves_more, faults_later, takes_nothing}
+use Rattle.cue_net.proofs.carrying.serve_so_many.Goals as goal
+
+pub loop-got-init : goal.loop-got-init
+loop-got-init g c =
+    let at = c.args.serving.now in
+    record {
+      served = (
+        [],
+        Appends-nil (g.S.Source.given c.args.source.now),
+        Consumes-nil (g.S.Source.to_come c.args.source.now),
+        refl,
+        serves_nothing at.session at.site at.out.items,
+      );
+      within = omega arith;
+      turns = refl;
+      fewer = omega arith;
+      sound = refl;
+    }
+
+pub returns-in-Err-serve_piece-clause-read : goal.returns-in-Err-serve_piece-clause-read
+returns-in-Err-serve_piece-clause-read g c =
+    let source = g.S.Source in
+    let s = c.loop-got in
+    let h = s.invariant.served in
+    let at = c.args.serving.now in
+    let new = c.read_some.new.source in
+    let piece = take c.in-Ok.some c.read_some.new.into in (
+      h.0 ++ piece,
+      Appends-trans (source.given c.args.source.now) (source.given s.source) (source.given new) h.0 piece h.1 c.in-Ok.ensures.gives,
+      Consumes-trans (source.to_come c.args.source.now) (source.to_come s.source) (source.to_come new) h.0 piece h.2 c.in-Ok.ensures.takes.0,
+      tt,
+      takes_nothing c.in-Err-serve_piece.halt c.read_some.new.left (source.failed c.args.source.now) (source.failed new) (source.to_come new)
+          (Faults s.serving.session piece) (Faults at.session (h.0 ++ piece))
+          (faults_later at.session s.serving.session at.site s.serving.site at.out.items s.serving.out.items h.0 piece h.4) c.in-Err-serve_piece.ensures.err,
+    )
+
+pub loop-got-preserved : goal.loop-got-preserved
+loop-got-preserved g c =
+    let source = g.S.Source in
+    let s = c.loop-got in
+    let h = s.invariant.served in
+    let at = c.args.serving.now in
+    let on = c.serve_piece.new.serving in
+    let r = c.in-Ok in
+    let new = c.read_some.new.source in
+    let into = c.read_some.new.into in
+    let piece = take r.some into in
+    record {
+      served = (
+        h.0 ++ piece,
+        Appends-trans (source.given c.args.source.now) (source.given s.source) (source.given new) h.0 piece h.1 r.ensures.gives,
+        Consumes-trans (source.to_come c.args.source.now) (source.to_come s.source) (source.to_come new) h.0 piece h.2 r.ensures.takes.0,
+        omega (arith, length-append h.0 piece, length-take-le r.some into r.ensures.bound.1, h.3),
+        serves_more at.session s.serving.session on.session at.site s.serving.site on.site at.out.items s.serving.out.items on.out.items h.0 piece h.4 c.in-Ok-serve_piece.ensures.ok,
+      );
+      within = omega (arith, r.ensures.bound.1, r.ensures.room, length-take c.min-most.result s.piece, c.min-most.ensures, c.loop-got-test.true);
+      turns = omega (arith, s.invariant.turns, r.ensures.turns);
+      fewer = omega (arith, s.invariant.fewer, r.ensures.fewer);
+      sound = r.ensures.sound ∙ s.invariant.sound;
+    }
