@@ -1,4 +1,4 @@
-ghost use Rattle.std.specs.Prelude.{◌≡◌, IfOk, IfErr, Ok, Err};
+ghost use Rattle.std.specs.Prelude.{◌≡◌, ℕ, List, Option, IfOk, IfErr, Ok, Err};
 ghost use Rattle.cue_program.specs.Files.{texts};
 ghost use Rattle.cuestore.specs.Networks.{IsEndedBy, stop_by};
 ghost use Rattle.cuestore.specs.Runs.{Around, IsAnswerTo, IsStopTo};
