@@ -1,6 +1,6 @@
 # Completions for bash: `source bin/completions/cuestore.bash`
 _cuestore() {
-  local words='export print report state merge'
+  local words='export print report state merge serve push loop'
   if [ "$COMP_CWORD" -eq 1 ]; then
     mapfile -t COMPREPLY < <(compgen -W "$words" -- "${COMP_WORDS[1]}")
   else

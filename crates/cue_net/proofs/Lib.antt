@@ -7,5 +7,6 @@ pub mod Looping
 pub mod Passages
 pub mod Pushes
 pub mod Rounds
+pub mod Sockets
 pub mod Talks
 pub mod Truth

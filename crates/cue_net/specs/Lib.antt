@@ -4,6 +4,7 @@ pub mod Halts
 pub mod Loops
 pub mod Printed
 pub mod Replies
+pub mod Sockets
 pub mod Talks
 pub mod Told
 pub mod Truth

@@ -3,9 +3,10 @@ ghost use Rattle.std.specs.Prelude.{IfOk, IfErr};
 ghost use Rattle.cue_replica.specs.Language.{opening};
 ghost use Rattle.cue_wire.specs.Clients.{request_frame, IsSendable};
 ghost use Rattle.cue_wire.specs.Sessions.{reading};
-ghost use Rattle.cue_net.specs.Halts.{IsMemory};
+ghost use Rattle.cue_net.specs.Halts.{IsDevice, IsMemory};
 ghost use Rattle.cue_net.specs.Inner.Looping.{Exchanged};
 ghost use Rattle.cue_net.specs.Loops.{IsAnswerBetween};
+ghost use Rattle.cue_net.specs.Sockets.{IsTalkAnswer};
 ghost use Rattle.cue_net.specs.Talks.{Talk, IsTalk};
 
 use crate::carrying::{Serving, bring_back, serve_so_many};
@@ -39,8 +40,12 @@ pub struct End<S, K> {
 pub fn loop_for<H>(rt: &H, inputs: &[Request]) -> Result<Answer, Halt>
 where
     H: AllocGlobal + Net<Listener = TcpListener, Stream = TcpStream>,
+    ensures { IsTalkAnswer inputs.now result }
 {
-    let (near, far) = both_ends(rt)?;
+    let (near, far) = match both_ends(rt) {
+        Ok(ends) => ends,
+        Err(halt) => return Err(halt),
+    };
     let mut client = End {
         source: Reader::new(&near),
         sink: Writer::new(&near),
@@ -56,6 +61,7 @@ where
 fn both_ends<H>(rt: &H) -> Result<(TcpStream, TcpStream), Halt>
 where
     H: AllocGlobal + Net<Listener = TcpListener, Stream = TcpStream>,
+    ensures { IfErr result IsDevice }
 {
     let Ok(listener) = TcpListener::bind(rt, (Ipv4Addr::LOCALHOST, 0)) else {
         return Err(Halt::Device);

@@ -4,6 +4,7 @@ ghost use Rattle.std.specs.Io.KnownBytes.{Appends};
 ghost use Rattle.cue_wire.specs.Clients.{request_frame, IsSendable, HasTaken};
 ghost use Rattle.cue_net.specs.Halts.{IsDevice, IsMemory, IsTooLong};
 ghost use Rattle.cue_net.specs.Inner.Hearing.{Asked, Heard, Hears, Balks};
+ghost use Rattle.cue_net.specs.Sockets.{IsTalkAnswer};
 ghost use Rattle.cue_net.specs.Talks.{Talk, IsTalk, IsAnswerOf};
 ghost use Rattle.cue_net.specs.Turns.{IsWriteHalt};
 
@@ -35,6 +36,7 @@ const GROUP: usize = 256;
 pub fn push_for<H>(rt: &H, port: u16, inputs: &[Request]) -> Result<Answer, Halt>
 where
     H: AllocGlobal + Net<Listener = TcpListener, Stream = TcpStream>,
+    ensures { IsTalkAnswer inputs.now result }
 {
     let Ok(stream) = TcpStream::connect(rt, (Ipv4Addr::LOCALHOST, port)) else {
         return Err(Halt::Device);

@@ -12,7 +12,7 @@ use Rattle.cue_replica.proofs.Along.{along_push, length-along}
 use Rattle.cue_program.specs.declared.stop.Stop.{Stop}
 use Rattle.std.specs.Prelude.{get_or}
 use Rattle.cue_program.specs.Files.{AreAll, texts}
-use Rattle.cue_program.specs.Inputs.{AreStreamPieces, ArePieces, Begin, Gives, Holds, Inputs, IsFilePiece, IsInputRefused, IsInputUnread, IsPieceRefusal, files, stream}
+use Rattle.cue_program.specs.Inputs.{AreStreamPieces, ArePieces, Begin, Gives, Holds, Inputs, IsFilePiece, IsFirstRefused, IsFirstUnread, IsInputRefused, IsPieceRefusal, files, stream}
 use Rattle.cue_program.specs.Runs.{IsStopOn}
 use Rattle.cue_program.specs.Stops.{IsMemory, IsRefusedAs, IsUnreadable}
 use Rattle.cue_program.specs.inner.Texts.{AreTexts, IsTextRefused}
@@ -62,6 +62,23 @@ files_more known next old new bytes h all more valid = (
 small : (n number : ℕ) → number ≡ n + 1 → n + 1 ≤ 2 ^ 64 - 1 → number ≡ min (n + 1) (2 ^ 64 - 1)
 small n number is less = omega (arith, is, less)
 
+-- the first file that is refused after those that are fine
+pub files_first_refused :
+    (IsFine : Piece → Type 0) (IsReason : Piece → Refusal → Type 0) (front back : List (Option (List ℕ))) (next : Option (List ℕ)) (pieces : List Piece)
+    (number : ℕ) (bytes : List ℕ) (stop : Stop) → AllAlong Gives front pieces → AllByRecursion IsFine pieces → AreAll next bytes
+    → number ≡ min (length pieces + 1) (2 ^ 64 - 1)
+    → ((piece : Piece) × (why : Refusal) × IsFilePiece bytes piece × IsReason piece why × IsRefusedAs why number stop)
+    → IsFirstRefused IsFine IsReason (files (front ++ next ∷ back)) stop
+files_first_refused IsFine IsReason front back next pieces number bytes stop give fine all counted fault = record {
+  before = pieces;
+  piece = fault.0;
+  why = fault.1;
+  begin = (front ++ next ∷ [], back, sym (append_assoc front (next ∷ []) back), along_push Gives front pieces next fault.0 give (bytes, all, fault.2));
+  accepted = fine;
+  refusal = fault.3;
+  told = subst (λ (n : ℕ). IsRefusedAs fault.1 n stop) counted fault.4;
+}
+
 -- the first file that is refused after those that were taken
 pub files_refused :
     (front back : List (Option (List ℕ))) (next : Option (List ℕ)) (number : ℕ) (old : Table) (bytes : List ℕ) (stop : Stop)
@@ -69,23 +86,15 @@ pub files_refused :
     → ((piece : Piece) × (why : Refusal) × IsFilePiece bytes piece × IsPieceRefusal piece why × IsRefusedAs why number stop)
     → IsInputRefused (files (front ++ next ∷ back)) stop
 files_refused front back next number old bytes stop h all counted most fault =
-    let along = along_push Gives front h.0 next fault.0 h.1 (bytes, all, fault.2) in
     let long = length-along Gives front h.0 h.1 in
-    record {
-      before = h.0;
-      piece = fault.0;
-      why = fault.1;
-      begin = (front ++ next ∷ [], back, sym (append_assoc front (next ∷ []) back), along);
-      accepted = h.2.0;
-      refusal = fault.3;
-      told = subst (λ (n : ℕ). IsRefusedAs fault.1 n stop) (small (length h.0) number (counted ∙ ap (λ n. n + 1) long) (omega (arith, counted, long, most))) fault.4;
-    }
+    files_first_refused IsAcceptable IsPieceRefusal front back next h.0 number bytes stop h.1 h.2.0 all
+    (small (length h.0) number (counted ∙ ap (λ n. n + 1) long) (omega (arith, counted, long, most))) fault
 
--- the first file that can't be read after those that were taken
+-- the first file that can't be read after those that are fine
 pub files_unread :
-    (front back : List (Option (List ℕ))) (next : Option (List ℕ)) (old : Table) (stop : Stop)
-    → Holds (files front) old → IsUnreadable stop → IsInputUnread (files (front ++ next ∷ back)) stop
-files_unread front back next old stop h fault = (front, back, next, h.0, refl, h.1, h.2.0, fault)
+    (IsFine : Piece → Type 0) (front back : List (Option (List ℕ))) (next : Option (List ℕ)) (pieces : List Piece) (stop : Stop)
+    → AllAlong Gives front pieces → AllByRecursion IsFine pieces → IsUnreadable stop → IsFirstUnread IsFine (files (front ++ next ∷ back)) stop
+files_unread IsFine front back next pieces stop give fine fault = (front, back, next, pieces, refl, give, fine, fault)
 
 -- the names so far with one more
 pub take_known :
@@ -113,9 +122,10 @@ pub length_known : (K : List ℕ → Option (List ℕ)) (names : List (Bor (List
 length_known K names i less =
     length_mapped K (texts (take i names)) ∙ (length_mapped (λ (n : Bor (List ℕ)). n.now) (take i names) ∙ omega (arith, length-take i names, less))
 
-pub acceptable_texts : (parts : List (List ℕ)) → AllByRecursion language.IsLegal parts → AllByRecursion IsAcceptable (map text parts)
-acceptable_texts [] h = tt
-acceptable_texts (part ∷ parts) h = (h.0, acceptable_texts parts h.1)
+-- what holds of each part holds of each as a text
+pub all_texts : (P : Piece → Type 0) (parts : List (List ℕ)) → AllByRecursion (λ part. P (text part)) parts → AllByRecursion P (map text parts)
+all_texts P [] h = tt
+all_texts P (part ∷ parts) h = (h.0, all_texts P parts h.1)
 
 pub length_texts : (parts : List (List ℕ)) → length (map text parts) ≡ length parts
 length_texts [] = refl

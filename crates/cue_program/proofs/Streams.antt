@@ -12,10 +12,10 @@ use Rattle.cue_replica.proofs.Accepted.{of_no_piece, of_one_piece_more}
 use Rattle.cue_program.specs.declared.stop.Stop.{Stop}
 use Rattle.cue_program.specs.declared.stop.Stop.TheVariants as stops
 use Rattle.cue_program.specs.Files.{AreAll, Holdings, known_at, texts}
-use Rattle.cue_program.specs.Inputs.{AreStreamPieces, Begin, Holds, IsInputRefused, IsInputUnread, IsStateRefusal, files, inputs_of, stream}
+use Rattle.cue_program.specs.Inputs.{AreStreamPieces, Begin, Holds, IsFirstRefused, IsInputRefused, IsPieceRefusal, IsStateRefusal, files, inputs_of, stream}
 use Rattle.cue_program.specs.Stops.{IsRefusedAs, IsUnreadable}
-use Rattle.cue_program.specs.inner.Texts.{AreTexts, IsTextRefused}
-use Rattle.cue_program.proofs.Files.{acceptable_texts, length_texts, map_texts}
+use Rattle.cue_program.specs.inner.Texts.{AreTexts, IsPartRefused, IsTextRefused}
+use Rattle.cue_program.proofs.Files.{all_texts, length_texts, map_texts}
 
 -- one state
 pub of_one_state :
@@ -40,10 +40,13 @@ refused_state bytes why first fault = record {
 -- texts
 pub texts_held : (bytes : List ℕ) (table : Table) → slice_get bytes 0 ≢ Some 254 → AreTexts bytes table → Holds (stream (Some bytes)) table
 texts_held bytes table first h =
-    (map text h.0, (bytes, refl, inr (first, (h.0, h.1, refl))), (acceptable_texts h.0 h.2.0, h.2.1))
+    (map text h.0, (bytes, refl, inr (first, (h.0, h.1, refl))), (all_texts IsAcceptable h.0 h.2.0, h.2.1))
 
-pub texts_refused : (bytes : List ℕ) (stop : Stop) → slice_get bytes 0 ≢ Some 254 → IsTextRefused bytes stop → IsInputRefused (stream (Some bytes)) stop
-texts_refused bytes stop first h =
+-- the first part that is refused
+pub parts_refused :
+    (IsFine : Piece → Type 0) (IsReason : Piece → Refusal → Type 0) (bytes : List ℕ) (stop : Stop) → slice_get bytes 0 ≢ Some 254
+    → IsPartRefused (λ part. IsFine (text part)) (λ part. IsReason (text part)) bytes stop → IsFirstRefused IsFine IsReason (stream (Some bytes)) stop
+parts_refused IsFine IsReason bytes stop first h =
     let before = h.0 in
     let part = h.1 in
     let others = h.2 in
@@ -54,10 +57,13 @@ texts_refused bytes stop first h =
       piece = text part;
       why = h.5.0;
       begin = (map text (before ++ part ∷ others), map text others, (bytes, refl, inr (first, (before ++ part ∷ others, h.3, refl))), whole);
-      accepted = acceptable_texts before h.4;
+      accepted = all_texts IsFine before h.4;
       refusal = h.5.2;
       told = subst (λ (n : ℕ). IsRefusedAs h.5.0 (min (n + 1) (2 ^ 64 - 1)) stop) (sym (length_texts before)) h.5.1;
     }
+
+pub texts_refused : (bytes : List ℕ) (stop : Stop) → slice_get bytes 0 ≢ Some 254 → IsTextRefused bytes stop → IsInputRefused (stream (Some bytes)) stop
+texts_refused bytes stop first h = parts_refused IsAcceptable IsPieceRefusal bytes stop first h
 
 -- without a name the reader is the input, and otherwise the files are
 pub inputs_none : (held : Option Holdings) (names : List (Bor (List ℕ))) (known : Option (List ℕ)) → length names ≡ 0 → inputs_of held (texts names) known ≡ stream known
@@ -76,9 +82,9 @@ held_of_known known bytes table all h =
     (h.0, (bytes, all, subst (λ (b : List ℕ). AreStreamPieces b h.0) h.1.1 h.1.2), h.2)
 
 pub refused_of_known :
-    (known : Option (List ℕ)) (bytes : List ℕ) (stop : Stop) → AreAll known bytes → IsInputRefused (stream (Some bytes)) stop
-    → IsInputRefused (stream known) stop
-refused_of_known known bytes stop all h = record {
+    (IsFine : Piece → Type 0) (IsReason : Piece → Refusal → Type 0) (known : Option (List ℕ)) (bytes : List ℕ) (stop : Stop) → AreAll known bytes
+    → IsFirstRefused IsFine IsReason (stream (Some bytes)) stop → IsFirstRefused IsFine IsReason (stream known) stop
+refused_of_known IsFine IsReason known bytes stop all h = record {
   before = h.before;
   piece = h.piece;
   why = h.why;

@@ -1,6 +1,7 @@
 -- The parts of an input that were handed to a site so far.
 use Rattle.std.proofs.Common.{◌≡◌, ◌⊎◌, ⊎_elim, inl, inr, ℕ, ◌+◌, ◌-◌, ◌^◌, min, Bool, true, false, Some, None, Option, List, [], ◌∷◌, ◌++◌, length, arith, refl, sym, ap, subst, ◌∙◌}
 use Rattle.std.specs.Prelude.{codes}
+use Rattle.std.specs.List.{AllByRecursion}
 use Rattle.std.specs.Str.{bytes_eq}
 use Rattle.std.proofs.lemmas.Slice.Eq.{bytes_eq-Decides}
 use Rattle.std.proofs.lemmas.Bool.{both_ways}
@@ -12,7 +13,7 @@ use Rattle.cue_replica.proofs.Accepted.{of_no_text, of_one_text_more}
 use Rattle.cue_program.specs.Parts.{lines_of, AreParts, IsSeparator, IsFirstPart}
 use Rattle.cue_program.specs.Inputs.{IsTextRefusal}
 use Rattle.cue_program.specs.Stops.{IsRefusedAs}
-use Rattle.cue_program.specs.inner.Texts.{AreTexts, IsTextRefused}
+use Rattle.cue_program.specs.inner.Texts.{AreTexts, IsPartRefused, IsTextRefused}
 use Rattle.cue_program.specs.declared.stop.Stop.{Stop}
 use Rattle.cue_replica.specs.declared.Refusal.{Refusal}
 use Rattle.cue_program.proofs.Lines.{joined}
@@ -22,7 +23,7 @@ abbrev pub SoFar : List ℕ → List (List ℕ) → Option (List ℕ) → Type 0
 SoFar bytes done None = AreParts (lines_of bytes) done
 SoFar bytes done (Some rest) = (parts : List (List ℕ)) → AreParts (lines_of rest) parts → AreParts (lines_of bytes) (done ++ parts)
 
-next_part : (bytes part : List ℕ) (after : Option (List ℕ)) → IsFirstPart bytes part after → SoFar bytes (part ∷ []) after
+pub next_part : (bytes part : List ℕ) (after : Option (List ℕ)) → IsFirstPart bytes part after → SoFar bytes (part ∷ []) after
 next_part bytes part None h = (h.1, joined bytes ∙ sym h.0)
 next_part bytes part (Some rest) h = λ parts are. go parts are
   where
@@ -30,7 +31,7 @@ next_part bytes part (Some rest) h = λ parts are. go parts are
     go [] are = absurd are
     go (next ∷ parts) are = (h.0, lines_of rest, h.1, h.6, h.2, h.3, h.4, are)
 
-so_far_more : (bytes rest part : List ℕ) (done : List (List ℕ)) (after : Option (List ℕ)) → SoFar bytes done (Some rest)
+pub so_far_more : (bytes rest part : List ℕ) (done : List (List ℕ)) (after : Option (List ℕ)) → SoFar bytes done (Some rest)
     → SoFar rest (part ∷ []) after → SoFar bytes (done ++ part ∷ []) after
 so_far_more bytes rest part done None far next = far (part ∷ []) next
 so_far_more bytes rest part done (Some after) far next = λ parts are.
@@ -82,7 +83,7 @@ Submitted bytes table number rest =
 pub submitted_none : (bytes : List ℕ) → Submitted bytes opening 0 (Some bytes)
 submitted_none bytes = ([], of_no_text, (λ parts are. are), refl)
 
-counted : (done : List (List ℕ)) (part : List ℕ) (old new : ℕ) → old ≡ min (length done) (2 ^ 64 - 1) → new ≡ min (old + 1) (2 ^ 64 - 1)
+pub counted : (done : List (List ℕ)) (part : List ℕ) (old new : ℕ) → old ≡ min (length done) (2 ^ 64 - 1) → new ≡ min (old + 1) (2 ^ 64 - 1)
     → new ≡ min (length done + 1) (2 ^ 64 - 1)
 counted done part old new is next = omega (arith, is, next)
 
@@ -102,18 +103,19 @@ submitted_more bytes rest part old new count number after s first next legal add
 pub submitted_all : (bytes : List ℕ) (table : Table) (number : ℕ) → Submitted bytes table number None → AreTexts bytes table
 submitted_all bytes table number s = (s.0, s.2, s.1)
 
+-- where the next part is refused, it is the first of the bytes that is
+pub part_refused :
+    (IsFine : List ℕ → Type 0) (IsReason : List ℕ → Refusal → Type 0) (bytes rest part : List ℕ) (done : List (List ℕ)) (number : ℕ) (after : Option (List ℕ)) (stop : Stop)
+    → AllByRecursion IsFine done → SoFar bytes done (Some rest) → IsFirstPart rest part after → number ≡ min (length done + 1) (2 ^ 64 - 1)
+    → ((why : Refusal) × IsRefusedAs why number stop × IsReason part why) → IsPartRefused IsFine IsReason bytes stop
+part_refused IsFine IsReason bytes rest part done number after stop fine far first at fault =
+    let from = parts_from bytes rest part done after far first in
+    (done, part, from.0, from.1, fine, (fault.0, subst (λ (n : ℕ). IsRefusedAs fault.0 n stop) at fault.1, fault.2))
+
 -- where the next part is refused, the first refused part of the bytes stops the run
 pub submitted_not :
     (bytes rest part : List ℕ) (old : Table) (count number : ℕ) (after : Option (List ℕ)) (stop : Stop) → Submitted bytes old count (Some rest)
     → IsFirstPart rest part after → number ≡ min (count + 1) (2 ^ 64 - 1)
     → ((why : Refusal) × IsRefusedAs why number stop × IsTextRefusal part why) → IsTextRefused bytes stop
 submitted_not bytes rest part old count number after stop s first next fault =
-    let from = parts_from bytes rest part s.0 after s.2 first in
-    let at = counted s.0 part count number s.3 next in (
-      s.0,
-      part,
-      from.0,
-      from.1,
-      s.1.0,
-      (fault.0, subst (λ (n : ℕ). IsRefusedAs fault.0 n stop) at fault.1, fault.2),
-    )
+    part_refused language.IsLegal IsTextRefusal bytes rest part s.0 number after stop s.1.0 s.2 first (counted s.0 part count number s.3 next) fault

@@ -59,15 +59,23 @@ Begin (stream known) pieces =
 abbrev pub Holds : Inputs → Table → Type 0
 Holds inputs table = (pieces : List Piece) × ArePieces inputs pieces × IsOfPieces table pieces
 
--- Why a text is refused: it is too long; or else it is no UTF-8, at the place where the part that is
--- ends; or else for a fault of its own, or for want of memory, which hides none that is found with
--- no memory.
-abbrev pub IsTextRefusal : List ℕ → Refusal → Type 0
-IsTextRefusal bytes why =
+-- why bytes are no text: they are too many, or else no UTF-8, at the place where the part that is ends
+abbrev pub IsByteFault : List ℕ → Refusal → Type 0
+IsByteFault bytes why =
     ((text_limit < length bytes) × (why ≡ refusal_at kinds.TooLong text_limit))
     ⊎ ((length bytes ≤ text_limit) × (IsUtf8 bytes → ⊥) × (why.kind ≡ kinds.BadCharacter)
     × IsValidUpTo bytes why.place)
-    ⊎ ((length bytes ≤ text_limit) × IsUtf8 bytes
+
+-- the bytes are a text: they are not too many, and UTF-8
+abbrev pub IsText : List ℕ → Type 0
+IsText bytes = (length bytes ≤ text_limit) × IsUtf8 bytes
+
+-- Why a text is refused: its bytes are none; or else for a fault of its own, or for want of memory,
+-- which hides none that is found with no memory.
+abbrev pub IsTextRefusal : List ℕ → Refusal → Type 0
+IsTextRefusal bytes why =
+    IsByteFault bytes why
+    ⊎ (IsText bytes
     × (((why ≡ memory) × (language.IsTextRefusedAtOnce bytes → ⊥)) ⊎ language.IsTextFault bytes why))
 
 -- why a state is refused
@@ -80,21 +88,29 @@ abbrev pub IsPieceRefusal : Piece → Refusal → Type 0
 IsPieceRefusal (text bytes) why = IsTextRefusal bytes why
 IsPieceRefusal (state bytes) why = IsStateRefusal bytes why
 
--- The first input that is refused: those before it are acceptable, and it is told with its number
--- from 1 (or the greatest number that can be told).
-pub record IsInputRefused (inputs : Inputs) (stop : Stop) : Type 0 where
+-- The first input that is refused for such a reason: those before it are fine, and it is told with its
+-- number from 1 (or the greatest number that can be told).
+pub record IsFirstRefused (IsFine : Piece → Type 0) (IsReason : Piece → Refusal → Type 0)
+    (inputs : Inputs) (stop : Stop) : Type 0 where
   pub before : List Piece
   pub piece : Piece
   pub why : Refusal
   pub begin : Begin inputs (before ++ piece ∷ [])
-  pub accepted : AllByRecursion IsAcceptable before
-  pub refusal : IsPieceRefusal piece why
+  pub accepted : AllByRecursion IsFine before
+  pub refusal : IsReason piece why
   pub told : IsRefusedAs why (min (length before + 1) (2 ^ 64 - 1)) stop
 
--- The first input that can't be read: of files, those before it are acceptable.
-abbrev pub IsInputUnread : Inputs → Stop → Type 0
-IsInputUnread (files known) stop =
+-- The first input that can't be read: of files, those before it are fine.
+abbrev pub IsFirstUnread : (Piece → Type 0) → Inputs → Stop → Type 0
+IsFirstUnread IsFine (files known) stop =
     (front back : List (Option (List ℕ))) × (next : Option (List ℕ)) × (pieces : List Piece)
     × (known ≡ front ++ next ∷ back) × AllAlong Gives front pieces
-    × AllByRecursion IsAcceptable pieces × IsUnreadable stop
-IsInputUnread (stream known) stop = IsUnreadable stop
+    × AllByRecursion IsFine pieces × IsUnreadable stop
+IsFirstUnread IsFine (stream known) stop = IsUnreadable stop
+
+-- the first input that a site refuses, and the first that can't be read after inputs that it accepts
+abbrev pub IsInputRefused : Inputs → Stop → Type 0
+IsInputRefused inputs stop = IsFirstRefused IsAcceptable IsPieceRefusal inputs stop
+
+abbrev pub IsInputUnread : Inputs → Stop → Type 0
+IsInputUnread inputs stop = IsFirstUnread IsAcceptable inputs stop

@@ -1,6 +1,7 @@
 pub mod Files
 pub mod Inputs
 pub mod Parts
+pub mod Requests
 pub mod Runs
 pub mod Stops
 pub mod inner

@@ -1,4 +1,5 @@
 -- What private clauses alone cite.
 pub mod Drafts
 pub mod Reading
+pub mod Sending
 pub mod Texts

@@ -91,7 +91,7 @@ fn site_for<H: AllocGlobal + Shelf, R: Read>(
 }
 
 /// All bytes of a reader.
-fn read_input<R: Read>(alloc: Global, input: &mut R) -> Result<Vec<u8>, Stop>
+pub fn read_input<R: Read>(alloc: Global, input: &mut R) -> Result<Vec<u8>, Stop>
     ensures all { IfOk result (λ all. AreAll (R.remaining input.old) all.items) }
     ensures fault { IfErr result IsUnreadable }
 {
@@ -123,7 +123,7 @@ fn site_of_files<H: AllocGlobal + Shelf>(rt: &H, names: &[&str]) -> Result<Repli
 }
 
 /// All bytes of the file of this name, by reads into this room.
-fn read_file<H: AllocGlobal + Shelf>(rt: &H, name: &str, piece: &mut [u8]) -> Result<Vec<u8>, Stop>
+pub fn read_file<H: AllocGlobal + Shelf>(rt: &H, name: &str, piece: &mut [u8]) -> Result<Vec<u8>, Stop>
     requires { 0 < length piece.old }
     ensures all { IfOk result (λ all. AreAll (known_at (H.held rt.now) name.now) all.items) }
     ensures fault { IfErr result IsUnreadable }

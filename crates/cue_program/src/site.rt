@@ -6,9 +6,9 @@ ghost use Rattle.cue_replica.specs.Replica.{Adds};
 ghost use Rattle.cue_lattice.specs.World.{Piece, piece_refuses};
 ghost use Rattle.cue_replica.specs.Accepted.{IsAcceptable, text_limit};
 ghost use Rattle.cue_program.specs.Inputs.{IsFilePiece, IsPieceRefusal, IsTextRefusal, stream};
-ghost use Rattle.cue_program.specs.Inputs.{Holds, IsInputRefused};
+ghost use Rattle.cue_program.specs.Inputs.{Holds, IsByteFault, IsInputRefused, IsText};
 ghost use Rattle.cue_program.specs.Stops.{IsRefusedAs};
-ghost use Rattle.cue_program.specs.inner.Texts.{IsByteFault, AreTexts, IsTextRefused};
+ghost use Rattle.cue_program.specs.inner.Texts.{AreTexts, IsTextRefused};
 
 use crate::parts::first_part;
 use crate::stop::Stop;
@@ -63,7 +63,7 @@ pub fn take_file(site: &mut Replica, bytes: &[u8], number: usize) -> Result<(), 
 }
 
 /// Whether the first byte is FE (hexadecimal).
-fn begins_a_state(bytes: &[u8]) -> bool
+pub fn begins_a_state(bytes: &[u8]) -> bool
     ensures { IsTrue result ↔ (slice_get bytes.now 0 ≡ Some 254) }
 {
     bytes.first() == Some(&STATE)
@@ -108,9 +108,8 @@ fn submit(site: &mut Replica, part: &[u8], number: usize) -> Result<(), Stop>
 }
 
 /// The text in these bytes: neither too long, nor anything but UTF-8.
-fn text_of(bytes: &[u8]) -> Result<&str, Refusal>
-    ensures text { IfOk result (λ text. (text.now ≡ bytes.now) × (length bytes.now ≤ text_limit)
-        × IsUtf8 bytes.now) }
+pub fn text_of(bytes: &[u8]) -> Result<&str, Refusal>
+    ensures text { IfOk result (λ text. (text.now ≡ bytes.now) × IsText bytes.now) }
     ensures fault { IfErr result (IsByteFault bytes.now) }
 {
     if bytes.len() > TEXT_LIMIT {

@@ -1,1 +1,3 @@
 pub mod Arguments
+pub mod Networks
+pub mod Numbers

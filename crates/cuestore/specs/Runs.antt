@@ -1,7 +1,9 @@
 -- Whole runs of the program, on devices whose bytes are known or not.
-use Rattle.std.specs.Prelude.{◌≡◌, ◌⊎◌, ℕ, List, [], Option, Some, None}
+use Rattle.std.specs.Prelude.{◌≡◌, ◌⊎◌, ℕ, List, [], Option, Some, None, Ok}
 use Rattle.std.specs.Io.KnownBytes.{Appends}
 use Rattle.cue_answer.specs.Answers.{Says, code_of}
+use Rattle.cue_net.specs.Halts.{IsDeviceOrMemory}
+use Rattle.cue_net.specs.Printed.{IsServedExport}
 use Rattle.cue_program.specs.declared.Answer.{Answer}
 use Rattle.cue_program.specs.declared.Status.TheVariants as statuses
 use Rattle.cue_program.specs.declared.Stop.{Stop}
@@ -11,7 +13,8 @@ use Rattle.cue_program.specs.Runs.{IsAnswerOn, IsMergeOn, IsMergeStopOn, IsStopO
 use Rattle.cuestore.specs.declared.fault.Fault.{Fault}
 use Rattle.cuestore.specs.declared.fault.Fault.TheVariants as faults
 use Rattle.cuestore.specs.Faults.{IsMemory, IsTold}
-use Rattle.cuestore.specs.Words.{Asked, asking, merging, asked}
+use Rattle.cuestore.specs.Networks.{IsEndedBy, IsTalkOn, IsTalkStopOn}
+use Rattle.cuestore.specs.Words.{Asked, asking, merging, serving, pushing, looping, asked}
 
 -- What stands around a run: what lies where before it and after it, and what the reader had.
 pub record Around : Type 0 where
@@ -27,6 +30,14 @@ IsAnswerTo (asking question files) around answer =
 IsAnswerTo (merging out files) around answer =
     IsMergeOn out (inputs_of around.before files around.input) around.before around.after
     × Says answer [] statuses.Done
+IsAnswerTo (serving port count) around answer =
+    IsServedExport answer × (around.after ≡ around.before)
+IsAnswerTo (pushing port files) around answer =
+    IsTalkOn (inputs_of around.before files around.input) (Ok answer)
+    × (around.after ≡ around.before)
+IsAnswerTo (looping files) around answer =
+    IsTalkOn (inputs_of around.before files around.input) (Ok answer)
+    × (around.after ≡ around.before)
 
 -- What stops what is asked for.
 abbrev pub IsStopTo : Asked → Around → Stop → Type 0
@@ -35,6 +46,14 @@ IsStopTo (asking question files) around stop =
     × (around.after ≡ around.before)
 IsStopTo (merging out files) around stop =
     IsMergeStopOn out (inputs_of around.before files around.input) around.before around.after stop
+IsStopTo (serving port count) around stop =
+    IsEndedBy IsDeviceOrMemory stop × (around.after ≡ around.before)
+IsStopTo (pushing port files) around stop =
+    IsTalkStopOn (inputs_of around.before files around.input) stop
+    × (around.after ≡ around.before)
+IsStopTo (looping files) around stop =
+    IsTalkStopOn (inputs_of around.before files around.input) stop
+    × (around.after ≡ around.before)
 
 -- the words ask for something, to which this is the answer
 abbrev pub IsAnswerToWords : List (List ℕ) → Around → Answer → Type 0

@@ -8,10 +8,12 @@ ghost use Rattle.std.specs.Io.KnownBytes.{Appends};
 
 use crate::command::{Command, command_of, given_words};
 use crate::fault::Fault;
+use crate::network::{looped, pushed, served};
 use cue_program::{Answer, Shelf, Status, Stop, answer_for, merge_into, tell};
 use std::alloc::Global;
 use std::env::Env;
 use std::io::{Read, Write};
+use std::net::{Net, TcpListener, TcpStream};
 
 /// Runs the program on the words after its name, and answers the exit status: 0 done, 1 refused or
 /// a usage fault, 2 conflicts, 3 incomplete, 4 a device fault.
@@ -24,13 +26,20 @@ use std::io::{Read, Write};
 /// the state bytes. `merge` puts the state bytes at the name that stands first. The first refused
 /// input ends the run with the line `refused NUMBER NAME at PLACE in K`, which goes to `out` too.
 /// `usage fault` and `device fault` go to `faults`.
-pub fn act<H: AllocGlobal + Shelf, R: Read, W: Write, F: Write>(
+///
+/// `serve` listens on a port of 127.0.0.1, serves so many connections from one new site, one after
+/// the other, and then prints as `export` does. `push` sends the inputs to the site that is served
+/// on a port, and prints its export; `loop` does both in this process. Their inputs are all read and
+/// checked before any is sent; after an input that the site refuses the others are still sent.
+pub fn act<H, R: Read, W: Write, F: Write>(
     rt: &mut H,
     words: &[String],
     input: &mut R,
     out: &mut W,
     faults: &mut F,
 ) -> u8
+where
+    H: AllocGlobal + Shelf + Net<Listener = TcpListener, Stream = TcpStream>,
     ensures { IsRun (map string_bytes words.now) (record {
       before = H.held rt.old;
       after = H.held rt.new;
@@ -52,12 +61,14 @@ pub fn act<H: AllocGlobal + Shelf, R: Read, W: Write, F: Write>(
 
 /// Runs the program on the words that the process was given, as `act` does. Words that can't be
 /// read are a usage fault, or there is no memory for them.
-pub fn run<H: AllocGlobal + Env + Shelf, R: Read, W: Write, F: Write>(
+pub fn run<H, R: Read, W: Write, F: Write>(
     rt: &mut H,
     input: &mut R,
     out: &mut W,
     faults: &mut F,
 ) -> u8
+where
+    H: AllocGlobal + Env + Shelf + Net<Listener = TcpListener, Stream = TcpStream>,
     ensures { ((words : List (List ℕ)) × IsRun words (record {
       before = H.held rt.old;
       after = H.held rt.new;
@@ -74,11 +85,9 @@ pub fn run<H: AllocGlobal + Env + Shelf, R: Read, W: Write, F: Write>(
 }
 
 /// What the command that the words ask for prints.
-fn reply_to<H: AllocGlobal + Shelf, R: Read>(
-    rt: &mut H,
-    words: &[String],
-    input: &mut R,
-) -> Result<Answer, Fault>
+fn reply_to<H, R: Read>(rt: &mut H, words: &[String], input: &mut R) -> Result<Answer, Fault>
+where
+    H: AllocGlobal + Shelf + Net<Listener = TcpListener, Stream = TcpStream>,
     ensures answer { IfOk result (IsAnswerToWords (map string_bytes words.now) (record {
       before = H.held rt.old;
       after = H.held rt.new;
@@ -101,11 +110,9 @@ fn reply_to<H: AllocGlobal + Shelf, R: Read>(
 }
 
 /// What is printed for a command.
-fn answer<H: AllocGlobal + Shelf, R: Read>(
-    rt: &mut H,
-    command: &Command,
-    input: &mut R,
-) -> Result<Answer, Stop>
+fn answer<H, R: Read>(rt: &mut H, command: &Command, input: &mut R) -> Result<Answer, Stop>
+where
+    H: AllocGlobal + Shelf + Net<Listener = TcpListener, Stream = TcpStream>,
     ensures answer { IfOk result (IsAnswerTo (asked_by command.now) (record {
       before = H.held rt.old;
       after = H.held rt.new;
@@ -120,6 +127,9 @@ fn answer<H: AllocGlobal + Shelf, R: Read>(
     match command {
         Command::Ask { question, files } => answer_for(&*rt, *question, files, input),
         Command::Merge { out, files } => merged(rt, out, files, input),
+        Command::Serve { port, count } => served(&*rt, *port, *count),
+        Command::Push { port, files } => pushed(&*rt, *port, files, input),
+        Command::Loop { files } => looped(&*rt, files, input),
     }
 }
 

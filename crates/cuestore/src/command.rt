@@ -7,7 +7,9 @@ ghost use Rattle.std.specs.declared.io.ErrorKind.TheVariants.{OutOfMemory};
 ghost use Rattle.cue_program.specs.Files.{texts};
 ghost use Rattle.cuestore.specs.Faults.{IsMemory};
 ghost use Rattle.cuestore.specs.Words.{arguments, asked, asked_by, asking, is_option};
-ghost use Rattle.cuestore.specs.Words.{meant, merged};
+ghost use Rattle.std.specs.Char.{is_ascii_digit};
+ghost use Rattle.std.specs.List.{list_all};
+ghost use Rattle.cuestore.specs.Words.{looping, meant, merged, number_in, pushed, served, served_on};
 ghost use Rattle.cuestore.specs.inner.Scanning.{Goes, IsNone};
 
 use crate::fault::Fault;
@@ -29,7 +31,19 @@ pub enum Command<'w> {
         out: &'w str,
         files: Vec<&'w str>,
     },
+    /// Serve so many connections on a port, and print the export.
+    Serve { port: u16, count: u16 },
+    /// Send the inputs to the site on a port, and print its export.
+    Push { port: u16, files: Vec<&'w str> },
+    /// Do both in this process.
+    Loop { files: Vec<&'w str> },
 }
+
+/// The greatest port.
+const MAX_PORT: u16 = 65_535;
+
+/// The most connections that one run serves.
+const MAX_COUNT: u16 = 1_000;
 
 /// The words after the program's name. One that is not UTF-8 is a usage fault.
 pub fn given_words<H: AllocGlobal + Env>(rt: &H) -> Result<Vec<String>, Fault>
@@ -99,6 +113,12 @@ fn named<'w>(name: &str, files: Vec<&'w str>) -> Option<Command<'w>>
         Some(ask(Question::State, files))
     } else if name == "merge" {
         merge(files)
+    } else if name == "serve" {
+        serve(&files)
+    } else if name == "push" {
+        push(files)
+    } else if name == "loop" {
+        Some(Command::Loop { files })
     } else {
         None
     }
@@ -119,6 +139,55 @@ fn merge<'w>(mut files: Vec<&'w str>) -> Option<Command<'w>>
     }
     let out = files.remove(0);
     Some(Command::Merge { out, files })
+}
+
+/// Serving on the first of these, as a port, so many connections as the second says.
+fn serve<'w>(arguments: &[&'w str]) -> Option<Command<'w>>
+    ensures { option_map asked_by result ≡ served (texts arguments.now) }
+{
+    match arguments {
+        [port, count] => serve_on(port, count),
+        _ => None,
+    }
+}
+
+fn serve_on<'w>(port: &str, count: &str) -> Option<Command<'w>>
+    ensures { option_map asked_by result ≡ served_on port.now count.now }
+{
+    let port = number_in(port, MAX_PORT)?;
+    let count = number_in(count, MAX_COUNT)?;
+    Some(Command::Serve { port, count })
+}
+
+/// A push to the first of these, as a port, of the others.
+fn push<'w>(mut files: Vec<&'w str>) -> Option<Command<'w>>
+    ensures { option_map asked_by result ≡ pushed (texts files.entry.items) }
+{
+    if files.is_empty() {
+        return None;
+    }
+    let port = number_in(files.remove(0), MAX_PORT)?;
+    Some(Command::Push { port, files })
+}
+
+/// The number that a word of ASCII digits says, where it is from 1 to the greatest one.
+pub fn number_in(word: &str, most: u16) -> Option<u16>
+    ensures { result ≡ number_in most word.now }
+{
+    if !is_digits(word) {
+        return None;
+    }
+    match word.parse::<u16>() {
+        Ok(number) if number >= 1 && number <= most => Some(number),
+        _ => None,
+    }
+}
+
+/// Whether each character is an ASCII digit.
+fn is_digits(word: &str) -> bool
+    ensures { result ≡ list_all is_ascii_digit word.now }
+{
+    word.as_bytes().iter().all(|byte| byte.is_ascii_digit())
 }
 
 /// The arguments among the words after a command's name.

@@ -7,6 +7,7 @@ use std::env::{Env, FillError};
 use std::fs::{Metadata, OpenFile, OpenOptions, Permissions};
 use std::io;
 use std::io::{ErrorKind, Read, Seek, SeekFrom, Write};
+use std::net::{Net, SocketAddr, TcpListener, TcpStream};
 use std::rt::Files;
 
 /// What stands under a name.
@@ -225,6 +226,21 @@ impl<'a> Files for Disk<'a> {
     }
 
     fn remove_dir_all<B: Allocator>(&self, _alloc: B, _path: &str) -> io::Result<()> {
+        unsupported()
+    }
+}
+
+/// No port can be listened on or connected to.
+impl<'a> Net for Disk<'a> {
+    type Stream = TcpStream;
+
+    type Listener = TcpListener;
+
+    fn bind(&self, _addr: SocketAddr) -> io::Result<TcpListener> {
+        unsupported()
+    }
+
+    fn connect(&self, _addr: SocketAddr) -> io::Result<TcpStream> {
         unsupported()
     }
 }

@@ -6,6 +6,7 @@ mod command;
 #[cfg(test)]
 mod disk;
 mod fault;
+mod network;
 #[cfg(test)]
 mod tests;
 

@@ -4,6 +4,7 @@ mod defaults;
 mod devices;
 mod files;
 mod lists;
+mod network;
 mod orders;
 mod refusals;
 mod scalars;
@@ -16,6 +17,7 @@ use crate::act::act;
 use cue_program::Shelf;
 use std::alloc::Global;
 use std::io::Read;
+use std::net::{Net, TcpListener, TcpStream};
 use std::test::Fail;
 
 /// What a run wrote, and how it ended.
@@ -44,7 +46,10 @@ fn owned(alloc: Global, words: &[&str]) -> Result<Vec<String>, Fail> {
 
 /// The run over these words and this input. No contract says what it writes, so that the proof of a
 /// caller is short.
-fn acted<H: AllocGlobal + Shelf, R: Read>(rt: &mut H, words: &[String], input: &mut R) -> Run {
+fn acted<H, R: Read>(rt: &mut H, words: &[String], input: &mut R) -> Run
+where
+    H: AllocGlobal + Shelf + Net<Listener = TcpListener, Stream = TcpStream>,
+{
     let mut out = Vec::new(rt.alloc());
     let mut faults = Vec::new(rt.alloc());
     let status = act(rt, words, input, &mut out, &mut faults);
@@ -55,61 +60,82 @@ fn acted<H: AllocGlobal + Shelf, R: Read>(rt: &mut H, words: &[String], input: &
     }
 }
 
-fn ran<H: AllocGlobal + Shelf>(rt: &mut H, words: &[&str], mut input: &[u8]) -> Result<Run, Fail> {
+fn ran<H>(rt: &mut H, words: &[&str], mut input: &[u8]) -> Result<Run, Fail>
+where
+    H: AllocGlobal + Shelf + Net<Listener = TcpListener, Stream = TcpStream>,
+{
     let words = owned(rt.alloc(), words)?;
     Ok(acted(rt, &words, &mut input))
 }
 
 /// Whether a run over these words and this input ends with this status, and writes this.
-fn answers<H: AllocGlobal + Shelf>(
+fn answers<H>(
     rt: &mut H,
     words: &[&str],
     input: &[u8],
     status: u8,
     out: &str,
     faults: &str,
-) -> Result<bool, Fail> {
+) -> Result<bool, Fail>
+where
+    H: AllocGlobal + Shelf + Net<Listener = TcpListener, Stream = TcpStream>,
+{
     let run = ran(rt, words, input)?;
     Ok(run.is(status, out.as_bytes(), faults.as_bytes()))
 }
 
 /// Whether a run over these words and this input ends well and writes just these bytes.
-fn writes<H: AllocGlobal + Shelf>(
+fn writes<H>(
     rt: &mut H,
     words: &[&str],
     input: &[u8],
     bytes: &[u8],
-) -> Result<bool, Fail> {
+) -> Result<bool, Fail>
+where
+    H: AllocGlobal + Shelf + Net<Listener = TcpListener, Stream = TcpStream>,
+{
     let run = ran(rt, words, input)?;
     Ok(run.is(0, bytes, b""))
 }
 
 /// Whether the export of these texts ends with this status, and prints this.
-fn exports<H: AllocGlobal + Shelf>(
+fn exports<H>(
     rt: &mut H,
     texts: &str,
     status: u8,
     out: &str,
-) -> Result<bool, Fail> {
+) -> Result<bool, Fail>
+where
+    H: AllocGlobal + Shelf + Net<Listener = TcpListener, Stream = TcpStream>,
+{
     exports_bytes(rt, texts.as_bytes(), status, out)
 }
 
 /// Whether the export of these bytes ends with this status, and prints this.
-fn exports_bytes<H: AllocGlobal + Shelf>(
+fn exports_bytes<H>(
     rt: &mut H,
     bytes: &[u8],
     status: u8,
     out: &str,
-) -> Result<bool, Fail> {
+) -> Result<bool, Fail>
+where
+    H: AllocGlobal + Shelf + Net<Listener = TcpListener, Stream = TcpStream>,
+{
     answers(rt, &["export"], bytes, status, out, "")
 }
 
 /// Whether these texts are printed so.
-fn prints<H: AllocGlobal + Shelf>(rt: &mut H, texts: &str, out: &str) -> Result<bool, Fail> {
+fn prints<H>(rt: &mut H, texts: &str, out: &str) -> Result<bool, Fail>
+where
+    H: AllocGlobal + Shelf + Net<Listener = TcpListener, Stream = TcpStream>,
+{
     answers(rt, &["print"], texts.as_bytes(), 0, out, "")
 }
 
 /// The state bytes of a site that has taken these texts.
-fn state_of<H: AllocGlobal + Shelf>(rt: &mut H, texts: &str) -> Result<Vec<u8>, Fail> {
+fn state_of<H>(rt: &mut H, texts: &str) -> Result<Vec<u8>, Fail>
+where
+    H: AllocGlobal + Shelf + Net<Listener = TcpListener, Stream = TcpStream>,
+{
     Ok(ran(rt, &["state"], texts.as_bytes())?.out)
 }

@@ -4,6 +4,7 @@ use crate::act::act;
 use cue_program::Shelf;
 use std::io;
 use std::io::{ErrorKind, Read, Write};
+use std::net::{Net, TcpListener, TcpStream};
 use std::test::Fail;
 
 /// A reader and a writer that fail.
@@ -58,35 +59,47 @@ impl Write for Stuck {
 }
 
 /// Exports what the reader gives, and answers how that ended.
-fn exported<H: AllocGlobal + Shelf, R: Read, W: Write>(
+fn exported<H, R: Read, W: Write>(
     rt: &mut H,
     input: &mut R,
     out: &mut W,
     faults: &mut Vec<u8>,
-) -> Result<u8, Fail> {
+) -> Result<u8, Fail>
+where
+    H: AllocGlobal + Shelf + Net<Listener = TcpListener, Stream = TcpStream>,
+{
     let words = owned(rt.alloc(), &["export"])?;
     Ok(act(rt, &words, input, out, faults))
 }
 
 /// Whether an export from this reader to this writer tells that a device failed.
-fn tells_a_fault<H: AllocGlobal + Shelf, R: Read, W: Write>(
+fn tells_a_fault<H, R: Read, W: Write>(
     rt: &mut H,
     input: &mut R,
     out: &mut W,
-) -> Result<bool, Fail> {
+) -> Result<bool, Fail>
+where
+    H: AllocGlobal + Shelf + Net<Listener = TcpListener, Stream = TcpStream>,
+{
     let mut faults = Vec::new(rt.alloc());
     let status = exported(rt, input, out, &mut faults)?;
     Ok(status == 4 && faults.as_slice() == b"device fault\n".as_slice())
 }
 
 /// Whether an export from a reader that fails tells it, and writes nothing.
-fn tells_a_failing_reader<H: AllocGlobal + Shelf>(rt: &mut H) -> Result<bool, Fail> {
+fn tells_a_failing_reader<H>(rt: &mut H) -> Result<bool, Fail>
+where
+    H: AllocGlobal + Shelf + Net<Listener = TcpListener, Stream = TcpStream>,
+{
     let mut out = Vec::new(rt.alloc());
     Ok(tells_a_fault(rt, &mut Broken, &mut out)? && out.is_empty())
 }
 
 /// Whether an export of this text to a writer that fails tells it.
-fn tells_a_failing_writer<H: AllocGlobal + Shelf>(rt: &mut H, text: &str) -> Result<bool, Fail> {
+fn tells_a_failing_writer<H>(rt: &mut H, text: &str) -> Result<bool, Fail>
+where
+    H: AllocGlobal + Shelf + Net<Listener = TcpListener, Stream = TcpStream>,
+{
     tells_a_fault(rt, &mut text.as_bytes(), &mut Broken)
 }
 
@@ -99,7 +112,10 @@ fn tells_failing_devices(mut rt: HostRuntime) -> Result<(), Fail> {
 }
 
 /// Whether an export of this text tells that its bytes do not get out.
-fn tells_a_stuck_writer<H: AllocGlobal + Shelf>(rt: &mut H, text: &str) -> Result<bool, Fail> {
+fn tells_a_stuck_writer<H>(rt: &mut H, text: &str) -> Result<bool, Fail>
+where
+    H: AllocGlobal + Shelf + Net<Listener = TcpListener, Stream = TcpStream>,
+{
     tells_a_fault(rt, &mut text.as_bytes(), &mut Stuck)
 }
 
@@ -112,12 +128,15 @@ fn tells_bytes_that_do_not_get_out(mut rt: HostRuntime) -> Result<(), Fail> {
 
 /// Whether the export of so many empty lines, each read for itself, ends with this status, and
 /// prints this.
-fn drips<H: AllocGlobal + Shelf>(
+fn drips<H>(
     rt: &mut H,
     left: usize,
     status: u8,
     out: &str,
-) -> Result<bool, Fail> {
+) -> Result<bool, Fail>
+where
+    H: AllocGlobal + Shelf + Net<Listener = TcpListener, Stream = TcpStream>,
+{
     let words = owned(rt.alloc(), &["export"])?;
     let run = acted(rt, &words, &mut Drip { left });
     Ok(run.is(status, out.as_bytes(), b""))

@@ -4,6 +4,7 @@ use super::{Run, exports_bytes, ran, state_of, writes};
 use crate::disk::Entry;
 use cue_program::Shelf;
 use std::alloc::Global;
+use std::net::{Net, TcpListener, TcpStream};
 use std::test::Fail;
 
 /// Adds a text behind a separating line.
@@ -25,40 +26,52 @@ fn divided(alloc: Global, texts: &[&str]) -> Result<String, Fail> {
 }
 
 /// The run of a command over these texts.
-fn ran_on<H: AllocGlobal + Shelf>(rt: &mut H, command: &str, texts: &[&str]) -> Result<Run, Fail> {
+fn ran_on<H>(rt: &mut H, command: &str, texts: &[&str]) -> Result<Run, Fail>
+where
+    H: AllocGlobal + Shelf + Net<Listener = TcpListener, Stream = TcpStream>,
+{
     let all = divided(rt.alloc(), texts)?;
     ran(rt, &[command], all.as_bytes())
 }
 
 /// Whether a command writes these bytes over the texts.
-fn gives<H: AllocGlobal + Shelf>(
+fn gives<H>(
     rt: &mut H,
     command: &str,
     texts: &[&str],
     bytes: &[u8],
-) -> Result<bool, Fail> {
+) -> Result<bool, Fail>
+where
+    H: AllocGlobal + Shelf + Net<Listener = TcpListener, Stream = TcpStream>,
+{
     let run = ran_on(rt, command, texts)?;
     Ok(run.out.as_slice() == bytes)
 }
 
 /// Whether a command writes these bytes over the texts, and over the same backwards, each twice.
-fn both_ways<H: AllocGlobal + Shelf>(
+fn both_ways<H>(
     rt: &mut H,
     command: &str,
     [one, two, three]: [&str; 3],
     bytes: &[u8],
-) -> Result<bool, Fail> {
+) -> Result<bool, Fail>
+where
+    H: AllocGlobal + Shelf + Net<Listener = TcpListener, Stream = TcpStream>,
+{
     let back = [three, three, two, two, one, one];
     Ok(gives(rt, command, &[one, two, three], bytes)? && gives(rt, command, &back, bytes)?)
 }
 
 /// Whether a command writes these bytes over the texts in each of their orders.
-fn gives_in_every_order<H: AllocGlobal + Shelf>(
+fn gives_in_every_order<H>(
     rt: &mut H,
     command: &str,
     [one, two, three]: [&str; 3],
     bytes: &[u8],
-) -> Result<bool, Fail> {
+) -> Result<bool, Fail>
+where
+    H: AllocGlobal + Shelf + Net<Listener = TcpListener, Stream = TcpStream>,
+{
     Ok(
         both_ways(rt, command, [one, two, three], bytes)?
             && both_ways(rt, command, [two, three, one], bytes)?
@@ -67,17 +80,23 @@ fn gives_in_every_order<H: AllocGlobal + Shelf>(
 }
 
 /// Whether a command refuses none of the texts, and writes the same in each of their orders.
-pub fn agrees_in_every_order<H: AllocGlobal + Shelf>(
+pub fn agrees_in_every_order<H>(
     rt: &mut H,
     command: &str,
     texts: [&str; 3],
-) -> Result<bool, Fail> {
+) -> Result<bool, Fail>
+where
+    H: AllocGlobal + Shelf + Net<Listener = TcpListener, Stream = TcpStream>,
+{
     let run = ran_on(rt, command, &texts)?;
     Ok(run.status != 1 && gives_in_every_order(rt, command, texts, &run.out)?)
 }
 
 /// Whether a new site that takes what is printed of these texts has their state.
-pub fn is_printed_again<H: AllocGlobal + Shelf>(rt: &mut H, texts: &str) -> Result<bool, Fail> {
+pub fn is_printed_again<H>(rt: &mut H, texts: &str) -> Result<bool, Fail>
+where
+    H: AllocGlobal + Shelf + Net<Listener = TcpListener, Stream = TcpStream>,
+{
     let printed = ran(rt, &["print"], texts.as_bytes())?;
     let state = state_of(rt, texts)?;
     writes(rt, &["state"], &printed.out, &state)
@@ -98,12 +117,15 @@ fn printed_of<'a>(alloc: Global, text: &'a [u8], state: &'a [u8]) -> Result<Run,
 }
 
 /// Whether a site that takes a text, and the state of a site that took another one, prints this.
-fn prints_with_the_other<H: AllocGlobal + Shelf>(
+fn prints_with_the_other<H>(
     rt: &mut H,
     text: &str,
     other: &str,
     out: &str,
-) -> Result<bool, Fail> {
+) -> Result<bool, Fail>
+where
+    H: AllocGlobal + Shelf + Net<Listener = TcpListener, Stream = TcpStream>,
+{
     let state = state_of(rt, other)?;
     let run = printed_of(rt.alloc(), text.as_bytes(), &state)?;
     Ok(run.is(0, out.as_bytes(), b""))
@@ -137,7 +159,10 @@ fn ran_on_sent(alloc: Global, states: [&[u8]; 3], words: &[&str]) -> Result<Run,
 }
 
 /// The same, once the three sites have sent their states.
-fn ran_among_three<H: AllocGlobal + Shelf>(rt: &mut H, words: &[&str]) -> Result<Run, Fail> {
+fn ran_among_three<H>(rt: &mut H, words: &[&str]) -> Result<Run, Fail>
+where
+    H: AllocGlobal + Shelf + Net<Listener = TcpListener, Stream = TcpStream>,
+{
     let first = state_of(rt, "a: >=0\n---\na: <=9\n")?;
     let second = state_of(rt, "b: *1 | 2\n---\nb: int\n")?;
     let third = state_of(rt, "c: {d?: string}\n---\na: 4\n")?;
@@ -146,12 +171,15 @@ fn ran_among_three<H: AllocGlobal + Shelf>(rt: &mut H, words: &[&str]) -> Result
 
 /// Whether a site that has run on these words of three, and one that has on those, wrote the same,
 /// which is exported so.
-fn are_equal<H: AllocGlobal + Shelf>(
+fn are_equal<H>(
     rt: &mut H,
     words: &[&str],
     others: &[&str],
     json: &str,
-) -> Result<bool, Fail> {
+) -> Result<bool, Fail>
+where
+    H: AllocGlobal + Shelf + Net<Listener = TcpListener, Stream = TcpStream>,
+{
     let first = ran_among_three(rt, words)?;
     let second = ran_among_three(rt, others)?;
     Ok(first.is(0, &second.out, b"") && exports_bytes(rt, &first.out, 0, json)?)

@@ -2,10 +2,14 @@
 use super::{answers, exports, exports_bytes};
 use cue_program::Shelf;
 use std::alloc::Global;
+use std::net::{Net, TcpListener, TcpStream};
 use std::test::Fail;
 
 /// Whether a text of one byte more than may be is refused.
-fn refuses_the_longest<H: AllocGlobal + Shelf>(rt: &mut H) -> Result<bool, Fail> {
+fn refuses_the_longest<H>(rt: &mut H) -> Result<bool, Fail>
+where
+    H: AllocGlobal + Shelf + Net<Listener = TcpListener, Stream = TcpStream>,
+{
     let long = vec![in rt.alloc(); b'\n'; 1_048_577]?;
     exports_bytes(rt, &long, 1, "refused 1 TooLong at 1048576 in 1\n")
 }
@@ -112,13 +116,19 @@ fn doubled(alloc: Global, count: u32) -> Result<String, Fail> {
 }
 
 /// Whether nothing is reported of that text.
-fn takes_doubled<H: AllocGlobal + Shelf>(rt: &mut H, count: u32) -> Result<bool, Fail> {
+fn takes_doubled<H>(rt: &mut H, count: u32) -> Result<bool, Fail>
+where
+    H: AllocGlobal + Shelf + Net<Listener = TcpListener, Stream = TcpStream>,
+{
     let text = doubled(rt.alloc(), count)?;
     answers(rt, &["report"], text.as_bytes(), 0, "", "")
 }
 
 /// Whether that text is refused as too large.
-fn refuses_doubled<H: AllocGlobal + Shelf>(rt: &mut H, count: u32) -> Result<bool, Fail> {
+fn refuses_doubled<H>(rt: &mut H, count: u32) -> Result<bool, Fail>
+where
+    H: AllocGlobal + Shelf + Net<Listener = TcpListener, Stream = TcpStream>,
+{
     let text = doubled(rt.alloc(), count)?;
     exports_bytes(rt, text.as_bytes(), 1, "refused 14 TooLarge at 0 in 1\n")
 }

@@ -8,10 +8,14 @@ use cue_program::Shelf;
 use std::alloc::Global;
 use std::io;
 use std::io::ErrorKind;
+use std::net::{Net, TcpListener, TcpStream};
 use std::process::Abort;
 use std::test::Fail;
 
-fn assert_usage<H: AllocGlobal + Shelf + Abort>(rt: &mut H, words: &[&str]) -> Result<(), Fail> {
+fn assert_usage<H>(rt: &mut H, words: &[&str]) -> Result<(), Fail>
+where
+    H: AllocGlobal + Shelf + Abort + Net<Listener = TcpListener, Stream = TcpStream>,
+{
     let told = answers(rt, words, b"a: 1\n".as_slice(), 1, "", "usage fault\n")?;
     let rt = &*rt;
     assert!(rt; told);
@@ -19,10 +23,13 @@ fn assert_usage<H: AllocGlobal + Shelf + Abort>(rt: &mut H, words: &[&str]) -> R
 }
 
 /// Asserts that each of these words alone is a usage fault.
-fn assert_no_commands<H: AllocGlobal + Shelf + Abort>(
+fn assert_no_commands<H>(
     rt: &mut H,
     words: &[&str],
-) -> Result<(), Fail> {
+) -> Result<(), Fail>
+where
+    H: AllocGlobal + Shelf + Abort + Net<Listener = TcpListener, Stream = TcpStream>,
+{
     for word in words {
         assert_usage(rt, &[word])?;
     }
@@ -30,7 +37,10 @@ fn assert_no_commands<H: AllocGlobal + Shelf + Abort>(
 }
 
 /// Asserts that each of these words after a command is a usage fault.
-fn assert_no_files<H: AllocGlobal + Shelf + Abort>(rt: &mut H, words: &[&str]) -> Result<(), Fail> {
+fn assert_no_files<H>(rt: &mut H, words: &[&str]) -> Result<(), Fail>
+where
+    H: AllocGlobal + Shelf + Abort + Net<Listener = TcpListener, Stream = TcpStream>,
+{
     for word in words {
         assert_usage(rt, &["export", word])?;
     }
@@ -45,13 +55,26 @@ fn wants_its_words(mut rt: HostRuntime) -> Result<(), Fail> {
         &["exp", "--help", "help", "-1", "--", "", "Export"],
     )?;
     assert_no_files(&mut rt, &["--help", "-h", "-1", "---", "--file"])?;
-    assert_usage(&mut rt, &["serve", "80"])?;
-    assert_usage(&mut rt, &["push", "80"])?;
-    assert_usage(&mut rt, &["loop", "80"])?;
     assert_usage(&mut rt, &["merge"])?;
     assert_usage(&mut rt, &["merge", "--"])?;
     assert_usage(&mut rt, &["report", "-", "-x"])?;
     assert_usage(&mut rt, &["--", "export"])
+}
+
+#[test]
+fn wants_ports_and_counts(mut rt: HostRuntime) -> Result<(), Fail> {
+    assert_usage(&mut rt, &["serve"])?;
+    assert_usage(&mut rt, &["serve", "80"])?;
+    assert_usage(&mut rt, &["serve", "80", "1", "2"])?;
+    assert_usage(&mut rt, &["serve", "+80", "1"])?;
+    assert_usage(&mut rt, &["serve", "80", "+1"])?;
+    assert_usage(&mut rt, &["serve", "0", "1"])?;
+    assert_usage(&mut rt, &["serve", "65536", "1"])?;
+    assert_usage(&mut rt, &["serve", "80", "1001"])?;
+    assert_usage(&mut rt, &["push"])?;
+    assert_usage(&mut rt, &["push", ""])?;
+    assert_usage(&mut rt, &["push", "x", "80"])?;
+    assert_usage(&mut rt, &["loop", "-x"])
 }
 
 /// A process that was given these words.

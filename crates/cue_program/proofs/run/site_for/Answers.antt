@@ -1,7 +1,8 @@
 use Rattle.std.proofs.Common.{◌≡◌, ◌<◌, List, ℕ, Some, Option, rules, length, inl, inr, subst, sym, ap, ◌∙◌, IfOk, IfErr}
 use Rattle.std.proofs.lemmas.Result.{IfOk-weaker, IfErr-weaker}
+use Rattle.cue_replica.specs.Accepted.{IsAcceptable}
 use Rattle.cue_program.specs.Files.{AreAll, texts}
-use Rattle.cue_program.specs.Inputs.{Inputs, Holds, IsInputRefused, IsInputUnread, inputs_of, stream}
+use Rattle.cue_program.specs.Inputs.{Inputs, Holds, IsInputRefused, IsInputUnread, IsPieceRefusal, inputs_of, stream}
 use Rattle.cue_program.specs.Runs.{IsStopOn}
 use Rattle.cue_program.proofs.Streams.{held_of_known, refused_of_known, inputs_none, inputs_some}
 use Rattle.cue_program.proofs.run.site_for.Goals as goal
@@ -23,7 +24,7 @@ returns-in-Ok-clause-stop g c =
     let empty : length c.args.files.now ≡ 0 = search rules in
     let all : AreAll known c.deref.result.now = subst (λ (b : List ℕ). AreAll known b) (sym c.deref.ensures.value) c.in-Ok.ensures.all in
     IfErr-weaker c.site_of.result (IsInputRefused (stream (Some c.deref.result.now))) (IsStopOn (inputs_of held (texts c.args.files.now) known))
-    (λ stop h. inl (subst (λ (i : Inputs). IsInputRefused i stop) (sym (inputs_none held c.args.files.now known empty)) (refused_of_known known c.deref.result.now stop all h)))
+    (λ stop h. inl (subst (λ (i : Inputs). IsInputRefused i stop) (sym (inputs_none held c.args.files.now known empty)) (refused_of_known IsAcceptable IsPieceRefusal known c.deref.result.now stop all h)))
     c.site_of.ensures.refused
 
 pub returns-in-Err-clause-stop : goal.returns-in-Err-clause-stop

@@ -1,6 +1,7 @@
 use Rattle.std.proofs.Common.{◌≡◌, ℕ, List, Option, rules, sym, subst, ap, inl, inr, ◌+◌, map, take, drop, ◌∙◌, arith, length, []}
 use Rattle.cue_lattice.specs.World.{Piece}
 use Rattle.cue_replica.specs.declared.Refusal.{Refusal}
+use Rattle.cue_replica.specs.Accepted.{IsAcceptable}
 use Rattle.cue_program.specs.Stops.{IsRefusedAs}
 use Rattle.cue_program.specs.Files.{known_at, texts}
 use Rattle.cue_program.specs.Inputs.{Holds, IsFilePiece, IsInputRefused, IsInputUnread, IsPieceRefusal, files}
@@ -22,8 +23,8 @@ returns-in-Err-clause-stop g c =
     let i = c.loop-name.name-index in
     inr (inl (subst (λ (ks : List (Option (List ℕ))). IsInputUnread (files ks) c.in-Err.stop)
     (sym (split_known K names i (some_name names (omega (arith, c.loop-name-test.true))) c.loop-name-test.true))
-    (files_unread (map K (texts (take i names))) (map K (texts (drop (i + 1) names))) _ c.loop-name.site c.in-Err.stop
-    c.loop-name.invariant.holds c.in-Err.ensures.fault)))
+    (files_unread IsAcceptable (map K (texts (take i names))) (map K (texts (drop (i + 1) names))) _ c.loop-name.invariant.holds.0 c.in-Err.stop
+    c.loop-name.invariant.holds.1 c.loop-name.invariant.holds.2.0 c.in-Err.ensures.fault)))
 
 pub returns-in-Err-take_file-clause-stop : goal.returns-in-Err-take_file-clause-stop
 returns-in-Err-take_file-clause-stop g c =

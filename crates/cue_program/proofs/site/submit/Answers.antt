@@ -1,4 +1,4 @@
-use Rattle.std.proofs.Common.{◌≡◌, ◌⊎◌, ℕ, List, subst, refl, ⊎_elim, inl, inr}
+use Rattle.std.proofs.Common.{◌≡◌, ◌⊎◌, ℕ, List, subst, refl, inl, inr}
 use Rattle.cue_lattice.specs.Refusal.{memory}
 use Rattle.cue_replica.specs.Language.{language}
 use Rattle.cue_replica.specs.Replica.{Adds}
@@ -14,9 +14,9 @@ returns-in-Err-submit-clause-refused c =
     let P : List ℕ → Type 0 = λ t. ((why ≡ memory) × (language.IsTextRefusedAtOnce t → ⊥)) ⊎ language.IsTextFault t why in (
       why,
       refl,
-      inr (inr (c.in-Ok.ensures.text.1, c.in-Ok.ensures.text.2, subst P c.in-Ok.ensures.text.0 c.in-Err-submit.ensures.refused)),
+      inr (c.in-Ok.ensures.text.1, subst P c.in-Ok.ensures.text.0 c.in-Err-submit.ensures.refused),
     )
 
 pub returns-in-Err-clause-refused : goal.returns-in-Err-clause-refused
 returns-in-Err-clause-refused c =
-    (c.in-Err.why, refl, ⊎_elim (λ long. inl long) (λ bad. inr (inl bad)) c.in-Err.ensures.fault)
+    (c.in-Err.why, refl, inl c.in-Err.ensures.fault)

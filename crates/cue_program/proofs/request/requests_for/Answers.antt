@@ -1,0 +1,53 @@
+use Rattle.std.proofs.Common.{◌≡◌, ◌<◌, List, ℕ, Some, Option, rules, length, inl, inr, subst, sym, IfOk, IfErr}
+use Rattle.std.specs.Prelude.{Vec}
+use Rattle.std.specs.Global.{Global}
+use Rattle.std.proofs.lemmas.Result.{IfOk-weaker, IfErr-weaker}
+use Rattle.cue_wire.specs.declared.request.Request as requests
+use Rattle.cue_program.specs.Files.{AreAll, texts}
+use Rattle.cue_program.specs.Inputs.{Inputs, inputs_of, stream}
+use Rattle.cue_program.specs.Requests.{AreRequests, IsUnsentOn}
+use Rattle.cue_program.proofs.Requests.{sent_of_known, unsent_of_known}
+use Rattle.cue_program.proofs.Streams.{inputs_none, inputs_some}
+use Rattle.cue_program.proofs.request.requests_for.Goals as goal
+
+pub returns-in-Ok-clause-requests : goal.returns-in-Ok-clause-requests
+returns-in-Ok-clause-requests g c =
+    let held = g.H.Shelf.held c.args.rt.now in
+    let known = g.R.Read.remaining c.args.input.now in
+    let empty : length c.args.files.now ≡ 0 = search rules in
+    IfOk-weaker c.requests_of.result (λ (asked : Vec requests.Request Global). AreRequests (stream (Some c.in-Ok.bytes.items)) asked.items)
+    (λ (asked : Vec requests.Request Global). AreRequests (inputs_of held (texts c.args.files.now) known) asked.items)
+    (λ asked h. subst (λ (i : Inputs). AreRequests i asked.items) (sym (inputs_none held c.args.files.now known empty))
+    (sent_of_known known c.in-Ok.bytes.items asked.items c.in-Ok.ensures.all h))
+    c.requests_of.ensures.requests
+
+pub returns-in-Ok-clause-stop : goal.returns-in-Ok-clause-stop
+returns-in-Ok-clause-stop g c =
+    let held = g.H.Shelf.held c.args.rt.now in
+    let known = g.R.Read.remaining c.args.input.now in
+    let empty : length c.args.files.now ≡ 0 = search rules in
+    IfErr-weaker c.requests_of.result (IsUnsentOn (stream (Some c.in-Ok.bytes.items))) (IsUnsentOn (inputs_of held (texts c.args.files.now) known))
+    (λ stop h. subst (λ (i : Inputs). IsUnsentOn i stop) (sym (inputs_none held c.args.files.now known empty)) (unsent_of_known known c.in-Ok.bytes.items stop c.in-Ok.ensures.all h))
+    c.requests_of.ensures.stop
+
+pub returns-in-Err-clause-stop : goal.returns-in-Err-clause-stop
+returns-in-Err-clause-stop g c =
+    let held = g.H.Shelf.held c.args.rt.now in
+    let known = g.R.Read.remaining c.args.input.now in
+    let empty : length c.args.files.now ≡ 0 = search rules in
+    subst (λ (i : Inputs). IsUnsentOn i c.in-Err.stop) (sym (inputs_none held c.args.files.now known empty)) (inr (inl c.in-Err.ensures.fault))
+
+pub returns-then-not-is_empty-clause-requests : goal.returns-then-not-is_empty-clause-requests
+returns-then-not-is_empty-clause-requests g c =
+    let held = g.H.Shelf.held c.args.rt.now in
+    let known = g.R.Read.remaining c.args.input.now in
+    let some : 0 < length c.args.files.now = search rules in
+    subst (λ (i : Inputs). IfOk c.requests_of_files.result (λ (asked : Vec requests.Request Global). AreRequests i asked.items)) (sym (inputs_some held c.args.files.now known some))
+    c.requests_of_files.ensures.requests
+
+pub returns-then-not-is_empty-clause-stop : goal.returns-then-not-is_empty-clause-stop
+returns-then-not-is_empty-clause-stop g c =
+    let held = g.H.Shelf.held c.args.rt.now in
+    let known = g.R.Read.remaining c.args.input.now in
+    let some : 0 < length c.args.files.now = search rules in
+    subst (λ (i : Inputs). IfErr c.requests_of_files.result (IsUnsentOn i)) (sym (inputs_some held c.args.files.now known some)) c.requests_of_files.ensures.stop

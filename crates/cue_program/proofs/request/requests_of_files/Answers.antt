@@ -1,0 +1,52 @@
+use Rattle.std.proofs.Common.{◌≡◌, ◌<◌, ◌++◌, ◌∷◌, ℕ, List, Option, rules, sym, subst, ap, inl, inr, ⊎_elim, ◌+◌, ◌-◌, ◌^◌, min, map, take, drop, ◌∙◌, arith, length, []}
+use Rattle.cue_wire.specs.declared.request.Request as requests
+use Rattle.cue_program.specs.Files.{known_at, texts}
+use Rattle.cue_program.specs.Inputs.{files}
+use Rattle.cue_program.specs.Requests.{AreRequests, IsUnsentOn}
+use Rattle.cue_program.proofs.Files.{some_name, take_known, split_known}
+use Rattle.cue_program.proofs.Requests.{files_sent_none, files_sent_more, files_unsent, files_sent_unread}
+use Rattle.cue_program.proofs.request.requests_of_files.Goals as goal
+
+pub loop-name-init : goal.loop-name-init
+loop-name-init g c = record {
+  sent = subst (AreRequests (files [])) (sym c.new-requests.ensures.items) files_sent_none;
+  room = search rules;
+}
+
+pub returns-in-Err-clause-stop : goal.returns-in-Err-clause-stop
+returns-in-Err-clause-stop g c =
+    let K = known_at (g.H.Shelf.held c.args.rt.now) in
+    let names = c.args.names.now in
+    let i = c.loop-name.name-index in
+    subst (λ (ks : List (Option (List ℕ))). IsUnsentOn (files ks) c.in-Err.stop)
+    (sym (split_known K names i (some_name names (omega (arith, c.loop-name-test.true))) c.loop-name-test.true))
+    (files_sent_unread (map K (texts (take i names))) (map K (texts (drop (i + 1) names))) _ c.loop-name.requests.items c.in-Err.stop
+    c.loop-name.invariant.sent c.in-Err.ensures.fault)
+
+pub returns-in-Err-request_of_file-clause-stop : goal.returns-in-Err-request_of_file-clause-stop
+returns-in-Err-request_of_file-clause-stop g c =
+    let K = known_at (g.H.Shelf.held c.args.rt.now) in
+    let names = c.args.names.now in
+    let i = c.loop-name.name-index in
+    ⊎_elim
+    (λ fault. subst (λ (ks : List (Option (List ℕ))). IsUnsentOn (files ks) c.in-Err-request_of_file.stop)
+    (sym (split_known K names i _ c.loop-name-test.true))
+    (files_unsent (map K (texts (take i names))) (map K (texts (drop (i + 1) names))) _ c.loop-name.requests.items c.saturating_add-number.result
+    c.in-Ok.bytes.items c.in-Err-request_of_file.stop c.loop-name.invariant.sent c.in-Ok.ensures.all
+    (c.saturating_add-number.ensures ∙ ap (λ n. min (n + 1) (2 ^ 64 - 1)) (c.len.ensures ∙ c.loop-name.requests.ok.0)) fault))
+    (λ memory. inr (inr memory))
+    c.in-Err-request_of_file.ensures.stop
+
+pub loop-name-preserved : goal.loop-name-preserved
+loop-name-preserved g c =
+    let K = known_at (g.H.Shelf.held c.args.rt.now) in
+    let names = c.args.names.now in
+    let i = c.loop-name.name-index in
+    record {
+      sent = subst (λ (rs : List requests.Request). AreRequests (files (map K (texts (take (i + 1) names)))) rs) (sym c.in_ok-push-in-Ok-request_of_file.ensures.items)
+          (subst (λ (ks : List (Option (List ℕ))). AreRequests (files ks) (c.loop-name.requests.items ++ c.in-Ok-request_of_file.request ∷ []))
+          (sym (take_known K names i _ c.loop-name-test.true))
+          (files_sent_more (map K (texts (take i names))) _ c.in-Ok.bytes.items c.loop-name.requests.items c.in-Ok-request_of_file.request
+          c.loop-name.invariant.sent c.in-Ok.ensures.all c.in-Ok-request_of_file.ensures.request));
+      room = search rules;
+    }

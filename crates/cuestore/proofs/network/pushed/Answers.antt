@@ -1,0 +1,10 @@
+use Rattle.cue_program.specs.Files.{texts}
+use Rattle.cue_program.specs.Inputs.{inputs_of}
+use Rattle.cuestore.proofs.Networks.{talk_stopped}
+use Rattle.cuestore.proofs.network.pushed.Goals as goal
+
+pub returns-clause-stop : goal.returns-clause-stop
+returns-clause-stop g c =
+    let held = g.H.Shelf.held c.args.rt.now in
+    talk_stopped (inputs_of held (texts c.args.files.now) (g.R.Read.remaining c.args.input.now)) held c.in-Ok.requests.items
+    c.deref.result.now c.push_for.result c.ended.result c.deref.ensures.value c.in-Ok.ensures.requests c.push_for.ensures c.ended.ensures.stop

@@ -1,0 +1,82 @@
+//! Sites over a network: ports and counts, both ends in this process, and what can't be sent.
+use super::files::ran_over;
+use super::states::ONE;
+use super::answers;
+use crate::command::number_in;
+use crate::disk::Entry;
+use std::alloc::Global;
+use std::test::Fail;
+
+#[test]
+fn ports_and_counts_are_digits(rt: HostRuntime) {
+    assert_eq!(rt; number_in("080", 65_535), Some(80));
+    assert_eq!(rt; number_in("1", 65_535), Some(1));
+    assert_eq!(rt; number_in("65535", 65_535), Some(65_535));
+    assert_eq!(rt; number_in("65536", 65_535), None);
+    assert_eq!(rt; number_in("1000", 1_000), Some(1_000));
+    assert_eq!(rt; number_in("1001", 1_000), None);
+    assert_eq!(rt; number_in("0", 1_000), None);
+    assert_eq!(rt; number_in("", 1_000), None);
+    assert_eq!(rt; number_in("+80", 65_535), None);
+    assert_eq!(rt; number_in("8 ", 65_535), None);
+    assert_eq!(rt; number_in("99999999999999999999", 65_535), None);
+}
+
+/// Whether a run of `loop` on this input ends with this status, and prints this.
+fn loops(rt: &mut HostRuntime, input: &[u8], status: u8, out: &str) -> Result<bool, Fail> {
+    answers(rt, &["loop"], input, status, out, "")
+}
+
+#[test]
+fn both_ends_are_in_this_process(mut rt: HostRuntime) -> Result<(), Fail> {
+    assert!(rt; loops(&mut rt, b"port: int\n---\nport: 443\n", 0, "{\"port\":443}\n")?);
+    assert!(rt; loops(&mut rt, b"a: 1\n---\na: 2\n", 2, "conflict a no value\n")?);
+    assert!(rt; loops(&mut rt, b"a!: 1", 3, "incomplete a missing\n")?);
+    assert!(rt; loops(&mut rt, ONE, 0, "{\"a\":1}\n")?);
+    assert!(rt; loops(&mut rt, b"", 0, "{}\n")?);
+    Ok(())
+}
+
+#[test]
+fn the_first_refusal_of_the_site_is_told(mut rt: HostRuntime) -> Result<(), Fail> {
+    assert!(rt; loops(&mut rt, b"a: *1", 1, "refused 7 Syntax at 5 in 1\n")?);
+    let two = b"a: 1\n---\na: ]\n---\na 2\n".as_slice();
+    assert!(rt; loops(&mut rt, two, 1, "refused 7 Syntax at 3 in 2\n")?);
+    assert!(rt; loops(&mut rt, &ONE[..91], 1, "refused 18 NotState at 0 in 1\n")?);
+    Ok(())
+}
+
+/// A text, one that is no UTF-8, and one that fails to be read.
+const FILES: &[(&str, Entry)] = &[
+    ("a", Entry::Bytes(b"a: 1\n")),
+    ("wild", Entry::Bytes(b"a: \xFF")),
+    ("cut", Entry::Cut(b"a: 1\n")),
+];
+
+/// Whether a run on these words ends with this status and prints this, where there are files and no
+/// network.
+fn ends(alloc: Global, words: &[&str], status: u8, out: &str, faults: &str) -> Result<bool, Fail> {
+    let run = ran_over(alloc, FILES, words, b"a: 1\n---\nb: \xFE\n")?;
+    Ok(run.is(status, out.as_bytes(), faults.as_bytes()))
+}
+
+#[test]
+fn all_inputs_are_checked_before_any_is_sent(rt: HostRuntime) -> Result<(), Fail> {
+    let alloc = rt.alloc();
+    let wild = "refused 2 BadCharacter at 3 in 2\n";
+    assert!(rt; ends(alloc, &["push", "80", "a", "wild"], 1, wild, "")?);
+    assert!(rt; ends(alloc, &["loop", "a", "wild", "none"], 1, wild, "")?);
+    assert!(rt; ends(alloc, &["loop"], 1, wild, "")?);
+    assert!(rt; ends(alloc, &["push", "80", "a", "cut"], 4, "", "device fault\n")?);
+    assert!(rt; ends(alloc, &["push", "80", "none"], 4, "", "device fault\n")?);
+    Ok(())
+}
+
+#[test]
+fn a_port_that_is_not_to_be_had_is_a_device_fault(rt: HostRuntime) -> Result<(), Fail> {
+    let alloc = rt.alloc();
+    assert!(rt; ends(alloc, &["serve", "80", "1"], 4, "", "device fault\n")?);
+    assert!(rt; ends(alloc, &["push", "80", "a"], 4, "", "device fault\n")?);
+    assert!(rt; ends(alloc, &["loop", "a"], 4, "", "device fault\n")?);
+    Ok(())
+}
