@@ -9,3 +9,4 @@ pub mod Pushes
 pub mod Rounds
 pub mod Sockets
 pub mod Talks
+pub mod Truth

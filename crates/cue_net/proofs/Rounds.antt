@@ -59,13 +59,13 @@ cut_between halt inputs old new s0 s1 t0 t1 given given' to_come to_come' taken 
 -- an exchange to the end, and what the replies tell
 pub answered_between : (u : Unit {0}) (result : Result Answer Halt) (inputs : List requests.Request) (old new : Exchange) (s0 s1 : Standing) (t0 t1 : Table) (vectors : List (Vec ℕ Global))
     (given given' to_come to_come' taken taken' gave gave' coming coming' took took' : Option (List ℕ)) (left allowed calls failed failed' : ℕ)
-    → HasTaken old [] → s0 ≡ reading [] → t0 ≡ opening
+    → All IsSendable inputs → HasTaken old [] → s0 ≡ reading [] → t0 ≡ opening
     → Exchanged (Ok u) (asking inputs) old new s0 s1 t0 t1 given given' to_come to_come' taken taken' gave gave' coming coming' took took' left failed failed'
     → all_items vectors ≡ new.replies
     → ((to_inputs : List (List ℕ)) × (last : List ℕ) × (all_items vectors ≡ to_inputs ++ last ∷ []) × (length to_inputs ≡ length inputs) × AreTold to_inputs last result)
     ⊎ ((length vectors ≢ length inputs + 1) × IsErrOf result halts.Device)
     → Between result inputs given given' to_come to_come' taken taken' gave gave' coming coming' took took' allowed calls failed failed'
-answered_between u result inputs old new s0 s1 t0 t1 vectors given given' to_come to_come' taken taken' gave gave' coming coming' took took' left allowed calls failed failed' none is new_site a are told =
+answered_between u result inputs old new s0 s1 t0 t1 vectors given given' to_come to_come' taken taken' gave gave' coming coming' took took' left allowed calls failed failed' fits none is new_site a are told =
     let sent : asking inputs ≡ a.near.sent = a.front ∙ ap (λ zs. a.near.sent ++ zs) a.ends.0 ∙ append-nil a.near.sent in
     let all = a.ends.3 [] none in
     let sv = a.ends.4 [] is (inl (omega arith)) in (
@@ -88,7 +88,9 @@ answered_between u result inputs old new s0 s1 t0 t1 vectors given given' to_com
             rest = new.rest;
             sent = sym sent;
             heard = subst (λ rs. AreFrames a.near.heard rs new.rest) (sym are ∙ t.2) all.frames;
+            unfinished = all.unfinished;
             count = t.3;
+            fits = fits;
           },
           t.4,
         ),

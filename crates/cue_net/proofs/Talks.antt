@@ -33,13 +33,13 @@ cut halt inputs old new count given given' to_come to_come' taken taken' left fa
 
 -- a talk in which all replies are there, and what they tell
 pub answered : (u : Unit {0}) (result : Result Answer Halt) (inputs : List requests.Request) (old new : Exchange) (vectors : List (Vec ℕ Global))
-    (given given' to_come to_come' taken taken' : Option (List ℕ)) (left failed failed' allowed calls : ℕ) → HasTaken old []
+    (given given' to_come to_come' taken taken' : Option (List ℕ)) (left failed failed' allowed calls : ℕ) → All IsSendable inputs → HasTaken old []
     → Asked (Ok u) (asking inputs) old new (length inputs + 1) given given' to_come to_come' taken taken' left failed failed'
     → all_items vectors ≡ new.replies
     → ((to_inputs : List (List ℕ)) × (last : List ℕ) × (all_items vectors ≡ to_inputs ++ last ∷ []) × (length to_inputs ≡ length inputs) × AreTold to_inputs last result)
     ⊎ ((length vectors ≢ length inputs + 1) × IsErrOf result halts.Device)
     → (talk : Talk) × IsTalk talk given given' to_come to_come' taken taken' × IsAnswerOf result inputs talk to_come' allowed calls failed failed'
-answered u result inputs old new vectors given given' to_come to_come' taken taken' left failed failed' allowed calls new_taken asked are told =
+answered u result inputs old new vectors given given' to_come to_come' taken taken' left failed failed' allowed calls fits new_taken asked are told =
     let sent : asking inputs ≡ asked.talk.sent = asked.front ∙ ap (λ zs. asked.talk.sent ++ zs) asked.all ∙ append-nil asked.talk.sent in
     let all = asked.ends.0 [] new_taken in (
       asked.talk,
@@ -51,7 +51,9 @@ answered u result inputs old new vectors given given' to_come to_come' taken tak
           rest = new.rest;
           sent = sym sent;
           heard = subst (λ rs. AreFrames asked.talk.heard rs new.rest) (sym are ∙ t.2) all.frames;
+          unfinished = all.unfinished;
           count = t.3;
+          fits = fits;
         },
         t.4,
       )) (λ s. inr (

@@ -7,4 +7,5 @@ pub mod Replies
 pub mod Sockets
 pub mod Talks
 pub mod Told
+pub mod Truth
 pub mod Turns

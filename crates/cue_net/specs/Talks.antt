@@ -28,14 +28,16 @@ pub record IsTalk (talk : Talk) (given given' to_come to_come' taken taken' : Op
 abbrev pub asking : List requests.Request → List ℕ
 asking inputs = flat_map request_frame inputs ++ request_frame asked.AskExport
 
--- All was sent, and what was heard begins with these replies to the inputs and the last, to the
--- question.
+-- All was sent, and the whole frames of what was heard are these replies to the inputs and the
+-- last, to the question.
 pub record AreReplies (inputs : List requests.Request) (talk : Talk) (replies : List (List ℕ))
     (last : List ℕ) : Type 0 where
   pub rest : List ℕ
   pub sent : talk.sent ≡ asking inputs
   pub heard : AreFrames talk.heard (replies ++ last ∷ []) rest
+  pub unfinished : IsUnfinished rest
   pub count : length replies ≡ length inputs
+  pub fits : All IsSendable inputs
 
 -- What was heard is no replies: a length that no frame has, or more replies than requests.
 abbrev pub AreNoReplies : List requests.Request → List ℕ → Type 0

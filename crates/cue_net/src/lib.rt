@@ -7,6 +7,7 @@
 
 mod carrying;
 mod halt;
+mod laws;
 mod looped;
 mod pushing;
 mod reply;
@@ -18,6 +19,7 @@ pub use cue_answer::{Answer, Status};
 pub use cue_replica::{Kind, Refusal};
 pub use cue_wire::Request;
 pub use halt::Halt;
+pub use laws::answers_are_true;
 pub use looped::{End, converse, loop_for};
 pub use pushing::{push, push_for};
 pub use reply::{Export, Verdict, export_in, kind_of, read_reply, refusal_in};

@@ -2,7 +2,7 @@
 
 use crate::devices::{Input, Output};
 use cue_answer::{Answer, Status};
-use cue_device::{Reader, Writer};
+use cue_device::{Reader, Sink, Source, Writer};
 use cue_net::{Halt, MAX_TURNS, kind_of, loop_for, push};
 use cue_replica::{Kind, Refusal};
 use cue_wire::Request;
@@ -122,6 +122,62 @@ fn refusals_of_no_input(rt: HostRuntime) -> Result<(), Fail> {
     let reply = b"\0\0\0\x09\x17\0\0\0\0\0\0\0\0";
     let too_long = pushed(rt.alloc(), &[], reply.as_slice(), 4096)?;
     assert!(rt; too_long.halts(Halt::RefusedExport(Kind::ReplyTooLong)));
+    Ok(())
+}
+
+/// What is told of these inputs in so many turns, by calls that all succeed, and how many of the
+/// turns were taken.
+fn in_turns(alloc: Global, inputs: &[Request], replies: &[u8], turns: u64) -> (Told, u64) {
+    let mut source = Reader::new(Input {
+        rest: replies,
+        most: 4096,
+        good: 1_000_000,
+    });
+    let mut sink = Writer::new(Output {
+        written: Vec::new(alloc),
+        most: 4096,
+        good: 1_000_000,
+    });
+    let answer = push(alloc, &mut source, &mut sink, inputs, turns);
+    (Told { answer }, source.calls() + sink.calls())
+}
+
+#[test]
+fn turns_are_counted(rt: HostRuntime) {
+    let replies = b"\0\0\0\x04\0\0{}";
+    for turns in 0..2u64 {
+        let (told, calls) = in_turns(rt.alloc(), &[], replies.as_slice(), turns);
+        assert!(rt; told.halts(Halt::Refused(Kind::TurnsUsed)));
+        assert_eq!(rt; calls, turns);
+    }
+    let (told, calls) = in_turns(rt.alloc(), &[], replies.as_slice(), 2);
+    assert!(rt; told.prints(b"{}\n", Status::Done));
+    assert_eq!(rt; calls, 2);
+}
+
+#[test]
+fn nothing_is_sent_with_an_input_that_is_too_long(rt: HostRuntime) -> Result<(), Fail> {
+    let state = Vec::from_elem(rt.alloc(), 0u8, 16_777_216)?;
+    let mut inputs = texts_of(rt.alloc(), &["a: 1"])?;
+    inputs.push(Request::State(state))?;
+    let (told, calls) = in_turns(rt.alloc(), &inputs, b"", 100);
+    assert!(rt; told.halts(Halt::Refused(Kind::FrameTooLong)));
+    assert_eq!(rt; calls, 0);
+    Ok(())
+}
+
+#[test]
+fn three_hundred_inputs(rt: HostRuntime) -> Result<(), Fail> {
+    let mut inputs = Vec::new(rt.alloc());
+    let mut replies = Vec::new(rt.alloc());
+    for _ in 0..300u16 {
+        inputs.push(Request::Text(String::new(rt.alloc())))?;
+        replies.extend_from_slice(b"\0\0\0\x01\0")?;
+    }
+    replies.extend_from_slice(b"\0\0\0\x04\0\0{}")?;
+    let (told, calls) = in_turns(rt.alloc(), &inputs, &replies, 100);
+    assert!(rt; told.prints(b"{}\n", Status::Done));
+    assert_eq!(rt; calls, 4);
     Ok(())
 }
 

@@ -93,6 +93,6 @@ returns-clause-answer g c =
     new.left (calls + c.args.turns) (source.called new.near.source + sink.called new.near.sink + source.called new.far.source + sink.called new.far.sink)
     (source.failed near.source + sink.failed near.sink + source.failed far.source + sink.failed far.sink)
     (source.failed new.near.source + sink.failed new.near.sink + source.failed new.far.source + sink.failed new.far.sink)
-    c.in-Ok.ensures.taken c.in-Ok-new_site.ensures.session c.in-Ok-new_site.ensures.site
+    (c.all_fit.ensures.0 c.if-not-all_fit.false) c.in-Ok.ensures.taken c.in-Ok-new_site.ensures.session c.in-Ok-new_site.ensures.site
     (ex_is (sym (asks_both c.args.inputs.now)) (ex_then c.in-Ok-exchange.ensures.sound c.in-Ok-exchange.ensures.exchanged c.in-Ok-exchange-2.ensures.exchanged))
     c.replies.ensures c.told_by.ensures

@@ -62,7 +62,7 @@ returns-clause-answer g c =
     let failed' = source.failed new.source + sink.failed new.sink in
     answered tt c.told_by.result c.args.inputs.now c.in-Ok.client new.hearing c.replies.result.now
     (source.given c.args.source.now) (source.given new.source) (source.to_come c.args.source.now) (source.to_come new.source) (sink.taken c.args.sink.now) (sink.taken new.sink)
-    new.left failed failed' (calls + c.args.turns) (source.called new.source + sink.called new.sink) c.in-Ok.ensures.taken
+    new.left failed failed' (calls + c.args.turns) (source.called new.source + sink.called new.sink) (c.all_fit.ensures.0 c.if-not-all_fit.false) c.in-Ok.ensures.taken
     (asks_on tt (Ok tt) c.args.inputs.now c.in-Ok.client mid.hearing new.hearing
     (source.given c.args.source.now) (source.given mid.source) (source.given new.source) (source.to_come c.args.source.now) (source.to_come mid.source) (source.to_come new.source)
     (sink.taken c.args.sink.now) (sink.taken mid.sink) (sink.taken new.sink) mid.left new.left
