@@ -59,7 +59,8 @@ Begin (stream known) pieces =
 abbrev pub Holds : Inputs → Table → Type 0
 Holds inputs table = (pieces : List Piece) × ArePieces inputs pieces × IsOfPieces table pieces
 
--- why bytes are no text: they are too many, or else no UTF-8, at the place where the part that is ends
+-- why bytes are no text: they are too many; or else no UTF-8, at the place where the part that is
+-- ends
 abbrev pub IsByteFault : List ℕ → Refusal → Type 0
 IsByteFault bytes why =
     ((text_limit < length bytes) × (why ≡ refusal_at kinds.TooLong text_limit))
@@ -88,8 +89,8 @@ abbrev pub IsPieceRefusal : Piece → Refusal → Type 0
 IsPieceRefusal (text bytes) why = IsTextRefusal bytes why
 IsPieceRefusal (state bytes) why = IsStateRefusal bytes why
 
--- The first input that is refused for such a reason: those before it are fine, and it is told with its
--- number from 1 (or the greatest number that can be told).
+-- The first input that is refused for such a reason: those before it are fine, and it is told with
+-- its number from 1 (or the greatest number that can be told).
 pub record IsFirstRefused (IsFine : Piece → Type 0) (IsReason : Piece → Refusal → Type 0)
     (inputs : Inputs) (stop : Stop) : Type 0 where
   pub before : List Piece
@@ -108,7 +109,8 @@ IsFirstUnread IsFine (files known) stop =
     × AllByRecursion IsFine pieces × IsUnreadable stop
 IsFirstUnread IsFine (stream known) stop = IsUnreadable stop
 
--- the first input that a site refuses, and the first that can't be read after inputs that it accepts
+-- the first input that a site refuses, and the first that can't be read behind inputs that it
+-- accepts
 abbrev pub IsInputRefused : Inputs → Stop → Type 0
 IsInputRefused inputs stop = IsFirstRefused IsAcceptable IsPieceRefusal inputs stop
 

@@ -6,7 +6,8 @@ use Rattle.cue_replica.specs.declared.Refusal.{Refusal}
 use Rattle.cue_wire.specs.declared.request.Request as requests
 use Rattle.cue_wire.specs.Clients.{request_of}
 use Rattle.cue_wire.specs.Requests as asking
-use Rattle.cue_program.specs.Inputs.{Inputs, ArePieces, IsByteFault, IsFirstRefused, IsFirstUnread, IsText}
+use Rattle.cue_program.specs.Inputs.{Inputs, ArePieces, IsByteFault, IsText}
+use Rattle.cue_program.specs.Inputs.{IsFirstRefused, IsFirstUnread}
 use Rattle.cue_program.specs.Stops.{IsMemory}
 use Rattle.cue_program.specs.declared.stop.Stop.{Stop}
 

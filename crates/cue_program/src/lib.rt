@@ -1,6 +1,7 @@
 //! What the program does with inputs, apart from its words: it reads an input to its end, tells a
 //! state from texts, splits texts at separating lines, hands each to one new site, and says what is
-//! printed of it. A merged state takes the place of a file in one step.
+//! printed of it. A merged state takes the place of a file in one step. For a site of another
+//! process it makes a request of each input.
 #![tactic(auto)]
 
 mod disk;
@@ -17,9 +18,9 @@ mod stop;
 pub use cue_answer::{Answer, Question, Status, answer_to, printed};
 pub use cue_device::Fault;
 pub use cue_replica::{Kind, Memory, Refusal, Replica};
+pub use cue_wire::Request;
 pub use out::tell;
 pub use parts::first_part;
-pub use cue_wire::Request;
 pub use request::requests_for;
 pub use run::{answer_for, merge_into};
 pub use shelf::{Form, Shelf};

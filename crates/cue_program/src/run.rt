@@ -123,7 +123,11 @@ fn site_of_files<H: AllocGlobal + Shelf>(rt: &H, names: &[&str]) -> Result<Repli
 }
 
 /// All bytes of the file of this name, by reads into this room.
-pub fn read_file<H: AllocGlobal + Shelf>(rt: &H, name: &str, piece: &mut [u8]) -> Result<Vec<u8>, Stop>
+pub fn read_file<H: AllocGlobal + Shelf>(
+    rt: &H,
+    name: &str,
+    piece: &mut [u8],
+) -> Result<Vec<u8>, Stop>
     requires { 0 < length piece.old }
     ensures all { IfOk result (λ all. AreAll (known_at (H.held rt.now) name.now) all.items) }
     ensures fault { IfErr result IsUnreadable }

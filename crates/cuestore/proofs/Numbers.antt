@@ -26,6 +26,7 @@ no_number {E} most word r e is parsed digits less = rw digits (go (nat_le 1 n &&
   where
     n : ℕ
     n = digits_value 10 word
+
     go : (t : Bool) → (nat_le 1 n && nat_le n most) ≡ t → None ≡ (if t then Some n else None)
     go false small = refl
     go true small =

@@ -26,7 +26,8 @@ abbrev pub IsTalkOn : Inputs → Result Answer Halt → Type 0
 IsTalkOn inputs result =
     (requests : List Request) × AreRequests inputs requests × IsTalkAnswer requests result
 
--- Why nothing is printed of a site: an input can't be sent, and then none was; or the talk ended so.
+-- Why nothing is printed of a site: an input can't be sent, and then none was; or the talk ended
+-- so.
 abbrev pub IsTalkStopOn : Inputs → Stop → Type 0
 IsTalkStopOn inputs stop =
     IsUnsentOn inputs stop ⊎ IsEndedBy (λ halt. IsTalkOn inputs (Err halt)) stop

@@ -29,8 +29,8 @@ use std::net::{Net, TcpListener, TcpStream};
 ///
 /// `serve` listens on a port of 127.0.0.1, serves so many connections from one new site, one after
 /// the other, and then prints as `export` does. `push` sends the inputs to the site that is served
-/// on a port, and prints its export; `loop` does both in this process. Their inputs are all read and
-/// checked before any is sent; after an input that the site refuses the others are still sent.
+/// on a port, and prints its export; `loop` does both in this process. Their inputs are all read
+/// and checked before any is sent; after one that the site refuses the others are still sent.
 pub fn act<H, R: Read, W: Write, F: Write>(
     rt: &mut H,
     words: &[String],

@@ -1,15 +1,15 @@
 ghost use Rattle.std.specs.Prelude.{◌≡◌, ◌≢◌, ◌⊎◌, IfOk, IfErr, IfSome, None, Some};
 ghost use Rattle.std.specs.Prelude.{drop, map, string_bytes};
+ghost use Rattle.std.specs.Char.{is_ascii_digit};
+ghost use Rattle.std.specs.List.{list_all};
 ghost use Rattle.std.specs.Option.{option_map};
 ghost use Rattle.std.specs.IoError.{error_kind};
 ghost use Rattle.std.specs.Vec.Iter.{into_iter_items};
 ghost use Rattle.std.specs.declared.io.ErrorKind.TheVariants.{OutOfMemory};
 ghost use Rattle.cue_program.specs.Files.{texts};
 ghost use Rattle.cuestore.specs.Faults.{IsMemory};
-ghost use Rattle.cuestore.specs.Words.{arguments, asked, asked_by, asking, is_option};
-ghost use Rattle.std.specs.Char.{is_ascii_digit};
-ghost use Rattle.std.specs.List.{list_all};
-ghost use Rattle.cuestore.specs.Words.{looping, meant, merged, number_in, pushed, served, served_on};
+ghost use Rattle.cuestore.specs.Words.{arguments, asked, asked_by, asking, is_option, meant};
+ghost use Rattle.cuestore.specs.Words.{merged, number_in, pushed, served, served_on};
 ghost use Rattle.cuestore.specs.inner.Scanning.{Goes, IsNone};
 
 use crate::fault::Fault;
@@ -32,11 +32,19 @@ pub enum Command<'w> {
         files: Vec<&'w str>,
     },
     /// Serve so many connections on a port, and print the export.
-    Serve { port: u16, count: u16 },
+    Serve {
+        port: u16,
+        count: u16,
+    },
     /// Send the inputs to the site on a port, and print its export.
-    Push { port: u16, files: Vec<&'w str> },
+    Push {
+        port: u16,
+        files: Vec<&'w str>,
+    },
     /// Do both in this process.
-    Loop { files: Vec<&'w str> },
+    Loop {
+        files: Vec<&'w str>,
+    },
 }
 
 /// The greatest port.

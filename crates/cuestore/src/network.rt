@@ -15,20 +15,15 @@ pub fn served<H>(rt: &H, port: u16, count: u16) -> Result<Answer, Stop>
 where
     H: AllocGlobal + Shelf + Net<Listener = TcpListener, Stream = TcpStream>,
     ensures answer { (known : Option (List ℕ)) → IfOk result (IsAnswerTo (serving port count)
-        (record { before = H.held rt.now; after = H.held rt.now; input = known; })) }
+        (record { before = H.held rt.now; after = H.held rt.now; input = known })) }
     ensures stop { (known : Option (List ℕ)) → IfErr result (IsStopTo (serving port count)
-        (record { before = H.held rt.now; after = H.held rt.now; input = known; })) }
+        (record { before = H.held rt.now; after = H.held rt.now; input = known })) }
 {
     ended(serve_for(rt, port, count))
 }
 
 /// Sends the inputs to the site on a port, and answers its export, as it is printed.
-pub fn pushed<H, R: Read>(
-    rt: &H,
-    port: u16,
-    files: &[&str],
-    input: &mut R,
-) -> Result<Answer, Stop>
+pub fn pushed<H, R: Read>(rt: &H, port: u16, files: &[&str], input: &mut R) -> Result<Answer, Stop>
 where
     H: AllocGlobal + Shelf + Net<Listener = TcpListener, Stream = TcpStream>,
     ensures answer { IfOk result (IsAnswerTo (pushing port (texts files.now)) (record {

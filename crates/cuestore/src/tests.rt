@@ -85,12 +85,7 @@ where
 }
 
 /// Whether a run over these words and this input ends well and writes just these bytes.
-fn writes<H>(
-    rt: &mut H,
-    words: &[&str],
-    input: &[u8],
-    bytes: &[u8],
-) -> Result<bool, Fail>
+fn writes<H>(rt: &mut H, words: &[&str], input: &[u8], bytes: &[u8]) -> Result<bool, Fail>
 where
     H: AllocGlobal + Shelf + Net<Listener = TcpListener, Stream = TcpStream>,
 {
@@ -99,12 +94,7 @@ where
 }
 
 /// Whether the export of these texts ends with this status, and prints this.
-fn exports<H>(
-    rt: &mut H,
-    texts: &str,
-    status: u8,
-    out: &str,
-) -> Result<bool, Fail>
+fn exports<H>(rt: &mut H, texts: &str, status: u8, out: &str) -> Result<bool, Fail>
 where
     H: AllocGlobal + Shelf + Net<Listener = TcpListener, Stream = TcpStream>,
 {
@@ -112,12 +102,7 @@ where
 }
 
 /// Whether the export of these bytes ends with this status, and prints this.
-fn exports_bytes<H>(
-    rt: &mut H,
-    bytes: &[u8],
-    status: u8,
-    out: &str,
-) -> Result<bool, Fail>
+fn exports_bytes<H>(rt: &mut H, bytes: &[u8], status: u8, out: &str) -> Result<bool, Fail>
 where
     H: AllocGlobal + Shelf + Net<Listener = TcpListener, Stream = TcpStream>,
 {

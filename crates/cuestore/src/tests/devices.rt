@@ -73,11 +73,7 @@ where
 }
 
 /// Whether an export from this reader to this writer tells that a device failed.
-fn tells_a_fault<H, R: Read, W: Write>(
-    rt: &mut H,
-    input: &mut R,
-    out: &mut W,
-) -> Result<bool, Fail>
+fn tells_a_fault<H, R: Read, W: Write>(rt: &mut H, input: &mut R, out: &mut W) -> Result<bool, Fail>
 where
     H: AllocGlobal + Shelf + Net<Listener = TcpListener, Stream = TcpStream>,
 {
@@ -128,12 +124,7 @@ fn tells_bytes_that_do_not_get_out(mut rt: HostRuntime) -> Result<(), Fail> {
 
 /// Whether the export of so many empty lines, each read for itself, ends with this status, and
 /// prints this.
-fn drips<H>(
-    rt: &mut H,
-    left: usize,
-    status: u8,
-    out: &str,
-) -> Result<bool, Fail>
+fn drips<H>(rt: &mut H, left: usize, status: u8, out: &str) -> Result<bool, Fail>
 where
     H: AllocGlobal + Shelf + Net<Listener = TcpListener, Stream = TcpStream>,
 {

@@ -1,7 +1,7 @@
 //! Sites over a network: ports and counts, both ends in this process, and what can't be sent.
+use super::answers;
 use super::files::ran_over;
 use super::states::ONE;
-use super::answers;
 use crate::command::number_in;
 use crate::disk::Entry;
 use std::alloc::Global;
@@ -29,7 +29,14 @@ fn loops(rt: &mut HostRuntime, input: &[u8], status: u8, out: &str) -> Result<bo
 
 #[test]
 fn both_ends_are_in_this_process(mut rt: HostRuntime) -> Result<(), Fail> {
-    assert!(rt; loops(&mut rt, b"port: int\n---\nport: 443\n", 0, "{\"port\":443}\n")?);
+    assert!(rt;
+        loops(
+            &mut rt,
+            b"port: int\n---\nport: 443\n",
+            0,
+            "{\"port\":443}\n"
+        )?
+    );
     assert!(rt; loops(&mut rt, b"a: 1\n---\na: 2\n", 2, "conflict a no value\n")?);
     assert!(rt; loops(&mut rt, b"a!: 1", 3, "incomplete a missing\n")?);
     assert!(rt; loops(&mut rt, ONE, 0, "{\"a\":1}\n")?);

@@ -35,12 +35,7 @@ where
 }
 
 /// Whether a command writes these bytes over the texts.
-fn gives<H>(
-    rt: &mut H,
-    command: &str,
-    texts: &[&str],
-    bytes: &[u8],
-) -> Result<bool, Fail>
+fn gives<H>(rt: &mut H, command: &str, texts: &[&str], bytes: &[u8]) -> Result<bool, Fail>
 where
     H: AllocGlobal + Shelf + Net<Listener = TcpListener, Stream = TcpStream>,
 {
@@ -80,11 +75,7 @@ where
 }
 
 /// Whether a command refuses none of the texts, and writes the same in each of their orders.
-pub fn agrees_in_every_order<H>(
-    rt: &mut H,
-    command: &str,
-    texts: [&str; 3],
-) -> Result<bool, Fail>
+pub fn agrees_in_every_order<H>(rt: &mut H, command: &str, texts: [&str; 3]) -> Result<bool, Fail>
 where
     H: AllocGlobal + Shelf + Net<Listener = TcpListener, Stream = TcpStream>,
 {
@@ -117,12 +108,7 @@ fn printed_of<'a>(alloc: Global, text: &'a [u8], state: &'a [u8]) -> Result<Run,
 }
 
 /// Whether a site that takes a text, and the state of a site that took another one, prints this.
-fn prints_with_the_other<H>(
-    rt: &mut H,
-    text: &str,
-    other: &str,
-    out: &str,
-) -> Result<bool, Fail>
+fn prints_with_the_other<H>(rt: &mut H, text: &str, other: &str, out: &str) -> Result<bool, Fail>
 where
     H: AllocGlobal + Shelf + Net<Listener = TcpListener, Stream = TcpStream>,
 {
@@ -171,12 +157,7 @@ where
 
 /// Whether a site that has run on these words of three, and one that has on those, wrote the same,
 /// which is exported so.
-fn are_equal<H>(
-    rt: &mut H,
-    words: &[&str],
-    others: &[&str],
-    json: &str,
-) -> Result<bool, Fail>
+fn are_equal<H>(rt: &mut H, words: &[&str], others: &[&str], json: &str) -> Result<bool, Fail>
 where
     H: AllocGlobal + Shelf + Net<Listener = TcpListener, Stream = TcpStream>,
 {

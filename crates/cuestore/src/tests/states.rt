@@ -71,12 +71,7 @@ fn a_clash_is_kept_in_the_state(mut rt: HostRuntime) -> Result<(), Fail> {
 }
 
 /// Whether both texts give the same state, of so many bytes.
-fn give_one_state<H>(
-    rt: &mut H,
-    text: &str,
-    other: &str,
-    length: usize,
-) -> Result<bool, Fail>
+fn give_one_state<H>(rt: &mut H, text: &str, other: &str, length: usize) -> Result<bool, Fail>
 where
     H: AllocGlobal + Shelf + Net<Listener = TcpListener, Stream = TcpStream>,
 {

@@ -23,10 +23,7 @@ where
 }
 
 /// Asserts that each of these words alone is a usage fault.
-fn assert_no_commands<H>(
-    rt: &mut H,
-    words: &[&str],
-) -> Result<(), Fail>
+fn assert_no_commands<H>(rt: &mut H, words: &[&str]) -> Result<(), Fail>
 where
     H: AllocGlobal + Shelf + Abort + Net<Listener = TcpListener, Stream = TcpStream>,
 {
