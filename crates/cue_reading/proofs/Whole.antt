@@ -1,0 +1,42 @@
+-- The printed text of a valid table is a legal text, unless it is over a limit.
+use Rattle.std.proofs.Common.{inl, inr, Some, ⊎_elim, IsUtf8}
+use Rattle.cue_print.specs.Expressions.{Fields}
+use Rattle.cue_print.specs.Spelled.{field_texts, file_text}
+use Rattle.cue_reading.specs.Accepted.{IsAccepted}
+use Rattle.cue_reading.specs.Printable.{ArePrintableFields}
+use Rattle.cue_reading.specs.PrintedTree.{field_trees, file_tree}
+use Rattle.cue_reading.specs.Reading.{IsSpelling}
+use Rattle.cue_reading.specs.Taken.{IsLegalAs, IsLegalAgain}
+use Rattle.cue_reading.proofs.Acceptance.{accepted_again}
+use Rattle.cue_reading.proofs.Files.{lines_read, file_read}
+use Rattle.cue_reading.proofs.Rows.{each_entry}
+use Rattle.cue_reading.proofs.Valid.{valid_printable}
+use Rattle.cue_reading.proofs.Values.{each_field}
+
+-- the printed text is UTF-8
+file_utf8 : (fields : Fields) → ArePrintableFields fields → IsUtf8 (file_text (Some fields))
+unfolding file_text
+file_utf8 fields are = (lines_read (field_texts fields) (each_entry (field_trees fields)) (each_field fields are)).utf8
+
+-- what is spelled and accepted is legal
+legal_as : (fields : Fields) → ArePrintableFields fields → (spelling : IsSpelling (file_text (Some fields)) (file_tree fields)) → IsAccepted spelling.placed → IsLegalAs (file_text (Some fields)) (file_tree fields)
+legal_as fields are spelling ok = record {
+  utf8 = file_utf8 fields are;
+  words = spelling.found;
+  lexed = spelling.are;
+  placed = spelling.placed;
+  same = spelling.same;
+  spelled = record { reads = spelling.reads; clause = ok.fragment.package_clause; right = ok.fragment.right; ends = ok.fragment.ends; levels = ok.fragment.levels };
+  legal = ok.legal;
+}
+
+pub legal_again : IsLegalAgain
+legal_again table fields valid is =
+    let are = valid_printable table fields valid is in
+    ⊎_elim
+    (λ long. inl long)
+    (λ spelling. ⊎_elim
+    (λ ok. inr (inr (legal_as fields are spelling ok)))
+    (λ over. inr (inl (record { spelling = spelling; over = over })))
+    (accepted_again table fields valid is spelling.placed spelling.same))
+    (file_read fields are)

@@ -1,0 +1,62 @@
+-- The tokens of a text by their kinds, told from the end of the text to its front.
+use Rattle.std.specs.Prelude.{◌≡◌, ◌<◌, ℕ, Bool, true, false, List, [], ◌∷◌, ◌++◌, map, Option}
+use Rattle.std.specs.Prelude.{is_some, Ok, nat_eq}
+use Rattle.std.specs.Str.{IsUtf8}
+use Rattle.cue_lex.specs.declared.token.Token.{Token}
+use Rattle.cue_lex.specs.declared.token.TokenKind.{TokenKind}
+use Rattle.cue_lex.specs.Characters.{is_ascii_part}
+use Rattle.cue_lex.specs.Integers.{is_literal_byte}
+use Rattle.cue_lex.specs.Tokens.{pieces, commas}
+
+abbrev pub kinds_of : List Token → List TokenKind
+kinds_of tokens = map (λ token. token.kind) tokens
+
+-- The bytes at a place have tokens of these kinds, the inserted commas among them.
+pub record Lexed (minus : Bool) (place : ℕ) (last : Option ℕ) (bytes : List ℕ)
+    (kinds : List TokenKind) : Type 0 where
+  pub found : List Token
+  pub are : commas last (pieces minus 0 place bytes) ≡ Ok found
+  pub same : kinds_of found ≡ kinds
+
+-- The bytes have tokens of these kinds wherever they stand. `minus` says that the token before them
+-- is a minus, and `ended` that a line break at their front inserts a comma.
+pub record HasKinds (minus ended : Bool) (bytes : List ℕ) (kinds : List TokenKind)
+    : Type 0 where
+  pub utf8 : IsUtf8 bytes
+  pub lexed : (place : ℕ) (last : Option ℕ) → is_some last ≡ ended
+      → Lexed minus place last bytes kinds
+
+-- A byte that no token goes on with: neither a name, a number or a quote, nor `_` to `_|_` or `_#`.
+pub record IsStop (b : ℕ) : Type 0 where
+  pub ascii : b < 128
+  pub part : is_ascii_part b ≡ false
+  pub literal : is_literal_byte b ≡ false
+  pub quote : nat_eq 34 b ≡ false
+  pub bar : nat_eq 124 b ≡ false
+  pub number_sign : nat_eq 35 b ≡ false
+
+-- the bytes cannot go on with a token that stands before them
+abbrev pub Stops : List ℕ → Type 0
+Stops [] = Unit {0}
+Stops (b ∷ bytes) = IsStop b
+
+-- In front of any rest that cannot go on, the text adds tokens of these kinds; the last of them ends
+-- a line.
+pub record IsRead (text : List ℕ) (kinds : List TokenKind) : Type 0 where
+  pub reads : (ended : Bool) (rest : List ℕ) (more : List TokenKind) → Stops rest
+      → HasKinds false true rest more → HasKinds false ended (text ++ rest) (kinds ++ more)
+
+-- In front of any rest the text adds tokens of these kinds; the last of them ends no line.
+pub record Leads (text : List ℕ) (kinds : List TokenKind) : Type 0 where
+  pub leads : (ended : Bool) (rest : List ℕ) (more : List TokenKind)
+      → HasKinds false false rest more → HasKinds false ended (text ++ rest) (kinds ++ more)
+
+-- the text begins with a byte that no token goes on with
+abbrev pub BeginsStop : List ℕ → Type 0
+BeginsStop text = (rest : List ℕ) → Stops (text ++ rest)
+
+-- each text adds the kinds that stand beside it
+abbrev pub AreRead : List (List ℕ) → List (List TokenKind) → Type 0
+AreRead [] [] = Unit {0}
+AreRead (text ∷ texts) (kinds ∷ others) = IsRead text kinds × AreRead texts others
+AreRead _ _ = ⊥
