@@ -16,7 +16,7 @@ use Rattle.cue_scope.specs.Terms.{terms_of_entries}
 use Rattle.cue_scope.specs.Uses.{graph}
 use Rattle.cue_print.specs.Expressions.{Fields}
 use Rattle.cue_reading.specs.Accepted.{IsAccepted, IsOverLimit, IsAcceptedAgain}
-use Rattle.cue_reading.specs.Printable.{ArePrintableFields}
+use Rattle.cue_reading.specs.Inner.Printable.{ArePrintableFields}
 use Rattle.cue_reading.specs.PrintedTree.{field_trees, has_some, file_tree}
 use Rattle.cue_reading.proofs.Legal.{no_definitions, open_inside, fields_named, none_reached, fields_terms}
 use Rattle.cue_reading.proofs.Places.{ends_placed, entries_right, entries_words, no_definitions_placed, text_faults, entries_terms}

@@ -11,9 +11,10 @@ use Rattle.cue_syntax.specs.Syntax as grammar
 use Rattle.cue_syntax.specs.Spelling.{Piece, comma_if, spell_entry, spell_entries, spell_file}
 use Rattle.cue_print.specs.Expressions.{Fields, no_more, field}
 use Rattle.cue_print.specs.Spelled.{line, field_texts, file_text}
-use Rattle.cue_reading.specs.Kinds.{HasKinds, AreRead}
+use Rattle.cue_reading.specs.Kinds.{HasKinds}
+use Rattle.cue_reading.specs.Inner.Joining.{AreRead}
 use Rattle.cue_reading.specs.Spelled.{spelled_kinds}
-use Rattle.cue_reading.specs.Printable.{ArePrintableFields}
+use Rattle.cue_reading.specs.Inner.Printable.{ArePrintableFields}
 use Rattle.cue_reading.specs.PrintedTree.{label_of, value_tree, field_trees, file_tree}
 use Rattle.cue_reading.specs.Reading.{IsSpelling}
 use Rattle.cue_reading.proofs.Fronts.{no_kinds, after_break}

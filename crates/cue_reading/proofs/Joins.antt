@@ -1,7 +1,8 @@
 -- Texts that are read are put together.
 use Rattle.std.proofs.Common.{◌≡◌, ℕ, Bool, true, false, List, [], ◌∷◌, ◌++◌, sym, ◌∙◌, subst, subst₂, append_assoc, flat_map}
 use Rattle.cue_lex.specs.declared.token.TokenKind.{TokenKind}
-use Rattle.cue_reading.specs.Kinds.{HasKinds, Stops, IsRead, Leads, BeginsStop, AreRead}
+use Rattle.cue_reading.specs.Kinds.{HasKinds, Stops, IsRead}
+use Rattle.cue_reading.specs.Inner.Joining.{Leads, BeginsStop, AreRead}
 
 -- two texts in a row, by the whole and by its parts
 regrouped : (minus ended : Bool) (a b rest : List ℕ) (x y more : List TokenKind) → HasKinds minus ended (a ++ (b ++ rest)) (x ++ (y ++ more)) → HasKinds minus ended ((a ++ b) ++ rest) ((x ++ y) ++ more)

@@ -13,7 +13,8 @@ use Rattle.cue_lex.specs.Characters.{is_ascii_part}
 use Rattle.cue_lex.specs.Integers.{is_literal_byte}
 use Rattle.cue_lex.proofs.FirstBytes.{lexeme_mark}
 use Rattle.cue_lex.proofs.Bottom.{takes_bottom_before_names}
-use Rattle.cue_reading.specs.Kinds.{HasKinds, IsStop, IsRead, Leads}
+use Rattle.cue_reading.specs.Kinds.{HasKinds, IsStop, IsRead}
+use Rattle.cue_reading.specs.Inner.Joining.{Leads}
 use Rattle.cue_reading.proofs.Fronts.{one_kind, after_space, ascii_byte}
 use Rattle.cue_reading.proofs.Joins.{read_then}
 

@@ -15,7 +15,8 @@ use Rattle.cue_lex.specs.Lexemes.{lexeme, name, name_kind}
 use Rattle.cue_lex.specs.Names.{run_len, word_len, signed_len, identifier_len}
 use Rattle.cue_lex.proofs.FirstBytes.{lexeme_letter}
 use Rattle.cue_lex.proofs.Words.{ascii_stops}
-use Rattle.cue_reading.specs.Kinds.{HasKinds, Stops, IsRead, Leads}
+use Rattle.cue_reading.specs.Kinds.{HasKinds, Stops, IsRead}
+use Rattle.cue_reading.specs.Inner.Joining.{Leads}
 use Rattle.cue_reading.proofs.Fronts.{one_kind}
 use Rattle.cue_reading.proofs.Marks.{ascii_text, stop_open, parenthesis_leads}
 use Rattle.cue_reading.proofs.Joins.{read_then}

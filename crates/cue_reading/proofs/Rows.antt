@@ -7,7 +7,8 @@ use Rattle.cue_lex.specs.declared.punctuation.Punctuation.TheVariants as points
 use Rattle.cue_syntax.specs.Syntax.{Elements, no_elements, element, Branches, no_branches, next_branch, Entries, no_entries, entry}
 use Rattle.cue_syntax.specs.Spelling.{Piece, one, spell, spell_elements, spell_more_elements, spell_branch, spell_branches, spell_more_branches, spell_entry, spell_entries, spell_more_entries}
 use Rattle.cue_print.specs.Spelled.{joined, enclosed}
-use Rattle.cue_reading.specs.Kinds.{IsRead, Leads, BeginsStop, AreRead}
+use Rattle.cue_reading.specs.Kinds.{IsRead}
+use Rattle.cue_reading.specs.Inner.Joining.{Leads, BeginsStop, AreRead}
 use Rattle.cue_reading.specs.Spelled.{spelled_kinds}
 use Rattle.cue_reading.specs.PrintedTree.{unified}
 use Rattle.cue_reading.proofs.Joins.{joined_read, led, read_on}

@@ -10,9 +10,10 @@ use Rattle.cue_syntax.specs.Syntax as grammar
 use Rattle.cue_syntax.specs.Spelling.{Piece, one, placed, spell, spell_signed, spell_branch, spell_branches, spell_more_branches}
 use Rattle.cue_print.specs.Expressions.{Term, null, truths, truth, integers, number, at_most, at_least, between, texts, text, other_texts}
 use Rattle.cue_print.specs.Spelled.{enclosed, unequal, term_text, terms_text, is_compound, operand_text, default_text}
-use Rattle.cue_reading.specs.Kinds.{IsRead, AreRead}
+use Rattle.cue_reading.specs.Kinds.{IsRead}
+use Rattle.cue_reading.specs.Inner.Joining.{AreRead}
 use Rattle.cue_reading.specs.Spelled.{spelled_kinds}
-use Rattle.cue_reading.specs.Printable.{IsPrintableTerm, ArePrintableTerms, IsPrintableDefault}
+use Rattle.cue_reading.specs.Inner.Printable.{IsPrintableTerm, ArePrintableTerms, IsPrintableDefault}
 use Rattle.cue_reading.specs.PrintedTree.{signed, term_tree, branches, terms_branches, terms_tree, operand_tree, scalar_tree}
 use Rattle.cue_reading.proofs.Integers.{integer_read}
 use Rattle.cue_reading.proofs.Joins.{leads_on, led, read_then, read_on, read_as}

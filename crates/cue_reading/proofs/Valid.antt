@@ -25,7 +25,7 @@ use Rattle.cue_print.specs.Expressions.{Value, top, Parts, no_parts, list, botto
 use Rattle.cue_print.specs.Printed.{declared, inside, outside, struct_if_any, struct_part, elements_from, elements, list_part, scalar_value, has_field, list_left, nothing_value, scalar_or_nothing, value_by, row_value, value_of, fields_below, element_below, file_of}
 use Rattle.cue_print.specs.Terms.{null_terms, truth_terms, piece_term, text_terms, terms_of}
 use Rattle.cue_print.proofs.Left.{left_set}
-use Rattle.cue_reading.specs.Printable.{IsPrintableTerm, ArePrintableTerms, HasPart, IsPrintable, ArePrintableParts, ArePrintableFields, ArePrintableElements}
+use Rattle.cue_reading.specs.Inner.Printable.{IsPrintableTerm, ArePrintableTerms, HasPart, IsPrintable, ArePrintableParts, ArePrintableFields, ArePrintableElements}
 
 -- ---- words
 cond_words : (t : List ℕ) (ts : List (List ℕ)) (kept : Bool) → IsWord t → AreWords ts → AreWords (cond kept (t ∷ ts) ts)

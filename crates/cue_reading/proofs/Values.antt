@@ -12,9 +12,10 @@ use Rattle.cue_syntax.specs.Syntax as grammar
 use Rattle.cue_syntax.specs.Spelling.{Piece, one, spell, spell_rest, spell_elements, spell_entry, spell_entries}
 use Rattle.cue_print.specs.Expressions.{Value, top, scalar, all, Parts, no_parts, struct, close, list, bottom, Fields, no_more, field, Elements, no_elements, element}
 use Rattle.cue_print.specs.Spelled.{joined, enclosed, mark_text, struct_text, rest_texts, list_text, value_text, part_texts, field_texts, element_texts}
-use Rattle.cue_reading.specs.Kinds.{IsRead, AreRead}
+use Rattle.cue_reading.specs.Kinds.{IsRead}
+use Rattle.cue_reading.specs.Inner.Joining.{AreRead}
 use Rattle.cue_reading.specs.Spelled.{spelled_kinds}
-use Rattle.cue_reading.specs.Printable.{HasPart, IsPrintable, ArePrintableParts, ArePrintableFields, ArePrintableElements}
+use Rattle.cue_reading.specs.Inner.Printable.{HasPart, IsPrintable, ArePrintableParts, ArePrintableFields, ArePrintableElements}
 use Rattle.cue_reading.specs.PrintedTree.{unified, label_of, value_tree, part_trees, field_trees, element_trees}
 use Rattle.cue_reading.proofs.Joins.{led, read_on, read_as}
 use Rattle.cue_reading.proofs.Marks.{brace_leads, bracket_leads, comma_leads, and_leads, colon_leads, optional_leads, required_leads, bottom_read, ellipsis_read, close_parenthesis_read, close_brace_read, close_bracket_read, stop_space, stop_comma, stop_parenthesis, stop_brace, stop_bracket, stop_colon, stop_question, stop_exclamation}

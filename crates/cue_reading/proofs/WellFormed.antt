@@ -13,7 +13,7 @@ use Rattle.cue_syntax.specs.Words.{HasWords, HaveWords, HaveWordsBranches, HaveW
 use Rattle.cue_print.specs.Expressions.{Term, null, truths, truth, integers, number, at_most, at_least, between, texts, text, other_texts}
 use Rattle.cue_print.specs.Expressions.{Value, top, scalar, all, Parts, no_parts, struct, close, list, bottom, Fields, no_more, field, Elements, no_elements, element}
 use Rattle.cue_print.specs.Spelled.{is_conjunction, is_compound}
-use Rattle.cue_reading.specs.Printable.{IsPrintableTerm, ArePrintableTerms, IsPrintableDefault, HasPart, IsPrintable, ArePrintableParts, ArePrintableFields, ArePrintableElements}
+use Rattle.cue_reading.specs.Inner.Printable.{IsPrintableTerm, ArePrintableTerms, IsPrintableDefault, HasPart, IsPrintable, ArePrintableParts, ArePrintableFields, ArePrintableElements}
 use Rattle.cue_reading.specs.PrintedTree.{named, signed, unified, label_of, term_tree, branches, terms_branches, terms_tree, operand_tree, scalar_tree, value_tree, part_trees, field_trees, element_trees, has_some}
 use Rattle.cue_reading.proofs.Integers.{positive_below, negative_below}
 use Rattle.cue_reading.proofs.Marks.{ascii_text}

@@ -3,7 +3,7 @@ use Rattle.std.proofs.Common.{inl, inr, Some, ⊎_elim, IsUtf8}
 use Rattle.cue_print.specs.Expressions.{Fields}
 use Rattle.cue_print.specs.Spelled.{field_texts, file_text}
 use Rattle.cue_reading.specs.Accepted.{IsAccepted}
-use Rattle.cue_reading.specs.Printable.{ArePrintableFields}
+use Rattle.cue_reading.specs.Inner.Printable.{ArePrintableFields}
 use Rattle.cue_reading.specs.PrintedTree.{field_trees, file_tree}
 use Rattle.cue_reading.specs.Reading.{IsSpelling}
 use Rattle.cue_reading.specs.Taken.{IsLegalAs, IsLegalAgain}

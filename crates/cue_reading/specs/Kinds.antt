@@ -45,18 +45,3 @@ Stops (b ∷ bytes) = IsStop b
 pub record IsRead (text : List ℕ) (kinds : List TokenKind) : Type 0 where
   pub reads : (ended : Bool) (rest : List ℕ) (more : List TokenKind) → Stops rest
       → HasKinds false true rest more → HasKinds false ended (text ++ rest) (kinds ++ more)
-
--- In front of any rest the text adds tokens of these kinds; the last of them ends no line.
-pub record Leads (text : List ℕ) (kinds : List TokenKind) : Type 0 where
-  pub leads : (ended : Bool) (rest : List ℕ) (more : List TokenKind)
-      → HasKinds false false rest more → HasKinds false ended (text ++ rest) (kinds ++ more)
-
--- the text begins with a byte that no token goes on with
-abbrev pub BeginsStop : List ℕ → Type 0
-BeginsStop text = (rest : List ℕ) → Stops (text ++ rest)
-
--- each text adds the kinds that stand beside it
-abbrev pub AreRead : List (List ℕ) → List (List TokenKind) → Type 0
-AreRead [] [] = Unit {0}
-AreRead (text ∷ texts) (kinds ∷ others) = IsRead text kinds × AreRead texts others
-AreRead _ _ = ⊥

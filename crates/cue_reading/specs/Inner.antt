@@ -1,0 +1,3 @@
+-- What the prover needs and no reader has to believe: only proofs cite it.
+pub mod Joining
+pub mod Printable
