@@ -121,7 +121,7 @@ fn path(alloc: Global, steps: Vec<Step>) -> Path {
 
 /// The label of a numbered field.
 fn label(alloc: Global, number: u32) -> Result<Text, Memory> {
-    Ok(Text::new(format!(in alloc; "f{number:08}")?))
+    Text::new(alloc, format!(in alloc; "f{number:08}")?)
 }
 
 /// The path of a numbered field whose parent is so many levels down.
@@ -200,7 +200,7 @@ fn integers(alloc: Global, ints: IntSet) -> Result<ScalarSet, Memory> {
 fn texts(alloc: Global, count: u32) -> Result<ScalarSet, Memory> {
     let mut list = Vec::new(alloc);
     for number in 0..count {
-        list.push(Text::new(format!(in alloc; "t{number:08}")?))?;
+        list.push(Text::new(alloc, format!(in alloc; "t{number:08}")?)?)?;
     }
     Ok(ScalarSet {
         null: false,

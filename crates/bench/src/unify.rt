@@ -73,7 +73,8 @@ fn path(alloc: Global, shape: Shape, number: u32) -> Result<Path, Memory> {
     for _level in 0..shape.levels() {
         steps.push(Step::Label(Text::from_str(alloc, "level")?))?;
     }
-    steps.push(Step::Label(Text::new(format!(in alloc; "f{number:010}")?)))?;
+    let label = Text::new(alloc, format!(in alloc; "f{number:010}")?)?;
+    steps.push(Step::Label(label))?;
     Ok(Path::new(steps).unwrap_or(Path::root(alloc)))
 }
 

@@ -1,4 +1,5 @@
 pub mod Bools
+pub mod Kept
 pub mod OneOf
 pub mod Narrowed
 pub mod Limits

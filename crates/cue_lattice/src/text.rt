@@ -5,116 +5,144 @@ ghost use Rattle.std.specs.Cmp.Lexicographic.{slice_cmp};
 use crate::Memory;
 use std::alloc::Global;
 use std::cmp::Ordering;
-use std::fmt;
 use std::marker::Model;
+use std::rc::Rc;
+use std::{fmt, str};
+
+/// How many bytes a text keeps in itself.
+const ROOM: usize = 22;
+
+/// How the bytes of a text are kept.
+#[derive(Drop)]
+pub(crate) enum Kept {
+    /// So many bytes at the front of the room.
+    Short(u8, [u8; ROOM]),
+    /// A string that copies share.
+    Long(Rc<String>),
+}
 
 /// A text in UTF-8. Contracts see it as the list of its bytes, and texts are ordered by their
-/// bytes.
-#[derive(Debug, Drop)]
+/// bytes. It has 24 bytes: up to 22 bytes of text are kept in it, and longer ones are shared
+/// between copies.
+#[derive(Drop)]
 pub struct Text {
-    string: String,
+    kept: Kept,
 }
 
 impl Model for Text {
-    ghost use Rattle.std.specs.Prelude.{List, ℕ, string_bytes};
+    ghost use Rattle.std.specs.Prelude.{List, ℕ};
+    ghost use Rattle.cue_lattice.specs.Kept.{kept_bytes, IsSound};
 
     ghost Value = { List ℕ };
 
-    ghost view = { λ t. string_bytes t.string };
+    ghost view = { λ text. kept_bytes text.kept };
+
+    ghost invariant = { λ text. IsSound text.kept };
 }
 
 impl Text {
-    /// The text of a string, which it takes over.
-    pub fn new(string: String) -> Text
-        ensures { result ≡ string_bytes string }
+    /// The text of a string. A long string is taken over.
+    pub fn new(alloc: Global, string: String) -> Result<Text, Memory>
+        ensures { IfOk result (λ t. t ≡ string_bytes string) }
     {
-        Text { string }
+        if string.len() <= ROOM {
+            return Text::from_str(alloc, string.as_str());
+        }
+        Ok(Text {
+            kept: Kept::Long(Rc::new(alloc, string)?),
+        })
     }
 
-    /// A copy of a string slice.
+    /// A copy of a string slice. Up to 22 bytes take no memory.
     pub fn from_str(alloc: Global, text: &str) -> Result<Text, Memory>
         ensures { IfOk result (λ t. t ≡ text.now) }
     {
+        let bytes = text.as_bytes();
+        let len = bytes.len();
+        if len > ROOM {
+            let string = String::from_str(alloc, text)?;
+            return Ok(Text {
+                kept: Kept::Long(Rc::new(alloc, string)?),
+            });
+        }
+        let mut room = [0u8; ROOM];
+        room[..len].copy_from_slice(bytes);
         Ok(Text {
-            string: String::from_str(alloc, text)?,
+            kept: Kept::Short(len as u8, room),
         })
     }
 
     pub fn as_str(&self) -> &str
         ensures { result.now ≡ self.now }
     {
-        self.string.as_str()
+        match &self.kept {
+            Kept::Short(len, room) => unsafe { str::from_utf8_unchecked(&room[..*len as usize]) },
+            Kept::Long(string) => string.as_str(),
+        }
     }
 
     pub fn as_bytes(&self) -> &[u8]
         ensures { result.now ≡ self.now }
     {
-        self.string.as_bytes()
+        match &self.kept {
+            Kept::Short(len, room) => &room[..*len as usize],
+            Kept::Long(string) => string.as_bytes(),
+        }
     }
 
-    /// Gives the string back.
-    pub fn into_string(self) -> String
-        ensures { string_bytes result ≡ self }
+    /// The text as a string. The string of a long text is given back where no copy shares it.
+    pub fn into_string(self, alloc: Global) -> Result<String, Memory>
+        ensures { IfOk result (λ string. string_bytes string ≡ self) }
     {
-        self.string
+        match self.kept {
+            Kept::Long(shared) => match Rc::try_unwrap(shared) {
+                Ok(string) => Ok(string),
+                Err(shared) => Ok(String::from_str(alloc, shared.as_str())?),
+            },
+            short => Ok(String::from_str(alloc, Text { kept: short }.as_str())?),
+        }
     }
 
+    /// The same text once more. This takes no memory, unless a long text has so many copies that
+    /// they can't be counted.
     pub fn copy(&self, alloc: Global) -> Result<Text, Memory>
         ensures { IfOk result (λ t. t ≡ self.now) }
     {
-        Text::from_str(alloc, self.as_str())
+        match &self.kept {
+            Kept::Short(len, room) => Ok(Text {
+                kept: Kept::Short(*len, *room),
+            }),
+            Kept::Long(string) => match Rc::clone(string) {
+                Ok(shared) => Ok(Text {
+                    kept: Kept::Long(shared),
+                }),
+                Err(_uncounted) => Text::from_str(alloc, string.as_str()),
+            },
+        }
     }
 
     /// How the bytes compare, which is how the code points compare.
     pub fn compare(&self, other: &Text) -> Ordering
         ensures { result ≡ slice_cmp nat_cmp self.now other.now }
     {
-        compare_bytes(self.as_bytes(), other.as_bytes(), SINGLY)
+        self.as_str().cmp(other.as_str())
     }
 
     pub fn same(&self, other: &Text) -> bool
         ensures { IsTrue result ↔ (self.now ≡ other.now) }
     {
-        self.as_bytes() == other.as_bytes()
-    }
-}
-
-/// How many bytes of two texts are compared one by one.
-const SINGLY: usize = 16;
-
-/// How two lists of bytes compare: so many first bytes one by one, and the rest by the library,
-/// which is quick on long lists but has much to set up for a label of a few bytes.
-fn compare_bytes(left: &[u8], right: &[u8], singly: usize) -> Ordering
-    ensures { result ≡ slice_cmp nat_cmp left.now right.now }
-{
-    if singly == 0 {
-        return left.cmp(right);
-    }
-    match left {
-        [] => match right {
-            [] => Ordering::Equal,
-            [_, ..] => Ordering::Less,
-        },
-        [first, left_rest @ ..] => match right {
-            [] => Ordering::Greater,
-            [other, right_rest @ ..] => match first.cmp(other) {
-                Ordering::Equal => compare_bytes(left_rest, right_rest, singly - 1),
-                unequal => unequal,
-            },
-        },
-    }
-}
-
-impl From<String> for Text {
-    ghost from_gives = { λ string text. text ≡ string_bytes string };
-
-    fn from(string: String) -> Text {
-        Text::new(string)
+        self.as_str() == other.as_str()
     }
 }
 
 impl fmt::Display for Text {
     fn fmt<W: fmt::Write>(&self, f: &mut fmt::Formatter<W>) -> fmt::Result {
         f.write_str(self.as_str())
+    }
+}
+
+impl fmt::Debug for Text {
+    fn fmt<W: fmt::Write>(&self, f: &mut fmt::Formatter<W>) -> fmt::Result {
+        fmt::Debug::fmt(self.as_str(), f)
     }
 }

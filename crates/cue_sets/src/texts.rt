@@ -260,5 +260,5 @@ pub(crate) fn zeros(alloc: Global, count: usize) -> Result<Text, Memory>
     for _index in 0..count {
         text.push('\0')?;
     }
-    Ok(Text::new(text))
+    Text::new(alloc, text)
 }

@@ -1,0 +1,15 @@
+-- How a text is kept: what a `Text` is read as, and what each has.
+use Rattle.std.specs.Prelude.{◌≤◌, ℕ, List, take, string_bytes}
+use Rattle.std.specs.Str.{IsUtf8}
+use Rattle.cue_lattice.specs.declared.text.Kept.{Kept}
+use Rattle.cue_lattice.specs.declared.text.Kept.TheVariants.{Short, Long}
+
+-- the bytes that are kept
+abbrev pub kept_bytes : Kept → List ℕ
+kept_bytes (Short len room) = take len room
+kept_bytes (Long string) = string_bytes string.value
+
+-- the length is one of the room, and the bytes are a text
+abbrev pub IsSound : Kept → Type 0
+IsSound (Short len room) = (len ≤ 22) × IsUtf8 (take len room)
+IsSound (Long string) = Unit {0}
