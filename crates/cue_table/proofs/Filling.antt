@@ -20,11 +20,11 @@ module _ {R : Type 0} where
   join_assoc (child s t a) b c = ap (child s t) (join_assoc a b c)
 
 module _ {R Q : Type 0} where
-  branches_join : (xs ys : List (Child R Q)) → branches (xs ++ ys) ≡ join (branches xs) (branches ys)
+  pub branches_join : (xs ys : List (Child R Q)) → branches (xs ++ ys) ≡ join (branches xs) (branches ys)
   branches_join [] ys = refl
   branches_join (x ∷ xs) ys = ap (child (step_of x.step) x.node) (branches_join xs ys)
 
-  branches_take : (n : ℕ) (xs : List (Child R Q)) → branches (take n xs) ≡ front n (branches xs)
+  pub branches_take : (n : ℕ) (xs : List (Child R Q)) → branches (take n xs) ≡ front n (branches xs)
   branches_take zero xs = refl
   branches_take (suc n) [] = refl
   branches_take (suc n) (x ∷ xs) = ap (child (step_of x.step) x.node) (branches_take n xs)

@@ -11,6 +11,7 @@ pub mod Lattice
 pub mod Listed
 pub mod Listing
 pub mod Merging
+pub mod MetBranches
 pub mod MetTables
 pub mod Nodes
 pub mod Order

@@ -22,7 +22,7 @@ module _ {R Q : Type 0} where
   past_drop (suc n) [] = refl
   past_drop (suc n) (c ∷ cs) = past_drop n cs
 
-  past_at : (n : ℕ) (cs : List (Child R Q)) (d : Child R Q) → n < length cs → past n (branches cs) ≡ child (step_of (get_or cs n d).step) (get_or cs n d).node (branches (drop (suc n) cs))
+  pub past_at : (n : ℕ) (cs : List (Child R Q)) (d : Child R Q) → n < length cs → past n (branches cs) ≡ child (step_of (get_or cs n d).step) (get_or cs n d).node (branches (drop (suc n) cs))
   past_at zero (c ∷ cs) d l = refl
   past_at (suc n) (c ∷ cs) d l = past_at n cs d (omega arith)
   past_at zero [] d l = absurd (omega arith)

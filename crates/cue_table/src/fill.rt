@@ -17,7 +17,7 @@ use std::vec::IntoIter;
 
 /// The place after a change.
 #[cycle(fill)]
-pub(crate) fn change<R: Narrow>(alloc: Global, old: Node<R>, plan: Plan<R>) -> Node<R>
+fn change<R: Narrow>(alloc: Global, old: Node<R>, plan: Plan<R>) -> Node<R>
     ensures { result ≡ changed plan old }
 {
     let Plan { row, below } = plan;
@@ -29,7 +29,11 @@ pub(crate) fn change<R: Narrow>(alloc: Global, old: Node<R>, plan: Plan<R>) -> N
 
 /// Its branches.
 #[cycle(fill)]
-fn change_below<R: Narrow>(alloc: Global, old: Vec<Child<R>>, below: Below<R>) -> Vec<Child<R>>
+pub(crate) fn change_below<R: Narrow>(
+    alloc: Global,
+    old: Vec<Child<R>>,
+    below: Below<R>,
+) -> Vec<Child<R>>
     requires { HasRoom below }
     ensures { branches result.items ≡ changed_below (below_of below) (branches old.items) }
 {

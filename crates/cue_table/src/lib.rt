@@ -10,6 +10,7 @@ mod iter;
 mod laws;
 mod many;
 mod measure;
+mod meet;
 mod node;
 mod plan;
 mod rows;

@@ -74,11 +74,7 @@ impl<R: Narrow> Model for Plan<R> {
 
 /// What becomes of a place that takes another one over.
 #[cycle(plan)]
-pub(crate) fn planned<R: Narrow>(
-    alloc: Global,
-    left: &Node<R>,
-    right: Node<R>,
-) -> Result<Plan<R>, Memory>
+fn planned<R: Narrow>(alloc: Global, left: &Node<R>, right: Node<R>) -> Result<Plan<R>, Memory>
     requires left { IsTable R.refuses R.is_value left.now }
     requires right { IsTable R.refuses R.is_value right }
     ensures form { IfOk result (λ plan. IsTable R.refuses R.is_value (changed plan left.now)) }
@@ -118,7 +114,7 @@ pub(crate) fn plan_row<R: Narrow>(
 
 /// What becomes of the branches of a place.
 #[cycle(plan)]
-fn plan_below<R: Narrow>(
+pub(crate) fn plan_below<R: Narrow>(
     alloc: Global,
     left: &[Child<R>],
     right: Vec<Child<R>>,

@@ -14,15 +14,14 @@ use crate::Branch;
 use crate::append::{append, last_against};
 use crate::boxed::Boxed;
 use crate::chain::{one_branch, single};
-use crate::fill::change;
+use crate::meet::meet_into;
 use crate::node::{Child, Node};
-use crate::plan::{plan_row, planned};
+use crate::plan::plan_row;
 use cue_lattice::{Memory, Narrow};
 use cue_row::{Path, Step};
 use std::alloc::Global;
 use std::cmp::Ordering;
 use std::marker::Model;
-use std::mem;
 
 /// What is known at each path of a configuration. Contracts see it as a tree of rows, in the one
 /// form that it has for what it refuses, and with no path of more than [`cue_lattice::STEP_LIMIT`]
@@ -124,9 +123,7 @@ impl<R: Narrow> Table<R> {
         ensures err { OnErr result (self.new ≡ self.old) }
     {
         let Table { alloc: _, root } = other;
-        let plan = planned(self.alloc, &self.root, root)?;
-        let old = mem::replace(&mut self.root, Node::new(self.alloc));
-        self.root = change(self.alloc, old, plan);
+        meet_into(self.alloc, &mut self.root, root)?;
         Ok(())
     }
 

@@ -38,6 +38,14 @@ plan_slots-loop-child-preserved-in_ok-push-in-Ok-2 g t c =
     altered r v c.args.left.now c.args.right.items c.loop-child.rest.now (into_iter_items c.next.new.self) c.behind.result.now c.behind-rest.result.now c.loop-child.slots.items c.push.new.self.items c.in-Some.child c.branch_at.result.now c.in-Ok.at c.in_ok-change-in-Ok.change before
     c.in-Ok.ensures c.branch_at.ensures c.in_ok-change-in-Ok.ensures.form c.in_ok-change-in-Ok.ensures.refused c.behind.ensures c.behind-rest.ensures c.in_ok-push-in-Ok.ensures.items
 
+pub plan_slots-loop-child-preserved-in_ok-push-in-Ok-3 : goal.plan_slots-loop-child-preserved-in_ok-push-in-Ok-3
+plan_slots-loop-child-preserved-in_ok-push-in-Ok-3 g t c =
+    let r = g.R.Narrow.refuses in
+    let v = g.R.Narrow.is_value in
+    let before = goes_next r v c.args.left.now c.args.right.items c.loop-child.rest.now (into_iter_items c.loop-child.others) (into_iter_items c.next.new.self) c.loop-child.slots.items c.in-Some.child c.in-Some.ensures.cases.0 c.loop-child.invariant in
+    altered r v c.args.left.now c.args.right.items c.loop-child.rest.now (into_iter_items c.next.new.self) c.behind.result.now c.behind-rest.result.now c.loop-child.slots.items c.push.new.self.items c.in-Some.child c.branch_at.result.now c.in-Ok.at c.in_ok-change-in-Ok.change before
+    c.in-Ok.ensures c.branch_at.ensures c.in_ok-change-in-Ok.ensures.form c.in_ok-change-in-Ok.ensures.refused c.behind.ensures c.behind-rest.ensures c.in_ok-push-in-Ok.ensures.items
+
 pub plan_slots-loop-child-preserved : goal.plan_slots-loop-child-preserved
 plan_slots-loop-child-preserved g t c =
     let r = g.R.Narrow.refuses in
