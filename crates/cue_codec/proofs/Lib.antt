@@ -5,6 +5,7 @@ pub mod Numbers
 pub mod ReadStates
 pub mod RowParts
 pub mod SetLaws
+pub mod Lengths
 pub mod StatePaths
 pub mod StateRows
 pub mod StateSets

@@ -1,8 +1,8 @@
 -- Sets of integers and of texts: their bytes tell them.
-use Rattle.std.proofs.Common.{◌≡◌, ℕ, ℤ, pos, negsuc, ◌+ℤ◌, ◌≤ℤ◌, List, [], ◌∷◌, sym, subst, arith}
+use Rattle.std.proofs.Common.{◌≡◌, ℕ, ℤ, pos, ◌+ℤ◌, ◌≤ℤ◌, List, [], ◌∷◌, sym, subst, arith}
 use Rattle.std.specs.List.{AllByRecursion}
 use Rattle.std.proofs.lemmas.Int.{ints}
-use Rattle.cue_sets.specs.Pieces.{least, greatest, AscendsFrom, IsCanonical}
+use Rattle.cue_sets.specs.Pieces.{least, AscendsFrom, IsCanonical}
 use Rattle.cue_codec.specs.Parts.{counted_bytes, piece_bytes}
 use Rattle.cue_codec.specs.Reading.{Begins, BeginsNone, IsPiece, AreCounted}
 use Rattle.cue_codec.specs.StateRow.{IsStateIntegers}

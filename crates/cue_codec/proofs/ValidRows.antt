@@ -33,7 +33,7 @@ use Rattle.cue_table.proofs.Depth.{kept_at}
 use Rattle.cue_table.proofs.RowLists.{all_append, all_map, all_weaker, all_both, rows_stand}
 use Rattle.cue_table.proofs.Validity.{valid_sound, valid_empty}
 use Rattle.cue_codec.specs.Parts.{counted_bytes, piece_bytes, text_bytes, text_set_bytes, set_bytes, labels_bytes, lengths_bytes, path_bytes}
-use Rattle.cue_codec.specs.Reading.{IsWord, AreWideLengths}
+use Rattle.cue_codec.specs.Reading.{AreWideLengths}
 use Rattle.cue_codec.specs.StateRow.{AreStateTexts, IsStateSet, AreStateLabels, IsStateStep, IsStatePath}
 use Rattle.cue_codec.specs.RowBytes.{Parts, free, scalar, struct, list, nothing, scalars_bytes, left_out_bytes, parts_bytes, is_empty_set, parts_by, parts_of, row_bytes, empty_set, full_set, row_of as made_row, IsStateParts, IsStateRow}
 use Rattle.cue_codec.specs.KindBytes.{kind_bytes, AreBytesOfKinds}

@@ -11,6 +11,7 @@ mod row_reader;
 mod row_writing;
 mod rows;
 mod sets;
+mod sizes;
 mod spelling;
 mod writing;
 
@@ -19,4 +20,5 @@ pub use cue_row::Row;
 pub use cue_table::Table;
 pub use decoding::decode;
 pub use encoding::encode;
+pub use sizes::size;
 pub use spelling::{bytes_of_kinds, one_row_spelling, one_state_spelling, one_table_spelling};

@@ -14,7 +14,7 @@ fn step(alloc: Global, name: char) -> Result<Step, Memory> {
     }
     let mut label = String::new(alloc);
     label.push(name)?;
-    Ok(Step::Label(Text::new(label)))
+    Ok(Step::Label(Text::new(alloc, label)?))
 }
 
 /// A path of one-letter labels and one-digit indexes: `a1b` is the label `a`, the index 1 and the
@@ -75,7 +75,7 @@ fn closed(alloc: Global, letters: &str) -> Result<Row, Memory> {
     for letter in letters.chars() {
         let mut label = String::new(alloc);
         label.push(letter)?;
-        labels.push(Text::new(label))?;
+        labels.push(Text::new(alloc, label)?)?;
     }
     let mut row = compound(alloc, Level::Given, true, false)?;
     if let Some(labels) = Labels::listing(labels) {

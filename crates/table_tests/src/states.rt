@@ -1,6 +1,7 @@
 //! States that are known, read and written.
-use cue_codec::{decode, encode};
+use cue_codec::{decode, encode, size};
 use cue_lattice::{Kind, Memory};
+use cue_table::Table;
 use std::alloc::Global;
 use std::test::Fail;
 
@@ -46,6 +47,16 @@ pub fn list() -> &'static [u8] {
     &[
         0xfe, 0x43, 0x55, 0x45, 1, 0, 0, 0, 0, 0, 0, 0, 2, 0, 0, 2, 0, 1, 0, 0, 1, 0x6c, 2, 3, 0,
         1, 0, 0, 0,
+    ]
+}
+
+/// The state of `a: {b: "xyz"}`.
+fn nested() -> &'static [u8] {
+    &[
+        0xfe, 0x43, 0x55, 0x45, 1, 0, 0, 0, 0, 0, 0, 0, 3, 0, 0, 2, 0, 1, 0, 0, 1, 0x61, 2, 2, 0,
+        2, 0, 0, 1, 0x61, 0, 0, 1, 0x62, 2, 1, 0, 0, 0, 0, 0, 0, 0, 0, 0, 0, 0, 0, 0, 0, 0, 0, 0,
+        1, 0, 3, 0x78, 0x79, 0x7a, 0, 0, 0, 0, 0, 0, 0, 0, 0, 0, 0, 0, 0, 0, 0, 0, 0, 1, 0, 3,
+        0x78, 0x79, 0x7a,
     ]
 }
 
@@ -163,6 +174,30 @@ fn states_are_written_as_they_were_read(rt: HostRuntime) -> Result<(), Fail> {
     assert!(rt; is_kept(alloc, port())?);
     assert!(rt; is_kept(alloc, conflict())?);
     assert!(rt; is_kept(alloc, list())?);
+    assert!(rt; is_kept(alloc, nested())?);
+    Ok(())
+}
+
+/// Whether the state of the table that these bytes tell takes so many bytes.
+fn has_size(alloc: Global, bytes: &[u8], count: u64) -> Result<bool, Kind> {
+    Ok(size(&decode(alloc, bytes)?) == count)
+}
+
+/// Whether the state of a new table takes so many bytes.
+fn new_has_size(alloc: Global, count: u64) -> bool {
+    size(&Table::new(alloc)) == count
+}
+
+#[test]
+fn the_size_is_told_before_a_state_is_written(rt: HostRuntime) -> Result<(), Fail> {
+    let alloc = rt.alloc();
+    assert!(rt; new_has_size(alloc, 13));
+    assert!(rt; has_size(alloc, empty(), 13)?);
+    assert!(rt; has_size(alloc, integer(), 92)?);
+    assert!(rt; has_size(alloc, port(), 95)?);
+    assert!(rt; has_size(alloc, conflict(), 30)?);
+    assert!(rt; has_size(alloc, list(), 29)?);
+    assert!(rt; has_size(alloc, nested(), 82)?);
     Ok(())
 }
 

@@ -1,0 +1,140 @@
+-- How many bytes the parts of a state take.
+use Rattle.std.proofs.Common.{◌≡◌, ℕ, ◌+◌, ◌*◌, ◌<◌, ◌≤◌, ℤ, List, [], ◌∷◌, ◌++◌, length, take, get_or, Option, Some, None, refl, sym, ap, ◌∙◌, arith}
+use Rattle.std.specs.Int.{w16, w64, to_be_bytes}
+use Rattle.std.specs.List.{flat_map}
+use Rattle.std.proofs.lemmas.List.{append-nil, length-append, take_more, take_all}
+use Rattle.std.proofs.lemmas.List.Concat.{flat_map-cons, flat_map-append}
+use Rattle.cue_lattice.specs.Path.{Step, label, index}
+use Rattle.cue_scalars.specs.declared.scalar_set.ScalarSet.{ScalarSet}
+use Rattle.cue_row.specs.declared.row.Row.{Row}
+use Rattle.cue_row.specs.Levels.{level_of}
+use Rattle.cue_table.specs.Tree.{Tree, Children, row_of, rows_of, rows_below, below, children_of}
+use Rattle.cue_codec.specs.Parts.{integer_bytes, counted_bytes, piece_bytes, text_bytes, text_set_bytes, set_bytes, labels_bytes, most_bytes, lengths_bytes, step_bytes, bit}
+use Rattle.cue_codec.specs.RowBytes.{free, scalar, struct, list, nothing, parts_bytes, parts_of, scalars_bytes, left_out_bytes, row_bytes, row_bytes_from}
+use Rattle.cue_codec.specs.Size.{saturated, size_of}
+use Rattle.cue_codec.specs.State.{table_bytes}
+use Rattle.cue_codec.proofs.WrittenStates.{state_parts, rows_from_root}
+use Rattle.cue_codec.proofs.WrittenRows.{bytes_begin, bytes_begin_below, bytes_more, bytes_end}
+
+-- a text takes two bytes for its length
+pub text_length : (text : List ℕ) → length (text_bytes text) ≡ 2 + length text
+unfolding text_bytes
+text_length text = length-append (to_be_bytes w16 (length text)) text
+
+pub texts_length : (texts : List (List ℕ)) → length (counted_bytes text_bytes texts) ≡ 8 + length (flat_map text_bytes texts)
+unfolding counted_bytes
+texts_length texts = length-append (to_be_bytes w64 (length texts)) (flat_map text_bytes texts)
+
+piece_length : (piece : ℤ × ℤ) → length (piece_bytes piece) ≡ 16
+unfolding piece_bytes integer_bytes
+piece_length piece = refl
+
+pieces_each : (pieces : List (ℤ × ℤ)) → length (flat_map piece_bytes pieces) ≡ 16 * length pieces
+pieces_each [] = refl
+pieces_each (piece ∷ pieces) = let each = pieces_each pieces in omega (arith, ap length (flat_map-cons piece_bytes piece pieces), length-append (piece_bytes piece) (flat_map piece_bytes pieces), piece_length piece)
+
+pieces_length : (pieces : List (ℤ × ℤ)) → length (counted_bytes piece_bytes pieces) ≡ 8 + 16 * length pieces
+unfolding counted_bytes
+pieces_length pieces = length-append (to_be_bytes w64 (length pieces)) (flat_map piece_bytes pieces) ∙ ap (λ n. 8 + n) (pieces_each pieces)
+
+pub set_length : (set : ScalarSet) → length (set_bytes set) ≡ 10 + 16 * length set.ints + length (counted_bytes text_bytes set.texts.1)
+unfolding set_bytes text_set_bytes
+set_length set = omega (arith, length-append (counted_bytes piece_bytes set.ints) (bit set.texts.0 ∷ counted_bytes text_bytes set.texts.1), pieces_length set.ints)
+
+pub all_labels_length : length (labels_bytes None) ≡ 1
+unfolding labels_bytes
+all_labels_length = refl
+
+pub labels_length : (labels : List (List ℕ)) → length (labels_bytes (Some labels)) ≡ 1 + length (counted_bytes text_bytes labels)
+unfolding labels_bytes
+labels_length labels = omega arith
+
+pub open_length : (least : ℕ) → length (lengths_bytes (least, None)) ≡ 5
+unfolding lengths_bytes most_bytes
+open_length least = refl
+
+pub closed_length : (least most : ℕ) → length (lengths_bytes (least, Some most)) ≡ 9
+unfolding lengths_bytes most_bytes
+closed_length least most = refl
+
+pub label_length : (text : List ℕ) → length (step_bytes (label text)) ≡ 3 + length text
+unfolding step_bytes
+label_length text = omega (arith, text_length text)
+
+pub index_length : (n : ℕ) → length (step_bytes (index n)) ≡ 5
+unfolding step_bytes
+index_length n = refl
+
+-- ---- the parts of a row, by their kind
+
+pub free_length : length (parts_bytes free) ≡ 1
+unfolding parts_bytes
+free_length = refl
+
+pub scalars_length : (value usual : ScalarSet) → length (parts_bytes (scalar value usual)) ≡ 1 + (length (set_bytes value) + length (set_bytes usual))
+unfolding parts_bytes scalars_bytes
+scalars_length value usual = omega (arith, length-append (set_bytes value) (set_bytes usual))
+
+pub struct_length : (labels : Option (List (List ℕ))) → length (parts_bytes (struct labels)) ≡ 1 + length (labels_bytes labels)
+unfolding parts_bytes
+struct_length labels = omega arith
+
+pub list_length : (lengths : ℕ × Option ℕ) → length (parts_bytes (list lengths)) ≡ 1 + length (lengths_bytes lengths)
+unfolding parts_bytes
+list_length lengths = omega arith
+
+pub left_out_length : (labels : Option (List (List ℕ))) (lengths : ℕ × Option ℕ) → length (parts_bytes (nothing labels lengths)) ≡ 1 + (length (labels_bytes labels) + length (lengths_bytes lengths))
+unfolding parts_bytes left_out_bytes
+left_out_length labels lengths = omega (arith, length-append (labels_bytes labels) (lengths_bytes lengths))
+
+pub ruleset lengths_of_labels = (all_labels_length, labels_length)
+
+pub ruleset lengths_of_parts = (free_length, scalars_length, struct_length, list_length, left_out_length)
+
+-- ---- lists of texts
+
+pub text_more : (done text rest : List ℕ) (size : ℕ) → rest ≡ done ++ text_bytes text → size ≡ saturated (8 + length done) → saturated (saturated (size + 2) + length text) ≡ saturated (8 + length rest)
+text_more done text rest size e h = omega (arith, h, ap length e, length-append done (text_bytes text), text_length text)
+
+pub texts_more : (texts : List (List ℕ)) (i : ℕ) (text : List ℕ) (size : ℕ) → i < length texts → text ≡ get_or texts i text → size ≡ saturated (8 + length (flat_map text_bytes (take i texts)))
+    → saturated (saturated (size + 2) + length text) ≡ saturated (8 + length (flat_map text_bytes (take (i + 1) texts)))
+texts_more texts i text size h g e =
+    let done = flat_map text_bytes (take i texts) in
+    let one : take (i + 1) texts ≡ take i texts ++ text ∷ [] = take_more texts i text h ∙ ap (λ t. take i texts ++ t ∷ []) (sym g) in
+    let bytes = ap (flat_map text_bytes) one ∙ flat_map-append text_bytes (take i texts) (text ∷ []) ∙ ap (λ t. done ++ t) (flat_map-cons text_bytes text [] ∙ append-nil (text_bytes text)) in
+    text_more done text (flat_map text_bytes (take (i + 1) texts)) size bytes e
+
+pub texts_done : (texts : List (List ℕ)) (i size : ℕ) → length texts ≤ i → size ≡ saturated (8 + length (flat_map text_bytes (take i texts))) → size ≡ size_of (counted_bytes text_bytes texts)
+texts_done texts i size h e = e ∙ ap (λ t. saturated (8 + length (flat_map text_bytes t))) (take_all i texts h) ∙ sym (ap saturated (texts_length texts))
+
+-- ---- rows
+
+row_length : (depth : ℕ) (bytes : List ℕ) (row : Row) → length (row_bytes_from depth bytes ([], row)) ≡ 2 + length bytes + length (parts_bytes (parts_of row))
+unfolding row_bytes_from
+row_length depth bytes row = omega (arith, length-append bytes (level_of row.level ∷ parts_bytes (parts_of row)))
+
+pub size_begin : (depth : ℕ) (bytes : List ℕ) (tree : Tree Row) (row : Row) (steps parts size : ℕ) → row_of tree ≡ Some row → steps ≡ size_of bytes → parts ≡ size_of (parts_bytes (parts_of row)) → size ≡ saturated (saturated (2 + steps) + parts)
+    → saturated (size + length (flat_map (row_bytes_from depth bytes) (rows_below (below tree)))) ≡ size_of (flat_map (row_bytes_from depth bytes) (rows_of tree))
+size_begin depth bytes tree row steps parts size e s p h =
+    let all = bytes_begin depth bytes tree row [] (row_bytes_from depth bytes ([], row)) e refl in
+    omega (arith, s, p, h, ap length all, row_length depth bytes row, length-append (row_bytes_from depth bytes ([], row)) (flat_map (row_bytes_from depth bytes) (rows_below (below tree))))
+
+pub size_begin_below : (depth : ℕ) (bytes : List ℕ) (tree : Tree Row) → row_of tree ≡ None → saturated (0 + length (flat_map (row_bytes_from depth bytes) (rows_below (below tree)))) ≡ size_of (flat_map (row_bytes_from depth bytes) (rows_of tree))
+size_begin_below depth bytes tree e = omega (arith, ap length (bytes_begin_below depth bytes tree [] e))
+
+pub size_more : (depth : ℕ) (bytes : List ℕ) (step : Step) (tree : Tree Row) (rest left : Children Row) (steps one size more all : ℕ) → children_of rest ≡ (step, tree) ∷ children_of left
+    → steps ≡ size_of bytes → one ≡ size_of (step_bytes step) → ((d : ℕ) (b : List ℕ) → saturated (steps + one) ≡ size_of b → more ≡ size_of (flat_map (row_bytes_from d b) (rows_of tree)))
+    → saturated (size + length (flat_map (row_bytes_from depth bytes) (rows_below rest))) ≡ all → saturated (saturated (size + more) + length (flat_map (row_bytes_from depth bytes) (rows_below left))) ≡ all
+size_more depth bytes step tree rest left steps one size more all e s o m h =
+    let these = flat_map (row_bytes_from (depth + 1) (bytes ++ step_bytes step)) (rows_of tree) in
+    let count = m (depth + 1) (bytes ++ step_bytes step) (omega (arith, s, o, length-append bytes (step_bytes step))) in
+    let parts = bytes_more depth bytes step tree rest left [] these (flat_map (row_bytes_from depth bytes) (rows_below rest)) e refl refl in
+    omega (arith, count, h, ap length parts, length-append these (flat_map (row_bytes_from depth bytes) (rows_below left)))
+
+pub size_end : (depth : ℕ) (bytes : List ℕ) (rest : Children Row) (size all : ℕ) → children_of rest ≡ [] → size ≡ saturated size → saturated (size + length (flat_map (row_bytes_from depth bytes) (rows_below rest))) ≡ saturated all → size ≡ saturated all
+size_end depth bytes rest size all e s h = omega (arith, s, h, ap length (bytes_end depth bytes rest [] (flat_map (row_bytes_from depth bytes) (rows_below rest)) e refl))
+
+-- the head takes 13 bytes
+pub state_length : (tree : Tree Row) (rows : ℕ) → rows ≡ size_of (flat_map (row_bytes_from 0 []) (rows_of tree)) → saturated (13 + rows) ≡ size_of (table_bytes tree)
+state_length tree rows h =
+    omega (arith, h, ap length (state_parts (rows_of tree)), ap length (rows_from_root (rows_of tree)), length-append (to_be_bytes w64 (length (rows_of tree))) (flat_map row_bytes (rows_of tree)))

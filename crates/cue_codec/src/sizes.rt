@@ -1,0 +1,118 @@
+//! How many bytes a state takes, as far as 64 bits tell. None of it takes memory.
+
+ghost use Rattle.std.specs.Prelude.{◌≡◌, ℕ, List, ◌+◌};
+ghost use Rattle.std.specs.List.{flat_map};
+ghost use Rattle.cue_row.specs.Steps.{step_of};
+ghost use Rattle.cue_table.specs.Tree.{rows_of};
+ghost use Rattle.cue_codec.specs.Parts.{counted_bytes, text_bytes, set_bytes, labels_bytes};
+ghost use Rattle.cue_codec.specs.Parts.{lengths_bytes, step_bytes};
+ghost use Rattle.cue_codec.specs.RowBytes.{parts_bytes, parts_of, row_bytes_from};
+ghost use Rattle.cue_codec.specs.Size.{saturated, size_of};
+ghost use Rattle.cue_codec.specs.State.{table_bytes};
+
+use crate::rows::is_empty;
+use cue_lattice::Text;
+use cue_row::{Labels, Row, Step};
+use cue_scalars::ScalarSet;
+use cue_table::{Branch, Table};
+
+fn add(left: u64, right: u64) -> u64
+    ensures { result ≡ saturated (left + right) }
+{
+    u64::saturating_add(left, right)
+}
+
+fn texts_size(texts: &[Text]) -> u64
+    ensures { result ≡ size_of (counted_bytes text_bytes texts.now) }
+{
+    let mut size = 8;
+    for text in texts {
+        size = add(add(size, 2), text.as_bytes().len() as u64);
+    }
+    size
+}
+
+#[tactic(auto, using(crate::proofs::Lengths::set_length))]
+fn set_size(set: &ScalarSet) -> u64
+    ensures { result ≡ size_of (set_bytes set.now) }
+{
+    let pieces = u64::saturating_mul(16, set.ints.pieces().len() as u64);
+    let (_, texts) = set.texts.listed();
+    add(add(10, pieces), texts_size(texts))
+}
+
+#[tactic(auto, using(crate::proofs::Lengths::lengths_of_labels))]
+fn labels_size(labels: &Labels) -> u64
+    ensures { result ≡ size_of (labels_bytes labels.now) }
+{
+    match labels.listed() {
+        None => 1,
+        Some(texts) => add(1, texts_size(texts)),
+    }
+}
+
+#[tactic(auto, using(crate::proofs::Lengths::open_length, crate::proofs::Lengths::closed_length))]
+fn lengths_size(least: u32, most: Option<u32>) -> u64
+    ensures { result ≡ size_of (lengths_bytes (least, most)) }
+{
+    match most {
+        None => 5,
+        Some(_) => 9,
+    }
+}
+
+/// How many bytes the parts of a row take.
+#[tactic(auto, using(crate::proofs::Lengths::lengths_of_parts))]
+fn parts_size(row: &Row) -> u64
+    ensures { result ≡ size_of (parts_bytes (parts_of row.now)) }
+{
+    match (row.struct_ok, row.list_ok) {
+        (true, true) => 1,
+        (true, false) => add(1, labels_size(&row.labels)),
+        (false, true) => add(1, lengths_size(row.least, row.most)),
+        (false, false) => {
+            if is_empty(&row.value) {
+                let left_out = lengths_size(row.least, row.most);
+                return add(1, add(labels_size(&row.labels), left_out));
+            }
+            add(1, add(set_size(&row.value), set_size(&row.usual)))
+        }
+    }
+}
+
+/// How many bytes a label or an index takes.
+#[tactic(auto, using(crate::proofs::Lengths::label_length, crate::proofs::Lengths::index_length))]
+fn step_size(step: &Step) -> u64
+    ensures { result ≡ size_of (step_bytes (step_of step.now)) }
+{
+    match step {
+        Step::Label(text) => add(3, text.as_bytes().len() as u64),
+        Step::Index(_) => 5,
+    }
+}
+
+/// How many bytes the rows of a branch take, where the bytes of the steps to it are so many.
+fn rows_size(steps: u64, branch: &Branch<Row>) -> u64
+    ensures { (depth : ℕ) (bytes : List ℕ) → steps ≡ size_of bytes
+        → result ≡ size_of (flat_map (row_bytes_from depth bytes) (rows_of branch.now)) }
+{
+    let mut size = match branch.row() {
+        None => 0,
+        // a byte for the number of steps, and one for the level
+        Some(row) => add(add(2, steps), parts_size(row)),
+    };
+    for (step, below) in branch.children() {
+        size = add(size, rows_size(add(steps, step_size(step)), &below));
+    }
+    size
+}
+
+/// How many bytes the state of a table takes, or the greatest number of 64 bits where it is more.
+/// This takes no memory.
+#[tactic(auto, using(crate::proofs::Lengths::state_length))]
+pub fn size(table: &Table<Row>) -> u64
+    ensures { result ≡ size_of (table_bytes table.now) }
+{
+    // the mark, the version and the count
+    add(13, rows_size(0, &table.root()))
+}
