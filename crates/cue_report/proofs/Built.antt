@@ -1,6 +1,6 @@
 -- What is told in the shape of an export, where nothing conflicts, is a document that meets all that
 -- is refused.
-use Rattle.std.proofs.Common.{◌≡◌, ◌⊎◌, ◌<◌, ◌≤◌, ◌+◌, inl, inr, ⊎_elim, ℕ, zero, suc, Bool, true, false, ◌||◌, List, [], ◌∷◌, Option, None, Some, refl, sym, ap, subst, ◌∙◌, arith}
+use Rattle.std.proofs.Common.{◌≡◌, ◌⊎◌, ◌<◌, ◌+◌, inl, inr, ⊎_elim, ℕ, zero, suc, Bool, true, false, ◌||◌, List, [], ◌∷◌, Option, None, Some, refl, sym, ap, subst, ◌∙◌, arith}
 use Rattle.std.specs.List.{AllByRecursion}
 use Rattle.std.specs.Ordering.{nat_cmp, ordering_then}
 use Rattle.std.specs.Cmp.Lexicographic.{slice_cmp}
@@ -17,10 +17,10 @@ use Rattle.cue_lattice.specs.declared.scalar.Scalar.TheVariants as scalars
 use Rattle.cue_lattice.specs.Scalar.{IsScalar}
 use Rattle.cue_lattice.specs.Path as paths
 use Rattle.cue_lattice.specs.Path.{label, index, Path, path_cmp}
-use Rattle.cue_lattice.specs.Question.{Question, Refusals, may_be, struct, list, level_at_most, length_at_most, length_at_least}
+use Rattle.cue_lattice.specs.Question.{Refusals, may_be, struct, list, length_at_most, length_at_least}
 use Rattle.cue_lattice.specs.Document as documents
 use Rattle.cue_lattice.specs.Document.{Document, IsReadable, IsDocument, AreItems, AreMembers, IsBefore, length_of, Has}
-use Rattle.cue_lattice.specs.Meets.{Meets, ItemsMeet, MembersMeet, at_label, at_index}
+use Rattle.cue_lattice.specs.Meets.{Meets, ItemsMeet, MembersMeet, at_index}
 use Rattle.cue_lattice.proofs.Meeting.{items_less}
 use Rattle.cue_sets.specs.Texts.{is_listed, is_text_member, text_cmp}
 use Rattle.cue_sets.specs.TextLaws.{is_listed-zeros, greatest_length, zeros}
@@ -32,7 +32,7 @@ use Rattle.cue_row.specs.declared.kind.RowKind.{RowKind}
 use Rattle.cue_row.specs.declared.kind.RowKind.TheVariants as kinds
 use Rattle.cue_row.specs.Kinds.{IsKind}
 use Rattle.cue_row.specs.Row.{Refuses, IsRow}
-use Rattle.cue_row.specs.ValidRow.{AreWords, IsWord, IsValidRow, UsualFits}
+use Rattle.cue_row.specs.ValidRow.{AreWords, IsValidRow, UsualFits}
 use Rattle.cue_table.specs.Form.{IsTable}
 use Rattle.cue_table.specs.Tree.{Tree, below, find, row_at}
 use Rattle.cue_table.specs.Valid.{IsValidTable}
@@ -40,12 +40,12 @@ use Rattle.serde_json.specs.Data as json
 use Rattle.serde_json.specs.Data.{Data, null, boolean, number, string, array, object}
 use Rattle.cue_report.specs.Answers.{IsStepDemanded}
 use Rattle.cue_report.specs.Clear.{IsClear}
-use Rattle.cue_report.specs.Documents.{json_of, items_json, members_json, SomeMeets, Tells}
+use Rattle.cue_report.specs.Documents.{json_of, items_json, members_json, Tells}
 use Rattle.cue_report.specs.Export.{beyond, data_of, keys, count, AreKeys, IsAtom, IsShape, AreElements}
 use Rattle.cue_report.specs.Export as shapes
-use Rattle.cue_report.specs.Gaps.{MayStand, IsChosen}
+use Rattle.cue_report.specs.Gaps.{IsChosen}
 use Rattle.cue_report.specs.Listing.{IsRising, AreConflicts}
-use Rattle.cue_report.specs.Picks.{IsFirst, IsPicked}
+use Rattle.cue_report.specs.Picks.{IsPicked}
 use Rattle.cue_report.proofs.Choice.{IsLeft, member_is}
 use Rattle.cue_report.proofs.Clear.{clear_here, clear_below, clear_from, IsPlaced, placed_below}
 use Rattle.cue_report.proofs.Descent.{Told}

@@ -1,19 +1,17 @@
 -- Places that are demanded, and documents that meet what is refused there: where one does, nothing
 -- conflicts.
-use Rattle.std.proofs.Common.{◌≡◌, ◌≢◌, ◌⊎◌, ◌<◌, ◌≤◌, ◌+◌, inl, inr, ⊎_elim, ℕ, zero, suc, Bool, true, false, ◌||◌, List, [], ◌∷◌, ◌++◌, refl, sym, ap, subst, ◌∙◌, arith}
-use Rattle.std.specs.Bool.{IsTrue}
+use Rattle.std.proofs.Common.{◌≡◌, ◌⊎◌, ◌<◌, ◌≤◌, inl, inr, ⊎_elim, ℕ, zero, suc, Bool, true, false, ◌||◌, List, [], ◌∷◌, ◌++◌, refl, ap, subst, arith}
 use Rattle.std.proofs.lemmas.Bool.{cases_lt, false≢true}
 use Rattle.cue_lattice.specs.Path as paths
 use Rattle.cue_lattice.specs.Path.{label, index, Path}
-use Rattle.cue_lattice.specs.Question.{Question, Refusals, may_be, struct, list, allows, level_at_most, length_at_most, length_at_least}
+use Rattle.cue_lattice.specs.Question.{Question, Refusals, struct, list, allows, length_at_most, length_at_least}
 use Rattle.cue_lattice.specs.Document as documents
 use Rattle.cue_lattice.specs.Document.{Document, Items, Members, IsDocument, AreItems, AreMembers, length_of, Has}
 use Rattle.cue_lattice.specs.Meets.{Meets, ItemsMeet, MembersMeet, at_label, at_index}
-use Rattle.cue_report.specs.Answers.{further, IsStepDemanded, IsDemanded, HasNoScalar, HasNoLength, HasNoValue, IsNotAllowed}
+use Rattle.cue_report.specs.Answers.{further, IsStepDemanded, IsDemanded, HasNoScalar, HasNoValue, IsNotAllowed}
 use Rattle.cue_report.specs.Clear.{IsClear, IsClearAt}
 use Rattle.cue_report.specs.Export.{beyond}
 use Rattle.cue_report.specs.Listing.{IsConflict, AreConflicts}
-use Rattle.cue_report.specs.declared.conflict.Conflict.{Conflict}
 
 -- ---- demanded paths, step by step
 not_nil : (before : Path) (step : paths.Step) (after : Path) → [] ≡ before ++ step ∷ after → ⊥

@@ -1,5 +1,5 @@
 -- The document of a place is that of its row and of the branches below it.
-use Rattle.std.proofs.Common.{◌≡◌, ◌⊎◌, ◌↔◌, inl, inr, ⊎_elim, ℕ, suc, ◌+◌, ◌<◌, ◌≤◌, Bool, true, false, ◌&&◌, ◌||◌, List, [], ◌∷◌, ◌++◌, BTreeMap, String, Vec, Global, Option, None, Some, refl, sym, ap, subst, ◌∙◌, arith, rules}
+use Rattle.std.proofs.Common.{◌≡◌, ◌⊎◌, inl, inr, ⊎_elim, ℕ, suc, ◌+◌, ◌<◌, ◌≤◌, Bool, true, false, ◌||◌, List, [], ◌∷◌, ◌++◌, BTreeMap, String, Vec, Global, Option, None, Some, refl, sym, ap, subst, ◌∙◌, arith, rules}
 use Rattle.std.specs.Prelude.{IfSome, IfNone}
 use Rattle.std.specs.Option.{option_and_then}
 use Rattle.std.specs.Ordering.{nat_cmp, match_ordering, ordering_then}
@@ -14,7 +14,7 @@ use Rattle.cue_lattice.specs.Path.{label, index, step_cmp, Path, path_cmp}
 use Rattle.cue_lattice.specs.Question.{Refusals, may_be, struct, list, level_at_most, length_at_most}
 use Rattle.cue_lattice.specs.declared.scalar.Scalar.{Scalar}
 use Rattle.cue_lattice.specs.declared.scalar.Scalar.TheVariants as scalars
-use Rattle.cue_scalars.specs.Scalars.{members, RefusesScalar, IsFirstScalar}
+use Rattle.cue_scalars.specs.Scalars.{members, IsFirstScalar}
 use Rattle.cue_row.specs.declared.row.Row.{Row}
 use Rattle.cue_row.specs.Row.{Refuses, IsRow}
 use Rattle.cue_row.specs.Chosen as chosen
@@ -22,7 +22,7 @@ use Rattle.cue_table.specs.Form.{IsBelowAll, AreBranches, IsKept, IsTable}
 use Rattle.cue_table.specs.Tree.{Tree, node, Children, none, child, row_of, below, if_equal, find, branch_at, children_of}
 use Rattle.cue_table.specs.Walks.{first_child}
 use Rattle.cue_table.specs.Size.{tree_size, children_size}
-use Rattle.serde_json.specs.Data.{Data, null, object, Items, no_items, item, Members, no_members, member, put}
+use Rattle.serde_json.specs.Data.{Data, null, Items, no_items, item, Members, no_members, member, put}
 use Rattle.serde_json.specs.View.{view, items_view, members_view}
 use Rattle.serde_json.specs.Written.{has_float, items_have_float, members_have_float}
 use Rattle.serde_json.specs.declared.value.Value.{Value, Null, Array, Object, the_lemmas}

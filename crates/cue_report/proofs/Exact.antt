@@ -1,11 +1,10 @@
 -- Reports are exact against documents.
-use Rattle.std.proofs.Common.{◌≡◌, ◌≢◌, ◌↔◌, ℕ, suc, Bool, true, false, nat_eq, List, [], ◌∷◌, length, refl, sym, ap, subst, ◌∙◌}
+use Rattle.std.proofs.Common.{◌≡◌, ◌↔◌, ℕ, false, nat_eq, List, [], ◌∷◌, length, refl, sym, subst}
 use Rattle.cue_lattice.specs.Question.{Refusals}
 use Rattle.cue_row.specs.declared.row.Row.{Row}
 use Rattle.cue_table.specs.Tree.{Tree}
 use Rattle.cue_table.specs.Valid.{IsValidTable}
 use Rattle.serde_json.specs.Data.{Data}
-use Rattle.serde_json.specs.Written.{compact_text}
 use Rattle.cue_report.specs.Clear.{IsClear}
 use Rattle.cue_report.specs.Documents.{SomeMeets, Tells}
 use Rattle.cue_report.specs.Export.{IsShape}

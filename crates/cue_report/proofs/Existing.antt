@@ -1,5 +1,5 @@
 -- A valid table without conflicts has a document that meets it.
-use Rattle.std.proofs.Common.{◌≡◌, ◌≢◌, ◌⊎◌, ◌<◌, ◌≤◌, ◌+◌, inl, inr, ⊎_elim, ℕ, zero, suc, Bool, true, false, not, List, [], ◌∷◌, ◌++◌, ℤ, ◌≤ℤ◌, Option, None, Some, refl, sym, ap, subst, ◌∙◌, arith}
+use Rattle.std.proofs.Common.{◌≡◌, ◌⊎◌, ◌<◌, ◌≤◌, ◌+◌, inl, inr, ⊎_elim, ℕ, zero, suc, Bool, true, false, not, List, [], ◌∷◌, ◌++◌, ℤ, Option, None, Some, refl, sym, ap, subst, ◌∙◌, arith}
 use Rattle.std.specs.List.{AllByRecursion}
 use Rattle.std.specs.Option.{option_and_then}
 use Rattle.std.specs.Str.{IsUtf8}
@@ -16,7 +16,7 @@ use Rattle.cue_lattice.specs.Path.{label, index, step_cmp, Path}
 use Rattle.cue_lattice.specs.Question.{Question, Refusals, may_be, struct, list, level_at_most, length_at_most, length_at_least}
 use Rattle.cue_lattice.specs.Document as documents
 use Rattle.cue_lattice.specs.Document.{Document, Items, Members, IsReadable, IsDocument, AreItems, AreMembers, IsBefore, length_of, Has}
-use Rattle.cue_lattice.specs.Meets.{Meets, ItemsMeet, MembersMeet, at_label, at_index}
+use Rattle.cue_lattice.specs.Meets.{ItemsMeet, MembersMeet, at_index}
 use Rattle.cue_sets.specs.Pieces.{least, is_member, IsCanonical}
 use Rattle.cue_sets.specs.PieceLaws.{first_is_least}
 use Rattle.cue_sets.specs.Texts.{is_text_member}

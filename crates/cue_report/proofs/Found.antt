@@ -1,7 +1,7 @@
 -- The conflicts that a search finds are those of the table.
 use Rattle.std.proofs.Common.{◌≡◌, ◌↔◌, ◌⊎◌, inl, inr, ⊎_elim, Bool, true, false, ◌||◌, List, [], ◌∷◌, ◌++◌, map, Option, None, Some, refl, sym, ap, subst, ◌∙◌}
 use Rattle.std.specs.Bool.{IsTrue}
-use Rattle.std.specs.List.{AllByRecursion}
+use Rattle.std.specs.List.{AllByRecursion, flat_map}
 use Rattle.std.specs.declared.cmp.Ordering.{Ordering}
 use Rattle.std.specs.declared.cmp.Ordering.TheVariants.{Less, Equal, Greater}
 use Rattle.cue_lattice.specs.OneOf.{OneOf}
@@ -16,11 +16,12 @@ use Rattle.cue_table.specs.Tree.{Tree, node, Children, none, child, row_of, belo
 use Rattle.cue_report.specs.Answers.{IsDemanded, HasNoValue, IsNotAllowed}
 use Rattle.cue_report.specs.GapSearch.{IsBarred}
 use Rattle.cue_report.specs.Listing.{IsConflict, AreConflicts, IsRising}
-use Rattle.cue_report.specs.Search.{under, only_if, has_no_value, is_demanded, is_refused, conflict_here, conflicts_in, conflicts_below}
+use Rattle.cue_report.specs.Search.{under, told_under, only_if, has_no_value, is_demanded, is_refused, conflict_here, conflicts_in, conflicts_below}
 use Rattle.cue_report.specs.declared.conflict.Conflict.{Conflict}
 use Rattle.cue_report.proofs.Empty.{same_truth}
 use Rattle.cue_report.proofs.Rows.{NoValueAt, no_value_is}
 use Rattle.cue_report.proofs.Order.{reverse_cmp, same_step, equal_steps, all_append, all_map, all_from, one_left, one_right, one_map, AreBehind, rising_append, rising_lifted, lifted_before, lifted_behind}
+use Rattle.cue_report.proofs.Texts.{listed}
 use Rattle.cue_report.proofs.Descent.{Told, open_below, row_below, seen, demanded_down, demanded_up, barred_below, first_demanded, at_root}
 
 -- a conflict at a place of a tree, of which the place above refuses the label or not
@@ -303,12 +304,20 @@ pub under_root : (xs : List Conflict) → map (under []) xs ≡ xs
 under_root [] = refl
 under_root (x ∷ xs) = ap (λ ys. x ∷ ys) (under_root xs)
 
--- a search that began with nothing has found these
+-- what a search from the root told is told of the conflicts of the table
+pub told_from_root :
+    {X : Type 0} (piece : Conflict → List X) (tree root : Tree Row) (before after : List X) (path : Path) → root ≡ tree → path ≡ []
+    → after ≡ before ++ told_under piece path (conflicts_in false root) → after ≡ before ++ flat_map piece (conflicts_in false tree)
+told_from_root piece tree root before after path r p e =
+    e ∙ ap (λ t. before ++ told_under piece path (conflicts_in false t)) r ∙ ap (λ q. before ++ told_under piece q (conflicts_in false tree)) p
+    ∙ ap (λ xs. before ++ flat_map piece xs) (under_root (conflicts_in false tree))
+
+-- a search that began with nothing has listed these
 pub from_nothing :
     (tree root : Tree Row) (before after : List Conflict) (path : Path) → IsTable Refuses IsRow tree → root ≡ tree → before ≡ [] → path ≡ []
-    → after ≡ before ++ map (under path) (conflicts_in false root) → AreConflicts (Told tree) after
+    → after ≡ before ++ told_under (λ x. x ∷ []) path (conflicts_in false root) → AreConflicts (Told tree) after
 from_nothing tree root before after path h r b p e =
     let found : after ≡ conflicts_in false tree =
-    e ∙ ap (λ t. before ++ map (under path) (conflicts_in false t)) r ∙ ap (λ xs. xs ++ map (under path) (conflicts_in false tree)) b
-    ∙ ap (λ q. map (under q) (conflicts_in false tree)) p ∙ under_root (conflicts_in false tree) in
+    told_from_root (λ x. x ∷ []) tree root before after path r p e ∙ ap (λ xs. xs ++ flat_map (λ x. x ∷ []) (conflicts_in false tree)) b
+    ∙ listed (conflicts_in false tree) in
     subst (AreConflicts (Told tree)) (sym found) (conflicts_found tree h)

@@ -1,7 +1,7 @@
 -- The gaps of a tree are those of its own place and those of its branches, step by step.
 use Rattle.std.proofs.Common.{◌≡◌, ◌⊎◌, inl, inr, ⊎_elim, Bool, true, false, List, [], ◌∷◌, ◌++◌, map, Option, refl, sym, ap, subst, ◌∙◌}
 use Rattle.std.specs.Ordering.{ordering_then}
-use Rattle.std.specs.List.{AllByRecursion}
+use Rattle.std.specs.List.{AllByRecursion, flat_map}
 use Rattle.std.proofs.lemmas.Bool.{false≢true}
 use Rattle.std.proofs.lemmas.List.{append-nil}
 use Rattle.std.specs.declared.cmp.Ordering.TheVariants.{Less}
@@ -12,10 +12,11 @@ use Rattle.cue_row.specs.declared.row.Row.{Row}
 use Rattle.cue_table.specs.Tree.{Tree, node, row_of, row_at}
 use Rattle.cue_report.specs.Answers.{IsDemanded, IsStepDemanded, IsNotAllowed}
 use Rattle.cue_report.specs.Gaps.{IsGap, AreGaps}
-use Rattle.cue_report.specs.GapSearch.{Adds, IsGapAt, IsBarred, IsGapIn, IsGapHere, above}
+use Rattle.cue_report.specs.GapSearch.{Adds, IsGapAt, IsBarred, IsGapIn, IsGapHere, above, told_above}
 use Rattle.cue_report.specs.Listing.{Lists}
 use Rattle.cue_report.specs.Search.{is_demanded, is_refused}
 use Rattle.cue_report.specs.declared.gap.Gap.{Gap}
+use Rattle.cue_report.proofs.Texts.{listed}
 use Rattle.cue_report.proofs.Empty.{same_truth}
 use Rattle.cue_report.proofs.Order.{all_append, all_map, all_from, one_left, one_right, one_map, rising_append, rising_lifted}
 use Rattle.cue_report.proofs.Descent.{Told, IsSeen, demanded_down, demanded_up, barred_below, first_demanded, at_root}
@@ -215,17 +216,21 @@ one_here row missing g = record {
 }
 
 -- what a look at a place adds
-pub looked_none : (not_allowed : Bool) (row : Option Row) (path : Path) (gaps : List Gap) → ((missing : Bool) → not_allowed ≡ false → IsGapAt row missing → ⊥) → Adds (IsGapHere not_allowed row) path gaps gaps
-looked_none not_allowed row path gaps n = record { found = []; lists = none_here not_allowed row n; is = sym (append-nil gaps) }
+pub looked_none :
+    {X : Type 0} (piece : Gap → List X) (not_allowed : Bool) (row : Option Row) (path : Path) (told : List X)
+    → ((missing : Bool) → not_allowed ≡ false → IsGapAt row missing → ⊥) → Adds piece (IsGapHere not_allowed row) path told told
+looked_none piece not_allowed row path told n = record { found = []; lists = none_here not_allowed row n; is = sym (append-nil told) }
 
 pub looked_one :
-    (not_allowed missing : Bool) (row : Option Row) (path place : Path) (start after : List Gap) → not_allowed ≡ false → IsGapAt row missing → place ≡ path
-    → after ≡ start ++ record { path = place; missing = missing } ∷ [] → Adds (IsGapHere not_allowed row) path start after
-looked_one not_allowed missing row path place start after n g p a = record {
-  found = record { path = []; missing = missing } ∷ [];
-  lists = subst (λ b. Lists place_of (IsGapHere b row) (record { path = []; missing = missing } ∷ [])) (sym n) (one_here row missing g);
-  is = a ∙ ap (λ (q : Path). start ++ record { path = q; missing = missing } ∷ []) (p ∙ sym (append-nil path));
-}
+    {X : Type 0} (piece : Gap → List X) (not_allowed missing : Bool) (row : Option Row) (path : Path) (start after : List X) → not_allowed ≡ false → IsGapAt row missing
+    → after ≡ start ++ piece (record { path = path; missing = missing }) → Adds piece (IsGapHere not_allowed row) path start after
+looked_one piece not_allowed missing row path start after n g a =
+    let one : Path → Gap = λ place. record { path = place; missing = missing } in
+    record {
+      found = record { path = []; missing = missing } ∷ [];
+      lists = subst (λ b. Lists place_of (IsGapHere b row) (record { path = []; missing = missing } ∷ [])) (sym n) (one_here row missing g);
+      is = a ∙ ap (λ (q : Path). start ++ piece (one q)) (sym (append-nil path)) ∙ ap (λ zs. start ++ zs) (sym (append-nil (piece (one (path ++ [])))));
+    }
 
 -- the gaps found from the root on are those of the table
 pub gaps_found : (tree : Tree Row) (xs : List Gap) → Lists place_of (IsGapIn false tree) xs → AreGaps (Told tree) xs
@@ -242,11 +247,21 @@ above_root : (xs : List Gap) → map (above []) xs ≡ xs
 above_root [] = refl
 above_root (x ∷ xs) = ap (λ ys. x ∷ ys) (above_root xs)
 
--- a search that began with nothing has found these
+-- what a search from the root told is told of the gaps of the table
+pub told_from_root :
+    {X : Type 0} (piece : Gap → List X) (tree root : Tree Row) (before after : List X) (path : Path) → root ≡ tree → path ≡ []
+    → Adds piece (IsGapIn false root) path before after → (found : List Gap) × AreGaps (Told tree) found × (after ≡ before ++ flat_map piece found)
+told_from_root piece tree root before after path r p h = (
+  h.found,
+  gaps_found tree h.found (subst (λ t. Lists place_of (IsGapIn false t) h.found) r h.lists),
+  h.is ∙ ap (λ q. before ++ told_above piece q h.found) p ∙ ap (λ xs. before ++ flat_map piece xs) (above_root h.found),
+)
+
+-- a search that began with nothing has listed these
 pub from_nothing :
-    (tree root : Tree Row) (before after : List Gap) (path : Path) → root ≡ tree → before ≡ [] → path ≡ [] → Adds (IsGapIn false root) path before after
-    → AreGaps (Told tree) after
+    (tree root : Tree Row) (before after : List Gap) (path : Path) → root ≡ tree → before ≡ [] → path ≡ []
+    → Adds (λ x. x ∷ []) (IsGapIn false root) path before after → AreGaps (Told tree) after
 from_nothing tree root before after path r b p h =
-    let found : after ≡ h.found =
-    h.is ∙ ap (λ xs. xs ++ map (above path) h.found) b ∙ ap (λ q. map (above q) h.found) p ∙ above_root h.found in
-    subst (AreGaps (Told tree)) (sym found) (gaps_found tree h.found (subst (λ t. Lists place_of (IsGapIn false t) h.found) r h.lists))
+    let told = told_from_root (λ x. x ∷ []) tree root before after path r p h in
+    let found : after ≡ told.0 = told.2 ∙ ap (λ xs. xs ++ flat_map (λ x. x ∷ []) told.0) b ∙ listed told.0 in
+    subst (AreGaps (Told tree)) (sym found) told.1

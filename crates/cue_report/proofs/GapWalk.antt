@@ -5,7 +5,9 @@ use Rattle.std.proofs.Math.Nat.{eq-or-lt_of_le}
 use Rattle.std.proofs.lemmas.Bool.Decides.{nat_tests}
 use Rattle.std.proofs.lemmas.Cmp.{nat_list_cmp_total, nat_cmp_total}
 use Rattle.std.specs.Cmp.{nat_cmp_is}
+use Rattle.std.specs.List.{flat_map}
 use Rattle.std.proofs.lemmas.List.{append-nil, map-append, map_push}
+use Rattle.std.proofs.lemmas.List.Concat.{flat_map-append}
 use Rattle.std.specs.declared.cmp.Ordering.{Ordering}
 use Rattle.std.specs.declared.cmp.Ordering.TheVariants.{Less, Equal, Greater}
 use Rattle.cue_lattice.specs.Path as paths
@@ -18,7 +20,7 @@ use Rattle.cue_table.specs.Tree.{Tree, node, Children, none, child, empty, row_o
 use Rattle.cue_table.specs.Size.{children_size}
 use Rattle.cue_table.specs.Walks.{first_child}
 use Rattle.cue_report.specs.Answers.{IsStepDemanded}
-use Rattle.cue_report.specs.GapSearch.{IsGapIn, IsGapHere, Adds, above, free_at, free_elements, free_before, next_after, least_at}
+use Rattle.cue_report.specs.GapSearch.{IsGapIn, IsGapHere, Adds, above, told_above, free_at, free_elements, free_before, next_after, least_at}
 use Rattle.cue_report.specs.Listing.{Lists}
 use Rattle.cue_report.specs.Search.{is_demanded, is_longer, is_refused}
 use Rattle.cue_report.specs.declared.gap.Gap.{Gap}
@@ -74,7 +76,7 @@ abbrev pub IsDone : Children Row → ℕ → paths.Step → Type 0
 IsDone rest next (label text) = IsBelowAll (label text) rest
 IsDone rest next (index n) = n < next
 
-pub record IsOver (not_allowed : Bool) (tree : Tree Row) (rest : Children Row) (next : ℕ) (start now : List Gap) (steps held : List (Bor Step)) : Type 0 where
+pub record IsOver {X : Type 0} (piece : Gap → List X) (not_allowed : Bool) (tree : Tree Row) (rest : Children Row) (next : ℕ) (start now : List X) (steps held : List (Bor Step)) : Type 0 where
   pub same : held ≡ steps
   pub small : children_size rest ≤ children_size (below tree)
   pub rise : AreBranches (IsKept Refuses IsRow) rest
@@ -83,7 +85,7 @@ pub record IsOver (not_allowed : Bool) (tree : Tree Row) (rest : Children Row) (
   pub behind : (n : ℕ) → n < next → IsBelowAll (index n) rest
   pub found : List Gap
   pub lists : UpTo not_allowed tree (IsDone rest next) found
-  pub is : now ≡ start ++ map (above (map shown steps)) found
+  pub is : now ≡ start ++ told_above piece (map shown steps) found
 
 -- what is demanded is an element that each list has, or has a branch
 demanded_cases :
@@ -102,29 +104,36 @@ above_further path step (x ∷ xs) =
     let first : above (path ++ step ∷ []) x ≡ above path (above (step ∷ []) x) = ap (λ (p : Path). record x { path = p }) e in
     ap (λ y. y ∷ map (above (path ++ step ∷ [])) xs) first ∙ ap (λ ys. above path (above (step ∷ []) x) ∷ ys) (above_further path step xs)
 
+-- what is told of some and of others
+told_append : {X : Type 0} (piece : Gap → List X) (path : Path) (xs ys : List Gap) → told_above piece path (xs ++ ys) ≡ told_above piece path xs ++ told_above piece path ys
+told_append piece path xs ys = ap (flat_map piece) (map-append (above path) xs ys) ∙ flat_map-append piece (map (above path) xs) (map (above path) ys)
+
 -- more is found
-more_found : (start now after xs ys : List Gap) (path : Path) → now ≡ start ++ map (above path) xs → after ≡ now ++ map (above path) ys → after ≡ start ++ map (above path) (xs ++ ys)
-more_found start now after xs ys path n a =
-    a ∙ ap (λ zs. zs ++ map (above path) ys) n ∙ append_assoc start (map (above path) xs) (map (above path) ys)
-    ∙ ap (λ zs. start ++ zs) (sym (map-append (above path) xs ys))
+more_found :
+    {X : Type 0} (piece : Gap → List X) (start now after : List X) (xs ys : List Gap) (path : Path) → now ≡ start ++ told_above piece path xs
+    → after ≡ now ++ told_above piece path ys → after ≡ start ++ told_above piece path (xs ++ ys)
+more_found piece start now after xs ys path n a =
+    a ∙ ap (λ zs. zs ++ told_above piece path ys) n ∙ append_assoc start (told_above piece path xs) (told_above piece path ys)
+    ∙ ap (λ zs. start ++ zs) (sym (told_append piece path xs ys))
 
 -- and one more free element
 pub one_more_free :
-    (first number : ℕ) (start now after : List Gap) (path : Path) (gap : Gap) → first ≤ number
-    → now ≡ start ++ map (above path) (free_elements first (number - first)) → gap ≡ above path (free_at (index number ∷ [])) → after ≡ now ++ gap ∷ []
-    → after ≡ start ++ map (above path) (free_elements first (number + 1 - first))
-one_more_free first number start now after path gap l n g a =
+    {X : Type 0} (piece : Gap → List X) (first number : ℕ) (start now after : List X) (path : Path) → first ≤ number
+    → now ≡ start ++ told_above piece path (free_elements first (number - first)) → after ≡ now ++ piece (above path (free_at (index number ∷ [])))
+    → after ≡ start ++ told_above piece path (free_elements first (number + 1 - first))
+one_more_free piece first number start now after path l n a =
     let last : first + (number - first) ≡ number = omega arith in
     let count : suc (number - first) ≡ number + 1 - first = omega arith in
-    more_found start now after (free_elements first (number - first)) (free_at (index (first + (number - first)) ∷ []) ∷ []) path n
-    (a ∙ ap (λ x. now ++ x ∷ []) g ∙ ap (λ k. now ++ above path (free_at (index k ∷ [])) ∷ []) (sym last))
-    ∙ ap (λ k. start ++ map (above path) (free_elements first k)) count
+    let one : ℕ → Gap = λ k. above path (free_at (index k ∷ [])) in
+    more_found piece start now after (free_elements first (number - first)) (free_at (index (first + (number - first)) ∷ []) ∷ []) path n
+    (a ∙ ap (λ k. now ++ piece (one k)) (sym last) ∙ ap (λ zs. now ++ zs) (sym (append-nil (piece (one (first + (number - first)))))))
+    ∙ ap (λ k. start ++ told_above piece path (free_elements first k)) count
 
 -- ---- the walk begins
 pub started :
-    (not_allowed : Bool) (tree : Tree Row) (start now : List Gap) (steps held : List (Bor Step)) → IsTable Refuses IsRow tree → held ≡ steps
-    → Adds (IsGapHere not_allowed (row_of tree)) (map shown steps) start now → IsOver not_allowed tree (below tree) 0 start now steps held
-started not_allowed tree start now steps held t e h = record {
+    {X : Type 0} (piece : Gap → List X) (not_allowed : Bool) (tree : Tree Row) (start now : List X) (steps held : List (Bor Step)) → IsTable Refuses IsRow tree → held ≡ steps
+    → Adds piece (IsGapHere not_allowed (row_of tree)) (map shown steps) start now → IsOver piece not_allowed tree (below tree) 0 start now steps held
+started piece not_allowed tree start now steps held t e h = record {
   same = e;
   small = omega arith;
   rise = branches tree t;
@@ -155,11 +164,11 @@ empty_gaps not_allowed e = here_only not_allowed empty (free_at [] ∷ []) (subs
     none_demanded (index n) d = d
 
 freed_one :
-    (not_allowed : Bool) (tree : Tree Row) (rest : Children Row) (next : ℕ) (start now after : List Gap) (steps held : List (Bor Step))
-    → IsOver not_allowed tree rest next start now steps held → find (index next) (below tree) ≡ None → IsBelowAll (index next) rest
+    {X : Type 0} (piece : Gap → List X) (not_allowed : Bool) (tree : Tree Row) (rest : Children Row) (next : ℕ) (start now after : List X) (steps held : List (Bor Step))
+    → IsOver piece not_allowed tree rest next start now steps held → find (index next) (below tree) ≡ None → IsBelowAll (index next) rest
     → is_demanded (row_of tree) (index next) None ≡ true
-    → after ≡ now ++ map (above (map shown steps)) (free_at (index next ∷ []) ∷ []) → IsOver not_allowed tree rest (next + 1) start after steps held
-freed_one not_allowed tree rest next start now after steps held w f b d a = record {
+    → after ≡ now ++ told_above piece (map shown steps) (free_at (index next ∷ []) ∷ []) → IsOver piece not_allowed tree rest (next + 1) start after steps held
+freed_one piece not_allowed tree rest next start now after steps held w f b d a = record {
   same = w.same;
   small = w.small;
   rise = w.rise;
@@ -169,7 +178,7 @@ freed_one not_allowed tree rest next start now after steps held w f b d a = reco
   found = w.found ++ free_at (index next ∷ []) ∷ [];
   lists = extended not_allowed tree empty (index next) (IsDone rest next) (IsDone rest (next + 1)) w.found (free_at [] ∷ []) (seen_empty tree (index next) f) d
       (empty_gaps (is_refused (row_of tree) (index next)) (allowed (row_of tree))) w.lists before kept (omega arith) covered;
-  is = more_found start now after w.found (free_at (index next ∷ []) ∷ []) (map shown steps) w.is a;
+  is = more_found piece start now after w.found (free_at (index next ∷ []) ∷ []) (map shown steps) w.is a;
 } where
   allowed : (row : Option Row) → is_refused row (index next) ≡ false
   allowed None = refl
@@ -200,47 +209,47 @@ is_long (Some row) n h = let l : n < row.least = h in grind (arith, nat_tests)
 
 -- an element that was not looked at, and is below all branches that are left, has none
 no_branch :
-    (not_allowed : Bool) (tree : Tree Row) (rest : Children Row) (next n : ℕ) (start now : List Gap) (steps held : List (Bor Step))
-    → IsOver not_allowed tree rest next start now steps held → next ≤ n → n < least_at (row_of tree) → IsBelowAll (index n) rest → find (index n) (below tree) ≡ None
-no_branch not_allowed tree rest next n start now steps held w l m b = ⊎_elim (λ f. f) (λ (inner, f). absurd (none inner f)) (found_cases (find (index n) (below tree)))
+    {X : Type 0} (piece : Gap → List X) (not_allowed : Bool) (tree : Tree Row) (rest : Children Row) (next n : ℕ) (start now : List X) (steps held : List (Bor Step))
+    → IsOver piece not_allowed tree rest next start now steps held → next ≤ n → n < least_at (row_of tree) → IsBelowAll (index n) rest → find (index n) (below tree) ≡ None
+no_branch piece not_allowed tree rest next n start now steps held w l m b = ⊎_elim (λ f. f) (λ (inner, f). absurd (none inner f)) (found_cases (find (index n) (below tree)))
   where
     none : (inner : Tree Row) → find (index n) (below tree) ≡ Some inner → ⊥
     none inner f = ⊎_elim (λ d. let low : n < next = d in omega arith) (λ g. not_found (index n) rest inner b g)
         (w.left (index n) inner ((longer_is (row_of tree) n).0 (is_long (row_of tree) n m)) f)
 
 freed :
-    (not_allowed : Bool) (tree : Tree Row) (rest : Children Row) (next count : ℕ) (start now after : List Gap) (steps held : List (Bor Step))
-    → IsOver not_allowed tree rest next start now steps held → ((n : ℕ) → next ≤ n → n < next + count → (n < least_at (row_of tree)) × IsBelowAll (index n) rest)
-    → after ≡ now ++ map (above (map shown steps)) (free_elements next count) → IsOver not_allowed tree rest (next + count) start after steps held
-freed not_allowed tree rest next zero start now after steps held w free a =
+    {X : Type 0} (piece : Gap → List X) (not_allowed : Bool) (tree : Tree Row) (rest : Children Row) (next count : ℕ) (start now after : List X) (steps held : List (Bor Step))
+    → IsOver piece not_allowed tree rest next start now steps held → ((n : ℕ) → next ≤ n → n < next + count → (n < least_at (row_of tree)) × IsBelowAll (index n) rest)
+    → after ≡ now ++ told_above piece (map shown steps) (free_elements next count) → IsOver piece not_allowed tree rest (next + count) start after steps held
+freed {X = X} piece not_allowed tree rest next zero start now after steps held w free a =
     let same : next ≡ next + 0 = omega arith in
-    subst (λ xs. IsOver not_allowed tree rest (next + 0) start xs steps held) (sym (a ∙ append-nil now))
-    (subst (λ k. IsOver not_allowed tree rest k start now steps held) same w)
-freed not_allowed tree rest next (suc count) start now after steps held w free a =
+    subst (λ xs. IsOver piece not_allowed tree rest (next + 0) start xs steps held) (sym (a ∙ append-nil now))
+    (subst (λ k. IsOver piece not_allowed tree rest k start now steps held) same w)
+freed {X = X} piece not_allowed tree rest next (suc count) start now after steps held w free a =
     let path : Path = map shown steps in
-    let so_far : List Gap = now ++ map (above path) (free_elements next count) in
+    let so_far : List X = now ++ told_above piece path (free_elements next count) in
     let last : next + count + 1 ≡ next + suc count = omega arith in
-    let before = freed not_allowed tree rest next count start now so_far steps held w (λ n l m. free n l (omega arith)) refl in
+    let before = freed piece not_allowed tree rest next count start now so_far steps held w (λ n l m. free n l (omega arith)) refl in
     let this = free (next + count) (omega arith) (omega arith) in
-    subst (λ k. IsOver not_allowed tree rest k start after steps held) last
-    (freed_one not_allowed tree rest (next + count) start so_far after steps held before
-    (no_branch not_allowed tree rest (next + count) (next + count) start so_far steps held before (omega arith) this.0 this.1) this.1
+    subst (λ k. IsOver piece not_allowed tree rest k start after steps held) last
+    (freed_one piece not_allowed tree rest (next + count) start so_far after steps held before
+    (no_branch piece not_allowed tree rest (next + count) (next + count) start so_far steps held before (omega arith) this.0 this.1) this.1
     (is_long (row_of tree) (next + count) this.0)
-    (a ∙ ap (λ xs. now ++ xs) (map-append (above path) (free_elements next count) (free_at (index (next + count) ∷ []) ∷ []))
-    ∙ sym (append_assoc now (map (above path) (free_elements next count)) (map (above path) (free_at (index (next + count) ∷ []) ∷ [])))))
+    (a ∙ ap (λ xs. now ++ xs) (told_append piece path (free_elements next count) (free_at (index (next + count) ∷ []) ∷ []))
+    ∙ sym (append_assoc now (told_above piece path (free_elements next count)) (told_above piece path (free_at (index (next + count) ∷ []) ∷ [])))))
 
 -- the free elements before a branch are found
 reached :
-    (not_allowed : Bool) (tree inner : Tree Row) (rest : Children Row) (next number : ℕ) (start now after : List Gap) (steps held : List (Bor Step))
-    → IsOver not_allowed tree (child (index number) inner rest) next start now steps held → number < least_at (row_of tree)
-    → after ≡ now ++ map (above (map shown steps)) (free_elements next (number - next))
-    → IsOver not_allowed tree (child (index number) inner rest) number start after steps held
-reached not_allowed tree inner rest next number start now after steps held w d a =
+    {X : Type 0} (piece : Gap → List X) (not_allowed : Bool) (tree inner : Tree Row) (rest : Children Row) (next number : ℕ) (start now after : List X) (steps held : List (Bor Step))
+    → IsOver piece not_allowed tree (child (index number) inner rest) next start now steps held → number < least_at (row_of tree)
+    → after ≡ now ++ told_above piece (map shown steps) (free_elements next (number - next))
+    → IsOver piece not_allowed tree (child (index number) inner rest) number start after steps held
+reached piece not_allowed tree inner rest next number start now after steps held w d a =
     let least : ℕ = least_at (row_of tree) in
     let low : next ≤ number = not_lt number next no_later in
     let all : next + (number - next) ≡ number = omega arith in
-    subst (λ k. IsOver not_allowed tree (child (index number) inner rest) k start after steps held) all
-    (freed not_allowed tree (child (index number) inner rest) next (number - next) start now after steps held w
+    subst (λ k. IsOver piece not_allowed tree (child (index number) inner rest) k start after steps held) all
+    (freed piece not_allowed tree (child (index number) inner rest) next (number - next) start now after steps held w
     (λ n l m. (omega arith, (less_index n number (omega arith), below_further (index n) (index number) rest (less_index n number (omega arith)) w.rise.0))) a)
   where
     no_later : number < next → ⊥
@@ -248,10 +257,10 @@ reached not_allowed tree inner rest next number start now after steps held w d a
 
 -- ---- a branch is looked at, or passed over
 label_covered :
-    (not_allowed : Bool) (tree inner : Tree Row) (step : paths.Step) (rest : Children Row) (next : ℕ) (start now : List Gap) (steps held : List (Bor Step))
-    → IsOver not_allowed tree (child step inner rest) next start now steps held → (text : List ℕ) → IsStepDemanded (Told tree) [] (label text) → IsBelowAll (label text) rest
+    {X : Type 0} (piece : Gap → List X) (not_allowed : Bool) (tree inner : Tree Row) (step : paths.Step) (rest : Children Row) (next : ℕ) (start now : List X) (steps held : List (Bor Step))
+    → IsOver piece not_allowed tree (child step inner rest) next start now steps held → (text : List ℕ) → IsStepDemanded (Told tree) [] (label text) → IsBelowAll (label text) rest
     → IsBelowAll (label text) (child step inner rest) ⊎ (label text ≡ step)
-label_covered not_allowed tree inner step rest next start now steps held w text d b = ⊎_elim
+label_covered piece not_allowed tree inner step rest next start now steps held w text d b = ⊎_elim
     (λ (found, f). ⊎_elim (λ h. inl h) (λ g. ⊎_elim (λ e. inr e) (λ k. absurd (not_found (label text) rest found b k)) (which (label text) step inner found rest g)) (w.left (label text) found d f))
     (λ (n, e, f). absurd (no_index n e)) (demanded_cases tree (label text) d)
   where
@@ -259,10 +268,10 @@ label_covered not_allowed tree inner step rest next start now steps held w text 
     no_index n e = cc
 
 module _
-    (not_allowed : Bool) (tree inner : Tree Row) (step : paths.Step) (rest : Children Row) (next later : ℕ) (start now after : List Gap)
-    (steps held pushed popped : List (Bor Step)) (x : Bor Step) (w : IsOver not_allowed tree (child step inner rest) next start now steps held)
+    {X : Type 0} (piece : Gap → List X) (not_allowed : Bool) (tree inner : Tree Row) (step : paths.Step) (rest : Children Row) (next later : ℕ) (start now after : List X)
+    (steps held pushed popped : List (Bor Step)) (x : Bor Step) (w : IsOver piece not_allowed tree (child step inner rest) next start now steps held)
     (asked : is_demanded (row_of tree) step (row_of inner) ≡ true) (is : shown x ≡ step) (p : pushed ≡ held ++ x ∷ []) (back : popped ≡ held)
-    (adds : Adds (IsGapIn (is_refused (row_of tree) step) inner) (map shown pushed) now after)
+    (adds : Adds piece (IsGapIn (is_refused (row_of tree) step) inner) (map shown pushed) now after)
     (more : next ≤ later) (new : IsDone rest later step) (behind : (n : ℕ) → n < later → IsBelowAll (index n) rest)
     (covered : (s : paths.Step) → IsStepDemanded (Told tree) [] s → IsDone rest later s → IsDone (child step inner rest) next s ⊎ (s ≡ step)) where
   kept : (s : paths.Step) → IsDone (child step inner rest) next s → IsDone rest later s
@@ -276,10 +285,10 @@ module _
   trail : map shown pushed ≡ map shown steps ++ step ∷ []
   trail = ap (map shown) p ∙ map_push shown held x ∙ ap (λ z. map shown held ++ z ∷ []) is ∙ ap (λ zs. map shown zs ++ step ∷ []) w.same
 
-  inside : after ≡ now ++ map (above (map shown steps)) (map (above (step ∷ [])) adds.found)
-  inside = adds.is ∙ ap (λ q. now ++ map (above q) adds.found) trail ∙ ap (λ xs. now ++ xs) (above_further (map shown steps) step adds.found)
+  inside : after ≡ now ++ told_above piece (map shown steps) (map (above (step ∷ [])) adds.found)
+  inside = adds.is ∙ ap (λ q. now ++ told_above piece q adds.found) trail ∙ ap (λ xs. now ++ flat_map piece xs) (above_further (map shown steps) step adds.found)
 
-  pub looked_in : IsOver not_allowed tree rest later start after steps popped
+  pub looked_in : IsOver piece not_allowed tree rest later start after steps popped
   looked_in = record {
     same = back ∙ w.same;
     small = let size = w.small in omega arith;
@@ -291,39 +300,39 @@ module _
     found = w.found ++ map (above (step ∷ [])) adds.found;
     lists = extended not_allowed tree inner step (IsDone (child step inner rest) next) (IsDone rest later) w.found adds.found
         (seen tree inner step (w.among step inner (found_first step inner rest))) asked adds.lists w.lists before kept new covered;
-    is = more_found start now after w.found (map (above (step ∷ [])) adds.found) (map shown steps) w.is inside;
+    is = more_found piece start now after w.found (map (above (step ∷ [])) adds.found) (map shown steps) w.is inside;
   }
 
 -- the next branch is looked at, and the free elements before it
 pub walked_in :
-    (not_allowed : Bool) (tree inner : Tree Row) (step : paths.Step) (rest rest' : Children Row) (next later : ℕ) (start now free after : List Gap)
-    (steps held pushed popped : List (Bor Step)) (x : Bor Step) → IsOver not_allowed tree rest next start now steps held
+    {X : Type 0} (piece : Gap → List X) (not_allowed : Bool) (tree inner : Tree Row) (step : paths.Step) (rest rest' : Children Row) (next later : ℕ) (start now free after : List X)
+    (steps held pushed popped : List (Bor Step)) (x : Bor Step) → IsOver piece not_allowed tree rest next start now steps held
     → children_of rest ≡ (step, inner) ∷ children_of rest' → is_demanded (row_of tree) step (row_of inner) ≡ true
-    → later ≡ next_after next step → free ≡ now ++ map (above (map shown steps)) (free_before next step)
+    → later ≡ next_after next step → free ≡ now ++ told_above piece (map shown steps) (free_before next step)
     → shown x ≡ step → pushed ≡ held ++ x ∷ [] → popped ≡ held
-    → Adds (IsGapIn (is_refused (row_of tree) step) inner) (map shown pushed) free after → IsOver not_allowed tree rest' later start after steps popped
-walked_in not_allowed tree inner (label text) rest rest' next later start now free after steps held pushed popped x w c asked l f is p back adds =
-    let here : IsOver not_allowed tree (child (label text) inner rest') next start now steps held =
-    subst (λ cs. IsOver not_allowed tree cs next start now steps held) (first_child rest rest' (label text) inner c) w in
+    → Adds piece (IsGapIn (is_refused (row_of tree) step) inner) (map shown pushed) free after → IsOver piece not_allowed tree rest' later start after steps popped
+walked_in piece not_allowed tree inner (label text) rest rest' next later start now free after steps held pushed popped x w c asked l f is p back adds =
+    let here : IsOver piece not_allowed tree (child (label text) inner rest') next start now steps held =
+    subst (λ cs. IsOver piece not_allowed tree cs next start now steps held) (first_child rest rest' (label text) inner c) w in
     let none_free : free ≡ now = f ∙ append-nil now in
-    subst (λ k. IsOver not_allowed tree rest' k start after steps popped) (sym l)
-    (looked_in not_allowed tree inner (label text) rest' next next start now after steps held pushed popped x here asked is p back
-    (subst (λ xs. Adds (IsGapIn (is_refused (row_of tree) (label text)) inner) (map shown pushed) xs after) none_free adds)
+    subst (λ k. IsOver piece not_allowed tree rest' k start after steps popped) (sym l)
+    (looked_in piece not_allowed tree inner (label text) rest' next next start now after steps held pushed popped x here asked is p back
+    (subst (λ xs. Adds piece (IsGapIn (is_refused (row_of tree) (label text)) inner) (map shown pushed) xs after) none_free adds)
     (omega arith) here.rise.0 (λ n h. (here.behind n h).1) (covered here))
   where
-    covered : IsOver not_allowed tree (child (label text) inner rest') next start now steps held → (s : paths.Step) → IsStepDemanded (Told tree) [] s → IsDone rest' next s → IsDone (child (label text) inner rest') next s ⊎ (s ≡ label text)
-    covered here (label other) d h = label_covered not_allowed tree inner (label text) rest' next start now steps held here other d h
+    covered : IsOver piece not_allowed tree (child (label text) inner rest') next start now steps held → (s : paths.Step) → IsStepDemanded (Told tree) [] s → IsDone rest' next s → IsDone (child (label text) inner rest') next s ⊎ (s ≡ label text)
+    covered here (label other) d h = label_covered piece not_allowed tree inner (label text) rest' next start now steps held here other d h
     covered here (index n) d h = inl h
-walked_in not_allowed tree inner (index number) rest rest' next later start now free after steps held pushed popped x w c asked l f is p back adds =
-    let split : IsOver not_allowed tree (child (index number) inner rest') next start now steps held =
-    subst (λ cs. IsOver not_allowed tree cs next start now steps held) (first_child rest rest' (index number) inner c) w in
-    let here : IsOver not_allowed tree (child (index number) inner rest') number start free steps held =
-    reached not_allowed tree inner rest' next number start now free steps held split (is_below (row_of tree) number asked) f in
-    subst (λ k. IsOver not_allowed tree rest' k start after steps popped) (sym l)
-    (looked_in not_allowed tree inner (index number) rest' number (number + 1) start free after steps held pushed popped x here asked is p back adds
+walked_in piece not_allowed tree inner (index number) rest rest' next later start now free after steps held pushed popped x w c asked l f is p back adds =
+    let split : IsOver piece not_allowed tree (child (index number) inner rest') next start now steps held =
+    subst (λ cs. IsOver piece not_allowed tree cs next start now steps held) (first_child rest rest' (index number) inner c) w in
+    let here : IsOver piece not_allowed tree (child (index number) inner rest') number start free steps held =
+    reached piece not_allowed tree inner rest' next number start now free steps held split (is_below (row_of tree) number asked) f in
+    subst (λ k. IsOver piece not_allowed tree rest' k start after steps popped) (sym l)
+    (looked_in piece not_allowed tree inner (index number) rest' number (number + 1) start free after steps held pushed popped x here asked is p back adds
     (omega arith) (omega arith) (behind here) covered)
   where
-    behind : IsOver not_allowed tree (child (index number) inner rest') number start free steps held → (n : ℕ) → n < number + 1 → IsBelowAll (index n) rest'
+    behind : IsOver piece not_allowed tree (child (index number) inner rest') number start free steps held → (n : ℕ) → n < number + 1 → IsBelowAll (index n) rest'
     behind here n h = ⊎_elim (λ b. (here.behind n b).1) (λ e. subst (λ m. IsBelowAll (index m) rest') (sym e) here.rise.0) (up_to n number h)
 
     covered : (s : paths.Step) → IsStepDemanded (Told tree) [] s → IsDone rest' (number + 1) s → IsDone (child (index number) inner rest') number s ⊎ (s ≡ index number)
@@ -332,13 +341,13 @@ walked_in not_allowed tree inner (index number) rest rest' next later start now 
 
 -- or it is passed over
 pub walked_past :
-    (not_allowed : Bool) (tree inner : Tree Row) (step : paths.Step) (rest rest' : Children Row) (next : ℕ) (start now : List Gap) (steps held : List (Bor Step))
-    → IsOver not_allowed tree rest next start now steps held → children_of rest ≡ (step, inner) ∷ children_of rest' → is_demanded (row_of tree) step (row_of inner) ≡ false
-    → IsOver not_allowed tree rest' next start now steps held
-walked_past not_allowed tree inner step rest rest' next start now steps held w c unasked =
-    past (subst (λ cs. IsOver not_allowed tree cs next start now steps held) (first_child rest rest' step inner c) w)
+    {X : Type 0} (piece : Gap → List X) (not_allowed : Bool) (tree inner : Tree Row) (step : paths.Step) (rest rest' : Children Row) (next : ℕ) (start now : List X) (steps held : List (Bor Step))
+    → IsOver piece not_allowed tree rest next start now steps held → children_of rest ≡ (step, inner) ∷ children_of rest' → is_demanded (row_of tree) step (row_of inner) ≡ false
+    → IsOver piece not_allowed tree rest' next start now steps held
+walked_past piece not_allowed tree inner step rest rest' next start now steps held w c unasked =
+    past (subst (λ cs. IsOver piece not_allowed tree cs next start now steps held) (first_child rest rest' step inner c) w)
   where
-    past : IsOver not_allowed tree (child step inner rest') next start now steps held → IsOver not_allowed tree rest' next start now steps held
+    past : IsOver piece not_allowed tree (child step inner rest') next start now steps held → IsOver piece not_allowed tree rest' next start now steps held
     past here = record {
       same = here.same;
       small = let size = here.small in omega arith;
@@ -360,17 +369,17 @@ walked_past not_allowed tree inner step rest rest' next start now steps held w c
 
       covered : (s : paths.Step) → IsStepDemanded (Told tree) [] s → IsDone rest' next s → IsDone (child step inner rest') next s
       covered (label text) d h = ⊎_elim (λ b. b) (λ e. absurd (not_asked (label text) e d))
-          (label_covered not_allowed tree inner step rest' next start now steps held here text d h)
+          (label_covered piece not_allowed tree inner step rest' next start now steps held here text d h)
       covered (index n) d h = h
 
 -- all branches and elements were looked at
 pub ended :
-    (not_allowed : Bool) (tree : Tree Row) (rest : Children Row) (next least : ℕ) (start now after : List Gap) (steps held : List (Bor Step))
-    → IsOver not_allowed tree rest next start now steps held → children_of rest ≡ [] → least ≡ least_at (row_of tree)
-    → after ≡ now ++ map (above (map shown steps)) (free_elements next (least - next)) → Adds (IsGapIn not_allowed tree) (map shown steps) start after
-ended not_allowed tree rest next least start now after steps held w c m a =
-    let over : IsOver not_allowed tree none next start now steps held = subst (λ cs. IsOver not_allowed tree cs next start now steps held) (none_left rest c) w in
-    let all = freed not_allowed tree none next (least - next) start now after steps held over (λ n l h. (subst (λ k. n < k) m (omega arith), tt)) a in
+    {X : Type 0} (piece : Gap → List X) (not_allowed : Bool) (tree : Tree Row) (rest : Children Row) (next least : ℕ) (start now after : List X) (steps held : List (Bor Step))
+    → IsOver piece not_allowed tree rest next start now steps held → children_of rest ≡ [] → least ≡ least_at (row_of tree)
+    → after ≡ now ++ told_above piece (map shown steps) (free_elements next (least - next)) → Adds piece (IsGapIn not_allowed tree) (map shown steps) start after
+ended piece not_allowed tree rest next least start now after steps held w c m a =
+    let over : IsOver piece not_allowed tree none next start now steps held = subst (λ cs. IsOver piece not_allowed tree cs next start now steps held) (none_left rest c) w in
+    let all = freed piece not_allowed tree none next (least - next) start now after steps held over (λ n l h. (subst (λ k. n < k) m (omega arith), tt)) a in
     record { found = all.found; lists = to_end not_allowed tree (IsDone none (next + (least - next))) all.found all.lists done; is = all.is }
   where
     done : (s : paths.Step) → IsStepDemanded (Told tree) [] s → IsDone none (next + (least - next)) s

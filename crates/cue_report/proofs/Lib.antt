@@ -16,6 +16,7 @@ pub mod Order
 pub mod Rows
 pub mod Same
 pub mod Settled
+pub mod TextOf
 pub mod Texts
 pub mod Trails
 pub mod Walk

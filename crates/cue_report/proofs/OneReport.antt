@@ -1,8 +1,7 @@
 -- Equal answers have one report.
-use Rattle.std.proofs.Common.{◌≡◌, ◌↔◌, inl, inr, ⊎_elim, ℕ, suc, ◌+◌, ◌<◌, List, [], ◌∷◌, refl, sym, ap, subst, ◌∙◌, arith}
-use Rattle.cue_lattice.specs.Path.{label, index, Path}
+use Rattle.std.proofs.Common.{◌≡◌, inl, inr, ℕ, suc, ◌<◌, List, [], ◌∷◌, refl, sym, ap, subst, ◌∙◌, arith}
+use Rattle.cue_lattice.specs.Path.{label, index}
 use Rattle.cue_lattice.specs.Question.{Refusals, SameAnswers, struct, list}
-use Rattle.cue_lattice.specs.declared.scalar.Scalar.{Scalar}
 use Rattle.serde_json.specs.Data.{Data, null, boolean, number, string, array, object, Items, no_items, item, Members, no_members, member}
 use Rattle.serde_json.specs.Written.{compact_text}
 use Rattle.cue_report.specs.Answers.{IsStepDemanded}

@@ -1,12 +1,12 @@
 -- What the answers alone tell is the same wherever these are.
-use Rattle.std.proofs.Common.{◌≡◌, inl, inr, ⊎_elim, ◌∷◌}
+use Rattle.std.proofs.Common.{inl, inr, ⊎_elim, ◌∷◌}
 use Rattle.cue_lattice.specs.declared.scalar.Scalar.{Scalar}
 use Rattle.cue_lattice.specs.Path as paths
 use Rattle.cue_lattice.specs.Path.{label, index, Path}
 use Rattle.cue_lattice.specs.Question.{Refusals, SameAnswers, struct, list}
 use Rattle.cue_report.specs.Answers.{IsStepDemanded, IsDemanded, HasNoScalar, HasNoLength, HasNoValue, IsNotAllowed}
 use Rattle.cue_report.specs.Export.{beyond}
-use Rattle.cue_report.specs.Gaps.{IsMissing, MayStand, IsUsual, IsOnly, IsChosen, IsFree, HasNoChoice, IsGap}
+use Rattle.cue_report.specs.Gaps.{IsMissing, MayStand, IsUsual, IsChosen, IsFree, HasNoChoice, IsGap}
 use Rattle.cue_report.specs.Listing.{IsConflict}
 use Rattle.cue_report.specs.declared.conflict.Conflict.{Conflict}
 use Rattle.cue_report.specs.declared.gap.Gap.{Gap}

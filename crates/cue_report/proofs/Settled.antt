@@ -1,5 +1,5 @@
 -- Where there is neither a conflict nor a gap, a scalar is chosen wherever only scalars may stand.
-use Rattle.std.proofs.Common.{◌≡◌, ◌↔◌, ◌<◌, ◌+◌, inl, inr, ⊎_elim, ℕ, zero, suc, Bool, true, false, List, [], ◌∷◌, refl, subst, arith}
+use Rattle.std.proofs.Common.{◌≡◌, ◌<◌, ◌+◌, inl, inr, ℕ, suc, Bool, true, false, [], ◌∷◌, refl, subst, arith}
 use Rattle.std.specs.List.{AllByRecursion}
 use Rattle.std.proofs.lemmas.Bool.{false≢true}
 use Rattle.cue_lattice.specs.Path as paths
@@ -11,7 +11,7 @@ use Rattle.cue_report.specs.Answers.{IsStepDemanded, IsDemanded, HasNoScalar, Ha
 use Rattle.cue_report.specs.Export.{beyond, data_of, keys, count, IsAtom, IsShape, AreElements, AreMembers}
 use Rattle.cue_report.specs.Gaps.{IsMissing, IsChosen, IsGap, AreGaps}
 use Rattle.cue_report.specs.Listing.{AreConflicts}
-use Rattle.cue_report.specs.Picks.{IsFirst, IsPicked}
+use Rattle.cue_report.specs.Picks.{IsPicked}
 use Rattle.cue_report.proofs.Clear.{either_way, value_there, allowed_there, all_steps, root_demanded}
 
 -- at no demanded place may only scalars stand of which none is chosen

@@ -1,6 +1,8 @@
 -- The walk of a search over the branches of a place.
 use Rattle.std.proofs.Common.{◌≡◌, ℕ, ◌+◌, ◌-◌, ◌<◌, ◌≤◌, Bool, true, false, List, [], ◌∷◌, ◌++◌, length, take, map, Option, refl, sym, ap, ◌∙◌, arith, Bor, append_assoc, length-append}
+use Rattle.std.specs.List.{flat_map}
 use Rattle.std.proofs.lemmas.List.{append-nil, map-append, map_push, take_all, take-append-le}
+use Rattle.std.proofs.lemmas.List.Concat.{flat_map-append}
 use Rattle.cue_lattice.specs.Path as paths
 use Rattle.cue_lattice.specs.Path.{Path}
 use Rattle.cue_row.specs.declared.row.Row.{Row}
@@ -9,7 +11,7 @@ use Rattle.cue_table.specs.Tree.{Tree, node, Children, none, child, row_of, belo
 use Rattle.cue_table.specs.Size.{tree_size, children_size}
 use Rattle.cue_table.specs.Walks.{first_child}
 use Rattle.cue_report.specs.declared.conflict.Conflict.{Conflict}
-use Rattle.cue_report.specs.Search.{under, only_if, has_no_value, conflict_here, is_demanded, is_refused, conflicts_in, conflicts_below}
+use Rattle.cue_report.specs.Search.{under, told_under, only_if, has_no_value, conflict_here, is_demanded, is_refused, conflicts_in, conflicts_below}
 use Rattle.cue_report.proofs.Trails.{shown}
 
 -- what is seen from a place is seen from the place above
@@ -20,10 +22,14 @@ under_further path step (x ∷ xs) =
     let first : under (path ++ step ∷ []) x ≡ under path (under (step ∷ []) x) = ap (λ (p : Path). record x { path = p }) e in
     ap (λ y. y ∷ map (under (path ++ step ∷ [])) xs) first ∙ ap (λ ys. under path (under (step ∷ []) x) ∷ ys) (under_further path step xs)
 
+-- what is told of some and of others
+told_append : {X : Type 0} (piece : Conflict → List X) (path : Path) (xs ys : List Conflict) → told_under piece path (xs ++ ys) ≡ told_under piece path xs ++ told_under piece path ys
+told_append piece path xs ys = ap (flat_map piece) (map-append (under path) xs ys) ∙ flat_map-append piece (map (under path) xs) (map (under path) ys)
+
 -- Of the branches of a place, some are left to be looked at.
-pub record IsWalking (row : Option Row) (all rest : Children Row) (before after : List Conflict) (steps now : List (Bor Step)) : Type 0 where
+pub record IsWalking {X : Type 0} (piece : Conflict → List X) (row : Option Row) (all rest : Children Row) (before after : List X) (steps now : List (Bor Step)) : Type 0 where
   pub same : now ≡ steps
-  pub found : after ++ map (under (map shown steps)) (conflicts_below row rest) ≡ before ++ map (under (map shown steps)) (conflicts_below row all)
+  pub found : after ++ told_under piece (map shown steps) (conflicts_below row rest) ≡ before ++ told_under piece (map shown steps) (conflicts_below row all)
   pub small : children_size rest ≤ children_size all
 
 -- the last step is taken back
@@ -33,47 +39,49 @@ popped xs old new x n e l h =
     let k : n - 1 ≡ length xs = omega arith in
     h ∙ ap (λ m. take m old) k ∙ ap (take (length xs)) e ∙ take-append-le (length xs) xs (x ∷ []) (omega arith) ∙ take_all (length xs) xs (omega arith)
 
-rearranged : (before after found new tail : List Conflict) (path : Path) → before ≡ after ++ map (under path) (found ++ new) → tail ≡ after ++ map (under path) found → tail ++ map (under path) new ≡ before
-rearranged before after found new tail path b t =
-    ap (λ xs. xs ++ map (under path) new) t ∙ append_assoc after (map (under path) found) (map (under path) new)
-    ∙ ap (λ xs. after ++ xs) (sym (map-append (under path) found new)) ∙ sym b
+rearranged :
+    {X : Type 0} (piece : Conflict → List X) (before after tail : List X) (found new : List Conflict) (path : Path)
+    → before ≡ after ++ told_under piece path (found ++ new) → tail ≡ after ++ told_under piece path found → tail ++ told_under piece path new ≡ before
+rearranged piece before after tail found new path b t =
+    ap (λ xs. xs ++ told_under piece path new) t ∙ append_assoc after (told_under piece path found) (told_under piece path new)
+    ∙ ap (λ xs. after ++ xs) (sym (told_append piece path found new)) ∙ sym b
 
 -- the next branch is looked at
 pub walked_in :
-    (row : Option Row) (all rest rest' : Children Row) (step : paths.Step) (tree : Tree Row) (before after after' : List Conflict) (steps now pushed now' : List (Bor Step)) (x : Bor Step)
-    → IsWalking row all rest before after steps now → children_of rest ≡ (step, tree) ∷ children_of rest' → is_demanded row step (row_of tree) ≡ true
+    {X : Type 0} (piece : Conflict → List X) (row : Option Row) (all rest rest' : Children Row) (step : paths.Step) (tree : Tree Row) (before after after' : List X) (steps now pushed now' : List (Bor Step)) (x : Bor Step)
+    → IsWalking piece row all rest before after steps now → children_of rest ≡ (step, tree) ∷ children_of rest' → is_demanded row step (row_of tree) ≡ true
     → shown x ≡ step → pushed ≡ now ++ x ∷ []
-    → after' ≡ after ++ map (under (map shown pushed)) (conflicts_in (is_refused row step) tree) → now' ≡ now
-    → IsWalking row all rest' before after' steps now'
-walked_in row all rest rest' step tree before after after' steps now pushed now' x w c d s p a n =
+    → after' ≡ after ++ told_under piece (map shown pushed) (conflicts_in (is_refused row step) tree) → now' ≡ now
+    → IsWalking piece row all rest' before after' steps now'
+walked_in piece row all rest rest' step tree before after after' steps now pushed now' x w c d s p a n =
     let split : rest ≡ child step tree rest' = first_child rest rest' step tree c in
     let inner : List Conflict = conflicts_in (is_refused row step) tree in
     let path : Path = map shown steps in
     let trail : map shown pushed ≡ path ++ step ∷ [] =
     ap (map shown) p ∙ map_push shown now x ∙ ap (λ z. map shown now ++ z ∷ []) s ∙ ap (λ zs. map shown zs ++ step ∷ []) w.same in
-    let found : before ++ map (under path) (conflicts_below row all) ≡ after ++ map (under path) (map (under (step ∷ [])) inner ++ conflicts_below row rest') =
-    sym w.found ∙ ap (λ cs. after ++ map (under path) (conflicts_below row cs)) split
-    ∙ ap (λ b. after ++ map (under path) (only_if b (map (under (step ∷ [])) inner) ++ conflicts_below row rest')) d in
-    let tail : after' ≡ after ++ map (under path) (map (under (step ∷ [])) inner) =
-    a ∙ ap (λ q. after ++ map (under q) inner) trail ∙ ap (λ xs. after ++ xs) (under_further path step inner) in
+    let found : before ++ told_under piece path (conflicts_below row all) ≡ after ++ told_under piece path (map (under (step ∷ [])) inner ++ conflicts_below row rest') =
+    sym w.found ∙ ap (λ cs. after ++ told_under piece path (conflicts_below row cs)) split
+    ∙ ap (λ b. after ++ told_under piece path (only_if b (map (under (step ∷ [])) inner) ++ conflicts_below row rest')) d in
+    let tail : after' ≡ after ++ told_under piece path (map (under (step ∷ [])) inner) =
+    a ∙ ap (λ q. after ++ told_under piece q inner) trail ∙ ap (λ xs. after ++ flat_map piece xs) (under_further path step inner) in
     record {
       same = n ∙ w.same;
-      found = rearranged _ after (map (under (step ∷ [])) inner) (conflicts_below row rest') after' path found tail;
+      found = rearranged piece _ after after' (map (under (step ∷ [])) inner) (conflicts_below row rest') path found tail;
       small = let size : children_size rest ≡ tree_size tree + children_size rest' = ap children_size split in omega (arith, w.small);
     }
 
 -- or passed over
 pub walked_past :
-    (row : Option Row) (all rest rest' : Children Row) (step : paths.Step) (tree : Tree Row) (before after : List Conflict) (steps now : List (Bor Step))
-    → IsWalking row all rest before after steps now → children_of rest ≡ (step, tree) ∷ children_of rest' → is_demanded row step (row_of tree) ≡ false
-    → IsWalking row all rest' before after steps now
-walked_past row all rest rest' step tree before after steps now w c d =
+    {X : Type 0} (piece : Conflict → List X) (row : Option Row) (all rest rest' : Children Row) (step : paths.Step) (tree : Tree Row) (before after : List X) (steps now : List (Bor Step))
+    → IsWalking piece row all rest before after steps now → children_of rest ≡ (step, tree) ∷ children_of rest' → is_demanded row step (row_of tree) ≡ false
+    → IsWalking piece row all rest' before after steps now
+walked_past piece row all rest rest' step tree before after steps now w c d =
     let split : rest ≡ child step tree rest' = first_child rest rest' step tree c in
     let path : Path = map shown steps in
     record {
       same = w.same;
-      found = sym (ap (λ cs. after ++ map (under path) (conflicts_below row cs)) split
-          ∙ ap (λ b. after ++ map (under path) (only_if b (map (under (step ∷ [])) (conflicts_in (is_refused row step) tree)) ++ conflicts_below row rest')) d)
+      found = sym (ap (λ cs. after ++ told_under piece path (conflicts_below row cs)) split
+          ∙ ap (λ b. after ++ told_under piece path (only_if b (map (under (step ∷ [])) (conflicts_in (is_refused row step) tree)) ++ conflicts_below row rest')) d)
           ∙ w.found;
       small = let size : children_size rest ≡ tree_size tree + children_size rest' = ap children_size split in omega (arith, w.small);
     }
@@ -92,17 +100,17 @@ none_left (child step tree rest) e = cc
 
 -- all branches were looked at
 walked :
-    (tree : Tree Row) (rest : Children Row) (not_allowed : Bool) (start before after : List Conflict) (steps now : List (Bor Step))
-    → IsWalking (row_of tree) (below tree) rest before after steps now → children_of rest ≡ []
-    → before ≡ start ++ map (under (map shown steps)) (conflict_here (has_no_value (row_of tree)) not_allowed)
-    → after ≡ start ++ map (under (map shown steps)) (conflicts_in not_allowed tree)
-walked (node row children) rest not_allowed start before after steps now w e b =
+    {X : Type 0} (piece : Conflict → List X) (tree : Tree Row) (rest : Children Row) (not_allowed : Bool) (start before after : List X) (steps now : List (Bor Step))
+    → IsWalking piece (row_of tree) (below tree) rest before after steps now → children_of rest ≡ []
+    → before ≡ start ++ told_under piece (map shown steps) (conflict_here (has_no_value (row_of tree)) not_allowed)
+    → after ≡ start ++ told_under piece (map shown steps) (conflicts_in not_allowed tree)
+walked piece (node row children) rest not_allowed start before after steps now w e b =
     let path : Path = map shown steps in
     let here : List Conflict = conflict_here (has_no_value row) not_allowed in
-    sym (append-nil after) ∙ ap (λ cs. after ++ map (under path) (conflicts_below row cs)) (sym (none_left rest e)) ∙ w.found
-    ∙ ap (λ xs. xs ++ map (under path) (conflicts_below row children)) b
-    ∙ append_assoc start (map (under path) here) (map (under path) (conflicts_below row children))
-    ∙ ap (λ xs. start ++ xs) (sym (map-append (under path) here (conflicts_below row children)))
+    sym (append-nil after) ∙ ap (λ cs. after ++ told_under piece path (conflicts_below row cs)) (sym (none_left rest e)) ∙ w.found
+    ∙ ap (λ xs. xs ++ told_under piece path (conflicts_below row children)) b
+    ∙ append_assoc start (told_under piece path here) (told_under piece path (conflicts_below row children))
+    ∙ ap (λ xs. start ++ xs) (sym (told_append piece path here (conflicts_below row children)))
 
 -- what the code asks of a step, by the rows that it has
 pub demand_is : (above above' row row' : Option Row) (step : paths.Step) (found wanted : Bool) → found ≡ is_demanded above step row → above ≡ above' → row ≡ row' → found ≡ wanted → is_demanded above' step row' ≡ wanted
@@ -113,11 +121,11 @@ refusal_is above above' step found f a = f ∙ ap (λ q. is_refused q step) a
 
 -- the same, from where the search was before it looked at the place itself
 pub walked_from :
-    (tree : Tree Row) (rest : Children Row) (not_allowed : Bool) (start before after : List Conflict) (steps now : List (Bor Step)) (path : Path)
-    → IsWalking (row_of tree) (below tree) rest before after steps now → children_of rest ≡ [] → map shown steps ≡ path
-    → before ≡ start ++ map (under path) (conflict_here (has_no_value (row_of tree)) not_allowed)
-    → after ≡ start ++ map (under path) (conflicts_in not_allowed tree)
-walked_from tree rest not_allowed start before after steps now path w e p b =
-    walked tree rest not_allowed start before after steps now w e
-    (b ∙ ap (λ q. start ++ map (under q) (conflict_here (has_no_value (row_of tree)) not_allowed)) (sym p))
-    ∙ ap (λ q. start ++ map (under q) (conflicts_in not_allowed tree)) p
+    {X : Type 0} (piece : Conflict → List X) (tree : Tree Row) (rest : Children Row) (not_allowed : Bool) (start before after : List X) (steps now : List (Bor Step)) (path : Path)
+    → IsWalking piece (row_of tree) (below tree) rest before after steps now → children_of rest ≡ [] → map shown steps ≡ path
+    → before ≡ start ++ told_under piece path (conflict_here (has_no_value (row_of tree)) not_allowed)
+    → after ≡ start ++ told_under piece path (conflicts_in not_allowed tree)
+walked_from piece tree rest not_allowed start before after steps now path w e p b =
+    walked piece tree rest not_allowed start before after steps now w e
+    (b ∙ ap (λ q. start ++ told_under piece q (conflict_here (has_no_value (row_of tree)) not_allowed)) (sym p))
+    ∙ ap (λ q. start ++ told_under piece q (conflicts_in not_allowed tree)) p

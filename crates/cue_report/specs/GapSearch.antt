@@ -1,6 +1,7 @@
 -- How the gaps of a table are found, place by place.
 use Rattle.std.specs.Prelude.{◌≡◌, ◌↔◌, ◌⊎◌, ℕ, zero, suc, ◌+◌, ◌-◌, Bool, false, List, [], ◌∷◌}
 use Rattle.std.specs.Prelude.{◌++◌, map, Option, None, Some, IsTrue}
+use Rattle.std.specs.List.{flat_map}
 use Rattle.cue_lattice.specs.Path as paths
 use Rattle.cue_lattice.specs.Path.{label, index, Path}
 use Rattle.cue_lattice.specs.Question.{Refusals}
@@ -48,12 +49,17 @@ pub record IsGapHere (not_allowed : Bool) (row : Option Row) (gap : Gap) : Type 
 abbrev pub above : Path → Gap → Gap
 above path gap = record gap { path = path ++ gap.path }
 
--- To what was found before, a search at a path adds exactly those of which P holds, in the order of
--- their paths.
-pub record Adds (P : Gap → Type 0) (path : Path) (before after : List Gap) : Type 0 where
+-- what is told of these gaps, seen from there
+abbrev pub told_above : {X : Type 0} → (Gap → List X) → Path → List Gap → List X
+told_above piece path found = flat_map piece (map (above path) found)
+
+-- To what was told before, a search at a path adds what is told of exactly those gaps of which P
+-- holds, in the order of their paths.
+pub record Adds {X : Type 0} (piece : Gap → List X) (P : Gap → Type 0) (path : Path)
+    (before after : List X) : Type 0 where
   pub found : List Gap
   pub lists : Lists (λ gap. gap.path) P found
-  pub is : after ≡ before ++ map (above path) found
+  pub is : after ≡ before ++ told_above piece path found
 
 -- how many elements each list has
 abbrev pub least_at : Option Row → ℕ

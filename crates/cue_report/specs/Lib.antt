@@ -2,6 +2,7 @@ pub mod Answers
 pub mod Clear
 pub mod Documents
 pub mod Export
+pub mod ExportText
 pub mod GapSearch
 pub mod Gaps
 pub mod Lines

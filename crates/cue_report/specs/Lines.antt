@@ -1,6 +1,10 @@
 -- The lines that tell what is in the way of an export.
-use Rattle.std.specs.Prelude.{ℕ, List, [], ◌∷◌, ◌++◌, Bool, true, false, codes}
+use Rattle.std.specs.Prelude.{◌≡◌, ℕ, List, [], ◌∷◌, ◌++◌, Bool, true, false, codes}
+use Rattle.std.specs.List.{flat_map}
 use Rattle.cue_lattice.specs.Path.{Path}
+use Rattle.cue_lattice.specs.Question.{Refusals}
+use Rattle.cue_report.specs.Gaps.{AreGaps}
+use Rattle.cue_report.specs.Listing.{AreConflicts}
 use Rattle.cue_report.specs.declared.conflict.Conflict.{Conflict}
 use Rattle.cue_report.specs.declared.gap.Gap.{Gap}
 use Rattle.cue_row.specs.PathText.{path_text}
@@ -11,9 +15,13 @@ space = 0x20
 abbrev pub line_break : ℕ
 line_break = 0x0a
 
+-- what ends a line: why it is there
+abbrev pub line_end : List ℕ → List ℕ
+line_end why = space ∷ why ++ line_break ∷ []
+
 -- what is reported, where, and why
 abbrev pub line : List ℕ → Path → List ℕ → List ℕ
-line what path why = what ++ (path_text path ++ (space ∷ why ++ line_break ∷ []))
+line what path why = what ++ (path_text path ++ line_end why)
 
 -- the causes of a conflict, by whether there is no value and whether the label is not allowed; with
 -- neither, no words
@@ -34,3 +42,14 @@ conflict_line conflict =
 
 abbrev pub gap_line : Gap → List ℕ
 gap_line gap = line (codes "incomplete ") gap.path (lack_text gap.missing)
+
+-- behind the text stands a line for each conflict, in the order of their paths
+abbrev pub AddsConflictLines : Refusals → List ℕ → List ℕ → Type 0
+AddsConflictLines refuses before after =
+    (found : List Conflict) × AreConflicts refuses found
+    × (after ≡ before ++ flat_map conflict_line found)
+
+-- behind the text stands a line for each gap, in the order of their paths
+abbrev pub AddsGapLines : Refusals → List ℕ → List ℕ → Type 0
+AddsGapLines refuses before after =
+    (found : List Gap) × AreGaps refuses found × (after ≡ before ++ flat_map gap_line found)

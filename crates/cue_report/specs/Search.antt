@@ -1,6 +1,7 @@
 -- How the lists of a report are found, place by place.
 use Rattle.std.specs.Prelude.{ℕ, Bool, true, false, not, ◌&&◌, ◌||◌, List, [], ◌∷◌, ◌++◌, map}
 use Rattle.std.specs.Prelude.{nat_lt, Option, None, Some}
+use Rattle.std.specs.List.{flat_map}
 use Rattle.cue_lattice.specs.Bools.{is_nil}
 use Rattle.cue_lattice.specs.Path as paths
 use Rattle.cue_lattice.specs.Path.{label, index, Path}
@@ -62,6 +63,10 @@ is_refused (Some row) (index n) = false
 -- the conflict of a path, seen from a place above it
 abbrev pub under : Path → Conflict → Conflict
 under path conflict = record conflict { path = path ++ conflict.path }
+
+-- what is told of these conflicts, seen from there
+abbrev pub told_under : {X : Type 0} → (Conflict → List X) → Path → List Conflict → List X
+told_under piece path found = flat_map piece (map (under path) found)
 
 -- the list, or nothing
 abbrev pub only_if : {X : Type 0} → Bool → List X → List X

@@ -1,13 +1,16 @@
 -- Where a search is.
-use Rattle.std.specs.Prelude.{map}
+use Rattle.std.specs.Prelude.{ℕ, List, [], ◌∷◌, ◌++◌, map}
+use Rattle.std.specs.Borrow.{Bor}
+use Rattle.cue_lattice.specs.Path as paths
 use Rattle.cue_lattice.specs.Path.{Path}
+use Rattle.cue_row.specs.declared.step.Step.{Step}
+use Rattle.cue_row.specs.PathText.{dot, step_text}
 use Rattle.cue_row.specs.Steps.{step_of}
-use Rattle.cue_report.specs.declared.conflict.Search.{Search}
-use Rattle.cue_report.specs.declared.gap.Search as gaps
 
--- the path of the place at hand
-abbrev pub trail : Search → Path
-trail search = map (λ step. step_of step.now) search.steps.items
+-- the path of these steps
+abbrev pub shown_steps : List (Bor Step) → Path
+shown_steps steps = map (λ step. step_of step.now) steps
 
-abbrev pub gap_trail : gaps.Search → Path
-gap_trail search = map (λ step. step_of step.now) search.steps.items
+-- the step and a dot
+abbrev pub dotted_behind : paths.Step → List ℕ
+dotted_behind step = step_text step ++ dot ∷ []

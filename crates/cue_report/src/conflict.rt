@@ -1,16 +1,19 @@
-ghost use Rattle.std.specs.Prelude.{◌≡◌, ◌↔◌, ◌++◌, [], ◌∷◌, map, IfOk, IfSome, OnOk};
+ghost use Rattle.std.specs.Prelude.{◌≡◌, ◌↔◌, ◌++◌, [], IfOk, IfSome, OnOk, string_bytes};
 ghost use Rattle.std.specs.Option.{option_map};
 ghost use Rattle.cue_row.specs.Row.{IsRow, RowRefuses};
 ghost use Rattle.cue_table.specs.Refuses.{TableRefuses};
 ghost use Rattle.cue_table.specs.Valid.{IsValidTable};
 ghost use Rattle.cue_report.specs.Documents.{SomeMeets};
+ghost use Rattle.cue_report.specs.Lines.{AddsConflictLines};
 ghost use Rattle.cue_report.specs.Listing.{AreConflicts};
-ghost use Rattle.cue_report.specs.Search.{under, has_no_value, conflict_here, conflicts_in};
-ghost use Rattle.cue_report.specs.Trail.{trail};
+ghost use Rattle.cue_report.specs.Search.{has_no_value, conflict_here, conflicts_in, told_under};
+ghost use Rattle.cue_report.specs.Trail.{shown_steps};
 
 use crate::Place;
 use crate::demand::{is_demanded, is_refused, lacks_value};
-use crate::place::copied;
+use crate::listed::Listed;
+use crate::sink::ConflictSink;
+use crate::written::Written;
 use cue_lattice::Memory;
 use cue_row::{Row, Step};
 use cue_table::{Branch, Table};
@@ -36,39 +39,60 @@ pub fn conflicts(alloc: Global, table: &Table<Row>) -> Result<Vec<Conflict>, Mem
     ensures exact { IsValidTable table.now → IfOk result (λ found.
         (found.items ≡ []) ↔ SomeMeets (TableRefuses RowRefuses table.now)) }
 {
-    let mut search = Search {
-        alloc,
-        steps: Vec::new(alloc),
-        found: Vec::new(alloc),
-    };
-    search.visit(&table.root(), false)?;
-    Ok(search.found)
+    let mut found = Listed::new(alloc);
+    let mut search = Search::new(alloc);
+    search.visit(&mut found, &table.root(), false)?;
+    Ok(found.into_list())
+}
+
+/// The text with a line behind it for each conflict of a table, in the order of their paths, as
+/// [`crate::lines`] writes them. No list of the conflicts is made.
+pub fn conflict_lines(alloc: Global, text: String, table: &Table<Row>) -> Result<String, Memory>
+    ensures lines { IfOk result (λ whole. AddsConflictLines (TableRefuses RowRefuses table.now)
+        (string_bytes text) (string_bytes whole)) }
+{
+    let mut written = Written::new(alloc, text);
+    let mut search = Search::new(alloc);
+    search.visit(&mut written, &table.root(), false)?;
+    Ok(written.into_text())
 }
 
 /// A search for conflicts, from the root on.
 #[derive(Drop)]
 struct Search<'a> {
-    alloc: Global,
     /// The steps to the place at hand.
     steps: Vec<&'a Step>,
-    found: Vec<Conflict>,
 }
 
 impl<'a> Search<'a> {
+    /// A search that stands at the root.
+    fn new(alloc: Global) -> Search<'a>
+        ensures { result.steps.items ≡ [] }
+    {
+        Search {
+            steps: Vec::new(alloc),
+        }
+    }
+
     /// Looks for conflicts at a place, of which the place above refuses the label or not, and below
     /// it.
-    fn visit(&mut self, branch: &Branch<'a, Row>, not_allowed: bool) -> Result<(), Memory>
+    fn visit<S: ConflictSink>(
+        &mut self,
+        sink: &mut S,
+        branch: &Branch<'a, Row>,
+        not_allowed: bool,
+    ) -> Result<(), Memory>
         ensures steps { OnOk result (self.new.steps.items ≡ self.old.steps.items) }
-        ensures found { OnOk result (self.new.found.items
-            ≡ self.old.found.items ++ map (under (trail self.old))
+        ensures found { OnOk result (S.told sink.new ≡ S.told sink.old
+            ++ told_under S.piece (shown_steps self.old.steps.items)
             (conflicts_in not_allowed branch.now)) }
     {
         let row = branch.row();
-        self.look_at(row, not_allowed)?;
+        self.look_at(sink, row, not_allowed)?;
         for (step, child) in branch.children() {
             if is_demanded(row, step, child.row()) {
                 self.steps.push(step)?;
-                self.visit(&child, is_refused(row, step))?;
+                self.visit(sink, &child, is_refused(row, step))?;
                 self.steps.pop();
             }
         }
@@ -76,11 +100,15 @@ impl<'a> Search<'a> {
     }
 
     /// Looks for a conflict at the place at hand, by the row there.
-    fn look_at(&mut self, row: Option<&Row>, not_allowed: bool) -> Result<(), Memory>
+    fn look_at<S: ConflictSink>(
+        &self,
+        sink: &mut S,
+        row: Option<&Row>,
+        not_allowed: bool,
+    ) -> Result<(), Memory>
         requires { IfSome row (λ row. IsRow row.now) }
-        ensures steps { OnOk result (self.new.steps.items ≡ self.old.steps.items) }
-        ensures found { OnOk result (self.new.found.items ≡ self.old.found.items
-            ++ map (under (trail self.old)) (conflict_here
+        ensures found { OnOk result (S.told sink.new ≡ S.told sink.old
+            ++ told_under S.piece (shown_steps self.now.steps.items) (conflict_here
             (has_no_value (option_map (λ row. row.now) row.entry)) not_allowed)) }
     {
         let no_value = match row {
@@ -88,27 +116,8 @@ impl<'a> Search<'a> {
             Some(row) => lacks_value(row),
         };
         if no_value || not_allowed {
-            self.report(no_value, not_allowed)?;
+            sink.conflict(&self.steps, no_value, not_allowed)?;
         }
-        Ok(())
-    }
-
-    /// Reports a conflict at the place at hand.
-    fn report(&mut self, no_value: bool, not_allowed: bool) -> Result<(), Memory>
-        ensures steps { OnOk result (self.new.steps.items ≡ self.old.steps.items) }
-        ensures found { OnOk result (self.new.found.items ≡ self.old.found.items
-            ++ (record {
-              path = trail self.old;
-              no_value = no_value;
-              not_allowed = not_allowed;
-            } ∷ [])) }
-    {
-        let path = Place::new(copied(self.alloc, &self.steps)?);
-        self.found.push(Conflict {
-            path,
-            no_value,
-            not_allowed,
-        })?;
         Ok(())
     }
 }

@@ -1,18 +1,22 @@
-ghost use Rattle.std.specs.Prelude.{◌≡◌, ◌↔◌, ◌++◌, ◌-◌, ◌<◌, ℕ, Bool, false, map, Some};
-ghost use Rattle.std.specs.Prelude.{IfOk, IfSome, IfNone, IsTrue, OnOk};
+ghost use Rattle.std.specs.Prelude.{◌≡◌, ◌↔◌, ◌++◌, ◌-◌, ◌<◌, ℕ, Bool, false, Some, []};
+ghost use Rattle.std.specs.Prelude.{IfOk, IfSome, IfNone, IsTrue, OnOk, string_bytes};
 ghost use Rattle.std.specs.Option.{option_map};
 ghost use Rattle.cue_lattice.specs.Path.{index};
 ghost use Rattle.cue_row.specs.Row.{IsRow, RowRefuses};
 ghost use Rattle.cue_row.specs.Steps.{step_of};
 ghost use Rattle.cue_table.specs.Refuses.{TableRefuses};
-ghost use Rattle.cue_report.specs.GapSearch.{IsGapAt, IsOpenAt, IsGapHere, IsGapIn, Adds, above};
+ghost use Rattle.cue_report.specs.GapSearch.{IsGapAt, IsOpenAt, IsGapHere, IsGapIn, Adds};
 ghost use Rattle.cue_report.specs.GapSearch.{free_before, free_elements, least_at, next_after};
+ghost use Rattle.cue_report.specs.GapSearch.{told_above};
 ghost use Rattle.cue_report.specs.Gaps.{AreGaps};
+ghost use Rattle.cue_report.specs.Lines.{AddsGapLines};
 ghost use Rattle.cue_report.specs.Search.{lacks_value};
-ghost use Rattle.cue_report.specs.Trail.{gap_trail};
+ghost use Rattle.cue_report.specs.Trail.{shown_steps};
 
 use crate::demand::{is_demanded, is_refused};
-use crate::place::copied;
+use crate::listed::Listed;
+use crate::sink::GapSink;
+use crate::written::Written;
 use crate::{Place, demand};
 use cue_lattice::{Memory, Narrow};
 use cue_row::{Level, Row, Step};
@@ -33,13 +37,22 @@ pub struct Gap {
 pub fn incomplete(alloc: Global, table: &Table<Row>) -> Result<Vec<Gap>, Memory>
     ensures { IfOk result (λ gaps. AreGaps (TableRefuses RowRefuses table.now) gaps.items) }
 {
-    let mut search = Search {
-        alloc,
-        steps: Vec::new(alloc),
-        gaps: Vec::new(alloc),
-    };
-    search.visit(&table.root(), false)?;
-    Ok(search.gaps)
+    let mut found = Listed::new(alloc);
+    let mut search = Search::new(alloc);
+    search.visit(&mut found, &table.root(), false)?;
+    Ok(found.into_list())
+}
+
+/// The text with a line behind it for each gap of a table, in the order of their paths, as
+/// [`crate::lines`] writes them. No list of the gaps is made.
+pub fn gap_lines(alloc: Global, text: String, table: &Table<Row>) -> Result<String, Memory>
+    ensures lines { IfOk result (λ whole. AddsGapLines (TableRefuses RowRefuses table.now)
+        (string_bytes text) (string_bytes whole)) }
+{
+    let mut written = Written::new(alloc, text);
+    let mut search = Search::new(alloc);
+    search.visit(&mut written, &table.root(), false)?;
+    Ok(written.into_text())
 }
 
 /// A search for gaps, from the root on.
@@ -48,85 +61,83 @@ struct Search<'a> {
     alloc: Global,
     /// The steps to the place at hand.
     steps: Vec<&'a Step>,
-    gaps: Vec<Gap>,
 }
 
 impl<'a> Search<'a> {
+    /// A search that stands at the root.
+    fn new(alloc: Global) -> Search<'a>
+        ensures { result.steps.items ≡ [] }
+    {
+        Search {
+            alloc,
+            steps: Vec::new(alloc),
+        }
+    }
+
     /// Looks for gaps at a place, of which the place above refuses the label or not, and below it.
-    fn visit(&mut self, branch: &Branch<'a, Row>, not_allowed: bool) -> Result<(), Memory>
+    fn visit<S: GapSink>(
+        &mut self,
+        sink: &mut S,
+        branch: &Branch<'a, Row>,
+        not_allowed: bool,
+    ) -> Result<(), Memory>
         ensures steps { OnOk result (self.new.steps.items ≡ self.old.steps.items) }
-        ensures gaps { OnOk result (Adds (IsGapIn not_allowed branch.now) (gap_trail self.old)
-            self.old.gaps.items self.new.gaps.items) }
+        ensures gaps { OnOk result (Adds S.piece (IsGapIn not_allowed branch.now)
+            (shown_steps self.old.steps.items) (S.told sink.old) (S.told sink.new)) }
     {
         let row = branch.row();
-        self.look_at(row, not_allowed)?;
+        self.look_at(sink, row, not_allowed)?;
         let least = least_of(row);
         // The first element that is not looked at.
         let mut next = 0;
         for (step, child) in branch.children() {
             if is_demanded(row, step, child.row()) {
-                next = self.reach(next, step)?;
+                next = self.reach(sink, next, step)?;
                 self.steps.push(step)?;
-                self.visit(&child, is_refused(row, step))?;
+                self.visit(sink, &child, is_refused(row, step))?;
                 self.steps.pop();
             }
         }
-        self.free_elements(next, least)
+        sink.free_elements(&self.steps, next, least)
     }
 
     /// Looks for a gap at the place at hand, by the row there.
-    fn look_at(&mut self, row: Option<&Row>, not_allowed: bool) -> Result<(), Memory>
+    fn look_at<S: GapSink>(
+        &self,
+        sink: &mut S,
+        row: Option<&Row>,
+        not_allowed: bool,
+    ) -> Result<(), Memory>
         requires { IfSome row (λ row. IsRow row.now) }
-        ensures steps { OnOk result (self.new.steps.items ≡ self.old.steps.items) }
         ensures gaps { OnOk result
-            (Adds (IsGapHere not_allowed (option_map (λ row. row.now) row.entry))
-            (gap_trail self.old) self.old.gaps.items self.new.gaps.items) }
+            (Adds S.piece (IsGapHere not_allowed (option_map (λ row. row.now) row.entry))
+            (shown_steps self.now.steps.items) (S.told sink.old) (S.told sink.new)) }
     {
         if not_allowed {
             return Ok(());
         }
         if let Some(missing) = gap_at(self.alloc, row)? {
-            let path = Place::new(copied(self.alloc, &self.steps)?);
-            self.gaps.push(Gap { path, missing })?;
+            sink.gap(&self.steps, missing)?;
         }
         Ok(())
     }
 
-    /// Reports the elements of the place at hand from the next on that are before this step: they
+    /// Tells the elements of the place at hand from the next on that are before this step: they
     /// are free. Tells the first one behind the step.
-    fn reach(&mut self, next: u32, step: &Step) -> Result<u32, Memory>
+    fn reach<S: GapSink>(&self, sink: &mut S, next: u32, step: &Step) -> Result<u32, Memory>
         requires { (n : ℕ) → step_of step.now ≡ index n → n < 4294967295 }
-        ensures steps { OnOk result (self.new.steps.items ≡ self.old.steps.items) }
-        ensures gaps { OnOk result (self.new.gaps.items
-            ≡ self.old.gaps.items
-            ++ map (above (gap_trail self.old)) (free_before next (step_of step.now))) }
+        ensures gaps { OnOk result (S.told sink.new ≡ S.told sink.old
+            ++ told_above S.piece (shown_steps self.now.steps.items)
+            (free_before next (step_of step.now))) }
         ensures next { IfOk result (λ found. found ≡ next_after next (step_of step.now)) }
     {
         match step {
             Step::Label(_) => Ok(next),
             Step::Index(number) => {
-                self.free_elements(next, *number)?;
+                sink.free_elements(&self.steps, next, *number)?;
                 Ok(*number + 1)
             }
         }
-    }
-
-    /// Reports the elements of the place at hand from the first on, before the end: they are free.
-    fn free_elements(&mut self, first: u32, end: u32) -> Result<(), Memory>
-        ensures steps { OnOk result (self.new.steps.items ≡ self.old.steps.items) }
-        ensures gaps { OnOk result (self.new.gaps.items
-            ≡ self.old.gaps.items
-            ++ map (above (gap_trail self.old)) (free_elements first (end - first))) }
-    {
-        for number in first..end {
-            let mut steps = copied(self.alloc, &self.steps)?;
-            steps.push(Step::Index(number))?;
-            self.gaps.push(Gap {
-                path: Place::new(steps),
-                missing: false,
-            })?;
-        }
-        Ok(())
     }
 }
 

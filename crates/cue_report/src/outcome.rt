@@ -11,3 +11,14 @@ pub enum Export {
     /// There is no conflict, but not everything is a single value.
     Incomplete(Vec<Gap>),
 }
+
+/// What an export of a table comes to, as text.
+#[derive(Debug, Drop)]
+pub enum ExportText {
+    /// The document as JSON, as [`Export`] has it.
+    Json(String),
+    /// A line for each conflict, as [`crate::lines`] writes them.
+    Conflicts(String),
+    /// There is no conflict, and a line for each gap.
+    Incomplete(String),
+}

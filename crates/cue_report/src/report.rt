@@ -1,6 +1,7 @@
 ghost use Rattle.std.specs.Prelude.{◌≡◌, ◌++◌, IfOk, OnOk, string_bytes};
 ghost use Rattle.std.specs.List.{flat_map};
-ghost use Rattle.cue_report.specs.Lines.{conflict_line, gap_line, line, cause_text, lack_text};
+ghost use Rattle.cue_report.specs.Lines.{conflict_line, gap_line, line, line_end};
+ghost use Rattle.cue_report.specs.Lines.{cause_text, lack_text};
 
 use crate::{Conflict, Gap, Place};
 use cue_lattice::Memory;
@@ -25,7 +26,12 @@ fn push_conflicts(out: &mut String, conflicts: &[Conflict]) -> Result<(), Memory
         (string_bytes out.new ≡ string_bytes out.old ++ flat_map conflict_line conflicts.now) }
 {
     for conflict in conflicts {
-        push_line(out, "conflict ", &conflict.path, cause(conflict))?;
+        push_line(
+            out,
+            "conflict ",
+            &conflict.path,
+            cause(conflict.no_value, conflict.not_allowed),
+        )?;
     }
     Ok(())
 }
@@ -36,7 +42,7 @@ fn push_gaps(out: &mut String, gaps: &[Gap]) -> Result<(), Memory>
         (string_bytes out.new ≡ string_bytes out.old ++ flat_map gap_line gaps.now) }
 {
     for gap in gaps {
-        push_line(out, "incomplete ", &gap.path, lack(gap))?;
+        push_line(out, "incomplete ", &gap.path, lack(gap.missing))?;
     }
     Ok(())
 }
@@ -48,6 +54,15 @@ fn push_line(out: &mut String, what: &str, path: &Place, why: &str) -> Result<()
 {
     out.push_str(what)?;
     push_steps(out, path.steps())?;
+    end_line(out, why)?;
+    Ok(())
+}
+
+/// Writes the end of a line: why it is there.
+pub(crate) fn end_line(out: &mut String, why: &str) -> Result<(), Memory>
+    ensures { OnOk result
+        (string_bytes out.new ≡ string_bytes out.old ++ line_end why.now) }
+{
     out.push(' ')?;
     out.push_str(why)?;
     out.push('\n')?;
@@ -55,10 +70,10 @@ fn push_line(out: &mut String, what: &str, path: &Place, why: &str) -> Result<()
 }
 
 /// Why it is a conflict.
-fn cause(conflict: &Conflict) -> &'static str
-    ensures { result.now ≡ cause_text conflict.now.no_value conflict.now.not_allowed }
+pub(crate) fn cause(no_value: bool, not_allowed: bool) -> &'static str
+    ensures { result.now ≡ cause_text no_value not_allowed }
 {
-    match (conflict.no_value, conflict.not_allowed) {
+    match (no_value, not_allowed) {
         (true, true) => "no value, label not allowed",
         (true, false) => "no value",
         (false, true) => "label not allowed",
@@ -67,10 +82,10 @@ fn cause(conflict: &Conflict) -> &'static str
 }
 
 /// What is lacking.
-fn lack(gap: &Gap) -> &'static str
-    ensures { result.now ≡ lack_text gap.now.missing }
+pub(crate) fn lack(missing: bool) -> &'static str
+    ensures { result.now ≡ lack_text missing }
 {
-    if gap.missing {
+    if missing {
         "missing"
     } else {
         "not a single value"

@@ -13,11 +13,12 @@ ghost use Rattle.cue_report.specs.Export.{IsShape, IsExport, AreKeys, AreMembers
 ghost use Rattle.cue_report.specs.Export.{AreElements, keys, count, data_of};
 ghost use Rattle.cue_report.specs.GapSearch.{AtPlace, least_at};
 ghost use Rattle.cue_report.specs.Gaps.{IsFree};
+ghost use Rattle.cue_report.specs.ExportText.{IsExportText};
 ghost use Rattle.cue_report.specs.Picks.{IsPicked};
 
 use crate::demand::is_demanded;
 use crate::gap::least_of;
-use crate::{Export, conflicts, incomplete};
+use crate::{Export, ExportText, conflict_lines, conflicts, gap_lines, incomplete};
 use cue_lattice::{Memory, Narrow};
 use cue_row::{Row, Step};
 use cue_scalars::Scalar;
@@ -46,6 +47,24 @@ pub fn export(alloc: Global, table: &Table<Row>) -> Result<Export, Memory>
     let document = document_of(alloc, &table.root())?;
     let text = document.to_string(alloc)?;
     Ok(Export::Json(text))
+}
+
+/// The export of a table as text: what [`export`] tells, with the lines of conflicts or gaps in
+/// place of their lists, which are not made.
+pub fn export_text(alloc: Global, table: &Table<Row>) -> Result<ExportText, Memory>
+    ensures export { IfOk result (λ told. IsExportText (TableRefuses RowRefuses table.now) told) }
+{
+    let conflicting = conflict_lines(alloc, String::new(alloc), table)?;
+    if !conflicting.is_empty() {
+        return Ok(ExportText::Conflicts(conflicting));
+    }
+    let lacking = gap_lines(alloc, String::new(alloc), table)?;
+    if !lacking.is_empty() {
+        return Ok(ExportText::Incomplete(lacking));
+    }
+    let document = document_of(alloc, &table.root())?;
+    let text = document.to_string(alloc)?;
+    Ok(ExportText::Json(text))
 }
 
 /// A document that meets a table, also where the table is incomplete: an object of the demanded
@@ -121,7 +140,7 @@ fn scalar_of(alloc: Global, row: &Row) -> Result<Value, Memory>
 {
     match picked(alloc, row)? {
         None => Ok(Value::Null),
-        Some(scalar) => Ok(json_of(scalar)),
+        Some(scalar) => Ok(json_of(alloc, scalar)?),
     }
 }
 
@@ -190,14 +209,14 @@ fn elements_of(alloc: Global, branch: &Branch<Row>) -> Result<Vec<Value>, Memory
 }
 
 /// A scalar as JSON.
-fn json_of(scalar: Scalar) -> Value
-    ensures json { view result ≡ data_of scalar }
-    ensures no_float { has_float (view result) ≡ false }
+fn json_of(alloc: Global, scalar: Scalar) -> Result<Value, Memory>
+    ensures json { IfOk result (λ value. view value ≡ data_of scalar) }
+    ensures no_float { IfOk result (λ value. has_float (view value) ≡ false) }
 {
-    match scalar {
+    Ok(match scalar {
         Scalar::Null => Value::Null,
         Scalar::Bool(truth) => Value::Bool(truth),
         Scalar::Int(integer) => Value::from(integer),
-        Scalar::Text(text) => Value::String(text.into_string()),
-    }
+        Scalar::Text(text) => Value::String(text.into_string(alloc)?),
+    })
 }

@@ -1,7 +1,7 @@
 //! What an export comes to.
 use crate::sample::Place::{Default, Integers, List, Nothing, Null, Struct, Text, Truth};
 use crate::sample::{Made, Place, assert_text, table};
-use cue_report::{Export, export, lines};
+use cue_report::{Export, ExportText, export, export_text, lines};
 use cue_row::Level::{Given, Optional, Required};
 use cue_row::{Level, Row};
 use cue_table::Table;
@@ -23,7 +23,16 @@ fn told(alloc: Global, export: Made<Export>) -> Made<String> {
     }
 }
 
-/// Asserts what the table with these places is exported as.
+/// The export of a table as text.
+fn export_told(alloc: Global, table: Made<Table<Row>>) -> Made<String> {
+    match export_text(alloc, &table?)? {
+        ExportText::Json(text) => Ok(text),
+        ExportText::Conflicts(lines) => Ok(lines),
+        ExportText::Incomplete(lines) => Ok(lines),
+    }
+}
+
+/// Asserts what the table with these places is exported as, by lists and without them.
 fn assert_exported<H: AllocGlobal + Abort>(
     rt: &H,
     places: &[(&str, Level, Place)],
@@ -31,7 +40,8 @@ fn assert_exported<H: AllocGlobal + Abort>(
 ) -> Result<(), Fail> {
     let alloc = rt.alloc();
     let export = exported(alloc, table(alloc, places));
-    assert_text(rt, told(alloc, export), wanted)
+    assert_text(rt, told(alloc, export), wanted)?;
+    assert_text(rt, export_told(alloc, table(alloc, places)), wanted)
 }
 
 #[test]

@@ -2,7 +2,9 @@
 use crate::sample;
 use crate::sample::Place::{Closed, Integers, List, Nothing, Struct};
 use crate::sample::{Made, assert_text, path, table};
-use cue_report::{Conflict, Gap, Place, conflicts, incomplete, lines, path_text};
+use cue_report::{
+    Conflict, Gap, Place, conflict_lines, conflicts, gap_lines, incomplete, lines, path_text,
+};
 use cue_row::Level::{Given, Optional, Required};
 use cue_row::{Level, Path, Row};
 use cue_table::Table;
@@ -16,11 +18,21 @@ fn found(alloc: Global, table: Made<Table<Row>>) -> Made<Vec<Conflict>> {
 }
 
 /// The lines of conflicts.
-fn conflict_lines(alloc: Global, found: Made<Vec<Conflict>>) -> Made<String> {
+fn conflicts_told(alloc: Global, found: Made<Vec<Conflict>>) -> Made<String> {
     lines(alloc, &found?, &[])
 }
 
-/// Asserts the lines of the conflicts of the table with these places.
+/// A text and behind it the lines of the conflicts of a table.
+fn with_conflicts(alloc: Global, text: Made<String>, table: Made<Table<Row>>) -> Made<String> {
+    conflict_lines(alloc, text?, &table?)
+}
+
+/// An empty text.
+fn blank(alloc: Global) -> Made<String> {
+    Ok(String::new(alloc))
+}
+
+/// Asserts the lines of the conflicts of the table with these places, by their list and without it.
 fn assert_conflicts<H: AllocGlobal + Abort>(
     rt: &H,
     places: &[(&str, Level, sample::Place)],
@@ -28,7 +40,9 @@ fn assert_conflicts<H: AllocGlobal + Abort>(
 ) -> Result<(), Fail> {
     let alloc = rt.alloc();
     let found = found(alloc, table(alloc, places));
-    assert_text(rt, conflict_lines(alloc, found), wanted)
+    assert_text(rt, conflicts_told(alloc, found), wanted)?;
+    let written = with_conflicts(alloc, blank(alloc), table(alloc, places));
+    assert_text(rt, written, wanted)
 }
 
 #[test]
@@ -100,11 +114,16 @@ fn gaps(alloc: Global, table: Made<Table<Row>>) -> Made<Vec<Gap>> {
 }
 
 /// The lines of gaps.
-fn gap_lines(alloc: Global, gaps: Made<Vec<Gap>>) -> Made<String> {
+fn gaps_told(alloc: Global, gaps: Made<Vec<Gap>>) -> Made<String> {
     lines(alloc, &[], &gaps?)
 }
 
-/// Asserts the lines of the gaps of the table with these places.
+/// A text and behind it the lines of the gaps of a table.
+fn with_gaps(alloc: Global, text: Made<String>, table: Made<Table<Row>>) -> Made<String> {
+    gap_lines(alloc, text?, &table?)
+}
+
+/// Asserts the lines of the gaps of the table with these places, by their list and without it.
 fn assert_gaps<H: AllocGlobal + Abort>(
     rt: &H,
     places: &[(&str, Level, sample::Place)],
@@ -112,7 +131,9 @@ fn assert_gaps<H: AllocGlobal + Abort>(
 ) -> Result<(), Fail> {
     let alloc = rt.alloc();
     let gaps = gaps(alloc, table(alloc, places));
-    assert_text(rt, gap_lines(alloc, gaps), wanted)
+    assert_text(rt, gaps_told(alloc, gaps), wanted)?;
+    let written = with_gaps(alloc, blank(alloc), table(alloc, places));
+    assert_text(rt, written, wanted)
 }
 
 #[test]
@@ -145,6 +166,33 @@ fn a_conflict_is_no_gap(rt: HostRuntime) -> Result<(), Fail> {
         ("vz", Given, Integers(1, 2)),
     ];
     assert_gaps(&rt, &places, "")
+}
+
+#[test]
+fn elements_of_the_root_are_gaps(rt: HostRuntime) -> Result<(), Fail> {
+    let places = [("", Given, List(3, None)), ("1", Optional, List(1, None))];
+    assert_gaps(
+        &rt,
+        &places,
+        "incomplete 0 not a single value\nincomplete 1.0 not a single value\n\
+         incomplete 2 not a single value\n",
+    )
+}
+
+#[test]
+fn lines_stand_behind_the_text(rt: HostRuntime) -> Result<(), Fail> {
+    let alloc = rt.alloc();
+    let places = [
+        ("a", Required, Struct),
+        ("b", Given, Nothing),
+        ("c", Given, Integers(1, 2)),
+    ];
+    let conflicts = with_conflicts(alloc, blank(alloc), table(alloc, &places));
+    assert_text(
+        &rt,
+        with_gaps(alloc, conflicts, table(alloc, &places)),
+        "conflict b no value\nincomplete a missing\nincomplete c not a single value\n",
+    )
 }
 
 /// The text of a path.

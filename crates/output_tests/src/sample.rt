@@ -30,7 +30,7 @@ fn pushed<T: Drop>(list: Made<Vec<T>>, last: Made<T>) -> Made<Vec<T>> {
 fn text(alloc: Global, letter: char) -> Made<Text> {
     let mut text = String::new(alloc);
     text.push(letter)?;
-    Ok(Text::new(text))
+    Ok(Text::new(alloc, text)?)
 }
 
 /// The texts of one letter each.

@@ -6,6 +6,6 @@ use Rattle.cue_report.proofs.shape.scalar_of.Goals as goal
 pub returns-in-None-clause-picked : goal.returns-in-None-clause-picked
 returns-in-None-clause-picked c form = told_none c.args.row.now c.in_ok-picked.field-0 (view Null) c.in-None.is (c.in_ok-picked.ensures.none form)
 
-pub returns-in-Some-clause-picked : goal.returns-in-Some-clause-picked
-returns-in-Some-clause-picked c form =
-    told_one c.args.row.now c.in_ok-picked.field-0 c.in-Some.scalar (view c.json_of.result) c.in-Some.is (c.in_ok-picked.ensures.some form) c.json_of.ensures.json
+pub returns-in_ok-json_of-in-Some-clause-picked : goal.returns-in_ok-json_of-in-Some-clause-picked
+returns-in_ok-json_of-in-Some-clause-picked c form =
+    told_one c.args.row.now c.in_ok-picked.field-0 c.in-Some.scalar (view c.in_ok-json_of-in-Some.field-0) c.in-Some.is (c.in_ok-picked.ensures.some form) c.in_ok-json_of-in-Some.ensures.json

@@ -4,8 +4,9 @@ use Rattle.cue_report.proofs.Walk.{IsWalking}
 use Rattle.cue_report.proofs.conflict.Search.+visit.Given as goal
 
 abbrev pub decreases-visit : goal.decreases-visit
-decreases-visit l = tree_size l.branch.now
+decreases-visit g l = tree_size l.branch.now
 
 abbrev pub invariant-loop-step : goal.invariant-loop-step
-invariant-loop-step l =
-    IsWalking (row_of l.branch) (below l.branch) l.step-iterator l.initial.self.found.items l.self.found.items l.initial.self.steps.items l.self.steps.items
+invariant-loop-step g l =
+    let told = g.S.ConflictSink.told in
+    IsWalking g.S.ConflictSink.piece (row_of l.branch) (below l.branch) l.step-iterator (told l.initial.sink) (told l.sink) l.initial.self.steps.items l.self.steps.items

@@ -3,8 +3,9 @@ use Rattle.cue_report.proofs.GapWalk.{IsOver}
 use Rattle.cue_report.proofs.gap.Search.+visit.Given as goal
 
 abbrev pub decreases-visit : goal.decreases-visit
-decreases-visit l = tree_size l.branch.now
+decreases-visit g l = tree_size l.branch.now
 
 abbrev pub invariant-loop-step : goal.invariant-loop-step
-invariant-loop-step l =
-    IsOver l.not_allowed l.branch l.step-iterator l.next l.fn.self.gaps.items l.self.gaps.items l.fn.self.steps.items l.self.steps.items
+invariant-loop-step g l =
+    let told = g.S.GapSink.told in
+    IsOver g.S.GapSink.piece l.not_allowed l.branch l.step-iterator l.next (told l.fn.sink) (told l.sink) l.fn.self.steps.items l.self.steps.items
