@@ -1,9 +1,11 @@
 -- The tree that a table is printed as is accepted, wherever its tokens stand.
-use Rattle.std.proofs.Common.{◌≡◌, ◌⊎◌, inl, inr, ◌≤◌, false, [], None, refl, ap, sym, subst, subst₂, ◌∙◌, ⊎_elim}
+use Rattle.std.proofs.Common.{◌≡◌, ◌⊎◌, inl, inr, ◌≤◌, false, List, [], None, refl, ap, sym, subst, subst₂, ◌∙◌, ⊎_elim}
 use Rattle.std.proofs.lemmas.Bool.{cases_lt}
 use Rattle.cue_lattice.specs.Limits.{level_limit, size_limit, step_limit}
+use Rattle.cue_lex.specs.declared.token.Token.{Token}
 use Rattle.cue_syntax.specs.Syntax.{FileTree, Entries}
-use Rattle.cue_syntax.specs.Grammar.{AreRightEntries, EndsEntries, IsRightPackage, IsFragment, levels_of_entries}
+use Rattle.cue_syntax.specs.Spelling.{Reads, spell_file}
+use Rattle.cue_syntax.specs.Grammar.{AreRightEntries, EndsEntries, IsRightPackage, IsFragment, levels_of_entries, unlimited, IsFile}
 use Rattle.cue_syntax.specs.Unplaced.{unplaced_entries, unplaced_file}
 use Rattle.cue_syntax.specs.Words.{HaveWordsEntries}
 use Rattle.cue_scope.specs.Definitions.{definitions, repeats}
@@ -33,15 +35,34 @@ is_of : (tree : FileTree) (fields : Fields) → unplaced_file tree ≡ file_tree
 unfolding file_tree
 is_of tree fields same = record { clause = ap (λ f. f.package_clause) same; entries = ap (λ f. f.declarations) same; comma = ap (λ f. f.comma) same }
 
+-- its form is one of the grammar
+record IsRight (tree : FileTree) : Type 0 where
+  pub clause : IsRightPackage tree.package_clause tree.declarations
+  pub right : AreRightEntries tree.declarations
+  pub ends : EndsEntries tree.comma tree.declarations
+
+is_right : (tree : FileTree) (fields : Fields) → IsOf tree fields → ArePrintableFields fields → IsRight tree
+is_right tree fields is are = record {
+  clause = subst (λ clause. IsRightPackage clause tree.declarations) (sym is.clause) tt;
+  right = entries_right tree.declarations (subst AreRightEntries (sym is.entries) (fields_well fields are).right);
+  ends = ends_placed tree.comma tree.declarations (subst₂ EndsEntries (sym is.comma) (sym is.entries) (ends_well fields));
+}
+
+-- what spells it is a file of the grammar, whatever levels it opens
+pub spelled_file : (tree : FileTree) (fields : Fields) → unplaced_file tree ≡ file_tree fields → ArePrintableFields fields → (found : List Token) → Reads found (spell_file tree) [] → IsFile unlimited found tree
+spelled_file tree fields same are found reads =
+    let form = is_right tree fields (is_of tree fields same) are in
+    record { reads = reads; clause = form.clause; right = form.right; ends = form.ends; levels = tt }
+
 fragment : (tree : FileTree) (fields : Fields) → IsOf tree fields → ArePrintableFields fields → levels_of_entries tree.declarations ≤ level_limit → IsFragment tree.package_clause tree.declarations tree.comma
 fragment tree fields is are few =
-    let well = fields_well fields are in
+    let form = is_right tree fields is are in
     record {
-      package_clause = subst (λ clause. IsRightPackage clause tree.declarations) (sym is.clause) tt;
-      right = entries_right tree.declarations (subst AreRightEntries (sym is.entries) well.right);
-      ends = ends_placed tree.comma tree.declarations (subst₂ EndsEntries (sym is.comma) (sym is.entries) (ends_well fields));
+      package_clause = form.clause;
+      right = form.right;
+      ends = form.ends;
       levels = few;
-      words = entries_words tree.declarations (subst HaveWordsEntries (sym is.entries) well.words);
+      words = entries_words tree.declarations (subst HaveWordsEntries (sym is.entries) (fields_well fields are).words);
     }
 
 passes : (es : Entries) (fields : Fields) → unplaced_entries es ≡ field_trees fields → HasScalarTerms es

@@ -22,6 +22,7 @@ use Rattle.cue_reading.proofs.Marks.{stop_break}
 use Rattle.cue_reading.proofs.Rows.{joined_kinds, each_entry, entries_spelled}
 use Rattle.cue_reading.proofs.Placed.{place_file}
 use Rattle.cue_reading.proofs.Values.{each_field}
+use Rattle.cue_reading.proofs.Acceptance.{spelled_file}
 use Rattle.cue_reading.proofs.Bare.{unplaced_already}
 
 -- a comma is inserted behind each line
@@ -86,5 +87,5 @@ file_read fields are =
     let placed = place_file (file_tree fields) lexed.found (lexed.same ∙ file_kinds fields) in
     elim (tokens_by (flat_map line (field_texts fields)) lexed.found lexed.are (nat_le (length (flat_map line (field_texts fields))) text_limit) refl) [
       | inl long ↦ inl (ap tokens (file_is fields) ∙ long)
-      | inr found ↦ inr (record { found = lexed.found; are = ap tokens (file_is fields) ∙ found; placed = placed.there; same = placed.same ∙ unplaced_already fields; reads = placed.reads })
+      | inr found ↦ inr (record { found = lexed.found; are = ap tokens (file_is fields) ∙ found; placed = placed.there; same = placed.same ∙ unplaced_already fields; spelled = spelled_file placed.there fields (placed.same ∙ unplaced_already fields) are lexed.found placed.reads })
     ]

@@ -18,3 +18,15 @@ pub mod Places
 pub mod Acceptance
 pub mod Laws
 pub mod Whole
+pub mod ScalarsTerms
+pub mod ScalarsEmpty
+pub mod ScalarsTrees
+pub mod ScalarsParts
+pub mod Scalars
+pub mod MeantFields
+pub mod MeantStructs
+pub mod MeantLists
+pub mod MeantKinds
+pub mod MeantRows
+pub mod MeantTrees
+pub mod MeantFiles

@@ -14,7 +14,7 @@ use Rattle.cue_syntax.specs.Words.{HasWords, HaveWords, HasWordsBranch, HaveWord
 use Rattle.cue_scope.specs.Core.{Core, is_scalar}
 use Rattle.cue_scope.specs.Core as meant_as
 use Rattle.cue_scope.specs.Definitions.{Definition, definitions}
-use Rattle.cue_scope.specs.Meaning.{text_of, nested, meant, meant_elements, meant_branches, meant_members}
+use Rattle.cue_scope.specs.Meaning.{text_of, nested, meant, meant_elements, meant_branches, meant_members, meant_fields}
 use Rattle.cue_scope.specs.Named.{named_of, is_literal}
 use Rattle.cue_scope.specs.Names.{Scope, is_unquoted, has_label, inside, behind, fault_of, fault_of_close, faults, faults_of_elements, faults_of_branches, faults_of_entries}
 use Rattle.cue_scope.specs.Terms.{terms, terms_of_elements, terms_of_branches, terms_of_entries}
@@ -204,6 +204,13 @@ mutual
   members_placed (entry ellipsis es) ds m = ap meant_as.dots (members_placed es ds m)
   members_placed (entry (field label chain e) es) ds m = ap₂ (λ c ms. meant_as.member (text_of label.name) label.mark (nested chain c) ms) (meant_placed e ds m) (members_placed es ds m)
   members_placed (entry (definition t from chain e) es) ds m = members_placed es ds m
+
+-- the regular declarations of a text
+pub declarations_placed : (es : Entries) (ds : List Definition) (m : ℕ → Core) → meant_fields ds m (unplaced_entries es) ≡ meant_fields ds m es
+declarations_placed no_entries ds m = refl
+declarations_placed (entry ellipsis es) ds m = declarations_placed es ds m
+declarations_placed (entry (field label chain e) es) ds m = ap₂ (λ c ms. meant_as.member (text_of label.name) label.mark (nested chain c) ms) (meant_placed e ds m) (declarations_placed es ds m)
+declarations_placed (entry (definition t from chain e) es) ds m = declarations_placed es ds m
 
 -- ---- names, where there are no definitions
 pub no_definitions_placed : (es : Entries) → definitions (unplaced_entries es) ≡ [] → definitions es ≡ []

@@ -1,4 +1,4 @@
--- The printed text of a valid table is a legal text, unless it is over a limit.
+-- The printed text of a valid table is a legal text, unless it is over a limit, and means the table.
 use Rattle.std.proofs.Common.{inl, inr, Some, ⊎_elim, IsUtf8}
 use Rattle.cue_print.specs.Expressions.{Fields}
 use Rattle.cue_print.specs.Spelled.{field_texts, file_text}
@@ -6,9 +6,11 @@ use Rattle.cue_reading.specs.Accepted.{IsAccepted}
 use Rattle.cue_reading.specs.Inner.Printable.{ArePrintableFields}
 use Rattle.cue_reading.specs.PrintedTree.{field_trees, file_tree}
 use Rattle.cue_reading.specs.Reading.{IsSpelling}
+use Rattle.cue_reading.specs.Meant.{IsTableAgain}
 use Rattle.cue_reading.specs.Taken.{IsLegalAs, IsLegalAgain}
 use Rattle.cue_reading.proofs.Acceptance.{accepted_again}
 use Rattle.cue_reading.proofs.Files.{lines_read, file_read}
+use Rattle.cue_reading.proofs.MeantFiles.{meant_again}
 use Rattle.cue_reading.proofs.Rows.{each_entry}
 use Rattle.cue_reading.proofs.Valid.{valid_printable}
 use Rattle.cue_reading.proofs.Values.{each_field}
@@ -26,7 +28,7 @@ legal_as fields are spelling ok = record {
   lexed = spelling.are;
   placed = spelling.placed;
   same = spelling.same;
-  spelled = record { reads = spelling.reads; clause = ok.fragment.package_clause; right = ok.fragment.right; ends = ok.fragment.ends; levels = ok.fragment.levels };
+  spelled = record { reads = spelling.spelled.reads; clause = ok.fragment.package_clause; right = ok.fragment.right; ends = ok.fragment.ends; levels = ok.fragment.levels };
   legal = ok.legal;
 }
 
@@ -40,3 +42,10 @@ legal_again table fields valid is =
     (λ over. inr (inl (record { spelling = spelling; over = over })))
     (accepted_again table fields valid is spelling.placed spelling.same))
     (file_read fields are)
+
+-- and means the table
+pub table_again : IsTableAgain
+table_again table fields valid is =
+    ⊎_elim inl
+    (λ known. inr (⊎_elim inl (λ read. inr (record { read = read; means = meant_again table fields valid is read.placed read.same })) known))
+    (legal_again table fields valid is)

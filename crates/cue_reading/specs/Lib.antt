@@ -5,3 +5,4 @@ pub mod PrintedTree
 pub mod Reading
 pub mod Accepted
 pub mod Taken
+pub mod Meant

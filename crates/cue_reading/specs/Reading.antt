@@ -1,25 +1,26 @@
 -- What the printed text of a table is, read again: its tokens.
-use Rattle.std.specs.Prelude.{◌≡◌, ◌⊎◌, ℕ, List, [], Some, Ok, Err}
+use Rattle.std.specs.Prelude.{◌≡◌, ◌⊎◌, ℕ, List, Some, Ok, Err}
 use Rattle.cue_lex.specs.declared.token.Token.{Token}
 use Rattle.cue_lex.specs.Tokens.{tokens, too_long}
 use Rattle.cue_row.specs.declared.row.Row.{Row}
 use Rattle.cue_table.specs.Tree.{Tree}
 use Rattle.cue_table.specs.Valid.{IsValidTable}
 use Rattle.cue_syntax.specs.Syntax.{FileTree}
-use Rattle.cue_syntax.specs.Spelling.{Reads, spell_file}
+use Rattle.cue_syntax.specs.Grammar.{unlimited, IsFile}
 use Rattle.cue_syntax.specs.Unplaced.{unplaced_file}
 use Rattle.cue_print.specs.Printed.{file_of}
 use Rattle.cue_print.specs.Spelled.{file_text}
 use Rattle.cue_print.specs.Expressions.{Fields}
 use Rattle.cue_reading.specs.PrintedTree.{file_tree}
 
--- The text has tokens, and they spell a tree that is this one but for the places.
+-- The text has tokens, and they are a file of the grammar, whatever levels it opens. Its tree is this
+-- one but for the places.
 pub record IsSpelling (text : List ℕ) (tree : FileTree) : Type 0 where
   pub found : List Token
   pub are : tokens text ≡ Ok found
   pub placed : FileTree
   pub same : unplaced_file placed ≡ tree
-  pub reads : Reads found (spell_file placed) []
+  pub spelled : IsFile unlimited found placed
 
 -- The printed text of a table is too long, or its tokens spell the tree that the table is printed
 -- as.

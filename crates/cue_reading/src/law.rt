@@ -7,6 +7,7 @@ ghost use Rattle.cue_row.specs.Quoted.{quoted};
 ghost use Rattle.cue_syntax.specs.Spelling.{spell_signed};
 ghost use Rattle.cue_reading.specs.Accepted.{IsAcceptedAgain};
 ghost use Rattle.cue_reading.specs.Kinds.{IsRead};
+ghost use Rattle.cue_reading.specs.Meant.{IsMeantAgain, IsTableAgain};
 ghost use Rattle.cue_reading.specs.PrintedTree.{signed};
 ghost use Rattle.cue_reading.specs.Reading.{IsReadAgain};
 ghost use Rattle.cue_reading.specs.Spelled.{spelled_kinds};
@@ -37,6 +38,24 @@ pub fn printed_tree_is_accepted()
 #[tactic(auto, using(crate::proofs::Whole::legal_again))]
 pub fn printed_text_is_legal()
     ensures { IsLegalAgain }
+{}
+
+/// The tree that a valid table is printed as, wherever its tokens stand, means the table: at each
+/// path its declarations refuse just the questions that the table refuses there.
+///
+/// It computes nothing: it states a law.
+#[tactic(auto, using(crate::proofs::MeantFiles::meant_again))]
+pub fn printed_text_means_the_table()
+    ensures { IsMeantAgain }
+{}
+
+/// The printed text of a valid table where something is known is over a limit, or it is legal and
+/// means the table.
+///
+/// It computes nothing: it states a law.
+#[tactic(auto, using(crate::proofs::Whole::table_again))]
+pub fn printed_text_is_the_table_again()
+    ensures { IsTableAgain }
 {}
 
 /// A quoted text is one token that stands for the text, in front of any rest that cannot go on.

@@ -4,6 +4,7 @@
 mod law;
 
 pub use law::{
-    printed_integer_is_read, printed_text_is_legal, printed_text_is_read, printed_tree_is_accepted,
+    printed_integer_is_read, printed_text_is_legal, printed_text_is_read,
+    printed_text_is_the_table_again, printed_text_means_the_table, printed_tree_is_accepted,
     quoted_text_is_read,
 };
