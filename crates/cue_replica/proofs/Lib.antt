@@ -6,6 +6,7 @@ pub mod Documents
 pub mod Events
 pub mod Example
 pub mod Lexed
+pub mod PrintedAgain
 pub mod Runs
 pub mod Sound
 pub mod Texts

@@ -2,6 +2,7 @@ pub mod Accepted
 pub mod Documents
 pub mod Inner
 pub mod Language
+pub mod PrintedAgain
 pub mod Replica
 pub mod Reports
 pub mod States

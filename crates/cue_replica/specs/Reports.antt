@@ -3,11 +3,13 @@ use Rattle.std.specs.Prelude.{◌≡◌, ℕ, List}
 use Rattle.cue_report.specs.declared.conflict.Conflict.{Conflict}
 use Rattle.cue_report.specs.declared.gap.Gap.{Gap}
 use Rattle.cue_report.specs.declared.outcome.Export.{Export}
+use Rattle.cue_report.specs.declared.outcome.ExportText.{ExportText}
 use Rattle.cue_report.specs.Export.{IsExport}
 use Rattle.cue_report.specs.Gaps.{AreGaps}
 use Rattle.cue_report.specs.Listing.{AreConflicts}
 use Rattle.cue_report.specs.OneReport.{HaveOneReport}
-pub use Rattle.cue_report.specs.Lines.{conflict_line, gap_line}
+pub use Rattle.cue_report.specs.ExportText.{IsExportText, IsTextOf}
+pub use Rattle.cue_report.specs.Lines.{conflict_line, gap_line, AddsConflictLines, AddsGapLines}
 use Rattle.cue_print.specs.Printed.{file_of}
 use Rattle.cue_print.specs.Spelled.{file_text}
 use Rattle.cue_replica.specs.Language.{Table, language}
@@ -23,6 +25,17 @@ AreConflictsOf table = AreConflicts (language.table_refuses table)
 -- all that is incomplete, in the order of the paths
 abbrev pub AreGapsOf : Table → List Gap → Type 0
 AreGapsOf table = AreGaps (language.table_refuses table)
+
+-- its export as text
+abbrev pub IsExportTextOf : Table → ExportText → Type 0
+IsExportTextOf table = IsExportText (language.table_refuses table)
+
+-- behind the text stands a line for each conflict, or for each place that is incomplete
+abbrev pub AddsConflictLinesOf : Table → List ℕ → List ℕ → Type 0
+AddsConflictLinesOf table = AddsConflictLines (language.table_refuses table)
+
+abbrev pub AddsGapLinesOf : Table → List ℕ → List ℕ → Type 0
+AddsGapLinesOf table = AddsGapLines (language.table_refuses table)
 
 -- its canonical text
 abbrev pub printed : Table → List ℕ

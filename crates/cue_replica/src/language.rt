@@ -1,6 +1,7 @@
 ghost use Rattle.std.specs.Prelude.{codes};
 ghost use Rattle.cue_lattice.specs.World.{IsSound};
 ghost use Rattle.cue_replica.specs.Language.{Table, language};
+ghost use Rattle.cue_replica.specs.PrintedAgain.{GivesTheSiteAgain};
 
 /// What every language of the store must keep to holds of the one that this crate takes: a legal
 /// text and the bytes of a state have no fault, so that they are never refused but for memory;
@@ -16,4 +17,13 @@ pub fn sound_language()
 /// It computes nothing: it states a law.
 pub fn legal_text()
     ensures { language.IsLegal (codes "a: 1") }
+{}
+
+/// The printed text of a site where something is known, handed to a site that has accepted nothing,
+/// gives a site with the same table, or is refused for want of memory; or it is over a limit.
+///
+/// It computes nothing: it states a law.
+#[tactic(auto, using(crate::proofs::PrintedAgain::gives_again))]
+pub fn printed_text_gives_the_site_again()
+    ensures { GivesTheSiteAgain }
 {}

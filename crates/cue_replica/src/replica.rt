@@ -8,13 +8,16 @@ ghost use Rattle.serde_json.specs.View.{view};
 ghost use Rattle.serde_json.specs.Written.{has_float};
 ghost use Rattle.cue_report.specs.Documents.{SomeMeets, Tells, IsExactExport};
 ghost use Rattle.cue_report.specs.Picks.{IsPicked};
+ghost use Rattle.cue_codec.specs.Size.{size_of};
 ghost use Rattle.cue_replica.specs.Language.{language, opening};
+ghost use Rattle.cue_replica.specs.PrintedAgain.{IsReadAgain};
 ghost use Rattle.cue_replica.specs.Reports.{IsExportOf, AreConflictsOf, AreGapsOf, printed};
+ghost use Rattle.cue_replica.specs.Reports.{IsExportTextOf, AddsConflictLinesOf, AddsGapLinesOf};
 
 use crate::fragment::read;
-use cue_codec::{decode, encode};
+use cue_codec::{decode, encode, size};
 use cue_lattice::{Kind, Memory, Refusal};
-use cue_report::{Conflict, Export, Gap, Value};
+use cue_report::{Conflict, Export, ExportText, Gap, Value};
 use cue_row::Row;
 use cue_table::Table;
 use std::alloc::Global;
@@ -118,6 +121,14 @@ impl Replica {
         encode(alloc, &self.table)
     }
 
+    /// How many bytes the state of the table has, or the greatest number of 64 bits where it is
+    /// more. This takes no memory.
+    pub fn state_size(&self) -> u64
+        ensures { result ≡ size_of (language.written self.now) }
+    {
+        size(&self.table)
+    }
+
     /// The JSON of the configuration; or, where there are any, the conflicts; or else what is
     /// incomplete.
     ///
@@ -130,6 +141,14 @@ impl Replica {
         cue_report::export(alloc, &self.table)
     }
 
+    /// The export as text: the JSON; or, where there are any, a line for each conflict; or else
+    /// one for each place that is incomplete. No list of paths is made.
+    pub fn export_text(&self, alloc: Global) -> Result<ExportText, Memory>
+        ensures export { IfOk result (IsExportTextOf self.now) }
+    {
+        cue_report::export_text(alloc, &self.table)
+    }
+
     /// The conflicts, in the order of their paths.
     ///
     /// There are none exactly where some document meets the table.
@@ -139,6 +158,14 @@ impl Replica {
             (found.items ≡ []) ↔ SomeMeets (language.table_refuses self.now)) }
     {
         cue_report::conflicts(alloc, &self.table)
+    }
+
+    /// The text with a line behind it for each conflict, in the order of their paths.
+    pub fn conflict_lines(&self, alloc: Global, text: String) -> Result<String, Memory>
+        ensures lines { IfOk result (λ whole. AddsConflictLinesOf self.now
+            (string_bytes text) (string_bytes whole)) }
+    {
+        cue_report::conflict_lines(alloc, text, &self.table)
     }
 
     /// A document that meets the table, also where it is incomplete: where none is chosen, the
@@ -162,9 +189,21 @@ impl Replica {
         cue_report::incomplete(alloc, &self.table)
     }
 
+    /// The text with a line behind it for each place that is incomplete, in the order of the paths.
+    pub fn gap_lines(&self, alloc: Global, text: String) -> Result<String, Memory>
+        ensures lines { IfOk result (λ whole. AddsGapLinesOf self.now
+            (string_bytes text) (string_bytes whole)) }
+    {
+        cue_report::gap_lines(alloc, text, &self.table)
+    }
+
     /// The canonical text of the table.
+    ///
+    /// Where something is known, it is a legal text with just the answers of the table, or it is
+    /// over a limit of texts.
     pub fn print(&self, alloc: Global) -> Result<String, Memory>
-        ensures { IfOk result (λ text. string_bytes text ≡ printed self.now) }
+        ensures printed { IfOk result (λ text. string_bytes text ≡ printed self.now) }
+        ensures again { IfOk result (λ text. IsReadAgain self.now (string_bytes text)) }
     {
         cue_print::print(alloc, &self.table)
     }
