@@ -1,8 +1,9 @@
 ghost use Rattle.std.specs.Prelude.{◌≡◌, ◌++◌, IfOk};
-ghost use Rattle.cue_answer.specs.Answers.{report_status, line_end, IsToldOf, Says, Tells};
+ghost use Rattle.cue_answer.specs.Answers.{line_end, Says, Tells};
+ghost use Rattle.cue_answer.specs.Inner.{text_bytes, text_status, lines_status};
 
 use crate::question::{Question, Status};
-use cue_replica::{Conflict, Export, Gap, Memory, Replica, lines};
+use cue_replica::{ExportText, Memory, Replica};
 use std::alloc::Global;
 
 /// What a site answers: the bytes, and the status of a run that prints them.
@@ -52,43 +53,44 @@ pub fn printed(question: Question, mut answer: Answer) -> Result<Answer, Memory>
 fn exported(alloc: Global, site: &Replica) -> Result<Answer, Memory>
     ensures tells { IfOk result (Tells Question.Export site.now) }
 {
-    told_of(alloc, site.export(alloc)?)
+    Ok(told_of(site.export_text(alloc)?))
 }
 
 /// What is told of an export.
-fn told_of(alloc: Global, export: Export) -> Result<Answer, Memory>
-    ensures tells { IfOk result (IsToldOf export) }
+fn told_of(export: ExportText) -> Answer
+    ensures { Says result (text_bytes export) (text_status export) }
 {
     let (text, status) = match export {
-        Export::Json(json) => (json, Status::Done),
-        Export::Conflicts(conflicts) => (lines(alloc, &conflicts, &[])?, Status::Conflicts),
-        Export::Incomplete(gaps) => (lines(alloc, &[], &gaps)?, Status::Incomplete),
+        ExportText::Json(json) => (json, Status::Done),
+        ExportText::Conflicts(lines) => (lines, Status::Conflicts),
+        ExportText::Incomplete(lines) => (lines, Status::Incomplete),
     };
+    Answer {
+        bytes: text.into_bytes(),
+        status,
+    }
+}
+
+fn reported(alloc: Global, site: &Replica) -> Result<Answer, Memory>
+    ensures tells { IfOk result (Tells Question.Report site.now) }
+{
+    let conflicts = site.conflict_lines(alloc, String::new(alloc))?;
+    let end = conflicts.len();
+    let text = site.gap_lines(alloc, conflicts)?;
+    let status = status_of(end > 0, text.len() > end);
     Ok(Answer {
         bytes: text.into_bytes(),
         status,
     })
 }
 
-fn reported(alloc: Global, site: &Replica) -> Result<Answer, Memory>
-    ensures tells { IfOk result (Tells Question.Report site.now) }
+/// How a report ends that has lines of conflicts or not, and of gaps or not.
+fn status_of(conflicting: bool, lacking: bool) -> Status
+    ensures { result ≡ lines_status conflicting lacking }
 {
-    let conflicts = site.conflicts(alloc)?;
-    let gaps = site.incomplete(alloc)?;
-    let text = lines(alloc, &conflicts, &gaps)?;
-    Ok(Answer {
-        bytes: text.into_bytes(),
-        status: status_of(&conflicts, &gaps),
-    })
-}
-
-/// How a report with these lines ends.
-fn status_of(conflicts: &[Conflict], gaps: &[Gap]) -> Status
-    ensures { result ≡ report_status conflicts.now gaps.now }
-{
-    if !conflicts.is_empty() {
+    if conflicting {
         Status::Conflicts
-    } else if !gaps.is_empty() {
+    } else if lacking {
         Status::Incomplete
     } else {
         Status::Done
