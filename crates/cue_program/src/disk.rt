@@ -20,8 +20,13 @@ impl<H: Files> Shelf for H {
     }
 
     fn find(&self, alloc: Global, name: &str) -> Result<(String, Form), Stop> {
-        let form = form_of(self, name)?;
-        Ok((place_of(self, alloc, name)?, form))
+        match fs::symlink_metadata(self, name) {
+            Ok(found) if found.is_symlink() => linked(self, alloc, name),
+            Ok(found) if found.is_file() => named(alloc, name, Form::File),
+            Ok(_) => named(alloc, name, Form::Special),
+            Err(error) if error.kind() == ErrorKind::NotFound => named(alloc, name, Form::Nothing),
+            Err(_) => Err(Stop::Device),
+        }
     }
 
     fn draft(&mut self, place: &str, like: Option<&str>, bytes: &[u8]) -> Result<bool, Fault> {
@@ -62,32 +67,34 @@ fn done<T>(came: io::Result<T>) -> Result<T, Fault> {
     }
 }
 
-/// What lies where the name leads to. A link to nothing is special.
-fn form_of<H: Files>(rt: &H, name: &str) -> Result<Form, Stop>
+/// The name itself, where this lies.
+fn named(alloc: Global, name: &str, form: Form) -> Result<(String, Form), Stop>
+    ensures { IfErr result (λ stop. IsDevice stop ⊎ IsMemory stop) }
+{
+    Ok((String::from_str(alloc, name)?, form))
+}
+
+/// Where a link of this name leads to: to a file's own place, and to anything else by its name. A
+/// link to nothing is special.
+fn linked<H: Files>(rt: &H, alloc: Global, name: &str) -> Result<(String, Form), Stop>
     ensures { IfErr result (λ stop. IsDevice stop ⊎ IsMemory stop) }
 {
     match fs::metadata(rt, name) {
-        Ok(found) if found.is_file() => Ok(Form::File),
-        Ok(_) => Ok(Form::Special),
-        Err(error) if error.kind() != ErrorKind::NotFound => Err(Stop::Device),
-        Err(_) => match fs::symlink_metadata(rt, name) {
-            Ok(_) => Ok(Form::Special),
-            Err(_) => Ok(Form::Nothing),
-        },
+        Ok(found) if found.is_file() => Ok((place_of(rt, alloc, name)?, Form::File)),
+        Ok(_) => named(alloc, name, Form::Special),
+        Err(error) if error.kind() == ErrorKind::NotFound => named(alloc, name, Form::Special),
+        Err(_) => Err(Stop::Device),
     }
 }
 
-/// Where the name leads to, where it is a link's, and otherwise the name.
+/// The place of the file that a link of this name leads to.
 fn place_of<H: Files>(rt: &H, alloc: Global, name: &str) -> Result<String, Stop>
     ensures { IfErr result (λ stop. IsDevice stop ⊎ IsMemory stop) }
 {
-    match fs::symlink_metadata(rt, name) {
-        Ok(found) if found.is_symlink() => match rt.canonicalize(alloc, name) {
-            Ok(place) => Ok(place.into_string()),
-            Err(error) if error.kind() == ErrorKind::OutOfMemory => Err(Stop::from(Memory)),
-            Err(_) => Err(Stop::Device),
-        },
-        _ => Ok(String::from_str(alloc, name)?),
+    match rt.canonicalize(alloc, name) {
+        Ok(place) => Ok(place.into_string()),
+        Err(error) if error.kind() == ErrorKind::OutOfMemory => Err(Stop::from(Memory)),
+        Err(_) => Err(Stop::Device),
     }
 }
 

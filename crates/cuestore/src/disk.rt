@@ -8,6 +8,7 @@ use std::fs::{Metadata, OpenFile, OpenOptions, Permissions};
 use std::io;
 use std::io::{ErrorKind, Read, Seek, SeekFrom, Write};
 use std::net::{Net, SocketAddr, TcpListener, TcpStream};
+use std::path::PathBuf;
 use std::rt::Files;
 
 /// What stands under a name.
@@ -25,6 +26,8 @@ pub enum Out {
     File,
     /// A file, beside which a file `out.part` lies that was left there.
     FileAndPart,
+    /// A link to the file `out.there`.
+    Link,
     /// Neither a file nor nothing.
     Special,
 }
@@ -42,7 +45,7 @@ pub struct Disk<'a> {
     pub calls: &'a Cell<usize>,
     /// What was done to `out` and beside it, a line for each call.
     pub log: &'a RefCell<Vec<u8>>,
-    /// The bytes at `out`, and those of a new file beside it.
+    /// The bytes at `out`, or where it leads to, and those of a new file beside it.
     pub bytes: &'a RefCell<Vec<u8>>,
     pub part: &'a RefCell<Vec<u8>>,
 }
@@ -148,6 +151,14 @@ impl<'a> Disk<'a> {
         Ok(self.opened(&[], false, self.bytes))
     }
 
+    /// Where what lies at `out` has its own place.
+    fn place(&self) -> &'static str {
+        match self.out {
+            Out::Link => "out.there",
+            _ => "out",
+        }
+    }
+
     fn open_to_read(&self, path: &str) -> io::Result<Opened<'a>> {
         for (name, entry) in self.files {
             if *name == path {
@@ -182,20 +193,27 @@ impl<'a> Files for Disk<'a> {
     }
 
     fn metadata(&self, path: &str) -> io::Result<Metadata> {
-        note(self.calls, self.log, "look ", path)?;
+        note(self.calls, self.log, "look behind ", path)?;
         match self.out {
             Out::Nothing => Err(io::Error::from(ErrorKind::NotFound)),
-            Out::File | Out::FileAndPart => Ok(Metadata::of_file(0)),
+            Out::File | Out::FileAndPart | Out::Link => Ok(Metadata::of_file(0)),
             Out::Special => Ok(Metadata::of_dir()),
         }
     }
 
-    fn symlink_metadata(&self, _path: &str) -> io::Result<Metadata> {
+    fn symlink_metadata(&self, path: &str) -> io::Result<Metadata> {
+        note(self.calls, self.log, "look at ", path)?;
         match self.out {
             Out::Nothing => Err(io::Error::from(ErrorKind::NotFound)),
             Out::File | Out::FileAndPart => Ok(Metadata::of_file(0)),
+            Out::Link => Ok(Metadata::of_symlink(0)),
             Out::Special => Ok(Metadata::of_dir()),
         }
+    }
+
+    fn canonicalize<B: Allocator>(&self, alloc: B, path: &str) -> io::Result<PathBuf<B>> {
+        note(self.calls, self.log, "follow ", path)?;
+        Ok(PathBuf::from_str(alloc, self.place())?)
     }
 
     fn copy(&self, _from: &str, _to: &str) -> io::Result<u64> {
@@ -204,7 +222,7 @@ impl<'a> Files for Disk<'a> {
 
     fn rename(&self, from: &str, to: &str) -> io::Result<()> {
         note(self.calls, self.log, "move ", from)?;
-        if to != "out" {
+        if to != self.place() {
             return unsupported();
         }
         match self.part.try_borrow() {

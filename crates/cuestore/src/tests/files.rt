@@ -124,7 +124,7 @@ fn writes_states(rt: HostRuntime) -> Result<(), Fail> {
 
 /// A file is replaced by a new one with its mode, which reached the disk.
 const REPLACED: &str =
-    "look out\nnew out.part\nlook out\nmode\nwrite\nwrite\nsync\nmove out.part\n";
+    "look at out\nnew out.part\nlook behind out\nmode\nwrite\nwrite\nsync\nmove out.part\n";
 
 #[test]
 fn a_merge_replaces_a_file(rt: HostRuntime) -> Result<(), Fail> {
@@ -132,22 +132,31 @@ fn a_merge_replaces_a_file(rt: HostRuntime) -> Result<(), Fail> {
     let words = ["merge", "out", "a", "state", "a"];
     assert!(rt; merges(alloc, Out::File, &words, b"", REPLACED)?);
     assert!(rt; merges(alloc, Out::File, &["merge", "out"], b"a: 1\n", REPLACED)?);
-    let made = "look out\nnew out.part\nwrite\nwrite\nsync\nmove out.part\n";
+    let made = "look at out\nnew out.part\nwrite\nwrite\nsync\nmove out.part\n";
     assert!(rt; merges(alloc, Out::Nothing, &words, b"", made)?);
-    let next = "look out\nnew out.part\nnew out.part.part\nlook out\nmode\nwrite\nwrite\nsync\n\
-                move out.part.part\n";
+    let next = "look at out\nnew out.part\nnew out.part.part\nlook behind out\nmode\n\
+                write\nwrite\nsync\nmove out.part.part\n";
     assert!(rt; merges(alloc, Out::FileAndPart, &words, b"", next)?);
-    let in_place = "look out\nopen out\nwrite\nwrite\n";
+    let in_place = "look at out\nopen out\nwrite\nwrite\n";
     assert!(rt; merges(alloc, Out::Special, &words, b"", in_place)?);
+    Ok(())
+}
+
+#[test]
+fn a_merge_replaces_the_file_that_a_link_leads_to(rt: HostRuntime) -> Result<(), Fail> {
+    let log = "look at out\nlook behind out\nfollow out\nnew out.there.part\n\
+               look behind out.there\nmode\nwrite\nwrite\nsync\nmove out.there.part\n";
+    assert!(rt; merges(rt.alloc(), Out::Link, &["merge", "out", "a"], b"", log)?);
     Ok(())
 }
 
 /// What a merge does to `out` whose calls after so many fail: whether it tells it, leaves `out`
 /// empty, as it was, and ends its log so.
-fn spares(alloc: Global, calls: usize, end: &[u8]) -> Result<bool, Fail> {
+fn spares(alloc: Global, out: Out, calls: usize, end: &[u8]) -> Result<bool, Fail> {
     let pages = blank_pages(alloc);
     pages.calls.set(calls);
     let mut disk = disk(alloc, FILES, &pages);
+    disk.out = out;
     let told = answers(
         &mut disk,
         &["merge", "out", "a"],
@@ -166,17 +175,34 @@ fn ends(log: &RefCell<Vec<u8>>, end: &[u8]) -> bool {
     }
 }
 
+/// Whether a merge over a file whose calls after so many fail spares the file, and ends its log so.
+fn spares_a_file(alloc: Global, calls: usize, end: &[u8]) -> Result<bool, Fail> {
+    spares(alloc, Out::File, calls, end)
+}
+
 #[test]
 fn a_merge_that_fails_spares_the_file(rt: HostRuntime) -> Result<(), Fail> {
     let alloc = rt.alloc();
-    assert!(rt; spares(alloc, 0, b"look out\n")?);
-    assert!(rt; spares(alloc, 1, b"new out.part\n")?);
-    assert!(rt; spares(alloc, 2, b"look out\nremove out.part\n")?);
-    assert!(rt; spares(alloc, 3, b"mode\nremove out.part\n")?);
-    assert!(rt; spares(alloc, 4, b"mode\nwrite\nremove out.part\n")?);
-    assert!(rt; spares(alloc, 5, b"write\nwrite\nremove out.part\n")?);
-    assert!(rt; spares(alloc, 6, b"sync\nremove out.part\n")?);
-    assert!(rt; spares(alloc, 7, b"move out.part\nremove out.part\n")?);
+    assert!(rt; spares_a_file(alloc, 0, b"look at out\n")?);
+    assert!(rt; spares_a_file(alloc, 1, b"new out.part\n")?);
+    assert!(rt; spares_a_file(alloc, 2, b"look behind out\nremove out.part\n")?);
+    assert!(rt; spares_a_file(alloc, 3, b"mode\nremove out.part\n")?);
+    assert!(rt; spares_a_file(alloc, 4, b"mode\nwrite\nremove out.part\n")?);
+    assert!(rt; spares_a_file(alloc, 5, b"write\nwrite\nremove out.part\n")?);
+    assert!(rt; spares_a_file(alloc, 6, b"sync\nremove out.part\n")?);
+    assert!(rt; spares_a_file(alloc, 7, b"move out.part\nremove out.part\n")?);
+    Ok(())
+}
+
+/// Nothing is written where it is not known what lies at the name, or where it leads to.
+#[test]
+fn a_merge_touches_nothing_that_it_could_not_look_at(rt: HostRuntime) -> Result<(), Fail> {
+    let alloc = rt.alloc();
+    assert!(rt; spares(alloc, Out::Nothing, 0, b"look at out\n")?);
+    assert!(rt; spares(alloc, Out::Special, 0, b"look at out\n")?);
+    assert!(rt; spares(alloc, Out::Link, 0, b"look at out\n")?);
+    assert!(rt; spares(alloc, Out::Link, 1, b"look at out\nlook behind out\n")?);
+    assert!(rt; spares(alloc, Out::Link, 2, b"look behind out\nfollow out\n")?);
     Ok(())
 }
 
