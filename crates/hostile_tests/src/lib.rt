@@ -1,0 +1,11 @@
+//! Tests of hostile use: state bytes that somebody made up, and devices that fail while a site is
+//! served. They stand in a crate above `cue_wire`, so that the crates below are not proved a second
+//! time with them.
+#![tactic(auto)]
+
+#[cfg(test)]
+mod devices;
+#[cfg(test)]
+mod sites;
+#[cfg(test)]
+mod states;
