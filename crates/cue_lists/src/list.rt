@@ -35,25 +35,25 @@ fn bytes_of(alloc: Global, input: &Value) -> anyhow::Result<Vec<u8>> {
     Ok(hex::decode(alloc, digits)?)
 }
 
-/// A new site that has taken the inputs in their order.
-pub fn site_of(alloc: Global, inputs: &[Vec<u8>]) -> Result<Replica, Stop> {
-    let mut site = Replica::new(alloc);
+/// Hands inputs to a site in their order, up to the first that is refused.
+pub fn take_all(site: &mut Replica, inputs: &[Vec<u8>]) -> Result<(), Stop> {
     let mut number = 0usize;
     for bytes in inputs {
         number = number.saturating_add(1);
-        take_file(&mut site, bytes.as_slice(), number)?;
+        take_file(site, bytes.as_slice(), number)?;
     }
-    Ok(site)
+    Ok(())
 }
 
 /// What the site answers, or in its place the line of the input that was refused.
 pub fn answer(
     alloc: Global,
     question: Question,
-    site: &Result<Replica, Stop>,
+    site: &Replica,
+    came: Result<(), Stop>,
 ) -> anyhow::Result<Reply> {
-    match site {
-        Ok(site) => {
+    match came {
+        Ok(()) => {
             let told = answer_to(alloc, question, site)
                 .ok()
                 .context("out of memory")?;

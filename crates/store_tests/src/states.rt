@@ -5,7 +5,7 @@ use crate::sites::{
     are_same, copied, exported, exports, gaps, hand, new_site, pass, printed, prints, site, taken,
     writes,
 };
-use cue_replica::{Kind, Memory, Refusal, Replica};
+use cue_replica::{Form, Kind, Memory, Refusal, Replica};
 use std::alloc::Global;
 use std::test::Fail;
 
@@ -183,22 +183,31 @@ fn lists_each_element(alloc: Global) -> Result<bool, Refusal> {
     Ok(has_gaps(alloc, &site, 65_536)? && exports_between(alloc, &site, first, last)?)
 }
 
-/// Whether the printed text of a site is too large to be read again by it.
-fn prints_too_much(alloc: Global, site: &mut Replica) -> Result<bool, Memory> {
-    let text = printed(alloc, site)?;
-    Ok(is_refused(hand(site, text.as_str()), Kind::TooLarge, 0))
+#[test]
+fn the_longest_list(rt: HostRuntime) -> Result<(), Fail> {
+    assert!(rt; lists_each_element(rt.alloc())?);
+    Ok(())
 }
 
-/// Whether the printed text of the longest list is too large to be read again.
-fn is_too_large(alloc: Global) -> Result<bool, Refusal> {
-    let mut site = taken(alloc, LIST)?;
-    Ok(prints_too_much(alloc, &mut site)?)
+/// Whether the printed text of a site is refused by a new one as a whole for this reason.
+fn is_not_read_again(alloc: Global, site: &Replica, kind: Kind) -> Result<bool, Memory> {
+    let text = printed(alloc, site)?;
+    let mut other = new_site(alloc);
+    Ok(is_refused(hand(&mut other, text.as_str()), kind, 0))
+}
+
+/// Whether a site that takes these state bytes prints a text that is refused for this reason.
+fn prints_in_vain(alloc: Global, bytes: &[u8], kind: Kind) -> Result<bool, Refusal> {
+    let site = taken(alloc, bytes)?;
+    Ok(is_not_read_again(alloc, &site, kind)?)
 }
 
 #[test]
-fn the_longest_list(rt: HostRuntime) -> Result<(), Fail> {
+fn printed_texts_that_are_refused(rt: HostRuntime) -> Result<(), Fail> {
     let alloc = rt.alloc();
-    assert!(rt; lists_each_element(alloc)?);
-    assert!(rt; is_too_large(alloc)?);
+    // A text says at least that the root is a struct.
+    let embedding = Kind::LeftOut(Form::Embedding);
+    assert!(rt; prints_in_vain(alloc, FREE, embedding)?);
+    assert!(rt; prints_in_vain(alloc, LIST, Kind::TooLarge)?);
     Ok(())
 }
