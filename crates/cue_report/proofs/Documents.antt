@@ -22,7 +22,7 @@ use Rattle.cue_table.specs.Form.{IsBelowAll, AreBranches, IsKept, IsTable}
 use Rattle.cue_table.specs.Tree.{Tree, node, Children, none, child, row_of, below, if_equal, find, branch_at, children_of}
 use Rattle.cue_table.specs.Walks.{first_child}
 use Rattle.cue_table.specs.Size.{tree_size, children_size}
-use Rattle.serde_json.specs.Data.{Data, null, Items, no_items, item, Members, no_members, member, put}
+use Rattle.serde_json.specs.Data.{Data, null, array, object, Items, no_items, item, Members, no_members, member, put}
 use Rattle.serde_json.specs.View.{view, items_view, members_view}
 use Rattle.serde_json.specs.Written.{has_float, items_have_float, members_have_float}
 use Rattle.serde_json.specs.declared.value.Value.{Value, Null, Array, Object, the_lemmas}
@@ -132,6 +132,9 @@ pub free_place : (tree : Tree Row) (row : Option Row) (value : Value) → row_of
 free_place tree row value e v free z =
     null_shape (Told tree) (view value) (ap view v ∙ view-Null) (subst (λ r. IsFree (AtPlace r) []) (sym e) free)
 
+pub free_null : (tree : Tree Row) (row : Option Row) → row_of tree ≡ row → IsFree (AtPlace row) [] → IsClear (Told tree) → IsShape IsPicked (Told tree) null
+free_null tree row e free z = null_shape (Told tree) null refl (subst (λ r. IsFree (AtPlace r) []) (sym e) free)
+
 pub free_none : IsFree (AtPlace None) []
 free_none = (λ scalar r. r, λ r. r, λ r. r)
 
@@ -166,28 +169,40 @@ document_free tree step json f e =
     null_shape (beyond (Told tree) step) json e (λ scalar r. open_below tree step [] (may_be scalar) f r, λ r. open_below tree step [] struct f r, λ r. open_below tree step [] list f r)
 
 -- the shapes of a struct and of a list
+pub object_shape :
+    (tree : Tree Row) (row : Row) (members : Members) → row_of tree ≡ Some row → row.struct_ok ≡ true → (¬ IsFree (AtPlace (Some row)) [])
+    → AreKeys (Told tree) (keys members) → (IsClear (Told tree) → AreMembers IsPicked (Told tree) members)
+    → IsClear (Told tree) → IsShape IsPicked (Told tree) (object members)
+object_shape tree row members e s n ks ms z = (some_struct tree row e s, not_free tree row e n, ks, ms z)
+
 pub struct_shape :
     (tree : Tree Row) (row : Row) (map : BTreeMap (String Global) Value) → row_of tree ≡ Some row → row.struct_ok ≡ true → (¬ IsFree (AtPlace (Some row)) [])
     → AreKeys (Told tree) (keys (members_view map.entries)) → (IsClear (Told tree) → AreMembers IsPicked (Told tree) (members_view map.entries))
     → IsClear (Told tree) → IsShape IsPicked (Told tree) (view (Object map))
 struct_shape tree row map e s n ks ms z =
-    subst (IsShape IsPicked (Told tree)) (sym (view-Object map)) (some_struct tree row e s, not_free tree row e n, ks, ms z)
+    subst (IsShape IsPicked (Told tree)) (sym (view-Object map)) (object_shape tree row (members_view map.entries) e s n ks ms z)
 
 least_is : (row : Option Row) (n : ℕ) → RefusedAt row (length_at_most n) → n < least_at row
 least_is None n h = absurd h
 least_is (Some row) n h = h
+
+pub array_shape :
+    (tree : Tree Row) (row : Row) (items : Items) → row_of tree ≡ Some row → row.struct_ok ≡ false → row.list_ok ≡ true
+    → count items ≡ least_at (row_of tree) → (IsClear (Told tree) → AreElements IsPicked (Told tree) 0 items)
+    → IsClear (Told tree) → IsShape IsPicked (Told tree) (array items)
+array_shape tree row items e s l c es z = (
+  subst (λ r. RefusedAt r struct) (sym e) s,
+  (λ r. false≢true (sym (subst (λ r. RefusedAt r list) e r) ∙ l)),
+  (λ n. (λ h. subst (λ k. n < k) (sym c) (least_is (row_of tree) n h), λ h. index_demanded tree n (subst (λ k. n < k) c h))),
+  es z,
+)
 
 pub list_shape :
     (tree : Tree Row) (row : Row) (values : Vec Value Global) → row_of tree ≡ Some row → row.struct_ok ≡ false → row.list_ok ≡ true
     → count (items_view values.items) ≡ least_at (row_of tree) → (IsClear (Told tree) → AreElements IsPicked (Told tree) 0 (items_view values.items))
     → IsClear (Told tree) → IsShape IsPicked (Told tree) (view (Array values))
 list_shape tree row values e s l c es z =
-    subst (IsShape IsPicked (Told tree)) (sym (view-Array values)) (
-      subst (λ r. RefusedAt r struct) (sym e) s,
-      (λ r. false≢true (sym (subst (λ r. RefusedAt r list) e r) ∙ l)),
-      (λ n. (λ h. subst (λ k. n < k) (sym c) (least_is (row_of tree) n h), λ h. index_demanded tree n (subst (λ k. n < k) c h))),
-      es z,
-    )
+    subst (IsShape IsPicked (Told tree)) (sym (view-Array values)) (array_shape tree row (items_view values.items) e s l c es z)
 
 or_false : (a b : Bool) → a ≡ false → b ≡ false → (a || b) ≡ false
 or_false true b p q = p
@@ -198,7 +213,7 @@ or_both true b p = absurd (false≢true (sym p))
 or_both false b p = (refl, p)
 
 -- ---- the elements of a list
-abbrev with_item : Items → Data → Items
+abbrev pub with_item : Items → Data → Items
 with_item no_items json = item json no_items
 with_item (item first items) json = item first (with_item items json)
 
@@ -227,45 +242,54 @@ items_float (item first items) json h d =
     or_false (has_float first) (items_have_float (with_item items json)) both.0 (items_float items json both.1 d)
 
 -- so many elements are built
-pub record IsCounted (tree : Tree Row) (number : ℕ) (values : List Value) : Type 0 where
-  pub length : count (items_view values) ≡ number
-  pub elements : IsClear (Told tree) → AreElements IsPicked (Told tree) 0 (items_view values)
-  pub no_float : items_have_float (items_view values) ≡ false
+pub record IsCounted (tree : Tree Row) (number : ℕ) (items : Items) : Type 0 where
+  pub length : count items ≡ number
+  pub elements : IsClear (Told tree) → AreElements IsPicked (Told tree) 0 items
+  pub no_float : items_have_float items ≡ false
 
-pub none_counted : (tree : Tree Row) (values : List Value) → values ≡ [] → IsCounted tree 0 values
-none_counted tree values e = subst (IsCounted tree 0) (sym e) (record { length = refl; elements = λ z. tt; no_float = refl })
+pub none_counted : (tree : Tree Row) (items : Items) → items ≡ no_items → IsCounted tree 0 items
+none_counted tree items e = subst (IsCounted tree 0) (sym e) (record { length = refl; elements = λ z. tt; no_float = refl })
 
-counted : (tree : Tree Row) (number : ℕ) (values after : List Value) (value : Value) → IsCounted tree number values → after ≡ values ++ value ∷ []
-    → (IsClear (Told tree) → IsShape IsPicked (beyond (Told tree) (index number)) (view value)) → has_float (view value) ≡ false → IsCounted tree (number + 1) after
-counted tree number values after value w a d f =
-    let viewed : items_view after ≡ with_item (items_view values) (view value) = ap items_view a ∙ view_more values value in
-    let from_zero : 0 + count (items_view values) ≡ count (items_view values) = omega arith in
-    let here : IsClear (Told tree) → IsShape IsPicked (beyond (Told tree) (index (0 + count (items_view values)))) (view value) =
-    λ z. subst (λ n. IsShape IsPicked (beyond (Told tree) (index n)) (view value)) (sym (from_zero ∙ w.length)) (d z) in
+counted : (tree : Tree Row) (number : ℕ) (items : Items) (json : Data) → IsCounted tree number items
+    → (IsClear (Told tree) → IsShape IsPicked (beyond (Told tree) (index number)) json) → has_float json ≡ false → IsCounted tree (number + 1) (with_item items json)
+counted tree number items json w d f =
+    let from_zero : 0 + count items ≡ count items = omega arith in
+    let here : IsClear (Told tree) → IsShape IsPicked (beyond (Told tree) (index (0 + count items))) json =
+    λ z. subst (λ n. IsShape IsPicked (beyond (Told tree) (index n)) json) (sym (from_zero ∙ w.length)) (d z) in
     record {
-      length = ap count viewed ∙ count_more (items_view values) (view value) ∙ ap (λ n. n + 1) w.length;
-      elements = λ z. subst (AreElements IsPicked (Told tree) 0) (sym viewed) (elements_more (Told tree) 0 (items_view values) (view value) (w.elements z) (here z));
-      no_float = ap items_have_float viewed ∙ items_float (items_view values) (view value) w.no_float f;
+      length = count_more items json ∙ ap (λ n. n + 1) w.length;
+      elements = λ z. elements_more (Told tree) 0 items json (w.elements z) (here z);
+      no_float = items_float items json w.no_float f;
     }
 
+pub counted_next :
+    (tree inner : Tree Row) (number : ℕ) (items : Items) (json : Data) → IsCounted tree number items
+    → find (index number) (below tree) ≡ Some inner → number < least_at (row_of tree) → (IsClear (Told inner) → IsShape IsPicked (Told inner) json)
+    → has_float json ≡ false → IsCounted tree (number + 1) (with_item items json)
+counted_next tree inner number items json w f below_end d n =
+    counted tree number items json w (document_below tree inner (index number) json f (index_demanded tree number below_end) d) n
+
+pub counted_null :
+    (tree : Tree Row) (number : ℕ) (items : Items) → IsCounted tree number items → find (index number) (below tree) ≡ None → IsCounted tree (number + 1) (with_item items null)
+counted_null tree number items w f = counted tree number items null w (λ z. document_free tree (index number) null f refl) refl
+
 pub counted_in :
-    (tree inner : Tree Row) (number : ℕ) (values after : List Value) (value made : Value) → IsCounted tree number values → after ≡ values ++ value ∷ [] → value ≡ made
+    (tree inner : Tree Row) (number : ℕ) (values after : List Value) (value made : Value) → IsCounted tree number (items_view values) → after ≡ values ++ value ∷ [] → value ≡ made
     → find (index number) (below tree) ≡ Some inner → number < least_at (row_of tree) → (IsClear (Told inner) → IsShape IsPicked (Told inner) (view made))
-    → has_float (view made) ≡ false → IsCounted tree (number + 1) after
+    → has_float (view made) ≡ false → IsCounted tree (number + 1) (items_view after)
 counted_in tree inner number values after value made w a s f below_end d n =
-    counted tree number values after value w a
-    (document_below tree inner (index number) (view value) f (index_demanded tree number below_end) (λ z. subst (λ v. IsShape IsPicked (Told inner) (view v)) (sym s) (d z)))
-    (ap (λ v. has_float (view v)) s ∙ n)
+    subst (IsCounted tree (number + 1)) (sym (ap items_view a ∙ view_more values value ∙ ap (λ v. with_item (items_view values) (view v)) s))
+    (counted_next tree inner number (items_view values) (view made) w f below_end d n)
 
 pub counted_free :
-    (tree : Tree Row) (number : ℕ) (values after : List Value) (value : Value) → IsCounted tree number values → after ≡ values ++ value ∷ []
-    → find (index number) (below tree) ≡ None → value ≡ Null → IsCounted tree (number + 1) after
+    (tree : Tree Row) (number : ℕ) (values after : List Value) (value : Value) → IsCounted tree number (items_view values) → after ≡ values ++ value ∷ []
+    → find (index number) (below tree) ≡ None → value ≡ Null → IsCounted tree (number + 1) (items_view after)
 counted_free tree number values after value w a f v =
-    let n : view value ≡ null = ap view v ∙ view-Null in
-    counted tree number values after value w a (λ z. document_free tree (index number) (view value) f n) (ap has_float n)
+    subst (IsCounted tree (number + 1)) (sym (ap items_view a ∙ view_more values value ∙ ap (with_item (items_view values)) (ap view v ∙ view-Null)))
+    (counted_null tree number (items_view values) w f)
 
 -- ---- the members of an object
-abbrev with_member : Members → List ℕ → Data → Members
+abbrev pub with_member : Members → List ℕ → Data → Members
 with_member no_members key json = member key json no_members
 with_member (member first here members) key json = member first here (with_member members key json)
 
@@ -385,6 +409,16 @@ taken tree here name rest rest' members after json v r asked a d n =
   where
     same_label : (key : List ℕ) → label key ≡ label name → name ≡ key
     same_label key e = cc
+
+-- the name of the next branch comes behind all that are gathered
+pub put_behind :
+    (tree here : Tree Row) (step : paths.Step) (name : List ℕ) (rest rest' : Children Row) (members : Members) (json : Data) → IsGathered tree rest members
+    → children_of rest ≡ (step, here) ∷ children_of rest' → step ≡ label name → put name json members ≡ with_member members name json
+put_behind tree here step name rest rest' members json v c s =
+    let r : rest ≡ child (label name) here rest' = first_child rest rest' step here c ∙ ap (λ t. child t here rest') s in
+    let w : IsGathered tree (child (label name) here rest') members = subst (λ cs. IsGathered tree cs members) r v in
+    put_last members name json
+    (all_from (λ key. IsBelowAll (label key) (child (label name) here rest')) (λ k. step_cmp (label k) (label name) ≡ Less) (keys members) (λ key b. b.0) w.before)
 
 -- the step is no label
 pub passed_index :

@@ -20,3 +20,4 @@ pub mod TextOf
 pub mod Texts
 pub mod Trails
 pub mod Walk
+pub mod Writing

@@ -11,3 +11,4 @@ pub mod OneReport
 pub mod Picks
 pub mod Search
 pub mod Trail
+pub mod Writing

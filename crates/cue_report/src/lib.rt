@@ -3,6 +3,7 @@
 
 mod conflict;
 mod demand;
+mod document_text;
 mod gap;
 mod law;
 mod listed;

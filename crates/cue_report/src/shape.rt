@@ -17,6 +17,7 @@ ghost use Rattle.cue_report.specs.ExportText.{IsExportText};
 ghost use Rattle.cue_report.specs.Picks.{IsPicked};
 
 use crate::demand::is_demanded;
+use crate::document_text::document_text;
 use crate::gap::least_of;
 use crate::{Export, ExportText, conflict_lines, conflicts, gap_lines, incomplete};
 use cue_lattice::{Memory, Narrow};
@@ -44,8 +45,7 @@ pub fn export(alloc: Global, table: &Table<Row>) -> Result<Export, Memory>
     if !gaps.is_empty() {
         return Ok(Export::Incomplete(gaps));
     }
-    let document = document_of(alloc, &table.root())?;
-    let text = document.to_string(alloc)?;
+    let text = document_text(alloc, table)?;
     Ok(Export::Json(text))
 }
 
@@ -62,8 +62,7 @@ pub fn export_text(alloc: Global, table: &Table<Row>) -> Result<ExportText, Memo
     if !lacking.is_empty() {
         return Ok(ExportText::Incomplete(lacking));
     }
-    let document = document_of(alloc, &table.root())?;
-    let text = document.to_string(alloc)?;
+    let text = document_text(alloc, table)?;
     Ok(ExportText::Json(text))
 }
 
@@ -117,7 +116,7 @@ fn document_of(alloc: Global, branch: &Branch<Row>) -> Result<Value, Memory>
 }
 
 /// Whether anything may stand at a place.
-fn is_free(row: &Row) -> bool
+pub(crate) fn is_free(row: &Row) -> bool
     ensures { IsTrue result ↔ IsFree (AtPlace (Some row.now)) [] }
 {
     if !row.struct_ok {
@@ -145,7 +144,7 @@ fn scalar_of(alloc: Global, row: &Row) -> Result<Value, Memory>
 }
 
 /// The chosen scalar of a place or, where none is chosen, the first one.
-fn picked(alloc: Global, row: &Row) -> Result<Option<Scalar>, Memory>
+pub(crate) fn picked(alloc: Global, row: &Row) -> Result<Option<Scalar>, Memory>
     ensures some { IsRow row.now → IfOk result (λ found.
         IfSome found (IsPicked (AtPlace (Some row.now)) [])) }
     ensures none { IsRow row.now → IfOk result (λ found.

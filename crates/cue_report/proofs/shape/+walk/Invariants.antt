@@ -1,6 +1,6 @@
 use Rattle.std.proofs.Common.{◌+◌}
 use Rattle.cue_table.specs.Size.{tree_size}
-use Rattle.serde_json.specs.View.{members_view}
+use Rattle.serde_json.specs.View.{items_view, members_view}
 use Rattle.cue_report.proofs.Documents.{IsCounted, IsGathered}
 use Rattle.cue_report.proofs.shape.+walk.Given as goal
 
@@ -17,4 +17,4 @@ abbrev pub invariant-members_of-loop-step : goal.invariant-members_of-loop-step
 invariant-members_of-loop-step l = IsGathered l.branch l.step-iterator (members_view l.members.entries)
 
 abbrev pub invariant-elements_of-loop-number : goal.invariant-elements_of-loop-number
-invariant-elements_of-loop-number l = IsCounted l.branch l.number l.elements.items
+invariant-elements_of-loop-number l = IsCounted l.branch l.number (items_view l.elements.items)

@@ -1,6 +1,5 @@
-use Rattle.std.proofs.Common.{sym, ◌∙◌, arith}
+use Rattle.std.proofs.Common.{refl, sym, ◌∙◌, arith}
 use Rattle.std.proofs.lemmas.List.{nil_from_length}
-use Rattle.serde_json.specs.View.{view}
 use Rattle.cue_report.proofs.Exact.{none_meets, some_meets, some_items, tells_export, export_shape}
 use Rattle.cue_report.proofs.shape.export.Goals as goal
 
@@ -16,10 +15,11 @@ returns-then-not-is_empty-2-clause-exact c =
 
 pub returns-clause-export : goal.returns-clause-export
 returns-clause-export c =
-    let shape = export_shape c.root.result c.args.table.now c.in_ok-found.found.items c.in_ok-gaps.gaps.items (view c.in_ok-document.document) c.root.ensures.branch
+    let told = c.in_ok-text.ensures in
+    let shape = export_shape c.args.table.now c.args.table.now c.in_ok-found.found.items c.in_ok-gaps.gaps.items told.0 refl
     c.in_ok-found.ensures.conflicts (nil_from_length c.in_ok-found.found.items (grind (arith, c.is_empty.ensures, c.if-not-is_empty.false, c.in_ok-found.found.ok.0)))
-    c.in_ok-gaps.ensures (nil_from_length c.in_ok-gaps.gaps.items (grind (arith, c.is_empty-2.ensures, c.if-not-is_empty-2.false, c.in_ok-gaps.gaps.ok.0))) c.in_ok-document.ensures.document in
-    (shape.0, shape.1, (view c.in_ok-document.document, shape.2, c.in_ok-text.ensures.text c.in_ok-document.ensures.no_float))
+    c.in_ok-gaps.ensures (nil_from_length c.in_ok-gaps.gaps.items (grind (arith, c.is_empty-2.ensures, c.if-not-is_empty-2.false, c.in_ok-gaps.gaps.ok.0))) told.2.0 in
+    (shape.0, shape.1, (told.0, shape.2, told.1))
 
 pub returns-clause-exact : goal.returns-clause-exact
 returns-clause-exact c valid =

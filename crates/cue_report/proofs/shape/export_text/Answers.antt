@@ -1,6 +1,5 @@
 use Rattle.std.proofs.Common.{◌≡◌, ◌<◌, ◌^◌, ◌++◌, [], length, refl, sym, ap, subst, ◌∙◌, arith, string_bytes}
 use Rattle.std.specs.List.{flat_map}
-use Rattle.serde_json.specs.View.{view}
 use Rattle.cue_report.specs.Lines.{conflict_line, gap_line}
 use Rattle.cue_report.specs.declared.outcome.Export.TheVariants as exports
 use Rattle.cue_report.specs.Listing.{AreConflicts}
@@ -57,10 +56,7 @@ returns c =
     let after = c.in_ok-lacking.lacking in
     let empty : string_bytes after ≡ flat_map gap_line full.0 = full.2 ∙ ap (λ start. start ++ flat_map gap_line full.0) c.new-2.ensures.bytes in
     let no_gap : full.0 ≡ [] = no_lines gap_line full.0 (string_bytes after) after.bytes.len (few_gaps full.0) empty after.bytes.ok.0 (grind (arith, c.is_empty-2.ensures, c.if-not-is_empty-2.false)) in
-    let shape = export_shape c.root.result c.args.table.now none.0 full.0 (view c.in_ok-document.document) c.root.ensures.branch none.1 no_conflict full.1 no_gap c.in_ok-document.ensures.document in record {
-      export = (
-        exports.Json c.in_ok-text.text,
-        (shape.0, shape.1, (view c.in_ok-document.document, shape.2, c.in_ok-text.ensures.text c.in_ok-document.ensures.no_float)),
-        refl,
-      );
+    let written = c.in_ok-text.ensures in
+    let shape = export_shape c.args.table.now c.args.table.now none.0 full.0 written.0 refl none.1 no_conflict full.1 no_gap written.2.0 in record {
+      export = (exports.Json c.in_ok-text.text, (shape.0, shape.1, (written.0, shape.2, written.1)), refl);
     }
