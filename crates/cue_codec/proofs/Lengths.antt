@@ -13,6 +13,7 @@ use Rattle.cue_codec.specs.Parts.{integer_bytes, counted_bytes, piece_bytes, tex
 use Rattle.cue_codec.specs.RowBytes.{free, scalar, struct, list, nothing, parts_bytes, parts_of, scalars_bytes, left_out_bytes, row_bytes, row_bytes_from}
 use Rattle.cue_codec.specs.Size.{saturated, size_of}
 use Rattle.cue_codec.specs.State.{table_bytes}
+use Rattle.cue_codec.specs.Version.{written}
 use Rattle.cue_codec.proofs.WrittenStates.{state_parts, rows_from_root}
 use Rattle.cue_codec.proofs.WrittenRows.{bytes_begin, bytes_begin_below, bytes_more, bytes_end}
 
@@ -49,43 +50,43 @@ pub labels_length : (labels : List (List ℕ)) → length (labels_bytes (Some la
 unfolding labels_bytes
 labels_length labels = omega arith
 
-pub open_length : (least : ℕ) → length (lengths_bytes (least, None)) ≡ 5
+pub open_length : (least : ℕ) → length (lengths_bytes written (least, None)) ≡ 5
 unfolding lengths_bytes most_bytes
 open_length least = refl
 
-pub closed_length : (least most : ℕ) → length (lengths_bytes (least, Some most)) ≡ 9
+pub closed_length : (least most : ℕ) → length (lengths_bytes written (least, Some most)) ≡ 9
 unfolding lengths_bytes most_bytes
 closed_length least most = refl
 
-pub label_length : (text : List ℕ) → length (step_bytes (label text)) ≡ 3 + length text
+pub label_length : (text : List ℕ) → length (step_bytes written (label text)) ≡ 3 + length text
 unfolding step_bytes
 label_length text = omega (arith, text_length text)
 
-pub index_length : (n : ℕ) → length (step_bytes (index n)) ≡ 5
+pub index_length : (n : ℕ) → length (step_bytes written (index n)) ≡ 5
 unfolding step_bytes
 index_length n = refl
 
 -- ---- the parts of a row, by their kind
 
-pub free_length : length (parts_bytes free) ≡ 1
+pub free_length : length (parts_bytes written free) ≡ 1
 unfolding parts_bytes
 free_length = refl
 
-pub scalars_length : (value usual : ScalarSet) → length (parts_bytes (scalar value usual)) ≡ 1 + (length (set_bytes value) + length (set_bytes usual))
+pub scalars_length : (value usual : ScalarSet) → length (parts_bytes written (scalar value usual)) ≡ 1 + (length (set_bytes value) + length (set_bytes usual))
 unfolding parts_bytes scalars_bytes
 scalars_length value usual = omega (arith, length-append (set_bytes value) (set_bytes usual))
 
-pub struct_length : (labels : Option (List (List ℕ))) → length (parts_bytes (struct labels)) ≡ 1 + length (labels_bytes labels)
+pub struct_length : (labels : Option (List (List ℕ))) → length (parts_bytes written (struct labels)) ≡ 1 + length (labels_bytes labels)
 unfolding parts_bytes
 struct_length labels = omega arith
 
-pub list_length : (lengths : ℕ × Option ℕ) → length (parts_bytes (list lengths)) ≡ 1 + length (lengths_bytes lengths)
+pub list_length : (lengths : ℕ × Option ℕ) → length (parts_bytes written (list lengths)) ≡ 1 + length (lengths_bytes written lengths)
 unfolding parts_bytes
 list_length lengths = omega arith
 
-pub left_out_length : (labels : Option (List (List ℕ))) (lengths : ℕ × Option ℕ) → length (parts_bytes (nothing labels lengths)) ≡ 1 + (length (labels_bytes labels) + length (lengths_bytes lengths))
+pub left_out_length : (labels : Option (List (List ℕ))) (lengths : ℕ × Option ℕ) → length (parts_bytes written (nothing labels lengths)) ≡ 1 + (length (labels_bytes labels) + length (lengths_bytes written lengths))
 unfolding parts_bytes left_out_bytes
-left_out_length labels lengths = omega (arith, length-append (labels_bytes labels) (lengths_bytes lengths))
+left_out_length labels lengths = omega (arith, length-append (labels_bytes labels) (lengths_bytes written lengths))
 
 pub ruleset lengths_of_labels = (all_labels_length, labels_length)
 
@@ -109,32 +110,32 @@ texts_done texts i size h e = e ∙ ap (λ t. saturated (8 + length (flat_map te
 
 -- ---- rows
 
-row_length : (depth : ℕ) (bytes : List ℕ) (row : Row) → length (row_bytes_from depth bytes ([], row)) ≡ 2 + length bytes + length (parts_bytes (parts_of row))
+row_length : (depth : ℕ) (bytes : List ℕ) (row : Row) → length (row_bytes_from written depth bytes ([], row)) ≡ 2 + length bytes + length (parts_bytes written (parts_of row))
 unfolding row_bytes_from
-row_length depth bytes row = omega (arith, length-append bytes (level_of row.level ∷ parts_bytes (parts_of row)))
+row_length depth bytes row = omega (arith, length-append bytes (level_of row.level ∷ parts_bytes written (parts_of row)))
 
-pub size_begin : (depth : ℕ) (bytes : List ℕ) (tree : Tree Row) (row : Row) (steps parts size : ℕ) → row_of tree ≡ Some row → steps ≡ size_of bytes → parts ≡ size_of (parts_bytes (parts_of row)) → size ≡ saturated (saturated (2 + steps) + parts)
-    → saturated (size + length (flat_map (row_bytes_from depth bytes) (rows_below (below tree)))) ≡ size_of (flat_map (row_bytes_from depth bytes) (rows_of tree))
+pub size_begin : (depth : ℕ) (bytes : List ℕ) (tree : Tree Row) (row : Row) (steps parts size : ℕ) → row_of tree ≡ Some row → steps ≡ size_of bytes → parts ≡ size_of (parts_bytes written (parts_of row)) → size ≡ saturated (saturated (2 + steps) + parts)
+    → saturated (size + length (flat_map (row_bytes_from written depth bytes) (rows_below (below tree)))) ≡ size_of (flat_map (row_bytes_from written depth bytes) (rows_of tree))
 size_begin depth bytes tree row steps parts size e s p h =
-    let all = bytes_begin depth bytes tree row [] (row_bytes_from depth bytes ([], row)) e refl in
-    omega (arith, s, p, h, ap length all, row_length depth bytes row, length-append (row_bytes_from depth bytes ([], row)) (flat_map (row_bytes_from depth bytes) (rows_below (below tree))))
+    let all = bytes_begin depth bytes tree row [] (row_bytes_from written depth bytes ([], row)) e refl in
+    omega (arith, s, p, h, ap length all, row_length depth bytes row, length-append (row_bytes_from written depth bytes ([], row)) (flat_map (row_bytes_from written depth bytes) (rows_below (below tree))))
 
-pub size_begin_below : (depth : ℕ) (bytes : List ℕ) (tree : Tree Row) → row_of tree ≡ None → saturated (0 + length (flat_map (row_bytes_from depth bytes) (rows_below (below tree)))) ≡ size_of (flat_map (row_bytes_from depth bytes) (rows_of tree))
+pub size_begin_below : (depth : ℕ) (bytes : List ℕ) (tree : Tree Row) → row_of tree ≡ None → saturated (0 + length (flat_map (row_bytes_from written depth bytes) (rows_below (below tree)))) ≡ size_of (flat_map (row_bytes_from written depth bytes) (rows_of tree))
 size_begin_below depth bytes tree e = omega (arith, ap length (bytes_begin_below depth bytes tree [] e))
 
 pub size_more : (depth : ℕ) (bytes : List ℕ) (step : Step) (tree : Tree Row) (rest left : Children Row) (steps one size more all : ℕ) → children_of rest ≡ (step, tree) ∷ children_of left
-    → steps ≡ size_of bytes → one ≡ size_of (step_bytes step) → ((d : ℕ) (b : List ℕ) → saturated (steps + one) ≡ size_of b → more ≡ size_of (flat_map (row_bytes_from d b) (rows_of tree)))
-    → saturated (size + length (flat_map (row_bytes_from depth bytes) (rows_below rest))) ≡ all → saturated (saturated (size + more) + length (flat_map (row_bytes_from depth bytes) (rows_below left))) ≡ all
+    → steps ≡ size_of bytes → one ≡ size_of (step_bytes written step) → ((d : ℕ) (b : List ℕ) → saturated (steps + one) ≡ size_of b → more ≡ size_of (flat_map (row_bytes_from written d b) (rows_of tree)))
+    → saturated (size + length (flat_map (row_bytes_from written depth bytes) (rows_below rest))) ≡ all → saturated (saturated (size + more) + length (flat_map (row_bytes_from written depth bytes) (rows_below left))) ≡ all
 size_more depth bytes step tree rest left steps one size more all e s o m h =
-    let these = flat_map (row_bytes_from (depth + 1) (bytes ++ step_bytes step)) (rows_of tree) in
-    let count = m (depth + 1) (bytes ++ step_bytes step) (omega (arith, s, o, length-append bytes (step_bytes step))) in
-    let parts = bytes_more depth bytes step tree rest left [] these (flat_map (row_bytes_from depth bytes) (rows_below rest)) e refl refl in
-    omega (arith, count, h, ap length parts, length-append these (flat_map (row_bytes_from depth bytes) (rows_below left)))
+    let these = flat_map (row_bytes_from written (depth + 1) (bytes ++ step_bytes written step)) (rows_of tree) in
+    let count = m (depth + 1) (bytes ++ step_bytes written step) (omega (arith, s, o, length-append bytes (step_bytes written step))) in
+    let parts = bytes_more depth bytes step tree rest left [] these (flat_map (row_bytes_from written depth bytes) (rows_below rest)) e refl refl in
+    omega (arith, count, h, ap length parts, length-append these (flat_map (row_bytes_from written depth bytes) (rows_below left)))
 
-pub size_end : (depth : ℕ) (bytes : List ℕ) (rest : Children Row) (size all : ℕ) → children_of rest ≡ [] → size ≡ saturated size → saturated (size + length (flat_map (row_bytes_from depth bytes) (rows_below rest))) ≡ saturated all → size ≡ saturated all
-size_end depth bytes rest size all e s h = omega (arith, s, h, ap length (bytes_end depth bytes rest [] (flat_map (row_bytes_from depth bytes) (rows_below rest)) e refl))
+pub size_end : (depth : ℕ) (bytes : List ℕ) (rest : Children Row) (size all : ℕ) → children_of rest ≡ [] → size ≡ saturated size → saturated (size + length (flat_map (row_bytes_from written depth bytes) (rows_below rest))) ≡ saturated all → size ≡ saturated all
+size_end depth bytes rest size all e s h = omega (arith, s, h, ap length (bytes_end depth bytes rest [] (flat_map (row_bytes_from written depth bytes) (rows_below rest)) e refl))
 
 -- the head takes 13 bytes
-pub state_length : (tree : Tree Row) (rows : ℕ) → rows ≡ size_of (flat_map (row_bytes_from 0 []) (rows_of tree)) → saturated (13 + rows) ≡ size_of (table_bytes tree)
+pub state_length : (tree : Tree Row) (rows : ℕ) → rows ≡ size_of (flat_map (row_bytes_from written 0 []) (rows_of tree)) → saturated (13 + rows) ≡ size_of (table_bytes tree)
 state_length tree rows h =
-    omega (arith, h, ap length (state_parts (rows_of tree)), ap length (rows_from_root (rows_of tree)), length-append (to_be_bytes w64 (length (rows_of tree))) (flat_map row_bytes (rows_of tree)))
+    omega (arith, h, ap length (state_parts (rows_of tree)), ap length (rows_from_root (rows_of tree)), length-append (to_be_bytes w64 (length (rows_of tree))) (flat_map (row_bytes written) (rows_of tree)))

@@ -8,6 +8,8 @@ use Rattle.std.proofs.lemmas.List.{take-append-drop, length-append, length-take,
 use Rattle.std.proofs.lemmas.Nat.{be_bytes_2, be_bytes_4, be_bytes_8}
 use mir.Val.{SFits}
 use Rattle.cue_lattice.specs.Scalar.{IsInteger}
+use Rattle.cue_codec.specs.declared.version.Version.{Version}
+use Rattle.cue_codec.specs.declared.version.Version.TheVariants as versions
 use Rattle.cue_codec.specs.Parts.{integer_bytes, piece_bytes, text_bytes, most_bytes, lengths_bytes}
 use Rattle.cue_codec.specs.Reading.{Begins, BeginsNone, number_at, IsPiece, IsWord, IsMost, AreWideLengths}
 use Rattle.cue_codec.proofs.Codes.{OneItem, same_fronts, wide16, wide32, wide64, one_number}
@@ -223,28 +225,28 @@ one_most (Some m) (Some n) r s p q e =
     let f = one_number w32 (2 ^ 32) wide32 m n r s p q (ap (λ (t : List ℕ). drop 1 t) e) in
     (ap (λ (k : ℕ). Some k) f.0, f.1)
 
-lengths_parts : (lengths : ℕ × Option ℕ) (r : List ℕ) → lengths_bytes lengths ++ r ≡ to_be_bytes w32 lengths.0 ++ (most_bytes lengths.1 ++ r)
+lengths_parts : (version : Version) (lengths : ℕ × Option ℕ) (r : List ℕ) → lengths_bytes version lengths ++ r ≡ to_be_bytes w32 lengths.0 ++ (most_bytes lengths.1 ++ r)
 unfolding lengths_bytes
-lengths_parts lengths r = append_assoc (to_be_bytes w32 lengths.0) (most_bytes lengths.1) r
+lengths_parts versions.First lengths r = append_assoc (to_be_bytes w32 lengths.0) (most_bytes lengths.1) r
 
 -- lengths in front tell themselves and the rest
-pub one_lengths : OneItem AreWideLengths lengths_bytes
-one_lengths a b r s p q e =
-    let f = one_number w32 (2 ^ 32) wide32 a.0 b.0 (most_bytes a.1 ++ r) (most_bytes b.1 ++ s) p.0 q.0 (sym (lengths_parts a r) ∙ e ∙ lengths_parts b s) in
+pub one_lengths : (version : Version) → OneItem (AreWideLengths version) (lengths_bytes version)
+one_lengths versions.First a b r s p q e =
+    let f = one_number w32 (2 ^ 32) wide32 a.0 b.0 (most_bytes a.1 ++ r) (most_bytes b.1 ++ s) p.0 q.0 (sym (lengths_parts versions.First a r) ∙ e ∙ lengths_parts versions.First b s) in
     let g = one_most a.1 b.1 r s p.1 q.1 f.1 in
     (λ i. (f.0 i, g.0 i), g.1)
 
-pub lengths_short : (bytes : List ℕ) → None ≡ number_at w32 bytes → BeginsNone AreWideLengths lengths_bytes bytes
-lengths_short bytes none = λ a r h e.
-    omega (arith, number_missing w32 bytes none, ap length (e ∙ lengths_parts a r), length-append (to_be_bytes w32 a.0) (most_bytes a.1 ++ r), wide32.len a.0)
+pub lengths_short : (version : Version) (bytes : List ℕ) → None ≡ number_at w32 bytes → BeginsNone (AreWideLengths version) (lengths_bytes version) bytes
+lengths_short versions.First bytes none = λ a r h e.
+    omega (arith, number_missing w32 bytes none, ap length (e ∙ lengths_parts versions.First a r), length-append (to_be_bytes w32 a.0) (most_bytes a.1 ++ r), wide32.len a.0)
 
-pub lengths_cut : (bytes rest : List ℕ) (least : ℕ) → IsBytes bytes → Some (least, rest) ≡ number_at w32 bytes → BeginsNone IsMost most_bytes rest → BeginsNone AreWideLengths lengths_bytes bytes
-lengths_cut bytes rest least fits is none = λ a r h e.
+pub lengths_cut : (version : Version) (bytes rest : List ℕ) (least : ℕ) → IsBytes bytes → Some (least, rest) ≡ number_at w32 bytes → BeginsNone IsMost most_bytes rest → BeginsNone (AreWideLengths version) (lengths_bytes version) bytes
+lengths_cut versions.First bytes rest least fits is none = λ a r h e.
     let found = number_takes w32 (2 ^ 32) read32 bytes least rest fits is in
-    let f = one_number w32 (2 ^ 32) wide32 a.0 least (most_bytes a.1 ++ r) rest h.0 found.1 (sym (lengths_parts a r) ∙ sym e ∙ found.0) in
+    let f = one_number w32 (2 ^ 32) wide32 a.0 least (most_bytes a.1 ++ r) rest h.0 found.1 (sym (lengths_parts versions.First a r) ∙ sym e ∙ found.0) in
     none a.1 r h.1 (sym f.1)
 
-pub lengths_found : (bytes rest after : List ℕ) (least : ℕ) (most : Option ℕ) → IsBytes bytes → Some (least, rest) ≡ number_at w32 bytes → Begins IsMost most_bytes most rest after → Begins AreWideLengths lengths_bytes (least, most) bytes after
-lengths_found bytes rest after least most fits is b =
+pub lengths_found : (version : Version) (bytes rest after : List ℕ) (least : ℕ) (most : Option ℕ) → IsBytes bytes → Some (least, rest) ≡ number_at w32 bytes → Begins IsMost most_bytes most rest after → Begins (AreWideLengths version) (lengths_bytes version) (least, most) bytes after
+lengths_found versions.First bytes rest after least most fits is b =
     let found = number_takes w32 (2 ^ 32) read32 bytes least rest fits is in
-    record { value = (found.1, b.value); parts = found.0 ∙ ap (λ (t : List ℕ). to_be_bytes w32 least ++ t) b.parts ∙ sym (lengths_parts (least, most) after) }
+    record { value = (found.1, b.value); parts = found.0 ∙ ap (λ (t : List ℕ). to_be_bytes w32 least ++ t) b.parts ∙ sym (lengths_parts versions.First (least, most) after) }

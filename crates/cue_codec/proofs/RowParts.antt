@@ -4,6 +4,7 @@ use Rattle.std.proofs.lemmas.Bool.{false≢true}
 use Rattle.cue_scalars.specs.declared.scalar_set.ScalarSet.{ScalarSet}
 use Rattle.cue_row.specs.declared.level.Level.{Level}
 use Rattle.cue_row.specs.declared.row.Row.{Row}
+use Rattle.cue_codec.specs.declared.version.Version.{Version}
 use Rattle.cue_codec.specs.Parts.{set_bytes, labels_bytes, lengths_bytes}
 use Rattle.cue_codec.specs.Reading.{Begins, BeginsNone, AreWideLengths}
 use Rattle.cue_codec.specs.StateRow.{IsStateSet, AreStateLabels}
@@ -45,144 +46,144 @@ scalars_found bytes middle rest value usual a some b = record {
 
 -- ---- labels and lengths
 
-left_out_parts : (parts : Option (List (List ℕ)) × (ℕ × Option ℕ)) (r : List ℕ) → left_out_bytes parts ++ r ≡ labels_bytes parts.0 ++ (lengths_bytes parts.1 ++ r)
+left_out_parts : (version : Version) (parts : Option (List (List ℕ)) × (ℕ × Option ℕ)) (r : List ℕ) → left_out_bytes version parts ++ r ≡ labels_bytes parts.0 ++ (lengths_bytes version parts.1 ++ r)
 unfolding left_out_bytes
-left_out_parts parts r = append_assoc (labels_bytes parts.0) (lengths_bytes parts.1) r
+left_out_parts version parts r = append_assoc (labels_bytes parts.0) (lengths_bytes version parts.1) r
 
-one_left_out : OneItem AreLeftOut left_out_bytes
-one_left_out a b r s p q e =
-    let f = one_labels a.0 b.0 (lengths_bytes a.1 ++ r) (lengths_bytes b.1 ++ s) p.0 q.0 (sym (left_out_parts a r) ∙ e ∙ left_out_parts b s) in
-    let g = one_lengths a.1 b.1 r s p.1 q.1 f.1 in
+one_left_out : (version : Version) → OneItem (AreLeftOut version) (left_out_bytes version)
+one_left_out version a b r s p q e =
+    let f = one_labels a.0 b.0 (lengths_bytes version a.1 ++ r) (lengths_bytes version b.1 ++ s) p.0 q.0 (sym (left_out_parts version a r) ∙ e ∙ left_out_parts version b s) in
+    let g = one_lengths version a.1 b.1 r s p.1 q.1 f.1 in
     (λ i. (f.0 i, g.0 i), g.1)
 
-pub left_out_first : (bytes : List ℕ) → BeginsNone AreStateLabels labels_bytes bytes → BeginsNone AreLeftOut left_out_bytes bytes
-left_out_first bytes none = λ parts s h e. none parts.0 (lengths_bytes parts.1 ++ s) h.0 (e ∙ left_out_parts parts s)
+pub left_out_first : (version : Version) (bytes : List ℕ) → BeginsNone AreStateLabels labels_bytes bytes → BeginsNone (AreLeftOut version) (left_out_bytes version) bytes
+left_out_first version bytes none = λ parts s h e. none parts.0 (lengths_bytes version parts.1 ++ s) h.0 (e ∙ left_out_parts version parts s)
 
-pub left_out_second : (bytes rest : List ℕ) (labels : Option (List (List ℕ))) → Begins AreStateLabels labels_bytes labels bytes rest → BeginsNone AreWideLengths lengths_bytes rest → BeginsNone AreLeftOut left_out_bytes bytes
-left_out_second bytes rest labels b none = λ parts s h e.
-    let f = one_labels labels parts.0 rest (lengths_bytes parts.1 ++ s) b.value h.0 (sym b.parts ∙ e ∙ left_out_parts parts s) in
+pub left_out_second : (version : Version) (bytes rest : List ℕ) (labels : Option (List (List ℕ))) → Begins AreStateLabels labels_bytes labels bytes rest → BeginsNone (AreWideLengths version) (lengths_bytes version) rest → BeginsNone (AreLeftOut version) (left_out_bytes version) bytes
+left_out_second version bytes rest labels b none = λ parts s h e.
+    let f = one_labels labels parts.0 rest (lengths_bytes version parts.1 ++ s) b.value h.0 (sym b.parts ∙ e ∙ left_out_parts version parts s) in
     none parts.1 s h.1 f.1
 
-pub left_out_found : (bytes middle rest : List ℕ) (labels : Option (List (List ℕ))) (lengths : ℕ × Option ℕ) → Begins AreStateLabels labels_bytes labels bytes middle → Begins AreWideLengths lengths_bytes lengths middle rest
-    → Begins AreLeftOut left_out_bytes (labels, lengths) bytes rest
-left_out_found bytes middle rest labels lengths a b = record {
+pub left_out_found : (version : Version) (bytes middle rest : List ℕ) (labels : Option (List (List ℕ))) (lengths : ℕ × Option ℕ) → Begins AreStateLabels labels_bytes labels bytes middle → Begins (AreWideLengths version) (lengths_bytes version) lengths middle rest
+    → Begins (AreLeftOut version) (left_out_bytes version) (labels, lengths) bytes rest
+left_out_found version bytes middle rest labels lengths a b = record {
   value = (a.value, b.value);
-  parts = a.parts ∙ ap (λ (x : List ℕ). labels_bytes labels ++ x) b.parts ∙ sym (left_out_parts (labels, lengths) rest);
+  parts = a.parts ∙ ap (λ (x : List ℕ). labels_bytes labels ++ x) b.parts ∙ sym (left_out_parts version (labels, lengths) rest);
 }
 
 -- ---- the kinds
 
 -- a kind and its parts in front tell themselves and the rest
-pub one_parts : OneItem IsStateParts parts_bytes
+pub one_parts : (version : Version) → OneItem (IsStateParts version) (parts_bytes version)
 unfolding parts_bytes
-one_parts free free r s p q e = (refl, tails 0 0 _ _ e)
-one_parts free (scalar v2 u2) r s p q e = absurd (omega (arith, heads 0 1 _ _ e))
-one_parts free (struct l2) r s p q e = absurd (omega (arith, heads 0 2 _ _ e))
-one_parts free (list n2) r s p q e = absurd (omega (arith, heads 0 3 _ _ e))
-one_parts free (nothing l2 n2) r s p q e = absurd (omega (arith, heads 0 4 _ _ e))
-one_parts (scalar v1 u1) free r s p q e = absurd (omega (arith, heads 1 0 _ _ e))
-one_parts (scalar v1 u1) (scalar v2 u2) r s p q e =
+one_parts version free free r s p q e = (refl, tails 0 0 _ _ e)
+one_parts version free (scalar v2 u2) r s p q e = absurd (omega (arith, heads 0 1 _ _ e))
+one_parts version free (struct l2) r s p q e = absurd (omega (arith, heads 0 2 _ _ e))
+one_parts version free (list n2) r s p q e = absurd (omega (arith, heads 0 3 _ _ e))
+one_parts version free (nothing l2 n2) r s p q e = absurd (omega (arith, heads 0 4 _ _ e))
+one_parts version (scalar v1 u1) free r s p q e = absurd (omega (arith, heads 1 0 _ _ e))
+one_parts version (scalar v1 u1) (scalar v2 u2) r s p q e =
     let f = one_scalars (v1, u1) (v2, u2) r s p q (tails 1 1 _ _ e) in (ap (λ (t : ScalarSet × ScalarSet). scalar t.0 t.1) f.0, f.1)
-one_parts (scalar v1 u1) (struct l2) r s p q e = absurd (omega (arith, heads 1 2 _ _ e))
-one_parts (scalar v1 u1) (list n2) r s p q e = absurd (omega (arith, heads 1 3 _ _ e))
-one_parts (scalar v1 u1) (nothing l2 n2) r s p q e = absurd (omega (arith, heads 1 4 _ _ e))
-one_parts (struct l1) free r s p q e = absurd (omega (arith, heads 2 0 _ _ e))
-one_parts (struct l1) (scalar v2 u2) r s p q e = absurd (omega (arith, heads 2 1 _ _ e))
-one_parts (struct l1) (struct l2) r s p q e = let f = one_labels l1 l2 r s p q (tails 2 2 _ _ e) in (ap (λ (t : Option (List (List ℕ))). struct t) f.0, f.1)
-one_parts (struct l1) (list n2) r s p q e = absurd (omega (arith, heads 2 3 _ _ e))
-one_parts (struct l1) (nothing l2 n2) r s p q e = absurd (omega (arith, heads 2 4 _ _ e))
-one_parts (list n1) free r s p q e = absurd (omega (arith, heads 3 0 _ _ e))
-one_parts (list n1) (scalar v2 u2) r s p q e = absurd (omega (arith, heads 3 1 _ _ e))
-one_parts (list n1) (struct l2) r s p q e = absurd (omega (arith, heads 3 2 _ _ e))
-one_parts (list n1) (list n2) r s p q e = let f = one_lengths n1 n2 r s p q (tails 3 3 _ _ e) in (ap (λ (t : ℕ × Option ℕ). list t) f.0, f.1)
-one_parts (list n1) (nothing l2 n2) r s p q e = absurd (omega (arith, heads 3 4 _ _ e))
-one_parts (nothing l1 n1) free r s p q e = absurd (omega (arith, heads 4 0 _ _ e))
-one_parts (nothing l1 n1) (scalar v2 u2) r s p q e = absurd (omega (arith, heads 4 1 _ _ e))
-one_parts (nothing l1 n1) (struct l2) r s p q e = absurd (omega (arith, heads 4 2 _ _ e))
-one_parts (nothing l1 n1) (list n2) r s p q e = absurd (omega (arith, heads 4 3 _ _ e))
-one_parts (nothing l1 n1) (nothing l2 n2) r s p q e =
-    let f = one_left_out (l1, n1) (l2, n2) r s p q (tails 4 4 _ _ e) in (ap (λ (t : Option (List (List ℕ)) × (ℕ × Option ℕ)). nothing t.0 t.1) f.0, f.1)
+one_parts version (scalar v1 u1) (struct l2) r s p q e = absurd (omega (arith, heads 1 2 _ _ e))
+one_parts version (scalar v1 u1) (list n2) r s p q e = absurd (omega (arith, heads 1 3 _ _ e))
+one_parts version (scalar v1 u1) (nothing l2 n2) r s p q e = absurd (omega (arith, heads 1 4 _ _ e))
+one_parts version (struct l1) free r s p q e = absurd (omega (arith, heads 2 0 _ _ e))
+one_parts version (struct l1) (scalar v2 u2) r s p q e = absurd (omega (arith, heads 2 1 _ _ e))
+one_parts version (struct l1) (struct l2) r s p q e = let f = one_labels l1 l2 r s p q (tails 2 2 _ _ e) in (ap (λ (t : Option (List (List ℕ))). struct t) f.0, f.1)
+one_parts version (struct l1) (list n2) r s p q e = absurd (omega (arith, heads 2 3 _ _ e))
+one_parts version (struct l1) (nothing l2 n2) r s p q e = absurd (omega (arith, heads 2 4 _ _ e))
+one_parts version (list n1) free r s p q e = absurd (omega (arith, heads 3 0 _ _ e))
+one_parts version (list n1) (scalar v2 u2) r s p q e = absurd (omega (arith, heads 3 1 _ _ e))
+one_parts version (list n1) (struct l2) r s p q e = absurd (omega (arith, heads 3 2 _ _ e))
+one_parts version (list n1) (list n2) r s p q e = let f = one_lengths version n1 n2 r s p q (tails 3 3 _ _ e) in (ap (λ (t : ℕ × Option ℕ). list t) f.0, f.1)
+one_parts version (list n1) (nothing l2 n2) r s p q e = absurd (omega (arith, heads 3 4 _ _ e))
+one_parts version (nothing l1 n1) free r s p q e = absurd (omega (arith, heads 4 0 _ _ e))
+one_parts version (nothing l1 n1) (scalar v2 u2) r s p q e = absurd (omega (arith, heads 4 1 _ _ e))
+one_parts version (nothing l1 n1) (struct l2) r s p q e = absurd (omega (arith, heads 4 2 _ _ e))
+one_parts version (nothing l1 n1) (list n2) r s p q e = absurd (omega (arith, heads 4 3 _ _ e))
+one_parts version (nothing l1 n1) (nothing l2 n2) r s p q e =
+    let f = one_left_out version (l1, n1) (l2, n2) r s p q (tails 4 4 _ _ e) in (ap (λ (t : Option (List (List ℕ)) × (ℕ × Option ℕ)). nothing t.0 t.1) f.0, f.1)
 
-pub parts_empty : (bytes : List ℕ) → length bytes ≡ 0 → BeginsNone IsStateParts parts_bytes bytes
+pub parts_empty : (version : Version) (bytes : List ℕ) → length bytes ≡ 0 → BeginsNone (IsStateParts version) (parts_bytes version) bytes
 unfolding parts_bytes
-parts_empty bytes none free s h e = no_byte bytes 0 _ none e
-parts_empty bytes none (scalar v u) s h e = no_byte bytes 1 _ none e
-parts_empty bytes none (struct l) s h e = no_byte bytes 2 _ none e
-parts_empty bytes none (list n) s h e = no_byte bytes 3 _ none e
-parts_empty bytes none (nothing l n) s h e = no_byte bytes 4 _ none e
+parts_empty version bytes none free s h e = no_byte bytes 0 _ none e
+parts_empty version bytes none (scalar v u) s h e = no_byte bytes 1 _ none e
+parts_empty version bytes none (struct l) s h e = no_byte bytes 2 _ none e
+parts_empty version bytes none (list n) s h e = no_byte bytes 3 _ none e
+parts_empty version bytes none (nothing l n) s h e = no_byte bytes 4 _ none e
 
-pub parts_scalar : (bytes rest : List ℕ) (tag : ℕ) → bytes ≡ tag ∷ rest → tag ≡ 1 → BeginsNone AreScalars scalars_bytes rest → BeginsNone IsStateParts parts_bytes bytes
+pub parts_scalar : (version : Version) (bytes rest : List ℕ) (tag : ℕ) → bytes ≡ tag ∷ rest → tag ≡ 1 → BeginsNone AreScalars scalars_bytes rest → BeginsNone (IsStateParts version) (parts_bytes version) bytes
 unfolding parts_bytes
-parts_scalar bytes rest tag is same none free s h e = omega (arith, same, heads tag 0 rest _ (sym is ∙ e))
-parts_scalar bytes rest tag is same none (scalar v u) s h e = none (v, u) s h (tails tag 1 rest _ (sym is ∙ e))
-parts_scalar bytes rest tag is same none (struct l) s h e = omega (arith, same, heads tag 2 rest _ (sym is ∙ e))
-parts_scalar bytes rest tag is same none (list n) s h e = omega (arith, same, heads tag 3 rest _ (sym is ∙ e))
-parts_scalar bytes rest tag is same none (nothing l n) s h e = omega (arith, same, heads tag 4 rest _ (sym is ∙ e))
+parts_scalar version bytes rest tag is same none free s h e = omega (arith, same, heads tag 0 rest _ (sym is ∙ e))
+parts_scalar version bytes rest tag is same none (scalar v u) s h e = none (v, u) s h (tails tag 1 rest _ (sym is ∙ e))
+parts_scalar version bytes rest tag is same none (struct l) s h e = omega (arith, same, heads tag 2 rest _ (sym is ∙ e))
+parts_scalar version bytes rest tag is same none (list n) s h e = omega (arith, same, heads tag 3 rest _ (sym is ∙ e))
+parts_scalar version bytes rest tag is same none (nothing l n) s h e = omega (arith, same, heads tag 4 rest _ (sym is ∙ e))
 
-pub parts_struct : (bytes rest : List ℕ) (tag : ℕ) → bytes ≡ tag ∷ rest → tag ≡ 2 → BeginsNone AreStateLabels labels_bytes rest → BeginsNone IsStateParts parts_bytes bytes
+pub parts_struct : (version : Version) (bytes rest : List ℕ) (tag : ℕ) → bytes ≡ tag ∷ rest → tag ≡ 2 → BeginsNone AreStateLabels labels_bytes rest → BeginsNone (IsStateParts version) (parts_bytes version) bytes
 unfolding parts_bytes
-parts_struct bytes rest tag is same none free s h e = omega (arith, same, heads tag 0 rest _ (sym is ∙ e))
-parts_struct bytes rest tag is same none (scalar v u) s h e = omega (arith, same, heads tag 1 rest _ (sym is ∙ e))
-parts_struct bytes rest tag is same none (struct l) s h e = none l s h (tails tag 2 rest _ (sym is ∙ e))
-parts_struct bytes rest tag is same none (list n) s h e = omega (arith, same, heads tag 3 rest _ (sym is ∙ e))
-parts_struct bytes rest tag is same none (nothing l n) s h e = omega (arith, same, heads tag 4 rest _ (sym is ∙ e))
+parts_struct version bytes rest tag is same none free s h e = omega (arith, same, heads tag 0 rest _ (sym is ∙ e))
+parts_struct version bytes rest tag is same none (scalar v u) s h e = omega (arith, same, heads tag 1 rest _ (sym is ∙ e))
+parts_struct version bytes rest tag is same none (struct l) s h e = none l s h (tails tag 2 rest _ (sym is ∙ e))
+parts_struct version bytes rest tag is same none (list n) s h e = omega (arith, same, heads tag 3 rest _ (sym is ∙ e))
+parts_struct version bytes rest tag is same none (nothing l n) s h e = omega (arith, same, heads tag 4 rest _ (sym is ∙ e))
 
-pub parts_list : (bytes rest : List ℕ) (tag : ℕ) → bytes ≡ tag ∷ rest → tag ≡ 3 → BeginsNone AreWideLengths lengths_bytes rest → BeginsNone IsStateParts parts_bytes bytes
+pub parts_list : (version : Version) (bytes rest : List ℕ) (tag : ℕ) → bytes ≡ tag ∷ rest → tag ≡ 3 → BeginsNone (AreWideLengths version) (lengths_bytes version) rest → BeginsNone (IsStateParts version) (parts_bytes version) bytes
 unfolding parts_bytes
-parts_list bytes rest tag is same none free s h e = omega (arith, same, heads tag 0 rest _ (sym is ∙ e))
-parts_list bytes rest tag is same none (scalar v u) s h e = omega (arith, same, heads tag 1 rest _ (sym is ∙ e))
-parts_list bytes rest tag is same none (struct l) s h e = omega (arith, same, heads tag 2 rest _ (sym is ∙ e))
-parts_list bytes rest tag is same none (list n) s h e = none n s h (tails tag 3 rest _ (sym is ∙ e))
-parts_list bytes rest tag is same none (nothing l n) s h e = omega (arith, same, heads tag 4 rest _ (sym is ∙ e))
+parts_list version bytes rest tag is same none free s h e = omega (arith, same, heads tag 0 rest _ (sym is ∙ e))
+parts_list version bytes rest tag is same none (scalar v u) s h e = omega (arith, same, heads tag 1 rest _ (sym is ∙ e))
+parts_list version bytes rest tag is same none (struct l) s h e = omega (arith, same, heads tag 2 rest _ (sym is ∙ e))
+parts_list version bytes rest tag is same none (list n) s h e = none n s h (tails tag 3 rest _ (sym is ∙ e))
+parts_list version bytes rest tag is same none (nothing l n) s h e = omega (arith, same, heads tag 4 rest _ (sym is ∙ e))
 
-pub parts_nothing : (bytes rest : List ℕ) (tag : ℕ) → bytes ≡ tag ∷ rest → tag ≡ 4 → BeginsNone AreLeftOut left_out_bytes rest → BeginsNone IsStateParts parts_bytes bytes
+pub parts_nothing : (version : Version) (bytes rest : List ℕ) (tag : ℕ) → bytes ≡ tag ∷ rest → tag ≡ 4 → BeginsNone (AreLeftOut version) (left_out_bytes version) rest → BeginsNone (IsStateParts version) (parts_bytes version) bytes
 unfolding parts_bytes
-parts_nothing bytes rest tag is same none free s h e = omega (arith, same, heads tag 0 rest _ (sym is ∙ e))
-parts_nothing bytes rest tag is same none (scalar v u) s h e = omega (arith, same, heads tag 1 rest _ (sym is ∙ e))
-parts_nothing bytes rest tag is same none (struct l) s h e = omega (arith, same, heads tag 2 rest _ (sym is ∙ e))
-parts_nothing bytes rest tag is same none (list n) s h e = omega (arith, same, heads tag 3 rest _ (sym is ∙ e))
-parts_nothing bytes rest tag is same none (nothing l n) s h e = none (l, n) s h (tails tag 4 rest _ (sym is ∙ e))
+parts_nothing version bytes rest tag is same none free s h e = omega (arith, same, heads tag 0 rest _ (sym is ∙ e))
+parts_nothing version bytes rest tag is same none (scalar v u) s h e = omega (arith, same, heads tag 1 rest _ (sym is ∙ e))
+parts_nothing version bytes rest tag is same none (struct l) s h e = omega (arith, same, heads tag 2 rest _ (sym is ∙ e))
+parts_nothing version bytes rest tag is same none (list n) s h e = omega (arith, same, heads tag 3 rest _ (sym is ∙ e))
+parts_nothing version bytes rest tag is same none (nothing l n) s h e = none (l, n) s h (tails tag 4 rest _ (sym is ∙ e))
 
-pub parts_tag : (bytes rest : List ℕ) (tag : ℕ) → bytes ≡ tag ∷ rest → 5 ≤ tag → BeginsNone IsStateParts parts_bytes bytes
+pub parts_tag : (version : Version) (bytes rest : List ℕ) (tag : ℕ) → bytes ≡ tag ∷ rest → 5 ≤ tag → BeginsNone (IsStateParts version) (parts_bytes version) bytes
 unfolding parts_bytes
-parts_tag bytes rest tag is same free s h e = omega (arith, same, heads tag 0 rest _ (sym is ∙ e))
-parts_tag bytes rest tag is same (scalar v u) s h e = omega (arith, same, heads tag 1 rest _ (sym is ∙ e))
-parts_tag bytes rest tag is same (struct l) s h e = omega (arith, same, heads tag 2 rest _ (sym is ∙ e))
-parts_tag bytes rest tag is same (list n) s h e = omega (arith, same, heads tag 3 rest _ (sym is ∙ e))
-parts_tag bytes rest tag is same (nothing l n) s h e = omega (arith, same, heads tag 4 rest _ (sym is ∙ e))
+parts_tag version bytes rest tag is same free s h e = omega (arith, same, heads tag 0 rest _ (sym is ∙ e))
+parts_tag version bytes rest tag is same (scalar v u) s h e = omega (arith, same, heads tag 1 rest _ (sym is ∙ e))
+parts_tag version bytes rest tag is same (struct l) s h e = omega (arith, same, heads tag 2 rest _ (sym is ∙ e))
+parts_tag version bytes rest tag is same (list n) s h e = omega (arith, same, heads tag 3 rest _ (sym is ∙ e))
+parts_tag version bytes rest tag is same (nothing l n) s h e = omega (arith, same, heads tag 4 rest _ (sym is ∙ e))
 
-free_begins : (bytes rest : List ℕ) (tag : ℕ) → bytes ≡ tag ∷ rest → tag ≡ 0 → Begins IsStateParts parts_bytes free bytes rest
+free_begins : (version : Version) (bytes rest : List ℕ) (tag : ℕ) → bytes ≡ tag ∷ rest → tag ≡ 0 → Begins (IsStateParts version) (parts_bytes version) free bytes rest
 unfolding parts_bytes
-free_begins bytes rest tag is same = record { value = tt; parts = is ∙ ap (λ (k : ℕ). k ∷ rest) same }
+free_begins version bytes rest tag is same = record { value = tt; parts = is ∙ ap (λ (k : ℕ). k ∷ rest) same }
 
-pub free_found : (bytes rest : List ℕ) (tag : ℕ) (level : Level) (row : Row) → bytes ≡ tag ∷ rest → tag ≡ 0 → row ≡ row_of level free → Reads (λ parts. parts) IsStateParts parts_bytes level row bytes rest
-free_found bytes rest tag level row is same says = record { item = free; says = says; begins = free_begins bytes rest tag is same }
+pub free_found : (version : Version) (bytes rest : List ℕ) (tag : ℕ) (level : Level) (row : Row) → bytes ≡ tag ∷ rest → tag ≡ 0 → row ≡ row_of level free → Reads (λ parts. parts) (IsStateParts version) (parts_bytes version) level row bytes rest
+free_found version bytes rest tag level row is same says = record { item = free; says = says; begins = free_begins version bytes rest tag is same }
 
-pub scalar_found : (bytes rest after : List ℕ) (tag : ℕ) (level : Level) (row : Row) → bytes ≡ tag ∷ rest → tag ≡ 1 → Reads (λ sets. scalar sets.0 sets.1) AreScalars scalars_bytes level row rest after → Reads (λ parts. parts) IsStateParts parts_bytes level row bytes after
+pub scalar_found : (version : Version) (bytes rest after : List ℕ) (tag : ℕ) (level : Level) (row : Row) → bytes ≡ tag ∷ rest → tag ≡ 1 → Reads (λ sets. scalar sets.0 sets.1) AreScalars scalars_bytes level row rest after → Reads (λ parts. parts) (IsStateParts version) (parts_bytes version) level row bytes after
 unfolding parts_bytes
-scalar_found bytes rest after tag level row is same r =
+scalar_found version bytes rest after tag level row is same r =
     record { item = scalar r.item.0 r.item.1; says = r.says; begins = record { value = r.begins.value; parts = is ∙ ap (λ (k : ℕ). k ∷ rest) same ∙ ap (λ (x : List ℕ). 1 ∷ x) r.begins.parts } }
 
-pub struct_found : (bytes rest after : List ℕ) (tag : ℕ) (level : Level) (row : Row) → bytes ≡ tag ∷ rest → tag ≡ 2 → Reads struct AreStateLabels labels_bytes level row rest after → Reads (λ parts. parts) IsStateParts parts_bytes level row bytes after
+pub struct_found : (version : Version) (bytes rest after : List ℕ) (tag : ℕ) (level : Level) (row : Row) → bytes ≡ tag ∷ rest → tag ≡ 2 → Reads struct AreStateLabels labels_bytes level row rest after → Reads (λ parts. parts) (IsStateParts version) (parts_bytes version) level row bytes after
 unfolding parts_bytes
-struct_found bytes rest after tag level row is same r =
+struct_found version bytes rest after tag level row is same r =
     record { item = struct r.item; says = r.says; begins = record { value = r.begins.value; parts = is ∙ ap (λ (k : ℕ). k ∷ rest) same ∙ ap (λ (x : List ℕ). 2 ∷ x) r.begins.parts } }
 
-pub list_found : (bytes rest after : List ℕ) (tag : ℕ) (level : Level) (row : Row) → bytes ≡ tag ∷ rest → tag ≡ 3 → Reads list AreWideLengths lengths_bytes level row rest after → Reads (λ parts. parts) IsStateParts parts_bytes level row bytes after
+pub list_found : (version : Version) (bytes rest after : List ℕ) (tag : ℕ) (level : Level) (row : Row) → bytes ≡ tag ∷ rest → tag ≡ 3 → Reads list (AreWideLengths version) (lengths_bytes version) level row rest after → Reads (λ parts. parts) (IsStateParts version) (parts_bytes version) level row bytes after
 unfolding parts_bytes
-list_found bytes rest after tag level row is same r =
+list_found version bytes rest after tag level row is same r =
     record { item = list r.item; says = r.says; begins = record { value = r.begins.value; parts = is ∙ ap (λ (k : ℕ). k ∷ rest) same ∙ ap (λ (x : List ℕ). 3 ∷ x) r.begins.parts } }
 
-pub nothing_found : (bytes rest after : List ℕ) (tag : ℕ) (level : Level) (row : Row) → bytes ≡ tag ∷ rest → tag ≡ 4 → Reads (λ parts. nothing parts.0 parts.1) AreLeftOut left_out_bytes level row rest after
-    → Reads (λ parts. parts) IsStateParts parts_bytes level row bytes after
+pub nothing_found : (version : Version) (bytes rest after : List ℕ) (tag : ℕ) (level : Level) (row : Row) → bytes ≡ tag ∷ rest → tag ≡ 4 → Reads (λ parts. nothing parts.0 parts.1) (AreLeftOut version) (left_out_bytes version) level row rest after
+    → Reads (λ parts. parts) (IsStateParts version) (parts_bytes version) level row bytes after
 unfolding parts_bytes
-nothing_found bytes rest after tag level row is same r =
+nothing_found version bytes rest after tag level row is same r =
     record { item = nothing r.item.0 r.item.1; says = r.says; begins = record { value = r.begins.value; parts = is ∙ ap (λ (k : ℕ). k ∷ rest) same ∙ ap (λ (x : List ℕ). 4 ∷ x) r.begins.parts } }
 
 -- what a row of these parts says is these parts
-pub parts_said : (level : Level) (parts : Parts) → IsStateParts parts → parts_of (row_of level parts) ≡ parts
-parts_said level free h = refl
-parts_said level (scalar v u) h = ap (λ (b : Bool). parts_by false false b (row_of level (scalar v u))) h.some
-parts_said level (struct l) h = refl
-parts_said level (list n) h = refl
-parts_said level (nothing l n) h = refl
+pub parts_said : (version : Version) (level : Level) (parts : Parts) → IsStateParts version parts → parts_of (row_of level parts) ≡ parts
+parts_said version level free h = refl
+parts_said version level (scalar v u) h = ap (λ (b : Bool). parts_by false false b (row_of level (scalar v u))) h.some
+parts_said version level (struct l) h = refl
+parts_said version level (list n) h = refl
+parts_said version level (nothing l n) h = refl

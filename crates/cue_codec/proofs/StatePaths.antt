@@ -7,6 +7,7 @@ use Rattle.cue_lattice.specs.Limits.{step_limit}
 use Rattle.cue_lattice.specs.Path.{label, index, Path}
 use Rattle.cue_row.specs.declared.step.Step as program
 use Rattle.cue_row.specs.Steps.{step_of}
+use Rattle.cue_codec.specs.declared.version.Version.{Version}
 use Rattle.cue_codec.specs.Parts.{text_bytes, step_bytes, path_bytes}
 use Rattle.cue_codec.specs.Reading.{Begins, BeginsNone, number_at, IsWord, AreSo}
 use Rattle.cue_codec.specs.StateRow.{IsStateStep, IsStatePath}
@@ -15,91 +16,91 @@ use Rattle.cue_codec.proofs.Numbers.{IsBytes, number_missing, number_takes, read
 use Rattle.cue_codec.proofs.StateSets.{heads, tails, no_byte}
 
 -- a step in front tells itself and the rest
-pub one_step : OneItem IsStateStep step_bytes
+pub one_step : (version : Version) → OneItem (IsStateStep version) (step_bytes version)
 unfolding step_bytes
-one_step (label a) (label b) r s p q e =
+one_step version (label a) (label b) r s p q e =
     let f = one_text a b r s p q (tails 0 0 _ _ e) in
     (ap (λ (t : List ℕ). label t) f.0, f.1)
-one_step (label a) (index n) r s p q e = absurd (omega (arith, heads 0 1 _ _ e))
-one_step (index m) (label b) r s p q e = absurd (omega (arith, heads 1 0 _ _ e))
-one_step (index m) (index n) r s p q e =
+one_step version (label a) (index n) r s p q e = absurd (omega (arith, heads 0 1 _ _ e))
+one_step version (index m) (label b) r s p q e = absurd (omega (arith, heads 1 0 _ _ e))
+one_step version (index m) (index n) r s p q e =
     let f = one_number w32 (2 ^ 32) wide32 m n r s p q (tails 1 1 _ _ e) in
     (ap (λ (k : ℕ). index k) f.0, f.1)
 
-pub step_empty : (bytes : List ℕ) → length bytes ≡ 0 → BeginsNone IsStateStep step_bytes bytes
+pub step_empty : (version : Version) (bytes : List ℕ) → length bytes ≡ 0 → BeginsNone (IsStateStep version) (step_bytes version) bytes
 unfolding step_bytes
-step_empty bytes none (label t) s h e = no_byte bytes 0 _ none e
-step_empty bytes none (index n) s h e = no_byte bytes 1 _ none e
+step_empty version bytes none (label t) s h e = no_byte bytes 0 _ none e
+step_empty version bytes none (index n) s h e = no_byte bytes 1 _ none e
 
-pub step_tag : (bytes rest : List ℕ) (tag : ℕ) → bytes ≡ tag ∷ rest → 2 ≤ tag → BeginsNone IsStateStep step_bytes bytes
+pub step_tag : (version : Version) (bytes rest : List ℕ) (tag : ℕ) → bytes ≡ tag ∷ rest → 2 ≤ tag → BeginsNone (IsStateStep version) (step_bytes version) bytes
 unfolding step_bytes
-step_tag bytes rest tag is more (label t) s h e = omega (arith, more, heads tag 0 rest _ (sym is ∙ e))
-step_tag bytes rest tag is more (index n) s h e = omega (arith, more, heads tag 1 rest _ (sym is ∙ e))
+step_tag version bytes rest tag is more (label t) s h e = omega (arith, more, heads tag 0 rest _ (sym is ∙ e))
+step_tag version bytes rest tag is more (index n) s h e = omega (arith, more, heads tag 1 rest _ (sym is ∙ e))
 
-pub step_text : (bytes rest : List ℕ) (tag : ℕ) → bytes ≡ tag ∷ rest → tag ≡ 0 → BeginsNone IsWord text_bytes rest → BeginsNone IsStateStep step_bytes bytes
+pub step_text : (version : Version) (bytes rest : List ℕ) (tag : ℕ) → bytes ≡ tag ∷ rest → tag ≡ 0 → BeginsNone IsWord text_bytes rest → BeginsNone (IsStateStep version) (step_bytes version) bytes
 unfolding step_bytes
-step_text bytes rest tag is zero none (label t) s h e = none t s h (tails tag 0 rest _ (sym is ∙ e))
-step_text bytes rest tag is zero none (index n) s h e = omega (arith, zero, heads tag 1 rest _ (sym is ∙ e))
+step_text version bytes rest tag is zero none (label t) s h e = none t s h (tails tag 0 rest _ (sym is ∙ e))
+step_text version bytes rest tag is zero none (index n) s h e = omega (arith, zero, heads tag 1 rest _ (sym is ∙ e))
 
-pub step_number : (bytes rest : List ℕ) (tag : ℕ) → bytes ≡ tag ∷ rest → tag ≡ 1 → None ≡ number_at w32 rest → BeginsNone IsStateStep step_bytes bytes
+pub step_number : (version : Version) (bytes rest : List ℕ) (tag : ℕ) → bytes ≡ tag ∷ rest → tag ≡ 1 → None ≡ number_at w32 rest → BeginsNone (IsStateStep version) (step_bytes version) bytes
 unfolding step_bytes
-step_number bytes rest tag is one none (label t) s h e = omega (arith, one, heads tag 0 rest _ (sym is ∙ e))
-step_number bytes rest tag is one none (index n) s h e =
+step_number version bytes rest tag is one none (label t) s h e = omega (arith, one, heads tag 0 rest _ (sym is ∙ e))
+step_number version bytes rest tag is one none (index n) s h e =
     omega (arith, number_missing w32 rest none, ap length (tails tag 1 rest _ (sym is ∙ e)), length-append (to_be_bytes w32 n) s, wide32.len n)
 
-pub label_found : (bytes rest after text : List ℕ) (tag : ℕ) → bytes ≡ tag ∷ rest → tag ≡ 0 → Begins IsWord text_bytes text rest after → Begins IsStateStep step_bytes (label text) bytes after
+pub label_found : (version : Version) (bytes rest after text : List ℕ) (tag : ℕ) → bytes ≡ tag ∷ rest → tag ≡ 0 → Begins IsWord text_bytes text rest after → Begins (IsStateStep version) (step_bytes version) (label text) bytes after
 unfolding step_bytes
-label_found bytes rest after text tag is zero b = record { value = b.value; parts = is ∙ ap (λ (k : ℕ). k ∷ rest) zero ∙ ap (λ (x : List ℕ). 0 ∷ x) b.parts }
+label_found version bytes rest after text tag is zero b = record { value = b.value; parts = is ∙ ap (λ (k : ℕ). k ∷ rest) zero ∙ ap (λ (x : List ℕ). 0 ∷ x) b.parts }
 
-pub index_found : (bytes rest after : List ℕ) (tag n : ℕ) → IsBytes rest → bytes ≡ tag ∷ rest → tag ≡ 1 → Some (n, after) ≡ number_at w32 rest → Begins IsStateStep step_bytes (index n) bytes after
+pub index_found : (version : Version) (bytes rest after : List ℕ) (tag n : ℕ) → IsBytes rest → bytes ≡ tag ∷ rest → tag ≡ 1 → Some (n, after) ≡ number_at w32 rest → Begins (IsStateStep version) (step_bytes version) (index n) bytes after
 unfolding step_bytes
-index_found bytes rest after tag n fits is one e =
+index_found version bytes rest after tag n fits is one e =
     let t = number_takes w32 (2 ^ 32) read32 rest n after fits e in
     record { value = t.1; parts = is ∙ ap (λ (k : ℕ). k ∷ rest) one ∙ ap (λ (x : List ℕ). 1 ∷ x) t.0 }
 
 -- ---- steps of the program
 
-pub steps_more : (items : List program.Step) (x : program.Step) (bytes rest after : List ℕ) → bytes ≡ flat_map step_bytes (map step_of items) ++ rest → rest ≡ step_bytes (step_of x) ++ after
-    → bytes ≡ flat_map step_bytes (map step_of (items ++ x ∷ [])) ++ after
-steps_more items x bytes rest after e r =
-    items_more step_bytes (map step_of items) (step_of x) bytes rest after e r ∙ ap (λ (p : Path). flat_map step_bytes p ++ after) (sym (map-append step_of items (x ∷ [])))
+pub steps_more : (version : Version) (items : List program.Step) (x : program.Step) (bytes rest after : List ℕ) → bytes ≡ flat_map (step_bytes version) (map step_of items) ++ rest → rest ≡ step_bytes version (step_of x) ++ after
+    → bytes ≡ flat_map (step_bytes version) (map step_of (items ++ x ∷ [])) ++ after
+steps_more version items x bytes rest after e r =
+    items_more (step_bytes version) (map step_of items) (step_of x) bytes rest after e r ∙ ap (λ (p : Path). flat_map (step_bytes version) p ++ after) (sym (map-append step_of items (x ∷ [])))
 
-pub steps_each : (items : List program.Step) (x : program.Step) → AllByRecursion IsStateStep (map step_of items) → IsStateStep (step_of x) → AllByRecursion IsStateStep (map step_of (items ++ x ∷ []))
-steps_each [] x p q = (q, tt)
-steps_each (y ∷ items) x p q = (p.0, steps_each items x p.1 q)
+pub steps_each : (version : Version) (items : List program.Step) (x : program.Step) → AllByRecursion (IsStateStep version) (map step_of items) → IsStateStep version (step_of x) → AllByRecursion (IsStateStep version) (map step_of (items ++ x ∷ []))
+steps_each version [] x p q = (q, tt)
+steps_each version (y ∷ items) x p q = (p.0, steps_each version items x p.1 q)
 
 -- ---- paths
 
 -- a path in front tells itself and the rest
-pub one_path : OneItem IsStatePath path_bytes
+pub one_path : (version : Version) → OneItem (IsStatePath version) (path_bytes version)
 unfolding path_bytes
-one_path a b r s p q e = one_list IsStateStep step_bytes one_step a b r s p.0 q.0 (heads (length a) (length b) _ _ e) (tails (length a) (length b) _ _ e)
+one_path version a b r s p q e = one_list (IsStateStep version) (step_bytes version) (one_step version) a b r s p.0 q.0 (heads (length a) (length b) _ _ e) (tails (length a) (length b) _ _ e)
 
-pub path_empty : (bytes : List ℕ) → length bytes ≡ 0 → BeginsNone IsStatePath path_bytes bytes
+pub path_empty : (version : Version) (bytes : List ℕ) → length bytes ≡ 0 → BeginsNone (IsStatePath version) (path_bytes version) bytes
 unfolding path_bytes
-path_empty bytes none = λ path s h e. no_byte bytes (length path) _ none e
+path_empty version bytes none = λ path s h e. no_byte bytes (length path) _ none e
 
-pub path_rest : (bytes rest : List ℕ) (count : ℕ) → bytes ≡ count ∷ rest → BeginsNone (AreSo IsStateStep count) (flat_map step_bytes) rest → BeginsNone IsStatePath path_bytes bytes
+pub path_rest : (version : Version) (bytes rest : List ℕ) (count : ℕ) → bytes ≡ count ∷ rest → BeginsNone (AreSo (IsStateStep version) count) (flat_map (step_bytes version)) rest → BeginsNone (IsStatePath version) (path_bytes version) bytes
 unfolding path_bytes
-path_rest bytes rest count is none = λ path s h e.
+path_rest version bytes rest count is none = λ path s h e.
     let whole = sym is ∙ e in
     none path s (sym (heads count (length path) rest _ whole), h.0) (tails count (length path) rest _ whole)
 
-pub path_long : (bytes rest after : List ℕ) (count : ℕ) (items : List program.Step) → bytes ≡ count ∷ rest → Begins (AreSo IsStateStep count) (flat_map step_bytes) (map step_of items) rest after → step_limit < length items → BeginsNone IsStatePath path_bytes bytes
+pub path_long : (version : Version) (bytes rest after : List ℕ) (count : ℕ) (items : List program.Step) → bytes ≡ count ∷ rest → Begins (AreSo (IsStateStep version) count) (flat_map (step_bytes version)) (map step_of items) rest after → step_limit < length items → BeginsNone (IsStatePath version) (path_bytes version) bytes
 unfolding path_bytes
-path_long bytes rest after count items is b long = λ path s h e.
+path_long version bytes rest after count items is b long = λ path s h e.
     omega (arith, long, h.1, b.value.0, length-map items step_of, heads count (length path) rest _ (sym is ∙ e))
 
-pub path_many : (bytes rest : List ℕ) (count : ℕ) → bytes ≡ count ∷ rest → step_limit < count → BeginsNone IsStatePath path_bytes bytes
+pub path_many : (version : Version) (bytes rest : List ℕ) (count : ℕ) → bytes ≡ count ∷ rest → step_limit < count → BeginsNone (IsStatePath version) (path_bytes version) bytes
 unfolding path_bytes
-path_many bytes rest count is many = λ path s h e. omega (arith, many, h.1, heads count (length path) rest _ (sym is ∙ e))
+path_many version bytes rest count is many = λ path s h e. omega (arith, many, h.1, heads count (length path) rest _ (sym is ∙ e))
 
-pub path_found : (bytes rest after : List ℕ) (count : ℕ) (items : List program.Step) (path : Path) → bytes ≡ count ∷ rest → Begins (AreSo IsStateStep count) (flat_map step_bytes) (map step_of items) rest after → path ≡ map step_of items → count ≤ step_limit
-    → Begins IsStatePath path_bytes path bytes after
+pub path_found : (version : Version) (bytes rest after : List ℕ) (count : ℕ) (items : List program.Step) (path : Path) → bytes ≡ count ∷ rest → Begins (AreSo (IsStateStep version) count) (flat_map (step_bytes version)) (map step_of items) rest after → path ≡ map step_of items → count ≤ step_limit
+    → Begins (IsStatePath version) (path_bytes version) path bytes after
 unfolding path_bytes
-path_found bytes rest after count items path is b same few =
-    let found : Begins IsStatePath path_bytes (map step_of items) bytes after = record {
+path_found version bytes rest after count items path is b same few =
+    let found : Begins (IsStatePath version) (path_bytes version) (map step_of items) bytes after = record {
       value = (b.value.1, omega (arith, few, b.value.0));
       parts = is ∙ ap (λ (k : ℕ). k ∷ rest) (sym b.value.0) ∙ ap (λ (x : List ℕ). length (map step_of items) ∷ x) b.parts;
     } in
-    subst (λ (p : Path). Begins IsStatePath path_bytes p bytes after) (sym same) found
+    subst (λ (p : Path). Begins (IsStatePath version) (path_bytes version) p bytes after) (sym same) found

@@ -32,6 +32,8 @@ use Rattle.cue_table.specs.Inner.ValidWalk.{IsSound, AreSound, HasChild}
 use Rattle.cue_table.proofs.Depth.{kept_at}
 use Rattle.cue_table.proofs.RowLists.{all_append, all_map, all_weaker, all_both, rows_stand}
 use Rattle.cue_table.proofs.Validity.{valid_sound, valid_empty}
+use Rattle.cue_codec.specs.declared.version.Version.{Version}
+use Rattle.cue_codec.specs.declared.version.Version.TheVariants as versions
 use Rattle.cue_codec.specs.Parts.{counted_bytes, piece_bytes, text_bytes, text_set_bytes, set_bytes, labels_bytes, lengths_bytes, path_bytes}
 use Rattle.cue_codec.specs.Reading.{AreWideLengths}
 use Rattle.cue_codec.specs.StateRow.{AreStateTexts, IsStateSet, AreStateLabels, IsStateStep, IsStatePath}
@@ -139,9 +141,9 @@ unfolding labels_bytes
 state_labels None h words fits = tt
 state_labels (Some labels) h words fits = state_texts labels h words (omega (arith, fits))
 
-wide_lengths : (least : ℕ) (most : Option ℕ) → AreLengths least most → AreWideLengths (least, most)
-wide_lengths least None h = (omega (arith, h), tt)
-wide_lengths least (Some most) h = let a = h.0 in let b = h.1 in (omega arith, omega arith)
+wide_lengths : (version : Version) (least : ℕ) (most : Option ℕ) → AreLengths least most → AreWideLengths version (least, most)
+wide_lengths versions.First least None h = (omega (arith, h), tt)
+wide_lengths versions.First least (Some most) h = let a = h.0 in let b = h.1 in (omega arith, omega arith)
 
 -- ---- the kinds
 
@@ -153,11 +155,11 @@ row_is row value usual struct_ok list_ok labels least most v u s l n a m =
     λ i. record { level = row.level; value = v i; usual = u i; struct_ok = s i; list_ok = l i; labels = n i; least = a i; most = m i }
 
 -- the row says just these parts, and its bytes tell them
-abbrev IsTold : Row → Parts → Type 0
-IsTold row parts = IsStateParts parts × (row ≡ made_row row.level parts)
+abbrev IsTold : (version : Version) → Row → Parts → Type 0
+IsTold version row parts = IsStateParts version parts × (row ≡ made_row row.level parts)
 
-told_as : (row : Row) (parts : Parts) → parts_of row ≡ parts → (length (parts_bytes parts) < 2 ^ 64 → IsTold row parts) → length (parts_bytes (parts_of row)) < 2 ^ 64 → IsTold row (parts_of row)
-told_as row parts e h fits = subst (IsTold row) (sym e) (h (subst (λ p. length (parts_bytes p) < 2 ^ 64) e fits))
+told_as : (version : Version) (row : Row) (parts : Parts) → parts_of row ≡ parts → (length (parts_bytes version parts) < 2 ^ 64 → IsTold version row parts) → length (parts_bytes version (parts_of row)) < 2 ^ 64 → IsTold version row (parts_of row)
+told_as version row parts e h fits = subst (IsTold version row) (sym e) (h (subst (λ p. length (parts_bytes version p) < 2 ^ 64) e fits))
 
 parts_are : (row : Row) (s l b : Bool) → row.struct_ok ≡ s → row.list_ok ≡ l → is_empty_set row.value ≡ b → parts_of row ≡ parts_by s l b row
 parts_are row s l b es el eb = λ i. parts_by (es i) (el i) (eb i) row
@@ -177,19 +179,19 @@ kind_parts row kinds.Struct form is = parts_are row true false (is_empty_set row
 kind_parts row kinds.List form is = parts_are row false true (is_empty_set row.value) is.1 is.2 refl
 kind_parts row kinds.Nothing form is = parts_are row false false true is.1 is.2 (ap is_empty_set (empty_is row.value form.value is.0))
 
-said_bytes : (kind : RowKind) (row : Row) → parts_bytes (said kind row) ≡ kind_bytes kind row
+said_bytes : (version : Version) (kind : RowKind) (row : Row) → parts_bytes version (said kind row) ≡ kind_bytes version kind row
 unfolding parts_bytes scalars_bytes left_out_bytes
-said_bytes kinds.Free row = refl
-said_bytes kinds.Scalar row = refl
-said_bytes kinds.Struct row = refl
-said_bytes kinds.List row = refl
-said_bytes kinds.Nothing row = refl
+said_bytes version kinds.Free row = refl
+said_bytes version kinds.Scalar row = refl
+said_bytes version kinds.Struct row = refl
+said_bytes version kinds.List row = refl
+said_bytes version kinds.Nothing row = refl
 
 -- a row of a kind has the bytes of its kind
 pub bytes_of_kinds : AreBytesOfKinds
 unfolding row_bytes
-bytes_of_kinds path row kind form is =
-    ap (λ (b : List ℕ). path_bytes path ++ (level_of row.level ∷ b)) (ap (λ (p : Parts). parts_bytes p) (kind_parts row kind form is) ∙ said_bytes kind row)
+bytes_of_kinds version path row kind form is =
+    ap (λ (b : List ℕ). path_bytes version path ++ (level_of row.level ∷ b)) (ap (λ (p : Parts). parts_bytes version p) (kind_parts row kind form is) ∙ said_bytes version kind row)
 
 -- what is known of a valid row
 record Facts (row : Row) (kind : RowKind) : Type 0 where
@@ -201,59 +203,59 @@ record Facts (row : Row) (kind : RowKind) : Type 0 where
   limits : AreLengths row.least row.most
   words : HasWords row
 
-scalars_fit : (value usual : ScalarSet) → length (parts_bytes (scalar value usual)) < 2 ^ 64 → (length (set_bytes value) < 2 ^ 64) × (length (set_bytes usual) < 2 ^ 64)
+scalars_fit : (version : Version) (value usual : ScalarSet) → length (parts_bytes version (scalar value usual)) < 2 ^ 64 → (length (set_bytes value) < 2 ^ 64) × (length (set_bytes usual) < 2 ^ 64)
 unfolding parts_bytes scalars_bytes
-scalars_fit value usual fits = (omega (arith, fits, length-append (set_bytes value) (set_bytes usual)), omega (arith, fits, length-append (set_bytes value) (set_bytes usual)))
+scalars_fit version value usual fits = (omega (arith, fits, length-append (set_bytes value) (set_bytes usual)), omega (arith, fits, length-append (set_bytes value) (set_bytes usual)))
 
-struct_fits : (labels : Option (List (List ℕ))) → length (parts_bytes (struct labels)) < 2 ^ 64 → length (labels_bytes labels) < 2 ^ 64
+struct_fits : (version : Version) (labels : Option (List (List ℕ))) → length (parts_bytes version (struct labels)) < 2 ^ 64 → length (labels_bytes labels) < 2 ^ 64
 unfolding parts_bytes
-struct_fits labels fits = omega (arith, fits)
+struct_fits version labels fits = omega (arith, fits)
 
-nothing_fits : (labels : Option (List (List ℕ))) (lengths : ℕ × Option ℕ) → length (parts_bytes (nothing labels lengths)) < 2 ^ 64 → length (labels_bytes labels) < 2 ^ 64
+nothing_fits : (version : Version) (labels : Option (List (List ℕ))) (lengths : ℕ × Option ℕ) → length (parts_bytes version (nothing labels lengths)) < 2 ^ 64 → length (labels_bytes labels) < 2 ^ 64
 unfolding parts_bytes left_out_bytes
-nothing_fits labels lengths fits = omega (arith, fits, length-append (labels_bytes labels) (lengths_bytes lengths))
+nothing_fits version labels lengths fits = omega (arith, fits, length-append (labels_bytes labels) (lengths_bytes version lengths))
 
-told : (row : Row) (kind : RowKind) → Facts row kind → length (parts_bytes (parts_of row)) < 2 ^ 64 → IsTold row (parts_of row)
-told row kinds.Free f =
+told : (version : Version) (row : Row) (kind : RowKind) → Facts row kind → length (parts_bytes version (parts_of row)) < 2 ^ 64 → IsTold version row (parts_of row)
+told version row kinds.Free f =
     let value = full_is row.value f.form.value f.is_kind.0 in
     let usual = full_is row.usual f.form.usual f.usual in
-    told_as row free (parts_are row true true (is_empty_set row.value) f.is_kind.1 f.is_kind.2 refl)
+    told_as version row free (parts_are row true true (is_empty_set row.value) f.is_kind.1 f.is_kind.2 refl)
     (λ fits. (tt, row_is row full_set full_set true true None 0 None value usual f.is_kind.1 f.is_kind.2 f.labels f.lengths.0 f.lengths.1))
-told row kinds.Scalar f =
+told version row kinds.Scalar f =
     let some = some_by_test row.value f.is_kind.0 in
-    told_as row (scalar row.value row.usual) (parts_are row false false false f.is_kind.1 f.is_kind.2 some)
+    told_as version row (scalar row.value row.usual) (parts_are row false false false f.is_kind.1 f.is_kind.2 some)
     (λ fits.
-    let parts = scalars_fit row.value row.usual fits in (
+    let parts = scalars_fit version row.value row.usual fits in (
       record { some = some; value = state_set row.value f.form.value f.words.value parts.0; usual = state_set row.usual f.form.usual f.words.usual parts.1 },
       row_is row row.value row.usual false false None 0 None refl refl f.is_kind.1 f.is_kind.2 f.labels f.lengths.0 f.lengths.1,
     ))
-told row kinds.Struct f =
+told version row kinds.Struct f =
     let value = empty_is row.value f.form.value f.is_kind.0 in
     let usual = empty_is row.usual f.form.usual f.usual in
-    told_as row (struct row.labels) (parts_are row true false (is_empty_set row.value) f.is_kind.1 f.is_kind.2 refl)
-    (λ fits. (state_labels row.labels f.form.labels f.words.labels (struct_fits row.labels fits), row_is row empty_set empty_set true false row.labels 0 None value usual f.is_kind.1 f.is_kind.2 refl f.lengths.0 f.lengths.1))
-told row kinds.List f =
+    told_as version row (struct row.labels) (parts_are row true false (is_empty_set row.value) f.is_kind.1 f.is_kind.2 refl)
+    (λ fits. (state_labels row.labels f.form.labels f.words.labels (struct_fits version row.labels fits), row_is row empty_set empty_set true false row.labels 0 None value usual f.is_kind.1 f.is_kind.2 refl f.lengths.0 f.lengths.1))
+told version row kinds.List f =
     let value = empty_is row.value f.form.value f.is_kind.0 in
     let usual = empty_is row.usual f.form.usual f.usual in
-    told_as row (list (row.least, row.most)) (parts_are row false true (is_empty_set row.value) f.is_kind.1 f.is_kind.2 refl)
-    (λ fits. (wide_lengths row.least row.most f.limits, row_is row empty_set empty_set false true None row.least row.most value usual f.is_kind.1 f.is_kind.2 f.labels refl refl))
-told row kinds.Nothing f =
+    told_as version row (list (row.least, row.most)) (parts_are row false true (is_empty_set row.value) f.is_kind.1 f.is_kind.2 refl)
+    (λ fits. (wide_lengths version row.least row.most f.limits, row_is row empty_set empty_set false true None row.least row.most value usual f.is_kind.1 f.is_kind.2 f.labels refl refl))
+told version row kinds.Nothing f =
     let value = empty_is row.value f.form.value f.is_kind.0 in
     let usual = empty_is row.usual f.form.usual f.usual in
-    told_as row (nothing row.labels (row.least, row.most)) (parts_are row false false true f.is_kind.1 f.is_kind.2 (ap is_empty_set value))
+    told_as version row (nothing row.labels (row.least, row.most)) (parts_are row false false true f.is_kind.1 f.is_kind.2 (ap is_empty_set value))
     (λ fits. (
-      (state_labels row.labels f.form.labels f.words.labels (nothing_fits row.labels (row.least, row.most) fits), wide_lengths row.least row.most f.limits),
+      (state_labels row.labels f.form.labels f.words.labels (nothing_fits version row.labels (row.least, row.most) fits), wide_lengths version row.least row.most f.limits),
       row_is row empty_set empty_set false false row.labels row.least row.most value usual f.is_kind.1 f.is_kind.2 refl refl refl,
     ))
 
-parts_fit : (row : Path × Row) → length (row_bytes row) < 2 ^ 64 → length (parts_bytes (parts_of row.1)) < 2 ^ 64
+parts_fit : (version : Version) (row : Path × Row) → length (row_bytes version row) < 2 ^ 64 → length (parts_bytes version (parts_of row.1)) < 2 ^ 64
 unfolding row_bytes
-parts_fit row fits = omega (arith, fits, length-append (path_bytes row.0) (level_of row.1.level ∷ parts_bytes (parts_of row.1)))
+parts_fit version row fits = omega (arith, fits, length-append (path_bytes version row.0) (level_of row.1.level ∷ parts_bytes version (parts_of row.1)))
 
 -- a valid row in form is told by its bytes
-state_row : (row : Path × Row) → IsRow row.1 → IsValidRow row.1 → IsStatePath row.0 → length (row_bytes row) < 2 ^ 64 → IsStateRow row
-state_row row form valid path fits =
-    let all = told row.1 valid.kind (record { form = form; is_kind = valid.is_kind; usual = valid.usual; labels = valid.labels; lengths = valid.row_lengths; limits = valid.limits; words = valid.texts }) (parts_fit row fits) in
+state_row : (version : Version) (row : Path × Row) → IsRow row.1 → IsValidRow row.1 → IsStatePath version row.0 → length (row_bytes version row) < 2 ^ 64 → IsStateRow version row
+state_row version row form valid path fits =
+    let all = told version row.1 valid.kind (record { form = form; is_kind = valid.is_kind; usual = valid.usual; labels = valid.labels; lengths = valid.row_lengths; limits = valid.limits; words = valid.texts }) (parts_fit version row fits) in
     record { path = path; parts = all.0; says = all.1 }
 
 -- ---- the rows of a table
@@ -262,48 +264,48 @@ below_limit : (least n : ℕ) (most : Option ℕ) → AreLengths least most → 
 below_limit least n None h lt = omega (arith, h, lt)
 below_limit least n (Some most) h lt = let a = h.0 in omega (arith, a, lt)
 
-state_step : (parent : Row) (step : Step) (row : Option Row) → IsValidRow parent → HasChild parent step row → IsStateStep step
-state_step parent step None valid h = absurd h
-state_step parent (label text) (Some row) valid h = h.word
-state_step parent (index n) (Some row) valid h = below_limit parent.least n parent.most valid.limits h.element
+state_step : (version : Version) (parent : Row) (step : Step) (row : Option Row) → IsValidRow parent → HasChild parent step row → IsStateStep version step
+state_step version parent step None valid h = absurd h
+state_step version parent (label text) (Some row) valid h = h.word
+state_step version parent (index n) (Some row) valid h = below_limit parent.least n parent.most valid.limits h.element
 
 -- a valid row on a path that bytes tell
-abbrev IsPlaced : Path × Row → Type 0
-IsPlaced row = AllByRecursion IsStateStep row.0 × IsValidRow row.1
+abbrev IsPlaced : (version : Version) → Path × Row → Type 0
+IsPlaced version row = AllByRecursion (IsStateStep version) row.0 × IsValidRow row.1
 
 mutual
-  placed : (tree : Tree Row) → IsSound tree → AllByRecursion IsPlaced (rows_of tree)
-  placed (node None children) h = absurd h
-  placed (node (Some row) children) h = ((tt, h.0), placed_below row children h.0 h.1)
+  placed : (version : Version) (tree : Tree Row) → IsSound tree → AllByRecursion (IsPlaced version) (rows_of tree)
+  placed version (node None children) h = absurd h
+  placed version (node (Some row) children) h = ((tt, h.0), placed_below version row children h.0 h.1)
 
-  placed_below : (parent : Row) (children : Children Row) → IsValidRow parent → AreSound parent children → AllByRecursion IsPlaced (rows_below children)
-  placed_below parent none valid h = tt
-  placed_below parent (child step tree children) valid h =
-      let here = state_step parent step (row_of tree) valid h.0 in
-      all_append IsPlaced (map (behind step) (rows_of tree)) (rows_below children)
-      (all_map (behind step) IsPlaced (rows_of tree) (all_weaker IsPlaced (λ row. IsPlaced (behind step row)) (rows_of tree) (λ row p. ((here, p.0), p.1)) (placed tree h.1)))
-      (placed_below parent children valid h.2)
+  placed_below : (version : Version) (parent : Row) (children : Children Row) → IsValidRow parent → AreSound parent children → AllByRecursion (IsPlaced version) (rows_below children)
+  placed_below version parent none valid h = tt
+  placed_below version parent (child step tree children) valid h =
+      let here = state_step version parent step (row_of tree) valid h.0 in
+      all_append (IsPlaced version) (map (behind step) (rows_of tree)) (rows_below children)
+      (all_map (behind step) (IsPlaced version) (rows_of tree) (all_weaker (IsPlaced version) (λ row. IsPlaced version (behind step row)) (rows_of tree) (λ row p. ((here, p.0), p.1)) (placed version tree h.1)))
+      (placed_below version parent children valid h.2)
 
-placed_valid : (tree : Tree Row) → IsValidTable tree → AllByRecursion IsPlaced (rows_of tree)
-placed_valid tree h = by (row_of tree) refl
+placed_valid : (version : Version) (tree : Tree Row) → IsValidTable tree → AllByRecursion (IsPlaced version) (rows_of tree)
+placed_valid version tree h = by (row_of tree) refl
   where
-    by : (row : Option Row) → row_of tree ≡ row → AllByRecursion IsPlaced (rows_of tree)
-    by (Some row) e = placed tree (valid_sound tree row e h)
-    by None e = subst (λ t. AllByRecursion IsPlaced (rows_of t)) (sym (valid_empty tree e h)) tt
+    by : (row : Option Row) → row_of tree ≡ row → AllByRecursion (IsPlaced version) (rows_of tree)
+    by (Some row) e = placed version tree (valid_sound tree row e h)
+    by None e = subst (λ t. AllByRecursion (IsPlaced version) (rows_of t)) (sym (valid_empty tree e h)) tt
 
-each_fits : (rows : List (Path × Row)) → length (flat_map row_bytes rows) < 2 ^ 64 → AllByRecursion (λ row. length (row_bytes row) < 2 ^ 64) rows
-each_fits [] fits = tt
-each_fits (row ∷ rows) fits =
-    let split = ap length (flat_map-cons row_bytes row rows) in
-    let sum = length-append (row_bytes row) (flat_map row_bytes rows) in
-    (omega (arith, fits, split, sum), each_fits rows (omega (arith, fits, split, sum)))
+each_fits : (version : Version) (rows : List (Path × Row)) → length (flat_map (row_bytes version) rows) < 2 ^ 64 → AllByRecursion (λ row. length (row_bytes version row) < 2 ^ 64) rows
+each_fits version [] fits = tt
+each_fits version (row ∷ rows) fits =
+    let split = ap length (flat_map-cons (row_bytes version) row rows) in
+    let sum = length-append (row_bytes version row) (flat_map (row_bytes version) rows) in
+    (omega (arith, fits, split, sum), each_fits version rows (omega (arith, fits, split, sum)))
 
 -- the rows of a valid table are told by their bytes, where these fit into memory
-pub valid_rows : (tree : Tree Row) → IsValidTable tree → length (flat_map row_bytes (rows_of tree)) < 2 ^ 64 → AllByRecursion IsStateRow (rows_of tree)
-valid_rows tree h fits =
+pub valid_rows : (version : Version) (tree : Tree Row) → IsValidTable tree → length (flat_map (row_bytes version) (rows_of tree)) < 2 ^ 64 → AllByRecursion (IsStateRow version) (rows_of tree)
+valid_rows version tree h fits =
     let P : Row → Type 0 = IsKept Refuses IsRow in
     let rows : List (Path × Row) = rows_of tree in
     let stand = rows_stand P tree h.form in
     let known = all_weaker (λ (x : Path × Row). row_at tree x.0 ≡ Some x.1) (λ (x : Path × Row). IsRow x.1 × (length x.0 ≤ step_limit)) rows (λ x s. ((kept_at P tree x.0 x.1 h.form s).0, h.paths x.0 x.1 s)) stand in
-    let with_places = all_both (λ (x : Path × Row). IsRow x.1 × (length x.0 ≤ step_limit)) IsPlaced (λ (x : Path × Row). IsRow x.1 × IsValidRow x.1 × IsStatePath x.0) rows (λ x a b. (a.0, b.1, (b.0, a.1))) known (placed_valid tree h) in
-    all_both (λ (x : Path × Row). IsRow x.1 × IsValidRow x.1 × IsStatePath x.0) (λ (x : Path × Row). length (row_bytes x) < 2 ^ 64) IsStateRow rows (λ x a b. state_row x a.0 a.1 a.2 b) with_places (each_fits rows fits)
+    let with_places = all_both (λ (x : Path × Row). IsRow x.1 × (length x.0 ≤ step_limit)) (IsPlaced version) (λ (x : Path × Row). IsRow x.1 × IsValidRow x.1 × IsStatePath version x.0) rows (λ x a b. (a.0, b.1, (b.0, a.1))) known (placed_valid version tree h) in
+    all_both (λ (x : Path × Row). IsRow x.1 × IsValidRow x.1 × IsStatePath version x.0) (λ (x : Path × Row). length (row_bytes version x) < 2 ^ 64) (IsStateRow version) rows (λ x a b. state_row version x a.0 a.1 a.2 b) with_places (each_fits version rows fits)

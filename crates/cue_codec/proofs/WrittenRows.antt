@@ -15,6 +15,7 @@ use Rattle.cue_table.specs.Walks.{first_child}
 use Rattle.cue_codec.specs.Parts.{step_bytes}
 use Rattle.cue_codec.specs.Reading.{IsShort, IsShortStep, AreShortLabels}
 use Rattle.cue_codec.specs.RowBytes.{parts_bytes, parts_of, row_bytes_from, IsShortRow}
+use Rattle.cue_codec.specs.Version.{written}
 
 -- ---- how many rows
 
@@ -53,42 +54,42 @@ module _ {R : Type 0} where
 -- ---- their bytes
 
 -- a row behind a step is a row from one step further
-row_behind : (depth : ℕ) (steps : List ℕ) (step : Step) (row : Path × Row) → row_bytes_from depth steps (behind step row) ≡ row_bytes_from (depth + 1) (steps ++ step_bytes step) row
+row_behind : (depth : ℕ) (steps : List ℕ) (step : Step) (row : Path × Row) → row_bytes_from written depth steps (behind step row) ≡ row_bytes_from written (depth + 1) (steps ++ step_bytes written step) row
 unfolding row_bytes_from
 row_behind depth steps step row =
-    let said : List ℕ = level_of row.1.level ∷ parts_bytes (parts_of row.1) in
+    let said : List ℕ = level_of row.1.level ∷ parts_bytes written (parts_of row.1) in
     let count : depth + length (step ∷ row.0) ≡ depth + 1 + length row.0 = omega arith in
-    let path : steps ++ (flat_map step_bytes (step ∷ row.0) ++ said) ≡ (steps ++ step_bytes step) ++ (flat_map step_bytes row.0 ++ said) =
-    ap (λ t. steps ++ (t ++ said)) (flat_map-cons step_bytes step row.0)
-    ∙ ap (λ t. steps ++ t) (append_assoc (step_bytes step) (flat_map step_bytes row.0) said)
-    ∙ sym (append_assoc steps (step_bytes step) (flat_map step_bytes row.0 ++ said)) in
+    let path : steps ++ (flat_map (step_bytes written) (step ∷ row.0) ++ said) ≡ (steps ++ step_bytes written step) ++ (flat_map (step_bytes written) row.0 ++ said) =
+    ap (λ t. steps ++ (t ++ said)) (flat_map-cons (step_bytes written) step row.0)
+    ∙ ap (λ t. steps ++ t) (append_assoc (step_bytes written step) (flat_map (step_bytes written) row.0) said)
+    ∙ sym (append_assoc steps (step_bytes written step) (flat_map (step_bytes written) row.0 ++ said)) in
     λ i. count i ∷ path i
 
-rows_behind : (depth : ℕ) (steps : List ℕ) (step : Step) (rows : List (Path × Row)) → flat_map (row_bytes_from depth steps) (map (behind step) rows) ≡ flat_map (row_bytes_from (depth + 1) (steps ++ step_bytes step)) rows
+rows_behind : (depth : ℕ) (steps : List ℕ) (step : Step) (rows : List (Path × Row)) → flat_map (row_bytes_from written depth steps) (map (behind step) rows) ≡ flat_map (row_bytes_from written (depth + 1) (steps ++ step_bytes written step)) rows
 rows_behind depth steps step [] = refl
 rows_behind depth steps step (row ∷ rows) =
-    flat_map-cons (row_bytes_from depth steps) (behind step row) (map (behind step) rows)
-    ∙ ap (λ t. t ++ flat_map (row_bytes_from depth steps) (map (behind step) rows)) (row_behind depth steps step row)
-    ∙ ap (λ t. row_bytes_from (depth + 1) (steps ++ step_bytes step) row ++ t) (rows_behind depth steps step rows)
-    ∙ sym (flat_map-cons (row_bytes_from (depth + 1) (steps ++ step_bytes step)) row rows)
+    flat_map-cons (row_bytes_from written depth steps) (behind step row) (map (behind step) rows)
+    ∙ ap (λ t. t ++ flat_map (row_bytes_from written depth steps) (map (behind step) rows)) (row_behind depth steps step row)
+    ∙ ap (λ t. row_bytes_from written (depth + 1) (steps ++ step_bytes written step) row ++ t) (rows_behind depth steps step rows)
+    ∙ sym (flat_map-cons (row_bytes_from written (depth + 1) (steps ++ step_bytes written step)) row rows)
 
-pub bytes_begin : (depth : ℕ) (steps : List ℕ) (tree : Tree Row) (row : Row) (old new : List ℕ) → row_of tree ≡ Some row → new ≡ old ++ row_bytes_from depth steps ([], row)
-    → new ++ flat_map (row_bytes_from depth steps) (rows_below (below tree)) ≡ old ++ flat_map (row_bytes_from depth steps) (rows_of tree)
+pub bytes_begin : (depth : ℕ) (steps : List ℕ) (tree : Tree Row) (row : Row) (old new : List ℕ) → row_of tree ≡ Some row → new ≡ old ++ row_bytes_from written depth steps ([], row)
+    → new ++ flat_map (row_bytes_from written depth steps) (rows_below (below tree)) ≡ old ++ flat_map (row_bytes_from written depth steps) (rows_of tree)
 bytes_begin depth steps (node None children) row old new e h = cc
 bytes_begin depth steps (node (Some here) children) row old new e h =
     let same : row ≡ here = cc in
-    let f : Path × Row → List ℕ = row_bytes_from depth steps in
+    let f : Path × Row → List ℕ = row_bytes_from written depth steps in
     ap (λ t. t ++ flat_map f (rows_below children)) h ∙ append_assoc old (f ([], row)) (flat_map f (rows_below children)) ∙ ap (λ r. old ++ (f ([], r) ++ flat_map f (rows_below children))) same
     ∙ ap (λ t. old ++ t) (sym (flat_map-cons f ([], here) (rows_below children)))
 
-pub bytes_begin_below : (depth : ℕ) (steps : List ℕ) (tree : Tree Row) (old : List ℕ) → row_of tree ≡ None → old ++ flat_map (row_bytes_from depth steps) (rows_below (below tree)) ≡ old ++ flat_map (row_bytes_from depth steps) (rows_of tree)
+pub bytes_begin_below : (depth : ℕ) (steps : List ℕ) (tree : Tree Row) (old : List ℕ) → row_of tree ≡ None → old ++ flat_map (row_bytes_from written depth steps) (rows_below (below tree)) ≡ old ++ flat_map (row_bytes_from written depth steps) (rows_of tree)
 bytes_begin_below depth steps (node None children) old e = refl
 bytes_begin_below depth steps (node (Some here) children) old e = cc
 
 pub bytes_more : (depth : ℕ) (steps : List ℕ) (step : Step) (tree : Tree Row) (rest left : Children Row) (now next all : List ℕ) → children_of rest ≡ (step, tree) ∷ children_of left
-    → next ≡ now ++ flat_map (row_bytes_from (depth + 1) (steps ++ step_bytes step)) (rows_of tree) → now ++ flat_map (row_bytes_from depth steps) (rows_below rest) ≡ all → next ++ flat_map (row_bytes_from depth steps) (rows_below left) ≡ all
+    → next ≡ now ++ flat_map (row_bytes_from written (depth + 1) (steps ++ step_bytes written step)) (rows_of tree) → now ++ flat_map (row_bytes_from written depth steps) (rows_below rest) ≡ all → next ++ flat_map (row_bytes_from written depth steps) (rows_below left) ≡ all
 bytes_more depth steps step tree rest left now next all e h k =
-    let f : Path × Row → List ℕ = row_bytes_from depth steps in
+    let f : Path × Row → List ℕ = row_bytes_from written depth steps in
     let parts = first_child rest left step tree e in
     ap (λ t. t ++ flat_map f (rows_below left)) (h ∙ ap (λ t. now ++ t) (sym (rows_behind depth steps step (rows_of tree))))
     ∙ append_assoc now (flat_map f (map (behind step) (rows_of tree))) (flat_map f (rows_below left))
@@ -96,7 +97,7 @@ bytes_more depth steps step tree rest left now next all e h k =
     ∙ ap (λ cs. now ++ flat_map f (rows_below cs)) (sym parts)
     ∙ k
 
-pub bytes_end : (depth : ℕ) (steps : List ℕ) (rest : Children Row) (now all : List ℕ) → children_of rest ≡ [] → now ++ flat_map (row_bytes_from depth steps) (rows_below rest) ≡ all → now ≡ all
+pub bytes_end : (depth : ℕ) (steps : List ℕ) (rest : Children Row) (now all : List ℕ) → children_of rest ≡ [] → now ++ flat_map (row_bytes_from written depth steps) (rows_below rest) ≡ all → now ≡ all
 bytes_end depth steps none now all e h = sym (append-nil now) ∙ h
 bytes_end depth steps (child step tree rest) now all e h = cc
 

@@ -13,49 +13,55 @@ use Rattle.cue_table.specs.Tree.{Tree, row_of, rows_of}
 use Rattle.cue_table.specs.Valid.{IsValidTable}
 use Rattle.cue_table.specs.Inner.ValidWalk.{IsSound}
 use Rattle.cue_table.proofs.Validity.{valid_sound, valid_empty}
+use Rattle.cue_codec.specs.declared.version.Version.{Version}
 use Rattle.cue_codec.specs.Parts.{step_bytes, path_bytes, counted_bytes}
 use Rattle.cue_codec.specs.RowBytes.{parts_bytes, parts_of, row_bytes, row_bytes_from}
 use Rattle.cue_codec.specs.State.{mark, state_bytes, table_bytes}
+use Rattle.cue_codec.specs.Version.{version_byte, written}
 
 -- a row takes a byte at least
-pub row_some : (row : Path × Row) → 1 ≤ length (row_bytes row)
+pub row_some : (version : Version) (row : Path × Row) → 1 ≤ length (row_bytes version row)
 unfolding row_bytes path_bytes
-row_some row = omega arith
+row_some version row = omega arith
 
 -- so there are no more rows than bytes
-pub rows_few : (rows : List (Path × Row)) → length rows ≤ length (flat_map row_bytes rows)
-rows_few [] = omega arith
-rows_few (row ∷ rows) =
-    let some = row_some row in
-    let rest = rows_few rows in
-    omega (arith, ap length (flat_map-cons row_bytes row rows), length-append (row_bytes row) (flat_map row_bytes rows))
+pub rows_few : (version : Version) (rows : List (Path × Row)) → length rows ≤ length (flat_map (row_bytes version) rows)
+rows_few version [] = omega arith
+rows_few version (row ∷ rows) =
+    let some = row_some version row in
+    let rest = rows_few version rows in
+    omega (arith, ap length (flat_map-cons (row_bytes version) row rows), length-append (row_bytes version row) (flat_map (row_bytes version) rows))
 
 -- a row from the root
-row_from_root : (row : Path × Row) → row_bytes_from 0 [] row ≡ row_bytes row
+row_from_root : (row : Path × Row) → row_bytes_from written 0 [] row ≡ row_bytes written row
 unfolding row_bytes path_bytes row_bytes_from
 row_from_root row =
     let count : 0 + length row.0 ≡ length row.0 = omega arith in
-    ap (λ n. n ∷ (flat_map step_bytes row.0 ++ (level_of row.1.level ∷ parts_bytes (parts_of row.1)))) count
+    ap (λ n. n ∷ (flat_map (step_bytes written) row.0 ++ (level_of row.1.level ∷ parts_bytes written (parts_of row.1)))) count
 
-pub rows_from_root : (rows : List (Path × Row)) → flat_map (row_bytes_from 0 []) rows ≡ flat_map row_bytes rows
+pub rows_from_root : (rows : List (Path × Row)) → flat_map (row_bytes_from written 0 []) rows ≡ flat_map (row_bytes written) rows
 rows_from_root [] = refl
 rows_from_root (row ∷ rows) =
-    flat_map-cons (row_bytes_from 0 []) row rows ∙ ap (λ t. t ++ flat_map (row_bytes_from 0 []) rows) (row_from_root row) ∙ ap (λ t. row_bytes row ++ t) (rows_from_root rows) ∙ sym (flat_map-cons row_bytes row rows)
+    flat_map-cons (row_bytes_from written 0 []) row rows ∙ ap (λ t. t ++ flat_map (row_bytes_from written 0 []) rows) (row_from_root row) ∙ ap (λ t. row_bytes written row ++ t) (rows_from_root rows) ∙ sym (flat_map-cons (row_bytes written) row rows)
 
 -- a state in its parts
-pub state_parts : (rows : List (Path × Row)) → state_bytes rows ≡ mark ++ (1 ∷ (to_be_bytes w64 (length rows) ++ flat_map row_bytes rows))
+pub parts_of_state : (version : Version) (rows : List (Path × Row)) → state_bytes version rows ≡ mark ++ (version_byte version ∷ (to_be_bytes w64 (length rows) ++ flat_map (row_bytes version) rows))
 unfolding state_bytes counted_bytes
-state_parts rows = refl
+parts_of_state version rows = refl
+
+-- a state of the version that is written
+pub state_parts : (rows : List (Path × Row)) → state_bytes written rows ≡ mark ++ (1 ∷ (to_be_bytes w64 (length rows) ++ flat_map (row_bytes written) rows))
+state_parts rows = parts_of_state written rows
 
 -- the head and the rows are the state, where they fit into memory
 pub state_written :
-    (tree : Tree Row) (out rows : List ℕ) (count : ℕ) → length out < 2 ^ 64 → count ≡ min (length (rows_of tree)) (2 ^ 64 - 1) → rows ≡ flat_map (row_bytes_from 0 []) (rows_of tree) → out ≡ mark ++ (1 ∷ (to_be_bytes w64 count ++ rows))
+    (tree : Tree Row) (out rows : List ℕ) (count : ℕ) → length out < 2 ^ 64 → count ≡ min (length (rows_of tree)) (2 ^ 64 - 1) → rows ≡ flat_map (row_bytes_from written 0 []) (rows_of tree) → out ≡ mark ++ (1 ∷ (to_be_bytes w64 count ++ rows))
     → out ≡ table_bytes tree
-state_written tree out rows count fits counted written e =
-    let all : rows ≡ flat_map row_bytes (rows_of tree) = written ∙ rows_from_root (rows_of tree) in
-    let few = rows_few (rows_of tree) in
+state_written tree out rows count fits counted spelled e =
+    let all : rows ≡ flat_map (row_bytes written) (rows_of tree) = spelled ∙ rows_from_root (rows_of tree) in
+    let few = rows_few written (rows_of tree) in
     let same : count ≡ length (rows_of tree) = omega (arith, fits, counted, few, ap length all, ap length e, length-append mark (1 ∷ (to_be_bytes w64 count ++ rows)), length-append (to_be_bytes w64 count) rows) in
-    e ∙ ap (λ t. mark ++ (1 ∷ (to_be_bytes w64 count ++ t))) all ∙ ap (λ n. mark ++ (1 ∷ (to_be_bytes w64 n ++ flat_map row_bytes (rows_of tree)))) same ∙ sym (state_parts (rows_of tree))
+    e ∙ ap (λ t. mark ++ (1 ∷ (to_be_bytes w64 count ++ t))) all ∙ ap (λ n. mark ++ (1 ∷ (to_be_bytes w64 n ++ flat_map (row_bytes written) (rows_of tree)))) same ∙ sym (state_parts (rows_of tree))
 
 map_some : {A B : Type 0} (f : A → B) (r : Option A) → is_some (option_map f r) ≡ is_some r
 map_some f None = refl

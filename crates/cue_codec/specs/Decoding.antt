@@ -9,17 +9,24 @@ use Rattle.cue_row.specs.Row.{Refuses, IsRow}
 use Rattle.cue_table.specs.Tree.{Tree, rows_of}
 use Rattle.cue_table.specs.Form.{IsTable}
 use Rattle.cue_table.specs.Valid.{IsValidTable}
+use Rattle.cue_codec.specs.declared.version.Version.{Version}
 use Rattle.cue_codec.specs.RowBytes.{row_bytes, IsStateRow}
-use Rattle.cue_codec.specs.State.{mark, table_bytes}
+use Rattle.cue_codec.specs.State.{mark, table_bytes_in}
+use Rattle.cue_codec.specs.Version.{version_byte, written, IsNoVersion}
 
 -- the mark, and after it a version that is not known
 abbrev pub IsOtherVersion : List ℕ → Type 0
 IsOtherVersion bytes =
-    (version : ℕ) × (rest : List ℕ) × (bytes ≡ mark ++ (version ∷ rest)) × ¬ (version ≡ 1)
+    (version : ℕ) × (rest : List ℕ) × (bytes ≡ mark ++ (version ∷ rest)) × IsNoVersion version
+
+-- the bytes of no valid table in a version
+abbrev pub IsNoStateIn : Version → List ℕ → Type 0
+IsNoStateIn version bytes =
+    (tree : Tree Row) → IsValidTable tree → ¬ (table_bytes_in version tree ≡ bytes)
 
 -- the bytes of no valid table
 abbrev pub IsNoState : List ℕ → Type 0
-IsNoState bytes = (tree : Tree Row) → IsValidTable tree → ¬ (table_bytes tree ≡ bytes)
+IsNoState bytes = IsNoStateIn written bytes
 
 -- The version is not known; or it is, or there is none, and no valid table has these bytes.
 abbrev pub IsRejected : List ℕ → Kind → Type 0
@@ -27,23 +34,29 @@ IsRejected bytes kind =
     ((kind ≡ kinds.Version) × IsOtherVersion bytes)
     ⊎ ((kind ≡ kinds.NotState) × ¬ IsOtherVersion bytes × IsNoState bytes)
 
+-- the mark, a version, a count in 8 bytes, and whatever follows
+abbrev pub BeginsAsStateIn : Version → List ℕ → Type 0
+BeginsAsStateIn version bytes =
+    (count : ℕ) × (rest : List ℕ)
+    × (bytes ≡ mark ++ (version_byte version ∷ (to_be_bytes w64 count ++ rest)))
+
 -- the mark, the version that is known, a count in 8 bytes, and whatever follows
 abbrev pub BeginsAsState : List ℕ → Type 0
-BeginsAsState bytes =
-    (count : ℕ) × (rest : List ℕ) × (bytes ≡ mark ++ (1 ∷ (to_be_bytes w64 count ++ rest)))
+BeginsAsState bytes = BeginsAsStateIn written bytes
 
 -- Memory ran out while the rows were read, and so only where the bytes begin as those of a state
 -- do; or the bytes are rejected.
 abbrev pub IsUndecoded : List ℕ → Kind → Type 0
 IsUndecoded bytes kind = ((kind ≡ kinds.Memory) × BeginsAsState bytes) ⊎ IsRejected bytes kind
 
--- the table has so many rows, and these bytes are theirs
-pub record AreReadRows (count : ℕ) (bytes : List ℕ) (tree : Tree Row) : Type 0 where
+-- the table has so many rows, and these bytes are theirs in a version
+pub record AreReadRows (version : Version) (count : ℕ) (bytes : List ℕ) (tree : Tree Row)
+    : Type 0 where
   pub form : IsTable Refuses IsRow tree
-  pub rows : AllByRecursion IsStateRow (rows_of tree)
+  pub rows : AllByRecursion (IsStateRow version) (rows_of tree)
   pub counted : length (rows_of tree) ≡ count
-  pub parts : bytes ≡ flat_map row_bytes (rows_of tree)
+  pub parts : bytes ≡ flat_map (row_bytes version) (rows_of tree)
 
--- no table has so many rows of these bytes
-abbrev pub NoRows : ℕ → List ℕ → Type 0
-NoRows count bytes = (tree : Tree Row) → ¬ AreReadRows count bytes tree
+-- no table has so many rows of these bytes in a version
+abbrev pub NoRows : Version → ℕ → List ℕ → Type 0
+NoRows version count bytes = (tree : Tree Row) → ¬ AreReadRows version count bytes tree

@@ -6,3 +6,4 @@ pub mod Size
 pub mod State
 pub mod StateRow
 pub mod KindBytes
+pub mod Version

@@ -1,4 +1,4 @@
--- The bytes of the parts of a row. Numbers are written from the highest byte to the lowest,
+-- The bytes of the parts of a row, in a version. What takes no version is the same in each. Numbers are written from the highest byte to the lowest,
 -- integers in two's complement.
 use Rattle.std.specs.Prelude.{ℕ, ◌+◌, ◌*◌, ℤ, Bool, true, false, List, [], ◌∷◌, ◌++◌, length}
 use Rattle.std.specs.Prelude.{Option, Some, None}
@@ -6,6 +6,8 @@ use Rattle.std.specs.List.{flat_map}
 use Rattle.std.specs.Int.{w16, w32, w64, to_be_bytes, cast_unsigned}
 use Rattle.cue_lattice.specs.Path.{Step, label, index, Path}
 use Rattle.cue_scalars.specs.declared.scalar_set.ScalarSet.{ScalarSet}
+use Rattle.cue_codec.specs.declared.version.Version.{Version}
+use Rattle.cue_codec.specs.declared.version.Version.TheVariants as versions
 
 -- an integer in 8 bytes
 unfoldable pub integer_bytes : ℤ → List ℕ
@@ -52,14 +54,14 @@ most_bytes None = 0 ∷ []
 most_bytes (Some most) = 1 ∷ to_be_bytes w32 most
 
 -- the least length in 4 bytes, and the greatest
-unfoldable pub lengths_bytes : ℕ × Option ℕ → List ℕ
-lengths_bytes lengths = to_be_bytes w32 lengths.0 ++ most_bytes lengths.1
+unfoldable pub lengths_bytes : Version → ℕ × Option ℕ → List ℕ
+lengths_bytes versions.First lengths = to_be_bytes w32 lengths.0 ++ most_bytes lengths.1
 
 -- a label, or an index in 4 bytes
-unfoldable pub step_bytes : Step → List ℕ
-step_bytes (label text) = 0 ∷ text_bytes text
-step_bytes (index number) = 1 ∷ to_be_bytes w32 number
+unfoldable pub step_bytes : Version → Step → List ℕ
+step_bytes version (label text) = 0 ∷ text_bytes text
+step_bytes version (index number) = 1 ∷ to_be_bytes w32 number
 
 -- how many steps there are, in 1 byte, and each of them
-unfoldable pub path_bytes : Path → List ℕ
-path_bytes path = length path ∷ flat_map step_bytes path
+unfoldable pub path_bytes : Version → Path → List ℕ
+path_bytes version path = length path ∷ flat_map (step_bytes version) path

@@ -8,6 +8,8 @@ use Rattle.cue_lattice.specs.Scalar.{IsInteger}
 pub use Rattle.cue_lattice.specs.Word.{IsWord}
 use Rattle.cue_lattice.specs.declared.refusal.Kind.{Kind}
 use Rattle.cue_lattice.specs.declared.refusal.Kind.TheVariants as kinds
+use Rattle.cue_codec.specs.declared.version.Version.{Version}
+use Rattle.cue_codec.specs.declared.version.Version.TheVariants as versions
 
 -- the bytes of the value stand in front, and after them the rest
 pub record Begins {X : Type 0} (is_value : X → Type 0) (code : X → List ℕ) (item : X)
@@ -53,8 +55,8 @@ IsMost None = Unit {0}
 IsMost (Some most) = most < 2 ^ 32
 
 -- a least length of 32 bits, and a greatest one of as many
-abbrev pub AreWideLengths : ℕ × Option ℕ → Type 0
-AreWideLengths lengths = (lengths.0 < 2 ^ 32) × IsMost lengths.1
+abbrev pub AreWideLengths : Version → ℕ × Option ℕ → Type 0
+AreWideLengths versions.First lengths = (lengths.0 < 2 ^ 32) × IsMost lengths.1
 
 -- so many items
 abbrev pub AreSo : {X : Type 0} → (X → Type 0) → ℕ → List X → Type 0

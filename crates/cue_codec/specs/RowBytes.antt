@@ -1,4 +1,4 @@
--- The bytes of a row: its path, its level, its kind, and what the kind leaves open.
+-- The bytes of a row in a version: its path, its level, its kind, and what the kind leaves open.
 use Rattle.std.specs.Prelude.{◌≡◌, ℕ, ◌+◌, Bool, true, false, not, ◌&&◌, List, [], ◌∷◌, ◌++◌}
 use Rattle.std.specs.Prelude.{length, Option}
 use Rattle.std.specs.List.{flat_map, AllByRecursion}
@@ -10,6 +10,7 @@ use Rattle.cue_row.specs.declared.row.Row.{Row}
 use Rattle.cue_row.specs.Levels.{level_of}
 pub use Rattle.cue_row.specs.Made.{empty_set, full_set}
 use Rattle.cue_row.specs.Made.{free_row, scalar_row, struct_row, list_row, nothing_row}
+use Rattle.cue_codec.specs.declared.version.Version.{Version}
 use Rattle.cue_codec.specs.Parts.{set_bytes, labels_bytes, lengths_bytes, step_bytes, path_bytes}
 use Rattle.cue_codec.specs.Reading.{Begins, AreWideLengths, IsShort, AreShortLabels}
 use Rattle.cue_codec.specs.StateRow.{IsStateSet, AreStateLabels, IsStatePath}
@@ -28,16 +29,16 @@ unfoldable pub scalars_bytes : ScalarSet × ScalarSet → List ℕ
 scalars_bytes sets = set_bytes sets.0 ++ set_bytes sets.1
 
 -- labels and lengths
-unfoldable pub left_out_bytes : Option (List (List ℕ)) × (ℕ × Option ℕ) → List ℕ
-left_out_bytes parts = labels_bytes parts.0 ++ lengths_bytes parts.1
+unfoldable pub left_out_bytes : Version → Option (List (List ℕ)) × (ℕ × Option ℕ) → List ℕ
+left_out_bytes version parts = labels_bytes parts.0 ++ lengths_bytes version parts.1
 
 -- the kind, and what it leaves open
-unfoldable pub parts_bytes : Parts → List ℕ
-parts_bytes free = 0 ∷ []
-parts_bytes (scalar value usual) = 1 ∷ scalars_bytes (value, usual)
-parts_bytes (struct labels) = 2 ∷ labels_bytes labels
-parts_bytes (list lengths) = 3 ∷ lengths_bytes lengths
-parts_bytes (nothing labels lengths) = 4 ∷ left_out_bytes (labels, lengths)
+unfoldable pub parts_bytes : Version → Parts → List ℕ
+parts_bytes version free = 0 ∷ []
+parts_bytes version (scalar value usual) = 1 ∷ scalars_bytes (value, usual)
+parts_bytes version (struct labels) = 2 ∷ labels_bytes labels
+parts_bytes version (list lengths) = 3 ∷ lengths_bytes version lengths
+parts_bytes version (nothing labels lengths) = 4 ∷ left_out_bytes version (labels, lengths)
 
 -- whether a set has no member
 abbrev pub is_empty_set : ScalarSet → Bool
@@ -57,8 +58,9 @@ abbrev pub parts_of : Row → Parts
 parts_of row = parts_by row.struct_ok row.list_ok (is_empty_set row.value) row
 
 -- the path, the level, and what else the row says
-unfoldable pub row_bytes : Path × Row → List ℕ
-row_bytes row = path_bytes row.0 ++ (level_of row.1.level ∷ parts_bytes (parts_of row.1))
+unfoldable pub row_bytes : Version → Path × Row → List ℕ
+row_bytes version row =
+    path_bytes version row.0 ++ (level_of row.1.level ∷ parts_bytes version (parts_of row.1))
 
 -- the row of a kind that says no more than this
 abbrev pub row_of : Level → Parts → Row
@@ -74,20 +76,20 @@ pub record AreScalars (sets : ScalarSet × ScalarSet) : Type 0 where
   pub value : IsStateSet sets.0
   pub usual : IsStateSet sets.1
 
-abbrev pub AreLeftOut : Option (List (List ℕ)) × (ℕ × Option ℕ) → Type 0
-AreLeftOut parts = AreStateLabels parts.0 × AreWideLengths parts.1
+abbrev pub AreLeftOut : Version → Option (List (List ℕ)) × (ℕ × Option ℕ) → Type 0
+AreLeftOut version parts = AreStateLabels parts.0 × AreWideLengths version parts.1
 
-abbrev pub IsStateParts : Parts → Type 0
-IsStateParts free = Unit {0}
-IsStateParts (scalar value usual) = AreScalars (value, usual)
-IsStateParts (struct labels) = AreStateLabels labels
-IsStateParts (list lengths) = AreWideLengths lengths
-IsStateParts (nothing labels lengths) = AreLeftOut (labels, lengths)
+abbrev pub IsStateParts : Version → Parts → Type 0
+IsStateParts version free = Unit {0}
+IsStateParts version (scalar value usual) = AreScalars (value, usual)
+IsStateParts version (struct labels) = AreStateLabels labels
+IsStateParts version (list lengths) = AreWideLengths version lengths
+IsStateParts version (nothing labels lengths) = AreLeftOut version (labels, lengths)
 
 -- The path is one of the program, and the row says no more than its bytes do.
-pub record IsStateRow (row : Path × Row) : Type 0 where
-  pub path : IsStatePath row.0
-  pub parts : IsStateParts (parts_of row.1)
+pub record IsStateRow (version : Version) (row : Path × Row) : Type 0 where
+  pub path : IsStatePath version row.0
+  pub parts : IsStateParts version (parts_of row.1)
   pub says : row.1 ≡ row_of row.1.level (parts_of row.1)
 
 -- A part of a row was read, and the row of this level that says it was made.
@@ -105,8 +107,9 @@ pub record IsShortRow (row : Row) : Type 0 where
 
 -- A row whose path goes on from a place that is so many steps from the root. These steps are the
 -- bytes in front.
-unfoldable pub row_bytes_from : ℕ → List ℕ → Path × Row → List ℕ
-row_bytes_from depth steps row =
+unfoldable pub row_bytes_from : Version → ℕ → List ℕ → Path × Row → List ℕ
+row_bytes_from version depth steps row =
     (depth + length row.0)
     ∷ (steps
-    ++ (flat_map step_bytes row.0 ++ (level_of row.1.level ∷ parts_bytes (parts_of row.1))))
+    ++ (flat_map (step_bytes version) row.0
+    ++ (level_of row.1.level ∷ parts_bytes version (parts_of row.1))))

@@ -1,20 +1,26 @@
--- The state bytes of a table, version 1: a mark, the version, how many rows there are, and the rows
--- in path order.
+-- The state bytes of a table in a version: a mark, the version, how many rows there are, and the
+-- rows in path order.
 use Rattle.std.specs.Prelude.{ℕ, List, [], ◌∷◌, ◌++◌}
 use Rattle.cue_lattice.specs.Path.{Path}
 use Rattle.cue_row.specs.declared.row.Row.{Row}
 use Rattle.cue_table.specs.Tree.{Tree, rows_of}
+use Rattle.cue_codec.specs.declared.version.Version.{Version}
 use Rattle.cue_codec.specs.Parts.{counted_bytes}
 use Rattle.cue_codec.specs.RowBytes.{row_bytes}
+use Rattle.cue_codec.specs.Version.{version_byte, written}
 
 -- how every state begins
 abbrev pub mark : List ℕ
 mark = 254 ∷ 67 ∷ 85 ∷ 69 ∷ []
 
 -- the mark, the version, the count in 8 bytes, and the rows
-unfoldable pub state_bytes : List (Path × Row) → List ℕ
-state_bytes rows = mark ++ (1 ∷ counted_bytes row_bytes rows)
+unfoldable pub state_bytes : Version → List (Path × Row) → List ℕ
+state_bytes version rows = mark ++ (version_byte version ∷ counted_bytes (row_bytes version) rows)
 
--- the state bytes of a table
+-- the state bytes of a table in a version
+abbrev pub table_bytes_in : Version → Tree Row → List ℕ
+table_bytes_in version tree = state_bytes version (rows_of tree)
+
+-- the state bytes of a table, in the version that is written
 abbrev pub table_bytes : Tree Row → List ℕ
-table_bytes tree = state_bytes (rows_of tree)
+table_bytes tree = table_bytes_in written tree

@@ -1,4 +1,4 @@
--- What the parts of a row may be in a state: sets and labels in their one form, texts in UTF-8 of
+-- What the parts of a row may be in a state of a version: sets and labels in their one form, texts in UTF-8 of
 -- at most 65,535 bytes, lists that a count of 8 bytes can tell.
 use Rattle.std.specs.Prelude.{ℕ, ℤ, ◌<◌, ◌≤◌, ◌^◌, Bool, List, length, Option, Some, None}
 use Rattle.std.specs.List.{AllByRecursion}
@@ -7,6 +7,7 @@ use Rattle.cue_lattice.specs.Path.{Step, label, index, Path}
 use Rattle.cue_sets.specs.Pieces.{IsCanonical}
 use Rattle.cue_sets.specs.Texts.{IsAscending}
 use Rattle.cue_scalars.specs.declared.scalar_set.ScalarSet.{ScalarSet}
+use Rattle.cue_codec.specs.declared.version.Version.{Version}
 use Rattle.cue_codec.specs.Reading.{IsWord, AreCounted}
 
 abbrev pub IsStateIntegers : List (ℤ × ℤ) → Type 0
@@ -27,9 +28,9 @@ AreStateLabels None = Unit {0}
 AreStateLabels (Some labels) = AreStateTexts labels
 
 -- a label in UTF-8, or an index of 32 bits
-abbrev pub IsStateStep : Step → Type 0
-IsStateStep (label text) = IsWord text
-IsStateStep (index number) = number < 2 ^ 32
+abbrev pub IsStateStep : Version → Step → Type 0
+IsStateStep version (label text) = IsWord text
+IsStateStep version (index number) = number < 2 ^ 32
 
-abbrev pub IsStatePath : Path → Type 0
-IsStatePath path = AllByRecursion IsStateStep path × (length path ≤ step_limit)
+abbrev pub IsStatePath : Version → Path → Type 0
+IsStatePath version path = AllByRecursion (IsStateStep version) path × (length path ≤ step_limit)

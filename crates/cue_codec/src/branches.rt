@@ -7,6 +7,7 @@ ghost use Rattle.cue_table.specs.Tree.{rows_of};
 ghost use Rattle.cue_table.specs.Depth.{tree_depth};
 ghost use Rattle.cue_table.specs.Inner.ValidWalk.{IsSound};
 ghost use Rattle.cue_codec.specs.RowBytes.{row_bytes_from, IsShortRow};
+ghost use Rattle.cue_codec.specs.Version.{written};
 
 use crate::row_writing::put_parts;
 use crate::writing::put_step;
@@ -34,7 +35,7 @@ pub fn row_count(branch: &Branch<Row>) -> u64
 fn put_own_row(out: &mut Vec<u8>, depth: u8, steps: &[u8], row: &Row) -> Result<(), Memory>
     requires { IsShortRow row.now }
     ensures { OnOk result (out.new.items ≡ out.old.items
-        ++ row_bytes_from depth steps.now ([], row.now)) }
+        ++ row_bytes_from written depth steps.now ([], row.now)) }
 {
     out.push(depth)?;
     out.extend_from_slice(steps)?;
@@ -52,8 +53,8 @@ pub fn put_branch(
 ) -> Result<(), Memory>
     requires deep { depth + tree_depth branch.now ≤ step_limit }
     requires sound { IsSound branch.now }
-    ensures rows { OnOk result (out.new.items
-        ≡ out.old.items ++ flat_map (row_bytes_from depth steps.old.items) (rows_of branch.now)) }
+    ensures rows { OnOk result (out.new.items ≡ out.old.items
+        ++ flat_map (row_bytes_from written depth steps.old.items) (rows_of branch.now)) }
     ensures steps { OnOk result (steps.new.items ≡ steps.old.items) }
 {
     if let Some(row) = branch.row() {

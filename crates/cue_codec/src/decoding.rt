@@ -6,9 +6,11 @@ ghost use Rattle.cue_table.specs.Valid.{IsValidTable};
 ghost use Rattle.cue_codec.specs.Reading.{IsRefused};
 ghost use Rattle.cue_codec.specs.State.{mark, table_bytes};
 ghost use Rattle.cue_codec.specs.Decoding.{AreReadRows, NoRows, IsUndecoded, IsRejected};
+ghost use Rattle.cue_codec.specs.Version.{version_byte};
 
 use crate::reading::u64_at;
 use crate::row_reader::RowReader;
+use crate::version::Version;
 use cue_lattice::Kind;
 use cue_row::Row;
 use cue_table::Table;
@@ -37,38 +39,39 @@ fn after_mark(bytes: &[u8]) -> Option<&[u8]>
     after(0x45, rest)
 }
 
-/// How many rows there are, and the bytes after the head.
-fn head_at(bytes: &[u8]) -> Result<(u64, &[u8]), Kind>
-    ensures ok { IfOk result (λ x. bytes.now ≡ mark ++ (1 ∷ (to_be_bytes w64 x.0 ++ x.1.now))) }
-    ensures small { IfOk result (λ x. x.0 < 2 ^ 64) }
+/// The version, how many rows there are, and the bytes after the head.
+fn head_at(bytes: &[u8]) -> Result<(Version, u64, &[u8]), Kind>
+    ensures ok { IfOk result (λ x. bytes.now
+        ≡ mark ++ (version_byte x.0 ∷ (to_be_bytes w64 x.1 ++ x.2.now))) }
+    ensures small { IfOk result (λ x. x.1 < 2 ^ 64) }
     ensures refused { IfErr result (IsRejected bytes.now) }
 {
     let Some(rest) = after_mark(bytes) else {
         return Err(Kind::NotState);
     };
-    let Some((version, rest)) = rest.split_first() else {
+    let Some((byte, rest)) = rest.split_first() else {
         return Err(Kind::NotState);
     };
-    if *version != 1 {
+    let Some(version) = Version::from_byte(*byte) else {
         return Err(Kind::Version);
-    }
+    };
     let Some((count, rest)) = u64_at(rest) else {
         return Err(Kind::NotState);
     };
-    Ok((count, rest))
+    Ok((version, count, rest))
 }
 
 /// The table of so many rows, where their bytes are all there are. Each row is added behind the
 /// others as it is read, so that the table costs what its bytes cost.
-fn rows_at(alloc: Global, count: u64, bytes: &[u8]) -> Result<Table<Row>, Kind>
-    ensures ok { IfOk result (AreReadRows count bytes.now) }
-    ensures refused { IfErr result (λ kind. IsRefused kind (NoRows count bytes.now)) }
+fn rows_at(alloc: Global, version: Version, count: u64, bytes: &[u8]) -> Result<Table<Row>, Kind>
+    ensures ok { IfOk result (AreReadRows version count bytes.now) }
+    ensures refused { IfErr result (λ kind. IsRefused kind (NoRows version count bytes.now)) }
 {
     let mut table = Table::new(alloc);
     let mut reader = RowReader::new(bytes);
     let mut left = count;
     while left > 0 {
-        let (path, row) = reader.read(alloc)?;
+        let (path, row) = reader.read(alloc, version)?;
         let Ok(is_added) = table.append(&path, row) else {
             return Err(Kind::Memory);
         };
@@ -92,8 +95,8 @@ pub fn decode(alloc: Global, bytes: &[u8]) -> Result<Table<Row>, Kind>
     ensures bytes { IfOk result (λ table. table_bytes table ≡ bytes.now) }
     ensures refused { IfErr result (IsUndecoded bytes.now) }
 {
-    let (count, rest) = head_at(bytes)?;
-    let table = rows_at(alloc, count, rest)?;
+    let (version, count, rest) = head_at(bytes)?;
+    let table = rows_at(alloc, version, count, rest)?;
     if !table.is_valid() {
         return Err(Kind::NotState);
     }

@@ -1,4 +1,4 @@
-//! State bytes, version 1: the bytes of a valid table, written and read exactly.
+//! State bytes: the bytes of a valid table, written and read exactly.
 #![tactic(auto)]
 
 mod branches;
@@ -13,6 +13,7 @@ mod rows;
 mod sets;
 mod sizes;
 mod spelling;
+mod version;
 mod writing;
 
 pub use cue_lattice::{Kind, Memory};
@@ -22,3 +23,4 @@ pub use decoding::decode;
 pub use encoding::encode;
 pub use sizes::size;
 pub use spelling::{bytes_of_kinds, one_row_spelling, one_state_spelling, one_table_spelling};
+pub use version::Version;

@@ -9,15 +9,17 @@ ghost use Rattle.cue_codec.specs.StateRow.{IsStateStep, IsStatePath};
 
 use crate::lists::one_text;
 use crate::reading::u32_at;
+use crate::version::Version;
 use cue_lattice::{Kind, STEP_LIMIT};
 use cue_row::{Path, Step};
 use std::alloc::Global;
 
 /// A label or an index.
-fn step_at(alloc: Global, bytes: &[u8]) -> Result<(Step, &[u8]), Kind>
-    ensures ok { IfOk result (λ x. Begins IsStateStep step_bytes (step_of x.0) bytes.now x.1.now) }
+fn step_at(alloc: Global, version: Version, bytes: &[u8]) -> Result<(Step, &[u8]), Kind>
+    ensures ok { IfOk result (λ x. Begins (IsStateStep version) (step_bytes version) (step_of x.0)
+        bytes.now x.1.now) }
     ensures refused { IfErr result (λ kind. IsRefused kind
-        (BeginsNone IsStateStep step_bytes bytes.now)) }
+        (BeginsNone (IsStateStep version) (step_bytes version) bytes.now)) }
 {
     let Some((tag, rest)) = bytes.split_first() else {
         return Err(Kind::NotState);
@@ -33,21 +35,28 @@ fn step_at(alloc: Global, bytes: &[u8]) -> Result<(Step, &[u8]), Kind>
             };
             Ok((Step::Index(number), rest))
         }
-        2..=u8::MAX => Err(Kind::NotState),
+        2..=u8::MAX => match version {
+            Version::First => Err(Kind::NotState),
+        },
     }
 }
 
 /// So many steps.
-fn each_step(alloc: Global, count: u8, bytes: &[u8]) -> Result<(Vec<Step>, &[u8]), Kind>
-    ensures ok { IfOk result (λ x. Begins (AreSo IsStateStep count) (flat_map step_bytes)
-        (map step_of x.0.items) bytes.now x.1.now) }
+fn each_step(
+    alloc: Global,
+    version: Version,
+    count: u8,
+    bytes: &[u8],
+) -> Result<(Vec<Step>, &[u8]), Kind>
+    ensures ok { IfOk result (λ x. Begins (AreSo (IsStateStep version) count)
+        (flat_map (step_bytes version)) (map step_of x.0.items) bytes.now x.1.now) }
     ensures refused { IfErr result (λ kind. IsRefused kind
-        (BeginsNone (AreSo IsStateStep count) (flat_map step_bytes) bytes.now)) }
+        (BeginsNone (AreSo (IsStateStep version) count) (flat_map (step_bytes version)) bytes.now)) }
 {
     let mut steps = Vec::new(alloc);
     let mut rest = bytes;
     while steps.len() < count as usize {
-        let (step, after) = step_at(alloc, rest)?;
+        let (step, after) = step_at(alloc, version, rest)?;
         let Ok(()) = steps.push(step) else {
             return Err(Kind::Memory);
         };
@@ -57,10 +66,11 @@ fn each_step(alloc: Global, count: u8, bytes: &[u8]) -> Result<(Vec<Step>, &[u8]
 }
 
 /// A path.
-pub fn path_at(alloc: Global, bytes: &[u8]) -> Result<(Path, &[u8]), Kind>
-    ensures ok { IfOk result (λ x. Begins IsStatePath path_bytes x.0 bytes.now x.1.now) }
+pub fn path_at(alloc: Global, version: Version, bytes: &[u8]) -> Result<(Path, &[u8]), Kind>
+    ensures ok { IfOk result (λ x. Begins (IsStatePath version) (path_bytes version) x.0 bytes.now
+        x.1.now) }
     ensures refused { IfErr result (λ kind. IsRefused kind
-        (BeginsNone IsStatePath path_bytes bytes.now)) }
+        (BeginsNone (IsStatePath version) (path_bytes version) bytes.now)) }
 {
     let Some((count, rest)) = bytes.split_first() else {
         return Err(Kind::NotState);
@@ -69,7 +79,7 @@ pub fn path_at(alloc: Global, bytes: &[u8]) -> Result<(Path, &[u8]), Kind>
     if asked > STEP_LIMIT {
         return Err(Kind::NotState);
     }
-    let (steps, rest) = each_step(alloc, *count, rest)?;
+    let (steps, rest) = each_step(alloc, version, *count, rest)?;
     let Some(path) = Path::new(steps) else {
         return Err(Kind::NotState);
     };

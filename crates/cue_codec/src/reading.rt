@@ -9,6 +9,8 @@ ghost use Rattle.cue_codec.specs.Parts.{lengths_bytes};
 ghost use Rattle.cue_codec.specs.Reading.{Begins, BeginsNone, IsPiece, IsWord, AreWideLengths};
 ghost use Rattle.cue_codec.specs.Reading.{IsMost, number_at};
 
+use crate::version::Version;
+
 #[tactic(auto, unfolding(crate::specs::Reading::number_at))]
 fn u16_at(bytes: &[u8]) -> Option<(u16, &[u8])>
     ensures { option_map (λ x. (x.0, x.1.now)) result ≡ number_at w16 bytes.now }
@@ -110,11 +112,15 @@ fn most_at(bytes: &[u8]) -> Option<(Option<u32>, &[u8])>
 }
 
 /// The least and the greatest length.
-pub fn lengths_at(bytes: &[u8]) -> Option<((u32, Option<u32>), &[u8])>
-    ensures some { IfSome result (λ x. Begins AreWideLengths lengths_bytes x.0 bytes.now x.1.now) }
-    ensures none { IfNone result (BeginsNone AreWideLengths lengths_bytes bytes.now) }
+pub fn lengths_at(version: Version, bytes: &[u8]) -> Option<((u32, Option<u32>), &[u8])>
+    ensures some { IfSome result (λ x. Begins (AreWideLengths version) (lengths_bytes version) x.0
+        bytes.now x.1.now) }
+    ensures none { IfNone result
+        (BeginsNone (AreWideLengths version) (lengths_bytes version) bytes.now) }
 {
     let (least, rest) = u32_at(bytes)?;
     let (most, rest) = most_at(rest)?;
-    Some(((least, most), rest))
+    match version {
+        Version::First => Some(((least, most), rest)),
+    }
 }

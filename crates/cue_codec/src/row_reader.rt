@@ -6,25 +6,27 @@ ghost use Rattle.cue_codec.specs.RowBytes.{row_bytes, IsStateRow};
 
 use crate::paths::path_at;
 use crate::rows::parts_at;
+use crate::version::Version;
 use cue_lattice::Kind;
 use cue_row::{Level, Path, Row};
 use std::alloc::Global;
 use std::marker::Model;
 
 /// The row whose bytes stand in front, with its path, and the bytes after it.
-fn row_at(alloc: Global, bytes: &[u8]) -> Result<((Path, Row), &[u8]), Kind>
-    ensures ok { IfOk result (λ x. Begins IsStateRow row_bytes x.0 bytes.now x.1.now) }
+fn row_at(alloc: Global, version: Version, bytes: &[u8]) -> Result<((Path, Row), &[u8]), Kind>
+    ensures ok { IfOk result (λ x. Begins (IsStateRow version) (row_bytes version) x.0 bytes.now
+        x.1.now) }
     ensures refused { IfErr result (λ kind. IsRefused kind
-        (BeginsNone IsStateRow row_bytes bytes.now)) }
+        (BeginsNone (IsStateRow version) (row_bytes version) bytes.now)) }
 {
-    let (path, behind) = path_at(alloc, bytes)?;
+    let (path, behind) = path_at(alloc, version, bytes)?;
     let Some((number, rest)) = behind.split_first() else {
         return Err(Kind::NotState);
     };
     let Some(level) = Level::from_number(*number) else {
         return Err(Kind::NotState);
     };
-    let (row, rest) = parts_at(alloc, level, rest)?;
+    let (row, rest) = parts_at(alloc, version, level, rest)?;
     Ok(((path, row), rest))
 }
 
@@ -57,16 +59,17 @@ impl<'a> RowReader<'a> {
         self.rest.is_empty()
     }
 
-    /// The row whose bytes stand in front, with its path; the reader goes on after it. Where no
-    /// row's bytes stand there it is refused as `NotState`, and where memory ran out as `Memory`;
-    /// the reader is then as before. Room is made only for what was read.
-    pub fn read(&mut self, alloc: Global) -> Result<(Path, Row), Kind>
-        ensures ok { IfOk result (λ row. Begins IsStateRow row_bytes row self.old self.new) }
-        ensures refused { IfErr result (λ kind.
-            IsRefused kind (BeginsNone IsStateRow row_bytes self.old)) }
+    /// The row whose bytes in this version stand in front, with its path; the reader goes on after
+    /// it. Where no row's bytes stand there it is refused as `NotState`, and where memory ran out
+    /// as `Memory`; the reader is then as before. Room is made only for what was read.
+    pub fn read(&mut self, alloc: Global, version: Version) -> Result<(Path, Row), Kind>
+        ensures ok { IfOk result (λ row. Begins (IsStateRow version) (row_bytes version) row
+            self.old self.new) }
+        ensures refused { IfErr result (λ kind. IsRefused kind
+            (BeginsNone (IsStateRow version) (row_bytes version) self.old)) }
         ensures unchanged { OnErr result (self.new ≡ self.old) }
     {
-        let (row, rest) = row_at(alloc, self.rest)?;
+        let (row, rest) = row_at(alloc, version, self.rest)?;
         self.rest = rest;
         Ok(row)
     }

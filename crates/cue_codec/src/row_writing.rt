@@ -3,6 +3,7 @@
 ghost use Rattle.std.specs.Prelude.{◌≡◌, ◌++◌, OnOk};
 ghost use Rattle.cue_codec.specs.RowBytes.{parts_bytes, parts_of, scalars_bytes, left_out_bytes};
 ghost use Rattle.cue_codec.specs.RowBytes.{IsShortRow};
+ghost use Rattle.cue_codec.specs.Version.{written};
 
 use crate::rows::is_empty;
 use crate::writing::{put_labels, put_lengths, put_set};
@@ -25,7 +26,7 @@ fn put_scalars(out: &mut Vec<u8>, row: &Row) -> Result<(), Memory>
 fn put_left_out(out: &mut Vec<u8>, row: &Row) -> Result<(), Memory>
     requires { IsShortRow row.now }
     ensures { OnOk result (out.new.items ≡ out.old.items
-        ++ left_out_bytes (row.now.labels, (row.now.least, row.now.most))) }
+        ++ left_out_bytes written (row.now.labels, (row.now.least, row.now.most))) }
 {
     put_labels(out, &row.labels)?;
     put_lengths(out, row.least, row.most)
@@ -35,7 +36,7 @@ fn put_left_out(out: &mut Vec<u8>, row: &Row) -> Result<(), Memory>
 #[tactic(auto, unfolding(crate::specs::RowBytes::parts_bytes))]
 pub fn put_parts(out: &mut Vec<u8>, row: &Row) -> Result<(), Memory>
     requires { IsShortRow row.now }
-    ensures { OnOk result (out.new.items ≡ out.old.items ++ parts_bytes (parts_of row.now)) }
+    ensures { OnOk result (out.new.items ≡ out.old.items ++ parts_bytes written (parts_of row.now)) }
 {
     match (row.struct_ok, row.list_ok) {
         (true, true) => {

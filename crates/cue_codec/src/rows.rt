@@ -10,6 +10,7 @@ ghost use Rattle.cue_codec.specs.RowBytes.{AreScalars, AreLeftOut, IsStateParts}
 
 use crate::reading::lengths_at;
 use crate::sets::{labels_at, set_at};
+use crate::version::Version;
 use cue_lattice::Kind;
 use cue_row::{Level, Row};
 use cue_scalars::ScalarSet;
@@ -52,13 +53,19 @@ fn struct_at(alloc: Global, level: Level, bytes: &[u8]) -> Result<(Row, &[u8]), 
 }
 
 /// A list of certain lengths.
-fn list_at(alloc: Global, level: Level, bytes: &[u8]) -> Result<(Row, &[u8]), Kind>
+fn list_at(
+    alloc: Global,
+    version: Version,
+    level: Level,
+    bytes: &[u8],
+) -> Result<(Row, &[u8]), Kind>
     ensures ok { IfOk result
-        (λ x. Reads list AreWideLengths lengths_bytes level x.0 bytes.now x.1.now) }
+        (λ x. Reads list (AreWideLengths version) (lengths_bytes version) level x.0 bytes.now
+        x.1.now) }
     ensures refused { IfErr result (λ kind. IsRefused kind
-        (BeginsNone AreWideLengths lengths_bytes bytes.now)) }
+        (BeginsNone (AreWideLengths version) (lengths_bytes version) bytes.now)) }
 {
-    let Some(((least, most), rest)) = lengths_at(bytes) else {
+    let Some(((least, most), rest)) = lengths_at(version, bytes) else {
         return Err(Kind::NotState);
     };
     let row = Row::of_list(alloc, level, least, most).unwrap();
@@ -66,15 +73,20 @@ fn list_at(alloc: Global, level: Level, bytes: &[u8]) -> Result<(Row, &[u8]), Ki
 }
 
 /// Nothing, with the labels and lengths that are left out.
-fn nothing_at(alloc: Global, level: Level, bytes: &[u8]) -> Result<(Row, &[u8]), Kind>
+fn nothing_at(
+    alloc: Global,
+    version: Version,
+    level: Level,
+    bytes: &[u8],
+) -> Result<(Row, &[u8]), Kind>
     ensures ok { IfOk result
-        (λ x. Reads (λ parts. nothing parts.0 parts.1) AreLeftOut left_out_bytes level x.0 bytes.now
-        x.1.now) }
+        (λ x. Reads (λ parts. nothing parts.0 parts.1) (AreLeftOut version) (left_out_bytes version)
+        level x.0 bytes.now x.1.now) }
     ensures refused { IfErr result (λ kind. IsRefused kind
-        (BeginsNone AreLeftOut left_out_bytes bytes.now)) }
+        (BeginsNone (AreLeftOut version) (left_out_bytes version) bytes.now)) }
 {
     let (labels, middle) = labels_at(alloc, bytes)?;
-    let Some(((least, most), rest)) = lengths_at(middle) else {
+    let Some(((least, most), rest)) = lengths_at(version, middle) else {
         return Err(Kind::NotState);
     };
     let row = Row::of_nothing(alloc, level, labels, least, most).unwrap();
@@ -82,11 +94,17 @@ fn nothing_at(alloc: Global, level: Level, bytes: &[u8]) -> Result<(Row, &[u8]),
 }
 
 /// The row of this level whose kind and parts these are.
-pub fn parts_at(alloc: Global, level: Level, bytes: &[u8]) -> Result<(Row, &[u8]), Kind>
+pub fn parts_at(
+    alloc: Global,
+    version: Version,
+    level: Level,
+    bytes: &[u8],
+) -> Result<(Row, &[u8]), Kind>
     ensures ok { IfOk result
-        (λ x. Reads (λ parts. parts) IsStateParts parts_bytes level x.0 bytes.now x.1.now) }
+        (λ x. Reads (λ parts. parts) (IsStateParts version) (parts_bytes version) level x.0
+        bytes.now x.1.now) }
     ensures refused { IfErr result (λ kind. IsRefused kind
-        (BeginsNone IsStateParts parts_bytes bytes.now)) }
+        (BeginsNone (IsStateParts version) (parts_bytes version) bytes.now)) }
 {
     let Some((tag, rest)) = bytes.split_first() else {
         return Err(Kind::NotState);
@@ -98,8 +116,8 @@ pub fn parts_at(alloc: Global, level: Level, bytes: &[u8]) -> Result<(Row, &[u8]
         }
         1 => scalar_at(alloc, level, rest),
         2 => struct_at(alloc, level, rest),
-        3 => list_at(alloc, level, rest),
-        4 => nothing_at(alloc, level, rest),
+        3 => list_at(alloc, version, level, rest),
+        4 => nothing_at(alloc, version, level, rest),
         5..=u8::MAX => Err(Kind::NotState),
     }
 }

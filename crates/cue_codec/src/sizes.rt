@@ -9,6 +9,7 @@ ghost use Rattle.cue_codec.specs.Parts.{lengths_bytes, step_bytes};
 ghost use Rattle.cue_codec.specs.RowBytes.{parts_bytes, parts_of, row_bytes_from};
 ghost use Rattle.cue_codec.specs.Size.{saturated, size_of};
 ghost use Rattle.cue_codec.specs.State.{table_bytes};
+ghost use Rattle.cue_codec.specs.Version.{written};
 
 use crate::rows::is_empty;
 use cue_lattice::Text;
@@ -53,7 +54,7 @@ fn labels_size(labels: &Labels) -> u64
 
 #[tactic(auto, using(crate::proofs::Lengths::open_length, crate::proofs::Lengths::closed_length))]
 fn lengths_size(least: u32, most: Option<u32>) -> u64
-    ensures { result ≡ size_of (lengths_bytes (least, most)) }
+    ensures { result ≡ size_of (lengths_bytes written (least, most)) }
 {
     match most {
         None => 5,
@@ -64,7 +65,7 @@ fn lengths_size(least: u32, most: Option<u32>) -> u64
 /// How many bytes the parts of a row take.
 #[tactic(auto, using(crate::proofs::Lengths::lengths_of_parts))]
 fn parts_size(row: &Row) -> u64
-    ensures { result ≡ size_of (parts_bytes (parts_of row.now)) }
+    ensures { result ≡ size_of (parts_bytes written (parts_of row.now)) }
 {
     match (row.struct_ok, row.list_ok) {
         (true, true) => 1,
@@ -83,7 +84,7 @@ fn parts_size(row: &Row) -> u64
 /// How many bytes a label or an index takes.
 #[tactic(auto, using(crate::proofs::Lengths::label_length, crate::proofs::Lengths::index_length))]
 fn step_size(step: &Step) -> u64
-    ensures { result ≡ size_of (step_bytes (step_of step.now)) }
+    ensures { result ≡ size_of (step_bytes written (step_of step.now)) }
 {
     match step {
         Step::Label(text) => add(3, text.as_bytes().len() as u64),
@@ -94,7 +95,7 @@ fn step_size(step: &Step) -> u64
 /// How many bytes the rows of a branch take, where the bytes of the steps to it are so many.
 fn rows_size(steps: u64, branch: &Branch<Row>) -> u64
     ensures { (depth : ℕ) (bytes : List ℕ) → steps ≡ size_of bytes
-        → result ≡ size_of (flat_map (row_bytes_from depth bytes) (rows_of branch.now)) }
+        → result ≡ size_of (flat_map (row_bytes_from written depth bytes) (rows_of branch.now)) }
 {
     let mut size = match branch.row() {
         None => 0,

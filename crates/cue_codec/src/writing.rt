@@ -7,6 +7,7 @@ ghost use Rattle.cue_codec.specs.Parts.{integer_bytes, counted_bytes, piece_byte
 ghost use Rattle.cue_codec.specs.Parts.{flags, text_set_bytes, set_bytes, labels_bytes, most_bytes};
 ghost use Rattle.cue_codec.specs.Parts.{lengths_bytes, step_bytes};
 ghost use Rattle.cue_codec.specs.Reading.{IsShort, IsShortStep, AreShortLabels};
+ghost use Rattle.cue_codec.specs.Version.{written};
 
 use cue_lattice::{Memory, Text};
 use cue_row::{Labels, Step};
@@ -140,7 +141,7 @@ fn put_most(out: &mut Vec<u8>, most: Option<u32>) -> Result<(), Memory>
 
 #[tactic(auto, unfolding(crate::specs::Parts::lengths_bytes))]
 pub fn put_lengths(out: &mut Vec<u8>, least: u32, most: Option<u32>) -> Result<(), Memory>
-    ensures { OnOk result (out.new.items ≡ out.old.items ++ lengths_bytes (least, most)) }
+    ensures { OnOk result (out.new.items ≡ out.old.items ++ lengths_bytes written (least, most)) }
 {
     out.extend_from_slice(&least.to_be_bytes())?;
     put_most(out, most)
@@ -150,7 +151,7 @@ pub fn put_lengths(out: &mut Vec<u8>, least: u32, most: Option<u32>) -> Result<(
 #[tactic(auto, unfolding(crate::specs::Parts::step_bytes))]
 pub fn put_step(out: &mut Vec<u8>, step: &Step) -> Result<(), Memory>
     requires { IsShortStep (step_of step.now) }
-    ensures { OnOk result (out.new.items ≡ out.old.items ++ step_bytes (step_of step.now)) }
+    ensures { OnOk result (out.new.items ≡ out.old.items ++ step_bytes written (step_of step.now)) }
 {
     match step {
         Step::Label(text) => {

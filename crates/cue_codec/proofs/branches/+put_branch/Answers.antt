@@ -5,6 +5,7 @@ use Rattle.cue_row.specs.Steps.{step_of}
 use Rattle.cue_table.specs.Tree.{rows_of}
 use Rattle.cue_codec.specs.Parts.{step_bytes}
 use Rattle.cue_codec.specs.RowBytes.{row_bytes_from}
+use Rattle.cue_codec.specs.Version.{written}
 use Rattle.cue_codec.proofs.WrittenRows.{bytes_begin, bytes_begin_below, bytes_more, bytes_end, left_size, left_depth, below_size, below_depth, sound_parent, sound_row, sound_next, valid_short}
 use Rattle.cue_codec.proofs.branches.+put_branch.Goals.{in-Some+in_ok-put_own_row, in_default}
 use Rattle.cue_codec.proofs.branches.+put_branch.Goals as goal
@@ -46,11 +47,11 @@ loop-step-preserved t c =
     let step = step_of c.in-Some-2.step.now in
     let deep = left_depth step c.in-Some-2.below c.loop-step.step-iterator c.next.new.self c.in-Some-2.ensures.steps in
     let size = left_size step c.in-Some-2.below c.loop-step.step-iterator c.next.new.self c.in-Some-2.ensures.steps in
-    let steps : c.put_step.new.out.items ≡ c.args.steps.now.items ++ step_bytes step = c.in_ok-put_step.ensures ∙ ap (λ t. t ++ step_bytes step) c.loop-step.invariant.steps in
-    let written : c.put_branch.new.out.items ≡ c.loop-step.out.items ++ flat_map (row_bytes_from (c.args.depth + 1) (c.args.steps.now.items ++ step_bytes step)) (rows_of c.in-Some-2.below) = c.in_ok-put_branch.ensures.rows ∙ ap (λ t. c.loop-step.out.items ++ flat_map (row_bytes_from (c.args.depth + 1) t) (rows_of c.in-Some-2.below)) steps in
+    let steps : c.put_step.new.out.items ≡ c.args.steps.now.items ++ step_bytes written step = c.in_ok-put_step.ensures ∙ ap (λ t. t ++ step_bytes written step) c.loop-step.invariant.steps in
+    let put : c.put_branch.new.out.items ≡ c.loop-step.out.items ++ flat_map (row_bytes_from written (c.args.depth + 1) (c.args.steps.now.items ++ step_bytes written step)) (rows_of c.in-Some-2.below) = c.in_ok-put_branch.ensures.rows ∙ ap (λ t. c.loop-step.out.items ++ flat_map (row_bytes_from written (c.args.depth + 1) t) (rows_of c.in-Some-2.below)) steps in
     record {
-      rows = bytes_more c.args.depth c.args.steps.now.items step c.in-Some-2.below c.loop-step.step-iterator c.next.new.self c.loop-step.out.items c.put_branch.new.out.items _ c.in-Some-2.ensures.steps written c.loop-step.invariant.rows;
-      steps = c.truncate.ensures.items ∙ ap (λ t. take c.len-len.result t) (c.in_ok-put_branch.ensures.steps ∙ steps) ∙ take_at c.args.steps.now.items (step_bytes step) c.len-len.result (sym (c.len-len.ensures ∙ c.args.steps.now.ok.0));
+      rows = bytes_more c.args.depth c.args.steps.now.items step c.in-Some-2.below c.loop-step.step-iterator c.next.new.self c.loop-step.out.items c.put_branch.new.out.items _ c.in-Some-2.ensures.steps put c.loop-step.invariant.rows;
+      steps = c.truncate.ensures.items ∙ ap (λ t. take c.len-len.result t) (c.in_ok-put_branch.ensures.steps ∙ steps) ∙ take_at c.args.steps.now.items (step_bytes written step) c.len-len.result (sym (c.len-len.ensures ∙ c.args.steps.now.ok.0));
       sound = λ parent e. (sound_next parent step c.in-Some-2.below c.loop-step.step-iterator c.next.new.self c.in-Some-2.ensures.steps (c.loop-step.invariant.sound parent e)).2;
       smaller = omega arith;
       deep = omega arith;

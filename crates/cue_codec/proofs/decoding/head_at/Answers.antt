@@ -10,8 +10,8 @@ returns-in_default-split_first-clause-refused c = headless_end c.args.bytes.now 
 
 pub returns-in_default-u64_at-clause-refused : goal.returns-in_default-u64_at-clause-refused
 returns-in_default-u64_at-clause-refused c =
-    headless_count c.args.bytes.now c.in-Some.rest.now c.in-Some-split_first.rest.now c.in-Some-split_first.version.now c.in-Some.ensures.some c.in-Some-split_first.ensures.cases.0 (omega arith) c.in_default-u64_at.ensures
+    headless_count c.in-Some-from_byte.version c.args.bytes.now c.in-Some.rest.now c.in-Some-split_first.rest.now c.in-Some-split_first.byte.now c.in-Some.ensures.some c.in-Some-split_first.ensures.cases.0 c.in-Some-from_byte.ensures.some c.in_default-u64_at.ensures
 
 pub returns-clause-ok : goal.returns-clause-ok
 returns-clause-ok c =
-    head_found c.args.bytes.now c.in-Some.rest.now c.in-Some-split_first.rest.now c.in-Some-u64_at.rest.now c.in-Some-split_first.version.now c.in-Some-u64_at.count (λ i. omega (arith, c.type_inv.bytes i)) c.in-Some.ensures.some c.in-Some-split_first.ensures.cases.0 (omega arith) c.in-Some-u64_at.ensures
+    head_found c.in-Some-from_byte.version c.args.bytes.now c.in-Some.rest.now c.in-Some-split_first.rest.now c.in-Some-u64_at.rest.now c.in-Some-split_first.byte.now c.in-Some-u64_at.count (λ i. omega (arith, c.type_inv.bytes i)) c.in-Some.ensures.some c.in-Some-split_first.ensures.cases.0 c.in-Some-from_byte.ensures.some c.in-Some-u64_at.ensures

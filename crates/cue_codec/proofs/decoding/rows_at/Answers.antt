@@ -12,22 +12,22 @@ returns-in_err-path-clause-refused c =
     let i = c.loop-left.invariant in
     let p = err_from_is_err_and c.from_residual.result c.from_residual.ensures.1 in
     rw (p.1, p.2)
-    (rows_missing c.in_err-path.field-0.0 c.args.count (rows_of c.loop-left.table) c.args.bytes.now c.loop-left.reader i.each (omega (arith, i.counted)) i.parts c.in_err-path.ensures.refused)
+    (rows_missing c.args.version c.in_err-path.field-0.0 c.args.count (rows_of c.loop-left.table) c.args.bytes.now c.loop-left.reader i.each (omega (arith, i.counted)) i.parts c.in_err-path.ensures.refused)
 
 pub returns-then-not-is_added-clause-refused : goal.returns-then-not-is_added-clause-refused
 returns-then-not-is_added-clause-refused c =
     let i = c.loop-left.invariant in
     let not : AppendsKept Refuses c.loop-left.table c.in_ok-path.path c.in_ok-path.row c.append.new.self false = subst (AppendsKept Refuses c.loop-left.table c.in_ok-path.path c.in_ok-path.row c.append.new.self) c.if-not-is_added.true c.in-Ok.ensures.appends in
-    inr (refl, rows_unordered c.args.count c.loop-left.table c.append.new.self c.in_ok-path.path c.in_ok-path.row c.args.bytes.now c.loop-left.reader c.read.new.self i.each (omega (arith, i.counted)) i.parts c.in_ok-path.ensures.ok not)
+    inr (refl, rows_unordered c.args.version c.args.count c.loop-left.table c.append.new.self c.in_ok-path.path c.in_ok-path.row c.args.bytes.now c.loop-left.reader c.read.new.self i.each (omega (arith, i.counted)) i.parts c.in_ok-path.ensures.ok not)
 
 pub loop-left-preserved : goal.loop-left-preserved
 loop-left-preserved c =
     let i = c.loop-left.invariant in
     let is : AppendsKept Refuses c.loop-left.table c.in_ok-path.path c.in_ok-path.row c.append.new.self true = subst (AppendsKept Refuses c.loop-left.table c.in_ok-path.path c.in_ok-path.row c.append.new.self) c.if-not-is_added.false c.in-Ok.ensures.appends in
-    let more = rows_one_more c.loop-left.table c.append.new.self c.in_ok-path.path c.in_ok-path.row c.args.bytes.now c.loop-left.reader c.read.new.self i.each i.parts c.in_ok-path.ensures.ok is in
+    let more = rows_one_more c.args.version c.loop-left.table c.append.new.self c.in_ok-path.path c.in_ok-path.row c.args.bytes.now c.loop-left.reader c.read.new.self i.each i.parts c.in_ok-path.ensures.ok is in
     record { form = c.in-Ok.ensures.form; each = more.0; counted = omega (arith, i.counted, more.2); parts = more.1 }
 
 pub returns-then-not-is_at_end-clause-refused : goal.returns-then-not-is_at_end-clause-refused
 returns-then-not-is_at_end-clause-refused c =
     let i = c.loop-left.invariant in
-    inr (refl, rows_trailing c.args.count (rows_of c.loop-left.table) c.args.bytes.now c.loop-left.reader i.each (omega (arith, i.counted)) i.parts (λ e. false≢true (sym c.if-not-is_at_end.true ∙ c.is_at_end.ensures.1 e)))
+    inr (refl, rows_trailing c.args.version c.args.count (rows_of c.loop-left.table) c.args.bytes.now c.loop-left.reader i.each (omega (arith, i.counted)) i.parts (λ e. false≢true (sym c.if-not-is_at_end.true ∙ c.is_at_end.ensures.1 e)))

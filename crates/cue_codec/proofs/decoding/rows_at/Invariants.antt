@@ -10,9 +10,9 @@ use Rattle.cue_codec.proofs.decoding.rows_at.Given as goal
 abbrev pub invariant-loop-left : goal.invariant-loop-left
 invariant-loop-left l = record {
   form : IsTable Refuses IsRow l.table;
-  each : AllByRecursion IsStateRow (rows_of l.table);
+  each : AllByRecursion (IsStateRow l.version) (rows_of l.table);
   counted : length (rows_of l.table) + l.left ≡ l.count;
-  parts : l.bytes ≡ flat_map row_bytes (rows_of l.table) ++ l.reader;
+  parts : l.bytes ≡ flat_map (row_bytes l.version) (rows_of l.table) ++ l.reader;
 }
 
 abbrev pub decreases-loop-left : goal.decreases-loop-left

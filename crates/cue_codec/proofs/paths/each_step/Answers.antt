@@ -12,15 +12,15 @@ pub loop-alloc-preserved : goal.loop-alloc-preserved
 loop-alloc-preserved c =
     rw c.in-Ok.ensures.items (record {
       few = omega (arith, length-append c.loop-alloc.steps.items (c.in_ok-step.step ∷ []));
-      each = steps_each c.loop-alloc.steps.items c.in_ok-step.step c.loop-alloc.invariant.each c.in_ok-step.ensures.ok.value;
-      parts = steps_more c.loop-alloc.steps.items c.in_ok-step.step c.args.bytes.now c.loop-alloc.rest.now c.in_ok-step.after.now c.loop-alloc.invariant.parts c.in_ok-step.ensures.ok.parts;
+      each = steps_each c.args.version c.loop-alloc.steps.items c.in_ok-step.step c.loop-alloc.invariant.each c.in_ok-step.ensures.ok.value;
+      parts = steps_more c.args.version c.loop-alloc.steps.items c.in_ok-step.step c.args.bytes.now c.loop-alloc.rest.now c.in_ok-step.after.now c.loop-alloc.invariant.parts c.in_ok-step.ensures.ok.parts;
     })
 
 pub returns-in_err-step-clause-refused : goal.returns-in_err-step-clause-refused
 returns-in_err-step-clause-refused c =
     let p = err_from_is_err_and c.from_residual.result c.from_residual.ensures.1 in
     rw (p.1, p.2)
-    (items_refused c.in_err-step.field-0.0 IsStateStep step_bytes one_step c.args.count (map step_of c.loop-alloc.steps.items) c.args.bytes.now c.loop-alloc.rest.now c.loop-alloc.invariant.each (omega (arith, length-map c.loop-alloc.steps.items step_of)) c.loop-alloc.invariant.parts c.in_err-step.ensures.refused)
+    (items_refused c.in_err-step.field-0.0 (IsStateStep c.args.version) (step_bytes c.args.version) (one_step c.args.version) c.args.count (map step_of c.loop-alloc.steps.items) c.args.bytes.now c.loop-alloc.rest.now c.loop-alloc.invariant.each (omega (arith, length-map c.loop-alloc.steps.items step_of)) c.loop-alloc.invariant.parts c.in_err-step.ensures.refused)
 
 pub returns-clause-ok : goal.returns-clause-ok
 returns-clause-ok c =

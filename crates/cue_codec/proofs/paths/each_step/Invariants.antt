@@ -8,8 +8,8 @@ use Rattle.cue_codec.proofs.paths.each_step.Given as goal
 abbrev pub invariant-loop-alloc : goal.invariant-loop-alloc
 invariant-loop-alloc l = record {
   few : length l.steps.items ≤ l.count;
-  each : AllByRecursion IsStateStep (map step_of l.steps.items);
-  parts : l.bytes ≡ flat_map step_bytes (map step_of l.steps.items) ++ l.rest;
+  each : AllByRecursion (IsStateStep l.version) (map step_of l.steps.items);
+  parts : l.bytes ≡ flat_map (step_bytes l.version) (map step_of l.steps.items) ++ l.rest;
 }
 
 abbrev pub decreases-loop-alloc : goal.decreases-loop-alloc

@@ -6,26 +6,26 @@ use Rattle.cue_codec.proofs.StatePaths.{step_empty, step_tag, step_text, step_nu
 use Rattle.cue_codec.proofs.paths.step_at.Goals as goal
 
 pub returns-in_default-clause-refused : goal.returns-in_default-clause-refused
-returns-in_default-clause-refused c = inr (refl, step_empty c.args.bytes.now c.in_default.ensures.cases)
+returns-in_default-clause-refused c = inr (refl, step_empty c.args.version c.args.bytes.now c.in_default.ensures.cases)
 
 pub returns-in_err-text-in-0-clause-refused : goal.returns-in_err-text-in-0-clause-refused
 returns-in_err-text-in-0-clause-refused c =
     let p = err_from_is_err_and c.from_residual.result c.from_residual.ensures.1 in
-    rw (p.1, p.2) (refused_so c.in_err-text-in-0.field-0.0 _ _ (step_text c.args.bytes.now c.in-Some.rest.now c.in-Some.tag.now c.in-Some.ensures.cases.0 c.in-0.is) c.in_err-text-in-0.ensures.refused)
+    rw (p.1, p.2) (refused_so c.in_err-text-in-0.field-0.0 _ _ (step_text c.args.version c.args.bytes.now c.in-Some.rest.now c.in-Some.tag.now c.in-Some.ensures.cases.0 c.in-0.is) c.in_err-text-in-0.ensures.refused)
 
 pub returns-in_default-u32_at-clause-refused : goal.returns-in_default-u32_at-clause-refused
 returns-in_default-u32_at-clause-refused c =
-    inr (refl, step_number c.args.bytes.now c.in-Some.rest.now c.in-Some.tag.now c.in-Some.ensures.cases.0 c.in-1.is c.in_default-u32_at.ensures)
+    inr (refl, step_number c.args.version c.args.bytes.now c.in-Some.rest.now c.in-Some.tag.now c.in-Some.ensures.cases.0 c.in-1.is c.in_default-u32_at.ensures)
 
 pub returns-in_ok-text-in-0-clause-ok : goal.returns-in_ok-text-in-0-clause-ok
 returns-in_ok-text-in-0-clause-ok c =
-    label_found c.args.bytes.now c.in-Some.rest.now c.in_ok-text-in-0.rest.now c.in_ok-text-in-0.text c.in-Some.tag.now c.in-Some.ensures.cases.0 c.in-0.is c.in_ok-text-in-0.ensures.ok
+    label_found c.args.version c.args.bytes.now c.in-Some.rest.now c.in_ok-text-in-0.rest.now c.in_ok-text-in-0.text c.in-Some.tag.now c.in-Some.ensures.cases.0 c.in-0.is c.in_ok-text-in-0.ensures.ok
 
 pub returns-in-Some-u32_at-clause-ok : goal.returns-in-Some-u32_at-clause-ok
 returns-in-Some-u32_at-clause-ok c =
     let fits : IsBytes c.args.bytes.now = λ i. omega (arith, c.type_inv.bytes i) in
-    index_found c.args.bytes.now c.in-Some.rest.now c.in-Some-u32_at.rest.now c.in-Some.tag.now c.in-Some-u32_at.number (IsBytes-rest c.in-Some.tag.now c.args.bytes.now c.in-Some.rest.now c.in-Some.ensures.cases.0 fits) c.in-Some.ensures.cases.0 c.in-1.is c.in-Some-u32_at.ensures
+    index_found c.args.version c.args.bytes.now c.in-Some.rest.now c.in-Some-u32_at.rest.now c.in-Some.tag.now c.in-Some-u32_at.number (IsBytes-rest c.in-Some.tag.now c.args.bytes.now c.in-Some.rest.now c.in-Some.ensures.cases.0 fits) c.in-Some.ensures.cases.0 c.in-1.is c.in-Some-u32_at.ensures
 
 pub returns-in-2-to-255-clause-refused : goal.returns-in-2-to-255-clause-refused
 returns-in-2-to-255-clause-refused c =
-    inr (refl, step_tag c.args.bytes.now c.in-Some.rest.now c.in-Some.tag.now c.in-Some.ensures.cases.0 (omega (arith, c.in-2-to-255)))
+    inr (refl, step_tag c.args.version c.args.bytes.now c.in-Some.rest.now c.in-Some.tag.now c.in-Some.ensures.cases.0 (omega (arith, c.in-2-to-255)))

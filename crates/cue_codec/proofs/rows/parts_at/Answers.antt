@@ -9,53 +9,53 @@ use Rattle.cue_codec.proofs.RowParts.{parts_empty, parts_tag, parts_scalar, part
 use Rattle.cue_codec.proofs.rows.parts_at.Goals as goal
 
 pub returns-in_default-clause-refused : goal.returns-in_default-clause-refused
-returns-in_default-clause-refused c = inr (refl, parts_empty c.args.bytes.now c.in_default.ensures.cases)
+returns-in_default-clause-refused c = inr (refl, parts_empty c.args.version c.args.bytes.now c.in_default.ensures.cases)
 
 pub returns-in-0-clause-ok : goal.returns-in-0-clause-ok
 returns-in-0-clause-ok c =
-    free_found c.args.bytes.now c.in-Some.rest.now c.in-Some.tag.now c.args.level c.unwrap-row.result c.in-Some.ensures.cases.0 c.in-0.is
+    free_found c.args.version c.args.bytes.now c.in-Some.rest.now c.in-Some.tag.now c.args.level c.unwrap-row.result c.in-Some.ensures.cases.0 c.in-0.is
     (same_ok c.unwrap-row.result _ c.of_anything.result c.unwrap-row.ensures c.of_anything.ensures)
 
 pub returns-in-5-to-255-clause-refused : goal.returns-in-5-to-255-clause-refused
 returns-in-5-to-255-clause-refused c =
-    inr (refl, parts_tag c.args.bytes.now c.in-Some.rest.now c.in-Some.tag.now c.in-Some.ensures.cases.0 (omega (arith, c.in-5-to-255)))
+    inr (refl, parts_tag c.args.version c.args.bytes.now c.in-Some.rest.now c.in-Some.tag.now c.in-Some.ensures.cases.0 (omega (arith, c.in-5-to-255)))
 
 pub returns-in-1-clause-ok : goal.returns-in-1-clause-ok
 returns-in-1-clause-ok c =
-    IfOk-weaker c.scalar_at.result (λ x. Reads (λ sets. scalar sets.0 sets.1) AreScalars scalars_bytes c.args.level x.0 c.in-Some.rest.now x.1.now) (λ x. Reads (λ parts. parts) IsStateParts parts_bytes c.args.level x.0 c.args.bytes.now x.1.now)
-    (λ x r. scalar_found c.args.bytes.now c.in-Some.rest.now x.1.now c.in-Some.tag.now c.args.level x.0 c.in-Some.ensures.cases.0 c.in-1.is r) c.scalar_at.ensures.ok
+    IfOk-weaker c.scalar_at.result (λ x. Reads (λ sets. scalar sets.0 sets.1) AreScalars scalars_bytes c.args.level x.0 c.in-Some.rest.now x.1.now) (λ x. Reads (λ parts. parts) (IsStateParts c.args.version) (parts_bytes c.args.version) c.args.level x.0 c.args.bytes.now x.1.now)
+    (λ x r. scalar_found c.args.version c.args.bytes.now c.in-Some.rest.now x.1.now c.in-Some.tag.now c.args.level x.0 c.in-Some.ensures.cases.0 c.in-1.is r) c.scalar_at.ensures.ok
 
 pub returns-in-1-clause-refused : goal.returns-in-1-clause-refused
 returns-in-1-clause-refused c =
-    IfErr-weaker c.scalar_at.result (λ kind. IsRefused kind (BeginsNone AreScalars scalars_bytes c.in-Some.rest.now)) (λ kind. IsRefused kind (BeginsNone IsStateParts parts_bytes c.args.bytes.now))
-    (λ kind. refused_so kind _ _ (parts_scalar c.args.bytes.now c.in-Some.rest.now c.in-Some.tag.now c.in-Some.ensures.cases.0 c.in-1.is)) c.scalar_at.ensures.refused
+    IfErr-weaker c.scalar_at.result (λ kind. IsRefused kind (BeginsNone AreScalars scalars_bytes c.in-Some.rest.now)) (λ kind. IsRefused kind (BeginsNone (IsStateParts c.args.version) (parts_bytes c.args.version) c.args.bytes.now))
+    (λ kind. refused_so kind _ _ (parts_scalar c.args.version c.args.bytes.now c.in-Some.rest.now c.in-Some.tag.now c.in-Some.ensures.cases.0 c.in-1.is)) c.scalar_at.ensures.refused
 
 pub returns-in-2-clause-ok : goal.returns-in-2-clause-ok
 returns-in-2-clause-ok c =
-    IfOk-weaker c.struct_at.result (λ x. Reads struct AreStateLabels labels_bytes c.args.level x.0 c.in-Some.rest.now x.1.now) (λ x. Reads (λ parts. parts) IsStateParts parts_bytes c.args.level x.0 c.args.bytes.now x.1.now)
-    (λ x r. struct_found c.args.bytes.now c.in-Some.rest.now x.1.now c.in-Some.tag.now c.args.level x.0 c.in-Some.ensures.cases.0 c.in-2.is r) c.struct_at.ensures.ok
+    IfOk-weaker c.struct_at.result (λ x. Reads struct AreStateLabels labels_bytes c.args.level x.0 c.in-Some.rest.now x.1.now) (λ x. Reads (λ parts. parts) (IsStateParts c.args.version) (parts_bytes c.args.version) c.args.level x.0 c.args.bytes.now x.1.now)
+    (λ x r. struct_found c.args.version c.args.bytes.now c.in-Some.rest.now x.1.now c.in-Some.tag.now c.args.level x.0 c.in-Some.ensures.cases.0 c.in-2.is r) c.struct_at.ensures.ok
 
 pub returns-in-2-clause-refused : goal.returns-in-2-clause-refused
 returns-in-2-clause-refused c =
-    IfErr-weaker c.struct_at.result (λ kind. IsRefused kind (BeginsNone AreStateLabels labels_bytes c.in-Some.rest.now)) (λ kind. IsRefused kind (BeginsNone IsStateParts parts_bytes c.args.bytes.now))
-    (λ kind. refused_so kind _ _ (parts_struct c.args.bytes.now c.in-Some.rest.now c.in-Some.tag.now c.in-Some.ensures.cases.0 c.in-2.is)) c.struct_at.ensures.refused
+    IfErr-weaker c.struct_at.result (λ kind. IsRefused kind (BeginsNone AreStateLabels labels_bytes c.in-Some.rest.now)) (λ kind. IsRefused kind (BeginsNone (IsStateParts c.args.version) (parts_bytes c.args.version) c.args.bytes.now))
+    (λ kind. refused_so kind _ _ (parts_struct c.args.version c.args.bytes.now c.in-Some.rest.now c.in-Some.tag.now c.in-Some.ensures.cases.0 c.in-2.is)) c.struct_at.ensures.refused
 
 pub returns-in-3-clause-ok : goal.returns-in-3-clause-ok
 returns-in-3-clause-ok c =
-    IfOk-weaker c.list_at.result (λ x. Reads list AreWideLengths lengths_bytes c.args.level x.0 c.in-Some.rest.now x.1.now) (λ x. Reads (λ parts. parts) IsStateParts parts_bytes c.args.level x.0 c.args.bytes.now x.1.now)
-    (λ x r. list_found c.args.bytes.now c.in-Some.rest.now x.1.now c.in-Some.tag.now c.args.level x.0 c.in-Some.ensures.cases.0 c.in-3.is r) c.list_at.ensures.ok
+    IfOk-weaker c.list_at.result (λ x. Reads list (AreWideLengths c.args.version) (lengths_bytes c.args.version) c.args.level x.0 c.in-Some.rest.now x.1.now) (λ x. Reads (λ parts. parts) (IsStateParts c.args.version) (parts_bytes c.args.version) c.args.level x.0 c.args.bytes.now x.1.now)
+    (λ x r. list_found c.args.version c.args.bytes.now c.in-Some.rest.now x.1.now c.in-Some.tag.now c.args.level x.0 c.in-Some.ensures.cases.0 c.in-3.is r) c.list_at.ensures.ok
 
 pub returns-in-3-clause-refused : goal.returns-in-3-clause-refused
 returns-in-3-clause-refused c =
-    IfErr-weaker c.list_at.result (λ kind. IsRefused kind (BeginsNone AreWideLengths lengths_bytes c.in-Some.rest.now)) (λ kind. IsRefused kind (BeginsNone IsStateParts parts_bytes c.args.bytes.now))
-    (λ kind. refused_so kind _ _ (parts_list c.args.bytes.now c.in-Some.rest.now c.in-Some.tag.now c.in-Some.ensures.cases.0 c.in-3.is)) c.list_at.ensures.refused
+    IfErr-weaker c.list_at.result (λ kind. IsRefused kind (BeginsNone (AreWideLengths c.args.version) (lengths_bytes c.args.version) c.in-Some.rest.now)) (λ kind. IsRefused kind (BeginsNone (IsStateParts c.args.version) (parts_bytes c.args.version) c.args.bytes.now))
+    (λ kind. refused_so kind _ _ (parts_list c.args.version c.args.bytes.now c.in-Some.rest.now c.in-Some.tag.now c.in-Some.ensures.cases.0 c.in-3.is)) c.list_at.ensures.refused
 
 pub returns-in-4-clause-ok : goal.returns-in-4-clause-ok
 returns-in-4-clause-ok c =
-    IfOk-weaker c.nothing_at.result (λ x. Reads (λ parts. nothing parts.0 parts.1) AreLeftOut left_out_bytes c.args.level x.0 c.in-Some.rest.now x.1.now) (λ x. Reads (λ parts. parts) IsStateParts parts_bytes c.args.level x.0 c.args.bytes.now x.1.now)
-    (λ x r. nothing_found c.args.bytes.now c.in-Some.rest.now x.1.now c.in-Some.tag.now c.args.level x.0 c.in-Some.ensures.cases.0 c.in-4.is r) c.nothing_at.ensures.ok
+    IfOk-weaker c.nothing_at.result (λ x. Reads (λ parts. nothing parts.0 parts.1) (AreLeftOut c.args.version) (left_out_bytes c.args.version) c.args.level x.0 c.in-Some.rest.now x.1.now) (λ x. Reads (λ parts. parts) (IsStateParts c.args.version) (parts_bytes c.args.version) c.args.level x.0 c.args.bytes.now x.1.now)
+    (λ x r. nothing_found c.args.version c.args.bytes.now c.in-Some.rest.now x.1.now c.in-Some.tag.now c.args.level x.0 c.in-Some.ensures.cases.0 c.in-4.is r) c.nothing_at.ensures.ok
 
 pub returns-in-4-clause-refused : goal.returns-in-4-clause-refused
 returns-in-4-clause-refused c =
-    IfErr-weaker c.nothing_at.result (λ kind. IsRefused kind (BeginsNone AreLeftOut left_out_bytes c.in-Some.rest.now)) (λ kind. IsRefused kind (BeginsNone IsStateParts parts_bytes c.args.bytes.now))
-    (λ kind. refused_so kind _ _ (parts_nothing c.args.bytes.now c.in-Some.rest.now c.in-Some.tag.now c.in-Some.ensures.cases.0 c.in-4.is)) c.nothing_at.ensures.refused
+    IfErr-weaker c.nothing_at.result (λ kind. IsRefused kind (BeginsNone (AreLeftOut c.args.version) (left_out_bytes c.args.version) c.in-Some.rest.now)) (λ kind. IsRefused kind (BeginsNone (IsStateParts c.args.version) (parts_bytes c.args.version) c.args.bytes.now))
+    (λ kind. refused_so kind _ _ (parts_nothing c.args.version c.args.bytes.now c.in-Some.rest.now c.in-Some.tag.now c.in-Some.ensures.cases.0 c.in-4.is)) c.nothing_at.ensures.refused

@@ -4,6 +4,7 @@ use Rattle.cue_table.specs.Tree.{below, rows_of, rows_below}
 use Rattle.cue_table.specs.Size.{tree_size, children_size}
 use Rattle.cue_codec.specs.RowBytes.{row_bytes_from}
 use Rattle.cue_codec.specs.Size.{saturated, size_of}
+use Rattle.cue_codec.specs.Version.{written}
 use Rattle.cue_codec.proofs.sizes.+rows_size.Given as goal
 
 abbrev pub decreases-rows_size : goal.decreases-rows_size
@@ -13,8 +14,8 @@ decreases-rows_size l = tree_size l.branch.now
 abbrev pub invariant-loop-step : goal.invariant-loop-step
 invariant-loop-step l = record {
   counted : (depth : ℕ) (bytes : List ℕ) → l.steps ≡ size_of bytes
-      → saturated (l.size + length (flat_map (row_bytes_from depth bytes) (rows_below l.step-iterator)))
-      ≡ size_of (flat_map (row_bytes_from depth bytes) (rows_of l.branch));
+      → saturated (l.size + length (flat_map (row_bytes_from written depth bytes) (rows_below l.step-iterator)))
+      ≡ size_of (flat_map (row_bytes_from written depth bytes) (rows_of l.branch));
   fits : l.size ≡ saturated l.size;
   smaller : children_size l.step-iterator ≤ children_size (below l.branch);
 }

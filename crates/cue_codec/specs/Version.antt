@@ -1,0 +1,16 @@
+-- The versions of state bytes: each has a byte of its own.
+use Rattle.std.specs.Prelude.{◌≡◌, ℕ}
+use Rattle.cue_codec.specs.declared.version.Version.{Version}
+use Rattle.cue_codec.specs.declared.version.Version.TheVariants as versions
+
+-- the byte that stands for a version
+abbrev pub version_byte : Version → ℕ
+version_byte versions.First = 1
+
+-- a byte that stands for none
+abbrev pub IsNoVersion : ℕ → Type 0
+IsNoVersion byte = ¬ (byte ≡ version_byte versions.First)
+
+-- the version that is written
+abbrev pub written : Version
+written = versions.First
