@@ -131,7 +131,7 @@ piece_short bytes lt = λ p r h e. omega (arith, lt, ap length e, length-append 
 pub piece_half : (bytes rest : List ℕ) (first : ℤ) → Begins IsInteger integer_bytes first bytes rest → length rest < 8 → length bytes < 16
 piece_half bytes rest first b lt = omega (arith, lt, ap length b.parts, length-append (integer_bytes first) rest, length-integer_bytes first)
 
-same_integer : (n : ℤ) → IsInteger n → cast_signed w64 (cast_unsigned w64 n) ≡ n
+pub same_integer : (n : ℤ) → IsInteger n → cast_signed w64 (cast_unsigned w64 n) ≡ n
 same_integer n h = to_z-of_z w64 n (fits_from_integer n h)
 
 pub piece_found : (bytes middle rest : List ℕ) (first last : ℤ) → Begins IsInteger integer_bytes first bytes middle → Begins IsInteger integer_bytes last middle rest
@@ -186,6 +186,11 @@ text_found bytes rest front after text n fits e parts len good same =
     let whole : bytes ≡ text_bytes front ++ after = found.0 ∙ ap (λ (t : List ℕ). to_be_bytes w16 n ++ t) parts ∙ ap (λ (k : ℕ). to_be_bytes w16 k ++ (front ++ after)) (sym len) ∙ sym (text_parts front after) in
     let b : Begins IsWord text_bytes front bytes after = record { value = record { utf8 = good; short = omega (arith, len, found.1) }; parts = whole } in
     subst (λ (t : List ℕ). Begins IsWord text_bytes t bytes after) (sym same) b
+
+-- a text that is known, after its length
+pub text_again : (bytes rest after text : List ℕ) (n : ℕ) → IsBytes bytes → Some (n, rest) ≡ number_at w16 bytes → n ≡ length text → rest ≡ text ++ after → bytes ≡ text_bytes text ++ after
+text_again bytes rest after text n fits e len parts =
+    (number_takes w16 (2 ^ 16) read16 bytes n rest fits e).0 ∙ ap (λ (t : List ℕ). to_be_bytes w16 n ++ t) parts ∙ ap (λ (k : ℕ). to_be_bytes w16 k ++ (text ++ after)) len ∙ sym (text_parts text after)
 
 -- ---- lengths
 

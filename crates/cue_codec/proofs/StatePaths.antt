@@ -1,8 +1,8 @@
 -- Steps and paths: their bytes tell them.
-use Rattle.std.proofs.Common.{◌≡◌, ℕ, ◌^◌, ◌<◌, ◌≤◌, List, [], ◌∷◌, ◌++◌, length, map, Some, None, sym, ap, subst, ◌∙◌, arith}
+use Rattle.std.proofs.Common.{◌≡◌, ℕ, zero, suc, ◌+◌, ◌^◌, ◌<◌, ◌≤◌, List, [], ◌∷◌, ◌++◌, length, map, take, get_or, Some, None, sym, ap, subst, ◌∙◌, arith}
 use Rattle.std.specs.Int.{w32, to_be_bytes}
 use Rattle.std.specs.List.{flat_map, AllByRecursion}
-use Rattle.std.proofs.lemmas.List.{length-append, length-map, map-append}
+use Rattle.std.proofs.lemmas.List.{length-append, length-map, map-append, take_more}
 use Rattle.cue_lattice.specs.Limits.{step_limit}
 use Rattle.cue_lattice.specs.Path.{label, index, Path}
 use Rattle.cue_row.specs.declared.step.Step as program
@@ -39,8 +39,8 @@ step_tag version bytes rest tag is more (index n) s h e = omega (arith, more, he
 
 pub step_text : (version : Version) (bytes rest : List ℕ) (tag : ℕ) → bytes ≡ tag ∷ rest → tag ≡ 0 → BeginsNone IsWord text_bytes rest → BeginsNone (IsStateStep version) (step_bytes version) bytes
 unfolding step_bytes
-step_text version bytes rest tag is zero none (label t) s h e = none t s h (tails tag 0 rest _ (sym is ∙ e))
-step_text version bytes rest tag is zero none (index n) s h e = omega (arith, zero, heads tag 1 rest _ (sym is ∙ e))
+step_text version bytes rest tag is nil none (label t) s h e = none t s h (tails tag 0 rest _ (sym is ∙ e))
+step_text version bytes rest tag is nil none (index n) s h e = omega (arith, nil, heads tag 1 rest _ (sym is ∙ e))
 
 pub step_number : (version : Version) (bytes rest : List ℕ) (tag : ℕ) → bytes ≡ tag ∷ rest → tag ≡ 1 → None ≡ number_at w32 rest → BeginsNone (IsStateStep version) (step_bytes version) bytes
 unfolding step_bytes
@@ -50,7 +50,7 @@ step_number version bytes rest tag is one none (index n) s h e =
 
 pub label_found : (version : Version) (bytes rest after text : List ℕ) (tag : ℕ) → bytes ≡ tag ∷ rest → tag ≡ 0 → Begins IsWord text_bytes text rest after → Begins (IsStateStep version) (step_bytes version) (label text) bytes after
 unfolding step_bytes
-label_found version bytes rest after text tag is zero b = record { value = b.value; parts = is ∙ ap (λ (k : ℕ). k ∷ rest) zero ∙ ap (λ (x : List ℕ). 0 ∷ x) b.parts }
+label_found version bytes rest after text tag is nil b = record { value = b.value; parts = is ∙ ap (λ (k : ℕ). k ∷ rest) nil ∙ ap (λ (x : List ℕ). 0 ∷ x) b.parts }
 
 pub index_found : (version : Version) (bytes rest after : List ℕ) (tag n : ℕ) → IsBytes rest → bytes ≡ tag ∷ rest → tag ≡ 1 → Some (n, after) ≡ number_at w32 rest → Begins (IsStateStep version) (step_bytes version) (index n) bytes after
 unfolding step_bytes
@@ -68,6 +68,24 @@ steps_more version items x bytes rest after e r =
 pub steps_each : (version : Version) (items : List program.Step) (x : program.Step) → AllByRecursion (IsStateStep version) (map step_of items) → IsStateStep version (step_of x) → AllByRecursion (IsStateStep version) (map step_of (items ++ x ∷ []))
 steps_each version [] x p q = (q, tt)
 steps_each version (y ∷ items) x p q = (p.0, steps_each version items x p.1 q)
+
+-- an index that is known
+pub index_again : (version : Version) (bytes rest after : List ℕ) (tag n m : ℕ) → IsBytes rest → bytes ≡ tag ∷ rest → tag ≡ 1 → Some (n, after) ≡ number_at w32 rest → n ≡ m → bytes ≡ step_bytes version (index m) ++ after
+index_again version bytes rest after tag n m fits is one e same = (index_found version bytes rest after tag n fits is one e).parts ∙ ap (λ (k : ℕ). step_bytes version (index k) ++ after) same
+
+-- one more step is shared
+pub shared_more :
+    (version : Version) (steps : List program.Step) (i : ℕ) (x : program.Step) (bytes rest after : List ℕ) → i < length steps → x ≡ get_or steps i x → bytes ≡ flat_map (step_bytes version) (map step_of (take i steps)) ++ rest
+    → rest ≡ step_bytes version (step_of x) ++ after → bytes ≡ flat_map (step_bytes version) (map step_of (take (i + 1) steps)) ++ after
+shared_more version steps i x bytes rest after h g e r =
+    let one : take (i + 1) steps ≡ take i steps ++ x ∷ [] = take_more steps i x h ∙ ap (λ t. take i steps ++ t ∷ []) (sym g) in
+    steps_more version (take i steps) x bytes rest after e r ∙ ap (λ (t : List program.Step). flat_map (step_bytes version) (map step_of t) ++ after) (sym one)
+
+-- the first steps of a path that bytes tell
+pub steps_front : (version : Version) (items : List program.Step) (n : ℕ) → AllByRecursion (IsStateStep version) (map step_of items) → AllByRecursion (IsStateStep version) (map step_of (take n items))
+steps_front version items zero p = tt
+steps_front version [] (suc n) p = tt
+steps_front version (x ∷ items) (suc n) p = (p.0, steps_front version items n p.1)
 
 -- ---- paths
 

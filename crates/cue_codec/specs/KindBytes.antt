@@ -1,4 +1,5 @@
--- The bytes of a row by its kind, in a version: what the kind leaves open stands behind the kind's number.
+-- The bytes of a row by its kind, in a version: what the kind leaves open stands behind the kind's
+-- number.
 use Rattle.std.specs.Prelude.{◌≡◌, ℕ, List, [], ◌∷◌, ◌++◌}
 use Rattle.cue_lattice.specs.Path.{Path}
 use Rattle.cue_row.specs.declared.kind.RowKind.{RowKind}

@@ -1,5 +1,5 @@
--- The bytes of the parts of a row, in a version. What takes no version is the same in each. Numbers are written from the highest byte to the lowest,
--- integers in two's complement.
+-- The bytes of the parts of a row, in a version. What takes no version is the same in each. Numbers
+-- are written from the highest byte to the lowest, integers in two's complement.
 use Rattle.std.specs.Prelude.{ℕ, ◌+◌, ◌*◌, ℤ, Bool, true, false, List, [], ◌∷◌, ◌++◌, length}
 use Rattle.std.specs.Prelude.{Option, Some, None}
 use Rattle.std.specs.List.{flat_map}

@@ -1,5 +1,5 @@
--- What the parts of a row may be in a state of a version: sets and labels in their one form, texts in UTF-8 of
--- at most 65,535 bytes, lists that a count of 8 bytes can tell.
+-- What the parts of a row may be in a state of a version: sets and labels in their one form, texts
+-- in UTF-8 of at most 65,535 bytes, lists that a count of 8 bytes can tell.
 use Rattle.std.specs.Prelude.{ℕ, ℤ, ◌<◌, ◌≤◌, ◌^◌, Bool, List, length, Option, Some, None}
 use Rattle.std.specs.List.{AllByRecursion}
 use Rattle.cue_lattice.specs.Limits.{step_limit}

@@ -12,7 +12,7 @@ use crate::reading::u64_at;
 use crate::row_reader::RowReader;
 use crate::version::Version;
 use cue_lattice::Kind;
-use cue_row::Row;
+use cue_row::{Path, Row};
 use cue_table::Table;
 use std::alloc::Global;
 
@@ -62,16 +62,19 @@ fn head_at(bytes: &[u8]) -> Result<(Version, u64, &[u8]), Kind>
 }
 
 /// The table of so many rows, where their bytes are all there are. Each row is added behind the
-/// others as it is read, so that the table costs what its bytes cost.
+/// others as it is read, and its path is made of the one before it, so that the table costs what
+/// its bytes cost.
 fn rows_at(alloc: Global, version: Version, count: u64, bytes: &[u8]) -> Result<Table<Row>, Kind>
     ensures ok { IfOk result (AreReadRows version count bytes.now) }
     ensures refused { IfErr result (λ kind. IsRefused kind (NoRows version count bytes.now)) }
 {
     let mut table = Table::new(alloc);
     let mut reader = RowReader::new(bytes);
+    let mut path = Path::root(alloc);
     let mut left = count;
     while left > 0 {
-        let (path, row) = reader.read(alloc, version)?;
+        let (next, row) = reader.read(alloc, version, path)?;
+        path = next;
         let Ok(is_added) = table.append(&path, row) else {
             return Err(Kind::Memory);
         };

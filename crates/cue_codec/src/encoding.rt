@@ -14,8 +14,8 @@ use std::alloc::Global;
 /// How every state begins.
 pub const MARK: [u8; 4] = [0xfe, 0x43, 0x55, 0x45];
 
-/// The state bytes of a valid table, in the version that is written. They are written a row at a time, branch by branch.
-/// An error says that memory ran out.
+/// The state bytes of a valid table, in the version that is written. They are written a row at a
+/// time, branch by branch. An error says that memory ran out.
 pub fn encode(alloc: Global, table: &Table<Row>) -> Result<Vec<u8>, Memory>
     requires { IsValidTable table.now }
     ensures { IfOk result (λ bytes. bytes.items ≡ table_bytes table.now) }

@@ -12,7 +12,7 @@ ghost use Rattle.cue_codec.specs.Reading.{IsMost, number_at};
 use crate::version::Version;
 
 #[tactic(auto, unfolding(crate::specs::Reading::number_at))]
-fn u16_at(bytes: &[u8]) -> Option<(u16, &[u8])>
+pub fn u16_at(bytes: &[u8]) -> Option<(u16, &[u8])>
     ensures { option_map (λ x. (x.0, x.1.now)) result ≡ number_at w16 bytes.now }
 {
     let (number, rest) = bytes.split_first_chunk::<2>()?;

@@ -3,6 +3,7 @@
 ghost use Rattle.std.specs.Prelude.{◌≡◌, ◌↔◌, [], IsTrue, IfOk, IfErr, OnErr};
 ghost use Rattle.cue_codec.specs.Reading.{Begins, BeginsNone, IsRefused};
 ghost use Rattle.cue_codec.specs.RowBytes.{row_bytes, IsStateRow};
+ghost use Rattle.cue_codec.specs.StateRow.{IsStatePath};
 
 use crate::paths::path_at;
 use crate::rows::parts_at;
@@ -12,14 +13,21 @@ use cue_row::{Level, Path, Row};
 use std::alloc::Global;
 use std::marker::Model;
 
-/// The row whose bytes stand in front, with its path, and the bytes after it.
-fn row_at(alloc: Global, version: Version, bytes: &[u8]) -> Result<((Path, Row), &[u8]), Kind>
+/// The row whose bytes stand in front, with its path, and the bytes after it. The path is made of
+/// the one before it.
+fn row_at(
+    alloc: Global,
+    version: Version,
+    before: Path,
+    bytes: &[u8],
+) -> Result<((Path, Row), &[u8]), Kind>
+    requires { IsStatePath version before }
     ensures ok { IfOk result (λ x. Begins (IsStateRow version) (row_bytes version) x.0 bytes.now
         x.1.now) }
     ensures refused { IfErr result (λ kind. IsRefused kind
         (BeginsNone (IsStateRow version) (row_bytes version) bytes.now)) }
 {
-    let (path, behind) = path_at(alloc, version, bytes)?;
+    let (path, behind) = path_at(alloc, version, before, bytes)?;
     let Some((number, rest)) = behind.split_first() else {
         return Err(Kind::NotState);
     };
@@ -59,17 +67,24 @@ impl<'a> RowReader<'a> {
         self.rest.is_empty()
     }
 
-    /// The row whose bytes in this version stand in front, with its path; the reader goes on after
-    /// it. Where no row's bytes stand there it is refused as `NotState`, and where memory ran out
-    /// as `Memory`; the reader is then as before. Room is made only for what was read.
-    pub fn read(&mut self, alloc: Global, version: Version) -> Result<(Path, Row), Kind>
+    /// The row whose bytes in this version stand in front, with its path, which is made of the one
+    /// before it; the reader goes on after it. Where no row's bytes stand there it is refused as
+    /// `NotState`, and where memory ran out as `Memory`; the reader is then as before. Room is made
+    /// only for what was read.
+    pub fn read(
+        &mut self,
+        alloc: Global,
+        version: Version,
+        before: Path,
+    ) -> Result<(Path, Row), Kind>
+        requires { IsStatePath version before }
         ensures ok { IfOk result (λ row. Begins (IsStateRow version) (row_bytes version) row
             self.old self.new) }
         ensures refused { IfErr result (λ kind. IsRefused kind
             (BeginsNone (IsStateRow version) (row_bytes version) self.old)) }
         ensures unchanged { OnErr result (self.new ≡ self.old) }
     {
-        let (row, rest) = row_at(alloc, version, self.rest)?;
+        let (row, rest) = row_at(alloc, version, before, self.rest)?;
         self.rest = rest;
         Ok(row)
     }

@@ -36,7 +36,8 @@ fn put_left_out(out: &mut Vec<u8>, row: &Row) -> Result<(), Memory>
 #[tactic(auto, unfolding(crate::specs::RowBytes::parts_bytes))]
 pub fn put_parts(out: &mut Vec<u8>, row: &Row) -> Result<(), Memory>
     requires { IsShortRow row.now }
-    ensures { OnOk result (out.new.items ≡ out.old.items ++ parts_bytes written (parts_of row.now)) }
+    ensures { OnOk result (out.new.items ≡ out.old.items
+        ++ parts_bytes written (parts_of row.now)) }
 {
     match (row.struct_ok, row.list_ok) {
         (true, true) => {

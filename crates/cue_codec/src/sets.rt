@@ -8,12 +8,30 @@ ghost use Rattle.cue_codec.specs.StateRow.{IsStateIntegers, IsStateTexts, IsStat
 ghost use Rattle.cue_codec.specs.StateRow.{AreStateLabels};
 
 use crate::lists::{pieces_at, texts_at};
-use crate::reading::flags_of;
+use crate::reading::{flags_of, piece_at, u64_at};
 use cue_lattice::{Kind, Narrow};
 use cue_row::Labels;
 use cue_scalars::ScalarSet;
 use cue_sets::{IntSet, TextSet};
 use std::alloc::Global;
+
+/// The set of one integer, where its bytes stand in front. This takes no memory.
+fn one_integer_at(alloc: Global, bytes: &[u8]) -> Option<(IntSet, &[u8])>
+    ensures { IfSome result (λ x. Begins IsStateIntegers
+        (counted_bytes piece_bytes) x.0 bytes.now x.1.now) }
+{
+    let (count, rest) = u64_at(bytes)?;
+    if count != 1 {
+        return None;
+    }
+    let ((first, last), rest) = piece_at(rest)?;
+    if first != last {
+        return None;
+    }
+    let set = IntSet::one(alloc, first).unwrap();
+    set.known();
+    Some((set, rest))
+}
 
 /// A set of integers.
 fn int_set_at(alloc: Global, bytes: &[u8]) -> Result<(IntSet, &[u8]), Kind>
@@ -22,6 +40,9 @@ fn int_set_at(alloc: Global, bytes: &[u8]) -> Result<(IntSet, &[u8]), Kind>
     ensures refused { IfErr result (λ kind. IsRefused kind
         (BeginsNone IsStateIntegers (counted_bytes piece_bytes) bytes.now)) }
 {
+    if let Some(found) = one_integer_at(alloc, bytes) {
+        return Ok(found);
+    }
     let (pieces, rest) = pieces_at(alloc, bytes)?;
     let Some(set) = IntSet::from_pieces(pieces) else {
         return Err(Kind::NotState);

@@ -11,14 +11,14 @@ ghost use Rattle.cue_codec.specs.State.{state_bytes, table_bytes};
 ghost use Rattle.cue_table.specs.Tree.{Tree};
 ghost use Rattle.cue_table.specs.Valid.{IsValidTable};
 
-/// In each version a row of a kind is written as its path, its level, the number of its kind, and what the kind
-/// leaves open. It computes nothing: it states a law.
+/// In each version a row of a kind is written as its path, its level, the number of its kind, and
+/// what the kind leaves open. It computes nothing: it states a law.
 pub fn bytes_of_kinds()
     ensures { AreBytesOfKinds }
 {}
 
-/// In each version the bytes of a row in front tell the row and what stands after it. It computes nothing: it
-/// states a law.
+/// In each version the bytes of a row in front tell the row and what stands after it. It computes
+/// nothing: it states a law.
 pub fn one_row_spelling()
     ensures { (version : Version) (a b : Path × Row) (r s : List ℕ) →
         IsStateRow version a → IsStateRow version b →
@@ -26,7 +26,8 @@ pub fn one_row_spelling()
         (a ≡ b) × (r ≡ s) }
 {}
 
-/// Rows with the same state bytes, in one version, are the same. It computes nothing: it states a law.
+/// Rows with the same state bytes, in one version, are the same. It computes nothing: it states a
+/// law.
 pub fn one_state_spelling()
     ensures { (version : Version) (a b : List (Path × Row)) →
         AreCounted (IsStateRow version) a → AreCounted (IsStateRow version) b →

@@ -1,12 +1,22 @@
 use Rattle.std.proofs.Common.{arith, ◌∷◌, [], map}
-use Rattle.std.proofs.lemmas.List.{length-append, length-map}
+use Rattle.std.proofs.lemmas.List.{length-append, length-map, length-take}
 use Rattle.std.proofs.lemmas.Result.{err_from_is_err_and}
 use Rattle.cue_row.specs.Steps.{step_of}
 use Rattle.cue_codec.specs.Parts.{step_bytes}
 use Rattle.cue_codec.specs.StateRow.{IsStateStep}
 use Rattle.cue_codec.proofs.Codes.{items_refused}
-use Rattle.cue_codec.proofs.StatePaths.{one_step, steps_more, steps_each}
+use Rattle.cue_codec.proofs.StatePaths.{one_step, steps_more, steps_each, steps_front}
 use Rattle.cue_codec.proofs.paths.each_step.Goals as goal
+
+pub loop-alloc-init : goal.loop-alloc-init
+loop-alloc-init c =
+    let items = c.args.before.items in
+    let len = c.shared-len.result.0 in
+    rw c.truncate.ensures.items (record {
+      few = omega (arith, length-take len items, c.shared-len.ensures.few.1);
+      each = steps_front c.args.version items len c.requires;
+      parts = rw (← c.as_slice.ensures.value) (c.shared-len.ensures.parts c.args.version);
+    })
 
 pub loop-alloc-preserved : goal.loop-alloc-preserved
 loop-alloc-preserved c =
