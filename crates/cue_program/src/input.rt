@@ -14,7 +14,7 @@ use std::alloc::Global;
 const PIECE: usize = 65_536;
 
 /// How many reads one input may take, with the one that finds its end.
-const MAX_READS: usize = 65_536;
+pub const MAX_READS: usize = 65_536;
 
 /// Room for what one read gives. It serves for one input after the other.
 pub fn room(alloc: Global) -> Result<Vec<u8>, Memory>
@@ -49,7 +49,11 @@ pub fn read_all<S: Source>(alloc: Global, input: &mut S, piece: &mut [u8]) -> Re
 }
 
 /// Reads once and keeps what was read. Answers whether that was the end.
-fn read_piece<S: Source>(input: &mut S, piece: &mut [u8], all: &mut Vec<u8>) -> Result<bool, Stop>
+pub fn read_piece<S: Source>(
+    input: &mut S,
+    piece: &mut [u8],
+    all: &mut Vec<u8>,
+) -> Result<bool, Stop>
     requires some { 0 < length piece.old }
     requires calls { S.called input.old + 1 < 2 ^ 64 }
     ensures room { length piece.new ≡ length piece.old }

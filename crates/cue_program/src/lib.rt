@@ -5,6 +5,7 @@
 #![tactic(auto)]
 
 mod disk;
+mod enough;
 mod input;
 mod out;
 mod parts;

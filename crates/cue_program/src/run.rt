@@ -3,7 +3,9 @@ ghost use Rattle.cue_program.specs.Files.{AreAll, known_at, texts};
 ghost use Rattle.cue_program.specs.Inputs.{Holds, files, inputs_of};
 ghost use Rattle.cue_program.specs.Runs.{IsAnswerOn, IsMergeOn, IsMergeStopOn, IsStopOn};
 ghost use Rattle.cue_program.specs.Stops.{IsUnreadable};
+ghost use Rattle.cue_program.specs.inner.Reading.{HasEnough};
 
+use crate::enough::read_enough;
 use crate::input::{read_all, room};
 use crate::put::put;
 use crate::shelf::Shelf;
@@ -122,14 +124,15 @@ fn site_of_files<H: AllocGlobal + Shelf>(rt: &H, names: &[&str]) -> Result<Repli
     Ok(site)
 }
 
-/// All bytes of the file of this name, by reads into this room.
+/// Enough of the file of this name to be taken or refused, by reads into this room.
 pub fn read_file<H: AllocGlobal + Shelf>(
     rt: &H,
     name: &str,
     piece: &mut [u8],
 ) -> Result<Vec<u8>, Stop>
     requires { 0 < length piece.old }
-    ensures all { IfOk result (λ all. AreAll (known_at (H.held rt.now) name.now) all.items) }
+    ensures enough { IfOk result (λ kept. HasEnough
+        (known_at (H.held rt.now) name.now) kept.items) }
     ensures fault { IfErr result IsUnreadable }
     ensures room { length piece.new ≡ length piece.old }
 {
@@ -137,5 +140,5 @@ pub fn read_file<H: AllocGlobal + Shelf>(
         Ok(file) => file,
         Err(_) => return Err(Stop::Device),
     };
-    read_all(rt.alloc(), &mut Reader::new(file), piece)
+    read_enough(rt.alloc(), &mut Reader::new(file), piece)
 }

@@ -2,9 +2,10 @@ use Rattle.std.proofs.Common.{◌≡◌, ◌<◌, ◌++◌, ◌∷◌, ℕ, List
 use Rattle.cue_wire.specs.declared.request.Request as requests
 use Rattle.cue_program.specs.Files.{known_at, texts}
 use Rattle.cue_program.specs.Inputs.{files}
-use Rattle.cue_program.specs.Requests.{AreRequests, IsUnsentOn}
+use Rattle.cue_program.specs.Requests.{AreRequests, CanBeSent, IsPieceFault, IsUnsentOn}
 use Rattle.cue_program.proofs.Files.{some_name, take_known, split_known}
 use Rattle.cue_program.proofs.Requests.{files_sent_none, files_sent_more, files_unsent, files_sent_unread}
+use Rattle.cue_program.proofs.Kept.{fine_is_all, refused_is_all, long_fault, long_is_unsent}
 use Rattle.cue_program.proofs.request.requests_of_files.Goals as goal
 
 pub loop-name-init : goal.loop-name-init
@@ -29,11 +30,13 @@ returns-in-Err-request_of_file-clause-stop g c =
     let names = c.args.names.now in
     let i = c.loop-name.name-index in
     ⊎_elim
-    (λ fault. subst (λ (ks : List (Option (List ℕ))). IsUnsentOn (files ks) c.in-Err-request_of_file.stop)
+    (λ fault.
+    let whole = refused_is_all IsPieceFault _ c.in-Ok.bytes.items c.saturating_add-number.result c.in-Err-request_of_file.stop long_fault c.in-Ok.ensures.enough fault in
+    subst (λ (ks : List (Option (List ℕ))). IsUnsentOn (files ks) c.in-Err-request_of_file.stop)
     (sym (split_known K names i _ c.loop-name-test.true))
     (files_unsent (map K (texts (take i names))) (map K (texts (drop (i + 1) names))) _ c.loop-name.requests.items c.saturating_add-number.result
-    c.in-Ok.bytes.items c.in-Err-request_of_file.stop c.loop-name.invariant.sent c.in-Ok.ensures.all
-    (c.saturating_add-number.ensures ∙ ap (λ n. min (n + 1) (2 ^ 64 - 1)) (c.len.ensures ∙ c.loop-name.requests.ok.0)) fault))
+    whole.0 c.in-Err-request_of_file.stop c.loop-name.invariant.sent whole.1
+    (c.saturating_add-number.ensures ∙ ap (λ n. min (n + 1) (2 ^ 64 - 1)) (c.len.ensures ∙ c.loop-name.requests.ok.0)) whole.2))
     (λ memory. inr (inr memory))
     c.in-Err-request_of_file.ensures.stop
 
@@ -42,11 +45,12 @@ loop-name-preserved g c =
     let K = known_at (g.H.Shelf.held c.args.rt.now) in
     let names = c.args.names.now in
     let i = c.loop-name.name-index in
+    let sent = c.in-Ok-request_of_file.ensures.request in
     record {
       sent = subst (λ (rs : List requests.Request). AreRequests (files (map K (texts (take (i + 1) names)))) rs) (sym c.in_ok-push-in-Ok-request_of_file.ensures.items)
           (subst (λ (ks : List (Option (List ℕ))). AreRequests (files ks) (c.loop-name.requests.items ++ c.in-Ok-request_of_file.request ∷ []))
           (sym (take_known K names i _ c.loop-name-test.true))
           (files_sent_more (map K (texts (take i names))) _ c.in-Ok.bytes.items c.loop-name.requests.items c.in-Ok-request_of_file.request
-          c.loop-name.invariant.sent c.in-Ok.ensures.all c.in-Ok-request_of_file.ensures.request));
+          c.loop-name.invariant.sent (fine_is_all CanBeSent _ c.in-Ok.bytes.items long_is_unsent c.in-Ok.ensures.enough sent.0 sent.1 sent.2) sent));
       room = search rules;
     }
