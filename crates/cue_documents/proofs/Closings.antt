@@ -10,7 +10,7 @@ use Rattle.cue_lattice.specs.Document.{Document}
 use Rattle.cue_lattice.specs.Meets.{Meets, ItemsMeet, MembersMeet}
 use Rattle.cue_lattice.proofs.Meeting.{less}
 use Rattle.cue_scope.specs.Core as cores
-use Rattle.cue_scope.specs.Core.{Core, null, truth, integer, text, named, top, bottom, bound, other_integer, other_text, conjunction, disjunction, struct, close, list, closed, Cores, no_cores, core}
+use Rattle.cue_scope.specs.Core.{Core, null, truth, integer, text, named, top, bottom, bound, other_integer, other_text, conjunction, disjunction, struct, close, list, closed, Cores, no_cores, core, Elements, ends, goes_on, element}
 use Rattle.cue_eval.specs.Literals.{declares, with_fields, with_elements, literals, literals_of_parts, literals_of_field, literals_of_element, LeaveOut}
 use Rattle.cue_eval.specs.Places.{ClosingRefuses}
 use Rattle.cue_documents.specs.Conjuncts.{Part, fields, elements, conjuncts, conjuncts_of, declared, written, field_parts, item_parts, structs, Declares, Within, ItemsWithin, MembersWithin}
@@ -42,7 +42,7 @@ mutual
   of_conjuncts (conjunction cs) path = of_parts cs path
   of_conjuncts (struct ms) path = sym (append-nil (with_fields ms (literals_of_field ms) path))
   of_conjuncts (close ms) path = sym (append-nil (with_fields ms (literals_of_field ms) path))
-  of_conjuncts (list cs goes_on) path = sym (append-nil (with_elements (literals_of_element cs) path))
+  of_conjuncts (list es) path = sym (append-nil (with_elements (literals_of_element es) path))
   of_conjuncts (closed c) path = of_conjuncts c path
 
   of_parts : (cs : Cores) (path : Path) → literals_of_parts cs path ≡ lits (conjuncts_of cs) path
@@ -60,10 +60,11 @@ of_field (cores.member k mark c ms) l path =
     ∙ sym (lits-append (cond (bytes_eq k l) (conjuncts c) []) (declared ms l) path)
 of_field (cores.dots ms) l path = of_field ms l path
 
-of_element : (cs : Cores) (i : ℕ) (path : Path) → literals_of_element cs i path ≡ lits (written cs i) path
-of_element no_cores i path = refl
-of_element (core c cs) zero path = of_conjuncts c path
-of_element (core c cs) (suc i) path = of_element cs i path
+of_element : (es : Elements) (i : ℕ) (path : Path) → literals_of_element es i path ≡ lits (written es i) path
+of_element ends i path = refl
+of_element goes_on i path = refl
+of_element (element c es) zero path = of_conjuncts c path
+of_element (element c es) (suc i) path = of_element es i path
 
 at_root : (parts : List Part) → lits parts [] ≡ structs parts
 at_root [] = refl

@@ -12,11 +12,11 @@ use Rattle.cue_lattice.proofs.Meeting.{Either, less, both, unasked, items_unaske
 use Rattle.cue_scalars.specs.Pairs.{Pair}
 use Rattle.cue_syntax.specs.declared.tree.Mark.{Mark}
 use Rattle.cue_syntax.specs.declared.tree.Mark.TheVariants.{Regular, Optional, Required}
-use Rattle.cue_scope.specs.Core.{Core, null, truth, integer, text, named, top, bottom, bound, other_integer, other_text, conjunction, disjunction, struct, close, list, closed, Cores, no_cores, core, Members, no_members, member, dots}
+use Rattle.cue_scope.specs.Core.{Core, null, truth, integer, text, named, top, bottom, bound, other_integer, other_text, conjunction, disjunction, struct, close, list, closed, Cores, no_cores, core, Members, no_members, member, dots, Elements, ends, goes_on, element}
 use Rattle.cue_eval.specs.Pairs.{pair}
 use Rattle.cue_eval.specs.Literals.{literals}
 use Rattle.cue_eval.specs.Places.{Here, ScalarRefuses, MarkRefuses, ClosingRefuses, IsAboveLength, level_of_mark}
-use Rattle.cue_eval.specs.Refuses.{Refuses, PartsRefuse, FieldRefuses, ElementRefuses, LiteralRefuses, count}
+use Rattle.cue_eval.specs.Refuses.{Refuses, PartsRefuse, FieldRefuses, ElementRefuses, LiteralRefuses, count, is_open}
 use Rattle.cue_documents.specs.Admits.{Wanted, EachAt, IsScalarIn, IsLength, AllDeclared, Admits, AllAdmit, FieldsAdmit, ElementsAdmit, IsExactOnDocuments}
 use Rattle.cue_documents.proofs.Closings.{Closing, closed_is_within, declares_them, leaves_none_out}
 
@@ -49,7 +49,7 @@ mutual
   no_level (conjunction cs) k g = no_part_level cs k g
   no_level (struct ms) k g = g
   no_level (close ms) k g = ⊎_elim (λ e. e) (λ e. e) g
-  no_level (list cs goes_on) k g = g
+  no_level (list es) k g = g
   no_level (closed c) k g = ⊎_elim (no_level c k) (λ e. e) g
 
   no_part_level : (cs : Cores) (k : ℕ) → PartsRefuse cs [] (level_at_most k) → ⊥
@@ -160,9 +160,9 @@ mutual
   meets (close ms) (documents.list items) is h = absurd h
   meets (close ms) (documents.map others) is h =
       both (LiteralRefuses (FieldRefuses ms)) (Here (ClosingRefuses (ms ∷ []))) (documents.map others) (fields_meet ms others is h.0) (λ g. g, λ l g. absurd g, none_left_out ms others h.1)
-  meets (list cs goes_on) (documents.scalar x) is h = absurd h
-  meets (list cs goes_on) (documents.list items) is h = (λ g. g, not_short (count cs) goes_on (length_of items) h.0, not_long (count cs) goes_on (length_of items) h.0, elements_meet cs items is h.1)
-  meets (list cs goes_on) (documents.map others) is h = absurd h
+  meets (list es) (documents.scalar x) is h = absurd h
+  meets (list es) (documents.list items) is h = (λ g. g, not_short (count es) (is_open es) (length_of items) h.0, not_long (count es) (is_open es) (length_of items) h.0, elements_meet es items is h.1)
+  meets (list es) (documents.map others) is h = absurd h
   meets (closed c) d is h = both (Refuses c) (Closing (literals c)) d (meets c d is h.0) ((closed_is_within c d).1 h.1)
 
   all_meet : (cs : Cores) (d : Document) → IsDocument d → AllAdmit cs d → Meets (PartsRefuse cs) d
@@ -174,10 +174,11 @@ mutual
   fields_meet (member k mark c ms) others is h = more_fields k mark c ms others h.0 (each_meets k mark c (λ d one a. meets c d one a) others is h.1) (fields_meet ms others is h.2)
   fields_meet (dots ms) others is h = fields_meet ms others is h
 
-  elements_meet : (cs : Cores) (items : documents.Items) → AreItems items → ElementsAdmit cs items → ItemsMeet (ElementRefuses cs) items
-  elements_meet no_cores items is h = items_unasked items
-  elements_meet (core c cs) documents.no_items is h = tt
-  elements_meet (core c cs) (documents.item d items) is h = (meets c d is.0 h.0, elements_meet cs items is.1 h.1)
+  elements_meet : (es : Elements) (items : documents.Items) → AreItems items → ElementsAdmit es items → ItemsMeet (ElementRefuses es) items
+  elements_meet ends items is h = items_unasked items
+  elements_meet goes_on items is h = items_unasked items
+  elements_meet (element c es) documents.no_items is h = tt
+  elements_meet (element c es) (documents.item d items) is h = (meets c d is.0 h.0, elements_meet es items is.1 h.1)
 
 mutual
   pub admits : (c : Core) (d : Document) → IsDocument d → Meets (Refuses c) d → Admits c d
@@ -202,9 +203,9 @@ mutual
     fields_admit ms others is (first (LiteralRefuses (FieldRefuses ms)) (Here (ClosingRefuses (ms ∷ []))) (documents.map others) m),
     all_declared ms others (second (LiteralRefuses (FieldRefuses ms)) (Here (ClosingRefuses (ms ∷ []))) (documents.map others) m).2,
   )
-  admits (list cs goes_on) (documents.scalar x) is m = absurd (m is.0)
-  admits (list cs goes_on) (documents.list items) is m = (is_length (count cs) goes_on (length_of items) m.1 m.2, elements_admit cs items is m.3)
-  admits (list cs goes_on) (documents.map others) is m = absurd (m.0 tt)
+  admits (list es) (documents.scalar x) is m = absurd (m is.0)
+  admits (list es) (documents.list items) is m = (is_length (count es) (is_open es) (length_of items) m.1 m.2, elements_admit es items is m.3)
+  admits (list es) (documents.map others) is m = absurd (m.0 tt)
   admits (closed c) d is m = (admits c d is (first (Refuses c) (Closing (literals c)) d m), (closed_is_within c d).0 (second (Refuses c) (Closing (literals c)) d m))
 
   all_admit : (cs : Cores) (d : Document) → IsDocument d → Meets (PartsRefuse cs) d → AllAdmit cs d
@@ -220,10 +221,11 @@ mutual
   )
   fields_admit (dots ms) others is m = fields_admit ms others is m
 
-  elements_admit : (cs : Cores) (items : documents.Items) → AreItems items → ItemsMeet (ElementRefuses cs) items → ElementsAdmit cs items
-  elements_admit no_cores items is m = tt
-  elements_admit (core c cs) documents.no_items is m = tt
-  elements_admit (core c cs) (documents.item d items) is m = (admits c d is.0 m.0, elements_admit cs items is.1 m.1)
+  elements_admit : (es : Elements) (items : documents.Items) → AreItems items → ItemsMeet (ElementRefuses es) items → ElementsAdmit es items
+  elements_admit ends items is m = tt
+  elements_admit goes_on items is m = tt
+  elements_admit (element c es) documents.no_items is m = tt
+  elements_admit (element c es) (documents.item d items) is m = (admits c d is.0 m.0, elements_admit es items is.1 m.1)
 
 pub exact : IsExactOnDocuments
 exact c d is = (meets c d is, admits c d is)

@@ -9,10 +9,11 @@ use Rattle.cue_syntax.specs.declared.tree.Mark.{Mark}
 use Rattle.cue_syntax.specs.declared.tree.Mark.TheVariants.{Regular, Optional, Required}
 use Rattle.cue_syntax.specs.Syntax.{Entries}
 use Rattle.cue_scope.specs.Core.{Core, top, conjunction, struct, close, list, closed, Cores}
-use Rattle.cue_scope.specs.Core.{no_cores, core, Members, no_members, member, dots}
+use Rattle.cue_scope.specs.Core.{no_cores, core, Elements, ends, goes_on, element, Members}
+use Rattle.cue_scope.specs.Core.{no_members, member, dots}
 use Rattle.cue_scope.specs.Meaning.{meant_text}
 use Rattle.cue_eval.specs.Pairs.{pair}
-use Rattle.cue_eval.specs.Refuses.{Refuses, count}
+use Rattle.cue_eval.specs.Refuses.{Refuses, count, is_open}
 use Rattle.cue_documents.specs.Conjuncts.{conjuncts, Declares, Within}
 
 -- a scalar of the set
@@ -59,8 +60,9 @@ abbrev mutual
   Admits top d = Unit {0}
   Admits (conjunction cs) d = AllAdmit cs d
   Admits (struct ms) d = IsMapOf (FieldsAdmit ms) d
-  Admits (list cs goes_on) d =
-      IsListOf (λ items. IsLength (count cs) goes_on (length_of items) × ElementsAdmit cs items) d
+  Admits (list es) d =
+      IsListOf
+      (λ items. IsLength (count es) (is_open es) (length_of items) × ElementsAdmit es items) d
   -- `close` closes its own place alone
   Admits (close ms) d = IsMapOf (λ members. FieldsAdmit ms members × AllDeclared ms members) d
   -- a definition is closed wherever its body writes a struct
@@ -81,10 +83,11 @@ abbrev mutual
   FieldsAdmit (dots ms) members = FieldsAdmit ms members
 
   -- each element that is written admits what stands there
-  pub ElementsAdmit : Cores → documents.Items → Type 0
-  ElementsAdmit no_cores items = Unit {0}
-  ElementsAdmit (core c cs) documents.no_items = Unit {0}
-  ElementsAdmit (core c cs) (documents.item d items) = Admits c d × ElementsAdmit cs items
+  pub ElementsAdmit : Elements → documents.Items → Type 0
+  ElementsAdmit ends items = Unit {0}
+  ElementsAdmit goes_on items = Unit {0}
+  ElementsAdmit (element c es) documents.no_items = Unit {0}
+  ElementsAdmit (element c es) (documents.item d items) = Admits c d × ElementsAdmit es items
 
 -- a text admits what the struct of its regular declarations admits
 abbrev pub text_admits : Entries → Document → Type 0

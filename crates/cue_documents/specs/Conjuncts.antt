@@ -7,13 +7,14 @@ use Rattle.std.specs.Str.{bytes_eq}
 use Rattle.cue_lattice.specs.Document as documents
 use Rattle.cue_lattice.specs.Document.{Document}
 use Rattle.cue_scope.specs.Core.{Core, conjunction, struct, close, list, closed, Cores, no_cores}
-use Rattle.cue_scope.specs.Core.{core, Members, no_members, member, dots}
+use Rattle.cue_scope.specs.Core.{core, Elements, ends, goes_on, element, Members, no_members}
+use Rattle.cue_scope.specs.Core.{member, dots}
 use Rattle.cue_eval.specs.Literals.{declares, has_dots}
 
 -- a struct literal with its declarations, or a list literal with its elements
 pub data Part : Type 0 where
   fields : Members → Part
-  elements : Cores → Part
+  elements : Elements → Part
 
 -- the literals that are the parts of an expression, taken apart through `&`, definitions and
 -- `close`
@@ -22,7 +23,7 @@ abbrev mutual
   conjuncts (conjunction cs) = conjuncts_of cs
   conjuncts (struct ms) = fields ms ∷ []
   conjuncts (close ms) = fields ms ∷ []
-  conjuncts (list cs goes_on) = elements cs ∷ []
+  conjuncts (list es) = elements es ∷ []
   conjuncts (closed c) = conjuncts c
   conjuncts _ = []
 
@@ -37,27 +38,28 @@ declared (member k mark c ms) l = cond (bytes_eq k l) (conjuncts c) [] ++ declar
 declared (dots ms) l = declared ms l
 
 -- the parts of the value that a list literal writes at an index
-abbrev pub written : Cores → ℕ → List Part
-written no_cores i = []
-written (core c cs) zero = conjuncts c
-written (core c cs) (suc i) = written cs i
+abbrev pub written : Elements → ℕ → List Part
+written ends i = []
+written goes_on i = []
+written (element c es) zero = conjuncts c
+written (element c es) (suc i) = written es i
 
 -- the parts at a label, and at an index, of all these parts
 abbrev pub field_parts : List Part → List ℕ → List Part
 field_parts [] l = []
 field_parts (fields ms ∷ parts) l = declared ms l ++ field_parts parts l
-field_parts (elements cs ∷ parts) l = field_parts parts l
+field_parts (elements es ∷ parts) l = field_parts parts l
 
 abbrev pub item_parts : List Part → ℕ → List Part
 item_parts [] i = []
 item_parts (fields ms ∷ parts) i = item_parts parts i
-item_parts (elements cs ∷ parts) i = written cs i ++ item_parts parts i
+item_parts (elements es ∷ parts) i = written es i ++ item_parts parts i
 
 -- the struct literals among parts
 abbrev pub structs : List Part → List Members
 structs [] = []
 structs (fields ms ∷ parts) = ms ∷ structs parts
-structs (elements cs ∷ parts) = structs parts
+structs (elements es ∷ parts) = structs parts
 
 -- where there are struct literals, and none wrote a `...`, they declare the label together
 abbrev pub Declares : List Members → List ℕ → Type 0

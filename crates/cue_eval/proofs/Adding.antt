@@ -7,7 +7,7 @@ use Rattle.std.proofs.lemmas.List.{length-replicate}
 use Rattle.std.proofs.lemmas.Slice.Eq.{bytes_eq-Decides}
 use Rattle.cue_lattice.specs.Path.{Path, label, index}
 use Rattle.cue_lattice.specs.Question.{allows}
-use Rattle.cue_scope.specs.Core.{Core, conjunction, struct, close, list, closed, Cores, no_cores, core, Members, no_members, member, dots}
+use Rattle.cue_scope.specs.Core.{Core, conjunction, struct, close, list, closed, Cores, no_cores, core, Members, no_members, member, dots, Elements, ends, goes_on, element}
 use Rattle.cue_eval.specs.Literals.{literals, declares, has_dots, LeaveOut}
 use Rattle.cue_eval.specs.Refuses.{Refuses, PartsRefuse, FieldRefuses, ElementRefuses}
 use Rattle.cue_eval.specs.Closing.{OneOfUsed, OneOfParts, OneOfFields, OneOfElements, any_literal, LeaveOutOwn, UsedAreClosed, IsClosedByOwn}
@@ -88,9 +88,9 @@ mutual
   used_closed (close ms) [] h = absurd h
   used_closed (close ms) (label l ∷ path) h = closed_more (λ d. d) (λ k r. inl r) (fields_closed ms l path h)
   used_closed (close ms) (index i ∷ path) h = absurd h
-  used_closed (list cs goes_on) [] h = absurd h
-  used_closed (list cs goes_on) (label l ∷ path) h = absurd h
-  used_closed (list cs goes_on) (index i ∷ path) h = elements_closed cs i path h
+  used_closed (list es) [] h = absurd h
+  used_closed (list es) (label l ∷ path) h = absurd h
+  used_closed (list es) (index i ∷ path) h = elements_closed es i path h
   used_closed (closed c) path h = closed_use c path h
   used_closed _ path h = absurd h
 
@@ -105,10 +105,11 @@ mutual
   fields_closed (member j mark c ms) l path (inl h) = closed_more (λ d. inl (h.0, d)) (λ k r. inl (h.0, inr r)) (used_closed c path h.1)
   fields_closed (member j mark c ms) l path (inr h) = closed_more inr (λ k r. inr r) (fields_closed ms l path h)
 
-  elements_closed : (cs : Cores) (i : ℕ) (path : Path) → OneOfElements (λ ms. ⊥) Any cs i path → ClosedIn (OneOfElements (λ ms. ⊥) Dotted cs i path) (λ k. ElementRefuses cs i path (allows k))
-  elements_closed no_cores i path h = absurd h
-  elements_closed (core c cs) zero path h = used_closed c path h
-  elements_closed (core c cs) (suc i) path h = elements_closed cs i path h
+  elements_closed : (es : Elements) (i : ℕ) (path : Path) → OneOfElements (λ ms. ⊥) Any es i path → ClosedIn (OneOfElements (λ ms. ⊥) Dotted es i path) (λ k. ElementRefuses es i path (allows k))
+  elements_closed ends i path h = absurd h
+  elements_closed goes_on i path h = absurd h
+  elements_closed (element c es) zero path h = used_closed c path h
+  elements_closed (element c es) (suc i) path h = elements_closed es i path h
 
 pub used_are_closed : UsedAreClosed
 unfolding ClosedIn

@@ -92,7 +92,7 @@ mutual
   nothing_written (closed c) path h = nothing_written c path h
   nothing_written (struct ms) path h = absurd (false≢true h)
   nothing_written (close ms) path h = absurd (false≢true h)
-  nothing_written (list cs goes_on) path h = absurd (false≢true h)
+  nothing_written (list es) path h = absurd (false≢true h)
   nothing_written _ path h = refl
 
   no_part_written : (cs : Cores) (path : Path) → IsTrue (are_scalar cs) → literals_of_parts cs path ≡ []
@@ -140,7 +140,7 @@ mutual
       )
   by_pair (struct ms) h parts path question = absurd (false≢true h)
   by_pair (close ms) h parts path question = absurd (false≢true h)
-  by_pair (list cs goes_on) h parts path question = absurd (false≢true h)
+  by_pair (list es) h parts path question = absurd (false≢true h)
   by_pair top h parts path question = absurd (false≢true h)
   by_pair _ h parts path question = (λ r. r, λ r. r)
 

@@ -1,7 +1,7 @@
 -- What one struct literal does of two things, it does of one.
 use Rattle.std.proofs.Common.{◌⊎◌, inl, inr, ⊎_elim, ℕ, zero, suc, List, [], ◌∷◌}
 use Rattle.cue_lattice.specs.Path.{Path, label, index}
-use Rattle.cue_scope.specs.Core.{Core, conjunction, struct, close, list, closed, Cores, no_cores, core, Members, no_members, member, dots}
+use Rattle.cue_scope.specs.Core.{Core, conjunction, struct, close, list, closed, Cores, no_cores, core, Members, no_members, member, dots, Elements, ends, goes_on, element}
 use Rattle.cue_eval.specs.Closing.{OneDoes, OneOfParts, OneOfFields, OneOfElements}
 
 abbrev Nothing : Core → Path → Type 0
@@ -16,9 +16,9 @@ mutual
   either_does A B (close ms) [] h = h
   either_does A B (close ms) (label l ∷ path) h = field_does A B ms l path h
   either_does A B (close ms) (index i ∷ path) h = absurd h
-  either_does A B (list cs goes_on) [] h = absurd h
-  either_does A B (list cs goes_on) (label l ∷ path) h = absurd h
-  either_does A B (list cs goes_on) (index i ∷ path) h = element_does A B cs i path h
+  either_does A B (list es) [] h = absurd h
+  either_does A B (list es) (label l ∷ path) h = absurd h
+  either_does A B (list es) (index i ∷ path) h = element_does A B es i path h
   either_does A B (closed c) path h = absurd h
   either_does A B _ path h = absurd h
 
@@ -33,7 +33,8 @@ mutual
   field_does A B (member k mark c ms) l path (inl h) = ⊎_elim (λ g. inl (inl (h.0, g))) (λ g. inr (inl (h.0, g))) (either_does A B c path h.1)
   field_does A B (member k mark c ms) l path (inr h) = ⊎_elim (λ g. inl (inr g)) (λ g. inr (inr g)) (field_does A B ms l path h)
 
-  element_does : (A B : Members → Type 0) (cs : Cores) (i : ℕ) (path : Path) → OneOfElements (λ ms. A ms ⊎ B ms) Nothing cs i path → OneOfElements A Nothing cs i path ⊎ OneOfElements B Nothing cs i path
-  element_does A B no_cores i path h = absurd h
-  element_does A B (core c cs) zero path h = either_does A B c path h
-  element_does A B (core c cs) (suc i) path h = element_does A B cs i path h
+  element_does : (A B : Members → Type 0) (es : Elements) (i : ℕ) (path : Path) → OneOfElements (λ ms. A ms ⊎ B ms) Nothing es i path → OneOfElements A Nothing es i path ⊎ OneOfElements B Nothing es i path
+  element_does A B ends i path h = absurd h
+  element_does A B goes_on i path h = absurd h
+  element_does A B (element c es) zero path h = either_does A B c path h
+  element_does A B (element c es) (suc i) path h = element_does A B es i path h

@@ -33,6 +33,7 @@ pub mod Lists
 pub mod Defaults
 pub mod PlaceRows
 pub mod Gathering
+pub mod Rests
 pub mod LiteralTables
 pub mod Leaves
 pub mod Walks

@@ -1,17 +1,17 @@
 -- Examples: lists and their lengths.
-use Rattle.std.proofs.Common.{inl, inr, true, false, [], ◌∷◌, refl, sym, lit<, arith}
+use Rattle.std.proofs.Common.{inl, inr, [], ◌∷◌, refl, sym, lit<, arith}
 use Rattle.std.proofs.lemmas.Bool.{false≢true}
 use Rattle.cue_lattice.specs.Path.{index}
 use Rattle.cue_lattice.specs.Question as questions
 use Rattle.cue_lattice.specs.Question.{length_at_most, length_at_least}
-use Rattle.cue_scope.specs.Core.{Core, top, list, no_cores, core}
+use Rattle.cue_scope.specs.Core.{Core, top, list, ends, goes_on, element}
 use Rattle.cue_eval.specs.Refuses.{Refuses}
 use Rattle.cue_eval.specs.Laws.{both}
 use Rattle.cue_eval.proofs.Example.{number, may_be_number, in_range}
 
 -- [1, ...] & [_, 2]
 abbrev two : Core
-two = both (list (core (number 1) no_cores) true) (list (core top (core (number 2) no_cores)) false)
+two = both (list (element (number 1) goes_on)) (list (element top (element (number 2) ends)))
 
 less_is_refused : Refuses two [] (length_at_most 1)
 less_is_refused = inr (inl (lit< tt))
@@ -30,7 +30,7 @@ the_greatest_length (inr (inl h)) = omega (arith, h)
 the_greatest_length (inr (inr h)) = h
 
 -- with [1]: the greatest length is below the least
-shorter_lists_conflict : Refuses (both two (list (core (number 1) no_cores) false)) [] (length_at_least 2)
+shorter_lists_conflict : Refuses (both two (list (element (number 1) ends))) [] (length_at_least 2)
 shorter_lists_conflict = inr (inl (lit< tt))
 
 the_first_element : Refuses two (index 0 ∷ []) (may_be_number 2)
@@ -53,5 +53,5 @@ no_struct_is_a_list : Refuses two [] questions.struct
 no_struct_is_a_list = inl tt
 
 -- [...] lets any length stand
-any_length : Refuses (list no_cores true) [] (length_at_most 0) → ⊥
+any_length : Refuses (list goes_on) [] (length_at_most 0) → ⊥
 any_length h = omega (arith, h)

@@ -1,20 +1,19 @@
 -- Tables of literals refuse what the literals do.
-use Rattle.std.proofs.Common.{◌≡◌, ◌↔◌, ◌⊎◌, ◌+◌, inl, inr, ⊎_elim, ℕ, Bool, List, [], ◌∷◌, Option, None, Result, Ok, Err, length, subst, arith}
+use Rattle.std.proofs.Common.{◌≡◌, ◌↔◌, ◌⊎◌, ◌+◌, inl, inr, ⊎_elim, ℕ, Bool, List, [], ◌∷◌, Option, None, Result, Ok, Err, length, sym, subst, arith}
 use Rattle.std.specs.Prelude.{IfOk}
 use Rattle.cue_lattice.specs.Path.{label, index}
-use Rattle.cue_lattice.specs.Question as questions
 use Rattle.cue_lattice.specs.Question.{Question, allows, SameAnswers}
 use Rattle.cue_row.specs.LabelSets.{RefusesLabel}
 use Rattle.cue_row.specs.declared.row.Row.{Row}
 use Rattle.cue_row.specs.declared.step.Step.{Step}
 use Rattle.cue_table.specs.Tree.{Tree}
-use Rattle.cue_scope.specs.Core.{struct, close, list, Cores, Members}
+use Rattle.cue_scope.specs.Core.{struct, close, list, Elements, Members}
 use Rattle.cue_eval.specs.Evaluated.{HasAnswersOf}
 use Rattle.cue_eval.specs.Gathered.{Answers, LabelsRefuse, LiteralAnswers}
 use Rattle.cue_eval.specs.Literals.{LeaveOut}
 use Rattle.cue_eval.specs.Places.{StructRefuses, ListRefuses, ClosingRefuses}
 use Rattle.cue_eval.specs.Ready.{AreGiven, AtLabels, AtIndexes}
-use Rattle.cue_eval.specs.Refuses.{ElementRefuses, count}
+use Rattle.cue_eval.specs.Refuses.{ElementRefuses, count, is_open}
 
 all_allowed : (question : Question) → LabelsRefuse None question → ⊥
 all_allowed (allows l) h = absurd (cc)
@@ -61,19 +60,20 @@ close_table ms given labels table closed same g (index i ∷ path) question =
     let r = g.refused (index i) path question in
     (λ h. absurd (r.0 (e.0 h)), λ h. ⊎_elim (λ k. absurd k) (λ k. absurd k) h)
 
-pub list_table : (cs : Cores) (goes_on : Bool) (given : List (Step × Tree Row)) (table : Tree Row) → length given ≡ count cs
+pub list_table : (es : Elements) (goes_on : Bool) (given : List (Step × Tree Row)) (table : Tree Row) → length given ≡ count es → is_open es ≡ goes_on
     → SameAnswers (Answers table) (LiteralAnswers (ListRefuses (length given) goes_on) given)
-    → AreGiven (AtIndexes 0 cs) given → HasAnswersOf (list cs goes_on) table
-list_table cs goes_on given table counted same g [] question =
-    subst (λ n. Answers table [] question ↔ ListRefuses n goes_on question) counted (same [] question)
-list_table cs goes_on given table counted same g (label l ∷ path) question =
+    → AreGiven (AtIndexes 0 es) given → HasAnswersOf (list es) table
+list_table es goes_on given table counted opened same g [] question =
+    subst (λ n. Answers table [] question ↔ ListRefuses n (is_open es) question) counted
+    (subst (λ b. Answers table [] question ↔ ListRefuses (length given) b question) (sym opened) (same [] question))
+list_table es goes_on given table counted opened same g (label l ∷ path) question =
     let e = same (label l ∷ path) question in
     let r = g.refused (label l) path question in
     (λ h. r.0 (e.0 h), λ h. absurd h)
-list_table cs goes_on given table counted same g (index i ∷ path) question =
+list_table es goes_on given table counted opened same g (index i ∷ path) question =
     let e = same (index i ∷ path) question in
     let r = g.refused (index i) path question in (
-      λ h. let at = r.0 (e.0 h) in let is : at.0 ≡ i = let w = at.1 in omega arith in subst (λ k. ElementRefuses cs k path question) is at.2,
+      λ h. let at = r.0 (e.0 h) in let is : at.0 ≡ i = let w = at.1 in omega arith in subst (λ k. ElementRefuses es k path question) is at.2,
       λ h. let is : 0 + i ≡ i = omega arith in e.1 (r.1 (i, is, h)),
     )
 
@@ -91,8 +91,8 @@ pub close_result : {E : Type 0} (r : Result (Tree Row) E) (ms : Members) (given 
 close_result (Ok table) ms given labels closed same g = close_table ms given labels table closed same g
 close_result (Err e) ms given labels closed same g = same
 
-pub list_result : {E : Type 0} (r : Result (Tree Row) E) (cs : Cores) (goes_on : Bool) (given : List (Step × Tree Row)) → length given ≡ count cs
+pub list_result : {E : Type 0} (r : Result (Tree Row) E) (es : Elements) (goes_on : Bool) (given : List (Step × Tree Row)) → length given ≡ count es → is_open es ≡ goes_on
     → IfOk r (λ table. SameAnswers (Answers table) (LiteralAnswers (ListRefuses (length given) goes_on) given))
-    → AreGiven (AtIndexes 0 cs) given → IfOk r (HasAnswersOf (list cs goes_on))
-list_result (Ok table) cs goes_on given counted same g = list_table cs goes_on given table counted same g
-list_result (Err e) cs goes_on given counted same g = same
+    → AreGiven (AtIndexes 0 es) given → IfOk r (HasAnswersOf (list es))
+list_result (Ok table) es goes_on given counted opened same g = list_table es goes_on given table counted opened same g
+list_result (Err e) es goes_on given counted opened same g = same

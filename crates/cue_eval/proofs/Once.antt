@@ -3,7 +3,7 @@ use Rattle.std.proofs.Common.{◌≢◌, inl, inr, ⊎_elim, ℕ, zero, suc, con
 use Rattle.std.specs.Str.{bytes_eq}
 use Rattle.cue_lattice.specs.Path.{Path, label, index}
 use Rattle.cue_lattice.specs.Question.{allows}
-use Rattle.cue_scope.specs.Core.{Core, top, conjunction, struct, close, list, closed, Cores, no_cores, core, Members, no_members, member, dots}
+use Rattle.cue_scope.specs.Core.{Core, top, conjunction, struct, close, list, closed, Cores, no_cores, core, Members, no_members, member, dots, Elements, ends, goes_on, element}
 use Rattle.cue_eval.specs.Literals.{literals, literals_of_parts, literals_of_field, literals_of_element, LeaveOut}
 use Rattle.cue_eval.specs.Refuses.{Refuses, PartsRefuse, FieldRefuses, ElementRefuses}
 use Rattle.cue_eval.proofs.Written.{some_left, some_right, left_out_left, left_out_right, mark_refuses_no_label, same_label}
@@ -20,9 +20,9 @@ mutual
   written (close ms) (label l ∷ path) k (inr h) = absurd h
   written (close ms) (index i ∷ path) k (inl h) = absurd h
   written (close ms) (index i ∷ path) k (inr h) = absurd h
-  written (list cs goes_on) [] k h = absurd h
-  written (list cs goes_on) (label l ∷ path) k h = absurd h
-  written (list cs goes_on) (index i ∷ path) k h = written_in_element cs i path k h
+  written (list es) [] k h = absurd h
+  written (list es) (label l ∷ path) k h = absurd h
+  written (list es) (index i ∷ path) k h = written_in_element es i path k h
   written (closed c) path k (inl h) = written c path k h
   written (closed c) path k (inr h) = h.some
   written top path k h = absurd h
@@ -43,10 +43,11 @@ mutual
       let some : cond (bytes_eq j l) (literals c path) [] ≢ [] = subst (λ xs. xs ≢ []) (sym (same_label j l (literals c path) h.0)) (⊎_elim (λ m. absurd (mark_refuses_no_label mark path k m)) (λ g. written c path k g) h.1) in
       some_left (cond (bytes_eq j l) (literals c path) []) (literals_of_field ms l path) some
 
-  written_in_element : (cs : Cores) (i : ℕ) (path : Path) (k : List ℕ) → ElementRefuses cs i path (allows k) → literals_of_element cs i path ≢ []
-  written_in_element no_cores i path k h = absurd h
-  written_in_element (core c cs) zero path k h = written c path k h
-  written_in_element (core c cs) (suc i) path k h = written_in_element cs i path k h
+  written_in_element : (es : Elements) (i : ℕ) (path : Path) (k : List ℕ) → ElementRefuses es i path (allows k) → literals_of_element es i path ≢ []
+  written_in_element ends i path k h = absurd h
+  written_in_element goes_on i path k h = absurd h
+  written_in_element (element c es) zero path k h = written c path k h
+  written_in_element (element c es) (suc i) path k h = written_in_element es i path k h
 
 -- the labels that are left out by all literals at a place, are left out by some that are closed there already
 mutual
@@ -60,9 +61,9 @@ mutual
   closed_once (close ms) (label m ∷ path) k l (inr h) out = absurd h
   closed_once (close ms) (index i ∷ path) k l (inl h) out = absurd h
   closed_once (close ms) (index i ∷ path) k l (inr h) out = absurd h
-  closed_once (list cs goes_on) [] k l h out = absurd h
-  closed_once (list cs goes_on) (label m ∷ path) k l h out = absurd h
-  closed_once (list cs goes_on) (index i ∷ path) k l h out = once_in_element cs i path k l h out
+  closed_once (list es) [] k l h out = absurd h
+  closed_once (list es) (label m ∷ path) k l h out = absurd h
+  closed_once (list es) (index i ∷ path) k l h out = once_in_element es i path k l h out
   closed_once (closed c) path k l h out = inr out
   closed_once top path k l h out = absurd h
   closed_once _ [] k l h out = absurd h
@@ -86,7 +87,8 @@ mutual
       subst (λ xs. LeaveOut (xs ++ literals_of_field ms m path) l) (same_label j m (literals c path) h.0) out in
       inl (h.0, inr (closed_once c path k l refused (left_out_left (literals c path) (literals_of_field ms m path) l (written c path k refused) here)))
 
-  once_in_element : (cs : Cores) (i : ℕ) (path : Path) (k l : List ℕ) → ElementRefuses cs i path (allows k) → LeaveOut (literals_of_element cs i path) l → ElementRefuses cs i path (allows l)
-  once_in_element no_cores i path k l h out = absurd h
-  once_in_element (core c cs) zero path k l h out = closed_once c path k l h out
-  once_in_element (core c cs) (suc i) path k l h out = once_in_element cs i path k l h out
+  once_in_element : (es : Elements) (i : ℕ) (path : Path) (k l : List ℕ) → ElementRefuses es i path (allows k) → LeaveOut (literals_of_element es i path) l → ElementRefuses es i path (allows l)
+  once_in_element ends i path k l h out = absurd h
+  once_in_element goes_on i path k l h out = absurd h
+  once_in_element (element c es) zero path k l h out = closed_once c path k l h out
+  once_in_element (element c es) (suc i) path k l h out = once_in_element es i path k l h out

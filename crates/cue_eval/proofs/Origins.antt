@@ -4,10 +4,10 @@ use Rattle.std.specs.Str.{bytes_eq}
 use Rattle.std.proofs.lemmas.Slice.Eq.{bytes_eq-Decides}
 use Rattle.cue_lattice.specs.Path.{Path, label, index}
 use Rattle.cue_lattice.specs.Question.{Question, allows}
-use Rattle.cue_scope.specs.Core.{Core, top, conjunction, struct, close, list, closed, Cores, no_cores, core, Members, no_members, member, dots}
+use Rattle.cue_scope.specs.Core.{Core, top, conjunction, struct, close, list, closed, Cores, no_cores, core, Members, no_members, member, dots, Elements, ends, goes_on, element}
 use Rattle.cue_eval.specs.Literals.{literals, literals_of_parts, literals_of_field, literals_of_element}
 use Rattle.cue_eval.specs.Places.{ClosingRefuses}
-use Rattle.cue_eval.specs.Refuses.{Refuses, PartsRefuse, FieldRefuses, ElementRefuses, count}
+use Rattle.cue_eval.specs.Refuses.{Refuses, PartsRefuse, FieldRefuses, ElementRefuses, count, is_open}
 use Rattle.cue_eval.specs.Origins.{scalar, a_struct, a_list, mark, closing, HasOrigin, ComesFromSources, IsStruct}
 
 -- what refuses more has the same sources
@@ -36,9 +36,9 @@ mutual
   struct_written (close ms) [] some question h = inl h
   struct_written (close ms) (label l ∷ path) some question h = inl (struct_in_field ms l path some question h)
   struct_written (close ms) (index i ∷ path) some question h = absurd (some refl)
-  struct_written (list cs goes_on) [] some question h = absurd (some refl)
-  struct_written (list cs goes_on) (label l ∷ path) some question h = absurd (some refl)
-  struct_written (list cs goes_on) (index i ∷ path) some question h = struct_in_element cs i path some question h
+  struct_written (list es) [] some question h = absurd (some refl)
+  struct_written (list es) (label l ∷ path) some question h = absurd (some refl)
+  struct_written (list es) (index i ∷ path) some question h = struct_in_element es i path some question h
   struct_written (closed c) path some question h = inl (struct_written c path some question h)
   struct_written _ path some question h = absurd (some refl)
 
@@ -59,10 +59,11 @@ mutual
       (λ e. inr (struct_in_field ms l path e question h))
       (one_of (cond (bytes_eq k l) (literals c path) []) (literals_of_field ms l path) some)
 
-  struct_in_element : (cs : Cores) (i : ℕ) (path : Path) → literals_of_element cs i path ≢ [] → IsStruct (ElementRefuses cs i path)
-  struct_in_element no_cores i path some question h = absurd (some refl)
-  struct_in_element (core c cs) zero path some question h = struct_written c path some question h
-  struct_in_element (core c cs) (suc i) path some question h = struct_in_element cs i path some question h
+  struct_in_element : (es : Elements) (i : ℕ) (path : Path) → literals_of_element es i path ≢ [] → IsStruct (ElementRefuses es i path)
+  struct_in_element ends i path some question h = absurd (some refl)
+  struct_in_element goes_on i path some question h = absurd (some refl)
+  struct_in_element (element c es) zero path some question h = struct_written c path some question h
+  struct_in_element (element c es) (suc i) path some question h = struct_in_element es i path some question h
 
 -- what closing refuses, comes from it
 closing_origin : (c : Core) (written : List Members) (refuses : Question → Type 0) (question : Question) →
@@ -88,9 +89,9 @@ mutual
   comes_from (close ms) (label l ∷ path) question (inr h) = absurd h
   comes_from (close ms) (index i ∷ path) question (inl h) = absurd h
   comes_from (close ms) (index i ∷ path) question (inr h) = absurd h
-  comes_from (list cs goes_on) [] question h = record { source = a_list (count cs) goes_on; asked = h; all = λ other g. g }
-  comes_from (list cs goes_on) (label l ∷ path) question h = absurd h
-  comes_from (list cs goes_on) (index i ∷ path) question h = element_comes_from cs i path question h
+  comes_from (list es) [] question h = record { source = a_list (count es) (is_open es); asked = h; all = λ other g. g }
+  comes_from (list es) (label l ∷ path) question h = absurd h
+  comes_from (list es) (index i ∷ path) question h = element_comes_from es i path question h
   comes_from (closed c) path question (inl h) =
       wider (Refuses c path) (Refuses (closed c) path) question (comes_from c path question h) (λ other g. inl g)
   comes_from (closed c) path question (inr h) =
@@ -116,7 +117,8 @@ mutual
   field_comes_from (member k m c ms) l path question (inr h) =
       wider (FieldRefuses ms l path) (FieldRefuses (member k m c ms) l path) question (field_comes_from ms l path question h) (λ other g. inr g)
 
-  element_comes_from : (cs : Cores) (i : ℕ) (path : Path) (question : Question) → ElementRefuses cs i path question → HasOrigin (ElementRefuses cs i path) question
-  element_comes_from no_cores i path question h = absurd h
-  element_comes_from (core c cs) zero path question h = comes_from c path question h
-  element_comes_from (core c cs) (suc i) path question h = element_comes_from cs i path question h
+  element_comes_from : (es : Elements) (i : ℕ) (path : Path) (question : Question) → ElementRefuses es i path question → HasOrigin (ElementRefuses es i path) question
+  element_comes_from ends i path question h = absurd h
+  element_comes_from goes_on i path question h = absurd h
+  element_comes_from (element c es) zero path question h = comes_from c path question h
+  element_comes_from (element c es) (suc i) path question h = element_comes_from es i path question h

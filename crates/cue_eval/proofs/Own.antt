@@ -6,7 +6,7 @@ use Rattle.std.proofs.lemmas.Bool.{false≢true}
 use Rattle.std.proofs.lemmas.List.Folds.{list_any-append}
 use Rattle.std.proofs.lemmas.Slice.Eq.{bytes_eq-Decides}
 use Rattle.cue_lattice.specs.Path.{Path, label, index}
-use Rattle.cue_scope.specs.Core.{Core, conjunction, struct, close, list, closed, Cores, no_cores, core, Members, no_members, member, dots}
+use Rattle.cue_scope.specs.Core.{Core, conjunction, struct, close, list, closed, Cores, no_cores, core, Members, no_members, member, dots, Elements, ends, goes_on, element}
 use Rattle.cue_eval.specs.Literals.{literals, literals_of_parts, literals_of_field, literals_of_element}
 use Rattle.cue_eval.specs.Closing.{OneDoes, OneOfParts, OneOfFields, OneOfElements, AreOwnOrUsed}
 
@@ -61,9 +61,9 @@ mutual
   own_or_used test (close ms) [] = alone (test ms)
   own_or_used test (close ms) (label l ∷ path) = own_or_used_field test ms l path
   own_or_used test (close ms) (index i ∷ path) = neither (λ h. h) (λ h. h)
-  own_or_used test (list cs goes_on) [] = neither (λ h. h) (λ h. h)
-  own_or_used test (list cs goes_on) (label l ∷ path) = neither (λ h. h) (λ h. h)
-  own_or_used test (list cs goes_on) (index i ∷ path) = own_or_used_element test cs i path
+  own_or_used test (list es) [] = neither (λ h. h) (λ h. h)
+  own_or_used test (list es) (label l ∷ path) = neither (λ h. h) (λ h. h)
+  own_or_used test (list es) (index i ∷ path) = own_or_used_element test es i path
   own_or_used test (closed c) path = (inr, λ h. ⊎_elim (λ n. absurd n) (λ g. g) h)
   own_or_used test _ path = neither (λ h. h) (λ h. h)
 
@@ -81,11 +81,12 @@ mutual
       in_both test (cond (bytes_eq k l) (literals c path) []) (literals_of_field ms l path) _ _ _ _
       (at_label test k l (literals c path) _ _ (own_or_used test c path)) (own_or_used_field test ms l path)
 
-  own_or_used_element : (test : Members → Bool) (cs : Cores) (i : ℕ) (path : Path) → (list_any test (literals_of_element cs i path) ≡ true)
-      ↔ (OneOfElements (λ ms. test ms ≡ true) (λ c path. ⊥) cs i path ⊎ OneOfElements (λ ms. ⊥) (λ c path. list_any test (literals c path) ≡ true) cs i path)
-  own_or_used_element test no_cores i path = neither (λ h. h) (λ h. h)
-  own_or_used_element test (core c cs) zero path = own_or_used test c path
-  own_or_used_element test (core c cs) (suc i) path = own_or_used_element test cs i path
+  own_or_used_element : (test : Members → Bool) (es : Elements) (i : ℕ) (path : Path) → (list_any test (literals_of_element es i path) ≡ true)
+      ↔ (OneOfElements (λ ms. test ms ≡ true) (λ c path. ⊥) es i path ⊎ OneOfElements (λ ms. ⊥) (λ c path. list_any test (literals c path) ≡ true) es i path)
+  own_or_used_element test ends i path = neither (λ h. h) (λ h. h)
+  own_or_used_element test goes_on i path = neither (λ h. h) (λ h. h)
+  own_or_used_element test (element c es) zero path = own_or_used test c path
+  own_or_used_element test (element c es) (suc i) path = own_or_used_element test es i path
 
 -- what one literal does, it does too by what follows from it
 mutual
@@ -98,9 +99,9 @@ mutual
   does_more A B U V f g (close ms) [] h = f ms h
   does_more A B U V f g (close ms) (label l ∷ path) h = fields_do_more A B U V f g ms l path h
   does_more A B U V f g (close ms) (index i ∷ path) h = absurd h
-  does_more A B U V f g (list cs goes_on) [] h = absurd h
-  does_more A B U V f g (list cs goes_on) (label l ∷ path) h = absurd h
-  does_more A B U V f g (list cs goes_on) (index i ∷ path) h = elements_do_more A B U V f g cs i path h
+  does_more A B U V f g (list es) [] h = absurd h
+  does_more A B U V f g (list es) (label l ∷ path) h = absurd h
+  does_more A B U V f g (list es) (index i ∷ path) h = elements_do_more A B U V f g es i path h
   does_more A B U V f g (closed c) path h = g c path h
   does_more A B U V f g _ path h = absurd h
 
@@ -118,7 +119,8 @@ mutual
   fields_do_more A B U V f g (member k mark c ms) l path (inr h) = inr (fields_do_more A B U V f g ms l path h)
 
   elements_do_more : (A B : Members → Type 0) (U V : Core → Path → Type 0) → ((ms : Members) → A ms → B ms) → ((c : Core) (path : Path) → U c path → V c path)
-      → (cs : Cores) (i : ℕ) (path : Path) → OneOfElements A U cs i path → OneOfElements B V cs i path
-  elements_do_more A B U V f g no_cores i path h = absurd h
-  elements_do_more A B U V f g (core c cs) zero path h = does_more A B U V f g c path h
-  elements_do_more A B U V f g (core c cs) (suc i) path h = elements_do_more A B U V f g cs i path h
+      → (es : Elements) (i : ℕ) (path : Path) → OneOfElements A U es i path → OneOfElements B V es i path
+  elements_do_more A B U V f g ends i path h = absurd h
+  elements_do_more A B U V f g goes_on i path h = absurd h
+  elements_do_more A B U V f g (element c es) zero path h = does_more A B U V f g c path h
+  elements_do_more A B U V f g (element c es) (suc i) path h = elements_do_more A B U V f g es i path h

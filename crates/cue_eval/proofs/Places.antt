@@ -5,21 +5,21 @@ use Rattle.cue_lattice.specs.Question as questions
 use Rattle.cue_lattice.specs.Question.{Question, allows, length_at_most, length_at_least, level_at_most}
 use Rattle.cue_syntax.specs.declared.tree.Mark.{Mark}
 use Rattle.cue_syntax.specs.declared.tree.Mark.TheVariants.{Regular, Optional, Required}
-use Rattle.cue_scope.specs.Core.{Core, top, conjunction, struct, close, list, closed, Cores, no_cores, core, Members, no_members, member, dots}
+use Rattle.cue_scope.specs.Core.{Core, top, conjunction, struct, close, list, closed, Cores, no_cores, core, Members, no_members, member, dots, Elements, ends, goes_on, element}
 use Rattle.cue_eval.specs.Literals.{literals}
 use Rattle.cue_eval.specs.Places.{ClosingRefuses, level_of_mark}
-use Rattle.cue_eval.specs.Refuses.{Refuses, PartsRefuse, FieldRefuses, ElementRefuses, count}
+use Rattle.cue_eval.specs.Refuses.{Refuses, PartsRefuse, FieldRefuses, ElementRefuses, count, is_open}
 use Rattle.cue_eval.specs.Origins.{Source, scalar, a_struct, a_list, mark, closing, SourceRefuses, IsStruct, IsList, LabelsAreOfStructs, LengthsAreOfLists, FieldsAreOfStructs, ElementsAreOfLists, EndsInLabel, LevelsAreOfFields}
 use Rattle.cue_eval.proofs.Origins.{comes_from, struct_written}
 
 -- a list that a source wants, which has the property
 abbrev ListOf : (ℕ → Type 0) → (Question → Type 0) → Type 0
-ListOf P refuses = (n : ℕ) × (goes_on : Bool) × P n × IsList refuses n goes_on
+ListOf P refuses = (n : ℕ) × (more : Bool) × P n × IsList refuses n more
 
 label_source : (s : Source) (l : List ℕ) → SourceRefuses s (allows l) → IsStruct (SourceRefuses s)
 label_source (scalar c) l h = absurd h
 label_source a_struct l h = absurd h
-label_source (a_list n goes_on) l h = absurd h
+label_source (a_list n more) l h = absurd h
 label_source (mark m) l h = absurd h
 label_source (closing written) l h = λ question g. inr g
 
@@ -31,7 +31,7 @@ labels_of_structs c path l h =
 least_source : (s : Source) (k : ℕ) → SourceRefuses s (length_at_most k) → ListOf (λ n. k < n) (SourceRefuses s)
 least_source (scalar c) k h = absurd h
 least_source a_struct k h = absurd h
-least_source (a_list n goes_on) k h = (n, goes_on, h, λ question g. g)
+least_source (a_list n more) k h = (n, more, h, λ question g. g)
 least_source (mark m) k h = absurd h
 least_source (closing written) k (inl h) = absurd h
 least_source (closing written) k (inr h) = absurd h
@@ -65,7 +65,7 @@ level_of_mark-small Regular k h = h
 level_source : (s : Source) (k : ℕ) → SourceRefuses s (level_at_most k) → k < 2
 level_source (scalar c) k h = absurd h
 level_source a_struct k h = absurd h
-level_source (a_list n goes_on) k h = absurd h
+level_source (a_list n more) k h = absurd h
 level_source (mark m) k h = level_of_mark-small m k h
 level_source (closing written) k (inl h) = absurd h
 level_source (closing written) k (inr h) = absurd h
@@ -88,9 +88,9 @@ mutual
   ends_in_label (close ms) (label l ∷ path) k (inr h) = absurd h
   ends_in_label (close ms) (index i ∷ path) k (inl h) = absurd h
   ends_in_label (close ms) (index i ∷ path) k (inr h) = absurd h
-  ends_in_label (list cs goes_on) [] k h = absurd h
-  ends_in_label (list cs goes_on) (label l ∷ path) k h = absurd h
-  ends_in_label (list cs goes_on) (index i ∷ path) k h = ends_further (index i) path (element_ends_in_label cs i path k h)
+  ends_in_label (list es) [] k h = absurd h
+  ends_in_label (list es) (label l ∷ path) k h = absurd h
+  ends_in_label (list es) (index i ∷ path) k h = ends_further (index i) path (element_ends_in_label es i path k h)
   ends_in_label (closed c) path k (inl h) = ends_in_label c path k h
   ends_in_label (closed c) path k (inr h) = absurd h
   ends_in_label top path k h = absurd h
@@ -110,10 +110,11 @@ mutual
   field_ends_in_label (member j m c ms) l (step ∷ path) k (inl (e, inr h)) = ends_further (label l) (step ∷ path) (ends_in_label c (step ∷ path) k h)
   field_ends_in_label (member j m c ms) l (step ∷ path) k (inr h) = field_ends_in_label ms l (step ∷ path) k h
 
-  element_ends_in_label : (cs : Cores) (i : ℕ) (path : Path) (k : ℕ) → ElementRefuses cs i path (level_at_most k) → EndsInLabel path
-  element_ends_in_label no_cores i path k h = absurd h
-  element_ends_in_label (core c cs) zero path k h = ends_in_label c path k h
-  element_ends_in_label (core c cs) (suc i) path k h = element_ends_in_label cs i path k h
+  element_ends_in_label : (es : Elements) (i : ℕ) (path : Path) (k : ℕ) → ElementRefuses es i path (level_at_most k) → EndsInLabel path
+  element_ends_in_label ends i path k h = absurd h
+  element_ends_in_label goes_on i path k h = absurd h
+  element_ends_in_label (element c es) zero path k h = ends_in_label c path k h
+  element_ends_in_label (element c es) (suc i) path k h = element_ends_in_label es i path k h
 
 pub levels_of_fields : LevelsAreOfFields
 levels_of_fields c path k h =
@@ -137,9 +138,9 @@ mutual
   fields_of_structs (close ms) (label m ∷ path) l rest question (inr h) = absurd h
   fields_of_structs (close ms) (index i ∷ path) l rest question (inl h) = absurd h
   fields_of_structs (close ms) (index i ∷ path) l rest question (inr h) = absurd h
-  fields_of_structs (list cs goes_on) [] l rest question h = absurd h
-  fields_of_structs (list cs goes_on) (label m ∷ path) l rest question h = absurd h
-  fields_of_structs (list cs goes_on) (index i ∷ path) l rest question h = fields_in_element cs i path l rest question h
+  fields_of_structs (list es) [] l rest question h = absurd h
+  fields_of_structs (list es) (label m ∷ path) l rest question h = absurd h
+  fields_of_structs (list es) (index i ∷ path) l rest question h = fields_in_element es i path l rest question h
   fields_of_structs (closed c) path l rest question (inl h) = λ other g. inl (fields_of_structs c path l rest question h other g)
   fields_of_structs (closed c) path l rest question (inr h) =
       λ other g. inl (fields_of_structs c path l rest questions.list (closed_below c (path ++ label l ∷ rest) question h) other g)
@@ -160,16 +161,18 @@ mutual
   fields_in_field (member j k c ms) m path l rest question (inl (e, inr h)) = λ other g. inl (e, inr (fields_of_structs c path l rest question h other g))
   fields_in_field (member j k c ms) m path l rest question (inr h) = λ other g. inr (fields_in_field ms m path l rest question h other g)
 
-  fields_in_element : (cs : Cores) (i : ℕ) (path : Path) (l : List ℕ) (rest : Path) (question : Question) → ElementRefuses cs i (path ++ label l ∷ rest) question → IsStruct (ElementRefuses cs i path)
-  fields_in_element no_cores i path l rest question h = absurd h
-  fields_in_element (core c cs) zero path l rest question h = fields_of_structs c path l rest question h
-  fields_in_element (core c cs) (suc i) path l rest question h = fields_in_element cs i path l rest question h
+  fields_in_element : (es : Elements) (i : ℕ) (path : Path) (l : List ℕ) (rest : Path) (question : Question) → ElementRefuses es i (path ++ label l ∷ rest) question → IsStruct (ElementRefuses es i path)
+  fields_in_element ends i path l rest question h = absurd h
+  fields_in_element goes_on i path l rest question h = absurd h
+  fields_in_element (element c es) zero path l rest question h = fields_of_structs c path l rest question h
+  fields_in_element (element c es) (suc i) path l rest question h = fields_in_element es i path l rest question h
 
 -- an index at which something is refused is below the number of elements
-is_element : (cs : Cores) (i : ℕ) (rest : Path) (question : Question) → ElementRefuses cs i rest question → i < count cs
-is_element no_cores i rest question h = absurd h
-is_element (core c cs) zero rest question h = omega arith
-is_element (core c cs) (suc i) rest question h = let below : i < count cs = is_element cs i rest question h in omega arith
+is_element : (es : Elements) (i : ℕ) (rest : Path) (question : Question) → ElementRefuses es i rest question → i < count es
+is_element ends i rest question h = absurd h
+is_element goes_on i rest question h = absurd h
+is_element (element c es) zero rest question h = omega arith
+is_element (element c es) (suc i) rest question h = let below : i < count es = is_element es i rest question h in omega arith
 
 more_refuse : (less more : Question → Type 0) (i : ℕ) → ListOf (λ n. i < n) less → ((other : Question) → less other → more other) → ListOf (λ n. i < n) more
 more_refuse less more i found all = (found.0, found.1, found.2, λ other g. all other (found.3 other g))
@@ -188,9 +191,9 @@ mutual
   elements_of_lists (close ms) (label m ∷ path) i rest question (inr h) = absurd h
   elements_of_lists (close ms) (index j ∷ path) i rest question (inl h) = absurd h
   elements_of_lists (close ms) (index j ∷ path) i rest question (inr h) = absurd h
-  elements_of_lists (list cs goes_on) [] i rest question h = (count cs, goes_on, is_element cs i rest question h, λ other g. g)
-  elements_of_lists (list cs goes_on) (label m ∷ path) i rest question h = absurd h
-  elements_of_lists (list cs goes_on) (index j ∷ path) i rest question h = elements_in_element cs j path i rest question h
+  elements_of_lists (list es) [] i rest question h = (count es, is_open es, is_element es i rest question h, λ other g. g)
+  elements_of_lists (list es) (label m ∷ path) i rest question h = absurd h
+  elements_of_lists (list es) (index j ∷ path) i rest question h = elements_in_element es j path i rest question h
   elements_of_lists (closed c) path i rest question (inl h) =
       more_refuse (Refuses c path) (Refuses (closed c) path) i (elements_of_lists c path i rest question h) (λ other g. inl g)
   elements_of_lists (closed c) path i rest question (inr h) =
@@ -217,7 +220,8 @@ mutual
   elements_in_field (member j k c ms) m path i rest question (inr h) =
       more_refuse (FieldRefuses ms m path) (FieldRefuses (member j k c ms) m path) i (elements_in_field ms m path i rest question h) (λ other g. inr g)
 
-  elements_in_element : (cs : Cores) (j : ℕ) (path : Path) (i : ℕ) (rest : Path) (question : Question) → ElementRefuses cs j (path ++ index i ∷ rest) question → ListOf (λ n. i < n) (ElementRefuses cs j path)
-  elements_in_element no_cores j path i rest question h = absurd h
-  elements_in_element (core c cs) zero path i rest question h = elements_of_lists c path i rest question h
-  elements_in_element (core c cs) (suc j) path i rest question h = elements_in_element cs j path i rest question h
+  elements_in_element : (es : Elements) (j : ℕ) (path : Path) (i : ℕ) (rest : Path) (question : Question) → ElementRefuses es j (path ++ index i ∷ rest) question → ListOf (λ n. i < n) (ElementRefuses es j path)
+  elements_in_element ends j path i rest question h = absurd h
+  elements_in_element goes_on j path i rest question h = absurd h
+  elements_in_element (element c es) zero path i rest question h = elements_of_lists c path i rest question h
+  elements_in_element (element c es) (suc j) path i rest question h = elements_in_element es j path i rest question h

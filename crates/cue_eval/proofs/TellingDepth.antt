@@ -43,7 +43,7 @@ some_size (conjunction cs) = omega arith
 some_size (disjunction cs) = omega arith
 some_size (struct ms) = omega arith
 some_size (close ms) = omega arith
-some_size (list cs goes_on) = omega arith
+some_size (list es) = omega arith
 some_size (closed c) = omega arith
 some_size _ = omega arith
 

@@ -13,15 +13,17 @@ use Rattle.cue_row.specs.declared.step.Step.{Step}
 use Rattle.cue_sets.specs.Texts.{RefusesText}
 use Rattle.cue_syntax.specs.declared.tree.Expr.{Expr}
 use Rattle.cue_syntax.specs.declared.tree.Declaration.{Declaration}
+use Rattle.cue_syntax.specs.Syntax as syntax
 use Rattle.cue_syntax.specs.Syntax.{expression, elements, entries}
 use Rattle.cue_scope.specs.Definitions.{Definition}
 use Rattle.cue_scope.specs.Kept.{all_of}
 use Rattle.cue_scope.specs.Uses.{uses, uses_of_elements}
 use Rattle.cue_scope.proofs.Nodes.{in_append_left, in_append_right}
+use Rattle.cue_scope.proofs.Followed.{size_followed, depth_followed}
 use Rattle.cue_scope.proofs.Walking.{at_hand}
-use Rattle.cue_scope.specs.Core.{Core, conjunction, list}
+use Rattle.cue_scope.specs.Core.{Core, conjunction, list, Elements, ends, followed_by}
 use Rattle.cue_scope.specs.Limits.{size_of_cores}
-use Rattle.cue_scope.specs.Meaning.{meant_members}
+use Rattle.cue_scope.specs.Meaning.{meant_members, rest_of}
 use Rattle.cue_table.specs.Depth.{tree_depth}
 use Rattle.cue_table.specs.Form.{IsTable}
 use Rattle.cue_table.specs.Many.{IsOfBranches, IsUnified}
@@ -35,6 +37,7 @@ use Rattle.cue_eval.specs.declared.told.Sight.{Sight}
 use Rattle.cue_eval.specs.Closing.{AtStruct, AtList, OneOfParts, OneOfFields, OneOfElements}
 use Rattle.cue_eval.specs.Telling.{Tells, IsDeclared, tells}
 use Rattle.cue_eval.specs.Told.{IsTold, AreKnown, IsKnown, means, ArePartsKnown, AreElementsKnown, AreMembersKnown, mean_elements, mean_members, own_tells, used_tells}
+use Rattle.cue_eval.proofs.Rests.{does_followed}
 use Rattle.cue_eval.proofs.TellingDepth.{told_flat, some_size}
 
 -- of these the part so far, and what is left
@@ -52,15 +55,19 @@ BranchesTell branches step path asked = OneOf (λ (one : Step × Tree Declared).
 abbrev pub AreFlat : List (Step × Tree Declared) → Type 0
 AreFlat branches = All (λ (one : Step × Tree Declared). tree_depth one.1 < step_limit) branches
 
+-- the elements, and nothing behind them
+abbrev pub only_elements : Sight → List Expr → Elements
+only_elements self es = followed_by (mean_elements self (elements es)) ends
+
 -- those that are left begin at this index
 abbrev pub LeftElements : Whose → Asked → Sight → ℕ → List Expr → ℕ → Path → Type 0
-LeftElements whose asked self at left i path = (j : ℕ) × (i ≡ at + j) × OneOfElements (own_tells whose asked) (used_tells whose) (mean_elements self (elements left)) j path
+LeftElements whose asked self at left i path = (j : ℕ) × (i ≡ at + j) × OneOfElements (own_tells whose asked) (used_tells whose) (only_elements self left) j path
 
 pub record ElementsTold (self : Sight) (whose : Whose) (branches : List (Step × Tree Declared)) (at : ℕ) (all left : List Expr) : Type 0 where
   pub known : AreElementsKnown self (elements left)
   pub few : at + size_of_cores (mean_elements self (elements left)) ≤ 65536
   pub flat : AreFlat branches
-  pub told : (step : paths.Step) (path : Path) (asked : Asked) → IsSplit (AtList (OneOfElements (own_tells whose asked) (used_tells whose) (mean_elements self (elements all))) (step ∷ path))
+  pub told : (step : paths.Step) (path : Path) (asked : Asked) → IsSplit (AtList (OneOfElements (own_tells whose asked) (used_tells whose) (only_elements self all)) (step ∷ path))
       (BranchesTell branches step path asked) (AtList (LeftElements whose asked self at left) (step ∷ path))
 
 pub record FieldsTold (self : Sight) (whose : Whose) (branches : List (Step × Tree Declared)) (all left : List Declaration) : Type 0 where
@@ -168,7 +175,7 @@ element_more self whose branches at all rest e step t w is told = record {
     from (inl (same, h)) = let eq : index at ≡ index i = sym is ∙ same in let n : at ≡ i = cc in (0, omega (arith, n), (told.told path asked).0 h)
     from (inr (j, same, h)) = (suc j, omega (arith, same), h)
 
-  by : (next : paths.Step) (path : Path) (asked : Asked) → IsSplit (AtList (OneOfElements (own_tells whose asked) (used_tells whose) (mean_elements self (elements all))) (next ∷ path))
+  by : (next : paths.Step) (path : Path) (asked : Asked) → IsSplit (AtList (OneOfElements (own_tells whose asked) (used_tells whose) (only_elements self all)) (next ∷ path))
       (BranchesTell (branches ++ (step, t) ∷ []) next path asked) (AtList (LeftElements whose asked self (at + 1) rest) (next ∷ path))
   by (index i) path asked = split_more _ _ _ _ ((step_of step ≡ index i) × TableRefuses Tells t path asked) _ (w.told (index i) path asked) (here i path asked)
       (one_of-push (λ (one : Step × Tree Declared). (step_of one.0 ≡ index i) × TableRefuses Tells one.1 path asked) branches (step, t))
@@ -181,21 +188,36 @@ no_elements_left whose asked self at (label l) path h = h
 no_elements_left whose asked self at (index i) path h = h.2
 
 pub elements_all : (self : Sight) (whose : Whose) (branches : List (Step × Tree Declared)) (at : ℕ) (all : List Expr) (i : ℕ) (goes_on : Bool) (table : Tree Declared) → ElementsTold self whose branches at all (drop i all) → length all ≤ i
-    → IsTable Tells IsDeclared table → IsOfBranches Tells branches table → IsTold whose (list (mean_elements self (elements all)) goes_on) table
-elements_all self whose branches at all i goes_on table w h form of = record { form = form; told = by } where
+    → IsTable Tells IsDeclared table → IsOfBranches Tells branches table → IsTold whose (list (followed_by (mean_elements self (elements all)) (rest_of goes_on))) table
+elements_all self whose branches at all i goes_on table w h form of = record { form = form; told = whole } where
   end : ElementsTold self whose branches at all []
   end = subst (λ z. ElementsTold self whose branches at all z) (drop_all i all h) w
 
-  by : (path : Path) (asked : Asked) → TableRefuses Tells table path asked ↔ AtList (OneOfElements (own_tells whose asked) (used_tells whose) (mean_elements self (elements all))) path
+  by : (path : Path) (asked : Asked) → TableRefuses Tells table path asked ↔ AtList (OneOfElements (own_tells whose asked) (used_tells whose) (only_elements self all)) path
   by [] asked = (λ r. of.root asked r, λ r. absurd r)
   by (step ∷ path) asked =
       let u = of.below step path asked in
       let s = split_all _ _ _ (end.told step path asked) (no_elements_left whose asked self at step path) in
       (λ r. s.0 (u.0 r), λ r. u.1 (s.1 r))
 
+  whole : (path : Path) (asked : Asked) → TableRefuses Tells table path asked ↔ AtList (OneOfElements (own_tells whose asked) (used_tells whose) (followed_by (mean_elements self (elements all)) (rest_of goes_on))) path
+  whole [] asked = by [] asked
+  whole (label l ∷ path) asked = by (label l ∷ path) asked
+  whole (index j ∷ path) asked =
+      let r = by (index j ∷ path) asked in
+      let d = does_followed (own_tells whose asked) (used_tells whose) (mean_elements self (elements all)) goes_on j path in
+      (λ k. d.0 (r.0 k), λ k. r.1 (d.1 k))
+
+-- of the elements of a list it is known what is of the list
+pub list_known : (self : Sight) (es : syntax.Elements) (goes_on comma : Bool) → IsKnown self (syntax.list es goes_on comma) → AreElementsKnown self es
+list_known self es goes_on comma known =
+    let larger = size_followed (mean_elements self es) (rest_of goes_on) in
+    let deeper = depth_followed (mean_elements self es) (rest_of goes_on) in
+    known_same self _ _ _ _ _ known (omega (arith, larger)) (omega (arith, deeper))
+
 pub elements_none : (self : Sight) (whose : Whose) (all : List Expr) → AreElementsKnown self (elements all) → ElementsTold self whose [] 0 all all
 elements_none self whose all known = record { known = known; few = let a = known.small in omega (arith, a); flat = All-nil (λ (one : Step × Tree Declared). tree_depth one.1 < step_limit); told = by } where
-  by : (next : paths.Step) (path : Path) (asked : Asked) → IsSplit (AtList (OneOfElements (own_tells whose asked) (used_tells whose) (mean_elements self (elements all))) (next ∷ path))
+  by : (next : paths.Step) (path : Path) (asked : Asked) → IsSplit (AtList (OneOfElements (own_tells whose asked) (used_tells whose) (only_elements self all)) (next ∷ path))
       (BranchesTell [] next path asked) (AtList (LeftElements whose asked self 0 all) (next ∷ path))
   by (label l) path asked = (λ h. absurd h, λ h. ⊎_elim (λ n. n) (λ n. n) h)
-  by (index i) path asked = (λ h. inr (i, omega arith, h), λ h. ⊎_elim (λ n. absurd n) (λ g. let same : g.0 ≡ i = omega (arith, g.1) in subst (λ j. OneOfElements (own_tells whose asked) (used_tells whose) (mean_elements self (elements all)) j path) same g.2) h)
+  by (index i) path asked = (λ h. inr (i, omega arith, h), λ h. ⊎_elim (λ n. absurd n) (λ g. let same : g.0 ≡ i = omega (arith, g.1) in subst (λ j. OneOfElements (own_tells whose asked) (used_tells whose) (only_elements self all) j path) same g.2) h)

@@ -8,10 +8,10 @@ use Rattle.cue_lattice.specs.Question as questions
 use Rattle.cue_lattice.specs.Question.{Question, allows}
 use Rattle.cue_sets.specs.Texts.{is_listed}
 use Rattle.cue_row.specs.ValidRow.{IsWord, AreWords, IsWordStep}
-use Rattle.cue_scope.specs.Core.{Core, top, conjunction, struct, close, list, closed, Cores, no_cores, core, Members, no_members, member, dots}
+use Rattle.cue_scope.specs.Core.{Core, top, conjunction, struct, close, list, closed, Cores, no_cores, core, Members, no_members, member, dots, Elements, ends, goes_on, element}
 use Rattle.cue_eval.specs.Literals.{literals, literals_of_parts, literals_of_field, literals_of_element, declares, LeaveOut}
 use Rattle.cue_eval.specs.Refuses.{PartsRefuse, FieldRefuses, ElementRefuses}
-use Rattle.cue_eval.specs.Words.{words, words_of_cores, words_of_members}
+use Rattle.cue_eval.specs.Words.{words, words_of_cores, words_of_members, words_of_elements}
 use Rattle.cue_eval.specs.Validity.{PathsAreWritten, UnwrittenLabelsAreAlike}
 use Rattle.cue_eval.proofs.ByPair.{both_false}
 use Rattle.cue_eval.proofs.Places.{closed_below}
@@ -44,9 +44,9 @@ mutual
   paths_are_written (close ms) w (label l ∷ path) question (inr h) = absurd h
   paths_are_written (close ms) w (index i ∷ path) question (inl h) = absurd h
   paths_are_written (close ms) w (index i ∷ path) question (inr h) = absurd h
-  paths_are_written (list cs goes_on) w [] question h = tt
-  paths_are_written (list cs goes_on) w (label l ∷ path) question h = absurd h
-  paths_are_written (list cs goes_on) w (index i ∷ path) question h = (tt, element_is_written cs w i path question h)
+  paths_are_written (list es) w [] question h = tt
+  paths_are_written (list es) w (label l ∷ path) question h = absurd h
+  paths_are_written (list es) w (index i ∷ path) question h = (tt, element_is_written es w i path question h)
   paths_are_written (closed c) w path question (inl h) = paths_are_written c w path question h
   paths_are_written (closed c) w path question (inr h) = paths_are_written c w path questions.list (closed_below c path question h)
   paths_are_written top w path question h = absurd h
@@ -67,10 +67,11 @@ mutual
       (subst IsWord e w.0, paths_are_written c (words_of_both (words c) (words_of_members ms) w.1).0 (step ∷ path) question h)
   field_is_written (member k mark c ms) w l path question (inr h) = field_is_written ms (words_of_both (words c) (words_of_members ms) w.1).1 l path question h
 
-  element_is_written : (cs : Cores) → AreWords (words_of_cores cs) → (i : ℕ) (path : Path) (question : Question) → ElementRefuses cs i path question → AllByRecursion IsWordStep path
-  element_is_written no_cores w i path question h = absurd h
-  element_is_written (core c cs) w zero path question h = paths_are_written c (words_of_both (words c) (words_of_cores cs) w).0 path question h
-  element_is_written (core c cs) w (suc i) path question h = element_is_written cs (words_of_both (words c) (words_of_cores cs) w).1 i path question h
+  element_is_written : (es : Elements) → AreWords (words_of_elements es) → (i : ℕ) (path : Path) (question : Question) → ElementRefuses es i path question → AllByRecursion IsWordStep path
+  element_is_written ends w i path question h = absurd h
+  element_is_written goes_on w i path question h = absurd h
+  element_is_written (element c es) w zero path question h = paths_are_written c (words_of_both (words c) (words_of_elements es) w).0 path question h
+  element_is_written (element c es) w (suc i) path question h = element_is_written es (words_of_both (words c) (words_of_elements es) w).1 i path question h
 
 -- ---- a label that isn't written is declared by no struct literal
 undeclared_here : (ms : Members) (l : List ℕ) → is_listed (words_of_members ms) l ≡ false → declares l ms ≡ false
@@ -96,9 +97,9 @@ mutual
   undeclared (close ms) [] l h = either_false (declares l ms) false (undeclared_here ms l h) refl
   undeclared (close ms) (label m ∷ path) l h = undeclared_in_field ms m path l h
   undeclared (close ms) (index i ∷ path) l h = refl
-  undeclared (list cs goes_on) [] l h = refl
-  undeclared (list cs goes_on) (label m ∷ path) l h = refl
-  undeclared (list cs goes_on) (index i ∷ path) l h = undeclared_in_element cs i path l h
+  undeclared (list es) [] l h = refl
+  undeclared (list es) (label m ∷ path) l h = refl
+  undeclared (list es) (index i ∷ path) l h = undeclared_in_element es i path l h
   undeclared (closed c) path l h = undeclared c path l h
   undeclared _ path l h = refl
 
@@ -116,10 +117,11 @@ mutual
       undeclared_by_both (cond (bytes_eq k m) (literals c path) []) (literals_of_field ms m path) l
       (undeclared_if (bytes_eq k m) (literals c path) l (undeclared c path l parts.0)) (undeclared_in_field ms m path l parts.1)
 
-  undeclared_in_element : (cs : Cores) (i : ℕ) (path : Path) (l : List ℕ) → is_listed (words_of_cores cs) l ≡ false → list_any (declares l) (literals_of_element cs i path) ≡ false
-  undeclared_in_element no_cores i path l h = refl
-  undeclared_in_element (core c cs) zero path l h = undeclared c path l (in_neither (words c) (words_of_cores cs) l h).0
-  undeclared_in_element (core c cs) (suc i) path l h = undeclared_in_element cs i path l (in_neither (words c) (words_of_cores cs) l h).1
+  undeclared_in_element : (es : Elements) (i : ℕ) (path : Path) (l : List ℕ) → is_listed (words_of_elements es) l ≡ false → list_any (declares l) (literals_of_element es i path) ≡ false
+  undeclared_in_element ends i path l h = refl
+  undeclared_in_element goes_on i path l h = refl
+  undeclared_in_element (element c es) zero path l h = undeclared c path l (in_neither (words c) (words_of_elements es) l h).0
+  undeclared_in_element (element c es) (suc i) path l h = undeclared_in_element es i path l (in_neither (words c) (words_of_elements es) l h).1
 
 left_out : (written : List Members) (k l : List ℕ) → LeaveOut written k → list_any (declares l) written ≡ false → LeaveOut written l
 left_out written k l h e = record { some = h.some; without_dots = h.without_dots; undeclared = e }
@@ -137,9 +139,9 @@ mutual
   unwritten_labels (close ms) (label m ∷ path) k l un (inr h) = absurd h
   unwritten_labels (close ms) (index i ∷ path) k l un (inl h) = absurd h
   unwritten_labels (close ms) (index i ∷ path) k l un (inr h) = absurd h
-  unwritten_labels (list cs goes_on) [] k l un h = absurd h
-  unwritten_labels (list cs goes_on) (label m ∷ path) k l un h = absurd h
-  unwritten_labels (list cs goes_on) (index i ∷ path) k l un h = unwritten_in_element cs i path k l un h
+  unwritten_labels (list es) [] k l un h = absurd h
+  unwritten_labels (list es) (label m ∷ path) k l un h = absurd h
+  unwritten_labels (list es) (index i ∷ path) k l un h = unwritten_in_element es i path k l un h
   unwritten_labels (closed c) path k l un (inl h) = inl (unwritten_labels c path k l un h)
   unwritten_labels (closed c) path k l un (inr h) = inr (left_out (literals c path) k l h (undeclared c path l un))
   unwritten_labels top path k l un h = absurd h
@@ -162,7 +164,8 @@ mutual
       let parts = in_neither (words c) (words_of_members ms) l (both_false (bytes_eq j l) (is_listed (words c ++ words_of_members ms) l) un).1 in
       inr (unwritten_in_field ms m path k l parts.1 h)
 
-  unwritten_in_element : (cs : Cores) (i : ℕ) (path : Path) (k l : List ℕ) → is_listed (words_of_cores cs) l ≡ false → ElementRefuses cs i path (allows k) → ElementRefuses cs i path (allows l)
-  unwritten_in_element no_cores i path k l un h = absurd h
-  unwritten_in_element (core c cs) zero path k l un h = unwritten_labels c path k l (in_neither (words c) (words_of_cores cs) l un).0 h
-  unwritten_in_element (core c cs) (suc i) path k l un h = unwritten_in_element cs i path k l (in_neither (words c) (words_of_cores cs) l un).1 h
+  unwritten_in_element : (es : Elements) (i : ℕ) (path : Path) (k l : List ℕ) → is_listed (words_of_elements es) l ≡ false → ElementRefuses es i path (allows k) → ElementRefuses es i path (allows l)
+  unwritten_in_element ends i path k l un h = absurd h
+  unwritten_in_element goes_on i path k l un h = absurd h
+  unwritten_in_element (element c es) zero path k l un h = unwritten_labels c path k l (in_neither (words c) (words_of_elements es) l un).0 h
+  unwritten_in_element (element c es) (suc i) path k l un h = unwritten_in_element es i path k l (in_neither (words c) (words_of_elements es) l un).1 h

@@ -14,12 +14,12 @@ use Rattle.cue_syntax.specs.declared.tree.Comparison.TheVariants.{Less}
 use Rattle.cue_syntax.specs.declared.tree.Mark.{Mark}
 use Rattle.cue_scope.specs.declared.named.Named.{Named}
 use Rattle.cue_scope.specs.declared.named.Named.TheVariants as names
-use Rattle.cue_scope.specs.Core.{Core, text, named, top, bound, other_text, conjunction, disjunction, struct, close, list, closed, Cores, no_cores, core, Choices, no_choices, choice, Members, no_members, member, dots}
+use Rattle.cue_scope.specs.Core.{Core, text, named, top, bound, other_text, conjunction, disjunction, struct, close, list, closed, Cores, no_cores, core, Choices, no_choices, choice, Members, no_members, member, dots, Elements, ends, goes_on, element}
 use Rattle.cue_eval.specs.Sets.{named_set, bounded, integer_of}
 use Rattle.cue_eval.specs.Pairs.{pair, pairs_of, terms_of}
 use Rattle.cue_eval.specs.Places.{Here, MarkRefuses, ScalarRefuses, StructRefuses, ListRefuses, ClosingRefuses}
-use Rattle.cue_eval.specs.Refuses.{Refuses, PartsRefuse, FieldRefuses, ElementRefuses, count}
-use Rattle.cue_eval.specs.Words.{words, words_of_cores, words_of_choices, words_of_members}
+use Rattle.cue_eval.specs.Refuses.{Refuses, PartsRefuse, FieldRefuses, ElementRefuses, count, is_open}
+use Rattle.cue_eval.specs.Words.{words, words_of_cores, words_of_choices, words_of_members, words_of_elements}
 use Rattle.cue_eval.specs.Validity.{UnwrittenTextsAreAlike}
 use Rattle.cue_eval.proofs.ByPair.{both_false}
 use Rattle.cue_eval.proofs.Unwritten.{in_neither}
@@ -147,9 +147,9 @@ struct_alike : (which : Bool) (t u : List ℕ) → StructRefuses (asks which t) 
 struct_alike true t u r = r
 struct_alike false t u r = r
 
-list_alike : (which : Bool) (n : ℕ) (goes_on : Bool) (t u : List ℕ) → ListRefuses n goes_on (asks which t) → ListRefuses n goes_on (asks which u)
-list_alike true n goes_on t u r = r
-list_alike false n goes_on t u r = r
+list_alike : (which : Bool) (n : ℕ) (more : Bool) (t u : List ℕ) → ListRefuses n more (asks which t) → ListRefuses n more (asks which u)
+list_alike true n more t u r = r
+list_alike false n more t u r = r
 
 mark_alike : (which : Bool) (mark : Mark) (path : Path) (t : List ℕ) → Here (MarkRefuses mark) path (asks which t) → ⊥
 mark_alike true mark [] t r = r
@@ -175,9 +175,9 @@ mutual
   alike which (close ms) (label l ∷ path) t u h k (inl r) = inl (alike_in_field which ms l path t u h k r)
   alike which (close ms) (label l ∷ path) t u h k (inr r) = inr r
   alike which (close ms) (index i ∷ path) t u h k r = r
-  alike which (list cs goes_on) [] t u h k r = list_alike which (count cs) goes_on t u r
-  alike which (list cs goes_on) (label l ∷ path) t u h k r = r
-  alike which (list cs goes_on) (index i ∷ path) t u h k r = alike_in_element which cs i path t u h k r
+  alike which (list es) [] t u h k r = list_alike which (count es) (is_open es) t u r
+  alike which (list es) (label l ∷ path) t u h k r = r
+  alike which (list es) (index i ∷ path) t u h k r = alike_in_element which es i path t u h k r
   alike which (closed c) path t u h k (inl r) = inl (alike which c path t u h k r)
   alike which (closed c) path t u h k (inr r) = absurd (closing_alike which _ t r)
   alike which top path t u h k r = r
@@ -203,12 +203,13 @@ mutual
       let b = in_neither (words c) (words_of_members ms) u (both_false (bytes_eq j u) (is_listed (words c ++ words_of_members ms) u) k).1 in
       inr (alike_in_field which ms l path t u a.1 b.1 r)
 
-  alike_in_element : (which : Bool) (cs : Cores) (i : ℕ) (path : Path) (t u : List ℕ) → is_listed (words_of_cores cs) t ≡ false → is_listed (words_of_cores cs) u ≡ false → ElementRefuses cs i path (asks which t) → ElementRefuses cs i path (asks which u)
-  alike_in_element which no_cores i path t u h k r = r
-  alike_in_element which (core c cs) zero path t u h k r =
-      alike which c path t u (in_neither (words c) (words_of_cores cs) t h).0 (in_neither (words c) (words_of_cores cs) u k).0 r
-  alike_in_element which (core c cs) (suc i) path t u h k r =
-      alike_in_element which cs i path t u (in_neither (words c) (words_of_cores cs) t h).1 (in_neither (words c) (words_of_cores cs) u k).1 r
+  alike_in_element : (which : Bool) (es : Elements) (i : ℕ) (path : Path) (t u : List ℕ) → is_listed (words_of_elements es) t ≡ false → is_listed (words_of_elements es) u ≡ false → ElementRefuses es i path (asks which t) → ElementRefuses es i path (asks which u)
+  alike_in_element which ends i path t u h k r = r
+  alike_in_element which goes_on i path t u h k r = r
+  alike_in_element which (element c es) zero path t u h k r =
+      alike which c path t u (in_neither (words c) (words_of_elements es) t h).0 (in_neither (words c) (words_of_elements es) u k).0 r
+  alike_in_element which (element c es) (suc i) path t u h k r =
+      alike_in_element which es i path t u (in_neither (words c) (words_of_elements es) t h).1 (in_neither (words c) (words_of_elements es) u k).1 r
 
 pub unwritten_texts : UnwrittenTextsAreAlike
 unwritten_texts c path t u h k = (λ r. alike true c path t u h k r, λ r. alike false c path t u h k r)

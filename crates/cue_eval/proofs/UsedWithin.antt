@@ -5,11 +5,12 @@ use Rattle.cue_syntax.specs.declared.tree.Identifier.TheVariants as identifiers
 use Rattle.cue_syntax.specs.Syntax as tree
 use Rattle.cue_syntax.specs.Syntax.{Expression, Elements, no_elements, element, branch, Branches, no_branches, next_branch, Entries, no_entries, entry, ellipsis, field, definition}
 use Rattle.cue_syntax.specs.Grammar.{IsRight, AreRight, AreRightBranches, AreRightEntries, AreNested}
-use Rattle.cue_scope.specs.Core.{Core, bottom}
+use Rattle.cue_scope.specs.Core as core
+use Rattle.cue_scope.specs.Core.{Core, bottom, followed_by}
 use Rattle.cue_scope.specs.Definitions.{Definition, number_of}
 use Rattle.cue_scope.specs.Graph.{IsIn}
-use Rattle.cue_scope.specs.Limits.{size, size_of_cores, size_of_choices, size_of_members, depth, depth_of_cores, depth_of_elements, depth_of_choices, depth_of_members}
-use Rattle.cue_scope.specs.Meaning.{meant, meant_elements, meant_branches, meant_members, meant_fields}
+use Rattle.cue_scope.specs.Limits.{size, size_of_cores, size_of_elements, size_of_choices, size_of_members, depth, depth_of_cores, depth_of_elements, depth_of_choices, depth_of_members}
+use Rattle.cue_scope.specs.Meaning.{meant, meant_elements, rest_of, meant_branches, meant_members, meant_fields}
 use Rattle.cue_scope.specs.Uses.{uses, uses_of_elements, uses_of_branches, uses_of_entries, uses_of_fields}
 use Rattle.cue_scope.proofs.Nodes.{in_append}
 use Rattle.cue_eval.proofs.TellingDepth.{nested_depth, nested_size}
@@ -43,7 +44,7 @@ mutual
       let w = entries_within ds m es i r.0 r.1 h in
       let s = w.size in let d = w.depth in record { size = omega arith; depth = omega arith }
   used_within ds m (tree.list es goes_on comma) i r h =
-      let w = elements_within ds m es i r.0 h in
+      let w = elements_within ds m es (rest_of goes_on) i r.0 h in
       let s = w.size in let d = w.depth in record { size = omega arith; depth = omega arith }
   used_within ds m (tree.conjunction es) i r h =
       let w = parts_within ds m es i r.0 h in
@@ -60,12 +61,13 @@ mutual
       (λ g. let w = parts_within ds m es i r.1 g in let s = w.size in let d = w.depth in record { size = omega arith; depth = omega arith })
       (in_append (uses ds e) (uses_of_elements ds es) i h)
 
-  elements_within : (ds : List Definition) (m : ℕ → Core) (es : Elements) (i : ℕ) → AreRight es → IsIn i (uses_of_elements ds es) → IsNoMore (m i) (size_of_cores (meant_elements ds m es)) (depth_of_elements (meant_elements ds m es))
-  elements_within ds m no_elements i r h = absurd h
-  elements_within ds m (element e es) i r h =
+  elements_within : (ds : List Definition) (m : ℕ → Core) (es : Elements) (rest : core.Elements) (i : ℕ) → AreRight es → IsIn i (uses_of_elements ds es)
+      → IsNoMore (m i) (size_of_elements (followed_by (meant_elements ds m es) rest)) (depth_of_elements (followed_by (meant_elements ds m es) rest))
+  elements_within ds m no_elements rest i r h = absurd h
+  elements_within ds m (element e es) rest i r h =
       ⊎_elim
       (λ g. let w = used_within ds m e i r.0 g in let s = w.size in let d = w.depth in record { size = omega arith; depth = omega arith })
-      (λ g. let w = elements_within ds m es i r.1 g in let s = w.size in let d = w.depth in record { size = omega arith; depth = omega arith })
+      (λ g. let w = elements_within ds m es rest i r.1 g in let s = w.size in let d = w.depth in record { size = omega arith; depth = omega arith })
       (in_append (uses ds e) (uses_of_elements ds es) i h)
 
   branches_within : (ds : List Definition) (m : ℕ → Core) (bs : Branches) (i : ℕ) → AreRightBranches bs → IsIn i (uses_of_branches ds bs) → IsNoMore (m i) (size_of_choices (meant_branches ds m bs)) (depth_of_choices (meant_branches ds m bs))

@@ -1,5 +1,5 @@
 -- What a text whose names, labels and strings are words means, writes words.
-use Rattle.std.proofs.Common.{ℕ, zero, suc, Bool, true, false, cond, List, [], ◌∷◌, ◌++◌, length, Option, Some, None}
+use Rattle.std.proofs.Common.{ℕ, zero, suc, Bool, true, false, cond, List, [], ◌∷◌, ◌++◌, length, Option, Some, None, sym, subst}
 use Rattle.std.specs.Prelude.{slice_get, codes}
 use Rattle.std.specs.List.{AllByRecursion}
 use Rattle.std.specs.Option.{option_map_or}
@@ -22,6 +22,7 @@ use Rattle.cue_scope.specs.Named.{named_of}
 use Rattle.cue_scope.specs.declared.named.Named.{Named}
 use Rattle.cue_eval.specs.Words.{words, words_of_cores, words_of_choices, words_of_members, WritesWords}
 use Rattle.cue_eval.specs.Validity.{TextsWriteWords}
+use Rattle.cue_eval.proofs.Rests.{words_followed}
 
 word : (t : List ℕ) → lattice.IsWord t → IsWord t
 word t h = record { utf8 = h.utf8; short = h.short }
@@ -71,7 +72,7 @@ mutual
   meant_words ds f (tree.parenthesis e comma) h w = meant_words ds f e h w
   meant_words ds f (tree.struct es comma) h w = member_words ds f es h w
   meant_words ds f (tree.close place es inner comma) h w = member_words ds f es h w
-  meant_words ds f (tree.list es goes_on comma) h w = element_words ds f es h w
+  meant_words ds f (tree.list es goes_on comma) h w = subst AreWords (sym (words_followed (meant_elements ds f es) goes_on)) (element_words ds f es h w)
   meant_words ds f (tree.conjunction es) h w = element_words ds f es h w
   meant_words ds f (tree.disjunction bs) h w = branch_words ds f bs h w
 

@@ -5,7 +5,8 @@ use Rattle.std.specs.List.{list_any}
 use Rattle.cue_lattice.specs.Path.{Path, label, index}
 use Rattle.cue_lattice.specs.Question.{allows}
 use Rattle.cue_scope.specs.Core.{Core, conjunction, struct, close, list, closed, Cores, no_cores}
-use Rattle.cue_scope.specs.Core.{core, Members, no_members, member, dots}
+use Rattle.cue_scope.specs.Core.{core, Elements, ends, goes_on, element, Members, no_members}
+use Rattle.cue_scope.specs.Core.{member, dots}
 use Rattle.cue_eval.specs.Literals.{literals, declares, has_dots, LeaveOut}
 use Rattle.cue_eval.specs.Refuses.{Refuses}
 
@@ -28,7 +29,7 @@ abbrev mutual
   OneDoes own used (conjunction cs) path = OneOfParts own used cs path
   OneDoes own used (struct ms) path = AtStruct (own ms) (OneOfFields own used ms) path
   OneDoes own used (close ms) path = AtStruct (own ms) (OneOfFields own used ms) path
-  OneDoes own used (list cs goes_on) path = AtList (OneOfElements own used cs) path
+  OneDoes own used (list es) path = AtList (OneOfElements own used es) path
   OneDoes own used (closed c) path = used c path
   OneDoes own used _ path = ⊥
 
@@ -44,10 +45,11 @@ abbrev mutual
   OneOfFields own used (dots ms) l path = OneOfFields own used ms l path
 
   -- at a path below an index
-  pub OneOfElements : (Members → Type 0) → (Core → Path → Type 0) → Cores → ℕ → Path → Type 0
-  OneOfElements own used no_cores i path = ⊥
-  OneOfElements own used (core c cs) zero path = OneDoes own used c path
-  OneOfElements own used (core c cs) (suc i) path = OneOfElements own used cs i path
+  pub OneOfElements : (Members → Type 0) → (Core → Path → Type 0) → Elements → ℕ → Path → Type 0
+  OneOfElements own used ends i path = ⊥
+  OneOfElements own used goes_on i path = ⊥
+  OneOfElements own used (element c es) zero path = OneDoes own used c path
+  OneOfElements own used (element c es) (suc i) path = OneOfElements own used es i path
 
 -- one of the struct literals at a path that the expression itself writes passes the test
 abbrev pub OneOfOwn : (Members → Bool) → Core → Path → Type 0

@@ -6,7 +6,8 @@ use Rattle.std.specs.List.{list_any}
 use Rattle.std.specs.Str.{bytes_eq}
 use Rattle.cue_lattice.specs.Path.{Path, label, index}
 use Rattle.cue_scope.specs.Core.{Core, conjunction, struct, close, list, closed, Cores, no_cores}
-use Rattle.cue_scope.specs.Core.{core, Members, no_members, member, dots}
+use Rattle.cue_scope.specs.Core.{core, Elements, ends, goes_on, element, Members, no_members}
+use Rattle.cue_scope.specs.Core.{member, dots}
 
 -- it has a declaration of this label, with any mark
 abbrev pub declares : List ℕ → Members → Bool
@@ -38,7 +39,7 @@ abbrev mutual
   literals (conjunction cs) path = literals_of_parts cs path
   literals (struct ms) path = with_fields ms (literals_of_field ms) path
   literals (close ms) path = with_fields ms (literals_of_field ms) path
-  literals (list cs goes_on) path = with_elements (literals_of_element cs) path
+  literals (list es) path = with_elements (literals_of_element es) path
   literals (closed c) path = literals c path
   literals _ path = []
 
@@ -54,10 +55,11 @@ abbrev mutual
   literals_of_field (dots ms) l path = literals_of_field ms l path
 
   -- those at a path below an index
-  pub literals_of_element : Cores → ℕ → Path → List Members
-  literals_of_element no_cores i path = []
-  literals_of_element (core c cs) zero path = literals c path
-  literals_of_element (core c cs) (suc i) path = literals_of_element cs i path
+  pub literals_of_element : Elements → ℕ → Path → List Members
+  literals_of_element ends i path = []
+  literals_of_element goes_on i path = []
+  literals_of_element (element c es) zero path = literals c path
+  literals_of_element (element c es) (suc i) path = literals_of_element es i path
 
 -- Some struct literals are written, none of them has a `...`, and none declares the label.
 pub record LeaveOut (written : List Members) (l : List ℕ) : Type 0 where

@@ -17,11 +17,12 @@ use Rattle.cue_syntax.specs.Syntax as tree
 use Rattle.cue_syntax.specs.Syntax.{Expression, Elements, Entries}
 use Rattle.cue_syntax.specs.Grammar.{IsRight, AreRight, AreRightEntries}
 use Rattle.cue_syntax.specs.declared.tree.Label.{Label}
-use Rattle.cue_scope.specs.Core.{Core, Cores, Members}
+use Rattle.cue_scope.specs.Core as cores
+use Rattle.cue_scope.specs.Core.{Core, followed_by, Members}
 use Rattle.cue_scope.specs.Definitions.{Definition}
 use Rattle.cue_scope.specs.Graph.{IsIn}
-use Rattle.cue_scope.specs.Limits.{size, size_of_cores, size_of_members, depth, depth_of_cores}
-use Rattle.cue_scope.specs.Limits.{depth_of_elements, depth_of_members}
+use Rattle.cue_scope.specs.Limits.{size, size_of_cores, size_of_elements, size_of_members, depth}
+use Rattle.cue_scope.specs.Limits.{depth_of_cores, depth_of_elements, depth_of_members}
 use Rattle.cue_scope.specs.Meaning.{meaning, meant_members, meant_fields, text_of}
 use Rattle.cue_scope.specs.Terms.{terms, terms_of_elements, terms_of_entries}
 use Rattle.cue_scope.specs.Uses.{uses, uses_of_elements, uses_of_entries, uses_of_fields}
@@ -75,13 +76,14 @@ pub record AreReadyParts (known : Tables) (es : Elements) : Type 0 where
   pub size : size_of_cores (parts_of known.pairs es) ≤ size_limit
   pub depth : depth_of_cores (parts_of known.pairs es) ≤ step_limit
 
--- the elements of a list
-pub record AreReadyElements (known : Tables) (es : Elements) : Type 0 where
+-- the elements of a list, with what follows them
+pub record AreReadyElements (known : Tables) (es : Elements) (rest : cores.Elements)
+    : Type 0 where
   pub right : AreRight es
   pub used : AreKnown known (uses_of_elements (all_definitions known) es)
   pub terms : terms_of_elements (all_definitions known) (meaning (all_definitions known)) es ≡ []
-  pub size : size_of_cores (parts_of known.pairs es) ≤ size_limit
-  pub depth : depth_of_elements (parts_of known.pairs es) ≤ step_limit
+  pub size : size_of_elements (followed_by (parts_of known.pairs es) rest) ≤ size_limit
+  pub depth : depth_of_elements (followed_by (parts_of known.pairs es) rest) ≤ step_limit
 
 -- the declarations of a struct literal
 pub record AreReadyEntries (known : Tables) (es : Entries) : Type 0 where
@@ -119,10 +121,10 @@ AtLabels ms (label l) path question = FieldRefuses ms l path question
 AtLabels ms (index i) path question = ⊥
 
 -- elements, by their steps, of which the first has this index
-abbrev pub AtIndexes : ℕ → Cores → paths.Step → Path → Question → Type 0
-AtIndexes first cs (label l) path question = ⊥
-AtIndexes first cs (index i) path question =
-    (k : ℕ) × (first + k ≡ i) × ElementRefuses cs k path question
+abbrev pub AtIndexes : ℕ → cores.Elements → paths.Step → Path → Question → Type 0
+AtIndexes first es (label l) path question = ⊥
+AtIndexes first es (index i) path question =
+    (k : ℕ) × (first + k ≡ i) × ElementRefuses es k path question
 
 -- a literal of scalars, or a disjunction
 abbrev pub IsScalarLeaf : Expression → Type 0

@@ -1,9 +1,10 @@
 -- What an expression refuses: this is its meaning.
-use Rattle.std.specs.Prelude.{◌≡◌, ◌⊎◌, ◌+◌, ℕ, zero, suc, List, [], ◌∷◌}
+use Rattle.std.specs.Prelude.{◌≡◌, ◌⊎◌, ◌+◌, ℕ, zero, suc, Bool, true, false, List, [], ◌∷◌}
 use Rattle.cue_lattice.specs.Path.{Path, label, index}
 use Rattle.cue_lattice.specs.Question.{Question}
 use Rattle.cue_scope.specs.Core.{Core, top, conjunction, struct, close, list, closed, Cores}
-use Rattle.cue_scope.specs.Core.{no_cores, core, Members, no_members, member, dots}
+use Rattle.cue_scope.specs.Core.{no_cores, core, Elements, ends, goes_on, element, Members}
+use Rattle.cue_scope.specs.Core.{no_members, member, dots}
 use Rattle.cue_eval.specs.Pairs.{pair}
 use Rattle.cue_eval.specs.Literals.{literals}
 use Rattle.cue_eval.specs.Places.{Here, ScalarRefuses, StructRefuses, ListRefuses, MarkRefuses}
@@ -15,7 +16,7 @@ LiteralRefuses fields [] question = StructRefuses question
 LiteralRefuses fields (label l ∷ path) question = fields l path question
 LiteralRefuses fields (index i ∷ path) question = ⊥
 
--- a list literal of so many elements
+-- a list literal, of whose elements it is told what they refuse
 abbrev pub ElementsRefuse : (Question → Type 0) → (ℕ → Path → Question → Type 0) → Path
     → Question → Type 0
 ElementsRefuse here elements [] question = here question
@@ -23,17 +24,24 @@ ElementsRefuse here elements (label l ∷ path) question = ⊥
 ElementsRefuse here elements (index i ∷ path) question = elements i path question
 
 -- how many elements a list has
-abbrev pub count : Cores → ℕ
-count no_cores = 0
-count (core c cs) = count cs + 1
+abbrev pub count : Elements → ℕ
+count ends = 0
+count goes_on = 0
+count (element c es) = count es + 1
+
+-- it goes on behind them
+abbrev pub is_open : Elements → Bool
+is_open ends = false
+is_open goes_on = true
+is_open (element c es) = is_open es
 
 abbrev mutual
   pub Refuses : Core → Path → Question → Type 0
   Refuses top path question = ⊥
   Refuses (conjunction cs) path question = PartsRefuse cs path question
   Refuses (struct ms) path question = LiteralRefuses (FieldRefuses ms) path question
-  Refuses (list cs goes_on) path question =
-      ElementsRefuse (ListRefuses (count cs) goes_on) (ElementRefuses cs) path question
+  Refuses (list es) path question =
+      ElementsRefuse (ListRefuses (count es) (is_open es)) (ElementRefuses es) path question
   -- `close` closes its own place alone
   Refuses (close ms) path question =
       LiteralRefuses (FieldRefuses ms) path question ⊎ Here (ClosingRefuses (ms ∷ [])) path question
@@ -57,7 +65,8 @@ abbrev mutual
   FieldRefuses (dots ms) l path question = FieldRefuses ms l path question
 
   -- what the element at an index refuses, at a path below it
-  pub ElementRefuses : Cores → ℕ → Path → Question → Type 0
-  ElementRefuses no_cores i path question = ⊥
-  ElementRefuses (core c cs) zero path question = Refuses c path question
-  ElementRefuses (core c cs) (suc i) path question = ElementRefuses cs i path question
+  pub ElementRefuses : Elements → ℕ → Path → Question → Type 0
+  ElementRefuses ends i path question = ⊥
+  ElementRefuses goes_on i path question = ⊥
+  ElementRefuses (element c es) zero path question = Refuses c path question
+  ElementRefuses (element c es) (suc i) path question = ElementRefuses es i path question

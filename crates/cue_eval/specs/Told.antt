@@ -9,7 +9,7 @@ use Rattle.cue_table.specs.Meet.{IsAdded}
 use Rattle.cue_table.specs.Refuses.{TableRefuses}
 use Rattle.cue_syntax.specs.declared.tree.Identifier.{Identifier}
 use Rattle.cue_syntax.specs.Syntax.{Expression, Elements, Entries}
-use Rattle.cue_scope.specs.Core.{Core, Cores, Members}
+use Rattle.cue_scope.specs.Core.{Core, Cores, ends, followed_by, Members}
 use Rattle.cue_scope.specs.Graph.{IsIn}
 use Rattle.cue_scope.specs.Kept.{all_of}
 use Rattle.cue_scope.specs.Limits.{size, size_of_cores, size_of_members, depth, depth_of_cores}
@@ -97,7 +97,8 @@ ArePartsKnown known es =
 abbrev pub AreElementsKnown : Sight → Elements → Type 0
 AreElementsKnown known es =
     AreKnown known (uses_of_elements (all_of known.definitions.now) es)
-    (size_of_cores (mean_elements known es)) (depth_of_elements (mean_elements known es))
+    (size_of_cores (mean_elements known es))
+    (depth_of_elements (followed_by (mean_elements known es) ends))
 
 abbrev pub AreMembersKnown : Sight → Entries → Type 0
 AreMembersKnown known es =

@@ -2,8 +2,9 @@
 use Rattle.std.specs.Prelude.{ℕ, List, [], ◌∷◌, ◌++◌}
 use Rattle.cue_row.specs.ValidRow.{AreWords}
 use Rattle.cue_scope.specs.Core.{Core, text, other_text, conjunction, disjunction, struct, close}
-use Rattle.cue_scope.specs.Core.{list, closed, Cores, no_cores, core, Choices, no_choices, choice}
-use Rattle.cue_scope.specs.Core.{Members, no_members, member, dots}
+use Rattle.cue_scope.specs.Core.{list, closed, Cores, no_cores, core, Elements, ends, goes_on}
+use Rattle.cue_scope.specs.Core.{element, Choices, no_choices, choice, Members, no_members, member}
+use Rattle.cue_scope.specs.Core.{dots}
 
 abbrev mutual
   pub words : Core → List (List ℕ)
@@ -13,13 +14,18 @@ abbrev mutual
   words (disjunction terms) = words_of_choices terms
   words (struct ms) = words_of_members ms
   words (close ms) = words_of_members ms
-  words (list cs goes_on) = words_of_cores cs
+  words (list es) = words_of_elements es
   words (closed c) = words c
   words _ = []
 
   pub words_of_cores : Cores → List (List ℕ)
   words_of_cores no_cores = []
   words_of_cores (core c cs) = words c ++ words_of_cores cs
+
+  pub words_of_elements : Elements → List (List ℕ)
+  words_of_elements ends = []
+  words_of_elements goes_on = []
+  words_of_elements (element c es) = words c ++ words_of_elements es
 
   pub words_of_choices : Choices → List (List ℕ)
   words_of_choices no_choices = []

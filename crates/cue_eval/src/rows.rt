@@ -4,7 +4,7 @@ ghost use Rattle.cue_lattice.specs.Limits.{step_limit};
 ghost use Rattle.cue_row.specs.Row.{Refuses, IsRow};
 ghost use Rattle.cue_scope.specs.Core as core;
 ghost use Rattle.cue_scope.specs.Limits as limits;
-ghost use Rattle.cue_scope.specs.Meaning.{meaning, nested};
+ghost use Rattle.cue_scope.specs.Meaning.{meaning, nested, rest_of};
 ghost use Rattle.cue_scope.specs.Uses.{uses_of_name};
 ghost use Rattle.cue_syntax.specs.Syntax as tree;
 ghost use Rattle.cue_table.specs.Form.{IsTable};
@@ -252,10 +252,11 @@ impl<'a, 'f, 't> Tables<'a, 'f, 't> {
     /// A list literal, and whether it ends in `...`.
     #[cycle(rows)]
     fn list(&self, elements: &[Expr], goes_on: bool) -> Result<Table<Row>, Memory>
-        requires { AreReadyElements self.now (tree.elements elements.now) }
+        requires { AreReadyElements self.now (tree.elements elements.now) (rest_of goes_on) }
         ensures form { IfOk result (IsTable Refuses IsRow) }
         ensures answers { IfOk result (HasAnswersOf
-            (core.list (parts_of self.now.pairs (tree.elements elements.now)) goes_on)) }
+            (core.list (core.followed_by (parts_of self.now.pairs (tree.elements elements.now))
+            (rest_of goes_on)))) }
     {
         let mut steps = Vec::new(self.pairs.alloc);
         for element in elements {

@@ -3,11 +3,13 @@
 ghost use Rattle.std.specs.Prelude.{◌≡◌, ◌↔◌, ◌+◌, ◌≤◌, ◌<◌, ℕ, Bool, List, [], true, length, IfOk};
 ghost use Rattle.cue_lattice.specs.Limits.{step_limit};
 ghost use Rattle.cue_syntax.specs.Syntax as tree;
-ghost use Rattle.cue_scope.specs.Core.{Core, struct, list, conjunction, member, no_members};
+ghost use Rattle.cue_scope.specs.Core.{Core, struct, list, followed_by, conjunction, member};
+ghost use Rattle.cue_scope.specs.Core.{no_members};
 ghost use Rattle.cue_scope.specs.Definitions.{Definition as DefinitionOf};
 ghost use Rattle.cue_scope.specs.Kept.{all_of};
 ghost use Rattle.cue_scope.specs.Limits.{depth};
-ghost use Rattle.cue_scope.specs.Meaning.{meaning, meant_name, meant_members, nested, text_of};
+ghost use Rattle.cue_scope.specs.Meaning.{meaning, meant_name, meant_members, nested, rest_of};
+ghost use Rattle.cue_scope.specs.Meaning.{text_of};
 ghost use Rattle.cue_table.specs.Depth.{tree_depth};
 ghost use Rattle.cue_eval.specs.Telling.{Tells, tells};
 ghost use Rattle.cue_eval.specs.Told.{IsTold, IsToldBelow, IsKnown, ArePartsKnown};
@@ -89,9 +91,9 @@ impl<'a, 'f, 't> Sight<'a, 'f, 't> {
     #[cycle(told)]
     fn elements(&self, whose: Whose, elements: &[Expr]) -> Result<Table<Declared>, Memory>
         requires { AreElementsKnown self.now (tree.elements elements.now) }
-        ensures { IfOk result (λ table. (goes_on : Bool) →
-            IsTold whose (list (mean_elements self.now (tree.elements elements.now)) goes_on)
-            table) }
+        ensures { IfOk result (λ table. (goes_on : Bool) → IsTold whose
+            (list (followed_by (mean_elements self.now (tree.elements elements.now))
+            (rest_of goes_on))) table) }
     {
         let mut branches = Vec::new(self.alloc);
         let mut index: u32 = 0;

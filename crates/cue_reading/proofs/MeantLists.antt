@@ -1,14 +1,16 @@
 -- What the list part of a printed row means.
-use Rattle.std.proofs.Common.{◌≡◌, ◌↔◌, ◌⊎◌, inl, inr, ⊎_elim, ℕ, zero, suc, ◌+◌, ◌<◌, ◌≤◌, ◌==◌, Bool, true, false, List, [], ◌∷◌, Option, None, Some, refl, sym, subst, if◌then◌else◌, arith}
+use Rattle.std.proofs.Common.{◌≡◌, ◌↔◌, ◌⊎◌, inl, inr, ⊎_elim, ℕ, zero, suc, ◌+◌, ◌<◌, ◌≤◌, ◌==◌, Bool, true, false, List, [], ◌∷◌, Option, None, Some, refl, sym, subst, ◌∙◌, if◌then◌else◌, arith}
 use Rattle.std.proofs.lemmas.Bool.{eqb-true}
 use Rattle.cue_lattice.specs.Path.{Path, label, index}
 use Rattle.cue_lattice.specs.Question.{Question, may_be, usual, struct, list, allows, level_at_most, length_at_most, length_at_least}
 use Rattle.cue_row.specs.ValidRow.{AreLengths}
-use Rattle.cue_scope.specs.Core.{Core, Cores}
+use Rattle.cue_scope.specs.Core as core
+use Rattle.cue_scope.specs.Core.{Core, followed_by}
 use Rattle.cue_scope.specs.Definitions.{Definition}
-use Rattle.cue_scope.specs.Meaning.{meant_elements}
+use Rattle.cue_scope.specs.Meaning.{meant_elements, rest_of}
 use Rattle.cue_eval.specs.Places.{ListRefuses}
-use Rattle.cue_eval.specs.Refuses.{ElementsRefuse, count, ElementRefuses}
+use Rattle.cue_eval.specs.Refuses.{ElementsRefuse, count, is_open, ElementRefuses}
+use Rattle.cue_eval.proofs.Rests.{count_of_rest, open_followed, open_rest, rest_refuses}
 use Rattle.cue_print.specs.Expressions as printed
 use Rattle.cue_print.specs.Expressions.{Value, top, Parts}
 use Rattle.cue_print.specs.Printed.{elements_from, elements, list_part}
@@ -53,25 +55,28 @@ greatest_below least most h = h.1
 
 module _ (ds : List Definition) (meaning : ℕ → Core) where
   -- ---- elements
-  abbrev cores_of : ℕ → ℕ → (ℕ → Value) → Cores
-  cores_of first n value_at = meant_elements ds meaning (element_trees (elements_from first n value_at))
+  abbrev meant_list : Bool → ℕ → ℕ → (ℕ → Value) → core.Elements
+  meant_list goes_on first n value_at = followed_by (meant_elements ds meaning (element_trees (elements_from first n value_at))) (rest_of goes_on)
 
-  so_many : (first n : ℕ) (value_at : ℕ → Value) → count (cores_of first n value_at) ≡ n
+  so_many : (goes_on : Bool) (first n : ℕ) (value_at : ℕ → Value) → count (meant_list goes_on first n value_at) ≡ n
   unfolding value_tree
-  so_many first zero value_at = refl
-  so_many first (suc n) value_at = let more = so_many (first + 1) n value_at in omega arith
+  so_many goes_on first zero value_at = count_of_rest goes_on
+  so_many goes_on first (suc n) value_at = let more = so_many goes_on (first + 1) n value_at in omega arith
 
-  each_element : (first n i : ℕ) (value_at : ℕ → Value) (path : Path) (question : Question) →
-      ElementRefuses (cores_of first n value_at) i path question ↔ ((i < n) × ValueRefuses ds meaning (value_at (first + i)) path question)
+  so_open : (goes_on : Bool) (n : ℕ) (value_at : ℕ → Value) → is_open (meant_list goes_on 0 n value_at) ≡ goes_on
+  so_open goes_on n value_at = open_followed (meant_elements ds meaning (element_trees (elements_from 0 n value_at))) (rest_of goes_on) ∙ open_rest goes_on
+
+  each_element : (goes_on : Bool) (first n i : ℕ) (value_at : ℕ → Value) (path : Path) (question : Question) →
+      ElementRefuses (meant_list goes_on first n value_at) i path question ↔ ((i < n) × ValueRefuses ds meaning (value_at (first + i)) path question)
   unfolding value_tree
-  each_element first zero i value_at path question = (λ h. absurd h, λ h. absurd (omega (arith, h.0)))
-  each_element first (suc n) zero value_at path question =
+  each_element goes_on first zero i value_at path question = (λ h. absurd (rest_refuses goes_on i path question h), λ h. absurd (omega (arith, h.0)))
+  each_element goes_on first (suc n) zero value_at path question =
       let here : first + 0 ≡ first = omega arith in (
         λ h. (omega arith, subst (λ k. ValueRefuses ds meaning (value_at k) path question) (sym here) h),
         λ h. subst (λ k. ValueRefuses ds meaning (value_at k) path question) here h.1,
       )
-  each_element first (suc n) (suc i) value_at path question =
-      let more = each_element (first + 1) n i value_at path question in
+  each_element goes_on first (suc n) (suc i) value_at path question =
+      let more = each_element goes_on (first + 1) n i value_at path question in
       let here : first + 1 + i ≡ first + suc i = omega arith in (
         λ h. let found = more.0 h in (omega (arith, found.0), subst (λ k. ValueRefuses ds meaning (value_at k) path question) here found.1),
         λ h. more.1 (omega (arith, h.0), subst (λ k. ValueRefuses ds meaning (value_at k) path question) (sym here) h.1),
@@ -85,13 +90,15 @@ module _ (ds : List Definition) (meaning : ℕ → Core) where
       OnePartRefuses ds meaning (printed.list (elements n value_at) goes_on parts) path question ↔ (OneList n goes_on value_at path question ⊎ OnePartRefuses ds meaning parts path question)
   unfolding value_tree
   first_list n goes_on value_at parts [] question =
-      let all = so_many 0 n value_at in (
-        λ h. ⊎_elim (λ g. inl (subst (λ k. ListRefuses k goes_on question) all g)) inr h,
-        λ h. ⊎_elim (λ g. inl (subst (λ k. ListRefuses k goes_on question) (sym all) g)) inr h,
+      let all = so_many goes_on 0 n value_at in
+      let opened = so_open goes_on n value_at in
+      let so = meant_list goes_on 0 n value_at in (
+        λ h. ⊎_elim (λ g. inl (subst (λ k. ListRefuses k goes_on question) all (subst (λ b. ListRefuses (count so) b question) opened g))) inr h,
+        λ h. ⊎_elim (λ g. inl (subst (λ b. ListRefuses (count so) b question) (sym opened) (subst (λ k. ListRefuses k goes_on question) (sym all) g))) inr h,
       )
   first_list n goes_on value_at parts (label l ∷ path) question = (λ h. h, λ h. h)
   first_list n goes_on value_at parts (index i ∷ path) question =
-      let each = each_element 0 n i value_at path question in
+      let each = each_element goes_on 0 n i value_at path question in
       let here : 0 + i ≡ i = omega arith in (
         λ h. ⊎_elim (λ g. let found = each.0 g in inl (found.0, subst (λ k. ValueRefuses ds meaning (value_at k) path question) here found.1)) inr h,
         λ h. ⊎_elim (λ g. inl (each.1 (g.0, subst (λ k. ValueRefuses ds meaning (value_at k) path question) (sym here) g.1))) inr h,

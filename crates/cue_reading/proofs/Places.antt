@@ -14,7 +14,7 @@ use Rattle.cue_syntax.specs.Words.{HasWords, HaveWords, HasWordsBranch, HaveWord
 use Rattle.cue_scope.specs.Core.{Core, is_scalar}
 use Rattle.cue_scope.specs.Core as meant_as
 use Rattle.cue_scope.specs.Definitions.{Definition, definitions}
-use Rattle.cue_scope.specs.Meaning.{text_of, nested, meant, meant_elements, meant_branches, meant_members, meant_fields}
+use Rattle.cue_scope.specs.Meaning.{text_of, nested, rest_of, meant, meant_elements, meant_branches, meant_members, meant_fields}
 use Rattle.cue_scope.specs.Named.{named_of, is_literal}
 use Rattle.cue_scope.specs.Names.{Scope, is_unquoted, has_label, inside, behind, fault_of, fault_of_close, faults, faults_of_elements, faults_of_branches, faults_of_entries}
 use Rattle.cue_scope.specs.Terms.{terms, terms_of_elements, terms_of_branches, terms_of_entries}
@@ -187,7 +187,7 @@ mutual
   meant_placed (parenthesis e comma) ds m = meant_placed e ds m
   meant_placed (struct es comma) ds m = ap meant_as.struct (members_placed es ds m)
   meant_placed (close from es inner comma) ds m = ap meant_as.close (members_placed es ds m)
-  meant_placed (list es goes_on comma) ds m = ap (λ cs. meant_as.list cs goes_on) (cores_placed es ds m)
+  meant_placed (list es goes_on comma) ds m = ap (λ cs. meant_as.list (meant_as.followed_by cs (rest_of goes_on))) (cores_placed es ds m)
   meant_placed (conjunction es) ds m = ap meant_as.conjunction (cores_placed es ds m)
   meant_placed (disjunction bs) ds m = ap meant_as.disjunction (choices_placed bs ds m)
 

@@ -7,6 +7,7 @@ pub mod Scoping
 pub mod Walking
 pub mod LabelSets
 pub mod TextWalks
+pub mod Followed
 pub mod Measuring
 pub mod Meanings
 pub mod Ordered

@@ -15,11 +15,12 @@ use Rattle.cue_scope.specs.Core.{Core, bottom, closed}
 use Rattle.cue_scope.specs.Graph.{IsIn, IsOrder}
 use Rattle.cue_scope.specs.Definitions.{Definition}
 use Rattle.cue_scope.specs.Kept.{all_of}
-use Rattle.cue_scope.specs.Limits.{size, depth, one_if}
-use Rattle.cue_scope.specs.Meaning.{nested, meaning, meant, meant_use}
+use Rattle.cue_scope.specs.Limits.{size, depth}
+use Rattle.cue_scope.specs.Meaning.{nested, meaning, meant, meant_use, meant_elements, rest_of}
 use Rattle.cue_scope.specs.Terms.{terms}
 use Rattle.cue_scope.specs.Uses.{graph, uses, uses_of_elements, uses_of_branches, uses_of_entries}
 use Rattle.cue_scope.specs.Measures.{Total, IsMeasured, IsUse, IsKnown, none, join, larger, as_literal, as_field, as_element, as_term, behind_labels, only_places, total_of, total, total_of_parts, total_of_elements, total_of_terms, total_of_entries, total_of_file}
+use Rattle.cue_scope.proofs.Followed.{one_if, size_followed, depth_followed, size_of_rest, depth_of_rest}
 use Rattle.cue_scope.proofs.Meanings.{meaning_is}
 use Rattle.std.specs.Prelude.{slice_get}
 use Rattle.cue_scope.proofs.Nodes.{in_append_left, in_append_right}
@@ -177,7 +178,13 @@ use_listed o number is = subst (λ z. IsIn number (option_to_list z)) is (inl re
 -- a list, with 1 of its own and 1 for its `...`
 pub list_measured : (ds : List Definition) (es : Elements) (goes_on comma : Bool) (m : Measure) (own : ℕ) → own ≡ 1 + one_if goes_on → IsMeasured m (as_literal own (total_of_elements ds es)) → IsMeasured m (total ds (list es goes_on comma))
 list_measured ds es goes_on comma m own is h =
-    subst (λ z. IsMeasured m z) (same_total (as_literal own (total_of_elements ds es)) (total ds (list es goes_on comma)) refl (omega arith) refl refl) h
+    let cs = meant_elements ds (meaning ds) es in
+    let larger = size_followed cs (rest_of goes_on) in
+    let deeper = depth_followed cs (rest_of goes_on) in
+    let more = size_of_rest goes_on in
+    let flat = depth_of_rest goes_on in
+    subst (λ z. IsMeasured m z)
+    (same_total (as_literal own (total_of_elements ds es)) (total ds (list es goes_on comma)) refl (omega (arith, larger, more, is)) (omega (arith, deeper, flat)) refl) h
 
 abbrev pub MeasuringFile : Known → Measure → List Declaration → List Declaration → Type 0
 MeasuringFile known m es left = let ds = all_of known.definitions.now in Measuring known m (total_of_file ds (entries es)) (total_of_file ds (entries left)) (uses_of_entries ds (entries left))

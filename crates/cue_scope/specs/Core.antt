@@ -23,14 +23,19 @@ mutual
     disjunction : Choices → Core
     struct : Members → Core
     close : Members → Core
-    -- a list literal, and whether it ends in `...`
-    list : Cores → Bool → Core
+    list : Elements → Core
     -- a use of a definition: what its body means, closed
     closed : Core → Core
 
   pub data Cores : Type 0 where
     no_cores : Cores
     core : Core → Cores → Cores
+
+  -- the elements of a list literal, which ends with them, or goes on where it has a `...`
+  pub data Elements : Type 0 where
+    ends : Elements
+    goes_on : Elements
+    element : Core → Elements → Elements
 
   -- the terms of a disjunction, each with whether it is marked
   pub data Choices : Type 0 where
@@ -43,13 +48,18 @@ mutual
     member : List ℕ → Mark → Core → Members → Members
     dots : Members → Members
 
+-- these elements, and behind them what follows
+abbrev pub followed_by : Cores → Elements → Elements
+followed_by no_cores rest = rest
+followed_by (core c cs) rest = element c (followed_by cs rest)
+
 -- it is made of scalars and sets of scalars alone
 abbrev mutual
   pub is_scalar : Core → Bool
   is_scalar top = false
   is_scalar (struct ms) = false
   is_scalar (close ms) = false
-  is_scalar (list cs goes_on) = false
+  is_scalar (list es) = false
   is_scalar (conjunction cs) = are_scalar cs
   is_scalar (disjunction cs) = are_scalar_choices cs
   is_scalar (closed c) = is_scalar c

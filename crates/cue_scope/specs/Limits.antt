@@ -1,13 +1,8 @@
 -- How large a tree is, and how long its paths are.
-use Rattle.std.specs.Prelude.{ℕ, ◌+◌, max, Bool, true, false}
+use Rattle.std.specs.Prelude.{ℕ, ◌+◌, max}
 use Rattle.cue_scope.specs.Core.{Core, conjunction, disjunction, struct, close, list, closed, Cores}
-use Rattle.cue_scope.specs.Core.{no_cores, core, Choices, no_choices, choice, Members, no_members}
-use Rattle.cue_scope.specs.Core.{member, dots}
-
--- a list has one more for its `...`
-abbrev pub one_if : Bool → ℕ
-one_if true = 1
-one_if false = 0
+use Rattle.cue_scope.specs.Core.{no_cores, core, Elements, ends, goes_on, element, Choices}
+use Rattle.cue_scope.specs.Core.{no_choices, choice, Members, no_members, member, dots}
 
 -- 1 for each literal, name, operator chain, struct, list, `close`, label, `...` and use of a
 -- definition
@@ -17,13 +12,18 @@ abbrev mutual
   size (disjunction cs) = 1 + size_of_choices cs
   size (struct ms) = 1 + size_of_members ms
   size (close ms) = 2 + size_of_members ms
-  size (list cs goes_on) = 1 + size_of_cores cs + one_if goes_on
+  size (list es) = 1 + size_of_elements es
   size (closed c) = 1 + size c
   size _ = 1
 
   pub size_of_cores : Cores → ℕ
   size_of_cores no_cores = 0
   size_of_cores (core c cs) = size c + size_of_cores cs
+
+  pub size_of_elements : Elements → ℕ
+  size_of_elements ends = 0
+  size_of_elements goes_on = 1
+  size_of_elements (element c es) = size c + size_of_elements es
 
   pub size_of_choices : Choices → ℕ
   size_of_choices no_choices = 0
@@ -41,7 +41,7 @@ abbrev mutual
   depth (disjunction cs) = depth_of_choices cs
   depth (struct ms) = depth_of_members ms
   depth (close ms) = depth_of_members ms
-  depth (list cs goes_on) = depth_of_elements cs
+  depth (list es) = depth_of_elements es
   depth (closed c) = depth c
   depth _ = 0
 
@@ -53,9 +53,10 @@ abbrev mutual
   depth_of_choices no_choices = 0
   depth_of_choices (choice marked c cs) = max (depth c) (depth_of_choices cs)
 
-  pub depth_of_elements : Cores → ℕ
-  depth_of_elements no_cores = 0
-  depth_of_elements (core c cs) = max (1 + depth c) (depth_of_elements cs)
+  pub depth_of_elements : Elements → ℕ
+  depth_of_elements ends = 0
+  depth_of_elements goes_on = 0
+  depth_of_elements (element c es) = max (1 + depth c) (depth_of_elements es)
 
   pub depth_of_members : Members → ℕ
   depth_of_members no_members = 0

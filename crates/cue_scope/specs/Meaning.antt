@@ -1,6 +1,6 @@
 -- What expressions and texts mean.
-use Rattle.std.specs.Prelude.{ℕ, suc, zero, true, false, cond, List, [], ◌∷◌, length, Option, None}
-use Rattle.std.specs.Prelude.{Some, codes, slice_get}
+use Rattle.std.specs.Prelude.{ℕ, suc, zero, Bool, true, false, cond, List, [], ◌∷◌, length, Option}
+use Rattle.std.specs.Prelude.{None, Some, codes, slice_get}
 use Rattle.std.specs.Option.{option_map_or}
 use Rattle.std.specs.Str.{bytes_eq}
 use Rattle.cue_syntax.specs.declared.tree.Identifier.{Identifier}
@@ -12,10 +12,11 @@ use Rattle.cue_syntax.specs.Syntax as tree
 use Rattle.cue_syntax.specs.Syntax.{Expression, Elements, no_elements, element, branch, Branches}
 use Rattle.cue_syntax.specs.Syntax.{no_branches, next_branch, ellipsis, field, definition, Entries}
 use Rattle.cue_syntax.specs.Syntax.{no_entries, entry}
+use Rattle.cue_scope.specs.Core as cores
 use Rattle.cue_scope.specs.Core.{Core, null, truth, integer, text, named, top, bottom, bound}
 use Rattle.cue_scope.specs.Core.{other_integer, other_text, conjunction, disjunction, struct, close}
-use Rattle.cue_scope.specs.Core.{list, closed, Cores, no_cores, core, Choices, no_choices, choice}
-use Rattle.cue_scope.specs.Core.{Members, no_members, member, dots}
+use Rattle.cue_scope.specs.Core.{list, closed, Cores, no_cores, core, ends, goes_on, followed_by}
+use Rattle.cue_scope.specs.Core.{Choices, no_choices, choice, Members, no_members, member, dots}
 use Rattle.cue_scope.specs.Named.{named_of}
 use Rattle.cue_scope.specs.Definitions.{Definition, definitions, number_of}
 
@@ -42,6 +43,11 @@ meant_name ds meaning (identifiers.Plain t) = meant_word t
 meant_name ds meaning (identifiers.Definition t) = option_map_or meaning (number_of t ds) bottom
 meant_name ds meaning (identifiers.Hidden t) = cond (bytes_eq t (codes "_")) top bottom
 
+-- what stands behind the last element of a list: nothing, or a `...`
+abbrev pub rest_of : Bool → cores.Elements
+rest_of true = goes_on
+rest_of false = ends
+
 abbrev mutual
   pub meant : List Definition → (ℕ → Core) → Expression → Core
   meant ds meaning (tree.name n place) = meant_name ds meaning n
@@ -54,7 +60,8 @@ abbrev mutual
   meant ds meaning (tree.parenthesis e comma) = meant ds meaning e
   meant ds meaning (tree.struct es comma) = struct (meant_members ds meaning es)
   meant ds meaning (tree.close place es inner comma) = close (meant_members ds meaning es)
-  meant ds meaning (tree.list es goes_on comma) = list (meant_elements ds meaning es) goes_on
+  meant ds meaning (tree.list es more comma) =
+      list (followed_by (meant_elements ds meaning es) (rest_of more))
   meant ds meaning (tree.conjunction es) = conjunction (meant_elements ds meaning es)
   meant ds meaning (tree.disjunction bs) = disjunction (meant_branches ds meaning bs)
 

@@ -7,7 +7,8 @@ use Rattle.cue_lattice.specs.Limits.{size_limit, step_limit}
 use Rattle.cue_syntax.specs.Syntax.{Expression, Elements, Branches, Entries}
 use Rattle.cue_scope.specs.declared.measure.Measure.{Measure}
 use Rattle.cue_scope.specs.declared.measure.Known.{Known}
-use Rattle.cue_scope.specs.Core.{Core, is_scalar, are_scalar, are_scalar_choices}
+use Rattle.cue_scope.specs.Core.{Core, ends, followed_by, is_scalar, are_scalar}
+use Rattle.cue_scope.specs.Core.{are_scalar_choices}
 use Rattle.cue_scope.specs.Definitions.{Definition}
 use Rattle.cue_scope.specs.First.{IsFirst}
 use Rattle.cue_scope.specs.Graph.{IsIn}
@@ -119,7 +120,7 @@ abbrev pub total_of_elements : List Definition → Elements → Total
 total_of_elements ds es = record {
   scalar = true;
   size = limits.size_of_cores (meant_elements ds (meaning ds) es);
-  depth = limits.depth_of_elements (meant_elements ds (meaning ds) es);
+  depth = limits.depth_of_elements (followed_by (meant_elements ds (meaning ds) es) ends);
   places = terms_of_elements ds (meaning ds) es;
 }
 

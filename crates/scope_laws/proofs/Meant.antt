@@ -10,10 +10,10 @@ use Rattle.cue_syntax.specs.declared.tree.Identifier.TheVariants as identifiers
 use Rattle.cue_syntax.specs.Syntax as tree
 use Rattle.cue_syntax.specs.Syntax.{Expression, Elements, no_elements, element, branch, Branches, no_branches, next_branch, ellipsis, field, definition, Entries, no_entries, entry}
 use Rattle.cue_syntax.specs.Unplaced.{unplaced, unplaced_elements, unplaced_branches, unplaced_entries}
-use Rattle.cue_scope.specs.Core.{Core, bottom, closed, conjunction, disjunction, struct, close, list, core, choice, member, dots, is_scalar}
+use Rattle.cue_scope.specs.Core.{Core, bottom, closed, conjunction, disjunction, struct, close, list, core, followed_by, choice, member, dots, is_scalar}
 use Rattle.cue_scope.specs.Definitions.{Definition, definitions, number_of}
 use Rattle.cue_scope.specs.Limits.{size, depth}
-use Rattle.cue_scope.specs.Meaning.{meant, meant_elements, meant_branches, meant_members, meant_name, meant_use, meaning_within, meaning, meant_fields, meant_text, nested, text_of}
+use Rattle.cue_scope.specs.Meaning.{meant, meant_elements, meant_branches, meant_members, meant_name, meant_use, meaning_within, meaning, meant_fields, meant_text, nested, rest_of, text_of}
 use Rattle.cue_scope.specs.Terms.{terms, terms_of_elements, terms_of_branches, terms_of_entries, bad_terms}
 use Rattle.scope_laws.specs.Places.{KeepsMeaning}
 use Rattle.scope_laws.proofs.Bare.{bare, bare_definitions, SameNumbers, bare_numbers, bare_length, zeros}
@@ -43,7 +43,7 @@ mutual
   meant_same cs ds f g same uses (tree.parenthesis e comma) = meant_same cs ds f g same uses e
   meant_same cs ds f g same uses (tree.struct es comma) = ap struct (members_same cs ds f g same uses es)
   meant_same cs ds f g same uses (tree.close place es inner comma) = ap close (members_same cs ds f g same uses es)
-  meant_same cs ds f g same uses (tree.list es goes_on comma) = ap (λ z. list z goes_on) (elements_same cs ds f g same uses es)
+  meant_same cs ds f g same uses (tree.list es goes_on comma) = ap (λ z. list (followed_by z (rest_of goes_on))) (elements_same cs ds f g same uses es)
   meant_same cs ds f g same uses (tree.conjunction es) = ap conjunction (elements_same cs ds f g same uses es)
   meant_same cs ds f g same uses (tree.disjunction bs) = ap disjunction (branches_same cs ds f g same uses bs)
 

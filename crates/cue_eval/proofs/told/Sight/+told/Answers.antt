@@ -1,6 +1,7 @@
 use denote.Param.Weighed.{most, at_most}
 use Rattle.cue_syntax.specs.declared.tree.Expr.{size-Expr}
 use Rattle.cue_syntax.specs.declared.tree.Declaration.{size-Declaration}
+use Rattle.cue_syntax.specs.declared.tree.Declaration.TheViews.{sized-List}
 use Rattle.std.proofs.Common.{◌<◌, ◌≤◌, length, sym, ap, subst, ◌∙◌, arith, IfOk, Bool, refl}
 use Rattle.cue_row.specs.Steps.{step_of}
 use Rattle.std.proofs.lemmas.Result.{IfOk-weaker}
@@ -8,14 +9,14 @@ use Rattle.cue_lattice.specs.Limits.{step_limit}
 use Rattle.cue_syntax.specs.Syntax as tree
 use Rattle.cue_syntax.specs.Syntax.{entry_tree}
 use Rattle.cue_syntax.proofs.Views.{view-Close, view-List, view-Disjunction, view-Integer, view-Text, view-Bottom, view-Bound, view-OtherInteger, view-OtherText, view-Ellipsis, view-Field, view-Definition}
-use Rattle.cue_scope.specs.Core.{struct, list}
+use Rattle.cue_scope.specs.Core.{struct, list, followed_by}
 use Rattle.cue_scope.specs.Kept.{all_of}
-use Rattle.cue_scope.specs.Meaning.{meaning, nested}
+use Rattle.cue_scope.specs.Meaning.{meaning, nested, rest_of}
 use Rattle.cue_table.specs.Depth.{tree_depth}
-use Rattle.cue_eval.specs.Told.{IsTold, IsRooted, IsToldBelow, means, mean_members, mean_elements}
+use Rattle.cue_eval.specs.Told.{IsTold, IsKnown, AreElementsKnown, IsRooted, IsToldBelow, means, mean_members, mean_elements}
 use Rattle.cue_eval.proofs.TellingNames.{nothing_told}
 use Rattle.cue_eval.proofs.TellingFields.{used_told, own_told, close_told}
-use Rattle.cue_eval.proofs.TellingParts.{if_both, part_next, part_known, part_more, parts_all, element_next, element_known, element_more, elements_all}
+use Rattle.cue_eval.proofs.TellingParts.{if_both, part_next, part_known, part_more, parts_all, element_next, element_known, element_more, elements_all, list_known}
 use Rattle.cue_eval.proofs.TellingEntries.{entry_next, ellipsis_more, definition_more, field_known, field_flat, field_more, fields_all, field_size}
 use Rattle.cue_eval.proofs.told.Sight.+told.Goals as goal
 use Rattle.cue_eval.proofs.told.Sight.+told.Goals.{fields-in-Ellipsis, fields-in-Field+in_ok-value-in-Field+in_ok-below-in-Field+in_ok-step_to-in-Field+in_ok-push-in-Field, fields-in-Definition}
@@ -127,6 +128,17 @@ literal-returns-in_ok-declared-in-Own t c =
     (own_told ms table all row (subst (λ w. IsToldBelow w ms table) c.in-Own.is c.in_ok-table.ensures) (λ asked. c.in_ok-declared-in-Own.ensures ds (meaning ds) asked) rooted))
     c.at_root-in-Own.ensures
 
+pub expression-elements-requires : goal.expression-elements-requires
+expression-elements-requires t c = (
+  let is = ap size-Expr c.in-List.is in
+      let own = sized-List c.in-List.elements c.in-List.ellipsis c.in-List.comma in
+      let same = ap (λ xs. most (λ e. size-Expr e) xs) c.deref-in-List.ensures.value in
+      omega (arith, c.decreases, is, own, same),
+  subst (λ xs. AreElementsKnown c.args.self.now (tree.elements xs)) (sym c.deref-in-List.ensures.value)
+      (list_known c.args.self.now (tree.elements c.in-List.elements.items) c.in-List.ellipsis c.in-List.comma
+      (subst (λ e. IsKnown c.args.self.now e) (ap tree.expression c.in-List.is ∙ view-List c.in-List.elements c.in-List.ellipsis c.in-List.comma) c.requires)),
+)
+
 pub expression-returns-in-Close : goal.expression-returns-in-Close
 expression-returns-in-Close t c =
     let ms = mean_members c.args.self.now (tree.entries c.in-Close.declarations.items) in
@@ -141,7 +153,7 @@ expression-returns-in-List t c =
     let told = rw c.deref-in-List.ensures.value at c.elements.ensures in
     subst (λ z. IfOk c.elements.result (IsTold c.args.whose (means c.args.self.now z)))
     (sym (ap tree.expression c.in-List.is ∙ view-List c.in-List.elements c.in-List.ellipsis c.in-List.comma))
-    (IfOk-weaker c.elements.result (λ table. (goes_on : Bool) → IsTold c.args.whose (list es goes_on) table) _ (λ table h. h c.in-List.ellipsis) told)
+    (IfOk-weaker c.elements.result (λ table. (goes_on : Bool) → IsTold c.args.whose (list (followed_by es (rest_of goes_on))) table) _ (λ table h. h c.in-List.ellipsis) told)
 
 pub expression-returns-in-Disjunction : goal.expression-returns-in-Disjunction
 expression-returns-in-Disjunction t c =

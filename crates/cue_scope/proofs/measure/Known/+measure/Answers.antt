@@ -3,9 +3,9 @@ use Rattle.cue_syntax.specs.Syntax as tree
 use Rattle.cue_syntax.proofs.Views.{view-Name, view-Parenthesis, view-Struct, view-Close, view-List, view-Conjunction, view-Disjunction}
 use Rattle.cue_scope.specs.Kept.{all_of}
 use Rattle.cue_scope.specs.Measures as totals
-use Rattle.cue_scope.specs.Limits.{one_if}
 use Rattle.cue_scope.specs.Uses.{uses}
 use Rattle.cue_scope.specs.Measures.{IsMeasured, IsKnown}
+use Rattle.cue_scope.proofs.Followed.{one_if}
 use Rattle.cue_scope.proofs.Measuring.{known_first, measuring_more, part_at_hand, element_at_hand, term_at_hand, ellipsis_at_hand, field_at_hand, definition_at_hand, list_measured}
 use Rattle.cue_scope.proofs.measure.Known.+measure.Goals as goal
 use Rattle.cue_scope.proofs.measure.Known.+measure.Goals.{declarations-in-Ellipsis, declarations-in-Field, declarations-in-Definition, expression-then-ellipsis, expression-else-ellipsis}
