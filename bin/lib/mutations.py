@@ -207,5 +207,5 @@ def mutated_stream(data, other, seeds_of, chance):
         at = chance.randrange(len(bodies) + 1)
         size = chance.choice((*HUGE, 16777215, 16777216, 16777217)) % 2**32
         return b"".join(map(framed, bodies[:at])) + size.to_bytes(4, "big") + b"".join(map(framed, bodies[at:]))
-    # A reply may have megabytes where a request has a byte.
-    return b"".join(map(framed, parts_mixed(bodies, chance, 20))) + rest
+    # A reply may have megabytes where a request has a byte: this many are some hundreds of them.
+    return b"".join(map(framed, parts_mixed(bodies, chance, 100))) + rest

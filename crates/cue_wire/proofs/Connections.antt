@@ -1,17 +1,19 @@
 -- What a connection has served so far, and how it goes on.
-use Rattle.std.proofs.Common.{◌≡◌, ℕ, ◌-◌, List, ◌++◌, length, take, drop, ap, sym, ◌∙◌, arith, append_assoc, length-drop, take-append-drop, subst, inl, inr, ⊎_elim, Option, Result, Ok, Err, [], ◌∷◌, ◌<◌, append-nil, flat_map, refl, Bool, IsTrue, ◌↔◌, IsErrAnd}
-use Rattle.std.proofs.lemmas.List.{take_all}
+use Rattle.std.proofs.Common.{◌≡◌, ℕ, ◌-◌, List, ◌++◌, length, take, drop, ap, sym, ◌∙◌, arith, append_assoc, length-drop, take-append-drop, subst, inl, inr, ⊎_elim, Option, Result, Ok, Err, [], ◌∷◌, ◌<◌, ◌⊎◌, false, is_err, OnOk, IfErr, length-append, append-nil, flat_map, refl, Bool, IsTrue, ◌↔◌, IsErrAnd}
+use Rattle.std.proofs.lemmas.List.{take_all, take-append-le}
 use Rattle.std.proofs.lemmas.Grind.{flat_map-append}
 use Rattle.std.proofs.lemmas.List.Elements.{All-append, All-nil}
 use Rattle.std.proofs.KnownBytes.{Appends-nil, Appends-trans, Appends-kept, Consumes-nil, Consumes-trans, Consumes-kept}
 use Rattle.std.specs.Io.KnownBytes.{Appends, Consumes, Keeps}
 use Rattle.cue_lattice.specs.declared.refusal.Kind.{Kind}
+use Rattle.cue_lattice.specs.declared.refusal.Kind.TheVariants as kinds
+use Rattle.std.specs.Int.{w32, from_be_bytes}
 use Rattle.cue_wire.specs.declared.connection.Ended.{Ended}
 use Rattle.cue_replica.specs.Language.{Table}
 use Rattle.cue_wire.specs.Serving.{ServesAll}
 use Rattle.cue_wire.specs.Sessions.{Standing, reading, ended, Served, standing_after}
-use Rattle.cue_wire.specs.Connections.{IsWriteFault, IsFault, IsStop, Replied, RepliesAt, Passage, PassesBy, EndsAt}
-use Rattle.cue_wire.specs.Frames.{framed, IsBody, IsUnfinished, StopsAt}
+use Rattle.cue_wire.specs.Connections.{IsWriteFault, IsFault, IsStop, Replied, RepliesAt, IsPartServed, GoesOn, Passage, PassesBy, EndsAt}
+use Rattle.cue_wire.specs.Frames.{framed, frame_limit, named_length, IsBody, IsUnfinished, NamesTooMany, StopsAt}
 
 -- the front of what was left is written too
 pub written_more : (bytes front rest : List ℕ) (n : ℕ) (a b c : Option (List ℕ)) → bytes ≡ front ++ rest → Appends a b front → Appends b c (take n rest)
@@ -22,43 +24,6 @@ written_more bytes front rest n a b c is before more =
       is ∙ ap (λ zs. front ++ zs) (sym (take-append-drop n rest)) ∙ sym (append_assoc front (take n rest) (drop n rest)) ∙ ap (λ zs. (front ++ take n rest) ++ zs) (sym all),
       Appends-trans a b c front (take n rest) before more,
     )
-
--- serving one piece stops where its replies cannot be written
-pub cut_short : (fed : Result (Unit {0}) Kind) (kind : Kind) (stream : List ℕ) (session : Standing) (before after : Table) (old new : List ℕ)
-    (taken taken' : Option (List ℕ)) (left failed failed' : ℕ) → old ≡ []
-    → (rest : List ℕ) × StopsAt fed rest × (session ≡ standing_after fed rest) × Served stream rest before after old new
-    → (front back : List ℕ) × (new ≡ front ++ back) × Appends taken taken' front
-    → IsWriteFault kind left failed failed'
-    → Replied (Err kind) stream session before after taken taken' left failed failed'
-cut_short fed kind stream session before after old new taken taken' left failed failed' nil s w why = record {
-  rest = s.0;
-  written = w.0;
-  unwritten = w.1;
-  served = subst (Served stream s.0 before after []) w.2 (subst (λ zs. Served stream s.0 before after zs new) nil s.3);
-  wrote = w.3;
-  ends = inr (inr why);
-}
-
-ends_so : (fed : Result (Unit {0}) Kind) (rest back : List ℕ) (session : Standing) (left failed failed' : ℕ)
-    → StopsAt fed rest → session ≡ standing_after fed rest → back ≡ [] → RepliesAt fed rest back session left failed failed'
-ends_so (Ok u) rest back session left failed failed' stops keeps nil = (keeps, stops, nil)
-ends_so (Err kind) rest back session left failed failed' stops keeps nil =
-    ⊎_elim (λ memory. inr (inl (memory, nil))) (λ long. inl (long.0, long.1, nil)) stops
-
--- all replies to one piece are written
-pub all_written : (fed : Result (Unit {0}) Kind) (stream : List ℕ) (session : Standing) (before after : Table) (old new : List ℕ)
-    (taken taken' : Option (List ℕ)) (left failed failed' : ℕ) → old ≡ []
-    → (rest : List ℕ) × StopsAt fed rest × (session ≡ standing_after fed rest) × Served stream rest before after old new
-    → (front back : List ℕ) × (new ≡ front ++ back) × Appends taken taken' front × (back ≡ [])
-    → Replied fed stream session before after taken taken' left failed failed'
-all_written fed stream session before after old new taken taken' left failed failed' nil s w = record {
-  rest = s.0;
-  written = w.0;
-  unwritten = w.1;
-  served = subst (Served stream s.0 before after []) w.2 (subst (λ zs. Served stream s.0 before after zs new) nil s.3);
-  wrote = w.3;
-  ends = ends_so fed s.0 w.1 session left failed failed' s.1 s.2 w.4;
-}
 
 -- frames that are served behind others
 serves_all : (bodies more : List (List ℕ)) (before between after : Table) (replies others : List ℕ)
@@ -91,6 +56,190 @@ served_on read kept piece rest before between after written more one two = recor
   tables = serves_all one.bodies two.bodies before between after one.replies two.replies one.tables two.tables;
   added = ap (λ zs. zs ++ more) one.added ∙ ap (λ zs. one.replies ++ zs) two.added;
 }
+
+-- ---- a piece in parts
+
+-- before the first part
+pub nothing_served : (kept : List ℕ) (session : Standing) (table : Table) (taken : Option (List ℕ)) → session ≡ reading kept → IsUnfinished kept
+    → IsPartServed kept session table table [] taken taken
+unfolding ServesAll
+nothing_served kept session table taken is unfinished = record {
+  rest = kept;
+  written = [];
+  keeps = is;
+  unfinished = unfinished;
+  served = record { bodies = []; replies = []; frames = record { whole = refl; short = All-nil IsBody }; tables = (refl, refl); added = refl };
+  wrote = Appends-nil taken;
+}
+
+-- what the session serves with the next part, behind what was served
+fed_on : (stream part rest : List ℕ) (session : Standing) (before now after : Table) (pending out : List ℕ) (taken taken' : Option (List ℕ))
+    → (p : IsPartServed stream session before now pending taken taken') → Served (p.rest ++ part) rest now after pending out
+    → Served (stream ++ part) rest before after [] (p.written ++ out)
+fed_on stream part rest session before now after pending out taken taken' p s =
+    subst (Served (stream ++ part) rest before after []) (append_assoc p.written pending s.replies ∙ ap (λ zs. p.written ++ zs) (sym s.added))
+    (served_on stream p.rest part rest before now after (p.written ++ pending) s.replies p.served
+    (record { bodies = s.bodies; replies = s.replies; frames = s.frames; tables = s.tables; added = refl }))
+
+-- what the session makes of a part
+abbrev pub IsFed : Result (Unit {0}) Kind → List ℕ → Standing → Table → Table → List ℕ → List ℕ → Type 0
+IsFed fed stream session before after old new =
+    (rest : List ℕ) × StopsAt fed rest × (session ≡ standing_after fed rest) × Served stream rest before after old new
+
+-- the replies wait
+held_back : (fed : Result (Unit {0}) Kind) (u : Unit {0}) (stream part : List ℕ) (session session' : Standing) (before now after : Table) (pending out : List ℕ)
+    (taken taken' : Option (List ℕ)) → fed ≡ Ok u
+    → (p : IsPartServed stream session before now pending taken taken') → IsFed fed (p.rest ++ part) session' now after pending out
+    → IsPartServed (stream ++ part) session' before after out taken taken'
+held_back fed u stream part session session' before now after pending out taken taken' ok p f = record {
+  rest = f.0;
+  written = p.written;
+  keeps = subst (λ e. session' ≡ standing_after e f.0) ok f.2;
+  unfinished = subst (λ e. StopsAt e f.0) ok f.1;
+  served = fed_on stream part f.0 session before now after pending out taken taken' p f.3;
+  wrote = p.wrote;
+}
+
+-- where the session goes on, serving does
+pub goes_on : (fed : Result (Unit {0}) Kind) (stream part : List ℕ) (session session' : Standing) (before now after : Table) (pending out : List ℕ)
+    (taken taken' : Option (List ℕ)) (left failed failed' : ℕ) → is_err fed ≡ false
+    → (p : IsPartServed stream session before now pending taken taken') → IsFed fed (p.rest ++ part) session' now after pending out
+    → GoesOn fed (stream ++ part) session' before after out taken taken' left failed failed'
+goes_on (Ok u) stream part session session' before now after pending out taken taken' left failed failed' went p f =
+    held_back (Ok u) u stream part session session' before now after pending out taken taken' refl p f
+goes_on (Err kind) stream part session session' before now after pending out taken taken' left failed failed' went p f = cc
+
+-- a front of the replies is written, and the rest of them is not
+put_out : (stream rest : List ℕ) (before after : Table) (written out front back : List ℕ) → out ≡ front ++ back
+    → Served stream rest before after [] (written ++ out) → Served stream rest before after [] ((written ++ front) ++ back)
+put_out stream rest before after written out front back is s =
+    subst (Served stream rest before after []) (ap (λ zs. written ++ zs) is ∙ sym (append_assoc written front back)) s
+
+-- what was written of some replies, and what was not
+abbrev pub IsWritten : List ℕ → Option (List ℕ) → Option (List ℕ) → Type 0
+IsWritten out taken taken' = (front back : List ℕ) × (out ≡ front ++ back) × Appends taken taken' front
+
+abbrev pub IsWrittenOut : List ℕ → Option (List ℕ) → Option (List ℕ) → Type 0
+IsWrittenOut out taken taken' = (front back : List ℕ) × (out ≡ front ++ back) × Appends taken taken' front × (back ≡ [])
+
+-- writing them stops
+pub cut_short : (fed : Result (Unit {0}) Kind) (kind : Kind) (stream part : List ℕ) (session session' : Standing) (before now after : Table) (pending out : List ℕ)
+    (taken taken' taken'' : Option (List ℕ)) (left failed failed' : ℕ)
+    → (p : IsPartServed stream session before now pending taken taken') → IsFed fed (p.rest ++ part) session' now after pending out
+    → IsWritten out taken' taken'' → IsWriteFault kind left failed failed'
+    → Replied (Err kind) (stream ++ part) session' before after taken taken'' left failed failed'
+cut_short fed kind stream part session session' before now after pending out taken taken' taken'' left failed failed' p f w why = record {
+  rest = f.0;
+  written = p.written ++ w.0;
+  unwritten = w.1;
+  served = put_out (stream ++ part) f.0 before after p.written out w.0 w.1 w.2 (fed_on stream part f.0 session before now after pending out taken taken' p f.3);
+  wrote = Appends-trans taken taken' taken'' p.written w.0 p.wrote w.3;
+  ends = inr (inr why);
+}
+
+fault_of : (kind : Kind) (rest back : List ℕ) (Stops : Type 0) → (kind ≡ kinds.Memory) ⊎ ((kind ≡ kinds.FrameTooLong) × NamesTooMany rest) → back ≡ [] → IsStop kind rest back Stops
+fault_of kind rest back Stops stops nil = ⊎_elim (λ memory. inr (inl (memory, nil))) (λ long. inl (long.0, long.1, nil)) stops
+
+-- all replies are written, and serving goes on or stops as the session does
+pub written_off : (fed : Result (Unit {0}) Kind) (stream part : List ℕ) (session session' : Standing) (before now after : Table) (pending out none : List ℕ)
+    (taken taken' taken'' : Option (List ℕ)) (left failed failed' : ℕ) → none ≡ []
+    → (p : IsPartServed stream session before now pending taken taken') → IsFed fed (p.rest ++ part) session' now after pending out
+    → IsWrittenOut out taken' taken''
+    → GoesOn fed (stream ++ part) session' before after none taken taken'' left failed failed'
+written_off (Ok u) stream part session session' before now after pending out none taken taken' taken'' left failed failed' nil p f w = record {
+  rest = f.0;
+  written = p.written ++ w.0;
+  keeps = f.2;
+  unfinished = f.1;
+  served = subst (λ zs. Served (stream ++ part) f.0 before after [] ((p.written ++ w.0) ++ zs)) (w.4 ∙ sym nil)
+      (put_out (stream ++ part) f.0 before after p.written out w.0 w.1 w.2 (fed_on stream part f.0 session before now after pending out taken taken' p f.3));
+  wrote = Appends-trans taken taken' taken'' p.written w.0 p.wrote w.3;
+}
+written_off (Err kind) stream part session session' before now after pending out none taken taken' taken'' left failed failed' nil p f w = record {
+  rest = f.0;
+  written = p.written ++ w.0;
+  unwritten = w.1;
+  served = put_out (stream ++ part) f.0 before after p.written out w.0 w.1 w.2 (fed_on stream part f.0 session before now after pending out taken taken' p f.3);
+  wrote = Appends-trans taken taken' taken'' p.written w.0 p.wrote w.3;
+  ends = fault_of kind f.0 w.1 (IsWriteFault kind left failed failed') f.1 w.4;
+}
+
+-- a length that no frame has stays one
+names_too_many : (rest more : List ℕ) → NamesTooMany rest → NamesTooMany (rest ++ more)
+unfolding named_length
+names_too_many rest more many = (
+  omega (arith, many.0, length-append rest more),
+  subst (λ zs. frame_limit < from_be_bytes w32 zs) (sym (take-append-le 4 rest more many.0)) many.1,
+)
+
+stop_behind : (kind : Kind) (rest more unwritten : List ℕ) (Stops : Type 0) → IsStop kind rest unwritten Stops → IsStop kind (rest ++ more) unwritten Stops
+stop_behind kind rest more unwritten Stops stop = ⊎_elim (λ long. inl (long.0, names_too_many rest more long.1, long.2)) inr stop
+
+-- serving stops before what comes behind
+pub stops_before : (kind : Kind) (stream more whole : List ℕ) (session : Standing) (before after : Table) (taken taken' : Option (List ℕ)) (left failed failed' : ℕ)
+    → whole ≡ stream ++ more → Replied (Err kind) stream session before after taken taken' left failed failed'
+    → Replied (Err kind) whole session before after taken taken' left failed failed'
+stops_before kind stream more whole session before after taken taken' left failed failed' is r = record {
+  rest = r.rest ++ more;
+  written = r.written;
+  unwritten = r.unwritten;
+  served = record {
+    bodies = r.served.bodies;
+    replies = r.served.replies;
+    frames = record {
+      whole = is ∙ ap (λ zs. zs ++ more) r.served.frames.whole ∙ append_assoc (flat_map framed r.served.bodies) r.rest more;
+      short = r.served.frames.short;
+    };
+    tables = r.served.tables;
+    added = r.served.added;
+  };
+  wrote = r.wrote;
+  ends = stop_behind kind r.rest more r.unwritten (IsWriteFault kind left failed failed') r.ends;
+}
+
+-- all of a piece is served, and all replies are written
+all_written : (u : Unit {0}) (stream : List ℕ) (session : Standing) (before after : Table) (pending : List ℕ) (taken taken' taken'' : Option (List ℕ))
+    (left failed failed' : ℕ) → (p : IsPartServed stream session before after pending taken taken') → IsWrittenOut pending taken' taken''
+    → Replied (Ok u) stream session before after taken taken'' left failed failed'
+all_written u stream session before after pending taken taken' taken'' left failed failed' p w = record {
+  rest = p.rest;
+  written = p.written ++ w.0;
+  unwritten = w.1;
+  served = put_out stream p.rest before after p.written pending w.0 w.1 w.2 p.served;
+  wrote = Appends-trans taken taken' taken'' p.written w.0 p.wrote w.3;
+  ends = (p.keeps, p.unfinished, w.4);
+}
+
+-- or writing them stops
+some_written : (kind : Kind) (stream : List ℕ) (session : Standing) (before after : Table) (pending : List ℕ) (taken taken' taken'' : Option (List ℕ))
+    (left failed failed' : ℕ) → (p : IsPartServed stream session before after pending taken taken') → IsWritten pending taken' taken''
+    → IsWriteFault kind left failed failed'
+    → Replied (Err kind) stream session before after taken taken'' left failed failed'
+some_written kind stream session before after pending taken taken' taken'' left failed failed' p w why = record {
+  rest = p.rest;
+  written = p.written ++ w.0;
+  unwritten = w.1;
+  served = put_out stream p.rest before after p.written pending w.0 w.1 w.2 p.served;
+  wrote = Appends-trans taken taken' taken'' p.written w.0 p.wrote w.3;
+  ends = inr (inr why);
+}
+
+-- the pending replies are written, or some of them
+pub ends_with : (result : Result (Unit {0}) Kind) (stream : List ℕ) (session : Standing) (before after : Table) (pending : List ℕ) (taken taken' taken'' : Option (List ℕ))
+    (left failed failed' : ℕ) → (p : IsPartServed stream session before after pending taken taken')
+    → (front back : List ℕ) × (pending ≡ front ++ back) × Appends taken' taken'' front × OnOk result (back ≡ [])
+    → IfErr result (λ kind. IsWriteFault kind left failed failed')
+    → Replied result stream session before after taken taken'' left failed failed'
+ends_with (Ok u) stream session before after pending taken taken' taken'' left failed failed' p w why =
+    all_written u stream session before after pending taken taken' taken'' left failed failed' p w
+ends_with (Err kind) stream session before after pending taken taken' taken'' left failed failed' p w why =
+    some_written kind stream session before after pending taken taken' taken'' left failed failed' p (w.0, w.1, w.2, w.3) why
+
+-- the next part is taken off what is left
+pub split_stream : (whole stream rest part behind : List ℕ) (n : ℕ) → whole ≡ stream ++ rest → part ≡ take n rest → behind ≡ drop n rest → whole ≡ (stream ++ part) ++ behind
+split_stream whole stream rest part behind n is front back =
+    is ∙ ap (λ zs. stream ++ zs) (sym (take-append-drop n rest) ∙ ap (λ zs. zs ++ drop n rest) (sym front) ∙ ap (λ zs. part ++ zs) (sym back))
+    ∙ sym (append_assoc stream part behind)
 
 -- all replies to what was read so far are written, and the session keeps what comes behind
 pub record SoFar (before now : Table) (session : Standing) (given given' to_come to_come' taken taken' : Option (List ℕ)) : Type 0 where
@@ -235,6 +384,6 @@ between session kept whole keeps is =
     (λ yes. ap rest_in (sym keeps ∙ is.0 yes), λ nil. is.1 (keeps ∙ ap reading nil))
 
 -- a fault that is handed on
-pub handed_on : (P : Result Ended Kind → Type 0) (r : Result Ended Kind) (kind : Kind) → IsErrAnd r (λ e. e ≡ kind) → P (Err kind) → P r
+pub handed_on : {T : Type 0} (P : Result T Kind → Type 0) (r : Result T Kind) (kind : Kind) → IsErrAnd r (λ e. e ≡ kind) → P (Err kind) → P r
 handed_on P (Ok whole) kind is p = absurd is
 handed_on P (Err e) kind is p = subst (λ k. P (Err k)) (sym is) p

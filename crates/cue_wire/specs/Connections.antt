@@ -73,3 +73,22 @@ pub record Replied (result : Result (Unit {0}) Kind) (stream : List ℕ) (sessio
   pub served : Served stream rest before after [] (written ++ unwritten)
   pub wrote : Appends taken taken' written
   pub ends : RepliesAt result rest unwritten session left failed failed'
+
+-- The frames of the stream up to a rest were served, which the session keeps. Of their replies some
+-- were written, and these are not yet.
+pub record IsPartServed (stream : List ℕ) (session : Standing) (before now : Table)
+    (pending : List ℕ) (taken taken' : Option (List ℕ)) : Type 0 where
+  pub rest : List ℕ
+  pub written : List ℕ
+  pub keeps : session ≡ reading rest
+  pub unfinished : IsUnfinished rest
+  pub served : Served stream rest before now [] (written ++ pending)
+  pub wrote : Appends taken taken' written
+
+-- So much of the stream was served, or serving stopped.
+abbrev pub GoesOn : Result (Unit {0}) Kind → List ℕ → Standing → Table → Table → List ℕ
+    → Option (List ℕ) → Option (List ℕ) → ℕ → ℕ → ℕ → Type 0
+GoesOn (Ok u) stream session before now pending taken taken' left failed failed' =
+    IsPartServed stream session before now pending taken taken'
+GoesOn (Err kind) stream session before now pending taken taken' left failed failed' =
+    Replied (Err kind) stream session before now taken taken' left failed failed'

@@ -1,6 +1,9 @@
-ghost use Rattle.std.specs.Prelude.{◌≡◌, ◌-◌, ◌+◌, ◌^◌, ◌≤◌, ◌++◌, List, ℕ, [], OnOk, IfErr};
+ghost use Rattle.std.specs.Prelude.{◌≡◌, ◌-◌, ◌+◌, ◌^◌, ◌≤◌, ◌++◌, List, ℕ, [], Option, OnOk, IfErr};
 ghost use Rattle.std.specs.Io.KnownBytes.{Appends};
+ghost use Rattle.cue_replica.specs.Language.{Table};
 ghost use Rattle.cue_wire.specs.Connections.{Passage, PassesBy, EndsAt, Replied, IsWriteFault};
+ghost use Rattle.cue_wire.specs.Connections.{IsPartServed, GoesOn};
+ghost use Rattle.cue_wire.specs.Frames.{IsUnfinished};
 ghost use Rattle.cue_wire.specs.Sessions.{reading};
 
 use crate::session::Session;
@@ -10,6 +13,9 @@ use std::alloc::Global;
 
 /// The most bytes that one read asks for.
 const PIECE: usize = 4096;
+
+/// From how many bytes on replies are written before the rest of a piece is served.
+const MANY: usize = 65_536;
 
 /// How a connection ended that was served to its end.
 #[derive(Clone, Copy, Debug, PartialEq, Eq)]
@@ -22,6 +28,8 @@ pub struct Ended {
 /// writes their replies to the sink. A turn is one read or one write.
 ///
 /// Each read asks for at most 4,096 bytes, and none begins before all replies so far are written.
+/// The replies to what one read brought are written together, or as soon as they have 65,536
+/// bytes, so that requests of few bytes can't ask for more memory than the longest reply takes.
 ///
 /// # Errors
 ///
@@ -87,7 +95,7 @@ fn serve_piece<K: Sink>(
     left: &mut u64,
 ) -> Result<(), Kind>
     requires { K.called sink.old + left.old ≤ 2 ^ 64 - 1 }
-    ensures served { (kept : List ℕ) → session.old ≡ reading kept
+    ensures served { (kept : List ℕ) → session.old ≡ reading kept → IsUnfinished kept
         → Replied result (kept ++ piece.now) session.new site.old site.new
         (K.taken sink.old) (K.taken sink.new) left.new (K.failed sink.old) (K.failed sink.new) }
     ensures turns { K.called sink.new + left.new ≡ K.called sink.old + left.old }
@@ -95,8 +103,38 @@ fn serve_piece<K: Sink>(
     ensures sound { OnOk result (K.failed sink.new ≡ K.failed sink.old) }
 {
     out.clear();
-    let fed = session.feed(site, piece, out);
-    write_all(sink, out, left)?;
+    let mut rest = piece;
+    while !rest.is_empty() {
+        let (part, behind) = rest.split_at(session.missing().min(rest.len()));
+        serve_part(session, site, part, out, sink, left)?;
+        rest = behind;
+    }
+    write_all(sink, out, left)
+}
+
+/// Serves what is whole with this part of a piece, and writes the replies where they are many.
+fn serve_part<K: Sink>(
+    session: &mut Session,
+    site: &mut Replica,
+    part: &[u8],
+    out: &mut Vec<u8>,
+    sink: &mut K,
+    left: &mut u64,
+) -> Result<(), Kind>
+    requires { K.called sink.old + left.old ≤ 2 ^ 64 - 1 }
+    ensures served { (stream : List ℕ) (start : Table) (taken : Option (List ℕ))
+        → IsPartServed stream session.old start site.old out.old.items taken (K.taken sink.old)
+        → GoesOn result (stream ++ part.now) session.new start site.new out.new.items
+        taken (K.taken sink.new) left.new (K.failed sink.old) (K.failed sink.new) }
+    ensures turns { K.called sink.new + left.new ≡ K.called sink.old + left.old }
+    ensures fewer { left.new ≤ left.old }
+    ensures sound { OnOk result (K.failed sink.new ≡ K.failed sink.old) }
+{
+    let fed = session.feed(site, part, out);
+    if fed.is_err() || out.len() >= MANY {
+        write_all(sink, out, left)?;
+        out.clear();
+    }
     fed
 }
 

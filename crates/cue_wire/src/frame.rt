@@ -25,6 +25,15 @@ pub fn length_at(bytes: &[u8]) -> Option<usize>
     Some(u32::from_be_bytes(*head) as usize)
 }
 
+/// How many bytes the stream lacks until the length of the frame at its front is known, or until
+/// that frame is whole; at least 1.
+pub fn missing(bytes: &[u8]) -> usize
+    ensures { 1 ≤ result }
+{
+    let whole = length_at(bytes).map_or(4, |len| len.saturating_add(4));
+    whole.saturating_sub(bytes.len()).max(1)
+}
+
 /// The length of the body of the frame at the front, where that frame is whole.
 ///
 /// # Errors

@@ -1,9 +1,9 @@
-ghost use Rattle.std.specs.Prelude.{◌≡◌, ◌↔◌, ◌++◌, ℕ, List, [], IsTrue, IsErrOf, IfOk, OnOk};
+ghost use Rattle.std.specs.Prelude.{◌≡◌, ◌↔◌, ◌≤◌, ◌++◌, ℕ, List, [], IsTrue, IsErrOf, IfOk, OnOk};
 ghost use Rattle.cue_wire.specs.Frames.{StopsAt};
 ghost use Rattle.cue_wire.specs.Sessions.{reading, ended, IsReading, Served, standing_after};
 
 use crate::answer::answer;
-use crate::frame::next_frame;
+use crate::frame::{missing, next_frame};
 use bytes::BytesMut;
 use cue_replica::{Kind, Memory, Replica};
 use std::alloc::Global;
@@ -57,6 +57,14 @@ impl Session {
         ensures { IsTrue result ↔ self.now ≡ reading [] }
     {
         !self.ended && self.unread.is_empty()
+    }
+
+    /// How many bytes end the frame that the stream stands in, or tell its length; at least 1. A
+    /// piece of at most so many holds the end of at most one frame.
+    pub fn missing(&self) -> usize
+        ensures { 1 ≤ result }
+    {
+        missing(self.unread.as_slice())
     }
 
     /// Takes the next piece of the stream, serves all frames that are whole by now, in order, and

@@ -1,6 +1,7 @@
 //! Sites that are served over devices that fail: what a site has accepted then, and what comes of
 //! the same requests sent again.
-use crate::sites::{are_same, site_of};
+use crate::sites::{are_same, site_of, taken};
+use crate::states::CLASH;
 use cue_replica::{Kind, Refusal, Replica};
 use cue_wire::{Bytes, Ended, Reader, Writer, serve};
 use std::alloc::Global;
@@ -140,5 +141,53 @@ fn what_was_applied_is_sent_again(rt: HostRuntime) -> Result<(), Fail> {
     for left in 0..REPLIES.len() {
         assert!(rt; is_sent_again(rt.alloc(), left)?, "after {left} bytes");
     }
+    Ok(())
+}
+
+/// Five times the question for the report.
+const QUESTIONS: [u8; 25] =
+    *b"\0\0\0\x01\x05\0\0\0\x01\x05\0\0\0\x01\x05\0\0\0\x01\x05\0\0\0\x01\x05";
+
+/// A writer that takes all that it is given, and remembers how much that was, and the most at once.
+#[derive(Drop)]
+struct Measured {
+    all: usize,
+    most: usize,
+}
+
+impl Write for Measured {
+    fn write(&mut self, buf: &[u8]) -> io::Result<usize> {
+        self.all = self.all.saturating_add(buf.len());
+        self.most = self.most.max(buf.len());
+        Ok(buf.len())
+    }
+
+    fn flush(&mut self) -> io::Result<()> {
+        Ok(())
+    }
+}
+
+/// Whether long replies to what one read brought are written one by one.
+fn writes_long_replies_alone(alloc: Global) -> Result<bool, Refusal> {
+    let mut site = taken(alloc, CLASH)?;
+    let mut sink = Writer::new(Measured { all: 0, most: 0 });
+    let ended = serve(
+        alloc,
+        &mut Bytes::new(&QUESTIONS),
+        &mut sink,
+        &mut site,
+        1_000,
+    );
+    let written = sink.into_inner();
+    Ok(
+        ended == Ok(Ended { whole: true })
+            && written.most > 1_000_000
+            && written.all / 5 == written.most,
+    )
+}
+
+#[test]
+fn long_replies_are_written_one_by_one(rt: HostRuntime) -> Result<(), Fail> {
+    assert!(rt; writes_long_replies_alone(rt.alloc())?);
     Ok(())
 }

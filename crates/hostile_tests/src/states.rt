@@ -121,7 +121,7 @@ fn counts_that_are_too_great(rt: HostRuntime) -> Result<(), Fail> {
 }
 
 /// The state of a list of at least 65,536 elements at `l`, of which nothing may be the first.
-const CLASH: &[u8] = &[
+pub const CLASH: &[u8] = &[
     0xFE, 0x43, 0x55, 0x45, 1, 0, 0, 0, 0, 0, 0, 0, 3, // three rows
     0, 0, 2, 0, // the root
     1, 0, 0, 1, 0x6C, 2, 3, // a list at the label l

@@ -94,7 +94,7 @@ loop-left-preserved g c =
           (sink.taken c.args.sink.now) (sink.taken s.sink) (sink.taken p.new.sink)
           p.result c.in_ok-serve_piece.field-0 (take r.count c.read.new.into) p.new.left (sink.failed s.sink) (sink.failed p.new.sink)
           s.invariant.so_far r.ensures.gives r.ensures.takes.0 c.in_ok-serve_piece.was
-          (p.ensures.served s.invariant.so_far.kept s.invariant.so_far.keeps);
+          (p.ensures.served s.invariant.so_far.kept s.invariant.so_far.keeps s.invariant.so_far.unfinished);
       turns = omega (arith, s.invariant.turns, r.ensures.counts.0, p.ensures.turns, c.loop-left-test.true);
       reads = omega (arith, s.invariant.reads, r.ensures.counts.0);
       writes = omega (arith, s.invariant.writes, p.ensures.turns, p.ensures.fewer);
@@ -125,7 +125,7 @@ returns-in_err-serve_piece-clause-passage g c =
     (stopped site s.site p.new.site s.session p.new.session given (source.given s.source) given'' to_come (source.to_come s.source) to_come''
     taken (sink.taken s.sink) taken'' p.result c.in_err-serve_piece.field-0.0 (take r.count c.read.new.into)
     p.new.left (sink.failed s.sink) (sink.failed p.new.sink) allowed calls failed failed' s.invariant.so_far r.ensures.gives r.ensures.takes.0
-    c.in_err-serve_piece.was (p.ensures.served s.invariant.so_far.kept s.invariant.so_far.keeps)
+    c.in_err-serve_piece.was (p.ensures.served s.invariant.so_far.kept s.invariant.so_far.keeps s.invariant.so_far.unfinished)
     (λ none. omega (arith, none, s.invariant.turns, r.ensures.counts.0, p.ensures.turns, c.loop-left-test.true))
     (λ more. omega (arith, more, s.invariant.sound, r.ensures.counts.1)))
 
