@@ -1,16 +1,16 @@
 -- Sets of integers and of texts: their bytes tell them.
-use Rattle.std.proofs.Common.{◌≡◌, ◌^◌, ℕ, ℤ, pos, ◌+ℤ◌, ◌≤ℤ◌, List, [], ◌∷◌, ◌++◌, Some, sym, ap, ◌∙◌, subst, arith}
-use Rattle.std.specs.Int.{w64, cast_signed, cast_unsigned}
+use Rattle.std.proofs.Common.{◌≡◌, ℕ, ℤ, pos, ◌+ℤ◌, ◌≤ℤ◌, List, [], ◌∷◌, ◌++◌, refl, sym, ap, ◌∙◌, subst, arith}
+use Rattle.std.specs.Int.{w64, to_be_bytes, cast_signed, cast_unsigned}
 use Rattle.std.specs.List.{flat_map, AllByRecursion}
 use Rattle.std.proofs.lemmas.List.{append-nil}
 use Rattle.std.proofs.lemmas.List.Concat.{flat_map-cons}
 use Rattle.std.proofs.lemmas.Int.{ints}
 use Rattle.cue_sets.specs.Pieces.{least, AscendsFrom, IsCanonical}
 use Rattle.cue_codec.specs.Parts.{counted_bytes, piece_bytes}
-use Rattle.cue_codec.specs.Reading.{Begins, BeginsNone, number_at, IsPiece, AreSo, AreCounted}
+use Rattle.cue_codec.specs.Reading.{Begins, BeginsNone, IsPiece, AreSo, AreCounted}
 use Rattle.cue_codec.specs.StateRow.{IsStateIntegers}
 use Rattle.cue_codec.proofs.Codes.{OneItem, one_counted, other_none, counted_found}
-use Rattle.cue_codec.proofs.Numbers.{IsBytes, read64, number_takes, one_piece, same_integer}
+use Rattle.cue_codec.proofs.Numbers.{one_piece, same_integer}
 
 pieces_from : (start : ℤ) (ps : List (ℤ × ℤ)) → least ≤ℤ start → AscendsFrom start ps → AllByRecursion IsPiece ps
 pieces_from start [] l h = tt
@@ -44,16 +44,17 @@ pub integers_found : (ps set : List (ℤ × ℤ)) (bytes rest : List ℕ) → Be
 integers_found ps set bytes rest b same h =
     subst (λ (x : List (ℤ × ℤ)). Begins IsStateIntegers (counted_bytes piece_bytes) x bytes rest) (sym same) (record { value = (h, b.value.1); parts = b.parts })
 
--- a count of one, and a piece of one integer
-pub integer_alone : (bytes behind rest : List ℕ) (count : ℕ) (first last : ℤ) (set : List (ℤ × ℤ)) → IsBytes bytes → Some (count, behind) ≡ number_at w64 bytes → count ≡ 1 → Begins IsPiece piece_bytes (first, last) behind rest → first ≡ last
-    → set ≡ (cast_signed w64 (cast_unsigned w64 first), cast_signed w64 (cast_unsigned w64 first)) ∷ [] → IsCanonical set → Begins IsStateIntegers (counted_bytes piece_bytes) set bytes rest
-integer_alone bytes behind rest count first last set fits is one b same made h =
-    let taken = number_takes w64 (2 ^ 64) read64 bytes count behind fits is in
+-- a count of one, and a piece
+pub one_piece_alone : (bytes behind rest : List ℕ) (first last : ℤ) (set : List (ℤ × ℤ)) → bytes ≡ to_be_bytes w64 1 ++ behind → Begins IsPiece piece_bytes (first, last) behind rest
+    → set ≡ (cast_signed w64 (cast_unsigned w64 first), cast_signed w64 (cast_unsigned w64 last)) ∷ [] → IsCanonical set → Begins IsStateIntegers (counted_bytes piece_bytes) set bytes rest
+one_piece_alone bytes behind rest first last set is b made h =
     let piece : ℤ × ℤ = (first, last) in
-    let items : Begins (AreSo IsPiece count) (flat_map piece_bytes) (piece ∷ []) behind rest = record {
-      value = (sym one, (b.value, tt));
+    let items : Begins (AreSo IsPiece 1) (flat_map piece_bytes) (piece ∷ []) behind rest = record {
+      value = (refl, (b.value, tt));
       parts = b.parts ∙ ap (λ (t : List ℕ). t ++ rest) (sym (flat_map-cons piece_bytes piece [] ∙ append-nil (piece_bytes piece)));
     } in
-    let counted = counted_found IsPiece piece_bytes count (piece ∷ []) bytes behind rest taken.1 taken.0 items in
-    let is : set ≡ piece ∷ [] = made ∙ ap (λ (n : ℤ). (n, n) ∷ []) (same_integer first b.value.0) ∙ ap (λ (n : ℤ). (first, n) ∷ []) same in
-    integers_found (piece ∷ []) set bytes rest counted is (subst IsCanonical is h)
+    let counted = counted_found IsPiece piece_bytes 1 (piece ∷ []) bytes behind rest (omega arith) is items in
+    let one = same_integer first b.value.0 in
+    let two = same_integer last b.value.1 in
+    let same : set ≡ piece ∷ [] = made ∙ (λ i. (one i, two i) ∷ []) in
+    integers_found (piece ∷ []) set bytes rest counted same (subst IsCanonical same h)

@@ -1,13 +1,16 @@
 -- Sets of texts, sets of scalars and labels: their bytes tell them.
-use Rattle.std.proofs.Common.{◌≡◌, ℕ, ◌<◌, ◌≤◌, ℤ, Bool, true, false, List, ◌∷◌, ◌++◌, length, get_or, drop, Option, Some, None, refl, sym, ap, subst, ◌∙◌, append_assoc, arith}
+use Rattle.std.proofs.Common.{◌≡◌, ℕ, ◌<◌, ◌≤◌, ℤ, Bool, true, false, List, [], ◌∷◌, ◌++◌, length, get_or, drop, Option, Some, None, refl, sym, ap, subst, ◌∙◌, append_assoc, arith}
+use Rattle.std.specs.Int.{w64, to_be_bytes, cast_signed, cast_unsigned}
+use Rattle.std.specs.List.{flat_map}
+use Rattle.cue_sets.specs.Pieces.{IsCanonical}
 use Rattle.cue_sets.specs.Texts.{IsAscending}
 use Rattle.cue_scalars.specs.declared.scalar_set.ScalarSet.{ScalarSet}
 use Rattle.cue_codec.specs.Parts.{bit, flags, counted_bytes, piece_bytes, text_bytes, text_set_bytes, set_bytes, labels_bytes}
-use Rattle.cue_codec.specs.Reading.{Begins, BeginsNone, IsWord, AreCounted}
+use Rattle.cue_codec.specs.Reading.{Begins, BeginsNone, IsPiece, IsWord, AreSo, AreCounted}
 use Rattle.cue_codec.specs.StateRow.{IsStateIntegers, AreStateTexts, IsStateTexts, IsStateSet, AreStateLabels}
-use Rattle.cue_codec.proofs.Codes.{OneItem, one_counted}
+use Rattle.cue_codec.proofs.Codes.{OneItem, one_counted, counted_found}
 use Rattle.cue_codec.proofs.Numbers.{one_text}
-use Rattle.cue_codec.proofs.SetLaws.{one_integers}
+use Rattle.cue_codec.proofs.SetLaws.{one_integers, one_piece_alone}
 
 bit_small : (b : Bool) → bit b ≤ 1
 bit_small false = omega arith
@@ -125,6 +128,22 @@ set_found bytes rest after end tag set is t a b = record {
   value = record { ints = a.value; texts = b.value };
   parts = is ∙ ap (λ (k : ℕ). k ∷ rest) (sym t) ∙ ap (λ (x : List ℕ). flags set.null set.no set.yes ∷ x) (a.parts ∙ ap (λ (x : List ℕ). counted_bytes piece_bytes set.ints ++ x) b.parts) ∙ sym (set_parts set end);
 }
+
+-- no text
+no_text_found : (bytes rest : List ℕ) (set : Bool × List (List ℕ)) → bytes ≡ 0 ∷ (to_be_bytes w64 0 ++ rest) → set ≡ (false, []) → Begins IsStateTexts text_set_bytes set bytes rest
+no_text_found bytes rest set is same =
+    let none : Begins (AreSo IsWord 0) (flat_map text_bytes) [] rest rest = record { value = (refl, tt); parts = refl } in
+    let counted = counted_found IsWord text_bytes 0 [] (to_be_bytes w64 0 ++ rest) rest rest (omega arith) refl none in
+    text_set_found bytes (to_be_bytes w64 0 ++ rest) rest 0 false [] set is refl counted same (subst (λ (x : Bool × List (List ℕ)). IsAscending x.1) (sym same) tt)
+
+-- one piece and nothing else, by its fixed words
+pub piece_set_found :
+    (bytes middle behind rest : List ℕ) (first last : ℤ) (ints : List (ℤ × ℤ)) (texts : Bool × List (List ℕ)) → bytes ≡ 0 ∷ (to_be_bytes w64 1 ++ middle) → Begins IsPiece piece_bytes (first, last) middle behind
+    → behind ≡ 0 ∷ (to_be_bytes w64 0 ++ rest) → ints ≡ (cast_signed w64 (cast_unsigned w64 first), cast_signed w64 (cast_unsigned w64 last)) ∷ [] → IsCanonical ints → texts ≡ (false, [])
+    → Begins IsStateSet set_bytes (record { null = false; no = false; yes = false; ints = ints; texts = texts }) bytes rest
+piece_set_found bytes middle behind rest first last ints texts is b after made canonical none =
+    set_found bytes (to_be_bytes w64 1 ++ middle) behind rest 0 (record { null = false; no = false; yes = false; ints = ints; texts = texts }) is refl
+    (one_piece_alone (to_be_bytes w64 1 ++ middle) middle behind first last ints refl b made canonical) (no_text_found behind rest texts after none)
 
 -- ---- labels
 

@@ -1,6 +1,6 @@
 //! Sets, read from the front of the bytes.
 
-ghost use Rattle.std.specs.Prelude.{◌≡◌, ◌<◌, IfOk, IfErr, IfSome, IfNone};
+ghost use Rattle.std.specs.Prelude.{◌≡◌, ◌<◌, ◌∷◌, [], IfOk, IfErr, IfSome, IfNone};
 ghost use Rattle.cue_codec.specs.Parts.{bit, counted_bytes, piece_bytes, text_set_bytes, set_bytes};
 ghost use Rattle.cue_codec.specs.Parts.{labels_bytes};
 ghost use Rattle.cue_codec.specs.Reading.{Begins, BeginsNone, IsRefused};
@@ -8,29 +8,28 @@ ghost use Rattle.cue_codec.specs.StateRow.{IsStateIntegers, IsStateTexts, IsStat
 ghost use Rattle.cue_codec.specs.StateRow.{AreStateLabels};
 
 use crate::lists::{pieces_at, texts_at};
-use crate::reading::{flags_of, piece_at, u64_at};
+use crate::reading::{flags_of, piece_at};
 use cue_lattice::{Kind, Narrow};
 use cue_row::Labels;
 use cue_scalars::ScalarSet;
 use cue_sets::{IntSet, TextSet};
 use std::alloc::Global;
 
-/// The set of one integer, where its bytes stand in front. This takes no memory.
-fn one_integer_at(alloc: Global, bytes: &[u8]) -> Option<(IntSet, &[u8])>
-    ensures { IfSome result (λ x. Begins IsStateIntegers
-        (counted_bytes piece_bytes) x.0 bytes.now x.1.now) }
+/// The set of the integers from a first to a last one, where these are the same, or one of them is
+/// the least or the greatest. This takes no memory.
+fn between(alloc: Global, first: i64, last: i64) -> Option<IntSet>
+    ensures { IfSome result (λ set. set ≡ (first, last) ∷ []) }
 {
-    let (count, rest) = u64_at(bytes)?;
-    if count != 1 {
-        return None;
+    if first == last {
+        return IntSet::one(alloc, first).ok();
     }
-    let ((first, last), rest) = piece_at(rest)?;
-    if first != last {
-        return None;
+    if last == i64::MAX {
+        return IntSet::at_least(alloc, first).ok();
     }
-    let set = IntSet::one(alloc, first).unwrap();
-    set.known();
-    Some((set, rest))
+    if first == i64::MIN {
+        return IntSet::at_most(alloc, last).ok();
+    }
+    None
 }
 
 /// A set of integers.
@@ -40,9 +39,6 @@ fn int_set_at(alloc: Global, bytes: &[u8]) -> Result<(IntSet, &[u8]), Kind>
     ensures refused { IfErr result (λ kind. IsRefused kind
         (BeginsNone IsStateIntegers (counted_bytes piece_bytes) bytes.now)) }
 {
-    if let Some(found) = one_integer_at(alloc, bytes) {
-        return Ok(found);
-    }
     let (pieces, rest) = pieces_at(alloc, bytes)?;
     let Some(set) = IntSet::from_pieces(pieces) else {
         return Err(Kind::NotState);
@@ -83,12 +79,42 @@ fn text_set_at(alloc: Global, bytes: &[u8]) -> Result<(TextSet, &[u8]), Kind>
     Ok((set, rest))
 }
 
+/// What stands in front of the piece of a set of integers in one piece and nothing else: no flag,
+/// and a count of one.
+const PIECE_FOLLOWS: [u8; 9] = [0, 0, 0, 0, 0, 0, 0, 0, 1];
+
+/// What stands behind it: the listed texts alone, of which there are none.
+const NO_TEXT: [u8; 9] = [0, 0, 0, 0, 0, 0, 0, 0, 0];
+
+/// The set of one integer and nothing else, or of all integers up to one or from one on, where its
+/// bytes stand in front. This takes no memory.
+fn piece_set_at(alloc: Global, bytes: &[u8]) -> Option<(ScalarSet, &[u8])>
+    ensures { IfSome result (λ x. Begins IsStateSet set_bytes x.0 bytes.now x.1.now) }
+{
+    let rest = bytes.strip_prefix(&PIECE_FOLLOWS)?;
+    let ((first, last), rest) = piece_at(rest)?;
+    let rest = rest.strip_prefix(&NO_TEXT)?;
+    let ints = between(alloc, first, last)?;
+    ints.known();
+    let set = ScalarSet {
+        null: false,
+        no: false,
+        yes: false,
+        ints,
+        texts: TextSet::none(alloc).unwrap(),
+    };
+    Some((set, rest))
+}
+
 /// A set of scalars.
 pub fn set_at(alloc: Global, bytes: &[u8]) -> Result<(ScalarSet, &[u8]), Kind>
     ensures ok { IfOk result (λ x. Begins IsStateSet set_bytes x.0 bytes.now x.1.now) }
     ensures refused { IfErr result (λ kind. IsRefused kind
         (BeginsNone IsStateSet set_bytes bytes.now)) }
 {
+    if let Some(found) = piece_set_at(alloc, bytes) {
+        return Ok(found);
+    }
     let Some((tag, rest)) = bytes.split_first() else {
         return Err(Kind::NotState);
     };

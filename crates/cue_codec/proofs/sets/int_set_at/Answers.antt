@@ -10,10 +10,10 @@ returns-in_err-pieces-clause-refused c =
     let p = err_from_is_err_and c.from_residual.result c.from_residual.ensures.1 in
     rw (p.1, p.2) (refused_so c.in_err-pieces.field-0.0 _ _ (integers_none c.args.bytes.now) c.in_err-pieces.ensures.refused)
 
-pub returns-in_default-from_pieces-clause-refused : goal.returns-in_default-from_pieces-clause-refused
-returns-in_default-from_pieces-clause-refused c =
-    inr (refl, integers_other c.in_ok-pieces.pieces.items c.args.bytes.now c.in_ok-pieces.rest.now c.in_ok-pieces.ensures.ok c.in_default-from_pieces.ensures.none)
+pub returns-in_default-clause-refused : goal.returns-in_default-clause-refused
+returns-in_default-clause-refused c =
+    inr (refl, integers_other c.in_ok-pieces.pieces.items c.args.bytes.now c.in_ok-pieces.rest.now c.in_ok-pieces.ensures.ok c.in_default.ensures.none)
 
 pub returns-clause-ok : goal.returns-clause-ok
 returns-clause-ok c =
-    integers_found c.in_ok-pieces.pieces.items c.in-Some-from_pieces.set c.args.bytes.now c.in_ok-pieces.rest.now c.in_ok-pieces.ensures.ok c.in-Some-from_pieces.ensures.some (subst IsCanonical c.in-Some-from_pieces.ensures.some c.known.ensures)
+    integers_found c.in_ok-pieces.pieces.items c.in-Some.set c.args.bytes.now c.in_ok-pieces.rest.now c.in_ok-pieces.ensures.ok c.in-Some.ensures.some (subst IsCanonical c.in-Some.ensures.some c.known.ensures)
