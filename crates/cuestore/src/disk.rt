@@ -17,6 +17,8 @@ pub enum Entry<'a> {
     Bytes(&'a [u8]),
     /// A file that fails once these bytes were read.
     Cut(&'a [u8]),
+    /// A file that gives 17 bytes a read.
+    Slow(&'a [u8]),
 }
 
 /// What lies at the place `out`.
@@ -50,11 +52,12 @@ pub struct Disk<'a> {
     pub part: &'a RefCell<Vec<u8>>,
 }
 
-/// An open file: what is left to read, whether the next read at its end fails, and where what is
-/// written goes.
+/// An open file: what is left to read, how much one read gives, whether the next read at its end
+/// fails, and where what is written goes.
 #[derive(Drop)]
 pub struct Opened<'a> {
     rest: &'a [u8],
+    most: usize,
     fails: bool,
     calls: &'a Cell<usize>,
     log: &'a RefCell<Vec<u8>>,
@@ -128,14 +131,32 @@ fn put(to: &RefCell<Vec<u8>>, bytes: &[u8]) -> io::Result<()> {
 }
 
 impl<'a> Disk<'a> {
-    fn opened(&self, rest: &'a [u8], fails: bool, written: &'a RefCell<Vec<u8>>) -> Opened<'a> {
+    fn opened(&self, written: &'a RefCell<Vec<u8>>) -> Opened<'a> {
         Opened {
-            rest,
-            fails,
+            rest: &[],
+            most: usize::MAX,
+            fails: false,
             calls: self.calls,
             log: self.log,
             written,
         }
+    }
+
+    /// A file that is read.
+    fn readable(&self, entry: &Entry<'a>) -> Opened<'a> {
+        let mut file = self.opened(self.part);
+        match entry {
+            Entry::Bytes(bytes) => file.rest = bytes,
+            Entry::Cut(bytes) => {
+                file.rest = bytes;
+                file.fails = true;
+            }
+            Entry::Slow(bytes) => {
+                file.rest = bytes;
+                file.most = 17;
+            }
+        }
+        file
     }
 
     /// The file that is written: a new one, or `out` itself.
@@ -145,10 +166,10 @@ impl<'a> Disk<'a> {
             if path == "out.part" && self.out == Out::FileAndPart {
                 return Err(io::Error::from(ErrorKind::AlreadyExists));
             }
-            return Ok(self.opened(&[], false, self.part));
+            return Ok(self.opened(self.part));
         }
         note(self.calls, self.log, "open ", path)?;
-        Ok(self.opened(&[], false, self.bytes))
+        Ok(self.opened(self.bytes))
     }
 
     /// Where what lies at `out` has its own place.
@@ -162,10 +183,7 @@ impl<'a> Disk<'a> {
     fn open_to_read(&self, path: &str) -> io::Result<Opened<'a>> {
         for (name, entry) in self.files {
             if *name == path {
-                return Ok(match entry {
-                    Entry::Bytes(bytes) => self.opened(bytes, false, self.part),
-                    Entry::Cut(bytes) => self.opened(bytes, true, self.part),
-                });
+                return Ok(self.readable(entry));
             }
         }
         Err(io::Error::from(ErrorKind::NotFound))
@@ -268,7 +286,8 @@ impl<'a> Read for Opened<'a> {
         if self.rest.is_empty() && self.fails {
             return Err(io::Error::from(ErrorKind::Other));
         }
-        self.rest.read(buf)
+        let count = buf.len().min(self.most);
+        self.rest.read(&mut buf[..count])
     }
 }
 

@@ -4,6 +4,7 @@ mod defaults;
 mod devices;
 mod files;
 mod lists;
+mod long_files;
 mod network;
 mod orders;
 mod refusals;
