@@ -8,6 +8,8 @@ mod both;
 #[cfg(test)]
 mod foreign;
 #[cfg(test)]
+mod large;
+#[cfg(test)]
 mod many;
 #[cfg(test)]
 mod plain;

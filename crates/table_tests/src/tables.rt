@@ -2,6 +2,7 @@
 use crate::both::{
     adds, adds_or_stays, below, meets, meets_or_stays, roots, takes_or_stays, tells_apart,
 };
+use crate::large::{mixes, takes_small_ones};
 use crate::many::{hangs, unifies};
 use crate::sample::{BRANCHES, CLASHES, TABLES, given, path, rows};
 use std::test::Fail;
@@ -78,6 +79,24 @@ fn hangs_tables_in_below_their_steps(rt: HostRuntime) -> Result<(), Fail> {
     let alloc = rt.alloc();
     for text in BRANCHES {
         assert!(rt; hangs(alloc, &given(alloc, text)?)?, "{text}");
+    }
+    Ok(())
+}
+
+#[test]
+fn puts_many_branches_in_in_any_order(rt: HostRuntime) -> Result<(), Fail> {
+    let alloc = rt.alloc();
+    for entry in &rows(alloc, "a=one")? {
+        assert!(rt; mixes(alloc, &entry.row)?);
+    }
+    Ok(())
+}
+
+#[test]
+fn takes_small_tables_into_a_large_one(rt: HostRuntime) -> Result<(), Fail> {
+    let alloc = rt.alloc();
+    for entry in &rows(alloc, "a=one")? {
+        assert!(rt; takes_small_ones(alloc, &entry.row)?);
     }
     Ok(())
 }
