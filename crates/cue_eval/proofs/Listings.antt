@@ -1,5 +1,5 @@
 -- Tables of the elements of a list, one after another.
-use Rattle.std.proofs.Common.{◌≡◌, ◌↔◌, ◌⊎◌, ◌+◌, ◌≤◌, ◌<◌, inl, inr, ⊎_elim, ℕ, zero, suc, Bool, List, [], ◌∷◌, ◌++◌, All, length, sym, ap, subst, length-append, arith}
+use Rattle.std.proofs.Common.{◌≡◌, ◌↔◌, ◌⊎◌, ◌+◌, ◌≤◌, ◌<◌, inl, inr, ⊎_elim, ℕ, zero, suc, List, [], ◌∷◌, ◌++◌, All, length, sym, ap, subst, length-append, arith}
 use Rattle.std.proofs.lemmas.List.Elements.{All-push}
 use Rattle.cue_lattice.specs.Limits.{step_limit, length_limit}
 use Rattle.cue_lattice.proofs.OneOf.{one_of-push}
@@ -15,10 +15,10 @@ use Rattle.cue_table.specs.Depth.{tree_depth}
 use Rattle.cue_table.specs.Form.{IsTable}
 use Rattle.cue_table.specs.Tree.{Tree}
 use Rattle.cue_syntax.specs.declared.tree.Expr.{Expr}
-use Rattle.cue_syntax.specs.Syntax.{expression, elements}
+use Rattle.cue_syntax.specs.Syntax.{Rest, expression, elements}
 use Rattle.cue_scope.specs.Core.{Core, null, truth, integer, text, named, top, bottom, bound, other_integer, other_text, conjunction, disjunction, struct, close, list, closed, Elements, ends, goes_on, element, followed_by}
-use Rattle.cue_scope.specs.Limits.{size, size_of_elements}
-use Rattle.cue_scope.specs.Meaning.{meaning, rest_of}
+use Rattle.cue_scope.specs.Limits.{size, size_of_elements, depth}
+use Rattle.cue_scope.specs.Meaning.{meaning, meant_rest}
 use Rattle.cue_scope.specs.Terms.{terms, terms_of_elements}
 use Rattle.cue_scope.specs.Uses.{uses, uses_of_elements}
 use Rattle.cue_eval.specs.declared.rows.Tables.{Tables}
@@ -158,24 +158,24 @@ element_listed known end given all left e rest at table w is place form same =
       };
     })
 
-none_left : (more : Bool) (n : ℕ) (step : paths.Step) (path : Path) (question : Question) → AtIndexes n (rest_of more) step path question → ⊥
-none_left more n (label l) path question h = h
-none_left more n (index i) path question h = rest_refuses more h.0 path question h.2
+none_left : (tail : Rest) (n : ℕ) (step : paths.Step) (path : Path) (question : Question) → AtIndexes n (meant_rest tail) step path question → ⊥
+none_left tail n (label l) path question h = h
+none_left tail n (index i) path question h = rest_refuses tail h.0 path question h.2
 
-pub elements_listed : (known : Tables) (more : Bool) (given : List (Step × Tree Row)) (all left : List Expr) → Listing known (rest_of more) given all left → left ≡ []
-    → AreGiven (AtIndexes 0 (with_rest known all (rest_of more))) given
-elements_listed known more given all left w is =
-    let here = subst (λ z. Listing known (rest_of more) given all z) is w in record {
+pub elements_listed : (known : Tables) (tail : Rest) (given : List (Step × Tree Row)) (all left : List Expr) → Listing known (meant_rest tail) given all left → left ≡ []
+    → AreGiven (AtIndexes 0 (with_rest known all (meant_rest tail))) given
+elements_listed known tail given all left w is =
+    let here = subst (λ z. Listing known (meant_rest tail) given all z) is w in record {
       refused = λ step path question.
           let h = here.refused step path question in
-          (λ k. h.0 (inl k), λ k. ⊎_elim (λ g. g) (λ g. absurd (none_left more (length given) step path question g)) (h.1 k));
+          (λ k. h.0 (inl k), λ k. ⊎_elim (λ g. g) (λ g. absurd (none_left tail (length given) step path question g)) (h.1 k));
       deep = here.deep;
     }
 
-pub all_listed : (known : Tables) (more : Bool) (given : List (Step × Tree Row)) (all left : List Expr) → Listing known (rest_of more) given all left → left ≡ []
-    → length given ≡ count (with_rest known all (rest_of more))
-all_listed known more given all left w is =
-    let here = (subst (λ z. Listing known (rest_of more) given all z) is w).counted in
-    let same = count_of known all (rest_of more) in
-    let none = count_of_rest more in
+pub all_listed : (known : Tables) (tail : Rest) (given : List (Step × Tree Row)) (all left : List Expr) → Listing known (meant_rest tail) given all left → left ≡ []
+    → length given ≡ count (with_rest known all (meant_rest tail))
+all_listed known tail given all left w is =
+    let here = (subst (λ z. Listing known (meant_rest tail) given all z) is w).counted in
+    let same = count_of known all (meant_rest tail) in
+    let none = count_of_rest tail in
     omega arith

@@ -14,7 +14,7 @@ use Rattle.cue_sets.specs.Texts.{RefusesText}
 use Rattle.cue_syntax.specs.declared.tree.Expr.{Expr}
 use Rattle.cue_syntax.specs.declared.tree.Declaration.{Declaration}
 use Rattle.cue_syntax.specs.Syntax as syntax
-use Rattle.cue_syntax.specs.Syntax.{expression, elements, entries}
+use Rattle.cue_syntax.specs.Syntax.{Rest, expression, elements, entries}
 use Rattle.cue_scope.specs.Definitions.{Definition}
 use Rattle.cue_scope.specs.Kept.{all_of}
 use Rattle.cue_scope.specs.Uses.{uses, uses_of_elements}
@@ -23,7 +23,7 @@ use Rattle.cue_scope.proofs.Followed.{size_followed, depth_followed}
 use Rattle.cue_scope.proofs.Walking.{at_hand}
 use Rattle.cue_scope.specs.Core.{Core, conjunction, list, Elements, ends, followed_by}
 use Rattle.cue_scope.specs.Limits.{size_of_cores}
-use Rattle.cue_scope.specs.Meaning.{meant_members, rest_of}
+use Rattle.cue_scope.specs.Meaning.{meant_members, meant_rest}
 use Rattle.cue_table.specs.Depth.{tree_depth}
 use Rattle.cue_table.specs.Form.{IsTable}
 use Rattle.cue_table.specs.Many.{IsOfBranches, IsUnified}
@@ -187,9 +187,9 @@ no_elements_left : (whose : Whose) (asked : Asked) (self : Sight) (at : ℕ) (st
 no_elements_left whose asked self at (label l) path h = h
 no_elements_left whose asked self at (index i) path h = h.2
 
-pub elements_all : (self : Sight) (whose : Whose) (branches : List (Step × Tree Declared)) (at : ℕ) (all : List Expr) (i : ℕ) (goes_on : Bool) (table : Tree Declared) → ElementsTold self whose branches at all (drop i all) → length all ≤ i
-    → IsTable Tells IsDeclared table → IsOfBranches Tells branches table → IsTold whose (list (followed_by (mean_elements self (elements all)) (rest_of goes_on))) table
-elements_all self whose branches at all i goes_on table w h form of = record { form = form; told = whole } where
+pub elements_all : (self : Sight) (whose : Whose) (branches : List (Step × Tree Declared)) (at : ℕ) (all : List Expr) (i : ℕ) (tail : Rest) (table : Tree Declared) → ElementsTold self whose branches at all (drop i all) → length all ≤ i
+    → IsTable Tells IsDeclared table → IsOfBranches Tells branches table → IsTold whose (list (followed_by (mean_elements self (elements all)) (meant_rest tail))) table
+elements_all self whose branches at all i tail table w h form of = record { form = form; told = whole } where
   end : ElementsTold self whose branches at all []
   end = subst (λ z. ElementsTold self whose branches at all z) (drop_all i all h) w
 
@@ -200,19 +200,19 @@ elements_all self whose branches at all i goes_on table w h form of = record { f
       let s = split_all _ _ _ (end.told step path asked) (no_elements_left whose asked self at step path) in
       (λ r. s.0 (u.0 r), λ r. u.1 (s.1 r))
 
-  whole : (path : Path) (asked : Asked) → TableRefuses Tells table path asked ↔ AtList (OneOfElements (own_tells whose asked) (used_tells whose) (followed_by (mean_elements self (elements all)) (rest_of goes_on))) path
+  whole : (path : Path) (asked : Asked) → TableRefuses Tells table path asked ↔ AtList (OneOfElements (own_tells whose asked) (used_tells whose) (followed_by (mean_elements self (elements all)) (meant_rest tail))) path
   whole [] asked = by [] asked
   whole (label l ∷ path) asked = by (label l ∷ path) asked
   whole (index j ∷ path) asked =
       let r = by (index j ∷ path) asked in
-      let d = does_followed (own_tells whose asked) (used_tells whose) (mean_elements self (elements all)) goes_on j path in
+      let d = does_followed (own_tells whose asked) (used_tells whose) (mean_elements self (elements all)) tail j path in
       (λ k. d.0 (r.0 k), λ k. r.1 (d.1 k))
 
 -- of the elements of a list it is known what is of the list
-pub list_known : (self : Sight) (es : syntax.Elements) (goes_on comma : Bool) → IsKnown self (syntax.list es goes_on comma) → AreElementsKnown self es
-list_known self es goes_on comma known =
-    let larger = size_followed (mean_elements self es) (rest_of goes_on) in
-    let deeper = depth_followed (mean_elements self es) (rest_of goes_on) in
+pub list_known : (self : Sight) (es : syntax.Elements) (tail : Rest) (comma : Bool) → IsKnown self (syntax.list es tail comma) → AreElementsKnown self es
+list_known self es tail comma known =
+    let larger = size_followed (mean_elements self es) (meant_rest tail) in
+    let deeper = depth_followed (mean_elements self es) (meant_rest tail) in
     known_same self _ _ _ _ _ known (omega (arith, larger)) (omega (arith, deeper))
 
 pub elements_none : (self : Sight) (whose : Whose) (all : List Expr) → AreElementsKnown self (elements all) → ElementsTold self whose [] 0 all all

@@ -10,7 +10,7 @@ use Rattle.cue_scope.specs.Core.{Core, bottom, followed_by}
 use Rattle.cue_scope.specs.Definitions.{Definition, number_of}
 use Rattle.cue_scope.specs.Graph.{IsIn}
 use Rattle.cue_scope.specs.Limits.{size, size_of_cores, size_of_elements, size_of_choices, size_of_members, depth, depth_of_cores, depth_of_elements, depth_of_choices, depth_of_members}
-use Rattle.cue_scope.specs.Meaning.{meant, meant_elements, rest_of, meant_branches, meant_members, meant_fields}
+use Rattle.cue_scope.specs.Meaning.{meant, meant_elements, meant_rest, meant_branches, meant_members, meant_fields}
 use Rattle.cue_scope.specs.Uses.{uses, uses_of_elements, uses_of_branches, uses_of_entries, uses_of_fields}
 use Rattle.cue_scope.proofs.Nodes.{in_append}
 use Rattle.cue_eval.proofs.TellingDepth.{nested_depth, nested_size}
@@ -43,8 +43,8 @@ mutual
   used_within ds m (tree.close place es inner comma) i r h =
       let w = entries_within ds m es i r.0 r.1 h in
       let s = w.size in let d = w.depth in record { size = omega arith; depth = omega arith }
-  used_within ds m (tree.list es goes_on comma) i r h =
-      let w = elements_within ds m es (rest_of goes_on) i r.0 h in
+  used_within ds m (tree.list es rest comma) i r h =
+      let w = elements_within ds m es (meant_rest rest) i r.0 h in
       let s = w.size in let d = w.depth in record { size = omega arith; depth = omega arith }
   used_within ds m (tree.conjunction es) i r h =
       let w = parts_within ds m es i r.0 h in

@@ -72,7 +72,7 @@ mutual
   meant_words ds f (tree.parenthesis e comma) h w = meant_words ds f e h w
   meant_words ds f (tree.struct es comma) h w = member_words ds f es h w
   meant_words ds f (tree.close place es inner comma) h w = member_words ds f es h w
-  meant_words ds f (tree.list es goes_on comma) h w = subst AreWords (sym (words_followed (meant_elements ds f es) goes_on)) (element_words ds f es h w)
+  meant_words ds f (tree.list es rest comma) h w = subst AreWords (sym (words_followed (meant_elements ds f es) rest)) (element_words ds f es h w)
   meant_words ds f (tree.conjunction es) h w = element_words ds f es h w
   meant_words ds f (tree.disjunction bs) h w = branch_words ds f bs h w
 

@@ -1,10 +1,10 @@
 //! What expressions refuse, as tables.
-ghost use Rattle.std.specs.Prelude.{◌<◌, None, IfOk, OnOk, slice_index_or};
+ghost use Rattle.std.specs.Prelude.{◌≡◌, ◌<◌, None, IfOk, OnOk, slice_index_or};
 ghost use Rattle.cue_lattice.specs.Limits.{step_limit};
 ghost use Rattle.cue_row.specs.Row.{Refuses, IsRow};
 ghost use Rattle.cue_scope.specs.Core as core;
 ghost use Rattle.cue_scope.specs.Limits as limits;
-ghost use Rattle.cue_scope.specs.Meaning.{meaning, nested, rest_of};
+ghost use Rattle.cue_scope.specs.Meaning.{meaning, meant_rest, nested};
 ghost use Rattle.cue_scope.specs.Uses.{uses_of_name};
 ghost use Rattle.cue_syntax.specs.Syntax as tree;
 ghost use Rattle.cue_table.specs.Form.{IsTable};
@@ -14,6 +14,7 @@ ghost use Rattle.cue_eval.specs.Parts.{AreAdded};
 ghost use Rattle.cue_eval.specs.Ready.{all_definitions, members_of, AreKnown, IsReady, IsTableAt};
 ghost use Rattle.cue_eval.specs.Ready.{AreReadyParts, AreReadyElements, AreReadyEntries};
 ghost use Rattle.cue_eval.specs.Ready.{AreReadyFields, IsField, AreGiven, AtLabels, IsScalarLeaf};
+ghost use Rattle.cue_eval.specs.Refuses.{is_open};
 
 use crate::hanging::{behind, list_of, marked, push_scalars, scalar_table, step_to, struct_of};
 use crate::labels::labels_of;
@@ -22,7 +23,7 @@ use crate::parts::{distinct, is_scalar_part, number_of};
 use crate::scalars::nothing;
 use cue_lattice::Memory;
 use cue_row::{Labels, Row, Step};
-use cue_syntax::{Declaration, Expr, Identifier, Label};
+use cue_syntax::{Declaration, Expr, Identifier, Label, Rest};
 use cue_table::Table;
 
 /// The definitions of a text, with the table of each one that was evaluated, and its pair where it
@@ -48,11 +49,7 @@ impl<'a, 'f, 't> Tables<'a, 'f, 't> {
             Expr::Parenthesis { inner, .. } => self.rows(inner),
             Expr::Struct { declarations, .. } => self.literal(declarations),
             Expr::Close { declarations, .. } => self.closed_literal(declarations),
-            Expr::List {
-                elements,
-                ellipsis,
-                ..
-            } => self.list(elements, *ellipsis),
+            Expr::List { elements, rest, .. } => self.list(elements, *rest),
             Expr::Conjunction(parts) => self.conjunction(parts),
             Expr::Disjunction(_) => self.scalar(expression),
             Expr::Integer(_) => self.scalar(expression),
@@ -249,14 +246,15 @@ impl<'a, 'f, 't> Tables<'a, 'f, 't> {
         Ok((step, marked(self.pairs.alloc, table, label.mark)?))
     }
 
-    /// A list literal, and whether it ends in `...`.
+    /// A list literal, with what stands behind its elements.
     #[cycle(rows)]
-    fn list(&self, elements: &[Expr], goes_on: bool) -> Result<Table<Row>, Memory>
-        requires { AreReadyElements self.now (tree.elements elements.now) (rest_of goes_on) }
+    fn list(&self, elements: &[Expr], rest: Rest) -> Result<Table<Row>, Memory>
+        requires { AreReadyElements self.now (tree.elements elements.now)
+            (meant_rest (tree.rest_of rest)) }
         ensures form { IfOk result (IsTable Refuses IsRow) }
         ensures answers { IfOk result (HasAnswersOf
             (core.list (core.followed_by (parts_of self.now.pairs (tree.elements elements.now))
-            (rest_of goes_on)))) }
+            (meant_rest (tree.rest_of rest))))) }
     {
         let mut steps = Vec::new(self.pairs.alloc);
         for element in elements {
@@ -264,6 +262,16 @@ impl<'a, 'f, 't> Tables<'a, 'f, 't> {
             let index = steps.len() as u32;
             steps.push((Step::Index(index), table))?;
         }
-        list_of(self.pairs.alloc, steps, goes_on)
+        list_of(self.pairs.alloc, steps, goes_on(rest))
+    }
+}
+
+/// Whether a list goes on behind its elements.
+fn goes_on(rest: Rest) -> bool
+    ensures { result ≡ is_open (meant_rest (tree.rest_of rest)) }
+{
+    match rest {
+        Rest::Ends => false,
+        Rest::GoesOn => true,
     }
 }

@@ -1,6 +1,6 @@
 //! What the struct literals at each place of an expression declare together: those that it writes
 //! itself, and those in definitions that it names apart.
-ghost use Rattle.std.specs.Prelude.{◌≡◌, ◌↔◌, ◌+◌, ◌≤◌, ◌<◌, ℕ, Bool, List, [], true, length, IfOk};
+ghost use Rattle.std.specs.Prelude.{◌≡◌, ◌↔◌, ◌+◌, ◌≤◌, ◌<◌, ℕ, List, [], true, length, IfOk};
 ghost use Rattle.cue_lattice.specs.Limits.{step_limit};
 ghost use Rattle.cue_syntax.specs.Syntax as tree;
 ghost use Rattle.cue_scope.specs.Core.{Core, struct, list, followed_by, conjunction, member};
@@ -8,7 +8,7 @@ ghost use Rattle.cue_scope.specs.Core.{no_members};
 ghost use Rattle.cue_scope.specs.Definitions.{Definition as DefinitionOf};
 ghost use Rattle.cue_scope.specs.Kept.{all_of};
 ghost use Rattle.cue_scope.specs.Limits.{depth};
-ghost use Rattle.cue_scope.specs.Meaning.{meaning, meant_name, meant_members, nested, rest_of};
+ghost use Rattle.cue_scope.specs.Meaning.{meaning, meant_name, meant_members, meant_rest, nested};
 ghost use Rattle.cue_scope.specs.Meaning.{text_of};
 ghost use Rattle.cue_table.specs.Depth.{tree_depth};
 ghost use Rattle.cue_eval.specs.Telling.{Tells, tells};
@@ -91,9 +91,9 @@ impl<'a, 'f, 't> Sight<'a, 'f, 't> {
     #[cycle(told)]
     fn elements(&self, whose: Whose, elements: &[Expr]) -> Result<Table<Declared>, Memory>
         requires { AreElementsKnown self.now (tree.elements elements.now) }
-        ensures { IfOk result (λ table. (goes_on : Bool) → IsTold whose
+        ensures { IfOk result (λ table. (rest : tree.Rest) → IsTold whose
             (list (followed_by (mean_elements self.now (tree.elements elements.now))
-            (rest_of goes_on))) table) }
+            (meant_rest rest))) table) }
     {
         let mut branches = Vec::new(self.alloc);
         let mut index: u32 = 0;

@@ -5,7 +5,7 @@ use Rattle.cue_syntax.specs.Unplaced.{unplaced, unplaced_elements, unplaced_bran
 use Rattle.cue_print.specs.Expressions.{Term, null, truths, truth, integers, number, at_most, at_least, between, texts, text, other_texts}
 use Rattle.cue_print.specs.Expressions.{Value, top, scalar, all, Parts, no_parts, struct, close, list, bottom, Fields, no_more, field, Elements, no_elements, element}
 use Rattle.cue_print.specs.Spelled.{is_compound}
-use Rattle.cue_reading.specs.PrintedTree.{unified, label_of, term_tree, branches, terms_branches, terms_tree, operand_tree, scalar_tree, value_tree, part_trees, field_trees, element_trees, has_some, file_tree}
+use Rattle.cue_reading.specs.PrintedTree.{unified, label_of, term_tree, branches, terms_branches, terms_tree, operand_tree, scalar_tree, value_tree, part_trees, field_trees, element_trees, has_some, file_tree, rest_tree}
 
 bare_texts : (ts : List (List ℕ)) → unplaced_elements (grammar.elements_of (map grammar.other_text ts)) ≡ grammar.elements_of (map grammar.other_text ts)
 bare_texts [] = refl
@@ -70,7 +70,7 @@ mutual
   bare_parts no_parts = refl
   bare_parts (struct fields parts) = ap₂ (λ fs es. grammar.element (grammar.struct fs false) es) (bare_fields fields) (bare_parts parts)
   bare_parts (close fields parts) = ap₂ (λ fs es. grammar.element (grammar.close 0 fs false false) es) (bare_fields fields) (bare_parts parts)
-  bare_parts (list elements goes_on parts) = ap₂ (λ ls es. grammar.element (grammar.list ls goes_on false) es) (bare_elements elements) (bare_parts parts)
+  bare_parts (list elements goes_on parts) = ap₂ (λ ls es. grammar.element (grammar.list ls (rest_tree goes_on) false) es) (bare_elements elements) (bare_parts parts)
   bare_parts (bottom parts) = ap (λ es. grammar.element grammar.bottom es) (bare_parts parts)
 
   pub bare_fields : (fields : Fields) → unplaced_entries (field_trees fields) ≡ field_trees fields

@@ -7,14 +7,14 @@ use Rattle.cue_row.specs.ValidRow.{AreLengths}
 use Rattle.cue_scope.specs.Core as core
 use Rattle.cue_scope.specs.Core.{Core, followed_by}
 use Rattle.cue_scope.specs.Definitions.{Definition}
-use Rattle.cue_scope.specs.Meaning.{meant_elements, rest_of}
+use Rattle.cue_scope.specs.Meaning.{meant_elements, meant_rest}
 use Rattle.cue_eval.specs.Places.{ListRefuses}
 use Rattle.cue_eval.specs.Refuses.{ElementsRefuse, count, is_open, ElementRefuses}
-use Rattle.cue_eval.proofs.Rests.{count_of_rest, open_followed, open_rest, rest_refuses}
+use Rattle.cue_eval.proofs.Rests.{count_of_rest, open_followed, rest_refuses}
 use Rattle.cue_print.specs.Expressions as printed
 use Rattle.cue_print.specs.Expressions.{Value, top, Parts}
 use Rattle.cue_print.specs.Printed.{elements_from, elements, list_part}
-use Rattle.cue_reading.specs.PrintedTree.{value_tree, element_trees}
+use Rattle.cue_reading.specs.PrintedTree.{value_tree, element_trees, rest_tree}
 use Rattle.cue_reading.specs.Inner.Meanings.{ValueRefuses, OnePartRefuses, LengthsRefuse, AsList}
 use Rattle.cue_reading.proofs.MeantFields.{top_silent}
 
@@ -53,23 +53,27 @@ two_lengths least most (length_at_least n) h = (λ g. ⊎_elim (λ f. absurd f) 
 greatest_below : (least most : ℕ) → AreLengths least (Some most) → most ≤ least
 greatest_below least most h = h.1
 
+open_rest : (goes_on : Bool) → is_open (meant_rest (rest_tree goes_on)) ≡ goes_on
+open_rest true = refl
+open_rest false = refl
+
 module _ (ds : List Definition) (meaning : ℕ → Core) where
   -- ---- elements
   abbrev meant_list : Bool → ℕ → ℕ → (ℕ → Value) → core.Elements
-  meant_list goes_on first n value_at = followed_by (meant_elements ds meaning (element_trees (elements_from first n value_at))) (rest_of goes_on)
+  meant_list goes_on first n value_at = followed_by (meant_elements ds meaning (element_trees (elements_from first n value_at))) (meant_rest (rest_tree goes_on))
 
   so_many : (goes_on : Bool) (first n : ℕ) (value_at : ℕ → Value) → count (meant_list goes_on first n value_at) ≡ n
   unfolding value_tree
-  so_many goes_on first zero value_at = count_of_rest goes_on
+  so_many goes_on first zero value_at = count_of_rest (rest_tree goes_on)
   so_many goes_on first (suc n) value_at = let more = so_many goes_on (first + 1) n value_at in omega arith
 
   so_open : (goes_on : Bool) (n : ℕ) (value_at : ℕ → Value) → is_open (meant_list goes_on 0 n value_at) ≡ goes_on
-  so_open goes_on n value_at = open_followed (meant_elements ds meaning (element_trees (elements_from 0 n value_at))) (rest_of goes_on) ∙ open_rest goes_on
+  so_open goes_on n value_at = open_followed (meant_elements ds meaning (element_trees (elements_from 0 n value_at))) (meant_rest (rest_tree goes_on)) ∙ open_rest goes_on
 
   each_element : (goes_on : Bool) (first n i : ℕ) (value_at : ℕ → Value) (path : Path) (question : Question) →
       ElementRefuses (meant_list goes_on first n value_at) i path question ↔ ((i < n) × ValueRefuses ds meaning (value_at (first + i)) path question)
   unfolding value_tree
-  each_element goes_on first zero i value_at path question = (λ h. absurd (rest_refuses goes_on i path question h), λ h. absurd (omega (arith, h.0)))
+  each_element goes_on first zero i value_at path question = (λ h. absurd (rest_refuses (rest_tree goes_on) i path question h), λ h. absurd (omega (arith, h.0)))
   each_element goes_on first (suc n) zero value_at path question =
       let here : first + 0 ≡ first = omega arith in (
         λ h. (omega arith, subst (λ k. ValueRefuses ds meaning (value_at k) path question) (sym here) h),

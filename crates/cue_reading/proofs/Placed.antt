@@ -14,7 +14,7 @@ use Rattle.cue_syntax.specs.declared.tree.Sign.{Sign}
 use Rattle.cue_syntax.specs.declared.tree.Sign.TheVariants as signs
 use Rattle.cue_syntax.specs.declared.tree.Signed.{Signed}
 use Rattle.cue_syntax.specs.declared.tree.Package.{Package}
-use Rattle.cue_syntax.specs.Syntax.{FileTree, Expression, name, integer, text, bottom, bound, other_integer, other_text, parenthesis, struct, close, list, conjunction, disjunction, Elements, no_elements, element, Branch, branch, Branches, no_branches, next_branch, Entry, ellipsis, field, definition, Entries, no_entries, entry}
+use Rattle.cue_syntax.specs.Syntax.{FileTree, Expression, name, integer, text, bottom, bound, other_integer, other_text, parenthesis, struct, close, list, conjunction, disjunction, Elements, no_elements, element, Branch, branch, Branches, no_branches, next_branch, Entry, ellipsis, field, definition, Entries, no_entries, entry, Rest, no_rest, any_rest}
 use Rattle.cue_syntax.specs.Spelling.{Piece, Reads, StandsAt, IsPlace, one, one_at, placed, comma_if, star_if, identifier_kind, comparison_kind, spell_sign, spell_signed, label_kind, spell_mark, spell_label, spell_rest, spell, spell_elements, spell_more_elements, spell_branch, spell_branches, spell_more_branches, spell_entry, spell_entries, spell_more_entries, spell_package, spell_file}
 use Rattle.cue_syntax.specs.Unplaced.{unplaced, unplaced_elements, unplaced_branch, unplaced_branches, unplaced_entry, unplaced_entries, unplaced_file}
 use Rattle.cue_syntax.proofs.ReadingsJoin.{reads_then, reads_none, reads_one_at, reads_placed}
@@ -62,10 +62,10 @@ free_package : (clause : Option Package) → AreFree (spell_package clause)
 free_package None = tt
 free_package (Some clause) = free_then (one (kinds.Name (codes "package")) ++ one (identifier_kind clause.name)) (comma_if clause.comma) (refl, (refl, tt)) (free_comma clause.comma)
 
-free_rest : (es : Elements) (goes_on : Bool) → AreFree (spell_rest es goes_on)
-free_rest es false = tt
-free_rest no_elements true = (refl, tt)
-free_rest (element e es) true = (refl, (refl, tt))
+free_rest : (es : Elements) (tail : Rest) → AreFree (spell_rest es tail)
+free_rest es no_rest = tt
+free_rest no_elements any_rest = (refl, tt)
+free_rest (element e es) any_rest = (refl, (refl, tt))
 
 -- ---- tokens that have the kinds of some pieces, and then further ones
 -- pieces in two parts
@@ -130,12 +130,12 @@ placed_kinds from [] = refl
 placed_kinds from (x ∷ p) = refl
 
 -- `...` stands behind the same elements
-same_rest : (es ds : Elements) (goes_on : Bool) → unplaced_elements es ≡ unplaced_elements ds → spell_rest es goes_on ≡ spell_rest ds goes_on
-same_rest es ds false same = refl
-same_rest no_elements no_elements true same = refl
-same_rest no_elements (element d ds) true same = cc
-same_rest (element e es) no_elements true same = cc
-same_rest (element e es) (element d ds) true same = refl
+same_rest : (es ds : Elements) (tail : Rest) → unplaced_elements es ≡ unplaced_elements ds → spell_rest es tail ≡ spell_rest ds tail
+same_rest es ds no_rest same = refl
+same_rest no_elements no_elements any_rest same = refl
+same_rest no_elements (element d ds) any_rest same = cc
+same_rest (element e es) no_elements any_rest same = cc
+same_rest (element e es) (element d ds) any_rest same = refl
 
 abbrev PlacesExpression : Expression → Type 0
 PlacesExpression e = (tokens : List Token) (more : List TokenKind) → kinds_of tokens ≡ spelled_kinds (spell e) ++ more → IsPlaced spell unplaced e tokens more
@@ -212,11 +212,11 @@ place_struct es comma inner tokens more are =
     let inside = place_braced es comma inner tokens more are in
     record { there = struct inside.there comma; same = ap (λ x. struct x comma) inside.same; left = inside.left; reads = inside.reads; kinds = inside.kinds }
 
-place_list : (es : Elements) (goes_on comma : Bool) → PlacesElements (spell_elements (kinds.Mark points.Comma)) es → PlacesExpression (list es goes_on comma)
-place_list es goes_on comma inner tokens more are =
+place_list : (es : Elements) (tail : Rest) (comma : Bool) → PlacesElements (spell_elements (kinds.Mark points.Comma)) es → PlacesExpression (list es tail comma)
+place_list es tail comma inner tokens more are =
     let p1 = one (kinds.Mark points.OpenBracket) in
     let p2 = spell_elements (kinds.Mark points.Comma) es in
-    let p3 = spell_rest es goes_on in
+    let p3 = spell_rest es tail in
     let p5 = one (kinds.Mark points.CloseBracket) in
     let k5 = spelled_kinds p5 ++ more in
     let k4 = spelled_kinds (comma_if comma) ++ k5 in
@@ -227,13 +227,13 @@ place_list es goes_on comma inner tokens more are =
     let d = split p1 p2 tokens k3 c in
     let opens = taken p1 (refl, tt) tokens (spelled_kinds p2 ++ k3) d in
     let inside = inner opens.left k3 opens.kinds in
-    let rests = taken p3 (free_rest es goes_on) inside.left k4 inside.kinds in
+    let rests = taken p3 (free_rest es tail) inside.left k4 inside.kinds in
     let commas = taken (comma_if comma) (free_comma comma) rests.left k5 rests.kinds in
     let closes = taken p5 (refl, tt) commas.left more commas.kinds in
-    let rest_reads = subst (λ p. Reads inside.left p rests.left) (sym (same_rest inside.there es goes_on inside.same)) rests.reads in
+    let rest_reads = subst (λ p. Reads inside.left p rests.left) (sym (same_rest inside.there es tail inside.same)) rests.reads in
     record {
-      there = list inside.there goes_on comma;
-      same = ap (λ x. list x goes_on comma) inside.same;
+      there = list inside.there tail comma;
+      same = ap (λ x. list x tail comma) inside.same;
       left = closes.left;
       reads = reads_then (reads_then (reads_then (reads_then opens.reads inside.reads) rest_reads) commas.reads) closes.reads;
       kinds = closes.kinds;
@@ -404,7 +404,7 @@ mutual
   place (parenthesis e comma) = place_parenthesis e comma (place e)
   place (struct es comma) = place_struct es comma (place_entries es)
   place (close from es inner comma) = place_close from es inner comma (place_entries es)
-  place (list es goes_on comma) = place_list es goes_on comma (place_elements es (kinds.Mark points.Comma))
+  place (list es tail comma) = place_list es tail comma (place_elements es (kinds.Mark points.Comma))
   place (conjunction es) = place_conjunction es (place_elements es (kinds.Mark points.Ampersand))
   place (disjunction bs) = place_disjunction bs (place_branches bs)
 

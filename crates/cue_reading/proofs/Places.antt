@@ -7,14 +7,14 @@ use Rattle.cue_lattice.specs.declared.refusal.Refusal.{Refusal}
 use Rattle.cue_syntax.specs.declared.tree.Identifier.{Identifier}
 use Rattle.cue_syntax.specs.declared.tree.Identifier.TheVariants as identifiers
 use Rattle.cue_syntax.specs.declared.tree.Label.{Label}
-use Rattle.cue_syntax.specs.Syntax.{Expression, name, integer, text, bottom, bound, other_integer, other_text, parenthesis, struct, close, list, conjunction, disjunction, Elements, no_elements, element, Branch, branch, Branches, no_branches, next_branch, Entry, ellipsis, field, definition, Entries, no_entries, entry}
+use Rattle.cue_syntax.specs.Syntax.{Expression, name, integer, text, bottom, bound, other_integer, other_text, parenthesis, struct, close, list, conjunction, disjunction, Elements, no_elements, element, Branch, branch, Branches, no_branches, next_branch, Entry, ellipsis, field, definition, Entries, no_entries, entry, Rest, no_rest, any_rest}
 use Rattle.cue_syntax.specs.Unplaced.{unplaced, unplaced_elements, unplaced_branch, unplaced_branches, unplaced_entry, unplaced_entries}
 use Rattle.cue_syntax.specs.Grammar.{IsUnary, IsConjunct, IsTerm, IsNested, AreUnary, AreNested, TwoElements, TwoBranches, EndsEntries, EndsElements, IsRight, AreRight, IsRightBranch, AreRightBranches, IsRightEntry, AreRightEntries, levels, levels_of_elements, levels_of_branch, levels_of_branches, levels_of_entry, levels_of_entries}
 use Rattle.cue_syntax.specs.Words.{HasWords, HaveWords, HasWordsBranch, HaveWordsBranches, HasWordsEntry, HaveWordsEntries}
 use Rattle.cue_scope.specs.Core.{Core, is_scalar}
 use Rattle.cue_scope.specs.Core as meant_as
 use Rattle.cue_scope.specs.Definitions.{Definition, definitions}
-use Rattle.cue_scope.specs.Meaning.{text_of, nested, rest_of, meant, meant_elements, meant_branches, meant_members, meant_fields}
+use Rattle.cue_scope.specs.Meaning.{text_of, nested, meant_rest, meant, meant_elements, meant_branches, meant_members, meant_fields}
 use Rattle.cue_scope.specs.Named.{named_of, is_literal}
 use Rattle.cue_scope.specs.Names.{Scope, is_unquoted, has_label, inside, behind, fault_of, fault_of_close, faults, faults_of_elements, faults_of_branches, faults_of_entries}
 use Rattle.cue_scope.specs.Terms.{terms, terms_of_elements, terms_of_branches, terms_of_entries}
@@ -60,11 +60,11 @@ ends_placed true no_entries ends = ends
 ends_placed true (entry e es) ends = tt
 ends_placed false es ends = tt
 
-ends_elements_placed : (comma goes_on : Bool) (es : Elements) → EndsElements comma goes_on (unplaced_elements es) → EndsElements comma goes_on es
-ends_elements_placed true false no_elements ends = ends
-ends_elements_placed true false (element e es) ends = tt
-ends_elements_placed true true es ends = tt
-ends_elements_placed false goes_on es ends = tt
+ends_elements_placed : (comma : Bool) (rest : Rest) (es : Elements) → EndsElements comma rest (unplaced_elements es) → EndsElements comma rest es
+ends_elements_placed true no_rest no_elements ends = ends
+ends_elements_placed true no_rest (element e es) ends = tt
+ends_elements_placed true any_rest es ends = tt
+ends_elements_placed false rest es ends = tt
 
 mutual
   right_placed : (e : Expression) → IsRight (unplaced e) → IsRight e
@@ -78,7 +78,7 @@ mutual
   right_placed (parenthesis e comma) is = right_placed e is
   right_placed (struct es comma) is = (entries_right es is.0, all_nested_placed es is.1, ends_placed comma es is.2)
   right_placed (close from es inner comma) is = (entries_right es is.0, all_nested_placed es is.1, ends_placed inner es is.2)
-  right_placed (list es goes_on comma) is = (elements_right es is.0, ends_elements_placed comma goes_on es is.1)
+  right_placed (list es rest comma) is = (elements_right es is.0, ends_elements_placed comma rest es is.1)
   right_placed (conjunction es) is = (elements_right es is.0, all_unary_placed es is.1, two_elements_placed es is.2)
   right_placed (disjunction bs) is = (branches_right bs is.0, two_branches_placed bs is.1)
 
@@ -114,7 +114,7 @@ mutual
   words_placed (parenthesis e comma) is = words_placed e is
   words_placed (struct es comma) is = entries_words es is
   words_placed (close from es inner comma) is = entries_words es is
-  words_placed (list es goes_on comma) is = elements_words es is
+  words_placed (list es rest comma) is = elements_words es is
   words_placed (conjunction es) is = elements_words es is
   words_placed (disjunction bs) is = branches_words bs is
 
@@ -150,7 +150,7 @@ mutual
   levels_placed (parenthesis e comma) = ap (λ n. 1 + n) (levels_placed e)
   levels_placed (struct es comma) = ap (λ n. 1 + n) (entries_levels es)
   levels_placed (close from es inner comma) = ap (λ n. 2 + n) (entries_levels es)
-  levels_placed (list es goes_on comma) = ap (λ n. 1 + n) (elements_levels es)
+  levels_placed (list es rest comma) = ap (λ n. 1 + n) (elements_levels es)
   levels_placed (conjunction es) = elements_levels es
   levels_placed (disjunction bs) = branches_levels bs
 
@@ -187,7 +187,7 @@ mutual
   meant_placed (parenthesis e comma) ds m = meant_placed e ds m
   meant_placed (struct es comma) ds m = ap meant_as.struct (members_placed es ds m)
   meant_placed (close from es inner comma) ds m = ap meant_as.close (members_placed es ds m)
-  meant_placed (list es goes_on comma) ds m = ap (λ cs. meant_as.list (meant_as.followed_by cs (rest_of goes_on))) (cores_placed es ds m)
+  meant_placed (list es rest comma) ds m = ap (λ cs. meant_as.list (meant_as.followed_by cs (meant_rest rest))) (cores_placed es ds m)
   meant_placed (conjunction es) ds m = ap meant_as.conjunction (cores_placed es ds m)
   meant_placed (disjunction bs) ds m = ap meant_as.disjunction (choices_placed bs ds m)
 
@@ -286,7 +286,7 @@ mutual
   faults_placed (close from es inner comma) a b same none =
       both_none (close_placed from a b same (none_left (fault_of_close a 0) (faults_of_entries [] (inside (unplaced_entries es) a) (unplaced_entries es)) none))
       (entries_faults es (inside (unplaced_entries es) a) (inside es b) (inside_placed es a b same) (none_right (fault_of_close a 0) (faults_of_entries [] (inside (unplaced_entries es) a) (unplaced_entries es)) none))
-  faults_placed (list es goes_on comma) a b same none = elements_faults es a b same none
+  faults_placed (list es rest comma) a b same none = elements_faults es a b same none
   faults_placed (conjunction es) a b same none = elements_faults es a b same none
   faults_placed (disjunction bs) a b same none = branches_faults bs a b same none
 
@@ -335,7 +335,7 @@ mutual
   terms_placed (parenthesis e comma) m none = terms_placed e m none
   terms_placed (struct es comma) m none = entries_terms es m none
   terms_placed (close from es inner comma) m none = entries_terms es m none
-  terms_placed (list es goes_on comma) m none = elements_terms es m none
+  terms_placed (list es rest comma) m none = elements_terms es m none
   terms_placed (conjunction es) m none = elements_terms es m none
   terms_placed (disjunction bs) m none = branches_terms bs m none
 

@@ -16,7 +16,7 @@ use Rattle.cue_reading.specs.Kinds.{IsRead}
 use Rattle.cue_reading.specs.Inner.Joining.{AreRead}
 use Rattle.cue_reading.specs.Spelled.{spelled_kinds}
 use Rattle.cue_reading.specs.Inner.Printable.{HasPart, IsPrintable, ArePrintableParts, ArePrintableFields, ArePrintableElements}
-use Rattle.cue_reading.specs.PrintedTree.{unified, label_of, value_tree, part_trees, field_trees, element_trees}
+use Rattle.cue_reading.specs.PrintedTree.{unified, label_of, value_tree, part_trees, field_trees, element_trees, rest_tree}
 use Rattle.cue_reading.proofs.Joins.{led, read_on, read_as}
 use Rattle.cue_reading.proofs.Marks.{brace_leads, bracket_leads, comma_leads, and_leads, colon_leads, optional_leads, required_leads, bottom_read, ellipsis_read, close_parenthesis_read, close_brace_read, close_bracket_read, stop_space, stop_comma, stop_parenthesis, stop_brace, stop_bracket, stop_colon, stop_question, stop_exclamation}
 use Rattle.cue_reading.proofs.Names.{top_read, close_leads}
@@ -61,7 +61,7 @@ flat_then : {X : Type 0} (f : X → List TokenKind) (xs ys : List X) → flat_ma
 flat_then f [] ys = refl
 flat_then f (x ∷ xs) ys = ap (λ ks. f x ++ ks) (flat_then f xs ys) ∙ sym (append_assoc (f x) (flat_map f xs) (flat_map f ys))
 
-rest_joined : (es : grammar.Elements) (goes_on : Bool) → joined_kinds (kinds.Mark points.Comma) (each_kinds es ++ rest_kinds goes_on) ≡ spelled_kinds (spell_elements (kinds.Mark points.Comma) es ++ spell_rest es goes_on)
+rest_joined : (es : grammar.Elements) (goes_on : Bool) → joined_kinds (kinds.Mark points.Comma) (each_kinds es ++ rest_kinds goes_on) ≡ spelled_kinds (spell_elements (kinds.Mark points.Comma) es ++ spell_rest es (rest_tree goes_on))
 unfolding rest_kinds
 rest_joined es false =
     ap (joined_kinds (kinds.Mark points.Comma)) (append-nil (each_kinds es)) ∙ elements_spelled (kinds.Mark points.Comma) es ∙ ap spelled_kinds (sym (append-nil (spell_elements (kinds.Mark points.Comma) es)))
@@ -76,14 +76,14 @@ rest_joined (grammar.element e es) true =
     ∙ sym (map-append piece (spell_elements (kinds.Mark points.Comma) (grammar.element e es)) (one (kinds.Mark points.Comma) ++ one (kinds.Mark points.Ellipsis)))
 
 brackets : (es : grammar.Elements) (goes_on : Bool) → (kinds.Mark points.OpenBracket ∷ []) ++ (joined_kinds (kinds.Mark points.Comma) (each_kinds es ++ rest_kinds goes_on) ++ (kinds.Mark points.CloseBracket ∷ []))
-    ≡ spelled_kinds (spell (grammar.list es goes_on false))
+    ≡ spelled_kinds (spell (grammar.list es (rest_tree goes_on) false))
 brackets es goes_on =
     let piece = λ (p : Piece). p.kind in
-    let inside = spell_elements (kinds.Mark points.Comma) es ++ spell_rest es goes_on in
+    let inside = spell_elements (kinds.Mark points.Comma) es ++ spell_rest es (rest_tree goes_on) in
     ap (λ ks. kinds.Mark points.OpenBracket ∷ (ks ++ (kinds.Mark points.CloseBracket ∷ []))) (rest_joined es goes_on ∙ ap spelled_kinds (sym (append-nil inside)))
     ∙ ap (λ ks. kinds.Mark points.OpenBracket ∷ ks) (sym (map-append piece (inside ++ []) (one (kinds.Mark points.CloseBracket))))
 
-list_read : (texts : List (List ℕ)) (es : grammar.Elements) (goes_on : Bool) → AreRead texts (each_kinds es) → IsRead (list_text texts goes_on) (spelled_kinds (spell (grammar.list es goes_on false)))
+list_read : (texts : List (List ℕ)) (es : grammar.Elements) (goes_on : Bool) → AreRead texts (each_kinds es) → IsRead (list_text texts goes_on) (spelled_kinds (spell (grammar.list es (rest_tree goes_on) false)))
 list_read texts es goes_on are =
     read_as (brackets es goes_on)
     (enclosed_read (texts ++ rest_texts goes_on) (each_kinds es ++ rest_kinds goes_on) bracket_leads (λ rest. stop_comma) comma_leads (λ rest. stop_bracket) close_bracket_read (rest_read texts (each_kinds es) goes_on are))

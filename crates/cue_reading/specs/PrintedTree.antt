@@ -37,6 +37,11 @@ at_most_tree n = grammar.bound comparisons.AtMost (signed n)
 abbrev pub at_least_tree : ℤ → Expression
 at_least_tree n = grammar.bound comparisons.AtLeast (signed n)
 
+-- `...` at the end of a list, where it goes on
+abbrev pub rest_tree : Bool → grammar.Rest
+rest_tree true = grammar.any_rest
+rest_tree false = grammar.no_rest
+
 -- expressions with `&` between them: one stands alone
 abbrev pub unified : grammar.Elements → Expression
 unified (grammar.element one grammar.no_elements) = one
@@ -112,7 +117,8 @@ unfoldable mutual
   part_trees (close fields parts) =
       grammar.element (grammar.close 0 (field_trees fields) false false) (part_trees parts)
   part_trees (list elements goes_on parts) =
-      grammar.element (grammar.list (element_trees elements) goes_on false) (part_trees parts)
+      grammar.element (grammar.list (element_trees elements) (rest_tree goes_on) false)
+      (part_trees parts)
   part_trees (bottom parts) = grammar.element grammar.bottom (part_trees parts)
 
   pub field_trees : Fields → grammar.Entries

@@ -13,7 +13,7 @@ use Rattle.cue_syntax.specs.Syntax.{Expression, Elements, no_elements, element, 
 use Rattle.cue_scope.specs.Core.{Core, bottom, closed, conjunction, disjunction, struct, close, list, core, followed_by, choice, member, dots}
 use Rattle.cue_scope.specs.Definitions.{Definition, number_of}
 use Rattle.cue_scope.specs.Graph.{IsIn, targets, PointsTo, IsOrder}
-use Rattle.cue_scope.specs.Meaning.{meant, meant_elements, meant_branches, meant_members, meant_name, meant_use, meaning_within, meaning, nested, rest_of, text_of}
+use Rattle.cue_scope.specs.Meaning.{meant, meant_elements, meant_branches, meant_members, meant_name, meant_use, meaning_within, meaning, nested, meant_rest, text_of}
 use Rattle.cue_scope.specs.Uses.{uses, uses_of_name, uses_of_elements, uses_of_branches, uses_of_entries, graph}
 use Rattle.cue_scope.proofs.Nodes.{in_append_left, in_append_right, in_index}
 
@@ -51,7 +51,7 @@ mutual
   alike ds f g (tree.parenthesis e comma) h = alike ds f g e h
   alike ds f g (tree.struct es comma) h = ap struct (alike_members ds f g es h)
   alike ds f g (tree.close place es inner comma) h = ap close (alike_members ds f g es h)
-  alike ds f g (tree.list es goes_on comma) h = ap (λ z. list (followed_by z (rest_of goes_on))) (alike_elements ds f g es h)
+  alike ds f g (tree.list es rest comma) h = ap (λ z. list (followed_by z (meant_rest rest))) (alike_elements ds f g es h)
   alike ds f g (tree.conjunction es) h = ap conjunction (alike_elements ds f g es h)
   alike ds f g (tree.disjunction bs) h = ap disjunction (alike_branches ds f g bs h)
 

@@ -6,7 +6,7 @@ use Rattle.cue_syntax.specs.declared.tree.Expr.{Expr}
 use Rattle.cue_syntax.specs.declared.tree.Term.{Term}
 use Rattle.cue_syntax.specs.declared.tree.Declaration.{Declaration}
 use Rattle.cue_syntax.specs.declared.tree.Declaration.TheVariants as declarations
-use Rattle.cue_syntax.specs.Syntax.{Entry, Elements, list, expression, elements, branches, entries, entry_tree, next_branch, entry, ellipsis, field, definition}
+use Rattle.cue_syntax.specs.Syntax.{Entry, Elements, list, expression, elements, branches, entries, entry_tree, next_branch, entry, ellipsis, field, definition, Rest}
 use Rattle.cue_syntax.proofs.Views.{view-term, view-Ellipsis, view-Field, view-Definition}
 use Rattle.cue_scope.specs.declared.measure.Measure.{Measure}
 use Rattle.cue_scope.specs.declared.measure.Known.{Known}
@@ -15,12 +15,12 @@ use Rattle.cue_scope.specs.Core.{Core, bottom, closed}
 use Rattle.cue_scope.specs.Graph.{IsIn, IsOrder}
 use Rattle.cue_scope.specs.Definitions.{Definition}
 use Rattle.cue_scope.specs.Kept.{all_of}
-use Rattle.cue_scope.specs.Limits.{size, depth}
-use Rattle.cue_scope.specs.Meaning.{nested, meaning, meant, meant_use, meant_elements, rest_of}
+use Rattle.cue_scope.specs.Limits.{size, size_of_elements, depth}
+use Rattle.cue_scope.specs.Meaning.{nested, meaning, meant, meant_use, meant_elements, meant_rest}
 use Rattle.cue_scope.specs.Terms.{terms}
 use Rattle.cue_scope.specs.Uses.{graph, uses, uses_of_elements, uses_of_branches, uses_of_entries}
 use Rattle.cue_scope.specs.Measures.{Total, IsMeasured, IsUse, IsKnown, none, join, larger, as_literal, as_field, as_element, as_term, behind_labels, only_places, total_of, total, total_of_parts, total_of_elements, total_of_terms, total_of_entries, total_of_file}
-use Rattle.cue_scope.proofs.Followed.{one_if, size_followed, depth_followed, size_of_rest, depth_of_rest}
+use Rattle.cue_scope.proofs.Followed.{size_followed, depth_followed, depth_of_rest}
 use Rattle.cue_scope.proofs.Meanings.{meaning_is}
 use Rattle.std.specs.Prelude.{slice_get}
 use Rattle.cue_scope.proofs.Nodes.{in_append_left, in_append_right}
@@ -176,15 +176,14 @@ pub use_listed : (o : Option ℕ) (number : ℕ) → Some number ≡ o → IsIn 
 use_listed o number is = subst (λ z. IsIn number (option_to_list z)) is (inl refl)
 
 -- a list, with 1 of its own and 1 for its `...`
-pub list_measured : (ds : List Definition) (es : Elements) (goes_on comma : Bool) (m : Measure) (own : ℕ) → own ≡ 1 + one_if goes_on → IsMeasured m (as_literal own (total_of_elements ds es)) → IsMeasured m (total ds (list es goes_on comma))
-list_measured ds es goes_on comma m own is h =
+pub list_measured : (ds : List Definition) (es : Elements) (rest : Rest) (comma : Bool) (m : Measure) (own : ℕ) → own ≡ 1 + size_of_elements (meant_rest rest) → IsMeasured m (as_literal own (total_of_elements ds es)) → IsMeasured m (total ds (list es rest comma))
+list_measured ds es rest comma m own is h =
     let cs = meant_elements ds (meaning ds) es in
-    let larger = size_followed cs (rest_of goes_on) in
-    let deeper = depth_followed cs (rest_of goes_on) in
-    let more = size_of_rest goes_on in
-    let flat = depth_of_rest goes_on in
+    let larger = size_followed cs (meant_rest rest) in
+    let deeper = depth_followed cs (meant_rest rest) in
+    let flat = depth_of_rest rest in
     subst (λ z. IsMeasured m z)
-    (same_total (as_literal own (total_of_elements ds es)) (total ds (list es goes_on comma)) refl (omega (arith, larger, more, is)) (omega (arith, deeper, flat)) refl) h
+    (same_total (as_literal own (total_of_elements ds es)) (total ds (list es rest comma)) refl (omega (arith, larger, is)) (omega (arith, deeper, flat)) refl) h
 
 abbrev pub MeasuringFile : Known → Measure → List Declaration → List Declaration → Type 0
 MeasuringFile known m es left = let ds = all_of known.definitions.now in Measuring known m (total_of_file ds (entries es)) (total_of_file ds (entries left)) (uses_of_entries ds (entries left))

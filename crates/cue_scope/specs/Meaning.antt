@@ -1,5 +1,5 @@
 -- What expressions and texts mean.
-use Rattle.std.specs.Prelude.{ℕ, suc, zero, Bool, true, false, cond, List, [], ◌∷◌, length, Option}
+use Rattle.std.specs.Prelude.{ℕ, suc, zero, true, false, cond, List, [], ◌∷◌, length, Option}
 use Rattle.std.specs.Prelude.{None, Some, codes, slice_get}
 use Rattle.std.specs.Option.{option_map_or}
 use Rattle.std.specs.Str.{bytes_eq}
@@ -43,10 +43,10 @@ meant_name ds meaning (identifiers.Plain t) = meant_word t
 meant_name ds meaning (identifiers.Definition t) = option_map_or meaning (number_of t ds) bottom
 meant_name ds meaning (identifiers.Hidden t) = cond (bytes_eq t (codes "_")) top bottom
 
--- what stands behind the last element of a list: nothing, or a `...`
-abbrev pub rest_of : Bool → cores.Elements
-rest_of true = goes_on
-rest_of false = ends
+-- what stands behind the last element of a list
+abbrev pub meant_rest : tree.Rest → cores.Elements
+meant_rest tree.no_rest = ends
+meant_rest tree.any_rest = goes_on
 
 abbrev mutual
   pub meant : List Definition → (ℕ → Core) → Expression → Core
@@ -60,8 +60,8 @@ abbrev mutual
   meant ds meaning (tree.parenthesis e comma) = meant ds meaning e
   meant ds meaning (tree.struct es comma) = struct (meant_members ds meaning es)
   meant ds meaning (tree.close place es inner comma) = close (meant_members ds meaning es)
-  meant ds meaning (tree.list es more comma) =
-      list (followed_by (meant_elements ds meaning es) (rest_of more))
+  meant ds meaning (tree.list es rest comma) =
+      list (followed_by (meant_elements ds meaning es) (meant_rest rest))
   meant ds meaning (tree.conjunction es) = conjunction (meant_elements ds meaning es)
   meant ds meaning (tree.disjunction bs) = disjunction (meant_branches ds meaning bs)
 

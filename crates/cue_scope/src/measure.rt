@@ -1,6 +1,7 @@
-ghost use Rattle.std.specs.Prelude.{[], ℕ, List, true, length, ◌<◌, IfErr, OnOk};
+ghost use Rattle.std.specs.Prelude.{◌≡◌, ◌+◌, [], ℕ, List, true, length, ◌<◌, IfErr, OnOk};
 ghost use Rattle.cue_syntax.specs.Syntax as tree;
 ghost use Rattle.cue_scope.specs.Kept.{all_of};
+ghost use Rattle.cue_scope.specs.Limits.{size_of_elements};
 ghost use Rattle.cue_scope.specs.Meaning as meaning;
 ghost use Rattle.cue_scope.specs.Measures as totals;
 ghost use Rattle.cue_scope.specs.Measures.{Total, IsMeasured, IsKnown};
@@ -9,7 +10,7 @@ ghost use Rattle.cue_scope.specs.Graph.{IsOrder, targets};
 
 use crate::definitions::Definitions;
 use cue_lattice::{Kind, Refusal};
-use cue_syntax::{Declaration, Expr, Identifier, Label, Term};
+use cue_syntax::{Declaration, Expr, Identifier, Label, Rest, Term};
 
 /// The greatest size of a text, and one more: a size that isn't counted further.
 pub const LARGE: usize = 65_537;
@@ -183,6 +184,16 @@ impl Measure {
     }
 }
 
+/// The size of a list but for its elements.
+fn own_size(rest: Rest) -> usize
+    ensures { result ≡ 1 + size_of_elements (meaning.meant_rest (tree.rest_of rest)) }
+{
+    match rest {
+        Rest::Ends => 1,
+        Rest::GoesOn => 2,
+    }
+}
+
 /// What is known of definitions: the measure of a use of each, as far as they were measured.
 #[derive(Clone, Copy, Drop)]
 pub struct Known<'a, 'f, 't> {
@@ -275,14 +286,7 @@ impl<'a, 'f, 't> Known<'a, 'f, 't> {
             Expr::Parenthesis { inner, .. } => self.expression(inner),
             Expr::Struct { declarations, .. } => self.declarations(declarations).literal(1),
             Expr::Close { declarations, .. } => self.declarations(declarations).literal(2),
-            Expr::List {
-                elements,
-                ellipsis,
-                ..
-            } => {
-                let own = if *ellipsis { 2 } else { 1 };
-                self.elements(elements).literal(own)
-            }
+            Expr::List { elements, rest, .. } => self.elements(elements).literal(own_size(*rest)),
             Expr::Conjunction(parts) => self.parts(parts).larger(1),
             Expr::Disjunction(terms) => self.terms(terms).larger(1),
             Expr::Integer(_) => Measure::leaf(true),

@@ -8,7 +8,7 @@ use Rattle.cue_syntax.specs.declared.tree.Identifier.{Identifier}
 use Rattle.cue_syntax.specs.declared.tree.Label.{Label}
 use Rattle.cue_syntax.specs.declared.tree.LabelName.{LabelName}
 use Rattle.cue_syntax.specs.declared.tree.Mark.{Mark}
-use Rattle.cue_syntax.specs.Syntax.{Expression, Elements, no_elements, element, Entry, ellipsis, field, definition, Entries, no_entries, entry}
+use Rattle.cue_syntax.specs.Syntax.{Expression, Elements, no_elements, element, Entry, ellipsis, field, definition, Entries, no_entries, entry, Rest, no_rest, any_rest}
 use Rattle.cue_syntax.specs.Spelling.{Reads, one, comma_if, identifier_kind, label_kind, spell, spell_mark, spell_label, spell_elements, spell_more_elements, spell_rest, spell_entry, spell_entries, spell_more_entries}
 use Rattle.cue_syntax.specs.Grammar.{AreRight, AreRightEntries, IsNested, EndsEntries, EndsElements, IsPackageName, IsRightPackage, levels_of_elements, levels_of_entries, Limit}
 use Rattle.cue_syntax.proofs.ReadingsJoin.{reads_then, reads_none}
@@ -134,28 +134,28 @@ brace_closed n t kind first shuts = record {
         ∙ ap (λ z. spell_entries es ++ z) (append_assoc (comma_if inner) (one (kinds.Mark points.CloseBrace)) (comma_if comma ++ one (kinds.Mark points.CloseParenthesis))))
 
 -- lists
-ends_elements : (comma goes_on : Bool) (e : Expression) (es : Elements) → EndsElements comma goes_on (element e es)
-ends_elements true true e es = tt
-ends_elements true false e es = tt
-ends_elements false true e es = tt
-ends_elements false false e es = tt
+ends_elements : (comma : Bool) (tail : Rest) (e : Expression) (es : Elements) → EndsElements comma tail (element e es)
+ends_elements true any_rest e es = tt
+ends_elements true no_rest e es = tt
+ends_elements false any_rest e es = tt
+ends_elements false no_rest e es = tt
 
-rest_is : (goes_on : Bool) (e : Expression) (es : Elements) → rest_behind goes_on ≡ spell_rest (element e es) goes_on
-rest_is true e es = refl
-rest_is false e es = refl
+rest_is : (tail : Rest) (e : Expression) (es : Elements) → rest_behind tail ≡ spell_rest (element e es) tail
+rest_is any_rest e es = refl
+rest_is no_rest e es = refl
 
 -- an expression, and what may come after an element, are elements up to the bracket
 pub element_elements : {limit : Limit} {n : ℕ} {a b c : List Token} → AnExpression limit n a b → MoreListed limit n b c → Listed limit n a c
 element_elements {a = a} {c = c} first more = record {
   tree = element first.part more.tree;
-  goes_on = more.goes_on;
+  tail = more.tail;
   comma = more.comma;
   reads = subst (λ z. Reads a (spell first.part ++ spell_more_elements (kinds.Mark points.Comma) more.tree ++ (z ++ (comma_if more.comma ++ one (kinds.Mark points.CloseBracket)))) c)
-      (rest_is more.goes_on first.part more.tree)
-      (reads_same (three (spell first.part) (spell_more_elements (kinds.Mark points.Comma) more.tree) (rest_behind more.goes_on ++ (comma_if more.comma ++ one (kinds.Mark points.CloseBracket))))
+      (rest_is more.tail first.part more.tree)
+      (reads_same (three (spell first.part) (spell_more_elements (kinds.Mark points.Comma) more.tree) (rest_behind more.tail ++ (comma_if more.comma ++ one (kinds.Mark points.CloseBracket))))
       (reads_then first.reads more.reads));
   right = (first.good, more.right);
-  ends = ends_elements more.comma more.goes_on first.part more.tree;
+  ends = ends_elements more.comma more.tail first.part more.tree;
   within = keeps_both first.within more.within (omega arith);
 }
 
@@ -163,7 +163,7 @@ element_elements {a = a} {c = c} first more = record {
 pub ellipsis_elements : {limit : Limit} {n : ℕ} {a b : List Token} (t : Token) → t.kind ≡ (kinds.Mark points.Ellipsis) → Shuts (kinds.Mark points.CloseBracket) a b → Keeps limit n → Listed limit n (t ∷ a) b
 ellipsis_elements t kind shuts keeps = record {
   tree = no_elements;
-  goes_on = true;
+  tail = any_rest;
   comma = shuts.part;
   reads = reads_kind t kind shuts.reads;
   right = tt;
@@ -171,32 +171,32 @@ ellipsis_elements t kind shuts keeps = record {
   within = keeps_from keeps (omega arith);
 }
   where
-    open_ends : (comma : Bool) → EndsElements comma true no_elements
+    open_ends : (comma : Bool) → EndsElements comma any_rest no_elements
     open_ends true = tt
     open_ends false = tt
 
 -- a closing bracket alone ends a list that has no elements
 pub bracket_elements : {limit : Limit} {n : ℕ} {a : List Token} (t : Token) → t.kind ≡ (kinds.Mark points.CloseBracket) → Keeps limit n → Listed limit n (t ∷ a) a
-bracket_elements t kind keeps = record { tree = no_elements; goes_on = false; comma = false; reads = reads_kind t kind reads_none; right = tt; ends = tt; within = keeps_from keeps (omega arith) }
+bracket_elements t kind keeps = record { tree = no_elements; tail = no_rest; comma = false; reads = reads_kind t kind reads_none; right = tt; ends = tt; within = keeps_from keeps (omega arith) }
 
 -- a closing bracket may come right after an element
 pub bracket_more : {limit : Limit} {n : ℕ} {a : List Token} (t : Token) → t.kind ≡ (kinds.Mark points.CloseBracket) → Keeps limit n → MoreListed limit n (t ∷ a) a
-bracket_more t kind keeps = record { tree = no_elements; goes_on = false; comma = false; reads = reads_kind t kind reads_none; right = tt; within = keeps_from keeps (omega arith) }
+bracket_more t kind keeps = record { tree = no_elements; tail = no_rest; comma = false; reads = reads_kind t kind reads_none; right = tt; within = keeps_from keeps (omega arith) }
 
 -- a comma and then elements up to the bracket may come after an element
 pub comma_elements : {limit : Limit} {n : ℕ} {a b : List Token} (t : Token) → t.kind ≡ (kinds.Mark points.Comma) → Listed limit n a b → MoreListed limit n (t ∷ a) b
-comma_elements {limit} {n} {a} {b} t kind more = by_elements more.tree more.goes_on more.comma more.reads more.right more.ends more.within
+comma_elements {limit} {n} {a} {b} t kind more = by_elements more.tree more.tail more.comma more.reads more.right more.ends more.within
   where
-    by_elements : (es : Elements) (goes_on comma : Bool) → Reads a (spell_elements (kinds.Mark points.Comma) es ++ (spell_rest es goes_on ++ (comma_if comma ++ one (kinds.Mark points.CloseBracket)))) b → AreRight es
-        → EndsElements comma goes_on es → Keeps limit (levels_of_elements es + n) → MoreListed limit n (t ∷ a) b
-    by_elements no_elements false true reads right ends within = absurd ends
-    by_elements no_elements false false reads right ends within = record { tree = no_elements; goes_on = false; comma = true; reads = reads_kind t kind reads; right = tt; within = within }
-    by_elements no_elements true comma reads right ends within = record { tree = no_elements; goes_on = true; comma = comma; reads = reads_kind t kind reads; right = tt; within = within }
-    by_elements (element e es) goes_on comma reads right ends within = record {
+    by_elements : (es : Elements) (tail : Rest) (comma : Bool) → Reads a (spell_elements (kinds.Mark points.Comma) es ++ (spell_rest es tail ++ (comma_if comma ++ one (kinds.Mark points.CloseBracket)))) b → AreRight es
+        → EndsElements comma tail es → Keeps limit (levels_of_elements es + n) → MoreListed limit n (t ∷ a) b
+    by_elements no_elements no_rest true reads right ends within = absurd ends
+    by_elements no_elements no_rest false reads right ends within = record { tree = no_elements; tail = no_rest; comma = true; reads = reads_kind t kind reads; right = tt; within = within }
+    by_elements no_elements any_rest comma reads right ends within = record { tree = no_elements; tail = any_rest; comma = comma; reads = reads_kind t kind reads; right = tt; within = within }
+    by_elements (element e es) tail comma reads right ends within = record {
       tree = element e es;
-      goes_on = goes_on;
+      tail = tail;
       comma = comma;
-      reads = reads_kind t kind (subst (λ z. Reads a (spell e ++ spell_more_elements (kinds.Mark points.Comma) es ++ (z ++ (comma_if comma ++ one (kinds.Mark points.CloseBracket)))) b) (sym (rest_is goes_on e es)) reads);
+      reads = reads_kind t kind (subst (λ z. Reads a (spell e ++ spell_more_elements (kinds.Mark points.Comma) es ++ (z ++ (comma_if comma ++ one (kinds.Mark points.CloseBracket)))) b) (sym (rest_is tail e es)) reads);
       right = right;
       within = within;
     }

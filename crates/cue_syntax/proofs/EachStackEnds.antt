@@ -11,7 +11,7 @@ use Rattle.cue_syntax.specs.declared.tree.Mark.TheVariants as marks
 use Rattle.cue_syntax.specs.declared.tree.Sign.{Sign}
 use Rattle.cue_syntax.specs.declared.tree.Sign.TheVariants as signs
 use Rattle.cue_syntax.specs.declared.tree.Signed.{Signed}
-use Rattle.cue_syntax.specs.Syntax.{Expression, name, integer, text, branch, no_elements, no_branches, next_branch, no_entries}
+use Rattle.cue_syntax.specs.Syntax.{Expression, name, integer, text, branch, no_elements, no_branches, next_branch, no_entries, Rest, no_rest}
 use Rattle.cue_syntax.specs.Spelling.{Piece, Reads, one}
 use Rattle.cue_syntax.specs.Grammar.{IsKeyword, IsOperand, Limit, unlimited, at_most, greatest}
 use Rattle.cue_syntax.specs.Recogniser.{Goal, Stack, is_keyword, depth, levels_of}
@@ -261,7 +261,7 @@ goal_ends limit n Goal.elements keeps rest = (
   _,
   record {
     tree = no_elements;
-    goes_on = false;
+    tail = no_rest;
     comma = false;
     reads = is_one (kinds.Mark points.CloseBracket) rest;
     right = tt;
@@ -273,7 +273,7 @@ goal_ends limit n Goal.more_elements keeps rest = (
   _,
   record {
     tree = no_elements;
-    goes_on = false;
+    tail = no_rest;
     comma = false;
     reads = is_one (kinds.Mark points.CloseBracket) rest;
     right = tt;

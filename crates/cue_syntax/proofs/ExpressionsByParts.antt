@@ -211,8 +211,8 @@ struct_unary t kind first = record {
 -- an opening bracket, and elements up to the closing one, are an operand
 pub list_unary : {limit : Limit} {n : ℕ} {a b : List Token} (t : Token) → t.kind ≡ (kinds.Mark points.OpenBracket) → Listed limit (1 + n) a b → AUnary limit n (t ∷ a) b
 list_unary t kind first = record {
-  part = list first.tree first.goes_on first.comma;
-  reads = reads_kind t kind (reads_same (four (spell_elements (kinds.Mark points.Comma) first.tree) (spell_rest first.tree first.goes_on) (comma_if first.comma) (one (kinds.Mark points.CloseBracket))) first.reads);
+  part = list first.tree first.tail first.comma;
+  reads = reads_kind t kind (reads_same (four (spell_elements (kinds.Mark points.Comma) first.tree) (spell_rest first.tree first.tail) (comma_if first.comma) (one (kinds.Mark points.CloseBracket))) first.reads);
   good = ((first.right, first.ends), tt);
   within = keeps_from first.within (omega arith);
 }

@@ -29,7 +29,7 @@ mutual
   knows (parenthesis e comma) right = operand_knows (parenthesis e comma) (omega arith) (parenthesis_answers e comma (knows e right))
   knows (struct es comma) right = operand_knows (struct es comma) (omega arith) (struct_answers es comma (all_entries es right.0))
   knows (close from es inner comma) right = operand_knows (close from es inner comma) (omega arith) (close_answers from es inner comma (all_entries es right.0))
-  knows (list es goes_on comma) right = operand_knows (list es goes_on comma) (omega arith) (list_answers es goes_on comma (all es right.0))
+  knows (list es tail comma) right = operand_knows (list es tail comma) (omega arith) (list_answers es tail comma (all es right.0))
   knows (conjunction es) right = conjunction_knows es (all es right.0) right.1 right.2
   knows (disjunction bs) right = disjunction_knows bs (all_branches bs right.0) right.1
 

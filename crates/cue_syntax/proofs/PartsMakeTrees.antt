@@ -10,7 +10,7 @@ use Rattle.cue_syntax.specs.declared.tree.Term.{Term}
 use Rattle.cue_syntax.specs.declared.tree.Declaration.{Declaration}
 use Rattle.cue_syntax.specs.Spelling.{Piece, Reads, Follows, IsPlace, one, one_at, placed, comma_if, star_if, spell, spell_label, spell_elements, spell_rest, spell_branch, spell_branches, spell_entry, spell_entries}
 use Rattle.cue_syntax.specs.Grammar.{AreRight, IsUnary, IsTerm, AreUnary, TwoElements, TwoBranches, AreRightBranches, AreNested, EndsEntries, EndsElements, levels_of_elements, levels_of_branches, IsExpression, IsTermOf, IsEntry, IsLiteral, AreElements, AreEntries, AreBraced}
-use Rattle.cue_syntax.specs.Syntax.{Expression, Elements, no_elements, element, Entries, parenthesis, struct, close, list, conjunction, disjunction, branch, field, definition, expression, branch_tree, entry_tree, elements, branches, entries}
+use Rattle.cue_syntax.specs.Syntax.{Expression, Elements, no_elements, element, Entries, parenthesis, struct, close, list, conjunction, disjunction, branch, field, definition, expression, branch_tree, entry_tree, elements, branches, entries, no_rest, any_rest}
 use Rattle.cue_syntax.proofs.ReadingsJoin.{reads_then, reads_none, reads_placed}
 use Rattle.cue_syntax.proofs.RowsGrow.{reads_same, elements_pushed, right_pushed, unary_pushed, levels_pushed, branches_pushed, right_branches_pushed, levels_branches_pushed, entries_pushed, right_entries_pushed, levels_entries_pushed}
 
@@ -63,7 +63,7 @@ close_is is more first second brace third fourth fifth = record {
 -- elements in brackets are an expression, which opens one level more
 pub list_is : {room left : ℕ} {a b c d : List Token} {es : Elements} {comma : Bool} → left + 1 ≡ room
     → Reads a (one (kinds.Mark points.OpenBracket)) b → AreElements left b es comma c → Reads c (one (kinds.Mark points.CloseBracket)) d
-    → IsExpression room a (list es false comma) d
+    → IsExpression room a (list es no_rest comma) d
 list_is {a = a} {d = d} {es = es} {comma = comma} is first second third = record {
   reads = reads_same
       (ap (λ z. ((one (kinds.Mark points.OpenBracket) ++ z) ++ comma_if comma) ++ one (kinds.Mark points.CloseBracket)) (sym (append-nil (spell_elements (kinds.Mark points.Comma) es))))
@@ -72,14 +72,14 @@ list_is {a = a} {d = d} {es = es} {comma = comma} is first second third = record
   levels = omega (arith, is, second.levels);
 }
 
-ends_open : (comma : Bool) (es : Elements) → EndsElements comma true es
+ends_open : (comma : Bool) (es : Elements) → EndsElements comma any_rest es
 ends_open true no_elements = tt
 ends_open true (element e es) = tt
 ends_open false es = tt
 
 -- elements after which `...` may stand
 pub rest_reads : {left : ℕ} {b c d : List Token} (es : Elements) (comma : Bool) → AreElements left b es comma c → (comma ≡ true) ⊎ (es ≡ no_elements)
-    → Reads c (one (kinds.Mark points.Ellipsis)) d → Reads b (spell_elements (kinds.Mark points.Comma) es ++ spell_rest es true) d
+    → Reads c (one (kinds.Mark points.Ellipsis)) d → Reads b (spell_elements (kinds.Mark points.Comma) es ++ spell_rest es any_rest) d
 rest_reads no_elements false inner which second = reads_then inner.reads second
 rest_reads no_elements true inner which second = absurd inner.ends
 rest_reads (element e es) true inner which second =
@@ -90,10 +90,10 @@ rest_reads (element e es) false inner which second = absurd (⊎_elim (λ (w : f
 pub open_list_is : {room left : ℕ} {a b c d f g : List Token} {es : Elements} {comma last : Bool} → left + 1 ≡ room
     → Reads a (one (kinds.Mark points.OpenBracket)) b → AreElements left b es comma c → (comma ≡ true) ⊎ (es ≡ no_elements)
     → Reads c (one (kinds.Mark points.Ellipsis)) d → Reads d (comma_if last) f → Reads f (one (kinds.Mark points.CloseBracket)) g
-    → IsExpression room a (list es true last) g
+    → IsExpression room a (list es any_rest last) g
 open_list_is {es = es} {comma = comma} {last = last} is first second which third fourth fifth = record {
   reads = reads_same
-      (ap (λ z. (z ++ comma_if last) ++ one (kinds.Mark points.CloseBracket)) (sym (append_assoc (one (kinds.Mark points.OpenBracket)) (spell_elements (kinds.Mark points.Comma) es) (spell_rest es true))))
+      (ap (λ z. (z ++ comma_if last) ++ one (kinds.Mark points.CloseBracket)) (sym (append_assoc (one (kinds.Mark points.OpenBracket)) (spell_elements (kinds.Mark points.Comma) es) (spell_rest es any_rest))))
       (reads_then (reads_then (reads_then first (rest_reads es comma second which third)) fourth) fifth);
   right = (second.right, ends_open last es);
   levels = omega (arith, is, second.levels);
@@ -228,7 +228,7 @@ Between false xs = xs ≡ []
 pub between_pushed : {A : Type 0} (comma : Bool) (xs : List A) (x : A) → comma ≡ true → Between comma (xs ++ x ∷ [])
 between_pushed comma xs x is = subst (λ b. Between b (xs ++ x ∷ [])) (sym is) (let h : 0 < length (xs ++ x ∷ []) = omega (arith, length_push xs x) in h)
 
-ends_after : (comma : Bool) (xs : List Expr) (x : Expr) → EndsElements comma false (elements (xs ++ x ∷ []))
+ends_after : (comma : Bool) (xs : List Expr) (x : Expr) → EndsElements comma no_rest (elements (xs ++ x ∷ []))
 ends_after true [] x = tt
 ends_after true (y ∷ ys) x = tt
 ends_after false [] x = tt

@@ -11,7 +11,7 @@ use Rattle.cue_syntax.specs.declared.tree.Signed.{Signed}
 use Rattle.cue_syntax.specs.declared.tree.Comparison.{Comparison}
 use Rattle.cue_syntax.specs.declared.tree.Comparison.TheVariants as comparisons
 use Rattle.cue_syntax.specs.declared.tree.Package.{Package}
-use Rattle.cue_syntax.specs.Syntax.{FileTree, Expression, name, integer, text, bottom, bound, other_integer, other_text, parenthesis, struct, close, list, conjunction, disjunction, Elements, no_elements, element, Branch, branch, Branches, no_branches, next_branch, Entry, ellipsis, field, definition, Entries, no_entries, entry}
+use Rattle.cue_syntax.specs.Syntax.{FileTree, Expression, name, integer, text, bottom, bound, other_integer, other_text, parenthesis, struct, close, list, conjunction, disjunction, Elements, no_elements, element, Branch, branch, Branches, no_branches, next_branch, Entry, ellipsis, field, definition, Entries, no_entries, entry, no_rest, any_rest}
 use Rattle.cue_syntax.proofs.PartsByTheirTokens.{begins, behind, behind_comma, behind_label, first, goes_on_elements, goes_on_entries, identifier_of, is_and, is_comma, is_ellipsis, is_entry, is_open, is_or, is_starred, is_text, label_of, look, place, signed, signed_at, text_of}
 
 -- readers of everything, each with what stands after
@@ -95,8 +95,8 @@ read_name r false t from ts = (name (identifiers.Plain t) from, ts)
 
 -- the end of a list: whether `...` stands here, after a comma or not
 abbrev pub read_list_end : Bool → Bool → Elements → List Token → Expression × List Token
-read_list_end true comma es ts = (list es true (first is_comma (behind ts)), behind (behind_comma (behind ts)))
-read_list_end false comma es ts = (list es false comma, behind ts)
+read_list_end true comma es ts = (list es any_rest (first is_comma (behind ts)), behind (behind_comma (behind ts)))
+read_list_end false comma es ts = (list es no_rest comma, behind ts)
 
 -- a list, by the elements in it
 abbrev pub read_list : Elements × List Token → Expression × List Token
@@ -288,7 +288,7 @@ abbrev mutual
   size (parenthesis e comma) = 5 + size e
   size (struct es comma) = 5 + size_of_entries es
   size (close from es inner comma) = 5 + size_of_entries es
-  size (list es goes_on comma) = 5 + size_of_elements es
+  size (list es tail comma) = 5 + size_of_elements es
   size (conjunction es) = 5 + size_of_elements es
   size (disjunction bs) = 5 + size_of_branches bs
 

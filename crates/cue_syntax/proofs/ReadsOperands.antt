@@ -12,7 +12,7 @@ use Rattle.cue_syntax.specs.declared.tree.Signed.{Signed}
 use Rattle.cue_syntax.specs.declared.tree.Comparison.{Comparison}
 use Rattle.cue_syntax.specs.declared.tree.Comparison.TheVariants as comparisons
 use Rattle.cue_syntax.specs.Spelling.{Reads, one, comma_if, comparison_kind, spell, spell_sign, spell_signed, spell_elements, spell_entries, spell_rest}
-use Rattle.cue_syntax.specs.Syntax.{Expression, name, integer, text, bottom, bound, other_integer, other_text, parenthesis, struct, close, list, Elements, no_elements, element, Entries}
+use Rattle.cue_syntax.specs.Syntax.{Expression, name, integer, text, bottom, bound, other_integer, other_text, parenthesis, struct, close, list, Elements, no_elements, element, Entries, Rest, no_rest, any_rest}
 use Rattle.cue_syntax.proofs.PartsByTheirTokens.{is_open, is_mark, is_comma, is_entry, is_text, is_ellipsis, first, behind, place, look, look_at, look_marked, plain, begins, behind_comma, magnitude, magnitude_at, signed, signed_at, text_of, text_at}
 use Rattle.cue_syntax.proofs.ReaderOfTrees.{Reader, reader, read_unary, unary_at, read_name, read_integer, read_bound, read_other, read_parenthesis, read_struct, read_close, read_close_end, read_list, read_list_end, size, size_of_entries}
 use Rattle.cue_syntax.proofs.ReadingsCut.{cut, Head, headed, lone, place_is, unplaced, head_first, head_behind, head_look, EndsUnary, EndsExpression, EndsElementsRow, IsEnd, ends, comma_seen, comma_behind, behind_a_comma, behind_no_comma, comma_ends, elements_row, entries_row}
@@ -233,34 +233,34 @@ comma_reads : {a c : List Token} → Head a (kinds.Mark points.Comma) c → Read
 comma_reads {c = c} h = subst (λ (z : List Token). Reads z (comma_if true) c) (sym h.is) (record { follows = (h.kind_is, tt, refl) })
 
 -- elements end here, and what stands here up to the bracket is read as the end of their list
-pub record ListEnds (es : Elements) (goes_on comma : Bool) (a b : List Token) : Type 0 where
+pub record ListEnds (es : Elements) (tail : Rest) (comma : Bool) (a b : List Token) : Type 0 where
   pub row : EndsElementsRow a
-  pub reads : read_list (es, a) ≡ (list es goes_on comma, b)
+  pub reads : read_list (es, a) ≡ (list es tail comma, b)
 
 -- `...` stands here
 list_goes_on : (es : Elements) (comma : Bool) (seen : Bool) (a b c d : List Token) → Head a (kinds.Mark points.Ellipsis) b → Reads b (comma_if comma) c
-    → Head c (kinds.Mark points.CloseBracket) d → read_list_end (first is_ellipsis a) seen es a ≡ (list es true comma, d)
+    → Head c (kinds.Mark points.CloseBracket) d → read_list_end (first is_ellipsis a) seen es a ≡ (list es any_rest comma, d)
 list_goes_on es comma seen a b c d h then last =
     let end = closes comma then last refl bracket_end in
     ap (λ (z : Bool). read_list_end z seen es a) (head_first is_ellipsis h)
-    ∙ ap (λ (z : List Token). found (list es true (first is_comma z)) (behind (behind_comma z))) (head_behind h)
-    ∙ ap (λ (z : Bool). found (list es true z) (behind (behind_comma b))) end.seen
-    ∙ ap (found (list es true comma)) end.behind_it
+    ∙ ap (λ (z : List Token). found (list es any_rest (first is_comma z)) (behind (behind_comma z))) (head_behind h)
+    ∙ ap (λ (z : Bool). found (list es any_rest z) (behind (behind_comma b))) end.seen
+    ∙ ap (found (list es any_rest comma)) end.behind_it
 
-list_ends : (es : Elements) (goes_on comma : Bool) (a b c d : List Token) → Reads a (spell_rest es goes_on) b → Reads b (comma_if comma) c
-    → Head c (kinds.Mark points.CloseBracket) d → ListEnds es goes_on comma a d
-list_ends es false comma a b c d h then last =
+list_ends : (es : Elements) (tail : Rest) (comma : Bool) (a b c d : List Token) → Reads a (spell_rest es tail) b → Reads b (comma_if comma) c
+    → Head c (kinds.Mark points.CloseBracket) d → ListEnds es tail comma a d
+list_ends es no_rest comma a b c d h then last =
     let no_comma : first is_comma c ≡ false = head_first is_comma last in
     let past = comma_behind comma then no_comma in
-    let behind_it : ListEnds es false comma b d = record {
+    let behind_it : ListEnds es no_rest comma b d = record {
       row = elements_row comma then (ap begins (head_look last)) no_comma (ends last bracket_end);
       reads = ap (λ (z : List Token). read_list_end (first is_ellipsis z) (first is_comma b) es z) past
           ∙ ap (λ (z : Bool). read_list_end z (first is_comma b) es c) (head_first is_ellipsis last)
-          ∙ ap (λ (z : Bool). found (list es false z) (behind c)) (comma_seen comma then no_comma)
-          ∙ ap (found (list es false comma)) (head_behind last);
+          ∙ ap (λ (z : Bool). found (list es no_rest z) (behind c)) (comma_seen comma then no_comma)
+          ∙ ap (found (list es no_rest comma)) (head_behind last);
     } in
-    subst (λ (z : List Token). ListEnds es false comma z d) (sym h.follows) behind_it
-list_ends no_elements true comma a b c d h then last =
+    subst (λ (z : List Token). ListEnds es no_rest comma z d) (sym h.follows) behind_it
+list_ends no_elements any_rest comma a b c d h then last =
     let dots : Head a (kinds.Mark points.Ellipsis) b = lone (kinds.Mark points.Ellipsis) h in
     let no_comma : first is_comma a ≡ false = head_first is_comma dots in
     let here : Reads a (comma_if false) a = record { follows = refl } in
@@ -269,7 +269,7 @@ list_ends no_elements true comma a b c d h then last =
       reads = ap (λ (z : List Token). read_list_end (first is_ellipsis z) (first is_comma a) no_elements z) (behind_no_comma no_comma)
           ∙ list_goes_on no_elements comma (first is_comma a) a b c d dots then last;
     }
-list_ends (element e es) true comma a b c d h then last =
+list_ends (element e es) any_rest comma a b c d h then last =
     let t = headed (kinds.Mark points.Comma) (one (kinds.Mark points.Ellipsis)) h in
     let dots : Head t.middle (kinds.Mark points.Ellipsis) b = lone (kinds.Mark points.Ellipsis) t.right in
     record {
@@ -279,13 +279,13 @@ list_ends (element e es) true comma a b c d h then last =
     }
 
 -- where the reader finds each of some elements, it finds them in brackets
-pub list_answers : (es : Elements) (goes_on comma : Bool) → AreKnown es → Answers (list es goes_on comma)
-list_answers es goes_on comma known n a b h k s =
-    let t = headed (kinds.Mark points.OpenBracket) (spell_elements (kinds.Mark points.Comma) es ++ spell_rest es goes_on ++ comma_if comma ++ one (kinds.Mark points.CloseBracket)) h in
-    let u = cut (spell_elements (kinds.Mark points.Comma) es ++ spell_rest es goes_on ++ comma_if comma) (one (kinds.Mark points.CloseBracket)) t.right in
-    let v = cut (spell_elements (kinds.Mark points.Comma) es ++ spell_rest es goes_on) (comma_if comma) u.left in
-    let w = cut (spell_elements (kinds.Mark points.Comma) es) (spell_rest es goes_on) v.left in
-    let end = list_ends es goes_on comma w.middle v.middle u.middle b w.right v.right (lone (kinds.Mark points.CloseBracket) u.right) in (
+pub list_answers : (es : Elements) (tail : Rest) (comma : Bool) → AreKnown es → Answers (list es tail comma)
+list_answers es tail comma known n a b h k s =
+    let t = headed (kinds.Mark points.OpenBracket) (spell_elements (kinds.Mark points.Comma) es ++ spell_rest es tail ++ comma_if comma ++ one (kinds.Mark points.CloseBracket)) h in
+    let u = cut (spell_elements (kinds.Mark points.Comma) es ++ spell_rest es tail ++ comma_if comma) (one (kinds.Mark points.CloseBracket)) t.right in
+    let v = cut (spell_elements (kinds.Mark points.Comma) es ++ spell_rest es tail) (comma_if comma) u.left in
+    let w = cut (spell_elements (kinds.Mark points.Comma) es) (spell_rest es tail) v.left in
+    let end = list_ends es tail comma w.middle v.middle u.middle b w.right v.right (lone (kinds.Mark points.CloseBracket) u.right) in (
       unary_step n t.head
           ∙ ap read_list (elements_known es known n t.middle w.middle w.left end.row (omega (arith, s)))
           ∙ end.reads,

@@ -9,7 +9,7 @@ use Rattle.cue_syntax.specs.declared.tree.Label.{Label}
 use Rattle.cue_syntax.specs.declared.tree.Mark.{Mark}
 use Rattle.cue_syntax.specs.declared.tree.Sign.{Sign}
 use Rattle.cue_syntax.specs.declared.tree.Signed.{Signed}
-use Rattle.cue_syntax.specs.Syntax.{FileTree, Expression, Elements, Branch, Branches, next_branch, no_branches, Entry, Entries, no_entries}
+use Rattle.cue_syntax.specs.Syntax.{FileTree, Expression, Elements, Branch, Branches, next_branch, no_branches, Entry, Entries, no_entries, Rest, no_rest, any_rest}
 use Rattle.cue_syntax.specs.Spelling.{Piece, Reads, one, comma_if, spell_mark, spell_signed, spell_label, spell_rest, spell, spell_elements, spell_more_elements, spell_branch, spell_more_branches, spell_entry, spell_entries, spell_more_entries, spell_file}
 use Rattle.cue_syntax.specs.Grammar.{IsRight, IsUnary, IsConjunct, AreRight, AreUnary, IsRightBranch, AreRightBranches, IsRightEntry, AreRightEntries, IsNested, AreNested, EndsEntries, EndsElements, IsRightPackage, levels, levels_of_elements, levels_of_branch, levels_of_branches, levels_of_entry, levels_of_entries, Limit, Within, IsInRange, greatest}
 use Rattle.cue_syntax.specs.Recogniser.{Goal, Stack, is_keyword}
@@ -137,24 +137,24 @@ pub record MoreDeclared (top : Bool) (limit : Limit) (room : ℕ) (a b : List To
 -- elements up to the bracket
 pub record Listed (limit : Limit) (room : ℕ) (a b : List Token) : Type 0 where
   pub tree : Elements
-  pub goes_on : Bool
+  pub tail : Rest
   pub comma : Bool
-  pub reads : Reads a (spell_elements (kinds.Mark points.Comma) tree ++ (spell_rest tree goes_on ++ (comma_if comma ++ one (kinds.Mark points.CloseBracket)))) b
+  pub reads : Reads a (spell_elements (kinds.Mark points.Comma) tree ++ (spell_rest tree tail ++ (comma_if comma ++ one (kinds.Mark points.CloseBracket)))) b
   pub right : AreRight tree
-  pub ends : EndsElements comma goes_on tree
+  pub ends : EndsElements comma tail tree
   pub within : Keeps limit (levels_of_elements tree + room)
 
 -- `...` after an element, with the comma before it
-abbrev pub rest_behind : Bool → List Piece
-rest_behind true = one (kinds.Mark points.Comma) ++ one (kinds.Mark points.Ellipsis)
-rest_behind false = []
+abbrev pub rest_behind : Rest → List Piece
+rest_behind any_rest = one (kinds.Mark points.Comma) ++ one (kinds.Mark points.Ellipsis)
+rest_behind no_rest = []
 
 -- after an element
 pub record MoreListed (limit : Limit) (room : ℕ) (a b : List Token) : Type 0 where
   pub tree : Elements
-  pub goes_on : Bool
+  pub tail : Rest
   pub comma : Bool
-  pub reads : Reads a (spell_more_elements (kinds.Mark points.Comma) tree ++ (rest_behind goes_on ++ (comma_if comma ++ one (kinds.Mark points.CloseBracket)))) b
+  pub reads : Reads a (spell_more_elements (kinds.Mark points.Comma) tree ++ (rest_behind tail ++ (comma_if comma ++ one (kinds.Mark points.CloseBracket)))) b
   pub right : AreRight tree
   pub within : Keeps limit (levels_of_elements tree + room)
 

@@ -8,7 +8,7 @@ use Rattle.cue_lex.specs.declared.punctuation.Punctuation.TheVariants as points
 use Rattle.cue_syntax.specs.declared.tree.Label.{Label}
 use Rattle.cue_syntax.specs.declared.tree.LabelName.{LabelName}
 use Rattle.cue_syntax.specs.declared.tree.LabelName.TheVariants as names
-use Rattle.cue_syntax.specs.Syntax.{Expression, struct, close, list, Elements, no_elements, element, Entry, ellipsis, field, definition, Entries, no_entries, entry}
+use Rattle.cue_syntax.specs.Syntax.{Expression, struct, close, list, Elements, no_elements, element, Entry, ellipsis, field, definition, Entries, no_entries, entry, Rest, no_rest, any_rest}
 use Rattle.cue_syntax.specs.Spelling.{Reads, one, one_at, comma_if, label_kind, spell, spell_mark, spell_label, spell_elements, spell_more_elements, spell_rest, spell_entry, spell_entries, spell_more_entries}
 use Rattle.cue_syntax.specs.Grammar.{Limit, Within, IsRight, IsNested, AreRight, AreNested, IsRightEntry, AreRightEntries, EndsEntries, levels, levels_of_elements, levels_of_entry, levels_of_entries}
 use Rattle.cue_syntax.specs.Viability.{BeginsExpression}
@@ -234,60 +234,60 @@ takes_more_elements (element e es) takes right limit below a b reads end within 
     ∙ takes_more_elements es takes.1 right.1 limit below t.between b t.second end (within_less limit _ (1 + depth below + max (levels e) (levels_of_elements es)) (omega arith) within)
 
 -- after the elements: `...`, a comma, and the bracket
-ends_elements : (limit : Limit) (below : Stack) (a b c d : List Token) (e : Expression) (es : Elements) (goes_on comma : Bool) → Reads a (spell_rest (element e es) goes_on) b → Reads b (comma_if comma) c
+ends_elements : (limit : Limit) (below : Stack) (a b c d : List Token) (e : Expression) (es : Elements) (tail : Rest) (comma : Bool) → Reads a (spell_rest (element e es) tail) b → Reads b (comma_if comma) c
     → Reads c (one (kinds.Mark points.CloseBracket)) d → Within limit (1 + depth below) → stuck limit (more_elements ∷ below) a ≡ stuck limit below d
-ends_elements limit below a b c d e es true comma first second third within =
+ends_elements limit below a b c d e es any_rest comma first second third within =
     let s = reads_split (one (kinds.Mark points.Comma)) (one (kinds.Mark points.Ellipsis)) first in
     took limit (more_elements ∷ below) (elements ∷ below) s.first refl within
     ∙ took limit (elements ∷ below) (bracket ∷ below) s.second refl within
     ∙ closes_bracket limit below comma second third within
-ends_elements limit below a b c d e es false true first second third within =
+ends_elements limit below a b c d e es no_rest true first second third within =
     ap (stuck limit (more_elements ∷ below)) first.follows
     ∙ took limit (more_elements ∷ below) (elements ∷ below) second refl within
     ∙ took limit (elements ∷ below) below third refl (within_less limit _ (1 + depth below) (omega arith) within)
-ends_elements limit below a b c d e es false false first second third within =
+ends_elements limit below a b c d e es no_rest false first second third within =
     ap (stuck limit (more_elements ∷ below)) first.follows
     ∙ ap (stuck limit (more_elements ∷ below)) second.follows
     ∙ took limit (more_elements ∷ below) below third refl (within_less limit _ (1 + depth below) (omega arith) within)
 
-head_rest : (e : Expression) (es : Elements) (goes_on : Bool) → HeadIs ClosesExpression (spell_rest (element e es) goes_on)
-head_rest e es true = tt
-head_rest e es false = tt
+head_rest : (e : Expression) (es : Elements) (tail : Rest) → HeadIs ClosesExpression (spell_rest (element e es) tail)
+head_rest e es any_rest = tt
+head_rest e es no_rest = tt
 
-takes_items : (es : Elements) (goes_on comma : Bool) → TakeAll es → IsRight (list es goes_on comma) → (limit : Limit) (below : Stack) (a b c d f : List Token)
-    → Reads a (spell_elements (kinds.Mark points.Comma) es) b → Reads b (spell_rest es goes_on) c → Reads c (comma_if comma) d → Reads d (one (kinds.Mark points.CloseBracket)) f
+takes_items : (es : Elements) (tail : Rest) (comma : Bool) → TakeAll es → IsRight (list es tail comma) → (limit : Limit) (below : Stack) (a b c d f : List Token)
+    → Reads a (spell_elements (kinds.Mark points.Comma) es) b → Reads b (spell_rest es tail) c → Reads c (comma_if comma) d → Reads d (one (kinds.Mark points.CloseBracket)) f
     → Within limit (depth below + (1 + levels_of_elements es)) → stuck limit (elements ∷ below) a ≡ stuck limit below f
-takes_items no_elements true comma takes right limit below a b c d f first second third fourth within =
+takes_items no_elements any_rest comma takes right limit below a b c d f first second third fourth within =
     ap (stuck limit (elements ∷ below)) first.follows
     ∙ took limit (elements ∷ below) (bracket ∷ below) second refl (within_less limit _ (depth below + (1 + 0)) (omega arith) within)
     ∙ closes_bracket limit below comma third fourth (within_less limit _ (depth below + (1 + 0)) (omega arith) within)
-takes_items no_elements false true takes right limit below a b c d f first second third fourth within = absurd right.1
-takes_items no_elements false false takes right limit below a b c d f first second third fourth within =
+takes_items no_elements no_rest true takes right limit below a b c d f first second third fourth within = absurd right.1
+takes_items no_elements no_rest false takes right limit below a b c d f first second third fourth within =
     ap (stuck limit (elements ∷ below)) first.follows
     ∙ ap (stuck limit (elements ∷ below)) second.follows
     ∙ ap (stuck limit (elements ∷ below)) third.follows
     ∙ took limit (elements ∷ below) below fourth refl (within_less limit _ (depth below + (1 + 0)) (omega arith) within)
-takes_items (element e es) goes_on comma takes right limit below a b c d f first second third fourth within =
+takes_items (element e es) tail comma takes right limit below a b c d f first second third fourth within =
     let t = reads_split (spell e) (spell_more_elements (kinds.Mark points.Comma) es) first in
-    let end : EndsExpression b = at_end_before ClosesExpression (spell_rest (element e es) goes_on) second (head_rest e es goes_on) (ends_comma comma (kinds.Mark points.CloseBracket) third fourth tt) in
+    let end : EndsExpression b = at_end_before ClosesExpression (spell_rest (element e es) tail) second (head_rest e es tail) (ends_comma comma (kinds.Mark points.CloseBracket) third fourth tt) in
     takes_element e takes.0 right.0.0 limit below a t.between t.first (at_end_before ClosesExpression (spell_more_elements (kinds.Mark points.Comma) es) t.second (head_elements es) end)
     (within_less limit _ (depth below + (1 + max (levels e) (levels_of_elements es))) (omega arith) within)
     ∙ takes_more_elements es takes.1 right.0.1 limit below t.between b t.second end (within_less limit _ (depth below + (1 + max (levels e) (levels_of_elements es))) (omega arith) within)
-    ∙ ends_elements limit below b c d f e es goes_on comma second third fourth (within_less limit _ (depth below + (1 + max (levels e) (levels_of_elements es))) (omega arith) within)
+    ∙ ends_elements limit below b c d f e es tail comma second third fourth (within_less limit _ (depth below + (1 + max (levels e) (levels_of_elements es))) (omega arith) within)
 
 -- elements, up to the bracket, use up the goal of elements
-pub takes_in_brackets : (es : Elements) (goes_on comma : Bool) → TakeAll es → IsRight (list es goes_on comma) → (limit : Limit) (below : Stack) (a b : List Token)
-    → Reads a (spell_elements (kinds.Mark points.Comma) es ++ spell_rest es goes_on ++ comma_if comma ++ one (kinds.Mark points.CloseBracket)) b → Within limit (depth below + (1 + levels_of_elements es))
+pub takes_in_brackets : (es : Elements) (tail : Rest) (comma : Bool) → TakeAll es → IsRight (list es tail comma) → (limit : Limit) (below : Stack) (a b : List Token)
+    → Reads a (spell_elements (kinds.Mark points.Comma) es ++ spell_rest es tail ++ comma_if comma ++ one (kinds.Mark points.CloseBracket)) b → Within limit (depth below + (1 + levels_of_elements es))
     → stuck limit (elements ∷ below) a ≡ stuck limit below b
-takes_in_brackets es goes_on comma takes right limit below a b reads within =
-    let t = reads_split (spell_elements (kinds.Mark points.Comma) es ++ spell_rest es goes_on ++ comma_if comma) (one (kinds.Mark points.CloseBracket)) reads in
-    let u = reads_split (spell_elements (kinds.Mark points.Comma) es ++ spell_rest es goes_on) (comma_if comma) t.first in
-    let v = reads_split (spell_elements (kinds.Mark points.Comma) es) (spell_rest es goes_on) u.first in
-    takes_items es goes_on comma takes right limit below a v.between u.between t.between b v.first v.second u.second t.second within
+takes_in_brackets es tail comma takes right limit below a b reads within =
+    let t = reads_split (spell_elements (kinds.Mark points.Comma) es ++ spell_rest es tail ++ comma_if comma) (one (kinds.Mark points.CloseBracket)) reads in
+    let u = reads_split (spell_elements (kinds.Mark points.Comma) es ++ spell_rest es tail) (comma_if comma) t.first in
+    let v = reads_split (spell_elements (kinds.Mark points.Comma) es) (spell_rest es tail) u.first in
+    takes_items es tail comma takes right limit below a v.between u.between t.between b v.first v.second u.second t.second within
 
 -- a list uses up the goal of an operand
-pub takes_list : (es : Elements) (goes_on comma : Bool) → TakeAll es → IsRight (list es goes_on comma) → TakesUnary (list es goes_on comma)
-takes_list es goes_on comma takes right limit below a b reads end within =
-    let s = reads_split (one (kinds.Mark points.OpenBracket)) (spell_elements (kinds.Mark points.Comma) es ++ spell_rest es goes_on ++ comma_if comma ++ one (kinds.Mark points.CloseBracket)) reads in
+pub takes_list : (es : Elements) (tail : Rest) (comma : Bool) → TakeAll es → IsRight (list es tail comma) → TakesUnary (list es tail comma)
+takes_list es tail comma takes right limit below a b reads end within =
+    let s = reads_split (one (kinds.Mark points.OpenBracket)) (spell_elements (kinds.Mark points.Comma) es ++ spell_rest es tail ++ comma_if comma ++ one (kinds.Mark points.CloseBracket)) reads in
     took limit (unary ∷ below) (elements ∷ below) s.first refl (within_less limit _ (depth below + (1 + levels_of_elements es)) (omega arith) within)
-    ∙ takes_in_brackets es goes_on comma takes right limit below s.between b s.second within
+    ∙ takes_in_brackets es tail comma takes right limit below s.between b s.second within

@@ -4,7 +4,7 @@ use Rattle.cue_lex.specs.declared.token.Token.{Token}
 use Rattle.cue_lex.specs.declared.token.TokenKind.TheVariants as kinds
 use Rattle.cue_lex.specs.declared.punctuation.Punctuation.TheVariants as points
 use Rattle.cue_syntax.specs.declared.tree.Label.{Label}
-use Rattle.cue_syntax.specs.Syntax.{Expression, name, integer, text, bottom, bound, other_integer, other_text, parenthesis, struct, close, list, conjunction, disjunction, Elements, no_elements, element, Branch, branch, Branches, no_branches, next_branch, Entry, ellipsis, field, definition, Entries, no_entries, entry}
+use Rattle.cue_syntax.specs.Syntax.{Expression, name, integer, text, bottom, bound, other_integer, other_text, parenthesis, struct, close, list, conjunction, disjunction, Elements, no_elements, element, Branch, branch, Branches, no_branches, next_branch, Entry, ellipsis, field, definition, Entries, no_entries, entry, Rest}
 use Rattle.cue_syntax.specs.Spelling.{Reads, one, comma_if, spell, spell_label, spell_elements, spell_rest, spell_branch, spell_entry, spell_entries}
 use Rattle.cue_syntax.specs.Grammar.{Limit, Within, IsRight, IsUnary, IsConjunct, AreRight, AreNested, IsRightBranch, AreRightBranches, IsRightEntry, AreRightEntries, EndsEntries, EndsElements, levels, levels_of_branch, levels_of_elements, levels_of_entry, levels_of_entries}
 use Rattle.cue_syntax.specs.Recogniser.{Stack, stuck, depth, entries, more_entries, value, expression, term, unary, more_parts, elements}
@@ -24,7 +24,7 @@ mutual
   takes (parenthesis e comma) right = by_unary (parenthesis e comma) right tt (in_parentheses e comma (takes e right))
   takes (struct es comma) right = by_unary (struct es comma) right tt (takes_struct es comma (take_entries es right.0) right)
   takes (close from es inner comma) right = by_unary (close from es inner comma) right tt (takes_close from es inner comma (take_entries es right.0) right)
-  takes (list es goes_on comma) right = by_unary (list es goes_on comma) right tt (takes_list es goes_on comma (take_all es right.0) right)
+  takes (list es tail comma) right = by_unary (list es tail comma) right tt (takes_list es tail comma (take_all es right.0) right)
   takes (conjunction es) right = takes_conjunction es (take_all es right.0) right
   takes (disjunction bs) right = takes_disjunction bs (take_branches bs right.0) right
 
@@ -84,7 +84,7 @@ pub takes_nested : (limit : Limit) (below : Stack) {a b : List Token} (es : Entr
 takes_nested limit below es comma reads right nested ends within = takes_braces es comma (take_entries es right) right nested ends limit below _ _ reads within
 
 -- elements, `...` or none, a comma or none, and the bracket
-pub takes_row : (limit : Limit) (below : Stack) {a b : List Token} (es : Elements) (goes_on comma : Bool)
-    → Reads a (spell_elements (kinds.Mark points.Comma) es ++ spell_rest es goes_on ++ comma_if comma ++ one (kinds.Mark points.CloseBracket)) b → AreRight es → EndsElements comma goes_on es
+pub takes_row : (limit : Limit) (below : Stack) {a b : List Token} (es : Elements) (tail : Rest) (comma : Bool)
+    → Reads a (spell_elements (kinds.Mark points.Comma) es ++ spell_rest es tail ++ comma_if comma ++ one (kinds.Mark points.CloseBracket)) b → AreRight es → EndsElements comma tail es
     → Within limit (depth below + (1 + levels_of_elements es)) → stuck limit (elements ∷ below) a ≡ stuck limit below b
-takes_row limit below es goes_on comma reads right ends within = takes_in_brackets es goes_on comma (take_all es right) (right, ends) limit below _ _ reads within
+takes_row limit below es tail comma reads right ends within = takes_in_brackets es tail comma (take_all es right) (right, ends) limit below _ _ reads within

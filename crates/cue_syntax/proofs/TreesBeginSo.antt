@@ -76,7 +76,7 @@ opens_unary (other_text t) unary = tt
 opens_unary (parenthesis e comma) unary = tt
 opens_unary (struct es comma) unary = tt
 opens_unary (close from es inner comma) unary = tt
-opens_unary (list es goes_on comma) unary = tt
+opens_unary (list es tail comma) unary = tt
 opens_unary (conjunction es) unary = absurd unary
 opens_unary (disjunction bs) unary = absurd unary
 
@@ -95,7 +95,7 @@ opens_conjunct (other_text t) right conjunct = tt
 opens_conjunct (parenthesis e comma) right conjunct = tt
 opens_conjunct (struct es comma) right conjunct = tt
 opens_conjunct (close from es inner comma) right conjunct = tt
-opens_conjunct (list es goes_on comma) right conjunct = tt
+opens_conjunct (list es tail comma) right conjunct = tt
 
 opens_wide : (p : List Piece) → Opens BeginsOperand p → Opens BeginsExpression p
 opens_wide [] opens = opens
@@ -122,7 +122,7 @@ opens_expression (other_text t) right = tt
 opens_expression (parenthesis e comma) right = tt
 opens_expression (struct es comma) right = tt
 opens_expression (close from es inner comma) right = tt
-opens_expression (list es goes_on comma) right = tt
+opens_expression (list es tail comma) right = tt
 
 -- A value that begins with a name begins with no keyword, and no mark stands after a name or a string that begins one.
 abbrev pub OpensBy : TokenKind → Type 0 → Type 0
@@ -186,7 +186,7 @@ plain_unary (other_text t) right unary = tt
 plain_unary (parenthesis e comma) right unary = tt
 plain_unary (struct es comma) right unary = tt
 plain_unary (close from es inner comma) right unary = (refl, tt)
-plain_unary (list es goes_on comma) right unary = tt
+plain_unary (list es tail comma) right unary = tt
 plain_unary (conjunction es) right unary = absurd unary
 plain_unary (disjunction bs) right unary = absurd unary
 
@@ -212,7 +212,7 @@ plain_conjunct (other_text t) right conjunct = tt
 plain_conjunct (parenthesis e comma) right conjunct = tt
 plain_conjunct (struct es comma) right conjunct = tt
 plain_conjunct (close from es inner comma) right conjunct = (refl, tt)
-plain_conjunct (list es goes_on comma) right conjunct = tt
+plain_conjunct (list es tail comma) right conjunct = tt
 
 plain_expression : (e : Expression) → IsRight e → OpensPlain (spell e)
 plain_expression (disjunction no_branches) right = absurd right.1
@@ -230,7 +230,7 @@ plain_expression (other_text t) right = tt
 plain_expression (parenthesis e comma) right = tt
 plain_expression (struct es comma) right = tt
 plain_expression (close from es inner comma) right = (refl, tt)
-plain_expression (list es goes_on comma) right = tt
+plain_expression (list es tail comma) right = tt
 
 -- an expression with no mark of a label after it begins as a value without labels may
 pub expression_opens : {a b : List Token} (e : Expression) → Reads a (spell e) b → IsRight e → AtEnd NoMark b → OpensValue a

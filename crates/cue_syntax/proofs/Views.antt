@@ -6,12 +6,13 @@ use Rattle.cue_syntax.specs.declared.tree.Signed.{Signed}
 use Rattle.cue_syntax.specs.declared.tree.Comparison.{Comparison}
 use Rattle.cue_syntax.specs.declared.tree.Expr.{Expr}
 use Rattle.cue_syntax.specs.declared.tree.Expr.TheVariants as exprs
+use Rattle.cue_syntax.specs.declared.tree.Rest as code
 use Rattle.cue_syntax.specs.declared.tree.Term.{Term}
 use Rattle.cue_syntax.specs.declared.tree.Declaration.{Declaration}
 use Rattle.cue_syntax.specs.declared.tree.Declaration.TheVariants as declarations
 use Rattle.cue_syntax.specs.declared.tree.Declaration.TheOpen.{Expr-F, Declaration-F}
 use Rattle.cue_syntax.specs.declared.tree.Declaration.TheFolds.{fold-roll-Expr, fold-roll-Declaration, fold_out-Term}
-use Rattle.cue_syntax.specs.Syntax.{Entry, Expression, Branch, entry_step, expression_step, branch_step, expression, entry_tree, branch_tree, elements, branches, entries, name, integer, text, bottom, bound, other_integer, other_text, parenthesis, struct, close, list, conjunction, disjunction, branch, ellipsis, field, definition}
+use Rattle.cue_syntax.specs.Syntax.{Entry, Expression, Branch, entry_step, expression_step, branch_step, expression, entry_tree, branch_tree, elements, branches, entries, name, integer, text, bottom, bound, other_integer, other_text, parenthesis, struct, close, list, conjunction, disjunction, branch, ellipsis, field, definition, Rest, rest_of}
 
 -- the tree of an identifier is that of its name and its place
 pub view-Name : (n : Identifier) (from : ℕ) → expression (exprs.Name n from) ≡ name n from
@@ -54,8 +55,8 @@ pub view-Close : (from : ℕ) (ds : Vec Declaration Global) (inner : Bool) (comm
 view-Close from ds inner comma = ap expression (sym (exprs.rolls-Close from ds inner comma)) ∙ fold-roll-Expr Entry Expression Branch entry_step expression_step branch_step (Expr-F.Close from ds inner comma)
 
 -- the tree of a list is that of its elements' trees, its `...` and its comma
-pub view-List : (es : Vec Expr Global) (goes_on : Bool) (comma : Bool) → expression (exprs.List es goes_on comma) ≡ list (elements es.items) goes_on comma
-view-List es goes_on comma = ap expression (sym (exprs.rolls-List es goes_on comma)) ∙ fold-roll-Expr Entry Expression Branch entry_step expression_step branch_step (Expr-F.List es goes_on comma)
+pub view-List : (es : Vec Expr Global) (tail : code.Rest) (comma : Bool) → expression (exprs.List es tail comma) ≡ list (elements es.items) (rest_of tail) comma
+view-List es tail comma = ap expression (sym (exprs.rolls-List es tail comma)) ∙ fold-roll-Expr Entry Expression Branch entry_step expression_step branch_step (Expr-F.List es tail comma)
 
 -- the tree of a conjunction is that of its parts' trees
 pub view-Conjunction : (es : Vec Expr Global) → expression (exprs.Conjunction es) ≡ conjunction (elements es.items)

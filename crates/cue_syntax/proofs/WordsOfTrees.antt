@@ -57,7 +57,7 @@ mutual
   expression_words (struct es comma) words = entries_words es (first (spell_entries es) _ _ words.1)
   expression_words (close from es inner comma) words =
       entries_words es (first (spell_entries es) _ _ (first (spell_entries es ++ comma_if inner ++ one (kinds.Mark points.CloseBrace)) _ _ words.1.1.1))
-  expression_words (list es goes_on comma) words = elements_words _ es (front (spell_elements _ es) _ (first (spell_elements _ es ++ spell_rest es goes_on) _ _ words.1))
+  expression_words (list es tail comma) words = elements_words _ es (front (spell_elements _ es) _ (first (spell_elements _ es ++ spell_rest es tail) _ _ words.1))
   expression_words (conjunction es) words = elements_words _ es words
   expression_words (disjunction bs) words = branches_words bs words
 

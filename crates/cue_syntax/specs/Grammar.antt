@@ -16,8 +16,9 @@ use Rattle.cue_syntax.specs.declared.tree.Signed.{Signed}
 use Rattle.cue_syntax.specs.Syntax.{FileTree, Expression, name, integer, text, bottom, bound}
 use Rattle.cue_syntax.specs.Syntax.{other_integer, other_text, parenthesis, struct, close, list}
 use Rattle.cue_syntax.specs.Syntax.{conjunction, disjunction, Elements, no_elements, element}
-use Rattle.cue_syntax.specs.Syntax.{Branch, branch, Branches, no_branches, next_branch, Entry}
-use Rattle.cue_syntax.specs.Syntax.{ellipsis, field, definition, Entries, no_entries, entry}
+use Rattle.cue_syntax.specs.Syntax.{Rest, no_rest, Branch, branch, Branches, no_branches}
+use Rattle.cue_syntax.specs.Syntax.{next_branch, Entry, ellipsis, field, definition, Entries}
+use Rattle.cue_syntax.specs.Syntax.{no_entries, entry}
 use Rattle.cue_syntax.specs.Words.{HaveWordsEntries}
 
 -- names that begin a clause, which is left out
@@ -83,8 +84,8 @@ abbrev pub EndsEntries : Bool → Entries → Type 0
 EndsEntries true no_entries = ⊥
 EndsEntries _ _ = ⊤
 
-abbrev pub EndsElements : Bool → Bool → Elements → Type 0
-EndsElements true false no_elements = ⊥
+abbrev pub EndsElements : Bool → Rest → Elements → Type 0
+EndsElements true no_rest no_elements = ⊥
 EndsElements _ _ _ = ⊤
 
 -- the tree follows the grammar
@@ -100,7 +101,7 @@ abbrev mutual
   IsRight (parenthesis e comma) = IsRight e
   IsRight (struct es comma) = AreRightEntries es × AreNested es × EndsEntries comma es
   IsRight (close from es inner comma) = AreRightEntries es × AreNested es × EndsEntries inner es
-  IsRight (list es goes_on comma) = AreRight es × EndsElements comma goes_on es
+  IsRight (list es rest comma) = AreRight es × EndsElements comma rest es
   IsRight (conjunction es) = AreRight es × AreUnary es × TwoElements es
   IsRight (disjunction bs) = AreRightBranches bs × TwoBranches bs
 
@@ -138,7 +139,7 @@ abbrev mutual
   levels (parenthesis e comma) = 1 + levels e
   levels (struct es comma) = 1 + levels_of_entries es
   levels (close from es inner comma) = 2 + levels_of_entries es
-  levels (list es goes_on comma) = 1 + levels_of_elements es
+  levels (list es rest comma) = 1 + levels_of_elements es
   levels (conjunction es) = levels_of_elements es
   levels (disjunction bs) = levels_of_branches bs
 
@@ -191,7 +192,7 @@ pub record AreElements (room : ℕ) (tokens : List Token) (es : Elements) (comma
     (rest : List Token) : Type 0 where
   pub reads : Reads tokens (spell_elements (kinds.Mark points.Comma) es ++ comma_if comma) rest
   pub right : AreRight es
-  pub ends : EndsElements comma false es
+  pub ends : EndsElements comma no_rest es
   pub levels : levels_of_elements es ≤ room
 
 pub record AreEntries (room : ℕ) (tokens : List Token) (es : Entries) (comma : Bool)

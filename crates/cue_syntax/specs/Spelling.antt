@@ -21,8 +21,9 @@ use Rattle.cue_syntax.specs.declared.tree.Package.{Package}
 use Rattle.cue_syntax.specs.Syntax.{FileTree, Expression, name, integer, text, bottom, bound}
 use Rattle.cue_syntax.specs.Syntax.{other_integer, other_text, parenthesis, struct, close, list}
 use Rattle.cue_syntax.specs.Syntax.{conjunction, disjunction, Elements, no_elements, element}
-use Rattle.cue_syntax.specs.Syntax.{Branch, branch, Branches, no_branches, next_branch, Entry}
-use Rattle.cue_syntax.specs.Syntax.{ellipsis, field, definition, Entries, no_entries, entry}
+use Rattle.cue_syntax.specs.Syntax.{Rest, no_rest, any_rest, Branch, branch, Branches}
+use Rattle.cue_syntax.specs.Syntax.{no_branches, next_branch, Entry, ellipsis, field, definition}
+use Rattle.cue_syntax.specs.Syntax.{Entries, no_entries, entry}
 
 -- a token as far as a tree knows it: its kind, and the places that the tree keeps of it
 pub record Piece : Type 0 where
@@ -81,10 +82,11 @@ spell_label label =
     one (label_kind label.name) ++ spell_mark label.mark ++ one (kinds.Mark points.Colon)
 
 -- the `...` of a list, after a comma where elements stand before it
-abbrev pub spell_rest : Elements → Bool → List Piece
-spell_rest es false = []
-spell_rest no_elements true = one (kinds.Mark points.Ellipsis)
-spell_rest (element e es) true = one (kinds.Mark points.Comma) ++ one (kinds.Mark points.Ellipsis)
+abbrev pub spell_rest : Elements → Rest → List Piece
+spell_rest es no_rest = []
+spell_rest no_elements any_rest = one (kinds.Mark points.Ellipsis)
+spell_rest (element e es) any_rest =
+    one (kinds.Mark points.Comma) ++ one (kinds.Mark points.Ellipsis)
 
 abbrev mutual
   pub spell : Expression → List Piece
@@ -106,9 +108,9 @@ abbrev mutual
       ++ (one (kinds.Mark points.OpenBrace) ++ spell_entries es ++ comma_if inner
       ++ one (kinds.Mark points.CloseBrace))
       ++ comma_if comma ++ one (kinds.Mark points.CloseParenthesis)
-  spell (list es goes_on comma) =
+  spell (list es rest comma) =
       one (kinds.Mark points.OpenBracket) ++ spell_elements (kinds.Mark points.Comma) es
-      ++ spell_rest es goes_on ++ comma_if comma ++ one (kinds.Mark points.CloseBracket)
+      ++ spell_rest es rest ++ comma_if comma ++ one (kinds.Mark points.CloseBracket)
   spell (conjunction es) = spell_elements (kinds.Mark points.Ampersand) es
   spell (disjunction bs) = spell_branches bs
 

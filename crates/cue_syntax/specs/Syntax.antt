@@ -5,13 +5,15 @@ use Rattle.cue_syntax.specs.declared.tree.Label.{Label}
 use Rattle.cue_syntax.specs.declared.tree.Signed.{Signed}
 use Rattle.cue_syntax.specs.declared.tree.Comparison.{Comparison}
 use Rattle.cue_syntax.specs.declared.tree.Package.{Package}
+use Rattle.cue_syntax.specs.declared.tree.Rest as code
+use Rattle.cue_syntax.specs.declared.tree.Rest.TheVariants as rests
 use Rattle.cue_syntax.specs.declared.tree.Expr.{Expr, fold-Expr}
 use Rattle.cue_syntax.specs.declared.tree.Term.{Term, fold-Term}
 use Rattle.cue_syntax.specs.declared.tree.Declaration.{Declaration, fold-Declaration}
 use Rattle.cue_syntax.specs.declared.tree.Declaration.TheOpen.{Expr-F, Term-F, Declaration-F}
 
 -- A number beside a part is the place at which that part begins. The last truth values say whether
--- a comma stands before the closing sign; that of a list before them says whether it has `...`.
+-- a comma stands before the closing sign.
 mutual
   pub data Expression : Type 0 where
     name : Identifier → ℕ → Expression
@@ -24,13 +26,18 @@ mutual
     parenthesis : Expression → Bool → Expression
     struct : Entries → Bool → Expression
     close : ℕ → Entries → Bool → Bool → Expression
-    list : Elements → Bool → Bool → Expression
+    list : Elements → Rest → Bool → Expression
     conjunction : Elements → Expression
     disjunction : Branches → Expression
 
   pub data Elements : Type 0 where
     no_elements : Elements
     element : Expression → Elements → Elements
+
+  -- what stands behind the last element of a list: nothing, or `...`
+  pub data Rest : Type 0 where
+    no_rest : Rest
+    any_rest : Rest
 
   -- a term of a disjunction: whether it is marked, and where it begins after its mark
   pub data Branch : Type 0 where
@@ -62,6 +69,10 @@ abbrev pub entries_of : List Entry → Entries
 entries_of [] = no_entries
 entries_of (e ∷ es) = entry e (entries_of es)
 
+abbrev pub rest_of : code.Rest → Rest
+rest_of rests.Ends = no_rest
+rest_of rests.GoesOn = any_rest
+
 -- one level, with the trees of what stands inside
 abbrev pub entry_step : Declaration-F Entry Expression Branch → Entry
 entry_step Declaration-F.Ellipsis = ellipsis
@@ -79,7 +90,7 @@ expression_step (Expr-F.OtherText t) = other_text t
 expression_step (Expr-F.Parenthesis inner comma) = parenthesis inner.value comma
 expression_step (Expr-F.Struct es comma) = struct (entries_of es.items) comma
 expression_step (Expr-F.Close from es inner comma) = close from (entries_of es.items) inner comma
-expression_step (Expr-F.List es goes_on comma) = list (elements_of es.items) goes_on comma
+expression_step (Expr-F.List es rest comma) = list (elements_of es.items) (rest_of rest) comma
 expression_step (Expr-F.Conjunction es) = conjunction (elements_of es.items)
 expression_step (Expr-F.Disjunction bs) = disjunction (branches_of bs.items)
 

@@ -19,7 +19,7 @@ abbrev mutual
   unplaced (parenthesis e comma) = parenthesis (unplaced e) comma
   unplaced (struct es comma) = struct (unplaced_entries es) comma
   unplaced (close from es inner comma) = close 0 (unplaced_entries es) inner comma
-  unplaced (list es goes_on comma) = list (unplaced_elements es) goes_on comma
+  unplaced (list es rest comma) = list (unplaced_elements es) rest comma
   unplaced (conjunction es) = conjunction (unplaced_elements es)
   unplaced (disjunction bs) = disjunction (unplaced_branches bs)
 

@@ -12,7 +12,8 @@ use Rattle.cue_syntax.specs.declared.tree.Package.{Package}
 use Rattle.cue_syntax.specs.Spelling.{identifier_kind, label_kind}
 use Rattle.cue_syntax.specs.Syntax.{Expression, name, integer, text, bottom, bound, other_integer}
 use Rattle.cue_syntax.specs.Syntax.{other_text, parenthesis, struct, close, list, conjunction}
-use Rattle.cue_syntax.specs.Syntax.{disjunction, Elements, no_elements, element, Branch, branch}
+use Rattle.cue_syntax.specs.Syntax.{disjunction, Elements, no_elements, element, Rest, no_rest}
+use Rattle.cue_syntax.specs.Syntax.{any_rest, Branch, branch}
 use Rattle.cue_syntax.specs.Syntax.{Branches, no_branches, next_branch, Entry, ellipsis, field}
 use Rattle.cue_syntax.specs.Syntax.{definition, Entries, no_entries, entry}
 use Rattle.cue_syntax.specs.Words.{HasWordLabel, HasWords, HaveWords, HasWordsBranch}
@@ -68,11 +69,12 @@ ends_entries_prop true no_entries = hlevel
 ends_entries_prop true (entry e es) = hlevel
 ends_entries_prop false es = hlevel
 
-ends_elements_prop : (comma goes_on : Bool) (es : Elements) → IsProp (EndsElements comma goes_on es)
-ends_elements_prop true false no_elements = hlevel
-ends_elements_prop true false (element e es) = hlevel
-ends_elements_prop true true es = hlevel
-ends_elements_prop false goes_on es = hlevel
+ends_elements_prop : (comma : Bool) (rest : Rest) (es : Elements)
+    → IsProp (EndsElements comma rest es)
+ends_elements_prop true no_rest no_elements = hlevel
+ends_elements_prop true no_rest (element e es) = hlevel
+ends_elements_prop true any_rest es = hlevel
+ends_elements_prop false rest es = hlevel
 
 mutual
   right_prop : (e : Expression) → IsProp (IsRight e)
@@ -88,8 +90,8 @@ mutual
       hlevel (right_entries_prop es, nested_prop es, ends_entries_prop comma es)
   right_prop (close from es inner comma) =
       hlevel (right_entries_prop es, nested_prop es, ends_entries_prop inner es)
-  right_prop (list es goes_on comma) =
-      hlevel (all_right_prop es, ends_elements_prop comma goes_on es)
+  right_prop (list es rest comma) =
+      hlevel (all_right_prop es, ends_elements_prop comma rest es)
   right_prop (conjunction es) = hlevel (all_right_prop es, all_unary_prop es, two_elements_prop es)
   right_prop (disjunction bs) = hlevel (right_branches_prop bs, two_branches_prop bs)
 
@@ -140,7 +142,7 @@ mutual
   words_prop (parenthesis e comma) = words_prop e
   words_prop (struct es comma) = entries_words_prop es
   words_prop (close from es inner comma) = entries_words_prop es
-  words_prop (list es goes_on comma) = elements_words_prop es
+  words_prop (list es rest comma) = elements_words_prop es
   words_prop (conjunction es) = elements_words_prop es
   words_prop (disjunction bs) = branches_words_prop bs
 

@@ -27,7 +27,7 @@ abbrev mutual
   HasWords (parenthesis e comma) = HasWords e
   HasWords (struct es comma) = HaveWordsEntries es
   HasWords (close from es inner comma) = HaveWordsEntries es
-  HasWords (list es goes_on comma) = HaveWords es
+  HasWords (list es rest comma) = HaveWords es
   HasWords (conjunction es) = HaveWords es
   HasWords (disjunction bs) = HaveWordsBranches bs
 

@@ -18,7 +18,7 @@ use crate::label::{begins_label, label, labels};
 use crate::literal::literal;
 use crate::memory::{boxed, fitted, push};
 use crate::stop::{Stop, Why};
-use crate::tree::{Declaration, Expr, Term};
+use crate::tree::{Declaration, Expr, Rest, Term};
 use cue_lex::{Punctuation, TokenKind};
 use std::alloc::Global;
 
@@ -232,7 +232,7 @@ fn list<'a>(alloc: Global, cursor: Cursor<'a>, room: usize) -> Parsed<'a, Expr<'
             return Ok((
                 Expr::List {
                     elements: row.items,
-                    ellipsis: true,
+                    rest: Rest::GoesOn,
                     comma,
                 },
                 rest,
@@ -243,7 +243,7 @@ fn list<'a>(alloc: Global, cursor: Cursor<'a>, room: usize) -> Parsed<'a, Expr<'
     Ok((
         Expr::List {
             elements: row.items,
-            ellipsis: false,
+            rest: Rest::Ends,
             comma: row.comma,
         },
         rest,

@@ -18,6 +18,6 @@ pub use cue_lex::{Token, Word};
 pub use file::parse;
 pub use spelling::one_tree;
 pub use tree::{
-    Comparison, Declaration, Expr, File, Identifier, Label, LabelName, Mark, Package, Sign, Signed,
-    Term,
+    Comparison, Declaration, Expr, File, Identifier, Label, LabelName, Mark, Package, Rest, Sign,
+    Signed, Term,
 };

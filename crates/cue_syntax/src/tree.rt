@@ -156,8 +156,7 @@ pub enum Expr<'t> {
     /// A list literal.
     List {
         elements: Vec<Expr<'t>>,
-        /// Whether `...` stands after the elements.
-        ellipsis: bool,
+        rest: Rest,
         /// Whether a comma stands before the closing bracket.
         comma: bool,
     },
@@ -165,6 +164,15 @@ pub enum Expr<'t> {
     Conjunction(Vec<Expr<'t>>),
     /// Two or more terms joined by `|`.
     Disjunction(Vec<Term<'t>>),
+}
+
+/// What stands behind the last element of a list.
+#[derive(Clone, Copy, Debug, PartialEq, Eq, Hash)]
+pub enum Rest {
+    /// Nothing: the list ends with its elements.
+    Ends,
+    /// `...`
+    GoesOn,
 }
 
 /// A term of a disjunction.

@@ -13,7 +13,7 @@ use Rattle.cue_syntax.specs.Unplaced.{unplaced, unplaced_elements, unplaced_bran
 use Rattle.cue_scope.specs.Core.{Core, bottom, closed, conjunction, disjunction, struct, close, list, core, followed_by, choice, member, dots, is_scalar}
 use Rattle.cue_scope.specs.Definitions.{Definition, definitions, number_of}
 use Rattle.cue_scope.specs.Limits.{size, depth}
-use Rattle.cue_scope.specs.Meaning.{meant, meant_elements, meant_branches, meant_members, meant_name, meant_use, meaning_within, meaning, meant_fields, meant_text, nested, rest_of, text_of}
+use Rattle.cue_scope.specs.Meaning.{meant, meant_elements, meant_branches, meant_members, meant_name, meant_use, meaning_within, meaning, meant_fields, meant_text, nested, meant_rest, text_of}
 use Rattle.cue_scope.specs.Terms.{terms, terms_of_elements, terms_of_branches, terms_of_entries, bad_terms}
 use Rattle.scope_laws.specs.Places.{KeepsMeaning}
 use Rattle.scope_laws.proofs.Bare.{bare, bare_definitions, SameNumbers, bare_numbers, bare_length, zeros}
@@ -43,7 +43,7 @@ mutual
   meant_same cs ds f g same uses (tree.parenthesis e comma) = meant_same cs ds f g same uses e
   meant_same cs ds f g same uses (tree.struct es comma) = ap struct (members_same cs ds f g same uses es)
   meant_same cs ds f g same uses (tree.close place es inner comma) = ap close (members_same cs ds f g same uses es)
-  meant_same cs ds f g same uses (tree.list es goes_on comma) = ap (λ z. list (followed_by z (rest_of goes_on))) (elements_same cs ds f g same uses es)
+  meant_same cs ds f g same uses (tree.list es rest comma) = ap (λ z. list (followed_by z (meant_rest rest))) (elements_same cs ds f g same uses es)
   meant_same cs ds f g same uses (tree.conjunction es) = ap conjunction (elements_same cs ds f g same uses es)
   meant_same cs ds f g same uses (tree.disjunction bs) = ap disjunction (branches_same cs ds f g same uses bs)
 
@@ -122,7 +122,7 @@ mutual
   terms_same cs ds f g same uses (tree.parenthesis e comma) = terms_same cs ds f g same uses e
   terms_same cs ds f g same uses (tree.struct es comma) = terms_of_entries_same cs ds f g same uses es
   terms_same cs ds f g same uses (tree.close place es inner comma) = terms_of_entries_same cs ds f g same uses es
-  terms_same cs ds f g same uses (tree.list es goes_on comma) = terms_of_elements_same cs ds f g same uses es
+  terms_same cs ds f g same uses (tree.list es rest comma) = terms_of_elements_same cs ds f g same uses es
   terms_same cs ds f g same uses (tree.conjunction es) = terms_of_elements_same cs ds f g same uses es
   terms_same cs ds f g same uses (tree.disjunction bs) = terms_of_branches_same cs ds f g same uses bs
 

@@ -13,7 +13,7 @@ use Rattle.cue_syntax.specs.declared.tree.Package.{Package}
 use Rattle.cue_syntax.specs.declared.tree.Sign.{Sign}
 use Rattle.cue_syntax.specs.declared.tree.Sign.TheVariants as signs
 use Rattle.cue_syntax.specs.declared.tree.Signed.{Signed}
-use Rattle.cue_syntax.specs.Syntax.{Expression, name, integer, text, bottom, bound, other_integer, other_text, parenthesis, struct, close, list, conjunction, disjunction, Elements, no_elements, element, Branch, branch, Branches, no_branches, next_branch, Entry, ellipsis, field, definition, Entries, no_entries, entry}
+use Rattle.cue_syntax.specs.Syntax.{Expression, name, integer, text, bottom, bound, other_integer, other_text, parenthesis, struct, close, list, conjunction, disjunction, Elements, no_elements, element, Branch, branch, Branches, no_branches, next_branch, Entry, ellipsis, field, definition, Entries, no_entries, entry, Rest, no_rest, any_rest}
 use Rattle.cue_syntax.specs.Spelling.{Piece, Reads, Follows, StandsAt, IsPlace, one, one_at, placed, comma_if, star_if, identifier_kind, spell_sign, spell_signed, spell_mark, spell_label, spell_rest, spell, spell_elements, spell_more_elements, spell_branch, spell_branches, spell_more_branches, spell_entry, spell_entries, spell_more_entries, spell_package, spell_file}
 use Rattle.cue_syntax.specs.Grammar.{Limit, Within, IsRightPackage, AreRightEntries, EndsEntries, levels_of_entries}
 use Rattle.cue_syntax.specs.Unplaced.{unplaced, unplaced_elements, unplaced_branch, unplaced_branches, unplaced_entry, unplaced_entries}
@@ -93,20 +93,20 @@ abbrev spell_braces : Bool → Entries → List Piece
 spell_braces comma es = one (kinds.Mark points.OpenBrace) ++ spell_entries es ++ comma_if comma ++ one (kinds.Mark points.CloseBrace)
 
 -- which tokens the rest of a list is spelled with does not depend on the places in its elements
-record Rest (es : Elements) (goes_on : Bool) : Type 0 where
-  pub plain : Plain (spell_rest es goes_on)
-  pub same : (fs : Elements) → unplaced_elements fs ≡ unplaced_elements es → spell_rest fs goes_on ≡ spell_rest es goes_on
+record SameRest (es : Elements) (tail : Rest) : Type 0 where
+  pub plain : Plain (spell_rest es tail)
+  pub same : (fs : Elements) → unplaced_elements fs ≡ unplaced_elements es → spell_rest fs tail ≡ spell_rest es tail
 
-rest_of : (es : Elements) (goes_on : Bool) → Rest es goes_on
-rest_of es false = record { plain = tt; same = λ fs e. refl }
-rest_of no_elements true = record { plain = (refl, tt); same = none }
+rest_of : (es : Elements) (tail : Rest) → SameRest es tail
+rest_of es no_rest = record { plain = tt; same = λ fs e. refl }
+rest_of no_elements any_rest = record { plain = (refl, tt); same = none }
   where
-    none : (fs : Elements) → unplaced_elements fs ≡ no_elements → spell_rest fs true ≡ spell_rest no_elements true
+    none : (fs : Elements) → unplaced_elements fs ≡ no_elements → spell_rest fs any_rest ≡ spell_rest no_elements any_rest
     none no_elements e = refl
     none (element f fs) e = absurd (let h : element (unplaced f) (unplaced_elements fs) ≡ no_elements = e in cc)
-rest_of (element e es) true = record { plain = (refl, (refl, tt)); same = some }
+rest_of (element e es) any_rest = record { plain = (refl, (refl, tt)); same = some }
   where
-    some : (fs : Elements) → unplaced_elements fs ≡ element (unplaced e) (unplaced_elements es) → spell_rest fs true ≡ spell_rest (element e es) true
+    some : (fs : Elements) → unplaced_elements fs ≡ element (unplaced e) (unplaced_elements es) → spell_rest fs any_rest ≡ spell_rest (element e es) any_rest
     some no_elements h = absurd (let g : no_elements ≡ element (unplaced e) (unplaced_elements es) = h in cc)
     some (element f fs) h = refl
 
@@ -193,18 +193,18 @@ mutual
         reads = reads_then (reads_then (reads_then (reads_then called.reads (mark_reads points.OpenParenthesis first.right)) braces) (comma_reads outer third.right)) (mark_reads points.CloseParenthesis fourth.right);
         same = ap (λ z. close 0 z comma outer) inner.same;
       }
-  place (list es goes_on comma) l =
-      let fourth = cut (mark points.OpenBracket ++ spell_elements (kinds.Mark points.Comma) es ++ spell_rest es goes_on ++ comma_if comma) (mark points.CloseBracket) l in
-      let third = cut (mark points.OpenBracket ++ spell_elements (kinds.Mark points.Comma) es ++ spell_rest es goes_on) (comma_if comma) fourth.left in
-      let second = cut (mark points.OpenBracket ++ spell_elements (kinds.Mark points.Comma) es) (spell_rest es goes_on) third.left in
+  place (list es tail comma) l =
+      let fourth = cut (mark points.OpenBracket ++ spell_elements (kinds.Mark points.Comma) es ++ spell_rest es tail ++ comma_if comma) (mark points.CloseBracket) l in
+      let third = cut (mark points.OpenBracket ++ spell_elements (kinds.Mark points.Comma) es ++ spell_rest es tail) (comma_if comma) fourth.left in
+      let second = cut (mark points.OpenBracket ++ spell_elements (kinds.Mark points.Comma) es) (spell_rest es tail) third.left in
       let first = cut (mark points.OpenBracket) (spell_elements (kinds.Mark points.Comma) es) second.left in
       let inner = place_elements (kinds.Mark points.Comma) es first.right in
-      let rest = rest_of es goes_on in
-      let rest_read = subst (λ z. Reads second.middle z third.middle) (sym (rest.same inner.part inner.same)) (plain_reads (spell_rest es goes_on) rest.plain second.right) in
+      let rest = rest_of es tail in
+      let rest_read = subst (λ z. Reads second.middle z third.middle) (sym (rest.same inner.part inner.same)) (plain_reads (spell_rest es tail) rest.plain second.right) in
       record {
-        part = list inner.part goes_on comma;
+        part = list inner.part tail comma;
         reads = reads_then (reads_then (reads_then (reads_then (mark_reads points.OpenBracket first.left) inner.reads) rest_read) (comma_reads comma third.right)) (mark_reads points.CloseBracket fourth.right);
-        same = ap (λ z. list z goes_on comma) inner.same;
+        same = ap (λ z. list z tail comma) inner.same;
       }
   place (conjunction es) l =
       let inner = place_elements (kinds.Mark points.Ampersand) es l in

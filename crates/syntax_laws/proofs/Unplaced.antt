@@ -1,7 +1,7 @@
 -- Trees and the same trees without their places follow the grammar alike.
 use Rattle.std.proofs.Common.{◌≡◌, ◌∙◌, ◌↔◌, ap, refl, ◌+◌, max, Bool, true, false, Option, Some, None, length, arith}
 use Rattle.cue_syntax.specs.declared.tree.Package.{Package}
-use Rattle.cue_syntax.specs.Syntax.{Expression, name, integer, text, bottom, bound, other_integer, other_text, parenthesis, struct, close, list, conjunction, disjunction, Elements, no_elements, element, Branch, branch, Branches, no_branches, next_branch, Entry, ellipsis, field, definition, Entries, no_entries, entry}
+use Rattle.cue_syntax.specs.Syntax.{Expression, name, integer, text, bottom, bound, other_integer, other_text, parenthesis, struct, close, list, conjunction, disjunction, Elements, no_elements, element, Branch, branch, Branches, no_branches, next_branch, Entry, ellipsis, field, definition, Entries, no_entries, entry, Rest, no_rest, any_rest}
 use Rattle.cue_syntax.specs.Words.{HasWords, HaveWords, HasWordsBranch, HaveWordsBranches, HasWordsEntry, HaveWordsEntries}
 use Rattle.cue_syntax.specs.Grammar.{IsUnary, IsConjunct, IsNested, AreUnary, AreNested, TwoElements, TwoBranches, IsTerm, EndsEntries, EndsElements, IsRight, AreRight, IsRightBranch, AreRightBranches, IsRightEntry, AreRightEntries, IsRightPackage, levels, levels_of_elements, levels_of_branch, levels_of_branches, levels_of_entry, levels_of_entries}
 use Rattle.cue_syntax.specs.Unplaced.{unplaced, unplaced_elements, unplaced_branch, unplaced_branches, unplaced_entry, unplaced_entries}
@@ -23,7 +23,7 @@ unary_same (other_text t) = same
 unary_same (parenthesis e comma) = same
 unary_same (struct es comma) = same
 unary_same (close from es inner comma) = same
-unary_same (list es goes_on comma) = same
+unary_same (list es rest comma) = same
 
 conjunct_same : (e : Expression) → IsConjunct e ↔ IsConjunct (unplaced e)
 conjunct_same (conjunction es) = same
@@ -38,7 +38,7 @@ conjunct_same (other_text t) = same
 conjunct_same (parenthesis e comma) = same
 conjunct_same (struct es comma) = same
 conjunct_same (close from es inner comma) = same
-conjunct_same (list es goes_on comma) = same
+conjunct_same (list es rest comma) = same
 
 nested_one : (e : Entry) → IsNested e ↔ IsNested (unplaced_entry e)
 nested_one ellipsis = same
@@ -73,13 +73,13 @@ ends_same true (entry e es) = same
 ends_same false no_entries = same
 ends_same false (entry e es) = same
 
-ends_elements_same : (comma goes_on : Bool) (es : Elements) → EndsElements comma goes_on es ↔ EndsElements comma goes_on (unplaced_elements es)
-ends_elements_same true true no_elements = same
-ends_elements_same true false no_elements = same
-ends_elements_same false goes_on no_elements = same
-ends_elements_same true true (element e es) = same
-ends_elements_same true false (element e es) = same
-ends_elements_same false goes_on (element e es) = same
+ends_elements_same : (comma : Bool) (rest : Rest) (es : Elements) → EndsElements comma rest es ↔ EndsElements comma rest (unplaced_elements es)
+ends_elements_same true any_rest no_elements = same
+ends_elements_same true no_rest no_elements = same
+ends_elements_same false rest no_elements = same
+ends_elements_same true any_rest (element e es) = same
+ends_elements_same true no_rest (element e es) = same
+ends_elements_same false rest (element e es) = same
 
 mutual
   right_same : (e : Expression) → IsRight e ↔ IsRight (unplaced e)
@@ -93,7 +93,7 @@ mutual
   right_same (parenthesis e comma) = right_same e
   right_same (struct es comma) = (λ r. ((right_entries_same es).0 r.0, (nested_same es).0 r.1, (ends_same comma es).0 r.2), λ r. ((right_entries_same es).1 r.0, (nested_same es).1 r.1, (ends_same comma es).1 r.2))
   right_same (close from es inner comma) = (λ r. ((right_entries_same es).0 r.0, (nested_same es).0 r.1, (ends_same inner es).0 r.2), λ r. ((right_entries_same es).1 r.0, (nested_same es).1 r.1, (ends_same inner es).1 r.2))
-  right_same (list es goes_on comma) = (λ r. ((all_right_same es).0 r.0, (ends_elements_same comma goes_on es).0 r.1), λ r. ((all_right_same es).1 r.0, (ends_elements_same comma goes_on es).1 r.1))
+  right_same (list es rest comma) = (λ r. ((all_right_same es).0 r.0, (ends_elements_same comma rest es).0 r.1), λ r. ((all_right_same es).1 r.0, (ends_elements_same comma rest es).1 r.1))
   right_same (conjunction es) = (λ r. ((all_right_same es).0 r.0, (all_unary_same es).0 r.1, (two_elements_same es).0 r.2), λ r. ((all_right_same es).1 r.0, (all_unary_same es).1 r.1, (two_elements_same es).1 r.2))
   right_same (disjunction bs) = (λ r. ((right_branches_same bs).0 r.0, (two_branches_same bs).0 r.1), λ r. ((right_branches_same bs).1 r.0, (two_branches_same bs).1 r.1))
 
@@ -129,7 +129,7 @@ mutual
   words_same (parenthesis e comma) = words_same e
   words_same (struct es comma) = words_entries_same es
   words_same (close from es inner comma) = words_entries_same es
-  words_same (list es goes_on comma) = words_elements_same es
+  words_same (list es rest comma) = words_elements_same es
   words_same (conjunction es) = words_elements_same es
   words_same (disjunction bs) = words_branches_same bs
 
@@ -165,7 +165,7 @@ mutual
   levels_same (parenthesis e comma) = ap (λ n. 1 + n) (levels_same e)
   levels_same (struct es comma) = ap (λ n. 1 + n) (levels_entries_same es)
   levels_same (close from es inner comma) = ap (λ n. 2 + n) (levels_entries_same es)
-  levels_same (list es goes_on comma) = ap (λ n. 1 + n) (levels_elements_same es)
+  levels_same (list es rest comma) = ap (λ n. 1 + n) (levels_elements_same es)
   levels_same (conjunction es) = levels_elements_same es
   levels_same (disjunction bs) = levels_branches_same bs
 

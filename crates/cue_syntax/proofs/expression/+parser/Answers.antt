@@ -3,6 +3,7 @@ use Rattle.std.proofs.lemmas.List.{nil_from_length}
 use Rattle.cue_lex.specs.declared.token.TokenKind.TheVariants as kinds
 use Rattle.cue_lex.specs.declared.punctuation.Punctuation.TheVariants as points
 use Rattle.cue_syntax.specs.declared.tree.Expr.{Expr}
+use Rattle.cue_syntax.specs.declared.tree.Rest.TheVariants as rests
 use Rattle.cue_syntax.specs.declared.tree.Term.{Term}
 use Rattle.cue_syntax.specs.Syntax.{no_elements, parenthesis, struct, close, conjunction, disjunction, elements, branches, entries, expression}
 use Rattle.cue_syntax.specs.Grammar.{IsExpression, IsEntry, AreElements, AreEntries, AreNested}
@@ -199,13 +200,13 @@ list-returns-in-Some-clause-spelled t c =
           inr (ap elements (nil_from_length items.items zero))
     ] in
     subst (λ e. IsExpression c.args.room c.args.cursor.rest.now e c.in_ok-rest.rest.rest.now)
-    (sym (view-List items true c.trailing_comma-comma.result.0))
+    (sym (view-List items rests.GoesOn c.trailing_comma-comma.result.0))
     (open_list_is c.in_ok-inside.ensures.left c.in_ok-open.ensures.reads c.in_ok-row.ensures.spelled which c.in-Some.ensures.reads c.trailing_comma-comma.ensures.reads c.in_ok-rest.ensures.reads)
 
 pub list-returns-clause-spelled : goal.list-returns-clause-spelled
 list-returns-clause-spelled t c =
     subst (λ e. IsExpression c.args.room c.args.cursor.rest.now e c.in_ok-rest-2.rest.rest.now)
-    (sym (view-List c.in_ok-row.row.items false c.in_ok-row.row.comma))
+    (sym (view-List c.in_ok-row.row.items rests.Ends c.in_ok-row.row.comma))
     (list_is c.in_ok-inside.ensures.left c.in_ok-open.ensures.reads c.in_ok-row.ensures.spelled c.in_ok-rest-2.ensures.reads)
 
 pub conjunction-returns-in_err-first-clause-refused : goal.conjunction-returns-in_err-first-clause-refused

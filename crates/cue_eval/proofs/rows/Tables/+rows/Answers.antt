@@ -8,7 +8,7 @@ use Rattle.cue_scope.specs.Limits as limits
 use Rattle.cue_syntax.specs.Syntax as tree
 use Rattle.cue_syntax.proofs.Views.{view-Struct, view-Ellipsis}
 use Rattle.cue_scope.specs.Core.{followed_by}
-use Rattle.cue_scope.specs.Meaning.{meaning, nested, rest_of}
+use Rattle.cue_scope.specs.Meaning.{meaning, nested, meant_rest}
 use Rattle.cue_scope.proofs.Walking.{at_hand}
 use Rattle.cue_eval.specs.Known.{core_of, parts_of}
 use Rattle.cue_eval.specs.Parts.{AreAdded}
@@ -19,7 +19,7 @@ use Rattle.cue_eval.proofs.Joined.{part_pairable}
 use Rattle.cue_eval.proofs.Repeated.{Joining, joining_none, joined_ready, table_joined, scalar_joined, name_joined, named_same, joined_result}
 use Rattle.cue_eval.proofs.Listings.{Listing, listing_none, element_ready, element_listed, elements_listed, all_listed, elements_few}
 use Rattle.cue_eval.proofs.Regular.{fields_ready, struct_ready}
-use Rattle.cue_eval.proofs.Rests.{open_followed, open_rest}
+use Rattle.cue_eval.proofs.Rests.{open_followed}
 use Rattle.cue_eval.proofs.rows.Tables.+rows.Goals as goal
 use Rattle.cue_eval.proofs.rows.Tables.+rows.Goals.{conjunction-then-is_scalar_part+in_ok-pair+in_ok-push, conjunction-else-is_scalar_part+in-Some+in_ok-push-in-Some, conjunction-else-is_scalar_part+in-None+in_ok-rows-in-None+in_ok-push-in-None, fields-in-Ellipsis, fields-in-Definition, fields-in-Field+in_ok-field-in-Field+in_ok-push-in-Field}
 
@@ -170,13 +170,13 @@ fields-returns t c =
 
 pub list-loop-element-init : goal.list-loop-element-init
 list-loop-element-init t c =
-    subst (λ given. Listing c.args.self.now (rest_of c.args.goes_on) given c.args.elements.now c.args.elements.now) (sym c.new-steps.ensures.items)
-    (listing_none c.args.self.now (rest_of c.args.goes_on) c.args.elements.now c.requires)
+    subst (λ given. Listing c.args.self.now (meant_rest (tree.rest_of c.args.rest)) given c.args.elements.now c.args.elements.now) (sym c.new-steps.ensures.items)
+    (listing_none c.args.self.now (meant_rest (tree.rest_of c.args.rest)) c.args.elements.now c.requires)
 
 pub list-rows-requires : goal.list-rows-requires
 list-rows-requires t c =
     let left = at_hand c.args.elements.now c.loop-element.element-index c.element-item.result c.loop-element-test.true c.element-item.is in
-    let can = element_ready c.args.self.now (rest_of c.args.goes_on) c.loop-element.steps.items c.args.elements.now _ c.element-item.result _ c.loop-element.invariant left in (
+    let can = element_ready c.args.self.now (meant_rest (tree.rest_of c.args.rest)) c.loop-element.steps.items c.args.elements.now _ c.element-item.result _ c.loop-element.invariant left in (
       let among : size-Expr c.element-item.result ≤ most (λ e. size-Expr e) c.args.elements.now =
           subst (λ e. size-Expr e ≤ most (λ x. size-Expr x) c.args.elements.now) (sym c.element-item.is) (at_most (λ e. size-Expr e) c.args.elements.now c.loop-element.element-index c.element-item.result c.loop-element-test.true) in
           omega (arith, c.decreases, among),
@@ -185,20 +185,20 @@ list-rows-requires t c =
 
 pub list-overflow_cast-index : goal.list-overflow_cast-index
 list-overflow_cast-index t c =
-    let few = elements_few c.args.self.now c.args.elements.now (rest_of c.args.goes_on) c.requires in
+    let few = elements_few c.args.self.now c.args.elements.now (meant_rest (tree.rest_of c.args.rest)) c.requires in
     let counted = c.loop-element.invariant.counted in
     let len = c.len-index.ensures in
     omega arith
 
 pub list-loop-element-preserved : goal.list-loop-element-preserved
 list-loop-element-preserved t c =
-    subst (λ xs. Listing c.args.self.now (rest_of c.args.goes_on) xs c.args.elements.now (drop (c.loop-element.element-index + 1) c.args.elements.now)) (sym c.in_ok-push.ensures.items)
-    (element_listed c.args.self.now (rest_of c.args.goes_on) c.loop-element.steps.items c.args.elements.now _ c.element-item.result _ c.len-index.result c.in_ok-table.table c.loop-element.invariant
+    subst (λ xs. Listing c.args.self.now (meant_rest (tree.rest_of c.args.rest)) xs c.args.elements.now (drop (c.loop-element.element-index + 1) c.args.elements.now)) (sym c.in_ok-push.ensures.items)
+    (element_listed c.args.self.now (meant_rest (tree.rest_of c.args.rest)) c.loop-element.steps.items c.args.elements.now _ c.element-item.result _ c.len-index.result c.in_ok-table.table c.loop-element.invariant
     (at_hand c.args.elements.now c.loop-element.element-index c.element-item.result c.loop-element-test.true c.element-item.is) (c.len-index.ensures ∙ c.loop-element.steps.ok.0) c.in_ok-table.ensures.form c.in_ok-table.ensures.answers)
 
 pub list-list_of-requires-clause-count : goal.list-list_of-requires-clause-count
 list-list_of-requires-clause-count t c =
-    let few = elements_few c.args.self.now c.args.elements.now (rest_of c.args.goes_on) c.requires in
+    let few = elements_few c.args.self.now c.args.elements.now (meant_rest (tree.rest_of c.args.rest)) c.requires in
     let counted = c.loop-element.invariant.counted in
     omega arith
 
@@ -209,7 +209,7 @@ pub list-returns-clause-answers : goal.list-returns-clause-answers
 list-returns-clause-answers t c =
     let end = none_behind c.args.elements.now c.loop-element.element-index (let e = c.loop-element-test.false in omega arith) in
     let cs = parts_of c.args.self.now.pairs (tree.elements c.args.elements.now) in
-    list_result c.list_of.result (followed_by cs (rest_of c.args.goes_on)) c.args.goes_on c.loop-element.steps.items
-    (all_listed c.args.self.now c.args.goes_on c.loop-element.steps.items c.args.elements.now _ c.loop-element.invariant end)
-    (open_followed cs (rest_of c.args.goes_on) ∙ open_rest c.args.goes_on) c.list_of.ensures.answers
-    (elements_listed c.args.self.now c.args.goes_on c.loop-element.steps.items c.args.elements.now _ c.loop-element.invariant end)
+    list_result c.list_of.result (followed_by cs (meant_rest (tree.rest_of c.args.rest))) c.goes_on.result c.loop-element.steps.items
+    (all_listed c.args.self.now (tree.rest_of c.args.rest) c.loop-element.steps.items c.args.elements.now _ c.loop-element.invariant end)
+    (open_followed cs (meant_rest (tree.rest_of c.args.rest)) ∙ sym c.goes_on.ensures) c.list_of.ensures.answers
+    (elements_listed c.args.self.now (tree.rest_of c.args.rest) c.loop-element.steps.items c.args.elements.now _ c.loop-element.invariant end)

@@ -2,7 +2,7 @@ use denote.Param.Weighed.{most, at_most}
 use Rattle.cue_syntax.specs.declared.tree.Expr.{size-Expr}
 use Rattle.cue_syntax.specs.declared.tree.Declaration.{size-Declaration}
 use Rattle.cue_syntax.specs.declared.tree.Declaration.TheViews.{sized-List}
-use Rattle.std.proofs.Common.{◌<◌, ◌≤◌, length, sym, ap, subst, ◌∙◌, arith, IfOk, Bool, refl}
+use Rattle.std.proofs.Common.{◌<◌, ◌≤◌, length, sym, ap, subst, ◌∙◌, arith, IfOk, refl}
 use Rattle.cue_row.specs.Steps.{step_of}
 use Rattle.std.proofs.lemmas.Result.{IfOk-weaker}
 use Rattle.cue_lattice.specs.Limits.{step_limit}
@@ -11,7 +11,7 @@ use Rattle.cue_syntax.specs.Syntax.{entry_tree}
 use Rattle.cue_syntax.proofs.Views.{view-Close, view-List, view-Disjunction, view-Integer, view-Text, view-Bottom, view-Bound, view-OtherInteger, view-OtherText, view-Ellipsis, view-Field, view-Definition}
 use Rattle.cue_scope.specs.Core.{struct, list, followed_by}
 use Rattle.cue_scope.specs.Kept.{all_of}
-use Rattle.cue_scope.specs.Meaning.{meaning, nested, rest_of}
+use Rattle.cue_scope.specs.Meaning.{meaning, nested, meant_rest}
 use Rattle.cue_table.specs.Depth.{tree_depth}
 use Rattle.cue_eval.specs.Told.{IsTold, IsKnown, AreElementsKnown, IsRooted, IsToldBelow, means, mean_members, mean_elements}
 use Rattle.cue_eval.proofs.TellingNames.{nothing_told}
@@ -61,7 +61,7 @@ elements-returns t c =
     let all = c.args.elements.now in
     let end = c.loop-element-test.false in
     if_both c.of_branches.result _ _ _
-    (λ table form of goes_on. elements_all c.args.self.now c.args.whose c.loop-element.branches.items c.loop-element.index all c.loop-element.element-index goes_on table c.loop-element.invariant end form of)
+    (λ table form of rest. elements_all c.args.self.now c.args.whose c.loop-element.branches.items c.loop-element.index all c.loop-element.element-index rest table c.loop-element.invariant end form of)
     c.of_branches.ensures.form c.of_branches.ensures.refused
 
 pub fields-expression-requires : goal.fields-expression-requires
@@ -131,12 +131,12 @@ literal-returns-in_ok-declared-in-Own t c =
 pub expression-elements-requires : goal.expression-elements-requires
 expression-elements-requires t c = (
   let is = ap size-Expr c.in-List.is in
-      let own = sized-List c.in-List.elements c.in-List.ellipsis c.in-List.comma in
+      let own = sized-List c.in-List.elements c.in-List.rest c.in-List.comma in
       let same = ap (λ xs. most (λ e. size-Expr e) xs) c.deref-in-List.ensures.value in
       omega (arith, c.decreases, is, own, same),
   subst (λ xs. AreElementsKnown c.args.self.now (tree.elements xs)) (sym c.deref-in-List.ensures.value)
-      (list_known c.args.self.now (tree.elements c.in-List.elements.items) c.in-List.ellipsis c.in-List.comma
-      (subst (λ e. IsKnown c.args.self.now e) (ap tree.expression c.in-List.is ∙ view-List c.in-List.elements c.in-List.ellipsis c.in-List.comma) c.requires)),
+      (list_known c.args.self.now (tree.elements c.in-List.elements.items) (tree.rest_of c.in-List.rest) c.in-List.comma
+      (subst (λ e. IsKnown c.args.self.now e) (ap tree.expression c.in-List.is ∙ view-List c.in-List.elements c.in-List.rest c.in-List.comma) c.requires)),
 )
 
 pub expression-returns-in-Close : goal.expression-returns-in-Close
@@ -152,8 +152,8 @@ expression-returns-in-List t c =
     let es = mean_elements c.args.self.now (tree.elements c.in-List.elements.items) in
     let told = rw c.deref-in-List.ensures.value at c.elements.ensures in
     subst (λ z. IfOk c.elements.result (IsTold c.args.whose (means c.args.self.now z)))
-    (sym (ap tree.expression c.in-List.is ∙ view-List c.in-List.elements c.in-List.ellipsis c.in-List.comma))
-    (IfOk-weaker c.elements.result (λ table. (goes_on : Bool) → IsTold c.args.whose (list (followed_by es (rest_of goes_on))) table) _ (λ table h. h c.in-List.ellipsis) told)
+    (sym (ap tree.expression c.in-List.is ∙ view-List c.in-List.elements c.in-List.rest c.in-List.comma))
+    (IfOk-weaker c.elements.result (λ table. (rest : tree.Rest) → IsTold c.args.whose (list (followed_by es (meant_rest rest))) table) _ (λ table h. h (tree.rest_of c.in-List.rest)) told)
 
 pub expression-returns-in-Disjunction : goal.expression-returns-in-Disjunction
 expression-returns-in-Disjunction t c =

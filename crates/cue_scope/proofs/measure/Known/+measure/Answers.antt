@@ -1,14 +1,13 @@
-use Rattle.std.proofs.Common.{◌≡◌, sym, ap, subst, ◌∙◌, ◌+◌}
+use Rattle.std.proofs.Common.{sym, ap, subst, ◌∙◌}
 use Rattle.cue_syntax.specs.Syntax as tree
 use Rattle.cue_syntax.proofs.Views.{view-Name, view-Parenthesis, view-Struct, view-Close, view-List, view-Conjunction, view-Disjunction}
 use Rattle.cue_scope.specs.Kept.{all_of}
 use Rattle.cue_scope.specs.Measures as totals
 use Rattle.cue_scope.specs.Uses.{uses}
 use Rattle.cue_scope.specs.Measures.{IsMeasured, IsKnown}
-use Rattle.cue_scope.proofs.Followed.{one_if}
 use Rattle.cue_scope.proofs.Measuring.{known_first, measuring_more, part_at_hand, element_at_hand, term_at_hand, ellipsis_at_hand, field_at_hand, definition_at_hand, list_measured}
 use Rattle.cue_scope.proofs.measure.Known.+measure.Goals as goal
-use Rattle.cue_scope.proofs.measure.Known.+measure.Goals.{declarations-in-Ellipsis, declarations-in-Field, declarations-in-Definition, expression-then-ellipsis, expression-else-ellipsis}
+use Rattle.cue_scope.proofs.measure.Known.+measure.Goals.{declarations-in-Ellipsis, declarations-in-Field, declarations-in-Definition}
 
 pub parts-loop-part-preserved : goal.parts-loop-part-preserved
 parts-loop-part-preserved t c = λ known.
@@ -55,17 +54,13 @@ expression-returns-in-Close t c =
     subst (λ z. IsKnown c.args.self.now (uses ds z) → IsMeasured c.literal-in-Close.result (totals.total ds z))
     (sym (ap tree.expression c.in-Close.is ∙ view-Close c.in-Close.from c.in-Close.declarations c.in-Close.inner_comma c.in-Close.comma)) (λ known. c.literal-in-Close.ensures _ (parts known))
 
-pub expression-returns-after-ellipsis : goal.expression-returns-after-ellipsis
-expression-returns-after-ellipsis t c =
+pub expression-returns-in-List : goal.expression-returns-in-List
+expression-returns-in-List t c =
     let ds = all_of c.args.self.now.definitions.now in
     let parts = rw c.deref-in-List.ensures.value at c.elements.ensures in
-    let own : c.if-ellipsis.own ≡ 1 + one_if c.in-List.ellipsis = elim c.if-ellipsis.branch [
-      | expression-then-ellipsis w ↦ w.own-is ∙ ap (λ b. 1 + one_if b) (sym w.if-ellipsis.true)
-      | expression-else-ellipsis w ↦ w.own-is ∙ ap (λ b. 1 + one_if b) (sym w.if-ellipsis.false)
-    ] in
     subst (λ z. IsKnown c.args.self.now (uses ds z) → IsMeasured c.literal-in-List.result (totals.total ds z))
-    (sym (ap tree.expression c.in-List.is ∙ view-List c.in-List.elements c.in-List.ellipsis c.in-List.comma))
-    (λ known. list_measured ds (tree.elements c.in-List.elements.items) c.in-List.ellipsis c.in-List.comma c.literal-in-List.result c.if-ellipsis.own own (c.literal-in-List.ensures _ (parts known)))
+    (sym (ap tree.expression c.in-List.is ∙ view-List c.in-List.elements c.in-List.rest c.in-List.comma))
+    (λ known. list_measured ds (tree.elements c.in-List.elements.items) (tree.rest_of c.in-List.rest) c.in-List.comma c.literal-in-List.result c.own_size.result c.own_size.ensures (c.literal-in-List.ensures _ (parts known)))
 
 pub expression-returns-in-Conjunction : goal.expression-returns-in-Conjunction
 expression-returns-in-Conjunction t c =
