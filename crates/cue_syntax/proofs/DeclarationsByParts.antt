@@ -1,5 +1,5 @@
 -- What is read in parts is read as declarations, a list or a text.
-use Rattle.std.proofs.Common.{◌≡◌, refl, sym, ap, subst, ◌∙◌, ℕ, ◌+◌, Bool, true, false, List, [], ◌∷◌, ◌++◌, flat_map, append_assoc, append-nil, codes, arith}
+use Rattle.std.proofs.Common.{◌≡◌, refl, sym, ap, subst, ◌∙◌, ℕ, ◌+◌, max, Bool, true, false, List, [], ◌∷◌, ◌++◌, flat_map, append_assoc, append-nil, codes, arith}
 use Rattle.std.specs.Prelude.{None, Some}
 use Rattle.cue_lex.specs.declared.token.Token.{Token}
 use Rattle.cue_lex.specs.declared.token.TokenKind.TheVariants as kinds
@@ -8,12 +8,12 @@ use Rattle.cue_syntax.specs.declared.tree.Identifier.{Identifier}
 use Rattle.cue_syntax.specs.declared.tree.Label.{Label}
 use Rattle.cue_syntax.specs.declared.tree.LabelName.{LabelName}
 use Rattle.cue_syntax.specs.declared.tree.Mark.{Mark}
-use Rattle.cue_syntax.specs.Syntax.{Expression, Elements, no_elements, element, Entry, ellipsis, field, definition, Entries, no_entries, entry, Rest, no_rest, any_rest}
+use Rattle.cue_syntax.specs.Syntax.{Expression, Elements, no_elements, element, Entry, ellipsis, field, definition, Entries, no_entries, entry, Rest, no_rest, any_rest, each_rest}
 use Rattle.cue_syntax.specs.Spelling.{Reads, one, comma_if, identifier_kind, label_kind, spell, spell_mark, spell_label, spell_elements, spell_more_elements, spell_rest, spell_entry, spell_entries, spell_more_entries}
-use Rattle.cue_syntax.specs.Grammar.{AreRight, AreRightEntries, IsNested, EndsEntries, EndsElements, IsPackageName, IsRightPackage, levels_of_elements, levels_of_entries, Limit}
+use Rattle.cue_syntax.specs.Grammar.{AreRight, IsRightRest, AreRightEntries, IsNested, EndsEntries, EndsElements, IsPackageName, IsRightPackage, levels_of_elements, levels_of_rest, levels_of_entries, Limit}
 use Rattle.cue_syntax.proofs.ReadingsJoin.{reads_then, reads_none}
 use Rattle.cue_syntax.proofs.RowsGrow.{reads_same}
-use Rattle.cue_syntax.proofs.StillToRead.{Keeps, AnExpression, Valued, IsAllowed, AnEntry, closing, NestedIn, Declared, MoreDeclared, Listed, rest_behind, MoreListed, Closed, Whole, Packaged, Shuts, Marked}
+use Rattle.cue_syntax.proofs.StillToRead.{Keeps, AnExpression, Valued, IsAllowed, AnEntry, closing, NestedIn, Declared, MoreDeclared, Listed, rest_behind, MoreListed, spell_further, HasDots, Dotted, Closed, Whole, Packaged, Shuts, Marked}
 use Rattle.cue_syntax.proofs.EachStackEnds.{keeps_from, keeps_both, reads_kind}
 use Rattle.cue_syntax.proofs.ExpressionsByParts.{three}
 
@@ -136,12 +136,15 @@ brace_closed n t kind first shuts = record {
 -- lists
 ends_elements : (comma : Bool) (tail : Rest) (e : Expression) (es : Elements) → EndsElements comma tail (element e es)
 ends_elements true any_rest e es = tt
+ends_elements true (each_rest f) e es = tt
 ends_elements true no_rest e es = tt
 ends_elements false any_rest e es = tt
+ends_elements false (each_rest f) e es = tt
 ends_elements false no_rest e es = tt
 
 rest_is : (tail : Rest) (e : Expression) (es : Elements) → rest_behind tail ≡ spell_rest (element e es) tail
 rest_is any_rest e es = refl
+rest_is (each_rest f) e es = refl
 rest_is no_rest e es = refl
 
 -- an expression, and what may come after an element, are elements up to the bracket
@@ -155,49 +158,84 @@ element_elements {a = a} {c = c} first more = record {
       (reads_same (three (spell first.part) (spell_more_elements (kinds.Mark points.Comma) more.tree) (rest_behind more.tail ++ (comma_if more.comma ++ one (kinds.Mark points.CloseBracket))))
       (reads_then first.reads more.reads));
   right = (first.good, more.right);
+  rest_right = more.rest_right;
   ends = ends_elements more.comma more.tail first.part more.tree;
   within = keeps_both first.within more.within (omega arith);
 }
 
--- `...` and then the bracket, with a comma before it or without, end a list that has no elements
-pub ellipsis_elements : {limit : Limit} {n : ℕ} {a b : List Token} (t : Token) → t.kind ≡ (kinds.Mark points.Ellipsis) → Shuts (kinds.Mark points.CloseBracket) a b → Keeps limit n → Listed limit n (t ∷ a) b
-ellipsis_elements t kind shuts keeps = record {
-  tree = no_elements;
+-- a comma or none and then the bracket may come after `...`
+pub shut_dots : {limit : Limit} {n : ℕ} {a b : List Token} → Shuts (kinds.Mark points.CloseBracket) a b → Keeps limit n → Dotted limit n a b
+shut_dots shuts keeps = record {
   tail = any_rest;
   comma = shuts.part;
-  reads = reads_kind t kind shuts.reads;
+  reads = shuts.reads;
+  dots = tt;
   right = tt;
-  ends = open_ends shuts.part;
   within = keeps_from keeps (omega arith);
 }
+
+-- an expression, and then a comma or none and the bracket, may come after `...`
+pub expression_dots : {limit : Limit} {n : ℕ} {a b c : List Token} → AnExpression limit n a b → Shuts (kinds.Mark points.CloseBracket) b c → Dotted limit n a c
+expression_dots first shuts = record {
+  tail = each_rest first.part;
+  comma = shuts.part;
+  reads = reads_then first.reads shuts.reads;
+  dots = tt;
+  right = first.good;
+  within = first.within;
+}
+
+-- `...` and what may come after it are a list that has no elements
+pub ellipsis_elements : {limit : Limit} {n : ℕ} {a b : List Token} (t : Token) → t.kind ≡ (kinds.Mark points.Ellipsis) → Dotted limit n a b → Listed limit n (t ∷ a) b
+ellipsis_elements {limit} {n} {a} {b} t kind more = by_rest more.tail more.comma more.reads more.dots more.right more.within
   where
-    open_ends : (comma : Bool) → EndsElements comma any_rest no_elements
-    open_ends true = tt
-    open_ends false = tt
+    open_ends : (tail : Rest) (comma : Bool) → HasDots tail → EndsElements comma tail no_elements
+    open_ends no_rest comma dots = absurd dots
+    open_ends any_rest true dots = tt
+    open_ends any_rest false dots = tt
+    open_ends (each_rest e) true dots = tt
+    open_ends (each_rest e) false dots = tt
+
+    by_rest : (tail : Rest) (comma : Bool) → Reads a (spell_further tail ++ (comma_if comma ++ one (kinds.Mark points.CloseBracket))) b → HasDots tail → IsRightRest tail
+        → Keeps limit (levels_of_rest tail + n) → Listed limit n (t ∷ a) b
+    by_rest no_rest comma reads dots right within = absurd dots
+    by_rest any_rest comma reads dots right within = record { tree = no_elements; tail = any_rest; comma = comma; reads = reads_kind t kind reads; right = tt; rest_right = tt; ends = open_ends any_rest comma tt; within = keeps_from within (omega arith) }
+    by_rest (each_rest e) comma reads dots right within = record {
+      tree = no_elements;
+      tail = each_rest e;
+      comma = comma;
+      reads = reads_kind t kind reads;
+      right = tt;
+      rest_right = right;
+      ends = open_ends (each_rest e) comma tt;
+      within = keeps_from within (omega arith);
+    }
 
 -- a closing bracket alone ends a list that has no elements
 pub bracket_elements : {limit : Limit} {n : ℕ} {a : List Token} (t : Token) → t.kind ≡ (kinds.Mark points.CloseBracket) → Keeps limit n → Listed limit n (t ∷ a) a
-bracket_elements t kind keeps = record { tree = no_elements; tail = no_rest; comma = false; reads = reads_kind t kind reads_none; right = tt; ends = tt; within = keeps_from keeps (omega arith) }
+bracket_elements t kind keeps = record { tree = no_elements; tail = no_rest; comma = false; reads = reads_kind t kind reads_none; right = tt; rest_right = tt; ends = tt; within = keeps_from keeps (omega arith) }
 
 -- a closing bracket may come right after an element
 pub bracket_more : {limit : Limit} {n : ℕ} {a : List Token} (t : Token) → t.kind ≡ (kinds.Mark points.CloseBracket) → Keeps limit n → MoreListed limit n (t ∷ a) a
-bracket_more t kind keeps = record { tree = no_elements; tail = no_rest; comma = false; reads = reads_kind t kind reads_none; right = tt; within = keeps_from keeps (omega arith) }
+bracket_more t kind keeps = record { tree = no_elements; tail = no_rest; comma = false; reads = reads_kind t kind reads_none; right = tt; rest_right = tt; within = keeps_from keeps (omega arith) }
 
 -- a comma and then elements up to the bracket may come after an element
 pub comma_elements : {limit : Limit} {n : ℕ} {a b : List Token} (t : Token) → t.kind ≡ (kinds.Mark points.Comma) → Listed limit n a b → MoreListed limit n (t ∷ a) b
-comma_elements {limit} {n} {a} {b} t kind more = by_elements more.tree more.tail more.comma more.reads more.right more.ends more.within
+comma_elements {limit} {n} {a} {b} t kind more = by_elements more.tree more.tail more.comma more.reads more.right more.rest_right more.ends more.within
   where
     by_elements : (es : Elements) (tail : Rest) (comma : Bool) → Reads a (spell_elements (kinds.Mark points.Comma) es ++ (spell_rest es tail ++ (comma_if comma ++ one (kinds.Mark points.CloseBracket)))) b → AreRight es
-        → EndsElements comma tail es → Keeps limit (levels_of_elements es + n) → MoreListed limit n (t ∷ a) b
-    by_elements no_elements no_rest true reads right ends within = absurd ends
-    by_elements no_elements no_rest false reads right ends within = record { tree = no_elements; tail = no_rest; comma = true; reads = reads_kind t kind reads; right = tt; within = within }
-    by_elements no_elements any_rest comma reads right ends within = record { tree = no_elements; tail = any_rest; comma = comma; reads = reads_kind t kind reads; right = tt; within = within }
-    by_elements (element e es) tail comma reads right ends within = record {
+        → IsRightRest tail → EndsElements comma tail es → Keeps limit (max (levels_of_elements es) (levels_of_rest tail) + n) → MoreListed limit n (t ∷ a) b
+    by_elements no_elements no_rest true reads right each ends within = absurd ends
+    by_elements no_elements no_rest false reads right each ends within = record { tree = no_elements; tail = no_rest; comma = true; reads = reads_kind t kind reads; right = tt; rest_right = tt; within = within }
+    by_elements no_elements any_rest comma reads right each ends within = record { tree = no_elements; tail = any_rest; comma = comma; reads = reads_kind t kind reads; right = tt; rest_right = tt; within = within }
+    by_elements no_elements (each_rest e) comma reads right each ends within = record { tree = no_elements; tail = each_rest e; comma = comma; reads = reads_kind t kind reads; right = tt; rest_right = each; within = within }
+    by_elements (element e es) tail comma reads right each ends within = record {
       tree = element e es;
       tail = tail;
       comma = comma;
       reads = reads_kind t kind (subst (λ z. Reads a (spell e ++ spell_more_elements (kinds.Mark points.Comma) es ++ (z ++ (comma_if comma ++ one (kinds.Mark points.CloseBracket)))) b) (sym (rest_is tail e es)) reads);
       right = right;
+      rest_right = each;
       within = within;
     }
 

@@ -11,7 +11,7 @@ use Rattle.cue_syntax.specs.declared.tree.Mark.TheVariants as marks
 use Rattle.cue_syntax.specs.declared.tree.Sign.{Sign}
 use Rattle.cue_syntax.specs.declared.tree.Sign.TheVariants as signs
 use Rattle.cue_syntax.specs.declared.tree.Signed.{Signed}
-use Rattle.cue_syntax.specs.Syntax.{Expression, name, integer, text, branch, no_elements, no_branches, next_branch, no_entries, Rest, no_rest}
+use Rattle.cue_syntax.specs.Syntax.{Expression, name, integer, text, branch, no_elements, no_branches, next_branch, no_entries, no_rest, any_rest}
 use Rattle.cue_syntax.specs.Spelling.{Piece, Reads, one}
 use Rattle.cue_syntax.specs.Grammar.{IsKeyword, IsOperand, Limit, unlimited, at_most, greatest}
 use Rattle.cue_syntax.specs.Recogniser.{Goal, Stack, is_keyword, depth, levels_of}
@@ -265,6 +265,7 @@ goal_ends limit n Goal.elements keeps rest = (
     comma = false;
     reads = is_one (kinds.Mark points.CloseBracket) rest;
     right = tt;
+    rest_right = tt;
     ends = tt;
     within = keeps_from keeps (omega arith);
   },
@@ -276,6 +277,18 @@ goal_ends limit n Goal.more_elements keeps rest = (
     tail = no_rest;
     comma = false;
     reads = is_one (kinds.Mark points.CloseBracket) rest;
+    right = tt;
+    rest_right = tt;
+    within = keeps_from keeps (omega arith);
+  },
+)
+goal_ends limit n Goal.dots keeps rest = (
+  _,
+  record {
+    tail = any_rest;
+    comma = false;
+    reads = is_one (kinds.Mark points.CloseBracket) rest;
+    dots = tt;
     right = tt;
     within = keeps_from keeps (omega arith);
   },
@@ -311,6 +324,7 @@ less_below Goal.parenthesis n = omega arith
 less_below Goal.parenthesis_end n = omega arith
 less_below Goal.elements n = omega arith
 less_below Goal.more_elements n = omega arith
+less_below Goal.dots n = omega arith
 less_below Goal.bracket n = omega arith
 less_below Goal.bracket_end n = omega arith
 less_below _ n = omega arith
@@ -339,6 +353,7 @@ levels_are Goal.parenthesis n = omega arith
 levels_are Goal.parenthesis_end n = omega arith
 levels_are Goal.elements n = omega arith
 levels_are Goal.more_elements n = omega arith
+levels_are Goal.dots n = omega arith
 levels_are Goal.bracket n = omega arith
 levels_are Goal.bracket_end n = omega arith
 levels_are _ n = omega arith

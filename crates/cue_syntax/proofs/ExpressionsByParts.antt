@@ -213,7 +213,7 @@ pub list_unary : {limit : Limit} {n : ℕ} {a b : List Token} (t : Token) → t.
 list_unary t kind first = record {
   part = list first.tree first.tail first.comma;
   reads = reads_kind t kind (reads_same (four (spell_elements (kinds.Mark points.Comma) first.tree) (spell_rest first.tree first.tail) (comma_if first.comma) (one (kinds.Mark points.CloseBracket))) first.reads);
-  good = ((first.right, first.ends), tt);
+  good = ((first.right, first.rest_right, first.ends), tt);
   within = keeps_from first.within (omega arith);
 }
 

@@ -1,5 +1,5 @@
 -- How the recogniser goes through lists and declarations.
-use Rattle.std.proofs.Common.{◌≡◌, ◌∙◌, ap, sym, subst, refl, ℕ, ◌+◌, ◌≤◌, ◌<◌, ◌⊎◌, inl, inr, Bool, true, false, List, [], ◌∷◌, ◌++◌, length, arith, None}
+use Rattle.std.proofs.Common.{◌≡◌, ◌∙◌, ap, sym, subst, refl, ℕ, ◌+◌, ◌≤◌, ◌⊎◌, inl, inr, Bool, true, false, List, [], ◌∷◌, ◌++◌, length, arith, None}
 use Rattle.std.specs.Prelude.{if◌then◌else◌}
 use Rattle.cue_lex.specs.declared.token.Token.{Token}
 use Rattle.cue_lex.specs.declared.token.TokenKind.{TokenKind}
@@ -11,7 +11,7 @@ use Rattle.cue_syntax.specs.declared.tree.Label.{Label}
 use Rattle.cue_syntax.specs.Spelling.{Reads, one, one_at, comma_if, spell_label}
 use Rattle.cue_syntax.specs.Stops.{at_hand}
 use Rattle.cue_syntax.specs.Viability.{Stands, StandsSign, IsMark, IsLabelName, IsKeywordName, BeginsLabel, BeginsDefinition, IsDefinition, EndsHere, can_begin, behind_begun}
-use Rattle.cue_syntax.specs.Recogniser.{Goal, Stack, levels_of, step, Closes, Moves, Refused, chains, row_goal, value, mark, colon, entries, more_entries, unary, expression, elements, more_elements, bracket, bracket_end}
+use Rattle.cue_syntax.specs.Recogniser.{Goal, Stack, levels_of, step, Closes, Moves, Refused, chains, row_goal, value, mark, colon, entries, more_entries, unary, expression, elements, more_elements, dots, bracket, bracket_end}
 use Rattle.cue_syntax.proofs.MovesAndStops.{takes, takes_read, moves_none, moves_then, moves_more, moves_under, alike_moves, Halts, HaltsAt, halts_at, stopped, stops_there, refused_behind, refused_under, refused_end}
 use Rattle.cue_syntax.proofs.MovesOverLabels.{label_entry, chains_depth, chains_close, chains_over, colon_halts}
 use Rattle.cue_syntax.proofs.ValuesAreExpressions.{value_moves, value_refused}
@@ -56,11 +56,16 @@ ellipsis_halts {b = b} comma reads lacks close = record { at = ellipsis_at comma
 pub list_opens : {room : ℕ} {a b c : List Token} {next : Stack} (left : ℕ) → left + 1 ≡ room → Reads a (one (kinds.Mark points.OpenBracket)) b → Moves (1 + left) (elements ∷ []) b next c → Moves room (unary ∷ []) a next c
 list_opens left is reads inner = moves_then {h = elements ∷ []} (takes_read reads (λ below. refl) (omega (arith, is))) (moves_more (omega (arith, is)) inner)
 
+-- the room in brackets and the level of the brackets are the room around them
+pub refused_inside : {room end : ℕ} {g : Stack} {a : List Token} {r : Stop} (left : ℕ) → left + 1 ≡ room → Refused (1 + left) end g a r → Refused room end g a r
+refused_inside {room = room} {end = end} {g = g} {a = a} {r = r} left is inner =
+    let e : 1 + left ≡ room = omega (arith, is) in
+    subst (λ z. Refused z end g a r) e inner
+
 -- what is refused of the elements in brackets is refused of the operand
 pub list_refused : {room end other : ℕ} {a b : List Token} {r : Stop} (left : ℕ) → left + 1 ≡ room → other ≡ end → Reads a (one (kinds.Mark points.OpenBracket)) b → Refused (1 + left) other (elements ∷ []) b r → Refused room end (unary ∷ []) a r
-list_refused {room = room} {other = other} {b = b} {r = r} left is same reads inner =
-    let e : 1 + left ≡ room = omega (arith, is) in
-    refused_behind {h = elements ∷ []} (takes_read reads (λ below. refl) (omega (arith, is))) (refused_end same (subst (λ z. Refused z other (elements ∷ []) b r) e inner))
+list_refused left is same reads inner =
+    refused_behind {h = elements ∷ []} (takes_read reads (λ below. refl) (omega (arith, is))) (refused_end same (refused_inside left is inner))
 
 -- the goal after a row
 -- at the start and after a comma it is that of the row's items
@@ -138,10 +143,39 @@ row_halts {a = a} false [] lacks free close = absurd (free (inr refl))
 row_halts {a = a} false (x ∷ xs) lacks free close = record { at = more_elements_at a close (lacks refl) }
 
 -- where the elements are none or end with a comma, the goal goes through `...`
-pub open_ellipsis : {n : ℕ} {A : Type 0} {a b : List Token} (comma : Bool) (xs : List A) → 1 ≤ n → (comma ≡ true) ⊎ (xs ≡ []) → Reads a (one (kinds.Mark points.Ellipsis)) b → Moves n (row_goal elements more_elements comma xs ∷ []) a (bracket ∷ []) b
+pub open_ellipsis : {n : ℕ} {A : Type 0} {a b : List Token} (comma : Bool) (xs : List A) → 1 ≤ n → (comma ≡ true) ⊎ (xs ≡ []) → Reads a (one (kinds.Mark points.Ellipsis)) b → Moves n (row_goal elements more_elements comma xs ∷ []) a (dots ∷ []) b
 open_ellipsis true xs le free reads = takes_read reads (λ below. refl) (omega (arith, le))
 open_ellipsis false [] le free reads = takes_read reads (λ below. refl) (omega (arith, le))
 open_ellipsis false (x ∷ xs) le free reads = absurd (elim free [ inl e ↦ (let f : false ≡ true = e in cc) | inr e ↦ (let f : x ∷ xs ≡ [] = e in cc) ])
+
+-- what follows the `...` of a list
+shut_step : (k : TokenKind) → (k ≡ (kinds.Mark points.Comma)) ⊎ (k ≡ (kinds.Mark points.CloseBracket)) → (below : Stack) → step (dots ∷ below) k ≡ step (bracket ∷ below) k
+shut_step k (inl e) below = ap (step (dots ∷ below)) e ∙ sym (ap (step (bracket ∷ below)) e)
+shut_step k (inr e) below = ap (step (dots ∷ below)) e ∙ sym (ap (step (bracket ∷ below)) e)
+
+-- where a comma or a bracket stands, the goal after `...` is that of the end of the list
+pub dots_shut : {n : ℕ} {a : List Token} → StandsSign (kinds.Mark points.Comma) a ⊎ StandsSign (kinds.Mark points.CloseBracket) a → Moves n (dots ∷ []) a (bracket ∷ []) a
+dots_shut {a = []} stands = absurd (elim stands [ inl e ↦ e | inr e ↦ e ])
+dots_shut {a = t ∷ ts} stands = alike_moves (t ∷ ts) (λ below. shut_step t.kind stands below)
+
+dots_step : (k : TokenKind) → (k ≡ (kinds.Mark points.Comma) → ⊥) → (k ≡ (kinds.Mark points.CloseBracket) → ⊥) → (below : Stack) → step (dots ∷ below) k ≡ step (expression ∷ bracket ∷ below) k
+dots_step (kinds.Mark points.Comma) a b below = absurd (a refl)
+dots_step (kinds.Mark points.CloseBracket) a b below = absurd (b refl)
+dots_step _ a b below = refl
+
+dots_at : {n : ℕ} (a : List Token) → ¬ StandsSign (kinds.Mark points.Comma) a → ¬ StandsSign (kinds.Mark points.CloseBracket) a → Moves n (dots ∷ []) a (expression ∷ bracket ∷ []) a
+dots_at [] comma close = alike_moves [] (λ below. refl)
+dots_at (t ∷ ts) comma close = alike_moves (t ∷ ts) (λ below. dots_step t.kind comma close below)
+
+-- an expression that is read after `...` leaves the end of the list
+pub dots_moves : {room : ℕ} {a b : List Token} → ¬ StandsSign (kinds.Mark points.Comma) a → ¬ StandsSign (kinds.Mark points.CloseBracket) a → Moves room (expression ∷ []) a [] b → Moves (1 + room) (dots ∷ []) a (bracket ∷ []) b
+dots_moves {a = a} comma close inner = moves_then (dots_at a comma close) (moves_under (bracket ∷ []) (omega arith) inner)
+
+-- what is refused of an expression after `...` is refused there
+pub dots_refused : {room end : ℕ} {a : List Token} {r : Stop} → ¬ StandsSign (kinds.Mark points.Comma) a → ¬ StandsSign (kinds.Mark points.CloseBracket) a → Refused room end (expression ∷ []) a r
+    → Refused (1 + room) end (dots ∷ []) a r
+dots_refused {a = a} comma close inner =
+    refused_behind (dots_at a comma close) (refused_under (bracket ∷ []) (omega arith) (λ below closes. record { call = refl; colon = refl; question = refl; exclamation = refl }) inner)
 
 -- declarations
 -- the goal of more declarations goes through a comma to the next one
@@ -259,24 +293,24 @@ mark_at g (t ∷ ts) other = λ below closes. mark_none g t.kind other below
 
 no_entry : (top : Bool) (t : Token) (ts : List Token) (k : TokenKind) → t.kind ≡ k → (k ≡ (kinds.Mark points.Ellipsis) → ⊥) → ¬ (IsLabelName k × Stands IsMark ts) → (top ≡ true → ¬ (IsDefinition k × StandsSign (kinds.Mark points.Colon) ts))
     → (top ≡ false → k ≡ (kinds.Mark points.CloseBrace) → ⊥) → HaltsBehind (entries top ∷ []) (t ∷ ts) (if can_begin top k then ts else t ∷ ts)
-no_entry true t ts (kinds.Name n) is dots label other close = record { next = mark ∷ value ∷ more_entries true ∷ []; room = 0; moves = takes t refl (λ below. ap (step (entries true ∷ below)) is) (omega arith); halts = record { at = mark_at (value ∷ more_entries true ∷ []) ts (λ m. label (tt, m)) } }
-no_entry true t ts (kinds.Text n) is dots label other close = record { next = mark ∷ value ∷ more_entries true ∷ []; room = 0; moves = takes t refl (λ below. ap (step (entries true ∷ below)) is) (omega arith); halts = record { at = mark_at (value ∷ more_entries true ∷ []) ts (λ m. label (tt, m)) } }
-no_entry true t ts (kinds.Definition n) is dots label other close = record { next = colon ∷ value ∷ more_entries true ∷ []; room = 0; moves = takes t refl (λ below. ap (step (entries true ∷ below)) is) (omega arith); halts = colon_halts (λ m. other refl (tt, m)) }
-no_entry true t ts (kinds.Mark points.Ellipsis) is dots label other close = absurd (dots refl)
-no_entry true t ts k is dots label other close = halts_here (halts_at t refl (λ below closes. ap (step (entries true ∷ below)) is))
-no_entry false t ts (kinds.Name n) is dots label other close = record { next = mark ∷ value ∷ more_entries false ∷ []; room = 1; moves = takes t refl (λ below. ap (step (entries false ∷ below)) is) (omega arith); halts = record { at = mark_at (value ∷ more_entries false ∷ []) ts (λ m. label (tt, m)) } }
-no_entry false t ts (kinds.Text n) is dots label other close = record { next = mark ∷ value ∷ more_entries false ∷ []; room = 1; moves = takes t refl (λ below. ap (step (entries false ∷ below)) is) (omega arith); halts = record { at = mark_at (value ∷ more_entries false ∷ []) ts (λ m. label (tt, m)) } }
-no_entry false t ts (kinds.Mark points.Ellipsis) is dots label other close = absurd (dots refl)
-no_entry false t ts (kinds.Mark points.CloseBrace) is dots label other close = absurd (close refl refl)
-no_entry false t ts k is dots label other close = halts_here (halts_at t refl (λ below closes. ap (step (entries false ∷ below)) is))
+no_entry true t ts (kinds.Name n) is no_dots label other close = record { next = mark ∷ value ∷ more_entries true ∷ []; room = 0; moves = takes t refl (λ below. ap (step (entries true ∷ below)) is) (omega arith); halts = record { at = mark_at (value ∷ more_entries true ∷ []) ts (λ m. label (tt, m)) } }
+no_entry true t ts (kinds.Text n) is no_dots label other close = record { next = mark ∷ value ∷ more_entries true ∷ []; room = 0; moves = takes t refl (λ below. ap (step (entries true ∷ below)) is) (omega arith); halts = record { at = mark_at (value ∷ more_entries true ∷ []) ts (λ m. label (tt, m)) } }
+no_entry true t ts (kinds.Definition n) is no_dots label other close = record { next = colon ∷ value ∷ more_entries true ∷ []; room = 0; moves = takes t refl (λ below. ap (step (entries true ∷ below)) is) (omega arith); halts = colon_halts (λ m. other refl (tt, m)) }
+no_entry true t ts (kinds.Mark points.Ellipsis) is no_dots label other close = absurd (no_dots refl)
+no_entry true t ts k is no_dots label other close = halts_here (halts_at t refl (λ below closes. ap (step (entries true ∷ below)) is))
+no_entry false t ts (kinds.Name n) is no_dots label other close = record { next = mark ∷ value ∷ more_entries false ∷ []; room = 1; moves = takes t refl (λ below. ap (step (entries false ∷ below)) is) (omega arith); halts = record { at = mark_at (value ∷ more_entries false ∷ []) ts (λ m. label (tt, m)) } }
+no_entry false t ts (kinds.Text n) is no_dots label other close = record { next = mark ∷ value ∷ more_entries false ∷ []; room = 1; moves = takes t refl (λ below. ap (step (entries false ∷ below)) is) (omega arith); halts = record { at = mark_at (value ∷ more_entries false ∷ []) ts (λ m. label (tt, m)) } }
+no_entry false t ts (kinds.Mark points.Ellipsis) is no_dots label other close = absurd (no_dots refl)
+no_entry false t ts (kinds.Mark points.CloseBrace) is no_dots label other close = absurd (close refl refl)
+no_entry false t ts k is no_dots label other close = halts_here (halts_at t refl (λ below closes. ap (step (entries false ∷ below)) is))
 
 no_entry_at : (top : Bool) (a : List Token) → ¬ StandsSign (kinds.Mark points.Ellipsis) a → ¬ BeginsLabel a → (top ≡ true → ¬ BeginsDefinition a) → ¬ EndsHere top a → HaltsBehind (entries top ∷ []) a (behind_begun top a)
-no_entry_at true [] dots label other ends = absurd (ends refl)
-no_entry_at false [] dots label other ends = halts_here (record { at = λ below. refl })
-no_entry_at true (t ∷ ts) dots label other ends = no_entry true t ts t.kind refl dots label other (λ e. let f : true ≡ false = e in cc)
-no_entry_at false (t ∷ ts) dots label other ends = no_entry false t ts t.kind refl dots label other (λ e. ends)
+no_entry_at true [] no_dots label other ends = absurd (ends refl)
+no_entry_at false [] no_dots label other ends = halts_here (record { at = λ below. refl })
+no_entry_at true (t ∷ ts) no_dots label other ends = no_entry true t ts t.kind refl no_dots label other (λ e. let f : true ≡ false = e in cc)
+no_entry_at false (t ∷ ts) no_dots label other ends = no_entry false t ts t.kind refl no_dots label other (λ e. ends)
 
 -- the goal of declarations refuses tokens with which none begins and where they don't end
 pub no_entry_refused : {n end : ℕ} {a : List Token} {r : Stop} (top : Bool) → ¬ StandsSign (kinds.Mark points.Ellipsis) a → ¬ BeginsLabel a → (top ≡ true → ¬ BeginsDefinition a) → ¬ EndsHere top a
     → r ≡ at_hand reasons.Syntax end (behind_begun top a) → Refused n end (entries top ∷ []) a r
-no_entry_refused {a = a} top dots label other ends is = let w = no_entry_at top a dots label other ends in stopped (stops_there is w.moves w.halts)
+no_entry_refused {a = a} top no_dots label other ends is = let w = no_entry_at top a no_dots label other ends in stopped (stops_there is w.moves w.halts)

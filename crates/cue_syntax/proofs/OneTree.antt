@@ -6,14 +6,14 @@ use Rattle.cue_syntax.specs.declared.tree.Identifier.{Identifier}
 use Rattle.cue_syntax.specs.declared.tree.Identifier.TheVariants as identifiers
 use Rattle.cue_syntax.specs.declared.tree.Package.{Package}
 use Rattle.cue_syntax.specs.Spelling.{Reads, one, comma_if, identifier_kind, spell_entry, spell_more_entries, spell_entries, spell_package}
-use Rattle.cue_syntax.specs.Grammar.{IsRight, AreRight, IsRightBranch, AreRightBranches, IsRightEntry, AreRightEntries, EndsEntries, Limit, IsFile}
+use Rattle.cue_syntax.specs.Grammar.{IsRight, AreRight, IsRightRest, IsRightBranch, AreRightBranches, IsRightEntry, AreRightEntries, EndsEntries, Limit, IsFile}
 use Rattle.cue_syntax.specs.OneTree.{NoTwoTrees}
-use Rattle.cue_syntax.specs.Syntax.{FileTree, Expression, name, integer, text, bottom, bound, other_integer, other_text, parenthesis, struct, close, list, conjunction, disjunction, Elements, no_elements, element, Branch, branch, Branches, no_branches, next_branch, Entry, ellipsis, field, definition, Entries, no_entries, entry}
+use Rattle.cue_syntax.specs.Syntax.{FileTree, Expression, name, integer, text, bottom, bound, other_integer, other_text, parenthesis, struct, close, list, conjunction, disjunction, Elements, no_elements, element, Rest, no_rest, any_rest, each_rest, Branch, branch, Branches, no_branches, next_branch, Entry, ellipsis, field, definition, Entries, no_entries, entry}
 use Rattle.cue_syntax.proofs.PartsByTheirTokens.{is_mark, is_name, is_comma, first, behind, behind_comma, identifier_at, identifier_of, is_clause}
 use Rattle.cue_syntax.proofs.ReaderOfTrees.{reader, read_file, as_file, size_of_entries}
 use Rattle.cue_syntax.proofs.ReadingsJoin.{reads_then}
 use Rattle.cue_syntax.proofs.ReadingsCut.{cut, headed, head_first, head_behind, ends_text, comma_seen, comma_behind, entries_row}
-use Rattle.cue_syntax.proofs.ReadsRows.{Knows, KnowsBranch, KnowsEntry, AreKnown, AreKnownBranches, AreKnownEntries, entries_known}
+use Rattle.cue_syntax.proofs.ReadsRows.{Knows, KnowsBranch, KnowsEntry, AreKnown, IsKnownRest, AreKnownBranches, AreKnownEntries, entries_known}
 use Rattle.cue_syntax.proofs.ReadsOperands.{name_answers, integer_answers, text_answers, bottom_answers, bound_answers, other_integer_answers, other_text_answers, parenthesis_answers, struct_answers, close_answers, list_answers}
 use Rattle.cue_syntax.proofs.ReadsExpressions.{operand_knows, conjunction_knows, disjunction_knows, branch_knows, ellipsis_knows, field_knows, definition_knows}
 
@@ -29,13 +29,18 @@ mutual
   knows (parenthesis e comma) right = operand_knows (parenthesis e comma) (omega arith) (parenthesis_answers e comma (knows e right))
   knows (struct es comma) right = operand_knows (struct es comma) (omega arith) (struct_answers es comma (all_entries es right.0))
   knows (close from es inner comma) right = operand_knows (close from es inner comma) (omega arith) (close_answers from es inner comma (all_entries es right.0))
-  knows (list es tail comma) right = operand_knows (list es tail comma) (omega arith) (list_answers es tail comma (all es right.0))
+  knows (list es tail comma) right = operand_knows (list es tail comma) (omega arith) (list_answers es tail comma (all es right.0) (knows_rest tail right.1))
   knows (conjunction es) right = conjunction_knows es (all es right.0) right.1 right.2
   knows (disjunction bs) right = disjunction_knows bs (all_branches bs right.0) right.1
 
   all : (es : Elements) → AreRight es → AreKnown es
   all no_elements right = tt
   all (element e es) right = (knows e right.0, all es right.1)
+
+  knows_rest : (tail : Rest) → IsRightRest tail → IsKnownRest tail
+  knows_rest no_rest right = tt
+  knows_rest any_rest right = tt
+  knows_rest (each_rest e) right = knows e right
 
   knows_branch : (b : Branch) → IsRightBranch b → KnowsBranch b
   knows_branch (branch marked from e) right = branch_knows marked from e (knows e right.0) right.1

@@ -8,9 +8,9 @@ use Rattle.cue_syntax.specs.declared.tree.Label.{Label}
 use Rattle.cue_syntax.specs.declared.tree.Expr.{Expr}
 use Rattle.cue_syntax.specs.declared.tree.Term.{Term}
 use Rattle.cue_syntax.specs.declared.tree.Declaration.{Declaration}
-use Rattle.cue_syntax.specs.Spelling.{Piece, Reads, Follows, IsPlace, one, one_at, placed, comma_if, star_if, spell, spell_label, spell_elements, spell_rest, spell_branch, spell_branches, spell_entry, spell_entries}
-use Rattle.cue_syntax.specs.Grammar.{AreRight, IsUnary, IsTerm, AreUnary, TwoElements, TwoBranches, AreRightBranches, AreNested, EndsEntries, EndsElements, levels_of_elements, levels_of_branches, IsExpression, IsTermOf, IsEntry, IsLiteral, AreElements, AreEntries, AreBraced}
-use Rattle.cue_syntax.specs.Syntax.{Expression, Elements, no_elements, element, Entries, parenthesis, struct, close, list, conjunction, disjunction, branch, field, definition, expression, branch_tree, entry_tree, elements, branches, entries, no_rest, any_rest}
+use Rattle.cue_syntax.specs.Spelling.{Piece, Reads, Follows, IsPlace, one, one_at, placed, comma_if, star_if, spell, spell_label, spell_elements, spell_dots, spell_rest, spell_branch, spell_branches, spell_entry, spell_entries}
+use Rattle.cue_syntax.specs.Grammar.{IsRightRest, IsRestOf, AreRight, IsUnary, IsTerm, AreUnary, TwoElements, TwoBranches, AreRightBranches, AreNested, EndsEntries, EndsElements, levels_of_elements, levels_of_rest, levels_of_branches, IsExpression, IsTermOf, IsEntry, IsLiteral, AreElements, AreEntries, AreBraced}
+use Rattle.cue_syntax.specs.Syntax.{Expression, Elements, no_elements, element, Entries, parenthesis, struct, close, list, conjunction, disjunction, branch, field, definition, expression, branch_tree, entry_tree, elements, branches, entries, Rest, no_rest, any_rest, each_rest}
 use Rattle.cue_syntax.proofs.ReadingsJoin.{reads_then, reads_none, reads_placed}
 use Rattle.cue_syntax.proofs.RowsGrow.{reads_same, elements_pushed, right_pushed, unary_pushed, levels_pushed, branches_pushed, right_branches_pushed, levels_branches_pushed, entries_pushed, right_entries_pushed, levels_entries_pushed}
 
@@ -68,36 +68,65 @@ list_is {a = a} {d = d} {es = es} {comma = comma} is first second third = record
   reads = reads_same
       (ap (λ z. ((one (kinds.Mark points.OpenBracket) ++ z) ++ comma_if comma) ++ one (kinds.Mark points.CloseBracket)) (sym (append-nil (spell_elements (kinds.Mark points.Comma) es))))
       (reads_then (reads_then first second.reads) third);
-  right = (second.right, second.ends);
+  right = (second.right, tt, second.ends);
   levels = omega (arith, is, second.levels);
 }
-
-ends_open : (comma : Bool) (es : Elements) → EndsElements comma any_rest es
-ends_open true no_elements = tt
-ends_open true (element e es) = tt
-ends_open false es = tt
 
 -- elements after which `...` may stand
-pub rest_reads : {left : ℕ} {b c d : List Token} (es : Elements) (comma : Bool) → AreElements left b es comma c → (comma ≡ true) ⊎ (es ≡ no_elements)
-    → Reads c (one (kinds.Mark points.Ellipsis)) d → Reads b (spell_elements (kinds.Mark points.Comma) es ++ spell_rest es any_rest) d
-rest_reads no_elements false inner which second = reads_then inner.reads second
-rest_reads no_elements true inner which second = absurd inner.ends
-rest_reads (element e es) true inner which second =
+dots_read : {left : ℕ} {b c d : List Token} (es : Elements) (comma : Bool) → AreElements left b es comma c → (comma ≡ true) ⊎ (es ≡ no_elements)
+    → Reads c (one (kinds.Mark points.Ellipsis)) d → Reads b (spell_elements (kinds.Mark points.Comma) es ++ spell_dots es) d
+dots_read no_elements false inner which second = reads_then inner.reads second
+dots_read no_elements true inner which second = absurd inner.ends
+dots_read (element e es) true inner which second =
     reads_same (append_assoc (spell_elements (kinds.Mark points.Comma) (element e es)) (one (kinds.Mark points.Comma)) (one (kinds.Mark points.Ellipsis))) (reads_then inner.reads second)
-rest_reads (element e es) false inner which second = absurd (⊎_elim (λ (w : false ≡ true). cc) (λ (w : element e es ≡ no_elements). cc) which)
+dots_read (element e es) false inner which second = absurd (⊎_elim (λ (w : false ≡ true). cc) (λ (w : element e es ≡ no_elements). cc) which)
 
--- elements and then `...` in brackets are an expression, which opens one level more
-pub open_list_is : {room left : ℕ} {a b c d f g : List Token} {es : Elements} {comma last : Bool} → left + 1 ≡ room
-    → Reads a (one (kinds.Mark points.OpenBracket)) b → AreElements left b es comma c → (comma ≡ true) ⊎ (es ≡ no_elements)
-    → Reads c (one (kinds.Mark points.Ellipsis)) d → Reads d (comma_if last) f → Reads f (one (kinds.Mark points.CloseBracket)) g
-    → IsExpression room a (list es any_rest last) g
-open_list_is {es = es} {comma = comma} {last = last} is first second which third fourth fifth = record {
-  reads = reads_same
-      (ap (λ z. (z ++ comma_if last) ++ one (kinds.Mark points.CloseBracket)) (sym (append_assoc (one (kinds.Mark points.OpenBracket)) (spell_elements (kinds.Mark points.Comma) es) (spell_rest es any_rest))))
-      (reads_then (reads_then (reads_then first (rest_reads es comma second which third)) fourth) fifth);
-  right = (second.right, ends_open last es);
-  levels = omega (arith, is, second.levels);
+-- elements and their rest, after which a comma may stand
+record HasRest (room : ℕ) (b : List Token) (es : Elements) (tail : Rest) (d : List Token) : Type 0 where
+  pub reads : Reads b (spell_elements (kinds.Mark points.Comma) es ++ spell_rest es tail) d
+  pub right : IsRightRest tail
+  pub ends : (comma : Bool) → EndsElements comma tail es
+  pub levels : levels_of_rest tail ≤ room
+
+ends_any : (es : Elements) (comma : Bool) → EndsElements comma any_rest es
+ends_any no_elements true = tt
+ends_any (element e es) true = tt
+ends_any es false = tt
+
+ends_each : (e : Expression) (es : Elements) (comma : Bool) → EndsElements comma (each_rest e) es
+ends_each e no_elements true = tt
+ends_each e (element f es) true = tt
+ends_each e es false = tt
+
+has_rest : {room : ℕ} {b c d : List Token} (es : Elements) (tail : Rest) → Reads b (spell_elements (kinds.Mark points.Comma) es ++ spell_dots es) c → IsRestOf room c tail d → HasRest room b es tail d
+has_rest es no_rest first second = absurd second
+has_rest {b = b} es any_rest first second = record {
+  reads = subst (λ z. Reads b (spell_elements (kinds.Mark points.Comma) es ++ spell_dots es) z) second first;
+  right = tt;
+  ends = ends_any es;
+  levels = omega arith;
 }
+has_rest es (each_rest e) first second = record {
+  reads = reads_same (append_assoc (spell_elements (kinds.Mark points.Comma) es) (spell_dots es) (spell e)) (reads_then first second.reads);
+  right = second.right;
+  ends = ends_each e es;
+  levels = second.levels;
+}
+
+-- elements, `...` and what follows it, in brackets, are an expression, which opens one level more
+pub open_list_is : {room left : ℕ} {a b c d e f g : List Token} {es : Elements} {comma last : Bool} (tail : Rest) → left + 1 ≡ room
+    → Reads a (one (kinds.Mark points.OpenBracket)) b → AreElements left b es comma c → (comma ≡ true) ⊎ (es ≡ no_elements)
+    → Reads c (one (kinds.Mark points.Ellipsis)) d → IsRestOf left d tail e → Reads e (comma_if last) f → Reads f (one (kinds.Mark points.CloseBracket)) g
+    → IsExpression room a (list es tail last) g
+open_list_is {es = es} {comma = comma} {last = last} tail is first second which third fourth fifth sixth =
+    let row = has_rest es tail (dots_read es comma second which third) fourth in
+    record {
+      reads = reads_same
+          (ap (λ z. (z ++ comma_if last) ++ one (kinds.Mark points.CloseBracket)) (sym (append_assoc (one (kinds.Mark points.OpenBracket)) (spell_elements (kinds.Mark points.Comma) es) (spell_rest es tail))))
+          (reads_then (reads_then (reads_then first row.reads) fifth) sixth);
+      right = (second.right, row.right, row.ends last);
+      levels = omega (arith, is, second.levels, row.levels);
+    }
 
 -- a label, further labels and an expression are a field, which opens a level for each further label
 pub field_is : {room left : ℕ} {a b c d : List Token} {l : Label} {chain : List Label} {e : Expression} → left + length chain ≡ room

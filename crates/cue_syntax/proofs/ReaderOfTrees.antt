@@ -11,7 +11,7 @@ use Rattle.cue_syntax.specs.declared.tree.Signed.{Signed}
 use Rattle.cue_syntax.specs.declared.tree.Comparison.{Comparison}
 use Rattle.cue_syntax.specs.declared.tree.Comparison.TheVariants as comparisons
 use Rattle.cue_syntax.specs.declared.tree.Package.{Package}
-use Rattle.cue_syntax.specs.Syntax.{FileTree, Expression, name, integer, text, bottom, bound, other_integer, other_text, parenthesis, struct, close, list, conjunction, disjunction, Elements, no_elements, element, Branch, branch, Branches, no_branches, next_branch, Entry, ellipsis, field, definition, Entries, no_entries, entry, no_rest, any_rest}
+use Rattle.cue_syntax.specs.Syntax.{FileTree, Expression, name, integer, text, bottom, bound, other_integer, other_text, parenthesis, struct, close, list, conjunction, disjunction, Elements, no_elements, element, Branch, branch, Branches, no_branches, next_branch, Entry, ellipsis, field, definition, Entries, no_entries, entry, Rest, no_rest, any_rest, each_rest}
 use Rattle.cue_syntax.proofs.PartsByTheirTokens.{begins, behind, behind_comma, behind_label, first, goes_on_elements, goes_on_entries, identifier_of, is_and, is_comma, is_ellipsis, is_entry, is_open, is_or, is_starred, is_text, label_of, look, place, signed, signed_at, text_of}
 
 -- readers of everything, each with what stands after
@@ -93,14 +93,23 @@ abbrev pub read_name : Reader → Bool → List ℕ → ℕ → List Token → E
 read_name r true t from ts = read_close from (r.entries (behind (behind ts)))
 read_name r false t from ts = (name (identifiers.Plain t) from, ts)
 
+-- a list with this expression as its rest
+abbrev pub read_each : Elements → Expression × List Token → Expression × List Token
+read_each es p = (list es (each_rest p.0) (first is_comma p.1), behind (behind_comma p.1))
+
+-- the end of a list after its `...`: whether an expression begins here
+abbrev pub read_rest : Reader → Bool → Elements → List Token → Expression × List Token
+read_rest r true es ts = read_each es (r.expression ts)
+read_rest r false es ts = (list es any_rest (first is_comma ts), behind (behind_comma ts))
+
 -- the end of a list: whether `...` stands here, after a comma or not
-abbrev pub read_list_end : Bool → Bool → Elements → List Token → Expression × List Token
-read_list_end true comma es ts = (list es any_rest (first is_comma (behind ts)), behind (behind_comma (behind ts)))
-read_list_end false comma es ts = (list es no_rest comma, behind ts)
+abbrev pub read_list_end : Reader → Bool → Bool → Elements → List Token → Expression × List Token
+read_list_end r true comma es ts = read_rest r (begins (look (behind ts))) es (behind ts)
+read_list_end r false comma es ts = (list es no_rest comma, behind ts)
 
 -- a list, by the elements in it
-abbrev pub read_list : Elements × List Token → Expression × List Token
-read_list p = read_list_end (first is_ellipsis (behind_comma p.1)) (first is_comma p.1) p.0 (behind_comma p.1)
+abbrev pub read_list : Reader → Elements × List Token → Expression × List Token
+read_list r p = read_list_end r (first is_ellipsis (behind_comma p.1)) (first is_comma p.1) p.0 (behind_comma p.1)
 
 -- by the first token, where it begins, and what stands after it
 abbrev pub unary_at : Reader → TokenKind → ℕ → List Token → Expression × List Token
@@ -118,7 +127,7 @@ unary_at r (kinds.Mark points.AtLeast) from ts = read_bound comparisons.AtLeast 
 unary_at r (kinds.Mark points.NotEqual) from ts = read_other (first is_text ts) ts
 unary_at r (kinds.Mark points.OpenParenthesis) from ts = read_parenthesis (r.expression ts)
 unary_at r (kinds.Mark points.OpenBrace) from ts = read_struct (r.entries ts)
-unary_at r (kinds.Mark points.OpenBracket) from ts = read_list (r.elements ts)
+unary_at r (kinds.Mark points.OpenBracket) from ts = read_list r (r.elements ts)
 unary_at r _ from ts = (bottom, ts)
 
 -- an operand or a bound
@@ -288,13 +297,18 @@ abbrev mutual
   size (parenthesis e comma) = 5 + size e
   size (struct es comma) = 5 + size_of_entries es
   size (close from es inner comma) = 5 + size_of_entries es
-  size (list es tail comma) = 5 + size_of_elements es
+  size (list es tail comma) = 5 + size_of_elements es + size_of_rest tail
   size (conjunction es) = 5 + size_of_elements es
   size (disjunction bs) = 5 + size_of_branches bs
 
   pub size_of_elements : Elements → ℕ
   size_of_elements no_elements = 1
   size_of_elements (element e es) = 5 + size e + size_of_elements es
+
+  pub size_of_rest : Rest → ℕ
+  size_of_rest no_rest = 0
+  size_of_rest any_rest = 0
+  size_of_rest (each_rest e) = size e
 
   pub size_of_branch : Branch → ℕ
   size_of_branch (branch marked from e) = 3 + size e

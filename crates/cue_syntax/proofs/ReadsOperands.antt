@@ -1,5 +1,5 @@
 -- How operands and bounds are read.
-use Rattle.std.proofs.Common.{◌≡◌, ◌∙◌, ap, sym, subst, refl, ℕ, suc, ◌≤◌, Bool, true, false, List, [], ◌++◌, codes, arith}
+use Rattle.std.proofs.Common.{◌≡◌, ◌∙◌, ap, sym, subst, refl, ℕ, suc, ◌+◌, ◌≤◌, Bool, true, false, List, [], ◌++◌, codes, arith}
 use Rattle.cue_lex.specs.declared.token.Token.{Token}
 use Rattle.cue_lex.specs.declared.token.TokenKind.{TokenKind}
 use Rattle.cue_lex.specs.declared.token.TokenKind.TheVariants as kinds
@@ -11,12 +11,12 @@ use Rattle.cue_syntax.specs.declared.tree.Sign.TheVariants as signs
 use Rattle.cue_syntax.specs.declared.tree.Signed.{Signed}
 use Rattle.cue_syntax.specs.declared.tree.Comparison.{Comparison}
 use Rattle.cue_syntax.specs.declared.tree.Comparison.TheVariants as comparisons
-use Rattle.cue_syntax.specs.Spelling.{Reads, one, comma_if, comparison_kind, spell, spell_sign, spell_signed, spell_elements, spell_entries, spell_rest}
-use Rattle.cue_syntax.specs.Syntax.{Expression, name, integer, text, bottom, bound, other_integer, other_text, parenthesis, struct, close, list, Elements, no_elements, element, Entries, Rest, no_rest, any_rest}
+use Rattle.cue_syntax.specs.Spelling.{Reads, one, comma_if, comparison_kind, spell, spell_sign, spell_signed, spell_elements, spell_entries, spell_rest, spell_dots}
+use Rattle.cue_syntax.specs.Syntax.{Expression, name, integer, text, bottom, bound, other_integer, other_text, parenthesis, struct, close, list, Elements, no_elements, element, Entries, Rest, no_rest, any_rest, each_rest}
 use Rattle.cue_syntax.proofs.PartsByTheirTokens.{is_open, is_mark, is_comma, is_entry, is_text, is_ellipsis, first, behind, place, look, look_at, look_marked, plain, begins, behind_comma, magnitude, magnitude_at, signed, signed_at, text_of, text_at}
-use Rattle.cue_syntax.proofs.ReaderOfTrees.{Reader, reader, read_unary, unary_at, read_name, read_integer, read_bound, read_other, read_parenthesis, read_struct, read_close, read_close_end, read_list, read_list_end, size, size_of_entries}
+use Rattle.cue_syntax.proofs.ReaderOfTrees.{Reader, reader, read_unary, unary_at, read_name, read_integer, read_bound, read_other, read_parenthesis, read_struct, read_close, read_close_end, read_list, read_list_end, read_rest, read_each, size, size_of_rest, size_of_entries}
 use Rattle.cue_syntax.proofs.ReadingsCut.{cut, Head, headed, lone, place_is, unplaced, head_first, head_behind, head_look, EndsUnary, EndsExpression, EndsElementsRow, IsEnd, ends, comma_seen, comma_behind, behind_a_comma, behind_no_comma, comma_ends, elements_row, entries_row}
-use Rattle.cue_syntax.proofs.ReadsRows.{found, Knows, AreKnown, AreKnownEntries, elements_known, entries_known}
+use Rattle.cue_syntax.proofs.ReadsRows.{found, Knows, AreKnown, IsKnownRest, AreKnownEntries, elements_known, entries_known}
 
 -- it is read where something may follow that ends an operand
 abbrev pub Answers : Expression → Type 0
@@ -233,61 +233,92 @@ comma_reads : {a c : List Token} → Head a (kinds.Mark points.Comma) c → Read
 comma_reads {c = c} h = subst (λ (z : List Token). Reads z (comma_if true) c) (sym h.is) (record { follows = (h.kind_is, tt, refl) })
 
 -- elements end here, and what stands here up to the bracket is read as the end of their list
-pub record ListEnds (es : Elements) (tail : Rest) (comma : Bool) (a b : List Token) : Type 0 where
+pub record ListEnds (n : ℕ) (es : Elements) (tail : Rest) (comma : Bool) (a b : List Token) : Type 0 where
   pub row : EndsElementsRow a
-  pub reads : read_list (es, a) ≡ (list es tail comma, b)
+  pub reads : read_list (reader n) (es, a) ≡ (list es tail comma, b)
 
--- `...` stands here
-list_goes_on : (es : Elements) (comma : Bool) (seen : Bool) (a b c d : List Token) → Head a (kinds.Mark points.Ellipsis) b → Reads b (comma_if comma) c
-    → Head c (kinds.Mark points.CloseBracket) d → read_list_end (first is_ellipsis a) seen es a ≡ (list es any_rest comma, d)
-list_goes_on es comma seen a b c d h then last =
+-- behind the `...` of a list, up to the bracket, its rest is read
+abbrev RestEnds : ℕ → Elements → Rest → Bool → List Token → List Token → Type 0
+RestEnds n es tail comma b d = read_rest (reader n) (begins (look b)) es b ≡ (list es tail comma, d)
+
+nothing_begins : {b c d : List Token} (comma : Bool) → Reads b (comma_if comma) c → Head c (kinds.Mark points.CloseBracket) d → begins (look b) ≡ false
+nothing_begins true then last = ap begins (head_look (lone (kinds.Mark points.Comma) then))
+nothing_begins false then last = ap (λ (z : List Token). begins (look z)) then.follows ∙ ap begins (head_look last)
+
+rest_any : (n : ℕ) (es : Elements) (comma : Bool) (b c d : List Token) → Reads b (comma_if comma) c → Head c (kinds.Mark points.CloseBracket) d
+    → RestEnds n es any_rest comma b d
+rest_any n es comma b c d then last =
     let end = closes comma then last refl bracket_end in
-    ap (λ (z : Bool). read_list_end z seen es a) (head_first is_ellipsis h)
-    ∙ ap (λ (z : List Token). found (list es any_rest (first is_comma z)) (behind (behind_comma z))) (head_behind h)
+    ap (λ (z : Bool). read_rest (reader n) z es b) (nothing_begins comma then last)
     ∙ ap (λ (z : Bool). found (list es any_rest z) (behind (behind_comma b))) end.seen
     ∙ ap (found (list es any_rest comma)) end.behind_it
 
-list_ends : (es : Elements) (tail : Rest) (comma : Bool) (a b c d : List Token) → Reads a (spell_rest es tail) b → Reads b (comma_if comma) c
-    → Head c (kinds.Mark points.CloseBracket) d → ListEnds es tail comma a d
-list_ends es no_rest comma a b c d h then last =
-    let no_comma : first is_comma c ≡ false = head_first is_comma last in
-    let past = comma_behind comma then no_comma in
-    let behind_it : ListEnds es no_rest comma b d = record {
-      row = elements_row comma then (ap begins (head_look last)) no_comma (ends last bracket_end);
-      reads = ap (λ (z : List Token). read_list_end (first is_ellipsis z) (first is_comma b) es z) past
-          ∙ ap (λ (z : Bool). read_list_end z (first is_comma b) es c) (head_first is_ellipsis last)
-          ∙ ap (λ (z : Bool). found (list es no_rest z) (behind c)) (comma_seen comma then no_comma)
-          ∙ ap (found (list es no_rest comma)) (head_behind last);
-    } in
-    subst (λ (z : List Token). ListEnds es no_rest comma z d) (sym h.follows) behind_it
-list_ends no_elements any_rest comma a b c d h then last =
+rest_each : (n : ℕ) (es : Elements) (e : Expression) (comma : Bool) (b m c d : List Token) → Knows e → Reads b (spell e) m → Reads m (comma_if comma) c
+    → Head c (kinds.Mark points.CloseBracket) d → 3 + size e ≤ n → RestEnds n es (each_rest e) comma b d
+rest_each n es e comma b m c d known h then last s =
+    let end = closes comma then last refl bracket_end in
+    ap (λ (z : Bool). read_rest (reader n) z es b) (known.begins b m h end.ends.conjunct.unary)
+    ∙ ap (read_each es) (known.whole n b m h end.ends s)
+    ∙ ap (λ (z : Bool). found (list es (each_rest e) z) (behind (behind_comma m))) end.seen
+    ∙ ap (found (list es (each_rest e) comma)) end.behind_it
+
+-- `...` stands here
+list_goes_on : (n : ℕ) (es : Elements) (tail : Rest) (comma seen : Bool) (a b d : List Token) → Head a (kinds.Mark points.Ellipsis) b → RestEnds n es tail comma b d
+    → read_list_end (reader n) (first is_ellipsis a) seen es a ≡ (list es tail comma, d)
+list_goes_on n es tail comma seen a b d h inner =
+    ap (λ (z : Bool). read_list_end (reader n) z seen es a) (head_first is_ellipsis h)
+    ∙ ap (λ (z : List Token). read_rest (reader n) (begins (look z)) es z) (head_behind h)
+    ∙ inner
+
+-- `...` stands here, after a comma where elements stand before it
+dots_end : (n : ℕ) (es : Elements) (tail : Rest) (comma : Bool) (a b d : List Token) → Reads a (spell_dots es) b → RestEnds n es tail comma b d
+    → ListEnds n es tail comma a d
+dots_end n no_elements tail comma a b d h inner =
     let dots : Head a (kinds.Mark points.Ellipsis) b = lone (kinds.Mark points.Ellipsis) h in
     let no_comma : first is_comma a ≡ false = head_first is_comma dots in
     let here : Reads a (comma_if false) a = record { follows = refl } in
     record {
       row = elements_row false here (ap begins (head_look dots)) no_comma (ends dots ellipsis_end);
-      reads = ap (λ (z : List Token). read_list_end (first is_ellipsis z) (first is_comma a) no_elements z) (behind_no_comma no_comma)
-          ∙ list_goes_on no_elements comma (first is_comma a) a b c d dots then last;
+      reads = ap (λ (z : List Token). read_list_end (reader n) (first is_ellipsis z) (first is_comma a) no_elements z) (behind_no_comma no_comma)
+          ∙ list_goes_on n no_elements tail comma (first is_comma a) a b d dots inner;
     }
-list_ends (element e es) any_rest comma a b c d h then last =
+dots_end n (element e es) tail comma a b d h inner =
     let t = headed (kinds.Mark points.Comma) (one (kinds.Mark points.Ellipsis)) h in
     let dots : Head t.middle (kinds.Mark points.Ellipsis) b = lone (kinds.Mark points.Ellipsis) t.right in
     record {
       row = elements_row true (comma_reads t.head) (ap begins (head_look dots)) (head_first is_comma dots) (ends dots ellipsis_end);
-      reads = ap (λ (z : List Token). read_list_end (first is_ellipsis z) (first is_comma a) (element e es) z) (behind_a_comma t.head)
-          ∙ list_goes_on (element e es) comma (first is_comma a) t.middle b c d dots then last;
+      reads = ap (λ (z : List Token). read_list_end (reader n) (first is_ellipsis z) (first is_comma a) (element e es) z) (behind_a_comma t.head)
+          ∙ list_goes_on n (element e es) tail comma (first is_comma a) t.middle b d dots inner;
     }
 
--- where the reader finds each of some elements, it finds them in brackets
-pub list_answers : (es : Elements) (tail : Rest) (comma : Bool) → AreKnown es → Answers (list es tail comma)
-list_answers es tail comma known n a b h k s =
+list_ends : (n : ℕ) (es : Elements) (tail : Rest) (comma : Bool) (a b c d : List Token) → IsKnownRest tail → 3 + size_of_rest tail ≤ n → Reads a (spell_rest es tail) b
+    → Reads b (comma_if comma) c → Head c (kinds.Mark points.CloseBracket) d → ListEnds n es tail comma a d
+list_ends n es no_rest comma a b c d known s h then last =
+    let no_comma : first is_comma c ≡ false = head_first is_comma last in
+    let past = comma_behind comma then no_comma in
+    let behind_it : ListEnds n es no_rest comma b d = record {
+      row = elements_row comma then (ap begins (head_look last)) no_comma (ends last bracket_end);
+      reads = ap (λ (z : List Token). read_list_end (reader n) (first is_ellipsis z) (first is_comma b) es z) past
+          ∙ ap (λ (z : Bool). read_list_end (reader n) z (first is_comma b) es c) (head_first is_ellipsis last)
+          ∙ ap (λ (z : Bool). found (list es no_rest z) (behind c)) (comma_seen comma then no_comma)
+          ∙ ap (found (list es no_rest comma)) (head_behind last);
+    } in
+    subst (λ (z : List Token). ListEnds n es no_rest comma z d) (sym h.follows) behind_it
+list_ends n es any_rest comma a b c d known s h then last = dots_end n es any_rest comma a b d h (rest_any n es comma b c d then last)
+list_ends n es (each_rest e) comma a b c d known s h then last =
+    let t = cut (spell_dots es) (spell e) h in
+    dots_end n es (each_rest e) comma a t.middle d t.left (rest_each n es e comma t.middle b c d known t.right then last s)
+
+-- where the reader finds each of some elements, and their rest, it finds them in brackets
+pub list_answers : (es : Elements) (tail : Rest) (comma : Bool) → AreKnown es → IsKnownRest tail → Answers (list es tail comma)
+list_answers es tail comma known rest n a b h k s =
     let t = headed (kinds.Mark points.OpenBracket) (spell_elements (kinds.Mark points.Comma) es ++ spell_rest es tail ++ comma_if comma ++ one (kinds.Mark points.CloseBracket)) h in
     let u = cut (spell_elements (kinds.Mark points.Comma) es ++ spell_rest es tail ++ comma_if comma) (one (kinds.Mark points.CloseBracket)) t.right in
     let v = cut (spell_elements (kinds.Mark points.Comma) es ++ spell_rest es tail) (comma_if comma) u.left in
     let w = cut (spell_elements (kinds.Mark points.Comma) es) (spell_rest es tail) v.left in
-    let end = list_ends es tail comma w.middle v.middle u.middle b w.right v.right (lone (kinds.Mark points.CloseBracket) u.right) in (
+    let end = list_ends n es tail comma w.middle v.middle u.middle b rest (omega (arith, s)) w.right v.right (lone (kinds.Mark points.CloseBracket) u.right) in (
       unary_step n t.head
-          ∙ ap read_list (elements_known es known n t.middle w.middle w.left end.row (omega (arith, s)))
+          ∙ ap (read_list (reader n)) (elements_known es known n t.middle w.middle w.left end.row (omega (arith, s)))
           ∙ end.reads,
       head_look t.head,
     )

@@ -5,7 +5,7 @@ use Rattle.cue_lex.specs.declared.token.TokenKind.TheVariants as kinds
 use Rattle.cue_lex.specs.declared.punctuation.Punctuation.TheVariants as points
 use Rattle.cue_syntax.specs.Spelling.{Reads, spell, spell_elements, spell_more_elements, spell_branch, spell_more_branches, spell_entry, spell_entries, spell_more_entries}
 use Rattle.cue_syntax.specs.Grammar.{IsUnary, IsConjunct, AreUnary}
-use Rattle.cue_syntax.specs.Syntax.{Expression, Elements, no_elements, element, Branch, Branches, no_branches, next_branch, Entry, Entries, no_entries, entry}
+use Rattle.cue_syntax.specs.Syntax.{Expression, Elements, no_elements, element, Rest, each_rest, Branch, Branches, no_branches, next_branch, Entry, Entries, no_entries, entry}
 use Rattle.cue_syntax.proofs.PartsByTheirTokens.{is_and, is_or, is_comma, is_entry, first, behind, look, plain, begins, is_clause, goes_on_elements, goes_on_entries}
 use Rattle.cue_syntax.proofs.ReaderOfTrees.{reader, read_parts, then_parts, read_terms, then_terms, put_element, put_branch, put_entry, read_elements, read_more_elements, then_elements, read_entries, read_more_entries, then_entries, size, size_of_elements, size_of_branch, size_of_branches, size_of_entry, size_of_entries}
 use Rattle.cue_syntax.proofs.ReadingsCut.{cut, headed, head_first, head_behind, EndsUnary, EndsConjunct, EndsExpression, EndsElementsRow, EndsEntriesRow, unary_ends, conjunct_ends, ends, comma_end}
@@ -54,6 +54,11 @@ pub record KnowsEntry (e : Entry) : Type 0 where
 abbrev pub AreKnown : Elements → Type 0
 AreKnown no_elements = Unit {0}
 AreKnown (element e es) = Knows e × AreKnown es
+
+-- the reader finds the expression of the rest, if it has one
+abbrev pub IsKnownRest : Rest → Type 0
+IsKnownRest (each_rest e) = Knows e
+IsKnownRest _ = Unit {0}
 
 -- the reader finds each of the terms
 abbrev pub AreKnownBranches : Branches → Type 0

@@ -8,12 +8,12 @@ use Rattle.cue_lex.specs.declared.punctuation.Punctuation.TheVariants as points
 use Rattle.cue_syntax.specs.declared.tree.Identifier.TheVariants as identifiers
 use Rattle.cue_syntax.specs.declared.tree.LabelName.TheVariants as names
 use Rattle.cue_syntax.specs.Grammar.{HidesDefinition, Limit}
-use Rattle.cue_syntax.specs.Recogniser.{Goal, Stack, is_word, hides_definition, take_mark, take_expression, take_entry, take_package, take_text, take_element, take, step}
+use Rattle.cue_syntax.specs.Recogniser.{Goal, Stack, is_word, hides_definition, take_mark, take_expression, take_entry, take_package, take_text, take_element, take_dots, take, step}
 use Rattle.cue_syntax.proofs.ReadingsJoin.{reads_none}
 use Rattle.cue_syntax.proofs.StillToRead.{inside, under, beneath, Keeps}
 use Rattle.cue_syntax.proofs.EachStackEnds.{keeps_from, reads_kind, less_below}
 use Rattle.cue_syntax.proofs.ExpressionsByParts.{name_unary, close_unary}
-use Rattle.cue_syntax.proofs.DeclarationsByParts.{field_entry, definition_entry, ellipsis_entry, entry_entries, comma_entries, brace_entries, brace_more, brace_closed, element_elements, ellipsis_elements, bracket_elements, bracket_more, comma_elements, entries_whole, comma_package, package_whole}
+use Rattle.cue_syntax.proofs.DeclarationsByParts.{field_entry, definition_entry, ellipsis_entry, entry_entries, comma_entries, brace_entries, brace_more, brace_closed, element_elements, shut_dots, expression_dots, ellipsis_elements, bracket_elements, bracket_more, comma_elements, entries_whole, comma_package, package_whole}
 use Rattle.cue_syntax.proofs.StepsKeepWhatIsAhead.{Before, through, word_is, unary_before, signed_before, signed_or_text_before, magnitude_before, term_before, expression_before, more_parts_before, bar_before, more_terms_before, mark_before, colon_before, value_before, value_name_before, value_text_before}
 
 -- the ends of parentheses and lists
@@ -46,9 +46,17 @@ bracket_end_before : (limit : Limit) (t : Token) (goals : Stack) (behind : Optio
 bracket_end_before limit t goals behind (kinds.Mark points.CloseBracket) is = λ a ahead. (a, reads_kind t is reads_none, ahead)
 bracket_end_before limit t goals behind _ is = tt
 
+dots_before : (limit : Limit) (t : Token) (goals : Stack) (kind : TokenKind) → t.kind ≡ kind → Keeps limit (1 + beneath goals) → Before limit t (Goal.dots ∷ goals) (take_dots goals kind)
+dots_before limit t goals (kinds.Mark points.Comma) is keeps = λ a ahead. (ahead.0, shut_dots (record { part = true; reads = reads_kind t is ahead.1 }) keeps, ahead.2)
+dots_before limit t goals (kinds.Mark points.CloseBracket) is keeps = λ a ahead. (a, shut_dots (record { part = false; reads = reads_kind t is reads_none }) keeps, ahead)
+dots_before limit t goals kind is keeps =
+    through limit t (Goal.expression ∷ Goal.bracket ∷ goals) (Goal.dots ∷ goals) (take_expression (Goal.bracket ∷ goals) kind)
+    (λ a ahead. (ahead.2.0, expression_dots ahead.1 ahead.2.1, ahead.2.2))
+    (expression_before limit t (Goal.bracket ∷ goals) kind is keeps)
+
 elements_before : (limit : Limit) (t : Token) (goals : Stack) (kind : TokenKind) → t.kind ≡ kind → Keeps limit (1 + beneath goals) → Before limit t (Goal.elements ∷ goals) (take_element goals kind)
 elements_before limit t goals (kinds.Mark points.CloseBracket) is keeps = λ a ahead. (a, bracket_elements t is keeps, ahead)
-elements_before limit t goals (kinds.Mark points.Ellipsis) is keeps = λ a ahead. (ahead.0, ellipsis_elements t is ahead.1 keeps, ahead.2)
+elements_before limit t goals (kinds.Mark points.Ellipsis) is keeps = λ a ahead. (ahead.0, ellipsis_elements t is ahead.1, ahead.2)
 elements_before limit t goals kind is keeps =
     through limit t (Goal.expression ∷ Goal.more_elements ∷ goals) (Goal.elements ∷ goals) (take_expression (Goal.more_elements ∷ goals) kind)
     (λ a ahead. (ahead.2.0, element_elements ahead.1 ahead.2.1, ahead.2.2))
@@ -155,6 +163,7 @@ take_before limit t Goal.parenthesis goals behind kind is keeps low before = par
 take_before limit t Goal.parenthesis_end goals behind kind is keeps low before = parenthesis_end_before limit t goals behind kind is
 take_before limit t Goal.elements goals behind kind is keeps low before = elements_before limit t goals kind is keeps
 take_before limit t Goal.more_elements goals behind kind is keeps low before = more_elements_before limit t goals behind kind is keeps
+take_before limit t Goal.dots goals behind kind is keeps low before = dots_before limit t goals kind is keeps
 take_before limit t Goal.bracket goals behind kind is keeps low before = bracket_before limit t goals behind kind is
 take_before limit t Goal.bracket_end goals behind kind is keeps low before = bracket_end_before limit t goals behind kind is
 

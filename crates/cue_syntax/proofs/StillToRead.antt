@@ -1,5 +1,5 @@
 -- What the goals of the recogniser have still to read.
-use Rattle.std.proofs.Common.{◌≡◌, ℕ, ◌+◌, ◌≤◌, ◌⊎◌, Bool, true, false, List, [], ◌∷◌, ◌++◌, length, flat_map, codes}
+use Rattle.std.proofs.Common.{◌≡◌, ℕ, ◌+◌, ◌≤◌, max, ◌⊎◌, Bool, true, false, List, [], ◌∷◌, ◌++◌, length, flat_map, codes}
 use Rattle.std.specs.Prelude.{⊤, if◌then◌else◌}
 use Rattle.cue_lex.specs.declared.token.Token.{Token}
 use Rattle.cue_lex.specs.declared.token.TokenKind.{TokenKind}
@@ -9,9 +9,9 @@ use Rattle.cue_syntax.specs.declared.tree.Label.{Label}
 use Rattle.cue_syntax.specs.declared.tree.Mark.{Mark}
 use Rattle.cue_syntax.specs.declared.tree.Sign.{Sign}
 use Rattle.cue_syntax.specs.declared.tree.Signed.{Signed}
-use Rattle.cue_syntax.specs.Syntax.{FileTree, Expression, Elements, Branch, Branches, next_branch, no_branches, Entry, Entries, no_entries, Rest, no_rest, any_rest}
+use Rattle.cue_syntax.specs.Syntax.{FileTree, Expression, Elements, Branch, Branches, next_branch, no_branches, Entry, Entries, no_entries, Rest, no_rest, any_rest, each_rest}
 use Rattle.cue_syntax.specs.Spelling.{Piece, Reads, one, comma_if, spell_mark, spell_signed, spell_label, spell_rest, spell, spell_elements, spell_more_elements, spell_branch, spell_more_branches, spell_entry, spell_entries, spell_more_entries, spell_file}
-use Rattle.cue_syntax.specs.Grammar.{IsRight, IsUnary, IsConjunct, AreRight, AreUnary, IsRightBranch, AreRightBranches, IsRightEntry, AreRightEntries, IsNested, AreNested, EndsEntries, EndsElements, IsRightPackage, levels, levels_of_elements, levels_of_branch, levels_of_branches, levels_of_entry, levels_of_entries, Limit, Within, IsInRange, greatest}
+use Rattle.cue_syntax.specs.Grammar.{IsRight, IsUnary, IsConjunct, AreRight, IsRightRest, AreUnary, IsRightBranch, AreRightBranches, IsRightEntry, AreRightEntries, IsNested, AreNested, EndsEntries, EndsElements, IsRightPackage, levels, levels_of_elements, levels_of_rest, levels_of_branch, levels_of_branches, levels_of_entry, levels_of_entries, Limit, Within, IsInRange, greatest}
 use Rattle.cue_syntax.specs.Recogniser.{Goal, Stack, is_keyword}
 
 -- the levels at declarations: as many as below them at the top, one more in braces
@@ -30,6 +30,7 @@ under Goal.parenthesis n = 1 + n
 under Goal.parenthesis_end n = 1 + n
 under Goal.elements n = 1 + n
 under Goal.more_elements n = 1 + n
+under Goal.dots n = 1 + n
 under Goal.bracket n = 1 + n
 under Goal.bracket_end n = 1 + n
 under _ n = n
@@ -141,12 +142,14 @@ pub record Listed (limit : Limit) (room : ℕ) (a b : List Token) : Type 0 where
   pub comma : Bool
   pub reads : Reads a (spell_elements (kinds.Mark points.Comma) tree ++ (spell_rest tree tail ++ (comma_if comma ++ one (kinds.Mark points.CloseBracket)))) b
   pub right : AreRight tree
+  pub rest_right : IsRightRest tail
   pub ends : EndsElements comma tail tree
-  pub within : Keeps limit (levels_of_elements tree + room)
+  pub within : Keeps limit (max (levels_of_elements tree) (levels_of_rest tail) + room)
 
--- `...` after an element, with the comma before it
+-- `...` after an element, with the comma before it and what follows it
 abbrev pub rest_behind : Rest → List Piece
 rest_behind any_rest = one (kinds.Mark points.Comma) ++ one (kinds.Mark points.Ellipsis)
+rest_behind (each_rest e) = one (kinds.Mark points.Comma) ++ one (kinds.Mark points.Ellipsis) ++ spell e
 rest_behind no_rest = []
 
 -- after an element
@@ -156,7 +159,27 @@ pub record MoreListed (limit : Limit) (room : ℕ) (a b : List Token) : Type 0 w
   pub comma : Bool
   pub reads : Reads a (spell_more_elements (kinds.Mark points.Comma) tree ++ (rest_behind tail ++ (comma_if comma ++ one (kinds.Mark points.CloseBracket)))) b
   pub right : AreRight tree
-  pub within : Keeps limit (levels_of_elements tree + room)
+  pub rest_right : IsRightRest tail
+  pub within : Keeps limit (max (levels_of_elements tree) (levels_of_rest tail) + room)
+
+-- what the rest of a list has after its `...`
+abbrev pub spell_further : Rest → List Piece
+spell_further (each_rest e) = spell e
+spell_further _ = []
+
+-- the rest has a `...`
+abbrev pub HasDots : Rest → Type 0
+HasDots no_rest = ⊥
+HasDots _ = ⊤
+
+-- after the `...` of a list
+pub record Dotted (limit : Limit) (room : ℕ) (a b : List Token) : Type 0 where
+  pub tail : Rest
+  pub comma : Bool
+  pub reads : Reads a (spell_further tail ++ (comma_if comma ++ one (kinds.Mark points.CloseBracket))) b
+  pub dots : HasDots tail
+  pub right : IsRightRest tail
+  pub within : Keeps limit (levels_of_rest tail + room)
 
 -- after `close(`
 pub record Closed (limit : Limit) (room : ℕ) (a b : List Token) : Type 0 where
@@ -238,6 +261,7 @@ Remains limit n Goal.parenthesis a b = Shuts (kinds.Mark points.CloseParenthesis
 Remains limit n Goal.parenthesis_end a b = Reads a (one (kinds.Mark points.CloseParenthesis)) b
 Remains limit n Goal.elements a b = Listed limit (1 + n) a b
 Remains limit n Goal.more_elements a b = MoreListed limit (1 + n) a b
+Remains limit n Goal.dots a b = Dotted limit (1 + n) a b
 Remains limit n Goal.bracket a b = Shuts (kinds.Mark points.CloseBracket) a b
 Remains limit n Goal.bracket_end a b = Reads a (one (kinds.Mark points.CloseBracket)) b
 

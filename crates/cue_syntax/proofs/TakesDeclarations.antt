@@ -8,17 +8,17 @@ use Rattle.cue_lex.specs.declared.punctuation.Punctuation.TheVariants as points
 use Rattle.cue_syntax.specs.declared.tree.Label.{Label}
 use Rattle.cue_syntax.specs.declared.tree.LabelName.{LabelName}
 use Rattle.cue_syntax.specs.declared.tree.LabelName.TheVariants as names
-use Rattle.cue_syntax.specs.Syntax.{Expression, struct, close, list, Elements, no_elements, element, Entry, ellipsis, field, definition, Entries, no_entries, entry, Rest, no_rest, any_rest}
-use Rattle.cue_syntax.specs.Spelling.{Reads, one, one_at, comma_if, label_kind, spell, spell_mark, spell_label, spell_elements, spell_more_elements, spell_rest, spell_entry, spell_entries, spell_more_entries}
-use Rattle.cue_syntax.specs.Grammar.{Limit, Within, IsRight, IsNested, AreRight, AreNested, IsRightEntry, AreRightEntries, EndsEntries, levels, levels_of_elements, levels_of_entry, levels_of_entries}
+use Rattle.cue_syntax.specs.Syntax.{Expression, struct, close, list, Elements, no_elements, element, Entry, ellipsis, field, definition, Entries, no_entries, entry, Rest, no_rest, any_rest, each_rest}
+use Rattle.cue_syntax.specs.Spelling.{Reads, one, one_at, comma_if, label_kind, spell, spell_mark, spell_label, spell_elements, spell_more_elements, spell_dots, spell_rest, spell_entry, spell_entries, spell_more_entries}
+use Rattle.cue_syntax.specs.Grammar.{Limit, Within, IsRight, IsNested, AreRight, IsRightRest, AreNested, IsRightEntry, AreRightEntries, EndsEntries, levels, levels_of_elements, levels_of_rest, levels_of_entry, levels_of_entries}
 use Rattle.cue_syntax.specs.Viability.{BeginsExpression}
-use Rattle.cue_syntax.specs.Recogniser.{Stack, step, stuck, depth, entries, more_entries, mark, colon, value, chained, expression, unary, behind_close, closed, elements, more_elements, bracket}
+use Rattle.cue_syntax.specs.Recogniser.{Stack, step, stuck, depth, entries, more_entries, mark, colon, value, chained, expression, unary, behind_close, closed, elements, more_elements, dots, bracket}
 use Rattle.cue_syntax.specs.Recogniser as goals
 use Rattle.cue_syntax.proofs.ReadingsJoin.{reads_then}
 use Rattle.cue_syntax.proofs.WhatMayFollow.{AtEnd, HeadIs, NoMark, ClosesExpression, EndsExpression}
 use Rattle.cue_syntax.proofs.TakesOneToken.{reads_split, reads_unplaced, at_end_before, begins, within_less, took, over_chained}
 use Rattle.cue_syntax.proofs.TreesBeginSo.{opens_expression, expression_opens}
-use Rattle.cue_syntax.proofs.TakesSmallPieces.{element_is_expression, value_is_expression, TakesMark, takes_mark, plain_mark, takes_chained, closes_parenthesis, closes_bracket}
+use Rattle.cue_syntax.proofs.TakesSmallPieces.{element_is_expression, dots_are_expression, closes_dots, value_is_expression, TakesMark, takes_mark, plain_mark, takes_chained, closes_parenthesis, closes_bracket}
 use Rattle.cue_syntax.proofs.TakesOperands.{Takes, TakesUnary, TakeAll, ends_comma}
 
 -- values
@@ -233,61 +233,92 @@ takes_more_elements (element e es) takes right limit below a b reads end within 
     (within_less limit _ (1 + depth below + max (levels e) (levels_of_elements es)) (omega arith) within)
     ∙ takes_more_elements es takes.1 right.1 limit below t.between b t.second end (within_less limit _ (1 + depth below + max (levels e) (levels_of_elements es)) (omega arith) within)
 
--- after the elements: `...`, a comma, and the bracket
-ends_elements : (limit : Limit) (below : Stack) (a b c d : List Token) (e : Expression) (es : Elements) (tail : Rest) (comma : Bool) → Reads a (spell_rest (element e es) tail) b → Reads b (comma_if comma) c
-    → Reads c (one (kinds.Mark points.CloseBracket)) d → Within limit (1 + depth below) → stuck limit (more_elements ∷ below) a ≡ stuck limit below d
-ends_elements limit below a b c d e es any_rest comma first second third within =
+-- the expression of the rest, if there is one, uses up its goal
+abbrev pub TakesRest : Rest → Type 0
+TakesRest (each_rest e) = Takes e
+TakesRest _ = ⊤
+
+-- after `...`: an expression, a comma, and the bracket
+ends_each : (limit : Limit) (below : Stack) (a b c d : List Token) (e : Expression) (comma : Bool) → Takes e → IsRight e → Reads a (spell e) b → Reads b (comma_if comma) c
+    → Reads c (one (kinds.Mark points.CloseBracket)) d → Within limit (1 + depth below + levels e) → stuck limit (dots ∷ below) a ≡ stuck limit below d
+ends_each limit below a b c d e comma takes right first second third within =
+    dots_are_expression limit below a (begins BeginsExpression (spell e) first (opens_expression e right))
+    ∙ takes.whole limit (bracket ∷ below) a b first (ends_comma comma (kinds.Mark points.CloseBracket) second third tt) within
+    ∙ closes_bracket limit below comma second third (within_less limit _ (1 + depth below + levels e) (omega arith) within)
+
+-- after the elements: `...`, with a comma before it
+more_dots : (limit : Limit) (below : Stack) (a b : List Token) (e : Expression) (es : Elements) → Reads a (spell_dots (element e es)) b → Within limit (1 + depth below)
+    → stuck limit (more_elements ∷ below) a ≡ stuck limit (dots ∷ below) b
+more_dots limit below a b e es first within =
     let s = reads_split (one (kinds.Mark points.Comma)) (one (kinds.Mark points.Ellipsis)) first in
     took limit (more_elements ∷ below) (elements ∷ below) s.first refl within
-    ∙ took limit (elements ∷ below) (bracket ∷ below) s.second refl within
-    ∙ closes_bracket limit below comma second third within
-ends_elements limit below a b c d e es no_rest true first second third within =
+    ∙ took limit (elements ∷ below) (dots ∷ below) s.second refl within
+
+-- after the elements: their rest, a comma, and the bracket
+ends_elements : (limit : Limit) (below : Stack) (a b c d : List Token) (e : Expression) (es : Elements) (tail : Rest) (comma : Bool) → TakesRest tail → IsRightRest tail
+    → Reads a (spell_rest (element e es) tail) b → Reads b (comma_if comma) c → Reads c (one (kinds.Mark points.CloseBracket)) d → Within limit (1 + depth below + levels_of_rest tail)
+    → stuck limit (more_elements ∷ below) a ≡ stuck limit below d
+ends_elements limit below a b c d e es any_rest comma takes right first second third within =
+    let less : Within limit (1 + depth below) = within_less limit _ (1 + depth below + 0) (omega arith) within in
+    more_dots limit below a b e es first less ∙ closes_dots limit below comma second third less
+ends_elements limit below a b c d e es (each_rest f) comma takes right first second third within =
+    let s = reads_split (spell_dots (element e es)) (spell f) first in
+    more_dots limit below a s.between e es s.first (within_less limit _ (1 + depth below + levels f) (omega arith) within)
+    ∙ ends_each limit below s.between b c d f comma takes right s.second second third within
+ends_elements limit below a b c d e es no_rest true takes right first second third within =
     ap (stuck limit (more_elements ∷ below)) first.follows
-    ∙ took limit (more_elements ∷ below) (elements ∷ below) second refl within
-    ∙ took limit (elements ∷ below) below third refl (within_less limit _ (1 + depth below) (omega arith) within)
-ends_elements limit below a b c d e es no_rest false first second third within =
+    ∙ took limit (more_elements ∷ below) (elements ∷ below) second refl (within_less limit _ (1 + depth below + 0) (omega arith) within)
+    ∙ took limit (elements ∷ below) below third refl (within_less limit _ (1 + depth below + 0) (omega arith) within)
+ends_elements limit below a b c d e es no_rest false takes right first second third within =
     ap (stuck limit (more_elements ∷ below)) first.follows
     ∙ ap (stuck limit (more_elements ∷ below)) second.follows
-    ∙ took limit (more_elements ∷ below) below third refl (within_less limit _ (1 + depth below) (omega arith) within)
+    ∙ took limit (more_elements ∷ below) below third refl (within_less limit _ (1 + depth below + 0) (omega arith) within)
 
 head_rest : (e : Expression) (es : Elements) (tail : Rest) → HeadIs ClosesExpression (spell_rest (element e es) tail)
 head_rest e es any_rest = tt
+head_rest e es (each_rest f) = tt
 head_rest e es no_rest = tt
 
-takes_items : (es : Elements) (tail : Rest) (comma : Bool) → TakeAll es → IsRight (list es tail comma) → (limit : Limit) (below : Stack) (a b c d f : List Token)
+takes_items : (es : Elements) (tail : Rest) (comma : Bool) → TakeAll es → TakesRest tail → IsRight (list es tail comma) → (limit : Limit) (below : Stack) (a b c d f : List Token)
     → Reads a (spell_elements (kinds.Mark points.Comma) es) b → Reads b (spell_rest es tail) c → Reads c (comma_if comma) d → Reads d (one (kinds.Mark points.CloseBracket)) f
-    → Within limit (depth below + (1 + levels_of_elements es)) → stuck limit (elements ∷ below) a ≡ stuck limit below f
-takes_items no_elements any_rest comma takes right limit below a b c d f first second third fourth within =
+    → Within limit (depth below + (1 + max (levels_of_elements es) (levels_of_rest tail))) → stuck limit (elements ∷ below) a ≡ stuck limit below f
+takes_items no_elements any_rest comma takes rest right limit below a b c d f first second third fourth within =
     ap (stuck limit (elements ∷ below)) first.follows
-    ∙ took limit (elements ∷ below) (bracket ∷ below) second refl (within_less limit _ (depth below + (1 + 0)) (omega arith) within)
-    ∙ closes_bracket limit below comma third fourth (within_less limit _ (depth below + (1 + 0)) (omega arith) within)
-takes_items no_elements no_rest true takes right limit below a b c d f first second third fourth within = absurd right.1
-takes_items no_elements no_rest false takes right limit below a b c d f first second third fourth within =
+    ∙ took limit (elements ∷ below) (dots ∷ below) second refl (within_less limit _ (depth below + (1 + max 0 0)) (omega arith) within)
+    ∙ closes_dots limit below comma third fourth (within_less limit _ (depth below + (1 + max 0 0)) (omega arith) within)
+takes_items no_elements (each_rest e) comma takes rest right limit below a b c d f first second third fourth within =
+    let s = reads_split (one (kinds.Mark points.Ellipsis)) (spell e) second in
+    ap (stuck limit (elements ∷ below)) first.follows
+    ∙ took limit (elements ∷ below) (dots ∷ below) s.first refl (within_less limit _ (depth below + (1 + max 0 (levels e))) (omega arith) within)
+    ∙ ends_each limit below s.between c d f e comma rest right.1 s.second third fourth (within_less limit _ (depth below + (1 + max 0 (levels e))) (omega arith) within)
+takes_items no_elements no_rest true takes rest right limit below a b c d f first second third fourth within = absurd right.2
+takes_items no_elements no_rest false takes rest right limit below a b c d f first second third fourth within =
     ap (stuck limit (elements ∷ below)) first.follows
     ∙ ap (stuck limit (elements ∷ below)) second.follows
     ∙ ap (stuck limit (elements ∷ below)) third.follows
-    ∙ took limit (elements ∷ below) below fourth refl (within_less limit _ (depth below + (1 + 0)) (omega arith) within)
-takes_items (element e es) tail comma takes right limit below a b c d f first second third fourth within =
+    ∙ took limit (elements ∷ below) below fourth refl (within_less limit _ (depth below + (1 + max 0 0)) (omega arith) within)
+takes_items (element e es) tail comma takes rest right limit below a b c d f first second third fourth within =
+    let all : ℕ = depth below + (1 + max (max (levels e) (levels_of_elements es)) (levels_of_rest tail)) in
     let t = reads_split (spell e) (spell_more_elements (kinds.Mark points.Comma) es) first in
     let end : EndsExpression b = at_end_before ClosesExpression (spell_rest (element e es) tail) second (head_rest e es tail) (ends_comma comma (kinds.Mark points.CloseBracket) third fourth tt) in
     takes_element e takes.0 right.0.0 limit below a t.between t.first (at_end_before ClosesExpression (spell_more_elements (kinds.Mark points.Comma) es) t.second (head_elements es) end)
-    (within_less limit _ (depth below + (1 + max (levels e) (levels_of_elements es))) (omega arith) within)
-    ∙ takes_more_elements es takes.1 right.0.1 limit below t.between b t.second end (within_less limit _ (depth below + (1 + max (levels e) (levels_of_elements es))) (omega arith) within)
-    ∙ ends_elements limit below b c d f e es tail comma second third fourth (within_less limit _ (depth below + (1 + max (levels e) (levels_of_elements es))) (omega arith) within)
+    (within_less limit _ all (omega arith) within)
+    ∙ takes_more_elements es takes.1 right.0.1 limit below t.between b t.second end (within_less limit _ all (omega arith) within)
+    ∙ ends_elements limit below b c d f e es tail comma rest right.1 second third fourth (within_less limit _ all (omega arith) within)
 
--- elements, up to the bracket, use up the goal of elements
-pub takes_in_brackets : (es : Elements) (tail : Rest) (comma : Bool) → TakeAll es → IsRight (list es tail comma) → (limit : Limit) (below : Stack) (a b : List Token)
-    → Reads a (spell_elements (kinds.Mark points.Comma) es ++ spell_rest es tail ++ comma_if comma ++ one (kinds.Mark points.CloseBracket)) b → Within limit (depth below + (1 + levels_of_elements es))
-    → stuck limit (elements ∷ below) a ≡ stuck limit below b
-takes_in_brackets es tail comma takes right limit below a b reads within =
+-- elements and their rest, up to the bracket, use up the goal of elements
+pub takes_in_brackets : (es : Elements) (tail : Rest) (comma : Bool) → TakeAll es → TakesRest tail → IsRight (list es tail comma) → (limit : Limit) (below : Stack) (a b : List Token)
+    → Reads a (spell_elements (kinds.Mark points.Comma) es ++ spell_rest es tail ++ comma_if comma ++ one (kinds.Mark points.CloseBracket)) b
+    → Within limit (depth below + (1 + max (levels_of_elements es) (levels_of_rest tail))) → stuck limit (elements ∷ below) a ≡ stuck limit below b
+takes_in_brackets es tail comma takes rest right limit below a b reads within =
     let t = reads_split (spell_elements (kinds.Mark points.Comma) es ++ spell_rest es tail ++ comma_if comma) (one (kinds.Mark points.CloseBracket)) reads in
     let u = reads_split (spell_elements (kinds.Mark points.Comma) es ++ spell_rest es tail) (comma_if comma) t.first in
     let v = reads_split (spell_elements (kinds.Mark points.Comma) es) (spell_rest es tail) u.first in
-    takes_items es tail comma takes right limit below a v.between u.between t.between b v.first v.second u.second t.second within
+    takes_items es tail comma takes rest right limit below a v.between u.between t.between b v.first v.second u.second t.second within
 
 -- a list uses up the goal of an operand
-pub takes_list : (es : Elements) (tail : Rest) (comma : Bool) → TakeAll es → IsRight (list es tail comma) → TakesUnary (list es tail comma)
-takes_list es tail comma takes right limit below a b reads end within =
+pub takes_list : (es : Elements) (tail : Rest) (comma : Bool) → TakeAll es → TakesRest tail → IsRight (list es tail comma) → TakesUnary (list es tail comma)
+takes_list es tail comma takes rest right limit below a b reads end within =
     let s = reads_split (one (kinds.Mark points.OpenBracket)) (spell_elements (kinds.Mark points.Comma) es ++ spell_rest es tail ++ comma_if comma ++ one (kinds.Mark points.CloseBracket)) reads in
-    took limit (unary ∷ below) (elements ∷ below) s.first refl (within_less limit _ (depth below + (1 + levels_of_elements es)) (omega arith) within)
-    ∙ takes_in_brackets es tail comma takes right limit below s.between b s.second within
+    took limit (unary ∷ below) (elements ∷ below) s.first refl (within_less limit _ (depth below + (1 + max (levels_of_elements es) (levels_of_rest tail))) (omega arith) within)
+    ∙ takes_in_brackets es tail comma takes rest right limit below s.between b s.second within

@@ -1,16 +1,16 @@
 -- The recogniser takes whatever the grammar spells: each part of a tree uses up its goal.
-use Rattle.std.proofs.Common.{◌≡◌, ◌+◌, Bool, false, length, List, ◌∷◌, ◌++◌, flat_map}
+use Rattle.std.proofs.Common.{◌≡◌, ◌+◌, max, Bool, false, length, List, ◌∷◌, ◌++◌, flat_map}
 use Rattle.cue_lex.specs.declared.token.Token.{Token}
 use Rattle.cue_lex.specs.declared.token.TokenKind.TheVariants as kinds
 use Rattle.cue_lex.specs.declared.punctuation.Punctuation.TheVariants as points
 use Rattle.cue_syntax.specs.declared.tree.Label.{Label}
-use Rattle.cue_syntax.specs.Syntax.{Expression, name, integer, text, bottom, bound, other_integer, other_text, parenthesis, struct, close, list, conjunction, disjunction, Elements, no_elements, element, Branch, branch, Branches, no_branches, next_branch, Entry, ellipsis, field, definition, Entries, no_entries, entry, Rest}
+use Rattle.cue_syntax.specs.Syntax.{Expression, name, integer, text, bottom, bound, other_integer, other_text, parenthesis, struct, close, list, conjunction, disjunction, Elements, no_elements, element, Branch, branch, Branches, no_branches, next_branch, Entry, ellipsis, field, definition, Entries, no_entries, entry, Rest, no_rest, any_rest, each_rest}
 use Rattle.cue_syntax.specs.Spelling.{Reads, one, comma_if, spell, spell_label, spell_elements, spell_rest, spell_branch, spell_entry, spell_entries}
-use Rattle.cue_syntax.specs.Grammar.{Limit, Within, IsRight, IsUnary, IsConjunct, AreRight, AreNested, IsRightBranch, AreRightBranches, IsRightEntry, AreRightEntries, EndsEntries, EndsElements, levels, levels_of_branch, levels_of_elements, levels_of_entry, levels_of_entries}
+use Rattle.cue_syntax.specs.Grammar.{Limit, Within, IsRight, IsUnary, IsConjunct, AreRight, IsRightRest, AreNested, IsRightBranch, AreRightBranches, IsRightEntry, AreRightEntries, EndsEntries, EndsElements, levels, levels_of_branch, levels_of_elements, levels_of_rest, levels_of_entry, levels_of_entries}
 use Rattle.cue_syntax.specs.Recogniser.{Stack, stuck, depth, entries, more_entries, value, expression, term, unary, more_parts, elements}
 use Rattle.cue_syntax.proofs.WhatMayFollow.{EndsExpression, EndsTerm, EndsOperand}
 use Rattle.cue_syntax.proofs.TakesOperands.{Takes, TakeAll, TakesBranch, TakeBranches, by_unary, named, number, word, nothing, bounded, other_number, other_word, in_parentheses, takes_conjunction, takes_term, takes_disjunction}
-use Rattle.cue_syntax.proofs.TakesDeclarations.{TakesEntry, TakeEntries, FitsTop, takes_value, takes_entry, takes_braces, takes_in_brackets, takes_struct, takes_close, takes_list}
+use Rattle.cue_syntax.proofs.TakesDeclarations.{TakesRest, TakesEntry, TakeEntries, FitsTop, takes_value, takes_entry, takes_braces, takes_in_brackets, takes_struct, takes_close, takes_list}
 
 mutual
   pub takes : (e : Expression) → IsRight e → Takes e
@@ -24,13 +24,18 @@ mutual
   takes (parenthesis e comma) right = by_unary (parenthesis e comma) right tt (in_parentheses e comma (takes e right))
   takes (struct es comma) right = by_unary (struct es comma) right tt (takes_struct es comma (take_entries es right.0) right)
   takes (close from es inner comma) right = by_unary (close from es inner comma) right tt (takes_close from es inner comma (take_entries es right.0) right)
-  takes (list es tail comma) right = by_unary (list es tail comma) right tt (takes_list es tail comma (take_all es right.0) right)
+  takes (list es tail comma) right = by_unary (list es tail comma) right tt (takes_list es tail comma (take_all es right.0) (takes_rest tail right.1) right)
   takes (conjunction es) right = takes_conjunction es (take_all es right.0) right
   takes (disjunction bs) right = takes_disjunction bs (take_branches bs right.0) right
 
   pub take_all : (es : Elements) → AreRight es → TakeAll es
   take_all no_elements right = tt
   take_all (element e es) right = (takes e right.0, take_all es right.1)
+
+  pub takes_rest : (tail : Rest) → IsRightRest tail → TakesRest tail
+  takes_rest no_rest right = tt
+  takes_rest any_rest right = tt
+  takes_rest (each_rest e) right = takes e right
 
   pub takes_branch : (b : Branch) → IsRightBranch b → TakesBranch b
   takes_branch (branch marked from e) right = takes e right.0
@@ -83,8 +88,8 @@ pub takes_nested : (limit : Limit) (below : Stack) {a b : List Token} (es : Entr
     → AreRightEntries es → AreNested es → EndsEntries comma es → Within limit (depth below + (1 + levels_of_entries es)) → stuck limit (entries false ∷ below) a ≡ stuck limit below b
 takes_nested limit below es comma reads right nested ends within = takes_braces es comma (take_entries es right) right nested ends limit below _ _ reads within
 
--- elements, `...` or none, a comma or none, and the bracket
+-- elements, their rest, a comma or none, and the bracket
 pub takes_row : (limit : Limit) (below : Stack) {a b : List Token} (es : Elements) (tail : Rest) (comma : Bool)
-    → Reads a (spell_elements (kinds.Mark points.Comma) es ++ spell_rest es tail ++ comma_if comma ++ one (kinds.Mark points.CloseBracket)) b → AreRight es → EndsElements comma tail es
-    → Within limit (depth below + (1 + levels_of_elements es)) → stuck limit (elements ∷ below) a ≡ stuck limit below b
-takes_row limit below es tail comma reads right ends within = takes_in_brackets es tail comma (take_all es right) (right, ends) limit below _ _ reads within
+    → Reads a (spell_elements (kinds.Mark points.Comma) es ++ spell_rest es tail ++ comma_if comma ++ one (kinds.Mark points.CloseBracket)) b → AreRight es → IsRightRest tail → EndsElements comma tail es
+    → Within limit (depth below + (1 + max (levels_of_elements es) (levels_of_rest tail))) → stuck limit (elements ∷ below) a ≡ stuck limit below b
+takes_row limit below es tail comma reads right each ends within = takes_in_brackets es tail comma (take_all es right) (takes_rest tail each) (right, each, ends) limit below _ _ reads within

@@ -15,7 +15,7 @@ use Rattle.cue_syntax.specs.declared.tree.Signed.{Signed}
 use Rattle.cue_syntax.specs.Spelling.{Reads, one, comma_if, label_kind, spell_sign, spell_signed, spell_mark, spell_label}
 use Rattle.cue_syntax.specs.Grammar.{Limit, Within, IsInRange, greatest}
 use Rattle.cue_syntax.specs.Viability.{BeginsExpression}
-use Rattle.cue_syntax.specs.Recogniser.{Stack, step, is_over, stuck, stuck_behind, levels_of, depth, is_word, is_keyword, mark, colon, value, value_name, value_text, chained, expression, term, unary, more_parts, more_terms, signed, signed_or_text, magnitude, behind_close, closed, parenthesis, parenthesis_end, elements, more_elements, bracket, bracket_end}
+use Rattle.cue_syntax.specs.Recogniser.{Stack, step, is_over, stuck, stuck_behind, levels_of, depth, is_word, is_keyword, mark, colon, value, value_name, value_text, chained, expression, term, unary, more_parts, more_terms, signed, signed_or_text, magnitude, behind_close, closed, parenthesis, parenthesis_end, elements, more_elements, dots, bracket, bracket_end}
 use Rattle.cue_syntax.proofs.WhatMayFollow.{AtEnd, BeginsOperand, NoMark, EndsOperand}
 use Rattle.cue_syntax.proofs.GoalsAtTokens.{magnitude_step}
 use Rattle.cue_syntax.proofs.TakesOneToken.{reads_split, within_less, took_token, took, same, over_close}
@@ -48,6 +48,15 @@ element_step below _ begins = refl
 pub element_is_expression : (limit : Limit) (below : Stack) (a : List Token) → AtEnd BeginsExpression a
     → stuck limit (elements ∷ below) a ≡ stuck limit (expression ∷ more_elements ∷ below) a
 element_is_expression limit below = same limit (elements ∷ below) (expression ∷ more_elements ∷ below) BeginsExpression refl (element_step below)
+
+dots_step : (below : Stack) (k : TokenKind) → BeginsExpression k → step (dots ∷ below) k ≡ step (expression ∷ bracket ∷ below) k
+dots_step below (kinds.Mark points.CloseBracket) begins = absurd begins
+dots_step below (kinds.Mark points.Comma) begins = absurd begins
+dots_step below _ begins = refl
+
+-- where an expression begins after `...`, it may be read before the end of the list
+pub dots_are_expression : (limit : Limit) (below : Stack) (a : List Token) → AtEnd BeginsExpression a → stuck limit (dots ∷ below) a ≡ stuck limit (expression ∷ bracket ∷ below) a
+dots_are_expression limit below = same limit (dots ∷ below) (expression ∷ bracket ∷ below) BeginsExpression refl (dots_step below)
 
 -- what is left to come after a name, which may be `close`
 abbrev pub behind_word : Bool → Stack → Stack
@@ -232,3 +241,13 @@ closes_bracket limit below true first second within =
 closes_bracket limit below false first second within =
     ap (stuck limit (bracket ∷ below)) first.follows
     ∙ took limit (bracket ∷ below) below second refl (within_less limit _ (1 + depth below) (omega arith) within)
+
+-- the bracket, with a comma before it or without, uses up the goal after `...`
+pub closes_dots : (limit : Limit) (below : Stack) {a b c : List Token} (comma : Bool) → Reads a (comma_if comma) b → Reads b (one (kinds.Mark points.CloseBracket)) c → Within limit (1 + depth below)
+    → stuck limit (dots ∷ below) a ≡ stuck limit below c
+closes_dots limit below true first second within =
+    took limit (dots ∷ below) (bracket_end ∷ below) first refl within
+    ∙ took limit (bracket_end ∷ below) below second refl (within_less limit _ (1 + depth below) (omega arith) within)
+closes_dots limit below false first second within =
+    ap (stuck limit (dots ∷ below)) first.follows
+    ∙ took limit (dots ∷ below) below second refl (within_less limit _ (1 + depth below) (omega arith) within)

@@ -7,9 +7,9 @@ use Rattle.cue_lex.specs.declared.token.TokenKind.TheVariants as kinds
 use Rattle.cue_lex.specs.declared.punctuation.Punctuation.TheVariants as points
 use Rattle.cue_lex.specs.Kinds.{HasWord, EachHasWord}
 use Rattle.cue_syntax.specs.declared.tree.Label.{Label}
-use Rattle.cue_syntax.specs.Spelling.{Piece, Follows, one, placed, comma_if, star_if, spell, spell_label, spell_rest, spell_elements, spell_more_elements, spell_branch, spell_branches, spell_more_branches, spell_entry, spell_entries, spell_more_entries}
-use Rattle.cue_syntax.specs.Syntax.{Expression, name, integer, text, bottom, bound, other_integer, other_text, parenthesis, struct, close, list, conjunction, disjunction, Elements, no_elements, element, Branch, branch, Branches, no_branches, next_branch, Entry, ellipsis, field, definition, Entries, no_entries, entry}
-use Rattle.cue_syntax.specs.Words.{HasWordLabel, HasWords, HaveWords, HasWordsBranch, HaveWordsBranches, HasWordsEntry, HaveWordsEntries}
+use Rattle.cue_syntax.specs.Spelling.{Piece, Follows, one, placed, comma_if, star_if, spell, spell_label, spell_dots, spell_rest, spell_elements, spell_more_elements, spell_branch, spell_branches, spell_more_branches, spell_entry, spell_entries, spell_more_entries}
+use Rattle.cue_syntax.specs.Syntax.{Expression, name, integer, text, bottom, bound, other_integer, other_text, parenthesis, struct, close, list, conjunction, disjunction, Elements, no_elements, element, Rest, no_rest, any_rest, each_rest, Branch, branch, Branches, no_branches, next_branch, Entry, ellipsis, field, definition, Entries, no_entries, entry}
+use Rattle.cue_syntax.specs.Words.{HasWordLabel, HasWords, HaveWords, HasWordsRest, HasWordsBranch, HaveWordsBranches, HasWordsEntry, HaveWordsEntries}
 use Rattle.cue_syntax.specs.Grammar.{AreEntries}
 
 -- what a piece names or quotes, if it does, is a word
@@ -57,7 +57,9 @@ mutual
   expression_words (struct es comma) words = entries_words es (first (spell_entries es) _ _ words.1)
   expression_words (close from es inner comma) words =
       entries_words es (first (spell_entries es) _ _ (first (spell_entries es ++ comma_if inner ++ one (kinds.Mark points.CloseBrace)) _ _ words.1.1.1))
-  expression_words (list es tail comma) words = elements_words _ es (front (spell_elements _ es) _ (first (spell_elements _ es ++ spell_rest es tail) _ _ words.1))
+  expression_words (list es tail comma) words =
+      let inner = first (spell_elements _ es ++ spell_rest es tail) _ _ words.1 in
+      (elements_words _ es (front (spell_elements _ es) _ inner), rest_words es tail (back (spell_elements _ es) _ inner))
   expression_words (conjunction es) words = elements_words _ es words
   expression_words (disjunction bs) words = branches_words bs words
 
@@ -68,6 +70,11 @@ mutual
   more_elements_words : (sign : TokenKind) (es : Elements) → EachPieceHasWord (spell_more_elements sign es) → HaveWords es
   more_elements_words sign no_elements words = tt
   more_elements_words sign (element e es) words = (expression_words e (front (spell e) _ words.1), more_elements_words sign es (back (spell e) _ words.1))
+
+  rest_words : (es : Elements) (tail : Rest) → EachPieceHasWord (spell_rest es tail) → HasWordsRest tail
+  rest_words es no_rest words = tt
+  rest_words es any_rest words = tt
+  rest_words es (each_rest e) words = expression_words e (back (spell_dots es) (spell e) words)
 
   branch_words : (b : Branch) → EachPieceHasWord (spell_branch b) → HasWordsBranch b
   branch_words (branch marked from e) words = expression_words e (unplaced from (spell e) (back (star_if marked) _ words))

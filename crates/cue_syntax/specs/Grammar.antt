@@ -16,9 +16,9 @@ use Rattle.cue_syntax.specs.declared.tree.Signed.{Signed}
 use Rattle.cue_syntax.specs.Syntax.{FileTree, Expression, name, integer, text, bottom, bound}
 use Rattle.cue_syntax.specs.Syntax.{other_integer, other_text, parenthesis, struct, close, list}
 use Rattle.cue_syntax.specs.Syntax.{conjunction, disjunction, Elements, no_elements, element}
-use Rattle.cue_syntax.specs.Syntax.{Rest, no_rest, Branch, branch, Branches, no_branches}
-use Rattle.cue_syntax.specs.Syntax.{next_branch, Entry, ellipsis, field, definition, Entries}
-use Rattle.cue_syntax.specs.Syntax.{no_entries, entry}
+use Rattle.cue_syntax.specs.Syntax.{Rest, no_rest, any_rest, each_rest, Branch, branch, Branches}
+use Rattle.cue_syntax.specs.Syntax.{no_branches, next_branch, Entry, ellipsis, field, definition}
+use Rattle.cue_syntax.specs.Syntax.{Entries, no_entries, entry}
 use Rattle.cue_syntax.specs.Words.{HaveWordsEntries}
 
 -- names that begin a clause, which is left out
@@ -101,13 +101,18 @@ abbrev mutual
   IsRight (parenthesis e comma) = IsRight e
   IsRight (struct es comma) = AreRightEntries es × AreNested es × EndsEntries comma es
   IsRight (close from es inner comma) = AreRightEntries es × AreNested es × EndsEntries inner es
-  IsRight (list es rest comma) = AreRight es × EndsElements comma rest es
+  IsRight (list es rest comma) = AreRight es × IsRightRest rest × EndsElements comma rest es
   IsRight (conjunction es) = AreRight es × AreUnary es × TwoElements es
   IsRight (disjunction bs) = AreRightBranches bs × TwoBranches bs
 
   pub AreRight : Elements → Type 0
   AreRight no_elements = ⊤
   AreRight (element e es) = IsRight e × AreRight es
+
+  pub IsRightRest : Rest → Type 0
+  IsRightRest no_rest = ⊤
+  IsRightRest any_rest = ⊤
+  IsRightRest (each_rest e) = IsRight e
 
   pub IsRightBranch : Branch → Type 0
   IsRightBranch (branch marked from e) = IsRight e × IsTerm marked e
@@ -139,13 +144,18 @@ abbrev mutual
   levels (parenthesis e comma) = 1 + levels e
   levels (struct es comma) = 1 + levels_of_entries es
   levels (close from es inner comma) = 2 + levels_of_entries es
-  levels (list es rest comma) = 1 + levels_of_elements es
+  levels (list es rest comma) = 1 + max (levels_of_elements es) (levels_of_rest rest)
   levels (conjunction es) = levels_of_elements es
   levels (disjunction bs) = levels_of_branches bs
 
   pub levels_of_elements : Elements → ℕ
   levels_of_elements no_elements = 0
   levels_of_elements (element e es) = max (levels e) (levels_of_elements es)
+
+  pub levels_of_rest : Rest → ℕ
+  levels_of_rest no_rest = 0
+  levels_of_rest any_rest = 0
+  levels_of_rest (each_rest e) = levels e
 
   pub levels_of_branch : Branch → ℕ
   levels_of_branch (branch marked from e) = levels e
@@ -201,6 +211,12 @@ pub record AreEntries (room : ℕ) (tokens : List Token) (es : Entries) (comma :
   pub right : AreRightEntries es
   pub ends : EndsEntries comma es
   pub levels : levels_of_entries es ≤ room
+
+-- what stands between the `...` of a list and the rest: an expression, or nothing
+abbrev pub IsRestOf : ℕ → List Token → Rest → List Token → Type 0
+IsRestOf room tokens no_rest rest = ⊥
+IsRestOf room tokens any_rest rest = tokens ≡ rest
+IsRestOf room tokens (each_rest e) rest = IsExpression room tokens e rest
 
 -- declarations, and the brace that closes them
 pub record AreBraced (room : ℕ) (tokens : List Token) (es : Entries) (comma : Bool)

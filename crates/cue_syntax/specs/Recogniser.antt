@@ -49,6 +49,7 @@ pub data Goal : Type 0 where
   parenthesis_end : Goal
   elements : Goal  -- an element, `...`, or the end of a list
   more_elements : Goal  -- a comma, or the end of a list
+  dots : Goal  -- what follows the `...` of a list: an expression, or the end of the list
   bracket : Goal  -- the end of a list, with a comma or not
   bracket_end : Goal
 
@@ -77,6 +78,7 @@ levels_of parenthesis = 1
 levels_of parenthesis_end = 1
 levels_of elements = 1
 levels_of more_elements = 1
+levels_of dots = 1
 levels_of bracket = 1
 levels_of bracket_end = 1
 levels_of _ = 0
@@ -204,8 +206,14 @@ take_text goals kind = take_entry true (more_entries true ∷ goals) kind
 
 abbrev pub take_element : Stack → TokenKind → Option Stack
 take_element goals (kinds.Mark points.CloseBracket) = Some goals
-take_element goals (kinds.Mark points.Ellipsis) = Some (bracket ∷ goals)
+take_element goals (kinds.Mark points.Ellipsis) = Some (dots ∷ goals)
 take_element goals kind = take_expression (more_elements ∷ goals) kind
+
+-- after the `...` of a list
+abbrev pub take_dots : Stack → TokenKind → Option Stack
+take_dots goals (kinds.Mark points.Comma) = Some (bracket_end ∷ goals)
+take_dots goals (kinds.Mark points.CloseBracket) = Some goals
+take_dots goals kind = take_expression (bracket ∷ goals) kind
 
 -- One token. behind is what the goals below make of it, where the goal is over before it.
 abbrev pub take : Goal → Stack → Option Stack → TokenKind → Option Stack
@@ -252,6 +260,7 @@ take elements goals behind kind = take_element goals kind
 take more_elements goals behind (kinds.Mark points.Comma) = Some (elements ∷ goals)
 take more_elements goals behind (kinds.Mark points.CloseBracket) = Some goals
 take more_elements goals behind _ = None
+take dots goals behind kind = take_dots goals kind
 take bracket goals behind (kinds.Mark points.Comma) = Some (bracket_end ∷ goals)
 take bracket goals behind (kinds.Mark points.CloseBracket) = Some goals
 take bracket goals behind _ = None

@@ -21,9 +21,9 @@ use Rattle.cue_syntax.specs.declared.tree.Package.{Package}
 use Rattle.cue_syntax.specs.Syntax.{FileTree, Expression, name, integer, text, bottom, bound}
 use Rattle.cue_syntax.specs.Syntax.{other_integer, other_text, parenthesis, struct, close, list}
 use Rattle.cue_syntax.specs.Syntax.{conjunction, disjunction, Elements, no_elements, element}
-use Rattle.cue_syntax.specs.Syntax.{Rest, no_rest, any_rest, Branch, branch, Branches}
-use Rattle.cue_syntax.specs.Syntax.{no_branches, next_branch, Entry, ellipsis, field, definition}
-use Rattle.cue_syntax.specs.Syntax.{Entries, no_entries, entry}
+use Rattle.cue_syntax.specs.Syntax.{Rest, no_rest, any_rest, each_rest, Branch, branch}
+use Rattle.cue_syntax.specs.Syntax.{Branches, no_branches, next_branch, Entry, ellipsis, field}
+use Rattle.cue_syntax.specs.Syntax.{definition, Entries, no_entries, entry}
 
 -- a token as far as a tree knows it: its kind, and the places that the tree keeps of it
 pub record Piece : Type 0 where
@@ -82,11 +82,9 @@ spell_label label =
     one (label_kind label.name) ++ spell_mark label.mark ++ one (kinds.Mark points.Colon)
 
 -- the `...` of a list, after a comma where elements stand before it
-abbrev pub spell_rest : Elements → Rest → List Piece
-spell_rest es no_rest = []
-spell_rest no_elements any_rest = one (kinds.Mark points.Ellipsis)
-spell_rest (element e es) any_rest =
-    one (kinds.Mark points.Comma) ++ one (kinds.Mark points.Ellipsis)
+abbrev pub spell_dots : Elements → List Piece
+spell_dots no_elements = one (kinds.Mark points.Ellipsis)
+spell_dots (element e es) = one (kinds.Mark points.Comma) ++ one (kinds.Mark points.Ellipsis)
 
 abbrev mutual
   pub spell : Expression → List Piece
@@ -113,6 +111,12 @@ abbrev mutual
       ++ spell_rest es rest ++ comma_if comma ++ one (kinds.Mark points.CloseBracket)
   spell (conjunction es) = spell_elements (kinds.Mark points.Ampersand) es
   spell (disjunction bs) = spell_branches bs
+
+  -- the rest of a list, behind these elements
+  pub spell_rest : Elements → Rest → List Piece
+  spell_rest es no_rest = []
+  spell_rest es any_rest = spell_dots es
+  spell_rest es (each_rest e) = spell_dots es ++ spell e
 
   -- expressions with a sign between them
   pub spell_elements : TokenKind → Elements → List Piece

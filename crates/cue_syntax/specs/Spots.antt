@@ -42,11 +42,11 @@ after_comma (Some insides.Struct) = spots.Inner
 after_comma (Some insides.List) = spots.Operand
 after_comma _ = spots.Other
 
--- after `...`: of the text or a struct, or of a list
+-- after `...`: of the text or a struct, or of a list, where an operand may follow
 abbrev pub after_dots : Option Inside → Spot
 after_dots None = spots.Ellipsis
 after_dots (Some insides.Struct) = spots.Ellipsis
-after_dots (Some insides.List) = spots.Rest
+after_dots (Some insides.List) = spots.Operand
 after_dots _ = spots.Other
 
 -- after `(`: an operand, or the argument of a `close`

@@ -6,11 +6,12 @@ use Rattle.cue_syntax.specs.declared.tree.Signed.{Signed}
 use Rattle.cue_syntax.specs.declared.tree.Comparison.{Comparison}
 use Rattle.cue_syntax.specs.declared.tree.Package.{Package}
 use Rattle.cue_syntax.specs.declared.tree.Rest as code
-use Rattle.cue_syntax.specs.declared.tree.Rest.TheVariants as rests
 use Rattle.cue_syntax.specs.declared.tree.Expr.{Expr, fold-Expr}
+use Rattle.cue_syntax.specs.declared.tree.Rest.{fold-Rest}
 use Rattle.cue_syntax.specs.declared.tree.Term.{Term, fold-Term}
 use Rattle.cue_syntax.specs.declared.tree.Declaration.{Declaration, fold-Declaration}
-use Rattle.cue_syntax.specs.declared.tree.Declaration.TheOpen.{Expr-F, Term-F, Declaration-F}
+use Rattle.cue_syntax.specs.declared.tree.Declaration.TheOpen.{Expr-F, Rest-F, Term-F}
+use Rattle.cue_syntax.specs.declared.tree.Declaration.TheOpen.{Declaration-F}
 
 -- A number beside a part is the place at which that part begins. The last truth values say whether
 -- a comma stands before the closing sign.
@@ -34,10 +35,11 @@ mutual
     no_elements : Elements
     element : Expression → Elements → Elements
 
-  -- what stands behind the last element of a list: nothing, or `...`
+  -- what stands behind the last element of a list: nothing, `...`, or `...` and an expression
   pub data Rest : Type 0 where
     no_rest : Rest
     any_rest : Rest
+    each_rest : Expression → Rest
 
   -- a term of a disjunction: whether it is marked, and where it begins after its mark
   pub data Branch : Type 0 where
@@ -69,17 +71,13 @@ abbrev pub entries_of : List Entry → Entries
 entries_of [] = no_entries
 entries_of (e ∷ es) = entry e (entries_of es)
 
-abbrev pub rest_of : code.Rest → Rest
-rest_of rests.Ends = no_rest
-rest_of rests.GoesOn = any_rest
-
 -- one level, with the trees of what stands inside
-abbrev pub entry_step : Declaration-F Entry Expression Branch → Entry
+abbrev pub entry_step : Declaration-F Entry Expression Rest Branch → Entry
 entry_step Declaration-F.Ellipsis = ellipsis
 entry_step (Declaration-F.Field label chain value) = field label chain.items value
 entry_step (Declaration-F.Definition t from chain value) = definition t from chain.items value
 
-abbrev pub expression_step : Expr-F Entry Expression Branch → Expression
+abbrev pub expression_step : Expr-F Entry Expression Rest Branch → Expression
 expression_step (Expr-F.Name n from) = name n from
 expression_step (Expr-F.Integer n) = integer n
 expression_step (Expr-F.Text t) = text t
@@ -90,22 +88,34 @@ expression_step (Expr-F.OtherText t) = other_text t
 expression_step (Expr-F.Parenthesis inner comma) = parenthesis inner.value comma
 expression_step (Expr-F.Struct es comma) = struct (entries_of es.items) comma
 expression_step (Expr-F.Close from es inner comma) = close from (entries_of es.items) inner comma
-expression_step (Expr-F.List es rest comma) = list (elements_of es.items) (rest_of rest) comma
+expression_step (Expr-F.List es rest comma) = list (elements_of es.items) rest comma
 expression_step (Expr-F.Conjunction es) = conjunction (elements_of es.items)
 expression_step (Expr-F.Disjunction bs) = disjunction (branches_of bs.items)
 
-abbrev pub branch_step : Term-F Entry Expression Branch → Branch
+abbrev pub rest_step : Rest-F Entry Expression Rest Branch → Rest
+rest_step Rest-F.Ends = no_rest
+rest_step Rest-F.GoesOn = any_rest
+rest_step (Rest-F.Each e) = each_rest e.value
+
+abbrev pub branch_step : Term-F Entry Expression Rest Branch → Branch
 branch_step t = branch t.marked t.from t.value
 
 -- the trees of the program's values
 abbrev pub expression : Expr → Expression
-expression = fold-Expr Entry Expression Branch entry_step expression_step branch_step
+expression =
+    fold-Expr Entry Expression Rest Branch entry_step expression_step rest_step branch_step
+
+abbrev pub rest_tree : code.Rest → Rest
+rest_tree =
+    fold-Rest Entry Expression Rest Branch entry_step expression_step rest_step branch_step
 
 abbrev pub branch_tree : Term → Branch
-branch_tree = fold-Term Entry Expression Branch entry_step expression_step branch_step
+branch_tree =
+    fold-Term Entry Expression Rest Branch entry_step expression_step rest_step branch_step
 
 abbrev pub entry_tree : Declaration → Entry
-entry_tree = fold-Declaration Entry Expression Branch entry_step expression_step branch_step
+entry_tree =
+    fold-Declaration Entry Expression Rest Branch entry_step expression_step rest_step branch_step
 
 abbrev pub elements : List Expr → Elements
 elements es = elements_of (map expression es)

@@ -3,8 +3,9 @@
 use Rattle.cue_syntax.specs.Syntax.{FileTree, Expression, name, integer, text, bottom, bound}
 use Rattle.cue_syntax.specs.Syntax.{other_integer, other_text, parenthesis, struct, close, list}
 use Rattle.cue_syntax.specs.Syntax.{conjunction, disjunction, Elements, no_elements, element}
-use Rattle.cue_syntax.specs.Syntax.{Branch, branch, Branches, no_branches, next_branch, Entry}
-use Rattle.cue_syntax.specs.Syntax.{ellipsis, field, definition, Entries, no_entries, entry}
+use Rattle.cue_syntax.specs.Syntax.{Rest, no_rest, any_rest, each_rest, Branch, branch, Branches}
+use Rattle.cue_syntax.specs.Syntax.{no_branches, next_branch, Entry, ellipsis, field, definition}
+use Rattle.cue_syntax.specs.Syntax.{Entries, no_entries, entry}
 
 -- the same tree with each place 0
 abbrev mutual
@@ -19,13 +20,18 @@ abbrev mutual
   unplaced (parenthesis e comma) = parenthesis (unplaced e) comma
   unplaced (struct es comma) = struct (unplaced_entries es) comma
   unplaced (close from es inner comma) = close 0 (unplaced_entries es) inner comma
-  unplaced (list es rest comma) = list (unplaced_elements es) rest comma
+  unplaced (list es rest comma) = list (unplaced_elements es) (unplaced_rest rest) comma
   unplaced (conjunction es) = conjunction (unplaced_elements es)
   unplaced (disjunction bs) = disjunction (unplaced_branches bs)
 
   pub unplaced_elements : Elements → Elements
   unplaced_elements no_elements = no_elements
   unplaced_elements (element e es) = element (unplaced e) (unplaced_elements es)
+
+  pub unplaced_rest : Rest → Rest
+  unplaced_rest no_rest = no_rest
+  unplaced_rest any_rest = any_rest
+  unplaced_rest (each_rest e) = each_rest (unplaced e)
 
   pub unplaced_branch : Branch → Branch
   unplaced_branch (branch marked from e) = branch marked 0 (unplaced e)

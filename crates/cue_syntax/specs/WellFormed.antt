@@ -13,16 +13,17 @@ use Rattle.cue_syntax.specs.Spelling.{identifier_kind, label_kind}
 use Rattle.cue_syntax.specs.Syntax.{Expression, name, integer, text, bottom, bound, other_integer}
 use Rattle.cue_syntax.specs.Syntax.{other_text, parenthesis, struct, close, list, conjunction}
 use Rattle.cue_syntax.specs.Syntax.{disjunction, Elements, no_elements, element, Rest, no_rest}
-use Rattle.cue_syntax.specs.Syntax.{any_rest, Branch, branch}
+use Rattle.cue_syntax.specs.Syntax.{any_rest, each_rest, Branch, branch}
 use Rattle.cue_syntax.specs.Syntax.{Branches, no_branches, next_branch, Entry, ellipsis, field}
 use Rattle.cue_syntax.specs.Syntax.{definition, Entries, no_entries, entry}
-use Rattle.cue_syntax.specs.Words.{HasWordLabel, HasWords, HaveWords, HasWordsBranch}
-use Rattle.cue_syntax.specs.Words.{HaveWordsBranches, HasWordsEntry, HaveWordsEntries}
+use Rattle.cue_syntax.specs.Words.{HasWordLabel, HasWords, HaveWords, HasWordsRest}
+use Rattle.cue_syntax.specs.Words.{HasWordsBranch, HaveWordsBranches, HasWordsEntry}
+use Rattle.cue_syntax.specs.Words.{HaveWordsEntries}
 use Rattle.cue_syntax.specs.Grammar.{IsOperand, IsUnary, IsConjunct, IsNested, AreUnary, AreNested}
 use Rattle.cue_syntax.specs.Grammar.{TwoElements, TwoBranches, IsTerm, EndsEntries, EndsElements}
-use Rattle.cue_syntax.specs.Grammar.{IsRight, AreRight, IsRightBranch, AreRightBranches}
-use Rattle.cue_syntax.specs.Grammar.{IsRightEntry, AreRightEntries, IsPackageName, IsRightPackage}
-use Rattle.cue_syntax.specs.Grammar.{IsFragment}
+use Rattle.cue_syntax.specs.Grammar.{IsRight, AreRight, IsRightRest, IsRightBranch}
+use Rattle.cue_syntax.specs.Grammar.{AreRightBranches, IsRightEntry, AreRightEntries}
+use Rattle.cue_syntax.specs.Grammar.{IsPackageName, IsRightPackage, IsFragment}
 
 operand_prop : (n : Identifier) → IsProp (IsOperand n)
 operand_prop (identifiers.Plain t) = hlevel
@@ -74,6 +75,7 @@ ends_elements_prop : (comma : Bool) (rest : Rest) (es : Elements)
 ends_elements_prop true no_rest no_elements = hlevel
 ends_elements_prop true no_rest (element e es) = hlevel
 ends_elements_prop true any_rest es = hlevel
+ends_elements_prop true (each_rest e) es = hlevel
 ends_elements_prop false rest es = hlevel
 
 mutual
@@ -91,13 +93,18 @@ mutual
   right_prop (close from es inner comma) =
       hlevel (right_entries_prop es, nested_prop es, ends_entries_prop inner es)
   right_prop (list es rest comma) =
-      hlevel (all_right_prop es, ends_elements_prop comma rest es)
+      hlevel (all_right_prop es, right_rest_prop rest, ends_elements_prop comma rest es)
   right_prop (conjunction es) = hlevel (all_right_prop es, all_unary_prop es, two_elements_prop es)
   right_prop (disjunction bs) = hlevel (right_branches_prop bs, two_branches_prop bs)
 
   all_right_prop : (es : Elements) → IsProp (AreRight es)
   all_right_prop no_elements = hlevel
   all_right_prop (element e es) = hlevel (right_prop e, all_right_prop es)
+
+  right_rest_prop : (rest : Rest) → IsProp (IsRightRest rest)
+  right_rest_prop no_rest = hlevel
+  right_rest_prop any_rest = hlevel
+  right_rest_prop (each_rest e) = right_prop e
 
   right_branch_prop : (b : Branch) → IsProp (IsRightBranch b)
   right_branch_prop (branch marked from e) = hlevel (right_prop e, term_prop marked e)
@@ -142,13 +149,18 @@ mutual
   words_prop (parenthesis e comma) = words_prop e
   words_prop (struct es comma) = entries_words_prop es
   words_prop (close from es inner comma) = entries_words_prop es
-  words_prop (list es rest comma) = elements_words_prop es
+  words_prop (list es rest comma) = hlevel (elements_words_prop es, rest_words_prop rest)
   words_prop (conjunction es) = elements_words_prop es
   words_prop (disjunction bs) = branches_words_prop bs
 
   elements_words_prop : (es : Elements) → IsProp (HaveWords es)
   elements_words_prop no_elements = hlevel
   elements_words_prop (element e es) = hlevel (words_prop e, elements_words_prop es)
+
+  rest_words_prop : (rest : Rest) → IsProp (HasWordsRest rest)
+  rest_words_prop no_rest = hlevel
+  rest_words_prop any_rest = hlevel
+  rest_words_prop (each_rest e) = words_prop e
 
   branch_words_prop : (b : Branch) → IsProp (HasWordsBranch b)
   branch_words_prop (branch marked from e) = words_prop e

@@ -7,9 +7,10 @@ use Rattle.cue_syntax.specs.declared.tree.Label.{Label}
 use Rattle.cue_syntax.specs.Spelling.{identifier_kind, label_kind}
 use Rattle.cue_syntax.specs.Syntax.{Expression, name, integer, text, bottom, bound, other_integer}
 use Rattle.cue_syntax.specs.Syntax.{other_text, parenthesis, struct, close, list, conjunction}
-use Rattle.cue_syntax.specs.Syntax.{disjunction, Elements, no_elements, element, Branch, branch}
-use Rattle.cue_syntax.specs.Syntax.{Branches, no_branches, next_branch, Entry, ellipsis, field}
-use Rattle.cue_syntax.specs.Syntax.{definition, Entries, no_entries, entry}
+use Rattle.cue_syntax.specs.Syntax.{disjunction, Elements, no_elements, element, Rest, no_rest}
+use Rattle.cue_syntax.specs.Syntax.{any_rest, each_rest, Branch, branch, Branches, no_branches}
+use Rattle.cue_syntax.specs.Syntax.{next_branch, Entry, ellipsis, field, definition, Entries}
+use Rattle.cue_syntax.specs.Syntax.{no_entries, entry}
 
 -- the name or the text of a label
 abbrev pub HasWordLabel : Label → Type 0
@@ -27,13 +28,18 @@ abbrev mutual
   HasWords (parenthesis e comma) = HasWords e
   HasWords (struct es comma) = HaveWordsEntries es
   HasWords (close from es inner comma) = HaveWordsEntries es
-  HasWords (list es rest comma) = HaveWords es
+  HasWords (list es rest comma) = HaveWords es × HasWordsRest rest
   HasWords (conjunction es) = HaveWords es
   HasWords (disjunction bs) = HaveWordsBranches bs
 
   pub HaveWords : Elements → Type 0
   HaveWords no_elements = ⊤
   HaveWords (element e es) = HasWords e × HaveWords es
+
+  pub HasWordsRest : Rest → Type 0
+  HasWordsRest no_rest = ⊤
+  HasWordsRest any_rest = ⊤
+  HasWordsRest (each_rest e) = HasWords e
 
   pub HasWordsBranch : Branch → Type 0
   HasWordsBranch (branch marked from e) = HasWords e

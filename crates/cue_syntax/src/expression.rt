@@ -1,8 +1,10 @@
 ghost use Rattle.std.specs.Prelude.{◌≡◌, ◌+◌, ◌⊎◌, ◌↔◌, ◌∷◌, [], IfOk, IfErr, IsTrue};
 ghost use Rattle.std.specs.Prelude.{Bool, false, true};
-ghost use Rattle.cue_syntax.specs.Syntax.{expression, branch_tree, entry_tree, elements, entries};
+ghost use Rattle.cue_syntax.specs.Syntax.{expression, rest_tree, branch_tree, entry_tree};
+ghost use Rattle.cue_syntax.specs.Syntax.{elements, entries};
 ghost use Rattle.cue_syntax.specs.Grammar.{IsUnary, IsConjunct, IsNested, AreNested};
-ghost use Rattle.cue_syntax.specs.Grammar.{IsTermOf, IsEntry, AreElements, AreEntries, AreBraced};
+ghost use Rattle.cue_syntax.specs.Grammar.{IsTermOf, IsRestOf, IsEntry, AreElements, AreEntries};
+ghost use Rattle.cue_syntax.specs.Grammar.{AreBraced};
 ghost use Rattle.cue_syntax.specs.Viability.{StandsSign, IsCallOfClose, BeginsLabel};
 ghost use Rattle.cue_syntax.specs.Viability.{BeginsDefinition, EndsHere, behind_begun};
 ghost use Rattle.cue_syntax.specs.Recogniser as goals;
@@ -227,12 +229,13 @@ fn list<'a>(alloc: Global, cursor: Cursor<'a>, room: usize) -> Parsed<'a, Expr<'
     let (row, last) = elements(alloc, open, inside)?;
     if row.comma || row.items.is_empty() {
         if let Some(after) = last.skip(Punctuation::Ellipsis) {
+            let (further, after) = further(alloc, after, inside)?;
             let (comma, after) = after.trailing_comma();
             let rest = after.expect(Punctuation::CloseBracket)?;
             return Ok((
                 Expr::List {
                     elements: row.items,
-                    rest: Rest::GoesOn,
+                    rest: further,
                     comma,
                 },
                 rest,
@@ -248,6 +251,24 @@ fn list<'a>(alloc: Global, cursor: Cursor<'a>, room: usize) -> Parsed<'a, Expr<'
         },
         rest,
     ))
+}
+
+/// What the `...` of a list says of further elements: the expression after it, if one follows.
+#[cycle(parser)]
+fn further<'a>(alloc: Global, cursor: Cursor<'a>, room: usize) -> Parsed<'a, Rest<'a>>
+    ensures onward { IfOk result (λ r. IsOnward cursor.entry r.1) }
+    ensures spelled { IfOk result (λ r.
+        IsRestOf room cursor.entry.rest.now (rest_tree r.0) r.1.rest.now) }
+    ensures moves { IfOk result (λ r.
+        MovesBetween (1 + room) (goals.dots ∷ []) (goals.bracket ∷ []) cursor.entry r.1) }
+    ensures refused { IfErr result (Refuses (1 + room) (goals.dots ∷ []) cursor.entry) }
+{
+    if cursor.stands(Punctuation::Comma) || cursor.stands(Punctuation::CloseBracket) {
+        return Ok((Rest::GoesOn, cursor));
+    }
+    let (each, rest) = expression(alloc, cursor, room)?;
+    let each = boxed(alloc, each)?;
+    Ok((Rest::Each(each), rest))
 }
 
 /// The elements of a list, up to its `...` or its end.

@@ -159,13 +159,6 @@ fn form(spot: Spot, cursor: Cursor) -> Option<Form>
                 None
             }
         }
-        Spot::Rest => {
-            if cursor.begins_expression() {
-                Some(Form::TypedRest)
-            } else {
-                None
-            }
-        }
         Spot::Bound => {
             if cursor.begins_expression() && !stands_integer(cursor) {
                 Some(Form::Bound)

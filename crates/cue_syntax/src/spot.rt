@@ -18,8 +18,6 @@ pub enum Spot {
     Operand,
     /// After the `...` of the text or of a struct.
     Ellipsis,
-    /// After the `...` of a list.
-    Rest,
     /// After `<`, `<=`, `>` or `>=`.
     Bound,
     /// After `!=`.
@@ -169,7 +167,7 @@ fn spot_after(inside: Option<Inside>, spot: Spot, kind: &TokenKind) -> Spot
         },
         TokenKind::Mark(Punctuation::Ellipsis) => match inside {
             None | Some(Inside::Struct) => Spot::Ellipsis,
-            Some(Inside::List) => Spot::Rest,
+            Some(Inside::List) => Spot::Operand,
             _ => Spot::Other,
         },
         TokenKind::Mark(

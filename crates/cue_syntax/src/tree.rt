@@ -156,7 +156,7 @@ pub enum Expr<'t> {
     /// A list literal.
     List {
         elements: Vec<Expr<'t>>,
-        rest: Rest,
+        rest: Rest<'t>,
         /// Whether a comma stands before the closing bracket.
         comma: bool,
     },
@@ -167,12 +167,15 @@ pub enum Expr<'t> {
 }
 
 /// What stands behind the last element of a list.
-#[derive(Clone, Copy, Debug, PartialEq, Eq, Hash)]
-pub enum Rest {
+#[derive(Debug, Drop)]
+#[cycle(tree)]
+pub enum Rest<'t> {
     /// Nothing: the list ends with its elements.
     Ends,
     /// `...`
     GoesOn,
+    /// `...` and an expression.
+    Each(Box<Expr<'t>>),
 }
 
 /// A term of a disjunction.

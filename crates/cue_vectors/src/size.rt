@@ -1,4 +1,4 @@
-use cue_syntax::{Declaration, Expr, Term};
+use cue_syntax::{Declaration, Expr, Rest, Term};
 
 /// How many expressions a list of declarations has, those inside others too.
 #[cycle(size)]
@@ -27,7 +27,9 @@ fn of_expression(expression: &Expr) -> u64 {
         Expr::Struct { declarations, .. } | Expr::Close { declarations, .. } => {
             of_declarations(declarations).saturating_add(1)
         }
-        Expr::List { elements, .. } => of_expressions(elements).saturating_add(1),
+        Expr::List { elements, rest, .. } => of_expressions(elements)
+            .saturating_add(of_rest(rest))
+            .saturating_add(1),
         Expr::Conjunction(parts) => of_expressions(parts).saturating_add(1),
         Expr::Disjunction(terms) => of_terms(terms).saturating_add(1),
         _ => 1,
@@ -41,6 +43,14 @@ fn of_expressions(expressions: &[Expr]) -> u64 {
         sum = sum.saturating_add(of_expression(expression));
     }
     sum
+}
+
+#[cycle(size)]
+fn of_rest(rest: &Rest) -> u64 {
+    match rest {
+        Rest::Each(each) => of_expression(each),
+        Rest::Ends | Rest::GoesOn => 0,
+    }
 }
 
 #[cycle(size)]

@@ -13,10 +13,10 @@ use Rattle.cue_syntax.specs.declared.tree.Package.{Package}
 use Rattle.cue_syntax.specs.declared.tree.Sign.{Sign}
 use Rattle.cue_syntax.specs.declared.tree.Sign.TheVariants as signs
 use Rattle.cue_syntax.specs.declared.tree.Signed.{Signed}
-use Rattle.cue_syntax.specs.Syntax.{Expression, name, integer, text, bottom, bound, other_integer, other_text, parenthesis, struct, close, list, conjunction, disjunction, Elements, no_elements, element, Branch, branch, Branches, no_branches, next_branch, Entry, ellipsis, field, definition, Entries, no_entries, entry, Rest, no_rest, any_rest}
-use Rattle.cue_syntax.specs.Spelling.{Piece, Reads, Follows, StandsAt, IsPlace, one, one_at, placed, comma_if, star_if, identifier_kind, spell_sign, spell_signed, spell_mark, spell_label, spell_rest, spell, spell_elements, spell_more_elements, spell_branch, spell_branches, spell_more_branches, spell_entry, spell_entries, spell_more_entries, spell_package, spell_file}
+use Rattle.cue_syntax.specs.Syntax.{Expression, name, integer, text, bottom, bound, other_integer, other_text, parenthesis, struct, close, list, conjunction, disjunction, Elements, no_elements, element, Branch, branch, Branches, no_branches, next_branch, Entry, ellipsis, field, definition, Entries, no_entries, entry, Rest, no_rest, any_rest, each_rest}
+use Rattle.cue_syntax.specs.Spelling.{Piece, Reads, Follows, StandsAt, IsPlace, one, one_at, placed, comma_if, star_if, identifier_kind, spell_sign, spell_signed, spell_mark, spell_label, spell_dots, spell_rest, spell, spell_elements, spell_more_elements, spell_branch, spell_branches, spell_more_branches, spell_entry, spell_entries, spell_more_entries, spell_package, spell_file}
 use Rattle.cue_syntax.specs.Grammar.{Limit, Within, IsRightPackage, AreRightEntries, EndsEntries, levels_of_entries}
-use Rattle.cue_syntax.specs.Unplaced.{unplaced, unplaced_elements, unplaced_branch, unplaced_branches, unplaced_entry, unplaced_entries}
+use Rattle.cue_syntax.specs.Unplaced.{unplaced, unplaced_elements, unplaced_rest, unplaced_branch, unplaced_branches, unplaced_entry, unplaced_entries}
 use Rattle.cue_syntax.proofs.ReadingsJoin.{reads_then, reads_placed}
 use Rattle.syntax_laws.specs.Places.{kinds_of, IsSpelledAnywhere}
 use Rattle.syntax_laws.proofs.Unplaced.{right_entries_same, levels_entries_same, package_same, comma_same}
@@ -92,23 +92,12 @@ plain_labels (l ∷ ls) = plain_then (spell_label l) (flat_map spell_label ls) (
 abbrev spell_braces : Bool → Entries → List Piece
 spell_braces comma es = one (kinds.Mark points.OpenBrace) ++ spell_entries es ++ comma_if comma ++ one (kinds.Mark points.CloseBrace)
 
--- which tokens the rest of a list is spelled with does not depend on the places in its elements
-record SameRest (es : Elements) (tail : Rest) : Type 0 where
-  pub plain : Plain (spell_rest es tail)
-  pub same : (fs : Elements) → unplaced_elements fs ≡ unplaced_elements es → spell_rest fs tail ≡ spell_rest es tail
-
-rest_of : (es : Elements) (tail : Rest) → SameRest es tail
-rest_of es no_rest = record { plain = tt; same = λ fs e. refl }
-rest_of no_elements any_rest = record { plain = (refl, tt); same = none }
-  where
-    none : (fs : Elements) → unplaced_elements fs ≡ no_elements → spell_rest fs any_rest ≡ spell_rest no_elements any_rest
-    none no_elements e = refl
-    none (element f fs) e = absurd (let h : element (unplaced f) (unplaced_elements fs) ≡ no_elements = e in cc)
-rest_of (element e es) any_rest = record { plain = (refl, (refl, tt)); same = some }
-  where
-    some : (fs : Elements) → unplaced_elements fs ≡ element (unplaced e) (unplaced_elements es) → spell_rest fs any_rest ≡ spell_rest (element e es) any_rest
-    some no_elements h = absurd (let g : no_elements ≡ element (unplaced e) (unplaced_elements es) = h in cc)
-    some (element f fs) h = refl
+-- which tokens the `...` of a list is spelled with does not depend on the places in its elements
+dots_reads : {a b : List Token} (es fs : Elements) → unplaced_elements fs ≡ unplaced_elements es → ReadsLike a (spell_dots es) b → Reads a (spell_dots fs) b
+dots_reads no_elements no_elements alike l = plain_reads (spell_dots no_elements) (refl, tt) l
+dots_reads no_elements (element f fs) alike l = absurd (let h : element (unplaced f) (unplaced_elements fs) ≡ no_elements = alike in cc)
+dots_reads (element e es) no_elements alike l = absurd (let h : no_elements ≡ element (unplaced e) (unplaced_elements es) = alike in cc)
+dots_reads (element e es) (element f fs) alike l = plain_reads (spell_dots (element e es)) (refl, (refl, tt)) l
 
 -- a part that is spelled so, and is another one but for places
 record Other (A : Type 0) (spelled : A → List Piece) (bare : A → A) (whole : A) (a b : List Token) : Type 0 where
@@ -199,12 +188,11 @@ mutual
       let second = cut (mark points.OpenBracket ++ spell_elements (kinds.Mark points.Comma) es) (spell_rest es tail) third.left in
       let first = cut (mark points.OpenBracket) (spell_elements (kinds.Mark points.Comma) es) second.left in
       let inner = place_elements (kinds.Mark points.Comma) es first.right in
-      let rest = rest_of es tail in
-      let rest_read = subst (λ z. Reads second.middle z third.middle) (sym (rest.same inner.part inner.same)) (plain_reads (spell_rest es tail) rest.plain second.right) in
+      let rest = place_rest es inner.part inner.same tail second.right in
       record {
-        part = list inner.part tail comma;
-        reads = reads_then (reads_then (reads_then (reads_then (mark_reads points.OpenBracket first.left) inner.reads) rest_read) (comma_reads comma third.right)) (mark_reads points.CloseBracket fourth.right);
-        same = ap (λ z. list z tail comma) inner.same;
+        part = list inner.part rest.part comma;
+        reads = reads_then (reads_then (reads_then (reads_then (mark_reads points.OpenBracket first.left) inner.reads) rest.reads) (comma_reads comma third.right)) (mark_reads points.CloseBracket fourth.right);
+        same = ap (λ z. list z (unplaced_rest rest.part) comma) inner.same ∙ ap (λ z. list (unplaced_elements es) z comma) rest.same;
       }
   place (conjunction es) l =
       let inner = place_elements (kinds.Mark points.Ampersand) es l in
@@ -237,6 +225,15 @@ mutual
         reads = reads_then (reads_then (plain_reads (one sign) (refl, tt) first.left) head.reads) tail.reads;
         same = ap (λ z. element z (unplaced_elements tail.part)) head.same ∙ ap (element (unplaced e)) tail.same;
       }
+
+  -- the rest of a list, behind elements that differ by places alone
+  place_rest : (es fs : Elements) → unplaced_elements fs ≡ unplaced_elements es → (tail : Rest) {a b : List Token} → ReadsLike a (spell_rest es tail) b → Other Rest (spell_rest fs) unplaced_rest tail a b
+  place_rest es fs alike no_rest l = record { part = no_rest; reads = plain_reads [] tt l; same = refl }
+  place_rest es fs alike any_rest l = record { part = any_rest; reads = dots_reads es fs alike l; same = refl }
+  place_rest es fs alike (each_rest e) l =
+      let first = cut (spell_dots es) (spell e) l in
+      let inner = place e first.right in
+      record { part = each_rest inner.part; reads = reads_then (dots_reads es fs alike first.left) inner.reads; same = ap each_rest inner.same }
 
   place_branch : (b : Branch) {a c : List Token} → ReadsLike a (spell_branch b) c → Other Branch spell_branch unplaced_branch b a c
   place_branch (branch marked from e) {c = c} l =

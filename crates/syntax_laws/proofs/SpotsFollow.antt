@@ -11,7 +11,7 @@ use Rattle.cue_syntax.specs.Grammar.{unlimited}
 use Rattle.cue_syntax.specs.Viability.{Begins}
 use Rattle.cue_syntax.specs.Spots.{is_close, innermost, open_after, spot_after, spot_from, spot_of}
 use Rattle.cue_syntax.specs.Forms.{IsOfLabel, IsOfOperand}
-use Rattle.cue_syntax.specs.Recogniser.{Stack, step, stuck, stuck_behind, is_over, is_keyword, text, package_word, package_end, entries, more_entries, mark, colon, value, value_name, value_text, chained, expression, term, unary, more_parts, bar, more_terms, signed, signed_or_text, magnitude, behind_close, closed, parenthesis, parenthesis_end, elements, more_elements, bracket, bracket_end}
+use Rattle.cue_syntax.specs.Recogniser.{Stack, step, stuck, stuck_behind, is_over, is_keyword, text, package_word, package_end, entries, more_entries, mark, colon, value, value_name, value_text, chained, expression, term, unary, more_parts, bar, more_terms, signed, signed_or_text, magnitude, behind_close, closed, parenthesis, parenthesis_end, elements, more_elements, dots, bracket, bracket_end}
 use Rattle.cue_syntax.proofs.NoTextWhereStuck.{stuck_begins_none, stuck_inside}
 use Rattle.cue_syntax.proofs.TakenBeginsAText.{begins, taken, fewer}
 use Rattle.syntax_laws.specs.Following.{BeginText, token_of, OperandNext, LabelNext, SpotsFollowTheGrammar}
@@ -113,6 +113,7 @@ bottom_none (chained ∷ gs) a = bottom_none gs a.1
 bottom_none (bar ∷ gs) a = refl
 bottom_none (parenthesis ∷ gs) a = refl
 bottom_none (more_elements ∷ gs) a = refl
+bottom_none (bracket ∷ gs) a = refl
 bottom_none (more_entries true ∷ gs) a = refl
 bottom_none (more_entries false ∷ gs) a = refl
 bottom_none (_ ∷ gs) a = absurd a.0
@@ -125,6 +126,7 @@ string_none (chained ∷ gs) a = string_none gs a.1
 string_none (bar ∷ gs) a = refl
 string_none (parenthesis ∷ gs) a = refl
 string_none (more_elements ∷ gs) a = refl
+string_none (bracket ∷ gs) a = refl
 string_none (more_entries true ∷ gs) a = refl
 string_none (more_entries false ∷ gs) a = refl
 string_none (_ ∷ gs) a = absurd a.0
@@ -137,6 +139,7 @@ definition_none (chained ∷ gs) a = definition_none gs a.1
 definition_none (bar ∷ gs) a = refl
 definition_none (parenthesis ∷ gs) a = refl
 definition_none (more_elements ∷ gs) a = refl
+definition_none (bracket ∷ gs) a = refl
 definition_none (more_entries true ∷ gs) a = refl
 definition_none (more_entries false ∷ gs) a = refl
 definition_none (_ ∷ gs) a = absurd a.0
@@ -149,6 +152,7 @@ colon_none (chained ∷ gs) a = colon_none gs a.1
 colon_none (bar ∷ gs) a = refl
 colon_none (parenthesis ∷ gs) a = refl
 colon_none (more_elements ∷ gs) a = refl
+colon_none (bracket ∷ gs) a = refl
 colon_none (more_entries true ∷ gs) a = refl
 colon_none (more_entries false ∷ gs) a = refl
 colon_none (_ ∷ gs) a = absurd a.0
@@ -224,6 +228,7 @@ operand_told (parenthesis ∷ gs) s shape spot = quiet_bottom (parenthesis ∷ g
 operand_told (parenthesis_end ∷ gs) s shape spot = quiet_bottom (parenthesis_end ∷ gs) s spot refl
 operand_told (elements ∷ gs) s shape spot = yes (subst IsOfOperand (sym spot) tt) (take_one (elements ∷ gs) (more_parts ∷ more_terms ∷ more_elements ∷ gs) bottom refl)
 operand_told (more_elements ∷ gs) s shape spot = quiet_bottom (more_elements ∷ gs) s spot refl
+operand_told (dots ∷ gs) s shape spot = yes (subst IsOfOperand (sym spot) tt) (take_one (dots ∷ gs) (more_parts ∷ more_terms ∷ bracket ∷ gs) bottom refl)
 operand_told (bracket ∷ gs) s shape spot = quiet_bottom (bracket ∷ gs) s spot refl
 operand_told (bracket_end ∷ gs) s shape spot = quiet_bottom (bracket_end ∷ gs) s spot refl
 
@@ -267,6 +272,7 @@ label_told (parenthesis ∷ gs) s shape spot = quiet_label (parenthesis ∷ gs) 
 label_told (parenthesis_end ∷ gs) s shape spot = quiet_label (parenthesis_end ∷ gs) s spot refl
 label_told (elements ∷ gs) s shape spot = no (no_label s spot) (stop_second (elements ∷ gs) (more_parts ∷ more_terms ∷ more_elements ∷ gs) string sign refl refl)
 label_told (more_elements ∷ gs) s shape spot = quiet_label (more_elements ∷ gs) s spot refl
+label_told (dots ∷ gs) s shape spot = no (no_label s spot) (stop_second (dots ∷ gs) (more_parts ∷ more_terms ∷ bracket ∷ gs) string sign refl refl)
 label_told (bracket ∷ gs) s shape spot = quiet_label (bracket ∷ gs) s spot refl
 label_told (bracket_end ∷ gs) s shape spot = quiet_label (bracket_end ∷ gs) s spot refl
 
@@ -319,6 +325,7 @@ definition_told (parenthesis ∷ gs) s shape spot = quiet_definition (parenthesi
 definition_told (parenthesis_end ∷ gs) s shape spot = quiet_definition (parenthesis_end ∷ gs) s spot refl
 definition_told (elements ∷ gs) s shape spot = no (operand_top s spot) (stop_second (elements ∷ gs) (more_parts ∷ more_terms ∷ more_elements ∷ gs) defined sign refl refl)
 definition_told (more_elements ∷ gs) s shape spot = quiet_definition (more_elements ∷ gs) s spot refl
+definition_told (dots ∷ gs) s shape spot = no (operand_top s spot) (stop_second (dots ∷ gs) (more_parts ∷ more_terms ∷ bracket ∷ gs) defined sign refl refl)
 definition_told (bracket ∷ gs) s shape spot = quiet_definition (bracket ∷ gs) s spot refl
 definition_told (bracket_end ∷ gs) s shape spot = quiet_definition (bracket_end ∷ gs) s spot refl
 

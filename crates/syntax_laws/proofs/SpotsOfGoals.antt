@@ -13,7 +13,7 @@ use Rattle.cue_syntax.specs.declared.tree.Sign.TheVariants as signs
 use Rattle.cue_syntax.specs.Grammar.{greatest}
 use Rattle.cue_syntax.specs.Spots.{is_close, innermost, open_after, spot_after, after_comma, after_parenthesis}
 use Rattle.cue_syntax.specs.Forms.{IsOfLabel, IsOfOperand}
-use Rattle.cue_syntax.specs.Recogniser.{Goal, Stack, is_word, is_keyword, hides_definition, step, take_unary, take_term, take_expression, take_value, take_signed, take_entry, take_mark, take_behind_operand, text, package_word, package_end, entries, more_entries, mark, colon, value, value_name, value_text, chained, expression, term, unary, more_parts, bar, more_terms, signed, signed_or_text, magnitude, behind_close, closed, parenthesis, parenthesis_end, elements, more_elements, bracket, bracket_end}
+use Rattle.cue_syntax.specs.Recogniser.{Goal, Stack, is_word, is_keyword, hides_definition, step, take_unary, take_term, take_expression, take_value, take_signed, take_entry, take_mark, take_behind_operand, text, package_word, package_end, entries, more_entries, mark, colon, value, value_name, value_text, chained, expression, term, unary, more_parts, bar, more_terms, signed, signed_or_text, magnitude, behind_close, closed, parenthesis, parenthesis_end, elements, more_elements, dots, bracket, bracket_end}
 
 -- neither an operand nor a label begins there
 abbrev pub Quiet : Spot → Type 0
@@ -29,6 +29,7 @@ SpotAt expression s = s ≡ spots.Operand
 SpotAt term s = s ≡ spots.Operand
 SpotAt unary s = s ≡ spots.Operand
 SpotAt elements s = s ≡ spots.Operand
+SpotAt dots s = s ≡ spots.Operand
 SpotAt behind_close s = s ≡ spots.CloseName
 SpotAt (value_name t) s = s ≡ (if is_close t then spots.CloseName else spots.Other)
 SpotAt _ s = Quiet s
@@ -45,6 +46,7 @@ IsAfter bar gs = ⊤
 IsAfter parenthesis gs = ⊤
 IsAfter chained gs = ⊤
 IsAfter more_elements gs = ⊤
+IsAfter bracket gs = ⊤
 IsAfter (more_entries false) gs = ⊤
 IsAfter (more_entries true) gs = gs ≡ []
 IsAfter _ gs = ⊥
@@ -79,6 +81,7 @@ around parenthesis o = insides.Parenthesis ∷ o
 around parenthesis_end o = insides.Parenthesis ∷ o
 around elements o = insides.List ∷ o
 around more_elements o = insides.List ∷ o
+around dots o = insides.Rest ∷ o
 around bracket o = insides.Rest ∷ o
 around bracket_end o = insides.Rest ∷ o
 around _ o = o
@@ -110,6 +113,7 @@ after_shape (bar ∷ gs) a = a.1
 after_shape (parenthesis ∷ gs) a = a.1
 after_shape (chained ∷ gs) a = a.1
 after_shape (more_elements ∷ gs) a = a.1
+after_shape (bracket ∷ gs) a = a.1
 after_shape (more_entries true ∷ gs) a = a.0
 after_shape (more_entries false ∷ gs) a = a.1
 after_shape (_ ∷ gs) a = absurd a.0
@@ -122,6 +126,7 @@ after_spot (bar ∷ gs) s a quiet = quiet
 after_spot (parenthesis ∷ gs) s a quiet = quiet
 after_spot (chained ∷ gs) s a quiet = quiet
 after_spot (more_elements ∷ gs) s a quiet = quiet
+after_spot (bracket ∷ gs) s a quiet = quiet
 after_spot (more_entries true ∷ gs) s a quiet = quiet
 after_spot (more_entries false ∷ gs) s a quiet = quiet
 after_spot (_ ∷ gs) s a quiet = absurd a.0
@@ -151,6 +156,9 @@ afters_step (parenthesis ∷ gs) a k s = tt
 afters_step (more_elements ∷ gs) a (kinds.Mark points.Comma) s = record { shape = a.1; opened_is = refl; spot_is = refl }
 afters_step (more_elements ∷ gs) a (kinds.Mark points.CloseBracket) s = after_fit gs spots.Other a.1 quiet_other
 afters_step (more_elements ∷ gs) a k s = tt
+afters_step (bracket ∷ gs) a (kinds.Mark points.Comma) s = record { shape = a.1; opened_is = refl; spot_is = quiet_other }
+afters_step (bracket ∷ gs) a (kinds.Mark points.CloseBracket) s = after_fit gs spots.Other a.1 quiet_other
+afters_step (bracket ∷ gs) a k s = tt
 afters_step (more_entries true ∷ gs) a (kinds.Mark points.Comma) s = record { shape = a.0; opened_is = refl; spot_is = top_comma gs a.0 }
 afters_step (more_entries true ∷ gs) a k s = tt
 afters_step (more_entries false ∷ gs) a (kinds.Mark points.Comma) s = record { shape = a.1; opened_is = refl; spot_is = refl }
@@ -306,10 +314,10 @@ parenthesis_end_fit : (gs : Stack) → Afters gs → (inside : Option Inside) (s
 parenthesis_end_fit gs a inside s (kinds.Mark points.CloseParenthesis) = after_fit gs spots.Other a quiet_other
 parenthesis_end_fit gs a inside s _ = tt
 
-bracket_fit : (gs : Stack) → Afters gs → (s : Spot) (k : TokenKind) → FitStep (step (bracket ∷ gs) k) (open_after (insides.Rest ∷ opened_of gs) k) (spot_after (Some insides.Rest) s k)
-bracket_fit gs a s (kinds.Mark points.Comma) = record { shape = a; opened_is = refl; spot_is = quiet_other }
-bracket_fit gs a s (kinds.Mark points.CloseBracket) = after_fit gs spots.Other a quiet_other
-bracket_fit gs a s _ = tt
+dots_fit : (gs : Stack) → Afters gs → (s : Spot) → (s ≡ spots.CloseName → ⊥) → (k : TokenKind) → FitStep (step (dots ∷ gs) k) (open_after (insides.Rest ∷ opened_of gs) k) (spot_after (Some insides.Rest) s k)
+dots_fit gs a s other (kinds.Mark points.Comma) = record { shape = a; opened_is = refl; spot_is = quiet_other }
+dots_fit gs a s other (kinds.Mark points.CloseBracket) = after_fit gs spots.Other a quiet_other
+dots_fit gs a s other k = expression_fit (bracket ∷ gs) (tt, a) (Some insides.Rest) s other k
 
 bracket_end_fit : (gs : Stack) → Afters gs → (s : Spot) (k : TokenKind) → FitStep (step (bracket_end ∷ gs) k) (open_after (insides.Rest ∷ opened_of gs) k) (spot_after (Some insides.Rest) s k)
 bracket_end_fit gs a s (kinds.Mark points.CloseBracket) = after_fit gs spots.Other a quiet_other
@@ -317,7 +325,7 @@ bracket_end_fit gs a s _ = tt
 
 elements_fit : (gs : Stack) → Afters gs → (s : Spot) → (s ≡ spots.CloseName → ⊥) → (k : TokenKind) → FitStep (step (elements ∷ gs) k) (open_after (insides.List ∷ opened_of gs) k) (spot_after (Some insides.List) s k)
 elements_fit gs a s other (kinds.Mark points.CloseBracket) = after_fit gs spots.Other a quiet_other
-elements_fit gs a s other (kinds.Mark points.Ellipsis) = record { shape = a; opened_is = refl; spot_is = (λ x. x, λ x. x) }
+elements_fit gs a s other (kinds.Mark points.Ellipsis) = record { shape = a; opened_is = refl; spot_is = refl }
 elements_fit gs a s other k = expression_fit (more_elements ∷ gs) (tt, a) (Some insides.List) s other k
 
 value_other : (s : Spot) → s ≡ spots.Value → s ≡ spots.CloseName → ⊥
@@ -362,7 +370,8 @@ step_fit (parenthesis ∷ gs) s shape spot k = afters_step (parenthesis ∷ gs) 
 step_fit (parenthesis_end ∷ gs) s shape spot k = parenthesis_end_fit gs shape (Some insides.Parenthesis) s k
 step_fit (elements ∷ gs) s shape spot k = elements_fit gs shape s (operand_other s spot) k
 step_fit (more_elements ∷ gs) s shape spot k = afters_step (more_elements ∷ gs) (tt, shape) k s
-step_fit (bracket ∷ gs) s shape spot k = bracket_fit gs shape s k
+step_fit (dots ∷ gs) s shape spot k = dots_fit gs shape s (operand_other s spot) k
+step_fit (bracket ∷ gs) s shape spot k = afters_step (bracket ∷ gs) (tt, shape) k s
 step_fit (bracket_end ∷ gs) s shape spot k = bracket_end_fit gs shape s k
 
 pub next_fit : (goals next : Stack) (s : Spot) (k : TokenKind) → Shape goals → SpotTop goals s → step goals k ≡ Some next → Fit next (open_after (opened_of goals) k) (spot_after (innermost (opened_of goals)) s k)

@@ -1,10 +1,10 @@
 -- Trees and the same trees without their places follow the grammar alike.
 use Rattle.std.proofs.Common.{◌≡◌, ◌∙◌, ◌↔◌, ap, refl, ◌+◌, max, Bool, true, false, Option, Some, None, length, arith}
 use Rattle.cue_syntax.specs.declared.tree.Package.{Package}
-use Rattle.cue_syntax.specs.Syntax.{Expression, name, integer, text, bottom, bound, other_integer, other_text, parenthesis, struct, close, list, conjunction, disjunction, Elements, no_elements, element, Branch, branch, Branches, no_branches, next_branch, Entry, ellipsis, field, definition, Entries, no_entries, entry, Rest, no_rest, any_rest}
-use Rattle.cue_syntax.specs.Words.{HasWords, HaveWords, HasWordsBranch, HaveWordsBranches, HasWordsEntry, HaveWordsEntries}
-use Rattle.cue_syntax.specs.Grammar.{IsUnary, IsConjunct, IsNested, AreUnary, AreNested, TwoElements, TwoBranches, IsTerm, EndsEntries, EndsElements, IsRight, AreRight, IsRightBranch, AreRightBranches, IsRightEntry, AreRightEntries, IsRightPackage, levels, levels_of_elements, levels_of_branch, levels_of_branches, levels_of_entry, levels_of_entries}
-use Rattle.cue_syntax.specs.Unplaced.{unplaced, unplaced_elements, unplaced_branch, unplaced_branches, unplaced_entry, unplaced_entries}
+use Rattle.cue_syntax.specs.Syntax.{Expression, name, integer, text, bottom, bound, other_integer, other_text, parenthesis, struct, close, list, conjunction, disjunction, Elements, no_elements, element, Branch, branch, Branches, no_branches, next_branch, Entry, ellipsis, field, definition, Entries, no_entries, entry, Rest, no_rest, any_rest, each_rest}
+use Rattle.cue_syntax.specs.Words.{HasWords, HaveWords, HasWordsRest, HasWordsBranch, HaveWordsBranches, HasWordsEntry, HaveWordsEntries}
+use Rattle.cue_syntax.specs.Grammar.{IsUnary, IsConjunct, IsNested, AreUnary, AreNested, TwoElements, TwoBranches, IsTerm, EndsEntries, EndsElements, IsRight, AreRight, IsRightRest, IsRightBranch, AreRightBranches, IsRightEntry, AreRightEntries, IsRightPackage, levels, levels_of_elements, levels_of_rest, levels_of_branch, levels_of_branches, levels_of_entry, levels_of_entries}
+use Rattle.cue_syntax.specs.Unplaced.{unplaced, unplaced_elements, unplaced_rest, unplaced_branch, unplaced_branches, unplaced_entry, unplaced_entries}
 use Rattle.syntax_laws.specs.Places.{KeepsForm, KeepsLevels}
 
 same : {A : Type 0} → A ↔ A
@@ -73,11 +73,13 @@ ends_same true (entry e es) = same
 ends_same false no_entries = same
 ends_same false (entry e es) = same
 
-ends_elements_same : (comma : Bool) (rest : Rest) (es : Elements) → EndsElements comma rest es ↔ EndsElements comma rest (unplaced_elements es)
+ends_elements_same : (comma : Bool) (rest : Rest) (es : Elements) → EndsElements comma rest es ↔ EndsElements comma (unplaced_rest rest) (unplaced_elements es)
 ends_elements_same true any_rest no_elements = same
+ends_elements_same true (each_rest d) no_elements = same
 ends_elements_same true no_rest no_elements = same
 ends_elements_same false rest no_elements = same
 ends_elements_same true any_rest (element e es) = same
+ends_elements_same true (each_rest d) (element e es) = same
 ends_elements_same true no_rest (element e es) = same
 ends_elements_same false rest (element e es) = same
 
@@ -93,13 +95,18 @@ mutual
   right_same (parenthesis e comma) = right_same e
   right_same (struct es comma) = (λ r. ((right_entries_same es).0 r.0, (nested_same es).0 r.1, (ends_same comma es).0 r.2), λ r. ((right_entries_same es).1 r.0, (nested_same es).1 r.1, (ends_same comma es).1 r.2))
   right_same (close from es inner comma) = (λ r. ((right_entries_same es).0 r.0, (nested_same es).0 r.1, (ends_same inner es).0 r.2), λ r. ((right_entries_same es).1 r.0, (nested_same es).1 r.1, (ends_same inner es).1 r.2))
-  right_same (list es rest comma) = (λ r. ((all_right_same es).0 r.0, (ends_elements_same comma rest es).0 r.1), λ r. ((all_right_same es).1 r.0, (ends_elements_same comma rest es).1 r.1))
+  right_same (list es rest comma) = (λ r. ((all_right_same es).0 r.0, (right_rest_same rest).0 r.1, (ends_elements_same comma rest es).0 r.2), λ r. ((all_right_same es).1 r.0, (right_rest_same rest).1 r.1, (ends_elements_same comma rest es).1 r.2))
   right_same (conjunction es) = (λ r. ((all_right_same es).0 r.0, (all_unary_same es).0 r.1, (two_elements_same es).0 r.2), λ r. ((all_right_same es).1 r.0, (all_unary_same es).1 r.1, (two_elements_same es).1 r.2))
   right_same (disjunction bs) = (λ r. ((right_branches_same bs).0 r.0, (two_branches_same bs).0 r.1), λ r. ((right_branches_same bs).1 r.0, (two_branches_same bs).1 r.1))
 
   all_right_same : (es : Elements) → AreRight es ↔ AreRight (unplaced_elements es)
   all_right_same no_elements = same
   all_right_same (element e es) = (λ r. ((right_same e).0 r.0, (all_right_same es).0 r.1), λ r. ((right_same e).1 r.0, (all_right_same es).1 r.1))
+
+  right_rest_same : (rest : Rest) → IsRightRest rest ↔ IsRightRest (unplaced_rest rest)
+  right_rest_same no_rest = same
+  right_rest_same any_rest = same
+  right_rest_same (each_rest e) = right_same e
 
   right_branch_same : (b : Branch) → IsRightBranch b ↔ IsRightBranch (unplaced_branch b)
   right_branch_same (branch marked from e) = (λ r. ((right_same e).0 r.0, (term_same marked e).0 r.1), λ r. ((right_same e).1 r.0, (term_same marked e).1 r.1))
@@ -129,13 +136,18 @@ mutual
   words_same (parenthesis e comma) = words_same e
   words_same (struct es comma) = words_entries_same es
   words_same (close from es inner comma) = words_entries_same es
-  words_same (list es rest comma) = words_elements_same es
+  words_same (list es rest comma) = (λ r. ((words_elements_same es).0 r.0, (words_rest_same rest).0 r.1), λ r. ((words_elements_same es).1 r.0, (words_rest_same rest).1 r.1))
   words_same (conjunction es) = words_elements_same es
   words_same (disjunction bs) = words_branches_same bs
 
   words_elements_same : (es : Elements) → HaveWords es ↔ HaveWords (unplaced_elements es)
   words_elements_same no_elements = same
   words_elements_same (element e es) = (λ r. ((words_same e).0 r.0, (words_elements_same es).0 r.1), λ r. ((words_same e).1 r.0, (words_elements_same es).1 r.1))
+
+  words_rest_same : (rest : Rest) → HasWordsRest rest ↔ HasWordsRest (unplaced_rest rest)
+  words_rest_same no_rest = same
+  words_rest_same any_rest = same
+  words_rest_same (each_rest e) = words_same e
 
   words_branch_same : (b : Branch) → HasWordsBranch b ↔ HasWordsBranch (unplaced_branch b)
   words_branch_same (branch marked from e) = words_same e
@@ -165,13 +177,19 @@ mutual
   levels_same (parenthesis e comma) = ap (λ n. 1 + n) (levels_same e)
   levels_same (struct es comma) = ap (λ n. 1 + n) (levels_entries_same es)
   levels_same (close from es inner comma) = ap (λ n. 2 + n) (levels_entries_same es)
-  levels_same (list es rest comma) = ap (λ n. 1 + n) (levels_elements_same es)
+  levels_same (list es rest comma) =
+      ap (λ n. 1 + max n (levels_of_rest (unplaced_rest rest))) (levels_elements_same es) ∙ ap (λ n. 1 + max (levels_of_elements es) n) (levels_rest_same rest)
   levels_same (conjunction es) = levels_elements_same es
   levels_same (disjunction bs) = levels_branches_same bs
 
   levels_elements_same : (es : Elements) → levels_of_elements (unplaced_elements es) ≡ levels_of_elements es
   levels_elements_same no_elements = refl
   levels_elements_same (element e es) = ap (λ n. max n (levels_of_elements (unplaced_elements es))) (levels_same e) ∙ ap (max (levels e)) (levels_elements_same es)
+
+  levels_rest_same : (rest : Rest) → levels_of_rest (unplaced_rest rest) ≡ levels_of_rest rest
+  levels_rest_same no_rest = refl
+  levels_rest_same any_rest = refl
+  levels_rest_same (each_rest e) = levels_same e
 
   levels_branch_same : (b : Branch) → levels_of_branch (unplaced_branch b) ≡ levels_of_branch b
   levels_branch_same (branch marked from e) = levels_same e

@@ -1,6 +1,6 @@
 //! Sizes, depths and paths at their limits, and what a legal text keeps.
 use crate::resolving::{after, chain, each_sized, refused_made, size, sized_made};
-use crate::texts::{Made, long};
+use crate::texts::{Made, followed, long, repeated};
 use cue_lattice::{Kind, Refusal};
 use cue_lex::{Token, lex};
 use cue_scope::{Resolved, resolve};
@@ -23,6 +23,11 @@ fn sizes(rt: HostRuntime) {
             ("...", 1),
             ("a: {...}", 4),
             ("a: [1, ...]", 5),
+            ("a: [...int]", 5),
+            ("a: [1, ...int]", 6),
+            ("a: [..._]", 5),
+            ("a: [...[...int]]", 7),
+            ("#A: {b: 1}\nx: [#A, ...#A]", 12),
             ("a: close({b: 1})", 6),
             ("a: *1 | >2", 5),
             ("a: b: c: 1", 7),
@@ -72,8 +77,39 @@ fn steps_as_they_are_written(rt: HostRuntime) -> Result<(), Fail> {
     assert!(rt; longest(alloc, ("a?: ", "_"), 64, 129)?);
     assert!(rt; longest(alloc, ("a!: ", "_"), 64, 129)?);
     assert!(rt; longest(alloc, ("a: ", "[_]"), 63, 128)?);
+    assert!(rt; longest(alloc, ("a: ", "[..._]"), 63, 129)?);
+    assert!(rt; longest(alloc, ("a: ", "[_, ...{b?: _}]"), 62, 130)?);
     assert!(rt; longest(alloc, ("a: ", "#A\n#A: close({b?: _})"), 63, 131)?);
     assert!(rt; longest(alloc, ("a: ", "#A\n#A: b?: _"), 63, 130)?);
+    Ok(())
+}
+
+/// `a: [...[...1]]` and so on, with so many lists.
+fn rests(alloc: Global, count: usize) -> Made<String> {
+    let open = long(alloc, "a: ", "[...", count, "1");
+    followed(open, repeated(alloc, "]", count))
+}
+
+/// What each further element of a list is stands one step down, and its size counts. A plain `...`
+/// is no step.
+#[test]
+fn rests_at_their_limits(rt: HostRuntime) -> Result<(), Fail> {
+    let alloc = rt.alloc();
+    sized_made(&rt, long(alloc, "", "a: ", 64, "[...]"), 130)?;
+    sized_made(&rt, rests(alloc, 63), 129)?;
+    refused_made(&rt, rests(alloc, 64), Kind::TooDeep)?;
+    sized_made(&rt, chain(alloc, 13, true, "x: [...#A13]\n"), 65_536)?;
+    refused_made(
+        &rt,
+        chain(alloc, 13, true, "x: [1, ...#A13]\n"),
+        Kind::TooLarge,
+    )?;
+    sized_made(&rt, chain(alloc, 61, false, "x: [...#A61]\n"), 191)?;
+    refused_made(
+        &rt,
+        chain(alloc, 62, false, "x: [...#A62]\n"),
+        Kind::TooDeep,
+    )?;
     Ok(())
 }
 

@@ -20,6 +20,9 @@ fn names_without_a_meaning(rt: HostRuntime) {
             ("a: {b: 1}, c: b", 14),
             ("a: \"b\": b", 8),
             ("a: uint64", 3),
+            ("a: [...foo]", 7),
+            ("a: [1, ...#X]", 10),
+            ("a: [x, ...y]", 4),
         ],
     );
 }
@@ -40,6 +43,8 @@ fn names_of_labels_around(rt: HostRuntime) {
             ("a: {b: [1 & (a)]}", 13),
             ("#A: b: c: b", 10),
             ("a: b: {c: 1, d: b}", 16),
+            ("a: {b: 1, c: [...b]}", 17),
+            ("close: 1\na: [...close({})]", 16),
         ],
     );
 }
@@ -58,6 +63,7 @@ fn names_that_stand(rt: HostRuntime) {
             ("#A: 1\n\"#A\": #A", 4),
             ("x: #A\n#A: 1", 4),
             ("#A: #B\n#B: #C\n#C: 1\nx: #A", 6),
+            ("x: [...#A]\n#A: 1", 6),
         ],
     );
 }
@@ -89,6 +95,8 @@ fn definitions_that_reach_themselves(rt: HostRuntime) {
             ("#A: #B\n#B: #B", 7),
             ("#A: #A", 0),
             ("#A: #A | {a: 1}", 0),
+            ("#A: [...#A]", 0),
+            ("#C: 1\n#A: [1, ...{x: #B}]\n#B: #A & #C", 6),
             ("#C: 1\n#A: #B\n#B: {x: [#D]}\n#D: #B & #C", 13),
         ],
     );
@@ -111,6 +119,9 @@ fn terms_that_are_not_scalar(rt: HostRuntime) {
             ("a: 1 | []", 7),
             ("#A: 1 | _\na: 1 | {}", 8),
             ("a: {b: [1 | (2 & {})]}", 12),
+            ("a: [...1 | {}]", 11),
+            ("a: [1 | {}, ...2 | []]", 8),
+            ("a: 1 | [...int]", 7),
         ],
     );
     sized(&rt, alloc, "#A: 1 | 2\na: #A | 3", 8);

@@ -293,12 +293,6 @@ fn forms_that_are_left_out(rt: HostRuntime) {
     each_left_out(
         &rt,
         alloc,
-        Form::TypedRest,
-        &[("l: [...int]", 7), ("l: [1, ...int]", 10)],
-    );
-    each_left_out(
-        &rt,
-        alloc,
         Form::Bound,
         &[
             ("a: <int", 4),
@@ -330,6 +324,86 @@ fn forms_that_are_left_out(rt: HostRuntime) {
             ("a: close((1))", 9),
         ],
     );
+}
+
+#[test]
+fn rests(rt: HostRuntime) {
+    let alloc = rt.alloc();
+    each_accepted(
+        &rt,
+        alloc,
+        &[
+            "l: [...int]",
+            "l: [1, ...int]",
+            "l: [1, 2, ...int & <5 | \"x\"]",
+            "l: [...[...int]]",
+            "l: [[...int], ...[1, ...]]",
+            "l: [..._|_]",
+            "l: [...{a: 1}]",
+            "l: [...close({a: 1})]",
+            "l: [...*1 | -2]",
+        ],
+    );
+    each_accepted(
+        &rt,
+        alloc,
+        &[
+            "l: [...int,]",
+            "l: [1, ...int,]",
+            "l: [...int\n]",
+            "l: [\n\t1,\n\t...int,\n]",
+            "l: [1\n...int]",
+            "l: [... // each\n]",
+            "a: b: [...{c: 1}]",
+        ],
+    );
+}
+
+#[test]
+fn rests_that_are_refused(rt: HostRuntime) {
+    let alloc = rt.alloc();
+    each_unspelled(
+        &rt,
+        alloc,
+        &[
+            ("l: [..., 1]", 9),
+            ("l: [...int, 1]", 12),
+            ("l: [...int...]", 10),
+            ("l: [...int, ...]", 12),
+            ("l: [...\nint]", 8),
+            ("l: [...int,,]", 11),
+            ("l: [...int 1]", 11),
+        ],
+    );
+    each_unspelled(
+        &rt,
+        alloc,
+        &[
+            ("l: [...int", 10),
+            ("l: [...", 7),
+            ("l: [......]", 7),
+            ("l: [...*1]", 9),
+            ("l: [...for]", 7),
+            ("l: [...x: 1]", 8),
+        ],
+    );
+    each_left_out(&rt, alloc, Form::Call, &[("l: [...len(1)]", 7)]);
+    each_left_out(&rt, alloc, Form::Bound, &[("l: [1, ...<int]", 11)]);
+    let inner = &[("l: [...{...int}]", 11)];
+    each_left_out(&rt, alloc, Form::TypedEllipsis, inner);
+}
+
+/// Rests of lists in each other, as many, and an element in the innermost one.
+fn in_rests(alloc: Global, count: usize) -> Made<String> {
+    let opened = long(alloc, "l: ", "[...", count, "1");
+    followed(opened, repeated(alloc, "]", count))
+}
+
+#[test]
+fn levels_of_rests(rt: HostRuntime) -> Result<(), Fail> {
+    let alloc = rt.alloc();
+    accepted_made(&rt, in_rests(alloc, 64))?;
+    refused_made(&rt, in_rests(alloc, 65), Kind::Nesting, 3 + 64 * 4)
 }
 
 /// A value in so many parentheses.
@@ -424,6 +498,19 @@ fn what_a_tree_keeps(rt: HostRuntime) -> Result<(), Fail> {
             "Name { name: Plain(\"x\"), from: 9 }, ",
             "Integer(Signed { sign: Minus, magnitude: 2 })]) }",
             "]) }] true"
+        ),
+    )
+}
+
+#[test]
+fn what_a_tree_keeps_of_a_rest(rt: HostRuntime) -> Result<(), Fail> {
+    assert_tree(
+        &rt,
+        "l: [1, ...int,]",
+        concat!(
+            "[Field { label: Label { name: Plain(\"l\"), mark: Regular }, chain: [], ",
+            "value: List { elements: [Integer(Signed { sign: Absent, magnitude: 1 })], ",
+            "rest: Each(Name { name: Plain(\"int\"), from: 10 }), comma: true } }] false"
         ),
     )
 }

@@ -1,26 +1,25 @@
-use Rattle.std.proofs.Common.{◌≡◌, ◌∙◌, ◌+◌, ◌++◌, [], ◌∷◌, List, sym, subst, ap, refl, inl, inr, ◌⊎◌, true, false, length, arith, rules}
+use Rattle.std.proofs.Common.{◌≡◌, ◌∙◌, ◌++◌, [], ◌∷◌, List, sym, subst, ap, refl, inl, inr, ◌⊎◌, true, false, length, arith, rules}
 use Rattle.std.proofs.lemmas.List.{nil_from_length}
 use Rattle.cue_lex.specs.declared.token.TokenKind.TheVariants as kinds
 use Rattle.cue_lex.specs.declared.punctuation.Punctuation.TheVariants as points
 use Rattle.cue_syntax.specs.declared.tree.Expr.{Expr}
 use Rattle.cue_syntax.specs.declared.tree.Rest.TheVariants as rests
 use Rattle.cue_syntax.specs.declared.tree.Term.{Term}
-use Rattle.cue_syntax.specs.Syntax.{no_elements, parenthesis, struct, close, conjunction, disjunction, elements, branches, entries, expression}
+use Rattle.cue_syntax.specs.Syntax.{no_elements, parenthesis, struct, close, list, conjunction, disjunction, elements, branches, entries, expression, rest_tree}
 use Rattle.cue_syntax.specs.Grammar.{IsExpression, IsEntry, AreElements, AreEntries, AreNested}
 use Rattle.cue_syntax.proofs.ReadingsJoin.{reads_one_at}
 use Rattle.cue_syntax.proofs.RowsGrow.{nested_pushed}
-use Rattle.cue_syntax.proofs.Views.{view-Parenthesis, view-Struct, view-Close, view-Conjunction, view-Disjunction, view-Field, view-Definition, view-List}
+use Rattle.cue_syntax.proofs.Views.{view-Parenthesis, view-Struct, view-Close, view-Conjunction, view-Disjunction, view-Field, view-Definition, view-List, view-Ends}
 use Rattle.cue_syntax.proofs.PartsMakeTrees.{AreTerms, AreParts, Between, terms_first, terms_next, terms_more, between_pushed, disjunction_is, parts_first, parts_next, parts_more, conjunction_is, elements_next, entries_next, braced_is, struct_is, close_is, parenthesis_is, list_is, open_list_is, field_is, definition_is}
 use Rattle.cue_syntax.specs.Viability.{StandsSign, BeginsLabel, behind_begun}
 use Rattle.cue_syntax.specs.Begun.{BeginsEntry}
-use Rattle.cue_syntax.specs.Stops.{memory}
 use Rattle.cue_syntax.proofs.TextsBeginSo.{begun, begins_always, no_memory, read_stands}
 use Rattle.cue_syntax.specs.Recogniser as goals
-use Rattle.cue_syntax.proofs.MovesAndStops.{moves_then, refused_behind, refused_end, if_ok, stopped, stops_here, stops_there}
+use Rattle.cue_syntax.proofs.MovesAndStops.{moves_then, moves_more, refused_behind, refused_end, if_ok, stopped, stops_here, stops_there}
 use Rattle.cue_syntax.proofs.RefusalsPassOn.{passed_on, passed_on_each, memory_passed_on}
 use Rattle.cue_syntax.proofs.MovesOverLabels.{misses_entry}
 use Rattle.cue_syntax.proofs.MovesOverOperands.{no_room, inner_comma, inner_closes, inner_halts, parenthesis_opens, parenthesis_refused, struct_moves, struct_refused, call_opens, call_paren, call_no_room, closed_halts, brace_no_room, close_moves, close_refused, unmarked_moves, marked_moves, parts_end, parts_go, part_moves, part_refused, terms_end, terms_go, term_moves, term_refused, first_moves, first_go, first_end, first_halts, first_refused}
-use Rattle.cue_syntax.proofs.MovesOverRows.{ellipsis_comma, ellipsis_closes, ellipsis_halts, list_opens, list_refused, row_ends, element_moves, element_refused, element_next, row_closes, row_halts, open_ellipsis, entry_next, braces_close, braces_halt, entry_ellipsis, chain_value, chain_value_refused, field_moves, field_refused, definition_moves, definition_refused, no_entry_refused}
+use Rattle.cue_syntax.proofs.MovesOverRows.{ellipsis_comma, ellipsis_closes, ellipsis_halts, list_opens, refused_inside, list_refused, dots_refused, row_ends, element_moves, element_refused, element_next, row_closes, row_halts, open_ellipsis, entry_next, braces_close, braces_halt, entry_ellipsis, chain_value, chain_value_refused, field_moves, field_refused, definition_moves, definition_refused, no_entry_refused}
 use Rattle.cue_syntax.proofs.expression.+parser.Goals as goal
 use Rattle.cue_syntax.proofs.expression.+parser.Goals.{list-then-row-via-then-row, list-then-row-via-else-row+then-is_empty, list-then-row+in_default, list-else-row+else-is_empty}
 
@@ -200,14 +199,20 @@ list-returns-in-Some-clause-spelled t c =
           inr (ap elements (nil_from_length items.items zero))
     ] in
     subst (λ e. IsExpression c.args.room c.args.cursor.rest.now e c.in_ok-rest.rest.rest.now)
-    (sym (view-List items rests.GoesOn c.trailing_comma-comma.result.0))
-    (open_list_is c.in_ok-inside.ensures.left c.in_ok-open.ensures.reads c.in_ok-row.ensures.spelled which c.in-Some.ensures.reads c.trailing_comma-comma.ensures.reads c.in_ok-rest.ensures.reads)
+    (sym (view-List items c.in_ok-further.further c.trailing_comma-comma.result.0))
+    (open_list_is (rest_tree c.in_ok-further.further) c.in_ok-inside.ensures.left c.in_ok-open.ensures.reads c.in_ok-row.ensures.spelled which c.in-Some.ensures.reads c.in_ok-further.ensures.spelled c.trailing_comma-comma.ensures.reads c.in_ok-rest.ensures.reads)
 
 pub list-returns-clause-spelled : goal.list-returns-clause-spelled
 list-returns-clause-spelled t c =
     subst (λ e. IsExpression c.args.room c.args.cursor.rest.now e c.in_ok-rest-2.rest.rest.now)
-    (sym (view-List c.in_ok-row.row.items rests.Ends c.in_ok-row.row.comma))
+    (sym (view-List c.in_ok-row.row.items rests.Ends c.in_ok-row.row.comma ∙ ap (λ z. list (elements c.in_ok-row.row.items.items) z c.in_ok-row.row.comma) view-Ends))
     (list_is c.in_ok-inside.ensures.left c.in_ok-open.ensures.reads c.in_ok-row.ensures.spelled c.in_ok-rest-2.ensures.reads)
+
+pub further-returns-in_err-each-clause-refused : goal.further-returns-in_err-each-clause-refused
+further-returns-in_err-each-clause-refused t c =
+    let comma : ¬ StandsSign (kinds.Mark points.Comma) c.args.cursor.rest.now = search rules in
+    let close : ¬ StandsSign (kinds.Mark points.CloseBracket) c.args.cursor.rest.now = search rules in
+    passed_on c.from_residual.result c.from_residual.ensures.1 (dots_refused comma close c.in_err-each.ensures.refused)
 
 pub conjunction-returns-in_err-first-clause-refused : goal.conjunction-returns-in_err-first-clause-refused
 conjunction-returns-in_err-first-clause-refused t c = passed_on c.from_residual.result c.from_residual.ensures.1 (part_refused c.in_err-first.ensures.refused)
@@ -345,8 +350,22 @@ list-returns-in_err-rest-clause-refused t c =
           inr (nil_from_length items.items zero)
     ] in
     passed_on c.from_residual-in_err-rest.result c.from_residual-in_err-rest.ensures.1
-    (refused_behind (moves_then (moves_then (list_opens c.in_ok-inside.inside c.in_ok-inside.ensures.left c.in_ok-open.ensures.reads c.in_ok-row.ensures.moves) (open_ellipsis c.in_ok-row.row.comma items.items (omega (arith, c.in_ok-inside.ensures.left)) which c.in-Some.ensures.reads)) (ellipsis_comma c.trailing_comma-comma.result.0 (omega (arith, c.in_ok-inside.ensures.left)) c.trailing_comma-comma.ensures.reads)) (refused_end (c.trailing_comma-comma.ensures.onward.end ∙ c.in-Some.ensures.further.end ∙ c.in_ok-row.ensures.onward.end ∙ c.in_ok-open.ensures.further.end)
+    (refused_behind (moves_then (moves_then (list_opens c.in_ok-inside.inside c.in_ok-inside.ensures.left c.in_ok-open.ensures.reads c.in_ok-row.ensures.moves) (moves_then (open_ellipsis c.in_ok-row.row.comma items.items (omega (arith, c.in_ok-inside.ensures.left)) which c.in-Some.ensures.reads) (moves_more (omega (arith, c.in_ok-inside.ensures.left)) c.in_ok-further.ensures.moves))) (ellipsis_comma c.trailing_comma-comma.result.0 (omega (arith, c.in_ok-inside.ensures.left)) c.trailing_comma-comma.ensures.reads)) (refused_end (c.trailing_comma-comma.ensures.onward.end ∙ c.in_ok-further.ensures.onward.end ∙ c.in-Some.ensures.further.end ∙ c.in_ok-row.ensures.onward.end ∙ c.in_ok-open.ensures.further.end)
     (stopped (stops_here c.in_err-rest.ensures.refused (ellipsis_halts c.trailing_comma-comma.result.0 c.trailing_comma-comma.ensures.reads c.trailing_comma-comma.ensures.missing c.in_err-rest.ensures.missing)))))
+
+pub list-returns-in_err-further-clause-refused : goal.list-returns-in_err-further-clause-refused
+list-returns-in_err-further-clause-refused t c =
+    let items = c.in_ok-row.row.items in
+    let which : (c.in_ok-row.row.comma ≡ true) ⊎ (items.items ≡ []) =
+    elim c.then-row.branch [
+      | list-then-row-via-then-row w ↦ inl w.if-row.true
+      | list-then-row-via-else-row+then-is_empty w ↦
+          let zero : length items.items ≡ 0 = grind (arith, items.ok.0) in
+          inr (nil_from_length items.items zero)
+    ] in
+    passed_on c.from_residual-in_err-further.result c.from_residual-in_err-further.ensures.1
+    (refused_behind (moves_then (list_opens c.in_ok-inside.inside c.in_ok-inside.ensures.left c.in_ok-open.ensures.reads c.in_ok-row.ensures.moves) (open_ellipsis c.in_ok-row.row.comma items.items (omega (arith, c.in_ok-inside.ensures.left)) which c.in-Some.ensures.reads))
+    (refused_end (c.in-Some.ensures.further.end ∙ c.in_ok-row.ensures.onward.end ∙ c.in_ok-open.ensures.further.end) (refused_inside c.in_ok-inside.inside c.in_ok-inside.ensures.left c.in_err-further.ensures.refused)))
 
 pub list-returns-in-Some-clause-moves : goal.list-returns-in-Some-clause-moves
 list-returns-in-Some-clause-moves t c =
@@ -358,7 +377,7 @@ list-returns-in-Some-clause-moves t c =
           let zero : length items.items ≡ 0 = grind (arith, items.ok.0) in
           inr (nil_from_length items.items zero)
     ] in
-    moves_then (moves_then (moves_then (list_opens c.in_ok-inside.inside c.in_ok-inside.ensures.left c.in_ok-open.ensures.reads c.in_ok-row.ensures.moves) (open_ellipsis c.in_ok-row.row.comma items.items (omega (arith, c.in_ok-inside.ensures.left)) which c.in-Some.ensures.reads)) (ellipsis_comma c.trailing_comma-comma.result.0 (omega (arith, c.in_ok-inside.ensures.left)) c.trailing_comma-comma.ensures.reads)) (ellipsis_closes c.trailing_comma-comma.result.0 c.in_ok-rest.ensures.reads)
+    moves_then (moves_then (moves_then (list_opens c.in_ok-inside.inside c.in_ok-inside.ensures.left c.in_ok-open.ensures.reads c.in_ok-row.ensures.moves) (moves_then (open_ellipsis c.in_ok-row.row.comma items.items (omega (arith, c.in_ok-inside.ensures.left)) which c.in-Some.ensures.reads) (moves_more (omega (arith, c.in_ok-inside.ensures.left)) c.in_ok-further.ensures.moves))) (ellipsis_comma c.trailing_comma-comma.result.0 (omega (arith, c.in_ok-inside.ensures.left)) c.trailing_comma-comma.ensures.reads)) (ellipsis_closes c.trailing_comma-comma.result.0 c.in_ok-rest.ensures.reads)
 
 pub list-returns-in_err-rest-2-clause-refused : goal.list-returns-in_err-rest-2-clause-refused
 list-returns-in_err-rest-2-clause-refused t c =

@@ -23,6 +23,9 @@ decreases-declaration l = rank l.room 7
 abbrev pub decreases-list : goal.decreases-list
 decreases-list l = rank l.room 0
 
+abbrev pub decreases-further : goal.decreases-further
+decreases-further l = rank l.room 6
+
 abbrev pub decreases-elements : goal.decreases-elements
 decreases-elements l = rank l.room 6
 
