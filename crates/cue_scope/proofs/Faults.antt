@@ -12,7 +12,7 @@ use Rattle.cue_syntax.specs.Syntax.{Expression, Elements, no_elements, element, 
 use Rattle.cue_scope.specs.Definitions.{Definition, definitions, number_of}
 use Rattle.cue_scope.specs.First.{IsFirst}
 use Rattle.cue_scope.specs.Named.{named_of, is_literal}
-use Rattle.cue_scope.specs.Names.{Scope, refuse, inside, behind, fault_of, fault_of_close, faults, faults_of_elements, faults_of_branches, faults_of_entries, name_faults}
+use Rattle.cue_scope.specs.Names.{Scope, refuse, inside, behind, fault_of, fault_of_close, faults, faults_of_elements, faults_of_rest, faults_of_branches, faults_of_entries, name_faults}
 use Rattle.cue_scope.specs.Refusing.{IsUnrepeated, RefusesAs, Refuses}
 
 IsOfNames : Kind → Type 0
@@ -59,13 +59,18 @@ mutual
   of_expression ds scope (tree.struct es comma) = of_entries ds (inside es scope) es
   of_expression ds scope (tree.close place es inner comma) =
       of_names (fault_of_close scope place) (faults_of_entries ds (inside es scope) es) (either (scope (codes "close")) (refuse kinds.FieldReference place) [] (reference place) tt) (of_entries ds (inside es scope) es)
-  of_expression ds scope (tree.list es goes_on comma) = of_elements ds scope es
+  of_expression ds scope (tree.list es rest comma) = of_names (faults_of_elements ds scope es) (faults_of_rest ds scope rest) (of_elements ds scope es) (of_rest ds scope rest)
   of_expression ds scope (tree.conjunction es) = of_elements ds scope es
   of_expression ds scope (tree.disjunction bs) = of_branches ds scope bs
 
   of_elements : (ds : List Definition) (scope : Scope) (es : Elements) → AreOfNames (faults_of_elements ds scope es)
   of_elements ds scope no_elements = tt
   of_elements ds scope (element e es) = of_names (faults ds scope e) (faults_of_elements ds scope es) (of_expression ds scope e) (of_elements ds scope es)
+
+  of_rest : (ds : List Definition) (scope : Scope) (rest : tree.Rest) → AreOfNames (faults_of_rest ds scope rest)
+  of_rest ds scope tree.no_rest = tt
+  of_rest ds scope tree.any_rest = tt
+  of_rest ds scope (tree.each_rest e) = of_expression ds scope e
 
   of_branches : (ds : List Definition) (scope : Scope) (bs : Branches) → AreOfNames (faults_of_branches ds scope bs)
   of_branches ds scope no_branches = tt

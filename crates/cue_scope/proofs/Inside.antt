@@ -9,7 +9,7 @@ use Rattle.cue_syntax.specs.Syntax as tree
 use Rattle.cue_syntax.specs.Syntax.{Expression, Elements, no_elements, element, branch, Branches, no_branches, next_branch, ellipsis, field, definition, Entries, no_entries, entry}
 use Rattle.cue_scope.specs.Definitions.{Definition, number_of}
 use Rattle.cue_scope.specs.Graph.{IsIn, targets, IsClosed}
-use Rattle.cue_scope.specs.Uses.{uses, uses_of_name, uses_of_elements, uses_of_branches, uses_of_entries, uses_of_fields, graph}
+use Rattle.cue_scope.specs.Uses.{uses, uses_of_name, uses_of_elements, uses_of_rest, uses_of_branches, uses_of_entries, uses_of_fields, graph}
 use Rattle.cue_scope.proofs.Nodes.{in_append}
 use Rattle.cue_scope.proofs.Meanings.{length_graph}
 
@@ -59,13 +59,18 @@ mutual
   uses_below ds (tree.parenthesis e comma) = uses_below ds e
   uses_below ds (tree.struct es comma) = entries_below ds es
   uses_below ds (tree.close place es inner comma) = entries_below ds es
-  uses_below ds (tree.list es goes_on comma) = elements_below ds es
+  uses_below ds (tree.list es rest comma) = below_append (length ds) (uses_of_elements ds es) (uses_of_rest ds rest) (elements_below ds es) (rest_below ds rest)
   uses_below ds (tree.conjunction es) = elements_below ds es
   uses_below ds (tree.disjunction bs) = branches_below ds bs
 
   elements_below : (ds : List Definition) (es : Elements) → AreBelow (length ds) (uses_of_elements ds es)
   elements_below ds no_elements = below_none (length ds)
   elements_below ds (element e es) = below_append (length ds) (uses ds e) (uses_of_elements ds es) (uses_below ds e) (elements_below ds es)
+
+  rest_below : (ds : List Definition) (rest : tree.Rest) → AreBelow (length ds) (uses_of_rest ds rest)
+  rest_below ds tree.no_rest = below_none (length ds)
+  rest_below ds tree.any_rest = below_none (length ds)
+  rest_below ds (tree.each_rest e) = uses_below ds e
 
   branches_below : (ds : List Definition) (bs : Branches) → AreBelow (length ds) (uses_of_branches ds bs)
   branches_below ds no_branches = below_none (length ds)

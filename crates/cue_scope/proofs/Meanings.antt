@@ -10,11 +10,11 @@ use Rattle.cue_syntax.specs.declared.tree.Identifier.{Identifier}
 use Rattle.cue_syntax.specs.declared.tree.Identifier.TheVariants as identifiers
 use Rattle.cue_syntax.specs.Syntax as tree
 use Rattle.cue_syntax.specs.Syntax.{Expression, Elements, no_elements, element, branch, Branches, no_branches, next_branch, ellipsis, field, definition, Entries, no_entries, entry}
-use Rattle.cue_scope.specs.Core.{Core, bottom, closed, conjunction, disjunction, struct, close, list, core, followed_by, choice, member, dots}
+use Rattle.cue_scope.specs.Core.{Core, bottom, closed, conjunction, disjunction, struct, close, list, each, core, followed_by, choice, member, dots}
 use Rattle.cue_scope.specs.Definitions.{Definition, number_of}
 use Rattle.cue_scope.specs.Graph.{IsIn, targets, PointsTo, IsOrder}
 use Rattle.cue_scope.specs.Meaning.{meant, meant_elements, meant_branches, meant_members, meant_name, meant_use, meaning_within, meaning, nested, meant_rest, text_of}
-use Rattle.cue_scope.specs.Uses.{uses, uses_of_name, uses_of_elements, uses_of_branches, uses_of_entries, graph}
+use Rattle.cue_scope.specs.Uses.{uses, uses_of_name, uses_of_elements, uses_of_rest, uses_of_branches, uses_of_entries, graph}
 use Rattle.cue_scope.proofs.Nodes.{in_append_left, in_append_right, in_index}
 
 -- two ways to look definitions up that agree on these
@@ -51,7 +51,9 @@ mutual
   alike ds f g (tree.parenthesis e comma) h = alike ds f g e h
   alike ds f g (tree.struct es comma) h = ap struct (alike_members ds f g es h)
   alike ds f g (tree.close place es inner comma) h = ap close (alike_members ds f g es h)
-  alike ds f g (tree.list es rest comma) h = ap (λ z. list (followed_by z (meant_rest rest))) (alike_elements ds f g es h)
+  alike ds f g (tree.list es rest comma) h =
+      ap (λ z. list (followed_by z (meant_rest ds f rest))) (alike_elements ds f g es (alike_left f g (uses_of_elements ds es) (uses_of_rest ds rest) h))
+      ∙ ap (λ z. list (followed_by (meant_elements ds g es) z)) (alike_rest ds f g rest (alike_right f g (uses_of_elements ds es) (uses_of_rest ds rest) h))
   alike ds f g (tree.conjunction es) h = ap conjunction (alike_elements ds f g es h)
   alike ds f g (tree.disjunction bs) h = ap disjunction (alike_branches ds f g bs h)
 
@@ -60,6 +62,11 @@ mutual
   alike_elements ds f g (element e es) h =
       ap (λ z. core z (meant_elements ds f es)) (alike ds f g e (alike_left f g (uses ds e) (uses_of_elements ds es) h))
       ∙ ap (λ z. core (meant ds g e) z) (alike_elements ds f g es (alike_right f g (uses ds e) (uses_of_elements ds es) h))
+
+  alike_rest : (ds : List Definition) (f g : ℕ → Core) (rest : tree.Rest) → IsAlike f g (uses_of_rest ds rest) → meant_rest ds f rest ≡ meant_rest ds g rest
+  alike_rest ds f g tree.no_rest h = refl
+  alike_rest ds f g tree.any_rest h = refl
+  alike_rest ds f g (tree.each_rest e) h = ap each (alike ds f g e h)
 
   alike_branches : (ds : List Definition) (f g : ℕ → Core) (bs : Branches) → IsAlike f g (uses_of_branches ds bs) → meant_branches ds f bs ≡ meant_branches ds g bs
   alike_branches ds f g no_branches h = refl

@@ -15,12 +15,12 @@ use Rattle.cue_scope.specs.Core.{Core, bottom, closed}
 use Rattle.cue_scope.specs.Graph.{IsIn, IsOrder}
 use Rattle.cue_scope.specs.Definitions.{Definition}
 use Rattle.cue_scope.specs.Kept.{all_of}
-use Rattle.cue_scope.specs.Limits.{size, size_of_elements, depth}
+use Rattle.cue_scope.specs.Limits.{size, depth}
 use Rattle.cue_scope.specs.Meaning.{nested, meaning, meant, meant_use, meant_elements, meant_rest}
 use Rattle.cue_scope.specs.Terms.{terms}
 use Rattle.cue_scope.specs.Uses.{graph, uses, uses_of_elements, uses_of_branches, uses_of_entries}
-use Rattle.cue_scope.specs.Measures.{Total, IsMeasured, IsUse, IsKnown, none, join, larger, as_literal, as_field, as_element, as_term, behind_labels, only_places, total_of, total, total_of_parts, total_of_elements, total_of_terms, total_of_entries, total_of_file}
-use Rattle.cue_scope.proofs.Followed.{size_followed, depth_followed, depth_of_rest}
+use Rattle.cue_scope.specs.Measures.{Total, IsMeasured, IsUse, IsKnown, none, join, larger, as_literal, as_field, as_element, as_term, behind_labels, only_places, total_of, total, total_of_parts, total_of_elements, total_of_rest, total_of_terms, total_of_entries, total_of_file}
+use Rattle.cue_scope.proofs.Followed.{size_followed, depth_followed}
 use Rattle.cue_scope.proofs.Meanings.{meaning_is}
 use Rattle.std.specs.Prelude.{slice_get}
 use Rattle.cue_scope.proofs.Nodes.{in_append_left, in_append_right}
@@ -175,15 +175,22 @@ use_found meanings o number m is h =
 pub use_listed : (o : Option ℕ) (number : ℕ) → Some number ≡ o → IsIn number (option_to_list o)
 use_listed o number is = subst (λ z. IsIn number (option_to_list z)) is (inl refl)
 
--- a list, with 1 of its own and 1 for its `...`
-pub list_measured : (ds : List Definition) (es : Elements) (rest : Rest) (comma : Bool) (m : Measure) (own : ℕ) → own ≡ 1 + size_of_elements (meant_rest rest) → IsMeasured m (as_literal own (total_of_elements ds es)) → IsMeasured m (total ds (list es rest comma))
-list_measured ds es rest comma m own is h =
+-- what is known of parts side by side
+pub known_left : (known : Known) (us is : List ℕ) → IsKnown known (us ++ is) → IsKnown known us
+known_left known us is h = λ i there. h i (in_append_left us is i there)
+
+pub known_right : (known : Known) (us is : List ℕ) → IsKnown known (us ++ is) → IsKnown known is
+known_right known us is h = λ i there. h i (in_append_right us is i there)
+
+-- a list, with 1 of its own
+pub list_measured : (ds : List Definition) (es : Elements) (rest : Rest) (comma : Bool) (m : Measure) → IsMeasured m (as_literal 1 (join (total_of_elements ds es) (total_of_rest ds rest))) → IsMeasured m (total ds (list es rest comma))
+list_measured ds es rest comma m h =
     let cs = meant_elements ds (meaning ds) es in
-    let larger = size_followed cs (meant_rest rest) in
-    let deeper = depth_followed cs (meant_rest rest) in
-    let flat = depth_of_rest rest in
+    let behind = meant_rest ds (meaning ds) rest in
+    let larger = size_followed cs behind in
+    let deeper = depth_followed cs behind in
     subst (λ z. IsMeasured m z)
-    (same_total (as_literal own (total_of_elements ds es)) (total ds (list es rest comma)) refl (omega (arith, larger, is)) (omega (arith, deeper, flat)) refl) h
+    (same_total (as_literal 1 (join (total_of_elements ds es) (total_of_rest ds rest))) (total ds (list es rest comma)) refl (omega (arith, larger)) (omega (arith, deeper)) refl) h
 
 abbrev pub MeasuringFile : Known → Measure → List Declaration → List Declaration → Type 0
 MeasuringFile known m es left = let ds = all_of known.definitions.now in Measuring known m (total_of_file ds (entries es)) (total_of_file ds (entries left)) (uses_of_entries ds (entries left))

@@ -6,7 +6,7 @@ use Rattle.cue_syntax.specs.declared.tree.Declaration.TheOpen.{Declaration-F}
 use Rattle.cue_syntax.specs.declared.tree.Declaration.TheFolds.{fold-roll-Declaration}
 use Rattle.cue_syntax.specs.declared.tree.Expr.{Expr}
 use Rattle.cue_syntax.specs.declared.tree.Label.{Label}
-use Rattle.cue_syntax.specs.Syntax.{Expression, Entry, Branch, ellipsis, field, definition, Entries, entry, entry_tree, entries, expression, entry_step, expression_step, branch_step}
+use Rattle.cue_syntax.specs.Syntax.{Expression, Entry, Rest, Branch, ellipsis, field, definition, Entries, entry, entry_tree, entries, expression, entry_step, expression_step, rest_step, branch_step}
 use Rattle.cue_scope.specs.Definitions.{Definition, definitions, number_of, repeats_after}
 
 -- The declarations from one on are that one and those after it.
@@ -34,7 +34,7 @@ first_definition name shown place chain labels e rest same_name same_chain =
     ∙ ap (λ (c : List Label). definitions (entry (definition shown place c e) rest)) (sym same_chain)
 
 view_definition : (t : List ℕ) (from : ℕ) (chain : Vec Label Global) (e : Expr) → entry_tree (declarations.Definition t from chain e) ≡ definition t from chain.items (expression e)
-view_definition t from chain e = ap entry_tree (sym (declarations.rolls-Definition t from chain e)) ∙ fold-roll-Declaration Entry Expression Branch entry_step expression_step branch_step (Declaration-F.Definition t from chain e)
+view_definition t from chain e = ap entry_tree (sym (declarations.rolls-Definition t from chain e)) ∙ fold-roll-Declaration Entry Expression Rest Branch entry_step expression_step rest_step branch_step (Declaration-F.Definition t from chain e)
 
 -- The definition that stands first is the one that the program reads.
 pub definition_read : (d : Declaration) (name shown : List ℕ) (place : ℕ) (chain : Vec Label Global) (labels : List Label) (e : Expr) (rest : Entries)
@@ -45,10 +45,10 @@ definition_read d name shown place chain labels e rest is same_name same_chain =
     ∙ first_definition name shown place chain.items labels (expression e) rest same_name same_chain
 
 view_field : (label : Label) (chain : Vec Label Global) (e : Expr) → entry_tree (declarations.Field label chain e) ≡ field label chain.items (expression e)
-view_field label chain e = ap entry_tree (sym (declarations.rolls-Field label chain e)) ∙ fold-roll-Declaration Entry Expression Branch entry_step expression_step branch_step (Declaration-F.Field label chain e)
+view_field label chain e = ap entry_tree (sym (declarations.rolls-Field label chain e)) ∙ fold-roll-Declaration Entry Expression Rest Branch entry_step expression_step rest_step branch_step (Declaration-F.Field label chain e)
 
 view_ellipsis : entry_tree declarations.Ellipsis ≡ ellipsis
-view_ellipsis = ap entry_tree (sym declarations.rolls-Ellipsis) ∙ fold-roll-Declaration Entry Expression Branch entry_step expression_step branch_step Declaration-F.Ellipsis
+view_ellipsis = ap entry_tree (sym declarations.rolls-Ellipsis) ∙ fold-roll-Declaration Entry Expression Rest Branch entry_step expression_step rest_step branch_step Declaration-F.Ellipsis
 
 -- A field is passed by.
 pub field_passed : (d : Declaration) (label : Label) (chain : Vec Label Global) (e : Expr) (rest : Entries) → d ≡ declarations.Field label chain e → definitions (entry (entry_tree d) rest) ≡ definitions rest

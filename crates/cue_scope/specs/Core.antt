@@ -31,10 +31,12 @@ mutual
     no_cores : Cores
     core : Core → Cores → Cores
 
-  -- the elements of a list literal, which ends with them, or goes on where it has a `...`
+  -- the elements of a list literal, which ends with them, or goes on where it has a `...`, and where
+  -- an expression stands behind that, each further element is so
   pub data Elements : Type 0 where
     ends : Elements
     goes_on : Elements
+    each : Core → Elements
     element : Core → Elements → Elements
 
   -- the terms of a disjunction, each with whether it is marked

@@ -1,8 +1,8 @@
 -- How large a tree is, and how long its paths are.
 use Rattle.std.specs.Prelude.{ℕ, ◌+◌, max}
 use Rattle.cue_scope.specs.Core.{Core, conjunction, disjunction, struct, close, list, closed, Cores}
-use Rattle.cue_scope.specs.Core.{no_cores, core, Elements, ends, goes_on, element, Choices}
-use Rattle.cue_scope.specs.Core.{no_choices, choice, Members, no_members, member, dots}
+use Rattle.cue_scope.specs.Core.{no_cores, core, Elements, ends, goes_on, each, element}
+use Rattle.cue_scope.specs.Core.{Choices, no_choices, choice, Members, no_members, member, dots}
 
 -- 1 for each literal, name, operator chain, struct, list, `close`, label, `...` and use of a
 -- definition
@@ -23,6 +23,7 @@ abbrev mutual
   pub size_of_elements : Elements → ℕ
   size_of_elements ends = 0
   size_of_elements goes_on = 1
+  size_of_elements (each c) = 1 + size c
   size_of_elements (element c es) = size c + size_of_elements es
 
   pub size_of_choices : Choices → ℕ
@@ -34,7 +35,8 @@ abbrev mutual
   size_of_members (member l mark c ms) = 1 + size c + size_of_members ms
   size_of_members (dots ms) = 1 + size_of_members ms
 
--- the steps of the longest path of a declared label or element
+-- the steps of the longest path of a declared label or element; what each further element is counts
+-- as an element
 abbrev mutual
   pub depth : Core → ℕ
   depth (conjunction cs) = depth_of_cores cs
@@ -56,6 +58,7 @@ abbrev mutual
   pub depth_of_elements : Elements → ℕ
   depth_of_elements ends = 0
   depth_of_elements goes_on = 0
+  depth_of_elements (each c) = 1 + depth c
   depth_of_elements (element c es) = max (1 + depth c) (depth_of_elements es)
 
   pub depth_of_members : Members → ℕ

@@ -15,8 +15,9 @@ use Rattle.cue_syntax.specs.Syntax.{no_entries, entry}
 use Rattle.cue_scope.specs.Core as cores
 use Rattle.cue_scope.specs.Core.{Core, null, truth, integer, text, named, top, bottom, bound}
 use Rattle.cue_scope.specs.Core.{other_integer, other_text, conjunction, disjunction, struct, close}
-use Rattle.cue_scope.specs.Core.{list, closed, Cores, no_cores, core, ends, goes_on, followed_by}
-use Rattle.cue_scope.specs.Core.{Choices, no_choices, choice, Members, no_members, member, dots}
+use Rattle.cue_scope.specs.Core.{list, closed, Cores, no_cores, core, ends, goes_on, each}
+use Rattle.cue_scope.specs.Core.{followed_by, Choices, no_choices, choice, Members, no_members}
+use Rattle.cue_scope.specs.Core.{member, dots}
 use Rattle.cue_scope.specs.Named.{named_of}
 use Rattle.cue_scope.specs.Definitions.{Definition, definitions, number_of}
 
@@ -43,11 +44,6 @@ meant_name ds meaning (identifiers.Plain t) = meant_word t
 meant_name ds meaning (identifiers.Definition t) = option_map_or meaning (number_of t ds) bottom
 meant_name ds meaning (identifiers.Hidden t) = cond (bytes_eq t (codes "_")) top bottom
 
--- what stands behind the last element of a list
-abbrev pub meant_rest : tree.Rest → cores.Elements
-meant_rest tree.no_rest = ends
-meant_rest tree.any_rest = goes_on
-
 abbrev mutual
   pub meant : List Definition → (ℕ → Core) → Expression → Core
   meant ds meaning (tree.name n place) = meant_name ds meaning n
@@ -61,7 +57,7 @@ abbrev mutual
   meant ds meaning (tree.struct es comma) = struct (meant_members ds meaning es)
   meant ds meaning (tree.close place es inner comma) = close (meant_members ds meaning es)
   meant ds meaning (tree.list es rest comma) =
-      list (followed_by (meant_elements ds meaning es) (meant_rest rest))
+      list (followed_by (meant_elements ds meaning es) (meant_rest ds meaning rest))
   meant ds meaning (tree.conjunction es) = conjunction (meant_elements ds meaning es)
   meant ds meaning (tree.disjunction bs) = disjunction (meant_branches ds meaning bs)
 
@@ -69,6 +65,12 @@ abbrev mutual
   meant_elements ds meaning no_elements = no_cores
   meant_elements ds meaning (element e es) =
       core (meant ds meaning e) (meant_elements ds meaning es)
+
+  -- what stands behind the last element of a list
+  pub meant_rest : List Definition → (ℕ → Core) → tree.Rest → cores.Elements
+  meant_rest ds meaning tree.no_rest = ends
+  meant_rest ds meaning tree.any_rest = goes_on
+  meant_rest ds meaning (tree.each_rest e) = each (meant ds meaning e)
 
   pub meant_branches : List Definition → (ℕ → Core) → Branches → Choices
   meant_branches ds meaning no_branches = no_choices

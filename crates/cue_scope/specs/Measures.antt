@@ -4,7 +4,7 @@ use Rattle.std.specs.Prelude.{[], ◌∷◌, ◌++◌, Option, None, Some, ◌<�
 use Rattle.cue_lattice.specs.declared.refusal.Kind.{Kind}
 use Rattle.cue_lattice.specs.declared.refusal.Kind.TheVariants as kinds
 use Rattle.cue_lattice.specs.Limits.{size_limit, step_limit}
-use Rattle.cue_syntax.specs.Syntax.{Expression, Elements, Branches, Entries}
+use Rattle.cue_syntax.specs.Syntax.{Expression, Elements, Rest, Branches, Entries}
 use Rattle.cue_scope.specs.declared.measure.Measure.{Measure}
 use Rattle.cue_scope.specs.declared.measure.Known.{Known}
 use Rattle.cue_scope.specs.Core.{Core, ends, followed_by, is_scalar, are_scalar}
@@ -14,9 +14,10 @@ use Rattle.cue_scope.specs.First.{IsFirst}
 use Rattle.cue_scope.specs.Graph.{IsIn}
 use Rattle.cue_scope.specs.Kept.{all_of}
 use Rattle.cue_scope.specs.Limits as limits
-use Rattle.cue_scope.specs.Meaning.{meaning, meant, meant_elements, meant_branches, meant_members}
-use Rattle.cue_scope.specs.Meaning.{meant_fields}
-use Rattle.cue_scope.specs.Terms.{terms, terms_of_elements, terms_of_branches, terms_of_entries}
+use Rattle.cue_scope.specs.Meaning.{meaning, meant, meant_elements, meant_rest, meant_branches}
+use Rattle.cue_scope.specs.Meaning.{meant_members, meant_fields}
+use Rattle.cue_scope.specs.Terms.{terms, terms_of_elements, terms_of_rest, terms_of_branches}
+use Rattle.cue_scope.specs.Terms.{terms_of_entries}
 
 -- whether all is scalar, how large it is, how many steps its longest path has, and where its terms
 -- stand that aren't scalar
@@ -122,6 +123,14 @@ total_of_elements ds es = record {
   size = limits.size_of_cores (meant_elements ds (meaning ds) es);
   depth = limits.depth_of_elements (followed_by (meant_elements ds (meaning ds) es) ends);
   places = terms_of_elements ds (meaning ds) es;
+}
+
+abbrev pub total_of_rest : List Definition → Rest → Total
+total_of_rest ds rest = record {
+  scalar = true;
+  size = limits.size_of_elements (meant_rest ds (meaning ds) rest);
+  depth = limits.depth_of_elements (meant_rest ds (meaning ds) rest);
+  places = terms_of_rest ds (meaning ds) rest;
 }
 
 abbrev pub total_of_terms : List Definition → Branches → Total

@@ -67,7 +67,8 @@ abbrev mutual
   faults ds scope (tree.struct es comma) = faults_of_entries ds (inside es scope) es
   faults ds scope (tree.close place es inner comma) =
       fault_of_close scope place ++ faults_of_entries ds (inside es scope) es
-  faults ds scope (tree.list es goes_on comma) = faults_of_elements ds scope es
+  faults ds scope (tree.list es rest comma) =
+      faults_of_elements ds scope es ++ faults_of_rest ds scope rest
   faults ds scope (tree.conjunction es) = faults_of_elements ds scope es
   faults ds scope (tree.disjunction bs) = faults_of_branches ds scope bs
   faults ds scope _ = []
@@ -75,6 +76,11 @@ abbrev mutual
   pub faults_of_elements : List Definition → Scope → Elements → List Refusal
   faults_of_elements ds scope no_elements = []
   faults_of_elements ds scope (element e es) = faults ds scope e ++ faults_of_elements ds scope es
+
+  pub faults_of_rest : List Definition → Scope → tree.Rest → List Refusal
+  faults_of_rest ds scope tree.no_rest = []
+  faults_of_rest ds scope tree.any_rest = []
+  faults_of_rest ds scope (tree.each_rest e) = faults ds scope e
 
   pub faults_of_branches : List Definition → Scope → Branches → List Refusal
   faults_of_branches ds scope no_branches = []

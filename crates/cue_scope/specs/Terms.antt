@@ -14,7 +14,8 @@ abbrev mutual
   terms ds meaning (tree.parenthesis e comma) = terms ds meaning e
   terms ds meaning (tree.struct es comma) = terms_of_entries ds meaning es
   terms ds meaning (tree.close place es inner comma) = terms_of_entries ds meaning es
-  terms ds meaning (tree.list es goes_on comma) = terms_of_elements ds meaning es
+  terms ds meaning (tree.list es rest comma) =
+      terms_of_elements ds meaning es ++ terms_of_rest ds meaning rest
   terms ds meaning (tree.conjunction es) = terms_of_elements ds meaning es
   terms ds meaning (tree.disjunction bs) = terms_of_branches ds meaning bs
   terms ds meaning _ = []
@@ -23,6 +24,11 @@ abbrev mutual
   terms_of_elements ds meaning no_elements = []
   terms_of_elements ds meaning (element e es) =
       terms ds meaning e ++ terms_of_elements ds meaning es
+
+  pub terms_of_rest : List Definition → (ℕ → Core) → tree.Rest → List ℕ
+  terms_of_rest ds meaning tree.no_rest = []
+  terms_of_rest ds meaning tree.any_rest = []
+  terms_of_rest ds meaning (tree.each_rest e) = terms ds meaning e
 
   pub terms_of_branches : List Definition → (ℕ → Core) → Branches → List ℕ
   terms_of_branches ds meaning no_branches = []

@@ -20,7 +20,7 @@ abbrev mutual
   uses ds (tree.parenthesis e comma) = uses ds e
   uses ds (tree.struct es comma) = uses_of_entries ds es
   uses ds (tree.close place es inner comma) = uses_of_entries ds es
-  uses ds (tree.list es goes_on comma) = uses_of_elements ds es
+  uses ds (tree.list es rest comma) = uses_of_elements ds es ++ uses_of_rest ds rest
   uses ds (tree.conjunction es) = uses_of_elements ds es
   uses ds (tree.disjunction bs) = uses_of_branches ds bs
   uses ds _ = []
@@ -28,6 +28,11 @@ abbrev mutual
   pub uses_of_elements : List Definition → Elements → List ℕ
   uses_of_elements ds no_elements = []
   uses_of_elements ds (element e es) = uses ds e ++ uses_of_elements ds es
+
+  pub uses_of_rest : List Definition → tree.Rest → List ℕ
+  uses_of_rest ds tree.no_rest = []
+  uses_of_rest ds tree.any_rest = []
+  uses_of_rest ds (tree.each_rest e) = uses ds e
 
   pub uses_of_branches : List Definition → Branches → List ℕ
   uses_of_branches ds no_branches = []

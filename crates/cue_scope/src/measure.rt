@@ -1,7 +1,6 @@
 ghost use Rattle.std.specs.Prelude.{◌≡◌, ◌+◌, [], ℕ, List, true, length, ◌<◌, IfErr, OnOk};
 ghost use Rattle.cue_syntax.specs.Syntax as tree;
 ghost use Rattle.cue_scope.specs.Kept.{all_of};
-ghost use Rattle.cue_scope.specs.Limits.{size_of_elements};
 ghost use Rattle.cue_scope.specs.Meaning as meaning;
 ghost use Rattle.cue_scope.specs.Measures as totals;
 ghost use Rattle.cue_scope.specs.Measures.{Total, IsMeasured, IsKnown};
@@ -184,16 +183,6 @@ impl Measure {
     }
 }
 
-/// The size of a list but for its elements.
-fn own_size(rest: Rest) -> usize
-    ensures { result ≡ 1 + size_of_elements (meaning.meant_rest (tree.rest_of rest)) }
-{
-    match rest {
-        Rest::Ends => 1,
-        Rest::GoesOn => 2,
-    }
-}
-
 /// What is known of definitions: the measure of a use of each, as far as they were measured.
 #[derive(Clone, Copy, Drop)]
 pub struct Known<'a, 'f, 't> {
@@ -286,7 +275,9 @@ impl<'a, 'f, 't> Known<'a, 'f, 't> {
             Expr::Parenthesis { inner, .. } => self.expression(inner),
             Expr::Struct { declarations, .. } => self.declarations(declarations).literal(1),
             Expr::Close { declarations, .. } => self.declarations(declarations).literal(2),
-            Expr::List { elements, rest, .. } => self.elements(elements).literal(own_size(*rest)),
+            Expr::List { elements, rest, .. } => {
+                self.elements(elements).beside(self.rest(rest)).literal(1)
+            }
             Expr::Conjunction(parts) => self.parts(parts).larger(1),
             Expr::Disjunction(terms) => self.terms(terms).larger(1),
             Expr::Integer(_) => Measure::leaf(true),
@@ -348,6 +339,20 @@ impl<'a, 'f, 't> Known<'a, 'f, 't> {
             all = all.beside(self.expression(element).element());
         }
         all
+    }
+
+    /// What stands behind the last element of a list.
+    #[cycle(measure)]
+    fn rest(&self, rest: &Rest) -> Measure
+        ensures { IsKnown self.now (using.uses_of_rest (all_of self.now.definitions.now)
+            (tree.rest_tree rest.now)) → IsMeasured result
+            (totals.total_of_rest (all_of self.now.definitions.now) (tree.rest_tree rest.now)) }
+    {
+        match rest {
+            Rest::Ends => Measure::none(),
+            Rest::GoesOn => Measure::none().larger(1),
+            Rest::Each(each) => self.expression(each).element().larger(1),
+        }
     }
 
     /// The terms of a disjunction.

@@ -12,7 +12,7 @@ use crate::memory::push;
 use crate::named::{Named, is_literal};
 use crate::scope::{Scope, labels_of};
 use cue_lattice::{Kind, Refusal};
-use cue_syntax::{Declaration, Expr, Identifier, Label, Term};
+use cue_syntax::{Declaration, Expr, Identifier, Label, Rest, Term};
 use std::alloc::Global;
 
 /// Which definitions a text uses, by their numbers, as often as it names them.
@@ -233,7 +233,10 @@ impl<'a, 'f, 't> Place<'a, 'f, 't> {
                 self.close(*from)?;
                 self.literal(uses, declarations)
             }
-            Expr::List { elements, .. } => self.elements(uses, elements),
+            Expr::List { elements, rest, .. } => {
+                self.elements(uses, elements)?;
+                self.rest(uses, rest)
+            }
             Expr::Conjunction(elements) => self.elements(uses, elements),
             Expr::Disjunction(terms) => self.terms(uses, terms),
             Expr::Integer(_) => Ok(()),
@@ -314,6 +317,24 @@ impl<'a, 'f, 't> Place<'a, 'f, 't> {
             self.expression(uses, element)?;
         }
         Ok(())
+    }
+
+    /// What stands behind the last element of a list.
+    #[cycle(names)]
+    fn rest(&self, uses: &mut Vec<usize>, rest: &'f Rest<'t>) -> Result<(), Refusal>
+        ensures walked { OnOk result (IsWalked
+            (naming.faults_of_rest (definitions_at self.now) (scope_of self.now.scope)
+            (tree.rest_tree rest.now)) (using.uses_of_rest (definitions_at self.now)
+            (tree.rest_tree rest.now)) uses.old.items uses.new.items) }
+        ensures stopped { IfErr result (IsStopped
+            (naming.faults_of_rest (definitions_at self.now) (scope_of self.now.scope)
+            (tree.rest_tree rest.now))) }
+    {
+        match rest {
+            Rest::Ends => Ok(()),
+            Rest::GoesOn => Ok(()),
+            Rest::Each(each) => self.expression(uses, each),
+        }
     }
 
     /// The terms of a disjunction.

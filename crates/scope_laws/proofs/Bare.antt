@@ -8,9 +8,9 @@ use Rattle.cue_syntax.specs.declared.tree.Identifier.{Identifier}
 use Rattle.cue_syntax.specs.declared.tree.Identifier.TheVariants as identifiers
 use Rattle.cue_syntax.specs.Syntax as tree
 use Rattle.cue_syntax.specs.Syntax.{Expression, Elements, no_elements, element, branch, Branches, no_branches, next_branch, ellipsis, field, definition, Entries, no_entries, entry}
-use Rattle.cue_syntax.specs.Unplaced.{unplaced, unplaced_elements, unplaced_branches, unplaced_entries}
+use Rattle.cue_syntax.specs.Unplaced.{unplaced, unplaced_elements, unplaced_rest, unplaced_branches, unplaced_entries}
 use Rattle.cue_scope.specs.Definitions.{Definition, definitions, number_of, repeats_after, repeats}
-use Rattle.cue_scope.specs.Uses.{uses, uses_of_name, uses_of_elements, uses_of_branches, uses_of_entries, graph}
+use Rattle.cue_scope.specs.Uses.{uses, uses_of_name, uses_of_elements, uses_of_rest, uses_of_branches, uses_of_entries, graph}
 
 -- the same definition without places
 abbrev pub bare : Definition → Definition
@@ -73,7 +73,8 @@ mutual
   uses_same cs ds same (tree.parenthesis e comma) = uses_same cs ds same e
   uses_same cs ds same (tree.struct es comma) = uses_of_entries_same cs ds same es
   uses_same cs ds same (tree.close place es inner comma) = uses_of_entries_same cs ds same es
-  uses_same cs ds same (tree.list es goes_on comma) = uses_of_elements_same cs ds same es
+  uses_same cs ds same (tree.list es rest comma) =
+      ap (λ z. z ++ uses_of_rest cs (unplaced_rest rest)) (uses_of_elements_same cs ds same es) ∙ ap (λ z. uses_of_elements ds es ++ z) (uses_of_rest_same cs ds same rest)
   uses_same cs ds same (tree.conjunction es) = uses_of_elements_same cs ds same es
   uses_same cs ds same (tree.disjunction bs) = uses_of_branches_same cs ds same bs
 
@@ -81,6 +82,11 @@ mutual
   uses_of_elements_same cs ds same no_elements = refl
   uses_of_elements_same cs ds same (element e es) =
       ap (λ z. z ++ uses_of_elements cs (unplaced_elements es)) (uses_same cs ds same e) ∙ ap (λ z. uses ds e ++ z) (uses_of_elements_same cs ds same es)
+
+  uses_of_rest_same : (cs ds : List Definition) → SameNumbers cs ds → (rest : tree.Rest) → uses_of_rest cs (unplaced_rest rest) ≡ uses_of_rest ds rest
+  uses_of_rest_same cs ds same tree.no_rest = refl
+  uses_of_rest_same cs ds same tree.any_rest = refl
+  uses_of_rest_same cs ds same (tree.each_rest e) = uses_same cs ds same e
 
   uses_of_branches_same : (cs ds : List Definition) → SameNumbers cs ds → (bs : Branches) → uses_of_branches cs (unplaced_branches bs) ≡ uses_of_branches ds bs
   uses_of_branches_same cs ds same no_branches = refl

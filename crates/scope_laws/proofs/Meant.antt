@@ -9,12 +9,12 @@ use Rattle.cue_syntax.specs.declared.tree.Identifier.{Identifier}
 use Rattle.cue_syntax.specs.declared.tree.Identifier.TheVariants as identifiers
 use Rattle.cue_syntax.specs.Syntax as tree
 use Rattle.cue_syntax.specs.Syntax.{Expression, Elements, no_elements, element, branch, Branches, no_branches, next_branch, ellipsis, field, definition, Entries, no_entries, entry}
-use Rattle.cue_syntax.specs.Unplaced.{unplaced, unplaced_elements, unplaced_branches, unplaced_entries}
-use Rattle.cue_scope.specs.Core.{Core, bottom, closed, conjunction, disjunction, struct, close, list, core, followed_by, choice, member, dots, is_scalar}
+use Rattle.cue_syntax.specs.Unplaced.{unplaced, unplaced_elements, unplaced_rest, unplaced_branches, unplaced_entries}
+use Rattle.cue_scope.specs.Core.{Core, bottom, closed, conjunction, disjunction, struct, close, list, each, core, followed_by, choice, member, dots, is_scalar}
 use Rattle.cue_scope.specs.Definitions.{Definition, definitions, number_of}
 use Rattle.cue_scope.specs.Limits.{size, depth}
 use Rattle.cue_scope.specs.Meaning.{meant, meant_elements, meant_branches, meant_members, meant_name, meant_use, meaning_within, meaning, meant_fields, meant_text, nested, meant_rest, text_of}
-use Rattle.cue_scope.specs.Terms.{terms, terms_of_elements, terms_of_branches, terms_of_entries, bad_terms}
+use Rattle.cue_scope.specs.Terms.{terms, terms_of_elements, terms_of_rest, terms_of_branches, terms_of_entries, bad_terms}
 use Rattle.scope_laws.specs.Places.{KeepsMeaning}
 use Rattle.scope_laws.proofs.Bare.{bare, bare_definitions, SameNumbers, bare_numbers, bare_length, zeros}
 
@@ -43,7 +43,9 @@ mutual
   meant_same cs ds f g same uses (tree.parenthesis e comma) = meant_same cs ds f g same uses e
   meant_same cs ds f g same uses (tree.struct es comma) = ap struct (members_same cs ds f g same uses es)
   meant_same cs ds f g same uses (tree.close place es inner comma) = ap close (members_same cs ds f g same uses es)
-  meant_same cs ds f g same uses (tree.list es rest comma) = ap (λ z. list (followed_by z (meant_rest rest))) (elements_same cs ds f g same uses es)
+  meant_same cs ds f g same uses (tree.list es rest comma) =
+      ap (λ z. list (followed_by z (meant_rest cs f (unplaced_rest rest)))) (elements_same cs ds f g same uses es)
+      ∙ ap (λ z. list (followed_by (meant_elements ds g es) z)) (rest_same cs ds f g same uses rest)
   meant_same cs ds f g same uses (tree.conjunction es) = ap conjunction (elements_same cs ds f g same uses es)
   meant_same cs ds f g same uses (tree.disjunction bs) = ap disjunction (branches_same cs ds f g same uses bs)
 
@@ -52,6 +54,11 @@ mutual
   elements_same cs ds f g same uses (element e es) =
       ap (λ z. core z (meant_elements cs f (unplaced_elements es))) (meant_same cs ds f g same uses e)
       ∙ ap (λ z. core (meant ds g e) z) (elements_same cs ds f g same uses es)
+
+  rest_same : (cs ds : List Definition) (f g : ℕ → Core) → SameNumbers cs ds → SameUses f g → (rest : tree.Rest) → meant_rest cs f (unplaced_rest rest) ≡ meant_rest ds g rest
+  rest_same cs ds f g same uses tree.no_rest = refl
+  rest_same cs ds f g same uses tree.any_rest = refl
+  rest_same cs ds f g same uses (tree.each_rest e) = ap each (meant_same cs ds f g same uses e)
 
   branches_same : (cs ds : List Definition) (f g : ℕ → Core) → SameNumbers cs ds → SameUses f g → (bs : Branches) → meant_branches cs f (unplaced_branches bs) ≡ meant_branches ds g bs
   branches_same cs ds f g same uses no_branches = refl
@@ -122,13 +129,19 @@ mutual
   terms_same cs ds f g same uses (tree.parenthesis e comma) = terms_same cs ds f g same uses e
   terms_same cs ds f g same uses (tree.struct es comma) = terms_of_entries_same cs ds f g same uses es
   terms_same cs ds f g same uses (tree.close place es inner comma) = terms_of_entries_same cs ds f g same uses es
-  terms_same cs ds f g same uses (tree.list es rest comma) = terms_of_elements_same cs ds f g same uses es
+  terms_same cs ds f g same uses (tree.list es rest comma) =
+      both (terms_of_elements ds g es) (terms_of_rest ds g rest) (terms_of_elements_same cs ds f g same uses es) (terms_of_rest_same cs ds f g same uses rest)
   terms_same cs ds f g same uses (tree.conjunction es) = terms_of_elements_same cs ds f g same uses es
   terms_same cs ds f g same uses (tree.disjunction bs) = terms_of_branches_same cs ds f g same uses bs
 
   terms_of_elements_same : (cs ds : List Definition) (f g : ℕ → Core) → SameNumbers cs ds → SameUses f g → (es : Elements) → terms_of_elements cs f (unplaced_elements es) ≡ zeros (terms_of_elements ds g es)
   terms_of_elements_same cs ds f g same uses no_elements = refl
   terms_of_elements_same cs ds f g same uses (element e es) = both (terms ds g e) (terms_of_elements ds g es) (terms_same cs ds f g same uses e) (terms_of_elements_same cs ds f g same uses es)
+
+  terms_of_rest_same : (cs ds : List Definition) (f g : ℕ → Core) → SameNumbers cs ds → SameUses f g → (rest : tree.Rest) → terms_of_rest cs f (unplaced_rest rest) ≡ zeros (terms_of_rest ds g rest)
+  terms_of_rest_same cs ds f g same uses tree.no_rest = refl
+  terms_of_rest_same cs ds f g same uses tree.any_rest = refl
+  terms_of_rest_same cs ds f g same uses (tree.each_rest e) = terms_same cs ds f g same uses e
 
   terms_of_branches_same : (cs ds : List Definition) (f g : ℕ → Core) → SameNumbers cs ds → SameUses f g → (bs : Branches) → terms_of_branches cs f (unplaced_branches bs) ≡ zeros (terms_of_branches ds g bs)
   terms_of_branches_same cs ds f g same uses no_branches = refl

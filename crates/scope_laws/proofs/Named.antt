@@ -11,10 +11,10 @@ use Rattle.cue_syntax.specs.declared.tree.Identifier.TheVariants as identifiers
 use Rattle.cue_syntax.specs.declared.tree.Label.{Label}
 use Rattle.cue_syntax.specs.Syntax as tree
 use Rattle.cue_syntax.specs.Syntax.{Expression, Elements, no_elements, element, branch, Branches, no_branches, next_branch, ellipsis, field, definition, Entries, no_entries, entry}
-use Rattle.cue_syntax.specs.Unplaced.{unplaced, unplaced_elements, unplaced_branches, unplaced_entries}
+use Rattle.cue_syntax.specs.Unplaced.{unplaced, unplaced_elements, unplaced_rest, unplaced_branches, unplaced_entries}
 use Rattle.cue_scope.specs.Definitions.{Definition, definitions, number_of}
 use Rattle.cue_scope.specs.Named.{named_of, is_literal}
-use Rattle.cue_scope.specs.Names.{Scope, is_unquoted, has_label, inside, behind, refuse, fault_of, fault_of_close, faults, faults_of_elements, faults_of_branches, faults_of_entries, name_faults}
+use Rattle.cue_scope.specs.Names.{Scope, is_unquoted, has_label, inside, behind, refuse, fault_of, fault_of_close, faults, faults_of_elements, faults_of_rest, faults_of_branches, faults_of_entries, name_faults}
 use Rattle.scope_laws.proofs.Bare.{bare, bare_definitions, SameNumbers, bare_numbers}
 
 abbrev pub nowhere : Refusal → Refusal
@@ -79,13 +79,19 @@ mutual
   faults_same cs ds s t same scope (tree.struct es comma) = entries_same cs ds (inside (unplaced_entries es) s) (inside es t) same (inside_same s t scope es) es
   faults_same cs ds s t same scope (tree.close place es inner comma) =
       both (fault_of_close t place) (faults_of_entries ds (inside es t) es) (close_same s t scope place) (entries_same cs ds (inside (unplaced_entries es) s) (inside es t) same (inside_same s t scope es) es)
-  faults_same cs ds s t same scope (tree.list es goes_on comma) = elements_same cs ds s t same scope es
+  faults_same cs ds s t same scope (tree.list es rest comma) =
+      both (faults_of_elements ds t es) (faults_of_rest ds t rest) (elements_same cs ds s t same scope es) (rest_same cs ds s t same scope rest)
   faults_same cs ds s t same scope (tree.conjunction es) = elements_same cs ds s t same scope es
   faults_same cs ds s t same scope (tree.disjunction bs) = branches_same cs ds s t same scope bs
 
   elements_same : (cs ds : List Definition) (s t : Scope) → SameNumbers cs ds → SameScope s t → (es : Elements) → faults_of_elements cs s (unplaced_elements es) ≡ map nowhere (faults_of_elements ds t es)
   elements_same cs ds s t same scope no_elements = refl
   elements_same cs ds s t same scope (element e es) = both (faults ds t e) (faults_of_elements ds t es) (faults_same cs ds s t same scope e) (elements_same cs ds s t same scope es)
+
+  rest_same : (cs ds : List Definition) (s t : Scope) → SameNumbers cs ds → SameScope s t → (rest : tree.Rest) → faults_of_rest cs s (unplaced_rest rest) ≡ map nowhere (faults_of_rest ds t rest)
+  rest_same cs ds s t same scope tree.no_rest = refl
+  rest_same cs ds s t same scope tree.any_rest = refl
+  rest_same cs ds s t same scope (tree.each_rest e) = faults_same cs ds s t same scope e
 
   branches_same : (cs ds : List Definition) (s t : Scope) → SameNumbers cs ds → SameScope s t → (bs : Branches) → faults_of_branches cs s (unplaced_branches bs) ≡ map nowhere (faults_of_branches ds t bs)
   branches_same cs ds s t same scope no_branches = refl

@@ -1,11 +1,11 @@
 use Rattle.std.proofs.Common.{sym, ap, subst, ◌∙◌}
 use Rattle.cue_syntax.specs.Syntax as tree
-use Rattle.cue_syntax.proofs.Views.{view-Name, view-Parenthesis, view-Struct, view-Close, view-List, view-Conjunction, view-Disjunction}
+use Rattle.cue_syntax.proofs.Views.{view-Name, view-Parenthesis, view-Struct, view-Close, view-List, view-GoesOn, view-Each, view-Conjunction, view-Disjunction}
 use Rattle.cue_scope.specs.Kept.{all_of}
 use Rattle.cue_scope.specs.Measures as totals
-use Rattle.cue_scope.specs.Uses.{uses}
+use Rattle.cue_scope.specs.Uses.{uses, uses_of_elements, uses_of_rest}
 use Rattle.cue_scope.specs.Measures.{IsMeasured, IsKnown}
-use Rattle.cue_scope.proofs.Measuring.{known_first, measuring_more, part_at_hand, element_at_hand, term_at_hand, ellipsis_at_hand, field_at_hand, definition_at_hand, list_measured}
+use Rattle.cue_scope.proofs.Measuring.{known_first, measuring_more, part_at_hand, element_at_hand, term_at_hand, ellipsis_at_hand, field_at_hand, definition_at_hand, known_left, known_right, list_measured}
 use Rattle.cue_scope.proofs.measure.Known.+measure.Goals as goal
 use Rattle.cue_scope.proofs.measure.Known.+measure.Goals.{declarations-in-Ellipsis, declarations-in-Field, declarations-in-Definition}
 
@@ -57,10 +57,13 @@ expression-returns-in-Close t c =
 pub expression-returns-in-List : goal.expression-returns-in-List
 expression-returns-in-List t c =
     let ds = all_of c.args.self.now.definitions.now in
+    let es = tree.elements c.in-List.elements.items in
+    let rest = tree.rest_tree c.in-List.rest in
     let parts = rw c.deref-in-List.ensures.value at c.elements.ensures in
     subst (λ z. IsKnown c.args.self.now (uses ds z) → IsMeasured c.literal-in-List.result (totals.total ds z))
     (sym (ap tree.expression c.in-List.is ∙ view-List c.in-List.elements c.in-List.rest c.in-List.comma))
-    (λ known. list_measured ds (tree.elements c.in-List.elements.items) (tree.rest_of c.in-List.rest) c.in-List.comma c.literal-in-List.result c.own_size.result c.own_size.ensures (c.literal-in-List.ensures _ (parts known)))
+    (λ known. list_measured ds es rest c.in-List.comma c.literal-in-List.result
+    (c.literal-in-List.ensures _ (c.beside.ensures _ _ (parts (known_left c.args.self.now (uses_of_elements ds es) (uses_of_rest ds rest) known)) (c.rest.ensures (known_right c.args.self.now (uses_of_elements ds es) (uses_of_rest ds rest) known)))))
 
 pub expression-returns-in-Conjunction : goal.expression-returns-in-Conjunction
 expression-returns-in-Conjunction t c =
@@ -88,3 +91,16 @@ expression-returns-in-Parenthesis t c =
     let inside = rw c.deref.ensures at c.expression.ensures in
     subst (λ z. IsKnown c.args.self.now (uses ds z) → IsMeasured c.expression.result (totals.total ds z))
     (sym (ap tree.expression c.in-Parenthesis.is ∙ view-Parenthesis c.in-Parenthesis.inner c.in-Parenthesis.comma)) inside
+
+pub rest-returns-in-GoesOn : goal.rest-returns-in-GoesOn
+rest-returns-in-GoesOn t c =
+    let ds = all_of c.args.self.now.definitions.now in
+    subst (λ z. IsKnown c.args.self.now (uses_of_rest ds z) → IsMeasured c.larger.result (totals.total_of_rest ds z))
+    (sym (ap tree.rest_tree c.in-GoesOn.is ∙ view-GoesOn)) (λ known. c.larger.ensures totals.none c.none-in-GoesOn.ensures)
+
+pub rest-returns-in-Each : goal.rest-returns-in-Each
+rest-returns-in-Each t c =
+    let ds = all_of c.args.self.now.definitions.now in
+    let inside = rw c.deref.ensures at c.expression.ensures in
+    subst (λ z. IsKnown c.args.self.now (uses_of_rest ds z) → IsMeasured c.larger-in-Each.result (totals.total_of_rest ds z))
+    (sym (ap tree.rest_tree c.in-Each.is ∙ view-Each c.in-Each.each)) (λ known. c.larger-in-Each.ensures _ (c.element.ensures _ (inside known)))
