@@ -10,7 +10,7 @@ use Rattle.cue_table.specs.Form.{IsTaken, IsTree}
 use Rattle.cue_table.specs.Meet.{IsMet, IsAdded, chain}
 use Rattle.cue_table.proofs.Order.{equal_steps}
 use Rattle.cue_table.proofs.Finding.{same_step}
-use Rattle.cue_table.proofs.Exact.{find_first, find_before, find_past, found_refuses}
+use Rattle.cue_table.proofs.Branches.{find_first, find_before, find_past, found_refuses}
 
 module _ {R : Type 0} where
   chain_taken : (path : Path) (row : R) → IsTaken (chain path row)
@@ -19,8 +19,8 @@ module _ {R : Type 0} where
 
   -- one row alone is in form
   pub chain_form : (P : R → Type 0) (path : Path) (row : R) → P row → IsTree P (chain path row)
-  chain_form P [] row h = (h, tt)
-  chain_form P (step ∷ path) row h = (tt, (tt, chain_taken path row, chain_form P path row h, tt))
+  chain_form P [] row h = (h, tt, tt)
+  chain_form P (step ∷ path) row h = (tt, (tt, chain_taken path row, chain_form P path row h, tt), tt)
 
 module _ {R Q : Type 0} (refuses : R → Q → Type 0) where
   -- what one row alone refuses at a path that begins with a step

@@ -3,40 +3,40 @@ use Rattle.std.proofs.Common.{◌≡◌, ℕ, suc, ◌+◌, min, slice_set, get_
 use Rattle.std.proofs.lemmas.List.{take_min, drop_min, drop-drop, take_more_set, drop-set-lt}
 use Rattle.cue_row.specs.Steps.{step_of}
 use Rattle.cue_table.specs.declared.node.Child.{Child}
-use Rattle.cue_table.specs.declared.plan.Slot.{Slot}
-use Rattle.cue_table.specs.declared.plan.Slot.TheVariants.{Keep, Insert, Alter}
+use Rattle.cue_table.specs.declared.plan.Piece.{Piece}
+use Rattle.cue_table.specs.declared.plan.Piece.TheVariants.{Keep, Insert, Alter}
 use Rattle.cue_table.specs.Tree.{Children, child}
-use Rattle.cue_table.specs.Inner.Plan.{Change, Slots, done, changed, merged, join, front, past, first_changed, slots_size, IsAmending}
-use Rattle.cue_table.specs.Inner.PlanView.{amended, slot_before, slots_of}
+use Rattle.cue_table.specs.Inner.Plan.{Change, Pieces, done, changed, merged, join, front, past, first_changed, pieces_size, IsAmending}
+use Rattle.cue_table.specs.Inner.PlanView.{amended, piece_before, pieces_of}
 use Rattle.cue_table.specs.Inner.View.{branches}
 use Rattle.cue_table.proofs.Planning.{past_drop}
 use Rattle.cue_table.proofs.Filling.{join_none, moved, one_more}
 
 module _ {R Q : Type 0} where
-  -- What is amended up to a place, and what the slots that are left make of the branches from there, is the whole.
-  pub record Amends (old : List (Child R Q)) (slots : List (Slot R Q)) (now : List (Child R Q)) (others : List (Slot R Q)) (at : ℕ) : Type 0 where
-    pub whole : amended at (merged (slots_of others)) now ≡ merged (slots_of slots) (branches old)
+  -- What is amended up to a place, and what the pieces that are left make of the branches from there, is the whole.
+  pub record Amends (old : List (Child R Q)) (pieces : List (Piece R Q)) (now : List (Child R Q)) (others : List (Piece R Q)) (at : ℕ) : Type 0 where
+    pub whole : amended at (merged (pieces_of others)) now ≡ merged (pieces_of pieces) (branches old)
     pub inside : at ≤ length now
-    pub amending : IsAmending (slots_of others)
-    pub smaller : slots_size (slots_of others) ≤ slots_size (slots_of slots)
+    pub amending : IsAmending (pieces_of others)
+    pub smaller : pieces_size (pieces_of others) ≤ pieces_size (pieces_of pieces)
 
-  -- what is said of a list of slots is said of the first and of the others
-  fewer : (s : Slot R Q) (others : Slots R) → slots_size others ≤ slots_size (slot_before s others)
+  -- what is said of a list of pieces is said of the first and of the others
+  fewer : (s : Piece R Q) (others : Pieces R) → pieces_size others ≤ pieces_size (piece_before s others)
   fewer (Keep n) others = omega arith
   fewer (Insert n c) others = omega arith
   fewer (Alter n plan) others = omega arith
 
-  pub first_size : (s : Slot R Q) (others : Slots R) → slots_size (slot_before s done) ≤ slots_size (slot_before s others)
+  pub first_size : (s : Piece R Q) (others : Pieces R) → pieces_size (piece_before s done) ≤ pieces_size (piece_before s others)
   first_size (Keep n) others = omega arith
   first_size (Insert n c) others = omega arith
   first_size (Alter n plan) others = omega arith
 
-  rest_amends : (s : Slot R Q) (others : Slots R) → IsAmending (slot_before s others) → IsAmending others
+  rest_amends : (s : Piece R Q) (others : Pieces R) → IsAmending (piece_before s others) → IsAmending others
   rest_amends (Keep n) others h = h
   rest_amends (Insert n c) others h = absurd h
   rest_amends (Alter n plan) others h = h
 
-  pub first_amends : (s : Slot R Q) (others : Slots R) → IsAmending (slot_before s others) → IsAmending (slot_before s done)
+  pub first_amends : (s : Piece R Q) (others : Pieces R) → IsAmending (piece_before s others) → IsAmending (piece_before s done)
   first_amends (Keep n) others h = tt
   first_amends (Insert n c) others h = absurd h
   first_amends (Alter n plan) others h = tt
@@ -70,25 +70,25 @@ module _ {R Q : Type 0} where
       ∙ ap (λ x. join (branches (take at now)) (child (step_of c.step) x (others (branches (drop (at + 1) now))))) t
       ∙ ap (λ x. join (branches (take at now)) (first_changed (changed plan) others (branches x))) (sym here)
 
-  -- one slot more
+  -- one piece more
   pub amends_more :
-      (old : List (Child R Q)) (slots : List (Slot R Q)) (now later : List (Child R Q)) (all others : List (Slot R Q)) (at next : ℕ) (s : Slot R Q)
-      → Amends old slots now all at → all ≡ s ∷ others → next ≤ length later
-      → ((more : Slots R) → amended next (merged more) later ≡ amended at (merged (slot_before s more)) now)
-      → Amends old slots later others next
-  amends_more old slots now later all others at next s f e l step =
-      let g = subst (λ x. Amends old slots now x at) e f in
-      let small : slots_size (slots_of others) ≤ slots_size (slots_of (s ∷ others)) = fewer s (slots_of others) in
+      (old : List (Child R Q)) (pieces : List (Piece R Q)) (now later : List (Child R Q)) (all others : List (Piece R Q)) (at next : ℕ) (s : Piece R Q)
+      → Amends old pieces now all at → all ≡ s ∷ others → next ≤ length later
+      → ((more : Pieces R) → amended next (merged more) later ≡ amended at (merged (piece_before s more)) now)
+      → Amends old pieces later others next
+  amends_more old pieces now later all others at next s f e l step =
+      let g = subst (λ x. Amends old pieces now x at) e f in
+      let small : pieces_size (pieces_of others) ≤ pieces_size (pieces_of (s ∷ others)) = fewer s (pieces_of others) in
       let smaller = g.smaller in
       record {
-        whole = step (slots_of others) ∙ g.whole;
+        whole = step (pieces_of others) ∙ g.whole;
         inside = l;
-        amending = rest_amends s (slots_of others) g.amending;
+        amending = rest_amends s (pieces_of others) g.amending;
         smaller = omega arith;
       }
 
   pub amends_end :
-      (old : List (Child R Q)) (slots : List (Slot R Q)) (now : List (Child R Q)) (others : List (Slot R Q)) (at : ℕ)
-      → Amends old slots now others at → length others ≡ 0 → branches (take at now) ≡ merged (slots_of slots) (branches old)
-  amends_end old slots now [] at f z = sym (join_none (branches (take at now))) ∙ f.whole
-  amends_end old slots now (s ∷ others) at f z = absurd (omega arith)
+      (old : List (Child R Q)) (pieces : List (Piece R Q)) (now : List (Child R Q)) (others : List (Piece R Q)) (at : ℕ)
+      → Amends old pieces now others at → length others ≡ 0 → branches (take at now) ≡ merged (pieces_of pieces) (branches old)
+  amends_end old pieces now [] at f z = sym (join_none (branches (take at now))) ∙ f.whole
+  amends_end old pieces now (s ∷ others) at f z = absurd (omega arith)

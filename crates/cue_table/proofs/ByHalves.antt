@@ -15,7 +15,7 @@ use Rattle.cue_lattice.specs.OneOf.{OneOf}
 use Rattle.cue_lattice.specs.Path.{Step, step_cmp, Path}
 use Rattle.cue_row.specs.Steps.{step_of}
 use Rattle.cue_row.specs.declared.step.Step as program
-use Rattle.cue_table.specs.Tree.{Tree, node, none, child, empty, taken, find}
+use Rattle.cue_table.specs.Tree.{Tree, node, none, child, no_rest, onward, empty, taken, find}
 use Rattle.cue_table.specs.Depth.{tree_depth}
 use Rattle.cue_table.specs.Form.{IsTaken, IsTree}
 use Rattle.cue_table.specs.Refuses.{TableRefuses}
@@ -23,7 +23,7 @@ use Rattle.cue_table.specs.Meet.{IsMet}
 use Rattle.cue_table.specs.Many.{IsOfBranches, IsUnified, under}
 use Rattle.cue_table.proofs.Order.{equal_steps}
 use Rattle.cue_table.proofs.Finding.{same_step}
-use Rattle.cue_table.proofs.Exact.{find_first, find_before, find_past, found_refuses}
+use Rattle.cue_table.proofs.Branches.{find_first, find_before, find_past, found_refuses}
 
 -- what is seen of something is something
 pub is_there : {T U : Type 0} (f : T → U) (seen : Option T) (tree : Option U) (is_none : Bool) → is_none ≡ false → is_some seen ≡ not is_none → option_map f seen ≡ tree → tree ≡ None → ⊥
@@ -36,10 +36,11 @@ module _ {R : Type 0} where
   hung one = under (step_of one.0) one.1
 
   -- a tree with a row stands below the step
-  pub under_taken : (step : Step) (tree : Tree R) → (taken tree ≡ None → ⊥) → (node None (child step tree none) ≡ under step tree) × IsTaken tree
-  under_taken step (node (Some row) children) h = (refl, tt)
-  under_taken step (node None none) h = absurd (h refl)
-  under_taken step (node None (child next tree children)) h = (refl, tt)
+  pub under_taken : (step : Step) (tree : Tree R) → (taken tree ≡ None → ⊥) → (node None (child step tree none) no_rest ≡ under step tree) × IsTaken tree
+  under_taken step (node (Some row) children rest) h = (refl, tt)
+  under_taken step (node None none no_rest) h = absurd (h refl)
+  under_taken step (node None none (onward n tree)) h = (refl, tt)
+  under_taken step (node None (child next tree children) rest) h = (refl, tt)
 
   -- what is left to hang in
   pub hung_more :
@@ -55,11 +56,11 @@ module _ {R : Type 0} where
 
   -- one branch alone is in form, and one step deeper
   pub under_form :
-      (P : R → Type 0) (step : Step) (tree above : Tree R) → above ≡ node None (child step tree none) → (taken tree ≡ None → ⊥)
+      (P : R → Type 0) (step : Step) (tree above : Tree R) → above ≡ node None (child step tree none) no_rest → (taken tree ≡ None → ⊥)
       → IsTree P tree → tree_depth tree < step_limit → IsTree P above × (tree_depth above ≤ step_limit)
   under_form P step tree above e h form low =
-      let deep : tree_depth (node None (child step tree none)) ≤ step_limit = omega arith in
-      subst (λ t. IsTree P t × (tree_depth t ≤ step_limit)) (sym e) ((tt, (tt, (under_taken step tree h).1, form, tt)), deep)
+      let deep : tree_depth (node None (child step tree none) no_rest) ≤ step_limit = omega arith in
+      subst (λ t. IsTree P t × (tree_depth t ≤ step_limit)) (sym e) ((tt, (tt, (under_taken step tree h).1, form, tt), tt), deep)
 
 module _ {R Q : Type 0} (refuses : R → Q → Type 0) where
   -- the table without rows refuses nothing
@@ -102,7 +103,7 @@ module _ {R Q : Type 0} (refuses : R → Q → Type 0) where
   -- one branch alone refuses at its step what the branch does
   pub one_branch :
       (step : Step) (tree : Tree R) (at : Step) (path : Path) (question : Q) → (o : Ordering) → step_cmp at step ≡ o
-      → TableRefuses refuses (node None (child step tree none)) (at ∷ path) question ↔ ((step ≡ at) × TableRefuses refuses tree path question)
+      → TableRefuses refuses (node None (child step tree none) no_rest) (at ∷ path) question ↔ ((step ≡ at) × TableRefuses refuses tree path question)
   one_branch step tree at path question Less e = (
     λ h. absurd (found_refuses refuses (find at (child step tree none)) None (find_before at step tree none e) path question h),
     λ h. let no : step_cmp at at ≡ Less = subst (λ s. step_cmp at s ≡ Less) h.0 e in let yes = same_step at in cc,
@@ -119,17 +120,20 @@ module _ {R Q : Type 0} (refuses : R → Q → Type 0) where
       )
 
   pub under_root : (step : Step) (tree : Tree R) (question : Q) → ¬ TableRefuses refuses (under step tree) [] question
-  under_root step (node None none) question h = h
-  under_root step (node None (child next tree children)) question h = h
-  under_root step (node (Some row) children) question h = h
+  under_root step (node None none no_rest) question h = h
+  under_root step (node None none (onward n tree)) question h = h
+  under_root step (node None (child next tree children) rest) question h = h
+  under_root step (node (Some row) children rest) question h = h
 
   pub under_step :
       (step : Step) (tree : Tree R) (at : Step) (path : Path) (question : Q)
       → TableRefuses refuses (under step tree) (at ∷ path) question ↔ ((step ≡ at) × TableRefuses refuses tree path question)
-  under_step step (node None none) at path question = (λ h. absurd h, λ h. absurd (free path question h.1))
-  under_step step (node None (child next tree children)) at path question =
-      one_branch step (node None (child next tree children)) at path question (step_cmp at step) refl
-  under_step step (node (Some row) children) at path question = one_branch step (node (Some row) children) at path question (step_cmp at step) refl
+  under_step step (node None none no_rest) at path question = (λ h. absurd h, λ h. absurd (free path question h.1))
+  under_step step (node None none (onward n tree)) at path question =
+      one_branch step (node None none (onward n tree)) at path question (step_cmp at step) refl
+  under_step step (node None (child next tree children) rest) at path question =
+      one_branch step (node None (child next tree children) rest) at path question (step_cmp at step) refl
+  under_step step (node (Some row) children rest) at path question = one_branch step (node (Some row) children rest) at path question (step_cmp at step) refl
 
   none_at_root : (given : List (program.Step × Tree R)) (question : Q) → ¬ OneOf (λ table. TableRefuses refuses table [] question) (map hung given)
   none_at_root [] question h = h

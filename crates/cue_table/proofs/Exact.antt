@@ -1,134 +1,224 @@
 -- Tables with equal answers are equal.
-use Rattle.std.proofs.Common.{◌≡◌, ◌↔◌, Option, Some, None, ◌∷◌, [], refl, sym, ap, subst, ◌∙◌}
-use Rattle.std.specs.Option.{option_and_then}
+use Rattle.std.proofs.Common.{◌≡◌, ◌↔◌, ◌<◌, ◌≤◌, ◌+◌, nat_lt, Bool, true, false, if◌then◌else◌, ℕ, zero, suc, Option, Some, None, ◌∷◌, [], inl, inr, refl, sym, ap, subst, ◌∙◌, arith}
 use Rattle.std.specs.declared.cmp.Ordering.{Ordering}
 use Rattle.std.specs.declared.cmp.Ordering.TheVariants.{Less, Equal, Greater}
-use Rattle.cue_lattice.specs.Path.{Step, step_cmp, Path}
+use Rattle.std.proofs.lemmas.Bool.{cases_lt}
+use Rattle.cue_lattice.specs.Path.{Step, label, index, step_cmp, Path}
 use Rattle.cue_lattice.specs.Pair.{IsExact}
-use Rattle.cue_table.specs.Tree.{Tree, node, Children, none, child, row_of, if_equal, find, branch_at}
+use Rattle.cue_table.specs.Tree.{Tree, node, Children, none, child, Rest, no_rest, onward, if_equal, find, find_with, behind_last}
 use Rattle.cue_table.specs.Refuses.{RowRefuses, TableRefuses}
-use Rattle.cue_table.specs.Form.{IsBelowAll, IsTaken, IsRow, IsTree, AreBranches, IsKept}
-use Rattle.cue_table.proofs.Order.{step_total, equal_steps}
-use Rattle.cue_table.proofs.Finding.{reverse_cmp, same_step}
+use Rattle.cue_table.specs.Form.{IsBelowAll, Rise, IsTaken, IsRow, IsTree, AreBranches, AreWithin, Differs, IsRestOf, IsKept}
+use Rattle.cue_table.proofs.Order.{equal_steps}
+use Rattle.cue_table.proofs.Finding.{reverse_cmp, branches_rise}
+use Rattle.cue_table.proofs.Branches.{find_first, find_before, find_past, find_below, below_all, find_rest, find_fixed, FoundRefuses, not_silent}
 
 module _ {R : Type 0} where
-  -- the first branch is found at its step
-  pub find_first : (step : Step) (tree : Tree R) (children : Children R) → find step (child step tree children) ≡ Some tree
-  find_first step tree children = ap (λ o. if_equal o tree (find step children)) (same_step step)
+  some_none : (t : Tree R) (o : Option (Tree R)) → o ≡ Some t → o ≡ None → ⊥
+  some_none t o e f = cc
 
-  -- before a greater step nothing is found
-  pub find_before : (step next : Step) (tree : Tree R) (children : Children R) → step_cmp step next ≡ Less → find step (child next tree children) ≡ find step children
-  find_before step next tree children h = ap (λ o. if_equal o tree (find step children)) h
+  abbrev or_else : Tree R → Option (Tree R) → Tree R
+  or_else d None = d
+  or_else d (Some t) = t
 
-  -- past a smaller step the search goes on
-  pub find_past : (step next : Step) (tree : Tree R) (children : Children R) → step_cmp step next ≡ Greater → find step (child next tree children) ≡ find step children
-  find_past step next tree children h = ap (λ o. if_equal o tree (find step children)) h
+  -- the branches after the first of two lists that begin alike
+  others_same :
+      (s : Step) (t v : Tree R) (cs ds : Children R) → IsBelowAll s cs → IsBelowAll s ds → ((x : Step) → find x (child s t cs) ≡ find x (child s v ds))
+      → (x : Step) (o : Ordering) → step_cmp x s ≡ o → find x cs ≡ find x ds
+  others_same s t v cs ds h k same x Less e = sym (find_before x s t cs e) ∙ same x ∙ find_before x s v ds e
+  others_same s t v cs ds h k same x Greater e = sym (find_past x s t cs e) ∙ same x ∙ find_past x s v ds e
+  others_same s t v cs ds h k same x Equal e =
+      ap (λ y. find y cs) (equal_steps x s e) ∙ find_below s cs h ∙ sym (find_below s ds k) ∙ sym (ap (λ y. find y ds) (equal_steps x s e))
 
-  -- a step before all is that of none
-  pub find_below : (step : Step) (children : Children R) → IsBelowAll step children → find step children ≡ None
-  find_below step none h = refl
-  find_below step (child next tree children) h = find_before step next tree children h.0 ∙ find_below step children h.1
+  equal_step :
+      (s : Step) (t : Tree R) (cs : Children R) (u : Step) (v : Tree R) (ds : Children R) → Rise (child s t cs) → Rise (child u v ds)
+      → ((x : Step) → find x (child s t cs) ≡ find x (child u v ds)) → (((x : Step) → find x cs ≡ find x ds) → cs ≡ ds)
+      → (o : Ordering) → step_cmp s u ≡ o → child s t cs ≡ child u v ds
+  equal_step s t cs u v ds h k same others Less e =
+      absurd (some_none t (find s (child u v ds)) (sym (same s) ∙ find_first s t cs) (find_below s (child u v ds) (e, below_all s u ds e k.0)))
+  equal_step s t cs u v ds h k same others Greater e =
+      let low : step_cmp u s ≡ Less = reverse_cmp s u Greater e in
+      absurd (some_none v (find u (child s t cs)) (same u ∙ find_first u v ds) (find_below u (child s t cs) (low, below_all u s cs low h.0)))
+  equal_step s t cs u v ds h k same others Equal e =
+      let steps : s ≡ u = equal_steps s u e in
+      let alike : (x : Step) → find x (child s t cs) ≡ find x (child s v ds) = subst (λ y. (x : Step) → find x (child s t cs) ≡ find x (child y v ds)) (sym steps) same in
+      let above : IsBelowAll s ds = subst (λ y. IsBelowAll y ds) (sym steps) k.0 in
+      let branch : t ≡ v = ap (or_else t) (sym (find_first s t cs) ∙ alike s ∙ find_first s v ds) in
+      let left : cs ≡ ds = others (λ x. others_same s t v cs ds h.0 above alike x (step_cmp x s) refl) in
+      λ i. child (steps i) (branch i) (left i)
 
-  -- what is below a step is below all that are above it
-  pub below_all : (a b : Step) (children : Children R) → step_cmp a b ≡ Less → IsBelowAll b children → IsBelowAll a children
-  below_all a b none h k = tt
-  below_all a b (child next tree children) h k = (step_total.trans a b next h k.0, below_all a b children h k.1)
+  -- lists of branches that find the same are the same
+  pub equal_children : (cs ds : Children R) → Rise cs → Rise ds → ((x : Step) → find x cs ≡ find x ds) → cs ≡ ds
+  equal_children none none h k same = refl
+  equal_children none (child u v ds) h k same = absurd (some_none v (find u (child u v ds)) (find_first u v ds) (sym (same u)))
+  equal_children (child s t cs) none h k same = absurd (some_none t (find s (child s t cs)) (find_first s t cs) (same s))
+  equal_children (child s t cs) (child u v ds) h k same =
+      equal_step s t cs u v ds h k same (λ alike. equal_children cs ds h.1 k.1 alike) (step_cmp s u) refl
 
-module _ {R Q : Type 0} (refuses : R → Q → Type 0) where
-  -- what is refused at a path from a branch that may be there
-  abbrev pub FoundRefuses : Option (Tree R) → Path → Q → Type 0
-  FoundRefuses found path = RowRefuses refuses (option_and_then row_of (option_and_then (λ branch. branch_at branch path) found))
+  -- where all elements stand below an index, none is found from there on
+  pub none_within : (n i : ℕ) (cs : Children R) → AreWithin n cs → n ≤ i → find (index i) cs ≡ None
+  none_within n i none h l = refl
+  none_within n i (child (label text) t cs) h l = none_within n i cs h l
+  none_within n i (child (index j) t cs) h l = by (step_cmp (index i) (index j)) refl (none_within n i cs h.1 l)
+    where
+      by : (o : Ordering) → step_cmp (index i) (index j) ≡ o → find (index i) cs ≡ None → find (index i) (child (index j) t cs) ≡ None
+      by Less e k = find_before (index i) (index j) t cs e ∙ k
+      by Greater e k = find_past (index i) (index j) t cs e ∙ k
+      by Equal e k = let same : index i ≡ index j = equal_steps (index i) (index j) e in let number : i ≡ j = cc in absurd (omega (arith, h.0))
 
-  -- the same branches refuse the same
-  pub found_refuses : (a b : Option (Tree R)) → a ≡ b → (path : Path) (question : Q) → FoundRefuses a path question → FoundRefuses b path question
-  found_refuses a b e path question = subst (λ found. FoundRefuses found path question) e
+  -- all elements stand below the index behind the last one
+  pub within_last : (n : ℕ) (cs : Children R) → behind_last cs ≤ n → AreWithin n cs
+  within_last n none l = tt
+  within_last n (child (label text) t cs) l = within_last n cs l
+  within_last n (child (index j) t cs) l = (omega arith, within_last n cs (omega arith))
 
-  -- the same answers below a place
-  abbrev SameBelow : Children R → Children R → Type 0
-  SameBelow cs ds = (step : Step) (path : Path) (question : Q) → FoundRefuses (find step cs) path question ↔ FoundRefuses (find step ds) path question
+  abbrev SameSteps : Children R → Rest R → Children R → Rest R → Type 0
+  SameSteps cs q ds r = (step : Step) → find_with q step cs ≡ find_with r step ds
 
-  module _ (is_value : R → Type 0) where
-    abbrev Kept : R → Type 0
-    Kept = IsKept refuses is_value
+  -- the rest of the one is not silent in the other
+  no_rest_there : (cs : Children R) (n : ℕ) (v : Tree R) (ds : Children R) → SameSteps cs no_rest ds (onward n v) → ⊥
+  no_rest_there cs n v ds same =
+      let far = behind_last cs + n in
+      some_none v (find (index far) cs) (same (index far) ∙ find_rest n v ds far (omega arith)) (none_within far far cs (within_last far cs (omega arith)) (omega arith))
 
-    -- a tree with rows refuses something
-    pub not_silent : (tree : Tree R) → IsTaken tree → IsTree Kept tree → ((path : Path) (question : Q) → ¬ TableRefuses refuses tree path question) → ⊥
-    not_silent (node (Some row) cs) t h silent = h.0.1 (λ question. silent [] question)
-    not_silent (node None none) t h silent = t
-    not_silent (node None (child step tree cs)) t h silent =
-        not_silent tree h.1.1 h.1.2
-        (λ path question k. silent (step ∷ path) question (found_refuses (Some tree) (find step (child step tree cs)) (sym (find_first step tree cs)) path question k))
+  -- rests that begin at different indexes differ in the element before the later one
+  no_later : (m n : ℕ) (t v : Tree R) (cs ds : Children R) → Differs n v ds → SameSteps cs (onward m t) ds (onward n v) → t ≡ v → m < n → ⊥
+  no_later m zero t v cs ds d same e l = absurd (omega arith)
+  no_later m (suc i) t v cs ds d same e l =
+      d (sym (find_fixed (suc i) v ds i (omega arith)) ∙ sym (same (index i)) ∙ find_rest m t cs i (omega arith) ∙ ap Some e)
 
-    -- a branch that is found on one side is found on the other
-    found_both : (found : Option (Tree R)) (other : Option (Tree R)) (tree : Tree R) → found ≡ Some tree → other ≡ None → IsTaken tree → IsTree Kept tree → ((path : Path) (question : Q) → FoundRefuses found path question → FoundRefuses other path question) → ⊥
-    found_both found other tree e n t h same =
-        not_silent tree t h
-        (λ path question k. found_refuses other None n path question (same path question (found_refuses (Some tree) found (sym e) path question k)))
+  same_find :
+      (m n : ℕ) (t v : Tree R) (cs ds : Children R) → m ≡ n → AreWithin m cs → AreWithin n ds
+      → SameSteps cs (onward m t) ds (onward n v) → (step : Step) → find step cs ≡ find step ds
+  same_find m n t v cs ds e h k same (label text) = same (label text)
+  same_find m n t v cs ds e h k same (index i) = elim (cases_lt i m) [
+    | inl low ↦ sym (find_fixed m t cs i low) ∙ same (index i) ∙ find_fixed n v ds i (omega arith)
+    | inr high ↦ none_within m i cs h high ∙ sym (none_within n i ds k (omega arith))
+  ]
 
-    module _ (exact : IsExact refuses is_value) where
-      exact_row : (q r : Option R) → IsRow Kept q → IsRow Kept r → ((question : Q) → RowRefuses refuses q question ↔ RowRefuses refuses r question) → q ≡ r
-      exact_row None None h k same = refl
-      exact_row (Some q) (Some r) h k same = ap Some (exact q r h.0 k.0 same)
-      exact_row None (Some r) h k same = absurd (k.1 (λ question. (same question).1))
-      exact_row (Some q) None h k same = absurd (h.1 (λ question. (same question).0))
+  -- places where the same is found at each step have the same branches and the same rest
+  pub equal_below :
+      (P : R → Type 0) (cs ds : Children R) (q r : Rest R) → AreBranches P cs → AreBranches P ds → IsRestOf P cs q → IsRestOf P ds r
+      → SameSteps cs q ds r → (cs ≡ ds) × (q ≡ r)
+  equal_below P cs ds no_rest no_rest h k x y same = (equal_children cs ds (branches_rise P cs h) (branches_rise P ds k) same, refl)
+  equal_below P cs ds no_rest (onward n v) h k x y same = absurd (no_rest_there cs n v ds same)
+  equal_below P cs ds (onward m t) no_rest h k x y same = absurd (no_rest_there ds m t cs (λ step. sym (same step)))
+  equal_below P cs ds (onward m t) (onward n v) h k x y same =
+      let far = m + n in
+      let tree : t ≡ v = ap (or_else t) (sym (find_rest m t cs far (omega arith)) ∙ same (index far) ∙ find_rest n v ds far (omega arith)) in
+      let number : m ≡ n = elim (cases_lt m n) [
+        | inl l ↦ absurd (no_later m n t v cs ds y.1 same tree l)
+        | inr l ↦ elim (cases_lt n m) [
+          | inl g ↦ absurd (no_later n m v t ds cs x.1 (λ step. sym (same step)) (sym tree) g)
+          | inr g ↦ omega arith
+        ]
+      ] in
+      (equal_children cs ds (branches_rise P cs h) (branches_rise P ds k) (same_find m n t v cs ds number x.0 y.0 same), λ i. onward (number i) (tree i))
 
-      -- the answers after the first of two lists of branches that begin alike
-      rest_same :
-          (s : Step) (t v : Tree R) (cs ds : Children R) → IsBelowAll s cs → IsBelowAll s ds → SameBelow (child s t cs) (child s v ds)
-          → (step : Step) (o : Ordering) → step_cmp step s ≡ o → (path : Path) (question : Q)
-          → FoundRefuses (find step cs) path question → FoundRefuses (find step ds) path question
-      rest_same s t v cs ds h k same step Less e path question q =
-          found_refuses _ _ (find_before step s v ds e) path question ((same step path question).0 (found_refuses _ _ (sym (find_before step s t cs e)) path question q))
-      rest_same s t v cs ds h k same step Greater e path question q =
-          found_refuses _ _ (find_past step s v ds e) path question ((same step path question).0 (found_refuses _ _ (sym (find_past step s t cs e)) path question q))
-      rest_same s t v cs ds h k same step Equal e path question q =
-          let none : find step cs ≡ None = ap (λ x. find x cs) (equal_steps step s e) ∙ find_below s cs h in
-          absurd (found_refuses (find step cs) None none path question q)
+module _ {R Q : Type 0} (refuses : R → Q → Type 0) (is_value : R → Type 0) where
+  abbrev Kept : R → Type 0
+  Kept = IsKept refuses is_value
 
-      flip : (cs ds : Children R) → SameBelow cs ds → SameBelow ds cs
-      flip cs ds same step path question = ((same step path question).1, (same step path question).0)
+  abbrev SameRefusals : Tree R → Tree R → Type 0
+  SameRefusals a b = (path : Path) (question : Q) → TableRefuses refuses a path question ↔ TableRefuses refuses b path question
 
-      -- two lists of branches with equal answers, where the first branches and the others are told by their answers
-      exact_step :
-          (s : Step) (t : Tree R) (cs : Children R) (u : Step) (v : Tree R) (ds : Children R) → AreBranches Kept (child s t cs) → AreBranches Kept (child u v ds)
-          → SameBelow (child s t cs) (child u v ds)
-          → (((path : Path) (question : Q) → TableRefuses refuses t path question ↔ TableRefuses refuses v path question) → t ≡ v)
-          → (SameBelow cs ds → cs ≡ ds)
-          → (o : Ordering) → step_cmp s u ≡ o → child s t cs ≡ child u v ds
-      exact_step s t cs u v ds h k same first others Less e =
-          absurd (found_both _ _ t (find_first s t cs) (find_below s (child u v ds) (e, below_all s u ds e k.0)) h.1 h.2 (λ path question. (same s path question).0))
-      exact_step s t cs u v ds h k same first others Greater e =
-          let low : step_cmp u s ≡ Less = reverse_cmp s u Greater e in
-          absurd (found_both _ _ v (find_first u v ds) (find_below u (child s t cs) (low, below_all u s cs low h.0)) k.1 k.2 (λ path question. (same u path question).1))
-      exact_step s t cs u v ds h k same first others Equal e =
-          let steps : s ≡ u = equal_steps s u e in
-          let alike : SameBelow (child s t cs) (child s v ds) = subst (λ x. SameBelow (child s t cs) (child x v ds)) (sym steps) same in
-          let above : IsBelowAll s ds = subst (λ x. IsBelowAll x ds) (sym steps) k.0 in
-          let branch : t ≡ v =
-          first (λ path question. (
-            λ q. found_refuses _ _ (find_first s v ds) path question ((alike s path question).0 (found_refuses _ _ (sym (find_first s t cs)) path question q)),
-            λ q. found_refuses _ _ (find_first s t cs) path question ((alike s path question).1 (found_refuses _ _ (sym (find_first s v ds)) path question q)),
-          )) in
-          let rest : cs ≡ ds =
-          others (λ step path question. (
-            λ q. rest_same s t v cs ds h.0 above alike step (step_cmp step s) refl path question q,
-            λ q. rest_same s v t ds cs above h.0 (flip (child s t cs) (child s v ds) alike) step (step_cmp step s) refl path question q,
-          )) in
-          λ i. child (steps i) (branch i) (rest i)
+  abbrev pub FoundSame : Option (Tree R) → Option (Tree R) → Type 0
+  FoundSame a b = (path : Path) (question : Q) → FoundRefuses refuses a path question ↔ FoundRefuses refuses b path question
 
-      mutual
-        -- trees in form with equal answers are equal
-        pub exact_tree : (a b : Tree R) → IsTree Kept a → IsTree Kept b → ((path : Path) (question : Q) → TableRefuses refuses a path question ↔ TableRefuses refuses b path question) → a ≡ b
-        exact_tree (node q cs) (node r ds) h k same =
-            let row = exact_row q r h.0 k.0 (λ question. same [] question) in
-            let children = exact_children cs ds h.1 k.1 (λ step path question. same (step ∷ path) question) in
-            λ i. node (row i) (children i)
+  -- what may be found: a tree in form that is not empty
+  abbrev pub IsFound : Option (Tree R) → Type 0
+  IsFound None = Unit {0}
+  IsFound (Some tree) = IsTaken tree × IsTree Kept tree
 
-        exact_children : (cs ds : Children R) → AreBranches Kept cs → AreBranches Kept ds → SameBelow cs ds → cs ≡ ds
-        exact_children none none h k same = refl
-        exact_children none (child u v ds) h k same =
-            absurd (found_both _ _ v (find_first u v ds) refl k.1 k.2 (λ path question. (same u path question).1))
-        exact_children (child s t cs) none h k same =
-            absurd (found_both _ _ t (find_first s t cs) refl h.1 h.2 (λ path question. (same s path question).0))
-        exact_children (child s t cs) (child u v ds) h k same =
-            exact_step s t cs u v ds h k same (λ alike. exact_tree t v h.2 k.2 alike) (λ alike. exact_children cs ds h.3 k.3 alike) (step_cmp s u) refl
+  found_by : (o : Ordering) (t : Tree R) (other : Option (Tree R)) → IsTaken t × IsTree Kept t → IsFound other → IsFound (if_equal o t other)
+  found_by Less t other h k = k
+  found_by Equal t other h k = h
+  found_by Greater t other h k = k
+
+  found : (s : Step) (cs : Children R) → AreBranches Kept cs → IsFound (find s cs)
+  found s none h = tt
+  found s (child u t cs) h = found_by (step_cmp s u) t (find s cs) (h.1, h.2) (found s cs h.3)
+
+  found_if : (b : Bool) (own : Option (Tree R)) (t : Tree R) → IsFound own → IsTaken t × IsTree Kept t → IsFound (if b then own else Some t)
+  found_if true own t h k = h
+  found_if false own t h k = k
+
+  found_with : (r : Rest R) (s : Step) (cs : Children R) → AreBranches Kept cs → IsRestOf Kept cs r → IsFound (find_with r s cs)
+  found_with no_rest s cs h k = found s cs h
+  found_with (onward n t) (label text) cs h k = found (label text) cs h
+  found_with (onward n t) (index i) cs h k = found_if (nat_lt i n) (find (index i) cs) t (found (index i) cs h) (k.2, k.3)
+
+  module _ (exact : IsExact refuses is_value) where
+    exact_row : (q r : Option R) → IsRow Kept q → IsRow Kept r → ((question : Q) → RowRefuses refuses q question ↔ RowRefuses refuses r question) → q ≡ r
+    exact_row None None h k same = refl
+    exact_row (Some q) (Some r) h k same = ap Some (exact q r h.0 k.0 same)
+    exact_row None (Some r) h k same = absurd (k.1 (λ question. (same question).1))
+    exact_row (Some q) None h k same = absurd (h.1 (λ question. (same question).0))
+
+    -- the tree is told by its answers
+    abbrev IsTold : Tree R → Type 0
+    IsTold t = (v : Tree R) → IsTree Kept v → SameRefusals t v → t ≡ v
+
+    abbrev AreTold : Children R → Type 0
+    AreTold none = Unit {0}
+    AreTold (child s t cs) = IsTold t × AreTold cs
+
+    abbrev IsRestTold : Rest R → Type 0
+    IsRestTold no_rest = Unit {0}
+    IsRestTold (onward n t) = IsTold t
+
+    abbrev IsToldIf : Option (Tree R) → Type 0
+    IsToldIf None = Unit {0}
+    IsToldIf (Some t) = IsTold t
+
+    told_by : (o : Ordering) (t : Tree R) (other : Option (Tree R)) → IsTold t → IsToldIf other → IsToldIf (if_equal o t other)
+    told_by Less t other h k = k
+    told_by Equal t other h k = h
+    told_by Greater t other h k = k
+
+    told_at : (s : Step) (cs : Children R) → AreTold cs → IsToldIf (find s cs)
+    told_at s none h = tt
+    told_at s (child u t cs) h = told_by (step_cmp s u) t (find s cs) h.0 (told_at s cs h.1)
+
+    told_if : (b : Bool) (own : Option (Tree R)) (t : Tree R) → IsToldIf own → IsTold t → IsToldIf (if b then own else Some t)
+    told_if true own t h k = h
+    told_if false own t h k = k
+
+    told_with : (r : Rest R) (s : Step) (cs : Children R) → AreTold cs → IsRestTold r → IsToldIf (find_with r s cs)
+    told_with no_rest s cs h k = told_at s cs h
+    told_with (onward n t) (label text) cs h k = told_at (label text) cs h
+    told_with (onward n t) (index i) cs h k = told_if (nat_lt i n) (find (index i) cs) t (told_at (index i) cs h) k
+
+    exact_found : (o p : Option (Tree R)) → IsFound o → IsFound p → IsToldIf o → FoundSame o p → o ≡ p
+    exact_found None None h k told same = refl
+    exact_found (Some t) None h k told same = absurd (not_silent refuses is_value t h.0 h.1 (λ path question. (same path question).0))
+    exact_found None (Some v) h k told same = absurd (not_silent refuses is_value v k.0 k.1 (λ path question. (same path question).1))
+    exact_found (Some t) (Some v) h k told same = ap Some (told v k.1 same)
+
+    mutual
+      -- trees in form with equal answers are equal
+      pub exact_tree : (a b : Tree R) → IsTree Kept a → IsTree Kept b → SameRefusals a b → a ≡ b
+      exact_tree (node p cs q) (node s ds r) h k same =
+          let row = exact_row p s h.0 k.0 (λ question. same [] question) in
+          let children = all_told cs h.1 in
+          let rest = rest_told cs q h.2 in
+          let below =
+          equal_below Kept cs ds q r h.1 k.1 h.2 k.2
+          (λ step. exact_found (find_with q step cs) (find_with r step ds) (found_with q step cs h.1 h.2) (found_with r step ds k.1 k.2)
+          (told_with q step cs children rest) (λ path question. same (step ∷ path) question)) in
+          λ i. node (row i) (below.0 i) (below.1 i)
+
+      all_told : (cs : Children R) → AreBranches Kept cs → AreTold cs
+      all_told none h = tt
+      all_told (child s t cs) h = (λ v k same. exact_tree t v h.2 k same, all_told cs h.3)
+
+      rest_told : (cs : Children R) (r : Rest R) → IsRestOf Kept cs r → IsRestTold r
+      rest_told cs no_rest h = tt
+      rest_told cs (onward n t) h = λ v k same. exact_tree t v h.3 k same
+
+    found_told : (o : Option (Tree R)) → IsFound o → IsToldIf o
+    found_told None h = tt
+    found_told (Some t) h = λ v k same. exact_tree t v h.1 k same
+
+    -- what is found with equal answers is the same
+    pub exact_branch : (o p : Option (Tree R)) → IsFound o → IsFound p → FoundSame o p → o ≡ p
+    exact_branch o p h k same = exact_found o p h k (found_told o h) same

@@ -2,11 +2,11 @@
 use Rattle.std.proofs.Common.{◌≡◌, ℕ, zero, suc, ◌+◌, ◌-◌, ◌≤◌, ◌<◌, List, [], ◌∷◌, ◌++◌, append_assoc, length, take, drop, refl, sym, ap, subst, ◌∙◌, arith}
 use Rattle.cue_row.specs.Steps.{step_of}
 use Rattle.cue_table.specs.declared.node.Child.{Child}
-use Rattle.cue_table.specs.declared.plan.Slot.{Slot}
-use Rattle.cue_table.specs.declared.plan.Slot.TheVariants.{Keep, Insert, Alter}
+use Rattle.cue_table.specs.declared.plan.Piece.{Piece}
+use Rattle.cue_table.specs.declared.plan.Piece.TheVariants.{Keep, Insert, Alter}
 use Rattle.cue_table.specs.Tree.{Children, none, child}
-use Rattle.cue_table.specs.Inner.Plan.{Change, changed, merged, width, join, front, first_changed, slots_size}
-use Rattle.cue_table.specs.Inner.PlanView.{slots_of}
+use Rattle.cue_table.specs.Inner.Plan.{Change, changed, merged, width, join, front, first_changed, pieces_size}
+use Rattle.cue_table.specs.Inner.PlanView.{pieces_of}
 use Rattle.cue_table.specs.Inner.View.{branches}
 use Rattle.cue_table.proofs.Planning.{past_drop}
 
@@ -29,15 +29,15 @@ module _ {R Q : Type 0} where
   branches_take (suc n) [] = refl
   branches_take (suc n) (x ∷ xs) = ap (child (step_of x.step) x.node) (branches_take n xs)
 
-  -- What is made so far, and what the slots that are left make of the branches that are left, is the whole.
-  pub record Fills (old : List (Child R Q)) (slots : List (Slot R Q)) (made rest : List (Child R Q)) (others : List (Slot R Q)) (len cap : ℕ) : Type 0 where
-    pub whole : join (branches made) (merged (slots_of others) (branches rest)) ≡ merged (slots_of slots) (branches old)
-    pub room : len + width (slots_of others) ≤ cap
-    pub smaller : slots_size (slots_of others) ≤ slots_size (slots_of slots)
+  -- What is made so far, and what the pieces that are left make of the branches that are left, is the whole.
+  pub record Fills (old : List (Child R Q)) (pieces : List (Piece R Q)) (made rest : List (Child R Q)) (others : List (Piece R Q)) (len cap : ℕ) : Type 0 where
+    pub whole : join (branches made) (merged (pieces_of others) (branches rest)) ≡ merged (pieces_of pieces) (branches old)
+    pub room : len + width (pieces_of others) ≤ cap
+    pub smaller : pieces_size (pieces_of others) ≤ pieces_size (pieces_of pieces)
 
-  pub fills_start : (old made : List (Child R Q)) (slots : List (Slot R Q)) (len cap : ℕ) → made ≡ [] → len ≡ 0 → width (slots_of slots) ≤ cap → Fills old slots made old slots len cap
-  fills_start old made slots len cap e n w = record {
-    whole = ap (λ x. join (branches x) (merged (slots_of slots) (branches old))) e;
+  pub fills_start : (old made : List (Child R Q)) (pieces : List (Piece R Q)) (len cap : ℕ) → made ≡ [] → len ≡ 0 → width (pieces_of pieces) ≤ cap → Fills old pieces made old pieces len cap
+  fills_start old made pieces len cap e n w = record {
+    whole = ap (λ x. join (branches x) (merged (pieces_of pieces) (branches old))) e;
     room = omega arith;
     smaller = omega arith;
   }
@@ -54,86 +54,86 @@ module _ {R Q : Type 0} where
   one_more made c more = ap (λ x. join x more) (branches_join made (c ∷ [])) ∙ join_assoc (branches made) (branches (c ∷ [])) more
 
   pub fills_keep :
-      (old : List (Child R Q)) (slots : List (Slot R Q)) (made rest : List (Child R Q)) (others : List (Slot R Q)) (len len' cap n : ℕ)
-      → Fills old slots made rest (Keep n ∷ others) len cap → len' ≤ len + n → Fills old slots (made ++ take n rest) (drop n rest) others len' cap
-  fills_keep old slots made rest others len len' cap n f l =
+      (old : List (Child R Q)) (pieces : List (Piece R Q)) (made rest : List (Child R Q)) (others : List (Piece R Q)) (len len' cap n : ℕ)
+      → Fills old pieces made rest (Keep n ∷ others) len cap → len' ≤ len + n → Fills old pieces (made ++ take n rest) (drop n rest) others len' cap
+  fills_keep old pieces made rest others len len' cap n f l =
       let room = f.room in
       let small = f.smaller in
       record {
-        whole = moved n made rest (merged (slots_of others) (branches (drop n rest)))
-            ∙ ap (λ x. join (branches made) (join (front n (branches rest)) (merged (slots_of others) x))) (sym (past_drop n rest)) ∙ f.whole;
+        whole = moved n made rest (merged (pieces_of others) (branches (drop n rest)))
+            ∙ ap (λ x. join (branches made) (join (front n (branches rest)) (merged (pieces_of others) x))) (sym (past_drop n rest)) ∙ f.whole;
         room = omega arith;
         smaller = omega arith;
       }
 
   pub fills_insert :
-      (old : List (Child R Q)) (slots : List (Slot R Q)) (made rest : List (Child R Q)) (others : List (Slot R Q)) (len len' cap n : ℕ) (c : Child R Q)
-      → Fills old slots made rest (Insert n c ∷ others) len cap → len' ≤ len + n → Fills old slots ((made ++ take n rest) ++ c ∷ []) (drop n rest) others (len' + 1) cap
-  fills_insert old slots made rest others len len' cap n c f l =
+      (old : List (Child R Q)) (pieces : List (Piece R Q)) (made rest : List (Child R Q)) (others : List (Piece R Q)) (len len' cap n : ℕ) (c : Child R Q)
+      → Fills old pieces made rest (Insert n c ∷ others) len cap → len' ≤ len + n → Fills old pieces ((made ++ take n rest) ++ c ∷ []) (drop n rest) others (len' + 1) cap
+  fills_insert old pieces made rest others len len' cap n c f l =
       let room = f.room in
       let small = f.smaller in
       record {
-        whole = one_more (made ++ take n rest) c (merged (slots_of others) (branches (drop n rest)))
-            ∙ moved n made rest (child (step_of c.step) c.node (merged (slots_of others) (branches (drop n rest))))
-            ∙ ap (λ x. join (branches made) (join (front n (branches rest)) (child (step_of c.step) c.node (merged (slots_of others) x)))) (sym (past_drop n rest)) ∙ f.whole;
+        whole = one_more (made ++ take n rest) c (merged (pieces_of others) (branches (drop n rest)))
+            ∙ moved n made rest (child (step_of c.step) c.node (merged (pieces_of others) (branches (drop n rest))))
+            ∙ ap (λ x. join (branches made) (join (front n (branches rest)) (child (step_of c.step) c.node (merged (pieces_of others) x)))) (sym (past_drop n rest)) ∙ f.whole;
         room = omega arith;
         smaller = omega arith;
       }
 
   -- the next branch changes
   pub fills_alter :
-      (old : List (Child R Q)) (slots : List (Slot R Q)) (made rest : List (Child R Q)) (others : List (Slot R Q)) (len len' cap n : ℕ) (next : Change R)
+      (old : List (Child R Q)) (pieces : List (Piece R Q)) (made rest : List (Child R Q)) (others : List (Piece R Q)) (len len' cap n : ℕ) (next : Change R)
       (c d : Child R Q) (after : List (Child R Q))
-      → Fills old slots made rest (Alter n next ∷ others) len cap → len' ≤ len + n → drop n rest ≡ c ∷ after → d.step ≡ c.step → d.node ≡ changed next c.node
-      → Fills old slots ((made ++ take n rest) ++ d ∷ []) after others (len' + 1) cap
-  fills_alter old slots made rest others len len' cap n next c d after f l e s t =
+      → Fills old pieces made rest (Alter n next ∷ others) len cap → len' ≤ len + n → drop n rest ≡ c ∷ after → d.step ≡ c.step → d.node ≡ changed next c.node
+      → Fills old pieces ((made ++ take n rest) ++ d ∷ []) after others (len' + 1) cap
+  fills_alter old pieces made rest others len len' cap n next c d after f l e s t =
       let room = f.room in
       let small = f.smaller in
       record {
-        whole = one_more (made ++ take n rest) d (merged (slots_of others) (branches after))
-            ∙ moved n made rest (child (step_of d.step) d.node (merged (slots_of others) (branches after)))
-            ∙ ap (λ x. join (branches made) (join (front n (branches rest)) (child (step_of x) d.node (merged (slots_of others) (branches after))))) s
-            ∙ ap (λ x. join (branches made) (join (front n (branches rest)) (child (step_of c.step) x (merged (slots_of others) (branches after))))) t
-            ∙ ap (λ x. join (branches made) (join (front n (branches rest)) (first_changed (changed next) (merged (slots_of others)) (branches x)))) (sym e)
-            ∙ ap (λ x. join (branches made) (join (front n (branches rest)) (first_changed (changed next) (merged (slots_of others)) x))) (sym (past_drop n rest)) ∙ f.whole;
+        whole = one_more (made ++ take n rest) d (merged (pieces_of others) (branches after))
+            ∙ moved n made rest (child (step_of d.step) d.node (merged (pieces_of others) (branches after)))
+            ∙ ap (λ x. join (branches made) (join (front n (branches rest)) (child (step_of x) d.node (merged (pieces_of others) (branches after))))) s
+            ∙ ap (λ x. join (branches made) (join (front n (branches rest)) (child (step_of c.step) x (merged (pieces_of others) (branches after))))) t
+            ∙ ap (λ x. join (branches made) (join (front n (branches rest)) (first_changed (changed next) (merged (pieces_of others)) (branches x)))) (sym e)
+            ∙ ap (λ x. join (branches made) (join (front n (branches rest)) (first_changed (changed next) (merged (pieces_of others)) x))) (sym (past_drop n rest)) ∙ f.whole;
         room = omega arith;
         smaller = omega arith;
       }
 
   -- no branch is left to change
   pub fills_none :
-      (old : List (Child R Q)) (slots : List (Slot R Q)) (made rest : List (Child R Q)) (others : List (Slot R Q)) (len len' cap n : ℕ) (next : Change R) (after : List (Child R Q))
-      → Fills old slots made rest (Alter n next ∷ others) len cap → len' ≤ len + n → drop n rest ≡ after → length after ≡ 0
-      → Fills old slots (made ++ take n rest) after others len' cap
-  fills_none old slots made rest others len len' cap n next [] f l e z =
+      (old : List (Child R Q)) (pieces : List (Piece R Q)) (made rest : List (Child R Q)) (others : List (Piece R Q)) (len len' cap n : ℕ) (next : Change R) (after : List (Child R Q))
+      → Fills old pieces made rest (Alter n next ∷ others) len cap → len' ≤ len + n → drop n rest ≡ after → length after ≡ 0
+      → Fills old pieces (made ++ take n rest) after others len' cap
+  fills_none old pieces made rest others len len' cap n next [] f l e z =
       let room = f.room in
       let small = f.smaller in
       record {
-        whole = moved n made rest (merged (slots_of others) none)
-            ∙ ap (λ x. join (branches made) (join (front n (branches rest)) (first_changed (changed next) (merged (slots_of others)) (branches x)))) (sym e)
-            ∙ ap (λ x. join (branches made) (join (front n (branches rest)) (first_changed (changed next) (merged (slots_of others)) x))) (sym (past_drop n rest)) ∙ f.whole;
+        whole = moved n made rest (merged (pieces_of others) none)
+            ∙ ap (λ x. join (branches made) (join (front n (branches rest)) (first_changed (changed next) (merged (pieces_of others)) (branches x)))) (sym e)
+            ∙ ap (λ x. join (branches made) (join (front n (branches rest)) (first_changed (changed next) (merged (pieces_of others)) x))) (sym (past_drop n rest)) ∙ f.whole;
         room = omega arith;
         smaller = omega arith;
       }
-  fills_none old slots made rest others len len' cap n next (c ∷ after) f l e z = absurd (omega arith)
+  fills_none old pieces made rest others len len' cap n next (c ∷ after) f l e z = absurd (omega arith)
 
-  pub fills_end : (old : List (Child R Q)) (slots : List (Slot R Q)) (made rest : List (Child R Q)) (others : List (Slot R Q)) (len cap : ℕ) → Fills old slots made rest others len cap → length others ≡ 0
-      → branches made ≡ merged (slots_of slots) (branches old)
-  fills_end old slots made rest [] len cap f z = sym (join_none (branches made)) ∙ f.whole
-  fills_end old slots made rest (s ∷ others) len cap f z = absurd (omega arith)
+  pub fills_end : (old : List (Child R Q)) (pieces : List (Piece R Q)) (made rest : List (Child R Q)) (others : List (Piece R Q)) (len cap : ℕ) → Fills old pieces made rest others len cap → length others ≡ 0
+      → branches made ≡ merged (pieces_of pieces) (branches old)
+  fills_end old pieces made rest [] len cap f z = sym (join_none (branches made)) ∙ f.whole
+  fills_end old pieces made rest (s ∷ others) len cap f z = absurd (omega arith)
 
-  -- the first slots of those that are left, as the code has them
-  pub fills_next : (old : List (Child R Q)) (slots : List (Slot R Q)) (made rest : List (Child R Q)) (all others : List (Slot R Q)) (len cap : ℕ) (s k : Slot R Q) → Fills old slots made rest all len cap → all ≡ s ∷ others → s ≡ k
-      → Fills old slots made rest (k ∷ others) len cap
-  fills_next old slots made rest all others len cap s k f e h = subst (λ x. Fills old slots made rest x len cap) (e ∙ ap (λ x. x ∷ others) h) f
+  -- the first pieces of those that are left, as the code has them
+  pub fills_next : (old : List (Child R Q)) (pieces : List (Piece R Q)) (made rest : List (Child R Q)) (all others : List (Piece R Q)) (len cap : ℕ) (s k : Piece R Q) → Fills old pieces made rest all len cap → all ≡ s ∷ others → s ≡ k
+      → Fills old pieces made rest (k ∷ others) len cap
+  fills_next old pieces made rest all others len cap s k f e h = subst (λ x. Fills old pieces made rest x len cap) (e ∙ ap (λ x. x ∷ others) h) f
 
   pub fills_as :
-      (old : List (Child R Q)) (slots : List (Slot R Q)) (a b rest after : List (Child R Q)) (others : List (Slot R Q)) (m n k l : ℕ) → Fills old slots a rest others m k → b ≡ a → after ≡ rest → n ≤ m → k ≤ l
-      → Fills old slots b after others n l
-  fills_as old slots a b rest after others m n k l f e h x y =
+      (old : List (Child R Q)) (pieces : List (Piece R Q)) (a b rest after : List (Child R Q)) (others : List (Piece R Q)) (m n k l : ℕ) → Fills old pieces a rest others m k → b ≡ a → after ≡ rest → n ≤ m → k ≤ l
+      → Fills old pieces b after others n l
+  fills_as old pieces a b rest after others m n k l f e h x y =
       let room = f.room in
       record {
-        whole = ap (λ z. join (branches z) (merged (slots_of others) (branches after))) e ∙ ap (λ z. join (branches a) (merged (slots_of others) (branches z))) h ∙ f.whole;
+        whole = ap (λ z. join (branches z) (merged (pieces_of others) (branches after))) e ∙ ap (λ z. join (branches a) (merged (pieces_of others) (branches z))) h ∙ f.whole;
         room = omega arith;
         smaller = f.smaller;
       }

@@ -1,5 +1,5 @@
 -- What a binary search among the branches of a node finds.
-use Rattle.std.proofs.Common.{◌≡◌, ℕ, zero, suc, ◌<◌, ◌≤◌, ◌+◌, List, [], ◌∷◌, length, map, drop, drop-cons, add-one, get_or, Result, Ok, Err, Option, Some, None, refl, sym, subst, ap, ◌∙◌, arith, ⊎_elim}
+use Rattle.std.proofs.Common.{◌≡◌, Bool, true, false, nat_lt, if◌then◌else◌, ℕ, zero, suc, ◌<◌, ◌≤◌, ◌+◌, List, [], ◌∷◌, length, map, drop, drop-cons, add-one, get_or, Result, Ok, Err, Option, Some, None, refl, sym, subst, ap, ◌∙◌, arith, ⊎_elim}
 use Rattle.std.specs.Option.{option_and_then}
 use Rattle.std.specs.Result.{MatchResult}
 use Rattle.std.proofs.lemmas.Bool.{cases_lt}
@@ -7,11 +7,11 @@ use Rattle.std.specs.Ordering.{ordering_index, ordering_reverse}
 use Rattle.std.specs.declared.cmp.Ordering.{Ordering}
 use Rattle.std.specs.declared.cmp.Ordering.TheVariants.{Less, Equal, Greater}
 use Rattle.std.specs.List.Sorted.{IsNonDecreasingBy, IsBinarySearchResult, IsSearchInRange}
-use Rattle.cue_lattice.specs.Path.{Step, step_cmp}
+use Rattle.cue_lattice.specs.Path.{Step, label, index, step_cmp}
 use Rattle.cue_row.specs.Steps.{step_of}
 use Rattle.cue_row.specs.declared.step.Step as steps
-use Rattle.cue_table.specs.Tree.{Tree, node, Children, none, child, below, find, if_equal, branch_at}
-use Rattle.cue_table.specs.Form.{IsBelowAll, Rise, IsTaken, IsTree, AreBranches}
+use Rattle.cue_table.specs.Tree.{Tree, node, Children, none, child, Rest, no_rest, onward, below, find, find_with, step_into, if_equal, branch_at}
+use Rattle.cue_table.specs.Form.{IsBelowAll, Rise, IsTaken, IsTree, AreBranches, IsRestOf}
 use Rattle.cue_table.specs.Inner.Place.{AreBefore, IsPlace, IsGap}
 use Rattle.cue_table.specs.Inner.Plan.{past}
 use Rattle.cue_table.specs.Inner.View.{branches}
@@ -154,16 +154,27 @@ find_form P step (child next here children) tree h e =
 
 -- the steps of the branches rise where the tree is in form
 pub tree_rises : {R : Type 0} (P : R → Type 0) (tree : Tree R) → IsTree P tree → Rise (below tree)
-tree_rises P (node row children) h = branches_rise P children h.1
+tree_rises P (node row children rest) h = branches_rise P children h.1
+
+-- what is found among the elements of a list or is its rest
+found_else : {R : Type 0} (P : Tree R → Type 0) (b : Bool) (own : Option (Tree R)) (rest next : Tree R) → (own ≡ Some next → P next) → P rest → (if b then own else Some rest) ≡ Some next → P next
+found_else P true own rest next h k e = h e
+found_else P false own rest next h k e = let same : rest ≡ next = cc in subst P same k
+
+found_with : {R : Type 0} (P : R → Type 0) (rest : Rest R) (step : Step) (children : Children R) (next : Tree R) → AreBranches P children → IsRestOf P children rest → find_with rest step children ≡ Some next → IsTaken next × IsTree P next
+found_with P no_rest step children next h k e = find_form P step children next h e
+found_with P (onward n tree) (label text) children next h k e = find_form P (label text) children next h e
+found_with P (onward n tree) (index i) children next h k e =
+    found_else (λ t. IsTaken t × IsTree P t) (nat_lt i n) (find (index i) children) tree next (λ f. find_form P (index i) children next h f) (k.2, k.3) e
 
 -- where a branch of a tree in form is found, it is in form and not empty
-pub found_form : {R : Type 0} (P : R → Type 0) (step : Step) (tree next : Tree R) → IsTree P tree → find step (below tree) ≡ Some next → IsTaken next × IsTree P next
-found_form P step (node row children) next h e = find_form P step children next h.1 e
+pub found_form : {R : Type 0} (P : R → Type 0) (step : Step) (tree next : Tree R) → IsTree P tree → step_into tree step ≡ Some next → IsTaken next × IsTree P next
+found_form P step (node row children rest) next h e = found_with P rest step children next h.1 h.2 e
 
 -- one step further along a path
 pub walk_on :
     {R : Type 0} (P : R → Type 0) (tree next : Tree R) (path : List steps.Step) (k : ℕ) (step : steps.Step) (found : Option (Tree R))
-    → IsTree P tree → k < length path → step ≡ get_or path k step → Some next ≡ find (step_of step) (below tree)
+    → IsTree P tree → k < length path → step ≡ get_or path k step → Some next ≡ step_into tree (step_of step)
     → branch_at tree (map step_of (drop k path)) ≡ found
     → IsTree P next × (branch_at next (map step_of (drop (k + 1) path)) ≡ found)
 walk_on P tree next path k step found h l i e r =

@@ -10,18 +10,18 @@ use Rattle.cue_lattice.specs.Path.{Step, step_cmp, Path}
 use Rattle.cue_row.specs.Steps.{step_of}
 use Rattle.cue_row.specs.declared.step.Step as program
 use Rattle.cue_table.specs.declared.node.Child.{Child}
-use Rattle.cue_table.specs.Tree.{Tree, node, Children, none, child, empty, taken, find}
+use Rattle.cue_table.specs.Tree.{Tree, node, Children, none, child, Rest, no_rest, onward, empty, taken, find}
 use Rattle.cue_table.specs.Depth.{tree_depth, children_depth}
-use Rattle.cue_table.specs.Form.{IsBelowAll, IsTaken, IsTree, AreBranches}
+use Rattle.cue_table.specs.Form.{IsBelowAll, IsTaken, IsTree, AreBranches, IsRestOf}
 use Rattle.cue_table.specs.Many.{IsOfBranches, IsUnified, under}
 use Rattle.cue_table.specs.Meet.{IsMet, IsAdded}
 use Rattle.cue_table.specs.Inner.Plan.{or_row}
 use Rattle.cue_table.specs.Refuses.{RowRefuses, TableRefuses}
 use Rattle.cue_table.specs.RowList.{last_cmp}
 use Rattle.cue_table.specs.Inner.View.{branches}
-use Rattle.cue_table.proofs.Appending.{form_more, depth_last}
+use Rattle.cue_table.proofs.Last.{form_more, depth_last}
 use Rattle.cue_table.proofs.ByHalves.{hung, free, one_branch, under_root, under_step, branches_given}
-use Rattle.cue_table.proofs.Exact.{FoundRefuses, find_first, find_before, find_past, found_refuses}
+use Rattle.cue_table.proofs.Branches.{FoundRefuses, find_first, find_before, find_past, found_refuses}
 use Rattle.cue_table.proofs.Finding.{same_step}
 use Rattle.cue_table.proofs.Order.{equal_steps}
 
@@ -33,14 +33,14 @@ module _ {R Q : Type 0} where
 
   -- one more behind all others is in form
   pub hung_form :
-      (P : R → Type 0) (row : Option R) (cs all : List (Child R Q)) (c : Child R Q) → all ≡ cs ++ c ∷ [] → last_cmp (step_of c.step) (branches cs) ≡ Less → IsTree P (node row (branches cs))
-      → IsTaken c.node → IsTree P c.node → IsTree P (node row (branches all))
-  hung_form P row cs all c e last h t k = (h.0, subst (λ xs. AreBranches P (branches xs)) (sym e) (form_more P cs c last h.1 t k))
+      (P : R → Type 0) (row : Option R) (rest : Rest R) (cs all : List (Child R Q)) (c : Child R Q) → rest ≡ no_rest → all ≡ cs ++ c ∷ [] → last_cmp (step_of c.step) (branches cs) ≡ Less → IsTree P (node row (branches cs) rest)
+      → IsTaken c.node → IsTree P c.node → IsTree P (node row (branches all) rest)
+  hung_form P row rest cs all c ends e last h t k = (h.0, subst (λ xs. AreBranches P (branches xs)) (sym e) (form_more P cs c last h.1 t k), subst (IsRestOf P (branches all)) (sym ends) tt)
 
   pub hung_depth :
-      (row : Option R) (cs all : List (Child R Q)) (c : Child R Q) → all ≡ cs ++ c ∷ [] → tree_depth (node row (branches cs)) ≤ step_limit → tree_depth c.node < step_limit
-      → tree_depth (node row (branches all)) ≤ step_limit
-  hung_depth row cs all c e h k =
+      (row : Option R) (rest : Rest R) (cs all : List (Child R Q)) (c : Child R Q) → all ≡ cs ++ c ∷ [] → tree_depth (node row (branches cs) rest) ≤ step_limit → tree_depth c.node < step_limit
+      → tree_depth (node row (branches all) rest) ≤ step_limit
+  hung_depth row rest cs all c e h k =
       let after = ap (λ xs. children_depth (branches xs)) e ∙ depth_last cs c in
       omega (arith, after)
 
@@ -86,7 +86,7 @@ module _ {R Q S : Type 0} (refuses : R → S → Type 0) where
   -- a tree with one branch more behind is met with that branch
   pub hung_met :
       (P : R → Type 0) (row : Option R) (cs all : List (Child R Q)) (c : Child R Q) → all ≡ cs ++ c ∷ [] → AreBranches P (branches all)
-      → IsMet refuses (node row (branches cs)) (under (step_of c.step) c.node) (node row (branches all))
+      → IsMet refuses (node row (branches cs) no_rest) (under (step_of c.step) c.node) (node row (branches all) no_rest)
   hung_met P row cs all c e h [] question =
       (λ g. inl g, ⊎_elim (λ g. g) (λ g. absurd (under_root refuses (step_of c.step) c.node question g)))
   hung_met P row cs all c e h (at ∷ path) question =
@@ -99,7 +99,7 @@ module _ {R Q S : Type 0} (refuses : R → S → Type 0) where
 
 -- the table without rows is in form
 pub empty_form : {R : Type 0} (P : R → Type 0) (table : Tree R) → table ≡ empty → IsTree P table
-empty_form P table e = subst (IsTree P) (sym e) (tt, tt)
+empty_form P table e = subst (IsTree P) (sym e) (tt, tt, tt)
 
 -- nothing is seen of what isn't there
 pub is_absent : {T U : Type 0} (f : T → U) (seen : Option T) (tree : Option U) (is_none : Bool) → is_none ≡ true → is_some seen ≡ not is_none → option_map f seen ≡ tree → tree ≡ None
@@ -109,9 +109,10 @@ is_absent f (Some x) tree is_none e h k = cc
 module _ {R Q : Type 0} (refuses : R → Q → Type 0) where
   -- a table without rows adds nothing below a step
   hung_empty : (step : Step) (old table : Tree R) → taken table ≡ None → IsMet refuses old (under step table) old
-  hung_empty step old (node (Some row) children) e = absurd (cc)
-  hung_empty step old (node None (child next tree children)) e = absurd (cc)
-  hung_empty step old (node None none) e = λ path question. (λ h. inl h, ⊎_elim (λ h. h) (λ h. absurd (free refuses path question h)))
+  hung_empty step old (node (Some row) children rest) e = absurd (cc)
+  hung_empty step old (node None (child next tree children) rest) e = absurd (cc)
+  hung_empty step old (node None none (onward n tree)) e = absurd (cc)
+  hung_empty step old (node None none no_rest) e = λ path question. (λ h. inl h, ⊎_elim (λ h. h) (λ h. absurd (free refuses path question h)))
 
   pub hung_none : (step : Step) (old now table given : Tree R) → now ≡ old → table ≡ given → taken table ≡ None → IsMet refuses old (under step given) now
   hung_none step old now table given e f gone =
@@ -120,12 +121,13 @@ module _ {R Q : Type 0} (refuses : R → Q → Type 0) where
 module _ {R Q S : Type 0} (refuses : R → S → Type 0) where
   -- the same of what a call was given
   pub hung_ok :
-      (P : R → Type 0) (row : Option R) (cs all : List (Child R Q)) (c : Child R Q) (step : Step) (old table : Tree R) → node row (branches cs) ≡ old → step_of c.step ≡ step → c.node ≡ table
-      → all ≡ cs ++ c ∷ [] → AreBranches P (branches all) → IsMet refuses old (under step table) (node row (branches all))
-  hung_ok P row cs all c step old table is at below e h =
-      subst (λ t. IsMet refuses t (under step table) (node row (branches all))) is
-      (subst (λ t. IsMet refuses (node row (branches cs)) (under step t) (node row (branches all))) below
-      (subst (λ s. IsMet refuses (node row (branches cs)) (under s c.node) (node row (branches all))) at (hung_met refuses P row cs all c e h)))
+      (P : R → Type 0) (row : Option R) (rest : Rest R) (cs all : List (Child R Q)) (c : Child R Q) (step : Step) (old table : Tree R) → rest ≡ no_rest → node row (branches cs) rest ≡ old → step_of c.step ≡ step → c.node ≡ table
+      → all ≡ cs ++ c ∷ [] → AreBranches P (branches all) → IsMet refuses old (under step table) (node row (branches all) rest)
+  hung_ok P row rest cs all c step old table ends is at below e h =
+      subst (λ t. IsMet refuses t (under step table) (node row (branches all) rest)) is
+      (subst (λ m. IsMet refuses (node row (branches cs) m) (under step table) (node row (branches all) m)) (sym ends)
+      (subst (λ t. IsMet refuses (node row (branches cs) no_rest) (under step t) (node row (branches all) no_rest)) below
+      (subst (λ s. IsMet refuses (node row (branches cs) no_rest) (under s c.node) (node row (branches all) no_rest)) at (hung_met refuses P row cs all c e h))))
 
 -- ---- a list of branches, of which some hang already
 module _ {R Q : Type 0} (refuses : R → Q → Type 0) where
@@ -206,13 +208,13 @@ module _ {R Q : Type 0} (refuses : R → Q → Type 0) where
   AddsHere before row after = (question : Q) → RowRefuses refuses after question ↔ (RowRefuses refuses before question ⊎ RowRefuses refuses (Some row) question)
 
   -- a row that is met with that at the root is added there
-  added_here : (before after : Option R) (row : R) (children : Children R) → AddsHere before row after → IsAdded refuses (node before children) [] row (node after children)
-  added_here before after row children h [] question =
+  added_here : (before after : Option R) (row : R) (children : Children R) (rest : Rest R) → AddsHere before row after → IsAdded refuses (node before children rest) [] row (node after children rest)
+  added_here before after row children rest h [] question =
       let all = h question in
       (λ k. ⊎_elim (λ x. inl x) (λ x. inr (refl, x)) (all.0 k), λ k. all.1 (⊎_elim (λ x. inl x) (λ x. inr x.1) k))
-  added_here before after row children h (step ∷ path) question = (λ k. inl k, ⊎_elim (λ k. k) (λ k. let e = k.0 in absurd (cc)))
+  added_here before after row children rest h (step ∷ path) question = (λ k. inl k, ⊎_elim (λ k. k) (λ k. let e = k.0 in absurd (cc)))
 
   -- the same of a tree that was given
-  pub added_row : (before after found : Option R) (row : R) (children : Children R) (old : Tree R) → node before children ≡ old → or_row found before ≡ after → AddsHere before row (or_row found before) → IsAdded refuses old [] row (node after children)
-  added_row before after found row children old is e h =
-      subst (λ t. IsAdded refuses t [] row (node after children)) is (subst (λ r. IsAdded refuses (node before children) [] row (node r children)) e (added_here before (or_row found before) row children h))
+  pub added_row : (before after found : Option R) (row : R) (children : Children R) (rest : Rest R) (old : Tree R) → node before children rest ≡ old → or_row found before ≡ after → AddsHere before row (or_row found before) → IsAdded refuses old [] row (node after children rest)
+  added_row before after found row children rest old is e h =
+      subst (λ t. IsAdded refuses t [] row (node after children rest)) is (subst (λ r. IsAdded refuses (node before children rest) [] row (node r children rest)) e (added_here before (or_row found before) row children rest h))

@@ -1,20 +1,33 @@
-pub mod Adding
-pub mod Amending
-pub mod Appending
+mod Adding
+mod Aligning
+mod Amending
+mod Behind
 pub mod ByHalves
+mod Filling
+mod Hanging
+mod Last
+mod Merging
+mod MetBranches
+mod Planning
+mod Resting
+mod Unrolling
+pub mod Alike
+pub mod Appending
+pub mod Branches
 pub mod Depth
+pub mod Drafts
 pub mod Exact
-pub mod Filling
 pub mod Finding
-pub mod Hanging
 pub mod Lattice
 pub mod Listed
 pub mod Listing
-pub mod Merging
-pub mod MetBranches
+pub mod ListingRows
+pub mod Loosened
 pub mod MetTables
 pub mod Nodes
 pub mod Order
-pub mod Planning
+pub mod RestBegins
 pub mod RowLists
+pub mod SlotOrder
+pub mod ValidWalks
 pub mod Validity

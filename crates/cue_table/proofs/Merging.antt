@@ -3,14 +3,14 @@ use Rattle.std.proofs.Common.{◌≡◌, ◌⊎◌, ◌↔◌, ℕ, zero, suc, [
 use Rattle.std.specs.declared.cmp.Ordering.{Ordering}
 use Rattle.std.specs.declared.cmp.Ordering.TheVariants.{Less, Equal, Greater}
 use Rattle.cue_lattice.specs.Path.{Step, step_cmp, Path}
-use Rattle.cue_table.specs.Tree.{Tree, node, Children, none, child, if_equal, find}
+use Rattle.cue_table.specs.Tree.{Tree, node, Children, none, child, no_rest, onward, if_equal, find}
 use Rattle.cue_table.specs.Refuses.{TableRefuses}
 use Rattle.cue_table.specs.Form.{IsBelowAll, IsTaken, IsTree, AreBranches, IsKept, IsTable}
 use Rattle.cue_table.specs.Meet.{BranchesRefuse, IsMerge, IsMet, IsUnion}
 use Rattle.cue_table.specs.Inner.Place.{AreBefore}
 use Rattle.cue_table.specs.Inner.Plan.{join, front, past, first_changed}
 use Rattle.cue_table.proofs.Order.{equal_steps}
-use Rattle.cue_table.proofs.Exact.{find_before, find_past, find_below, below_all, found_refuses, not_silent}
+use Rattle.cue_table.proofs.Branches.{find_before, find_past, find_below, below_all, found_refuses, not_silent}
 
 module _ {R Q : Type 0} (refuses : R → Q → Type 0) where
   -- where no branch is found, nothing is refused
@@ -183,12 +183,13 @@ module _ {R Q : Type 0} (refuses : R → Q → Type 0) where
 
     -- what a tree with rows is met with has rows
     pub met_taken : (left right met : Tree R) → IsTaken left → IsTree Kept left → IsMet refuses left right met → IsTaken met
-    met_taken left right (node (Some row) children) t h met = tt
-    met_taken left right (node None (child step tree children)) t h met = tt
-    met_taken left right (node None none) t h met =
+    met_taken left right (node (Some row) children rest) t h met = tt
+    met_taken left right (node None (child step tree children) rest) t h met = tt
+    met_taken left right (node None none (onward n tree)) t h met = tt
+    met_taken left right (node None none no_rest) t h met =
         not_silent refuses is_value left t h (λ path question k. nothing path question ((met path question).1 (inl k)))
       where
-        nothing : (path : Path) (question : Q) → TableRefuses refuses (node None none) path question → ⊥
+        nothing : (path : Path) (question : Q) → TableRefuses refuses (node None none no_rest) path question → ⊥
         nothing [] question k = k
         nothing (step ∷ path) question k = k
 

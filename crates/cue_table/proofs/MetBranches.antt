@@ -4,13 +4,13 @@ use Rattle.std.specs.List.{insert as inserted}
 use Rattle.cue_row.specs.Steps.{step_of}
 use Rattle.cue_table.specs.declared.node.Child.{Child}
 use Rattle.cue_table.specs.declared.node.Node.TheInside.{Inside}
-use Rattle.cue_table.specs.Tree.{Tree, node, none, child, row_of}
+use Rattle.cue_table.specs.Tree.{Tree, node, none, child, no_rest, row_of}
 use Rattle.cue_table.specs.Refuses.{RowRefuses}
 use Rattle.cue_table.specs.Form.{AreBranches, IsKept, IsTable}
 use Rattle.cue_table.specs.Meet.{IsMerge, IsMet, IsUnion}
 use Rattle.cue_table.specs.Inner.Place.{IsPlace, IsGap}
 use Rattle.cue_table.specs.Inner.Plan.{take, or_row, join, front, past, first_changed}
-use Rattle.cue_table.specs.Inner.View.{branches, tree_of}
+use Rattle.cue_table.specs.Inner.View.{branches, rest_in, tree_of}
 use Rattle.cue_table.proofs.Filling.{branches_join, branches_take}
 use Rattle.cue_table.proofs.Merging.{merge_stay, merge_insert, merge_alter}
 use Rattle.cue_table.proofs.Nodes.{form_from}
@@ -59,8 +59,8 @@ module _ {R Q : Type 0} (refuses : R → Q → Type 0) (is_value : R → Type 0)
 
 -- two places that are met, by their rows and their branches
 pub met_nodes :
-    {R Q : Type 0} (refuses : R → Q → Type 0) (P : R → Type 0) (a b : Inside R Q) (s t new : Tree R) (row : Option R) (cs : List (Child R Q)) → tree_of a ≡ s → tree_of b ≡ t
+    {R Q : Type 0} (refuses : R → Q → Type 0) (P : R → Type 0) (a b : Inside R Q) (s t new : Tree R) (row : Option R) (cs : List (Child R Q)) → tree_of a ≡ s → tree_of b ≡ t → rest_in a.rest ≡ no_rest → rest_in b.rest ≡ no_rest
     → IsUnion (RowRefuses refuses a.row) (RowRefuses refuses b.row) (RowRefuses refuses (or_row row a.row))
-    → IsMerge refuses P (branches a.children.items) (branches b.children.items) (branches cs) → new ≡ node (or_row row a.row) (branches cs) → IsMet refuses s t new
-met_nodes refuses P a b s t new row cs e f rows merge is =
-    subst (IsMet refuses s t) (sym (is ∙ ap (λ x. node (or_row row (row_of x)) (branches cs)) e)) (planned_views refuses P a b s t row (take (branches cs)) e f rows merge)
+    → IsMerge refuses P (branches a.children.items) (branches b.children.items) (branches cs) → new ≡ node (or_row row a.row) (branches cs) no_rest → IsMet refuses s t new
+met_nodes refuses P a b s t new row cs e f x y rows merge is =
+    subst (IsMet refuses s t) (sym (is ∙ ap (λ x. node (or_row row (row_of x)) (branches cs) no_rest) e)) (planned_views refuses P a b s t row (take (branches cs)) e f x y rows merge)

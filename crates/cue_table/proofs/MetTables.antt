@@ -1,5 +1,5 @@
 -- What is met of two valid tables is valid.
-use Rattle.std.proofs.Common.{◌≡◌, ◌⊎◌, inl, inr, ⊎_elim, [], Option, Some, None, refl, sym, ap, subst, ◌∙◌, arith}
+use Rattle.std.proofs.Common.{◌≡◌, ◌↔◌, ◌⊎◌, ◌≤◌, ℕ, inl, inr, ⊎_elim, [], ◌∷◌, ◌++◌, append_assoc, Option, Some, None, refl, sym, ap, subst, ◌∙◌, arith}
 use Rattle.cue_lattice.specs.Path.{Step, label, index, Path}
 use Rattle.cue_row.specs.declared.row.Row.{Row}
 use Rattle.cue_row.specs.declared.level.Level.TheVariants.{Optional}
@@ -9,16 +9,46 @@ use Rattle.std.specs.List.{AllByRecursion}
 use Rattle.cue_row.specs.Steps.{IsWithinDepth}
 use Rattle.cue_row.specs.ValidRow.{IsWordStep, IsValidRow}
 use Rattle.cue_row.proofs.MetValid.{AreMetRows, met_valid, met_level, met_struct, met_list, met_structs, no_labels, least_above}
-use Rattle.cue_table.specs.Tree.{Tree, node, none, child, row_of, row_at}
-use Rattle.cue_table.specs.Form.{IsRow as Holds, IsTree, IsKept, IsTable}
-use Rattle.cue_table.specs.Refuses.{RowRefuses}
+use Rattle.std.specs.Option.{option_and_then}
+use Rattle.cue_row.specs.declared.question.Question.{Question}
+use Rattle.cue_table.specs.Tree.{Tree, node, none, child, no_rest, onward, row_of, step_into, branch_at, row_at}
+use Rattle.cue_table.specs.Form.{IsRow as Holds, IsTaken, IsTree, IsTable}
+use Rattle.cue_table.specs.Refuses.{RowRefuses, TableRefuses}
+use Rattle.cue_table.proofs.Branches.{FoundRefuses}
+use Rattle.cue_table.proofs.Exact.{IsFound, exact_branch}
+use Rattle.cue_table.proofs.Finding.{found_form}
 use Rattle.cue_table.specs.Meet.{IsUnion, IsMet}
-use Rattle.cue_table.specs.Valid.{further, MayHold, IsElement, IsOpenStruct, HasOpenRoot, IsValidTable}
+use Rattle.cue_table.specs.Valid.{further, MayHold, IsOpenStruct, HasOpenRoot, IsValidTable}
 use Rattle.cue_table.proofs.Depth.{kept_at, taken_row}
-use Rattle.cue_table.proofs.Validity.{valid_root, valid_empty, nothing_at}
+use Rattle.cue_table.proofs.Validity.{Kept, row_above, valid_root}
+use Rattle.cue_table.proofs.ValidWalks.{valid_empty, nothing_at}
 
-abbrev Kept : Row → Type 0
-Kept = IsKept Refuses IsRow
+some_row : (o : Option Row) (question : Question) → RowRefuses Refuses o question → (row : Row) × (o ≡ Some row)
+some_row None question r = absurd r
+some_row (Some row) question r = (row, refl)
+
+found_append :
+    (found : Option (Tree Row)) (path more : Path)
+    → ((tree : Tree Row) → branch_at tree (path ++ more) ≡ option_and_then (λ branch. branch_at branch more) (branch_at tree path))
+    → option_and_then (λ branch. branch_at branch (path ++ more)) found ≡ option_and_then (λ branch. branch_at branch more) (option_and_then (λ branch. branch_at branch path) found)
+found_append None path more f = refl
+found_append (Some tree) path more f = f tree
+
+-- the branch at a path and then another
+branch_append : (tree : Tree Row) (path more : Path) → branch_at tree (path ++ more) ≡ option_and_then (λ branch. branch_at branch more) (branch_at tree path)
+branch_append tree [] more = refl
+branch_append tree (step ∷ path) more = found_append (step_into tree step) path more (λ branch. branch_append branch path more)
+
+found_more :
+    (found : Option (Tree Row)) (path : Path) → ((tree : Tree Row) → found ≡ Some tree → IsFound Refuses IsRow (branch_at tree path))
+    → IsFound Refuses IsRow (option_and_then (λ branch. branch_at branch path) found)
+found_more None path f = tt
+found_more (Some tree) path f = f tree refl
+
+-- a branch below a tree in form is in form and not empty
+found_at : (tree : Tree Row) (path : Path) (step : Step) → IsTree Kept tree → IsFound Refuses IsRow (branch_at tree (further path step))
+found_at tree [] step h = found_more (step_into tree step) [] (λ next e. found_form Kept step tree next h e)
+found_at tree (next ∷ path) step h = found_more (step_into tree next) (further path step) (λ branch e. found_at branch path step (found_form Kept next tree branch h e).1)
 
 -- the rows of three tables at one path, the third of which is met of the others
 abbrev IsJoined : Option Row → Option Row → Option Row → Type 0
@@ -98,36 +128,36 @@ each_met_at :
 each_met_at P met a b m path row h e = each_met P met (row_at a path) (row_at b path) (row_at m path) row (joined_at a b m path h) e
 
 -- what may stand below a row may stand below what it is met to
-may_met : (p q m : Row) (step : Step) → AreMetRows p q m → IsValidRow q → MayHold p step × IsElement p step → MayHold m step × IsElement m step
-may_met p q m (label text) h v k = (met_struct p q m h v k.0, tt)
-may_met p q m (index n) h v k = let more = least_above p q m h in (met_list p q m h v k.0, omega (arith, k.1))
+may_met : (p q m : Row) (step : Step) → AreMetRows p q m → IsValidRow q → MayHold p step → MayHold m step
+may_met p q m (label text) h v k = met_struct p q m h v k
+may_met p q m (index n) h v k = met_list p q m h v k
 
 may_left :
     (x y z : Option Row) (p row : Row) (step : Step) → IsJoined x y z → x ≡ Some p → z ≡ Some row → ((q : Row) → y ≡ Some q → IsValidRow q)
-    → MayHold p step × IsElement p step → MayHold row step × IsElement row step
+    → MayHold p step → MayHold row step
 may_left None y z p row step j d e v k = cc
 may_left (Some s) None z p row step j d e v k =
     let both : Some p ≡ Some row = sym d ∙ sym j ∙ e in
     let same : p ≡ row = cc in
-    subst (λ r. MayHold r step × IsElement r step) same k
+    subst (λ r. MayHold r step) same k
 may_left (Some s) (Some q) z p row step j d e v k =
     let both : Some j.0 ≡ Some row = sym j.1 ∙ e in
     let same : j.0 ≡ row = cc in
     let first : p ≡ s = cc in
-    subst (λ r. MayHold r step × IsElement r step) same (may_met s q j.0 step j.2 (v q refl) (subst (λ r. MayHold r step × IsElement r step) first k))
+    subst (λ r. MayHold r step) same (may_met s q j.0 step j.2 (v q refl) (subst (λ r. MayHold r step) first k))
 
 -- what stands below a row in the first table may stand below the met row
 may_at :
     (a b m : Tree Row) (path : Path) (step : Step) (parent below : Row) → AreTables a b m → row_at m path ≡ Some parent → row_at a (further path step) ≡ Some below
-    → MayHold parent step × IsElement parent step
+    → MayHold parent step
 may_at a b m path step parent below h e f =
     let above = h.left.parents path step below f in
     may_left (row_at a path) (row_at b path) (row_at m path) above.0 parent step (joined_at a b m path h) above.1 e (λ q k. h.right.rows path q k)
-    (h.left.kinds path step above.0 below above.1 f, h.left.elements path step above.0 below above.1 f)
+    (h.left.kinds path step above.0 below above.1 f)
 
 may_stand :
     (a b m : Tree Row) (path : Path) (step : Step) (parent row : Row) → AreTables a b m → row_at m path ≡ Some parent → row_at m (further path step) ≡ Some row
-    → MayHold parent step × IsElement parent step
+    → MayHold parent step
 may_stand a b m path step parent row h e f =
     ⊎_elim (λ (k : (p : Row) × (row_at a (further path step) ≡ Some p)). may_at a b m path step parent k.0 h e k.1)
     (λ (k : (p : Row) × (row_at b (further path step) ≡ Some p)). may_at b a m path step parent k.0 (turned a b m h) e k.1)
@@ -162,19 +192,87 @@ none_left a b m h e = by (row_at a []) refl where
   by None f = refl
   by (Some p) f = let row = from_left_at a b m [] p h f in let no : None ≡ Some row.0 = sym e ∙ row.1 in cc
 
+not_taken : (a b m : Tree Row) → AreTables a b m → row_of m ≡ None → IsTaken m → ⊥
+not_taken a b m h e t =
+    let some = taken_row Kept m t h.form in
+    no_root a b m h (none_left a b m h e) (none_left b a m (turned a b m h) e) some.1 some.0 some.2
+
 root_met : (a b m : Tree Row) → AreTables a b m → HasOpenRoot m
-root_met a b (node (Some row) children) h =
+root_met a b (node (Some row) children rest) h =
     inr (
       row,
       refl,
-      each_met_at IsOpenStruct (λ p q m k left right. (met_structs p q m k left.0 right.0, no_labels p q m k left.1 right.1)) a b (node (Some row) children) [] row h refl
+      each_met_at IsOpenStruct (λ p q m k left right. (met_structs p q m k left.0 right.0, no_labels p q m k left.1 right.1)) a b (node (Some row) children rest) [] row h refl
           (λ p e. (valid_root a p e h.left).0) (λ p e. (valid_root b p e h.right).0),
     )
-root_met a b (node None none) h = inl refl
-root_met a b (node None (child step tree children)) h =
-    let m = node None (child step tree children) in
-    let some = taken_row Kept m tt h.form in
-    absurd (no_root a b m h (none_left a b m h refl) (none_left b a m (turned a b m h) refl) some.1 some.0 some.2)
+root_met a b (node None none no_rest) h = inl refl
+root_met a b (node None none (onward n tree)) h = absurd (not_taken a b (node None none (onward n tree)) h refl tt)
+root_met a b (node None (child step tree children) rest) h = absurd (not_taken a b (node None (child step tree children) rest) h refl tt)
+
+-- a row is met to one with a least length that is no lower
+least_left : (x y z : Option Row) (p row : Row) → IsJoined x y z → x ≡ Some p → z ≡ Some row → p.least ≤ row.least
+least_left None y z p row j d e = cc
+least_left (Some s) None z p row j d e =
+    let both : Some p ≡ Some row = sym d ∙ sym j ∙ e in
+    let same : p ≡ row = cc in
+    subst (λ (r : Row). p.least ≤ r.least) same (omega arith)
+least_left (Some s) (Some q) z p row j d e =
+    let both : Some j.0 ≡ Some row = sym j.1 ∙ e in
+    let same : j.0 ≡ row = cc in
+    let first : s ≡ p = cc in
+    subst (λ (r : Row). p.least ≤ r.least) same (subst (λ (r : Row). r.least ≤ j.0.least) first (least_above s q j.0 j.2))
+
+-- from such an index on, the elements of a valid table refuse the same
+alike_refuses :
+    (a : Tree Row) (path : Path) (i j : ℕ) (more : Path) (question : Question) → IsValidTable a → ((p : Row) → row_at a path ≡ Some p → (p.least ≤ i) × (p.least ≤ j))
+    → TableRefuses Refuses a (further path (index i) ++ more) question → TableRefuses Refuses a (further path (index j) ++ more) question
+alike_refuses a path i j more question h low r = by (row_at a path) refl
+  where
+    to : TableRefuses Refuses a (further path (index i) ++ more) question → (row : Row) × (row_at a (further path (index i) ++ more) ≡ Some row)
+    to r = some_row (row_at a (further path (index i) ++ more)) question r
+
+    by : (o : Option Row) → row_at a path ≡ o → TableRefuses Refuses a (further path (index j) ++ more) question
+    by None e =
+        let row = to r in
+        let above = row_above a path (index i ∷ more) row.0 h (ap (row_at a) (sym (append_assoc path (index i ∷ []) more)) ∙ row.1) in
+        let no : None ≡ Some above.0 = sym e ∙ above.1 in
+        absurd (cc)
+    by (Some p) e =
+        let same = h.elements path p i j e (low p e).0 (low p e).1 in
+        let rows : row_at a (further path (index i) ++ more) ≡ row_at a (further path (index j) ++ more) =
+        ap (option_and_then row_of) (branch_append a (further path (index i)) more)
+        ∙ ap (λ found. option_and_then row_of (option_and_then (λ branch. branch_at branch more) found)) same
+        ∙ sym (ap (option_and_then row_of) (branch_append a (further path (index j)) more)) in
+        subst (λ o. RowRefuses Refuses o question) rows r
+
+alike_met :
+    (a b m : Tree Row) (path : Path) (row : Row) (i j : ℕ) (more : Path) (question : Question) → AreTables a b m → row_at m path ≡ Some row → row.least ≤ i → row.least ≤ j
+    → TableRefuses Refuses m (further path (index i) ++ more) question → TableRefuses Refuses m (further path (index j) ++ more) question
+alike_met a b m path row i j more question h e k l r =
+    (h.met (further path (index j) ++ more) question).1
+    (⊎_elim
+    (λ x. inl (alike_refuses a path i j more question h.left
+    (λ p f. let low = least_left (row_at a path) (row_at b path) (row_at m path) p row (joined_at a b m path h) f e in (omega arith, omega arith)) x))
+    (λ x. inr (alike_refuses b path i j more question h.right
+    (λ p f. let low = least_left (row_at b path) (row_at a path) (row_at m path) p row (joined_at b a m path (turned a b m h)) f e in (omega arith, omega arith)) x))
+    ((h.met (further path (index i) ++ more) question).0 r))
+
+-- what a branch refuses at a path is what the table refuses there
+as_table : (m : Tree Row) (path more : Path) (question : Question) → FoundRefuses Refuses (branch_at m path) more question ↔ TableRefuses Refuses m (path ++ more) question
+as_table m path more question =
+    let rows = ap (option_and_then row_of) (branch_append m path more) in
+    (λ r. subst (λ o. RowRefuses Refuses o question) (sym rows) r, λ r. subst (λ o. RowRefuses Refuses o question) rows r)
+
+elements_met :
+    (a b m : Tree Row) (path : Path) (row : Row) (i j : ℕ) → AreTables a b m → row_at m path ≡ Some row → row.least ≤ i → row.least ≤ j
+    → branch_at m (further path (index i)) ≡ branch_at m (further path (index j))
+elements_met a b m path row i j h e k l =
+    exact_branch Refuses IsRow same_rows (branch_at m (further path (index i))) (branch_at m (further path (index j)))
+    (found_at m path (index i) h.form) (found_at m path (index j) h.form)
+    (λ more question. (
+      λ r. (as_table m (further path (index j)) more question).1 (alike_met a b m path row i j more question h e k l ((as_table m (further path (index i)) more question).0 r)),
+      λ r. (as_table m (further path (index i)) more question).1 (alike_met a b m path row j i more question h e l k ((as_table m (further path (index j)) more question).0 r)),
+    ))
 
 -- what is met of two valid tables is a valid table
 pub met_tables : (a b m : Tree Row) → IsTable Refuses IsRow m → IsMet Refuses a b m → IsValidTable a → IsValidTable b → IsValidTable m
@@ -190,6 +288,6 @@ met_tables a b m form met left right =
       element_levels = λ path n row e. each_met_at (λ r. r.level ≡ Optional) met_level a b m (further path (index n)) row h e
           (λ p k. left.element_levels path n p k) (λ p k. right.element_levels path n p k);
       parents = λ path step row e. has_parent a b m path step row h e;
-      kinds = λ path step parent row d e. (may_stand a b m path step parent row h d e).0;
-      elements = λ path step parent row d e. (may_stand a b m path step parent row h d e).1;
+      kinds = λ path step parent row d e. may_stand a b m path step parent row h d e;
+      elements = λ path row i j e k l. elements_met a b m path row i j h e k l;
     }

@@ -1,15 +1,21 @@
 -- What the fields of a node say of its tree.
-use Rattle.std.proofs.Common.{◌≡◌, ℕ, zero, suc, Bool, true, false, nat_eq, List, [], ◌∷◌, length, get_or, drop, Option, Some, None, refl, sym, ap, subst, ◌∙◌, arith}
+use Rattle.std.proofs.Common.{◌≡◌, ◌<◌, ◌+◌, ◌++◌, rules, ℕ, zero, suc, Bool, true, false, nat_eq, List, [], ◌∷◌, length, get_or, drop, Option, Some, None, refl, sym, ap, subst, ◌∙◌, arith}
 use Rattle.std.specs.Prelude.{◌↔◌, IsTrue}
 use Rattle.std.specs.List.Sorted.{IsPartitionedBy, IsPartitionPoint}
 use Rattle.std.specs.declared.cmp.Ordering.TheVariants.{Less}
+use Rattle.std.specs.Ordering.{nat_cmp}
+use Rattle.cue_lattice.specs.Path as paths
 use Rattle.cue_lattice.specs.Path.{label, index, step_cmp}
 use Rattle.cue_row.specs.declared.step.Step.{Step}
 use Rattle.cue_row.specs.declared.step.Step.TheVariants.{Label, Index}
 use Rattle.cue_row.specs.Steps.{step_of}
-use Rattle.cue_table.specs.Tree.{Tree, node, Children, none, child, taken, labels_of, items_of}
-use Rattle.cue_table.specs.Form.{IsBelowAll, Rise, StartsAtIndex, IsTree, AreBranches}
-use Rattle.cue_table.specs.Inner.View.{branches, tree_of}
+use Rattle.cue_table.specs.Tree.{Tree, node, Children, none, child, Rest, no_rest, onward, taken, labels_of, items_of}
+use Rattle.std.specs.Global.{Global}
+use Rattle.std.specs.Prelude.{Box}
+use Rattle.cue_table.specs.declared.node.Onward.{Onward}
+use Rattle.cue_table.specs.Tree.{behind_last}
+use Rattle.cue_table.specs.Form.{IsBelowAll, Rise, StartsAtIndex, IsTree, AreBranches, IsRestOf}
+use Rattle.cue_table.specs.Inner.View.{branches, rest_in, tree_of}
 use Rattle.cue_table.specs.declared.node.Child.{Child}
 use Rattle.cue_table.specs.declared.node.Node.TheInside.{Inside}
 use Rattle.cue_table.proofs.Finding.{at_or_below}
@@ -18,13 +24,23 @@ use Rattle.cue_table.proofs.Finding.{at_or_below}
 pub branches_form : {R Q : Type 0} (P : R → Type 0) (a : Inside R Q) (tree : Tree R) → tree_of a ≡ tree → IsTree P tree → AreBranches P (branches a.children.items)
 branches_form P a tree e h = let here : IsTree P (tree_of a) = subst (IsTree P) (sym e) h in here.1
 
+before_less : (i n : ℕ) → nat_cmp i n ≡ Less → i < n
+before_less i n h = search rules
+
+-- so is the rest
+pub rest_form : {R Q : Type 0} (P : R → Type 0) (a : Inside R Q) (tree : Tree R) (b : Box (Onward R Q) Global) → tree_of a ≡ tree → a.rest ≡ Some b → IsTree P tree → IsTree P b.value.node
+rest_form P a tree b e r h =
+    let here : IsTree P (tree_of a) = subst (IsTree P) (sym e) h in
+    let rest : IsRestOf P (branches a.children.items) (rest_in (Some b)) = subst (λ x. IsRestOf P (branches a.children.items) (rest_in x)) r here.2 in
+    rest.3
+
 -- a node with branches is not empty
 pub taken_below :
-    {R Q : Type 0} (row : Option R) (cs : List (Child R Q)) (len : ℕ) → len ≡ length cs → false ≡ nat_eq len 0
-    → taken (node row (branches cs)) ≡ Some (node row (branches cs))
-taken_below (Some row) cs len e h = refl
-taken_below None (c ∷ cs) len e h = refl
-taken_below None [] len e h = let no : nat_eq 0 0 ≡ false = subst (λ n. nat_eq n 0 ≡ false) e (sym h) in cc
+    {R Q : Type 0} (row : Option R) (cs : List (Child R Q)) (rest : Rest R) (len : ℕ) → len ≡ length cs → false ≡ nat_eq len 0
+    → taken (node row (branches cs) rest) ≡ Some (node row (branches cs) rest)
+taken_below (Some row) cs rest len e h = refl
+taken_below None (c ∷ cs) rest len e h = refl
+taken_below None [] rest len e h = let no : nat_eq 0 0 ≡ false = subst (λ n. nat_eq n 0 ≡ false) e (sym h) in cc
 
 -- after an index come indexes
 starts_after : {R : Type 0} (n : ℕ) (children : Children R) → IsBelowAll (index n) children → StartsAtIndex children
@@ -73,6 +89,35 @@ module _ {R Q : Type 0} where
       label_below c.step (get_or cs j d).step (at_or_below (step_of c.step) cs j d h.0 (omega arith)) e
   labels_first (c ∷ cs) h (suc i) zero d le lt e = absurd (omega arith)
   labels_first (c ∷ cs) h (suc i) (suc j) d le lt e = labels_first cs h.1 i j d (omega arith) (omega arith) e
+
+  below_last : (s : paths.Step) (cs : List (Child R Q)) (c : Child R Q) → IsBelowAll s (branches (cs ++ c ∷ [])) → step_cmp s (step_of c.step) ≡ Less
+  below_last s [] c h = h.0
+  below_last s (d ∷ cs) c h = below_last s cs c h.1
+
+  -- behind an element that stands last
+  pub behind_index : (cs : List (Child R Q)) (c : Child R Q) (n : ℕ) → Rise (branches (cs ++ c ∷ [])) → step_of c.step ≡ index n → behind_last (branches (cs ++ c ∷ [])) ≡ n + 1
+  behind_index [] c n h e = ap (λ s. behind_last (child s c.node none)) e ∙ omega arith
+  behind_index (d ∷ cs) c n h e = by (step_of d.step) refl (behind_index cs c n h.1 e)
+    where
+      by : (s : paths.Step) → step_of d.step ≡ s → behind_last (branches (cs ++ c ∷ [])) ≡ n + 1 → behind_last (child s d.node (branches (cs ++ c ∷ []))) ≡ n + 1
+      by (label text) f others = others
+      by (index i) f others =
+          let low : step_cmp (step_of d.step) (step_of c.step) ≡ Less = below_last (step_of d.step) cs c h.0 in
+          let less : nat_cmp i n ≡ Less = subst (λ s. step_cmp s (index n) ≡ Less) f (subst (λ s. step_cmp (step_of d.step) s ≡ Less) e low) in
+          let under = before_less i n less in
+          rw others (omega arith)
+
+  -- where a label stands last, there is no element
+  pub behind_label : (cs : List (Child R Q)) (c : Child R Q) (l : List ℕ) → Rise (branches (cs ++ c ∷ [])) → step_of c.step ≡ label l → behind_last (branches (cs ++ c ∷ [])) ≡ 0
+  behind_label [] c l h e = ap (λ s. behind_last (child s c.node none)) e
+  behind_label (d ∷ cs) c l h e = by (step_of d.step) refl (behind_label cs c l h.1 e)
+    where
+      by : (s : paths.Step) → step_of d.step ≡ s → behind_last (branches (cs ++ c ∷ [])) ≡ 0 → behind_last (child s d.node (branches (cs ++ c ∷ []))) ≡ 0
+      by (label text) f others = others
+      by (index i) f others =
+          let low : step_cmp (step_of d.step) (step_of c.step) ≡ Less = below_last (step_of d.step) cs c h.0 in
+          let less : step_cmp (index i) (label l) ≡ Less = subst (λ s. step_cmp s (label l) ≡ Less) f (subst (λ s. step_cmp (step_of d.step) s ≡ Less) e low) in
+          cc
 
   -- the branches from a place on are in form
   pub form_from : (P : R → Type 0) (cs : List (Child R Q)) (k : ℕ) → AreBranches P (branches cs) → AreBranches P (branches (drop k cs))
@@ -126,14 +171,19 @@ module _ {R Q : Type 0} where
   branches_same [] (d ∷ ds) e = cc
   branches_same (c ∷ cs) [] e = cc
 
-  -- nodes are equal where their rows and their children are
+  -- nodes are equal where their rows, their children and their rests are
   pub same_nodes :
-      (a b : Inside R Q) (s t : Tree R) (rows children : Bool) → tree_of a ≡ s → tree_of b ≡ t → rows ≡ true
-      → (IsTrue rows ↔ (a.row ≡ b.row)) → (IsTrue children ↔ (a.children.items ≡ b.children.items)) → IsTrue children ↔ (s ≡ t)
-  same_nodes a b s t rows children e f r h k =
-      let row : a.row ≡ b.row = h.0 r in (
-        λ c. sym e ∙ (λ i. node (row i) (branches (k.0 c i))) ∙ f,
-        λ g. let same : node a.row (branches a.children.items) ≡ node b.row (branches b.children.items) = e ∙ g ∙ sym f in
-            let inner : branches a.children.items ≡ branches b.children.items = cc in
-            k.1 (branches_same a.children.items b.children.items inner),
-      )
+      (a b : Inside R Q) (s t : Tree R) → tree_of a ≡ s → tree_of b ≡ t
+      → (a.row ≡ b.row) → (a.children.items ≡ b.children.items) → (rest_in a.rest ≡ rest_in b.rest) → s ≡ t
+  same_nodes a b s t e f row children rest =
+      sym e ∙ (λ i. node (row i) (branches (children i)) (rest i)) ∙ f
+
+  pub same_parts :
+      (a b : Inside R Q) (s t : Tree R) → tree_of a ≡ s → tree_of b ≡ t → s ≡ t
+      → (a.row ≡ b.row) × (a.children.items ≡ b.children.items) × (rest_in a.rest ≡ rest_in b.rest)
+  same_parts a b s t e f g =
+      let same : node a.row (branches a.children.items) (rest_in a.rest) ≡ node b.row (branches b.children.items) (rest_in b.rest) = e ∙ g ∙ sym f in
+      let row : a.row ≡ b.row = cc in
+      let inner : branches a.children.items ≡ branches b.children.items = cc in
+      let rest : rest_in a.rest ≡ rest_in b.rest = cc in
+      (row, branches_same a.children.items b.children.items inner, rest)

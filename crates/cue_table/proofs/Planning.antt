@@ -2,18 +2,18 @@
 use Rattle.std.proofs.Common.{◌≡◌, ℕ, zero, suc, ◌+◌, ◌≤◌, ◌<◌, List, [], ◌∷◌, ◌++◌, append_assoc, length, drop, get_or, Option, refl, sym, ap, subst, ◌∙◌, arith, length-drop, add-one}
 use Rattle.cue_row.specs.Steps.{step_of}
 use Rattle.cue_table.specs.declared.node.Child.{Child}
-use Rattle.cue_table.specs.declared.plan.Slot.{Slot}
-use Rattle.cue_table.specs.declared.plan.Slot.TheVariants.{Keep, Insert, Alter}
-use Rattle.cue_table.specs.Tree.{Tree, node, none, child, row_of, below}
+use Rattle.cue_table.specs.declared.plan.Piece.{Piece}
+use Rattle.cue_table.specs.declared.plan.Piece.TheVariants.{Keep, Insert, Alter}
+use Rattle.cue_table.specs.Tree.{Tree, node, none, child, no_rest, onward, row_of, below, rest_of}
 use Rattle.cue_table.specs.declared.node.Node.TheInside.{Inside}
 use Rattle.cue_table.specs.Refuses.{RowRefuses}
 use Rattle.cue_table.specs.Form.{AreBranches, IsKept, IsTable}
 use Rattle.cue_table.specs.Meet.{IsMerge, IsMet, IsUnion}
 use Rattle.cue_table.specs.Inner.Place.{IsPlace, IsGap}
 use Rattle.cue_table.specs.Inner.Plan.{Change, change, Branches, changed, changed_below, merged, or_row, width, join, front, past}
-use Rattle.cue_table.specs.Inner.PlanView.{slots_of}
-use Rattle.cue_table.specs.Size.{tree_size, children_size}
-use Rattle.cue_table.specs.Inner.View.{branches, tree_of}
+use Rattle.cue_table.specs.Inner.PlanView.{pieces_of}
+use Rattle.cue_table.specs.Depth.{tree_depth, children_depth}
+use Rattle.cue_table.specs.Inner.View.{branches, rest_in, tree_of}
 use Rattle.cue_table.proofs.Merging.{merge_stay, merge_insert, merge_alter}
 
 module _ {R Q : Type 0} where
@@ -36,14 +36,14 @@ module _ {R Q : Type 0} (refuses : R → Q → Type 0) (is_value : R → Type 0)
   abbrev Kept : R → Type 0
   Kept = IsKept refuses is_value
 
-  -- Whatever makes the union of what is left of both lists makes that of the lists, behind the slots so far.
-  pub record GoesOn (left right rest others : List (Child R Q)) (slots : List (Slot R Q)) : Type 0 where
+  -- Whatever makes the union of what is left of both lists makes that of the lists, behind the pieces so far.
+  pub record GoesOn (left right rest others : List (Child R Q)) (pieces : List (Piece R Q)) : Type 0 where
     pub rest_form : AreBranches Kept (branches rest)
     pub others_form : AreBranches Kept (branches others)
-    pub smaller : children_size (branches others) ≤ children_size (branches right)
-    pub union : (tail : List (Slot R Q)) → IsMerge refuses Kept (branches rest) (branches others) (merged (slots_of tail) (branches rest))
-        → IsMerge refuses Kept (branches left) (branches right) (merged (slots_of (slots ++ tail)) (branches left))
-    pub room : (tail : List (Slot R Q)) → width (slots_of tail) ≤ length rest + length others → width (slots_of (slots ++ tail)) ≤ length left + length right
+    pub smaller : children_depth (branches others) ≤ children_depth (branches right)
+    pub union : (tail : List (Piece R Q)) → IsMerge refuses Kept (branches rest) (branches others) (merged (pieces_of tail) (branches rest))
+        → IsMerge refuses Kept (branches left) (branches right) (merged (pieces_of (pieces ++ tail)) (branches left))
+    pub room : (tail : List (Piece R Q)) → width (pieces_of tail) ≤ length rest + length others → width (pieces_of (pieces ++ tail)) ≤ length left + length right
 
   pub goes_start : (left right : List (Child R Q)) → AreBranches Kept (branches left) → AreBranches Kept (branches right) → GoesOn left right left right []
   goes_start left right h k = record {
@@ -61,9 +61,9 @@ module _ {R Q : Type 0} (refuses : R → Q → Type 0) (is_value : R → Type 0)
 
   -- a new branch
   pub goes_insert :
-      (left right rest others : List (Child R Q)) (slots : List (Slot R Q)) (c : Child R Q) (at : ℕ) → GoesOn left right rest (c ∷ others) slots
-      → IsGap rest (step_of c.step) at → GoesOn left right (drop at rest) others (slots ++ Insert at c ∷ [])
-  goes_insert left right rest others slots c at g gap =
+      (left right rest others : List (Child R Q)) (pieces : List (Piece R Q)) (c : Child R Q) (at : ℕ) → GoesOn left right rest (c ∷ others) pieces
+      → IsGap rest (step_of c.step) at → GoesOn left right (drop at rest) others (pieces ++ Insert at c ∷ [])
+  goes_insert left right rest others pieces c at g gap =
       let k = g.others_form in
       let bound = gap.in_range in
       let small = g.smaller in
@@ -72,20 +72,20 @@ module _ {R Q : Type 0} (refuses : R → Q → Type 0) (is_value : R → Type 0)
         others_form = k.3;
         smaller = omega arith;
         union = λ tail m.
-            let here : IsMerge refuses Kept (past at (branches rest)) (branches others) (merged (slots_of tail) (past at (branches rest))) =
-            subst (λ x. IsMerge refuses Kept x (branches others) (merged (slots_of tail) x)) (sym (past_drop at rest)) m in
+            let here : IsMerge refuses Kept (past at (branches rest)) (branches others) (merged (pieces_of tail) (past at (branches rest))) =
+            subst (λ x. IsMerge refuses Kept x (branches others) (merged (pieces_of tail) x)) (sym (past_drop at rest)) m in
             rw append_assoc
             (g.union (Insert at c ∷ tail)
-            (merge_insert refuses Kept at (step_of c.step) c.node (branches rest) (branches others) (merged (slots_of tail) (past at (branches rest))) g.rest_form k gap.before gap.after here));
+            (merge_insert refuses Kept at (step_of c.step) c.node (branches rest) (branches others) (merged (pieces_of tail) (past at (branches rest))) g.rest_form k gap.before gap.after here));
         room = λ tail m. rw append_assoc (g.room (Insert at c ∷ tail) (omega (arith, m, length-drop at rest)));
       }
 
   -- the next branch changes
   pub goes_alter :
-      (left right rest others : List (Child R Q)) (slots : List (Slot R Q)) (c d : Child R Q) (at : ℕ) (next : Change R) → GoesOn left right rest (c ∷ others) slots
+      (left right rest others : List (Child R Q)) (pieces : List (Piece R Q)) (c d : Child R Q) (at : ℕ) (next : Change R) → GoesOn left right rest (c ∷ others) pieces
       → IsPlace rest (step_of c.step) at → d ≡ get_or rest at d → IsTable refuses is_value (changed next d.node) → IsMet refuses d.node c.node (changed next d.node)
-      → GoesOn left right (drop (at + 1) rest) others (slots ++ Alter at next ∷ [])
-  goes_alter left right rest others slots c d at next g place is form met =
+      → GoesOn left right (drop (at + 1) rest) others (pieces ++ Alter at next ∷ [])
+  goes_alter left right rest others pieces c d at next g place is form met =
       let k = g.others_form in
       let bound = place.in_range in
       let small = g.smaller in
@@ -101,36 +101,36 @@ module _ {R Q : Type 0} (refuses : R → Q → Type 0) (is_value : R → Type 0)
         union = λ tail m.
             rw append_assoc
             (g.union (Alter at next ∷ tail)
-            (merge_alter refuses is_value at (step_of c.step) d.node c.node (branches rest) (branches (drop (suc at) rest)) (branches others) (changed next) (merged (slots_of tail)) g.rest_form k place.before here form met m));
+            (merge_alter refuses is_value at (step_of c.step) d.node c.node (branches rest) (branches (drop (suc at) rest)) (branches others) (changed next) (merged (pieces_of tail)) g.rest_form k place.before here form met m));
         room = λ tail m. rw append_assoc (g.room (Alter at next ∷ tail) (omega (arith, m, length-drop (suc at) rest)));
       })
 
   -- what is left stays
   pub goes_end :
-      (left right rest : List (Child R Q)) (slots : List (Slot R Q)) → GoesOn left right rest [] slots
-      → IsMerge refuses Kept (branches left) (branches right) (merged (slots_of (slots ++ Keep (length rest) ∷ [])) (branches left))
-  goes_end left right rest slots g =
+      (left right rest : List (Child R Q)) (pieces : List (Piece R Q)) → GoesOn left right rest [] pieces
+      → IsMerge refuses Kept (branches left) (branches right) (merged (pieces_of (pieces ++ Keep (length rest) ∷ [])) (branches left))
+  goes_end left right rest pieces g =
       g.union (Keep (length rest) ∷ [])
       (subst (λ x. IsMerge refuses Kept (branches rest) none x) (sym (front_all rest)) (merge_stay refuses Kept (branches rest) g.rest_form))
 
   pub goes_end_room :
-      (left right rest : List (Child R Q)) (slots : List (Slot R Q)) → GoesOn left right rest [] slots
-      → width (slots_of (slots ++ Keep (length rest) ∷ [])) ≤ length left + length right
-  goes_end_room left right rest slots g = g.room (Keep (length rest) ∷ []) (omega arith)
+      (left right rest : List (Child R Q)) (pieces : List (Piece R Q)) → GoesOn left right rest [] pieces
+      → width (pieces_of (pieces ++ Keep (length rest) ∷ [])) ≤ length left + length right
+  goes_end_room left right rest pieces g = g.room (Keep (length rest) ∷ []) (omega arith)
 
 module _ {R Q : Type 0} (refuses : R → Q → Type 0) (is_value : R → Type 0) where
   -- the same, as the code has it
   pub goes_next :
-      (left right rest all others : List (Child R Q)) (slots : List (Slot R Q)) (c : Child R Q) → all ≡ c ∷ others → GoesOn refuses is_value left right rest all slots
-      → GoesOn refuses is_value left right rest (c ∷ others) slots
-  goes_next left right rest all others slots c e g = subst (λ x. GoesOn refuses is_value left right rest x slots) e g
+      (left right rest all others : List (Child R Q)) (pieces : List (Piece R Q)) (c : Child R Q) → all ≡ c ∷ others → GoesOn refuses is_value left right rest all pieces
+      → GoesOn refuses is_value left right rest (c ∷ others) pieces
+  goes_next left right rest all others pieces c e g = subst (λ x. GoesOn refuses is_value left right rest x pieces) e g
 
   pub inserted :
-      (left right rest others after : List (Child R Q)) (slots more : List (Slot R Q)) (c : Child R Q) (at : ℕ) → GoesOn refuses is_value left right rest (c ∷ others) slots
-      → IsGap rest (step_of c.step) at → after ≡ drop at rest → more ≡ slots ++ Insert at c ∷ [] → GoesOn refuses is_value left right after others more
-  inserted left right rest others after slots more c at g gap e f =
+      (left right rest others after : List (Child R Q)) (pieces more : List (Piece R Q)) (c : Child R Q) (at : ℕ) → GoesOn refuses is_value left right rest (c ∷ others) pieces
+      → IsGap rest (step_of c.step) at → after ≡ drop at rest → more ≡ pieces ++ Insert at c ∷ [] → GoesOn refuses is_value left right after others more
+  inserted left right rest others after pieces more c at g gap e f =
       subst (λ x. GoesOn refuses is_value left right x others more) (sym e)
-      (subst (λ x. GoesOn refuses is_value left right (drop at rest) others x) (sym f) (goes_insert refuses is_value left right rest others slots c at g gap))
+      (subst (λ x. GoesOn refuses is_value left right (drop at rest) others x) (sym f) (goes_insert refuses is_value left right rest others pieces c at g gap))
 
   drop_one : (n : ℕ) (cs : List (Child R Q)) → drop 1 (drop n cs) ≡ drop (n + 1) cs
   drop_one n cs = rw add-one (by n cs)
@@ -141,13 +141,13 @@ module _ {R Q : Type 0} (refuses : R → Q → Type 0) (is_value : R → Type 0)
       by (suc n) (c ∷ cs) = by n cs
 
   pub altered :
-      (left right rest others from after : List (Child R Q)) (slots more : List (Slot R Q)) (c d : Child R Q) (at : ℕ) (next : Change R) → GoesOn refuses is_value left right rest (c ∷ others) slots
+      (left right rest others from after : List (Child R Q)) (pieces more : List (Piece R Q)) (c d : Child R Q) (at : ℕ) (next : Change R) → GoesOn refuses is_value left right rest (c ∷ others) pieces
       → IsPlace rest (step_of c.step) at → d ≡ get_or rest at d → IsTable refuses is_value (changed next d.node) → IsMet refuses d.node c.node (changed next d.node)
-      → from ≡ drop at rest → after ≡ drop 1 from → more ≡ slots ++ Alter at next ∷ [] → GoesOn refuses is_value left right after others more
-  altered left right rest others from after slots more c d at next g place is form met e f h =
+      → from ≡ drop at rest → after ≡ drop 1 from → more ≡ pieces ++ Alter at next ∷ [] → GoesOn refuses is_value left right after others more
+  altered left right rest others from after pieces more c d at next g place is form met e f h =
       let end : after ≡ drop (at + 1) rest = f ∙ ap (drop 1) e ∙ drop_one at rest in
       subst (λ x. GoesOn refuses is_value left right x others more) (sym end)
-      (subst (λ x. GoesOn refuses is_value left right (drop (at + 1) rest) others x) (sym h) (goes_alter refuses is_value left right rest others slots c d at next g place is form met))
+      (subst (λ x. GoesOn refuses is_value left right (drop (at + 1) rest) others x) (sym h) (goes_alter refuses is_value left right rest others pieces c d at next g place is form met))
 
   -- the branch at a place is in form
   pub at_form : (cs : List (Child R Q)) (at : ℕ) (d : Child R Q) → AreBranches (IsKept refuses is_value) (branches cs) → at < length cs → d ≡ get_or cs at d → IsTable refuses is_value d.node
@@ -155,35 +155,38 @@ module _ {R Q : Type 0} (refuses : R → Q → Type 0) (is_value : R → Type 0)
   at_form (c ∷ cs) zero d h l is = subst (λ x. IsTable refuses is_value x.node) (sym is) h.2
   at_form (c ∷ cs) (suc at) d h l is = at_form cs at d h.3 (omega arith) is
 
-  pub first_form : (left right rest others : List (Child R Q)) (slots : List (Slot R Q)) (c : Child R Q) → GoesOn refuses is_value left right rest (c ∷ others) slots → IsTable refuses is_value c.node
-  first_form left right rest others slots c g = let h = g.others_form in h.2
+  pub first_form : (left right rest others : List (Child R Q)) (pieces : List (Piece R Q)) (c : Child R Q) → GoesOn refuses is_value left right rest (c ∷ others) pieces → IsTable refuses is_value c.node
+  first_form left right rest others pieces c g = let h = g.others_form in h.2
 
-  pub first_smaller : (left right rest others : List (Child R Q)) (slots : List (Slot R Q)) (c : Child R Q) → GoesOn refuses is_value left right rest (c ∷ others) slots → tree_size c.node ≤ children_size (branches right)
-  first_smaller left right rest others slots c g = let h = g.smaller in omega arith
+  pub first_smaller : (left right rest others : List (Child R Q)) (pieces : List (Piece R Q)) (c : Child R Q) → GoesOn refuses is_value left right rest (c ∷ others) pieces → tree_depth c.node < children_depth (branches right)
+  first_smaller left right rest others pieces c g = let h = g.smaller in omega arith
 
   pub ended :
-      (left right rest others : List (Child R Q)) (slots more : List (Slot R Q)) → GoesOn refuses is_value left right rest others slots → length others ≡ 0
-      → more ≡ slots ++ Keep (length rest) ∷ []
-      → IsMerge refuses (IsKept refuses is_value) (branches left) (branches right) (merged (slots_of more) (branches left)) × (width (slots_of more) ≤ length left + length right)
-  ended left right rest [] slots more g n e =
-      subst (λ x. IsMerge refuses (IsKept refuses is_value) (branches left) (branches right) (merged (slots_of x) (branches left)) × (width (slots_of x) ≤ length left + length right)) (sym e)
-      (goes_end refuses is_value left right rest slots g, goes_end_room refuses is_value left right rest slots g)
-  ended left right rest (c ∷ others) slots more g n e = absurd (omega arith)
+      (left right rest others : List (Child R Q)) (pieces more : List (Piece R Q)) → GoesOn refuses is_value left right rest others pieces → length others ≡ 0
+      → more ≡ pieces ++ Keep (length rest) ∷ []
+      → IsMerge refuses (IsKept refuses is_value) (branches left) (branches right) (merged (pieces_of more) (branches left)) × (width (pieces_of more) ≤ length left + length right)
+  ended left right rest [] pieces more g n e =
+      subst (λ x. IsMerge refuses (IsKept refuses is_value) (branches left) (branches right) (merged (pieces_of x) (branches left)) × (width (pieces_of x) ≤ length left + length right)) (sym e)
+      (goes_end refuses is_value left right rest pieces g, goes_end_room refuses is_value left right rest pieces g)
+  ended left right rest (c ∷ others) pieces more g n e = absurd (omega arith)
 
 -- the union of two trees, by rows and by branches
 planned_met :
-    {R Q : Type 0} (refuses : R → Q → Type 0) (P : R → Type 0) (s t : Tree R) (row : Option R) (lists : Branches R)
+    {R Q : Type 0} (refuses : R → Q → Type 0) (P : R → Type 0) (s t : Tree R) (row : Option R) (lists : Branches R) → rest_of s ≡ no_rest → rest_of t ≡ no_rest
     → IsUnion (RowRefuses refuses (row_of s)) (RowRefuses refuses (row_of t)) (RowRefuses refuses (or_row row (row_of s)))
-    → IsMerge refuses P (below s) (below t) (changed_below lists (below s)) → IsMet refuses s t (changed (change row lists) s)
-planned_met refuses P (node q cs) (node r ds) row lists rows merge [] question = rows question
-planned_met refuses P (node q cs) (node r ds) row lists rows merge (step ∷ path) question = merge.refused step path question
+    → IsMerge refuses P (below s) (below t) (changed_below lists (below s)) → IsMet refuses s t (changed (change row lists no_rest) s)
+planned_met refuses P (node q cs no_rest) (node r ds no_rest) row lists x y rows merge [] question = rows question
+planned_met refuses P (node q cs no_rest) (node r ds no_rest) row lists x y rows merge (step ∷ path) question = merge.refused step path question
+planned_met refuses P (node q cs (onward n tree)) t row lists x y rows merge path question = absurd cc
+planned_met refuses P (node q cs no_rest) (node r ds (onward n tree)) row lists x y rows merge path question = absurd cc
 
 -- the same of trees that nodes stand for, by the nodes' rows and branches
 pub planned_views :
     {R Q : Type 0} (refuses : R → Q → Type 0) (P : R → Type 0) (a b : Inside R Q) (s t : Tree R) (row : Option R) (lists : Branches R) → tree_of a ≡ s → tree_of b ≡ t
+    → rest_in a.rest ≡ no_rest → rest_in b.rest ≡ no_rest
     → IsUnion (RowRefuses refuses a.row) (RowRefuses refuses b.row) (RowRefuses refuses (or_row row a.row))
     → IsMerge refuses P (branches a.children.items) (branches b.children.items) (changed_below lists (branches a.children.items))
-    → IsMet refuses s t (changed (change row lists) s)
-planned_views refuses P a b s t row lists e f rows merge =
-    let here : IsMet refuses (tree_of a) (tree_of b) (changed (change row lists) (tree_of a)) = planned_met refuses P (tree_of a) (tree_of b) row lists rows merge in
-    subst (λ x. IsMet refuses x t (changed (change row lists) x)) e (subst (λ x. IsMet refuses (tree_of a) x (changed (change row lists) (tree_of a))) f here)
+    → IsMet refuses s t (changed (change row lists no_rest) s)
+planned_views refuses P a b s t row lists e f x y rows merge =
+    let here : IsMet refuses (tree_of a) (tree_of b) (changed (change row lists no_rest) (tree_of a)) = planned_met refuses P (tree_of a) (tree_of b) row lists x y rows merge in
+    subst (λ x. IsMet refuses x t (changed (change row lists no_rest) x)) e (subst (λ x. IsMet refuses (tree_of a) x (changed (change row lists no_rest) (tree_of a))) f here)

@@ -1,7 +1,8 @@
 -- What a walk over a tree finds is what the rules of valid tables say of its rows.
-use Rattle.std.proofs.Common.{◌≡◌, ◌↔◌, ℕ, ◌+◌, ◌<◌, ◌≤◌, [], ◌∷◌, ◌++◌, append_assoc, Option, Some, None, refl, sym, ap, subst, ◌∙◌, inl, inr, ⊎_elim, arith}
+use Rattle.std.proofs.Common.{◌≡◌, ◌↔◌, Bool, true, false, nat_lt, if◌then◌else◌, ℕ, ◌≤◌, [], ◌∷◌, ◌++◌, append_assoc, Option, Some, None, refl, sym, ap, subst, ◌∙◌, inr, ⊎_elim, arith}
 use Rattle.std.proofs.lemmas.List.{append-nil}
 use Rattle.std.specs.List.{AllByRecursion}
+use Rattle.std.specs.Option.{option_and_then}
 use Rattle.std.specs.declared.cmp.Ordering.{Ordering}
 use Rattle.std.specs.declared.cmp.Ordering.TheVariants.{Less, Equal, Greater}
 use Rattle.cue_lattice.specs.Limits.{step_limit}
@@ -10,113 +11,164 @@ use Rattle.cue_row.specs.Row.{Refuses, IsRow}
 use Rattle.cue_row.specs.ValidRow.{IsWordStep, IsValidRow}
 use Rattle.cue_row.specs.declared.row.Row.{Row}
 use Rattle.cue_row.specs.declared.level.Level.TheVariants.{Optional}
-use Rattle.cue_table.specs.Tree.{Tree, node, Children, none, child, row_of, below, empty, if_equal, find, row_at, children_of}
+use Rattle.cue_table.specs.Tree.{Tree, node, Children, none, child, Rest, no_rest, onward, row_of, empty, if_equal, find, find_with, branch_at, row_at, fixed_with}
 use Rattle.cue_table.specs.Depth.{tree_depth}
-use Rattle.cue_table.specs.Form.{IsTaken, IsTree, AreBranches, IsKept, IsTable}
-use Rattle.cue_table.specs.Size.{tree_size, children_size}
-use Rattle.cue_table.specs.Walks.{first_child}
-use Rattle.cue_table.specs.Valid.{further, MayHold, IsElement, IsOpenStruct, IsValidTable}
-use Rattle.cue_table.specs.Inner.ValidWalk.{IsLevelAt, MayStand, HasChild, IsSound, AreSound}
+use Rattle.cue_table.specs.Form.{IsTaken, IsTree, AreBranches, IsRestOf, IsKept, IsTable}
+use Rattle.cue_table.specs.Valid.{further, MayHold, IsOpenStruct, IsValidTable}
+use Rattle.cue_table.specs.Inner.ValidWalk.{IsLevelAt, MayStand, HasChild, HasElement, IsSound, AreSound, IsRestSound}
 use Rattle.cue_table.proofs.Order.{equal_steps}
-use Rattle.cue_table.proofs.Exact.{find_first}
+use Rattle.cue_table.proofs.Branches.{find_first, find_rest, find_own}
 use Rattle.cue_table.proofs.Depth.{found_row, row_found, found_later, taken_row, row_depth}
+use Rattle.cue_table.proofs.Alike.{alike_from, fixed_alike}
 
-abbrev Kept : Row → Type 0
+abbrev pub Kept : Row → Type 0
 Kept = IsKept Refuses IsRow
 
+-- the row of a branch that may be there
+abbrev row_there : Option (Tree Row) → Option Row
+row_there = option_and_then row_of
+
 -- the rules on rows that stand at paths below a place
-record Rules (rows : Path → Option Row) : Type 0 where
-  valid : (path : Path) (row : Row) → rows path ≡ Some row → IsValidRow row
-  words : (path : Path) (row : Row) → rows path ≡ Some row → AllByRecursion IsWordStep path
-  levels : (path : Path) (n : ℕ) (row : Row) → rows (further path (index n)) ≡ Some row → row.level ≡ Optional
-  parents : (path : Path) (step : Step) (row : Row) → rows (further path step) ≡ Some row → (parent : Row) × (rows path ≡ Some parent)
-  kinds : (path : Path) (step : Step) (parent row : Row) → rows path ≡ Some parent → rows (further path step) ≡ Some row → MayHold parent step
-  elements : (path : Path) (step : Step) (parent row : Row) → rows path ≡ Some parent → rows (further path step) ≡ Some row → IsElement parent step
+record Rules (at : Path → Option (Tree Row)) : Type 0 where
+  valid : (path : Path) (row : Row) → row_there (at path) ≡ Some row → IsValidRow row
+  words : (path : Path) (row : Row) → row_there (at path) ≡ Some row → AllByRecursion IsWordStep path
+  levels : (path : Path) (n : ℕ) (row : Row) → row_there (at (further path (index n))) ≡ Some row → row.level ≡ Optional
+  parents : (path : Path) (step : Step) (row : Row) → row_there (at (further path step)) ≡ Some row → (parent : Row) × (row_there (at path) ≡ Some parent)
+  kinds : (path : Path) (step : Step) (parent row : Row) → row_there (at path) ≡ Some parent → row_there (at (further path step)) ≡ Some row → MayHold parent step
+  elements : (path : Path) (row : Row) (i j : ℕ) → row_there (at path) ≡ Some row → row.least ≤ i → row.least ≤ j → at (further path (index i)) ≡ at (further path (index j))
 
 -- what they say of all rows they say of those below a step
-rules_further : (rows : Path → Option Row) (step : Step) → Rules rows → Rules (λ path. rows (step ∷ path))
-rules_further rows step h = record {
+rules_further : (at : Path → Option (Tree Row)) (step : Step) → Rules at → Rules (λ path. at (step ∷ path))
+rules_further at step h = record {
   valid = λ path row e. h.valid (step ∷ path) row e;
   words = λ path row e. (h.words (step ∷ path) row e).1;
   levels = λ path n row e. h.levels (step ∷ path) n row e;
   parents = λ path next row e. h.parents (step ∷ path) next row e;
   kinds = λ path next parent row d e. h.kinds (step ∷ path) next parent row d e;
-  elements = λ path next parent row d e. h.elements (step ∷ path) next parent row d e;
+  elements = λ path row i j e l m. h.elements (step ∷ path) row i j e l m;
 }
 
-rules_same : (a b : Path → Option Row) → ((path : Path) → a path ≡ b path) → Rules a → Rules b
+rules_same : (a b : Path → Option (Tree Row)) → ((path : Path) → a path ≡ b path) → Rules a → Rules b
 rules_same a b same h = record {
-  valid = λ path row e. h.valid path row (same path ∙ e);
-  words = λ path row e. h.words path row (same path ∙ e);
-  levels = λ path n row e. h.levels path n row (same (further path (index n)) ∙ e);
-  parents = λ path next row e. let above = h.parents path next row (same (further path next) ∙ e) in (above.0, sym (same path) ∙ above.1);
-  kinds = λ path next parent row d e. h.kinds path next parent row (same path ∙ d) (same (further path next) ∙ e);
-  elements = λ path next parent row d e. h.elements path next parent row (same path ∙ d) (same (further path next) ∙ e);
+  valid = λ path row e. h.valid path row (ap row_there (same path) ∙ e);
+  words = λ path row e. h.words path row (ap row_there (same path) ∙ e);
+  levels = λ path n row e. h.levels path n row (ap row_there (same (further path (index n))) ∙ e);
+  parents = λ path next row e. let above = h.parents path next row (ap row_there (same (further path next)) ∙ e) in (above.0, sym (ap row_there (same path)) ∙ above.1);
+  kinds = λ path next parent row d e. h.kinds path next parent row (ap row_there (same path) ∙ d) (ap row_there (same (further path next)) ∙ e);
+  elements = λ path row i j e l m. sym (same (further path (index i))) ∙ h.elements path row i j (ap row_there (same path) ∙ e) l m ∙ same (further path (index j));
 }
 
 -- a row stands above each row
-above : (rows : Path → Option Row) (path more : Path) (row : Row) → Rules rows → rows (path ++ more) ≡ Some row → (parent : Row) × (rows path ≡ Some parent)
-above rows path [] row h e = (row, ap rows (sym (append-nil path)) ∙ e)
-above rows path (step ∷ more) row h e =
-    let next = above rows (further path step) more row h (ap rows (append_assoc path (step ∷ []) more) ∙ e) in
+above : (at : Path → Option (Tree Row)) (path more : Path) (row : Row) → Rules at → row_there (at (path ++ more)) ≡ Some row → (parent : Row) × (row_there (at path) ≡ Some parent)
+above at path [] row h e = (row, ap (λ p. row_there (at p)) (sym (append-nil path)) ∙ e)
+above at path (step ∷ more) row h e =
+    let next = above at (further path step) more row h (ap (λ p. row_there (at p)) (append_assoc path (step ∷ []) more) ∙ e) in
     h.parents path step next.0 next.1
 
-level_at : (rows : Path → Option Row) (step : Step) (row : Row) → Rules rows → rows (step ∷ []) ≡ Some row → IsLevelAt step row
-level_at rows (label text) row h e = tt
-level_at rows (index n) row h e = h.levels [] n row e
+level_at : (at : Path → Option (Tree Row)) (step : Step) (row : Row) → Rules at → row_there (at (step ∷ [])) ≡ Some row → IsLevelAt step row
+level_at at (label text) row h e = tt
+level_at at (index n) row h e = h.levels [] n row e
+
+-- a branch one step below a row may stand there, and the rules hold below it
+step_sound :
+    (parent : Row) (at : Path → Option (Tree Row)) (step : Step) (tree : Tree Row) → IsTaken tree → IsTree Kept tree → Rules at → row_there (at []) ≡ Some parent
+    → ((path : Path) → at (step ∷ path) ≡ branch_at tree path) → HasChild parent step (row_of tree) × Rules (branch_at tree)
+step_sound parent at step tree t h rules root here =
+    let inner = rules_same (λ path. at (step ∷ path)) (branch_at tree) here (rules_further at step rules) in
+    let some = taken_row Kept tree t h in
+    let row = above (branch_at tree) [] some.0 some.1 inner some.2 in
+    let stands : row_there (at (step ∷ [])) ≡ Some row.0 = ap row_there (here []) ∙ row.1 in
+    let fits : MayStand parent step row.0 = record {
+      word = (rules.words (step ∷ []) row.0 stands).0;
+      holds = rules.kinds [] step parent row.0 root stands;
+      level = level_at at step row.0 rules stands;
+    } in
+    (subst (HasChild parent step) (sym row.1) fits, inner)
+
+as_element : (parent : Row) (n : ℕ) (row : Option Row) → HasChild parent (index n) row → HasElement parent row
+as_element parent n None h = absurd h
+as_element parent n (Some row) h = record { holds = h.holds; level = h.level }
+
+as_child : (parent : Row) (n : ℕ) (row : Option Row) → HasElement parent row → HasChild parent (index n) row
+as_child parent n None h = absurd h
+as_child parent n (Some row) h = record { word = tt; holds = h.holds; level = h.level }
+
+one_below : (found : Option (Tree Row)) → option_and_then (λ branch. branch_at branch []) found ≡ found
+one_below None = refl
+one_below (Some tree) = refl
 
 mutual
   -- where the rules hold of the rows of a branch, a walk finds it right
-  sound : (tree : Tree Row) → IsTaken tree → IsTree Kept tree → Rules (row_at tree) → IsSound tree
-  sound (node None children) t h rules =
-      let some = taken_row Kept (node None children) t h in
-      let root = above (row_at (node None children)) [] some.0 some.1 rules some.2 in
+  sound : (tree : Tree Row) → IsTaken tree → IsTree Kept tree → Rules (branch_at tree) → IsSound tree
+  sound (node None children rest) t h rules =
+      let some = taken_row Kept (node None children rest) t h in
+      let root = above (branch_at (node None children rest)) [] some.0 some.1 rules some.2 in
       let no : None ≡ Some root.0 = root.1 in
       cc
-  sound (node (Some row) children) t h rules = (
-    rules.valid [] row refl,
-    sound_below row (row_at (node (Some row) children)) children h.1 rules refl (λ step tree e path. ap (λ found. found_row found path) e),
-  )
+  sound (node (Some row) children rest) t h rules =
+      let at = branch_at (node (Some row) children rest) in (
+        rules.valid [] row refl,
+        fixed_alike Kept rest children row.least h.1 h.2
+            (λ i j l m. sym (one_below (find_with rest (index i) children)) ∙ rules.elements [] row i j refl l m ∙ one_below (find_with rest (index j) children)),
+        sound_below row at children h.1 rules refl (λ step tree e path. ap (λ found. option_and_then (λ branch. branch_at branch path) found) (find_own Kept rest step tree children h.2 e)),
+        sound_onward row at children rest h.2 rules refl (λ step path. refl),
+      )
 
   sound_below :
-      (parent : Row) (rows : Path → Option Row) (children : Children Row) → AreBranches Kept children → Rules rows → rows [] ≡ Some parent
-      → ((step : Step) (tree : Tree Row) → find step children ≡ Some tree → (path : Path) → rows (step ∷ path) ≡ row_at tree path)
+      (parent : Row) (at : Path → Option (Tree Row)) (children : Children Row) → AreBranches Kept children → Rules at → row_there (at []) ≡ Some parent
+      → ((step : Step) (tree : Tree Row) → find step children ≡ Some tree → (path : Path) → at (step ∷ path) ≡ branch_at tree path)
       → AreSound parent children
-  sound_below parent rows none h rules root same = tt
-  sound_below parent rows (child step tree children) h rules root same =
-      let here = same step tree (find_first step tree children) in
-      let inner = rules_same (λ path. rows (step ∷ path)) (row_at tree) here (rules_further rows step rules) in
-      let some = taken_row Kept tree h.1 h.2 in
-      let row = above (row_at tree) [] some.0 some.1 inner some.2 in
-      let stands : rows (step ∷ []) ≡ Some row.0 = here [] ∙ row.1 in
-      let fits : MayStand parent step row.0 = record {
-        word = (rules.words (step ∷ []) row.0 stands).0;
-        holds = rules.kinds [] step parent row.0 root stands;
-        element = rules.elements [] step parent row.0 root stands;
-        level = level_at rows step row.0 rules stands;
-      } in (
-        subst (HasChild parent step) (sym row.1) fits,
-        sound tree h.1 h.2 inner,
-        sound_below parent rows children h.3 rules root (λ s t e. same s t (found_later step tree children h.0 s t e (step_cmp s step) refl)),
+  sound_below parent at none h rules root same = tt
+  sound_below parent at (child step tree children) h rules root same =
+      let here = step_sound parent at step tree h.1 h.2 rules root (same step tree (find_first step tree children)) in (
+        here.0,
+        sound tree h.1 h.2 here.1,
+        sound_below parent at children h.3 rules root (λ s t e. same s t (found_later step tree children h.0 s t e (step_cmp s step) refl)),
       )
+
+  sound_onward :
+      (parent : Row) (at : Path → Option (Tree Row)) (children : Children Row) (rest : Rest Row) → IsRestOf Kept children rest → Rules at → row_there (at []) ≡ Some parent
+      → ((step : Step) (path : Path) → at (step ∷ path) ≡ option_and_then (λ branch. branch_at branch path) (find_with rest step children))
+      → IsRestSound parent rest
+  sound_onward parent at children no_rest h rules root same = tt
+  sound_onward parent at children (onward n tree) h rules root same =
+      let here = step_sound parent at (index n) tree h.2 h.3 rules root
+      (λ path. same (index n) path ∙ ap (λ found. option_and_then (λ branch. branch_at branch path) found) (find_rest n tree children n (omega arith))) in
+      (as_element parent n (row_of tree) here.0, sound tree h.2 h.3 here.1)
 
 sound_here :
     (parent : Row) (step next : Step) (here : Tree Row) (other : Option (Tree Row)) (tree : Tree Row) → HasChild parent next (row_of here) → IsSound here
     → (other ≡ Some tree → HasChild parent step (row_of tree) × IsSound tree)
     → (o : Ordering) → step_cmp step next ≡ o → if_equal o here other ≡ Some tree → HasChild parent step (row_of tree) × IsSound tree
-sound_here parent step next here other tree h k rest Less c e = rest e
-sound_here parent step next here other tree h k rest Greater c e = rest e
-sound_here parent step next here other tree h k rest Equal c e =
+sound_here parent step next here other tree h k others Less c e = others e
+sound_here parent step next here other tree h k others Greater c e = others e
+sound_here parent step next here other tree h k others Equal c e =
     let steps : step ≡ next = equal_steps step next c in
     let same : here ≡ tree = cc in
     let one : HasChild parent next (row_of tree) = subst (λ t. HasChild parent next (row_of t)) same h in
     (subst (λ s. HasChild parent s (row_of tree)) (sym steps) one, subst IsSound same k)
 
 -- a branch that a walk found right
-sound_found : (parent : Row) (step : Step) (children : Children Row) (tree : Tree Row) → AreSound parent children → find step children ≡ Some tree → HasChild parent step (row_of tree) × IsSound tree
-sound_found parent step none tree h e = cc
-sound_found parent step (child next here children) tree h e =
-    sound_here parent step next here (find step children) tree h.0 h.1 (λ f. sound_found parent step children tree h.2 f) (step_cmp step next) refl e
+sound_own : (parent : Row) (step : Step) (children : Children Row) (tree : Tree Row) → AreSound parent children → find step children ≡ Some tree → HasChild parent step (row_of tree) × IsSound tree
+sound_own parent step none tree h e = cc
+sound_own parent step (child next here children) tree h e =
+    sound_here parent step next here (find step children) tree h.0 h.1 (λ f. sound_own parent step children tree h.2 f) (step_cmp step next) refl e
+
+sound_else :
+    (parent : Row) (i : ℕ) (b : Bool) (own : Option (Tree Row)) (other tree : Tree Row) → (own ≡ Some tree → HasChild parent (index i) (row_of tree) × IsSound tree)
+    → HasElement parent (row_of other) → IsSound other → (if b then own else Some other) ≡ Some tree → HasChild parent (index i) (row_of tree) × IsSound tree
+sound_else parent i true own other tree f h k e = f e
+sound_else parent i false own other tree f h k e =
+    let same : other ≡ tree = cc in
+    (as_child parent i (row_of tree) (subst (λ t. HasElement parent (row_of t)) same h), subst IsSound same k)
+
+sound_found :
+    (parent : Row) (rest : Rest Row) (step : Step) (children : Children Row) (tree : Tree Row) → AreSound parent children → IsRestSound parent rest
+    → find_with rest step children ≡ Some tree → HasChild parent step (row_of tree) × IsSound tree
+sound_found parent no_rest step children tree h k e = sound_own parent step children tree h e
+sound_found parent (onward n other) (label text) children tree h k e = sound_own parent (label text) children tree h e
+sound_found parent (onward n other) (index i) children tree h k e =
+    sound_else parent i (nat_lt i n) (find (index i) children) other tree (λ f. sound_own parent (index i) children tree h f) k.0 k.1 e
 
 child_word : (parent : Row) (step : Step) (row : Option Row) → HasChild parent step row → IsWordStep step
 child_word parent step None h = absurd h
@@ -126,30 +178,45 @@ child_word parent step (Some row) h = h.word
 sound_at :
     (tree : Tree Row) (path : Path) (step : Step) (row : Row) → IsSound tree → row_at tree (further path step) ≡ Some row
     → (parent : Row) × (row_at tree path ≡ Some parent) × MayStand parent step row
-sound_at (node None children) path step row h e = absurd h
-sound_at (node (Some parent) children) [] step row h e =
-    let found = row_found (find step children) [] row e in
-    (parent, refl, subst (HasChild parent step) found.2 (sound_found parent step children found.0 h.1 found.1).0)
-sound_at (node (Some here) children) (next ∷ path) step row h e =
-    let found = row_found (find next children) (further path step) row e in
-    let rest = sound_at found.0 path step row (sound_found here next children found.0 h.1 found.1).1 found.2 in
-    (rest.0, ap (λ f. found_row f path) found.1 ∙ rest.1, rest.2)
+sound_at (node None children rest) path step row h e = absurd h
+sound_at (node (Some parent) children rest) [] step row h e =
+    let found = row_found (find_with rest step children) [] row e in
+    (parent, refl, subst (HasChild parent step) found.2 (sound_found parent rest step children found.0 h.2 h.3 found.1).0)
+sound_at (node (Some here) children rest) (next ∷ path) step row h e =
+    let found = row_found (find_with rest next children) (further path step) row e in
+    let below = sound_at found.0 path step row (sound_found here rest next children found.0 h.2 h.3 found.1).1 found.2 in
+    (below.0, ap (λ f. found_row f path) found.1 ∙ below.1, below.2)
 
 -- and that each row is valid, and labels are short
 sound_row : (tree : Tree Row) (path : Path) (row : Row) → IsSound tree → row_at tree path ≡ Some row → IsValidRow row × AllByRecursion IsWordStep path
-sound_row (node None children) path row h e = absurd h
-sound_row (node (Some here) children) [] row h e = let same : here ≡ row = cc in (subst IsValidRow same h.0, tt)
-sound_row (node (Some here) children) (step ∷ path) row h e =
-    let found = row_found (find step children) path row e in
-    let below = sound_found here step children found.0 h.1 found.1 in
-    let rest = sound_row found.0 path row below.1 found.2 in
-    (rest.0, (child_word here step (row_of found.0) below.0, rest.1))
+sound_row (node None children rest) path row h e = absurd h
+sound_row (node (Some here) children rest) [] row h e = let same : here ≡ row = cc in (subst IsValidRow same h.0, tt)
+sound_row (node (Some here) children rest) (step ∷ path) row h e =
+    let found = row_found (find_with rest step children) path row e in
+    let below = sound_found here rest step children found.0 h.2 h.3 found.1 in
+    let more = sound_row found.0 path row below.1 found.2 in
+    (more.0, (child_word here step (row_of found.0) below.0, more.1))
+
+-- and that the elements of a list are alike from its least length on
+sound_elements :
+    (tree : Tree Row) (path : Path) (row : Row) (i j : ℕ) → IsSound tree → row_at tree path ≡ Some row → row.least ≤ i → row.least ≤ j
+    → branch_at tree (further path (index i)) ≡ branch_at tree (further path (index j))
+sound_elements (node None children rest) path row i j h e l m = absurd h
+sound_elements (node (Some here) children rest) [] row i j h e l m =
+    let same : here ≡ row = cc in
+    let low : fixed_with rest children ≤ row.least = subst (λ (r : Row). fixed_with rest children ≤ r.least) same h.1 in
+    ap (λ found. option_and_then (λ branch. branch_at branch []) found) (alike_from rest children i j (omega arith) (omega arith))
+sound_elements (node (Some here) children rest) (step ∷ path) row i j h e l m =
+    let found = row_found (find_with rest step children) path row e in
+    let below = sound_elements found.0 path row i j (sound_found here rest step children found.0 h.2 h.3 found.1).1 found.2 l m in
+    ap (λ f. option_and_then (λ branch. branch_at branch (further path (index i))) f) found.1 ∙ below
+    ∙ sym (ap (λ f. option_and_then (λ branch. branch_at branch (further path (index j))) f) found.1)
 
 one_row : (a : Option Row) (p q : Row) → a ≡ Some p → a ≡ Some q → p ≡ q
 one_row a p q d e = cc
 
 -- a table that a walk found right is valid
-pub sound_valid :
+sound_valid :
     (tree : Tree Row) (row : Row) → IsTable Refuses IsRow tree → tree_depth tree ≤ step_limit → row_of tree ≡ Some row → IsOpenStruct row × (row.level ≡ Optional) → IsSound tree
     → IsValidTable tree
 sound_valid tree row form deep root top h = record {
@@ -162,10 +229,10 @@ sound_valid tree row form deep root top h = record {
   element_levels = λ path n r e. (sound_at tree path (index n) r h e).2.level;
   parents = λ path step r e. let parent = sound_at tree path step r h e in (parent.0, parent.1);
   kinds = λ path step parent r d e. let found = sound_at tree path step r h e in subst (λ x. MayHold x step) (one_row (row_at tree path) found.0 parent found.1 d) found.2.holds;
-  elements = λ path step parent r d e. let found = sound_at tree path step r h e in subst (λ x. IsElement x step) (one_row (row_at tree path) found.0 parent found.1 d) found.2.element;
+  elements = λ path r i j e l m. sound_elements tree path r i j h e l m;
 }
 
-rules_of : (tree : Tree Row) → IsValidTable tree → Rules (row_at tree)
+rules_of : (tree : Tree Row) → IsValidTable tree → Rules (branch_at tree)
 rules_of tree h = record {
   valid = h.rows;
   words = h.labels;
@@ -175,12 +242,16 @@ rules_of tree h = record {
   elements = h.elements;
 }
 
+-- in a valid table a row stands above each row
+pub row_above : (tree : Tree Row) (path more : Path) (row : Row) → IsValidTable tree → row_at tree (path ++ more) ≡ Some row → (parent : Row) × (row_at tree path ≡ Some parent)
+row_above tree path more row h e = above (branch_at tree) path more row (rules_of tree h) e
+
 taken_at : (tree : Tree Row) (row : Row) → row_of tree ≡ Some row → IsTaken tree
-taken_at (node (Some here) children) row e = tt
-taken_at (node None children) row e = cc
+taken_at (node (Some here) children rest) row e = tt
+taken_at (node None children rest) row e = cc
 
 -- and a walk finds a valid table right
-pub valid_sound : (tree : Tree Row) (row : Row) → row_of tree ≡ Some row → IsValidTable tree → IsSound tree
+valid_sound : (tree : Tree Row) (row : Row) → row_of tree ≡ Some row → IsValidTable tree → IsSound tree
 valid_sound tree row e h = sound tree (taken_at tree row e) h.form (rules_of tree h)
 
 -- the row at the root of a valid table is an open struct, and optional
@@ -192,86 +263,6 @@ valid_root tree row e h = (
       h.root,
   h.root_level row e,
 )
-
--- a table with no row at its root is valid just where it is empty
-pub valid_empty : (tree : Tree Row) → row_of tree ≡ None → IsValidTable tree → tree ≡ empty
-valid_empty tree e h =
-    ⊎_elim (λ none. none)
-    (λ (some : (r : Row) × (row_at tree [] ≡ Some r) × IsOpenStruct r). let yes : row_of tree ≡ Some some.0 = some.1 in absurd (cc))
-    h.root
-
--- no row stands in the empty table
-pub nothing_at : (path : Path) (row : Row) → row_at empty path ≡ Some row → ⊥
-nothing_at [] row e = cc
-nothing_at (step ∷ path) row e = cc
-
--- the empty table is valid
-pub empty_valid : IsValidTable empty
-empty_valid = record {
-  form = (tt, tt);
-  rows = λ path row e. absurd (nothing_at path row e);
-  paths = λ path row e. absurd (nothing_at path row e);
-  labels = λ path row e. absurd (nothing_at path row e);
-  root = inl refl;
-  root_level = λ row e. absurd (nothing_at [] row e);
-  element_levels = λ path n row e. absurd (nothing_at (further path (index n)) row e);
-  parents = λ path step row e. absurd (nothing_at (further path step) row e);
-  kinds = λ path step parent row d e. absurd (nothing_at path parent d);
-  elements = λ path step parent row d e. absurd (nothing_at path parent d);
-}
-
--- A walk over branches that went one further: what is left decides the rest.
-pub sound_more :
-    (parent : Row) (all rest left : Children Row) (step : Step) (tree : Tree Row) → children_of rest ≡ (step, tree) ∷ children_of left
-    → (AreSound parent all ↔ AreSound parent rest) → HasChild parent step (row_of tree) → IsSound tree
-    → AreSound parent all ↔ AreSound parent left
-sound_more parent all rest left step tree e same child_is tree_is =
-    let parts = first_child rest left step tree e in (
-      λ h. let now = subst (AreSound parent) parts (same.0 h) in now.2,
-      λ h. same.1 (subst (AreSound parent) (sym parts) (child_is, tree_is, h)),
-    )
-
--- the branch at hand is right where all are
-pub sound_first :
-    (parent : Row) (all rest left : Children Row) (step : Step) (tree : Tree Row) → children_of rest ≡ (step, tree) ∷ children_of left
-    → (AreSound parent all ↔ AreSound parent rest) → AreSound parent all → HasChild parent step (row_of tree) × IsSound tree
-sound_first parent all rest left step tree e same h = let now = subst (AreSound parent) (first_child rest left step tree e) (same.0 h) in (now.0, now.1)
-
--- where nothing is left, all are right
-pub sound_all : (parent : Row) (all rest : Children Row) → children_of rest ≡ [] → (AreSound parent all ↔ AreSound parent rest) → AreSound parent all
-sound_all parent all none e same = same.1 tt
-sound_all parent all (child step tree rest) e same = cc
-
--- the first branch and those behind it have together the size of all
-pub left_smaller : (rest left : Children Row) (step : Step) (tree : Tree Row) → children_of rest ≡ (step, tree) ∷ children_of left → tree_size tree + children_size left ≡ children_size rest
-left_smaller rest left step tree e = sym (ap children_size (first_child rest left step tree e))
-
--- the branches of a table are smaller than the table
-pub below_smaller : (tree : Tree Row) → children_size (below tree) < tree_size tree
-below_smaller (node row children) = omega arith
-
--- in a table that a walk finds right the row at the root is valid and the branches are right
-pub sound_parts : (tree : Tree Row) (row : Row) → row_of tree ≡ Some row → IsSound tree → IsValidRow row × AreSound row (below tree)
-sound_parts (node None children) row e h = cc
-sound_parts (node (Some here) children) row e h = let same : here ≡ row = cc in (subst IsValidRow same h.0, subst (λ r. AreSound r children) same h.1)
-
--- a table with a valid row at its root and right branches is one that a walk finds right
-pub sound_whole : (tree : Tree Row) (row : Row) → row_of tree ≡ Some row → IsValidRow row → AreSound row (below tree) → IsSound tree
-sound_whole (node None children) row e h k = cc
-sound_whole (node (Some here) children) row e h k = let same : row ≡ here = cc in (subst IsValidRow same h, subst (λ r. AreSound r children) same k)
-
--- where the list of branches is empty, there are no branches
-pub no_children : (children : Children Row) → children_of children ≡ [] → children ≡ none
-no_children none e = refl
-no_children (child step tree children) e = cc
-
--- a table with nothing at its root and nothing below is valid, and no other one with nothing at its root
-pub valid_end : (tree : Tree Row) → row_of tree ≡ None → (below tree ≡ none) ↔ IsValidTable tree
-valid_end (node None children) e = (
-  λ h. subst IsValidTable (ap (λ cs. node None cs) (sym h)) empty_valid,
-  λ h. ap below (valid_empty (node None children) refl h),
-)
-valid_end (node (Some row) children) e = cc
 
 -- a table with a row at its root is valid just where that is one for a root and a walk finds the table right
 pub valid_walk :

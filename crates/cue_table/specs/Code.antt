@@ -4,7 +4,7 @@ use Rattle.std.proofs.Common.{ap}
 use Rattle.std.specs.Coded.{Coded, coded_ℕ, coded_list, coded×}
 use base.Stored.{Gv, gnil, gnum, gcons, num}
 use Rattle.cue_lattice.specs.Path.{Step, label, index}
-use Rattle.cue_table.specs.Tree.{Tree, node, Children, none, child}
+use Rattle.cue_table.specs.Tree.{Tree, node, Children, none, child, Rest, no_rest, onward}
 
 abbrev pub head : Gv → Gv
 head gnil = gnil
@@ -47,22 +47,28 @@ row_inj c (Some q) None e = cc
 
 mutual
   pub tree_gv : {R : Type 0} → (R → Gv) → Tree R → Gv
-  tree_gv c (node row children) = gcons (row_gv c row) (children_gv c children)
+  tree_gv c (node row children rest) =
+      gcons (row_gv c row) (gcons (children_gv c children) (rest_gv c rest))
 
   pub children_gv : {R : Type 0} → (R → Gv) → Children R → Gv
   children_gv c none = gnil
   children_gv c (child step tree children) =
       gcons (step_gv step) (gcons (tree_gv c tree) (children_gv c children))
 
+  pub rest_gv : {R : Type 0} → (R → Gv) → Rest R → Gv
+  rest_gv c no_rest = gnil
+  rest_gv c (onward n tree) = gcons (gnum n) (tree_gv c tree)
+
 mutual
-  unfolding tree_gv children_gv
+  unfolding tree_gv children_gv rest_gv
 
   pub tree_inj : {R : Type 0} (c : Coded R) (s t : Tree R)
       → tree_gv c.code s ≡ tree_gv c.code t → s ≡ t
-  tree_inj c (node q cs) (node r ds) e =
+  tree_inj c (node q cs m) (node r ds n) e =
       let row = row_inj c q r (ap head e) in
-      let children = children_inj c cs ds (ap tail e) in
-      λ i. node (row i) (children i)
+      let children = children_inj c cs ds (ap (λ g. head (tail g)) e) in
+      let rest = rest_inj c m n (ap (λ g. tail (tail g)) e) in
+      λ i. node (row i) (children i) (rest i)
 
   pub children_inj : {R : Type 0} (c : Coded R) (cs ds : Children R)
       → children_gv c.code cs ≡ children_gv c.code ds → cs ≡ ds
@@ -74,6 +80,16 @@ mutual
       λ i. child (step i) (tree i) (children i)
   children_inj c none (child u v ds) e = cc
   children_inj c (child s t cs) none e = cc
+
+  pub rest_inj : {R : Type 0} (c : Coded R) (m n : Rest R)
+      → rest_gv c.code m ≡ rest_gv c.code n → m ≡ n
+  rest_inj c no_rest no_rest e = refl
+  rest_inj c (onward i s) (onward j t) e =
+      let number : i ≡ j = ap (λ g. num (head g)) e in
+      let tree = tree_inj c s t (ap tail e) in
+      λ k. onward (number k) (tree k)
+  rest_inj c no_rest (onward j t) e = cc
+  rest_inj c (onward i s) no_rest e = cc
 
 -- the code of trees, from that of rows
 abbrev pub tree_code : {R : Type 0} → Coded R → Coded (Tree R)

@@ -1,9 +1,9 @@
 -- The one form that a table has for its answers: the steps of branches rise, no branch is empty, no
--- row is free.
-use Rattle.std.specs.Prelude.{◌≡◌, Option, Some, None}
+-- row is free, and the rest of a list begins as early as it can.
+use Rattle.std.specs.Prelude.{◌≡◌, ◌≢◌, ◌<◌, ℕ, zero, suc, Option, Some, None}
 use Rattle.std.specs.declared.cmp.Ordering.TheVariants.{Less}
 use Rattle.cue_lattice.specs.Path.{Step, label, index, step_cmp}
-use Rattle.cue_table.specs.Tree.{Tree, node, Children, none, child}
+use Rattle.cue_table.specs.Tree.{Tree, node, Children, none, child, Rest, no_rest, onward, find}
 
 -- the step is before those of all branches
 abbrev pub IsBelowAll : {R : Type 0} → Step → Children R → Type 0
@@ -23,24 +23,43 @@ StartsAtIndex (child (index number) tree children) = Unit {0}
 
 -- a row stands at the tree's place or below
 abbrev pub IsTaken : {R : Type 0} → Tree R → Type 0
-IsTaken (node (Some row) children) = Unit {0}
-IsTaken (node None none) = ⊥
-IsTaken (node None (child step tree children)) = Unit {0}
+IsTaken (node (Some row) children rest) = Unit {0}
+IsTaken (node None none no_rest) = ⊥
+IsTaken (node None none (onward n tree)) = Unit {0}
+IsTaken (node None (child step tree children) rest) = Unit {0}
 
 -- where there is a row, P holds of it
 abbrev pub IsRow : {R : Type 0} → (R → Type 0) → Option R → Type 0
 IsRow P None = Unit {0}
 IsRow P (Some row) = P row
 
--- P holds of each row, the steps of branches rise at each place, and no branch is empty
+-- the elements among the branches stand below an index
+abbrev pub AreWithin : {R : Type 0} → ℕ → Children R → Type 0
+AreWithin n none = Unit {0}
+AreWithin n (child (label text) tree children) = AreWithin n children
+AreWithin n (child (index i) tree children) = (i < n) × AreWithin n children
+
+-- the element before an index differs from the rest
+abbrev pub Differs : {R : Type 0} → ℕ → Tree R → Children R → Type 0
+Differs zero rest children = Unit {0}
+Differs (suc i) rest children = find (index i) children ≢ Some rest
+
+-- P holds of each row, the steps of branches rise at each place, no branch is empty, and a rest
+-- begins behind the elements of its own, the last of which differs from it
 abbrev mutual
   pub IsTree : {R : Type 0} → (R → Type 0) → Tree R → Type 0
-  IsTree P (node row children) = IsRow P row × AreBranches P children
+  IsTree P (node row children rest) =
+      IsRow P row × AreBranches P children × IsRestOf P children rest
 
   pub AreBranches : {R : Type 0} → (R → Type 0) → Children R → Type 0
   AreBranches P none = Unit {0}
   AreBranches P (child step tree children) =
       IsBelowAll step children × IsTaken tree × IsTree P tree × AreBranches P children
+
+  pub IsRestOf : {R : Type 0} → (R → Type 0) → Children R → Rest R → Type 0
+  IsRestOf P children no_rest = Unit {0}
+  IsRestOf P children (onward n tree) =
+      AreWithin n children × Differs n tree children × IsTaken tree × IsTree P tree
 
 -- a row that is kept: a value of its type that refuses something
 abbrev pub IsKept : {R Q : Type 0} → (R → Q → Type 0) → (R → Type 0) → R → Type 0

@@ -1,9 +1,12 @@
 -- What the prover needs and no reader has to believe: only private clauses and proofs cite it.
+pub mod Drafts
 pub mod Falls
+pub mod Loose
+pub mod Place
 pub mod Plan
 pub mod PlanCode
 pub mod PlanFalls
 pub mod PlanView
-pub mod Place
-pub mod View
+pub mod Rests
 pub mod ValidWalk
+pub mod View

@@ -9,6 +9,8 @@ pub mod Refuses
 pub mod RowList
 pub mod Rows
 pub mod Size
+pub mod Slots
+pub mod SlotsOfCode
 pub mod Tree
 pub mod Valid
 pub mod Walks

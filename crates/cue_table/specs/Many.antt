@@ -1,11 +1,11 @@
 -- Many tables as one.
-use Rattle.std.specs.Prelude.{◌≡◌, ◌↔◌, List, [], ◌∷◌, Some, None}
+use Rattle.std.specs.Prelude.{◌≡◌, ◌↔◌, List, [], ◌∷◌, Option, Some, None}
 use Rattle.cue_lattice.specs.OneOf.{OneOf}
 use Rattle.cue_lattice.specs.Path as paths
 use Rattle.cue_lattice.specs.Path.{Path}
 use Rattle.cue_row.specs.Steps.{step_of}
 use Rattle.cue_row.specs.declared.step.Step.{Step}
-use Rattle.cue_table.specs.Tree.{Tree, node, none, child, empty}
+use Rattle.cue_table.specs.Tree.{Tree, node, none, child, no_rest, taken, empty}
 use Rattle.cue_table.specs.Refuses.{TableRefuses}
 
 -- the table refuses at each path exactly what one of the tables refuses there
@@ -26,8 +26,9 @@ pub record IsOfBranches {R Q : Type 0} (refuses : R → Q → Type 0) (given : L
       ↔ OneOf (λ one. (step_of one.0 ≡ step) × TableRefuses refuses one.1 path question) given
 
 -- the tree below a step; nothing, where it has no row
+abbrev pub hung : {R : Type 0} → paths.Step → Option (Tree R) → Tree R
+hung step None = empty
+hung step (Some tree) = node None (child step tree none) no_rest
+
 abbrev pub under : {R : Type 0} → paths.Step → Tree R → Tree R
-under step (node None none) = empty
-under step (node None (child next tree children)) =
-    node None (child step (node None (child next tree children)) none)
-under step (node (Some row) children) = node None (child step (node (Some row) children) none)
+under step tree = hung step (taken tree)

@@ -1,9 +1,10 @@
 -- What unification makes of two tables.
-use Rattle.std.specs.Prelude.{◌≡◌, ◌↔◌, ◌⊎◌, [], ◌∷◌, Some, None}
+use Rattle.std.specs.Prelude.{◌≡◌, ◌↔◌, ◌⊎◌, ◌≤◌, ◌++◌, ℕ, [], ◌∷◌, Some, None}
 use Rattle.std.specs.Option.{option_and_then}
 use Rattle.cue_lattice.specs.Path as paths
-use Rattle.cue_lattice.specs.Path.{Path}
-use Rattle.cue_table.specs.Tree.{Tree, node, Children, none, child, row_of, find, branch_at}
+use Rattle.cue_lattice.specs.Path.{Path, index}
+use Rattle.cue_table.specs.Tree.{Tree, node, Children, none, child, no_rest, row_of, find}
+use Rattle.cue_table.specs.Tree.{branch_at}
 use Rattle.cue_table.specs.Refuses.{RowRefuses, TableRefuses}
 use Rattle.cue_table.specs.Form.{IsBelowAll, AreBranches}
 
@@ -44,8 +45,8 @@ pub record IsMerge {R Q : Type 0} (refuses : R → Q → Type 0) (P : R → Type
 
 -- one row alone, at its path
 abbrev pub chain : {R : Type 0} → Path → R → Tree R
-chain [] row = node (Some row) none
-chain (step ∷ path) row = node None (child step (chain path row) none)
+chain [] row = node (Some row) none no_rest
+chain (step ∷ path) row = node None (child step (chain path row) none) no_rest
 
 -- the new table refuses what the old one did, and at the path what the row refuses
 abbrev pub IsAdded : {R Q : Type 0} → (R → Q → Type 0) → Tree R → Path → R → Tree R → Type 0
@@ -53,3 +54,19 @@ IsAdded {R} {Q} refuses old path row new =
     (at : Path) (question : Q)
     → TableRefuses refuses new at question
     ↔ (TableRefuses refuses old at question ⊎ ((at ≡ path) × refuses row question))
+
+-- below the list at a path, in an element from an index on, what is given for these elements refuses
+-- the question
+abbrev pub RestRefuses : {R Q : Type 0} → (R → Q → Type 0) → Path → ℕ → Tree R → Path → Q → Type 0
+RestRefuses refuses list first rest at question =
+    (i : ℕ) × (path : Path) × (at ≡ list ++ index i ∷ path) × (first ≤ i)
+    × TableRefuses refuses rest path question
+
+-- The new table refuses what the old one did, and in each element of the list at a path, from an
+-- index on, what the table that is given for them refuses.
+abbrev pub IsRestAdded : {R Q : Type 0} → (R → Q → Type 0) → Tree R → Path → ℕ → Tree R → Tree R
+    → Type 0
+IsRestAdded {R} {Q} refuses old list first rest new =
+    (at : Path) (question : Q)
+    → TableRefuses refuses new at question
+    ↔ (TableRefuses refuses old at question ⊎ RestRefuses refuses list first rest at question)

@@ -1,33 +1,29 @@
--- The list of a table's rows: in path order, each at its path.
+-- The list of a table's rows: in the order of their places, each at its place.
 use Rattle.std.specs.Prelude.{◌≡◌, Bool, true, false, List, [], ◌∷◌, ◌++◌}
 use Rattle.std.specs.List.{AllByRecursion}
 use Rattle.std.specs.declared.cmp.Ordering.{Ordering}
 use Rattle.std.specs.declared.cmp.Ordering.TheVariants.{Less}
-use Rattle.cue_lattice.specs.Path.{Step, step_cmp, Path, path_cmp}
-use Rattle.cue_table.specs.Tree.{Tree, Children, none, child, rows_of}
+use Rattle.cue_lattice.specs.Path.{Step, step_cmp}
+use Rattle.cue_table.specs.Slots.{Place, place_cmp, rows_of}
+use Rattle.cue_table.specs.Tree.{Tree, Children, none, child}
 
--- each row stands before the path
-abbrev pub AreBefore : {R : Type 0} → Path → List (Path × R) → Type 0
-AreBefore path = AllByRecursion (λ row. path_cmp row.0 path ≡ Less)
+-- each row stands before the place
+abbrev pub AreBefore : {R : Type 0} → Place → List (Place × R) → Type 0
+AreBefore place = AllByRecursion (λ row. place_cmp row.0 place ≡ Less)
 
 -- each row stands before all later ones
-abbrev pub AreRising : {R : Type 0} → List (Path × R) → Type 0
+abbrev pub AreRising : {R : Type 0} → List (Place × R) → Type 0
 AreRising [] = Unit {0}
 AreRising (row ∷ rows) =
-    AllByRecursion (λ later. path_cmp row.0 later.0 ≡ Less) rows × AreRising rows
+    AllByRecursion (λ later. place_cmp row.0 later.0 ≡ Less) rows × AreRising rows
 
--- The row was added to the list behind all others; or nothing is changed, since not all others
--- stand before its path.
-abbrev pub Appends : {R : Type 0} → Tree R → Path → R → Tree R → Bool → Type 0
-Appends old path row new true = rows_of new ≡ rows_of old ++ (path, row) ∷ []
-Appends old path row new false = (new ≡ old) × ¬ AreBefore path (rows_of old)
-
--- So was a row; it is not added either where it refuses nothing.
-abbrev pub AppendsKept : {R Q : Type 0} → (R → Q → Type 0) → Tree R → Path → R → Tree R
-    → Bool → Type 0
-AppendsKept refuses old path row new true = rows_of new ≡ rows_of old ++ (path, row) ∷ []
-AppendsKept {R} {Q} refuses old path row new false =
-    (new ≡ old) × ¬ (AreBefore path (rows_of old) × ¬ ((question : Q) → ¬ refuses row question))
+-- So was a row added to a list: behind all others; or nothing is changed, since not all others
+-- stand before its place, or since it refuses nothing.
+abbrev pub AppendsKept : {R Q : Type 0} → (R → Q → Type 0) → List (Place × R) → Place → R
+    → List (Place × R) → Bool → Type 0
+AppendsKept refuses old place row new true = new ≡ old ++ (place, row) ∷ []
+AppendsKept {R} {Q} refuses old place row new false =
+    (new ≡ old) × ¬ (AreBefore place old × ¬ ((question : Q) → ¬ refuses row question))
 
 -- how the step of the last branch compares with another; where there is no branch, it is before
 abbrev pub last_cmp : {R : Type 0} → Step → Children R → Ordering

@@ -1,36 +1,48 @@
 -- A table is a tree: at each place a row, where something is refused there, and below it the
--- branches, each at its step.
-use Rattle.std.specs.Prelude.{ℕ, List, [], ◌∷◌, ◌++◌, map, Option, Some, None}
-use Rattle.std.specs.Option.{option_and_then, option_to_list}
+-- branches, each at its step; and, where a list goes on, the one branch that all further elements
+-- have.
+use Rattle.std.specs.Prelude.{ℕ, ◌+◌, max, nat_lt, if◌then◌else◌, List, [], ◌∷◌, Option, Some, None}
+use Rattle.std.specs.Option.{option_and_then}
 use Rattle.std.specs.declared.cmp.Ordering.{Ordering}
 use Rattle.std.specs.declared.cmp.Ordering.TheVariants.{Less, Equal, Greater}
 use Rattle.cue_lattice.specs.Path.{Step, label, index, step_cmp, Path}
 
 mutual
   pub data Tree (R : Type 0) : Type 0 where
-    node : Option R → Children R → Tree R
+    node : Option R → Children R → Rest R → Tree R
 
   pub data Children (R : Type 0) : Type 0 where
     none : Children R
     child : Step → Tree R → Children R → Children R
 
+  -- nothing, or what each element is from an index on
+  pub data Rest (R : Type 0) : Type 0 where
+    no_rest : Rest R
+    onward : ℕ → Tree R → Rest R
+
 -- the row at a tree's own place
 abbrev pub row_of : {R : Type 0} → Tree R → Option R
-row_of (node row children) = row
+row_of (node row children rest) = row
 
--- the branches below it
+-- the branches below it, each at a step of its own
 abbrev pub below : {R : Type 0} → Tree R → Children R
-below (node row children) = children
+below (node row children rest) = children
+
+-- what its further elements are
+abbrev pub rest_of : {R : Type 0} → Tree R → Rest R
+rest_of (node row children rest) = rest
 
 -- the table without rows
 abbrev pub empty : {R : Type 0} → Tree R
-empty = node None none
+empty = node None none no_rest
 
 -- the tree, where a row stands at its place or below
 abbrev pub taken : {R : Type 0} → Tree R → Option (Tree R)
-taken (node None none) = None
-taken (node None (child step tree children)) = Some (node None (child step tree children))
-taken (node (Some row) children) = Some (node (Some row) children)
+taken (node None none no_rest) = None
+taken (node None none (onward n tree)) = Some (node None none (onward n tree))
+taken (node None (child step tree children) rest) =
+    Some (node None (child step tree children) rest)
+taken (node (Some row) children rest) = Some (node (Some row) children rest)
 
 -- what is found where two steps compare so: the branch at hand, or what else is found
 abbrev pub if_equal : {R : Type 0} → Ordering → Tree R → Option (Tree R) → Option (Tree R)
@@ -38,33 +50,49 @@ if_equal Less tree other = other
 if_equal Equal tree other = Some tree
 if_equal Greater tree other = other
 
--- the branch at a step
+-- the branch that stands at a step of its own
 abbrev pub find : {R : Type 0} → Step → Children R → Option (Tree R)
 find step none = None
 find step (child next tree children) = if_equal (step_cmp step next) tree (find step children)
+
+-- the branch one step below: an element from the rest's index on is the rest
+abbrev pub find_with : {R : Type 0} → Rest R → Step → Children R → Option (Tree R)
+find_with no_rest step children = find step children
+find_with (onward n tree) (label text) children = find (label text) children
+find_with (onward n tree) (index i) children =
+    if nat_lt i n then find (index i) children else Some tree
+
+abbrev pub step_into : {R : Type 0} → Tree R → Step → Option (Tree R)
+step_into (node row children rest) step = find_with rest step children
 
 -- the branch at a path
 abbrev pub branch_at : {R : Type 0} → Tree R → Path → Option (Tree R)
 branch_at tree [] = Some tree
 branch_at tree (step ∷ path) =
-    option_and_then (λ branch. branch_at branch path) (find step (below tree))
+    option_and_then (λ branch. branch_at branch path) (step_into tree step)
 
 -- the row at a path
 abbrev pub row_at : {R : Type 0} → Tree R → Path → Option R
 row_at tree path = option_and_then row_of (branch_at tree path)
 
--- a row one step further from the root
-abbrev pub behind : {R : Type 0} → Step → Path × R → Path × R
-behind step row = (step ∷ row.0, row.1)
+-- the branch that further elements have
+abbrev pub rest_tree : {R : Type 0} → Rest R → Option (Tree R)
+rest_tree no_rest = None
+rest_tree (onward n tree) = Some tree
 
--- the rows with their paths, in path order
-abbrev mutual
-  pub rows_of : {R : Type 0} → Tree R → List (Path × R)
-  rows_of (node row children) = map (λ r. ([], r)) (option_to_list row) ++ rows_below children
+-- the first index at which no own element stands or may stand
+abbrev pub behind_last : {R : Type 0} → Children R → ℕ
+behind_last none = 0
+behind_last (child (label text) tree children) = behind_last children
+behind_last (child (index i) tree children) = max (i + 1) (behind_last children)
 
-  pub rows_below : {R : Type 0} → Children R → List (Path × R)
-  rows_below none = []
-  rows_below (child step tree children) = map (behind step) (rows_of tree) ++ rows_below children
+-- from which index on all elements are alike: from that of the rest, or behind the last element
+abbrev pub fixed_with : {R : Type 0} → Rest R → Children R → ℕ
+fixed_with no_rest children = behind_last children
+fixed_with (onward n tree) children = n
+
+abbrev pub fixed_of : {R : Type 0} → Tree R → ℕ
+fixed_of (node row children rest) = fixed_with rest children
 
 -- the branches with their steps, in order
 abbrev pub children_of : {R : Type 0} → Children R → List (Step × Tree R)

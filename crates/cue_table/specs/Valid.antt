@@ -1,6 +1,6 @@
 -- Which tables are valid: those that a site may hold, and that state bytes tell. Each rule speaks
 -- of the rows at paths.
-use Rattle.std.specs.Prelude.{◌≡◌, ◌⊎◌, ℕ, ◌<◌, [], ◌∷◌, ◌++◌, None, Some}
+use Rattle.std.specs.Prelude.{◌≡◌, ◌⊎◌, ℕ, ◌≤◌, [], ◌∷◌, ◌++◌, None, Some}
 use Rattle.std.specs.List.{AllByRecursion}
 use Rattle.cue_lattice.specs.Path.{Step, label, index, Path}
 use Rattle.cue_row.specs.Steps.{IsWithinDepth}
@@ -10,7 +10,7 @@ use Rattle.cue_row.specs.ValidRow.{IsWordStep, IsValidRow}
 use Rattle.cue_row.specs.declared.row.Row.{Row}
 use Rattle.cue_row.specs.declared.kind.RowKind.TheVariants as kinds
 use Rattle.cue_row.specs.declared.level.Level.TheVariants.{Optional}
-use Rattle.cue_table.specs.Tree.{Tree, empty, row_at}
+use Rattle.cue_table.specs.Tree.{Tree, empty, row_at, branch_at}
 use Rattle.cue_table.specs.Form.{IsTable}
 
 -- the row stands at the path
@@ -76,13 +76,12 @@ MayHold parent (index n) = IsKind parent kinds.List ⊎ IsKind parent kinds.Noth
 abbrev pub HasFittingParents : Tree Row → Type 0
 HasFittingParents = EachBelow (λ parent step row. MayHold parent step)
 
--- an element's index is below the least length of its list
-abbrev pub IsElement : Row → Step → Type 0
-IsElement parent (label text) = Unit {0}
-IsElement parent (index n) = n < parent.least
-
+-- From the least length of a list on, all elements are alike: those that are told one by one stand
+-- below it, and the rest begins there at the latest.
 abbrev pub HasElements : Tree Row → Type 0
-HasElements = EachBelow (λ parent step row. IsElement parent step)
+HasElements tree =
+    (path : Path) (row : Row) (i j : ℕ) → Stands tree path row → row.least ≤ i → row.least ≤ j
+    → branch_at tree (further path (index i)) ≡ branch_at tree (further path (index j))
 
 -- A valid table: its rows are kept in their one form, each at one path, and none is free; and it
 -- keeps the rules above.

@@ -1,14 +1,16 @@
 -- What a walk over the branches of a table needs: each is smaller than the tree, and their list is
 -- the tree's.
-use Rattle.std.specs.Prelude.{◌≡◌, ℕ, ◌+◌, ◌<◌, List, ◌∷◌, Option, Some, refl}
+use Rattle.std.specs.Prelude.{◌≡◌, ℕ, ◌+◌, ◌<◌, Bool, true, false, nat_lt, if◌then◌else◌, List, ◌∷◌}
+use Rattle.std.specs.Prelude.{Option, Some, None, refl}
 use Rattle.std.specs.List.{AllByRecursion}
 use Rattle.std.specs.declared.cmp.Ordering.{Ordering}
 use Rattle.std.specs.declared.cmp.Ordering.TheVariants.{Less, Equal, Greater}
 use Rattle.std.proofs.Common.{arith, subst}
 use Rattle.cue_lattice.specs.Path.{Step, label, index, step_cmp}
-use Rattle.cue_table.specs.Tree.{Tree, node, Children, none, child, below, if_equal, find}
+use Rattle.cue_table.specs.Tree.{Tree, node, Children, none, child, Rest, no_rest, onward, below}
+use Rattle.cue_table.specs.Tree.{rest_of, if_equal, find, find_with, step_into, rest_tree}
 use Rattle.cue_table.specs.Tree.{children_of, labels_of, items_of}
-use Rattle.cue_table.specs.Size.{tree_size, children_size}
+use Rattle.cue_table.specs.Size.{tree_size, children_size, rest_size}
 
 -- each of the branches is smaller than n
 abbrev pub AreSmaller : {R S : Type 0} → ℕ → List (S × Tree R) → Type 0
@@ -62,18 +64,18 @@ module _ {R : Type 0} where
 
   -- each branch is smaller than its tree
   pub children_smaller : (tree : Tree R) → AreSmaller (tree_size tree) (children_of (below tree))
-  children_smaller (node row children) =
-      smaller_children (children_size children + 1) children (omega arith)
+  children_smaller (node row children rest) =
+      smaller_children (children_size children + rest_size rest + 1) children (omega arith)
 
   -- so is each branch at a label
   pub labels_smaller : (tree : Tree R) → AreSmaller (tree_size tree) (labels_of (below tree))
-  labels_smaller (node row children) =
-      smaller_labels (children_size children + 1) children (omega arith)
+  labels_smaller (node row children rest) =
+      smaller_labels (children_size children + rest_size rest + 1) children (omega arith)
 
   -- and each branch at an index
   pub items_smaller : (tree : Tree R) → AreSmaller (tree_size tree) (items_of (below tree))
-  items_smaller (node row children) =
-      smaller_items (children_size children + 1) children (omega arith)
+  items_smaller (node row children rest) =
+      smaller_items (children_size children + rest_size rest + 1) children (omega arith)
 
   smaller_found : (o : Ordering) (here tree : Tree R) (other : Option (Tree R)) (n : ℕ)
       → tree_size here < n → (other ≡ Some tree → tree_size tree < n)
@@ -90,8 +92,36 @@ module _ {R : Type 0} where
       smaller_found (step_cmp step next) here tree (find step children) n (omega arith)
       (λ f. smaller_in n step children tree (omega arith) f) e
 
-  -- and the branch that is found at a step
-  pub found_smaller : (step : Step) (tree branch : Tree R) → find step (below tree) ≡ Some branch
+  -- and the rest
+  pub rest_smaller : (tree branch : Tree R) → rest_tree (rest_of tree) ≡ Some branch
       → tree_size branch < tree_size tree
-  found_smaller step (node row children) branch e =
-      smaller_in (children_size children + 1) step children branch (omega arith) e
+  rest_smaller (node row children no_rest) branch e = cc
+  rest_smaller (node row children (onward n tree)) branch e =
+      let same : tree ≡ branch = cc in
+      subst (λ t. tree_size t < children_size children + tree_size tree + 1) same (omega arith)
+
+  smaller_else : (b : Bool) (own : Option (Tree R)) (rest branch : Tree R) (n : ℕ)
+      → (own ≡ Some branch → tree_size branch < n) → tree_size rest < n
+      → (if b then own else Some rest) ≡ Some branch → tree_size branch < n
+  smaller_else true own rest branch n f h e = f e
+  smaller_else false own rest branch n f h e =
+      let same : rest ≡ branch = cc in subst (λ t. tree_size t < n) same h
+
+  smaller_with : (rest : Rest R) (step : Step) (children : Children R) (branch : Tree R)
+      → find_with rest step children ≡ Some branch
+      → tree_size branch < children_size children + rest_size rest + 1
+  smaller_with no_rest step children branch e =
+      smaller_in (children_size children + 0 + 1) step children branch (omega arith) e
+  smaller_with (onward n tree) (label text) children branch e =
+      smaller_in (children_size children + tree_size tree + 1) (label text) children branch
+      (omega arith) e
+  smaller_with (onward n tree) (index i) children branch e =
+      smaller_else (nat_lt i n) (find (index i) children) tree branch
+      (children_size children + tree_size tree + 1)
+      (λ f. smaller_in (children_size children + tree_size tree + 1) (index i) children branch
+      (omega arith) f) (omega arith) e
+
+  -- and the branch that is found one step below
+  pub found_smaller : (step : Step) (tree branch : Tree R) → step_into tree step ≡ Some branch
+      → tree_size branch < tree_size tree
+  found_smaller step (node row children rest) branch e = smaller_with rest step children branch e

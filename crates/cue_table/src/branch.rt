@@ -1,11 +1,13 @@
 ghost use Rattle.std.specs.Prelude.{◌≡◌};
 ghost use Rattle.std.specs.Option.{option_map};
-ghost use Rattle.cue_table.specs.Tree.{row_of, below, find, labels_of, items_of};
-ghost use Rattle.cue_table.specs.Form.{IsTable};
+ghost use Rattle.cue_table.specs.Tree.{row_of, below, rest_of, rest_tree, fixed_of, step_into};
+ghost use Rattle.cue_table.specs.Tree.{behind_last, labels_of, items_of};
+ghost use Rattle.cue_table.specs.Form.{AreBranches, IsKept, IsTable};
 ghost use Rattle.cue_row.specs.Steps.{step_of};
+ghost use Rattle.cue_table.specs.Inner.View.{branches};
 
 use crate::iter::{Children, Items, Labels};
-use crate::node::Node;
+use crate::node::{Child, Node};
 use cue_lattice::Narrow;
 use cue_row::Step;
 use std::marker::Model;
@@ -49,19 +51,20 @@ impl<'a, R: Narrow> Branch<'a, R> {
         node.row()
     }
 
-    /// The branch one step below.
+    /// The branch one step below. An element of a list from the index of its rest on is the rest.
     pub fn find(&self, step: &Step) -> Option<Branch<'a, R>>
-        ensures branch { result ≡ find (step_of step.now) (below self.now) }
+        ensures branch { result ≡ step_into self.now (step_of step.now) }
         ensures form { IsTable R.refuses R.is_value self.now }
     {
         let node = self.node;
-        match node.find(step) {
+        match node.step_into(step) {
             None => None,
             Some(found) => Some(Branch::new(found)),
         }
     }
 
-    /// The branches below, each with its step, in the order of the steps: labels before indexes.
+    /// The branches below that stand at a step of their own, each with it, in the order of the
+    /// steps: labels before indexes.
     pub fn children(&self) -> Children<'a, R>
         ensures list { result ≡ below self.now }
         ensures form { IsTable R.refuses R.is_value self.now }
@@ -79,12 +82,51 @@ impl<'a, R: Narrow> Branch<'a, R> {
         Labels::new(&node.children)
     }
 
-    /// The branches at indexes, by number.
+    /// The branches at indexes of their own, by number.
     pub fn items(&self) -> Items<'a, R>
         ensures list { result ≡ items_of (below self.now) }
         ensures form { IsTable R.refuses R.is_value self.now }
     {
         let node = self.node;
         Items::new(&node.children)
+    }
+
+    /// What each element is from index [`Branch::fixed`] on, unless nothing is known of it.
+    pub fn rest(&self) -> Option<Branch<'a, R>>
+        ensures rest { result ≡ rest_tree (rest_of self.now) }
+        ensures form { IsTable R.refuses R.is_value self.now }
+    {
+        let node = self.node;
+        match &node.rest {
+            None => None,
+            Some(rest) => Some(Branch::new(&rest.node)),
+        }
+    }
+
+    /// From which index on all elements are alike: that of the rest or, where nothing is known of
+    /// further elements, the one behind the last element that stands by itself.
+    pub fn fixed(&self) -> u64
+        ensures fixed { result ≡ fixed_of self.now }
+        ensures form { IsTable R.refuses R.is_value self.now }
+    {
+        let node = self.node;
+        match &node.rest {
+            None => behind_last(&node.children),
+            Some(rest) => rest.from,
+        }
+    }
+}
+
+/// The index behind the last element among the branches.
+pub(crate) fn behind_last<R: Narrow>(children: &[Child<R>]) -> u64
+    requires { AreBranches (IsKept R.refuses R.is_value) (branches children.now) }
+    ensures { result ≡ behind_last (branches children.now) }
+{
+    let Some((last, _)) = children.split_last() else {
+        return 0;
+    };
+    match &last.step {
+        Step::Label(_) => 0,
+        Step::Index(number) => u64::from(*number) + 1,
     }
 }

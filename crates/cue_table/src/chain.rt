@@ -1,14 +1,18 @@
-//! One row alone, and one branch alone, as a tree.
+//! One row alone, one branch alone and one rest alone, as a tree.
 ghost use Rattle.std.specs.Prelude.{◌≡◌, map, IfOk, None};
 ghost use Rattle.cue_row.specs.Steps.{step_of};
+ghost use Rattle.cue_table.specs.Inner.Rests.{along};
+ghost use Rattle.cue_table.specs.Inner.View.{branches};
 ghost use Rattle.cue_table.specs.Meet.{chain};
-ghost use Rattle.cue_table.specs.Tree.{node, none, child};
+ghost use Rattle.cue_table.specs.RowList.{last_cmp};
+ghost use Rattle.cue_table.specs.Tree.{node, none, child, no_rest, onward};
 
 use crate::boxed::Boxed;
-use crate::node::{Child, Node};
+use crate::node::{Child, Node, Onward};
 use cue_lattice::{Memory, Narrow};
 use cue_row::Step;
 use std::alloc::Global;
+use std::cmp::Ordering;
 
 /// One row alone, at its path.
 pub(crate) fn single<R: Narrow>(alloc: Global, steps: &[Step], row: R) -> Result<Node<R>, Memory>
@@ -18,6 +22,7 @@ pub(crate) fn single<R: Narrow>(alloc: Global, steps: &[Step], row: R) -> Result
         [] => Ok(Node {
             row: Some(Boxed::new(alloc, row)?),
             children: Vec::new(alloc),
+            rest: None,
         }),
         [first, rest @ ..] => {
             let step = first.copy(alloc)?;
@@ -33,12 +38,64 @@ pub(crate) fn one_branch<R: Narrow>(
     step: Step,
     below: Node<R>,
 ) -> Result<Node<R>, Memory>
-    ensures { IfOk result (λ above. above ≡ node None (child (step_of step) below none)) }
+    ensures { IfOk result (λ above. above
+        ≡ node None (child (step_of step) below none) no_rest) }
 {
     let mut children = Vec::with_capacity(alloc, 1)?;
     children.push(Child { step, node: below })?;
     Ok(Node {
         row: None,
         children,
+        rest: None,
     })
+}
+
+/// A place with a rest alone.
+pub(crate) fn rest_alone<R: Narrow>(
+    alloc: Global,
+    from: u32,
+    below: Node<R>,
+) -> Result<Node<R>, Memory>
+    ensures { IfOk result (λ list. list ≡ node None none (onward from below)) }
+{
+    let rest = Box::new(
+        alloc,
+        Onward {
+            from: u64::from(from),
+            node: below,
+        },
+    )?;
+    Ok(Node {
+        row: None,
+        children: Vec::new(alloc),
+        rest: Some(rest),
+    })
+}
+
+/// A place further from the root, at the end of a path.
+pub(crate) fn hung_along<R: Narrow>(
+    alloc: Global,
+    steps: &[Step],
+    node: Node<R>,
+) -> Result<Node<R>, Memory>
+    ensures { IfOk result (λ above. above ≡ along (map step_of steps.now) node) }
+{
+    match steps {
+        [] => Ok(node),
+        [first, rest @ ..] => {
+            let step = first.copy(alloc)?;
+            let below = hung_along(alloc, rest, node)?;
+            one_branch(alloc, step, below)
+        }
+    }
+}
+
+/// How the step of the last branch compares with another; where there is no branch, it is before.
+pub(crate) fn last_against<R: Narrow>(children: &[Child<R>], step: &Step) -> Ordering
+    ensures { result ≡ last_cmp (step_of step.now) (branches children.now) }
+{
+    match children.split_last() {
+        None => Ordering::Less,
+        Some((last, _)) => last.step.compare(step),
+    }
 }

@@ -3,13 +3,13 @@ ghost use Rattle.std.specs.Prelude.{◌≡◌, ◌+◌, ◌≤◌, ◌++◌, len
 ghost use Rattle.std.specs.Vec.{vec_len, vec_capacity};
 ghost use Rattle.std.specs.Vec.Iter.{into_iter_items};
 ghost use Rattle.cue_table.specs.Tree.{Children};
-ghost use Rattle.cue_table.specs.Inner.Plan.{Slots, done, IsAmending, changed, changed_below};
+ghost use Rattle.cue_table.specs.Inner.Plan.{Pieces, done, IsAmending, changed, changed_below};
 ghost use Rattle.cue_table.specs.Inner.Plan.{first_changed, merged, width};
-ghost use Rattle.cue_table.specs.Inner.PlanView.{HasRoom, amended, below_of, slot_before, slots_of};
+ghost use Rattle.cue_table.specs.Inner.PlanView.{HasRoom, amended, below_of, piece_before, pieces_of};
 ghost use Rattle.cue_table.specs.Inner.View.{branches};
 
 use crate::node::{Child, Node};
-use crate::plan::{Below, Plan, Slot};
+use crate::plan::{Below, Piece, Plan};
 use cue_lattice::Narrow;
 use std::alloc::Global;
 use std::mem;
@@ -17,13 +17,14 @@ use std::vec::IntoIter;
 
 /// The place after a change.
 #[cycle(fill)]
-fn change<R: Narrow>(alloc: Global, old: Node<R>, plan: Plan<R>) -> Node<R>
+pub(crate) fn change<R: Narrow>(alloc: Global, old: Node<R>, plan: Plan<R>) -> Node<R>
     ensures { result ≡ changed plan old }
 {
-    let Plan { row, below } = plan;
+    let Plan { row, below, rest } = plan;
     Node {
         row: row.or(old.row),
         children: change_below(alloc, old.children, below),
+        rest,
     }
 }
 
@@ -40,44 +41,44 @@ pub(crate) fn change_below<R: Narrow>(
     match below {
         Below::Stay => old,
         Below::Take(children) => children,
-        Below::Amend(slots) => amend(alloc, old, slots),
-        Below::Merge(slots, room) => merge(alloc, old, slots, room),
+        Below::Amend(pieces) => amend(alloc, old, pieces),
+        Below::Merge(pieces, room) => merge(alloc, old, pieces, room),
     }
 }
 
 /// The branches of a list, some of which change where they stand.
 #[cycle(fill)]
-fn amend<R: Narrow>(alloc: Global, mut old: Vec<Child<R>>, slots: Vec<Slot<R>>) -> Vec<Child<R>>
-    requires { IsAmending (slots_of slots.items) }
-    ensures { branches result.items ≡ merged (slots_of slots.items) (branches old.items) }
+fn amend<R: Narrow>(alloc: Global, mut old: Vec<Child<R>>, pieces: Vec<Piece<R>>) -> Vec<Child<R>>
+    requires { IsAmending (pieces_of pieces.items) }
+    ensures { branches result.items ≡ merged (pieces_of pieces.items) (branches old.items) }
 {
     let mut at = 0;
-    let mut others = slots.into_iter();
-    while let Some(slot) = others.next() {
-        at = amend_next(alloc, &mut old, at, slot);
+    let mut others = pieces.into_iter();
+    while let Some(piece) = others.next() {
+        at = amend_next(alloc, &mut old, at, piece);
     }
     old.truncate(at);
     old
 }
 
-/// Goes on from a place of a list as a slot says, and gives the place behind.
+/// Goes on from a place of a list as a piece says, and gives the place behind.
 #[cycle(fill)]
 fn amend_next<R: Narrow>(
     alloc: Global,
     children: &mut Vec<Child<R>>,
     at: usize,
-    slot: Slot<R>,
+    piece: Piece<R>,
 ) -> usize
     requires inside { at ≤ length children.old.items }
-    requires amends { IsAmending (slot_before slot done) }
+    requires amends { IsAmending (piece_before piece done) }
     ensures inside { result ≤ length children.new.items }
-    ensures amends { (others : Slots R) → amended result (merged others) children.new.items
-        ≡ amended at (merged (slot_before slot others)) children.old.items }
+    ensures amends { (others : Pieces R) → amended result (merged others) children.new.items
+        ≡ amended at (merged (piece_before piece others)) children.old.items }
 {
-    match slot {
-        Slot::Keep(count) => further(at, count, children.len()),
-        Slot::Insert(_, _) => at,
-        Slot::Alter(count, plan) => {
+    match piece {
+        Piece::Keep(count) => further(at, count, children.len()),
+        Piece::Insert(_, _) => at,
+        Piece::Alter(count, plan) => {
             let here = further(at, count, children.len());
             alter(alloc, children, here, plan)
         }
@@ -113,23 +114,23 @@ fn further(at: usize, count: usize, end: usize) -> usize
 fn merge<R: Narrow>(
     alloc: Global,
     old: Vec<Child<R>>,
-    slots: Vec<Slot<R>>,
+    pieces: Vec<Piece<R>>,
     mut room: Vec<Child<R>>,
 ) -> Vec<Child<R>>
     requires empty { vec_len room ≡ 0 }
-    requires space { width (slots_of slots.items) ≤ vec_capacity room }
-    ensures { branches result.items ≡ merged (slots_of slots.items) (branches old.items) }
+    requires space { width (pieces_of pieces.items) ≤ vec_capacity room }
+    ensures { branches result.items ≡ merged (pieces_of pieces.items) (branches old.items) }
 {
     let mut rest = old.into_iter();
-    let mut others = slots.into_iter();
-    while let Some(slot) = others.next() {
-        match slot {
-            Slot::Keep(count) => keep(&mut room, &mut rest, count),
-            Slot::Insert(count, child) => {
+    let mut others = pieces.into_iter();
+    while let Some(piece) = others.next() {
+        match piece {
+            Piece::Keep(count) => keep(&mut room, &mut rest, count),
+            Piece::Insert(count, child) => {
                 keep(&mut room, &mut rest, count);
                 room.push_reserved(child);
             }
-            Slot::Alter(count, plan) => {
+            Piece::Alter(count, plan) => {
                 keep(&mut room, &mut rest, count);
                 if let Some(Child { step, node }) = rest.next() {
                     let node = change(alloc, node, plan);

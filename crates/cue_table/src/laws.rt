@@ -1,12 +1,13 @@
 //! Laws of tables, each on a call that carries it and does nothing.
 ghost use Rattle.std.specs.Prelude.{◌≡◌};
 ghost use Rattle.cue_lattice.specs.Question.{SameAnswers};
-ghost use Rattle.cue_table.specs.Tree.{Tree, rows_of};
+ghost use Rattle.cue_table.specs.Tree.{Tree};
 ghost use Rattle.cue_table.specs.Form.{IsTable};
 ghost use Rattle.cue_table.specs.Narrower.{MeetsCommute, MeetsAssociate, MeetsRepeat, MeetsNarrow};
 ghost use Rattle.cue_table.specs.Narrower.{MeetsAreWidest};
-ghost use Rattle.cue_table.specs.Rows.{AreRows, InPathOrder};
+ghost use Rattle.cue_table.specs.Rows.{AreRows, InPlaceOrder};
 ghost use Rattle.cue_table.specs.Refuses.{TableRefuses};
+ghost use Rattle.cue_table.specs.Slots.{rows_of};
 
 use cue_lattice::Narrow;
 
@@ -16,9 +17,10 @@ pub fn equal_answers<R: Narrow>()
         → SameAnswers (TableRefuses R.refuses a) (TableRefuses R.refuses b) → a ≡ b }
 {}
 
-/// The list of a table's rows is in strict path order, and has just the rows that stand at paths.
+/// The list of a table's rows is in the strict order of their places, and has just the rows that are
+/// kept at places.
 pub fn rows_in_order<R: Narrow>()
-    ensures order { (table : Tree R) → IsTable R.refuses R.is_value table → InPathOrder table }
+    ensures order { (table : Tree R) → IsTable R.refuses R.is_value table → InPlaceOrder table }
     ensures rows { (table : Tree R) → IsTable R.refuses R.is_value table → AreRows table }
 {}
 

@@ -1,26 +1,34 @@
 //! A table as a tree: what is known at each path of a configuration, and the readers of it.
 #![tactic(auto)]
 
-mod append;
 mod boxed;
 mod branch;
 mod chain;
+mod draft;
 mod fill;
+mod formed;
+mod hang;
 mod iter;
 mod laws;
 mod many;
 mod measure;
 mod meet;
 mod node;
+mod place;
 mod plan;
+mod rest;
 mod rows;
+mod slot;
 mod table;
 mod valid;
 
 pub use branch::Branch;
 pub use cue_lattice::{Memory, Narrow};
 pub use cue_row::{Path, Row, Step};
+pub use draft::Draft;
 pub use iter::{Children, Items, Labels};
 pub use laws::{equal_answers, equal_rows, meet_is_greatest_lower_bound, rows_in_order};
+pub use place::Place;
+pub use slot::Slot;
 pub use table::Table;
 pub use valid::valid_tables_meet;

@@ -26,5 +26,8 @@ fn depth_of<R: Narrow>(branch: &Branch<R>) -> usize
     for (_, below) in branch.children() {
         depth = usize::max(depth, depth_of(&below) + 1);
     }
-    depth
+    match branch.rest() {
+        None => depth,
+        Some(rest) => usize::max(depth, depth_of(&rest) + 1),
+    }
 }

@@ -2,14 +2,14 @@
 //! the others; what is more than that is planned before anything changes.
 ghost use Rattle.std.specs.Prelude.{◌≡◌, OnErr, OnOk};
 ghost use Rattle.cue_row.specs.Steps.{step_of};
-ghost use Rattle.cue_table.specs.Tree.{child, none};
+ghost use Rattle.cue_table.specs.Tree.{child, none, no_rest, rest_of};
 ghost use Rattle.cue_table.specs.Form.{AreBranches, IsKept, IsTable};
 ghost use Rattle.cue_table.specs.Meet.{IsMerge, IsMet};
 ghost use Rattle.cue_table.specs.Inner.View.{branches};
 
-use crate::fill::change_below;
+use crate::fill::{change, change_below};
 use crate::node::{Child, Node, place};
-use crate::plan::{plan_below, plan_row};
+use crate::plan::{plan_below, plan_row, planned};
 use cue_lattice::{Memory, Narrow};
 use std::alloc::Global;
 use std::mem;
@@ -27,7 +27,31 @@ pub(crate) fn meet_into<R: Narrow>(
     ensures ok { OnOk result (IsMet R.refuses left.old right left.new) }
     ensures err { OnErr result (left.new ≡ left.old) }
 {
-    let Node { row, children } = right;
+    if left.rest.is_none() && right.rest.is_none() {
+        return meet_own(alloc, left, right);
+    }
+    let plan = planned(alloc, left, right)?;
+    let old = mem::replace(left, Node::new(alloc));
+    *left = change(alloc, old, plan);
+    Ok(())
+}
+
+/// Unifies another place into a place, where neither has a rest.
+#[cycle(meet)]
+fn meet_own<R: Narrow>(alloc: Global, left: &mut Node<R>, right: Node<R>) -> Result<(), Memory>
+    requires left { IsTable R.refuses R.is_value left.old }
+    requires right { IsTable R.refuses R.is_value right }
+    requires left_rest { rest_of left.old ≡ no_rest }
+    requires right_rest { rest_of right ≡ no_rest }
+    ensures form { IsTable R.refuses R.is_value left.new }
+    ensures ok { OnOk result (IsMet R.refuses left.old right left.new) }
+    ensures err { OnErr result (left.new ≡ left.old) }
+{
+    let Node {
+        row,
+        children,
+        rest: _,
+    } = right;
     let met = plan_row(alloc, &left.row, row)?;
     meet_below(alloc, &mut left.children, children)?;
     if let Some(row) = met {

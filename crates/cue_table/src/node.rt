@@ -1,9 +1,9 @@
 ghost use Rattle.std.specs.Prelude.{◌≡◌, ◌↔◌, map, IfOk, IfSome, IsTrue, MatchResult, None};
 ghost use Rattle.std.specs.Option.{option_map};
-ghost use Rattle.cue_table.specs.Tree.{empty, below, row_of, taken, find, branch_at};
+ghost use Rattle.cue_table.specs.Tree.{empty, below, row_of, taken, find, step_into, branch_at};
 ghost use Rattle.cue_table.specs.Form.{IsTable, Rise};
 ghost use Rattle.cue_row.specs.Steps.{step_of};
-ghost use Rattle.cue_table.specs.Inner.View.{branches};
+ghost use Rattle.cue_table.specs.Inner.View.{branches, rest_in};
 ghost use Rattle.cue_table.specs.Inner.Place.{IsGap, IsPlace};
 
 use crate::boxed::Boxed;
@@ -20,6 +20,8 @@ pub struct Node<R: Narrow> {
     pub(crate) row: Option<Boxed<R>>,
     /// The branches below, each at its step, in the order of the steps.
     pub(crate) children: Vec<Child<R>>,
+    /// What each element is from an index on, behind those among the branches.
+    pub(crate) rest: Option<Box<Onward<R>>>,
 }
 
 /// A branch at its step.
@@ -27,6 +29,15 @@ pub struct Node<R: Narrow> {
 #[cycle(node)]
 pub(crate) struct Child<R: Narrow> {
     pub(crate) step: Step,
+    pub(crate) node: Node<R>,
+}
+
+/// What each element is from an index on.
+#[derive(Drop)]
+#[cycle(node)]
+pub(crate) struct Onward<R: Narrow> {
+    /// The first of these indexes, at most 2^32.
+    pub(crate) from: u64,
     pub(crate) node: Node<R>,
 }
 
@@ -45,9 +56,9 @@ impl<R: Narrow> Model for Node<R> {
 
     ghost size = { tree_size };
 
-    ghost use Rattle.cue_table.specs.Inner.Falls.{branches_fall};
+    ghost use Rattle.cue_table.specs.Inner.Falls.{parts_fall};
 
-    ghost size_decreases = { λ a h. branches_fall a.children.items };
+    ghost size_decreases = { λ a h. parts_fall R.Narrow a };
 }
 
 impl<R: Narrow> Node<R> {
@@ -58,6 +69,7 @@ impl<R: Narrow> Node<R> {
         Node {
             row: None,
             children: Vec::new(alloc),
+            rest: None,
         }
     }
 
@@ -65,10 +77,10 @@ impl<R: Narrow> Node<R> {
     pub(crate) fn taken(&self) -> Option<&Node<R>>
         ensures { option_map (λ node. node.now) result ≡ taken self.now }
     {
-        match &self.row {
-            Some(_) => Some(self),
-            None if self.children.is_empty() => None,
-            None => Some(self),
+        match (&self.row, &self.rest) {
+            (Some(_), _) | (None, Some(_)) => Some(self),
+            (None, None) if self.children.is_empty() => None,
+            (None, None) => Some(self),
         }
     }
 
@@ -82,15 +94,19 @@ impl<R: Narrow> Node<R> {
         }
     }
 
-    /// The branch at a step.
-    pub(crate) fn find(&self, step: &Step) -> Option<&Node<R>>
+    /// The branch one step below: an element behind those among the branches is the rest.
+    pub(crate) fn step_into(&self, step: &Step) -> Option<&Node<R>>
         requires { Rise (below self.now) }
-        ensures { option_map (λ node. node.now) result ≡ find (step_of step.now) (below self.now) }
+        ensures { option_map (λ node. node.now) result ≡ step_into self.now (step_of step.now) }
     {
-        match place(&self.children, step) {
-            Ok(at) => Some(&self.children[at].node),
-            Err(_) => None,
+        if let Some(rest) = &self.rest {
+            if let Step::Index(number) = step {
+                if u64::from(*number) >= rest.from {
+                    return Some(&rest.node);
+                }
+            }
         }
+        find(&self.children, step)
     }
 
     /// The branch at a path.
@@ -102,7 +118,7 @@ impl<R: Narrow> Node<R> {
     {
         let mut node = self;
         for step in steps {
-            node = node.find(step)?;
+            node = node.step_into(step)?;
         }
         Some(node)
     }
@@ -112,7 +128,13 @@ impl<R: Narrow> Node<R> {
     pub(crate) fn same(&self, other: &Node<R>) -> bool
         ensures { IsTrue result ↔ (self.now ≡ other.now) }
     {
-        same_row(&self.row, &other.row) && same_children(&self.children, &other.children)
+        if !same_row(&self.row, &other.row) {
+            return false;
+        }
+        if !same_children(&self.children, &other.children) {
+            return false;
+        }
+        same_rest(&self.rest, &other.rest)
     }
 
     #[cycle(copy)]
@@ -122,6 +144,7 @@ impl<R: Narrow> Node<R> {
         Ok(Node {
             row: copy_row(alloc, &self.row)?,
             children: copy_children(alloc, &self.children)?,
+            rest: copy_rest(alloc, &self.rest)?,
         })
     }
 }
@@ -173,7 +196,10 @@ fn copy_row<R: Narrow>(alloc: Global, row: &Option<Boxed<R>>) -> Result<Option<B
 }
 
 #[cycle(copy)]
-fn copy_children<R: Narrow>(alloc: Global, children: &[Child<R>]) -> Result<Vec<Child<R>>, Memory>
+pub(crate) fn copy_children<R: Narrow>(
+    alloc: Global,
+    children: &[Child<R>],
+) -> Result<Vec<Child<R>>, Memory>
     ensures { IfOk result (λ copied. copied.items ≡ children.now) }
 {
     let mut copied = Vec::with_capacity(alloc, children.len())?;
@@ -181,6 +207,48 @@ fn copy_children<R: Narrow>(alloc: Global, children: &[Child<R>]) -> Result<Vec<
         copied.push(child.copy(alloc)?)?;
     }
     Ok(copied)
+}
+
+#[cycle(same)]
+fn same_rest<R: Narrow>(left: &Option<Box<Onward<R>>>, right: &Option<Box<Onward<R>>>) -> bool
+    ensures { IsTrue result ↔ (rest_in left.now ≡ rest_in right.now) }
+{
+    match (left, right) {
+        (None, None) => true,
+        (Some(a), Some(b)) => a.from == b.from && a.node.same(&b.node),
+        _ => false,
+    }
+}
+
+#[cycle(copy)]
+fn copy_rest<R: Narrow>(
+    alloc: Global,
+    rest: &Option<Box<Onward<R>>>,
+) -> Result<Option<Box<Onward<R>>>, Memory>
+    ensures { IfOk result (λ copied. rest_in copied ≡ rest_in rest.now) }
+{
+    match rest {
+        None => Ok(None),
+        Some(onward) => Ok(Some(Box::new(
+            alloc,
+            Onward {
+                from: onward.from,
+                node: onward.node.copy(alloc)?,
+            },
+        )?)),
+    }
+}
+
+/// The branch that stands at a step of its own among the branches.
+pub(crate) fn find<'a, R: Narrow>(children: &'a [Child<R>], step: &Step) -> Option<&'a Node<R>>
+    requires { Rise (branches children.now) }
+    ensures { option_map (λ node. node.now) result
+        ≡ find (step_of step.now) (branches children.now) }
+{
+    match place(children, step) {
+        Ok(at) => Some(&children[at].node),
+        Err(_) => None,
+    }
 }
 
 /// Where the branch at a step is among the branches, or where it would stand.

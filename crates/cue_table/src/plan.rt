@@ -5,12 +5,16 @@ ghost use Rattle.cue_table.specs.Form.{AreBranches, IsKept, IsRow, IsTable};
 ghost use Rattle.cue_table.specs.Meet.{IsMerge, IsMet, IsUnion};
 ghost use Rattle.cue_table.specs.Inner.Plan.{IsAmending, changed, changed_below, merged};
 ghost use Rattle.cue_table.specs.Inner.Plan.{or_row, width};
-ghost use Rattle.cue_table.specs.Inner.PlanView.{HasRoom, below_of, slots_of};
+ghost use Rattle.cue_table.specs.Inner.PlanView.{HasRoom, below_of, pieces_of};
+ghost use Rattle.cue_table.specs.Inner.Rests.{AreMetBelow, AreMetRests, IsBranch};
+ghost use Rattle.cue_table.specs.Tree.{rest_tree};
 ghost use Rattle.cue_table.specs.Refuses.{RowRefuses};
-ghost use Rattle.cue_table.specs.Inner.View.{branches};
+ghost use Rattle.cue_table.specs.Inner.View.{branches, rest_in};
 
 use crate::boxed::Boxed;
-use crate::node::{Child, Node, place};
+use crate::fill::{change, change_below};
+use crate::node::{Child, Node, Onward, copy_children, place};
+use crate::rest::{fixed, settled, unrolled};
 use cue_lattice::{Memory, Narrow, Narrowed};
 use std::alloc::Global;
 use std::marker::Model;
@@ -23,6 +27,8 @@ pub(crate) struct Plan<R: Narrow> {
     pub(crate) row: Option<Boxed<R>>,
     /// What becomes of the branches.
     pub(crate) below: Below<R>,
+    /// What further elements are then.
+    pub(crate) rest: Option<Box<Onward<R>>>,
 }
 
 /// What becomes of the branches of a place.
@@ -31,18 +37,18 @@ pub(crate) struct Plan<R: Narrow> {
 pub(crate) enum Below<R: Narrow> {
     /// They stay as they are.
     Stay,
-    /// These are the branches, where none were.
+    /// These are the branches.
     Take(Vec<Child<R>>),
     /// Some of them change where they stand, and none is added.
-    Amend(Vec<Slot<R>>),
+    Amend(Vec<Piece<R>>),
     /// Some are added among them; the list has room for all.
-    Merge(Vec<Slot<R>>, Vec<Child<R>>),
+    Merge(Vec<Piece<R>>, Vec<Child<R>>),
 }
 
-/// How a list of branches goes on: so many stay as they are, and then comes this.
+/// A piece of a list of branches: so many stay as they are, and then comes this.
 #[derive(Drop)]
 #[cycle(plan)]
-pub(crate) enum Slot<R: Narrow> {
+pub(crate) enum Piece<R: Narrow> {
     /// The end of the list.
     Keep(usize),
     /// A new branch.
@@ -74,16 +80,110 @@ impl<R: Narrow> Model for Plan<R> {
 
 /// What becomes of a place that takes another one over.
 #[cycle(plan)]
-fn planned<R: Narrow>(alloc: Global, left: &Node<R>, right: Node<R>) -> Result<Plan<R>, Memory>
+pub(crate) fn planned<R: Narrow>(
+    alloc: Global,
+    left: &Node<R>,
+    right: Node<R>,
+) -> Result<Plan<R>, Memory>
     requires left { IsTable R.refuses R.is_value left.now }
     requires right { IsTable R.refuses R.is_value right }
     ensures form { IfOk result (λ plan. IsTable R.refuses R.is_value (changed plan left.now)) }
     ensures refused { IfOk result (λ plan. IsMet R.refuses left.now right (changed plan left.now)) }
 {
+    if left.rest.is_some() || right.rest.is_some() {
+        return plan_anew(alloc, left, right);
+    }
     Ok(Plan {
         row: plan_row(alloc, &left.row, right.row)?,
         below: plan_below(alloc, &left.children, right.children)?,
+        rest: None,
     })
+}
+
+/// What becomes of a place where it or the one that it takes over has a rest: its branches and its
+/// rest are made anew.
+#[cycle(plan)]
+fn plan_anew<R: Narrow>(alloc: Global, left: &Node<R>, right: Node<R>) -> Result<Plan<R>, Memory>
+    requires left { IsTable R.refuses R.is_value left.now }
+    requires right { IsTable R.refuses R.is_value right }
+    ensures form { IfOk result (λ plan. IsTable R.refuses R.is_value (changed plan left.now)) }
+    ensures refused { IfOk result (λ plan. IsMet R.refuses left.now right (changed plan left.now)) }
+{
+    let Node {
+        row,
+        children,
+        rest,
+    } = right;
+    let row = plan_row(alloc, &left.row, row)?;
+    let others = Node {
+        row: None,
+        children,
+        rest,
+    };
+    let Node {
+        row: _,
+        children,
+        rest,
+    } = aligned(alloc, left, others)?;
+    Ok(Plan {
+        row,
+        below: Below::Take(children),
+        rest,
+    })
+}
+
+/// The branches and the rest of two places, met as lists of equal length. Up to the index from which
+/// on all elements are alike in both, each stands in a branch of its own. The row is left out.
+#[cycle(plan)]
+fn aligned<R: Narrow>(alloc: Global, left: &Node<R>, right: Node<R>) -> Result<Node<R>, Memory>
+    requires left { IsTable R.refuses R.is_value left.now }
+    requires right { IsTable R.refuses R.is_value right }
+    ensures form { IfOk result (IsTable R.refuses R.is_value) }
+    ensures refused { IfOk result (AreMetBelow R.refuses left.now right) }
+{
+    let fixed = u64::max(fixed(left), fixed(&right));
+    let copied = copy_children(alloc, &left.children)?;
+    let own = unrolled(alloc, copied, &left.rest, fixed)?;
+    let others = unrolled(alloc, right.children, &right.rest, fixed)?;
+    let rest = met_rest(alloc, &left.rest, right.rest)?;
+    let below = plan_below(alloc, &own, others)?;
+    settled(alloc, change_below(alloc, own, below), fixed, rest)
+}
+
+/// What two rests are together.
+#[cycle(plan)]
+fn met_rest<R: Narrow>(
+    alloc: Global,
+    left: &Option<Box<Onward<R>>>,
+    right: Option<Box<Onward<R>>>,
+) -> Result<Option<Node<R>>, Memory>
+    requires left { IsBranch (IsKept R.refuses R.is_value) (rest_tree (rest_in left.now)) }
+    requires right { IsBranch (IsKept R.refuses R.is_value) (rest_tree (rest_in right)) }
+    ensures form { IfOk result (IsBranch (IsKept R.refuses R.is_value)) }
+    ensures refused { IfOk result (AreMetRests R.refuses (rest_tree (rest_in left.now))
+        (rest_tree (rest_in right))) }
+{
+    match (left, right) {
+        (None, None) => Ok(None),
+        (None, Some(rest)) => Ok(Some(Box::into_inner(rest).node)),
+        (Some(rest), None) => Ok(Some(rest.node.copy(alloc)?)),
+        (Some(rest), Some(other)) => {
+            let met = met(alloc, &rest.node, Box::into_inner(other).node)?;
+            Ok(Some(met))
+        }
+    }
+}
+
+/// Two places met, the left one from a copy.
+#[cycle(plan)]
+fn met<R: Narrow>(alloc: Global, left: &Node<R>, right: Node<R>) -> Result<Node<R>, Memory>
+    requires left { IsTable R.refuses R.is_value left.now }
+    requires right { IsTable R.refuses R.is_value right }
+    ensures form { IfOk result (IsTable R.refuses R.is_value) }
+    ensures refused { IfOk result (IsMet R.refuses left.now right) }
+{
+    let plan = planned(alloc, left, right)?;
+    Ok(change(alloc, left.copy(alloc)?, plan))
 }
 
 /// The row that will stand at a place, unless it stays as it is.
@@ -133,20 +233,20 @@ pub(crate) fn plan_below<R: Narrow>(
         return Ok(Below::Take(right));
     }
     let count = left.len() + right.len();
-    let slots = plan_slots(alloc, left, right)?;
-    if is_amending(&slots) {
-        return Ok(Below::Amend(slots));
+    let pieces = plan_pieces(alloc, left, right)?;
+    if is_amending(&pieces) {
+        return Ok(Below::Amend(pieces));
     }
     let room = Vec::with_capacity(alloc, count)?;
-    Ok(Below::Merge(slots, room))
+    Ok(Below::Merge(pieces, room))
 }
 
-/// Whether no new branch is among the slots.
-fn is_amending<R: Narrow>(slots: &[Slot<R>]) -> bool
-    ensures { IsTrue result → IsAmending (slots_of slots.now) }
+/// Whether no new branch is among the pieces.
+fn is_amending<R: Narrow>(pieces: &[Piece<R>]) -> bool
+    ensures { IsTrue result → IsAmending (pieces_of pieces.now) }
 {
-    for slot in slots {
-        if let Slot::Insert(_, _) = slot {
+    for piece in pieces {
+        if let Piece::Insert(_, _) = piece {
             return false;
         }
     }
@@ -155,37 +255,37 @@ fn is_amending<R: Narrow>(slots: &[Slot<R>]) -> bool
 
 /// How the branches of two lists stand together.
 #[cycle(plan)]
-fn plan_slots<R: Narrow>(
+fn plan_pieces<R: Narrow>(
     alloc: Global,
     left: &[Child<R>],
     right: Vec<Child<R>>,
-) -> Result<Vec<Slot<R>>, Memory>
+) -> Result<Vec<Piece<R>>, Memory>
     requires left { AreBranches (IsKept R.refuses R.is_value) (branches left.now) }
     requires right { AreBranches (IsKept R.refuses R.is_value) (branches right.items) }
-    ensures room { IfOk result (λ slots. width (slots_of slots.items)
+    ensures room { IfOk result (λ pieces. width (pieces_of pieces.items)
         ≤ length left.now + length right.items) }
-    ensures union { IfOk result (λ slots. IsMerge R.refuses (IsKept R.refuses R.is_value)
+    ensures union { IfOk result (λ pieces. IsMerge R.refuses (IsKept R.refuses R.is_value)
         (branches left.now) (branches right.items)
-        (merged (slots_of slots.items) (branches left.now))) }
+        (merged (pieces_of pieces.items) (branches left.now))) }
 {
-    let mut slots = Vec::new(alloc);
+    let mut pieces = Vec::new(alloc);
     let mut rest = left;
     let mut others = right.into_iter();
     while let Some(child) = others.next() {
         match place(rest, &child.step) {
             Ok(at) => {
                 let change = planned(alloc, &branch_at(rest, at).node, child.node)?;
-                slots.push(Slot::Alter(at, change))?;
+                pieces.push(Piece::Alter(at, change))?;
                 rest = behind(behind(rest, at), 1);
             }
             Err(at) => {
-                slots.push(Slot::Insert(at, child))?;
+                pieces.push(Piece::Insert(at, child))?;
                 rest = behind(rest, at);
             }
         }
     }
-    slots.push(Slot::Keep(rest.len()))?;
-    Ok(slots)
+    pieces.push(Piece::Keep(rest.len()))?;
+    Ok(pieces)
 }
 
 /// The branch at a place of a list.

@@ -4,43 +4,47 @@ ghost use Rattle.cue_lattice.specs.Limits.{step_limit};
 ghost use Rattle.cue_table.specs.Depth.{tree_depth};
 ghost use Rattle.cue_table.specs.Form.{IsTable};
 ghost use Rattle.cue_table.specs.Rows.{beyond};
-ghost use Rattle.cue_table.specs.Tree.{rows_of};
+ghost use Rattle.cue_table.specs.Slots.{rows_of};
 
-use crate::{Branch, Table};
+use crate::{Branch, Place, Slot, Table};
 use cue_lattice::{Memory, Narrow};
-use cue_row::Path;
 use std::alloc::Global;
 
 impl<R: Narrow> Table<R> {
-    /// The rows with their paths, in path order.
-    pub fn rows(&self, alloc: Global) -> Result<Vec<(Path, &R)>, Memory>
+    /// The rows with their places, in the order of these.
+    pub fn rows(&self, alloc: Global) -> Result<Vec<(Place, &R)>, Memory>
         ensures rows { IfOk result (λ rows. map (λ row. (row.0, row.1.now)) rows.items
             ≡ rows_of self.now) }
         ensures form { IsTable R.refuses R.is_value self.now }
     {
         let mut rows = Vec::new(alloc);
-        push_rows(alloc, &mut rows, &Path::root(alloc), &self.root())?;
+        push_rows(alloc, &mut rows, &Place::root(alloc), &self.root())?;
         Ok(rows)
     }
 }
 
-/// Writes down the rows of a branch at a path.
+/// Writes down the rows of a branch at a place.
 fn push_rows<'a, R: Narrow>(
     alloc: Global,
-    rows: &mut Vec<(Path, &'a R)>,
-    path: &Path,
+    rows: &mut Vec<(Place, &'a R)>,
+    place: &Place,
     branch: &Branch<'a, R>,
 ) -> Result<(), Memory>
-    requires { length path.now + tree_depth branch.now ≤ step_limit }
+    requires { length place.now + tree_depth branch.now ≤ step_limit }
     ensures { OnOk result (map (λ row. (row.0, row.1.now)) rows.new.items
         ≡ map (λ row. (row.0, row.1.now)) rows.old.items
-        ++ map (beyond path.now) (rows_of branch.now)) }
+        ++ map (beyond place.now) (rows_of branch.now)) }
 {
     if let Some(row) = branch.row() {
-        rows.push((path.copy(alloc)?, row))?;
+        rows.push((place.copy(alloc)?, row))?;
     }
     for (step, below) in branch.children() {
-        push_rows(alloc, rows, &path.then(alloc, step)?, &below)?;
+        let slot = Slot::At(step.copy(alloc)?);
+        push_rows(alloc, rows, &place.then(alloc, slot)?, &below)?;
+    }
+    if let Some(rest) = branch.rest() {
+        let slot = Slot::From(branch.fixed());
+        push_rows(alloc, rows, &place.then(alloc, slot)?, &rest)?;
     }
     Ok(())
 }

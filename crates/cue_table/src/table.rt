@@ -1,19 +1,19 @@
-ghost use Rattle.std.specs.Prelude.{◌≡◌, ◌↔◌, ◌<◌, ◌≤◌, [], None, IfOk, IsTrue, OnErr, OnOk};
+ghost use Rattle.std.specs.Prelude.{◌≡◌, ◌↔◌, ◌+◌, ◌<◌, ◌≤◌, [], None, length, IfOk, IsTrue, OnErr, OnOk};
 ghost use Rattle.std.specs.Option.{option_map, option_and_then};
 ghost use Rattle.std.specs.declared.cmp.Ordering.TheVariants.{Less};
 ghost use Rattle.cue_lattice.specs.Limits.{step_limit};
 ghost use Rattle.cue_row.specs.Steps.{step_of};
-ghost use Rattle.cue_table.specs.Tree.{empty, node, below, taken, branch_at, row_at, row_of};
+ghost use Rattle.cue_table.specs.Tree.{empty, node, below, rest_of, taken, branch_at, row_at};
+ghost use Rattle.cue_table.specs.Tree.{no_rest, row_of};
 ghost use Rattle.cue_table.specs.Depth.{tree_depth};
 ghost use Rattle.cue_table.specs.Form.{IsTable};
 ghost use Rattle.cue_table.specs.Many.{under};
-ghost use Rattle.cue_table.specs.Meet.{IsAdded, IsMet};
-ghost use Rattle.cue_table.specs.RowList.{AppendsKept, last_cmp};
+ghost use Rattle.cue_table.specs.Meet.{IsAdded, IsMet, IsRestAdded};
+ghost use Rattle.cue_table.specs.RowList.{last_cmp};
 
 use crate::Branch;
-use crate::append::{append, last_against};
 use crate::boxed::Boxed;
-use crate::chain::{one_branch, single};
+use crate::chain::{hung_along, last_against, one_branch, rest_alone, single};
 use crate::meet::meet_into;
 use crate::node::{Child, Node};
 use crate::plan::plan_row;
@@ -162,43 +162,65 @@ impl<R: Narrow> Table<R> {
         Ok(())
     }
 
+    /// Unifies a table into each element, from an index on, of the list at a path. After want of
+    /// memory the table is as it was.
+    pub fn add_rest(&mut self, path: &Path, from: u32, rest: &Table<R>) -> Result<(), Memory>
+        requires depth { length path.now + 1 + tree_depth rest.now ≤ step_limit }
+        ensures form { IsTable R.refuses R.is_value self.new }
+        ensures ok { OnOk result
+            (IsRestAdded R.refuses self.old path.now from rest.now self.new) }
+        ensures err { OnErr result (self.new ≡ self.old) }
+    {
+        let alloc = self.alloc;
+        if rest.root.taken().is_none() {
+            return Ok(());
+        }
+        let list = rest_alone(alloc, from, rest.root.copy(alloc)?)?;
+        let root = hung_along(alloc, path.steps(), list)?;
+        self.meet_with(Table { alloc, root })
+    }
+
+    /// Unifies a table into each element of the root from an index on, and takes it over. After
+    /// want of memory the table is as it was.
+    pub fn meet_rest(&mut self, from: u32, rest: Table<R>) -> Result<(), Memory>
+        requires depth { tree_depth rest < step_limit }
+        ensures form { IsTable R.refuses R.is_value self.new }
+        ensures ok { OnOk result (IsRestAdded R.refuses self.old [] from rest self.new) }
+        ensures err { OnErr result (self.new ≡ self.old) }
+    {
+        let alloc = self.alloc;
+        let Table {
+            alloc: _,
+            root: node,
+        } = rest;
+        if node.taken().is_none() {
+            return Ok(());
+        }
+        let root = rest_alone(alloc, from, node)?;
+        self.meet_with(Table { alloc, root })
+    }
+
     /// Takes the row off the root, where one stands there.
     pub fn take_row(&mut self) -> Option<R>
         ensures row { result ≡ row_of self.old }
-        ensures rest { self.new ≡ node None (below self.old) }
+        ensures others { self.new ≡ node None (below self.old) (rest_of self.old) }
     {
         Some(self.root.row.take()?.into_row())
     }
 
-    /// Adds a row that stands behind all others in path order, and says whether it does: where
-    /// another row stands at the path or behind it, and where the row refuses nothing, the table is
-    /// left as it is. So it is after want of memory. This costs what the path costs, however many
-    /// rows there are.
-    pub fn append(&mut self, path: &Path, row: R) -> Result<bool, Memory>
-        ensures form { IsTable R.refuses R.is_value self.new }
-        ensures appends { IfOk result (AppendsKept R.refuses self.old path.now row self.new) }
-        ensures err { OnErr result (self.new ≡ self.old) }
-    {
-        let root = &mut self.root;
-        let refuses_nothing = row.is_free();
-        if refuses_nothing {
-            return Ok(false);
-        }
-        row.known();
-        append(self.alloc, root, path.steps(), row)
-    }
-
-    /// Whether the step stands behind those of all branches at the root.
+    /// Whether the step stands behind those of all branches at the root, and behind no rest.
     pub(crate) fn ends_before(&self, step: &Step) -> bool
-        ensures { IsTrue result ↔ (last_cmp (step_of step.now) (below self.now) ≡ Less) }
+        ensures { IsTrue result ↔ ((rest_of self.now ≡ no_rest)
+            × (last_cmp (step_of step.now) (below self.now) ≡ Less)) }
     {
-        last_against(&self.root.children, step) == Ordering::Less
+        self.root.rest.is_none() && last_against(&self.root.children, step) == Ordering::Less
     }
 
     /// Hangs a table in at a step behind those of all branches at the root. One without rows adds
     /// nothing.
     pub(crate) fn hang_last(&mut self, step: Step, table: Table<R>) -> Result<(), Memory>
         requires depth { tree_depth table < step_limit }
+        requires rest { rest_of self.old ≡ no_rest }
         requires last { last_cmp (step_of step) (below self.old) ≡ Less }
         ensures form { IsTable R.refuses R.is_value self.new }
         ensures ok { OnOk result (IsMet R.refuses self.old (under (step_of step) table) self.new) }
@@ -227,5 +249,16 @@ impl<R: Narrow> Table<R> {
         }
         let root = one_branch(alloc, step, root)?;
         Ok(Table { alloc, root })
+    }
+}
+
+impl<R: Narrow> Table<R> {
+    /// The table of a root in form.
+    pub(crate) fn of_root(alloc: Global, root: Node<R>) -> Table<R>
+        requires form { IsTable R.refuses R.is_value root }
+        requires depth { tree_depth root ≤ step_limit }
+        ensures { result ≡ root }
+    {
+        Table { alloc, root }
     }
 }

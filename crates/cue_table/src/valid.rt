@@ -6,11 +6,12 @@ ghost use Rattle.cue_row.specs.declared.row.Row.{Row as RowValue};
 ghost use Rattle.cue_row.specs.declared.kind.RowKind.TheVariants.{Nothing};
 ghost use Rattle.cue_row.specs.declared.level.Level.TheVariants.{Optional};
 ghost use Rattle.cue_row.specs.Steps.{step_of};
-ghost use Rattle.cue_table.specs.Tree.{Tree, row_of, below, none};
+ghost use Rattle.cue_table.specs.Tree.{Tree, row_of, rest_of, below, none, no_rest};
 ghost use Rattle.cue_table.specs.Form.{IsTable};
 ghost use Rattle.cue_table.specs.Meet.{IsMet};
 ghost use Rattle.cue_table.specs.Valid.{IsOpenStruct, IsValidTable};
-ghost use Rattle.cue_table.specs.Inner.ValidWalk.{HasChild, IsSound, MayStand};
+ghost use Rattle.cue_table.specs.Inner.ValidWalk.{HasChild, HasElement, IsSound};
+ghost use Rattle.cue_table.specs.Inner.ValidWalk.{MayBeElement, MayStand};
 
 use crate::{Branch, Table};
 use cue_row::{Level, Row, RowKind, Step};
@@ -49,8 +50,11 @@ fn is_root(row: &Row) -> bool
 
 /// Whether there is no branch below a place.
 fn is_end(branch: &Branch<Row>) -> bool
-    ensures { IsTrue result ↔ (below branch.now ≡ none) }
+    ensures { IsTrue result ↔ ((below branch.now ≡ none) × (rest_of branch.now ≡ no_rest)) }
 {
+    if branch.rest().is_some() {
+        return false;
+    }
     let mut below = branch.children();
     match below.next() {
         None => true,
@@ -58,8 +62,8 @@ fn is_end(branch: &Branch<Row>) -> bool
     }
 }
 
-/// Whether a valid row stands at the place and at each below it, and each may stand below its
-/// parent.
+/// Whether a valid row stands at the place and at each below it, each may stand below its parent,
+/// and the elements of a list are alike from its least length on.
 fn is_sound(branch: &Branch<Row>) -> bool
     ensures { IsTrue result ↔ IsSound branch.now }
 {
@@ -67,6 +71,9 @@ fn is_sound(branch: &Branch<Row>) -> bool
         return false;
     };
     if !row.is_valid() {
+        return false;
+    }
+    if branch.fixed() > u64::from(row.least) {
         return false;
     }
     for (step, below) in branch.children() {
@@ -77,7 +84,10 @@ fn is_sound(branch: &Branch<Row>) -> bool
             return false;
         }
     }
-    true
+    match branch.rest() {
+        None => true,
+        Some(rest) => has_element(row, &rest) && is_sound(&rest),
+    }
 }
 
 /// Whether a row stands one step below a row, and may stand there.
@@ -90,6 +100,16 @@ fn has_child(parent: &Row, step: &Step, below: &Branch<Row>) -> bool
     }
 }
 
+/// Whether a row stands at further elements below a row, and may stand there.
+fn has_element(parent: &Row, rest: &Branch<Row>) -> bool
+    ensures { IsTrue result ↔ HasElement parent.now (row_of rest.now) }
+{
+    match rest.row() {
+        None => false,
+        Some(row) => may_be_element(parent, row),
+    }
+}
+
 /// Whether a row may stand one step below another.
 fn may_stand(parent: &Row, step: &Step, row: &Row) -> bool
     ensures { IsTrue result ↔ MayStand parent.now (step_of step.now) row.now }
@@ -99,12 +119,15 @@ fn may_stand(parent: &Row, step: &Step, row: &Row) -> bool
     }
     match step {
         Step::Label(_) => is_kind(parent, RowKind::Struct),
-        Step::Index(number) => {
-            *number < parent.least
-                && row.level.same(Level::Optional)
-                && is_kind(parent, RowKind::List)
-        }
+        Step::Index(_) => may_be_element(parent, row),
     }
+}
+
+/// Whether a row may be that of an element below another.
+fn may_be_element(parent: &Row, row: &Row) -> bool
+    ensures { IsTrue result ↔ MayBeElement parent.now row.now }
+{
+    row.level.same(Level::Optional) && is_kind(parent, RowKind::List)
 }
 
 /// Whether a row is of this kind, or lets nothing stand.

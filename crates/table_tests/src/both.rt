@@ -2,9 +2,8 @@
 use crate::plain::{Entry, Plain};
 use cue_lattice::{Memory, Narrow};
 use cue_row::Path;
-use cue_table::{Branch, Table};
+use cue_table::{Branch, Draft, Place, Slot, Table};
 use std::alloc::Global;
-use std::cmp::Ordering;
 
 /// The tree of these rows, added one after the other.
 pub fn tree<R: Narrow>(alloc: Global, rows: &[Entry<R>]) -> Result<Table<R>, Memory> {
@@ -54,12 +53,27 @@ pub fn has_rows<R: Narrow>(
         return Ok(false);
     }
     for (i, entry) in plain.entries.iter().enumerate() {
-        let (path, row) = &rows[i];
-        if path.compare(&entry.path) != Ordering::Equal || !row.same(&entry.row) {
+        let (place, row) = &rows[i];
+        if !is_place_of(place, &entry.path) || !row.same(&entry.row) {
             return Ok(false);
         }
     }
     Ok(true)
+}
+
+/// Whether a place has just the steps of a path.
+fn is_place_of(place: &Place, path: &Path) -> bool {
+    let (slots, steps) = (place.slots(), path.steps());
+    if slots.len() != steps.len() {
+        return false;
+    }
+    for (slot, step) in slots.iter().zip(steps) {
+        match slot {
+            Slot::At(own) if own.same(step) => {}
+            _ => return false,
+        }
+    }
+    true
 }
 
 /// Whether both tell the same row at a path.
@@ -81,14 +95,23 @@ pub fn adds<R: Narrow>(alloc: Global, rows: &[Entry<R>]) -> Result<bool, Memory>
             return Ok(false);
         }
     }
-    let mut again = Table::new(alloc);
+    let copied = tree.copy(alloc)?;
+    Ok(copied.same(&tree) && is_drafted(alloc, &tree, &plain)? && has_rows(alloc, &tree, &plain)?)
+}
+
+/// Whether the rows of the plain list, one after the other, make the tree.
+fn is_drafted<R: Narrow>(alloc: Global, tree: &Table<R>, plain: &Plain<R>) -> Result<bool, Memory> {
+    let mut draft = Draft::new(alloc);
     for entry in &plain.entries {
-        if !again.append(&entry.path, entry.row.copy(alloc)?)? {
+        let place = Place::of_path(alloc, entry.path.copy(alloc)?)?;
+        if !draft.append(&place, entry.row.copy(alloc)?)? {
             return Ok(false);
         }
     }
-    let copied = tree.copy(alloc)?;
-    Ok(copied.same(&tree) && again.same(&tree) && has_rows(alloc, &tree, &plain)?)
+    match draft.finish() {
+        None => Ok(false),
+        Some(made) => Ok(made.same(tree)),
+    }
 }
 
 /// The unification of the trees of two lists of rows.

@@ -23,8 +23,13 @@ const LEAST_HIGH: usize = 25;
 /// Where the state of a list has the byte of its least length that counts one.
 const LEAST_LOW: usize = 27;
 
+/// Where the state of a list has the lowest byte of the index from which on its elements are alike.
+const FIXED: usize = 32;
+
 /// The row of the first element of the list at `l`, which nothing may be.
-const ELEMENT: &[u8] = &[2, 0, 0, 1, 0x6c, 1, 0, 0, 0, 0, 0, 4, 0, 0, 0, 0, 0, 0];
+const ELEMENT: &[u8] = &[
+    2, 0, 0, 1, 0x6c, 1, 0, 0, 0, 0, 0, 4, 0, 0, 0, 0, 0, 0, 0, 0, 0, 0,
+];
 
 /// The state of a list of at least 65,537 elements.
 fn longer_list(alloc: Global) -> Made<Vec<u8>> {
@@ -36,18 +41,28 @@ fn open_list(alloc: Global) -> Made<Vec<u8>> {
     altered(copied(alloc, list()), LEAST_HIGH, 0)
 }
 
-/// The state of a list with three rows, of which the last is its first element.
-fn with_element(state: Made<Vec<u8>>) -> Made<Vec<u8>> {
-    extended(altered(state, COUNT, 3), ELEMENT)
+/// The state of a list with three rows, of which the last is its first element, which tells that
+/// the elements are alike from this index on.
+fn with_element(state: Made<Vec<u8>>, fixed: u8) -> Made<Vec<u8>> {
+    extended(altered(altered(state, COUNT, 3), FIXED, fixed), ELEMENT)
 }
 
 #[test]
 fn lengths_of_lists(rt: HostRuntime) -> Result<(), Fail> {
     let alloc = rt.alloc();
     assert!(rt; refuses(alloc, longer_list(alloc))?);
-    assert!(rt; keeps(alloc, with_element(copied(alloc, list())))?);
+    assert!(rt; keeps(alloc, with_element(copied(alloc, list()), 1))?);
     assert!(rt; keeps(alloc, open_list(alloc))?);
-    assert!(rt; refuses(alloc, with_element(open_list(alloc)))?);
+    assert!(rt; refuses(alloc, with_element(open_list(alloc), 1))?);
+    Ok(())
+}
+
+#[test]
+fn elements_are_alike_from_the_first_such_index_on(rt: HostRuntime) -> Result<(), Fail> {
+    let alloc = rt.alloc();
+    assert!(rt; refuses(alloc, altered(copied(alloc, list()), FIXED, 1))?);
+    assert!(rt; refuses(alloc, with_element(copied(alloc, list()), 0))?);
+    assert!(rt; refuses(alloc, with_element(copied(alloc, list()), 2))?);
     Ok(())
 }
 

@@ -1,7 +1,7 @@
 //! Tables with many branches at one place, put in one by one in mixed order, or a few at a time.
 use cue_lattice::{Memory, Narrow};
 use cue_row::{Path, Step};
-use cue_table::Table;
+use cue_table::{Draft, Place, Table};
 use std::alloc::Global;
 
 /// How many branches there are.
@@ -26,13 +26,14 @@ fn at(alloc: Global, number: u32) -> Result<Path, Memory> {
 
 /// The table with the row at every so many-th place, put in from the first to the last.
 fn in_order<R: Narrow>(alloc: Global, row: &R, every: usize) -> Result<Table<R>, Memory> {
-    let mut table = Table::new(alloc);
+    let mut draft = Draft::new(alloc);
     for number in 0..COUNT {
         if every != 0 && number as usize % every == 0 {
-            table.append(&at(alloc, number)?, row.copy(alloc)?)?;
+            let place = Place::of_path(alloc, at(alloc, number)?)?;
+            draft.append(&place, row.copy(alloc)?)?;
         }
     }
-    Ok(table)
+    Ok(draft.finish().unwrap_or(Table::new(alloc)))
 }
 
 /// Whether rows that are put in one by one in mixed order make the table of those in order.

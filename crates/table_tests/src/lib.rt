@@ -14,6 +14,8 @@ mod many;
 #[cfg(test)]
 mod plain;
 #[cfg(test)]
+mod rests;
+#[cfg(test)]
 mod sample;
 #[cfg(test)]
 mod states;

@@ -1,25 +1,26 @@
 -- What becomes of a tree that takes another one over.
 use Rattle.std.specs.Prelude.{ℕ, zero, suc, ◌+◌, Option, Some, None}
 use Rattle.cue_lattice.specs.Path.{Step}
-use Rattle.cue_table.specs.Tree.{Tree, node, Children, none, child, row_of, below}
+use Rattle.cue_table.specs.Tree.{Tree, node, Children, none, child, Rest, row_of, below}
 
 mutual
-  -- the row that stands there then, unless it stays as it is; and what becomes of the branches
+  -- the row that stands there then, unless it stays as it is; what becomes of the branches; and what
+  -- further elements are then
   pub data Change (R : Type 0) : Type 0 where
-    change : Option R → Branches R → Change R
+    change : Option R → Branches R → Rest R → Change R
 
   -- the branches stay; they are these; or they are merged with others
   pub data Branches (R : Type 0) : Type 0 where
     stay : Branches R
     take : Children R → Branches R
-    merge : Slots R → Branches R
+    merge : Pieces R → Branches R
 
   -- So many branches stay; and then a new one stands there, or the next one changes.
-  pub data Slots (R : Type 0) : Type 0 where
-    done : Slots R
-    keep : ℕ → Slots R → Slots R
-    insert : ℕ → Step → Tree R → Slots R → Slots R
-    alter : ℕ → Change R → Slots R → Slots R
+  pub data Pieces (R : Type 0) : Type 0 where
+    done : Pieces R
+    keep : ℕ → Pieces R → Pieces R
+    insert : ℕ → Step → Tree R → Pieces R → Pieces R
+    alter : ℕ → Change R → Pieces R → Pieces R
 
 -- the one list of branches and then the other
 abbrev pub join : {R : Type 0} → Children R → Children R → Children R
@@ -52,50 +53,50 @@ or_row (Some row) old = Some row
 abbrev mutual
   -- the tree after a change
   pub changed : {R : Type 0} → Change R → Tree R → Tree R
-  changed (change row branches) tree =
-      node (or_row row (row_of tree)) (changed_below branches (below tree))
+  changed (change row branches rest) tree =
+      node (or_row row (row_of tree)) (changed_below branches (below tree)) rest
 
   -- its branches
   pub changed_below : {R : Type 0} → Branches R → Children R → Children R
   changed_below stay children = children
   changed_below (take others) children = others
-  changed_below (merge slots) children = merged slots children
+  changed_below (merge pieces) children = merged pieces children
 
   -- the branches that are merged
-  pub merged : {R : Type 0} → Slots R → Children R → Children R
+  pub merged : {R : Type 0} → Pieces R → Children R → Children R
   merged done children = none
-  merged (keep n slots) children = join (front n children) (merged slots (past n children))
-  merged (insert n step tree slots) children =
-      join (front n children) (child step tree (merged slots (past n children)))
-  merged (alter n next slots) children =
-      join (front n children) (first_changed (changed next) (merged slots) (past n children))
+  merged (keep n pieces) children = join (front n children) (merged pieces (past n children))
+  merged (insert n step tree pieces) children =
+      join (front n children) (child step tree (merged pieces (past n children)))
+  merged (alter n next pieces) children =
+      join (front n children) (first_changed (changed next) (merged pieces) (past n children))
 
 -- for how many branches there must be room
-abbrev pub width : {R : Type 0} → Slots R → ℕ
+abbrev pub width : {R : Type 0} → Pieces R → ℕ
 width done = 0
-width (keep n slots) = n + width slots
-width (insert n step tree slots) = n + 1 + width slots
-width (alter n next slots) = n + 1 + width slots
+width (keep n pieces) = n + width pieces
+width (insert n step tree pieces) = n + 1 + width pieces
+width (alter n next pieces) = n + 1 + width pieces
 
 -- no new branch is among them
-abbrev pub IsAmending : {R : Type 0} → Slots R → Type 0
+abbrev pub IsAmending : {R : Type 0} → Pieces R → Type 0
 IsAmending done = Unit {0}
-IsAmending (keep n slots) = IsAmending slots
-IsAmending (insert n step tree slots) = ⊥
-IsAmending (alter n next slots) = IsAmending slots
+IsAmending (keep n pieces) = IsAmending pieces
+IsAmending (insert n step tree pieces) = ⊥
+IsAmending (alter n next pieces) = IsAmending pieces
 
 abbrev mutual
   -- how many changes there are, by which a recursion over them ends
   pub change_size : {R : Type 0} → Change R → ℕ
-  change_size (change row branches) = branches_size branches + 1
+  change_size (change row branches rest) = branches_size branches + 1
 
   pub branches_size : {R : Type 0} → Branches R → ℕ
   branches_size stay = 0
   branches_size (take children) = 0
-  branches_size (merge slots) = slots_size slots
+  branches_size (merge pieces) = pieces_size pieces
 
-  pub slots_size : {R : Type 0} → Slots R → ℕ
-  slots_size done = 0
-  slots_size (keep n slots) = slots_size slots
-  slots_size (insert n step tree slots) = slots_size slots
-  slots_size (alter n next slots) = change_size next + slots_size slots
+  pub pieces_size : {R : Type 0} → Pieces R → ℕ
+  pieces_size done = 0
+  pieces_size (keep n pieces) = pieces_size pieces
+  pieces_size (insert n step tree pieces) = pieces_size pieces
+  pieces_size (alter n next pieces) = change_size next + pieces_size pieces

@@ -13,7 +13,8 @@ loop-step-init g c = record {
 pub hang_last-requires : goal.hang_last-requires
 hang_last-requires g c = record {
   depth = (rw c.in-Some.ensures.steps.0 at c.loop-step.invariant.low) 0 (c.in-Some.step, c.in-Some.table) (omega arith);
-  last = c.if-ends_before.ensures.0 (search rules);
+  rest = (c.if-ends_before.ensures.0 (search rules)).0;
+  last = (c.if-ends_before.ensures.0 (search rules)).1;
 }
 
 pub under-requires : goal.under-requires

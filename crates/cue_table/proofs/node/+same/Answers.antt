@@ -1,10 +1,11 @@
-use Rattle.std.proofs.Common.{◌≡◌}
-use Rattle.std.specs.Prelude.{IsTrue, ◌↔◌}
-use Rattle.cue_table.proofs.Nodes.{same_nodes}
+use Rattle.std.proofs.Common.{rules, sym, ◌∙◌}
+use Rattle.std.proofs.lemmas.Bool.{false≢true}
+use Rattle.cue_table.proofs.Nodes.{same_parts}
 use Rattle.cue_table.proofs.node.+same.Goals as goal
 
-pub Node::same-returns-then-same_row : goal.Node::same-returns-then-same_row
-Node::same-returns-then-same_row g t c =
-    let list : IsTrue c.same_children.result ↔ (c.self.inside.children.items ≡ c.other.inside.children.items) =
-    rw (← c.deref.ensures.value, ← c.deref-then-same_row.ensures.value) c.same_children.ensures in
-    same_nodes c.self.inside c.other.inside c.args.self.now c.args.other.now c.same_row.result c.same_children.result c.self.view_is c.other.view_is c.if-same_row.true c.same_row.ensures list
+pub Node::same-returns-then-not-same_children : goal.Node::same-returns-then-not-same_children
+Node::same-returns-then-not-same_children g t c = (
+  λ h. search rules,
+  λ e. let parts = same_parts c.self.inside c.other.inside c.args.self.now c.args.other.now c.self.view_is c.other.view_is e in
+      c.if-not-same_children.ensures.1 (c.deref.ensures.value ∙ parts.1 ∙ sym c.deref-2.ensures.value),
+)

@@ -7,9 +7,9 @@ use Rattle.cue_table.proofs.valid.+is_sound.Given as goal
 abbrev pub decreases-is_sound : goal.decreases-is_sound
 decreases-is_sound l = tree_size l.branch.now
 
--- what is left decides the rest
+-- what is left decides the others
 abbrev pub invariant-loop-step : goal.invariant-loop-step
 invariant-loop-step l = record {
-  rest : AreSound l.row (below l.branch) ↔ AreSound l.row l.step-iterator;
+  left : AreSound l.row (below l.branch) ↔ AreSound l.row l.step-iterator;
   smaller : children_size l.step-iterator ≤ children_size (below l.branch);
 }

@@ -9,7 +9,7 @@ use Rattle.table_tests.proofs.many.shallow.Goals as goal
 
 pub loop-entry-init : goal.loop-entry-init
 loop-entry-init g c = record {
-  form = rw c.new-made.ensures (tt, tt);
+  form = rw c.new-made.ensures (tt, tt, tt);
   short = λ path question r. absurd (free g.R.Narrow.refuses path question (subst (λ t. TableRefuses g.R.Narrow.refuses t path question) c.new-made.ensures r));
 }
 

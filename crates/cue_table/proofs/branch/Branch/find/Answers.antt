@@ -3,8 +3,8 @@ use Rattle.cue_table.specs.Form.{IsKept}
 use Rattle.cue_table.proofs.Finding.{tree_rises, found_form}
 use Rattle.cue_table.proofs.branch.Branch.find.Goals as goal
 
-pub find-requires : goal.find-requires
-find-requires g c = tree_rises (IsKept g.R.Narrow.refuses g.R.Narrow.is_value) c.self.inside.node.now c.self.invariant
+pub step_into-requires : goal.step_into-requires
+step_into-requires g c = tree_rises (IsKept g.R.Narrow.refuses g.R.Narrow.is_value) c.self.inside.node.now c.self.invariant
 
 pub new-requires : goal.new-requires
 new-requires g c =

@@ -2,8 +2,8 @@ use Rattle.cue_table.specs.Form.{IsKept}
 use Rattle.cue_table.proofs.Finding.{tree_rises, walk_on}
 use Rattle.cue_table.proofs.node.Node.walk.Goals as goal
 
-pub find-requires : goal.find-requires
-find-requires g c = tree_rises (IsKept g.R.Narrow.refuses g.R.Narrow.is_value) c.loop-step.node.now c.loop-step.invariant.form
+pub step_into-requires : goal.step_into-requires
+step_into-requires g c = tree_rises (IsKept g.R.Narrow.refuses g.R.Narrow.is_value) c.loop-step.node.now c.loop-step.invariant.form
 
 pub loop-step-preserved : goal.loop-step-preserved
 loop-step-preserved g c =

@@ -1,5 +1,6 @@
 use Rattle.std.proofs.Common.{sym}
-use Rattle.cue_table.proofs.Validity.{valid_end, valid_walk}
+use Rattle.cue_table.proofs.Validity.{valid_walk}
+use Rattle.cue_table.proofs.ValidWalks.{valid_end}
 use Rattle.cue_table.proofs.valid.Table+Row.is_valid.Goals as goal
 
 pub returns-in-None : goal.returns-in-None
