@@ -8,14 +8,16 @@ use Rattle.cue_lattice.specs.Path.{Step, label, index}
 use Rattle.cue_scalars.specs.declared.scalar_set.ScalarSet.{ScalarSet}
 use Rattle.cue_row.specs.declared.row.Row.{Row}
 use Rattle.cue_row.specs.Levels.{level_of}
-use Rattle.cue_table.specs.Tree.{Tree, Children, row_of, rows_of, rows_below, below, children_of}
-use Rattle.cue_codec.specs.Parts.{integer_bytes, counted_bytes, piece_bytes, text_bytes, text_set_bytes, set_bytes, labels_bytes, most_bytes, lengths_bytes, step_bytes, bit}
+use Rattle.cue_table.specs.Tree.{Tree, Children, row_of, rest_of, rest_tree, children_of}
+use Rattle.cue_codec.specs.Entry.{at, to_rest, Entry, entries_of, entries_below, entries_onward}
+use Rattle.cue_codec.specs.Parts.{Lengths, integer_bytes, counted_bytes, piece_bytes, text_bytes, text_set_bytes, set_bytes, labels_bytes, most_bytes, index_bytes, lengths_bytes, step_bytes, bit}
 use Rattle.cue_codec.specs.RowBytes.{free, scalar, struct, list, nothing, parts_bytes, parts_of, scalars_bytes, left_out_bytes, row_bytes, row_bytes_from}
 use Rattle.cue_codec.specs.Size.{saturated, size_of}
 use Rattle.cue_codec.specs.State.{table_bytes}
 use Rattle.cue_codec.specs.Version.{written}
+use Rattle.cue_codec.proofs.Entries.{others_of, own_entry}
 use Rattle.cue_codec.proofs.WrittenStates.{state_parts, rows_from_root}
-use Rattle.cue_codec.proofs.WrittenRows.{bytes_begin, bytes_begin_below, bytes_more, bytes_end}
+use Rattle.cue_codec.proofs.WrittenRows.{bytes_begin, bytes_begin_below, bytes_more, bytes_rest, bytes_no_rest}
 
 -- a text takes two bytes for its length
 pub text_length : (text : List ℕ) → length (text_bytes text) ≡ 2 + length text
@@ -50,19 +52,19 @@ pub labels_length : (labels : List (List ℕ)) → length (labels_bytes (Some la
 unfolding labels_bytes
 labels_length labels = omega arith
 
-pub open_length : (least : ℕ) → length (lengths_bytes written (least, None)) ≡ 5
-unfolding lengths_bytes most_bytes
-open_length least = refl
+pub open_length : (least fixed : ℕ) → length (lengths_bytes written (least, None, fixed)) ≡ 9
+unfolding lengths_bytes most_bytes index_bytes
+open_length least fixed = refl
 
-pub closed_length : (least most : ℕ) → length (lengths_bytes written (least, Some most)) ≡ 9
-unfolding lengths_bytes most_bytes
-closed_length least most = refl
+pub closed_length : (least most fixed : ℕ) → length (lengths_bytes written (least, Some most, fixed)) ≡ 13
+unfolding lengths_bytes most_bytes index_bytes
+closed_length least most fixed = refl
 
-pub label_length : (text : List ℕ) → length (step_bytes written (label text)) ≡ 3 + length text
+pub label_length : (text : List ℕ) → length (step_bytes written (at (label text))) ≡ 3 + length text
 unfolding step_bytes
 label_length text = omega (arith, text_length text)
 
-pub index_length : (n : ℕ) → length (step_bytes written (index n)) ≡ 5
+pub index_length : (n : ℕ) → length (step_bytes written (at (index n))) ≡ 5
 unfolding step_bytes
 index_length n = refl
 
@@ -80,11 +82,11 @@ pub struct_length : (labels : Option (List (List ℕ))) → length (parts_bytes 
 unfolding parts_bytes
 struct_length labels = omega arith
 
-pub list_length : (lengths : ℕ × Option ℕ) → length (parts_bytes written (list lengths)) ≡ 1 + length (lengths_bytes written lengths)
+pub list_length : (lengths : Lengths) → length (parts_bytes written (list lengths)) ≡ 1 + length (lengths_bytes written lengths)
 unfolding parts_bytes
 list_length lengths = omega arith
 
-pub left_out_length : (labels : Option (List (List ℕ))) (lengths : ℕ × Option ℕ) → length (parts_bytes written (nothing labels lengths)) ≡ 1 + (length (labels_bytes labels) + length (lengths_bytes written lengths))
+pub left_out_length : (labels : Option (List (List ℕ))) (lengths : Lengths) → length (parts_bytes written (nothing labels lengths)) ≡ 1 + (length (labels_bytes labels) + length (lengths_bytes written lengths))
 unfolding parts_bytes left_out_bytes
 left_out_length labels lengths = omega (arith, length-append (labels_bytes labels) (lengths_bytes written lengths))
 
@@ -110,32 +112,56 @@ texts_done texts i size h e = e ∙ ap (λ t. saturated (8 + length (flat_map te
 
 -- ---- rows
 
-row_length : (depth : ℕ) (bytes : List ℕ) (row : Row) → length (row_bytes_from written depth bytes ([], row)) ≡ 2 + length bytes + length (parts_bytes written (parts_of row))
+row_length : (depth : ℕ) (bytes : List ℕ) (entry : Entry) → entry.path ≡ [] → length (row_bytes_from written depth bytes entry) ≡ 2 + length bytes + length (parts_bytes written (parts_of entry.row entry.fixed))
 unfolding row_bytes_from
-row_length depth bytes row = omega (arith, length-append bytes (level_of row.level ∷ parts_bytes written (parts_of row)))
+row_length depth bytes entry e =
+    let said = level_of entry.row.level ∷ parts_bytes written (parts_of entry.row entry.fixed) in
+    omega (arith, ap (λ p. length (bytes ++ (flat_map (step_bytes written) p ++ said))) e, length-append bytes said)
 
-pub size_begin : (depth : ℕ) (bytes : List ℕ) (tree : Tree Row) (row : Row) (steps parts size : ℕ) → row_of tree ≡ Some row → steps ≡ size_of bytes → parts ≡ size_of (parts_bytes written (parts_of row)) → size ≡ saturated (saturated (2 + steps) + parts)
-    → saturated (size + length (flat_map (row_bytes_from written depth bytes) (rows_below (below tree)))) ≡ size_of (flat_map (row_bytes_from written depth bytes) (rows_of tree))
+pub size_begin :
+    (depth : ℕ) (bytes : List ℕ) (tree : Tree Row) (row : Row) (steps parts size : ℕ) → row_of tree ≡ Some row → steps ≡ size_of bytes → ((fixed : ℕ) → parts ≡ size_of (parts_bytes written (parts_of row fixed)))
+    → size ≡ saturated (saturated (2 + steps) + parts) → saturated (size + length (flat_map (row_bytes_from written depth bytes) (others_of written tree))) ≡ size_of (flat_map (row_bytes_from written depth bytes) (entries_of written tree))
 size_begin depth bytes tree row steps parts size e s p h =
-    let all = bytes_begin depth bytes tree row [] (row_bytes_from written depth bytes ([], row)) e refl in
-    omega (arith, s, p, h, ap length all, row_length depth bytes row, length-append (row_bytes_from written depth bytes ([], row)) (flat_map (row_bytes_from written depth bytes) (rows_below (below tree))))
+    let all = bytes_begin depth bytes tree row [] (row_bytes_from written depth bytes (own_entry written tree row)) e refl in
+    let own = p (own_entry written tree row).fixed in
+    omega (arith, s, own, h, ap length all, row_length depth bytes (own_entry written tree row) refl, length-append (row_bytes_from written depth bytes (own_entry written tree row)) (flat_map (row_bytes_from written depth bytes) (others_of written tree)))
 
-pub size_begin_below : (depth : ℕ) (bytes : List ℕ) (tree : Tree Row) → row_of tree ≡ None → saturated (0 + length (flat_map (row_bytes_from written depth bytes) (rows_below (below tree)))) ≡ size_of (flat_map (row_bytes_from written depth bytes) (rows_of tree))
+pub size_begin_below : (depth : ℕ) (bytes : List ℕ) (tree : Tree Row) → row_of tree ≡ None → saturated (0 + length (flat_map (row_bytes_from written depth bytes) (others_of written tree))) ≡ size_of (flat_map (row_bytes_from written depth bytes) (entries_of written tree))
 size_begin_below depth bytes tree e = omega (arith, ap length (bytes_begin_below depth bytes tree [] e))
 
-pub size_more : (depth : ℕ) (bytes : List ℕ) (step : Step) (tree : Tree Row) (rest left : Children Row) (steps one size more all : ℕ) → children_of rest ≡ (step, tree) ∷ children_of left
-    → steps ≡ size_of bytes → one ≡ size_of (step_bytes written step) → ((d : ℕ) (b : List ℕ) → saturated (steps + one) ≡ size_of b → more ≡ size_of (flat_map (row_bytes_from written d b) (rows_of tree)))
-    → saturated (size + length (flat_map (row_bytes_from written depth bytes) (rows_below rest))) ≡ all → saturated (saturated (size + more) + length (flat_map (row_bytes_from written depth bytes) (rows_below left))) ≡ all
-size_more depth bytes step tree rest left steps one size more all e s o m h =
-    let these = flat_map (row_bytes_from written (depth + 1) (bytes ++ step_bytes written step)) (rows_of tree) in
-    let count = m (depth + 1) (bytes ++ step_bytes written step) (omega (arith, s, o, length-append bytes (step_bytes written step))) in
-    let parts = bytes_more depth bytes step tree rest left [] these (flat_map (row_bytes_from written depth bytes) (rows_below rest)) e refl refl in
-    omega (arith, count, h, ap length parts, length-append these (flat_map (row_bytes_from written depth bytes) (rows_below left)))
+pub size_more :
+    (depth : ℕ) (bytes : List ℕ) (step : Step) (tree : Tree Row) (rest left : Children Row) (behind : List Entry) (steps one size more all : ℕ) → children_of rest ≡ (step, tree) ∷ children_of left
+    → steps ≡ size_of bytes → one ≡ size_of (step_bytes written (at step)) → ((d : ℕ) (b : List ℕ) → saturated (steps + one) ≡ size_of b → more ≡ size_of (flat_map (row_bytes_from written d b) (entries_of written tree)))
+    → saturated (size + length (flat_map (row_bytes_from written depth bytes) (entries_below written rest ++ behind))) ≡ all → saturated (saturated (size + more) + length (flat_map (row_bytes_from written depth bytes) (entries_below written left ++ behind))) ≡ all
+size_more depth bytes step tree rest left behind steps one size more all e s o m h =
+    let these = flat_map (row_bytes_from written (depth + 1) (bytes ++ step_bytes written (at step))) (entries_of written tree) in
+    let count = m (depth + 1) (bytes ++ step_bytes written (at step)) (omega (arith, s, o, length-append bytes (step_bytes written (at step)))) in
+    let parts = bytes_more depth bytes step tree rest left behind [] these (flat_map (row_bytes_from written depth bytes) (entries_below written rest ++ behind)) e refl refl in
+    omega (arith, count, h, ap length parts, length-append these (flat_map (row_bytes_from written depth bytes) (entries_below written left ++ behind)))
 
-pub size_end : (depth : ℕ) (bytes : List ℕ) (rest : Children Row) (size all : ℕ) → children_of rest ≡ [] → size ≡ saturated size → saturated (size + length (flat_map (row_bytes_from written depth bytes) (rows_below rest))) ≡ saturated all → size ≡ saturated all
-size_end depth bytes rest size all e s h = omega (arith, s, h, ap length (bytes_end depth bytes rest [] (flat_map (row_bytes_from written depth bytes) (rows_below rest)) e refl))
+rest_length : length (step_bytes written to_rest) ≡ 1
+unfolding step_bytes
+rest_length = refl
+
+pub size_rest :
+    (depth : ℕ) (bytes : List ℕ) (tree branch : Tree Row) (left : Children Row) (steps size more all : ℕ) → children_of left ≡ [] → rest_tree (rest_of tree) ≡ Some branch
+    → steps ≡ size_of bytes → ((d : ℕ) (b : List ℕ) → saturated (steps + 1) ≡ size_of b → more ≡ size_of (flat_map (row_bytes_from written d b) (entries_of written branch)))
+    → saturated (size + length (flat_map (row_bytes_from written depth bytes) (entries_below written left ++ entries_onward written (rest_of tree)))) ≡ all → saturated (size + more) ≡ all
+size_rest depth bytes tree branch left steps size more all e r s m h =
+    let these = flat_map (row_bytes_from written (depth + 1) (bytes ++ step_bytes written to_rest)) (entries_of written branch) in
+    let count = m (depth + 1) (bytes ++ step_bytes written to_rest) (omega (arith, s, rest_length, length-append bytes (step_bytes written to_rest))) in
+    let parts = bytes_rest depth bytes tree branch left [] these _ e r refl refl in
+    omega (arith, count, h, ap length parts)
+
+pub size_no_rest :
+    (depth : ℕ) (bytes : List ℕ) (tree : Tree Row) (left : Children Row) (size all : ℕ) → children_of left ≡ [] → rest_tree (rest_of tree) ≡ None → size ≡ saturated size
+    → saturated (size + length (flat_map (row_bytes_from written depth bytes) (entries_below written left ++ entries_onward written (rest_of tree)))) ≡ all → size ≡ all
+size_no_rest depth bytes tree left size all e r s h =
+    let none = bytes_no_rest depth bytes tree left [] _ e r refl in
+    omega (arith, s, h, ap length none)
 
 -- the head takes 13 bytes
-pub state_length : (tree : Tree Row) (rows : ℕ) → rows ≡ size_of (flat_map (row_bytes_from written 0 []) (rows_of tree)) → saturated (13 + rows) ≡ size_of (table_bytes tree)
+pub state_length : (tree : Tree Row) (rows : ℕ) → rows ≡ size_of (flat_map (row_bytes_from written 0 []) (entries_of written tree)) → saturated (13 + rows) ≡ size_of (table_bytes tree)
 state_length tree rows h =
-    omega (arith, h, ap length (state_parts (rows_of tree)), ap length (rows_from_root (rows_of tree)), length-append (to_be_bytes w64 (length (rows_of tree))) (flat_map (row_bytes written) (rows_of tree)))
+    let all = entries_of written tree in
+    omega (arith, h, ap length (state_parts all), ap length (rows_from_root all), length-append (to_be_bytes w64 (length all)) (flat_map (row_bytes written) all))

@@ -10,8 +10,8 @@ use mir.Val.{SFits}
 use Rattle.cue_lattice.specs.Scalar.{IsInteger}
 use Rattle.cue_codec.specs.declared.version.Version.{Version}
 use Rattle.cue_codec.specs.declared.version.Version.TheVariants as versions
-use Rattle.cue_codec.specs.Parts.{integer_bytes, piece_bytes, text_bytes, most_bytes, lengths_bytes}
-use Rattle.cue_codec.specs.Reading.{Begins, BeginsNone, number_at, IsPiece, IsWord, IsMost, AreWideLengths}
+use Rattle.cue_codec.specs.Parts.{Lengths, integer_bytes, piece_bytes, text_bytes, most_bytes, index_bytes, lengths_bytes}
+use Rattle.cue_codec.specs.Reading.{Begins, BeginsNone, number_at, IsPiece, IsWord, IsMost, IsIndex, AreWideLengths}
 use Rattle.cue_codec.proofs.Codes.{OneItem, same_fronts, wide16, wide32, wide64, one_number}
 
 abbrev pub IsBytes : List ℕ → Type 0
@@ -230,28 +230,66 @@ one_most (Some m) (Some n) r s p q e =
     let f = one_number w32 (2 ^ 32) wide32 m n r s p q (ap (λ (t : List ℕ). drop 1 t) e) in
     (ap (λ (k : ℕ). Some k) f.0, f.1)
 
-lengths_parts : (version : Version) (lengths : ℕ × Option ℕ) (r : List ℕ) → lengths_bytes version lengths ++ r ≡ to_be_bytes w32 lengths.0 ++ (most_bytes lengths.1 ++ r)
+-- ---- an index
+
+-- an index in front tells itself and the rest
+pub one_index : (version : Version) → OneItem (IsIndex version) (index_bytes version)
+unfolding index_bytes
+one_index versions.First a b r s p q e = (p ∙ sym q, e)
+one_index versions.Second a b r s p q e = one_number w32 (2 ^ 32) wide32 a b r s p q e
+
+pub index_cut : (bytes : List ℕ) → None ≡ number_at w32 bytes → BeginsNone (IsIndex versions.Second) (index_bytes versions.Second) bytes
+unfolding index_bytes
+index_cut bytes none = λ a r h e.
+    omega (arith, number_missing w32 bytes none, ap length e, length-append (to_be_bytes w32 a) r, wide32.len a)
+
+pub index_found : (bytes rest : List ℕ) (fixed : ℕ) → IsBytes bytes → Some (fixed, rest) ≡ number_at w32 bytes → Begins (IsIndex versions.Second) (index_bytes versions.Second) fixed bytes rest
+unfolding index_bytes
+index_found bytes rest fixed fits is =
+    let found = number_takes w32 (2 ^ 32) read32 bytes fixed rest fits is in
+    record { value = found.1; parts = found.0 }
+
+-- ---- lengths
+
+lengths_parts : (version : Version) (lengths : Lengths) (r : List ℕ) → lengths_bytes version lengths ++ r ≡ to_be_bytes w32 lengths.0 ++ (most_bytes lengths.1 ++ (index_bytes version lengths.2 ++ r))
 unfolding lengths_bytes
-lengths_parts versions.First lengths r = append_assoc (to_be_bytes w32 lengths.0) (most_bytes lengths.1) r
+lengths_parts version lengths r =
+    append_assoc (to_be_bytes w32 lengths.0) (most_bytes lengths.1 ++ index_bytes version lengths.2) r
+    ∙ ap (λ (t : List ℕ). to_be_bytes w32 lengths.0 ++ t) (append_assoc (most_bytes lengths.1) (index_bytes version lengths.2) r)
 
 -- lengths in front tell themselves and the rest
 pub one_lengths : (version : Version) → OneItem (AreWideLengths version) (lengths_bytes version)
-one_lengths versions.First a b r s p q e =
-    let f = one_number w32 (2 ^ 32) wide32 a.0 b.0 (most_bytes a.1 ++ r) (most_bytes b.1 ++ s) p.0 q.0 (sym (lengths_parts versions.First a r) ∙ e ∙ lengths_parts versions.First b s) in
-    let g = one_most a.1 b.1 r s p.1 q.1 f.1 in
-    (λ i. (f.0 i, g.0 i), g.1)
+one_lengths version a b r s p q e =
+    let f = one_number w32 (2 ^ 32) wide32 a.0 b.0 (most_bytes a.1 ++ (index_bytes version a.2 ++ r)) (most_bytes b.1 ++ (index_bytes version b.2 ++ s)) p.0 q.0 (sym (lengths_parts version a r) ∙ e ∙ lengths_parts version b s) in
+    let g = one_most a.1 b.1 (index_bytes version a.2 ++ r) (index_bytes version b.2 ++ s) p.1 q.1 f.1 in
+    let h = one_index version a.2 b.2 r s p.2 q.2 g.1 in
+    (λ i. (f.0 i, g.0 i, h.0 i), h.1)
 
 pub lengths_short : (version : Version) (bytes : List ℕ) → None ≡ number_at w32 bytes → BeginsNone (AreWideLengths version) (lengths_bytes version) bytes
-lengths_short versions.First bytes none = λ a r h e.
-    omega (arith, number_missing w32 bytes none, ap length (e ∙ lengths_parts versions.First a r), length-append (to_be_bytes w32 a.0) (most_bytes a.1 ++ r), wide32.len a.0)
+lengths_short version bytes none = λ a r h e.
+    let rest = most_bytes a.1 ++ (index_bytes version a.2 ++ r) in
+    omega (arith, number_missing w32 bytes none, ap length (e ∙ lengths_parts version a r), length-append (to_be_bytes w32 a.0) rest, wide32.len a.0)
+
+behind_least : (version : Version) (bytes rest : List ℕ) (least : ℕ) → IsBytes bytes → Some (least, rest) ≡ number_at w32 bytes → (a : Lengths) (r : List ℕ) → AreWideLengths version a → bytes ≡ lengths_bytes version a ++ r → rest ≡ most_bytes a.1 ++ (index_bytes version a.2 ++ r)
+behind_least version bytes rest least fits is a r h e =
+    let found = number_takes w32 (2 ^ 32) read32 bytes least rest fits is in
+    sym (one_number w32 (2 ^ 32) wide32 a.0 least (most_bytes a.1 ++ (index_bytes version a.2 ++ r)) rest h.0 found.1 (sym (lengths_parts version a r) ∙ sym e ∙ found.0)).1
 
 pub lengths_cut : (version : Version) (bytes rest : List ℕ) (least : ℕ) → IsBytes bytes → Some (least, rest) ≡ number_at w32 bytes → BeginsNone IsMost most_bytes rest → BeginsNone (AreWideLengths version) (lengths_bytes version) bytes
-lengths_cut versions.First bytes rest least fits is none = λ a r h e.
-    let found = number_takes w32 (2 ^ 32) read32 bytes least rest fits is in
-    let f = one_number w32 (2 ^ 32) wide32 a.0 least (most_bytes a.1 ++ r) rest h.0 found.1 (sym (lengths_parts versions.First a r) ∙ sym e ∙ found.0) in
-    none a.1 r h.1 (sym f.1)
+lengths_cut version bytes rest least fits is none = λ a r h e.
+    none a.1 (index_bytes version a.2 ++ r) h.1 (behind_least version bytes rest least fits is a r h e)
 
-pub lengths_found : (version : Version) (bytes rest after : List ℕ) (least : ℕ) (most : Option ℕ) → IsBytes bytes → Some (least, rest) ≡ number_at w32 bytes → Begins IsMost most_bytes most rest after → Begins (AreWideLengths version) (lengths_bytes version) (least, most) bytes after
-lengths_found versions.First bytes rest after least most fits is b =
+pub lengths_end : (version : Version) (bytes rest after : List ℕ) (least : ℕ) (most : Option ℕ) → IsBytes bytes → Some (least, rest) ≡ number_at w32 bytes → Begins IsMost most_bytes most rest after → BeginsNone (IsIndex version) (index_bytes version) after
+    → BeginsNone (AreWideLengths version) (lengths_bytes version) bytes
+lengths_end version bytes rest after least most fits is b none = λ a r h e.
+    let f = one_most most a.1 after (index_bytes version a.2 ++ r) b.value h.1 (sym b.parts ∙ behind_least version bytes rest least fits is a r h e) in
+    none a.2 r h.2 f.1
+
+pub lengths_found : (version : Version) (bytes rest after end : List ℕ) (least : ℕ) (most : Option ℕ) (fixed : ℕ) → IsBytes bytes → Some (least, rest) ≡ number_at w32 bytes → Begins IsMost most_bytes most rest after → Begins (IsIndex version) (index_bytes version) fixed after end
+    → Begins (AreWideLengths version) (lengths_bytes version) (least, most, fixed) bytes end
+lengths_found version bytes rest after end least most fixed fits is b c =
     let found = number_takes w32 (2 ^ 32) read32 bytes least rest fits is in
-    record { value = (found.1, b.value); parts = found.0 ∙ ap (λ (t : List ℕ). to_be_bytes w32 least ++ t) b.parts ∙ sym (lengths_parts versions.First (least, most) after) }
+    record {
+      value = (found.1, b.value, c.value);
+      parts = found.0 ∙ ap (λ (t : List ℕ). to_be_bytes w32 least ++ t) (b.parts ∙ ap (λ (t : List ℕ). most_bytes most ++ t) c.parts) ∙ sym (lengths_parts version (least, most, fixed) end);
+    }

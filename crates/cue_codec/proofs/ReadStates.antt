@@ -1,36 +1,48 @@
 -- States read from their bytes: what is missing where they are refused.
-use Rattle.std.proofs.Common.{◌≡◌, ℕ, ◌+◌, ◌^◌, ◌<◌, ◌≤◌, true, false, List, [], ◌∷◌, ◌++◌, append_assoc, length, get_or, drop, Some, None, ◌⊎◌, inl, inr, ⊎_elim, refl, sym, ap, subst, ◌∙◌, arith}
+use Rattle.std.proofs.Common.{◌≡◌, ℕ, ◌-◌, ◌^◌, ◌<◌, ◌≤◌, true, false, List, [], ◌∷◌, ◌++◌, append_assoc, length, map, get_or, drop, Some, None, ◌⊎◌, inl, inr, ⊎_elim, refl, sym, ap, subst, ◌∙◌, arith}
 use Rattle.std.specs.Int.{w64, to_be_bytes}
 use Rattle.std.specs.List.{flat_map, AllByRecursion}
+use Rattle.std.specs.List.Sorted.{IsStrictlySortedBy}
 use Rattle.std.proofs.lemmas.Bool.{cases_eq}
-use Rattle.std.proofs.lemmas.List.{append-nil, length-append}
+use Rattle.std.proofs.lemmas.List.{append-nil, length-append, length-map, map-append}
 use Rattle.std.proofs.lemmas.List.Concat.{flat_map-cons}
 use Rattle.cue_lattice.specs.declared.refusal.Kind.{Kind}
 use Rattle.cue_lattice.specs.declared.refusal.Kind.TheVariants as kinds
-use Rattle.cue_lattice.specs.Path.{Path}
 use Rattle.cue_row.specs.declared.row.Row.{Row}
 use Rattle.cue_row.specs.Row.{Refuses, IsRow}
-use Rattle.cue_row.specs.RowLaws.{same_rows}
-use Rattle.cue_table.specs.Tree.{Tree, rows_of, row_at}
-use Rattle.cue_table.specs.Form.{IsKept}
-use Rattle.cue_table.specs.RowList.{AreRising, AppendsKept}
+use Rattle.cue_table.specs.Tree.{Tree}
+use Rattle.cue_table.specs.Slots.{Place, rows_of}
+use Rattle.cue_table.specs.Form.{IsKept, IsTable}
+use Rattle.cue_table.specs.RowList.{AppendsKept}
+use Rattle.cue_table.specs.Rows.{by_place}
 use Rattle.cue_table.specs.Valid.{IsValidTable}
-use Rattle.cue_table.proofs.Appending.{all_right}
-use Rattle.cue_table.proofs.Depth.{kept_at}
-use Rattle.cue_table.proofs.RowLists.{all_weaker, rows_rise, rows_stand, front_before, same_lists}
+use Rattle.cue_table.proofs.Listed.{rows_sorted}
+use Rattle.cue_table.proofs.Loosened.{loosened}
+use Rattle.cue_table.proofs.RowLists.{same_lists}
 use Rattle.cue_codec.specs.declared.version.Version.{Version}
 use Rattle.cue_codec.specs.declared.version.Version.TheVariants as versions
+use Rattle.cue_codec.specs.Entry.{StateStep, at, to_rest, Entry, entry_at, entries_of, indexes_of, IsToldStep, IsToldIn, told, told_place, told_row}
+use Rattle.cue_codec.specs.Known.{place_with, known_with, known_after, rows_with, IsKnown, unknown, AreRead, AreDrafted}
 use Rattle.cue_codec.specs.Reading.{Begins, BeginsNone, IsRefused, number_at}
 use Rattle.cue_codec.specs.RowBytes.{row_bytes, IsStateRow}
-use Rattle.cue_codec.specs.State.{mark, table_bytes_in, table_bytes}
-use Rattle.cue_codec.specs.Version.{version_byte, written}
+use Rattle.cue_codec.specs.StateRow.{IsStateStep}
+use Rattle.cue_codec.specs.State.{mark, table_bytes_in, IsTableBytes}
+use Rattle.cue_codec.specs.Version.{version_byte, IsNoVersion}
 use Rattle.cue_codec.specs.Decoding.{IsOtherVersion, IsNoState, IsRejected, BeginsAsState, IsUndecoded, AreReadRows, NoRows}
 use Rattle.cue_codec.proofs.Codes.{OneItem, wide64, one_number, one_list, list_step, items_none, items_more, all_more, refused_so}
+use Rattle.cue_codec.proofs.EachItem.{all_back, all_weaker}
+use Rattle.cue_codec.proofs.KeptRows.{front_before, rows_kept}
+use Rattle.cue_codec.proofs.KnownPlaces.{entries_placed, place_kept, rows_more, after_more, rows_split}
 use Rattle.cue_codec.proofs.Numbers.{IsBytes, IsBytes-rest, read64, number_takes, number_missing}
+use Rattle.cue_codec.proofs.SameEntries.{same_entries, entries_told}
 use Rattle.cue_codec.proofs.StateRows.{one_row}
 use Rattle.cue_codec.proofs.StateSets.{heads, tails}
-use Rattle.cue_codec.proofs.WrittenStates.{parts_of_state, state_parts, rows_few}
-use Rattle.cue_codec.proofs.ValidRows.{valid_rows}
+use Rattle.cue_codec.proofs.WrittenStates.{parts_of_state, rows_few}
+use Rattle.cue_codec.proofs.ValidRows.{valid_rows, valid_places}
+
+-- a row that is kept
+abbrev Kept : Row → Type 0
+Kept = IsKept Refuses IsRow
 
 -- ---- the head
 
@@ -41,34 +53,40 @@ IsBytes-marked : (bytes rest : List ℕ) → bytes ≡ mark ++ rest → IsBytes 
 IsBytes-marked bytes rest e h =
     IsBytes-rest 69 (69 ∷ rest) rest refl (IsBytes-rest 85 (85 ∷ 69 ∷ rest) (69 ∷ rest) refl (IsBytes-rest 67 (67 ∷ 85 ∷ 69 ∷ rest) (85 ∷ 69 ∷ rest) refl (IsBytes-rest 254 bytes (67 ∷ 85 ∷ 69 ∷ rest) e h)))
 
-known_version : (version : Version) (bytes rest : List ℕ) → bytes ≡ mark ++ (version_byte version ∷ rest) → IsOtherVersion bytes → ⊥
-known_version versions.First bytes rest e other = other.3 (sym (heads 1 other.0 rest other.1 (same_after bytes (1 ∷ rest) (other.0 ∷ other.1) e other.2)))
+pub known_version : (version : Version) (bytes rest : List ℕ) → bytes ≡ mark ++ (version_byte version ∷ rest) → IsOtherVersion bytes → ⊥
+known_version version bytes rest e other =
+    other.3 version (sym (heads (version_byte version) other.0 rest other.1 (same_after bytes (version_byte version ∷ rest) (other.0 ∷ other.1) e other.2)))
 
 rejected : (bytes : List ℕ) → (IsOtherVersion bytes → ⊥) → IsNoState bytes → IsRejected bytes kinds.NotState
 rejected bytes known none = inr (refl, known, none)
 
+-- the bytes of a table, in their parts
+table_parts : (bytes : List ℕ) (tree : Tree Row) (is : IsTableBytes bytes tree) → bytes ≡ mark ++ (version_byte is.0 ∷ (to_be_bytes w64 (length (entries_of is.0 tree)) ++ flat_map (row_bytes is.0) (entries_of is.0 tree)))
+table_parts bytes tree is = sym is.2 ∙ parts_of_state is.0 (entries_of is.0 tree)
+
 -- where the mark does not stand
 pub headless_mark : (bytes : List ℕ) → ((rest : List ℕ) → bytes ≡ mark ++ rest → ⊥) → IsRejected bytes kinds.NotState
 headless_mark bytes none =
-    rejected bytes (λ other. none (other.0 ∷ other.1) other.2) (λ tree h e. none _ (sym e ∙ state_parts (rows_of tree)))
+    rejected bytes (λ other. none (other.0 ∷ other.1) other.2) (λ tree h is. none _ (table_parts bytes tree is))
 
 -- where nothing stands after it
 pub headless_end : (bytes rest : List ℕ) → bytes ≡ mark ++ rest → length rest ≡ 0 → IsRejected bytes kinds.NotState
 headless_end bytes rest e none =
-    let no : (n : ℕ) (r : List ℕ) → bytes ≡ mark ++ (n ∷ r) → ⊥ = λ n r f. omega (arith, none, ap length (same_after bytes rest (n ∷ r) e f)) in
-    rejected bytes (λ other. no other.0 other.1 other.2) (λ tree h f. no 1 _ (sym f ∙ state_parts (rows_of tree)))
+    let bad : (n : ℕ) (r : List ℕ) → bytes ≡ mark ++ (n ∷ r) → ⊥ = λ n r f. omega (arith, none, ap length (same_after bytes rest (n ∷ r) e f)) in
+    rejected bytes (λ other. bad other.0 other.1 other.2) (λ tree h is. bad (version_byte is.0) _ (table_parts bytes tree is))
 
 versioned : (version : Version) (bytes rest after : List ℕ) (byte : ℕ) → bytes ≡ mark ++ rest → rest ≡ byte ∷ after → version_byte version ≡ byte → bytes ≡ mark ++ (version_byte version ∷ after)
 versioned version bytes rest after byte e is same = e ∙ ap (λ t. mark ++ t) (is ∙ ap (λ n. n ∷ after) (sym same))
 
 -- where the count is cut
 pub headless_count : (version : Version) (bytes rest after : List ℕ) (byte : ℕ) → bytes ≡ mark ++ rest → rest ≡ byte ∷ after → version_byte version ≡ byte → None ≡ number_at w64 after → IsRejected bytes kinds.NotState
-headless_count versions.First bytes rest after byte e is same none =
-    let whole = versioned versions.First bytes rest after byte e is same in
-    rejected bytes (known_version versions.First bytes after whole)
+headless_count version bytes rest after byte e is same none =
+    let whole = versioned version bytes rest after byte e is same in
+    rejected bytes (known_version version bytes after whole)
     (λ tree h f.
-    let same = tails 1 1 after _ (same_after bytes (1 ∷ after) (1 ∷ _) whole (sym f ∙ state_parts (rows_of tree))) in
-    omega (arith, number_missing w64 after none, ap length same, length-append (to_be_bytes w64 (length (rows_of tree))) (flat_map (row_bytes written) (rows_of tree)), wide64.len (length (rows_of tree))))
+    let rows : List Entry = entries_of f.0 tree in
+    let same = tails (version_byte version) (version_byte f.0) after _ (same_after bytes (version_byte version ∷ after) (version_byte f.0 ∷ _) whole (table_parts bytes tree f)) in
+    omega (arith, number_missing w64 after none, ap length same, length-append (to_be_bytes w64 (length rows)) (flat_map (row_bytes f.0) rows), wide64.len (length rows)))
 
 pub head_found : (version : Version) (bytes rest after end : List ℕ) (byte count : ℕ) → IsBytes bytes → bytes ≡ mark ++ rest → rest ≡ byte ∷ after → version_byte version ≡ byte → Some (count, end) ≡ number_at w64 after
     → bytes ≡ mark ++ (version_byte version ∷ (to_be_bytes w64 count ++ end))
@@ -77,13 +95,13 @@ head_found version bytes rest after end byte count fits e is same found =
     let numbers : IsBytes after = IsBytes-rest byte rest after is (IsBytes-marked bytes rest e fits) in
     whole ∙ ap (λ t. mark ++ (version_byte version ∷ t)) (number_takes w64 (2 ^ 64) read64 after count end numbers found).0
 
--- bytes that begin as those of a state are of the known version
+-- bytes that begin as those of a state are of a known version
 pub begun_known : (bytes : List ℕ) → BeginsAsState bytes → IsOtherVersion bytes → ⊥
-begun_known bytes begun = known_version written bytes (to_be_bytes w64 begun.0 ++ begun.1) begun.2
+begun_known bytes begun = known_version begun.0 bytes (to_be_bytes w64 begun.1 ++ begun.2) begun.3
 
 -- the bytes of a table begin so
-pub table_begins : (tree : Tree Row) (bytes : List ℕ) → table_bytes tree ≡ bytes → BeginsAsState bytes
-table_begins tree bytes e = (length (rows_of tree), flat_map (row_bytes written) (rows_of tree), sym e ∙ state_parts (rows_of tree))
+pub table_begins : (tree : Tree Row) (bytes : List ℕ) → IsTableBytes bytes tree → BeginsAsState bytes
+table_begins tree bytes is = (is.0, length (entries_of is.0 tree), flat_map (row_bytes is.0) (entries_of is.0 tree), table_parts bytes tree is)
 
 marked : (a b c d : ℕ) (rest : List ℕ) → ((a ≡ 254) × (b ≡ 67) × (c ≡ 85) × (d ≡ 69)) ⊎ ((a ≡ 254) × (b ≡ 67) × (c ≡ 85) × (d ≡ 69) → ⊥)
 marked a b c d rest =
@@ -98,13 +116,20 @@ marked a b c d rest =
 byte_at : (bytes other : List ℕ) (i : ℕ) → bytes ≡ other → get_or bytes i 0 ≡ get_or other i 0
 byte_at bytes other i e = ap (λ (t : List ℕ). get_or t i 0) e
 
+no_version : (byte : ℕ) → (byte ≡ 1 → ⊥) → (byte ≡ 2 → ⊥) → IsNoVersion byte
+no_version byte p q versions.First = p
+no_version byte p q versions.Second = q
+
 -- whether bytes are of another version is decided by the first five
 other_or_not : (bytes : List ℕ) → IsOtherVersion bytes ⊎ (IsOtherVersion bytes → ⊥)
 other_or_not (a ∷ b ∷ c ∷ d ∷ byte ∷ rest) =
     ⊎_elim
     (λ m. ⊎_elim
-    (λ one. inr (λ other. other.3 (sym (byte_at (a ∷ b ∷ c ∷ d ∷ byte ∷ rest) (mark ++ (other.0 ∷ other.1)) 4 other.2) ∙ one)))
-    (λ new. inl (byte, rest, (λ i. m.0 i ∷ m.1 i ∷ m.2 i ∷ m.3 i ∷ byte ∷ rest), new)) (cases_eq byte 1))
+    (λ one. inr (λ other. other.3 versions.First (sym (byte_at (a ∷ b ∷ c ∷ d ∷ byte ∷ rest) (mark ++ (other.0 ∷ other.1)) 4 other.2) ∙ one)))
+    (λ first. ⊎_elim
+    (λ two. inr (λ other. other.3 versions.Second (sym (byte_at (a ∷ b ∷ c ∷ d ∷ byte ∷ rest) (mark ++ (other.0 ∷ other.1)) 4 other.2) ∙ two)))
+    (λ second. inl (byte, rest, (λ i. m.0 i ∷ m.1 i ∷ m.2 i ∷ m.3 i ∷ byte ∷ rest), no_version byte first second)) (cases_eq byte 2))
+    (cases_eq byte 1))
     (λ none. inr (λ other.
     let e = byte_at (a ∷ b ∷ c ∷ d ∷ byte ∷ rest) (mark ++ (other.0 ∷ other.1)) in
     none (e 0 other.2, e 1 other.2, e 2 other.2, e 3 other.2))) (marked a b c d rest)
@@ -114,7 +139,7 @@ other_or_not bytes = inr (λ other. let e = ap length other.2 in omega (arith, e
 pub headless_fault : (bytes : List ℕ) → (BeginsAsState bytes → ⊥) → (kind : Kind) × IsRejected bytes kind
 headless_fault bytes none =
     ⊎_elim (λ other. (kinds.Version, inl (refl, other)))
-    (λ known. (kinds.NotState, inr (refl, known, λ tree h e. none (table_begins tree bytes e)))) (other_or_not bytes)
+    (λ known. (kinds.NotState, inr (refl, known, λ tree h is. none (table_begins tree bytes is)))) (other_or_not bytes)
 
 -- ---- the rows
 
@@ -129,55 +154,145 @@ items_first v code one (x ∷ xs) (y ∷ ys) rest p q n e =
     (others.0, (λ i. sym first.0 i ∷ others.1 i))
 
 -- where a row is missing, so many do not stand
-pub rows_missing : (version : Version) (kind : Kind) (count : ℕ) (xs : List (Path × Row)) (bytes rest : List ℕ) → AllByRecursion (IsStateRow version) xs → length xs < count → bytes ≡ flat_map (row_bytes version) xs ++ rest → IsRefused kind (BeginsNone (IsStateRow version) (row_bytes version) rest) → IsRefused kind (NoRows version count bytes)
-rows_missing version kind count xs bytes rest each few parts refused =
+pub rows_missing :
+    (version : Version) (kind : Kind) (bytes rest : List ℕ) (count missing : ℕ) (rows : List (Place × Row)) (indexes known : List ℕ) → AreRead version bytes rest count missing rows indexes known → 0 < missing
+    → IsRefused kind (BeginsNone (IsStateRow version) (row_bytes version) rest) → IsRefused kind (NoRows version count bytes)
+rows_missing version kind bytes rest count missing rows indexes known read some refused =
     refused_so kind (BeginsNone (IsStateRow version) (row_bytes version) rest) (NoRows version count bytes)
-    (λ none tree r. items_none (IsStateRow version) (row_bytes version) (one_row version) count xs bytes rest each few parts none (rows_of tree) [] (r.counted, r.rows) (r.parts ∙ sym (append-nil (flat_map (row_bytes version) (rows_of tree))))) refused
+    (λ none tree r. items_none (IsStateRow version) (row_bytes version) (one_row version) count read.entries bytes rest read.each (omega (arith, some, read.counted)) read.parts none (entries_of version tree) [] (r.counted, r.rows) (r.parts ∙ sym (append-nil (flat_map (row_bytes version) (entries_of version tree))))) refused
 
 -- where bytes are left after them, these are no rows
-pub rows_trailing : (version : Version) (count : ℕ) (xs : List (Path × Row)) (bytes rest : List ℕ) → AllByRecursion (IsStateRow version) xs → length xs ≡ count → bytes ≡ flat_map (row_bytes version) xs ++ rest → (rest ≡ [] → ⊥) → NoRows version count bytes
-rows_trailing version count xs bytes rest each len parts some tree r =
-    some (one_list (IsStateRow version) (row_bytes version) (one_row version) xs (rows_of tree) rest [] each r.rows (len ∙ sym r.counted) (sym parts ∙ r.parts ∙ sym (append-nil (flat_map (row_bytes version) (rows_of tree))))).1
+pub rows_trailing :
+    (version : Version) (bytes rest : List ℕ) (count : ℕ) (rows : List (Place × Row)) (indexes known : List ℕ) → AreRead version bytes rest count 0 rows indexes known → (rest ≡ [] → ⊥) → NoRows version count bytes
+rows_trailing version bytes rest count rows indexes known read some tree r =
+    some (one_list (IsStateRow version) (row_bytes version) (one_row version) read.entries (entries_of version tree) rest [] read.each r.rows (omega (arith, read.counted, r.counted)) (sym read.parts ∙ r.parts ∙ sym (append-nil (flat_map (row_bytes version) (entries_of version tree))))).1
+
+-- the row that was read stands behind the others at its place
+rows_here : (entries : List Entry) (place : Place) (fixed : ℕ) (row : Row) (known : List ℕ) → known ≡ known_after unknown entries → IsKnown known place → rows_with unknown (entries ++ entry_at place fixed row ∷ []) ≡ rows_with unknown entries ++ (place, row) ∷ []
+rows_here entries place fixed row known after is =
+    let entry : Entry = entry_at place fixed row in
+    let here : place_with (known_after unknown entries) entry.path ≡ place = ap (λ k. place_with k entry.path) (sym after) ∙ sym is in
+    rows_more unknown entries entry ∙ ap (λ p. rows_with unknown entries ++ (p, row) ∷ []) here
+
+-- the rows of all that stand behind those that were read
+rows_next :
+    (entries more all : List Entry) (place : Place) (fixed : ℕ) (row : Row) (known : List ℕ) → known ≡ known_after unknown entries → IsKnown known place → all ≡ (entries ++ entry_at place fixed row ∷ []) ++ more
+    → (others : List (Place × Row)) × (rows_with unknown all ≡ rows_with unknown entries ++ (place, row) ∷ others)
+rows_next entries more all place fixed row known after is e =
+    let entry : Entry = entry_at place fixed row in
+    let others = rows_with (known_after unknown (entries ++ entry ∷ [])) more in (
+      others,
+      ap (rows_with unknown) e
+          ∙ rows_split unknown (entries ++ entry ∷ []) more
+          ∙ ap (λ rows. rows ++ others) (rows_here entries place fixed row known after is)
+          ∙ append_assoc (rows_with unknown entries) ((place, row) ∷ []) others,
+    )
 
 -- a row that does not stand behind the others is none of a table
-pub rows_unordered : (version : Version)
-    (count : ℕ) (table new : Tree Row) (path : Path) (row : Row) (bytes rest after : List ℕ) → AllByRecursion (IsStateRow version) (rows_of table) → length (rows_of table) < count → bytes ≡ flat_map (row_bytes version) (rows_of table) ++ rest
-    → Begins (IsStateRow version) (row_bytes version) (path, row) rest after → AppendsKept Refuses table path row new false → NoRows version count bytes
-rows_unordered version count table new path row bytes rest after each few parts read not tree r =
-    let xs : List (Path × Row) = rows_of table in
-    let whole = items_more (row_bytes version) xs (path, row) bytes rest after parts read.parts in
-    let len = length-append xs ((path, row) ∷ []) in
-    let first = items_first (IsStateRow version) (row_bytes version) (one_row version) (xs ++ (path, row) ∷ []) (rows_of tree) after (all_more (IsStateRow version) xs (path, row) each read.value) r.rows (omega (arith, len, few, r.counted)) (sym whole ∙ r.parts) in
-    let listed : rows_of tree ≡ xs ++ (path, row) ∷ first.0 = first.1 ∙ append_assoc xs ((path, row) ∷ []) first.0 in
-    let kept = all_weaker (λ (x : Path × Row). row_at tree x.0 ≡ Some x.1) (λ (x : Path × Row). IsKept Refuses IsRow x.1) (rows_of tree) (λ x s. kept_at (IsKept Refuses IsRow) tree x.0 x.1 r.form s) (rows_stand (IsKept Refuses IsRow) tree r.form) in
-    let here = (all_right (λ (x : Path × Row). IsKept Refuses IsRow x.1) xs ((path, row) ∷ first.0) (subst (AllByRecursion (λ (x : Path × Row). IsKept Refuses IsRow x.1)) listed kept)).0 in
-    not.1 (front_before xs path row first.0 (subst AreRising listed (rows_rise (IsKept Refuses IsRow) tree r.form)), here.1)
+pub rows_unordered :
+    (version : Version) (bytes rest after : List ℕ) (count missing : ℕ) (rows new : List (Place × Row)) (indexes known : List ℕ) (place : Place) (fixed : ℕ) (row : Row)
+    → AreRead version bytes rest count missing rows indexes known → 0 < missing → Begins (IsStateRow version) (row_bytes version) (entry_at place fixed row) rest after → IsKnown known place
+    → AppendsKept Refuses rows place row new false → NoRows version count bytes
+rows_unordered version bytes rest after count missing rows new indexes known place fixed row read some begins is not tree r =
+    let entry : Entry = entry_at place fixed row in
+    let whole = items_more (row_bytes version) read.entries entry bytes rest after read.parts begins.parts in
+    let len = length-append read.entries (entry ∷ []) in
+    let first = items_first (IsStateRow version) (row_bytes version) (one_row version) (read.entries ++ entry ∷ []) (entries_of version tree) after (all_more (IsStateRow version) read.entries entry read.each begins.value) r.rows (omega (arith, len, some, read.counted, r.counted)) (sym whole ∙ r.parts) in
+    let next = rows_next read.entries first.0 (entries_of version tree) place fixed row known read.after is first.1 in
+    let listed : rows_of tree ≡ rows ++ (place, row) ∷ next.0 = r.places ∙ next.1 ∙ ap (λ t. t ++ (place, row) ∷ next.0) (sym read.places) in
+    let here = (all_back (λ (x : Place × Row). Kept x.1) rows ((place, row) ∷ next.0) (subst (AllByRecursion (λ (x : Place × Row). Kept x.1)) listed (rows_kept Kept tree r.form))).0 in
+    not.1 (front_before rows place row next.0 (subst (IsStrictlySortedBy by_place) listed (rows_sorted Kept tree (loosened Kept tree r.form))), here.1)
 
 -- one more row was read
-pub rows_one_more : (version : Version) (table new : Tree Row) (path : Path) (row : Row) (bytes rest after : List ℕ) → AllByRecursion (IsStateRow version) (rows_of table) → bytes ≡ flat_map (row_bytes version) (rows_of table) ++ rest
-    → Begins (IsStateRow version) (row_bytes version) (path, row) rest after → AppendsKept Refuses table path row new true → AllByRecursion (IsStateRow version) (rows_of new) × (bytes ≡ flat_map (row_bytes version) (rows_of new) ++ after) × (length (rows_of new) ≡ length (rows_of table) + 1)
-rows_one_more version table new path row bytes rest after each parts read is = (
-  subst (AllByRecursion (IsStateRow version)) (sym is) (all_more (IsStateRow version) (rows_of table) (path, row) each read.value),
-  items_more (row_bytes version) (rows_of table) (path, row) bytes rest after parts read.parts ∙ ap (λ rows. flat_map (row_bytes version) rows ++ after) (sym is),
-  ap length is ∙ length-append (rows_of table) ((path, row) ∷ []),
-)
+pub rows_one_more :
+    (version : Version) (bytes rest after : List ℕ) (count missing : ℕ) (rows new : List (Place × Row)) (indexes known : List ℕ) (place : Place) (fixed : ℕ) (row : Row)
+    → AreRead version bytes rest count missing rows indexes known → 0 < missing → Begins (IsStateRow version) (row_bytes version) (entry_at place fixed row) rest after → IsKnown known place
+    → AppendsKept Refuses rows place row new true → AreRead version bytes after count (missing - 1) new (indexes ++ fixed ∷ []) (known_with known (length place) fixed)
+rows_one_more version bytes rest after count missing rows new indexes known place fixed row read some begins is added =
+    let entry : Entry = entry_at place fixed row in
+    record {
+      entries = read.entries ++ entry ∷ [];
+      each = all_more (IsStateRow version) read.entries entry read.each begins.value;
+      parts = items_more (row_bytes version) read.entries entry bytes rest after read.parts begins.parts;
+      counted = omega (arith, length-append read.entries (entry ∷ []), read.counted, some);
+      places = added ∙ ap (λ t. t ++ (place, row) ∷ []) read.places ∙ sym (rows_here read.entries place fixed row known read.after is);
+      told = ap (λ t. t ++ fixed ∷ []) read.told ∙ sym (map-append (λ e. e.fixed) read.entries (entry ∷ []));
+      after = ap (λ n. known_with known n fixed) (sym (length-map place told)) ∙ ap (λ k. known_with k (length (told_place place)) fixed) read.after ∙ sym (after_more unknown read.entries entry);
+    }
+
+-- and its place has the numbers that are known then
+pub known_next : (known : List ℕ) (place : Place) (fixed : ℕ) → IsKnown known place → IsKnown (known_with known (length place) fixed) place
+known_next known place fixed is = is ∙ sym (place_kept known (told_place place) fixed) ∙ ap (λ n. place_with (known_with known n fixed) (told_place place)) (length-map place told)
+
+-- before the first row
+pub rows_none : (version : Version) (bytes : List ℕ) (count : ℕ) → AreRead version bytes bytes count count [] [] unknown
+rows_none version bytes count = record { entries = []; each = tt; parts = refl; counted = omega arith; places = refl; told = refl; after = refl }
+
+-- ---- the table of the rows
+
+-- the rows that were read are those of each table that has the bytes
+same_read : (version : Version) (bytes : List ℕ) (count : ℕ) (rows : List (Place × Row)) (indexes known : List ℕ) (tree : Tree Row) (read : AreRead version bytes [] count 0 rows indexes known) → AreReadRows version count bytes tree → entries_of version tree ≡ read.entries
+same_read version bytes count rows indexes known tree read r =
+    (one_list (IsStateRow version) (row_bytes version) (one_row version) (entries_of version tree) read.entries [] [] r.rows read.each (omega (arith, r.counted, read.counted))
+    (append-nil (flat_map (row_bytes version) (entries_of version tree)) ∙ sym r.parts ∙ read.parts)).0
+
+same_places : (version : Version) (bytes : List ℕ) (count : ℕ) (rows : List (Place × Row)) (indexes known : List ℕ) (tree : Tree Row) → AreRead version bytes [] count 0 rows indexes known → AreReadRows version count bytes tree → rows_of tree ≡ rows
+same_places version bytes count rows indexes known tree read r = r.places ∙ ap (rows_with unknown) (same_read version bytes count rows indexes known tree read r) ∙ sym read.places
+
+-- where no table has the rows
+pub rows_unfinished : (version : Version) (bytes : List ℕ) (count : ℕ) (rows : List (Place × Row)) (indexes : List ℕ) → AreDrafted version bytes count rows indexes → ((table : Tree Row) → IsTable Refuses IsRow table → rows_of table ≡ rows → ⊥) → NoRows version count bytes
+rows_unfinished version bytes count rows indexes drafted none tree r = none tree r.form (same_places version bytes count rows indexes drafted.0 tree drafted.1 r)
+
+-- where the table of the rows has other indexes
+pub rows_untold : (version : Version) (bytes : List ℕ) (count : ℕ) (rows : List (Place × Row)) (indexes : List ℕ) (table : Tree Row) → AreDrafted version bytes count rows indexes → IsTable Refuses IsRow table → rows_of table ≡ rows → (indexes ≡ indexes_of version table → ⊥)
+    → NoRows version count bytes
+rows_untold version bytes count rows indexes table drafted form is other tree r =
+    let same : tree ≡ table = same_lists Kept tree table (loosened Kept tree r.form) (loosened Kept table form) (same_places version bytes count rows indexes drafted.0 tree drafted.1 r ∙ sym is) in
+    other (drafted.1.told ∙ ap (map (λ e. e.fixed)) (sym (same_read version bytes count rows indexes drafted.0 tree drafted.1 r)) ∙ ap (indexes_of version) same)
+
+-- the table of the rows, with their indexes
+pub rows_finished : (version : Version) (bytes : List ℕ) (count : ℕ) (rows : List (Place × Row)) (indexes : List ℕ) (table : Tree Row) → AreDrafted version bytes count rows indexes → IsTable Refuses IsRow table → rows_of table ≡ rows → indexes ≡ indexes_of version table
+    → AreReadRows version count bytes table
+rows_finished version bytes count rows indexes table drafted form is told =
+    let read = drafted.1 in
+    let same : read.entries ≡ entries_of version table = same_entries read.entries (entries_of version table) (sym (entries_placed unknown read.entries) ∙ ap (map told_row) (sym read.places ∙ sym is) ∙ sym (entries_told version table)) (sym read.told ∙ told) in
+    record {
+      form = form;
+      rows = subst (AllByRecursion (IsStateRow version)) same read.each;
+      places = is ∙ read.places ∙ ap (rows_with unknown) same;
+      counted = ap length (sym same) ∙ omega (arith, read.counted);
+      parts = read.parts ∙ append-nil (flat_map (row_bytes version) read.entries) ∙ ap (flat_map (row_bytes version)) same;
+    }
 
 -- ---- the whole
+
+same_version : (a b : Version) → version_byte a ≡ version_byte b → a ≡ b
+same_version versions.First versions.First e = refl
+same_version versions.First versions.Second e = absurd (omega (arith, e))
+same_version versions.Second versions.First e = absurd (omega (arith, e))
+same_version versions.Second versions.Second e = refl
+
+-- bytes of a table in some version are its bytes in the one that they tell
+in_version : (version : Version) (bytes rest : List ℕ) (tree : Tree Row) → bytes ≡ mark ++ (version_byte version ∷ rest) → IsTableBytes bytes tree → IsToldIn version tree × (table_bytes_in version tree ≡ bytes)
+in_version version bytes rest tree e is =
+    let same = same_version is.0 version (heads (version_byte is.0) (version_byte version) _ rest (same_after bytes (version_byte is.0 ∷ _) (version_byte version ∷ rest) (table_parts bytes tree is) e)) in
+    subst (λ (v : Version). IsToldIn v tree × (table_bytes_in v tree ≡ bytes)) same (is.1, is.2)
 
 -- the rows of a valid table with these bytes
 valid_read :
     (version : Version) (bytes rest : List ℕ) (count : ℕ) (tree : Tree Row) → bytes ≡ mark ++ (version_byte version ∷ (to_be_bytes w64 count ++ rest)) → count < 2 ^ 64 → length bytes < 2 ^ 64 → IsValidTable tree
-    → table_bytes_in version tree ≡ bytes → AreReadRows version count rest tree
-valid_read version bytes rest count tree e lt fits h is =
-    let rows : List (Path × Row) = rows_of tree in
+    → IsTableBytes bytes tree → AreReadRows version count rest tree
+valid_read version bytes rest count tree e lt fits h has =
+    let is = in_version version bytes (to_be_bytes w64 count ++ rest) tree e has in
+    let rows : List Entry = entries_of version tree in
     let byte : ℕ = version_byte version in
     let these : List ℕ = flat_map (row_bytes version) rows in
     let same = tails byte byte (to_be_bytes w64 (length rows) ++ these) (to_be_bytes w64 count ++ rest)
-    (same_after bytes (byte ∷ (to_be_bytes w64 (length rows) ++ these)) (byte ∷ (to_be_bytes w64 count ++ rest)) (sym is ∙ parts_of_state version rows) e) in
+    (same_after bytes (byte ∷ (to_be_bytes w64 (length rows) ++ these)) (byte ∷ (to_be_bytes w64 count ++ rest)) (sym is.1 ∙ parts_of_state version rows) e) in
     let sizes = ap length same in
     let few : length these < 2 ^ 64 = omega (arith, fits, ap length e, length-append mark (byte ∷ (to_be_bytes w64 count ++ rest)), length-append (to_be_bytes w64 count) rest, sizes, length-append (to_be_bytes w64 (length rows)) these, wide64.len (length rows), wide64.len count) in
     let split = one_number w64 (2 ^ 64) wide64 (length rows) count these rest (omega (arith, few, rows_few version rows)) lt same in
-    record { form = h.form; rows = valid_rows version tree h few; counted = split.0; parts = sym split.1 }
+    record { form = h.form; rows = valid_rows version tree h is.0 few; places = valid_places version tree h is.0 unknown; counted = split.0; parts = sym split.1 }
 
 -- refusals of the head are refusals
 pub undecoded_head : (bytes : List ℕ) (kind : Kind) → IsRejected bytes kind → IsUndecoded bytes kind
@@ -187,46 +302,48 @@ undecoded_head bytes kind h = inr h
 pub undecoded_rows :
     (version : Version) (bytes rest : List ℕ) (count : ℕ) (kind : Kind) → bytes ≡ mark ++ (version_byte version ∷ (to_be_bytes w64 count ++ rest)) → count < 2 ^ 64 → length bytes < 2 ^ 64 → IsRefused kind (NoRows version count rest)
     → IsUndecoded bytes kind
-undecoded_rows versions.First bytes rest count kind e lt fits refused =
-    ⊎_elim (λ memory. inl (memory, (count, rest, e)))
-    (λ reason. inr (inr (reason.0, known_version versions.First bytes (to_be_bytes w64 count ++ rest) e, λ tree h is. reason.1 tree (valid_read versions.First bytes rest count tree e lt fits h is)))) refused
+undecoded_rows version bytes rest count kind e lt fits refused =
+    ⊎_elim (λ memory. inl (memory, (version, count, rest, e)))
+    (λ reason. inr (inr (reason.0, known_version version bytes (to_be_bytes w64 count ++ rest) e, λ tree h is. reason.1 tree (valid_read version bytes rest count tree e lt fits h is)))) refused
 
 -- a valid table that has the bytes is the one whose rows were read
 read_table :
     (version : Version) (bytes rest : List ℕ) (count : ℕ) (table tree : Tree Row) → bytes ≡ mark ++ (version_byte version ∷ (to_be_bytes w64 count ++ rest)) → count < 2 ^ 64 → length bytes < 2 ^ 64 → AreReadRows version count rest table
-    → IsValidTable tree → table_bytes_in version tree ≡ bytes → tree ≡ table
+    → IsValidTable tree → IsTableBytes bytes tree → tree ≡ table
 read_table version bytes rest count table tree e lt fits r h is =
     let other = valid_read version bytes rest count tree e lt fits h is in
-    let rows = one_list (IsStateRow version) (row_bytes version) (one_row version) (rows_of tree) (rows_of table) [] [] other.rows r.rows (other.counted ∙ sym r.counted) (ap (λ t. t ++ []) (sym other.parts ∙ r.parts)) in
-    same_lists Refuses IsRow same_rows tree table h.form r.form rows.0
+    let rows = one_list (IsStateRow version) (row_bytes version) (one_row version) (entries_of version tree) (entries_of version table) [] [] other.rows r.rows (other.counted ∙ sym r.counted) (ap (λ t. t ++ []) (sym other.parts ∙ r.parts)) in
+    same_lists Kept tree table (loosened Kept tree h.form) (loosened Kept table r.form) (other.places ∙ ap (rows_with unknown) rows.0 ∙ sym r.places)
 
 -- where the rows that were read are no valid table, no valid table has the bytes
 pub undecoded_table :
     (version : Version) (bytes rest : List ℕ) (count : ℕ) (table : Tree Row) → bytes ≡ mark ++ (version_byte version ∷ (to_be_bytes w64 count ++ rest)) → count < 2 ^ 64 → length bytes < 2 ^ 64 → AreReadRows version count rest table
     → (IsValidTable table → ⊥) → IsUndecoded bytes kinds.NotState
-undecoded_table versions.First bytes rest count table e lt fits r invalid =
-    inr (rejected bytes (known_version versions.First bytes (to_be_bytes w64 count ++ rest) e)
-    (λ tree h is. invalid (subst IsValidTable (read_table versions.First bytes rest count table tree e lt fits r h is) h)))
+undecoded_table version bytes rest count table e lt fits r invalid =
+    inr (rejected bytes (known_version version bytes (to_be_bytes w64 count ++ rest) e)
+    (λ tree h is. invalid (subst IsValidTable (read_table version bytes rest count table tree e lt fits r h is) h)))
+
+step_told : (version : Version) (step : StateStep) → IsStateStep version step → IsToldStep version step
+step_told version (at step) h = tt
+step_told version to_rest h = h
 
 -- the bytes of the table that was read
-pub decoded_in : (version : Version) (bytes rest : List ℕ) (count : ℕ) (table : Tree Row) → bytes ≡ mark ++ (version_byte version ∷ (to_be_bytes w64 count ++ rest)) → AreReadRows version count rest table → table_bytes_in version table ≡ bytes
-decoded_in version bytes rest count table e r =
+pub decoded_bytes : (version : Version) (bytes rest : List ℕ) (count : ℕ) (table : Tree Row) → bytes ≡ mark ++ (version_byte version ∷ (to_be_bytes w64 count ++ rest)) → AreReadRows version count rest table → IsTableBytes bytes table
+decoded_bytes version bytes rest count table e r =
     let byte : ℕ = version_byte version in
-    parts_of_state version (rows_of table) ∙ ap (λ n. mark ++ (byte ∷ (to_be_bytes w64 n ++ flat_map (row_bytes version) (rows_of table)))) r.counted ∙ ap (λ t. mark ++ (byte ∷ (to_be_bytes w64 count ++ t))) (sym r.parts) ∙ sym e
-
-pub decoded_bytes : (version : Version) (bytes rest : List ℕ) (count : ℕ) (table : Tree Row) → bytes ≡ mark ++ (version_byte version ∷ (to_be_bytes w64 count ++ rest)) → AreReadRows version count rest table → table_bytes table ≡ bytes
-decoded_bytes versions.First bytes rest count table e r = decoded_in versions.First bytes rest count table e r
-
--- no two valid tables share bytes of a version
-one_table_in : (version : Version) (a b : Tree Row) → IsValidTable a → IsValidTable b → length (table_bytes_in version a) < 2 ^ 64 → table_bytes_in version a ≡ table_bytes_in version b → a ≡ b
-one_table_in version a b h k fits same =
-    let rows : List (Path × Row) = rows_of a in
-    let these : List ℕ = flat_map (row_bytes version) rows in
-    let e = parts_of_state version rows in
-    let few : length rows < 2 ^ 64 = omega (arith, fits, ap length e, length-append mark (version_byte version ∷ (to_be_bytes w64 (length rows) ++ these)), length-append (to_be_bytes w64 (length rows)) these, rows_few version rows) in
-    let read = valid_read version (table_bytes_in version a) these (length rows) a e few fits h refl in
-    sym (read_table version (table_bytes_in version a) these (length rows) a b e few fits read k (sym same))
+    let rows : List Entry = entries_of version table in (
+      version,
+      all_weaker (IsStateRow version) (λ row. AllByRecursion (IsToldStep version) row.path) rows (λ row h. all_weaker (IsStateStep version) (IsToldStep version) row.path (step_told version) h.path.0) r.rows,
+      parts_of_state version rows ∙ ap (λ n. mark ++ (byte ∷ (to_be_bytes w64 n ++ flat_map (row_bytes version) rows))) r.counted ∙ ap (λ t. mark ++ (byte ∷ (to_be_bytes w64 count ++ t))) (sym r.parts) ∙ sym e,
+    )
 
 -- no two valid tables share bytes
-pub one_table : (a b : Tree Row) → IsValidTable a → IsValidTable b → length (table_bytes a) < 2 ^ 64 → table_bytes a ≡ table_bytes b → a ≡ b
-one_table a b h k fits same = one_table_in written a b h k fits same
+pub one_table : (a b : Tree Row) (bytes : List ℕ) → IsValidTable a → IsValidTable b → length bytes < 2 ^ 64 → IsTableBytes bytes a → IsTableBytes bytes b → a ≡ b
+one_table a b bytes h k fits p q =
+    let version = p.0 in
+    let rows : List Entry = entries_of version a in
+    let these : List ℕ = flat_map (row_bytes version) rows in
+    let e = table_parts bytes a p in
+    let few : length rows < 2 ^ 64 = omega (arith, fits, ap length e, length-append mark (version_byte version ∷ (to_be_bytes w64 (length rows) ++ these)), length-append (to_be_bytes w64 (length rows)) these, rows_few version rows) in
+    let read = valid_read version bytes these (length rows) a e few fits h p in
+    sym (read_table version bytes these (length rows) a b e few fits read k q)

@@ -5,10 +5,10 @@ use Rattle.cue_scalars.specs.declared.scalar_set.ScalarSet.{ScalarSet}
 use Rattle.cue_row.specs.declared.level.Level.{Level}
 use Rattle.cue_row.specs.declared.row.Row.{Row}
 use Rattle.cue_codec.specs.declared.version.Version.{Version}
-use Rattle.cue_codec.specs.Parts.{set_bytes, labels_bytes, lengths_bytes}
+use Rattle.cue_codec.specs.Parts.{Lengths, set_bytes, labels_bytes, lengths_bytes}
 use Rattle.cue_codec.specs.Reading.{Begins, BeginsNone, AreWideLengths}
 use Rattle.cue_codec.specs.StateRow.{IsStateSet, AreStateLabels}
-use Rattle.cue_codec.specs.RowBytes.{Parts, free, scalar, struct, list, nothing, scalars_bytes, left_out_bytes, parts_bytes, is_empty_set, parts_by, parts_of, row_of, AreScalars, AreLeftOut, IsStateParts, Reads}
+use Rattle.cue_codec.specs.RowBytes.{Parts, free, scalar, struct, list, nothing, scalars_bytes, left_out_bytes, parts_bytes, is_empty_set, parts_by, parts_of, fixed_by, row_of, AreScalars, AreLeftOut, IsStateParts, Reads}
 use Rattle.cue_codec.proofs.Codes.{OneItem}
 use Rattle.cue_codec.proofs.Numbers.{one_lengths}
 use Rattle.cue_codec.proofs.StateSets.{heads, tails, no_byte, one_set, one_labels}
@@ -46,7 +46,7 @@ scalars_found bytes middle rest value usual a some b = record {
 
 -- ---- labels and lengths
 
-left_out_parts : (version : Version) (parts : Option (List (List ℕ)) × (ℕ × Option ℕ)) (r : List ℕ) → left_out_bytes version parts ++ r ≡ labels_bytes parts.0 ++ (lengths_bytes version parts.1 ++ r)
+left_out_parts : (version : Version) (parts : Option (List (List ℕ)) × Lengths) (r : List ℕ) → left_out_bytes version parts ++ r ≡ labels_bytes parts.0 ++ (lengths_bytes version parts.1 ++ r)
 unfolding left_out_bytes
 left_out_parts version parts r = append_assoc (labels_bytes parts.0) (lengths_bytes version parts.1) r
 
@@ -64,7 +64,7 @@ left_out_second version bytes rest labels b none = λ parts s h e.
     let f = one_labels labels parts.0 rest (lengths_bytes version parts.1 ++ s) b.value h.0 (sym b.parts ∙ e ∙ left_out_parts version parts s) in
     none parts.1 s h.1 f.1
 
-pub left_out_found : (version : Version) (bytes middle rest : List ℕ) (labels : Option (List (List ℕ))) (lengths : ℕ × Option ℕ) → Begins AreStateLabels labels_bytes labels bytes middle → Begins (AreWideLengths version) (lengths_bytes version) lengths middle rest
+pub left_out_found : (version : Version) (bytes middle rest : List ℕ) (labels : Option (List (List ℕ))) (lengths : Lengths) → Begins AreStateLabels labels_bytes labels bytes middle → Begins (AreWideLengths version) (lengths_bytes version) lengths middle rest
     → Begins (AreLeftOut version) (left_out_bytes version) (labels, lengths) bytes rest
 left_out_found version bytes middle rest labels lengths a b = record {
   value = (a.value, b.value);
@@ -95,14 +95,14 @@ one_parts version (struct l1) (nothing l2 n2) r s p q e = absurd (omega (arith, 
 one_parts version (list n1) free r s p q e = absurd (omega (arith, heads 3 0 _ _ e))
 one_parts version (list n1) (scalar v2 u2) r s p q e = absurd (omega (arith, heads 3 1 _ _ e))
 one_parts version (list n1) (struct l2) r s p q e = absurd (omega (arith, heads 3 2 _ _ e))
-one_parts version (list n1) (list n2) r s p q e = let f = one_lengths version n1 n2 r s p q (tails 3 3 _ _ e) in (ap (λ (t : ℕ × Option ℕ). list t) f.0, f.1)
+one_parts version (list n1) (list n2) r s p q e = let f = one_lengths version n1 n2 r s p q (tails 3 3 _ _ e) in (ap (λ (t : Lengths). list t) f.0, f.1)
 one_parts version (list n1) (nothing l2 n2) r s p q e = absurd (omega (arith, heads 3 4 _ _ e))
 one_parts version (nothing l1 n1) free r s p q e = absurd (omega (arith, heads 4 0 _ _ e))
 one_parts version (nothing l1 n1) (scalar v2 u2) r s p q e = absurd (omega (arith, heads 4 1 _ _ e))
 one_parts version (nothing l1 n1) (struct l2) r s p q e = absurd (omega (arith, heads 4 2 _ _ e))
 one_parts version (nothing l1 n1) (list n2) r s p q e = absurd (omega (arith, heads 4 3 _ _ e))
 one_parts version (nothing l1 n1) (nothing l2 n2) r s p q e =
-    let f = one_left_out version (l1, n1) (l2, n2) r s p q (tails 4 4 _ _ e) in (ap (λ (t : Option (List (List ℕ)) × (ℕ × Option ℕ)). nothing t.0 t.1) f.0, f.1)
+    let f = one_left_out version (l1, n1) (l2, n2) r s p q (tails 4 4 _ _ e) in (ap (λ (t : Option (List (List ℕ)) × Lengths). nothing t.0 t.1) f.0, f.1)
 
 pub parts_empty : (version : Version) (bytes : List ℕ) → length bytes ≡ 0 → BeginsNone (IsStateParts version) (parts_bytes version) bytes
 unfolding parts_bytes
@@ -156,34 +156,34 @@ free_begins : (version : Version) (bytes rest : List ℕ) (tag : ℕ) → bytes 
 unfolding parts_bytes
 free_begins version bytes rest tag is same = record { value = tt; parts = is ∙ ap (λ (k : ℕ). k ∷ rest) same }
 
-pub free_found : (version : Version) (bytes rest : List ℕ) (tag : ℕ) (level : Level) (row : Row) → bytes ≡ tag ∷ rest → tag ≡ 0 → row ≡ row_of level free → Reads (λ parts. parts) (IsStateParts version) (parts_bytes version) level row bytes rest
-free_found version bytes rest tag level row is same says = record { item = free; says = says; begins = free_begins version bytes rest tag is same }
+pub free_found : (version : Version) (bytes rest : List ℕ) (tag : ℕ) (level : Level) (row : Row) (fixed : ℕ) → bytes ≡ tag ∷ rest → tag ≡ 0 → row ≡ row_of level free → fixed ≡ 0 → Reads (λ parts. parts) (IsStateParts version) (parts_bytes version) level row fixed bytes rest
+free_found version bytes rest tag level row fixed is same says zero = record { item = free; says = says; fixed_is = zero; begins = free_begins version bytes rest tag is same }
 
-pub scalar_found : (version : Version) (bytes rest after : List ℕ) (tag : ℕ) (level : Level) (row : Row) → bytes ≡ tag ∷ rest → tag ≡ 1 → Reads (λ sets. scalar sets.0 sets.1) AreScalars scalars_bytes level row rest after → Reads (λ parts. parts) (IsStateParts version) (parts_bytes version) level row bytes after
+pub scalar_found : (version : Version) (bytes rest after : List ℕ) (tag : ℕ) (level : Level) (row : Row) (fixed : ℕ) → bytes ≡ tag ∷ rest → tag ≡ 1 → Reads (λ sets. scalar sets.0 sets.1) AreScalars scalars_bytes level row fixed rest after → Reads (λ parts. parts) (IsStateParts version) (parts_bytes version) level row fixed bytes after
 unfolding parts_bytes
-scalar_found version bytes rest after tag level row is same r =
-    record { item = scalar r.item.0 r.item.1; says = r.says; begins = record { value = r.begins.value; parts = is ∙ ap (λ (k : ℕ). k ∷ rest) same ∙ ap (λ (x : List ℕ). 1 ∷ x) r.begins.parts } }
+scalar_found version bytes rest after tag level row fixed is same r =
+    record { item = scalar r.item.0 r.item.1; says = r.says; fixed_is = r.fixed_is; begins = record { value = r.begins.value; parts = is ∙ ap (λ (k : ℕ). k ∷ rest) same ∙ ap (λ (x : List ℕ). 1 ∷ x) r.begins.parts } }
 
-pub struct_found : (version : Version) (bytes rest after : List ℕ) (tag : ℕ) (level : Level) (row : Row) → bytes ≡ tag ∷ rest → tag ≡ 2 → Reads struct AreStateLabels labels_bytes level row rest after → Reads (λ parts. parts) (IsStateParts version) (parts_bytes version) level row bytes after
+pub struct_found : (version : Version) (bytes rest after : List ℕ) (tag : ℕ) (level : Level) (row : Row) (fixed : ℕ) → bytes ≡ tag ∷ rest → tag ≡ 2 → Reads struct AreStateLabels labels_bytes level row fixed rest after → Reads (λ parts. parts) (IsStateParts version) (parts_bytes version) level row fixed bytes after
 unfolding parts_bytes
-struct_found version bytes rest after tag level row is same r =
-    record { item = struct r.item; says = r.says; begins = record { value = r.begins.value; parts = is ∙ ap (λ (k : ℕ). k ∷ rest) same ∙ ap (λ (x : List ℕ). 2 ∷ x) r.begins.parts } }
+struct_found version bytes rest after tag level row fixed is same r =
+    record { item = struct r.item; says = r.says; fixed_is = r.fixed_is; begins = record { value = r.begins.value; parts = is ∙ ap (λ (k : ℕ). k ∷ rest) same ∙ ap (λ (x : List ℕ). 2 ∷ x) r.begins.parts } }
 
-pub list_found : (version : Version) (bytes rest after : List ℕ) (tag : ℕ) (level : Level) (row : Row) → bytes ≡ tag ∷ rest → tag ≡ 3 → Reads list (AreWideLengths version) (lengths_bytes version) level row rest after → Reads (λ parts. parts) (IsStateParts version) (parts_bytes version) level row bytes after
+pub list_found : (version : Version) (bytes rest after : List ℕ) (tag : ℕ) (level : Level) (row : Row) (fixed : ℕ) → bytes ≡ tag ∷ rest → tag ≡ 3 → Reads list (AreWideLengths version) (lengths_bytes version) level row fixed rest after → Reads (λ parts. parts) (IsStateParts version) (parts_bytes version) level row fixed bytes after
 unfolding parts_bytes
-list_found version bytes rest after tag level row is same r =
-    record { item = list r.item; says = r.says; begins = record { value = r.begins.value; parts = is ∙ ap (λ (k : ℕ). k ∷ rest) same ∙ ap (λ (x : List ℕ). 3 ∷ x) r.begins.parts } }
+list_found version bytes rest after tag level row fixed is same r =
+    record { item = list r.item; says = r.says; fixed_is = r.fixed_is; begins = record { value = r.begins.value; parts = is ∙ ap (λ (k : ℕ). k ∷ rest) same ∙ ap (λ (x : List ℕ). 3 ∷ x) r.begins.parts } }
 
-pub nothing_found : (version : Version) (bytes rest after : List ℕ) (tag : ℕ) (level : Level) (row : Row) → bytes ≡ tag ∷ rest → tag ≡ 4 → Reads (λ parts. nothing parts.0 parts.1) (AreLeftOut version) (left_out_bytes version) level row rest after
-    → Reads (λ parts. parts) (IsStateParts version) (parts_bytes version) level row bytes after
+pub nothing_found : (version : Version) (bytes rest after : List ℕ) (tag : ℕ) (level : Level) (row : Row) (fixed : ℕ) → bytes ≡ tag ∷ rest → tag ≡ 4 → Reads (λ parts. nothing parts.0 parts.1) (AreLeftOut version) (left_out_bytes version) level row fixed rest after
+    → Reads (λ parts. parts) (IsStateParts version) (parts_bytes version) level row fixed bytes after
 unfolding parts_bytes
-nothing_found version bytes rest after tag level row is same r =
-    record { item = nothing r.item.0 r.item.1; says = r.says; begins = record { value = r.begins.value; parts = is ∙ ap (λ (k : ℕ). k ∷ rest) same ∙ ap (λ (x : List ℕ). 4 ∷ x) r.begins.parts } }
+nothing_found version bytes rest after tag level row fixed is same r =
+    record { item = nothing r.item.0 r.item.1; says = r.says; fixed_is = r.fixed_is; begins = record { value = r.begins.value; parts = is ∙ ap (λ (k : ℕ). k ∷ rest) same ∙ ap (λ (x : List ℕ). 4 ∷ x) r.begins.parts } }
 
 -- what a row of these parts says is these parts
-pub parts_said : (version : Version) (level : Level) (parts : Parts) → IsStateParts version parts → parts_of (row_of level parts) ≡ parts
+pub parts_said : (version : Version) (level : Level) (parts : Parts) → IsStateParts version parts → parts_of (row_of level parts) (fixed_by parts) ≡ parts
 parts_said version level free h = refl
-parts_said version level (scalar v u) h = ap (λ (b : Bool). parts_by false false b (row_of level (scalar v u))) h.some
+parts_said version level (scalar v u) h = ap (λ (b : Bool). parts_by false false b (row_of level (scalar v u)) 0) h.some
 parts_said version level (struct l) h = refl
 parts_said version level (list n) h = refl
 parts_said version level (nothing l n) h = refl

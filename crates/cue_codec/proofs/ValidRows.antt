@@ -1,5 +1,5 @@
 -- The rows of valid tables are rows that their bytes tell.
-use Rattle.std.proofs.Common.{◌≡◌, ◌↔◌, ℕ, ◌^◌, ◌<◌, ◌≤◌, ℤ, Bool, true, false, not, ◌&&◌, ◌||◌, List, [], ◌∷◌, ◌++◌, length, map, Option, Some, None, refl, sym, ap, subst, ◌∙◌, arith}
+use Rattle.std.proofs.Common.{◌≡◌, ◌↔◌, ◌⊎◌, ⊎_elim, ℕ, zero, suc, ◌^◌, ◌<◌, ◌≤◌, ℤ, Bool, true, false, not, ◌&&◌, ◌||◌, List, [], ◌∷◌, ◌++◌, length, map, Option, Some, None, refl, sym, ap, subst, ◌∙◌, arith}
 use Rattle.std.specs.Int.{w64, to_be_bytes}
 use Rattle.std.specs.List.{flat_map, AllByRecursion}
 use Rattle.std.proofs.lemmas.Bool.{false≢true}
@@ -8,7 +8,7 @@ use Rattle.std.proofs.lemmas.List.{length-append}
 use Rattle.std.proofs.lemmas.List.Concat.{flat_map-cons}
 use Rattle.cue_lattice.specs.Bools.{is_nil}
 use Rattle.cue_lattice.specs.Limits.{step_limit}
-use Rattle.cue_lattice.specs.Path.{Step, label, index, Path}
+use Rattle.cue_lattice.specs.Path.{label, index}
 use Rattle.cue_lattice.specs.declared.scalar.Scalar.{Scalar}
 use Rattle.cue_lattice.specs.declared.scalar.Scalar.TheVariants as scalars
 use Rattle.cue_sets.specs.Pieces as pieces
@@ -24,22 +24,29 @@ use Rattle.cue_row.specs.Levels.{level_of}
 use Rattle.cue_row.specs.LabelSets.{AreLabels}
 use Rattle.cue_row.specs.Row.{Refuses, IsRow}
 use Rattle.cue_row.specs.Kinds.{IsEmptySet, IsFullSet, IsKind}
-use Rattle.cue_row.specs.ValidRow.{UsualFits, LabelsFit, LengthsFit, AreLengths, AreWords, AreLabelWords, HasWords, IsValidRow}
-use Rattle.cue_table.specs.Tree.{Tree, node, Children, none, child, row_of, row_at, behind, rows_of, rows_below}
-use Rattle.cue_table.specs.Form.{IsKept}
+use Rattle.cue_row.specs.ValidRow.{IsWordStep, UsualFits, LabelsFit, LengthsFit, AreLengths, AreWords, AreLabelWords, HasWords, IsValidRow}
+use Rattle.cue_table.specs.Tree.{Tree, node, Children, none, child, Rest, no_rest, onward, row_of, behind_last, fixed_with, fixed_of}
+use Rattle.cue_table.specs.Slots.{rows_of}
+use Rattle.cue_table.specs.Form.{AreWithin, IsTree, AreBranches, IsRestOf, IsKept}
+use Rattle.cue_table.specs.Depth.{tree_depth, children_depth, rest_depth}
 use Rattle.cue_table.specs.Valid.{IsValidTable}
-use Rattle.cue_table.specs.Inner.ValidWalk.{IsSound, AreSound, HasChild}
-use Rattle.cue_table.proofs.Depth.{kept_at}
-use Rattle.cue_table.proofs.RowLists.{all_append, all_map, all_weaker, all_both, rows_stand}
-use Rattle.cue_table.proofs.Validity.{valid_sound, valid_empty}
+use Rattle.cue_table.specs.Inner.ValidWalk.{IsSound, AreSound, IsRestSound, HasChild, HasElement}
+use Rattle.cue_table.proofs.Exact.{within_last}
+use Rattle.cue_table.proofs.ValidWalks.{valid_empty}
 use Rattle.cue_codec.specs.declared.version.Version.{Version}
 use Rattle.cue_codec.specs.declared.version.Version.TheVariants as versions
-use Rattle.cue_codec.specs.Parts.{counted_bytes, piece_bytes, text_bytes, text_set_bytes, set_bytes, labels_bytes, lengths_bytes, path_bytes}
-use Rattle.cue_codec.specs.Reading.{AreWideLengths}
+use Rattle.cue_codec.specs.Entry.{StateStep, at, to_rest, Entry, behind, fixed_in, entries_of, entries_below, entries_onward, IsToldStep, IsToldIn}
+use Rattle.cue_codec.specs.Known.{rows_with}
+use Rattle.cue_codec.specs.Parts.{Lengths, counted_bytes, piece_bytes, text_bytes, text_set_bytes, set_bytes, labels_bytes, lengths_bytes, path_bytes}
+use Rattle.cue_codec.specs.Reading.{IsIndex, AreWideLengths}
 use Rattle.cue_codec.specs.StateRow.{AreStateTexts, IsStateSet, AreStateLabels, IsStateStep, IsStatePath}
-use Rattle.cue_codec.specs.RowBytes.{Parts, free, scalar, struct, list, nothing, scalars_bytes, left_out_bytes, parts_bytes, is_empty_set, parts_by, parts_of, row_bytes, empty_set, full_set, row_of as made_row, IsStateParts, IsStateRow}
+use Rattle.cue_codec.specs.RowBytes.{Parts, free, scalar, struct, list, nothing, scalars_bytes, left_out_bytes, parts_bytes, is_empty_set, parts_by, parts_of, fixed_by, row_bytes, empty_set, full_set, row_of as made_row, IsStateParts, IsStateRow}
 use Rattle.cue_codec.specs.KindBytes.{kind_bytes, AreBytesOfKinds}
+use Rattle.cue_codec.proofs.EachItem.{all_append, all_map, all_weaker, all_both}
 use Rattle.cue_codec.proofs.Numbers.{length-piece_bytes, text_some}
+use Rattle.cue_codec.proofs.ValidPlaces.{IsToldRow, rows_are}
+use Rattle.cue_codec.proofs.WrittenRows.{sound_fixed}
+use Rattle.cue_codec.proofs.WrittenStates.{valid_deep, valid_sound}
 
 -- ---- sets without and with all members
 
@@ -141,9 +148,9 @@ unfolding labels_bytes
 state_labels None h words fits = tt
 state_labels (Some labels) h words fits = state_texts labels h words (omega (arith, fits))
 
-wide_lengths : (version : Version) (least : ℕ) (most : Option ℕ) → AreLengths least most → AreWideLengths version (least, most)
-wide_lengths versions.First least None h = (omega (arith, h), tt)
-wide_lengths versions.First least (Some most) h = let a = h.0 in let b = h.1 in (omega arith, omega arith)
+wide_lengths : (version : Version) (least : ℕ) (most : Option ℕ) (fixed : ℕ) → AreLengths least most → IsIndex version fixed → AreWideLengths version (least, most, fixed)
+wide_lengths version least None fixed h i = (omega (arith, h), tt, i)
+wide_lengths version least (Some most) fixed h i = let a = h.0 in let b = h.1 in (omega arith, omega arith, i)
 
 -- ---- the kinds
 
@@ -154,47 +161,47 @@ row_is :
 row_is row value usual struct_ok list_ok labels least most v u s l n a m =
     λ i. record { level = row.level; value = v i; usual = u i; struct_ok = s i; list_ok = l i; labels = n i; least = a i; most = m i }
 
--- the row says just these parts, and its bytes tell them
-abbrev IsTold : (version : Version) → Row → Parts → Type 0
-IsTold version row parts = IsStateParts version parts × (row ≡ made_row row.level parts)
+-- the row and the index say just these parts, and their bytes tell them
+abbrev IsTold : (version : Version) → Row → ℕ → Parts → Type 0
+IsTold version row fixed parts = IsStateParts version parts × (row ≡ made_row row.level parts) × (fixed ≡ fixed_by parts)
 
-told_as : (version : Version) (row : Row) (parts : Parts) → parts_of row ≡ parts → (length (parts_bytes version parts) < 2 ^ 64 → IsTold version row parts) → length (parts_bytes version (parts_of row)) < 2 ^ 64 → IsTold version row (parts_of row)
-told_as version row parts e h fits = subst (IsTold version row) (sym e) (h (subst (λ p. length (parts_bytes version p) < 2 ^ 64) e fits))
+told_as : (version : Version) (row : Row) (fixed : ℕ) (parts : Parts) → parts_of row fixed ≡ parts → (length (parts_bytes version parts) < 2 ^ 64 → IsTold version row fixed parts) → length (parts_bytes version (parts_of row fixed)) < 2 ^ 64 → IsTold version row fixed (parts_of row fixed)
+told_as version row fixed parts e h fits = subst (IsTold version row fixed) (sym e) (h (subst (λ p. length (parts_bytes version p) < 2 ^ 64) e fits))
 
-parts_are : (row : Row) (s l b : Bool) → row.struct_ok ≡ s → row.list_ok ≡ l → is_empty_set row.value ≡ b → parts_of row ≡ parts_by s l b row
-parts_are row s l b es el eb = λ i. parts_by (es i) (el i) (eb i) row
+parts_are : (row : Row) (fixed : ℕ) (s l b : Bool) → row.struct_ok ≡ s → row.list_ok ≡ l → is_empty_set row.value ≡ b → parts_of row fixed ≡ parts_by s l b row fixed
+parts_are row fixed s l b es el eb = λ i. parts_by (es i) (el i) (eb i) row fixed
 
 -- what a row of a kind says
-abbrev said : RowKind → Row → Parts
-said kinds.Free row = free
-said kinds.Scalar row = scalar row.value row.usual
-said kinds.Struct row = struct row.labels
-said kinds.List row = list (row.least, row.most)
-said kinds.Nothing row = nothing row.labels (row.least, row.most)
+abbrev said : RowKind → Row → ℕ → Parts
+said kinds.Free row fixed = free
+said kinds.Scalar row fixed = scalar row.value row.usual
+said kinds.Struct row fixed = struct row.labels
+said kinds.List row fixed = list (row.least, row.most, fixed)
+said kinds.Nothing row fixed = nothing row.labels (row.least, row.most, fixed)
 
-kind_parts : (row : Row) (kind : RowKind) → IsRow row → IsKind row kind → parts_of row ≡ said kind row
-kind_parts row kinds.Free form is = parts_are row true true (is_empty_set row.value) is.1 is.2 refl
-kind_parts row kinds.Scalar form is = parts_are row false false false is.1 is.2 (some_by_test row.value is.0)
-kind_parts row kinds.Struct form is = parts_are row true false (is_empty_set row.value) is.1 is.2 refl
-kind_parts row kinds.List form is = parts_are row false true (is_empty_set row.value) is.1 is.2 refl
-kind_parts row kinds.Nothing form is = parts_are row false false true is.1 is.2 (ap is_empty_set (empty_is row.value form.value is.0))
+kind_parts : (row : Row) (fixed : ℕ) (kind : RowKind) → IsRow row → IsKind row kind → parts_of row fixed ≡ said kind row fixed
+kind_parts row fixed kinds.Free form is = parts_are row fixed true true (is_empty_set row.value) is.1 is.2 refl
+kind_parts row fixed kinds.Scalar form is = parts_are row fixed false false false is.1 is.2 (some_by_test row.value is.0)
+kind_parts row fixed kinds.Struct form is = parts_are row fixed true false (is_empty_set row.value) is.1 is.2 refl
+kind_parts row fixed kinds.List form is = parts_are row fixed false true (is_empty_set row.value) is.1 is.2 refl
+kind_parts row fixed kinds.Nothing form is = parts_are row fixed false false true is.1 is.2 (ap is_empty_set (empty_is row.value form.value is.0))
 
-said_bytes : (version : Version) (kind : RowKind) (row : Row) → parts_bytes version (said kind row) ≡ kind_bytes version kind row
+said_bytes : (version : Version) (kind : RowKind) (row : Row) (fixed : ℕ) → parts_bytes version (said kind row fixed) ≡ kind_bytes version kind row fixed
 unfolding parts_bytes scalars_bytes left_out_bytes
-said_bytes version kinds.Free row = refl
-said_bytes version kinds.Scalar row = refl
-said_bytes version kinds.Struct row = refl
-said_bytes version kinds.List row = refl
-said_bytes version kinds.Nothing row = refl
+said_bytes version kinds.Free row fixed = refl
+said_bytes version kinds.Scalar row fixed = refl
+said_bytes version kinds.Struct row fixed = refl
+said_bytes version kinds.List row fixed = refl
+said_bytes version kinds.Nothing row fixed = refl
 
 -- a row of a kind has the bytes of its kind
 pub bytes_of_kinds : AreBytesOfKinds
 unfolding row_bytes
-bytes_of_kinds version path row kind form is =
-    ap (λ (b : List ℕ). path_bytes version path ++ (level_of row.level ∷ b)) (ap (λ (p : Parts). parts_bytes version p) (kind_parts row kind form is) ∙ said_bytes version kind row)
+bytes_of_kinds version entry kind form is =
+    ap (λ (b : List ℕ). path_bytes version entry.path ++ (level_of entry.row.level ∷ b)) (ap (λ (p : Parts). parts_bytes version p) (kind_parts entry.row entry.fixed kind form is) ∙ said_bytes version kind entry.row entry.fixed)
 
 -- what is known of a valid row
-record Facts (row : Row) (kind : RowKind) : Type 0 where
+record Facts (version : Version) (row : Row) (fixed : ℕ) (kind : RowKind) : Type 0 where
   form : IsRow row
   is_kind : IsKind row kind
   usual : UsualFits row kind
@@ -202,6 +209,8 @@ record Facts (row : Row) (kind : RowKind) : Type 0 where
   lengths : LengthsFit row kind
   limits : AreLengths row.least row.most
   words : HasWords row
+  index : IsIndex version fixed
+  elements : fixed ≡ fixed_by (said kind row fixed)
 
 scalars_fit : (version : Version) (value usual : ScalarSet) → length (parts_bytes version (scalar value usual)) < 2 ^ 64 → (length (set_bytes value) < 2 ^ 64) × (length (set_bytes usual) < 2 ^ 64)
 unfolding parts_bytes scalars_bytes
@@ -211,101 +220,226 @@ struct_fits : (version : Version) (labels : Option (List (List ℕ))) → length
 unfolding parts_bytes
 struct_fits version labels fits = omega (arith, fits)
 
-nothing_fits : (version : Version) (labels : Option (List (List ℕ))) (lengths : ℕ × Option ℕ) → length (parts_bytes version (nothing labels lengths)) < 2 ^ 64 → length (labels_bytes labels) < 2 ^ 64
+nothing_fits : (version : Version) (labels : Option (List (List ℕ))) (lengths : Lengths) → length (parts_bytes version (nothing labels lengths)) < 2 ^ 64 → length (labels_bytes labels) < 2 ^ 64
 unfolding parts_bytes left_out_bytes
 nothing_fits version labels lengths fits = omega (arith, fits, length-append (labels_bytes labels) (lengths_bytes version lengths))
 
-told : (version : Version) (row : Row) (kind : RowKind) → Facts row kind → length (parts_bytes version (parts_of row)) < 2 ^ 64 → IsTold version row (parts_of row)
-told version row kinds.Free f =
+told : (version : Version) (row : Row) (fixed : ℕ) (kind : RowKind) → Facts version row fixed kind → length (parts_bytes version (parts_of row fixed)) < 2 ^ 64 → IsTold version row fixed (parts_of row fixed)
+told version row fixed kinds.Free f =
     let value = full_is row.value f.form.value f.is_kind.0 in
     let usual = full_is row.usual f.form.usual f.usual in
-    told_as version row free (parts_are row true true (is_empty_set row.value) f.is_kind.1 f.is_kind.2 refl)
-    (λ fits. (tt, row_is row full_set full_set true true None 0 None value usual f.is_kind.1 f.is_kind.2 f.labels f.lengths.0 f.lengths.1))
-told version row kinds.Scalar f =
+    told_as version row fixed free (parts_are row fixed true true (is_empty_set row.value) f.is_kind.1 f.is_kind.2 refl)
+    (λ fits. (tt, row_is row full_set full_set true true None 0 None value usual f.is_kind.1 f.is_kind.2 f.labels f.lengths.0 f.lengths.1, f.elements))
+told version row fixed kinds.Scalar f =
     let some = some_by_test row.value f.is_kind.0 in
-    told_as version row (scalar row.value row.usual) (parts_are row false false false f.is_kind.1 f.is_kind.2 some)
+    told_as version row fixed (scalar row.value row.usual) (parts_are row fixed false false false f.is_kind.1 f.is_kind.2 some)
     (λ fits.
     let parts = scalars_fit version row.value row.usual fits in (
       record { some = some; value = state_set row.value f.form.value f.words.value parts.0; usual = state_set row.usual f.form.usual f.words.usual parts.1 },
       row_is row row.value row.usual false false None 0 None refl refl f.is_kind.1 f.is_kind.2 f.labels f.lengths.0 f.lengths.1,
+      f.elements,
     ))
-told version row kinds.Struct f =
+told version row fixed kinds.Struct f =
     let value = empty_is row.value f.form.value f.is_kind.0 in
     let usual = empty_is row.usual f.form.usual f.usual in
-    told_as version row (struct row.labels) (parts_are row true false (is_empty_set row.value) f.is_kind.1 f.is_kind.2 refl)
-    (λ fits. (state_labels row.labels f.form.labels f.words.labels (struct_fits version row.labels fits), row_is row empty_set empty_set true false row.labels 0 None value usual f.is_kind.1 f.is_kind.2 refl f.lengths.0 f.lengths.1))
-told version row kinds.List f =
+    told_as version row fixed (struct row.labels) (parts_are row fixed true false (is_empty_set row.value) f.is_kind.1 f.is_kind.2 refl)
+    (λ fits. (state_labels row.labels f.form.labels f.words.labels (struct_fits version row.labels fits), row_is row empty_set empty_set true false row.labels 0 None value usual f.is_kind.1 f.is_kind.2 refl f.lengths.0 f.lengths.1, f.elements))
+told version row fixed kinds.List f =
     let value = empty_is row.value f.form.value f.is_kind.0 in
     let usual = empty_is row.usual f.form.usual f.usual in
-    told_as version row (list (row.least, row.most)) (parts_are row false true (is_empty_set row.value) f.is_kind.1 f.is_kind.2 refl)
-    (λ fits. (wide_lengths version row.least row.most f.limits, row_is row empty_set empty_set false true None row.least row.most value usual f.is_kind.1 f.is_kind.2 f.labels refl refl))
-told version row kinds.Nothing f =
+    told_as version row fixed (list (row.least, row.most, fixed)) (parts_are row fixed false true (is_empty_set row.value) f.is_kind.1 f.is_kind.2 refl)
+    (λ fits. (wide_lengths version row.least row.most fixed f.limits f.index, row_is row empty_set empty_set false true None row.least row.most value usual f.is_kind.1 f.is_kind.2 f.labels refl refl, f.elements))
+told version row fixed kinds.Nothing f =
     let value = empty_is row.value f.form.value f.is_kind.0 in
     let usual = empty_is row.usual f.form.usual f.usual in
-    told_as version row (nothing row.labels (row.least, row.most)) (parts_are row false false true f.is_kind.1 f.is_kind.2 (ap is_empty_set value))
+    told_as version row fixed (nothing row.labels (row.least, row.most, fixed)) (parts_are row fixed false false true f.is_kind.1 f.is_kind.2 (ap is_empty_set value))
     (λ fits. (
-      (state_labels row.labels f.form.labels f.words.labels (nothing_fits version row.labels (row.least, row.most) fits), wide_lengths version row.least row.most f.limits),
+      (state_labels row.labels f.form.labels f.words.labels (nothing_fits version row.labels (row.least, row.most, fixed) fits), wide_lengths version row.least row.most fixed f.limits f.index),
       row_is row empty_set empty_set false false row.labels row.least row.most value usual f.is_kind.1 f.is_kind.2 refl refl refl,
+      f.elements,
     ))
 
-parts_fit : (version : Version) (row : Path × Row) → length (row_bytes version row) < 2 ^ 64 → length (parts_bytes version (parts_of row.1)) < 2 ^ 64
+parts_fit : (version : Version) (row : Entry) → length (row_bytes version row) < 2 ^ 64 → length (parts_bytes version (parts_of row.row row.fixed)) < 2 ^ 64
 unfolding row_bytes
-parts_fit version row fits = omega (arith, fits, length-append (path_bytes version row.0) (level_of row.1.level ∷ parts_bytes version (parts_of row.1)))
+parts_fit version row fits = omega (arith, fits, length-append (path_bytes version row.path) (level_of row.row.level ∷ parts_bytes version (parts_of row.row row.fixed)))
+
+-- A row of a valid table: valid, in form, on a path that bytes tell. Its index is of 32 bits, and 0
+-- where it has no elements.
+record IsPlaced (version : Version) (row : Entry) : Type 0 where
+  steps : AllByRecursion (IsStateStep versions.Second) row.path
+  form : IsRow row.row
+  valid : IsValidRow row.row
+  index : IsIndex version row.fixed
+  elements : row.fixed ≡ fixed_by (said valid.kind row.row row.fixed)
 
 -- a valid row in form is told by its bytes
-state_row : (version : Version) (row : Path × Row) → IsRow row.1 → IsValidRow row.1 → IsStatePath version row.0 → length (row_bytes version row) < 2 ^ 64 → IsStateRow version row
-state_row version row form valid path fits =
-    let all = told version row.1 valid.kind (record { form = form; is_kind = valid.is_kind; usual = valid.usual; labels = valid.labels; lengths = valid.row_lengths; limits = valid.limits; words = valid.texts }) (parts_fit version row fits) in
-    record { path = path; parts = all.0; says = all.1 }
+state_row : (version : Version) (row : Entry) → IsPlaced version row → IsStatePath version row.path → length (row_bytes version row) < 2 ^ 64 → IsStateRow version row
+state_row version row h path fits =
+    let valid = h.valid in
+    let all = told version row.row row.fixed valid.kind (record { form = h.form; is_kind = valid.is_kind; usual = valid.usual; labels = valid.labels; lengths = valid.row_lengths; limits = valid.limits; words = valid.texts; index = h.index; elements = h.elements }) (parts_fit version row fits) in
+    record { path = path; parts = all.0; says = all.1; fixed = all.2 }
+
+-- ---- elements
+
+-- a row that is neither a list nor nothing
+abbrev HoldsNone : Row → Type 0
+HoldsNone row = (IsKind row kinds.List ⊎ IsKind row kinds.Nothing) → ⊥
+
+no_own : (parent : Row) (children : Children Row) → HoldsNone parent → AreSound parent children → behind_last children ≡ 0
+no_own parent none bar h = refl
+no_own parent (child (label text) tree children) bar h = no_own parent children bar h.2
+no_own parent (child (index n) tree children) bar h = absurd (bar (held parent n (row_of tree) h.0))
+  where
+    held : (r : Row) (i : ℕ) (row : Option Row) → HasChild r (index i) row → IsKind r kinds.List ⊎ IsKind r kinds.Nothing
+    held r i None k = absurd k
+    held r i (Some row) k = k.holds
+
+no_elements : (parent : Row) (children : Children Row) (rest : Rest Row) → HoldsNone parent → AreSound parent children → IsRestSound parent rest → fixed_with rest children ≡ 0
+no_elements parent children no_rest bar h k = no_own parent children bar h
+no_elements parent children (onward n tree) bar h k = absurd (bar (held parent (row_of tree) k.0))
+  where
+    held : (r : Row) (row : Option Row) → HasElement r row → IsKind r kinds.List ⊎ IsKind r kinds.Nothing
+    held r None k = absurd k
+    held r (Some row) k = k.holds
+
+same_bools : (b : Bool) → b ≡ true → b ≡ false → ⊥
+same_bools b e f = false≢true (sym f ∙ e)
+
+elements_in : (row : Row) (kind : RowKind) (children : Children Row) (rest : Rest Row) → IsKind row kind → AreSound row children → IsRestSound row rest → fixed_with rest children ≡ fixed_by (said kind row (fixed_with rest children))
+elements_in row kinds.Free children rest is h k = no_elements row children rest (λ some. ⊎_elim (λ l. same_bools row.struct_ok is.1 l.1) (λ n. same_bools row.struct_ok is.1 n.1) some) h k
+elements_in row kinds.Scalar children rest is h k = no_elements row children rest (λ some. ⊎_elim (λ l. same_bools row.list_ok l.2 is.2) (λ n. is.0 n.0) some) h k
+elements_in row kinds.Struct children rest is h k = no_elements row children rest (λ some. ⊎_elim (λ l. same_bools row.struct_ok is.1 l.1) (λ n. same_bools row.struct_ok is.1 n.1) some) h k
+elements_in row kinds.List children rest is h k = refl
+elements_in row kinds.Nothing children rest is h k = refl
+
+told_elements : (version : Version) (row : Row) (kind : RowKind) (children : Children Row) (rest : Rest Row) → IsKind row kind → AreSound row children → IsRestSound row rest
+    → fixed_in version (node (Some row) children rest) ≡ fixed_by (said kind row (fixed_in version (node (Some row) children rest)))
+told_elements versions.Second row kind children rest is h k = elements_in row kind children rest is h k
+told_elements versions.First row kinds.Free children rest is h k = refl
+told_elements versions.First row kinds.Scalar children rest is h k = refl
+told_elements versions.First row kinds.Struct children rest is h k = refl
+told_elements versions.First row kinds.List children rest is h k = refl
+told_elements versions.First row kinds.Nothing children rest is h k = refl
+
+told_index : (version : Version) (tree : Tree Row) → fixed_of tree < 2 ^ 32 → IsIndex version (fixed_in version tree)
+told_index versions.First tree h = refl
+told_index versions.Second tree h = h
 
 -- ---- the rows of a table
 
-below_limit : (least n : ℕ) (most : Option ℕ) → AreLengths least most → n < least → n < 2 ^ 32
-below_limit least n None h lt = omega (arith, h, lt)
-below_limit least n (Some most) h lt = let a = h.0 in omega (arith, a, lt)
+-- the elements of their own stand before the index from which on they are alike
+own_within : (P : Row → Type 0) (children : Children Row) (rest : Rest Row) → IsRestOf P children rest → AreWithin (fixed_with rest children) children
+own_within P children no_rest h = within_last (behind_last children) children (omega arith)
+own_within P children (onward n tree) h = h.0
 
-state_step : (version : Version) (parent : Row) (step : Step) (row : Option Row) → IsValidRow parent → HasChild parent step row → IsStateStep version step
-state_step version parent step None valid h = absurd h
-state_step version parent (label text) (Some row) valid h = h.word
-state_step version parent (index n) (Some row) valid h = below_limit parent.least n parent.most valid.limits h.element
+abbrev AllKept : Row → Type 0
+AllKept = IsKept Refuses IsRow
 
--- a valid row on a path that bytes tell
-abbrev IsPlaced : (version : Version) → Path × Row → Type 0
-IsPlaced version row = AllByRecursion (IsStateStep version) row.0 × IsValidRow row.1
+step_behind : (version : Version) (step : StateStep) (rows : List Entry) → IsStateStep versions.Second step → AllByRecursion (IsPlaced version) rows → AllByRecursion (IsPlaced version) (map (behind step) rows)
+step_behind version step rows here h =
+    all_map (behind step) (IsPlaced version) rows
+    (all_weaker (IsPlaced version) (λ row. IsPlaced version (behind step row)) rows (λ row p. record { steps = (here, p.steps); form = p.form; valid = p.valid; index = p.index; elements = p.elements }) h)
 
 mutual
-  placed : (version : Version) (tree : Tree Row) → IsSound tree → AllByRecursion (IsPlaced version) (rows_of tree)
-  placed version (node None children) h = absurd h
-  placed version (node (Some row) children) h = ((tt, h.0), placed_below version row children h.0 h.1)
+  placed : (version : Version) (tree : Tree Row) → IsTree AllKept tree → IsSound tree → AllByRecursion (IsPlaced version) (entries_of version tree)
+  placed version (node None children rest) form h = absurd h
+  placed version (node (Some row) children rest) form h =
+      let few = sound_fixed (node (Some row) children rest) row refl h in (
+        record {
+          steps = tt;
+          form = form.0.0;
+          valid = h.0;
+          index = told_index version (node (Some row) children rest) few;
+          elements = told_elements version row h.0.kind children rest h.0.is_kind h.2 h.3;
+        },
+        all_append (IsPlaced version) (entries_below version children) (entries_onward version rest)
+            (placed_below version (fixed_with rest children) row children few form.1 (own_within AllKept children rest form.2) h.2)
+            (placed_onward version row children rest form.2 h.3),
+      )
 
-  placed_below : (version : Version) (parent : Row) (children : Children Row) → IsValidRow parent → AreSound parent children → AllByRecursion (IsPlaced version) (rows_below children)
-  placed_below version parent none valid h = tt
-  placed_below version parent (child step tree children) valid h =
-      let here = state_step version parent step (row_of tree) valid h.0 in
-      all_append (IsPlaced version) (map (behind step) (rows_of tree)) (rows_below children)
-      (all_map (behind step) (IsPlaced version) (rows_of tree) (all_weaker (IsPlaced version) (λ row. IsPlaced version (behind step row)) (rows_of tree) (λ row p. ((here, p.0), p.1)) (placed version tree h.1)))
-      (placed_below version parent children valid h.2)
+  placed_below : (version : Version) (limit : ℕ) (parent : Row) (children : Children Row) → limit < 2 ^ 32 → AreBranches AllKept children → AreWithin limit children → AreSound parent children → AllByRecursion (IsPlaced version) (entries_below version children)
+  placed_below version limit parent none few form within h = tt
+  placed_below version limit parent (child (label text) tree children) few form within h =
+      all_append (IsPlaced version) (map (behind (at (label text))) (entries_of version tree)) (entries_below version children)
+      (step_behind version (at (label text)) (entries_of version tree) (word_of parent (row_of tree) h.0) (placed version tree form.2 h.1))
+      (placed_below version limit parent children few form.3 within h.2)
+    where
+      word_of : (r : Row) (row : Option Row) → HasChild r (label text) row → IsWordStep (label text)
+      word_of r None k = absurd k
+      word_of r (Some row) k = k.word
+  placed_below version limit parent (child (index n) tree children) few form within h =
+      let least = within.0 in
+      all_append (IsPlaced version) (map (behind (at (index n))) (entries_of version tree)) (entries_below version children)
+      (step_behind version (at (index n)) (entries_of version tree) (omega (arith, least, few)) (placed version tree form.2 h.1))
+      (placed_below version limit parent children few form.3 within.1 h.2)
 
-placed_valid : (version : Version) (tree : Tree Row) → IsValidTable tree → AllByRecursion (IsPlaced version) (rows_of tree)
+  placed_onward : (version : Version) (parent : Row) (children : Children Row) (rest : Rest Row) → IsRestOf AllKept children rest → IsRestSound parent rest → AllByRecursion (IsPlaced version) (entries_onward version rest)
+  placed_onward version parent children no_rest form h = tt
+  placed_onward version parent children (onward n tree) form h = step_behind version to_rest (entries_of version tree) tt (placed version tree form.3 h.1)
+
+short_behind : (n : ℕ) (step : StateStep) (entries : List Entry) → AllByRecursion (λ entry. length entry.path ≤ n) entries → AllByRecursion (λ entry. length entry.path ≤ suc n) (map (behind step) entries)
+short_behind n step [] h = tt
+short_behind n step (entry ∷ entries) h = (let few = h.0 in omega (arith, few), short_behind n step entries h.1)
+
+mutual
+  -- no row stands deeper than the tree is deep
+  short_paths : (version : Version) (n : ℕ) (tree : Tree Row) → tree_depth tree ≤ n → AllByRecursion (λ entry. length entry.path ≤ n) (entries_of version tree)
+  short_paths version n (node None children rest) h =
+      all_append (λ entry. length entry.path ≤ n) (entries_below version children) (entries_onward version rest) (short_below version n children (omega (arith, h))) (short_onward version n rest (omega (arith, h)))
+  short_paths version n (node (Some row) children rest) h = (
+    omega arith,
+    all_append (λ entry. length entry.path ≤ n) (entries_below version children) (entries_onward version rest) (short_below version n children (omega (arith, h))) (short_onward version n rest (omega (arith, h))),
+  )
+
+  short_below : (version : Version) (n : ℕ) (children : Children Row) → children_depth children ≤ n → AllByRecursion (λ entry. length entry.path ≤ n) (entries_below version children)
+  short_below version n none h = tt
+  short_below version zero (child step tree children) h = absurd (omega (arith, h))
+  short_below version (suc n) (child step tree children) h =
+      all_append (λ entry. length entry.path ≤ suc n) (map (behind (at step)) (entries_of version tree)) (entries_below version children)
+      (short_behind n (at step) (entries_of version tree) (short_paths version n tree (omega (arith, h))))
+      (short_below version (suc n) children (omega (arith, h)))
+
+  short_onward : (version : Version) (n : ℕ) (rest : Rest Row) → rest_depth rest ≤ n → AllByRecursion (λ entry. length entry.path ≤ n) (entries_onward version rest)
+  short_onward version n no_rest h = tt
+  short_onward version zero (onward m tree) h = absurd (omega (arith, h))
+  short_onward version (suc n) (onward m tree) h = short_behind n to_rest (entries_of version tree) (short_paths version n tree (omega (arith, h)))
+
+placed_valid : (version : Version) (tree : Tree Row) → IsValidTable tree → AllByRecursion (IsPlaced version) (entries_of version tree)
 placed_valid version tree h = by (row_of tree) refl
   where
-    by : (row : Option Row) → row_of tree ≡ row → AllByRecursion (IsPlaced version) (rows_of tree)
-    by (Some row) e = placed version tree (valid_sound tree row e h)
-    by None e = subst (λ t. AllByRecursion (IsPlaced version) (rows_of t)) (sym (valid_empty tree e h)) tt
+    by : (row : Option Row) → row_of tree ≡ row → AllByRecursion (IsPlaced version) (entries_of version tree)
+    by (Some row) e = placed version tree h.form (valid_sound tree row e h)
+    by None e = subst (λ t. AllByRecursion (IsPlaced version) (entries_of version t)) (sym (valid_empty tree e h)) tt
 
-each_fits : (version : Version) (rows : List (Path × Row)) → length (flat_map (row_bytes version) rows) < 2 ^ 64 → AllByRecursion (λ row. length (row_bytes version row) < 2 ^ 64) rows
+each_fits : (version : Version) (rows : List Entry) → length (flat_map (row_bytes version) rows) < 2 ^ 64 → AllByRecursion (λ row. length (row_bytes version row) < 2 ^ 64) rows
 each_fits version [] fits = tt
 each_fits version (row ∷ rows) fits =
     let split = ap length (flat_map-cons (row_bytes version) row rows) in
     let sum = length-append (row_bytes version row) (flat_map (row_bytes version) rows) in
     (omega (arith, fits, split, sum), each_fits version rows (omega (arith, fits, split, sum)))
 
+-- a step that a version tells is one of its own
+told_step : (version : Version) (step : StateStep) → IsStateStep versions.Second step → IsToldStep version step → IsStateStep version step
+told_step version (at (label text)) h t = h
+told_step version (at (index n)) h t = h
+told_step version to_rest h t = t
+
+told_row : (version : Version) (row : Entry) → IsPlaced version row → IsToldRow version row → length row.path ≤ step_limit → length (row_bytes version row) < 2 ^ 64 → IsStateRow version row
+told_row version row p t few fits =
+    state_row version row p (all_both (IsStateStep versions.Second) (IsToldStep version) (IsStateStep version) row.path (told_step version) p.steps t, few) fits
+
 -- the rows of a valid table are told by their bytes, where these fit into memory
-pub valid_rows : (version : Version) (tree : Tree Row) → IsValidTable tree → length (flat_map (row_bytes version) (rows_of tree)) < 2 ^ 64 → AllByRecursion (IsStateRow version) (rows_of tree)
-valid_rows version tree h fits =
-    let P : Row → Type 0 = IsKept Refuses IsRow in
-    let rows : List (Path × Row) = rows_of tree in
-    let stand = rows_stand P tree h.form in
-    let known = all_weaker (λ (x : Path × Row). row_at tree x.0 ≡ Some x.1) (λ (x : Path × Row). IsRow x.1 × (length x.0 ≤ step_limit)) rows (λ x s. ((kept_at P tree x.0 x.1 h.form s).0, h.paths x.0 x.1 s)) stand in
-    let with_places = all_both (λ (x : Path × Row). IsRow x.1 × (length x.0 ≤ step_limit)) (IsPlaced version) (λ (x : Path × Row). IsRow x.1 × IsValidRow x.1 × IsStatePath version x.0) rows (λ x a b. (a.0, b.1, (b.0, a.1))) known (placed_valid version tree h) in
-    all_both (λ (x : Path × Row). IsRow x.1 × IsValidRow x.1 × IsStatePath version x.0) (λ (x : Path × Row). length (row_bytes version x) < 2 ^ 64) (IsStateRow version) rows (λ x a b. state_row version x a.0 a.1 a.2 b) with_places (each_fits version rows fits)
+pub valid_rows : (version : Version) (tree : Tree Row) → IsValidTable tree → IsToldIn version tree → length (flat_map (row_bytes version) (entries_of version tree)) < 2 ^ 64 → AllByRecursion (IsStateRow version) (entries_of version tree)
+valid_rows version tree h t fits =
+    let rows : List Entry = entries_of version tree in
+    let both = all_both (IsPlaced version) (IsToldRow version) (λ row. IsPlaced version row × IsToldRow version row) rows (λ row p q. (p, q)) (placed_valid version tree h) t in
+    let short = all_both (λ row. length row.path ≤ step_limit) (λ row. length (row_bytes version row) < 2 ^ 64) (λ row. (length row.path ≤ step_limit) × (length (row_bytes version row) < 2 ^ 64)) rows (λ row p q. (p, q)) (short_paths version step_limit tree (valid_deep tree h)) (each_fits version rows fits) in
+    all_both (λ row. IsPlaced version row × IsToldRow version row) (λ row. (length row.path ≤ step_limit) × (length (row_bytes version row) < 2 ^ 64)) (IsStateRow version) rows (λ row p q. told_row version row p.0 p.1 q.0 q.1) both short
+
+-- and they stand at the places that are told, whatever was known before
+pub valid_places : (version : Version) (tree : Tree Row) → IsValidTable tree → IsToldIn version tree → (known : List ℕ) → rows_of tree ≡ rows_with known (entries_of version tree)
+valid_places version tree h t known = by (row_of tree) refl
+  where
+    by : (row : Option Row) → row_of tree ≡ row → rows_of tree ≡ rows_with known (entries_of version tree)
+    by (Some row) e = sym (rows_are version tree (valid_sound tree row e h) t known)
+    by None e = subst (λ tr. rows_of tr ≡ rows_with known (entries_of version tr)) (sym (valid_empty tree e h)) refl

@@ -1,71 +1,57 @@
 -- The bytes of the rows of a branch, written by a walk.
-use Rattle.std.proofs.Common.{◌≡◌, ℕ, ◌+◌, ◌<◌, List, [], ◌∷◌, ◌++◌, append_assoc, length, map, max, Option, Some, None, refl, sym, ap, subst, ◌∙◌, arith}
+use Rattle.std.proofs.Common.{◌≡◌, ℕ, ◌+◌, ◌^◌, ◌<◌, List, [], ◌∷◌, ◌++◌, append_assoc, length, map, Option, Some, None, refl, sym, ap, subst, ◌∙◌, arith}
 use Rattle.std.specs.List.{flat_map, AllByRecursion}
 use Rattle.std.proofs.lemmas.List.{append-nil, length-append, length-map}
 use Rattle.std.proofs.lemmas.List.Concat.{flat_map-append, flat_map-cons}
-use Rattle.cue_lattice.specs.Path.{Step, label, index, Path}
+use Rattle.cue_lattice.specs.Path.{Step, label, index}
 use Rattle.cue_row.specs.declared.row.Row.{Row}
 use Rattle.cue_row.specs.Levels.{level_of}
-use Rattle.cue_row.specs.ValidRow.{IsWord, IsWordStep, AreLabelWords, IsValidRow}
-use Rattle.cue_table.specs.Tree.{Tree, node, Children, none, child, row_of, below, behind, rows_of, rows_below, children_of}
-use Rattle.cue_table.specs.Size.{tree_size, children_size}
-use Rattle.cue_table.specs.Depth.{tree_depth, children_depth}
+use Rattle.cue_row.specs.ValidRow.{IsWord, IsWordStep, AreLabelWords, AreLengths, IsValidRow}
+use Rattle.cue_table.specs.Tree.{Tree, node, Children, row_of, below, rest_of, rest_tree, fixed_of, children_of}
 use Rattle.cue_table.specs.Inner.ValidWalk.{IsSound, AreSound, HasChild}
 use Rattle.cue_table.specs.Walks.{first_child}
+use Rattle.cue_table.proofs.ValidWalks.{sound_parts, rest_sound}
+use Rattle.cue_codec.specs.Entry.{StateStep, at, to_rest, Entry, behind, entries_of, entries_below, entries_onward}
 use Rattle.cue_codec.specs.Parts.{step_bytes}
 use Rattle.cue_codec.specs.Reading.{IsShort, IsShortStep, AreShortLabels}
 use Rattle.cue_codec.specs.RowBytes.{parts_bytes, parts_of, row_bytes_from, IsShortRow}
 use Rattle.cue_codec.specs.Version.{written}
+use Rattle.cue_codec.proofs.Entries.{others_of, own_entry, entries_begin, entries_begin_below, entries_more, entries_end, entries_rest, entries_no_rest}
 
 -- ---- how many rows
 
-module _ {R : Type 0} where
-  pub count_begin : (tree : Tree R) (row : R) → row_of tree ≡ Some row → length (rows_of tree) ≡ 1 + length (rows_below (below tree))
-  count_begin (node None children) row e = cc
-  count_begin (node (Some here) children) row e = omega arith
+pub count_begin : (tree : Tree Row) (row : Row) → row_of tree ≡ Some row → length (entries_of written tree) ≡ 1 + length (others_of written tree)
+count_begin tree row e = omega (arith, ap length (entries_begin written tree row e))
 
-  pub count_below : (tree : Tree R) → row_of tree ≡ None → length (rows_of tree) ≡ length (rows_below (below tree))
-  count_below (node None children) e = refl
-  count_below (node (Some here) children) e = cc
+pub count_below : (tree : Tree Row) → row_of tree ≡ None → length (entries_of written tree) ≡ length (others_of written tree)
+count_below tree e = ap length (entries_begin_below written tree e)
 
-  pub count_more : (step : Step) (tree : Tree R) (rest left : Children R) → children_of rest ≡ (step, tree) ∷ children_of left → length (rows_below rest) ≡ length (rows_of tree) + length (rows_below left)
-  count_more step tree rest left e =
-      ap (λ cs. length (rows_below cs)) (first_child rest left step tree e)
-      ∙ length-append (map (behind step) (rows_of tree)) (rows_below left)
-      ∙ ap (λ n. n + length (rows_below left)) (length-map (rows_of tree) (behind step))
+pub count_more :
+    (step : Step) (tree : Tree Row) (rest left : Children Row) (more : List Entry) → children_of rest ≡ (step, tree) ∷ children_of left
+    → length (entries_below written rest ++ more) ≡ length (entries_of written tree) + length (entries_below written left ++ more)
+count_more step tree rest left more e =
+    ap length (entries_more written step tree rest left more e)
+    ∙ length-append (map (behind (at step)) (entries_of written tree)) (entries_below written left ++ more)
+    ∙ ap (λ n. n + length (entries_below written left ++ more)) (length-map (entries_of written tree) (behind (at step)))
 
-  pub count_end : (rest : Children R) → children_of rest ≡ [] → length (rows_below rest) ≡ 0
-  count_end none e = refl
-  count_end (child step tree rest) e = cc
-
-  -- what is left is no larger and no deeper
-  pub left_size : (step : Step) (tree : Tree R) (rest left : Children R) → children_of rest ≡ (step, tree) ∷ children_of left → tree_size tree + children_size left ≡ children_size rest
-  left_size step tree rest left e = sym (ap children_size (first_child rest left step tree e))
-
-  pub left_depth : (step : Step) (tree : Tree R) (rest left : Children R) → children_of rest ≡ (step, tree) ∷ children_of left → max (tree_depth tree + 1) (children_depth left) ≡ children_depth rest
-  left_depth step tree rest left e = sym (ap children_depth (first_child rest left step tree e))
-
-  pub below_size : (tree : Tree R) → children_size (below tree) < tree_size tree
-  below_size (node row children) = omega arith
-
-  pub below_depth : (tree : Tree R) → children_depth (below tree) ≡ tree_depth tree
-  below_depth (node row children) = refl
+pub count_rest : (tree branch : Tree Row) → rest_tree (rest_of tree) ≡ Some branch → length (entries_onward written (rest_of tree)) ≡ length (entries_of written branch)
+count_rest tree branch e = ap length (entries_rest written tree branch e) ∙ length-map (entries_of written branch) (behind to_rest)
 
 -- ---- their bytes
 
 -- a row behind a step is a row from one step further
-row_behind : (depth : ℕ) (steps : List ℕ) (step : Step) (row : Path × Row) → row_bytes_from written depth steps (behind step row) ≡ row_bytes_from written (depth + 1) (steps ++ step_bytes written step) row
+row_behind : (depth : ℕ) (steps : List ℕ) (step : StateStep) (row : Entry) → row_bytes_from written depth steps (behind step row) ≡ row_bytes_from written (depth + 1) (steps ++ step_bytes written step) row
 unfolding row_bytes_from
 row_behind depth steps step row =
-    let said : List ℕ = level_of row.1.level ∷ parts_bytes written (parts_of row.1) in
-    let count : depth + length (step ∷ row.0) ≡ depth + 1 + length row.0 = omega arith in
-    let path : steps ++ (flat_map (step_bytes written) (step ∷ row.0) ++ said) ≡ (steps ++ step_bytes written step) ++ (flat_map (step_bytes written) row.0 ++ said) =
-    ap (λ t. steps ++ (t ++ said)) (flat_map-cons (step_bytes written) step row.0)
-    ∙ ap (λ t. steps ++ t) (append_assoc (step_bytes written step) (flat_map (step_bytes written) row.0) said)
-    ∙ sym (append_assoc steps (step_bytes written step) (flat_map (step_bytes written) row.0 ++ said)) in
+    let said : List ℕ = level_of row.row.level ∷ parts_bytes written (parts_of row.row row.fixed) in
+    let count : depth + length (step ∷ row.path) ≡ depth + 1 + length row.path = omega arith in
+    let path : steps ++ (flat_map (step_bytes written) (step ∷ row.path) ++ said) ≡ (steps ++ step_bytes written step) ++ (flat_map (step_bytes written) row.path ++ said) =
+    ap (λ t. steps ++ (t ++ said)) (flat_map-cons (step_bytes written) step row.path)
+    ∙ ap (λ t. steps ++ t) (append_assoc (step_bytes written step) (flat_map (step_bytes written) row.path) said)
+    ∙ sym (append_assoc steps (step_bytes written step) (flat_map (step_bytes written) row.path ++ said)) in
     λ i. count i ∷ path i
 
-rows_behind : (depth : ℕ) (steps : List ℕ) (step : Step) (rows : List (Path × Row)) → flat_map (row_bytes_from written depth steps) (map (behind step) rows) ≡ flat_map (row_bytes_from written (depth + 1) (steps ++ step_bytes written step)) rows
+rows_behind : (depth : ℕ) (steps : List ℕ) (step : StateStep) (rows : List Entry) → flat_map (row_bytes_from written depth steps) (map (behind step) rows) ≡ flat_map (row_bytes_from written (depth + 1) (steps ++ step_bytes written step)) rows
 rows_behind depth steps step [] = refl
 rows_behind depth steps step (row ∷ rows) =
     flat_map-cons (row_bytes_from written depth steps) (behind step row) (map (behind step) rows)
@@ -73,33 +59,53 @@ rows_behind depth steps step (row ∷ rows) =
     ∙ ap (λ t. row_bytes_from written (depth + 1) (steps ++ step_bytes written step) row ++ t) (rows_behind depth steps step rows)
     ∙ sym (flat_map-cons (row_bytes_from written (depth + 1) (steps ++ step_bytes written step)) row rows)
 
-pub bytes_begin : (depth : ℕ) (steps : List ℕ) (tree : Tree Row) (row : Row) (old new : List ℕ) → row_of tree ≡ Some row → new ≡ old ++ row_bytes_from written depth steps ([], row)
-    → new ++ flat_map (row_bytes_from written depth steps) (rows_below (below tree)) ≡ old ++ flat_map (row_bytes_from written depth steps) (rows_of tree)
-bytes_begin depth steps (node None children) row old new e h = cc
-bytes_begin depth steps (node (Some here) children) row old new e h =
-    let same : row ≡ here = cc in
-    let f : Path × Row → List ℕ = row_bytes_from written depth steps in
-    ap (λ t. t ++ flat_map f (rows_below children)) h ∙ append_assoc old (f ([], row)) (flat_map f (rows_below children)) ∙ ap (λ r. old ++ (f ([], r) ++ flat_map f (rows_below children))) same
-    ∙ ap (λ t. old ++ t) (sym (flat_map-cons f ([], here) (rows_below children)))
+pub bytes_begin :
+    (depth : ℕ) (steps : List ℕ) (tree : Tree Row) (row : Row) (old new : List ℕ) → row_of tree ≡ Some row → new ≡ old ++ row_bytes_from written depth steps (own_entry written tree row)
+    → new ++ flat_map (row_bytes_from written depth steps) (others_of written tree) ≡ old ++ flat_map (row_bytes_from written depth steps) (entries_of written tree)
+bytes_begin depth steps tree row old new e h =
+    let f : Entry → List ℕ = row_bytes_from written depth steps in
+    ap (λ t. t ++ flat_map f (others_of written tree)) h
+    ∙ append_assoc old (f (own_entry written tree row)) (flat_map f (others_of written tree))
+    ∙ ap (λ t. old ++ t) (sym (flat_map-cons f (own_entry written tree row) (others_of written tree)) ∙ ap (flat_map f) (sym (entries_begin written tree row e)))
 
-pub bytes_begin_below : (depth : ℕ) (steps : List ℕ) (tree : Tree Row) (old : List ℕ) → row_of tree ≡ None → old ++ flat_map (row_bytes_from written depth steps) (rows_below (below tree)) ≡ old ++ flat_map (row_bytes_from written depth steps) (rows_of tree)
-bytes_begin_below depth steps (node None children) old e = refl
-bytes_begin_below depth steps (node (Some here) children) old e = cc
+pub bytes_begin_below : (depth : ℕ) (steps : List ℕ) (tree : Tree Row) (old : List ℕ) → row_of tree ≡ None → old ++ flat_map (row_bytes_from written depth steps) (others_of written tree) ≡ old ++ flat_map (row_bytes_from written depth steps) (entries_of written tree)
+bytes_begin_below depth steps tree old e = ap (λ rows. old ++ flat_map (row_bytes_from written depth steps) rows) (sym (entries_begin_below written tree e))
 
-pub bytes_more : (depth : ℕ) (steps : List ℕ) (step : Step) (tree : Tree Row) (rest left : Children Row) (now next all : List ℕ) → children_of rest ≡ (step, tree) ∷ children_of left
-    → next ≡ now ++ flat_map (row_bytes_from written (depth + 1) (steps ++ step_bytes written step)) (rows_of tree) → now ++ flat_map (row_bytes_from written depth steps) (rows_below rest) ≡ all → next ++ flat_map (row_bytes_from written depth steps) (rows_below left) ≡ all
-bytes_more depth steps step tree rest left now next all e h k =
-    let f : Path × Row → List ℕ = row_bytes_from written depth steps in
-    let parts = first_child rest left step tree e in
-    ap (λ t. t ++ flat_map f (rows_below left)) (h ∙ ap (λ t. now ++ t) (sym (rows_behind depth steps step (rows_of tree))))
-    ∙ append_assoc now (flat_map f (map (behind step) (rows_of tree))) (flat_map f (rows_below left))
-    ∙ ap (λ t. now ++ t) (sym (flat_map-append f (map (behind step) (rows_of tree)) (rows_below left)))
-    ∙ ap (λ cs. now ++ flat_map f (rows_below cs)) (sym parts)
+bytes_behind :
+    (depth : ℕ) (steps : List ℕ) (step : StateStep) (rows more all : List Entry) (now next : List ℕ) → all ≡ map (behind step) rows ++ more
+    → next ≡ now ++ flat_map (row_bytes_from written (depth + 1) (steps ++ step_bytes written step)) rows
+    → next ++ flat_map (row_bytes_from written depth steps) more ≡ now ++ flat_map (row_bytes_from written depth steps) all
+bytes_behind depth steps step rows more all now next e h =
+    let f : Entry → List ℕ = row_bytes_from written depth steps in
+    ap (λ t. t ++ flat_map f more) (h ∙ ap (λ t. now ++ t) (sym (rows_behind depth steps step rows)))
+    ∙ append_assoc now (flat_map f (map (behind step) rows)) (flat_map f more)
+    ∙ ap (λ t. now ++ t) (sym (flat_map-append f (map (behind step) rows) more) ∙ ap (flat_map f) (sym e))
+
+pub bytes_more :
+    (depth : ℕ) (steps : List ℕ) (step : Step) (tree : Tree Row) (rest left : Children Row) (more : List Entry) (now next all : List ℕ) → children_of rest ≡ (step, tree) ∷ children_of left
+    → next ≡ now ++ flat_map (row_bytes_from written (depth + 1) (steps ++ step_bytes written (at step))) (entries_of written tree)
+    → now ++ flat_map (row_bytes_from written depth steps) (entries_below written rest ++ more) ≡ all
+    → next ++ flat_map (row_bytes_from written depth steps) (entries_below written left ++ more) ≡ all
+bytes_more depth steps step tree rest left more now next all e h k =
+    bytes_behind depth steps (at step) (entries_of written tree) (entries_below written left ++ more) (entries_below written rest ++ more) now next (entries_more written step tree rest left more e) h ∙ k
+
+pub bytes_rest :
+    (depth : ℕ) (steps : List ℕ) (tree branch : Tree Row) (left : Children Row) (now next all : List ℕ) → children_of left ≡ [] → rest_tree (rest_of tree) ≡ Some branch
+    → next ≡ now ++ flat_map (row_bytes_from written (depth + 1) (steps ++ step_bytes written to_rest)) (entries_of written branch)
+    → now ++ flat_map (row_bytes_from written depth steps) (entries_below written left ++ entries_onward written (rest_of tree)) ≡ all
+    → next ≡ all
+bytes_rest depth steps tree branch left now next all e r h k =
+    let more = entries_end written left (entries_onward written (rest_of tree)) e ∙ entries_rest written tree branch r ∙ sym (append-nil (map (behind to_rest) (entries_of written branch))) in
+    sym (append-nil next)
+    ∙ bytes_behind depth steps to_rest (entries_of written branch) [] (entries_below written left ++ entries_onward written (rest_of tree)) now next more h
     ∙ k
 
-pub bytes_end : (depth : ℕ) (steps : List ℕ) (rest : Children Row) (now all : List ℕ) → children_of rest ≡ [] → now ++ flat_map (row_bytes_from written depth steps) (rows_below rest) ≡ all → now ≡ all
-bytes_end depth steps none now all e h = sym (append-nil now) ∙ h
-bytes_end depth steps (child step tree rest) now all e h = cc
+pub bytes_no_rest :
+    (depth : ℕ) (steps : List ℕ) (tree : Tree Row) (left : Children Row) (now all : List ℕ) → children_of left ≡ [] → rest_tree (rest_of tree) ≡ None
+    → now ++ flat_map (row_bytes_from written depth steps) (entries_below written left ++ entries_onward written (rest_of tree)) ≡ all → now ≡ all
+bytes_no_rest depth steps tree left now all e r k =
+    let none = entries_end written left (entries_onward written (rest_of tree)) e ∙ entries_no_rest written tree r in
+    sym (append-nil now) ∙ ap (λ rows. now ++ flat_map (row_bytes_from written depth steps) rows) (sym none) ∙ k
 
 -- ---- what is written is not too long
 
@@ -130,10 +136,22 @@ pub sound_next : (parent : Row) (step : Step) (tree : Tree Row) (rest left : Chi
 sound_next parent step tree rest left e h =
     let now = subst (AreSound parent) (first_child rest left step tree e) h in (word_step step (child_word parent step (row_of tree) now.0), now.1, now.2)
 
-pub sound_parent : (tree : Tree Row) → IsSound tree → (row : Row) × (row_of tree ≡ Some row) × IsValidRow row × AreSound row (below tree)
-sound_parent (node None children) h = absurd h
-sound_parent (node (Some row) children) h = (row, refl, h.0, h.1)
+pub sound_parent : (tree : Tree Row) → IsSound tree → (row : Row) × (row_of tree ≡ Some row) × AreSound row (below tree)
+sound_parent (node None children rest) h = absurd h
+sound_parent (node (Some row) children rest) h = (row, refl, h.2)
 
-pub sound_row : (tree : Tree Row) (row : Row) → row_of tree ≡ Some row → IsSound tree → IsValidRow row × AreSound row (below tree)
-sound_row (node None children) row e h = cc
-sound_row (node (Some here) children) row e h = let same : here ≡ row = cc in (subst IsValidRow same h.0, subst (λ r. AreSound r children) same h.1)
+-- the rest of a table that is right
+pub sound_onward : (tree branch : Tree Row) → rest_tree (rest_of tree) ≡ Some branch → IsSound tree → IsSound branch
+sound_onward tree branch e h =
+    let parent = sound_parent tree h in
+    ((rest_sound parent.0 tree branch e).1 (sound_parts tree parent.0 parent.1 h).rest).1
+
+pub few_lengths : (least : ℕ) (most : Option ℕ) → AreLengths least most → least < 2 ^ 32
+few_lengths least None h = omega (arith, h)
+few_lengths least (Some most) h = let a = h.0 in omega (arith, a)
+
+-- the index from which on the elements are alike is not too long to be written
+pub sound_fixed : (tree : Tree Row) (row : Row) → row_of tree ≡ Some row → IsSound tree → fixed_of tree < 2 ^ 32
+sound_fixed tree row e h =
+    let whole = sound_parts tree row e h in
+    omega (arith, whole.fixed, few_lengths row.least row.most whole.valid.limits)

@@ -6,27 +6,25 @@ use Rattle.cue_lattice.specs.declared.refusal.Kind.{Kind}
 use Rattle.cue_lattice.specs.declared.refusal.Kind.TheVariants as kinds
 use Rattle.cue_row.specs.declared.row.Row.{Row}
 use Rattle.cue_row.specs.Row.{Refuses, IsRow}
-use Rattle.cue_table.specs.Tree.{Tree, rows_of}
+use Rattle.cue_table.specs.Tree.{Tree}
+use Rattle.cue_table.specs.Slots.{rows_of}
 use Rattle.cue_table.specs.Form.{IsTable}
 use Rattle.cue_table.specs.Valid.{IsValidTable}
 use Rattle.cue_codec.specs.declared.version.Version.{Version}
+use Rattle.cue_codec.specs.Entry.{entries_of}
+use Rattle.cue_codec.specs.Known.{unknown, rows_with}
 use Rattle.cue_codec.specs.RowBytes.{row_bytes, IsStateRow}
-use Rattle.cue_codec.specs.State.{mark, table_bytes_in}
-use Rattle.cue_codec.specs.Version.{version_byte, written, IsNoVersion}
+use Rattle.cue_codec.specs.State.{mark, IsTableBytes}
+use Rattle.cue_codec.specs.Version.{version_byte, IsNoVersion}
 
 -- the mark, and after it a version that is not known
 abbrev pub IsOtherVersion : List ℕ → Type 0
 IsOtherVersion bytes =
     (version : ℕ) × (rest : List ℕ) × (bytes ≡ mark ++ (version ∷ rest)) × IsNoVersion version
 
--- the bytes of no valid table in a version
-abbrev pub IsNoStateIn : Version → List ℕ → Type 0
-IsNoStateIn version bytes =
-    (tree : Tree Row) → IsValidTable tree → ¬ (table_bytes_in version tree ≡ bytes)
-
--- the bytes of no valid table
+-- the bytes of no valid table, in whichever version
 abbrev pub IsNoState : List ℕ → Type 0
-IsNoState bytes = IsNoStateIn written bytes
+IsNoState bytes = (tree : Tree Row) → IsValidTable tree → ¬ IsTableBytes bytes tree
 
 -- The version is not known; or it is, or there is none, and no valid table has these bytes.
 abbrev pub IsRejected : List ℕ → Kind → Type 0
@@ -34,28 +32,26 @@ IsRejected bytes kind =
     ((kind ≡ kinds.Version) × IsOtherVersion bytes)
     ⊎ ((kind ≡ kinds.NotState) × ¬ IsOtherVersion bytes × IsNoState bytes)
 
--- the mark, a version, a count in 8 bytes, and whatever follows
-abbrev pub BeginsAsStateIn : Version → List ℕ → Type 0
-BeginsAsStateIn version bytes =
-    (count : ℕ) × (rest : List ℕ)
-    × (bytes ≡ mark ++ (version_byte version ∷ (to_be_bytes w64 count ++ rest)))
-
--- the mark, the version that is known, a count in 8 bytes, and whatever follows
+-- the mark, a version that is known, a count in 8 bytes, and whatever follows
 abbrev pub BeginsAsState : List ℕ → Type 0
-BeginsAsState bytes = BeginsAsStateIn written bytes
+BeginsAsState bytes =
+    (version : Version) × (count : ℕ) × (rest : List ℕ)
+    × (bytes ≡ mark ++ (version_byte version ∷ (to_be_bytes w64 count ++ rest)))
 
 -- Memory ran out while the rows were read, and so only where the bytes begin as those of a state
 -- do; or the bytes are rejected.
 abbrev pub IsUndecoded : List ℕ → Kind → Type 0
 IsUndecoded bytes kind = ((kind ≡ kinds.Memory) × BeginsAsState bytes) ⊎ IsRejected bytes kind
 
--- the table has so many rows, and these bytes are theirs in a version
+-- the table has so many rows, these bytes are theirs in a version, and the rests among their places
+-- have the numbers of the rows above them
 pub record AreReadRows (version : Version) (count : ℕ) (bytes : List ℕ) (tree : Tree Row)
     : Type 0 where
   pub form : IsTable Refuses IsRow tree
-  pub rows : AllByRecursion (IsStateRow version) (rows_of tree)
-  pub counted : length (rows_of tree) ≡ count
-  pub parts : bytes ≡ flat_map (row_bytes version) (rows_of tree)
+  pub rows : AllByRecursion (IsStateRow version) (entries_of version tree)
+  pub places : rows_of tree ≡ rows_with unknown (entries_of version tree)
+  pub counted : length (entries_of version tree) ≡ count
+  pub parts : bytes ≡ flat_map (row_bytes version) (entries_of version tree)
 
 -- no table has so many rows of these bytes in a version
 abbrev pub NoRows : Version → ℕ → List ℕ → Type 0

@@ -1,4 +1,6 @@
 pub mod Decoding
+pub mod Entry
+pub mod Known
 pub mod Parts
 pub mod Reading
 pub mod RowBytes

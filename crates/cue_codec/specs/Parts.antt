@@ -4,10 +4,11 @@ use Rattle.std.specs.Prelude.{ℕ, ◌+◌, ◌*◌, ℤ, Bool, true, false, Lis
 use Rattle.std.specs.Prelude.{Option, Some, None}
 use Rattle.std.specs.List.{flat_map}
 use Rattle.std.specs.Int.{w16, w32, w64, to_be_bytes, cast_unsigned}
-use Rattle.cue_lattice.specs.Path.{Step, label, index, Path}
+use Rattle.cue_lattice.specs.Path.{label, index}
 use Rattle.cue_scalars.specs.declared.scalar_set.ScalarSet.{ScalarSet}
 use Rattle.cue_codec.specs.declared.version.Version.{Version}
 use Rattle.cue_codec.specs.declared.version.Version.TheVariants as versions
+use Rattle.cue_codec.specs.Entry.{StateStep, at, to_rest, StatePath}
 
 -- an integer in 8 bytes
 unfoldable pub integer_bytes : ℤ → List ℕ
@@ -53,15 +54,26 @@ unfoldable pub most_bytes : Option ℕ → List ℕ
 most_bytes None = 0 ∷ []
 most_bytes (Some most) = 1 ∷ to_be_bytes w32 most
 
--- the least length in 4 bytes, and the greatest
-unfoldable pub lengths_bytes : Version → ℕ × Option ℕ → List ℕ
-lengths_bytes versions.First lengths = to_be_bytes w32 lengths.0 ++ most_bytes lengths.1
+-- the least and the greatest length of a list, and from which index on its elements are alike
+abbrev pub Lengths : Type 0
+Lengths = ℕ × Option ℕ × ℕ
 
--- a label, or an index in 4 bytes
-unfoldable pub step_bytes : Version → Step → List ℕ
-step_bytes version (label text) = 0 ∷ text_bytes text
-step_bytes version (index number) = 1 ∷ to_be_bytes w32 number
+-- such an index in 4 bytes; the first version tells nothing of it
+unfoldable pub index_bytes : Version → ℕ → List ℕ
+index_bytes versions.First fixed = []
+index_bytes versions.Second fixed = to_be_bytes w32 fixed
+
+-- the least length in 4 bytes, the greatest, and the index
+unfoldable pub lengths_bytes : Version → Lengths → List ℕ
+lengths_bytes version lengths =
+    to_be_bytes w32 lengths.0 ++ (most_bytes lengths.1 ++ index_bytes version lengths.2)
+
+-- a label, an index in 4 bytes, or the rest of a list
+unfoldable pub step_bytes : Version → StateStep → List ℕ
+step_bytes version (at (label text)) = 0 ∷ text_bytes text
+step_bytes version (at (index number)) = 1 ∷ to_be_bytes w32 number
+step_bytes version to_rest = 2 ∷ []
 
 -- how many steps there are, in 1 byte, and each of them
-unfoldable pub path_bytes : Version → Path → List ℕ
+unfoldable pub path_bytes : Version → StatePath → List ℕ
 path_bytes version path = length path ∷ flat_map (step_bytes version) path

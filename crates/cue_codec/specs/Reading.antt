@@ -10,6 +10,7 @@ use Rattle.cue_lattice.specs.declared.refusal.Kind.{Kind}
 use Rattle.cue_lattice.specs.declared.refusal.Kind.TheVariants as kinds
 use Rattle.cue_codec.specs.declared.version.Version.{Version}
 use Rattle.cue_codec.specs.declared.version.Version.TheVariants as versions
+use Rattle.cue_codec.specs.Parts.{Lengths}
 
 -- the bytes of the value stand in front, and after them the rest
 pub record Begins {X : Type 0} (is_value : X → Type 0) (code : X → List ℕ) (item : X)
@@ -54,9 +55,15 @@ abbrev pub IsMost : Option ℕ → Type 0
 IsMost None = Unit {0}
 IsMost (Some most) = most < 2 ^ 32
 
--- a least length of 32 bits, and a greatest one of as many
-abbrev pub AreWideLengths : Version → ℕ × Option ℕ → Type 0
-AreWideLengths versions.First lengths = (lengths.0 < 2 ^ 32) × IsMost lengths.1
+-- an index of 32 bits; where a version tells nothing of it, 0 stands for it
+abbrev pub IsIndex : Version → ℕ → Type 0
+IsIndex versions.First fixed = fixed ≡ 0
+IsIndex versions.Second fixed = fixed < 2 ^ 32
+
+-- a least length of 32 bits, a greatest one of as many, and an index
+abbrev pub AreWideLengths : Version → Lengths → Type 0
+AreWideLengths version lengths =
+    (lengths.0 < 2 ^ 32) × IsMost lengths.1 × IsIndex version lengths.2
 
 -- so many items
 abbrev pub AreSo : {X : Type 0} → (X → Type 0) → ℕ → List X → Type 0

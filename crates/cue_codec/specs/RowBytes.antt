@@ -3,7 +3,6 @@ use Rattle.std.specs.Prelude.{◌≡◌, ℕ, ◌+◌, Bool, true, false, not, �
 use Rattle.std.specs.Prelude.{length, Option}
 use Rattle.std.specs.List.{flat_map, AllByRecursion}
 use Rattle.cue_lattice.specs.Bools.{is_nil}
-use Rattle.cue_lattice.specs.Path.{Path}
 use Rattle.cue_scalars.specs.declared.scalar_set.ScalarSet.{ScalarSet}
 use Rattle.cue_row.specs.declared.level.Level.{Level}
 use Rattle.cue_row.specs.declared.row.Row.{Row}
@@ -11,7 +10,9 @@ use Rattle.cue_row.specs.Levels.{level_of}
 pub use Rattle.cue_row.specs.Made.{empty_set, full_set}
 use Rattle.cue_row.specs.Made.{free_row, scalar_row, struct_row, list_row, nothing_row}
 use Rattle.cue_codec.specs.declared.version.Version.{Version}
-use Rattle.cue_codec.specs.Parts.{set_bytes, labels_bytes, lengths_bytes, step_bytes, path_bytes}
+use Rattle.cue_codec.specs.Entry.{Entry}
+use Rattle.cue_codec.specs.Parts.{Lengths, set_bytes, labels_bytes, lengths_bytes, step_bytes}
+use Rattle.cue_codec.specs.Parts.{path_bytes}
 use Rattle.cue_codec.specs.Reading.{Begins, AreWideLengths, IsShort, AreShortLabels}
 use Rattle.cue_codec.specs.StateRow.{IsStateSet, AreStateLabels, IsStatePath}
 
@@ -21,15 +22,15 @@ pub data Parts : Type 0 where
   free : Parts
   scalar : ScalarSet → ScalarSet → Parts
   struct : Option (List (List ℕ)) → Parts
-  list : ℕ × Option ℕ → Parts
-  nothing : Option (List (List ℕ)) → ℕ × Option ℕ → Parts
+  list : Lengths → Parts
+  nothing : Option (List (List ℕ)) → Lengths → Parts
 
 -- some scalar, and the usual ones
 unfoldable pub scalars_bytes : ScalarSet × ScalarSet → List ℕ
 scalars_bytes sets = set_bytes sets.0 ++ set_bytes sets.1
 
 -- labels and lengths
-unfoldable pub left_out_bytes : Version → Option (List (List ℕ)) × (ℕ × Option ℕ) → List ℕ
+unfoldable pub left_out_bytes : Version → Option (List (List ℕ)) × Lengths → List ℕ
 left_out_bytes version parts = labels_bytes parts.0 ++ lengths_bytes version parts.1
 
 -- the kind, and what it leaves open
@@ -47,20 +48,29 @@ is_empty_set set =
     && (not set.no && (not set.yes && (is_nil set.ints && (not set.texts.0 && is_nil set.texts.1))))
 
 -- the kind, by whether a struct may stand, whether a list may, and whether no scalar may
-abbrev pub parts_by : Bool → Bool → Bool → Row → Parts
-parts_by true true is_empty row = free
-parts_by true false is_empty row = struct row.labels
-parts_by false true is_empty row = list (row.least, row.most)
-parts_by false false true row = nothing row.labels (row.least, row.most)
-parts_by false false false row = scalar row.value row.usual
+abbrev pub parts_by : Bool → Bool → Bool → Row → ℕ → Parts
+parts_by true true is_empty row fixed = free
+parts_by true false is_empty row fixed = struct row.labels
+parts_by false true is_empty row fixed = list (row.least, row.most, fixed)
+parts_by false false true row fixed = nothing row.labels (row.least, row.most, fixed)
+parts_by false false false row fixed = scalar row.value row.usual
 
-abbrev pub parts_of : Row → Parts
-parts_of row = parts_by row.struct_ok row.list_ok (is_empty_set row.value) row
+abbrev pub parts_of : Row → ℕ → Parts
+parts_of row fixed = parts_by row.struct_ok row.list_ok (is_empty_set row.value) row fixed
+
+-- from which index on the elements are alike: from 0 where there are none
+abbrev pub fixed_by : Parts → ℕ
+fixed_by free = 0
+fixed_by (scalar value usual) = 0
+fixed_by (struct labels) = 0
+fixed_by (list lengths) = lengths.2
+fixed_by (nothing labels lengths) = lengths.2
 
 -- the path, the level, and what else the row says
-unfoldable pub row_bytes : Version → Path × Row → List ℕ
-row_bytes version row =
-    path_bytes version row.0 ++ (level_of row.1.level ∷ parts_bytes version (parts_of row.1))
+unfoldable pub row_bytes : Version → Entry → List ℕ
+row_bytes version entry =
+    path_bytes version entry.path
+    ++ (level_of entry.row.level ∷ parts_bytes version (parts_of entry.row entry.fixed))
 
 -- the row of a kind that says no more than this
 abbrev pub row_of : Level → Parts → Row
@@ -76,7 +86,7 @@ pub record AreScalars (sets : ScalarSet × ScalarSet) : Type 0 where
   pub value : IsStateSet sets.0
   pub usual : IsStateSet sets.1
 
-abbrev pub AreLeftOut : Version → Option (List (List ℕ)) × (ℕ × Option ℕ) → Type 0
+abbrev pub AreLeftOut : Version → Option (List (List ℕ)) × Lengths → Type 0
 AreLeftOut version parts = AreStateLabels parts.0 × AreWideLengths version parts.1
 
 abbrev pub IsStateParts : Version → Parts → Type 0
@@ -86,17 +96,19 @@ IsStateParts version (struct labels) = AreStateLabels labels
 IsStateParts version (list lengths) = AreWideLengths version lengths
 IsStateParts version (nothing labels lengths) = AreLeftOut version (labels, lengths)
 
--- The path is one of the program, and the row says no more than its bytes do.
-pub record IsStateRow (version : Version) (row : Path × Row) : Type 0 where
-  pub path : IsStatePath version row.0
-  pub parts : IsStateParts version (parts_of row.1)
-  pub says : row.1 ≡ row_of row.1.level (parts_of row.1)
+-- The path is one of the program, and the row and its index say no more than the bytes do.
+pub record IsStateRow (version : Version) (entry : Entry) : Type 0 where
+  pub path : IsStatePath version entry.path
+  pub parts : IsStateParts version (parts_of entry.row entry.fixed)
+  pub says : entry.row ≡ row_of entry.row.level (parts_of entry.row entry.fixed)
+  pub fixed : entry.fixed ≡ fixed_by (parts_of entry.row entry.fixed)
 
--- A part of a row was read, and the row of this level that says it was made.
+-- A part of a row was read, and the row of this level that says it was made, with its index.
 pub record Reads {X : Type 0} (made : X → Parts) (is_value : X → Type 0) (code : X → List ℕ)
-    (level : Level) (row : Row) (bytes rest : List ℕ) : Type 0 where
+    (level : Level) (row : Row) (fixed : ℕ) (bytes rest : List ℕ) : Type 0 where
   pub item : X
   pub says : row ≡ row_of level (made item)
+  pub fixed_is : fixed ≡ fixed_by (made item)
   pub begins : Begins is_value code item bytes rest
 
 -- labels and texts are not too long to be written
@@ -107,9 +119,9 @@ pub record IsShortRow (row : Row) : Type 0 where
 
 -- A row whose path goes on from a place that is so many steps from the root. These steps are the
 -- bytes in front.
-unfoldable pub row_bytes_from : Version → ℕ → List ℕ → Path × Row → List ℕ
-row_bytes_from version depth steps row =
-    (depth + length row.0)
+unfoldable pub row_bytes_from : Version → ℕ → List ℕ → Entry → List ℕ
+row_bytes_from version depth steps entry =
+    (depth + length entry.path)
     ∷ (steps
-    ++ (flat_map (step_bytes version) row.0
-    ++ (level_of row.1.level ∷ parts_bytes version (parts_of row.1))))
+    ++ (flat_map (step_bytes version) entry.path
+    ++ (level_of entry.row.level ∷ parts_bytes version (parts_of entry.row entry.fixed))))

@@ -3,11 +3,12 @@
 use Rattle.std.specs.Prelude.{ℕ, ℤ, ◌<◌, ◌≤◌, ◌^◌, Bool, List, length, Option, Some, None}
 use Rattle.std.specs.List.{AllByRecursion}
 use Rattle.cue_lattice.specs.Limits.{step_limit}
-use Rattle.cue_lattice.specs.Path.{Step, label, index, Path}
+use Rattle.cue_lattice.specs.Path.{label, index}
 use Rattle.cue_sets.specs.Pieces.{IsCanonical}
 use Rattle.cue_sets.specs.Texts.{IsAscending}
 use Rattle.cue_scalars.specs.declared.scalar_set.ScalarSet.{ScalarSet}
 use Rattle.cue_codec.specs.declared.version.Version.{Version}
+use Rattle.cue_codec.specs.Entry.{StateStep, at, to_rest, StatePath, IsToldStep}
 use Rattle.cue_codec.specs.Reading.{IsWord, AreCounted}
 
 abbrev pub IsStateIntegers : List (ℤ × ℤ) → Type 0
@@ -27,10 +28,11 @@ abbrev pub AreStateLabels : Option (List (List ℕ)) → Type 0
 AreStateLabels None = Unit {0}
 AreStateLabels (Some labels) = AreStateTexts labels
 
--- a label in UTF-8, or an index of 32 bits
-abbrev pub IsStateStep : Version → Step → Type 0
-IsStateStep version (label text) = IsWord text
-IsStateStep version (index number) = number < 2 ^ 32
+-- a label in UTF-8, an index of 32 bits, or the rest, which the first version does not tell
+abbrev pub IsStateStep : Version → StateStep → Type 0
+IsStateStep version (at (label text)) = IsWord text
+IsStateStep version (at (index number)) = number < 2 ^ 32
+IsStateStep version to_rest = IsToldStep version to_rest
 
-abbrev pub IsStatePath : Version → Path → Type 0
+abbrev pub IsStatePath : Version → StatePath → Type 0
 IsStatePath version path = AllByRecursion (IsStateStep version) path × (length path ≤ step_limit)

@@ -6,11 +6,12 @@ use Rattle.cue_codec.specs.declared.version.Version.TheVariants as versions
 -- the byte that stands for a version
 abbrev pub version_byte : Version → ℕ
 version_byte versions.First = 1
+version_byte versions.Second = 2
 
 -- a byte that stands for none
 abbrev pub IsNoVersion : ℕ → Type 0
-IsNoVersion byte = ¬ (byte ≡ version_byte versions.First)
+IsNoVersion byte = (version : Version) → ¬ (byte ≡ version_byte version)
 
 -- the version that is written
 abbrev pub written : Version
-written = versions.First
+written = versions.Second

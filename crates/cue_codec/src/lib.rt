@@ -13,6 +13,7 @@ mod rows;
 mod sets;
 mod sizes;
 mod spelling;
+mod telling;
 mod version;
 mod writing;
 
@@ -22,5 +23,7 @@ pub use cue_table::Table;
 pub use decoding::decode;
 pub use encoding::encode;
 pub use sizes::size;
-pub use spelling::{bytes_of_kinds, one_row_spelling, one_state_spelling, one_table_spelling};
+pub use spelling::{
+    bytes_of_kinds, law_of_entries, one_row_spelling, one_state_spelling, one_table_spelling,
+};
 pub use version::Version;

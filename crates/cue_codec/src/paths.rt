@@ -1,11 +1,15 @@
-//! Paths, read from the front of the bytes. Rows come in path order, so a path mostly begins as the
-//! one before it does: what both have in common is compared with the bytes, and only the rest is
-//! made.
+//! Places, read from the front of the bytes. Rows come in the order of their places, so a place
+//! mostly begins as the one before it does: what both have in common is compared with the bytes,
+//! and only the rest is made.
 
-ghost use Rattle.std.specs.Prelude.{◌≡◌, ◌≤◌, ◌++◌, length, map, take, IfOk, IfErr, IfSome};
+ghost use Rattle.std.specs.Prelude.{◌≡◌, ◌<◌, ◌≤◌, ◌++◌, length, map, take, IfOk, IfErr, IfSome};
 ghost use Rattle.std.specs.List.{flat_map, AllByRecursion};
+ghost use Rattle.cue_lattice.specs.Limits.{step_limit};
 ghost use Rattle.cue_row.specs.Steps.{step_of};
+ghost use Rattle.cue_table.specs.SlotsOfCode.{slot_of};
 ghost use Rattle.cue_codec.specs.declared.version.Version.{Version as Versions};
+ghost use Rattle.cue_codec.specs.Entry.{at, told, told_place};
+ghost use Rattle.cue_codec.specs.Known.{slot_with, IsKnown};
 ghost use Rattle.cue_codec.specs.Parts.{text_bytes, step_bytes, path_bytes};
 ghost use Rattle.cue_codec.specs.Reading.{Begins, BeginsNone, IsRefused, AreSo};
 ghost use Rattle.cue_codec.specs.StateRow.{IsStateStep, IsStatePath};
@@ -14,13 +18,20 @@ use crate::lists::one_text;
 use crate::reading::{u16_at, u32_at};
 use crate::version::Version;
 use cue_lattice::{Kind, STEP_LIMIT, Text};
-use cue_row::{Path, Step};
+use cue_row::Step;
+use cue_table::{Place, Slot};
 use std::alloc::Global;
 
-/// A label or an index.
-fn step_at(alloc: Global, version: Version, bytes: &[u8]) -> Result<(Step, &[u8]), Kind>
-    ensures ok { IfOk result (λ x. Begins (IsStateStep version) (step_bytes version) (step_of x.0)
-        bytes.now x.1.now) }
+/// A label, an index, or the rest of a list, whose number is known from the row above.
+fn step_at(
+    alloc: Global,
+    version: Version,
+    number: u64,
+    bytes: &[u8],
+) -> Result<(Slot, &[u8]), Kind>
+    ensures ok { IfOk result (λ x. Begins (IsStateStep version) (step_bytes version)
+        (told (slot_of x.0)) bytes.now x.1.now) }
+    ensures known { IfOk result (λ x. slot_of x.0 ≡ slot_with number (told (slot_of x.0))) }
     ensures refused { IfErr result (λ kind. IsRefused kind
         (BeginsNone (IsStateStep version) (step_bytes version) bytes.now)) }
 {
@@ -30,17 +41,19 @@ fn step_at(alloc: Global, version: Version, bytes: &[u8]) -> Result<(Step, &[u8]
     match *tag {
         0 => {
             let (text, rest) = one_text(alloc, rest)?;
-            Ok((Step::Label(text), rest))
+            Ok((Slot::At(Step::Label(text)), rest))
         }
         1 => {
             let Some((number, rest)) = u32_at(rest) else {
                 return Err(Kind::NotState);
             };
-            Ok((Step::Index(number), rest))
+            Ok((Slot::At(Step::Index(number)), rest))
         }
-        2..=u8::MAX => match version {
+        2 => match version {
             Version::First => Err(Kind::NotState),
+            Version::Second => Ok((Slot::From(number), rest)),
         },
+        3..=u8::MAX => Err(Kind::NotState),
     }
 }
 
@@ -57,11 +70,12 @@ fn after_text<'a>(text: &Text, bytes: &'a [u8]) -> Option<&'a [u8]>
     Some(rest)
 }
 
-/// What stands after a step, where its bytes stand in front, which are the same in each version.
+/// What stands after a label or an index, where its bytes stand in front, which are the same in
+/// each version.
 #[tactic(auto, unfolding(crate::specs::Parts::step_bytes))]
 fn after_step<'a>(step: &Step, bytes: &'a [u8]) -> Option<&'a [u8]>
     ensures { IfSome result (λ rest. (version : Versions) →
-        bytes.now ≡ step_bytes version (step_of step.now) ++ rest.now) }
+        bytes.now ≡ step_bytes version (at (step_of step.now)) ++ rest.now) }
 {
     let (tag, rest) = bytes.split_first()?;
     match step {
@@ -84,19 +98,38 @@ fn after_step<'a>(step: &Step, bytes: &'a [u8]) -> Option<&'a [u8]>
     }
 }
 
+/// What stands after a step, where its bytes stand in front.
+#[tactic(auto, unfolding(crate::specs::Parts::step_bytes))]
+fn after_slot<'a>(slot: &Slot, bytes: &'a [u8]) -> Option<&'a [u8]>
+    ensures { IfSome result (λ rest. (version : Versions) →
+        bytes.now ≡ step_bytes version (told (slot_of slot.now)) ++ rest.now) }
+{
+    match slot {
+        Slot::At(step) => after_step(step, bytes),
+        Slot::From(_) => {
+            let (tag, rest) = bytes.split_first()?;
+            if *tag != 2 {
+                return None;
+            }
+            Some(rest)
+        }
+    }
+}
+
 /// With how many of these steps, of so many at most, the bytes begin, and what stands after them.
-fn shared<'a>(steps: &[Step], count: u8, bytes: &'a [u8]) -> (usize, &'a [u8])
-    ensures few { (result.0 ≤ length steps.now) × (result.0 ≤ count) }
+fn shared<'a>(slots: &[Slot], count: u8, bytes: &'a [u8]) -> (usize, &'a [u8])
+    ensures few { (result.0 ≤ length slots.now) × (result.0 ≤ count) }
     ensures parts { (version : Versions) → bytes.now
-        ≡ flat_map (step_bytes version) (map step_of (take result.0 steps.now)) ++ result.1.now }
+        ≡ flat_map (step_bytes version) (told_place (map slot_of (take result.0 slots.now)))
+        ++ result.1.now }
 {
     let mut len = 0;
     let mut rest = bytes;
-    for step in steps {
+    for slot in slots {
         if len == count as usize {
             return (len, rest);
         }
-        let Some(after) = after_step(step, rest) else {
+        let Some(after) = after_slot(slot, rest) else {
             return (len, rest);
         };
         len += 1;
@@ -105,46 +138,55 @@ fn shared<'a>(steps: &[Step], count: u8, bytes: &'a [u8]) -> (usize, &'a [u8])
     (len, rest)
 }
 
-/// So many steps. Of the steps of the path before, those are kept with which the bytes begin.
-fn each_step(
+/// So many steps. Of the steps of the place before, those are kept with which the bytes begin.
+fn each_step<'a>(
     alloc: Global,
     version: Version,
-    before: Vec<Step>,
+    before: Vec<Slot>,
+    known: &[u64],
     count: u8,
-    bytes: &[u8],
-) -> Result<(Vec<Step>, &[u8]), Kind>
-    requires { AllByRecursion (IsStateStep version) (map step_of before.items) }
+    bytes: &'a [u8],
+) -> Result<(Vec<Slot>, &'a [u8]), Kind>
+    requires steps { AllByRecursion (IsStateStep version) (told_place (map slot_of before.items)) }
+    requires known { IsKnown known.now (map slot_of before.items) }
+    requires deep { count ≤ length known.now }
     ensures ok { IfOk result (λ x. Begins (AreSo (IsStateStep version) count)
-        (flat_map (step_bytes version)) (map step_of x.0.items) bytes.now x.1.now) }
+        (flat_map (step_bytes version)) (told_place (map slot_of x.0.items)) bytes.now x.1.now) }
+    ensures numbers { IfOk result (λ x. IsKnown known.now (map slot_of x.0.items)) }
     ensures refused { IfErr result (λ kind. IsRefused kind
         (BeginsNone (AreSo (IsStateStep version) count) (flat_map (step_bytes version))
         bytes.now)) }
 {
-    let mut steps = before;
-    let (len, behind) = shared(steps.as_slice(), count, bytes);
-    steps.truncate(len);
+    let mut slots = before;
+    let (len, behind) = shared(slots.as_slice(), count, bytes);
+    slots.truncate(len);
     let mut rest = behind;
-    while steps.len() < count as usize {
-        let (step, after) = step_at(alloc, version, rest)?;
-        let Ok(()) = steps.push(step) else {
+    while slots.len() < count as usize {
+        let (slot, after) = step_at(alloc, version, known[slots.len()], rest)?;
+        let Ok(()) = slots.push(slot) else {
             return Err(Kind::Memory);
         };
         rest = after;
     }
-    Ok((steps, rest))
+    Ok((slots, rest))
 }
 
-/// A path. Of the path before it those steps are kept with which it begins too, so that only what
+/// The place of a row, where it is known of each row above from which index on its elements are
+/// alike. Of the place before it those steps are kept with which it begins too, so that only what
 /// differs is made.
-pub fn path_at(
+pub fn path_at<'a>(
     alloc: Global,
     version: Version,
-    before: Path,
-    bytes: &[u8],
-) -> Result<(Path, &[u8]), Kind>
-    requires { IsStatePath version before }
-    ensures ok { IfOk result (λ x. Begins (IsStatePath version) (path_bytes version) x.0 bytes.now
-        x.1.now) }
+    before: Place,
+    known: &[u64],
+    bytes: &'a [u8],
+) -> Result<(Place, &'a [u8]), Kind>
+    requires steps { IsStatePath version (told_place before) }
+    requires known { IsKnown known.now before }
+    requires deep { step_limit < length known.now }
+    ensures ok { IfOk result (λ x. Begins (IsStatePath version) (path_bytes version)
+        (told_place x.0) bytes.now x.1.now) }
+    ensures numbers { IfOk result (λ x. IsKnown known.now x.0) }
     ensures refused { IfErr result (λ kind. IsRefused kind
         (BeginsNone (IsStatePath version) (path_bytes version) bytes.now)) }
 {
@@ -155,9 +197,9 @@ pub fn path_at(
     if asked > STEP_LIMIT {
         return Err(Kind::NotState);
     }
-    let (steps, rest) = each_step(alloc, version, before.into_steps(), *count, rest)?;
-    let Some(path) = Path::new(steps) else {
+    let (slots, rest) = each_step(alloc, version, before.into_slots(), known, *count, rest)?;
+    let Some(place) = Place::new(slots) else {
         return Err(Kind::NotState);
     };
-    Ok((path, rest))
+    Ok((place, rest))
 }

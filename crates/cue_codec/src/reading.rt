@@ -5,9 +5,9 @@ ghost use Rattle.std.specs.Int.{w16, w32, w64};
 ghost use Rattle.std.specs.Option.{option_map};
 ghost use Rattle.cue_lattice.specs.Scalar.{IsInteger};
 ghost use Rattle.cue_codec.specs.Parts.{integer_bytes, piece_bytes, text_bytes, flags, most_bytes};
-ghost use Rattle.cue_codec.specs.Parts.{lengths_bytes};
+ghost use Rattle.cue_codec.specs.Parts.{index_bytes, lengths_bytes};
 ghost use Rattle.cue_codec.specs.Reading.{Begins, BeginsNone, IsPiece, IsWord, AreWideLengths};
-ghost use Rattle.cue_codec.specs.Reading.{IsMost, number_at};
+ghost use Rattle.cue_codec.specs.Reading.{IsIndex, IsMost, number_at};
 
 use crate::version::Version;
 
@@ -111,8 +111,24 @@ fn most_at(bytes: &[u8]) -> Option<(Option<u32>, &[u8])>
     }
 }
 
-/// The least and the greatest length.
-pub fn lengths_at(version: Version, bytes: &[u8]) -> Option<((u32, Option<u32>), &[u8])>
+/// From which index on the elements of a list are alike: 0 where the version tells nothing of it.
+#[tactic(auto, unfolding(crate::specs::Parts::index_bytes))]
+fn index_at(version: Version, bytes: &[u8]) -> Option<(u64, &[u8])>
+    ensures some { IfSome result (λ x. Begins (IsIndex version) (index_bytes version) x.0
+        bytes.now x.1.now) }
+    ensures none { IfNone result (BeginsNone (IsIndex version) (index_bytes version) bytes.now) }
+{
+    match version {
+        Version::First => Some((0, bytes)),
+        Version::Second => {
+            let (fixed, rest) = u32_at(bytes)?;
+            Some((u64::from(fixed), rest))
+        }
+    }
+}
+
+/// The least and the greatest length, and from which index on the elements are alike.
+pub fn lengths_at(version: Version, bytes: &[u8]) -> Option<((u32, Option<u32>, u64), &[u8])>
     ensures some { IfSome result (λ x. Begins (AreWideLengths version) (lengths_bytes version) x.0
         bytes.now x.1.now) }
     ensures none { IfNone result
@@ -120,7 +136,6 @@ pub fn lengths_at(version: Version, bytes: &[u8]) -> Option<((u32, Option<u32>),
 {
     let (least, rest) = u32_at(bytes)?;
     let (most, rest) = most_at(rest)?;
-    match version {
-        Version::First => Some(((least, most), rest)),
-    }
+    let (fixed, rest) = index_at(version, rest)?;
+    Some(((least, most, fixed), rest))
 }

@@ -1,6 +1,9 @@
 //! Rows, read one after another.
 
-ghost use Rattle.std.specs.Prelude.{◌≡◌, ◌↔◌, [], IsTrue, IfOk, IfErr, OnErr};
+ghost use Rattle.std.specs.Prelude.{◌≡◌, ◌↔◌, ◌<◌, [], length, IsTrue, IfOk, IfErr, OnErr};
+ghost use Rattle.cue_lattice.specs.Limits.{step_limit};
+ghost use Rattle.cue_codec.specs.Entry.{told_place, entry_at};
+ghost use Rattle.cue_codec.specs.Known.{IsKnown};
 ghost use Rattle.cue_codec.specs.Reading.{Begins, BeginsNone, IsRefused};
 ghost use Rattle.cue_codec.specs.RowBytes.{row_bytes, IsStateRow};
 ghost use Rattle.cue_codec.specs.StateRow.{IsStatePath};
@@ -9,33 +12,39 @@ use crate::paths::path_at;
 use crate::rows::parts_at;
 use crate::version::Version;
 use cue_lattice::Kind;
-use cue_row::{Level, Path, Row};
+use cue_row::{Level, Row};
+use cue_table::Place;
 use std::alloc::Global;
 use std::marker::Model;
 
-/// The row whose bytes stand in front, with its path, and the bytes after it. The path is made of
-/// the one before it.
-fn row_at(
+/// The row whose bytes stand in front, with its place and from which index on its elements are
+/// alike, and the bytes after it. The place is made of the one before it, where these indexes are
+/// known of the rows above.
+fn row_at<'a>(
     alloc: Global,
     version: Version,
-    before: Path,
-    bytes: &[u8],
-) -> Result<((Path, Row), &[u8]), Kind>
-    requires { IsStatePath version before }
-    ensures ok { IfOk result (λ x. Begins (IsStateRow version) (row_bytes version) x.0 bytes.now
-        x.1.now) }
+    before: Place,
+    known: &[u64],
+    bytes: &'a [u8],
+) -> Result<((Place, u64, Row), &'a [u8]), Kind>
+    requires steps { IsStatePath version (told_place before) }
+    requires known { IsKnown known.now before }
+    requires deep { step_limit < length known.now }
+    ensures ok { IfOk result (λ x. Begins (IsStateRow version) (row_bytes version)
+        (entry_at x.0.0 x.0.1 x.0.2) bytes.now x.1.now) }
+    ensures numbers { IfOk result (λ x. IsKnown known.now x.0.0) }
     ensures refused { IfErr result (λ kind. IsRefused kind
         (BeginsNone (IsStateRow version) (row_bytes version) bytes.now)) }
 {
-    let (path, behind) = path_at(alloc, version, before, bytes)?;
+    let (place, behind) = path_at(alloc, version, before, known, bytes)?;
     let Some((number, rest)) = behind.split_first() else {
         return Err(Kind::NotState);
     };
     let Some(level) = Level::from_number(*number) else {
         return Err(Kind::NotState);
     };
-    let (row, rest) = parts_at(alloc, version, level, rest)?;
-    Ok(((path, row), rest))
+    let (row, fixed, rest) = parts_at(alloc, version, level, rest)?;
+    Ok(((place, fixed, row), rest))
 }
 
 /// Takes a row at a time from the front of bytes. Contracts see the bytes that are left.
@@ -67,24 +76,29 @@ impl<'a> RowReader<'a> {
         self.rest.is_empty()
     }
 
-    /// The row whose bytes in this version stand in front, with its path, which is made of the one
-    /// before it; the reader goes on after it. Where no row's bytes stand there it is refused as
-    /// `NotState`, and where memory ran out as `Memory`; the reader is then as before. Room is made
-    /// only for what was read.
+    /// The row whose bytes in this version stand in front, with its place and from which index on
+    /// its elements are alike; the reader goes on after it. The place is made of the one before it,
+    /// and a rest on it begins at the index that is known of the row above. Where no row's bytes
+    /// stand there it is refused as `NotState`, and where memory ran out as `Memory`; the reader is
+    /// then as before. Room is made only for what was read.
     pub fn read(
         &mut self,
         alloc: Global,
         version: Version,
-        before: Path,
-    ) -> Result<(Path, Row), Kind>
-        requires { IsStatePath version before }
-        ensures ok { IfOk result (λ row. Begins (IsStateRow version) (row_bytes version) row
-            self.old self.new) }
+        before: Place,
+        known: &[u64],
+    ) -> Result<(Place, u64, Row), Kind>
+        requires steps { IsStatePath version (told_place before) }
+        requires known { IsKnown known.now before }
+        requires deep { step_limit < length known.now }
+        ensures ok { IfOk result (λ x. Begins (IsStateRow version) (row_bytes version)
+            (entry_at x.0 x.1 x.2) self.old self.new) }
+        ensures numbers { IfOk result (λ x. IsKnown known.now x.0) }
         ensures refused { IfErr result (λ kind. IsRefused kind
             (BeginsNone (IsStateRow version) (row_bytes version) self.old)) }
         ensures unchanged { OnErr result (self.new ≡ self.old) }
     {
-        let (row, rest) = row_at(alloc, version, before, self.rest)?;
+        let (row, rest) = row_at(alloc, version, before, known, self.rest)?;
         self.rest = rest;
         Ok(row)
     }

@@ -1,6 +1,6 @@
 //! What a row says, as bytes.
 
-ghost use Rattle.std.specs.Prelude.{◌≡◌, ◌++◌, OnOk};
+ghost use Rattle.std.specs.Prelude.{◌≡◌, ◌<◌, ◌^◌, ◌++◌, OnOk};
 ghost use Rattle.cue_codec.specs.RowBytes.{parts_bytes, parts_of, scalars_bytes, left_out_bytes};
 ghost use Rattle.cue_codec.specs.RowBytes.{IsShortRow};
 ghost use Rattle.cue_codec.specs.Version.{written};
@@ -23,21 +23,24 @@ fn put_scalars(out: &mut Vec<u8>, row: &Row) -> Result<(), Memory>
 
 /// Writes the labels and the lengths that are left out.
 #[tactic(auto, unfolding(crate::specs::RowBytes::left_out_bytes))]
-fn put_left_out(out: &mut Vec<u8>, row: &Row) -> Result<(), Memory>
-    requires { IsShortRow row.now }
+fn put_left_out(out: &mut Vec<u8>, row: &Row, fixed: u64) -> Result<(), Memory>
+    requires short { IsShortRow row.now }
+    requires fixed { fixed < 2 ^ 32 }
     ensures { OnOk result (out.new.items ≡ out.old.items
-        ++ left_out_bytes written (row.now.labels, (row.now.least, row.now.most))) }
+        ++ left_out_bytes written (row.now.labels, (row.now.least, row.now.most, fixed))) }
 {
     put_labels(out, &row.labels)?;
-    put_lengths(out, row.least, row.most)
+    put_lengths(out, row.least, row.most, fixed)
 }
 
-/// Writes the kind of a row, and what it leaves open.
+/// Writes the kind of a row, and what it leaves open, where its elements are alike from an index
+/// on.
 #[tactic(auto, unfolding(crate::specs::RowBytes::parts_bytes))]
-pub fn put_parts(out: &mut Vec<u8>, row: &Row) -> Result<(), Memory>
-    requires { IsShortRow row.now }
+pub fn put_parts(out: &mut Vec<u8>, row: &Row, fixed: u64) -> Result<(), Memory>
+    requires short { IsShortRow row.now }
+    requires fixed { fixed < 2 ^ 32 }
     ensures { OnOk result (out.new.items ≡ out.old.items
-        ++ parts_bytes written (parts_of row.now)) }
+        ++ parts_bytes written (parts_of row.now fixed)) }
 {
     match (row.struct_ok, row.list_ok) {
         (true, true) => {
@@ -50,12 +53,12 @@ pub fn put_parts(out: &mut Vec<u8>, row: &Row) -> Result<(), Memory>
         }
         (false, true) => {
             out.push(3)?;
-            put_lengths(out, row.least, row.most)
+            put_lengths(out, row.least, row.most, fixed)
         }
         (false, false) => {
             if is_empty(&row.value) {
                 out.push(4)?;
-                return put_left_out(out, row);
+                return put_left_out(out, row, fixed);
             }
             out.push(1)?;
             put_scalars(out, row)

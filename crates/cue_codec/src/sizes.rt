@@ -3,7 +3,8 @@
 ghost use Rattle.std.specs.Prelude.{◌≡◌, ℕ, List, ◌+◌};
 ghost use Rattle.std.specs.List.{flat_map};
 ghost use Rattle.cue_row.specs.Steps.{step_of};
-ghost use Rattle.cue_table.specs.Tree.{rows_of};
+ghost use Rattle.cue_table.specs.Tree.{fixed_of};
+ghost use Rattle.cue_codec.specs.Entry.{at, entries_of};
 ghost use Rattle.cue_codec.specs.Parts.{counted_bytes, text_bytes, set_bytes, labels_bytes};
 ghost use Rattle.cue_codec.specs.Parts.{lengths_bytes, step_bytes};
 ghost use Rattle.cue_codec.specs.RowBytes.{parts_bytes, parts_of, row_bytes_from};
@@ -54,18 +55,18 @@ fn labels_size(labels: &Labels) -> u64
 
 #[tactic(auto, using(crate::proofs::Lengths::open_length, crate::proofs::Lengths::closed_length))]
 fn lengths_size(least: u32, most: Option<u32>) -> u64
-    ensures { result ≡ size_of (lengths_bytes written (least, most)) }
+    ensures { (fixed : ℕ) → result ≡ size_of (lengths_bytes written (least, most, fixed)) }
 {
     match most {
-        None => 5,
-        Some(_) => 9,
+        None => 9,
+        Some(_) => 13,
     }
 }
 
-/// How many bytes the parts of a row take.
+/// How many bytes the parts of a row take, from whichever index on its elements are alike.
 #[tactic(auto, using(crate::proofs::Lengths::lengths_of_parts))]
 fn parts_size(row: &Row) -> u64
-    ensures { result ≡ size_of (parts_bytes written (parts_of row.now)) }
+    ensures { (fixed : ℕ) → result ≡ size_of (parts_bytes written (parts_of row.now fixed)) }
 {
     match (row.struct_ok, row.list_ok) {
         (true, true) => 1,
@@ -84,7 +85,7 @@ fn parts_size(row: &Row) -> u64
 /// How many bytes a label or an index takes.
 #[tactic(auto, using(crate::proofs::Lengths::label_length, crate::proofs::Lengths::index_length))]
 fn step_size(step: &Step) -> u64
-    ensures { result ≡ size_of (step_bytes written (step_of step.now)) }
+    ensures { result ≡ size_of (step_bytes written (at (step_of step.now))) }
 {
     match step {
         Step::Label(text) => add(3, text.as_bytes().len() as u64),
@@ -95,7 +96,8 @@ fn step_size(step: &Step) -> u64
 /// How many bytes the rows of a branch take, where the bytes of the steps to it are so many.
 fn rows_size(steps: u64, branch: &Branch<Row>) -> u64
     ensures { (depth : ℕ) (bytes : List ℕ) → steps ≡ size_of bytes
-        → result ≡ size_of (flat_map (row_bytes_from written depth bytes) (rows_of branch.now)) }
+        → result ≡ size_of (flat_map (row_bytes_from written depth bytes)
+        (entries_of written branch.now)) }
 {
     let mut size = match branch.row() {
         None => 0,
@@ -105,7 +107,11 @@ fn rows_size(steps: u64, branch: &Branch<Row>) -> u64
     for (step, below) in branch.children() {
         size = add(size, rows_size(add(steps, step_size(step)), &below));
     }
-    size
+    match branch.rest() {
+        None => size,
+        // a byte for the step to the rest
+        Some(rest) => add(size, rows_size(add(steps, 1), &rest)),
+    }
 }
 
 /// How many bytes the state of a table takes, or the greatest number of 64 bits where it is more.

@@ -6,13 +6,15 @@ ghost use Rattle.cue_codec.specs.Version.{version_byte, IsNoVersion};
 /// Which of the formats state bytes are in. A version stays readable for good.
 #[derive(Clone, Copy, Debug, PartialEq, Eq)]
 pub enum Version {
-    /// The first format.
+    /// The first format, which tells no rest of a list.
     First,
+    /// The format that tells what the elements of a list are from an index on.
+    Second,
 }
 
 impl Version {
     /// The version that is written.
-    pub const WRITTEN: Version = Version::First;
+    pub const WRITTEN: Version = Version::Second;
 
     /// The byte that stands for the version.
     pub fn byte(self) -> u8
@@ -20,6 +22,7 @@ impl Version {
     {
         match self {
             Version::First => 1,
+            Version::Second => 2,
         }
     }
 
@@ -30,6 +33,7 @@ impl Version {
     {
         match byte {
             1 => Some(Version::First),
+            2 => Some(Version::Second),
             _ => None,
         }
     }

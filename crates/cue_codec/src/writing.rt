@@ -1,8 +1,9 @@
 //! The parts of a row as bytes.
 
-ghost use Rattle.std.specs.Prelude.{◌≡◌, ◌++◌, OnOk};
+ghost use Rattle.std.specs.Prelude.{◌≡◌, ◌<◌, ◌^◌, ◌++◌, OnOk};
 ghost use Rattle.std.specs.List.{flat_map, AllByRecursion};
 ghost use Rattle.cue_row.specs.Steps.{step_of};
+ghost use Rattle.cue_codec.specs.Entry.{at, to_rest};
 ghost use Rattle.cue_codec.specs.Parts.{integer_bytes, counted_bytes, piece_bytes, text_bytes};
 ghost use Rattle.cue_codec.specs.Parts.{flags, text_set_bytes, set_bytes, labels_bytes, most_bytes};
 ghost use Rattle.cue_codec.specs.Parts.{lengths_bytes, step_bytes};
@@ -139,19 +140,30 @@ fn put_most(out: &mut Vec<u8>, most: Option<u32>) -> Result<(), Memory>
     Ok(())
 }
 
-#[tactic(auto, unfolding(crate::specs::Parts::lengths_bytes))]
-pub fn put_lengths(out: &mut Vec<u8>, least: u32, most: Option<u32>) -> Result<(), Memory>
-    ensures { OnOk result (out.new.items ≡ out.old.items ++ lengths_bytes written (least, most)) }
+/// Writes the lengths of a list, and from which index on its elements are alike.
+#[tactic(auto, unfolding(crate::specs::Parts::lengths_bytes, crate::specs::Parts::index_bytes))]
+pub fn put_lengths(
+    out: &mut Vec<u8>,
+    least: u32,
+    most: Option<u32>,
+    fixed: u64,
+) -> Result<(), Memory>
+    requires { fixed < 2 ^ 32 }
+    ensures { OnOk result (out.new.items ≡ out.old.items
+        ++ lengths_bytes written (least, most, fixed)) }
 {
     out.extend_from_slice(&least.to_be_bytes())?;
-    put_most(out, most)
+    put_most(out, most)?;
+    out.extend_from_slice(&(fixed as u32).to_be_bytes())?;
+    Ok(())
 }
 
 /// Writes a label or an index.
 #[tactic(auto, unfolding(crate::specs::Parts::step_bytes))]
 pub fn put_step(out: &mut Vec<u8>, step: &Step) -> Result<(), Memory>
     requires { IsShortStep (step_of step.now) }
-    ensures { OnOk result (out.new.items ≡ out.old.items ++ step_bytes written (step_of step.now)) }
+    ensures { OnOk result (out.new.items ≡ out.old.items
+        ++ step_bytes written (at (step_of step.now))) }
 {
     match step {
         Step::Label(text) => {
@@ -164,4 +176,13 @@ pub fn put_step(out: &mut Vec<u8>, step: &Step) -> Result<(), Memory>
             Ok(())
         }
     }
+}
+
+/// Writes the step to the rest of a list.
+#[tactic(auto, unfolding(crate::specs::Parts::step_bytes))]
+pub fn put_rest(out: &mut Vec<u8>) -> Result<(), Memory>
+    ensures { OnOk result (out.new.items ≡ out.old.items ++ step_bytes written to_rest) }
+{
+    out.push(2)?;
+    Ok(())
 }

@@ -1,6 +1,8 @@
-use Rattle.std.proofs.Common.{◌≡◌, ◌+◌, ◌-◌, ◌^◌, ◌≤◌, length, min}
-use Rattle.cue_table.specs.Tree.{below, rows_of, rows_below}
+use Rattle.std.proofs.Common.{◌≡◌, ◌+◌, ◌-◌, ◌^◌, ◌≤◌, ◌++◌, length, min}
+use Rattle.cue_table.specs.Tree.{below, rest_of}
 use Rattle.cue_table.specs.Size.{tree_size, children_size}
+use Rattle.cue_codec.specs.Entry.{entries_of, entries_below, entries_onward}
+use Rattle.cue_codec.specs.Version.{written}
 use Rattle.cue_codec.proofs.branches.+row_count.Given as goal
 
 abbrev pub decreases-row_count : goal.decreases-row_count
@@ -9,7 +11,7 @@ decreases-row_count l = tree_size l.branch.now
 -- what was counted and what is left are all
 abbrev pub invariant-loop-below : goal.invariant-loop-below
 invariant-loop-below l = record {
-  counted : min (l.count + length (rows_below l.below-iterator)) (2 ^ 64 - 1) ≡ min (length (rows_of l.branch)) (2 ^ 64 - 1);
+  counted : min (l.count + length (entries_below written l.below-iterator ++ entries_onward written (rest_of l.branch))) (2 ^ 64 - 1) ≡ min (length (entries_of written l.branch)) (2 ^ 64 - 1);
   fits : l.count ≤ 2 ^ 64 - 1;
   smaller : children_size l.below-iterator ≤ children_size (below l.branch);
 }

@@ -1,8 +1,13 @@
-use Rattle.std.proofs.Common.{arith, refl, inr}
+use Rattle.std.proofs.Common.{arith, refl, inr, sym, subst}
 use Rattle.std.proofs.lemmas.Result.{err_from_is_err_and}
+use Rattle.cue_codec.specs.declared.version.Version.{Version}
+use Rattle.cue_codec.specs.Entry.{to_rest}
+use Rattle.cue_codec.specs.Parts.{step_bytes}
+use Rattle.cue_codec.specs.Reading.{Begins, BeginsNone}
+use Rattle.cue_codec.specs.StateRow.{IsStateStep}
 use Rattle.cue_codec.proofs.Codes.{refused_so}
 use Rattle.cue_codec.proofs.Numbers.{IsBytes, IsBytes-rest}
-use Rattle.cue_codec.proofs.StatePaths.{step_empty, step_tag, step_text, step_number, label_found, index_found}
+use Rattle.cue_codec.proofs.StatePaths.{step_empty, step_tag, step_text, step_number, step_untold, label_found, index_found, rest_found}
 use Rattle.cue_codec.proofs.paths.step_at.Goals as goal
 
 pub returns-in_default-clause-refused : goal.returns-in_default-clause-refused
@@ -26,6 +31,14 @@ returns-in-Some-u32_at-clause-ok c =
     let fits : IsBytes c.args.bytes.now = λ i. omega (arith, c.type_inv.bytes i) in
     index_found c.args.version c.args.bytes.now c.in-Some.rest.now c.in-Some-u32_at.rest.now c.in-Some.tag.now c.in-Some-u32_at.number (IsBytes-rest c.in-Some.tag.now c.args.bytes.now c.in-Some.rest.now c.in-Some.ensures.cases.0 fits) c.in-Some.ensures.cases.0 c.in-1.is c.in-Some-u32_at.ensures
 
-pub returns-in-2-to-255-clause-refused : goal.returns-in-2-to-255-clause-refused
-returns-in-2-to-255-clause-refused c =
-    inr (refl, step_tag c.args.version c.args.bytes.now c.in-Some.rest.now c.in-Some.tag.now c.in-Some.ensures.cases.0 (omega (arith, c.in-2-to-255)))
+pub returns-in-3-to-255-clause-refused : goal.returns-in-3-to-255-clause-refused
+returns-in-3-to-255-clause-refused c =
+    inr (refl, step_tag c.args.version c.args.bytes.now c.in-Some.rest.now c.in-Some.tag.now c.in-Some.ensures.cases.0 (omega (arith, c.in-3-to-255)))
+
+pub returns-in-First-clause-refused : goal.returns-in-First-clause-refused
+returns-in-First-clause-refused c =
+    inr (refl, subst (λ (v : Version). BeginsNone (IsStateStep v) (step_bytes v) c.args.bytes.now) (sym c.in-First.is) (step_untold c.args.bytes.now c.in-Some.rest.now c.in-Some.tag.now c.in-Some.ensures.cases.0 c.in-2.is))
+
+pub returns-in-Second-clause-ok : goal.returns-in-Second-clause-ok
+returns-in-Second-clause-ok c =
+    subst (λ (v : Version). Begins (IsStateStep v) (step_bytes v) to_rest c.args.bytes.now c.in-Some.rest.now) (sym c.in-Second.is) (rest_found c.args.bytes.now c.in-Some.rest.now c.in-Some.tag.now c.in-Some.ensures.cases.0 c.in-2.is)

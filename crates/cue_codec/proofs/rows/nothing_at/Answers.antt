@@ -15,7 +15,8 @@ returns-in_default-clause-refused c =
 
 pub returns-clause-ok : goal.returns-clause-ok
 returns-clause-ok c = record {
-  item = (c.in_ok-labels.labels, (c.in-Some.least, c.in-Some.most));
+  item = (c.in_ok-labels.labels, (c.in-Some.least, c.in-Some.most, c.in-Some.fixed));
   says = same_ok c.unwrap-row.result _ c.of_nothing.result c.unwrap-row.ensures c.of_nothing.ensures;
-  begins = left_out_found c.args.version c.args.bytes.now c.in_ok-labels.middle.now c.in-Some.rest.now c.in_ok-labels.labels (c.in-Some.least, c.in-Some.most) c.in_ok-labels.ensures.ok c.in-Some.ensures.some;
+  fixed_is = refl;
+  begins = left_out_found c.args.version c.args.bytes.now c.in_ok-labels.middle.now c.in-Some.rest.now c.in_ok-labels.labels (c.in-Some.least, c.in-Some.most, c.in-Some.fixed) c.in_ok-labels.ensures.ok c.in-Some.ensures.some;
 }

@@ -13,8 +13,8 @@ returns-in_default-clause-refused c = inr (refl, parts_empty c.args.version c.ar
 
 pub returns-in-0-clause-ok : goal.returns-in-0-clause-ok
 returns-in-0-clause-ok c =
-    free_found c.args.version c.args.bytes.now c.in-Some.rest.now c.in-Some.tag.now c.args.level c.unwrap-row.result c.in-Some.ensures.cases.0 c.in-0.is
-    (same_ok c.unwrap-row.result _ c.of_anything.result c.unwrap-row.ensures c.of_anything.ensures)
+    free_found c.args.version c.args.bytes.now c.in-Some.rest.now c.in-Some.tag.now c.args.level c.unwrap-row.result 0 c.in-Some.ensures.cases.0 c.in-0.is
+    (same_ok c.unwrap-row.result _ c.of_anything.result c.unwrap-row.ensures c.of_anything.ensures) refl
 
 pub returns-in-5-to-255-clause-refused : goal.returns-in-5-to-255-clause-refused
 returns-in-5-to-255-clause-refused c =
@@ -22,8 +22,8 @@ returns-in-5-to-255-clause-refused c =
 
 pub returns-in-1-clause-ok : goal.returns-in-1-clause-ok
 returns-in-1-clause-ok c =
-    IfOk-weaker c.scalar_at.result (λ x. Reads (λ sets. scalar sets.0 sets.1) AreScalars scalars_bytes c.args.level x.0 c.in-Some.rest.now x.1.now) (λ x. Reads (λ parts. parts) (IsStateParts c.args.version) (parts_bytes c.args.version) c.args.level x.0 c.args.bytes.now x.1.now)
-    (λ x r. scalar_found c.args.version c.args.bytes.now c.in-Some.rest.now x.1.now c.in-Some.tag.now c.args.level x.0 c.in-Some.ensures.cases.0 c.in-1.is r) c.scalar_at.ensures.ok
+    IfOk-weaker c.scalar_at.result (λ x. Reads (λ sets. scalar sets.0 sets.1) AreScalars scalars_bytes c.args.level x.0 x.1 c.in-Some.rest.now x.2.now) (λ x. Reads (λ parts. parts) (IsStateParts c.args.version) (parts_bytes c.args.version) c.args.level x.0 x.1 c.args.bytes.now x.2.now)
+    (λ x r. scalar_found c.args.version c.args.bytes.now c.in-Some.rest.now x.2.now c.in-Some.tag.now c.args.level x.0 x.1 c.in-Some.ensures.cases.0 c.in-1.is r) c.scalar_at.ensures.ok
 
 pub returns-in-1-clause-refused : goal.returns-in-1-clause-refused
 returns-in-1-clause-refused c =
@@ -32,8 +32,8 @@ returns-in-1-clause-refused c =
 
 pub returns-in-2-clause-ok : goal.returns-in-2-clause-ok
 returns-in-2-clause-ok c =
-    IfOk-weaker c.struct_at.result (λ x. Reads struct AreStateLabels labels_bytes c.args.level x.0 c.in-Some.rest.now x.1.now) (λ x. Reads (λ parts. parts) (IsStateParts c.args.version) (parts_bytes c.args.version) c.args.level x.0 c.args.bytes.now x.1.now)
-    (λ x r. struct_found c.args.version c.args.bytes.now c.in-Some.rest.now x.1.now c.in-Some.tag.now c.args.level x.0 c.in-Some.ensures.cases.0 c.in-2.is r) c.struct_at.ensures.ok
+    IfOk-weaker c.struct_at.result (λ x. Reads struct AreStateLabels labels_bytes c.args.level x.0 x.1 c.in-Some.rest.now x.2.now) (λ x. Reads (λ parts. parts) (IsStateParts c.args.version) (parts_bytes c.args.version) c.args.level x.0 x.1 c.args.bytes.now x.2.now)
+    (λ x r. struct_found c.args.version c.args.bytes.now c.in-Some.rest.now x.2.now c.in-Some.tag.now c.args.level x.0 x.1 c.in-Some.ensures.cases.0 c.in-2.is r) c.struct_at.ensures.ok
 
 pub returns-in-2-clause-refused : goal.returns-in-2-clause-refused
 returns-in-2-clause-refused c =
@@ -42,8 +42,8 @@ returns-in-2-clause-refused c =
 
 pub returns-in-3-clause-ok : goal.returns-in-3-clause-ok
 returns-in-3-clause-ok c =
-    IfOk-weaker c.list_at.result (λ x. Reads list (AreWideLengths c.args.version) (lengths_bytes c.args.version) c.args.level x.0 c.in-Some.rest.now x.1.now) (λ x. Reads (λ parts. parts) (IsStateParts c.args.version) (parts_bytes c.args.version) c.args.level x.0 c.args.bytes.now x.1.now)
-    (λ x r. list_found c.args.version c.args.bytes.now c.in-Some.rest.now x.1.now c.in-Some.tag.now c.args.level x.0 c.in-Some.ensures.cases.0 c.in-3.is r) c.list_at.ensures.ok
+    IfOk-weaker c.list_at.result (λ x. Reads list (AreWideLengths c.args.version) (lengths_bytes c.args.version) c.args.level x.0 x.1 c.in-Some.rest.now x.2.now) (λ x. Reads (λ parts. parts) (IsStateParts c.args.version) (parts_bytes c.args.version) c.args.level x.0 x.1 c.args.bytes.now x.2.now)
+    (λ x r. list_found c.args.version c.args.bytes.now c.in-Some.rest.now x.2.now c.in-Some.tag.now c.args.level x.0 x.1 c.in-Some.ensures.cases.0 c.in-3.is r) c.list_at.ensures.ok
 
 pub returns-in-3-clause-refused : goal.returns-in-3-clause-refused
 returns-in-3-clause-refused c =
@@ -52,8 +52,8 @@ returns-in-3-clause-refused c =
 
 pub returns-in-4-clause-ok : goal.returns-in-4-clause-ok
 returns-in-4-clause-ok c =
-    IfOk-weaker c.nothing_at.result (λ x. Reads (λ parts. nothing parts.0 parts.1) (AreLeftOut c.args.version) (left_out_bytes c.args.version) c.args.level x.0 c.in-Some.rest.now x.1.now) (λ x. Reads (λ parts. parts) (IsStateParts c.args.version) (parts_bytes c.args.version) c.args.level x.0 c.args.bytes.now x.1.now)
-    (λ x r. nothing_found c.args.version c.args.bytes.now c.in-Some.rest.now x.1.now c.in-Some.tag.now c.args.level x.0 c.in-Some.ensures.cases.0 c.in-4.is r) c.nothing_at.ensures.ok
+    IfOk-weaker c.nothing_at.result (λ x. Reads (λ parts. nothing parts.0 parts.1) (AreLeftOut c.args.version) (left_out_bytes c.args.version) c.args.level x.0 x.1 c.in-Some.rest.now x.2.now) (λ x. Reads (λ parts. parts) (IsStateParts c.args.version) (parts_bytes c.args.version) c.args.level x.0 x.1 c.args.bytes.now x.2.now)
+    (λ x r. nothing_found c.args.version c.args.bytes.now c.in-Some.rest.now x.2.now c.in-Some.tag.now c.args.level x.0 x.1 c.in-Some.ensures.cases.0 c.in-4.is r) c.nothing_at.ensures.ok
 
 pub returns-in-4-clause-refused : goal.returns-in-4-clause-refused
 returns-in-4-clause-refused c =

@@ -22,5 +22,6 @@ pub returns-clause-ok : goal.returns-clause-ok
 returns-clause-ok c = record {
   item = (c.in_ok-value.value, c.in_ok-usual.usual);
   says = same_ok c.unwrap-row.result _ c.of_scalars.result c.unwrap-row.ensures c.of_scalars.ensures;
+  fixed_is = refl;
   begins = scalars_found c.args.bytes.now c.in_ok-value.middle.now c.in_ok-usual.rest.now c.in_ok-value.value c.in_ok-usual.usual c.in_ok-value.ensures.ok (sym c.is_empty.ensures ∙ c.if-is_empty.false) c.in_ok-usual.ensures.ok;
 }

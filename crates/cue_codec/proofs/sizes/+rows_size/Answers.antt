@@ -1,8 +1,11 @@
 use Rattle.std.proofs.Common.{◌+◌, ◌∙◌, sym, ap, arith}
 use Rattle.cue_row.specs.Steps.{step_of}
 use Rattle.cue_codec.specs.Size.{saturated}
-use Rattle.cue_codec.proofs.WrittenRows.{left_size, below_size}
-use Rattle.cue_codec.proofs.Lengths.{size_begin, size_begin_below, size_more, size_end}
+use Rattle.cue_table.specs.Tree.{rest_of}
+use Rattle.cue_table.proofs.ValidWalks.{left_smaller, below_smaller}
+use Rattle.cue_codec.specs.Entry.{entries_onward}
+use Rattle.cue_codec.specs.Version.{written}
+use Rattle.cue_codec.proofs.Lengths.{size_begin, size_begin_below, size_more, size_rest, size_no_rest}
 use Rattle.cue_codec.proofs.sizes.+rows_size.Goals.{in-None, in-Some}
 use Rattle.cue_codec.proofs.sizes.+rows_size.Goals as goal
 
@@ -24,22 +27,29 @@ loop-step-init t c = record {
 
 pub rows_size-requires : goal.rows_size-requires
 rows_size-requires t c =
-    let size = left_size (step_of c.in-Some-2.step.now) c.in-Some-2.below c.loop-step.step-iterator c.next.new.self c.in-Some-2.ensures.steps in
-    let less = below_size c.args.branch.now in
+    let size = left_smaller c.loop-step.step-iterator c.next.new.self (step_of c.in-Some-2.step.now) c.in-Some-2.below c.in-Some-2.ensures.steps in
+    let less = below_smaller c.args.branch.now in
     (omega (arith, c.decreases), tt)
 
 pub loop-step-preserved : goal.loop-step-preserved
 loop-step-preserved t c =
     let step = step_of c.in-Some-2.step.now in
-    let size = left_size step c.in-Some-2.below c.loop-step.step-iterator c.next.new.self c.in-Some-2.ensures.steps in
+    let size = left_smaller c.loop-step.step-iterator c.next.new.self step c.in-Some-2.below c.in-Some-2.ensures.steps in
     record {
       counted = λ depth bytes e.
           rw c.add-size-in-loop-step.ensures
-          (size_more depth bytes step c.in-Some-2.below c.loop-step.step-iterator c.next.new.self c.args.steps c.step_size.result c.loop-step.size c.rows_size.result _ c.in-Some-2.ensures.steps e c.step_size.ensures
+          (size_more depth bytes step c.in-Some-2.below c.loop-step.step-iterator c.next.new.self (entries_onward written (rest_of c.args.branch.now)) c.args.steps c.step_size.result c.loop-step.size c.rows_size.result _ c.in-Some-2.ensures.steps e c.step_size.ensures
           (λ d b k. c.rows_size.ensures d b (c.add-in-loop-step.ensures ∙ k)) (c.loop-step.invariant.counted depth bytes e));
       fits = omega arith;
       smaller = omega arith;
     }
 
-pub returns : goal.returns
-returns t c = λ depth bytes e. size_end depth bytes c.loop-step.step-iterator _ _ c.in-None-2.ensures.steps.0 c.loop-step.invariant.fits (c.loop-step.invariant.counted depth bytes e)
+pub returns-in-None-rest : goal.returns-in-None-rest
+returns-in-None-rest t c = λ depth bytes e.
+    size_no_rest depth bytes c.args.branch.now c.loop-step.step-iterator _ _ c.in-None-2.ensures.steps.0 (sym c.in-None-rest.ensures.rest) c.loop-step.invariant.fits (c.loop-step.invariant.counted depth bytes e)
+
+pub returns-in-Some-rest : goal.returns-in-Some-rest
+returns-in-Some-rest t c = λ depth bytes e.
+    rw c.add-in-Some-rest-2.ensures
+    (size_rest depth bytes c.args.branch.now c.in-Some-rest.rest c.loop-step.step-iterator c.args.steps c.loop-step.size c.rows_size-in-Some-rest.result _ c.in-None-2.ensures.steps.0 (sym c.in-Some-rest.ensures.rest) e
+    (λ d b k. c.rows_size-in-Some-rest.ensures d b (c.add-in-Some-rest.ensures ∙ k)) (c.loop-step.invariant.counted depth bytes e))

@@ -1,7 +1,8 @@
-use Rattle.std.proofs.Common.{◌≡◌, ◌+◌, ◌≤◌, ℕ, List, length}
+use Rattle.std.proofs.Common.{◌≡◌, ◌+◌, ◌≤◌, ◌++◌, ℕ, List, length}
 use Rattle.std.specs.List.{flat_map}
-use Rattle.cue_table.specs.Tree.{below, rows_of, rows_below}
+use Rattle.cue_table.specs.Tree.{below, rest_of}
 use Rattle.cue_table.specs.Size.{tree_size, children_size}
+use Rattle.cue_codec.specs.Entry.{entries_of, entries_below, entries_onward}
 use Rattle.cue_codec.specs.RowBytes.{row_bytes_from}
 use Rattle.cue_codec.specs.Size.{saturated, size_of}
 use Rattle.cue_codec.specs.Version.{written}
@@ -14,8 +15,8 @@ decreases-rows_size l = tree_size l.branch.now
 abbrev pub invariant-loop-step : goal.invariant-loop-step
 invariant-loop-step l = record {
   counted : (depth : ℕ) (bytes : List ℕ) → l.steps ≡ size_of bytes
-      → saturated (l.size + length (flat_map (row_bytes_from written depth bytes) (rows_below l.step-iterator)))
-      ≡ size_of (flat_map (row_bytes_from written depth bytes) (rows_of l.branch));
+      → saturated (l.size + length (flat_map (row_bytes_from written depth bytes) (entries_below written l.step-iterator ++ entries_onward written (rest_of l.branch))))
+      ≡ size_of (flat_map (row_bytes_from written depth bytes) (entries_of written l.branch));
   fits : l.size ≡ saturated l.size;
   smaller : children_size l.step-iterator ≤ children_size (below l.branch);
 }
