@@ -10,7 +10,7 @@ use Rattle.cue_lattice.specs.Document.{Document}
 use Rattle.cue_lattice.specs.Meets.{Meets, ItemsMeet, MembersMeet}
 use Rattle.cue_lattice.proofs.Meeting.{less}
 use Rattle.cue_scope.specs.Core as cores
-use Rattle.cue_scope.specs.Core.{Core, null, truth, integer, text, named, top, bottom, bound, other_integer, other_text, conjunction, disjunction, struct, close, list, closed, Cores, no_cores, core, Elements, ends, goes_on, element}
+use Rattle.cue_scope.specs.Core.{Core, null, truth, integer, text, named, top, bottom, bound, other_integer, other_text, conjunction, disjunction, struct, close, list, closed, Cores, no_cores, core, Elements, ends, goes_on, each, element}
 use Rattle.cue_eval.specs.Literals.{declares, with_fields, with_elements, literals, literals_of_parts, literals_of_field, literals_of_element, LeaveOut}
 use Rattle.cue_eval.specs.Places.{ClosingRefuses}
 use Rattle.cue_documents.specs.Conjuncts.{Part, fields, elements, conjuncts, conjuncts_of, declared, written, field_parts, item_parts, structs, Declares, Within, ItemsWithin, MembersWithin}
@@ -63,6 +63,7 @@ of_field (cores.dots ms) l path = of_field ms l path
 of_element : (es : Elements) (i : ℕ) (path : Path) → literals_of_element es i path ≡ lits (written es i) path
 of_element ends i path = refl
 of_element goes_on i path = refl
+of_element (each c) i path = of_conjuncts c path
 of_element (element c es) zero path = of_conjuncts c path
 of_element (element c es) (suc i) path = of_element es i path
 

@@ -12,12 +12,12 @@ use Rattle.cue_lattice.proofs.Meeting.{Either, less, both, unasked, items_unaske
 use Rattle.cue_scalars.specs.Pairs.{Pair}
 use Rattle.cue_syntax.specs.declared.tree.Mark.{Mark}
 use Rattle.cue_syntax.specs.declared.tree.Mark.TheVariants.{Regular, Optional, Required}
-use Rattle.cue_scope.specs.Core.{Core, null, truth, integer, text, named, top, bottom, bound, other_integer, other_text, conjunction, disjunction, struct, close, list, closed, Cores, no_cores, core, Members, no_members, member, dots, Elements, ends, goes_on, element}
+use Rattle.cue_scope.specs.Core.{Core, null, truth, integer, text, named, top, bottom, bound, other_integer, other_text, conjunction, disjunction, struct, close, list, closed, Cores, no_cores, core, Members, no_members, member, dots, Elements, ends, goes_on, each, element}
 use Rattle.cue_eval.specs.Pairs.{pair}
 use Rattle.cue_eval.specs.Literals.{literals}
 use Rattle.cue_eval.specs.Places.{Here, ScalarRefuses, MarkRefuses, ClosingRefuses, IsAboveLength, level_of_mark}
 use Rattle.cue_eval.specs.Refuses.{Refuses, PartsRefuse, FieldRefuses, ElementRefuses, LiteralRefuses, count, is_open}
-use Rattle.cue_documents.specs.Admits.{Wanted, EachAt, IsScalarIn, IsLength, AllDeclared, Admits, AllAdmit, FieldsAdmit, ElementsAdmit, IsExactOnDocuments}
+use Rattle.cue_documents.specs.Admits.{Wanted, EachAt, EachItem, IsScalarIn, IsLength, AllDeclared, Admits, AllAdmit, FieldsAdmit, ElementsAdmit, IsExactOnDocuments}
 use Rattle.cue_documents.proofs.Closings.{Closing, closed_is_within, declares_them, leaves_none_out}
 
 -- ---- scalars
@@ -131,12 +131,21 @@ each_admits k mark c ih (documents.member l d others) is m =
 
 -- what a declaration adds to a literal
 more_fields : (k : List ℕ) (mark : Mark) (c : Core) (ms : Members) (others : documents.Members) → Wanted mark (Has k others) → MembersMeet (LiteralRefuses (OneField k mark c)) others → Meets (LiteralRefuses (FieldRefuses ms)) (documents.map others) → Meets (LiteralRefuses (FieldRefuses (member k mark c ms))) (documents.map others)
-more_fields k mark c ms others w each rest =
+more_fields k mark c ms others w below rest =
     less (Either (LiteralRefuses (OneField k mark c)) (LiteralRefuses (FieldRefuses ms))) (LiteralRefuses (FieldRefuses (member k mark c ms)))
     (λ path q g. (split (OneField k mark c) (FieldRefuses ms) path q).0 g) (documents.map others)
     (both (LiteralRefuses (OneField k mark c)) (LiteralRefuses (FieldRefuses ms)) (documents.map others)
-    (λ g. g, λ l g. subst (λ x. Has x others) g.0 (⊎_elim (is_wanted mark (Has k others) w) (λ e. absurd (no_level c 0 e)) g.1), each)
+    (λ g. g, λ l g. subst (λ x. Has x others) g.0 (⊎_elim (is_wanted mark (Has k others) w) (λ e. absurd (no_level c 0 e)) g.1), below)
     rest)
+
+-- ---- items, of which the law is known
+each_item : (P : Document → Type 0) (r : Refusals) → ((d : Document) → IsDocument d → P d → Meets r d) → (items : documents.Items) → AreItems items → EachItem P items → ItemsMeet (λ i. r) items
+each_item P r ih documents.no_items is h = tt
+each_item P r ih (documents.item d items) is h = (ih d is.0 h.0, each_item P r ih items is.1 h.1)
+
+each_of_items : (P : Document → Type 0) (r : Refusals) → ((d : Document) → IsDocument d → Meets r d → P d) → (items : documents.Items) → AreItems items → ItemsMeet (λ i. r) items → EachItem P items
+each_of_items P r ih documents.no_items is m = tt
+each_of_items P r ih (documents.item d items) is m = (ih d is.0 m.0, each_of_items P r ih items is.1 m.1)
 
 -- ---- the law, both ways
 mutual
@@ -177,6 +186,7 @@ mutual
   elements_meet : (es : Elements) (items : documents.Items) → AreItems items → ElementsAdmit es items → ItemsMeet (ElementRefuses es) items
   elements_meet ends items is h = items_unasked items
   elements_meet goes_on items is h = items_unasked items
+  elements_meet (each c) items is h = each_item (Admits c) (Refuses c) (λ d one a. meets c d one a) items is h
   elements_meet (element c es) documents.no_items is h = tt
   elements_meet (element c es) (documents.item d items) is h = (meets c d is.0 h.0, elements_meet es items is.1 h.1)
 
@@ -224,6 +234,7 @@ mutual
   elements_admit : (es : Elements) (items : documents.Items) → AreItems items → ItemsMeet (ElementRefuses es) items → ElementsAdmit es items
   elements_admit ends items is m = tt
   elements_admit goes_on items is m = tt
+  elements_admit (each c) items is m = each_of_items (Admits c) (Refuses c) (λ d one a. admits c d one a) items is m
   elements_admit (element c es) documents.no_items is m = tt
   elements_admit (element c es) (documents.item d items) is m = (admits c d is.0 m.0, elements_admit es items is.1 m.1)
 

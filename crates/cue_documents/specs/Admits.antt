@@ -9,7 +9,7 @@ use Rattle.cue_syntax.specs.declared.tree.Mark.{Mark}
 use Rattle.cue_syntax.specs.declared.tree.Mark.TheVariants.{Regular, Optional, Required}
 use Rattle.cue_syntax.specs.Syntax.{Entries}
 use Rattle.cue_scope.specs.Core.{Core, top, conjunction, struct, close, list, closed, Cores}
-use Rattle.cue_scope.specs.Core.{no_cores, core, Elements, ends, goes_on, element, Members}
+use Rattle.cue_scope.specs.Core.{no_cores, core, Elements, ends, goes_on, each, element, Members}
 use Rattle.cue_scope.specs.Core.{no_members, member, dots}
 use Rattle.cue_scope.specs.Meaning.{meant_text}
 use Rattle.cue_eval.specs.Pairs.{pair}
@@ -50,6 +50,11 @@ abbrev pub EachAt : (Document → Type 0) → List ℕ → documents.Members →
 EachAt P l documents.no_members = Unit {0}
 EachAt P l (documents.member k d members) = (k ≡ l → P d) × EachAt P l members
 
+-- each of these documents is so
+abbrev pub EachItem : (Document → Type 0) → documents.Items → Type 0
+EachItem P documents.no_items = Unit {0}
+EachItem P (documents.item d items) = P d × EachItem P items
+
 -- a struct literal declares each label, unless it wrote a `...`
 abbrev pub AllDeclared : Members → documents.Members → Type 0
 AllDeclared ms documents.no_members = Unit {0}
@@ -82,10 +87,12 @@ abbrev mutual
       Wanted mark (Has l members) × EachAt (Admits c) l members × FieldsAdmit ms members
   FieldsAdmit (dots ms) members = FieldsAdmit ms members
 
-  -- each element that is written admits what stands there
+  -- each element that is written admits what stands there, and what is written of each further one
+  -- admits all that stand behind them
   pub ElementsAdmit : Elements → documents.Items → Type 0
   ElementsAdmit ends items = Unit {0}
   ElementsAdmit goes_on items = Unit {0}
+  ElementsAdmit (each c) items = EachItem (Admits c) items
   ElementsAdmit (element c es) documents.no_items = Unit {0}
   ElementsAdmit (element c es) (documents.item d items) = Admits c d × ElementsAdmit es items
 

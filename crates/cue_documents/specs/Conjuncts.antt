@@ -7,8 +7,8 @@ use Rattle.std.specs.Str.{bytes_eq}
 use Rattle.cue_lattice.specs.Document as documents
 use Rattle.cue_lattice.specs.Document.{Document}
 use Rattle.cue_scope.specs.Core.{Core, conjunction, struct, close, list, closed, Cores, no_cores}
-use Rattle.cue_scope.specs.Core.{core, Elements, ends, goes_on, element, Members, no_members}
-use Rattle.cue_scope.specs.Core.{member, dots}
+use Rattle.cue_scope.specs.Core.{core, Elements, ends, goes_on, each, element, Members}
+use Rattle.cue_scope.specs.Core.{no_members, member, dots}
 use Rattle.cue_eval.specs.Literals.{declares, has_dots}
 
 -- a struct literal with its declarations, or a list literal with its elements
@@ -37,10 +37,12 @@ declared no_members l = []
 declared (member k mark c ms) l = cond (bytes_eq k l) (conjuncts c) [] ++ declared ms l
 declared (dots ms) l = declared ms l
 
--- the parts of the value that a list literal writes at an index
+-- the parts of the value that a list literal writes at an index: that of its own element, or of each
+-- further one
 abbrev pub written : Elements → ℕ → List Part
 written ends i = []
 written goes_on i = []
+written (each c) i = conjuncts c
 written (element c es) zero = conjuncts c
 written (element c es) (suc i) = written es i
 

@@ -7,7 +7,7 @@ use Rattle.std.proofs.lemmas.List.{length-replicate}
 use Rattle.std.proofs.lemmas.Slice.Eq.{bytes_eq-Decides}
 use Rattle.cue_lattice.specs.Path.{Path, label, index}
 use Rattle.cue_lattice.specs.Question.{allows}
-use Rattle.cue_scope.specs.Core.{Core, conjunction, struct, close, list, closed, Cores, no_cores, core, Members, no_members, member, dots, Elements, ends, goes_on, element}
+use Rattle.cue_scope.specs.Core.{Core, conjunction, struct, close, list, closed, Cores, no_cores, core, Members, no_members, member, dots, Elements, ends, goes_on, each, element}
 use Rattle.cue_eval.specs.Literals.{literals, declares, has_dots, LeaveOut}
 use Rattle.cue_eval.specs.Refuses.{Refuses, PartsRefuse, FieldRefuses, ElementRefuses}
 use Rattle.cue_eval.specs.Closing.{OneOfUsed, OneOfParts, OneOfFields, OneOfElements, any_literal, LeaveOutOwn, UsedAreClosed, IsClosedByOwn}
@@ -108,6 +108,7 @@ mutual
   elements_closed : (es : Elements) (i : ℕ) (path : Path) → OneOfElements (λ ms. ⊥) Any es i path → ClosedIn (OneOfElements (λ ms. ⊥) Dotted es i path) (λ k. ElementRefuses es i path (allows k))
   elements_closed ends i path h = absurd h
   elements_closed goes_on i path h = absurd h
+  elements_closed (each c) i path h = used_closed c path h
   elements_closed (element c es) zero path h = used_closed c path h
   elements_closed (element c es) (suc i) path h = elements_closed es i path h
 

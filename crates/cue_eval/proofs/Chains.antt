@@ -15,18 +15,14 @@ use Rattle.cue_row.specs.declared.step.Step.TheVariants as steps
 use Rattle.cue_table.specs.Depth.{tree_depth}
 use Rattle.cue_table.specs.Form.{IsTable}
 use Rattle.cue_table.specs.Tree.{Tree}
-use Rattle.cue_syntax.specs.declared.tree.Declaration.TheVariants as declarations
 use Rattle.cue_scope.proofs.Walking.{at_hand}
 use Rattle.cue_syntax.specs.declared.tree.Label.{Label}
-use Rattle.cue_syntax.specs.Syntax.{field}
 use Rattle.cue_scope.specs.Core.{Core, struct, member, no_members}
 use Rattle.cue_scope.specs.Meaning.{nested, text_of}
-use Rattle.cue_eval.specs.declared.rows.Tables.{Tables}
 use Rattle.cue_eval.specs.Evaluated.{HasAnswersOf}
 use Rattle.cue_eval.specs.Gathered.{Answers, GivenRefuse, LabelsRefuse, LiteralAnswers}
 use Rattle.cue_eval.specs.Places.{Here, MarkRefuses, StructRefuses}
 use Rattle.cue_eval.specs.Ready.{IsField, AreGiven, AtLabels}
-use Rattle.cue_eval.specs.Refuses as refusing
 use Rattle.cue_eval.proofs.Gathering.{shallow, answer_short}
 use Rattle.cue_eval.proofs.LiteralTables.{struct_table}
 

@@ -3,7 +3,7 @@ use Rattle.std.proofs.Common.{ℕ, zero, suc, ◌≤◌, inl, inr, List, [], ◌
 use Rattle.cue_lattice.specs.Path.{Path, label, index}
 use Rattle.cue_lattice.specs.Question as questions
 use Rattle.cue_lattice.specs.Question.{Question}
-use Rattle.cue_scope.specs.Core.{top, conjunction, struct, close, list, closed, Cores, no_cores, core, Members, no_members, member, dots, Elements, ends, goes_on, element}
+use Rattle.cue_scope.specs.Core.{top, conjunction, struct, close, list, closed, Cores, no_cores, core, Members, no_members, member, dots, Elements, ends, goes_on, each, element}
 use Rattle.cue_scope.specs.Limits.{depth_of_cores, depth_of_elements, depth_of_members}
 use Rattle.cue_eval.specs.Refuses.{PartsRefuse, FieldRefuses, ElementRefuses}
 use Rattle.cue_eval.specs.Origins.{PathsAreWithinDepth}
@@ -45,5 +45,6 @@ mutual
   element_within_depth : (es : Elements) (i : ℕ) (path : Path) (question : Question) → ElementRefuses es i path question → suc (length path) ≤ depth_of_elements es
   element_within_depth ends i path question h = absurd h
   element_within_depth goes_on i path question h = absurd h
+  element_within_depth (each c) i path question h = let here = paths_within_depth c path question h in omega (arith, here)
   element_within_depth (element c es) zero path question h = let here = paths_within_depth c path question h in omega (arith, here)
   element_within_depth (element c es) (suc i) path question h = let rest = element_within_depth es i path question h in omega (arith, rest)

@@ -1,11 +1,11 @@
 -- What tables of literals refuse, by what is given of their parts.
-use Rattle.std.proofs.Common.{◌≡◌, ◌↔◌, ◌⊎◌, ◌≤◌, ◌<◌, inl, inr, ⊎_elim, ℕ, List, [], ◌∷◌, Option, Some, None, Result, Ok, Err, length, refl, sym, subst, arith}
+use Rattle.std.proofs.Common.{◌≡◌, ◌↔◌, ◌⊎◌, ◌≤◌, ◌<◌, inl, inr, ⊎_elim, ℕ, zero, suc, ◌+◌, List, [], ◌∷◌, Option, Some, None, Result, Ok, Err, length, refl, sym, subst, arith}
 use Rattle.std.specs.Prelude.{IfOk}
 use Rattle.cue_syntax.specs.declared.tree.Mark.{Mark}
 use Rattle.std.proofs.lemmas.Bool.{cases_lt}
 use Rattle.cue_lattice.specs.OneOf.{OneOf}
 use Rattle.cue_lattice.specs.Path as paths
-use Rattle.cue_lattice.specs.Path.{Path}
+use Rattle.cue_lattice.specs.Path.{Path, label, index}
 use Rattle.cue_lattice.specs.Question as questions
 use Rattle.cue_lattice.specs.Question.{Question, may_be, usual, allows, level_at_most, length_at_most, length_at_least, SameAnswers}
 use Rattle.cue_row.specs.Questions.{question_of, asked_by}
@@ -17,13 +17,16 @@ use Rattle.cue_row.specs.declared.step.Step.{Step}
 use Rattle.cue_table.specs.Depth.{tree_depth}
 use Rattle.cue_table.specs.Form.{IsTable, IsKept}
 use Rattle.cue_table.specs.Many.{IsOfBranches, IsUnified}
-use Rattle.cue_table.specs.Meet.{IsAdded}
+use Rattle.cue_table.specs.Meet.{IsAdded, IsRestAdded, RestRefuses}
+use Rattle.cue_scope.specs.Core.{Core, Elements, each}
 use Rattle.cue_table.specs.Refuses as tables
 use Rattle.cue_table.specs.Refuses.{TableRefuses}
-use Rattle.cue_table.specs.Tree.{Tree, node, empty, below, row_at, row_of}
+use Rattle.cue_table.specs.Tree.{Tree, node, empty, below, rest_of, row_at, row_of}
 use Rattle.cue_table.proofs.Depth.{depth_rows, kept_at, row_depth}
 use Rattle.cue_eval.specs.Places.{Here, MarkRefuses}
-use Rattle.cue_eval.specs.Gathered.{Answers, GivenRefuse, LiteralAnswers}
+use Rattle.cue_eval.specs.Evaluated.{HasAnswersOf}
+use Rattle.cue_eval.specs.Gathered.{Answers, GivenRefuse, LiteralAnswers, FurtherRefuse}
+use Rattle.cue_eval.specs.Refuses.{ElementRefuses}
 
 -- each question is asked by one of the program
 asked_back : (row : Row) (question : Question) → RowRefuses row question ↔ Refuses row (asked_by question)
@@ -167,23 +170,23 @@ marked_none mark (Some old) row e is question = absurd (cc)
 pub marked_some : (mark : Mark) (before : Option Row) (old row : Row) → before ≡ Some old → ((question : Question) → RowRefuses row question ↔ (RowRefuses old question ⊎ MarkRefuses mark question)) → IsMarked mark before row
 marked_some mark before old row e is = subst (λ r. IsMarked mark r row) (sym e) is
 
-marked_answers : (before rest after : Tree Row) (mark : Mark) (row : Row) → rest ≡ node None (below before)
+marked_answers : (before rest after : Tree Row) (mark : Mark) (row : Row) → rest ≡ node None (below before) (rest_of before)
     → SameAnswers (Answers after) (λ path question. Answers rest path question ⊎ Here (RowRefuses row) path question) → IsMarked mark (row_of before) row
     → SameAnswers (Answers after) (λ path question. Here (MarkRefuses mark) path question ⊎ Answers before path question)
-marked_answers before rest after mark row e rooted is [] question =
+marked_answers (node old children more) rest after mark row e rooted is [] question =
     let all = rooted [] question in
     let o = is question in
     let free : Answers rest [] question → ⊥ = λ h. subst (λ (t : Tree Row). Answers t [] question) e h in (
       λ h. ⊎_elim (λ g. absurd (free g)) (λ g. ⊎_elim (λ k. inr k) (λ k. inl k) (o.0 g)) (all.0 h),
       λ h. all.1 (inr (o.1 (⊎_elim (λ g. inr g) (λ g. inl g) h))),
     )
-marked_answers before rest after mark row e rooted is (step ∷ path) question =
+marked_answers (node old children more) rest after mark row e rooted is (step ∷ path) question =
     let all = rooted (step ∷ path) question in (
       λ h. ⊎_elim (λ g. inr (subst (λ (t : Tree Row). Answers t (step ∷ path) question) e g)) (λ g. absurd g) (all.0 h),
       λ h. ⊎_elim (λ g. absurd g) (λ g. all.1 (inl (subst (λ (t : Tree Row). Answers t (step ∷ path) question) (sym e) g))) h,
     )
 
-pub marked_result : {E : Type 0} (r : Result (Tree Row) E) (before rest : Tree Row) (mark : Mark) (row : Row) → rest ≡ node None (below before)
+pub marked_result : {E : Type 0} (r : Result (Tree Row) E) (before rest : Tree Row) (mark : Mark) (row : Row) → rest ≡ node None (below before) (rest_of before)
     → IfOk r (λ after. SameAnswers (Answers after) (λ path question. Answers rest path question ⊎ Here (RowRefuses row) path question)) → IsMarked mark (row_of before) row
     → IfOk r (λ after. SameAnswers (Answers after) (λ path question. Here (MarkRefuses mark) path question ⊎ Answers before path question))
 marked_result (Ok after) before rest mark row e rooted is = marked_answers before rest after mark row e rooted is
@@ -217,3 +220,39 @@ pub marked_depth : (before after : Tree Row) (m : Mark) → IsTable Refuses IsRo
     → SameAnswers (Answers after) (λ path question. Here (MarkRefuses m) path question ⊎ Answers before path question) → tree_depth after ≤ tree_depth before
 marked_depth before after m form same = shallow after (tree_depth before) form (λ path question h.
     ⊎_elim (λ g. here_short (MarkRefuses m) path question (tree_depth before) g) (λ g. answer_short before path question g) ((same path question).0 h))
+
+-- ---- further elements are hung in
+pub further_answers : (first : ℕ) (c : Core) (table further all : Tree Row) → IsRestAdded Refuses table [] first further all → HasAnswersOf c further
+    → SameAnswers (Answers all) (λ path question. Answers table path question ⊎ FurtherRefuse first (each c) path question)
+further_answers first c table further all added same path question = (to path question, from path question) where
+  count_from : (m n : ℕ) → m ≤ n → (k : ℕ) × (m + k ≡ n)
+  count_from zero n h = (n, omega arith)
+  count_from (suc m) zero h = absurd (omega arith)
+  count_from (suc m) (suc n) h = let k = count_from m n (omega arith) in let e = k.1 in (k.0, omega (arith, e))
+
+  in_rest : (path : Path) (question : Question) → RestRefuses Refuses [] first further path (asked_by question) → FurtherRefuse first (each c) path question
+  in_rest path question (i, rest, at, least, r) =
+      let k = count_from first i least in
+      subst (λ p. FurtherRefuse first (each c) p question) (sym at) (k.0, k.1, (same rest question).0 ((asked further rest question).1 r))
+
+  of_rest : (path : Path) (question : Question) → FurtherRefuse first (each c) path question → RestRefuses Refuses [] first further path (asked_by question)
+  of_rest [] question h = absurd h
+  of_rest (label l ∷ path) question h = absurd h
+  of_rest (index i ∷ path) question (k, e, r) = (i, path, refl, omega (arith, e), (asked further path question).0 ((same path question).1 r))
+
+  to : (path : Path) (question : Question) → Answers all path question → Answers table path question ⊎ FurtherRefuse first (each c) path question
+  to path question h =
+      ⊎_elim (λ g. inl ((asked table path question).1 g)) (λ g. inr (in_rest path question g)) ((added path (asked_by question)).0 ((asked all path question).0 h))
+
+  from : (path : Path) (question : Question) → Answers table path question ⊎ FurtherRefuse first (each c) path question → Answers all path question
+  from path question h =
+      (asked all path question).1 ((added path (asked_by question)).1 (⊎_elim (λ g. inl ((asked table path question).0 g)) (λ g. inr (of_rest path question g)) h))
+
+-- and where none are, nothing changes
+pub no_further : (first : ℕ) (es : Elements) (table : Tree Row) → ((k : ℕ) (path : Path) (question : Question) → ¬ ElementRefuses es k path question)
+    → SameAnswers (Answers table) (λ path question. Answers table path question ⊎ FurtherRefuse first es path question)
+no_further first es table none path question = (λ h. inl h, λ h. ⊎_elim (λ g. g) (λ g. absurd (nowhere path question g)) h) where
+  nowhere : (path : Path) (question : Question) → ¬ FurtherRefuse first es path question
+  nowhere [] question h = h
+  nowhere (label l ∷ path) question h = h
+  nowhere (index i ∷ path) question h = none h.0 path question h.2

@@ -1,49 +1,44 @@
--- The labels that are left out at places, and where each label is declared, as tables.
-use Rattle.std.proofs.Common.{◌≡◌, ◌↔◌, inl, inr, ⊎_elim, ℕ, ◌+◌, ◌≤◌, ◌<◌, Bool, true, false, IsTrue, Bor, List, [], ◌∷◌, map, ◌++◌, length, drop, get_or, Option, Some, refl, sym, ap, subst}
-use Rattle.std.proofs.lemmas.List.{drop_all}
-use Rattle.cue_lattice.specs.OneOf.{OneOf}
+-- The labels that closing leaves out, as tables.
+use Rattle.std.proofs.Common.{◌≡◌, ◌↔◌, ◌⊎◌, inl, inr, ⊎_elim, ℕ, ◌+◌, ◌≤◌, ◌<◌, Bool, true, false, nat_lt, if◌then◌else◌, max, List, [], ◌∷◌, ◌++◌, All, length, Option, Some, None, refl, sym, ap, subst, ◌∙◌, arith}
+use Rattle.std.specs.Option.{is_some, option_and_then, option_map_or}
+use Rattle.std.proofs.lemmas.Bool.{cases_lt}
+use Rattle.std.proofs.lemmas.List.Elements.{All-push, All-nil}
 use Rattle.cue_lattice.proofs.OneOf.{one_of-push}
-use Rattle.cue_lattice.specs.Path.{Path}
+use Rattle.std.specs.declared.cmp.Ordering.{Ordering}
+use Rattle.std.specs.declared.cmp.Ordering.TheVariants.{Less, Equal, Greater}
+use Rattle.cue_lattice.specs.Limits.{step_limit}
+use Rattle.cue_lattice.specs.OneOf.{OneOf}
+use Rattle.cue_lattice.specs.Path as paths
+use Rattle.cue_lattice.specs.Path.{Path, label, index}
 use Rattle.cue_lattice.specs.Question.{Question, may_be, usual, struct, list, allows, level_at_most, length_at_most, length_at_least}
 use Rattle.cue_row.specs.LabelSets.{RefusesLabel}
 use Rattle.cue_row.specs.Questions.{question_of}
-use Rattle.cue_row.specs.Row.{Refuses}
+use Rattle.cue_row.specs.Row.{Refuses, IsRow}
 use Rattle.cue_row.specs.declared.question.Question as program
 use Rattle.cue_row.specs.declared.row.Row.{Row}
-use Rattle.cue_sets.specs.Texts.{IsTextSet, is_text_member}
-use Rattle.cue_sets.specs.TextLaws.{same_texts}
-use Rattle.cue_scope.proofs.Walking.{at_hand}
-use Rattle.cue_table.specs.Many.{IsUnified}
-use Rattle.cue_table.specs.Meet.{IsAdded}
+use Rattle.cue_row.specs.declared.step.Step.{Step}
+use Rattle.cue_row.specs.Steps.{step_of}
+use Rattle.cue_sets.specs.Texts.{is_text_member}
+use Rattle.cue_table.specs.Depth.{tree_depth, children_depth}
+use Rattle.cue_table.specs.Form.{IsTable}
+use Rattle.cue_table.specs.Many.{IsOfBranches}
+use Rattle.cue_table.specs.Meet.{IsAdded, IsRestAdded}
 use Rattle.cue_table.specs.Refuses.{TableRefuses}
-use Rattle.cue_table.specs.Tree.{Tree, row_at, empty}
-use Rattle.cue_eval.specs.Adding.{OnlyLabels, LeftOut, AllowsAll, AddedAt, IsDotted}
+use Rattle.cue_table.specs.Tree.{Tree, node, Children, none, child, no_rest, onward, row_of, row_at, branch_at, step_into, below, rest_of, rest_tree, find, if_equal, fixed_of, children_of}
+use Rattle.cue_table.proofs.Branches.{find_rest, find_fixed}
+use Rattle.cue_table.proofs.Depth.{refusals_depth, row_depth}
+use Rattle.cue_table.proofs.Finding.{found_here}
+use Rattle.cue_table.proofs.Exact.{none_within, within_last}
+use Rattle.cue_table.proofs.Order.{equal_steps}
+use Rattle.cue_eval.specs.Adding.{OnlyLabels, LeftOut, Adds, AddsHere, AddsAt, row_below, step_below, IsStepInto, IsAlikeFrom, IsFrom, IsAmong, AreOwnSteps, AreAddedAt, FurtherAdds}
+use Rattle.cue_eval.specs.declared.left_out.Place.{Place}
 use Rattle.cue_eval.specs.declared.declared.Declared.{Declared}
-use Rattle.cue_eval.specs.declared.declared.Asked.{Asked}
-use Rattle.cue_eval.specs.declared.declared.Asked.TheVariants.{Stands, Declares}
-use Rattle.cue_eval.specs.Telling.{Tells}
-use Rattle.cue_eval.proofs.TellingNames.{empty_tells}
-use Rattle.cue_eval.proofs.TellingParts.{IsSplit, split_more, split_all, itself}
 
--- ---- one place
-pub dotted_here : (here : Declared) → here.stands ≡ true → IsTextSet here.undeclared → (b : Bool) → IsTrue b ↔ (here.undeclared ≡ (false, [])) → IsTrue b ↔ IsDotted here
-dotted_here here stands form b w = (
-  λ t. (stands, λ l. ap (λ s. is_text_member s l) (w.0 t)),
-  λ d. w.1 (same_texts here.undeclared (false, []) form tt (λ l. (λ h. refl, λ h. d.1 l))),
-)
+-- ---- the labels that are left out at one place
+itself : (a : Type 0) → a ↔ a
+itself a = (λ h. h, λ h. h)
 
-pub allows_all_row : (at : Option Row) (row : Row) → Some row ≡ at → (b : Bool) → IsTrue b ↔ ((l : List ℕ) → ¬ RefusesLabel row.labels l) → IsTrue b ↔ AllowsAll at
-allows_all_row at row e b w = subst (λ r. IsTrue b ↔ AllowsAll r) e w
-
--- ---- the labels that are left out at one path
-abbrev pub AreLeftOut : Path → Declared → Tree Row → Type 0
-AreLeftOut path here table = (at : Path) (question : program.Question) → TableRefuses Refuses table at question ↔ ((at ≡ path) × LeftOut here (question_of question))
-
-no_answers : (path : Path) (question : program.Question) → ¬ TableRefuses Refuses empty path question
-no_answers [] question h = h
-no_answers (step ∷ path) question h = h
-
-only_left_out : (here : Declared) (labels : Option (List (List ℕ))) → here.stands ≡ true → here.undeclared.0 ≡ true → ((l : List ℕ) → RefusesLabel labels l ↔ (is_text_member here.undeclared l ≡ true))
+pub only_left_out : (here : Declared) (labels : Option (List (List ℕ))) → here.stands ≡ true → here.undeclared.0 ≡ true → ((l : List ℕ) → RefusesLabel labels l ↔ (is_text_member here.undeclared l ≡ true))
     → (question : Question) → OnlyLabels labels question ↔ LeftOut here question
 only_left_out here labels stands but same (allows l) = (λ h. (stands, but, (same l).0 h), λ h. (same l).1 h.2)
 only_left_out here labels stands but same (may_be x) = itself _
@@ -54,18 +49,7 @@ only_left_out here labels stands but same (level_at_most k) = itself _
 only_left_out here labels stands but same (length_at_most n) = itself _
 only_left_out here labels stands but same (length_at_least n) = itself _
 
-pub labels_added : (path : Path) (here : Declared) (row : Row) (labels : Option (List (List ℕ))) (table : Tree Row) → here.stands ≡ true → here.undeclared.0 ≡ true
-    → ((l : List ℕ) → RefusesLabel labels l ↔ (is_text_member here.undeclared l ≡ true)) → ((question : program.Question) → Refuses row question ↔ OnlyLabels labels (question_of question))
-    → IsAdded Refuses empty path row table → AreLeftOut path here table
-labels_added path here row labels table stands but same only added at question =
-    let a = added at question in
-    let o = only question in
-    let l = only_left_out here labels stands but same (question_of question) in (
-      λ h. ⊎_elim (λ n. absurd (no_answers at question n)) (λ r. (r.0, l.0 (o.0 r.1))) (a.0 h),
-      λ h. a.1 (inr (h.0, o.1 (l.1 h.1))),
-    )
-
-none_left_out : (here : Declared) → (here.stands ≡ true → here.undeclared.0 ≡ true → ⊥) → (question : Question) → ¬ LeftOut here question
+pub none_left_out : (here : Declared) → (here.stands ≡ true → here.undeclared.0 ≡ true → ⊥) → (question : Question) → ¬ LeftOut here question
 none_left_out here never (allows l) h = never h.0 h.1
 none_left_out here never (may_be x) h = h
 none_left_out here never (usual x) h = h
@@ -75,83 +59,259 @@ none_left_out here never (level_at_most k) h = h
 none_left_out here never (length_at_most n) h = h
 none_left_out here never (length_at_least n) h = h
 
-pub no_labels_added : (path : Path) (here : Declared) → (here.stands ≡ true → here.undeclared.0 ≡ true → ⊥) → AreLeftOut path here empty
-no_labels_added path here never at question = (
-  λ h. absurd (no_answers at question h),
-  λ h. absurd (none_left_out here never (question_of question) h.1),
-)
+-- ---- one step further
+module _ {R : Type 0} where
+  pub row_further : (tree : Tree R) (step : paths.Step) (path : Path) → row_at tree (step ∷ path) ≡ row_below (step_into tree step) path
+  row_further tree step path = by (step_into tree step) where
+    by : (found : Option (Tree R)) → option_and_then row_of (option_and_then (λ b. branch_at b path) found) ≡ row_below found path
+    by None = refl
+    by (Some branch) = refl
 
--- ---- what places say
-abbrev pub shown : Path × Bor Declared → Path × Declared
-shown place = (place.0, place.1.now)
+  pub row_below_further : (branch : Option (Tree R)) (step : paths.Step) (path : Path) → row_below branch (step ∷ path) ≡ row_below (step_below branch step) path
+  row_below_further None step path = refl
+  row_below_further (Some tree) step path = row_further tree step path
 
-abbrev pub DottedAt : Path → Asked → Path × Declared → Type 0
-DottedAt path asked place = (place.0 ≡ path) × IsDotted place.1
+-- what closing adds below places that may be there
+abbrev AddsBelow : Option (Tree Declared) → Option (Tree Declared) → Option (Tree Row) → Path → Question → Type 0
+AddsBelow own dots rows path question = Adds (row_below own path) (row_below dots path) (row_below rows path) question
 
-abbrev pub LeftOutAt : Tree Declared → Tree Row → Path → program.Question → Path × Declared → Type 0
-LeftOutAt dots rows path question place = (place.0 ≡ path) × AddedAt dots rows place.0 place.1 (question_of question)
+same_adds : (a b : Option Declared) (c d : Option Declared) (e f : Option Row) → a ≡ b → c ≡ d → e ≡ f → (question : Question) → Adds a c e question ↔ Adds b d f question
+same_adds a b c d e f p q r question =
+    let all : Adds a c e question ≡ Adds b d f question = λ i. Adds (p i) (q i) (r i) question in
+    (λ h. subst (λ t. t) all h, λ h. subst (λ t. t) (sym all) h)
 
-tells_each : (here : Declared) → IsDotted here → (asked : Asked) → Tells here asked
-tells_each here d Stands = d.0
-tells_each here d (Declares l) = d.1 l
+pub adds_further : (place : Place) (step : paths.Step) (path : Path) (question : Question)
+    → AddsAt place (step ∷ path) question ↔ AddsBelow (step_into place.own step) (step_below place.dots step) (step_below place.rows step) path question
+adds_further place step path question =
+    same_adds _ _ _ _ _ _ (row_further place.own step path) (row_below_further place.dots step path) (row_below_further place.rows step path) question
 
-pub dotted_added : (place : Path × Declared) (table : Tree Declared) → IsDotted place.1 → IsAdded Tells empty place.0 place.1 table → (path : Path) (asked : Asked) → TableRefuses Tells table path asked ↔ DottedAt path asked place
-dotted_added place table d added path asked = (
-  λ h. ⊎_elim (λ n. absurd (empty_tells path asked n)) (λ r. (sym r.0, d)) ((added path asked).0 h),
-  λ h. (added path asked).1 (inr (sym h.0, tells_each place.1 h.1 asked)),
-)
+-- where a place is one step below another, the same is added there
+pub adds_into : (place : Place) (step : paths.Step) (below : Place) → IsStepInto place step below → (path : Path) (question : Question) → AddsAt below path question ↔ AddsAt place (step ∷ path) question
+adds_into place step below into path question =
+    let further = adds_further place step path question in
+    let same = same_adds (row_below (Some below.own) path) (row_below (step_into place.own step) path) _ _ _ _
+    (ap (λ t. row_below t path) (sym into.own)) (ap (λ t. row_below t path) into.dots) (ap (λ t. row_below t path) into.rows) question in
+    (λ h. further.1 (same.0 h), λ h. same.1 (further.0 h))
 
-pub left_out_added : (dots : Tree Declared) (rows : Tree Row) (place : Path × Declared) (table : Tree Row) → ¬ TableRefuses Tells dots place.0 Stands → AllowsAll (row_at rows place.0) → AreLeftOut place.0 place.1 table
-    → (path : Path) (question : program.Question) → TableRefuses Refuses table path question ↔ LeftOutAt dots rows path question place
-left_out_added dots rows place table without all out path question =
-    let o = out path question in
-    (λ h. let r = o.0 h in (sym r.0, (without, all, r.1)), λ h. o.1 (sym h.0, h.1.2))
+-- and where none is, nothing
+pub adds_nowhere : (place : Place) (step : paths.Step) → step_into place.own step ≡ None → (path : Path) (question : Question) → ¬ AddsAt place (step ∷ path) question
+adds_nowhere place step is path question h =
+    subst (λ t. AddsBelow t (step_below place.dots step) (step_below place.rows step) path question) is ((adds_further place step path question).0 h)
 
--- ---- a loop over places, each of which has a table or none
-one_listed : {X Y : Type 0} (P : Y → Type 0) (f : X → Y) (xs : List X) → OneOf (λ x. P (f x)) xs ↔ OneOf P (map f xs)
-one_listed P f [] = itself _
-one_listed P f (x ∷ xs) = let rest = one_listed P f xs in (
-  ⊎_elim (λ h. inl h) (λ h. inr (rest.0 h)),
-  ⊎_elim (λ h. inl h) (λ h. inr (rest.1 h)),
-)
+-- what is added below a step, tells a branch there
+pub adds_branch : (place : Place) (step : paths.Step) (path : Path) (question : Question) → AddsAt place (step ∷ path) question → (branch : Tree Declared) × (step_into place.own step ≡ Some branch)
+adds_branch place step path question h = by (step_into place.own step) refl where
+  by : (found : Option (Tree Declared)) → step_into place.own step ≡ found → (branch : Tree Declared) × (step_into place.own step ≡ Some branch)
+  by None e = absurd (adds_nowhere place step e path question h)
+  by (Some branch) e = (branch, e)
 
-module _ {R Q X : Type 0} (refuses : R → Q → Type 0) (P : Path → Q → X → Type 0) where
-  -- what the places say, the tables say so far, or the places that are left do
-  abbrev pub PlacesSplit : List (Tree R) → List X → List X → Type 0
-  PlacesSplit tables all left = (path : Path) (question : Q) → IsSplit (OneOf (P path question) all) (OneOf (λ (table : Tree R). TableRefuses refuses table path question) tables) (OneOf (P path question) left)
+-- ---- elements that are alike
+pub alike_into : {R : Type 0} (tree : Tree R) (i : ℕ) → fixed_of tree ≤ i → step_into tree (index i) ≡ rest_tree (rest_of tree)
+alike_into (node row children no_rest) i h = none_within i i children (within_last i children h) (omega arith)
+alike_into (node row children (onward n tree)) i h = find_rest n tree children i h
 
-  pub places_none : (all : List X) → PlacesSplit [] all all
-  places_none all path question = (λ h. inr h, ⊎_elim (λ n. absurd n) (λ h. h))
+pub alike_below : {R : Type 0} (branch : Option (Tree R)) (i j : ℕ) → option_map_or fixed_of branch 0 ≤ i → option_map_or fixed_of branch 0 ≤ j → step_below branch (index i) ≡ step_below branch (index j)
+alike_below None i j h k = refl
+alike_below (Some tree) i j h k = alike_into tree i h ∙ sym (alike_into tree j k)
 
-  pub place_next : (tables : List (Tree R)) (all : List X) (i : ℕ) (x : X) → PlacesSplit tables all (drop i all) → i < length all → x ≡ get_or all i x → PlacesSplit tables all (x ∷ drop (i + 1) all)
-  place_next tables all i x w h is = subst (λ z. PlacesSplit tables all z) (at_hand all i x h is) w
+pub alike_from : (place : Place) (n : ℕ) → fixed_of place.own ≤ n → option_map_or fixed_of place.dots 0 ≤ n → option_map_or fixed_of place.rows 0 ≤ n → IsAlikeFrom place n
+alike_from place n h k l i j path question a b adds =
+    let one = adds_further place (index i) path question in
+    let other = adds_further place (index j) path question in
+    let own : step_into place.own (index i) ≡ step_into place.own (index j) = alike_into place.own i (omega arith) ∙ sym (alike_into place.own j (omega arith)) in
+    let same = same_adds _ _ _ _ _ _ (ap (λ t. row_below t path) own) (ap (λ t. row_below t path) (alike_below place.dots i j (omega arith) (omega arith)))
+    (ap (λ t. row_below t path) (alike_below place.rows i j (omega arith) (omega arith))) question in
+    other.1 (same.0 (one.0 adds))
 
-  pub place_more : (tables : List (Tree R)) (all rest : List X) (x : X) (table : Tree R) → PlacesSplit tables all (x ∷ rest)
-      → ((path : Path) (question : Q) → TableRefuses refuses table path question ↔ P path question x) → PlacesSplit (tables ++ table ∷ []) all rest
-  place_more tables all rest x table w same path question =
-      split_more _ _ _ _ (TableRefuses refuses table path question) _ (w path question)
-      (let s = same path question in (⊎_elim (λ h. inl (s.1 h)) (λ h. inr h), ⊎_elim (λ h. inl (s.0 h)) (λ h. inr h)))
-      (one_of-push (λ (t : Tree R). TableRefuses refuses t path question) tables table)
+-- where the body writes no further elements, nothing is added to them
+pub none_from : (place : Place) (n : ℕ) → fixed_of place.own ≤ n → rest_tree (rest_of place.own) ≡ None → IsAlikeFrom place n
+none_from place n h free i j path question a b adds = absurd (adds_nowhere place (index i) (alike_into place.own i (omega arith) ∙ free) path question adds)
 
-  pub place_without : (tables : List (Tree R)) (all rest : List X) (x : X) → PlacesSplit tables all (x ∷ rest) → ((path : Path) (question : Q) → ¬ P path question x) → PlacesSplit tables all rest
-  place_without tables all rest x w none path question = (
-    λ h. ⊎_elim (λ t. inl t) (λ l. ⊎_elim (λ p. absurd (none path question p)) (λ r. inr r) l) ((w path question).0 h),
-    λ h. (w path question).1 (⊎_elim (λ t. inl t) (λ r. inr (inr r)) h),
-  )
+pub none_if : {X : Type 0} (o : Option X) → is_some o ≡ false → o ≡ None
+none_if None e = refl
+none_if (Some x) e = cc
 
-  pub places_all : (tables : List (Tree R)) (all : List X) (i : ℕ) (met : Tree R) → PlacesSplit tables all (drop i all) → length all ≤ i → IsUnified refuses tables met
-      → (path : Path) (question : Q) → TableRefuses refuses met path question ↔ OneOf (P path question) all
-  places_all tables all i met w h unified path question =
-      let end : PlacesSplit tables all [] = subst (λ z. PlacesSplit tables all z) (drop_all i all h) w in
-      let u = unified path question in
-      let s = split_all _ _ _ (end path question) (λ n. n) in
-      (λ r. s.0 (u.0 r), λ r. u.1 (s.1 r))
+-- ---- the steps of branches
+abbrev pub IsStepOf : Children Declared → paths.Step → Type 0
+IsStepOf children step = OneOf (λ item. item.0 ≡ step) (children_of children)
 
--- and so for the list that the places show
-pub places_shown : {R Q X Y : Type 0} (refuses : R → Q → Type 0) (P : Path → Q → Y → Type 0) (f : X → Y) (met : Tree R) (all : List X) (rows : List Y) → map f all ≡ rows
-    → ((path : Path) (question : Q) → TableRefuses refuses met path question ↔ OneOf (λ x. P path question (f x)) all)
-    → (path : Path) (question : Q) → TableRefuses refuses met path question ↔ OneOf (P path question) rows
-places_shown refuses P f met all rows e w path question =
-    let shown = one_listed (P path question) f all in
-    subst (λ z. TableRefuses refuses met path question ↔ OneOf (P path question) z) e
-    (λ h. shown.0 ((w path question).0 h), λ h. (w path question).1 (shown.1 h))
+pub found_step : (step : paths.Step) (children : Children Declared) (branch : Tree Declared) → find step children ≡ Some branch → IsStepOf children step
+found_step step none branch e = cc
+found_step step (child next tree children) branch e = by (paths.step_cmp step next) refl e (λ f. found_step step children branch f) where
+  by : (o : Ordering) → paths.step_cmp step next ≡ o → if_equal o tree (find step children) ≡ Some branch → (find step children ≡ Some branch → IsStepOf children step) → IsStepOf (child next tree children) step
+  by Less c f more = inr (more f)
+  by Greater c f more = inr (more f)
+  by Equal c f more = inl (sym (equal_steps step next c))
+
+-- each step at which a branch stands is that of a branch of its own, or of an element of the rest
+pub own_step : (own : Tree Declared) (n : ℕ) (steps : List Step) → ((step : paths.Step) → IsStepOf (below own) step → IsAmong steps step)
+    → ((i : ℕ) → fixed_of own ≤ i → i < n → IsAmong steps (index i)) → AreOwnSteps own n steps
+own_step (node row children no_rest) n steps children_there more step branch e = inl (children_there step (found_step step children branch e))
+own_step (node row children (onward m tree)) n steps children_there more (label l) branch e = inl (children_there (label l) (found_step (label l) children branch e))
+own_step (node row children (onward m tree)) n steps children_there more (index i) branch e =
+    elim (cases_lt i m) [
+      | inl low ↦ inl (children_there (index i) (found_step (index i) children branch (sym (find_fixed m tree children i low) ∙ e)))
+      | inr high ↦ elim (cases_lt i n) [
+        | inl near ↦ inl (more i high near)
+        | inr far ↦ inr far
+      ]
+    ]
+
+-- ---- the table of what is added
+own_row : (at : Option Declared) (dots : Option Declared) (row : Option Row) (question : Question) → Adds at dots row question → (here : Declared) × (at ≡ Some here)
+own_row None dots row question h = absurd h
+own_row (Some here) dots row question h = (here, refl)
+
+-- what is added stands where the body's own literals are
+pub adds_within : (place : Place) (path : Path) (question : Question) → AddsAt place path question → length path ≤ tree_depth place.own
+adds_within place path question h = let here = own_row (row_at place.own path) _ _ question h in row_depth place.own path here.0 here.1
+
+pub added_depth : (place : Place) (sets : Tree Row) → IsTable Refuses IsRow sets → ((path : Path) (question : program.Question) → TableRefuses Refuses sets path question ↔ AddsAt place path (question_of question))
+    → tree_depth sets ≤ tree_depth place.own
+added_depth place sets form same = refusals_depth Refuses IsRow sets (tree_depth place.own) form (λ path question r. adds_within place path (question_of question) ((same path question).0 r))
+
+-- a branch one step below is less deep
+found_depth : (step : paths.Step) (children : Children Declared) (tree : Tree Declared) → find step children ≡ Some tree → tree_depth tree < children_depth children
+found_depth step none tree e = cc
+found_depth step (child next here children) tree e =
+    found_here (λ t. tree_depth t < children_depth (child next here children)) _ here (find step children) tree (omega arith) (λ f. let h = found_depth step children tree f in omega arith) e
+
+depth_else : (b : Bool) (own : Option (Tree Declared)) (rest tree : Tree Declared) (n : ℕ) → (own ≡ Some tree → tree_depth tree < n) → tree_depth rest < n → (if b then own else Some rest) ≡ Some tree → tree_depth tree < n
+depth_else true own rest tree n f h e = f e
+depth_else false own rest tree n f h e = let same : rest ≡ tree = cc in subst (λ t. tree_depth t < n) same h
+
+pub into_depth : (step : paths.Step) (tree branch : Tree Declared) → step_into tree step ≡ Some branch → tree_depth branch < tree_depth tree
+into_depth step (node row children no_rest) branch e = let h = found_depth step children branch e in omega arith
+into_depth (label text) (node row children (onward n other)) branch e = let h = found_depth (label text) children branch e in omega arith
+into_depth (index i) (node row children (onward n other)) branch e =
+    depth_else (nat_lt i n) (find (index i) children) other branch (max (children_depth children) (tree_depth other + 1)) (λ f. let h = found_depth (index i) children branch f in omega arith) (omega arith) e
+
+-- what is added in further elements, as a table of one of them
+pub further_added : (place : Place) (n : ℕ) (below : Place) (sets further all : Tree Row) → IsStepInto place (index n) below
+    → ((path : Path) (question : program.Question) → TableRefuses Refuses further path question ↔ AddsAt below path (question_of question)) → IsRestAdded Refuses sets [] n further all
+    → (path : Path) (question : program.Question) → TableRefuses Refuses all path question ↔ (TableRefuses Refuses sets path question ⊎ FurtherAdds place n path (question_of question))
+further_added place n below sets further all into same added path question =
+    let a = added path question in (
+      λ h. ⊎_elim (λ g. inl g) (λ g. inr (g.0, g.1, g.2, g.3, (adds_into place (index n) below into g.1 (question_of question)).0 ((same g.1 question).0 g.4))) (a.0 h),
+      λ h. a.1 (⊎_elim (λ g. inl g) (λ g. inr (g.0, g.1, g.2, g.3, (same g.1 question).1 ((adds_into place (index n) below into g.1 (question_of question)).1 g.4))) h),
+    )
+
+pub none_further : (place : Place) (n : ℕ) (sets : Tree Row) → step_into place.own (index n) ≡ None
+    → (path : Path) (question : program.Question) → TableRefuses Refuses sets path question ↔ (TableRefuses Refuses sets path question ⊎ FurtherAdds place n path (question_of question))
+none_further place n sets free path question = (λ h. inl h, λ h. ⊎_elim (λ g. g) (λ g. absurd (adds_nowhere place (index n) free g.1 (question_of question) g.4)) h)
+
+-- what is added below the steps, in further elements and at the place is all that is added
+pub all_added : (place : Place) (n : ℕ) (steps : List Step) (branches : List (Step × Tree Row)) (below sets all : Tree Row)
+    → IsAlikeFrom place n → AreOwnSteps place.own n steps → AreAddedAt place steps branches → IsOfBranches Refuses branches below
+    → ((path : Path) (question : program.Question) → TableRefuses Refuses sets path question ↔ (TableRefuses Refuses below path question ⊎ FurtherAdds place n path (question_of question)))
+    → ((path : Path) (question : program.Question) → TableRefuses Refuses all path question ↔ (TableRefuses Refuses sets path question ⊎ ((path ≡ []) × AddsHere place (question_of question))))
+    → (path : Path) (question : program.Question) → TableRefuses Refuses all path question ↔ AddsAt place path (question_of question)
+all_added place n steps branches below sets all alike own given of further here [] question =
+    let h = here [] question in
+    let f = further [] question in (
+      λ r. ⊎_elim (λ g. ⊎_elim (λ k. absurd (of.root question k)) (λ k. let no : ⊥ = cc (k.2) in absurd no) (f.0 g)) (λ g. g.1) (h.0 r),
+      λ a. h.1 (inr (refl, a)),
+    )
+all_added place n steps branches below sets all alike own given of further here (step ∷ path) question = (to, from) where
+  h : TableRefuses Refuses all (step ∷ path) question ↔ (TableRefuses Refuses sets (step ∷ path) question ⊎ ((step ∷ path ≡ []) × AddsHere place (question_of question)))
+  h = here (step ∷ path) question
+
+  f : TableRefuses Refuses sets (step ∷ path) question ↔ (TableRefuses Refuses below (step ∷ path) question ⊎ FurtherAdds place n (step ∷ path) (question_of question))
+  f = further (step ∷ path) question
+
+  same_place : (i : ℕ) (rest : Path) → step ∷ path ≡ index i ∷ rest → (step ≡ index i) × (path ≡ rest)
+  same_place i rest e = (cc, cc)
+
+  of_further : FurtherAdds place n (step ∷ path) (question_of question) → AddsAt place (step ∷ path) (question_of question)
+  of_further (i, rest, at, least, adds) = subst (λ p. AddsAt place p (question_of question)) (sym at) (alike n i rest (question_of question) (omega arith) least adds)
+
+  to : TableRefuses Refuses all (step ∷ path) question → AddsAt place (step ∷ path) (question_of question)
+  to r = ⊎_elim
+      (λ g. ⊎_elim (λ k. ((given.refused step path question).0 ((of.below step path question).0 k)).1) of_further (f.0 g))
+      (λ g. let no : ⊥ = cc (g.0) in absurd no) (h.0 r)
+
+  in_further : (at : paths.Step) → step ≡ at → IsFrom n at → AddsAt place (step ∷ path) (question_of question) → FurtherAdds place n (step ∷ path) (question_of question)
+  in_further (label l) e far adds = absurd far
+  in_further (index i) e far adds =
+      let here_too : AddsAt place (index i ∷ path) (question_of question) = subst (λ s. AddsAt place (s ∷ path) (question_of question)) e adds in
+      (i, path, ap (λ s. s ∷ path) e, far, alike i n path (question_of question) far (omega arith) here_too)
+
+  from : AddsAt place (step ∷ path) (question_of question) → TableRefuses Refuses all (step ∷ path) question
+  from adds =
+      let branch = adds_branch place step path (question_of question) adds in
+      h.1 (inl (f.1 (⊎_elim
+      (λ among. inl ((of.below step path question).1 ((given.refused step path question).1 (among, adds))))
+      (λ far. inr (in_further step refl far adds)) (own step branch.0 branch.1))))
+
+-- ---- the loop over steps
+pub record Adding (place : Place) (branches : List (Step × Tree Row)) (all left : List Step) : Type 0 where
+  pub refused : (step : paths.Step) (path : Path) (question : program.Question)
+      → (IsAmong all step × AddsAt place (step ∷ path) (question_of question))
+      ↔ (OneOf (λ (one : Step × Tree Row). (step_of one.0 ≡ step) × TableRefuses Refuses one.1 path question) branches ⊎ (IsAmong left step × AddsAt place (step ∷ path) (question_of question)))
+  pub deep : All (λ (one : Step × Tree Row). tree_depth one.1 < step_limit) branches
+
+pub adding_none : (place : Place) (all : List Step) → Adding place [] all all
+adding_none place all = record { refused = λ step path question. (λ h. inr h, ⊎_elim (λ n. absurd n) (λ h. h)); deep = All-nil (λ (one : Step × Tree Row). tree_depth one.1 < step_limit) }
+
+pub adding_all : (place : Place) (branches : List (Step × Tree Row)) (all : List Step) → Adding place branches all [] → AreAddedAt place all branches
+adding_all place branches all w = record {
+  refused = λ step path question. let r = w.refused step path question in (λ h. r.1 (inl h), λ h. ⊎_elim (λ g. g) (λ g. absurd g.0) (r.0 h));
+  deep = w.deep;
+}
+
+-- a step at which nothing of the body's own stands
+pub adding_past : (place : Place) (branches : List (Step × Tree Row)) (all rest : List Step) (here : Step) → Adding place branches all (here ∷ rest) → step_into place.own (step_of here) ≡ None → Adding place branches all rest
+adding_past place branches all rest here w free = record {
+  refused = λ step path question. let r = w.refused step path question in (
+    λ h. ⊎_elim (λ g. inl g) (λ g. ⊎_elim (λ (e : step_of here ≡ step). absurd (adds_nowhere place step (ap (step_into place.own) (sym e) ∙ free) path (question_of question) g.1)) (λ k. inr (k, g.1)) g.0) (r.0 h),
+    λ h. r.1 (⊎_elim (λ g. inl g) (λ g. inr (inr g.0, g.1)) h),
+  );
+  deep = w.deep;
+}
+
+-- one at which something does
+pub adding_more : (place : Place) (branches : List (Step × Tree Row)) (all rest : List Step) (here copy : Step) (below : Place) (sets : Tree Row) → Adding place branches all (here ∷ rest) → copy ≡ here → IsStepInto place (step_of here) below
+    → tree_depth place.own ≤ step_limit → IsTable Refuses IsRow sets → ((path : Path) (question : program.Question) → TableRefuses Refuses sets path question ↔ AddsAt below path (question_of question)) → Adding place (branches ++ (copy, sets) ∷ []) all rest
+adding_more place branches all rest here copy below sets w same into flat form says = record {
+  refused = λ step path question.
+      let r = w.refused step path question in
+      let push = one_of-push (λ (one : Step × Tree Row). (step_of one.0 ≡ step) × TableRefuses Refuses one.1 path question) branches (copy, sets) in (
+        λ h. ⊎_elim (λ g. inl (push.1 (inl g))) (λ g. ⊎_elim (λ e. inl (push.1 (inr (ap step_of same ∙ e, (says path question).1 (into_below step e path question g.1))))) (λ k. inr (k, g.1)) g.0) (r.0 h),
+        λ h. r.1 (⊎_elim (λ g. ⊎_elim (λ k. inl k) (λ k. let e = ap step_of (sym same) ∙ k.0 in inr (inl e, out_of step e path question ((says path question).0 k.1))) (push.0 g)) (λ g. inr (inr g.0, g.1)) h),
+      );
+  deep = All-push (λ (one : Step × Tree Row). tree_depth one.1 < step_limit) branches (copy, sets) w.deep (
+      let shallow = added_depth below sets form says in
+      let less = into_depth (step_of here) place.own below.own into.own in
+      omega (arith, shallow, less, flat));
+} where
+  into_below : (step : paths.Step) → step_of here ≡ step → (path : Path) (question : program.Question) → AddsAt place (step ∷ path) (question_of question) → AddsAt below path (question_of question)
+  into_below step e path question adds = (adds_into place (step_of here) below into path (question_of question)).1 (subst (λ s. AddsAt place (s ∷ path) (question_of question)) (sym e) adds)
+
+  out_of : (step : paths.Step) → step_of here ≡ step → (path : Path) (question : program.Question) → AddsAt below path (question_of question) → AddsAt place (step ∷ path) (question_of question)
+  out_of step e path question adds = subst (λ s. AddsAt place (s ∷ path) (question_of question)) e ((adds_into place (step_of here) below into path (question_of question)).0 adds)
+
+-- the row at the place is met with the table
+pub here_added : (place : Place) (sets : Tree Row) (row : Row) (all : Tree Row) → ((question : program.Question) → Refuses row question ↔ AddsHere place (question_of question)) → IsAdded Refuses sets [] row all
+    → (path : Path) (question : program.Question) → TableRefuses Refuses all path question ↔ (TableRefuses Refuses sets path question ⊎ ((path ≡ []) × AddsHere place (question_of question)))
+here_added place sets row all says added path question =
+    let a = added path question in (
+      λ h. ⊎_elim (λ g. inl g) (λ g. inr (g.0, (says question).0 g.1)) (a.0 h),
+      λ h. a.1 (⊎_elim (λ g. inl g) (λ g. inr (g.0, (says question).1 g.1)) h),
+    )
+
+-- a step that is put behind others is among them
+pub among_old : (steps : List Step) (new : Step) (step : paths.Step) → IsAmong steps step → IsAmong (steps ++ new ∷ []) step
+among_old steps new step h = (one_of-push (λ one. step_of one ≡ step) steps new).1 (inl h)
+
+pub among_new : (steps : List Step) (new : Step) (step : paths.Step) → step_of new ≡ step → IsAmong (steps ++ new ∷ []) step
+among_new steps new step e = (one_of-push (λ one. step_of one ≡ step) steps new).1 (inr e)
+
+-- the steps of branches, one after another
+pub next_step : (own left rest : Children Declared) (steps : List Step) (copy : Step) (here : paths.Step) (tree : Tree Declared) → ((step : paths.Step) → IsStepOf own step → IsAmong steps step ⊎ IsStepOf left step)
+    → children_of left ≡ (here, tree) ∷ children_of rest → step_of copy ≡ here → (step : paths.Step) → IsStepOf own step → IsAmong (steps ++ copy ∷ []) step ⊎ IsStepOf rest step
+next_step own left rest steps copy here tree w e same step h =
+    ⊎_elim (λ g. inl (among_old steps copy step g))
+    (λ g. ⊎_elim (λ f. inl (among_new steps copy step (same ∙ f))) (λ f. inr f) (subst (λ (xs : List (paths.Step × Tree Declared)). OneOf (λ item. item.0 ≡ step) xs) e g)) (w step h)
+
+pub all_steps : (own left : Children Declared) (steps : List Step) → ((step : paths.Step) → IsStepOf own step → IsAmong steps step ⊎ IsStepOf left step) → children_of left ≡ [] → (step : paths.Step) → IsStepOf own step → IsAmong steps step
+all_steps own left steps w e step h = ⊎_elim (λ g. g) (λ g. absurd (subst (λ (xs : List (paths.Step × Tree Declared)). OneOf (λ item. item.0 ≡ step) xs) e g)) (w step h)

@@ -2,6 +2,7 @@ pub mod Written
 pub mod Once
 pub mod Origins
 pub mod Places
+pub mod Further
 pub mod Within
 pub mod Depth
 pub mod Unwritten
@@ -9,6 +10,7 @@ pub mod UnwrittenTexts
 pub mod Sizes
 pub mod ValidWords
 pub mod ValidRows
+pub mod Alike
 pub mod ValidTables
 pub mod WordsOfTexts
 pub mod Unified

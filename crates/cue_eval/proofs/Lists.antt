@@ -4,7 +4,7 @@ use Rattle.std.proofs.lemmas.Bool.{false≢true}
 use Rattle.cue_lattice.specs.Path.{index}
 use Rattle.cue_lattice.specs.Question as questions
 use Rattle.cue_lattice.specs.Question.{length_at_most, length_at_least}
-use Rattle.cue_scope.specs.Core.{Core, top, list, ends, goes_on, element}
+use Rattle.cue_scope.specs.Core.{Core, top, list, ends, goes_on, each, element}
 use Rattle.cue_eval.specs.Refuses.{Refuses}
 use Rattle.cue_eval.specs.Laws.{both}
 use Rattle.cue_eval.proofs.Example.{number, may_be_number, in_range}
@@ -55,3 +55,19 @@ no_struct_is_a_list = inl tt
 -- [...] lets any length stand
 any_length : Refuses (list goes_on) [] (length_at_most 0) → ⊥
 any_length h = omega (arith, h)
+
+-- [_, ...2]: from the second element on each is 2, and there may be any number of them
+abbrev further : Core
+further = list (element top (each (number 2)))
+
+the_first_is_free : Refuses further (index 0 ∷ []) (may_be_number 1) → ⊥
+the_first_is_free h = h
+
+the_second_is_two : Refuses further (index 1 ∷ []) (may_be_number 1)
+the_second_is_two = (in_range 1 (lit< tt), refl)
+
+each_later_one_is_two : Refuses further (index 7 ∷ []) (may_be_number 1)
+each_later_one_is_two = (in_range 1 (lit< tt), refl)
+
+further_ones_may_be_many : Refuses further [] (length_at_least 9) → ⊥
+further_ones_may_be_many h = h

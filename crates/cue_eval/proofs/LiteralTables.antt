@@ -1,5 +1,5 @@
 -- Tables of literals refuse what the literals do.
-use Rattle.std.proofs.Common.{◌≡◌, ◌↔◌, ◌⊎◌, ◌+◌, inl, inr, ⊎_elim, ℕ, Bool, List, [], ◌∷◌, Option, None, Result, Ok, Err, length, sym, subst, arith}
+use Rattle.std.proofs.Common.{◌≡◌, ◌↔◌, ◌⊎◌, ◌+◌, inl, inr, ⊎_elim, ℕ, Bool, List, [], ◌∷◌, Option, None, Result, Ok, Err, length, sym, subst, ◌∙◌, arith}
 use Rattle.std.specs.Prelude.{IfOk}
 use Rattle.cue_lattice.specs.Path.{label, index}
 use Rattle.cue_lattice.specs.Question.{Question, allows, SameAnswers}
@@ -7,13 +7,14 @@ use Rattle.cue_row.specs.LabelSets.{RefusesLabel}
 use Rattle.cue_row.specs.declared.row.Row.{Row}
 use Rattle.cue_row.specs.declared.step.Step.{Step}
 use Rattle.cue_table.specs.Tree.{Tree}
-use Rattle.cue_scope.specs.Core.{struct, close, list, Elements, Members}
+use Rattle.cue_scope.specs.Core.{struct, close, list, Cores, Elements, followed_by, Members}
 use Rattle.cue_eval.specs.Evaluated.{HasAnswersOf}
-use Rattle.cue_eval.specs.Gathered.{Answers, LabelsRefuse, LiteralAnswers}
+use Rattle.cue_eval.specs.Gathered.{Answers, LabelsRefuse, LiteralAnswers, FurtherRefuse}
 use Rattle.cue_eval.specs.Literals.{LeaveOut}
 use Rattle.cue_eval.specs.Places.{StructRefuses, ListRefuses, ClosingRefuses}
 use Rattle.cue_eval.specs.Ready.{AreGiven, AtLabels, AtIndexes}
-use Rattle.cue_eval.specs.Refuses.{ElementRefuses, count, is_open}
+use Rattle.cue_eval.specs.Refuses.{ElementsRefuse, ElementRefuses, count, is_open}
+use Rattle.cue_eval.proofs.Rests.{alone, open_followed, count_followed, refuses_followed}
 
 all_allowed : (question : Question) → LabelsRefuse None question → ⊥
 all_allowed (allows l) h = absurd (cc)
@@ -60,21 +61,48 @@ close_table ms given labels table closed same g (index i ∷ path) question =
     let r = g.refused (index i) path question in
     (λ h. absurd (r.0 (e.0 h)), λ h. ⊎_elim (λ k. absurd k) (λ k. absurd k) h)
 
-pub list_table : (es : Elements) (goes_on : Bool) (given : List (Step × Tree Row)) (table : Tree Row) → length given ≡ count es → is_open es ≡ goes_on
+-- a list of elements, by itself
+abbrev pub ElementsAnswer : Cores → Bool → ℕ → Tree Row → Type 0
+ElementsAnswer cs goes_on n table = SameAnswers (Answers table) (ElementsRefuse (ListRefuses n goes_on) (ElementRefuses (alone cs)))
+
+pub elements_table : (cs : Cores) (goes_on : Bool) (given : List (Step × Tree Row)) (table : Tree Row) (n : ℕ) → length given ≡ n
     → SameAnswers (Answers table) (LiteralAnswers (ListRefuses (length given) goes_on) given)
-    → AreGiven (AtIndexes 0 es) given → HasAnswersOf (list es) table
-list_table es goes_on given table counted opened same g [] question =
-    subst (λ n. Answers table [] question ↔ ListRefuses n (is_open es) question) counted
-    (subst (λ b. Answers table [] question ↔ ListRefuses (length given) b question) (sym opened) (same [] question))
-list_table es goes_on given table counted opened same g (label l ∷ path) question =
+    → AreGiven (AtIndexes 0 (alone cs)) given → ElementsAnswer cs goes_on n table
+elements_table cs goes_on given table n counted same g [] question =
+    subst (λ m. Answers table [] question ↔ ListRefuses m goes_on question) counted (same [] question)
+elements_table cs goes_on given table n counted same g (label l ∷ path) question =
     let e = same (label l ∷ path) question in
     let r = g.refused (label l) path question in
     (λ h. r.0 (e.0 h), λ h. absurd h)
-list_table es goes_on given table counted opened same g (index i ∷ path) question =
+elements_table cs goes_on given table n counted same g (index i ∷ path) question =
     let e = same (index i ∷ path) question in
     let r = g.refused (index i) path question in (
-      λ h. let at = r.0 (e.0 h) in let is : at.0 ≡ i = let w = at.1 in omega arith in subst (λ k. ElementRefuses es k path question) is at.2,
+      λ h. let at = r.0 (e.0 h) in let is : at.0 ≡ i = let w = at.1 in omega arith in subst (λ k. ElementRefuses (alone cs) k path question) is at.2,
       λ h. let is : 0 + i ≡ i = omega arith in e.1 (r.1 (i, is, h)),
+    )
+
+-- and with what each further element is
+pub list_answers : (cs : Cores) (rest : Elements) (goes_on : Bool) (n : ℕ) (table all : Tree Row) → n ≡ count (alone cs) → is_open rest ≡ goes_on → count rest ≡ 0
+    → ElementsAnswer cs goes_on n table → SameAnswers (Answers all) (λ path question. Answers table path question ⊎ FurtherRefuse n rest path question) → HasAnswersOf (list (followed_by cs rest)) all
+list_answers cs rest goes_on n table all counted opened none same more [] question =
+    let m = more [] question in
+    let e = same [] question in
+    let number : n ≡ count (followed_by cs rest) = let c = count_followed cs rest in omega (arith, c, counted, none) in
+    let open_is : goes_on ≡ is_open (followed_by cs rest) = sym opened ∙ sym (open_followed cs rest) in
+    let kind : ListRefuses n goes_on question ≡ ListRefuses (count (followed_by cs rest)) (is_open (followed_by cs rest)) question = λ i. ListRefuses (number i) (open_is i) question in (
+      λ h. subst (λ t. t) kind (⊎_elim (λ k. e.0 k) (λ k. absurd k) (m.0 h)),
+      λ h. m.1 (inl (e.1 (subst (λ t. t) (sym kind) h))),
+    )
+list_answers cs rest goes_on n table all counted opened none same more (label l ∷ path) question =
+    let m = more (label l ∷ path) question in
+    let e = same (label l ∷ path) question in
+    (λ h. ⊎_elim (λ k. e.0 k) (λ k. k) (m.0 h), λ h. absurd h)
+list_answers cs rest goes_on n table all counted opened none same more (index i ∷ path) question =
+    let m = more (index i ∷ path) question in
+    let e = same (index i ∷ path) question in
+    let f = refuses_followed cs rest i path question in (
+      λ h. f.1 (⊎_elim (λ k. inl (e.0 k)) (λ k. let w = k.1 in inr (k.0, omega (arith, w, counted), k.2)) (m.0 h)),
+      λ h. m.1 (⊎_elim (λ k. inl (e.1 k)) (λ k. let w = k.1 in inr (k.0, omega (arith, w, counted), k.2)) (f.0 h)),
     )
 
 -- ---- the same of what calls return
@@ -90,9 +118,3 @@ pub close_result : {E : Type 0} (r : Result (Tree Row) E) (ms : Members) (given 
     → AreGiven (AtLabels ms) given → IfOk r (HasAnswersOf (close ms))
 close_result (Ok table) ms given labels closed same g = close_table ms given labels table closed same g
 close_result (Err e) ms given labels closed same g = same
-
-pub list_result : {E : Type 0} (r : Result (Tree Row) E) (es : Elements) (goes_on : Bool) (given : List (Step × Tree Row)) → length given ≡ count es → is_open es ≡ goes_on
-    → IfOk r (λ table. SameAnswers (Answers table) (LiteralAnswers (ListRefuses (length given) goes_on) given))
-    → AreGiven (AtIndexes 0 es) given → IfOk r (HasAnswersOf (list es))
-list_result (Ok table) es goes_on given counted opened same g = list_table es goes_on given table counted opened same g
-list_result (Err e) es goes_on given counted opened same g = same

@@ -3,7 +3,7 @@ use Rattle.std.proofs.Common.{◌≢◌, inl, inr, ⊎_elim, ℕ, zero, suc, con
 use Rattle.std.specs.Str.{bytes_eq}
 use Rattle.cue_lattice.specs.Path.{Path, label, index}
 use Rattle.cue_lattice.specs.Question.{allows}
-use Rattle.cue_scope.specs.Core.{Core, top, conjunction, struct, close, list, closed, Cores, no_cores, core, Members, no_members, member, dots, Elements, ends, goes_on, element}
+use Rattle.cue_scope.specs.Core.{Core, top, conjunction, struct, close, list, closed, Cores, no_cores, core, Members, no_members, member, dots, Elements, ends, goes_on, each, element}
 use Rattle.cue_eval.specs.Literals.{literals, literals_of_parts, literals_of_field, literals_of_element, LeaveOut}
 use Rattle.cue_eval.specs.Refuses.{Refuses, PartsRefuse, FieldRefuses, ElementRefuses}
 use Rattle.cue_eval.proofs.Written.{some_left, some_right, left_out_left, left_out_right, mark_refuses_no_label, same_label}
@@ -46,6 +46,7 @@ mutual
   written_in_element : (es : Elements) (i : ℕ) (path : Path) (k : List ℕ) → ElementRefuses es i path (allows k) → literals_of_element es i path ≢ []
   written_in_element ends i path k h = absurd h
   written_in_element goes_on i path k h = absurd h
+  written_in_element (each c) i path k h = written c path k h
   written_in_element (element c es) zero path k h = written c path k h
   written_in_element (element c es) (suc i) path k h = written_in_element es i path k h
 
@@ -90,5 +91,6 @@ mutual
   once_in_element : (es : Elements) (i : ℕ) (path : Path) (k l : List ℕ) → ElementRefuses es i path (allows k) → LeaveOut (literals_of_element es i path) l → ElementRefuses es i path (allows l)
   once_in_element ends i path k l h out = absurd h
   once_in_element goes_on i path k l h out = absurd h
+  once_in_element (each c) i path k l h out = closed_once c path k l h out
   once_in_element (element c es) zero path k l h out = closed_once c path k l h out
   once_in_element (element c es) (suc i) path k l h out = once_in_element es i path k l h out

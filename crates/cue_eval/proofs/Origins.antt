@@ -4,7 +4,7 @@ use Rattle.std.specs.Str.{bytes_eq}
 use Rattle.std.proofs.lemmas.Slice.Eq.{bytes_eq-Decides}
 use Rattle.cue_lattice.specs.Path.{Path, label, index}
 use Rattle.cue_lattice.specs.Question.{Question, allows}
-use Rattle.cue_scope.specs.Core.{Core, top, conjunction, struct, close, list, closed, Cores, no_cores, core, Members, no_members, member, dots, Elements, ends, goes_on, element}
+use Rattle.cue_scope.specs.Core.{Core, top, conjunction, struct, close, list, closed, Cores, no_cores, core, Members, no_members, member, dots, Elements, ends, goes_on, each, element}
 use Rattle.cue_eval.specs.Literals.{literals, literals_of_parts, literals_of_field, literals_of_element}
 use Rattle.cue_eval.specs.Places.{ClosingRefuses}
 use Rattle.cue_eval.specs.Refuses.{Refuses, PartsRefuse, FieldRefuses, ElementRefuses, count, is_open}
@@ -62,6 +62,7 @@ mutual
   struct_in_element : (es : Elements) (i : ℕ) (path : Path) → literals_of_element es i path ≢ [] → IsStruct (ElementRefuses es i path)
   struct_in_element ends i path some question h = absurd (some refl)
   struct_in_element goes_on i path some question h = absurd (some refl)
+  struct_in_element (each c) i path some question h = struct_written c path some question h
   struct_in_element (element c es) zero path some question h = struct_written c path some question h
   struct_in_element (element c es) (suc i) path some question h = struct_in_element es i path some question h
 
@@ -120,5 +121,6 @@ mutual
   element_comes_from : (es : Elements) (i : ℕ) (path : Path) (question : Question) → ElementRefuses es i path question → HasOrigin (ElementRefuses es i path) question
   element_comes_from ends i path question h = absurd h
   element_comes_from goes_on i path question h = absurd h
+  element_comes_from (each c) i path question h = comes_from c path question h
   element_comes_from (element c es) zero path question h = comes_from c path question h
   element_comes_from (element c es) (suc i) path question h = element_comes_from es i path question h

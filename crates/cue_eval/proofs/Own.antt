@@ -6,7 +6,7 @@ use Rattle.std.proofs.lemmas.Bool.{false≢true}
 use Rattle.std.proofs.lemmas.List.Folds.{list_any-append}
 use Rattle.std.proofs.lemmas.Slice.Eq.{bytes_eq-Decides}
 use Rattle.cue_lattice.specs.Path.{Path, label, index}
-use Rattle.cue_scope.specs.Core.{Core, conjunction, struct, close, list, closed, Cores, no_cores, core, Members, no_members, member, dots, Elements, ends, goes_on, element}
+use Rattle.cue_scope.specs.Core.{Core, conjunction, struct, close, list, closed, Cores, no_cores, core, Members, no_members, member, dots, Elements, ends, goes_on, each, element}
 use Rattle.cue_eval.specs.Literals.{literals, literals_of_parts, literals_of_field, literals_of_element}
 use Rattle.cue_eval.specs.Closing.{OneDoes, OneOfParts, OneOfFields, OneOfElements, AreOwnOrUsed}
 
@@ -85,6 +85,7 @@ mutual
       ↔ (OneOfElements (λ ms. test ms ≡ true) (λ c path. ⊥) es i path ⊎ OneOfElements (λ ms. ⊥) (λ c path. list_any test (literals c path) ≡ true) es i path)
   own_or_used_element test ends i path = neither (λ h. h) (λ h. h)
   own_or_used_element test goes_on i path = neither (λ h. h) (λ h. h)
+  own_or_used_element test (each c) i path = own_or_used test c path
   own_or_used_element test (element c es) zero path = own_or_used test c path
   own_or_used_element test (element c es) (suc i) path = own_or_used_element test es i path
 
@@ -122,5 +123,6 @@ mutual
       → (es : Elements) (i : ℕ) (path : Path) → OneOfElements A U es i path → OneOfElements B V es i path
   elements_do_more A B U V f g ends i path h = absurd h
   elements_do_more A B U V f g goes_on i path h = absurd h
+  elements_do_more A B U V f g (each c) i path h = does_more A B U V f g c path h
   elements_do_more A B U V f g (element c es) zero path h = does_more A B U V f g c path h
   elements_do_more A B U V f g (element c es) (suc i) path h = elements_do_more A B U V f g es i path h

@@ -67,8 +67,8 @@ label_declares here c path l told h = declares_more here c path l (declares l) t
 
 declared_by : (here : Declared) (c : Core) (path : Path) (l : List ℕ) → TellsOwn here c path → RefusesText here.undeclared l → OneOfOwn has_dots c path ⊎ OneOfOwn (declares l) c path
 declared_by here c path l told h =
-    either_does (λ ms. has_dots ms ≡ true) (λ ms. declares l ms ≡ true) c path
-    (does_more (own_tells Own (Declares l)) (λ ms. (has_dots ms ≡ true) ⊎ (declares l ms ≡ true)) (used_tells Own) (λ c path. ⊥) (λ ms e. or_true (has_dots ms) (declares l ms) e) (λ c path n. n) c path
+    either_does (λ ms. has_dots ms ≡ true) (λ ms. declares l ms ≡ true) (λ c path. ⊥) (λ c path. ⊥) c path
+    (does_more (own_tells Own (Declares l)) (λ ms. (has_dots ms ≡ true) ⊎ (declares l ms ≡ true)) (used_tells Own) (λ c path. ⊥ ⊎ ⊥) (λ ms e. or_true (has_dots ms) (declares l ms) e) (λ c path n. absurd n) c path
     ((told (Declares l)).0 h))
 
 -- a label that no literal declares, and that isn't listed

@@ -1,8 +1,6 @@
 -- The rows of structs and lists, which let no scalar stand, and rows with another level.
 use Rattle.std.proofs.Common.{◌≡◌, ◌↔◌, ◌⊎◌, ◌<◌, inl, inr, ⊎_elim, ℕ, max, Bool, true, false, Option, Some, None, List, refl, sym, subst, arith}
-use Rattle.std.specs.Prelude.{ℤ, pos, negsuc}
 use Rattle.std.proofs.lemmas.Bool.{cases_lt}
-use Rattle.std.proofs.lemmas.Int.{ints}
 use Rattle.cue_lattice.specs.Question as questions
 use Rattle.cue_lattice.specs.Question.{Question, may_be, usual, allows, level_at_most, length_at_most, length_at_least}
 use Rattle.cue_lattice.specs.Scalar.{IsScalar}

@@ -1,11 +1,11 @@
 -- Places are of one kind.
-use Rattle.std.proofs.Common.{inl, inr, ℕ, zero, suc, ◌<◌, Bool, true, false, List, [], ◌∷◌, ◌++◌, arith}
+use Rattle.std.proofs.Common.{◌≡◌, ◌⊎◌, refl, ⊎_elim, inl, inr, ℕ, zero, suc, ◌<◌, Bool, true, false, List, [], ◌∷◌, ◌++◌, arith}
 use Rattle.cue_lattice.specs.Path.{Path, Step, label, index}
 use Rattle.cue_lattice.specs.Question as questions
 use Rattle.cue_lattice.specs.Question.{Question, allows, length_at_most, length_at_least, level_at_most}
 use Rattle.cue_syntax.specs.declared.tree.Mark.{Mark}
 use Rattle.cue_syntax.specs.declared.tree.Mark.TheVariants.{Regular, Optional, Required}
-use Rattle.cue_scope.specs.Core.{Core, top, conjunction, struct, close, list, closed, Cores, no_cores, core, Members, no_members, member, dots, Elements, ends, goes_on, element}
+use Rattle.cue_scope.specs.Core.{Core, top, conjunction, struct, close, list, closed, Cores, no_cores, core, Members, no_members, member, dots, Elements, ends, goes_on, each, element}
 use Rattle.cue_eval.specs.Literals.{literals}
 use Rattle.cue_eval.specs.Places.{ClosingRefuses, level_of_mark}
 use Rattle.cue_eval.specs.Refuses.{Refuses, PartsRefuse, FieldRefuses, ElementRefuses, count, is_open}
@@ -113,6 +113,7 @@ mutual
   element_ends_in_label : (es : Elements) (i : ℕ) (path : Path) (k : ℕ) → ElementRefuses es i path (level_at_most k) → EndsInLabel path
   element_ends_in_label ends i path k h = absurd h
   element_ends_in_label goes_on i path k h = absurd h
+  element_ends_in_label (each c) i path k h = ends_in_label c path k h
   element_ends_in_label (element c es) zero path k h = ends_in_label c path k h
   element_ends_in_label (element c es) (suc i) path k h = element_ends_in_label es i path k h
 
@@ -164,64 +165,78 @@ mutual
   fields_in_element : (es : Elements) (i : ℕ) (path : Path) (l : List ℕ) (rest : Path) (question : Question) → ElementRefuses es i (path ++ label l ∷ rest) question → IsStruct (ElementRefuses es i path)
   fields_in_element ends i path l rest question h = absurd h
   fields_in_element goes_on i path l rest question h = absurd h
+  fields_in_element (each c) i path l rest question h = fields_of_structs c path l rest question h
   fields_in_element (element c es) zero path l rest question h = fields_of_structs c path l rest question h
   fields_in_element (element c es) (suc i) path l rest question h = fields_in_element es i path l rest question h
 
--- an index at which something is refused is below the number of elements
-is_element : (es : Elements) (i : ℕ) (rest : Path) (question : Question) → ElementRefuses es i rest question → i < count es
+-- an index at which something is refused is below the number of elements, or the list goes on
+MayBeElement : ℕ → ℕ → Bool → Type 0
+MayBeElement i n more = (i < n) ⊎ (more ≡ true)
+
+is_element : (es : Elements) (i : ℕ) (rest : Path) (question : Question) → ElementRefuses es i rest question → MayBeElement i (count es) (is_open es)
+unfolding MayBeElement
 is_element ends i rest question h = absurd h
 is_element goes_on i rest question h = absurd h
-is_element (element c es) zero rest question h = omega arith
-is_element (element c es) (suc i) rest question h = let below : i < count es = is_element es i rest question h in omega arith
+is_element (each c) i rest question h = inr refl
+is_element (element c es) zero rest question h = inl (omega arith)
+is_element (element c es) (suc i) rest question h = ⊎_elim (λ (below : i < count es). inl (omega arith)) (λ further. inr further) (is_element es i rest question h)
 
-more_refuse : (less more : Question → Type 0) (i : ℕ) → ListOf (λ n. i < n) less → ((other : Question) → less other → more other) → ListOf (λ n. i < n) more
+abbrev ListWith : ℕ → (Question → Type 0) → Type 0
+ListWith i refuses = (n : ℕ) × (more : Bool) × MayBeElement i n more × IsList refuses n more
+
+more_refuse : (less more : Question → Type 0) (i : ℕ) → ListWith i less → ((other : Question) → less other → more other) → ListWith i more
 more_refuse less more i found all = (found.0, found.1, found.2, λ other g. all other (found.3 other g))
 
 -- and elements below lists that have so many
 mutual
-  pub elements_of_lists : ElementsAreOfLists
-  elements_of_lists (conjunction cs) path i rest question h = elements_by_parts cs path i rest question h
-  elements_of_lists (struct ms) [] i rest question h = absurd h
-  elements_of_lists (struct ms) (label m ∷ path) i rest question h = elements_in_field ms m path i rest question h
-  elements_of_lists (struct ms) (index j ∷ path) i rest question h = absurd h
-  elements_of_lists (close ms) [] i rest question (inl h) = absurd h
-  elements_of_lists (close ms) [] i rest question (inr h) = absurd h
-  elements_of_lists (close ms) (label m ∷ path) i rest question (inl h) =
+  below_lists : (c : Core) (path : Path) (i : ℕ) (rest : Path) (question : Question) → Refuses c (path ++ index i ∷ rest) question → ListWith i (Refuses c path)
+  below_lists (conjunction cs) path i rest question h = elements_by_parts cs path i rest question h
+  below_lists (struct ms) [] i rest question h = absurd h
+  below_lists (struct ms) (label m ∷ path) i rest question h = elements_in_field ms m path i rest question h
+  below_lists (struct ms) (index j ∷ path) i rest question h = absurd h
+  below_lists (close ms) [] i rest question (inl h) = absurd h
+  below_lists (close ms) [] i rest question (inr h) = absurd h
+  below_lists (close ms) (label m ∷ path) i rest question (inl h) =
       more_refuse (FieldRefuses ms m path) (Refuses (close ms) (label m ∷ path)) i (elements_in_field ms m path i rest question h) (λ other g. inl g)
-  elements_of_lists (close ms) (label m ∷ path) i rest question (inr h) = absurd h
-  elements_of_lists (close ms) (index j ∷ path) i rest question (inl h) = absurd h
-  elements_of_lists (close ms) (index j ∷ path) i rest question (inr h) = absurd h
-  elements_of_lists (list es) [] i rest question h = (count es, is_open es, is_element es i rest question h, λ other g. g)
-  elements_of_lists (list es) (label m ∷ path) i rest question h = absurd h
-  elements_of_lists (list es) (index j ∷ path) i rest question h = elements_in_element es j path i rest question h
-  elements_of_lists (closed c) path i rest question (inl h) =
-      more_refuse (Refuses c path) (Refuses (closed c) path) i (elements_of_lists c path i rest question h) (λ other g. inl g)
-  elements_of_lists (closed c) path i rest question (inr h) =
+  below_lists (close ms) (label m ∷ path) i rest question (inr h) = absurd h
+  below_lists (close ms) (index j ∷ path) i rest question (inl h) = absurd h
+  below_lists (close ms) (index j ∷ path) i rest question (inr h) = absurd h
+  below_lists (list es) [] i rest question h = (count es, is_open es, is_element es i rest question h, λ other g. g)
+  below_lists (list es) (label m ∷ path) i rest question h = absurd h
+  below_lists (list es) (index j ∷ path) i rest question h = elements_in_element es j path i rest question h
+  below_lists (closed c) path i rest question (inl h) =
+      more_refuse (Refuses c path) (Refuses (closed c) path) i (below_lists c path i rest question h) (λ other g. inl g)
+  below_lists (closed c) path i rest question (inr h) =
       more_refuse (Refuses c path) (Refuses (closed c) path) i
-      (elements_of_lists c path i rest questions.list (closed_below c (path ++ index i ∷ rest) question h)) (λ other g. inl g)
-  elements_of_lists top path i rest question h = absurd h
-  elements_of_lists _ [] i rest question h = absurd h
-  elements_of_lists _ (step ∷ path) i rest question h = absurd h
+      (below_lists c path i rest questions.list (closed_below c (path ++ index i ∷ rest) question h)) (λ other g. inl g)
+  below_lists top path i rest question h = absurd h
+  below_lists _ [] i rest question h = absurd h
+  below_lists _ (step ∷ path) i rest question h = absurd h
 
-  elements_by_parts : (cs : Cores) (path : Path) (i : ℕ) (rest : Path) (question : Question) → PartsRefuse cs (path ++ index i ∷ rest) question → ListOf (λ n. i < n) (PartsRefuse cs path)
+  elements_by_parts : (cs : Cores) (path : Path) (i : ℕ) (rest : Path) (question : Question) → PartsRefuse cs (path ++ index i ∷ rest) question → ListWith i (PartsRefuse cs path)
   elements_by_parts no_cores path i rest question h = absurd h
   elements_by_parts (core c cs) path i rest question (inl h) =
-      more_refuse (Refuses c path) (PartsRefuse (core c cs) path) i (elements_of_lists c path i rest question h) (λ other g. inl g)
+      more_refuse (Refuses c path) (PartsRefuse (core c cs) path) i (below_lists c path i rest question h) (λ other g. inl g)
   elements_by_parts (core c cs) path i rest question (inr h) =
       more_refuse (PartsRefuse cs path) (PartsRefuse (core c cs) path) i (elements_by_parts cs path i rest question h) (λ other g. inr g)
 
-  elements_in_field : (ms : Members) (m : List ℕ) (path : Path) (i : ℕ) (rest : Path) (question : Question) → FieldRefuses ms m (path ++ index i ∷ rest) question → ListOf (λ n. i < n) (FieldRefuses ms m path)
+  elements_in_field : (ms : Members) (m : List ℕ) (path : Path) (i : ℕ) (rest : Path) (question : Question) → FieldRefuses ms m (path ++ index i ∷ rest) question → ListWith i (FieldRefuses ms m path)
   elements_in_field no_members m path i rest question h = absurd h
   elements_in_field (dots ms) m path i rest question h = elements_in_field ms m path i rest question h
   elements_in_field (member j k c ms) m [] i rest question (inl (e, inl h)) = absurd h
   elements_in_field (member j k c ms) m (step ∷ path) i rest question (inl (e, inl h)) = absurd h
   elements_in_field (member j k c ms) m path i rest question (inl (e, inr h)) =
-      more_refuse (Refuses c path) (FieldRefuses (member j k c ms) m path) i (elements_of_lists c path i rest question h) (λ other g. inl (e, inr g))
+      more_refuse (Refuses c path) (FieldRefuses (member j k c ms) m path) i (below_lists c path i rest question h) (λ other g. inl (e, inr g))
   elements_in_field (member j k c ms) m path i rest question (inr h) =
       more_refuse (FieldRefuses ms m path) (FieldRefuses (member j k c ms) m path) i (elements_in_field ms m path i rest question h) (λ other g. inr g)
 
-  elements_in_element : (es : Elements) (j : ℕ) (path : Path) (i : ℕ) (rest : Path) (question : Question) → ElementRefuses es j (path ++ index i ∷ rest) question → ListOf (λ n. i < n) (ElementRefuses es j path)
+  elements_in_element : (es : Elements) (j : ℕ) (path : Path) (i : ℕ) (rest : Path) (question : Question) → ElementRefuses es j (path ++ index i ∷ rest) question → ListWith i (ElementRefuses es j path)
   elements_in_element ends j path i rest question h = absurd h
   elements_in_element goes_on j path i rest question h = absurd h
-  elements_in_element (element c es) zero path i rest question h = elements_of_lists c path i rest question h
+  elements_in_element (each c) j path i rest question h = below_lists c path i rest question h
+  elements_in_element (element c es) zero path i rest question h = below_lists c path i rest question h
   elements_in_element (element c es) (suc j) path i rest question h = elements_in_element es j path i rest question h
+
+pub elements_of_lists : ElementsAreOfLists
+unfolding MayBeElement
+elements_of_lists c path i rest question h = below_lists c path i rest question h

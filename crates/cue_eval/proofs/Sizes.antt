@@ -2,7 +2,7 @@
 use Rattle.std.proofs.Common.{ℕ, zero, suc, ◌<◌, ◌≤◌, inl, inr, List, [], ◌∷◌, arith}
 use Rattle.cue_lattice.specs.Path.{Path, label, index}
 use Rattle.cue_lattice.specs.Question.{length_at_most}
-use Rattle.cue_scope.specs.Core.{Core, top, conjunction, struct, close, list, closed, Cores, no_cores, core, Members, no_members, member, dots, Elements, ends, goes_on, element}
+use Rattle.cue_scope.specs.Core.{Core, top, conjunction, struct, close, list, closed, Cores, no_cores, core, Members, no_members, member, dots, Elements, ends, goes_on, each, element}
 use Rattle.cue_scope.specs.Limits.{size, size_of_cores, size_of_members, size_of_elements}
 use Rattle.cue_eval.specs.Refuses.{PartsRefuse, FieldRefuses, ElementRefuses, count}
 use Rattle.cue_eval.specs.Validity.{LengthsAreWithinSize}
@@ -18,6 +18,7 @@ some_size _ = omega arith
 no_more_elements : (es : Elements) → count es ≤ size_of_elements es
 no_more_elements ends = omega arith
 no_more_elements goes_on = omega arith
+no_more_elements (each c) = omega arith
 no_more_elements (element c es) = let here = some_size c in let rest = no_more_elements es in omega (arith, here, rest)
 
 mutual
@@ -57,5 +58,6 @@ mutual
   element_within_size : (es : Elements) (i : ℕ) (path : Path) (n : ℕ) → ElementRefuses es i path (length_at_most n) → n < size_of_elements es
   element_within_size ends i path n h = absurd h
   element_within_size goes_on i path n h = absurd h
+  element_within_size (each c) i path n h = let here = lengths_within_size c path n h in omega (arith, here)
   element_within_size (element c es) zero path n h = let here = lengths_within_size c path n h in omega (arith, here)
   element_within_size (element c es) (suc i) path n h = let rest = element_within_size es i path n h in omega (arith, rest)

@@ -31,7 +31,7 @@ use Rattle.cue_eval.specs.declared.found.Body.{Body}
 use Rattle.cue_eval.specs.declared.found.Found.{Found}
 use Rattle.cue_eval.specs.declared.rows.Tables.{Tables}
 use Rattle.cue_eval.specs.declared.told.Sight.{Sight}
-use Rattle.cue_eval.specs.declared.told.Whose.TheVariants.{Used}
+use Rattle.cue_eval.specs.declared.told.Whose.TheVariants.{Dotted}
 use Rattle.cue_eval.specs.Closing.{OneOfParts}
 use Rattle.cue_eval.specs.Finding.{IsFoundAt, IsKept, IsFindable, AreFindable, IsFoundBody}
 use Rattle.cue_eval.specs.Gathered.{Answers}
@@ -59,8 +59,8 @@ pub record Taking (ds : List Definition) (rows : List (Tree Row)) (dots : List (
   pub refused : (path : Path) (question : Question) →
       IsSplit (PartsRefuse (each_of ds all) path question) (OneOf (λ table. Answers table path question) rows ⊎ OneScalarRefuses scalars path question) (PartsRefuse (each_of ds left) path question)
   pub told : (path : Path) (asked : Asked) →
-      IsSplit (OneOfParts (own_tells Used asked) (used_tells Used) (each_of ds all) path) (OneOf (λ (t : Tree Declared). TableRefuses Tells t path asked) dots)
-      (OneOfParts (own_tells Used asked) (used_tells Used) (each_of ds left) path)
+      IsSplit (OneOfParts (own_tells Dotted asked) (used_tells Dotted) (each_of ds all) path) (OneOf (λ (t : Tree Declared). TableRefuses Tells t path asked) dots)
+      (OneOfParts (own_tells Dotted asked) (used_tells Dotted) (each_of ds left) path)
   pub others : AreFindable ds (elements left) now
   pub inside : (i : ℕ) → IsIn i (uses_of_elements ds (elements left)) → IsIn i (uses_of_elements ds (elements all))
   pub kept : IsKept (uses_of_elements ds (elements all)) start now
@@ -140,7 +140,7 @@ taking_scalar ds rows dots scalars all rest e start now v w part is =
           (more_right (one_of-push (λ (x : Valued). Here (ScalarRefuses (pair_of x)) path question) scalars v));
       told = λ path asked.
           let t = w.told path asked in (
-            λ h. ⊎_elim inl (λ g. ⊎_elim (λ n. absurd (part_tells Used ds (meaning ds) (expression e) part path asked n)) inr g) (t.0 h),
+            λ h. ⊎_elim inl (λ g. ⊎_elim (λ n. absurd (part_tells Dotted ds (meaning ds) (expression e) part path asked n)) inr g) (t.0 h),
             λ h. t.1 (⊎_elim inl (λ g. inr (inr g)) h),
           );
       others = rest_findable ds e rest now now w.others (kept_itself us now);

@@ -1,5 +1,5 @@
 -- How deep tables are that tell of struct literals.
-use Rattle.std.proofs.Common.{◌≡◌, ◌≢◌, ◌+◌, ◌≤◌, Bool, true, List, [], ◌∷◌, length, inl, inr, arith}
+use Rattle.std.proofs.Common.{◌≡◌, ◌≢◌, ◌+◌, ◌≤◌, Bool, true, List, [], ◌∷◌, length, inl, arith}
 use Rattle.std.specs.List.{list_any}
 use Rattle.std.proofs.lemmas.Bool.{false≢true}
 use Rattle.cue_lattice.specs.Path.{Path}
@@ -14,13 +14,14 @@ use Rattle.cue_table.proofs.Depth.{refusals_depth}
 use Rattle.cue_eval.specs.declared.declared.Declared.{Declared}
 use Rattle.cue_eval.specs.declared.declared.Asked.{Asked}
 use Rattle.cue_eval.specs.declared.told.Whose.{Whose}
-use Rattle.cue_eval.specs.declared.told.Whose.TheVariants.{Own, Used}
+use Rattle.cue_eval.specs.declared.told.Whose.TheVariants.{Own, Dotted}
 use Rattle.cue_eval.specs.Literals.{literals, has_dots}
 use Rattle.cue_eval.specs.Telling.{Tells, IsDeclared, tells}
 use Rattle.cue_eval.specs.Told.{ToldOf, IsTold}
 use Rattle.cue_eval.proofs.Depth.{paths_within_depth}
 use Rattle.cue_eval.proofs.Origins.{struct_written}
 use Rattle.cue_eval.proofs.Own.{own_or_used}
+use Rattle.cue_eval.proofs.TellingNames.{dotted_told}
 
 any_not_none : (test : Members → Bool) (all : List Members) → list_any test all ≡ true → all ≢ []
 any_not_none test [] h e = false≢true h
@@ -31,7 +32,7 @@ written_depth test c path h = paths_within_depth c path questions.list (struct_w
 
 told_within : (whose : Whose) (c : Core) (path : Path) (asked : Asked) → ToldOf whose c path asked → length path ≤ depth c
 told_within Own c path asked h = written_depth (tells asked) c path ((own_or_used (tells asked) c path).1 (inl h))
-told_within Used c path asked h = written_depth has_dots c path ((own_or_used has_dots c path).1 (inr h))
+told_within Dotted c path asked h = written_depth has_dots c path ((dotted_told c path asked).1 h)
 
 -- a table is no deeper than the expression of which it tells
 pub told_flat : (whose : Whose) (c : Core) (table : Tree Declared) → IsTold whose c table → tree_depth table ≤ depth c

@@ -22,7 +22,7 @@ use Rattle.cue_eval.specs.declared.declared.Declared.{Declared}
 use Rattle.cue_eval.specs.declared.declared.Asked.{Asked}
 use Rattle.cue_eval.specs.declared.declared.Asked.TheVariants.{Stands, Declares}
 use Rattle.cue_eval.specs.declared.told.Whose.{Whose}
-use Rattle.cue_eval.specs.declared.told.Whose.TheVariants.{Own, Used}
+use Rattle.cue_eval.specs.declared.told.Whose.TheVariants.{Dotted}
 use Rattle.cue_eval.specs.Closing.{AtStruct, OneOfFields}
 use Rattle.cue_eval.specs.Telling.{Tells, IsDeclared, tells}
 use Rattle.cue_eval.specs.Told.{IsTold, IsToldBelow, IsRooted, own_tells, used_tells}
@@ -49,16 +49,18 @@ fields_told whose ms given table form of same = record { form = form; told = by 
       let given = same step path asked in
       (λ h. given.0 (below.0 h), λ h. below.1 (given.1 h))
 
--- of the literals that are used, nothing stands at the place itself
-pub used_told : (ms : Members) (table : Tree Declared) → IsToldBelow Used ms table → IsTold Used (struct ms) table
-used_told ms table told = record { form = told.form; told = by } where
-  by : (path : Path) (asked : Asked) → TableRefuses Tells table path asked ↔ AtStruct ⊥ (OneOfFields (own_tells Used asked) (used_tells Used) ms) path
-  by path asked = told.told path asked
+-- where nothing is told of the literal itself
+pub untold : (whose : Whose) (ms : Members) (table : Tree Declared) → IsToldBelow whose ms table → ((asked : Asked) → ¬ own_tells whose asked ms) → IsTold whose (struct ms) table
+untold whose ms table told none = record { form = told.form; told = by } where
+  by : (path : Path) (asked : Asked) → TableRefuses Tells table path asked ↔ AtStruct (own_tells whose asked ms) (OneOfFields (own_tells whose asked) (used_tells whose) ms) path
+  by [] asked = (λ h. absurd ((told.told [] asked).0 h), λ h. absurd (none asked h))
+  by (label l ∷ path) asked = told.told (label l ∷ path) asked
+  by (index i ∷ path) asked = told.told (index i ∷ path) asked
 
--- and of its own the literal itself
-pub own_told : (ms : Members) (table all : Tree Declared) (row : Declared) → IsToldBelow Own ms table → ((asked : Asked) → Tells row asked ↔ (tells asked ms ≡ true)) → IsRooted table row all → IsTold Own (struct ms) all
-own_told ms table all row told here rooted = record { form = rooted.form; told = by } where
-  by : (path : Path) (asked : Asked) → TableRefuses Tells all path asked ↔ AtStruct (tells asked ms ≡ true) (OneOfFields (own_tells Own asked) (used_tells Own) ms) path
+-- and where it is told what it declares
+pub own_told : (whose : Whose) (ms : Members) (table all : Tree Declared) (row : Declared) → IsToldBelow whose ms table → ((asked : Asked) → Tells row asked ↔ own_tells whose asked ms) → IsRooted table row all → IsTold whose (struct ms) all
+own_told whose ms table all row told here rooted = record { form = rooted.form; told = by } where
+  by : (path : Path) (asked : Asked) → TableRefuses Tells all path asked ↔ AtStruct (own_tells whose asked ms) (OneOfFields (own_tells whose asked) (used_tells whose) ms) path
   by [] asked =
       let added = rooted.added [] asked in (
         λ h. ⊎_elim (λ o. absurd ((told.told [] asked).0 o)) (λ r. (here asked).0 r.1) (added.0 h),
@@ -74,6 +76,10 @@ own_told ms table all row told here rooted = record { form = rooted.form; told =
         λ h. ⊎_elim (λ o. (told.told (index i ∷ path) asked).0 o) (λ r. let no : ⊥ = cc (r.0) in absurd no) (added.0 h),
         λ h. absurd h,
       )
+
+-- what is told of a literal without `...`, where dots are told: nothing
+pub one_dotless : (k : List ℕ) (mark : Mark) (c : Core) (asked : Asked) → ¬ own_tells Dotted asked (member k mark c no_members)
+one_dotless k mark c asked h = false≢true h
 
 -- ---- a struct literal of one declaration
 same_step : (k l : List ℕ) (step : paths.Step) → step ≡ label k → step ≡ label l → k ≡ l

@@ -1,10 +1,9 @@
 -- What is told of names.
-use Rattle.std.proofs.Common.{◌≡◌, ◌↔◌, ℕ, zero, suc, Bool, true, false, cond, Option, None, Some, List, [], ◌∷◌, length, codes, sym, subst}
+use Rattle.std.proofs.Common.{◌≡◌, ◌↔◌, inl, inr, ⊎_elim, ℕ, zero, suc, Bool, true, false, cond, Option, None, Some, List, [], ◌∷◌, length, codes, sym, subst}
 use Rattle.std.specs.List.{list_any}
 use Rattle.std.specs.Option.{option_map_or}
 use Rattle.std.specs.Prelude.{slice_get}
 use Rattle.std.specs.Str.{bytes_eq}
-use Rattle.std.proofs.lemmas.Bool.{false≢true}
 use Rattle.cue_lattice.specs.Path.{Path}
 use Rattle.cue_scope.specs.Core.{Core, null, truth, named, top, bottom}
 use Rattle.cue_scope.specs.declared.named.Named.{Named}
@@ -16,10 +15,12 @@ use Rattle.cue_table.specs.Refuses.{TableRefuses}
 use Rattle.cue_eval.specs.declared.declared.Declared.{Declared}
 use Rattle.cue_eval.specs.declared.declared.Asked.{Asked}
 use Rattle.cue_eval.specs.declared.told.Whose.{Whose}
-use Rattle.cue_eval.specs.declared.told.Whose.TheVariants.{Own, Used}
+use Rattle.cue_eval.specs.declared.told.Whose.TheVariants.{Own, Dotted}
 use Rattle.cue_eval.specs.Literals.{literals, has_dots}
 use Rattle.cue_eval.specs.Telling.{Tells}
 use Rattle.cue_eval.specs.Told.{ToldOf, IsTold, AreDots}
+use Rattle.cue_eval.proofs.EitherDoes.{either_does}
+use Rattle.cue_eval.proofs.Own.{own_or_used, does_more}
 
 -- the empty table refuses nothing
 pub empty_tells : (path : Path) (asked : Asked) → ¬ TableRefuses Tells empty path asked
@@ -30,7 +31,7 @@ TellsNone : Whose → Core → Type 0
 TellsNone whose c = (path : Path) (asked : Asked) → ¬ ToldOf whose c path asked
 
 pub nothing_told : (whose : Whose) (c : Core) → ((path : Path) (asked : Asked) → ¬ ToldOf whose c path asked) → IsTold whose c empty
-nothing_told whose c h = record { form = (tt, tt); told = λ path asked. (λ r. absurd (empty_tells path asked r), λ t. absurd (h path asked t)) }
+nothing_told whose c h = record { form = (tt, tt, tt); told = λ path asked. (λ r. absurd (empty_tells path asked r), λ t. absurd (h path asked t)) }
 
 one_of_two : (whose : Whose) (b : Bool) (x y : Core) → TellsNone whose x → TellsNone whose y → TellsNone whose (cond b x y)
 one_of_two whose true x y p q = p
@@ -73,27 +74,36 @@ pub use_told_own : (ds : List Definition) (o : Option ℕ) → IsTold Own (optio
 unfolding TellsNone
 use_told_own ds o = nothing_told Own _ (number_own ds o)
 
--- and the literals in it are those that are used
-use_used : (ds : List Definition) (f : ℕ → Core) (o : Option Definition) (path : Path) (asked : Asked) → (list_any has_dots (literals (meant_use ds f o) path) ≡ true) ↔ ToldOf Used (meant_use ds f o) path asked
-use_used ds f None path asked = (λ h. absurd (false≢true h), λ h. absurd h)
-use_used ds f (Some d) path asked = (λ h. h, λ h. h)
+-- the literals at a path of which one has a `...` are its own, or those in definitions that it names
+pub dotted_told : (c : Core) (path : Path) (asked : Asked) → (list_any has_dots (literals c path) ≡ true) ↔ ToldOf Dotted c path asked
+dotted_told c path asked = (to, from) where
+  to : list_any has_dots (literals c path) ≡ true → ToldOf Dotted c path asked
+  to h = ⊎_elim (λ o. does_more _ _ _ _ (λ ms d. d) (λ e at n. absurd n) c path o) (λ u. does_more _ _ _ _ (λ ms n. absurd n) (λ e at d. d) c path u) ((own_or_used has_dots c path).0 h)
 
-meaning_used : (n : ℕ) (ds : List Definition) (i : ℕ) (path : Path) (asked : Asked) → (list_any has_dots (literals (meaning_within n ds i) path) ≡ true) ↔ ToldOf Used (meaning_within n ds i) path asked
-unfolding meaning_within
-meaning_used zero ds i path asked = (λ h. absurd (false≢true h), λ h. absurd h)
-meaning_used (suc n) ds i path asked = use_used ds (meaning_within n ds) (slice_get ds i) path asked
+  from : ToldOf Dotted c path asked → list_any has_dots (literals c path) ≡ true
+  from h = (own_or_used has_dots c path).1 (either_does (λ ms. has_dots ms ≡ true) (λ ms. ⊥) (λ e at. ⊥) (λ e at. list_any has_dots (literals e at) ≡ true) c path (does_more _ _ _ _ (λ ms d. inl d) (λ e at d. inr d) c path h))
 
-dots_told : (ds : List Definition) (i : ℕ) (table : Tree Declared) → AreDots (meaning ds i) table → IsTold Used (meaning ds i) table
-dots_told ds i table dots = record {
+-- what is told of dots is what is kept of definitions
+pub dots_told : (c : Core) (table : Tree Declared) → AreDots c table → IsTold Dotted c table
+dots_told c table dots = record {
   form = dots.form;
   told = λ path asked.
-      let same = meaning_used (length ds) ds i path asked in
+      let same = dotted_told c path asked in
       let here = dots.told path asked in
       (λ r. same.0 (here.0 r), λ t. here.1 (same.1 t));
 }
 
-pub use_told : (ds : List Definition) (o : Option ℕ) (i : ℕ) (table : Tree Declared) → Some i ≡ o → AreDots (meaning ds i) table → IsTold Used (option_map_or (meaning ds) o bottom) table
-use_told ds o i table is dots = subst (λ z. IsTold Used (option_map_or (meaning ds) z bottom) table) is (dots_told ds i table dots)
+pub told_dots : (c : Core) (table : Tree Declared) → IsTold Dotted c table → AreDots c table
+told_dots c table told = record {
+  form = told.form;
+  told = λ path asked.
+      let same = dotted_told c path asked in
+      let here = told.told path asked in
+      (λ r. same.1 (here.0 r), λ t. here.1 (same.0 t));
+}
 
-pub unknown_told : (ds : List Definition) (o : Option ℕ) → o ≡ None → IsTold Used (option_map_or (meaning ds) o bottom) empty
-unknown_told ds o is = subst (λ z. IsTold Used (option_map_or (meaning ds) z bottom) empty) (sym is) (nothing_told Used bottom (λ path asked h. h))
+pub use_told : (ds : List Definition) (o : Option ℕ) (i : ℕ) (table : Tree Declared) → Some i ≡ o → AreDots (meaning ds i) table → IsTold Dotted (option_map_or (meaning ds) o bottom) table
+use_told ds o i table is dots = subst (λ z. IsTold Dotted (option_map_or (meaning ds) z bottom) table) is (dots_told (meaning ds i) table dots)
+
+pub unknown_told : (ds : List Definition) (o : Option ℕ) → o ≡ None → IsTold Dotted (option_map_or (meaning ds) o bottom) empty
+unknown_told ds o is = subst (λ z. IsTold Dotted (option_map_or (meaning ds) z bottom) empty) (sym is) (nothing_told Dotted bottom (λ path asked h. h))

@@ -1,5 +1,5 @@
 -- What is told of the parts of an expression, one after the other.
-use Rattle.std.proofs.Common.{◌≡◌, ◌↔◌, ◌⊎◌, inl, inr, ⊎_elim, ℕ, zero, suc, ◌+◌, ◌≤◌, ◌<◌, Bool, true, List, [], ◌∷◌, ◌++◌, All, length, drop, get_or, sym, ap, subst, ◌∙◌, arith}
+use Rattle.std.proofs.Common.{◌≡◌, ◌↔◌, ◌⊎◌, inl, inr, ⊎_elim, ℕ, zero, suc, ◌+◌, ◌≤◌, ◌<◌, Bool, true, List, [], ◌∷◌, ◌++◌, All, length, drop, get_or, refl, sym, ap, subst, ◌∙◌, arith}
 use Rattle.std.proofs.Common.{rules, Result, Ok, Err, IfOk}
 use Rattle.std.proofs.lemmas.List.{drop_all}
 use Rattle.std.proofs.lemmas.List.Elements.{All-append, All-nil}
@@ -17,16 +17,17 @@ use Rattle.cue_syntax.specs.Syntax as syntax
 use Rattle.cue_syntax.specs.Syntax.{Rest, expression, elements, entries}
 use Rattle.cue_scope.specs.Definitions.{Definition}
 use Rattle.cue_scope.specs.Kept.{all_of}
-use Rattle.cue_scope.specs.Uses.{uses, uses_of_elements}
+use Rattle.cue_scope.specs.Uses.{uses, uses_of_elements, uses_of_rest}
 use Rattle.cue_scope.proofs.Nodes.{in_append_left, in_append_right}
 use Rattle.cue_scope.proofs.Followed.{size_followed, depth_followed}
 use Rattle.cue_scope.proofs.Walking.{at_hand}
-use Rattle.cue_scope.specs.Core.{Core, conjunction, list, Elements, ends, followed_by}
+use Rattle.cue_scope.specs.Core.{Core, conjunction, list, Cores, Elements, ends, each, followed_by}
 use Rattle.cue_scope.specs.Limits.{size_of_cores}
-use Rattle.cue_scope.specs.Meaning.{meant_members, meant_rest}
+use Rattle.cue_scope.specs.Meaning.{meant_members}
 use Rattle.cue_table.specs.Depth.{tree_depth}
 use Rattle.cue_table.specs.Form.{IsTable}
 use Rattle.cue_table.specs.Many.{IsOfBranches, IsUnified}
+use Rattle.cue_table.specs.Meet.{IsRestAdded, RestRefuses}
 use Rattle.cue_table.specs.Refuses.{TableRefuses}
 use Rattle.cue_table.specs.Tree.{Tree}
 use Rattle.cue_eval.specs.declared.declared.Declared.{Declared}
@@ -35,8 +36,9 @@ use Rattle.cue_eval.specs.declared.declared.Asked.TheVariants.{Declares}
 use Rattle.cue_eval.specs.declared.told.Whose.{Whose}
 use Rattle.cue_eval.specs.declared.told.Sight.{Sight}
 use Rattle.cue_eval.specs.Closing.{AtStruct, AtList, OneOfParts, OneOfFields, OneOfElements}
+use Rattle.cue_eval.specs.Refuses.{count}
 use Rattle.cue_eval.specs.Telling.{Tells, IsDeclared, tells}
-use Rattle.cue_eval.specs.Told.{IsTold, AreKnown, IsKnown, means, ArePartsKnown, AreElementsKnown, AreMembersKnown, mean_elements, mean_members, own_tells, used_tells}
+use Rattle.cue_eval.specs.Told.{IsTold, FurtherTold, AreFurtherTold, AreKnown, IsKnown, means, ArePartsKnown, AreElementsKnown, IsRestKnown, AreMembersKnown, mean_elements, mean_rest, mean_members, own_tells, used_tells}
 use Rattle.cue_eval.proofs.Rests.{does_followed}
 use Rattle.cue_eval.proofs.TellingDepth.{told_flat, some_size}
 
@@ -187,9 +189,9 @@ no_elements_left : (whose : Whose) (asked : Asked) (self : Sight) (at : ℕ) (st
 no_elements_left whose asked self at (label l) path h = h
 no_elements_left whose asked self at (index i) path h = h.2
 
-pub elements_all : (self : Sight) (whose : Whose) (branches : List (Step × Tree Declared)) (at : ℕ) (all : List Expr) (i : ℕ) (tail : Rest) (table : Tree Declared) → ElementsTold self whose branches at all (drop i all) → length all ≤ i
-    → IsTable Tells IsDeclared table → IsOfBranches Tells branches table → IsTold whose (list (followed_by (mean_elements self (elements all)) (meant_rest tail))) table
-elements_all self whose branches at all i tail table w h form of = record { form = form; told = whole } where
+pub elements_all : (self : Sight) (whose : Whose) (branches : List (Step × Tree Declared)) (at : ℕ) (all : List Expr) (i : ℕ) (table : Tree Declared) → ElementsTold self whose branches at all (drop i all) → length all ≤ i
+    → IsTable Tells IsDeclared table → IsOfBranches Tells branches table → IsTold whose (list (only_elements self all)) table
+elements_all self whose branches at all i table w h form of = record { form = form; told = by } where
   end : ElementsTold self whose branches at all []
   end = subst (λ z. ElementsTold self whose branches at all z) (drop_all i all h) w
 
@@ -200,20 +202,71 @@ elements_all self whose branches at all i tail table w h form of = record { form
       let s = split_all _ _ _ (end.told step path asked) (no_elements_left whose asked self at step path) in
       (λ r. s.0 (u.0 r), λ r. u.1 (s.1 r))
 
-  whole : (path : Path) (asked : Asked) → TableRefuses Tells table path asked ↔ AtList (OneOfElements (own_tells whose asked) (used_tells whose) (followed_by (mean_elements self (elements all)) (meant_rest tail))) path
-  whole [] asked = by [] asked
-  whole (label l ∷ path) asked = by (label l ∷ path) asked
-  whole (index j ∷ path) asked =
-      let r = by (index j ∷ path) asked in
-      let d = does_followed (own_tells whose asked) (used_tells whose) (mean_elements self (elements all)) tail j path in
-      (λ k. d.0 (r.0 k), λ k. r.1 (d.1 k))
+-- with what is told of the further elements, a list is told
+pub list_told : (self : Sight) (whose : Whose) (cs : Cores) (rest : Elements) (first : ℕ) (table all : Tree Declared) → count (followed_by cs ends) ≡ first → IsTold whose (list (followed_by cs ends)) table
+    → AreFurtherTold whose first rest table all → IsTold whose (list (followed_by cs rest)) all
+list_told self whose cs rest first table all counted told further = record { form = further.form; told = by } where
+  by : (path : Path) (asked : Asked) → TableRefuses Tells all path asked ↔ AtList (OneOfElements (own_tells whose asked) (used_tells whose) (followed_by cs rest)) path
+  by [] asked = let f = further.told [] asked in let t = told.told [] asked in (λ r. ⊎_elim (λ g. t.0 g) (λ g. g) (f.0 r), λ r. absurd r)
+  by (label l ∷ path) asked = let f = further.told (label l ∷ path) asked in let t = told.told (label l ∷ path) asked in (λ r. ⊎_elim (λ g. t.0 g) (λ g. g) (f.0 r), λ r. absurd r)
+  by (index i ∷ path) asked =
+      let f = further.told (index i ∷ path) asked in
+      let t = told.told (index i ∷ path) asked in
+      let d = does_followed (own_tells whose asked) (used_tells whose) cs rest i path in (
+        λ r. d.1 (⊎_elim (λ g. inl (t.0 g)) (λ g. inr (g.0, (ap (λ n. n + g.0) counted ∙ g.1), g.2)) (f.0 r)),
+        λ r. f.1 (⊎_elim (λ g. inl (t.1 g)) (λ g. inr (g.0, (ap (λ n. n + g.0) (sym counted) ∙ g.1), g.2)) (d.0 r)),
+      )
+
+-- a list that ends with its elements, and one of which nothing more is said
+pub no_further : (whose : Whose) (first : ℕ) (rest : Elements) (table : Tree Declared) → IsTable Tells IsDeclared table
+    → ((k : ℕ) (path : Path) (asked : Asked) → ¬ OneOfElements (own_tells whose asked) (used_tells whose) rest k path) → AreFurtherTold whose first rest table table
+no_further whose first rest table form none = record { form = form; told = λ path asked. (λ r. inl r, λ r. ⊎_elim (λ g. g) (λ g. absurd (by path asked g)) r) } where
+  by : (path : Path) (asked : Asked) → ¬ FurtherTold whose first rest path asked
+  by [] asked h = h
+  by (label l ∷ path) asked h = h
+  by (index i ∷ path) asked h = none h.0 path asked h.2
+
+-- a table that is met from an index on
+pub further_met : (whose : Whose) (first : ℕ) (c : Core) (table further all : Tree Declared) → IsTable Tells IsDeclared all → IsTold whose c further → IsRestAdded Tells table [] first further all → AreFurtherTold whose first (each c) table all
+further_met whose first c table further all form told added = record { form = form; told = λ path asked. (λ r. ⊎_elim (λ g. inl g) (λ g. inr (to path asked g)) ((added path asked).0 r), λ r. (added path asked).1 (⊎_elim (λ g. inl g) (λ g. inr (from path asked g)) r)) } where
+  to : (path : Path) (asked : Asked) → RestRefuses Tells [] first further path asked → FurtherTold whose first (each c) path asked
+  to path asked (i, below, at, least, r) = subst (λ p. FurtherTold whose first (each c) p asked) (sym at) (less i below (monus first i least) r) where
+    monus : (m n : ℕ) → m ≤ n → (k : ℕ) × (m + k ≡ n)
+    monus zero n h = (n, omega arith)
+    monus (suc m) zero h = absurd (omega arith)
+    monus (suc m) (suc n) h = let k = monus m n (omega arith) in let e = k.1 in (k.0, omega (arith, e))
+
+    less : (i : ℕ) (below : Path) → (k : ℕ) × (first + k ≡ i) → TableRefuses Tells further below asked → FurtherTold whose first (each c) (index i ∷ below) asked
+    less i below (k, e) r = (k, e, (told.told below asked).0 r)
+
+  from : (path : Path) (asked : Asked) → FurtherTold whose first (each c) path asked → RestRefuses Tells [] first further path asked
+  from [] asked h = absurd h
+  from (label l ∷ path) asked h = absurd h
+  from (index i ∷ path) asked (k, e, r) = (i, path, refl, omega (arith, e), (told.told path asked).1 r)
 
 -- of the elements of a list it is known what is of the list
-pub list_known : (self : Sight) (es : syntax.Elements) (tail : Rest) (comma : Bool) → IsKnown self (syntax.list es tail comma) → AreElementsKnown self es
-list_known self es tail comma known =
-    let larger = size_followed (mean_elements self es) (meant_rest tail) in
-    let deeper = depth_followed (mean_elements self es) (meant_rest tail) in
-    known_same self _ _ _ _ _ known (omega (arith, larger)) (omega (arith, deeper))
+pub list_known : (self : Sight) (es : syntax.Elements) (rest : Rest) (comma : Bool) → IsKnown self (syntax.list es rest comma) → AreElementsKnown self es
+list_known self es rest comma known =
+    let larger = size_followed (mean_elements self es) (mean_rest self rest) in
+    let deeper = depth_followed (mean_elements self es) (mean_rest self rest) in
+    known_part self _ (uses_of_rest (all_of self.definitions.now) rest) _ _ _ _ known (omega (arith, larger)) (omega (arith, deeper))
+
+-- and so of what stands behind them
+pub list_rest_known : (self : Sight) (es : syntax.Elements) (rest : Rest) (comma : Bool) → IsKnown self (syntax.list es rest comma) → IsRestKnown self rest
+list_rest_known self es rest comma known =
+    let larger = size_followed (mean_elements self es) (mean_rest self rest) in
+    let deeper = depth_followed (mean_elements self es) (mean_rest self rest) in
+    known_rest self (uses_of_elements (all_of self.definitions.now) es) _ _ _ _ _ known (omega (arith, larger)) (omega (arith, deeper))
+
+pub elements_few : (self : Sight) (es : List Expr) → AreElementsKnown self (elements es) → length es ≤ 65536
+elements_few self es known = let few = sized es in let small = known.small in omega (arith, few, small) where
+  sized : (es : List Expr) → length es ≤ size_of_cores (mean_elements self (elements es))
+  sized [] = omega arith
+  sized (e ∷ es) = let rest = sized es in let here = some_size (means self (expression e)) in omega (arith, rest, here)
+
+pub count_of : (self : Sight) (es : List Expr) → count (only_elements self es) ≡ length es
+count_of self [] = refl
+count_of self (e ∷ es) = let more = count_of self es in omega (arith, more)
 
 pub elements_none : (self : Sight) (whose : Whose) (all : List Expr) → AreElementsKnown self (elements all) → ElementsTold self whose [] 0 all all
 elements_none self whose all known = record { known = known; few = let a = known.small in omega (arith, a); flat = All-nil (λ (one : Step × Tree Declared). tree_depth one.1 < step_limit); told = by } where

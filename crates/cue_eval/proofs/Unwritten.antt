@@ -8,7 +8,7 @@ use Rattle.cue_lattice.specs.Question as questions
 use Rattle.cue_lattice.specs.Question.{Question, allows}
 use Rattle.cue_sets.specs.Texts.{is_listed}
 use Rattle.cue_row.specs.ValidRow.{IsWord, AreWords, IsWordStep}
-use Rattle.cue_scope.specs.Core.{Core, top, conjunction, struct, close, list, closed, Cores, no_cores, core, Members, no_members, member, dots, Elements, ends, goes_on, element}
+use Rattle.cue_scope.specs.Core.{Core, top, conjunction, struct, close, list, closed, Cores, no_cores, core, Members, no_members, member, dots, Elements, ends, goes_on, each, element}
 use Rattle.cue_eval.specs.Literals.{literals, literals_of_parts, literals_of_field, literals_of_element, declares, LeaveOut}
 use Rattle.cue_eval.specs.Refuses.{PartsRefuse, FieldRefuses, ElementRefuses}
 use Rattle.cue_eval.specs.Words.{words, words_of_cores, words_of_members, words_of_elements}
@@ -70,6 +70,7 @@ mutual
   element_is_written : (es : Elements) → AreWords (words_of_elements es) → (i : ℕ) (path : Path) (question : Question) → ElementRefuses es i path question → AllByRecursion IsWordStep path
   element_is_written ends w i path question h = absurd h
   element_is_written goes_on w i path question h = absurd h
+  element_is_written (each c) w i path question h = paths_are_written c w path question h
   element_is_written (element c es) w zero path question h = paths_are_written c (words_of_both (words c) (words_of_elements es) w).0 path question h
   element_is_written (element c es) w (suc i) path question h = element_is_written es (words_of_both (words c) (words_of_elements es) w).1 i path question h
 
@@ -120,6 +121,7 @@ mutual
   undeclared_in_element : (es : Elements) (i : ℕ) (path : Path) (l : List ℕ) → is_listed (words_of_elements es) l ≡ false → list_any (declares l) (literals_of_element es i path) ≡ false
   undeclared_in_element ends i path l h = refl
   undeclared_in_element goes_on i path l h = refl
+  undeclared_in_element (each c) i path l h = undeclared c path l h
   undeclared_in_element (element c es) zero path l h = undeclared c path l (in_neither (words c) (words_of_elements es) l h).0
   undeclared_in_element (element c es) (suc i) path l h = undeclared_in_element es i path l (in_neither (words c) (words_of_elements es) l h).1
 
@@ -167,5 +169,6 @@ mutual
   unwritten_in_element : (es : Elements) (i : ℕ) (path : Path) (k l : List ℕ) → is_listed (words_of_elements es) l ≡ false → ElementRefuses es i path (allows k) → ElementRefuses es i path (allows l)
   unwritten_in_element ends i path k l un h = absurd h
   unwritten_in_element goes_on i path k l un h = absurd h
+  unwritten_in_element (each c) i path k l un h = unwritten_labels c path k l un h
   unwritten_in_element (element c es) zero path k l un h = unwritten_labels c path k l (in_neither (words c) (words_of_elements es) l un).0 h
   unwritten_in_element (element c es) (suc i) path k l un h = unwritten_in_element es i path k l (in_neither (words c) (words_of_elements es) l un).1 h

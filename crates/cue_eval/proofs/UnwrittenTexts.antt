@@ -14,7 +14,7 @@ use Rattle.cue_syntax.specs.declared.tree.Comparison.TheVariants.{Less}
 use Rattle.cue_syntax.specs.declared.tree.Mark.{Mark}
 use Rattle.cue_scope.specs.declared.named.Named.{Named}
 use Rattle.cue_scope.specs.declared.named.Named.TheVariants as names
-use Rattle.cue_scope.specs.Core.{Core, text, named, top, bound, other_text, conjunction, disjunction, struct, close, list, closed, Cores, no_cores, core, Choices, no_choices, choice, Members, no_members, member, dots, Elements, ends, goes_on, element}
+use Rattle.cue_scope.specs.Core.{Core, text, named, top, bound, other_text, conjunction, disjunction, struct, close, list, closed, Cores, no_cores, core, Choices, no_choices, choice, Members, no_members, member, dots, Elements, ends, goes_on, each, element}
 use Rattle.cue_eval.specs.Sets.{named_set, bounded, integer_of}
 use Rattle.cue_eval.specs.Pairs.{pair, pairs_of, terms_of}
 use Rattle.cue_eval.specs.Places.{Here, MarkRefuses, ScalarRefuses, StructRefuses, ListRefuses, ClosingRefuses}
@@ -206,6 +206,7 @@ mutual
   alike_in_element : (which : Bool) (es : Elements) (i : ℕ) (path : Path) (t u : List ℕ) → is_listed (words_of_elements es) t ≡ false → is_listed (words_of_elements es) u ≡ false → ElementRefuses es i path (asks which t) → ElementRefuses es i path (asks which u)
   alike_in_element which ends i path t u h k r = r
   alike_in_element which goes_on i path t u h k r = r
+  alike_in_element which (each c) i path t u h k r = alike which c path t u h k r
   alike_in_element which (element c es) zero path t u h k r =
       alike which c path t u (in_neither (words c) (words_of_elements es) t h).0 (in_neither (words c) (words_of_elements es) u k).0 r
   alike_in_element which (element c es) (suc i) path t u h k r =

@@ -4,14 +4,15 @@ use Rattle.std.specs.Option.{option_to_list, option_map_or}
 use Rattle.cue_syntax.specs.declared.tree.Identifier.TheVariants as identifiers
 use Rattle.cue_syntax.specs.Syntax as tree
 use Rattle.cue_syntax.specs.Syntax.{Expression, Elements, no_elements, element, branch, Branches, no_branches, next_branch, Entries, no_entries, entry, ellipsis, field, definition}
-use Rattle.cue_syntax.specs.Grammar.{IsRight, AreRight, AreRightBranches, AreRightEntries, AreNested}
+use Rattle.cue_syntax.specs.Grammar.{IsRight, AreRight, IsRightRest, AreRightBranches, AreRightEntries, AreNested}
 use Rattle.cue_scope.specs.Core as core
 use Rattle.cue_scope.specs.Core.{Core, bottom, followed_by}
 use Rattle.cue_scope.specs.Definitions.{Definition, number_of}
 use Rattle.cue_scope.specs.Graph.{IsIn}
 use Rattle.cue_scope.specs.Limits.{size, size_of_cores, size_of_elements, size_of_choices, size_of_members, depth, depth_of_cores, depth_of_elements, depth_of_choices, depth_of_members}
 use Rattle.cue_scope.specs.Meaning.{meant, meant_elements, meant_rest, meant_branches, meant_members, meant_fields}
-use Rattle.cue_scope.specs.Uses.{uses, uses_of_elements, uses_of_branches, uses_of_entries, uses_of_fields}
+use Rattle.cue_scope.specs.Uses.{uses, uses_of_elements, uses_of_rest, uses_of_branches, uses_of_entries, uses_of_fields}
+use Rattle.cue_scope.proofs.Followed.{size_followed, depth_followed}
 use Rattle.cue_scope.proofs.Nodes.{in_append}
 use Rattle.cue_eval.proofs.TellingDepth.{nested_depth, nested_size}
 
@@ -44,8 +45,16 @@ mutual
       let w = entries_within ds m es i r.0 r.1 h in
       let s = w.size in let d = w.depth in record { size = omega arith; depth = omega arith }
   used_within ds m (tree.list es rest comma) i r h =
-      let w = elements_within ds m es (meant_rest rest) i r.0 h in
-      let s = w.size in let d = w.depth in record { size = omega arith; depth = omega arith }
+      ⊎_elim
+      (λ g. let w = elements_within ds m es (meant_rest ds m rest) i r.0 g in let s = w.size in let d = w.depth in record { size = omega arith; depth = omega arith })
+      (λ g.
+      let w = rest_within ds m rest i r.1 g in
+      let s = w.size in
+      let d = w.depth in
+      let larger = size_followed (meant_elements ds m es) (meant_rest ds m rest) in
+      let deeper = depth_followed (meant_elements ds m es) (meant_rest ds m rest) in
+      record { size = omega arith; depth = omega arith })
+      (in_append (uses_of_elements ds es) (uses_of_rest ds rest) i h)
   used_within ds m (tree.conjunction es) i r h =
       let w = parts_within ds m es i r.0 h in
       let s = w.size in let d = w.depth in record { size = omega arith; depth = omega arith }
@@ -69,6 +78,11 @@ mutual
       (λ g. let w = used_within ds m e i r.0 g in let s = w.size in let d = w.depth in record { size = omega arith; depth = omega arith })
       (λ g. let w = elements_within ds m es rest i r.1 g in let s = w.size in let d = w.depth in record { size = omega arith; depth = omega arith })
       (in_append (uses ds e) (uses_of_elements ds es) i h)
+
+  rest_within : (ds : List Definition) (m : ℕ → Core) (rest : tree.Rest) (i : ℕ) → IsRightRest rest → IsIn i (uses_of_rest ds rest) → IsNoMore (m i) (size_of_elements (meant_rest ds m rest)) (depth_of_elements (meant_rest ds m rest))
+  rest_within ds m tree.no_rest i r h = absurd h
+  rest_within ds m tree.any_rest i r h = absurd h
+  rest_within ds m (tree.each_rest e) i r h = let w = used_within ds m e i r h in let s = w.size in let d = w.depth in record { size = omega arith; depth = omega arith }
 
   branches_within : (ds : List Definition) (m : ℕ → Core) (bs : Branches) (i : ℕ) → AreRightBranches bs → IsIn i (uses_of_branches ds bs) → IsNoMore (m i) (size_of_choices (meant_branches ds m bs)) (depth_of_choices (meant_branches ds m bs))
   branches_within ds m no_branches i r h = absurd h

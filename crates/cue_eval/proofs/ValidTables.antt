@@ -15,7 +15,7 @@ use Rattle.cue_row.proofs.MetSets.{not_refused}
 use Rattle.cue_table.specs.Tree.{Tree, row_at}
 use Rattle.cue_table.specs.Form.{IsKept, IsTable}
 use Rattle.cue_table.specs.Refuses as tables
-use Rattle.cue_table.specs.Valid.{Stands, further, MayHold, IsElement, HasOpenRoot, HasParents, IsValidTable}
+use Rattle.cue_table.specs.Valid.{Stands, further, MayHold, HasOpenRoot, HasParents, HasElements, IsValidTable}
 use Rattle.cue_table.proofs.Depth.{kept_at}
 use Rattle.cue_scope.specs.Core.{Core, struct, Members}
 use Rattle.cue_scope.specs.Limits.{size, depth}
@@ -26,6 +26,8 @@ use Rattle.cue_eval.specs.Words.{WritesWords}
 use Rattle.cue_eval.specs.Validity.{TextsAreValid}
 use Rattle.cue_eval.proofs.Depth.{paths_within_depth}
 use Rattle.cue_eval.proofs.Places.{fields_of_structs, elements_of_lists, levels_of_fields}
+use Rattle.cue_eval.proofs.Alike.{same_branches}
+use Rattle.cue_eval.proofs.Further.{further_are_alike}
 use Rattle.cue_eval.proofs.Unwritten.{paths_are_written}
 use Rattle.cue_eval.proofs.ValidRows.{IsRowAt, struct_row, list_row, no_labels, only_levels, valid_row}
 
@@ -111,12 +113,23 @@ fitting c table h path (index n) parent row above st =
     let is = list_row c path parent found.0 found.1 (at_path c table h path parent above) found.3 in
     ⊎_elim (λ yes. inl (is.value, is.struct, yes)) (λ no. inr (is.value, is.struct, no)) (may_stand parent.list_ok)
 
-elements : (c : Core) (table : Tree Row) → IsTableOf c table → (path : Path) (step : Step) (parent row : Row) → Stands table path parent → Stands table (further path step) row → IsElement parent step
-elements c table h path (label l) parent row above st = tt
-elements c table h path (index n) parent row above st =
-    let below = something_at c table h (further path (index n)) row st in
-    let found = elements_of_lists c path n [] below.0 below.1 in
-    ((at_path c table h path parent above).says (length_at_most n)).1 (found.3 (length_at_most n) found.2)
+-- the elements from the least length on
+elements : (c : Core) (table : Tree Row) → IsTableOf c table → HasElements table
+elements c table h path row i j st least more = same_branches table h.form path (index i) (index j) alike where
+  at : IsRowAt c path row
+  at = at_path c table h path row st
+
+  -- a length that the row doesn't refuse as too small
+  no_least : (n : ℕ) → row.least ≤ n → ¬ Refuses c path (length_at_most n)
+  no_least n few r = let below = (at.says (length_at_most n)).1 r in absurd (omega (arith, few, below))
+
+  one_way : (k l : ℕ) → row.least ≤ k → row.least ≤ l → (rest : Path) (question : Question) → tables.TableRefuses RowRefuses table (path ++ index k ∷ rest) question → tables.TableRefuses RowRefuses table (path ++ index l ∷ rest) question
+  one_way k l few many rest question r =
+      (h.answers (path ++ index l ∷ rest) question).1
+      (further_are_alike c path k l rest question (no_least k few) (no_least l many) ((h.answers (path ++ index k ∷ rest) question).0 r))
+
+  alike : (rest : Path) (question : Question) → tables.TableRefuses RowRefuses table (path ++ index i ∷ rest) question ↔ tables.TableRefuses RowRefuses table (path ++ index j ∷ rest) question
+  alike rest question = (one_way i j least more rest question, one_way j i more least rest question)
 
 -- ---- the root of a struct
 open_root : (ms : Members) (table : Tree Row) → IsTableOf (struct ms) table → HasOpenRoot table

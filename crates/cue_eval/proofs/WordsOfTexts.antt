@@ -14,13 +14,13 @@ use Rattle.cue_syntax.specs.declared.tree.Mark.{Mark}
 use Rattle.cue_syntax.specs.declared.tree.LabelName.TheVariants as names
 use Rattle.cue_syntax.specs.Syntax as tree
 use Rattle.cue_syntax.specs.Syntax.{Expression, Elements, no_elements, element, branch, Branches, no_branches, next_branch, ellipsis, field, definition, Entries, no_entries, entry}
-use Rattle.cue_syntax.specs.Words.{HasWordLabel, HasWords, HaveWords, HaveWordsBranches, HaveWordsEntries}
+use Rattle.cue_syntax.specs.Words.{HasWordLabel, HasWords, HaveWords, HasWordsRest, HaveWordsBranches, HaveWordsEntries}
 use Rattle.cue_scope.specs.Core.{Core, null, truth, named, bottom, top}
 use Rattle.cue_scope.specs.Definitions.{Definition, definitions, number_of}
-use Rattle.cue_scope.specs.Meaning.{text_of, nested, meant_name, meant, meant_elements, meant_branches, meant_members, meant_use, meaning_within, meaning, meant_fields}
+use Rattle.cue_scope.specs.Meaning.{text_of, nested, meant_name, meant, meant_elements, meant_rest, meant_branches, meant_members, meant_use, meaning_within, meaning, meant_fields}
 use Rattle.cue_scope.specs.Named.{named_of}
 use Rattle.cue_scope.specs.declared.named.Named.{Named}
-use Rattle.cue_eval.specs.Words.{words, words_of_cores, words_of_choices, words_of_members, WritesWords}
+use Rattle.cue_eval.specs.Words.{words, words_of_cores, words_of_elements, words_of_choices, words_of_members, WritesWords}
 use Rattle.cue_eval.specs.Validity.{TextsWriteWords}
 use Rattle.cue_eval.proofs.Rests.{words_followed}
 
@@ -72,7 +72,9 @@ mutual
   meant_words ds f (tree.parenthesis e comma) h w = meant_words ds f e h w
   meant_words ds f (tree.struct es comma) h w = member_words ds f es h w
   meant_words ds f (tree.close place es inner comma) h w = member_words ds f es h w
-  meant_words ds f (tree.list es rest comma) h w = subst AreWords (sym (words_followed (meant_elements ds f es) rest)) (element_words ds f es h w)
+  meant_words ds f (tree.list es rest comma) h w =
+      subst AreWords (sym (words_followed (meant_elements ds f es) (meant_rest ds f rest)))
+      (both_words (words_of_cores (meant_elements ds f es)) (words_of_elements (meant_rest ds f rest)) (element_words ds f es h w.0) (rest_words ds f rest h w.1))
   meant_words ds f (tree.conjunction es) h w = element_words ds f es h w
   meant_words ds f (tree.disjunction bs) h w = branch_words ds f bs h w
 
@@ -80,6 +82,11 @@ mutual
   element_words ds f no_elements h w = tt
   element_words ds f (element e es) h w =
       both_words (words (meant ds f e)) (words_of_cores (meant_elements ds f es)) (meant_words ds f e h w.0) (element_words ds f es h w.1)
+
+  rest_words : (ds : List Definition) (f : ℕ → Core) (rest : tree.Rest) → ((i : ℕ) → WritesWords (f i)) → HasWordsRest rest → AreWords (words_of_elements (meant_rest ds f rest))
+  rest_words ds f tree.no_rest h w = tt
+  rest_words ds f tree.any_rest h w = tt
+  rest_words ds f (tree.each_rest e) h w = meant_words ds f e h w
 
   branch_words : (ds : List Definition) (f : ℕ → Core) (bs : Branches) → ((i : ℕ) → WritesWords (f i)) → HaveWordsBranches bs → AreWords (words_of_choices (meant_branches ds f bs))
   branch_words ds f no_branches h w = tt

@@ -1,14 +1,19 @@
 -- What closing adds, place by place.
-use Rattle.std.specs.Prelude.{◌≡◌, ◌↔◌, true, List, ℕ, Option}
+use Rattle.std.specs.Prelude.{◌≡◌, ◌↔◌, ◌⊎◌, ◌≤◌, ◌<◌, true, List, ◌∷◌, ℕ, Option, Some, None, All}
+use Rattle.std.specs.Option.{option_and_then}
+use Rattle.cue_lattice.specs.Limits.{step_limit}
 use Rattle.cue_lattice.specs.OneOf.{OneOf}
-use Rattle.cue_lattice.specs.Path.{Path}
+use Rattle.cue_lattice.specs.Path as paths
+use Rattle.cue_lattice.specs.Path.{Path, label, index}
 use Rattle.cue_lattice.specs.Question.{Question, allows}
 use Rattle.cue_row.specs.declared.row.Row.{Row}
 use Rattle.cue_row.specs.declared.question.Question as program
+use Rattle.cue_row.specs.declared.step.Step.{Step}
 use Rattle.cue_row.specs.LabelSets.{RefusesLabel}
 use Rattle.cue_row.specs.Questions.{question_of}
 use Rattle.cue_row.specs.Row.{Refuses, IsRow}
-use Rattle.cue_sets.specs.Texts.{RefusesText, is_text_member}
+use Rattle.cue_row.specs.Steps.{step_of}
+use Rattle.cue_sets.specs.Texts.{is_text_member}
 use Rattle.cue_scope.specs.Core.{Core, closed}
 use Rattle.cue_scope.specs.Kept.{all_of}
 use Rattle.cue_scope.specs.Limits.{size, depth}
@@ -16,12 +21,13 @@ use Rattle.cue_scope.specs.Meaning.{nested}
 use Rattle.cue_scope.specs.Uses.{uses}
 use Rattle.cue_syntax.specs.declared.tree.Label.{Label}
 use Rattle.cue_syntax.specs.Syntax.{Expression}
+use Rattle.cue_table.specs.Depth.{tree_depth}
 use Rattle.cue_table.specs.Form.{IsTable}
 use Rattle.cue_table.specs.Refuses.{RowRefuses, TableRefuses}
-use Rattle.cue_table.specs.Tree.{Tree, row_at, rows_of}
+use Rattle.cue_table.specs.Tree.{Tree, row_of, row_at, step_into}
 use Rattle.cue_eval.specs.declared.body.Closed.{Closed}
+use Rattle.cue_eval.specs.declared.left_out.Place.{Place}
 use Rattle.cue_eval.specs.declared.declared.Declared.{Declared}
-use Rattle.cue_eval.specs.declared.declared.Asked.{Asked}
 use Rattle.cue_eval.specs.declared.declared.Asked.TheVariants.{Stands}
 use Rattle.cue_eval.specs.declared.told.Sight.{Sight}
 use Rattle.cue_eval.specs.Evaluated.{HasAnswersOf}
@@ -44,27 +50,79 @@ abbrev pub AllowsAll : Option Row → Type 0
 AllowsAll row =
     (l : List ℕ) → ¬ RowRefuses (λ (r : Row) (k : List ℕ). RefusesLabel r.labels k) row l
 
--- what is left out at a place, where no definition that is used has a `...` there, and no label is
--- left out yet
-abbrev pub AddedAt : Tree Declared → Tree Row → Path → Declared → Question → Type 0
-AddedAt dots rows path here question =
-    (¬ TableRefuses Tells dots path Stands) × AllowsAll (row_at rows path) × LeftOut here question
+-- what closing adds at a place, where this row tells of the literals that the body writes itself,
+-- this one where a literal has a `...`, and this is refused: the labels that aren't declared, where no
+-- literal has a `...` and no label is left out yet
+abbrev pub Adds : Option Declared → Option Declared → Option Row → Question → Type 0
+Adds None dots row question = ⊥
+Adds (Some here) dots row question =
+    (¬ RowRefuses Tells dots Stands) × AllowsAll row × LeftOut here question
 
 abbrev pub IsAddedBy : Tree Declared → Tree Declared → Tree Row → Tree Row → Type 0
 IsAddedBy own dots rows sets = (path : Path) (question : program.Question) →
     TableRefuses Refuses sets path question
-    ↔ OneOf (λ row. (row.0 ≡ path) × AddedAt dots rows row.0 row.1 (question_of question))
-    (rows_of own)
+    ↔ Adds (row_at own path) (row_at dots path) (row_at rows path) (question_of question)
 
--- each label is declared
-abbrev pub IsDotted : Declared → Type 0
-IsDotted here = (here.stands ≡ true) × ((l : List ℕ) → RefusesText here.undeclared l)
+-- the row of a branch that may be there, and that at a path below it
+abbrev pub root_row : {R : Type 0} → Option (Tree R) → Option R
+root_row branch = option_and_then row_of branch
 
-abbrev pub AreDotted : Tree Declared → Tree Declared → Type 0
-AreDotted own dots =
-    (path : Path) (asked : Asked)
-    → TableRefuses Tells dots path asked
-    ↔ OneOf (λ row. (row.0 ≡ path) × IsDotted row.1) (rows_of own)
+abbrev pub row_below : {R : Type 0} → Option (Tree R) → Path → Option R
+row_below branch path = option_and_then (λ tree. row_at tree path) branch
+
+-- what closing adds at a place, and at a path below it
+abbrev pub AddsHere : Place → Question → Type 0
+AddsHere place question =
+    Adds (row_of place.own) (root_row place.dots) (root_row place.rows) question
+
+abbrev pub AddsAt : Place → Path → Question → Type 0
+AddsAt place path question =
+    Adds (row_at place.own path) (row_below place.dots path) (row_below place.rows path) question
+
+-- the branch one step below one that may be there
+abbrev pub step_below : {R : Type 0} → Option (Tree R) → paths.Step → Option (Tree R)
+step_below branch step = option_and_then (λ tree. step_into tree step) branch
+
+-- The second place is one step below the first.
+pub record IsStepInto (place : Place) (step : paths.Step) (below : Place) : Type 0 where
+  pub own : step_into place.own step ≡ Some below.own
+  pub dots : below.dots ≡ step_below place.dots step
+  pub rows : below.rows ≡ step_below place.rows step
+
+-- from this index on closing adds the same in all elements
+abbrev pub IsAlikeFrom : Place → ℕ → Type 0
+IsAlikeFrom place n =
+    (i j : ℕ) (path : Path) (question : Question) → n ≤ i → n ≤ j
+    → AddsAt place (index i ∷ path) question → AddsAt place (index j ∷ path) question
+
+-- in an element from this index on: what closing adds in the one at the index
+abbrev pub FurtherAdds : Place → ℕ → Path → Question → Type 0
+FurtherAdds place n path question =
+    (i : ℕ) × (rest : Path) × (path ≡ index i ∷ rest) × (n ≤ i)
+    × AddsAt place (index n ∷ rest) question
+
+-- an element from this index on
+abbrev pub IsFrom : ℕ → paths.Step → Type 0
+IsFrom n (label l) = ⊥
+IsFrom n (index i) = n ≤ i
+
+-- the step is one of these
+abbrev pub IsAmong : List Step → paths.Step → Type 0
+IsAmong steps step = OneOf (λ one. step_of one ≡ step) steps
+
+-- among these is each step at which a branch stands, but for elements from an index on
+abbrev pub AreOwnSteps : Tree Declared → ℕ → List Step → Type 0
+AreOwnSteps own n steps =
+    (step : paths.Step) (below : Tree Declared) → step_into own step ≡ Some below
+    → IsAmong steps step ⊎ IsFrom n step
+
+-- The branches refuse what closing adds below these steps, and can be hung in.
+pub record AreAddedAt (place : Place) (steps : List Step)
+    (branches : List (Step × Tree Row)) : Type 0 where
+  pub refused : (step : paths.Step) (path : Path) (question : program.Question)
+      → OneOf (λ one. (step_of one.0 ≡ step) × TableRefuses Refuses one.1 path question) branches
+      ↔ (IsAmong steps step × AddsAt place (step ∷ path) (question_of question))
+  pub deep : All (λ one. tree_depth one.1 < step_limit) branches
 
 -- of a body it is known what closing asks
 abbrev pub IsBodyKnown : Sight → List Label → Expression → Type 0

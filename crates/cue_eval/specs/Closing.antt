@@ -5,8 +5,8 @@ use Rattle.std.specs.List.{list_any}
 use Rattle.cue_lattice.specs.Path.{Path, label, index}
 use Rattle.cue_lattice.specs.Question.{allows}
 use Rattle.cue_scope.specs.Core.{Core, conjunction, struct, close, list, closed, Cores, no_cores}
-use Rattle.cue_scope.specs.Core.{core, Elements, ends, goes_on, element, Members, no_members}
-use Rattle.cue_scope.specs.Core.{member, dots}
+use Rattle.cue_scope.specs.Core.{core, Elements, ends, goes_on, each, element, Members}
+use Rattle.cue_scope.specs.Core.{no_members, member, dots}
 use Rattle.cue_eval.specs.Literals.{literals, declares, has_dots, LeaveOut}
 use Rattle.cue_eval.specs.Refuses.{Refuses}
 
@@ -48,6 +48,7 @@ abbrev mutual
   pub OneOfElements : (Members → Type 0) → (Core → Path → Type 0) → Elements → ℕ → Path → Type 0
   OneOfElements own used ends i path = ⊥
   OneOfElements own used goes_on i path = ⊥
+  OneOfElements own used (each c) i path = OneDoes own used c path
   OneOfElements own used (element c es) zero path = OneDoes own used c path
   OneOfElements own used (element c es) (suc i) path = OneOfElements own used es i path
 

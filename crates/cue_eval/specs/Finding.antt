@@ -21,7 +21,7 @@ use Rattle.cue_eval.specs.declared.declared.Declared.{Declared}
 use Rattle.cue_eval.specs.declared.found.Body.{Body}
 use Rattle.cue_eval.specs.declared.found.Defined.{Defined}
 use Rattle.cue_eval.specs.declared.found.Found.{Found}
-use Rattle.cue_eval.specs.declared.told.Whose.TheVariants.{Used}
+use Rattle.cue_eval.specs.declared.told.Whose.TheVariants.{Dotted}
 use Rattle.cue_eval.specs.Evaluated.{HasAnswersOf}
 use Rattle.cue_eval.specs.Known.{IsPairOf}
 use Rattle.cue_eval.specs.Ready.{IsTableOf, IsTableAt}
@@ -105,7 +105,7 @@ pub record AreFindable (ds : List Definition) (es : Elements) (found : Found) : 
 pub record IsFoundBody (c : Core) (body : Body) : Type 0 where
   pub form : IsTable Refuses IsRow body.rows
   pub answers : HasAnswersOf c body.rows
-  pub dots : IsTold Used c body.dots
+  pub dots : IsTold Dotted c body.dots
 
 -- all is kept but what is known of definitions that have their only use here
 pub record IsKept (us : List ℕ) (old new : Found) : Type 0 where

@@ -1,8 +1,8 @@
 -- What is gathered of a literal's parts: tables at steps, and a row of the literal's own.
-use Rattle.std.specs.Prelude.{◌≡◌, List, [], ◌∷◌, Option, ℕ}
+use Rattle.std.specs.Prelude.{◌≡◌, ◌+◌, List, [], ◌∷◌, Option, ℕ}
 use Rattle.cue_lattice.specs.OneOf.{OneOf}
 use Rattle.cue_lattice.specs.Path as paths
-use Rattle.cue_lattice.specs.Path.{Path}
+use Rattle.cue_lattice.specs.Path.{Path, label, index}
 use Rattle.cue_lattice.specs.Question.{Question, allows, Refusals}
 use Rattle.cue_row.specs.LabelSets.{RefusesLabel}
 use Rattle.cue_row.specs.Row.{RowRefuses}
@@ -11,6 +11,8 @@ use Rattle.cue_row.specs.declared.row.Row.{Row}
 use Rattle.cue_row.specs.declared.step.Step.{Step}
 use Rattle.cue_table.specs.Refuses.{TableRefuses}
 use Rattle.cue_table.specs.Tree.{Tree}
+use Rattle.cue_scope.specs.Core.{Elements}
+use Rattle.cue_eval.specs.Refuses.{ElementRefuses}
 
 -- what a table of rows refuses
 abbrev pub Answers : Tree Row → Refusals
@@ -30,3 +32,10 @@ GivenRefuse given step path question =
 abbrev pub LiteralAnswers : (Question → Type 0) → List (Step × Tree Row) → Refusals
 LiteralAnswers own given [] question = own question
 LiteralAnswers own given (step ∷ path) question = GivenRefuse given step path question
+
+-- below the elements from an index on: what the further elements refuse
+abbrev pub FurtherRefuse : ℕ → Elements → Refusals
+FurtherRefuse first es [] question = ⊥
+FurtherRefuse first es (label l ∷ path) question = ⊥
+FurtherRefuse first es (index i ∷ path) question =
+    (k : ℕ) × (first + k ≡ i) × ElementRefuses es k path question

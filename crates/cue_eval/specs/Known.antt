@@ -2,14 +2,16 @@
 use Rattle.std.specs.Prelude.{◌≡◌, ℕ, List, Option, Some, None, IsTrue, slice_index_or}
 use Rattle.cue_scalars.specs.declared.valued.Valued.{Valued}
 use Rattle.cue_scalars.specs.Values.{pair_of}
-use Rattle.cue_syntax.specs.Syntax.{Expression, Elements, Branches}
+use Rattle.cue_syntax.specs.Syntax.{Expression, Elements, Rest, Branches}
 use Rattle.cue_syntax.specs.Grammar.{IsRight, AreRight, AreRightBranches}
 use Rattle.cue_syntax.specs.declared.tree.Identifier.{Identifier}
+use Rattle.cue_scope.specs.Core as cores
 use Rattle.cue_scope.specs.Core.{Core, Cores, Choices, is_scalar, are_scalar, are_scalar_choices}
 use Rattle.cue_scope.specs.Definitions.{Definition}
 use Rattle.cue_scope.specs.Graph.{IsIn}
 use Rattle.cue_scope.specs.Kept.{all_of}
-use Rattle.cue_scope.specs.Meaning.{meaning, meant, meant_name, meant_elements, meant_branches}
+use Rattle.cue_scope.specs.Meaning.{meaning, meant, meant_name, meant_elements, meant_rest}
+use Rattle.cue_scope.specs.Meaning.{meant_branches}
 use Rattle.cue_scope.specs.Uses.{uses, uses_of_name, uses_of_elements, uses_of_branches}
 use Rattle.cue_eval.specs.declared.pair.Pairs.{Pairs}
 use Rattle.cue_eval.specs.Pairs.{pair}
@@ -17,7 +19,7 @@ use Rattle.cue_eval.specs.Pairs.{pair}
 abbrev pub definitions_of : Pairs → List Definition
 definitions_of known = all_of known.definitions.now
 
--- what names, expressions, parts and terms mean
+-- what names, expressions, parts, the end of a list and terms mean
 abbrev pub named_core : Pairs → Identifier → Core
 named_core known name = meant_name (definitions_of known) (meaning (definitions_of known)) name
 
@@ -26,6 +28,9 @@ core_of known e = meant (definitions_of known) (meaning (definitions_of known)) 
 
 abbrev pub parts_of : Pairs → Elements → Cores
 parts_of known es = meant_elements (definitions_of known) (meaning (definitions_of known)) es
+
+abbrev pub rest_of : Pairs → Rest → cores.Elements
+rest_of known rest = meant_rest (definitions_of known) (meaning (definitions_of known)) rest
 
 abbrev pub choices_of : Pairs → Branches → Choices
 choices_of known bs = meant_branches (definitions_of known) (meaning (definitions_of known)) bs

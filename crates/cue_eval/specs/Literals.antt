@@ -6,8 +6,8 @@ use Rattle.std.specs.List.{list_any}
 use Rattle.std.specs.Str.{bytes_eq}
 use Rattle.cue_lattice.specs.Path.{Path, label, index}
 use Rattle.cue_scope.specs.Core.{Core, conjunction, struct, close, list, closed, Cores, no_cores}
-use Rattle.cue_scope.specs.Core.{core, Elements, ends, goes_on, element, Members, no_members}
-use Rattle.cue_scope.specs.Core.{member, dots}
+use Rattle.cue_scope.specs.Core.{core, Elements, ends, goes_on, each, element, Members}
+use Rattle.cue_scope.specs.Core.{no_members, member, dots}
 
 -- it has a declaration of this label, with any mark
 abbrev pub declares : List ℕ → Members → Bool
@@ -58,6 +58,7 @@ abbrev mutual
   pub literals_of_element : Elements → ℕ → Path → List Members
   literals_of_element ends i path = []
   literals_of_element goes_on i path = []
+  literals_of_element (each c) i path = literals c path
   literals_of_element (element c es) zero path = literals c path
   literals_of_element (element c es) (suc i) path = literals_of_element es i path
 

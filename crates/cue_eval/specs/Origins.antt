@@ -1,6 +1,7 @@
 -- Where answers come from: what is written at a place refuses all that its kind does, so that a
 -- place is of one kind.
-use Rattle.std.specs.Prelude.{◌⊎◌, ◌<◌, ◌≤◌, ℕ, Bool, false, List, [], ◌∷◌, ◌++◌, length}
+use Rattle.std.specs.Prelude.{◌≡◌, ◌⊎◌, ◌<◌, ◌≤◌, ℕ, Bool, true, false, List, [], ◌∷◌, ◌++◌}
+use Rattle.std.specs.Prelude.{length}
 use Rattle.cue_lattice.specs.Path.{Path, label, index}
 use Rattle.cue_lattice.specs.declared.scalar.Scalar.{Scalar}
 use Rattle.cue_lattice.specs.Question as questions
@@ -62,7 +63,7 @@ LengthsAreOfLists =
     × ((c : Core) (path : Path) (n : ℕ) → Refuses c path (length_at_least n)
     → (count : ℕ) × (count < n) × IsList (Refuses c path) count false)
 
--- fields stand below structs, and elements below lists that are long enough
+-- fields stand below structs, and elements below lists that are long enough or go on
 abbrev pub FieldsAreOfStructs : Type 0
 FieldsAreOfStructs = (c : Core) (path : Path) (l : List ℕ) (rest : Path) (question : Question) →
     Refuses c (path ++ label l ∷ rest) question → IsStruct (Refuses c path)
@@ -70,7 +71,16 @@ FieldsAreOfStructs = (c : Core) (path : Path) (l : List ℕ) (rest : Path) (ques
 abbrev pub ElementsAreOfLists : Type 0
 ElementsAreOfLists = (c : Core) (path : Path) (i : ℕ) (rest : Path) (question : Question) →
     Refuses c (path ++ index i ∷ rest) question
-    → (count : ℕ) × (goes_on : Bool) × (i < count) × IsList (Refuses c path) count goes_on
+    → (count : ℕ) × (goes_on : Bool) × ((i < count) ⊎ (goes_on ≡ true))
+    × IsList (Refuses c path) count goes_on
+
+-- elements that no list at their place writes one by one are alike: their indexes are lengths that
+-- are not too small
+abbrev pub FurtherElementsAreAlike : Type 0
+FurtherElementsAreAlike =
+    (c : Core) (path : Path) (i j : ℕ) (rest : Path) (question : Question) →
+    ¬ Refuses c path (length_at_most i) → ¬ Refuses c path (length_at_most j)
+    → Refuses c (path ++ index i ∷ rest) question → Refuses c (path ++ index j ∷ rest) question
 
 -- the path ends in a label
 abbrev pub EndsInLabel : Path → Type 0

@@ -14,21 +14,22 @@ use Rattle.cue_table.specs.Depth.{tree_depth}
 use Rattle.cue_table.specs.Form.{IsTable}
 use Rattle.cue_table.specs.Tree.{Tree}
 use Rattle.cue_syntax.specs.Syntax as tree
-use Rattle.cue_syntax.specs.Syntax.{Expression, Elements, Entries}
-use Rattle.cue_syntax.specs.Grammar.{IsRight, AreRight, AreRightEntries}
+use Rattle.cue_syntax.specs.Syntax.{Expression, Elements, Rest, Entries}
+use Rattle.cue_syntax.specs.Grammar.{IsRight, AreRight, IsRightRest, AreRightEntries}
 use Rattle.cue_syntax.specs.declared.tree.Label.{Label}
 use Rattle.cue_scope.specs.Core as cores
-use Rattle.cue_scope.specs.Core.{Core, followed_by, Members}
+use Rattle.cue_scope.specs.Core.{Core, ends, followed_by, Members}
 use Rattle.cue_scope.specs.Definitions.{Definition}
 use Rattle.cue_scope.specs.Graph.{IsIn}
 use Rattle.cue_scope.specs.Limits.{size, size_of_cores, size_of_elements, size_of_members, depth}
 use Rattle.cue_scope.specs.Limits.{depth_of_cores, depth_of_elements, depth_of_members}
 use Rattle.cue_scope.specs.Meaning.{meaning, meant_members, meant_fields, text_of}
-use Rattle.cue_scope.specs.Terms.{terms, terms_of_elements, terms_of_entries}
-use Rattle.cue_scope.specs.Uses.{uses, uses_of_elements, uses_of_entries, uses_of_fields}
+use Rattle.cue_scope.specs.Terms.{terms, terms_of_elements, terms_of_rest, terms_of_entries}
+use Rattle.cue_scope.specs.Uses.{uses, uses_of_elements, uses_of_rest, uses_of_entries}
+use Rattle.cue_scope.specs.Uses.{uses_of_fields}
 use Rattle.cue_eval.specs.declared.rows.Tables.{Tables}
 use Rattle.cue_eval.specs.Evaluated.{HasAnswersOf}
-use Rattle.cue_eval.specs.Known.{ArePairsKnown, definitions_of, core_of, parts_of}
+use Rattle.cue_eval.specs.Known.{ArePairsKnown, definitions_of, core_of, parts_of, rest_of}
 use Rattle.cue_eval.specs.Gathered.{Answers, GivenRefuse}
 use Rattle.cue_eval.specs.Places.{Here, MarkRefuses}
 use Rattle.cue_eval.specs.Refuses as refusing
@@ -76,14 +77,21 @@ pub record AreReadyParts (known : Tables) (es : Elements) : Type 0 where
   pub size : size_of_cores (parts_of known.pairs es) ≤ size_limit
   pub depth : depth_of_cores (parts_of known.pairs es) ≤ step_limit
 
--- the elements of a list, with what follows them
-pub record AreReadyElements (known : Tables) (es : Elements) (rest : cores.Elements)
-    : Type 0 where
+-- the elements of a list
+pub record AreReadyElements (known : Tables) (es : Elements) : Type 0 where
   pub right : AreRight es
   pub used : AreKnown known (uses_of_elements (all_definitions known) es)
   pub terms : terms_of_elements (all_definitions known) (meaning (all_definitions known)) es ≡ []
-  pub size : size_of_elements (followed_by (parts_of known.pairs es) rest) ≤ size_limit
-  pub depth : depth_of_elements (followed_by (parts_of known.pairs es) rest) ≤ step_limit
+  pub size : size_of_elements (followed_by (parts_of known.pairs es) ends) ≤ size_limit
+  pub depth : depth_of_elements (followed_by (parts_of known.pairs es) ends) ≤ step_limit
+
+-- what stands behind the elements of a list
+pub record IsReadyRest (known : Tables) (rest : Rest) : Type 0 where
+  pub right : IsRightRest rest
+  pub used : AreKnown known (uses_of_rest (all_definitions known) rest)
+  pub terms : terms_of_rest (all_definitions known) (meaning (all_definitions known)) rest ≡ []
+  pub size : size_of_elements (rest_of known.pairs rest) ≤ size_limit
+  pub depth : depth_of_elements (rest_of known.pairs rest) ≤ step_limit
 
 -- the declarations of a struct literal
 pub record AreReadyEntries (known : Tables) (es : Entries) : Type 0 where

@@ -3,8 +3,8 @@ use Rattle.std.specs.Prelude.{◌≡◌, ◌⊎◌, ◌+◌, ℕ, zero, suc, Boo
 use Rattle.cue_lattice.specs.Path.{Path, label, index}
 use Rattle.cue_lattice.specs.Question.{Question}
 use Rattle.cue_scope.specs.Core.{Core, top, conjunction, struct, close, list, closed, Cores}
-use Rattle.cue_scope.specs.Core.{no_cores, core, Elements, ends, goes_on, element, Members}
-use Rattle.cue_scope.specs.Core.{no_members, member, dots}
+use Rattle.cue_scope.specs.Core.{no_cores, core, Elements, ends, goes_on, each, element}
+use Rattle.cue_scope.specs.Core.{Members, no_members, member, dots}
 use Rattle.cue_eval.specs.Pairs.{pair}
 use Rattle.cue_eval.specs.Literals.{literals}
 use Rattle.cue_eval.specs.Places.{Here, ScalarRefuses, StructRefuses, ListRefuses, MarkRefuses}
@@ -23,16 +23,18 @@ ElementsRefuse here elements [] question = here question
 ElementsRefuse here elements (label l ∷ path) question = ⊥
 ElementsRefuse here elements (index i ∷ path) question = elements i path question
 
--- how many elements a list has
+-- how many elements a list writes one by one
 abbrev pub count : Elements → ℕ
 count ends = 0
 count goes_on = 0
+count (each c) = 0
 count (element c es) = count es + 1
 
 -- it goes on behind them
 abbrev pub is_open : Elements → Bool
 is_open ends = false
 is_open goes_on = true
+is_open (each c) = true
 is_open (element c es) = is_open es
 
 abbrev mutual
@@ -64,9 +66,11 @@ abbrev mutual
       ⊎ FieldRefuses ms l path question
   FieldRefuses (dots ms) l path question = FieldRefuses ms l path question
 
-  -- what the element at an index refuses, at a path below it
+  -- what the element at an index refuses, at a path below it; behind those that are written one by
+  -- one it is what each further element is
   pub ElementRefuses : Elements → ℕ → Path → Question → Type 0
   ElementRefuses ends i path question = ⊥
   ElementRefuses goes_on i path question = ⊥
+  ElementRefuses (each c) i path question = Refuses c path question
   ElementRefuses (element c es) zero path question = Refuses c path question
   ElementRefuses (element c es) (suc i) path question = ElementRefuses es i path question

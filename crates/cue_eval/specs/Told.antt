@@ -1,39 +1,45 @@
 -- What the struct literals at a place declare together, place by place of an expression.
-use Rattle.std.specs.Prelude.{◌≡◌, ◌↔◌, ◌≤◌, ◌<◌, true, List, [], ℕ, Option, Some, length}
+use Rattle.std.specs.Prelude.{◌≡◌, ◌↔◌, ◌⊎◌, ◌≤◌, ◌<◌, ◌+◌, true, List, [], ◌∷◌, ℕ, Option, Some}
+use Rattle.std.specs.Prelude.{length}
 use Rattle.std.specs.Prelude.{slice_index_or}
 use Rattle.std.specs.List.{list_any}
-use Rattle.cue_lattice.specs.Path.{Path}
+use Rattle.cue_lattice.specs.Path.{Path, label, index}
 use Rattle.cue_table.specs.Tree.{Tree}
 use Rattle.cue_table.specs.Form.{IsTable}
 use Rattle.cue_table.specs.Meet.{IsAdded}
 use Rattle.cue_table.specs.Refuses.{TableRefuses}
 use Rattle.cue_syntax.specs.declared.tree.Identifier.{Identifier}
-use Rattle.cue_syntax.specs.Syntax.{Expression, Elements, Entries}
+use Rattle.cue_syntax.specs.Syntax.{Expression, Elements, Rest, Entries}
+use Rattle.cue_scope.specs.Core as cores
 use Rattle.cue_scope.specs.Core.{Core, Cores, ends, followed_by, Members}
 use Rattle.cue_scope.specs.Graph.{IsIn}
 use Rattle.cue_scope.specs.Kept.{all_of}
-use Rattle.cue_scope.specs.Limits.{size, size_of_cores, size_of_members, depth, depth_of_cores}
+use Rattle.cue_scope.specs.Limits.{size, size_of_cores, size_of_elements, size_of_members}
+use Rattle.cue_scope.specs.Limits.{depth, depth_of_cores}
 use Rattle.cue_scope.specs.Limits.{depth_of_elements, depth_of_members}
-use Rattle.cue_scope.specs.Meaning.{meaning, meant, meant_name, meant_elements, meant_members}
-use Rattle.cue_scope.specs.Uses.{uses, uses_of_name, uses_of_elements, uses_of_entries}
+use Rattle.cue_scope.specs.Meaning.{meaning, meant, meant_name, meant_elements, meant_rest}
+use Rattle.cue_scope.specs.Meaning.{meant_members}
+use Rattle.cue_scope.specs.Uses.{uses, uses_of_name, uses_of_elements, uses_of_rest}
+use Rattle.cue_scope.specs.Uses.{uses_of_entries}
 use Rattle.cue_eval.specs.declared.declared.Declared.{Declared}
 use Rattle.cue_eval.specs.declared.declared.Asked.{Asked}
 use Rattle.cue_eval.specs.declared.told.Whose.{Whose}
-use Rattle.cue_eval.specs.declared.told.Whose.TheVariants.{Own, Used}
+use Rattle.cue_eval.specs.declared.told.Whose.TheVariants.{Own, Dotted}
 use Rattle.cue_eval.specs.declared.told.Sight.{Sight}
 use Rattle.cue_eval.specs.Literals.{literals, has_dots}
-use Rattle.cue_eval.specs.Closing.{OneDoes, OneOfFields, AtStruct}
+use Rattle.cue_eval.specs.Closing.{OneDoes, OneOfFields, OneOfElements, AtStruct}
 use Rattle.cue_eval.specs.Telling.{Tells, IsDeclared, tells}
 
--- what is asked of the struct literals that an expression writes itself: what they declare
+-- what is asked of the struct literals that an expression writes itself: what they declare, or
+-- whether one has a `...`
 abbrev pub own_tells : Whose → Asked → Members → Type 0
 own_tells Own asked ms = tells asked ms ≡ true
-own_tells Used asked ms = ⊥
+own_tells Dotted asked ms = has_dots ms ≡ true
 
--- and of those in definitions that it names: whether one has a `...`
+-- and of those in definitions that it names: nothing, or whether one has a `...`
 abbrev pub used_tells : Whose → Core → Path → Type 0
 used_tells Own c path = ⊥
-used_tells Used c path = list_any has_dots (literals c path) ≡ true
+used_tells Dotted c path = list_any has_dots (literals c path) ≡ true
 
 -- it is told of the expression at the path
 abbrev pub ToldOf : Whose → Core → Path → Asked → Type 0
@@ -51,6 +57,22 @@ pub record IsToldBelow (whose : Whose) (ms : Members) (table : Tree Declared) : 
   pub told : (path : Path) (asked : Asked)
       → TableRefuses Tells table path asked
       ↔ AtStruct ⊥ (OneOfFields (own_tells whose asked) (used_tells whose) ms) path
+
+-- below the elements from an index on: what is told of the further elements
+abbrev pub FurtherTold : Whose → ℕ → cores.Elements → Path → Asked → Type 0
+FurtherTold whose first es [] asked = ⊥
+FurtherTold whose first es (label l ∷ path) asked = ⊥
+FurtherTold whose first es (index i ∷ path) asked =
+    (k : ℕ) × (first + k ≡ i)
+    × OneOfElements (own_tells whose asked) (used_tells whose) es k path
+
+-- The second table says what the first does, and that.
+pub record AreFurtherTold (whose : Whose) (first : ℕ) (es : cores.Elements) (list : Tree Declared)
+    (all : Tree Declared) : Type 0 where
+  pub form : IsTable Tells IsDeclared all
+  pub told : (path : Path) (asked : Asked)
+      → TableRefuses Tells all path asked
+      ↔ (TableRefuses Tells list path asked ⊎ FurtherTold whose first es path asked)
 
 -- The table has a row just where one of the struct literals has a `...`.
 pub record AreDots (c : Core) (table : Tree Declared) : Type 0 where
@@ -70,6 +92,10 @@ means known e = meant (all_of known.definitions.now) (meaning (all_of known.defi
 abbrev pub mean_elements : Sight → Elements → Cores
 mean_elements known es =
     meant_elements (all_of known.definitions.now) (meaning (all_of known.definitions.now)) es
+
+abbrev pub mean_rest : Sight → Rest → cores.Elements
+mean_rest known rest =
+    meant_rest (all_of known.definitions.now) (meaning (all_of known.definitions.now)) rest
 
 abbrev pub mean_members : Sight → Entries → Members
 mean_members known es =
@@ -99,6 +125,11 @@ AreElementsKnown known es =
     AreKnown known (uses_of_elements (all_of known.definitions.now) es)
     (size_of_cores (mean_elements known es))
     (depth_of_elements (followed_by (mean_elements known es) ends))
+
+abbrev pub IsRestKnown : Sight → Rest → Type 0
+IsRestKnown known rest =
+    AreKnown known (uses_of_rest (all_of known.definitions.now) rest)
+    (size_of_elements (mean_rest known rest)) (depth_of_elements (mean_rest known rest))
 
 abbrev pub AreMembersKnown : Sight → Entries → Type 0
 AreMembersKnown known es =

@@ -3,8 +3,8 @@ use Rattle.std.specs.Prelude.{ℕ, List, [], ◌∷◌, ◌++◌}
 use Rattle.cue_row.specs.ValidRow.{AreWords}
 use Rattle.cue_scope.specs.Core.{Core, text, other_text, conjunction, disjunction, struct, close}
 use Rattle.cue_scope.specs.Core.{list, closed, Cores, no_cores, core, Elements, ends, goes_on}
-use Rattle.cue_scope.specs.Core.{element, Choices, no_choices, choice, Members, no_members, member}
-use Rattle.cue_scope.specs.Core.{dots}
+use Rattle.cue_scope.specs.Core.{each, element, Choices, no_choices, choice, Members, no_members}
+use Rattle.cue_scope.specs.Core.{member, dots}
 
 abbrev mutual
   pub words : Core → List (List ℕ)
@@ -25,6 +25,7 @@ abbrev mutual
   pub words_of_elements : Elements → List (List ℕ)
   words_of_elements ends = []
   words_of_elements goes_on = []
+  words_of_elements (each c) = words c
   words_of_elements (element c es) = words c ++ words_of_elements es
 
   pub words_of_choices : Choices → List (List ℕ)

@@ -45,7 +45,7 @@ pub(crate) struct Defined {
 pub(crate) struct Body {
     /// What it refuses.
     pub(crate) rows: Table<Row>,
-    /// Where a struct literal in a definition that it names has a `...`.
+    /// Where one of its struct literals has a `...`, also in definitions that it names.
     pub(crate) dots: Table<Declared>,
 }
 
@@ -127,8 +127,8 @@ impl Found {
         let own = sight.body(Whose::Own, definition.chain, definition.value)?;
         let Body { rows, dots } = self.body(alloc, definitions, definition.value)?;
         let rows = hanging::behind(alloc, definition.chain, rows)?;
-        let used = told::behind(alloc, Whose::Used, definition.chain, dots)?;
-        close(alloc, &own, used, rows)
+        let dots = told::behind(alloc, Whose::Dotted, definition.chain, dots)?;
+        close(alloc, &own, dots, rows)
     }
 
     /// An expression at the root of a body. What is known of a definition that is used once is
@@ -210,7 +210,7 @@ impl Found {
         let rows = self.tables(alloc, definitions).rows(expression)?;
         let dots = self
             .sight(alloc, definitions)
-            .expression(Whose::Used, expression)?;
+            .expression(Whose::Dotted, expression)?;
         Ok(Body { rows, dots })
     }
 

@@ -6,7 +6,8 @@ ghost use Rattle.cue_eval.specs.Laws.{IsClosedByParts, IsItsPair};
 ghost use Rattle.cue_eval.specs.Closing.{AreOwnOrUsed, UsedAreClosed, IsClosedByOwn};
 ghost use Rattle.cue_eval.specs.Origins.{ComesFromSources, PlacesAreOfKinds, LabelsAreOfStructs};
 ghost use Rattle.cue_eval.specs.Origins.{LengthsAreOfLists, FieldsAreOfStructs, ElementsAreOfLists};
-ghost use Rattle.cue_eval.specs.Origins.{LevelsAreOfFields, PathsAreWithinDepth, UsualIsWithin};
+ghost use Rattle.cue_eval.specs.Origins.{FurtherElementsAreAlike, LevelsAreOfFields};
+ghost use Rattle.cue_eval.specs.Origins.{PathsAreWithinDepth, UsualIsWithin};
 ghost use Rattle.cue_eval.specs.Validity.{PathsAreWritten, UnwrittenLabelsAreAlike};
 ghost use Rattle.cue_eval.specs.Validity.{UnwrittenTextsAreAlike, LengthsAreWithinSize};
 ghost use Rattle.cue_eval.specs.Validity.{TextsAreValid, TextsWriteWords};
@@ -30,9 +31,9 @@ pub fn laws_of_meaning()
 /// What is refused at a place comes from something written there, which refuses all that its kind
 /// does. So where anything but a level is refused, nothing but scalars, nothing but a struct, or
 /// nothing but a list may stand; labels and fields belong to structs, lengths and elements to
-/// lists, levels to fields; no path has more steps than the expression is deep; and what may not
-/// stand isn't usual. That is what the rules of valid tables ask of kinds, parents, levels, lengths
-/// and paths. It computes nothing: it states laws.
+/// lists, whose further elements are alike, and levels to fields; no path has more steps than the
+/// expression is deep; and what may not stand isn't usual. That is what the rules of valid tables
+/// ask of kinds, parents, levels, lengths and paths. It computes nothing: it states laws.
 pub fn laws_of_places()
     ensures origins { ComesFromSources }
     ensures kinds { PlacesAreOfKinds }
@@ -40,6 +41,7 @@ pub fn laws_of_places()
     ensures lengths { LengthsAreOfLists }
     ensures fields { FieldsAreOfStructs }
     ensures elements { ElementsAreOfLists }
+    ensures further { FurtherElementsAreAlike }
     ensures levels { LevelsAreOfFields }
     ensures depths { PathsAreWithinDepth }
     ensures usual { UsualIsWithin }

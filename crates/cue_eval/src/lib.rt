@@ -8,6 +8,7 @@ mod found;
 mod hanging;
 mod labels;
 mod laws;
+mod left_out;
 mod pair;
 mod parts;
 mod place;

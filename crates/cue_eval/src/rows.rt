@@ -1,20 +1,26 @@
 //! What expressions refuse, as tables.
-ghost use Rattle.std.specs.Prelude.{◌≡◌, ◌<◌, None, IfOk, OnOk, slice_index_or};
-ghost use Rattle.cue_lattice.specs.Limits.{step_limit};
+ghost use Rattle.std.specs.Prelude.{◌≡◌, ◌<◌, ◌≤◌, ◌⊎◌, ℕ, List, None, IfOk, OnOk};
+ghost use Rattle.std.specs.Prelude.{length, slice_index_or};
+ghost use Rattle.cue_lattice.specs.Limits.{length_limit, step_limit};
+ghost use Rattle.cue_lattice.specs.Question.{SameAnswers};
 ghost use Rattle.cue_row.specs.Row.{Refuses, IsRow};
 ghost use Rattle.cue_scope.specs.Core as core;
+ghost use Rattle.cue_scope.specs.Core.{Core};
+ghost use Rattle.cue_scope.specs.Definitions.{Definition};
 ghost use Rattle.cue_scope.specs.Limits as limits;
 ghost use Rattle.cue_scope.specs.Meaning.{meaning, meant_rest, nested};
 ghost use Rattle.cue_scope.specs.Uses.{uses_of_name};
 ghost use Rattle.cue_syntax.specs.Syntax as tree;
 ghost use Rattle.cue_table.specs.Form.{IsTable};
 ghost use Rattle.cue_eval.specs.Evaluated.{HasAnswersOf};
-ghost use Rattle.cue_eval.specs.Known.{core_of, named_core, parts_of};
+ghost use Rattle.cue_eval.specs.Known.{core_of, named_core, parts_of, rest_of};
+ghost use Rattle.cue_eval.specs.Gathered.{Answers, FurtherRefuse};
+ghost use Rattle.cue_eval.specs.Places.{ListRefuses};
 ghost use Rattle.cue_eval.specs.Parts.{AreAdded};
 ghost use Rattle.cue_eval.specs.Ready.{all_definitions, members_of, AreKnown, IsReady, IsTableAt};
-ghost use Rattle.cue_eval.specs.Ready.{AreReadyParts, AreReadyElements, AreReadyEntries};
-ghost use Rattle.cue_eval.specs.Ready.{AreReadyFields, IsField, AreGiven, AtLabels, IsScalarLeaf};
-ghost use Rattle.cue_eval.specs.Refuses.{is_open};
+ghost use Rattle.cue_eval.specs.Ready.{AreReadyParts, AreReadyElements, IsReadyRest};
+ghost use Rattle.cue_eval.specs.Ready.{AreReadyEntries, AreReadyFields, IsField, AreGiven, AtLabels, IsScalarLeaf};
+ghost use Rattle.cue_eval.specs.Refuses.{ElementsRefuse, ElementRefuses, is_open};
 
 use crate::hanging::{behind, list_of, marked, push_scalars, scalar_table, step_to, struct_of};
 use crate::labels::labels_of;
@@ -49,7 +55,10 @@ impl<'a, 'f, 't> Tables<'a, 'f, 't> {
             Expr::Parenthesis { inner, .. } => self.rows(inner),
             Expr::Struct { declarations, .. } => self.literal(declarations),
             Expr::Close { declarations, .. } => self.closed_literal(declarations),
-            Expr::List { elements, rest, .. } => self.list(elements, *rest),
+            Expr::List { elements, rest, .. } => {
+                let list = self.list(elements, goes_on(rest))?;
+                self.and_each(list, elements.len(), rest)
+            }
             Expr::Conjunction(parts) => self.conjunction(parts),
             Expr::Disjunction(_) => self.scalar(expression),
             Expr::Integer(_) => self.scalar(expression),
@@ -246,15 +255,14 @@ impl<'a, 'f, 't> Tables<'a, 'f, 't> {
         Ok((step, marked(self.pairs.alloc, table, label.mark)?))
     }
 
-    /// A list literal, with what stands behind its elements.
+    /// A list of these elements, and whether it goes on.
     #[cycle(rows)]
-    fn list(&self, elements: &[Expr], rest: Rest) -> Result<Table<Row>, Memory>
-        requires { AreReadyElements self.now (tree.elements elements.now)
-            (meant_rest (tree.rest_of rest)) }
+    fn list(&self, elements: &[Expr], goes_on: bool) -> Result<Table<Row>, Memory>
+        requires { AreReadyElements self.now (tree.elements elements.now) }
         ensures form { IfOk result (IsTable Refuses IsRow) }
-        ensures answers { IfOk result (HasAnswersOf
-            (core.list (core.followed_by (parts_of self.now.pairs (tree.elements elements.now))
-            (meant_rest (tree.rest_of rest))))) }
+        ensures answers { IfOk result (λ list. SameAnswers (Answers list)
+            (ElementsRefuse (ListRefuses (length elements.now) goes_on) (ElementRefuses
+            (core.followed_by (parts_of self.now.pairs (tree.elements elements.now)) core.ends)))) }
     {
         let mut steps = Vec::new(self.pairs.alloc);
         for element in elements {
@@ -262,16 +270,36 @@ impl<'a, 'f, 't> Tables<'a, 'f, 't> {
             let index = steps.len() as u32;
             steps.push((Step::Index(index), table))?;
         }
-        list_of(self.pairs.alloc, steps, goes_on(rest))
+        list_of(self.pairs.alloc, steps, goes_on)
+    }
+
+    /// A list of so many elements, with what each further one is.
+    #[cycle(rows)]
+    fn and_each(&self, list: Table<Row>, count: usize, rest: &Rest) -> Result<Table<Row>, Memory>
+        requires ready { IsReadyRest self.now (tree.rest_tree rest.now) }
+        requires count { count ≤ length_limit }
+        ensures form { IfOk result (IsTable Refuses IsRow) }
+        ensures answers { IfOk result (λ all. SameAnswers (Answers all)
+            (λ path question. Answers list path question
+            ⊎ FurtherRefuse count (rest_of self.now.pairs (tree.rest_tree rest.now)) path question)) }
+    {
+        match rest {
+            Rest::Ends => Ok(list),
+            Rest::GoesOn => Ok(list),
+            Rest::Each(each) => {
+                let further = self.rows(each)?;
+                let mut all = list;
+                all.meet_rest(count as u32, further)?;
+                Ok(all)
+            }
+        }
     }
 }
 
 /// Whether a list goes on behind its elements.
-fn goes_on(rest: Rest) -> bool
-    ensures { result ≡ is_open (meant_rest (tree.rest_of rest)) }
+fn goes_on(rest: &Rest) -> bool
+    ensures { (ds : List Definition) (meaning : ℕ → Core) →
+        result ≡ is_open (meant_rest ds meaning (tree.rest_tree rest.now)) }
 {
-    match rest {
-        Rest::Ends => false,
-        Rest::GoesOn => true,
-    }
+    !matches!(rest, Rest::Ends)
 }

@@ -1,29 +1,33 @@
-//! What the struct literals at each place of an expression declare together: those that it writes
-//! itself, and those in definitions that it names apart.
+//! What the struct literals that an expression writes itself declare together, place by place; and
+//! where one of all, also those in definitions that it names, has a `...`.
 ghost use Rattle.std.specs.Prelude.{◌≡◌, ◌↔◌, ◌+◌, ◌≤◌, ◌<◌, ℕ, List, [], true, length, IfOk};
-ghost use Rattle.cue_lattice.specs.Limits.{step_limit};
+ghost use Rattle.std.specs.Prelude.{IsTrue};
+ghost use Rattle.cue_lattice.specs.Limits.{length_limit, step_limit};
 ghost use Rattle.cue_syntax.specs.Syntax as tree;
-ghost use Rattle.cue_scope.specs.Core.{Core, struct, list, followed_by, conjunction, member};
+ghost use Rattle.cue_scope.specs.Core.{Core, struct, list, ends, followed_by, conjunction};
+ghost use Rattle.cue_scope.specs.Core.{member};
 ghost use Rattle.cue_scope.specs.Core.{no_members};
 ghost use Rattle.cue_scope.specs.Definitions.{Definition as DefinitionOf};
 ghost use Rattle.cue_scope.specs.Kept.{all_of};
 ghost use Rattle.cue_scope.specs.Limits.{depth};
-ghost use Rattle.cue_scope.specs.Meaning.{meaning, meant_name, meant_members, meant_rest, nested};
+ghost use Rattle.cue_scope.specs.Meaning.{meaning, meant_name, meant_members, nested};
 ghost use Rattle.cue_scope.specs.Meaning.{text_of};
 ghost use Rattle.cue_table.specs.Depth.{tree_depth};
 ghost use Rattle.cue_eval.specs.Telling.{Tells, tells};
 ghost use Rattle.cue_eval.specs.Told.{IsTold, IsToldBelow, IsKnown, ArePartsKnown};
 ghost use Rattle.cue_eval.specs.Told.{AreElementsKnown, AreMembersKnown, IsNameKnown, IsRooted};
-ghost use Rattle.cue_eval.specs.Told.{means, mean_elements, mean_members};
+ghost use Rattle.cue_eval.specs.Told.{means, mean_elements, mean_rest, mean_members, IsRestKnown};
+ghost use Rattle.cue_eval.specs.Told.{AreFurtherTold, own_tells};
 ghost use Rattle.cue_eval.specs.declared.told.Whose.TheVariants as whoses;
 
 use crate::declared::{Asked, Declared};
 use crate::hanging::step_to;
+use crate::labels::has_ellipsis;
 use cue_lattice::{Memory, Narrow, meet_all};
 use cue_row::{Path, Step};
 use cue_scope::Definitions;
 use cue_sets::TextSet;
-use cue_syntax::{Declaration, Expr, Identifier, Label, LabelName};
+use cue_syntax::{Declaration, Expr, Identifier, Label, LabelName, Rest};
 use cue_table::Table;
 use std::alloc::Global;
 
@@ -32,8 +36,8 @@ use std::alloc::Global;
 pub(crate) enum Whose {
     /// Those that the expression writes itself, for what they declare.
     Own,
-    /// Those in definitions that it names, for whether one has a `...`.
-    Used,
+    /// All, also those in definitions that it names, for whether one has a `...`.
+    Dotted,
 }
 
 /// What is known of definitions: where a literal in each has a `...`, as far as they were looked
@@ -61,7 +65,10 @@ impl<'a, 'f, 't> Sight<'a, 'f, 't> {
             Expr::Parenthesis { inner, .. } => self.expression(whose, inner),
             Expr::Struct { declarations, .. } => self.literal(whose, declarations),
             Expr::Close { declarations, .. } => self.literal(whose, declarations),
-            Expr::List { elements, .. } => self.elements(whose, elements),
+            Expr::List { elements, rest, .. } => {
+                let list = self.elements(whose, elements)?;
+                self.and_each(whose, list, elements.len(), rest)
+            }
             Expr::Conjunction(parts) => self.parts(whose, parts),
             Expr::Disjunction(_) => Ok(Table::new(self.alloc)),
             Expr::Integer(_) => Ok(Table::new(self.alloc)),
@@ -91,9 +98,8 @@ impl<'a, 'f, 't> Sight<'a, 'f, 't> {
     #[cycle(told)]
     fn elements(&self, whose: Whose, elements: &[Expr]) -> Result<Table<Declared>, Memory>
         requires { AreElementsKnown self.now (tree.elements elements.now) }
-        ensures { IfOk result (λ table. (rest : tree.Rest) → IsTold whose
-            (list (followed_by (mean_elements self.now (tree.elements elements.now))
-            (meant_rest rest))) table) }
+        ensures { IfOk result (IsTold whose
+            (list (followed_by (mean_elements self.now (tree.elements elements.now)) ends))) }
     {
         let mut branches = Vec::new(self.alloc);
         let mut index: u32 = 0;
@@ -104,6 +110,32 @@ impl<'a, 'f, 't> Sight<'a, 'f, 't> {
         Table::of_branches(self.alloc, branches)
     }
 
+    /// A list of so many elements, with what each further one is.
+    #[cycle(told)]
+    fn and_each(
+        &self,
+        whose: Whose,
+        list: Table<Declared>,
+        count: usize,
+        rest: &Rest,
+    ) -> Result<Table<Declared>, Memory>
+        requires known { IsRestKnown self.now (tree.rest_tree rest.now) }
+        requires count { count ≤ length_limit }
+        ensures { IfOk result (AreFurtherTold whose count
+            (mean_rest self.now (tree.rest_tree rest.now)) list) }
+    {
+        match rest {
+            Rest::Ends => Ok(list),
+            Rest::GoesOn => Ok(list),
+            Rest::Each(each) => {
+                let further = self.expression(whose, each)?;
+                let mut all = list;
+                all.meet_rest(count as u32, further)?;
+                Ok(all)
+            }
+        }
+    }
+
     /// A struct literal.
     #[cycle(told)]
     fn literal(&self, whose: Whose, declarations: &[Declaration]) -> Result<Table<Declared>, Memory>
@@ -112,9 +144,10 @@ impl<'a, 'f, 't> Sight<'a, 'f, 't> {
             (IsTold whose (struct (mean_members self.now (tree.entries declarations.now)))) }
     {
         let table = self.fields(whose, declarations)?;
-        match whose {
-            Whose::Used => Ok(table),
-            Whose::Own => at_root(self.alloc, table, &declared(self.alloc, declarations)?),
+        if is_told(whose, declarations) {
+            at_root(self.alloc, table, &declared(self.alloc, declarations)?)
+        } else {
+            Ok(table)
         }
     }
 
@@ -156,7 +189,7 @@ impl<'a, 'f, 't> Sight<'a, 'f, 't> {
             Identifier::Hidden(_) => Ok(Table::new(self.alloc)),
             Identifier::Definition(name) => match whose {
                 Whose::Own => Ok(Table::new(self.alloc)),
-                Whose::Used => self.used(name.as_str()),
+                Whose::Dotted => self.used(name.as_str()),
             },
         }
     }
@@ -164,7 +197,7 @@ impl<'a, 'f, 't> Sight<'a, 'f, 't> {
     /// A use of a definition.
     fn used(&self, name: &str) -> Result<Table<Declared>, Memory>
         requires { IsNameKnown self.now (Identifier.Definition name.now) }
-        ensures { IfOk result (IsTold whoses.Used
+        ensures { IfOk result (IsTold whoses.Dotted
             (meant_name (all_of self.now.definitions.now)
             (meaning (all_of self.now.definitions.now)) (Identifier.Definition name.now))) }
     {
@@ -219,7 +252,7 @@ fn one_field(
     branches.push((step_to(alloc, label)?, below))?;
     let table = Table::of_branches(alloc, branches)?;
     match whose {
-        Whose::Used => Ok(table),
+        Whose::Dotted => Ok(table),
         Whose::Own => {
             let here = Declared {
                 stands: true,
@@ -237,6 +270,21 @@ fn at_root(alloc: Global, table: Table<Declared>, row: &Declared) -> Result<Tabl
     let mut all = table;
     all.add(&Path::root(alloc), row)?;
     Ok(all)
+}
+
+/// Whether something is told of a struct literal at its own place.
+fn is_told(whose: Whose, declarations: &[Declaration]) -> bool
+    ensures told { IsTrue result → (ds : List DefinitionOf) (meaning : ℕ → Core) (asked : Asked) →
+        (tells asked (meant_members ds meaning (tree.entries declarations.now)) ≡ true)
+        ↔ own_tells whose asked (meant_members ds meaning (tree.entries declarations.now)) }
+    ensures untold { ¬ IsTrue result → (ds : List DefinitionOf) (meaning : ℕ → Core)
+        (asked : Asked) →
+        ¬ own_tells whose asked (meant_members ds meaning (tree.entries declarations.now)) }
+{
+    match whose {
+        Whose::Own => true,
+        Whose::Dotted => has_ellipsis(declarations),
+    }
 }
 
 /// What a struct literal declares.

@@ -34,7 +34,7 @@ fn exported(alloc: Global, texts: &[&str]) -> Result<String, Memory> {
 }
 
 /// Asserts what these texts, unified, are exported as, or why the first that is refused is.
-fn assert_exported<H: AllocGlobal + Abort>(
+pub fn assert_exported<H: AllocGlobal + Abort>(
     rt: &H,
     texts: &[&str],
     wanted: &str,

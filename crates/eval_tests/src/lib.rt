@@ -13,6 +13,8 @@ mod places;
 #[cfg(test)]
 mod repeated;
 #[cfg(test)]
+mod rests;
+#[cfg(test)]
 mod scalars;
 #[cfg(test)]
 mod sites;

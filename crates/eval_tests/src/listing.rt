@@ -2,8 +2,8 @@
 use crate::texts::{evaluated, refused};
 use cue_lattice::{Memory, Text};
 use cue_row::Level::{Given, Optional, Required};
-use cue_row::{Path, Row, RowKind, path_text};
-use cue_table::Table;
+use cue_row::{Path, Row, RowKind, Step, path_text};
+use cue_table::{Place, Slot, Table};
 use std::alloc::Global;
 use std::process::Abort;
 use std::test::Fail;
@@ -65,30 +65,55 @@ fn push_row(alloc: Global, out: &mut String, row: &Row) -> Result<(), Memory> {
     Ok(())
 }
 
-/// Writes the path of a row.
-fn push_path(alloc: Global, out: &mut String, path: &Path) -> Result<(), Memory> {
-    out.push_str(path_text(alloc, path)?.as_str())?;
+/// A step as in the text of a path.
+fn step_text(alloc: Global, step: &Step) -> Result<String, Memory> {
+    let path = Path::root(alloc).then(alloc, step)?;
+    path_text(alloc, &path)
+}
+
+/// A slot of a place: a step, or the index from which on all elements are meant.
+fn slot_text(alloc: Global, slot: &Slot) -> Result<String, Memory> {
+    match slot {
+        Slot::At(step) => step_text(alloc, step),
+        Slot::From(index) => Ok(format!(in alloc; "{index}..")?),
+    }
+}
+
+/// Writes where a row is kept: the root as a point, else its slots.
+fn push_place(alloc: Global, out: &mut String, place: &Place) -> Result<(), Memory> {
+    let slots = place.slots();
+    if slots.is_empty() {
+        out.push('.')?;
+    }
+    let mut first = true;
+    for slot in slots {
+        if !first {
+            out.push('.')?;
+        }
+        first = false;
+        out.push_str(slot_text(alloc, slot)?.as_str())?;
+    }
     Ok(())
 }
 
 /// Writes a line for a row.
-fn push_line(alloc: Global, out: &mut String, path: &Path, row: &Row) -> Result<(), Memory> {
-    push_path(alloc, out, path)?;
+fn push_line(alloc: Global, out: &mut String, place: &Place, row: &Row) -> Result<(), Memory> {
+    push_place(alloc, out, place)?;
     out.push_str(level_of(row))?;
     out.push_str(kind_of(row))?;
     push_row(alloc, out, row)
 }
 
 /// A line for each of these rows.
-fn lines_of(alloc: Global, rows: &[(Path, &Row)]) -> Result<String, Memory> {
+fn lines_of(alloc: Global, rows: &[(Place, &Row)]) -> Result<String, Memory> {
     let mut out = String::new(alloc);
-    for (path, row) in rows {
-        push_line(alloc, &mut out, path, row)?;
+    for (place, row) in rows {
+        push_line(alloc, &mut out, place, row)?;
     }
     Ok(out)
 }
 
-/// A line for each row of a table, in path order.
+/// A line for each row of a table, in the order of their places.
 fn listed(alloc: Global, table: &Table<Row>) -> Result<String, Memory> {
     let rows = table.rows(alloc)?;
     lines_of(alloc, &rows)
@@ -103,7 +128,7 @@ fn copied(alloc: Global, table: &Table<Row>) -> Result<String, Memory> {
     listed(alloc, &copy)
 }
 
-/// The rows of the table of a text, in path order, or why the text is refused.
+/// The rows of the table of a text, in the order of their places, or why the text is refused.
 fn rows(alloc: Global, text: &str) -> Result<String, Memory> {
     match evaluated(alloc, text) {
         Ok(table) => copied(alloc, &table),

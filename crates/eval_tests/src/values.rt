@@ -15,7 +15,11 @@ fn printed(alloc: Global, text: &str) -> Result<String, Memory> {
 }
 
 /// Asserts the canonical text of the table of a text, or why the text is refused.
-fn assert_printed<H: AllocGlobal + Abort>(rt: &H, text: &str, wanted: &str) -> Result<(), Fail> {
+pub fn assert_printed<H: AllocGlobal + Abort>(
+    rt: &H,
+    text: &str,
+    wanted: &str,
+) -> Result<(), Fail> {
     let text = printed(rt.alloc(), text)?;
     assert_eq!(rt; text.as_str(), wanted);
     Ok(())

@@ -18,4 +18,4 @@ returns-clause-answers c =
       | in-Some w ↦ marked_some c.args.mark before w.in-Some.row row (sym c.take_row.ensures.row ∙ w.in-Some.is)
           (subst (λ (r : Row). (question : Question) → RowRefuses r question ↔ (RowRefuses w.in-Some.row question ⊎ MarkRefuses c.args.mark question)) (sym w.row-is) w.raised-row.ensures)
     ] in
-    marked_result c.rooted.result c.args.table c.take_row.new.self c.args.mark row c.take_row.ensures.rest c.rooted.ensures.answers is
+    marked_result c.rooted.result c.args.table c.take_row.new.self c.args.mark row c.take_row.ensures.others c.rooted.ensures.answers is

@@ -6,14 +6,14 @@ use Rattle.cue_scope.specs.Meaning.{text_of}
 use Rattle.cue_table.specs.Depth.{tree_depth}
 use Rattle.cue_table.specs.Many.{IsOfBranches}
 use Rattle.cue_eval.specs.declared.declared.Declared.{Declared}
-use Rattle.cue_eval.specs.declared.told.Whose.TheVariants.{Own, Used}
+use Rattle.cue_eval.specs.declared.told.Whose.TheVariants.{Own, Dotted}
 use Rattle.cue_eval.specs.Telling.{Tells}
 use Rattle.cue_eval.specs.Told.{IsTold, IsRooted}
-use Rattle.cue_eval.proofs.TellingFields.{one_field_told, used_told, own_told, one_declared, one_depth, rooted_depth}
+use Rattle.cue_eval.proofs.TellingFields.{one_field_told, untold, one_dotless, own_told, one_declared, one_depth, rooted_depth}
 use Rattle.cue_eval.proofs.told.one_field.Goals as goal
 
-pub returns-in-Used-clause-told : goal.returns-in-Used-clause-told
-returns-in-Used-clause-told c =
+pub returns-in-Dotted-clause-told : goal.returns-in-Dotted-clause-told
+returns-in-Dotted-clause-told c =
     let step = c.in_ok-step_to.field-0 in
     let below = c.args.below in
     let k = text_of c.args.label.now.name in
@@ -21,11 +21,11 @@ returns-in-Used-clause-told c =
     let table = c.in_ok-table.table in
     let items = c.in_ok-push.ensures.items ∙ ap (λ xs. xs ++ (step, below) ∷ []) c.in_ok-branches.ensures.items in
     let of : IsOfBranches Tells ((step, below) ∷ []) table = subst (λ xs. IsOfBranches Tells xs table) items c.in_ok-table.ensures.refused in
-    subst (λ w. (x : Core) → IsTold w x below → IsTold w (struct (member k mark x no_members)) table) (sym c.in-Used.is)
-    (λ x h. used_told (member k mark x no_members) table (one_field_told Used k mark x step below table (ap step_of c.in_ok-step_to.ensures) h c.in_ok-table.ensures.form of))
+    subst (λ w. (x : Core) → IsTold w x below → IsTold w (struct (member k mark x no_members)) table) (sym c.in-Dotted.is)
+    (λ x h. untold Dotted (member k mark x no_members) table (one_field_told Dotted k mark x step below table (ap step_of c.in_ok-step_to.ensures) h c.in_ok-table.ensures.form of) (one_dotless k mark x))
 
-pub returns-in-Used-clause-depth : goal.returns-in-Used-clause-depth
-returns-in-Used-clause-depth c =
+pub returns-in-Dotted-clause-depth : goal.returns-in-Dotted-clause-depth
+returns-in-Dotted-clause-depth c =
     let step = c.in_ok-step_to.field-0 in
     let below = c.args.below in
     let table = c.in_ok-table.table in
@@ -46,7 +46,7 @@ returns-in_ok-but-in-Own-clause-told c =
     let lacks = c.in_ok-but-in-Own.ensures ∙ ap (λ t. (true, t ∷ [])) c.word.ensures in
     IfOk-weaker c.at_root.result (IsRooted table row) _
     (λ all rooted. subst (λ w. (x : Core) → IsTold w x below → IsTold w (struct (member k mark x no_members)) all) (sym c.in-Own.is)
-    (λ x h. own_told (member k mark x no_members) table all row
+    (λ x h. own_told Own (member k mark x no_members) table all row
     (one_field_told Own k mark x step below table (ap step_of c.in_ok-step_to.ensures) h c.in_ok-table.ensures.form of) (one_declared k mark x row refl lacks) rooted))
     c.at_root.ensures
 

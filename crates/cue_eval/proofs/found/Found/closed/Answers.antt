@@ -25,7 +25,7 @@ behind-requires c =
 
 pub behind-requires-2 : goal.behind-requires-2
 behind-requires-2 c =
-    chain_flat (all_of c.args.definitions.now) (definition_of c.args.definition.now) c.args.self.now whoses.Used c.in_ok-rows.field-0.dots c.requires c.in_ok-rows.ensures.body.dots
+    chain_flat (all_of c.args.definitions.now) (definition_of c.args.definition.now) c.args.self.now whoses.Dotted c.in_ok-rows.field-0.dots c.requires c.in_ok-rows.ensures.body.dots
 
 pub returns-clause-closed : goal.returns-clause-closed
 returns-clause-closed c =
@@ -34,4 +34,4 @@ returns-clause-closed c =
     let e = meant ds (meaning ds) d.value in
     let own = subst (λ zs. IsTold whoses.Own (nested d.chain (meant zs (meaning zs) d.value)) c.in_ok-own.own) (ap all_of c.sight-sight.ensures.definitions) c.in_ok-own.ensures in
     IfOk-weaker c.close.result _ (IsClosedBody (nested d.chain e))
-    (λ closed h. h (nested d.chain e) own (c.in_ok-used.ensures.told e c.in_ok-rows.ensures.body.dots) (c.in_ok-rows-2.ensures.answers e c.in_ok-rows.ensures.body.answers)) c.close.ensures
+    (λ closed h. h (nested d.chain e) own (c.in_ok-dots.ensures.told e c.in_ok-rows.ensures.body.dots) (c.in_ok-rows-2.ensures.answers e c.in_ok-rows.ensures.body.answers)) c.close.ensures

@@ -5,7 +5,7 @@ use Rattle.cue_syntax.specs.Syntax as tree
 use Rattle.cue_eval.specs.Evaluated.{HasAnswersOf}
 use Rattle.cue_eval.specs.Finding.{IsFindable}
 use Rattle.cue_eval.specs.Told.{IsTold}
-use Rattle.cue_eval.specs.declared.told.Whose.TheVariants.{Used}
+use Rattle.cue_eval.specs.declared.told.Whose.TheVariants.{Dotted}
 use Rattle.cue_eval.proofs.Taking.{findable_ready, findable_known}
 use Rattle.cue_eval.proofs.found.Found.copied.Goals as goal
 
@@ -27,5 +27,5 @@ returns c =
     record {
       form = c.in_ok-rows.ensures.form;
       answers = subst (λ ds. HasAnswersOf (meant ds (meaning ds) e) c.in_ok-rows.rows) (ap all_of c.tables.ensures.definitions) c.in_ok-rows.ensures.answers;
-      dots = subst (λ ds. IsTold Used (meant ds (meaning ds) e) c.in_ok-dots.dots) (ap all_of c.sight.ensures.definitions) c.in_ok-dots.ensures;
+      dots = subst (λ ds. IsTold Dotted (meant ds (meaning ds) e) c.in_ok-dots.dots) (ap all_of c.sight.ensures.definitions) c.in_ok-dots.ensures;
     }

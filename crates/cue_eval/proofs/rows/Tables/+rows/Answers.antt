@@ -1,25 +1,31 @@
-use Rattle.std.proofs.Common.{◌≡◌, ◌+◌, ◌≤◌, ◌<◌, drop, None, subst, sym, ap, ◌∙◌, arith}
+use Rattle.std.proofs.Common.{◌≡◌, length, ◌⊎◌, ◌+◌, ◌≤◌, ◌<◌, drop, None, IfOk, subst, sym, ap, ◌∙◌, arith}
 use denote.Param.Weighed.{most, at_most}
 use Rattle.cue_syntax.specs.declared.tree.Expr.{size-Expr}
 use Rattle.cue_syntax.specs.declared.tree.Declaration.{size-Declaration}
-use Rattle.cue_syntax.specs.declared.tree.Declaration.TheViews.{sized-Field, sized-Struct}
+use Rattle.cue_syntax.specs.declared.tree.Declaration.TheViews.{sized-Field, sized-Struct, sized-List}
 use Rattle.cue_lattice.specs.Limits.{step_limit}
 use Rattle.cue_scope.specs.Limits as limits
 use Rattle.cue_syntax.specs.Syntax as tree
-use Rattle.cue_syntax.proofs.Views.{view-Struct, view-Ellipsis}
-use Rattle.cue_scope.specs.Core.{followed_by}
-use Rattle.cue_scope.specs.Meaning.{meaning, nested, meant_rest}
+use Rattle.cue_syntax.proofs.Views.{view-Struct, view-Ellipsis, view-List, view-Each}
+use Rattle.std.proofs.lemmas.Result.{IfOk-weaker}
+use Rattle.cue_eval.specs.Evaluated.{HasAnswersOf}
+use Rattle.cue_scope.specs.Core.{list, followed_by}
+use Rattle.cue_scope.specs.Meaning.{meaning, nested}
 use Rattle.cue_scope.proofs.Walking.{at_hand}
-use Rattle.cue_eval.specs.Known.{core_of, parts_of}
+use Rattle.cue_eval.specs.Known.{core_of, parts_of, rest_of}
 use Rattle.cue_eval.specs.Parts.{AreAdded}
-use Rattle.cue_eval.specs.Ready.{all_definitions, members_of, AreKnown, IsReady, AreReadyFields, IsField}
-use Rattle.cue_eval.proofs.LiteralTables.{struct_result, close_result, list_result}
+use Rattle.cue_eval.specs.Refuses.{count}
+use Rattle.cue_eval.proofs.Rests.{alone}
+use Rattle.cue_eval.specs.Ready.{all_definitions, members_of, AreKnown, IsReady, IsReadyRest, AreReadyElements, AreReadyFields, IsField}
+use Rattle.cue_eval.proofs.LiteralTables.{struct_result, close_result, ElementsAnswer, elements_table, list_answers}
 use Rattle.cue_eval.proofs.Walks.{entry_first, definition_first, field_first, Gathering, gathering_none, ellipsis_passed, definition_passed, field_ready, field_within, field_gathered, fields_gathered, field_made, nested_depth, within_depth, none_behind}
 use Rattle.cue_eval.proofs.Joined.{part_pairable}
 use Rattle.cue_eval.proofs.Repeated.{Joining, joining_none, joined_ready, table_joined, scalar_joined, name_joined, named_same, joined_result}
-use Rattle.cue_eval.proofs.Listings.{Listing, listing_none, element_ready, element_listed, elements_listed, all_listed, elements_few}
+use Rattle.cue_lattice.specs.Question.{SameAnswers}
+use Rattle.cue_eval.specs.Gathered.{Answers, FurtherRefuse}
+use Rattle.cue_eval.proofs.Gathering.{further_answers}
+use Rattle.cue_eval.proofs.Listings.{none_counted, count_of, Listing, listing_none, element_ready, element_listed, elements_listed, all_listed, elements_few, rest_ready, elements_ready}
 use Rattle.cue_eval.proofs.Regular.{fields_ready, struct_ready}
-use Rattle.cue_eval.proofs.Rests.{open_followed}
 use Rattle.cue_eval.proofs.rows.Tables.+rows.Goals as goal
 use Rattle.cue_eval.proofs.rows.Tables.+rows.Goals.{conjunction-then-is_scalar_part+in_ok-pair+in_ok-push, conjunction-else-is_scalar_part+in-Some+in_ok-push-in-Some, conjunction-else-is_scalar_part+in-None+in_ok-rows-in-None+in_ok-push-in-None, fields-in-Ellipsis, fields-in-Definition, fields-in-Field+in_ok-field-in-Field+in_ok-push-in-Field}
 
@@ -170,13 +176,13 @@ fields-returns t c =
 
 pub list-loop-element-init : goal.list-loop-element-init
 list-loop-element-init t c =
-    subst (λ given. Listing c.args.self.now (meant_rest (tree.rest_of c.args.rest)) given c.args.elements.now c.args.elements.now) (sym c.new-steps.ensures.items)
-    (listing_none c.args.self.now (meant_rest (tree.rest_of c.args.rest)) c.args.elements.now c.requires)
+    subst (λ given. Listing c.args.self.now given c.args.elements.now c.args.elements.now) (sym c.new-steps.ensures.items)
+    (listing_none c.args.self.now c.args.elements.now c.requires)
 
 pub list-rows-requires : goal.list-rows-requires
 list-rows-requires t c =
     let left = at_hand c.args.elements.now c.loop-element.element-index c.element-item.result c.loop-element-test.true c.element-item.is in
-    let can = element_ready c.args.self.now (meant_rest (tree.rest_of c.args.rest)) c.loop-element.steps.items c.args.elements.now _ c.element-item.result _ c.loop-element.invariant left in (
+    let can = element_ready c.args.self.now c.loop-element.steps.items c.args.elements.now _ c.element-item.result _ c.loop-element.invariant left in (
       let among : size-Expr c.element-item.result ≤ most (λ e. size-Expr e) c.args.elements.now =
           subst (λ e. size-Expr e ≤ most (λ x. size-Expr x) c.args.elements.now) (sym c.element-item.is) (at_most (λ e. size-Expr e) c.args.elements.now c.loop-element.element-index c.element-item.result c.loop-element-test.true) in
           omega (arith, c.decreases, among),
@@ -185,20 +191,20 @@ list-rows-requires t c =
 
 pub list-overflow_cast-index : goal.list-overflow_cast-index
 list-overflow_cast-index t c =
-    let few = elements_few c.args.self.now c.args.elements.now (meant_rest (tree.rest_of c.args.rest)) c.requires in
+    let few = elements_few c.args.self.now c.args.elements.now c.requires in
     let counted = c.loop-element.invariant.counted in
     let len = c.len-index.ensures in
     omega arith
 
 pub list-loop-element-preserved : goal.list-loop-element-preserved
 list-loop-element-preserved t c =
-    subst (λ xs. Listing c.args.self.now (meant_rest (tree.rest_of c.args.rest)) xs c.args.elements.now (drop (c.loop-element.element-index + 1) c.args.elements.now)) (sym c.in_ok-push.ensures.items)
-    (element_listed c.args.self.now (meant_rest (tree.rest_of c.args.rest)) c.loop-element.steps.items c.args.elements.now _ c.element-item.result _ c.len-index.result c.in_ok-table.table c.loop-element.invariant
+    subst (λ xs. Listing c.args.self.now xs c.args.elements.now (drop (c.loop-element.element-index + 1) c.args.elements.now)) (sym c.in_ok-push.ensures.items)
+    (element_listed c.args.self.now c.loop-element.steps.items c.args.elements.now _ c.element-item.result _ c.len-index.result c.in_ok-table.table c.loop-element.invariant
     (at_hand c.args.elements.now c.loop-element.element-index c.element-item.result c.loop-element-test.true c.element-item.is) (c.len-index.ensures ∙ c.loop-element.steps.ok.0) c.in_ok-table.ensures.form c.in_ok-table.ensures.answers)
 
 pub list-list_of-requires-clause-count : goal.list-list_of-requires-clause-count
 list-list_of-requires-clause-count t c =
-    let few = elements_few c.args.self.now c.args.elements.now (meant_rest (tree.rest_of c.args.rest)) c.requires in
+    let few = elements_few c.args.self.now c.args.elements.now c.requires in
     let counted = c.loop-element.invariant.counted in
     omega arith
 
@@ -207,9 +213,70 @@ list-list_of-requires-clause-depth t c = c.loop-element.invariant.deep
 
 pub list-returns-clause-answers : goal.list-returns-clause-answers
 list-returns-clause-answers t c =
+    let known = c.args.self.now in
     let end = none_behind c.args.elements.now c.loop-element.element-index (let e = c.loop-element-test.false in omega arith) in
-    let cs = parts_of c.args.self.now.pairs (tree.elements c.args.elements.now) in
-    list_result c.list_of.result (followed_by cs (meant_rest (tree.rest_of c.args.rest))) c.goes_on.result c.loop-element.steps.items
-    (all_listed c.args.self.now (tree.rest_of c.args.rest) c.loop-element.steps.items c.args.elements.now _ c.loop-element.invariant end)
-    (open_followed cs (meant_rest (tree.rest_of c.args.rest)) ∙ sym c.goes_on.ensures) c.list_of.ensures.answers
-    (elements_listed c.args.self.now (tree.rest_of c.args.rest) c.loop-element.steps.items c.args.elements.now _ c.loop-element.invariant end)
+    let given = c.loop-element.steps.items in
+    let counted = all_listed known given c.args.elements.now _ c.loop-element.invariant end in
+    IfOk-weaker c.list_of.result _ _
+    (λ table same. elements_table (parts_of known.pairs (tree.elements c.args.elements.now)) c.args.goes_on given table (length c.args.elements.now) counted same
+    (elements_listed known given c.args.elements.now _ c.loop-element.invariant end)) c.list_of.ensures.answers
+
+pub and_each-meet_rest-requires : goal.and_each-meet_rest-requires
+and_each-meet_rest-requires t c =
+    let ready = subst (λ rest. IsReadyRest c.args.self.now rest) (ap tree.rest_tree c.in-Each.is ∙ view-Each c.in-Each.each) c.requires.ready in
+    let deep = ready.depth in
+    let shallow = within_depth (core_of c.args.self.now.pairs (tree.expression c.in-Each.each.value)) c.in_ok-further-in-Each.further c.in_ok-further-in-Each.ensures.form
+    (subst (λ e. HasAnswersOf (core_of c.args.self.now.pairs (tree.expression e)) c.in_ok-further-in-Each.further) c.deref.ensures c.in_ok-further-in-Each.ensures.answers) in
+    omega (arith, deep, shallow)
+
+pub and_each-returns-in_ok-meet_rest-in-Each-clause-answers : goal.and_each-returns-in_ok-meet_rest-in-Each-clause-answers
+and_each-returns-in_ok-meet_rest-in-Each-clause-answers t c =
+    let known = c.args.self.now in
+    let e = core_of known.pairs (tree.expression c.in-Each.each.value) in
+    subst (λ rest. SameAnswers (Answers c.meet_rest.new.self) (λ path question. Answers c.args.list path question ⊎ FurtherRefuse c.args.count (rest_of known.pairs rest) path question))
+    (sym (ap tree.rest_tree c.in-Each.is ∙ view-Each c.in-Each.each))
+    (further_answers c.args.count e c.args.list c.in_ok-further-in-Each.further c.meet_rest.new.self c.in_ok-meet_rest-in-Each.ensures.ok
+    (subst (λ e. HasAnswersOf (core_of known.pairs (tree.expression e)) c.in_ok-further-in-Each.further) c.deref.ensures c.in_ok-further-in-Each.ensures.answers))
+
+pub rows-list-requires : goal.rows-list-requires
+rows-list-requires t c =
+    let known = c.args.self.now in
+    let ready = subst (λ e. IsReady known e) (ap tree.expression c.in-List.is ∙ view-List c.in-List.elements c.in-List.rest c.in-List.comma) c.requires in (
+      let is = ap size-Expr c.in-List.is in
+          let own = sized-List c.in-List.elements c.in-List.rest c.in-List.comma in
+          let same = ap (λ xs. most (λ e. size-Expr e) xs) c.deref-in-List.ensures.value in
+          omega (arith, c.decreases, is, own, same),
+      subst (λ xs. AreReadyElements known (tree.elements xs)) (sym c.deref-in-List.ensures.value)
+          (elements_ready known (tree.elements c.in-List.elements.items) (tree.rest_tree c.in-List.rest) c.in-List.comma ready),
+    )
+
+pub rows-and_each-requires : goal.rows-and_each-requires
+rows-and_each-requires t c =
+    let known = c.args.self.now in
+    let es = tree.elements c.in-List.elements.items in
+    let rest = tree.rest_tree c.in-List.rest in
+    let ready = subst (λ e. IsReady known e) (ap tree.expression c.in-List.is ∙ view-List c.in-List.elements c.in-List.rest c.in-List.comma) c.requires in
+    let few = elements_few known c.in-List.elements.items (elements_ready known es rest c.in-List.comma ready) in
+    let counted = c.len.ensures ∙ c.in-List.elements.ok.0 in (
+      let is = ap size-Expr c.in-List.is in
+          let own = sized-List c.in-List.elements c.in-List.rest c.in-List.comma in
+          omega (arith, c.decreases, is, own),
+      (rest_ready known es rest c.in-List.comma ready, omega (arith, few, counted)),
+    )
+
+pub rows-returns-in_ok-list-in-List-clause-answers : goal.rows-returns-in_ok-list-in-List-clause-answers
+rows-returns-in_ok-list-in-List-clause-answers t c =
+    let known = c.args.self.now in
+    let ds = all_definitions known in
+    let es = c.in-List.elements.items in
+    let cs = parts_of known.pairs (tree.elements es) in
+    let tail = tree.rest_tree c.in-List.rest in
+    let rest = rest_of known.pairs tail in
+    let written = rw c.deref-in-List.ensures.value at c.in_ok-list-in-List.ensures.answers in
+    let length_is = sym (c.len.ensures ∙ c.in-List.elements.ok.0) in
+    let counted : c.len.result ≡ count (alone cs) = sym length_is ∙ sym (count_of known es) in
+    let same = subst (λ n. ElementsAnswer cs c.goes_on.result n c.in_ok-list-in-List.list) length_is written in
+    subst (λ z. IfOk c.and_each.result (HasAnswersOf (core_of known.pairs z)))
+    (sym (ap tree.expression c.in-List.is ∙ view-List c.in-List.elements c.in-List.rest c.in-List.comma))
+    (IfOk-weaker c.and_each.result _ (HasAnswersOf (list (followed_by cs rest)))
+    (λ all further. list_answers cs rest c.goes_on.result c.len.result c.in_ok-list-in-List.list all counted (sym (c.goes_on.ensures ds (meaning ds))) (none_counted known.pairs tail) same further) c.and_each.ensures.answers)

@@ -1,6 +1,5 @@
 use Rattle.std.proofs.Common.{drop}
-use Rattle.cue_syntax.specs.Syntax.{entries, rest_of}
-use Rattle.cue_scope.specs.Meaning.{meant_rest}
+use Rattle.cue_syntax.specs.Syntax.{entries}
 use Rattle.cue_eval.proofs.Walks.{Gathering}
 use Rattle.cue_eval.proofs.Repeated.{Joining}
 use Rattle.cue_eval.proofs.Listings.{Listing}
@@ -13,4 +12,4 @@ abbrev pub invariant-fields-loop-declaration : goal.invariant-fields-loop-declar
 invariant-fields-loop-declaration l = Gathering l.self l.fields.items (entries l.declarations) (entries (drop l.declaration-index l.declarations))
 
 abbrev pub invariant-list-loop-element : goal.invariant-list-loop-element
-invariant-list-loop-element l = Listing l.self (meant_rest (rest_of l.rest)) l.steps.items l.elements (drop l.element-index l.elements)
+invariant-list-loop-element l = Listing l.self l.steps.items l.elements (drop l.element-index l.elements)

@@ -8,15 +8,17 @@ use Rattle.std.proofs.lemmas.Result.{IfOk-weaker}
 use Rattle.cue_lattice.specs.Limits.{step_limit}
 use Rattle.cue_syntax.specs.Syntax as tree
 use Rattle.cue_syntax.specs.Syntax.{entry_tree}
-use Rattle.cue_syntax.proofs.Views.{view-Close, view-List, view-Disjunction, view-Integer, view-Text, view-Bottom, view-Bound, view-OtherInteger, view-OtherText, view-Ellipsis, view-Field, view-Definition}
+use Rattle.cue_syntax.proofs.Views.{view-Close, view-List, view-Each, view-Disjunction, view-Integer, view-Text, view-Bottom, view-Bound, view-OtherInteger, view-OtherText, view-Ellipsis, view-Field, view-Definition}
 use Rattle.cue_scope.specs.Core.{struct, list, followed_by}
 use Rattle.cue_scope.specs.Kept.{all_of}
-use Rattle.cue_scope.specs.Meaning.{meaning, nested, meant_rest}
+use Rattle.cue_scope.specs.Meaning.{meaning, nested}
 use Rattle.cue_table.specs.Depth.{tree_depth}
-use Rattle.cue_eval.specs.Told.{IsTold, IsKnown, AreElementsKnown, IsRooted, IsToldBelow, means, mean_members, mean_elements}
+use Rattle.cue_eval.specs.Told.{AreFurtherTold, IsTold, IsKnown, AreElementsKnown, IsRooted, IsRestKnown, means, mean_members, mean_elements, mean_rest}
 use Rattle.cue_eval.proofs.TellingNames.{nothing_told}
-use Rattle.cue_eval.proofs.TellingFields.{used_told, own_told, close_told}
-use Rattle.cue_eval.proofs.TellingParts.{if_both, part_next, part_known, part_more, parts_all, element_next, element_known, element_more, elements_all, list_known}
+use Rattle.cue_eval.proofs.TellingDepth.{told_flat}
+use Rattle.std.proofs.lemmas.Bool.{false≢true}
+use Rattle.cue_eval.proofs.TellingFields.{untold, own_told, close_told}
+use Rattle.cue_eval.proofs.TellingParts.{if_both, part_next, part_known, part_more, parts_all, element_next, element_known, element_more, elements_all, list_told, list_known, list_rest_known, elements_few, further_met, count_of}
 use Rattle.cue_eval.proofs.TellingEntries.{entry_next, ellipsis_more, definition_more, field_known, field_flat, field_more, fields_all, field_size}
 use Rattle.cue_eval.proofs.told.Sight.+told.Goals as goal
 use Rattle.cue_eval.proofs.told.Sight.+told.Goals.{fields-in-Ellipsis, fields-in-Field+in_ok-value-in-Field+in_ok-below-in-Field+in_ok-step_to-in-Field+in_ok-push-in-Field, fields-in-Definition}
@@ -61,7 +63,7 @@ elements-returns t c =
     let all = c.args.elements.now in
     let end = c.loop-element-test.false in
     if_both c.of_branches.result _ _ _
-    (λ table form of rest. elements_all c.args.self.now c.args.whose c.loop-element.branches.items c.loop-element.index all c.loop-element.element-index rest table c.loop-element.invariant end form of)
+    (λ table form of. elements_all c.args.self.now c.args.whose c.loop-element.branches.items c.loop-element.index all c.loop-element.element-index table c.loop-element.invariant end form of)
     c.of_branches.ensures.form c.of_branches.ensures.refused
 
 pub fields-expression-requires : goal.fields-expression-requires
@@ -111,33 +113,22 @@ fields-returns t c =
     if_both c.of_branches.result _ _ _ (λ table form of. fields_all c.args.self.now c.args.whose c.loop-declaration.branches.items all c.loop-declaration.declaration-index table c.loop-declaration.invariant end form of)
     c.of_branches.ensures.form c.of_branches.ensures.refused
 
-pub literal-returns-in-Used : goal.literal-returns-in-Used
-literal-returns-in-Used t c =
-    let ms = mean_members c.args.self.now (tree.entries c.args.declarations.now) in
-    let table = c.in_ok-table.table in
-    subst (λ w. IsTold w (struct ms) table) (sym c.in-Used.is) (used_told ms table (subst (λ w. IsToldBelow w ms table) c.in-Used.is c.in_ok-table.ensures))
-
-pub literal-returns-in_ok-declared-in-Own : goal.literal-returns-in_ok-declared-in-Own
-literal-returns-in_ok-declared-in-Own t c =
+pub literal-returns-in_ok-declared : goal.literal-returns-in_ok-declared
+literal-returns-in_ok-declared t c =
     let ds = all_of c.args.self.now.definitions.now in
     let ms = mean_members c.args.self.now (tree.entries c.args.declarations.now) in
     let table = c.in_ok-table.table in
-    let row = c.in_ok-declared-in-Own.field-0 in
-    IfOk-weaker c.at_root-in-Own.result (IsRooted table row) _
-    (λ all rooted. subst (λ w. IsTold w (struct ms) all) (sym c.in-Own.is)
-    (own_told ms table all row (subst (λ w. IsToldBelow w ms table) c.in-Own.is c.in_ok-table.ensures) (λ asked. c.in_ok-declared-in-Own.ensures ds (meaning ds) asked) rooted))
-    c.at_root-in-Own.ensures
+    let row = c.in_ok-declared.field-0 in
+    IfOk-weaker c.at_root-then-is_told.result (IsRooted table row) _
+    (λ all rooted. own_told c.args.whose ms table all row c.in_ok-table.ensures
+    (λ asked. let d = c.in_ok-declared.ensures ds (meaning ds) asked in let o = c.is_told.ensures.told c.if-is_told.true ds (meaning ds) asked in (λ h. o.0 (d.0 h), λ h. d.1 (o.1 h))) rooted)
+    c.at_root-then-is_told.ensures
 
-pub expression-elements-requires : goal.expression-elements-requires
-expression-elements-requires t c = (
-  let is = ap size-Expr c.in-List.is in
-      let own = sized-List c.in-List.elements c.in-List.rest c.in-List.comma in
-      let same = ap (λ xs. most (λ e. size-Expr e) xs) c.deref-in-List.ensures.value in
-      omega (arith, c.decreases, is, own, same),
-  subst (λ xs. AreElementsKnown c.args.self.now (tree.elements xs)) (sym c.deref-in-List.ensures.value)
-      (list_known c.args.self.now (tree.elements c.in-List.elements.items) (tree.rest_of c.in-List.rest) c.in-List.comma
-      (subst (λ e. IsKnown c.args.self.now e) (ap tree.expression c.in-List.is ∙ view-List c.in-List.elements c.in-List.rest c.in-List.comma) c.requires)),
-)
+pub literal-returns-else-is_told : goal.literal-returns-else-is_told
+literal-returns-else-is_told t c =
+    let ds = all_of c.args.self.now.definitions.now in
+    let ms = mean_members c.args.self.now (tree.entries c.args.declarations.now) in
+    untold c.args.whose ms c.in_ok-table.table c.in_ok-table.ensures (c.is_told.ensures.untold (λ h. false≢true (sym c.if-is_told.false ∙ h)) ds (meaning ds))
 
 pub expression-returns-in-Close : goal.expression-returns-in-Close
 expression-returns-in-Close t c =
@@ -146,14 +137,6 @@ expression-returns-in-Close t c =
     subst (λ z. IfOk c.literal-in-Close.result (IsTold c.args.whose (means c.args.self.now z)))
     (sym (ap tree.expression c.in-Close.is ∙ view-Close c.in-Close.from c.in-Close.declarations c.in-Close.inner_comma c.in-Close.comma))
     (IfOk-weaker c.literal-in-Close.result (IsTold c.args.whose (struct ms)) _ (λ table h. close_told c.args.whose ms table h) told)
-
-pub expression-returns-in-List : goal.expression-returns-in-List
-expression-returns-in-List t c =
-    let es = mean_elements c.args.self.now (tree.elements c.in-List.elements.items) in
-    let told = rw c.deref-in-List.ensures.value at c.elements.ensures in
-    subst (λ z. IfOk c.elements.result (IsTold c.args.whose (means c.args.self.now z)))
-    (sym (ap tree.expression c.in-List.is ∙ view-List c.in-List.elements c.in-List.rest c.in-List.comma))
-    (IfOk-weaker c.elements.result (λ table. (rest : tree.Rest) → IsTold c.args.whose (list (followed_by es (meant_rest rest))) table) _ (λ table h. h (tree.rest_of c.in-List.rest)) told)
 
 pub expression-returns-in-Disjunction : goal.expression-returns-in-Disjunction
 expression-returns-in-Disjunction t c =
@@ -189,3 +172,55 @@ pub expression-returns-in-OtherText : goal.expression-returns-in-OtherText
 expression-returns-in-OtherText t c =
     subst (λ z. IsTold c.args.whose (means c.args.self.now z) c.new-in-OtherText.result) (sym (ap tree.expression c.in-OtherText.is ∙ view-OtherText c.in-OtherText.field-0))
     (rw c.new-in-OtherText.ensures (nothing_told c.args.whose _ (λ path asked h. h)))
+
+pub expression-elements-requires : goal.expression-elements-requires
+expression-elements-requires t c =
+    let self = c.args.self.now in
+    let known = subst (λ e. IsKnown self e) (ap tree.expression c.in-List.is ∙ view-List c.in-List.elements c.in-List.rest c.in-List.comma) c.requires in (
+      let is = ap size-Expr c.in-List.is in
+          let own = sized-List c.in-List.elements c.in-List.rest c.in-List.comma in
+          let same = ap (λ xs. most (λ e. size-Expr e) xs) c.deref-in-List.ensures.value in
+          omega (arith, c.decreases, is, own, same),
+      subst (λ xs. AreElementsKnown self (tree.elements xs)) (sym c.deref-in-List.ensures.value)
+          (list_known self (tree.elements c.in-List.elements.items) (tree.rest_tree c.in-List.rest) c.in-List.comma known),
+    )
+
+pub expression-and_each-requires : goal.expression-and_each-requires
+expression-and_each-requires t c =
+    let self = c.args.self.now in
+    let es = tree.elements c.in-List.elements.items in
+    let rest = tree.rest_tree c.in-List.rest in
+    let known = subst (λ e. IsKnown self e) (ap tree.expression c.in-List.is ∙ view-List c.in-List.elements c.in-List.rest c.in-List.comma) c.requires in
+    let few = elements_few self c.in-List.elements.items (list_known self es rest c.in-List.comma known) in
+    let counted = c.len.ensures ∙ c.in-List.elements.ok.0 in (
+      let is = ap size-Expr c.in-List.is in
+          let own = sized-List c.in-List.elements c.in-List.rest c.in-List.comma in
+          omega (arith, c.decreases, is, own),
+      (list_rest_known self es rest c.in-List.comma known, omega (arith, few, counted)),
+    )
+
+pub expression-returns-in_ok-list-in-List : goal.expression-returns-in_ok-list-in-List
+expression-returns-in_ok-list-in-List t c =
+    let self = c.args.self.now in
+    let es = mean_elements self (tree.elements c.in-List.elements.items) in
+    let told = rw c.deref-in-List.ensures.value at c.in_ok-list-in-List.ensures in
+    let counted = count_of self c.in-List.elements.items ∙ sym (c.len.ensures ∙ c.in-List.elements.ok.0) in
+    subst (λ z. IfOk c.and_each.result (IsTold c.args.whose (means self z)))
+    (sym (ap tree.expression c.in-List.is ∙ view-List c.in-List.elements c.in-List.rest c.in-List.comma))
+    (IfOk-weaker c.and_each.result _ (IsTold c.args.whose (list (followed_by es (mean_rest self (tree.rest_tree c.in-List.rest)))))
+    (λ all further. list_told self c.args.whose es (mean_rest self (tree.rest_tree c.in-List.rest)) c.len.result c.in_ok-list-in-List.list all counted told further) c.and_each.ensures)
+
+pub and_each-meet_rest-requires : goal.and_each-meet_rest-requires
+and_each-meet_rest-requires t c =
+    let known = subst (λ rest. IsRestKnown c.args.self.now rest) (ap tree.rest_tree c.in-Each.is ∙ view-Each c.in-Each.each) c.requires.known in
+    let flat = known.flat in
+    let deep = told_flat c.args.whose (means c.args.self.now (tree.expression c.in-Each.each.value)) c.in_ok-further-in-Each.further
+    (subst (λ e. IsTold c.args.whose (means c.args.self.now (tree.expression e)) c.in_ok-further-in-Each.further) c.deref.ensures c.in_ok-further-in-Each.ensures) in
+    omega (arith, flat, deep)
+
+pub and_each-returns-in_ok-meet_rest-in-Each : goal.and_each-returns-in_ok-meet_rest-in-Each
+and_each-returns-in_ok-meet_rest-in-Each t c =
+    let e = means c.args.self.now (tree.expression c.in-Each.each.value) in
+    subst (λ rest. AreFurtherTold c.args.whose c.args.count (mean_rest c.args.self.now rest) c.args.list c.meet_rest.new.self) (sym (ap tree.rest_tree c.in-Each.is ∙ view-Each c.in-Each.each))
+    (further_met c.args.whose c.args.count e c.args.list c.in_ok-further-in-Each.further c.meet_rest.new.self c.meet_rest.ensures.form
+    (subst (λ x. IsTold c.args.whose (means c.args.self.now (tree.expression x)) c.in_ok-further-in-Each.further) c.deref.ensures c.in_ok-further-in-Each.ensures) c.in_ok-meet_rest-in-Each.ensures.ok)
