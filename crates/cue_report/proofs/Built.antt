@@ -34,7 +34,7 @@ use Rattle.cue_row.specs.Kinds.{IsKind}
 use Rattle.cue_row.specs.Row.{Refuses, IsRow}
 use Rattle.cue_row.specs.ValidRow.{AreWords, IsValidRow, UsualFits}
 use Rattle.cue_table.specs.Form.{IsTable}
-use Rattle.cue_table.specs.Tree.{Tree, below, find, row_at}
+use Rattle.cue_table.specs.Tree.{Tree, step_into, row_at}
 use Rattle.cue_table.specs.Valid.{IsValidTable}
 use Rattle.serde_json.specs.Data as json
 use Rattle.serde_json.specs.Data.{Data, null, boolean, number, string, array, object}
@@ -51,7 +51,8 @@ use Rattle.cue_report.proofs.Clear.{clear_here, clear_below, clear_from, IsPlace
 use Rattle.cue_report.proofs.Descent.{Told}
 use Rattle.cue_report.proofs.Documents.{row_is}
 use Rattle.cue_report.proofs.Found.{found_cases}
-use Rattle.cue_report.proofs.Existing.{placed, worded, IsWorded, ascii_then, utf8_zeros, RowsSeen, form_below, branches}
+use Rattle.cue_report.proofs.Existing.{placed, worded, IsWorded, ascii_then, utf8_zeros, RowsSeen}
+use Rattle.cue_report.proofs.Rests.{form_into}
 use Rattle.cue_report.proofs.Rows.{RefusedAt}
 
 -- ---- what is picked is readable
@@ -134,8 +135,8 @@ form_at [] tree row h e = row_is tree row e h
 form_at (step ∷ path) tree row h e =
     ⊎_elim
     (λ f. absurd (not_some row (sym (ap (λ found. RowsSeen found path) f) ∙ e)))
-    (λ f. form_at path f.0 row (form_below (below tree) step f.0 (branches tree h) f.1) (sym (ap (λ found. RowsSeen found path) f.1) ∙ e))
-    (found_cases (find step (below tree)))
+    (λ f. form_at path f.0 row (form_into tree f.0 step h f.1) (sym (ap (λ found. RowsSeen found path) f.1) ∙ e))
+    (found_cases (step_into tree step))
 
 -- at each place where only scalars may stand, what is picked is fit
 abbrev AreFit : Refusals → Type 0

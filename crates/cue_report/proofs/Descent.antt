@@ -9,7 +9,7 @@ use Rattle.cue_lattice.specs.Question.{Question, Refusals, allows, level_at_most
 use Rattle.cue_row.specs.declared.row.Row.{Row}
 use Rattle.cue_row.specs.Row as rows
 use Rattle.cue_table.specs.Refuses.{TableRefuses}
-use Rattle.cue_table.specs.Tree.{Tree, empty, row_of, below, find, branch_at, row_at}
+use Rattle.cue_table.specs.Tree.{Tree, empty, row_of, step_into, branch_at, row_at}
 use Rattle.cue_report.specs.Answers.{further, IsStepDemanded, IsDemanded, IsNotAllowed}
 use Rattle.cue_report.specs.GapSearch.{IsBarred}
 use Rattle.cue_report.specs.Search.{is_demanded, is_refused}
@@ -20,26 +20,26 @@ abbrev pub Told : Tree Row → Refusals
 Told = TableRefuses rows.RowRefuses
 
 -- the row below is that of the branch
-pub row_below : (tree inner : Tree Row) (step : paths.Step) (path : Path) → find step (below tree) ≡ Some inner → row_at tree (step ∷ path) ≡ row_at inner path
+pub row_below : (tree inner : Tree Row) (step : paths.Step) (path : Path) → step_into tree step ≡ Some inner → row_at tree (step ∷ path) ≡ row_at inner path
 row_below tree inner step path f = ap (λ found. option_and_then row_of (option_and_then (λ branch. branch_at branch path) found)) f
 
-no_row_below : (tree : Tree Row) (step : paths.Step) (path : Path) → find step (below tree) ≡ None → row_at tree (step ∷ path) ≡ None
+no_row_below : (tree : Tree Row) (step : paths.Step) (path : Path) → step_into tree step ≡ None → row_at tree (step ∷ path) ≡ None
 no_row_below tree step path f = ap (λ found. option_and_then row_of (option_and_then (λ branch. branch_at branch path) found)) f
 
 -- what stands below the step of a tree is what stands in the branch
 abbrev pub IsSeen : Tree Row → Tree Row → paths.Step → Type 0
 IsSeen tree inner step = (path : Path) → row_at tree (step ∷ path) ≡ row_at inner path
 
-pub seen : (tree inner : Tree Row) (step : paths.Step) → find step (below tree) ≡ Some inner → IsSeen tree inner step
+pub seen : (tree inner : Tree Row) (step : paths.Step) → step_into tree step ≡ Some inner → IsSeen tree inner step
 seen tree inner step f path = row_below tree inner step path f
 
 -- where there is no branch, it is as if there were one without rows
-pub seen_empty : (tree : Tree Row) (step : paths.Step) → find step (below tree) ≡ None → IsSeen tree empty step
+pub seen_empty : (tree : Tree Row) (step : paths.Step) → step_into tree step ≡ None → IsSeen tree empty step
 seen_empty tree step f [] = no_row_below tree step [] f
 seen_empty tree step f (next ∷ path) = no_row_below tree step (next ∷ path) f
 
 -- where there is no branch, nothing is refused
-pub open_below : (tree : Tree Row) (step : paths.Step) (path : Path) (question : Question) → find step (below tree) ≡ None → Told tree (step ∷ path) question → ⊥
+pub open_below : (tree : Tree Row) (step : paths.Step) (path : Path) (question : Question) → step_into tree step ≡ None → Told tree (step ∷ path) question → ⊥
 open_below tree step path question f h = let P : Option Row → Type 0 = λ row. RefusedAt row question in subst P (no_row_below tree step path f) h
 
 heads : (s t : paths.Step) (p q : Path) → s ∷ p ≡ t ∷ q → s ≡ t

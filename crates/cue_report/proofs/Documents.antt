@@ -19,7 +19,7 @@ use Rattle.cue_row.specs.declared.row.Row.{Row}
 use Rattle.cue_row.specs.Row.{Refuses, IsRow}
 use Rattle.cue_row.specs.Chosen as chosen
 use Rattle.cue_table.specs.Form.{IsBelowAll, AreBranches, IsKept, IsTable}
-use Rattle.cue_table.specs.Tree.{Tree, node, Children, none, child, row_of, below, if_equal, find, branch_at, children_of}
+use Rattle.cue_table.specs.Tree.{Tree, node, Children, none, child, row_of, below, if_equal, find, step_into, branch_at, children_of}
 use Rattle.cue_table.specs.Walks.{first_child}
 use Rattle.cue_table.specs.Size.{tree_size, children_size}
 use Rattle.serde_json.specs.Data.{Data, null, array, object, Items, no_items, item, Members, no_members, member, put}
@@ -29,10 +29,10 @@ use Rattle.serde_json.specs.declared.value.Value.{Value, Null, Array, Object, th
 use Rattle.serde_json.proofs.Views.{view-Array, view-Object}
 use Rattle.cue_report.specs.Answers.{IsStepDemanded, HasNoScalar}
 use Rattle.cue_report.specs.Export.{beyond, data_of, keys, count, AreKeys, IsAtom, IsShape, AreElements, AreMembers}
-use Rattle.cue_report.specs.GapSearch.{AtPlace, least_at}
+use Rattle.cue_report.specs.GapSearch.{AtPlace}
 use Rattle.cue_report.specs.Gaps.{IsChosen, IsFree}
 use Rattle.cue_report.specs.Listing.{IsRising}
-use Rattle.cue_report.specs.Search.{is_demanded}
+use Rattle.cue_report.specs.Search.{is_demanded, least_at}
 use Rattle.cue_report.specs.Clear.{IsClear}
 use Rattle.cue_report.specs.Picks.{IsFirst, IsPicked}
 use Rattle.cue_report.proofs.Choice.{member_is, chosen_is}
@@ -40,6 +40,7 @@ use Rattle.cue_report.proofs.Empty.{refused}
 use Rattle.cue_report.proofs.Descent.{Told, open_below, seen, first_demanded}
 use Rattle.cue_report.proofs.Found.{AreAmong, found_first, found_later, found_cases}
 use Rattle.cue_report.proofs.Order.{reverse_cmp, equal_steps, all_append, all_from, one_left, one_right, rising_append}
+use Rattle.cue_report.proofs.Rests.{own, at_label, branches}
 use Rattle.cue_report.proofs.Rows.{RefusedAt}
 use Rattle.cue_report.proofs.Clear.{clear_here, clear_below}
 
@@ -107,8 +108,8 @@ view-Null : view Null ≡ null
 view-Null = search (rules, the_lemmas)
 
 pub row_is : (tree : Tree Row) (row : Row) → row_of tree ≡ Some row → IsTable Refuses IsRow tree → IsRow row
-row_is (node None children) row e h = cc
-row_is (node (Some here) children) row e h = let same : here ≡ row = cc in subst IsRow same h.0.0
+row_is (node None children rest) row e h = cc
+row_is (node (Some here) children rest) row e h = let same : here ≡ row = cc in subst IsRow same h.0.0
 
 -- only scalars may stand: one is picked, or there is none
 pub only_scalars :
@@ -150,7 +151,7 @@ abbrev Seen : Option (Tree Row) → Refusals
 Seen found path question = RefusedAt (option_and_then row_of (option_and_then (λ branch. branch_at branch path) found)) question
 
 document_below :
-    (tree inner : Tree Row) (step : paths.Step) (json : Data) → find step (below tree) ≡ Some inner → IsStepDemanded (Told tree) [] step
+    (tree inner : Tree Row) (step : paths.Step) (json : Data) → step_into tree step ≡ Some inner → IsStepDemanded (Told tree) [] step
     → (IsClear (Told inner) → IsShape IsPicked (Told inner) json) → IsClear (Told tree) → IsShape IsPicked (beyond (Told tree) step) json
 document_below tree inner step json f d h z =
     subst (λ found. IsShape IsPicked (Seen found) json) (sym f) (h (subst (λ found. IsClear (Seen found)) f (clear_below (Told tree) step z d)))
@@ -164,7 +165,7 @@ index_demanded : (tree : Tree Row) (n : ℕ) → n < least_at (row_of tree) → 
 index_demanded tree n h = below_least (row_of tree) n h
 
 -- an element of which nothing is known
-pub document_free : (tree : Tree Row) (step : paths.Step) (json : Data) → find step (below tree) ≡ None → json ≡ null → IsShape IsPicked (beyond (Told tree) step) json
+pub document_free : (tree : Tree Row) (step : paths.Step) (json : Data) → step_into tree step ≡ None → json ≡ null → IsShape IsPicked (beyond (Told tree) step) json
 document_free tree step json f e =
     null_shape (beyond (Told tree) step) json e (λ scalar r. open_below tree step [] (may_be scalar) f r, λ r. open_below tree step [] struct f r, λ r. open_below tree step [] list f r)
 
@@ -264,18 +265,18 @@ counted tree number items json w d f =
 
 pub counted_next :
     (tree inner : Tree Row) (number : ℕ) (items : Items) (json : Data) → IsCounted tree number items
-    → find (index number) (below tree) ≡ Some inner → number < least_at (row_of tree) → (IsClear (Told inner) → IsShape IsPicked (Told inner) json)
+    → step_into tree (index number) ≡ Some inner → number < least_at (row_of tree) → (IsClear (Told inner) → IsShape IsPicked (Told inner) json)
     → has_float json ≡ false → IsCounted tree (number + 1) (with_item items json)
 counted_next tree inner number items json w f below_end d n =
     counted tree number items json w (document_below tree inner (index number) json f (index_demanded tree number below_end) d) n
 
 pub counted_null :
-    (tree : Tree Row) (number : ℕ) (items : Items) → IsCounted tree number items → find (index number) (below tree) ≡ None → IsCounted tree (number + 1) (with_item items null)
+    (tree : Tree Row) (number : ℕ) (items : Items) → IsCounted tree number items → step_into tree (index number) ≡ None → IsCounted tree (number + 1) (with_item items null)
 counted_null tree number items w f = counted tree number items null w (λ z. document_free tree (index number) null f refl) refl
 
 pub counted_in :
     (tree inner : Tree Row) (number : ℕ) (values after : List Value) (value made : Value) → IsCounted tree number (items_view values) → after ≡ values ++ value ∷ [] → value ≡ made
-    → find (index number) (below tree) ≡ Some inner → number < least_at (row_of tree) → (IsClear (Told inner) → IsShape IsPicked (Told inner) (view made))
+    → step_into tree (index number) ≡ Some inner → number < least_at (row_of tree) → (IsClear (Told inner) → IsShape IsPicked (Told inner) (view made))
     → has_float (view made) ≡ false → IsCounted tree (number + 1) (items_view after)
 counted_in tree inner number values after value made w a s f below_end d n =
     subst (IsCounted tree (number + 1)) (sym (ap items_view a ∙ view_more values value ∙ ap (λ v. with_item (items_view values) (view v)) s))
@@ -283,7 +284,7 @@ counted_in tree inner number values after value made w a s f below_end d n =
 
 pub counted_free :
     (tree : Tree Row) (number : ℕ) (values after : List Value) (value : Value) → IsCounted tree number (items_view values) → after ≡ values ++ value ∷ []
-    → find (index number) (below tree) ≡ None → value ≡ Null → IsCounted tree (number + 1) (items_view after)
+    → step_into tree (index number) ≡ None → value ≡ Null → IsCounted tree (number + 1) (items_view after)
 counted_free tree number values after value w a f v =
     subst (IsCounted tree (number + 1)) (sym (ap items_view a ∙ view_more values value ∙ ap (with_item (items_view values)) (ap view v ∙ view-Null)))
     (counted_null tree number (items_view values) w f)
@@ -329,19 +330,16 @@ pub record IsGathered (tree : Tree Row) (rest : Children Row) (members : Members
   pub no_float : members_have_float members ≡ false
   pub small : children_size rest ≤ children_size (below tree)
 
-branches_form : (tree : Tree Row) → IsTable Refuses IsRow tree → AreBranches (IsKept Refuses IsRow) (below tree)
-branches_form (node row children) h = h.1
-
 pub none_gathered : (tree : Tree Row) (rest : Children Row) (members : Members) → IsTable Refuses IsRow tree → rest ≡ below tree → members ≡ no_members → IsGathered tree rest members
 none_gathered tree rest members h r m = subst (λ cs. IsGathered tree cs members) (sym r) (subst (IsGathered tree (below tree)) (sym m) start) where
   start : IsGathered tree (below tree) no_members
   start = record {
     sound = tt;
-    complete = λ key d. ⊎_elim (λ f. absurd (open_below tree (label key) [] (level_at_most 0) f d)) (λ f. inr f) (found_cases (find (label key) (below tree)));
+    complete = λ key d. ⊎_elim (λ f. absurd (open_below tree (label key) [] (level_at_most 0) f d)) (λ (inner, f). inr (inner, sym (at_label tree key) ∙ f)) (found_cases (step_into tree (label key)));
     rising = tt;
     before = tt;
-    among = λ step inner f. f;
-    form = branches_form tree h;
+    among = λ step inner f. own tree inner step h f;
+    form = branches tree h;
     documents = λ z. tt;
     no_float = refl;
     small = omega arith;
@@ -381,7 +379,7 @@ taken :
     → is_demanded (row_of tree) (label name) (row_of here) ≡ true → after ≡ put name json members → (IsClear (Told here) → IsShape IsPicked (Told here) json) → has_float json ≡ false → IsGathered tree rest' after
 taken tree here name rest rest' members after json v r asked a d n =
     let w : IsGathered tree (child (label name) here rest') members = subst (λ cs. IsGathered tree cs members) r v in
-    let found : find (label name) (below tree) ≡ Some here = w.among (label name) here (found_first (label name) here rest') in
+    let found : step_into tree (label name) ≡ Some here = w.among (label name) here (found_first (label name) here rest') in
     let lower : AllByRecursion (λ k. step_cmp (label k) (label name) ≡ Less) (keys members) =
     all_from (λ key. IsBelowAll (label key) (child (label name) here rest')) (λ k. step_cmp (label k) (label name) ≡ Less) (keys members) (λ key b. b.0) w.before in
     let is : after ≡ with_member members name json = a ∙ put_last members name json lower in
@@ -435,10 +433,10 @@ pub passed_label :
 passed_label tree here step rest rest' members v c n =
     let r : rest ≡ child step here rest' = first_child rest rest' step here c in
     let w : IsGathered tree (child step here rest') members = subst (λ cs. IsGathered tree cs members) r v in
-    let found : find step (below tree) ≡ Some here = w.among step here (found_first step here rest') in
+    let found : step_into tree step ≡ Some here = w.among step here (found_first step here rest') in
     passed tree here step rest rest' members v r
     (λ key e d. false≢true (sym n ∙ ap (λ s. is_demanded (row_of tree) s (row_of here)) (sym e)
-    ∙ (first_demanded tree here (label key) (seen tree here (label key) (subst (λ s. find s (below tree) ≡ Some here) (sym e) found))).1 d))
+    ∙ (first_demanded tree here (label key) (seen tree here (label key) (subst (λ s. step_into tree s ≡ Some here) (sym e) found))).1 d))
 
 -- the label is demanded
 pub taken_label :

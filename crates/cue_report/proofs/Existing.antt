@@ -31,7 +31,7 @@ use Rattle.cue_row.specs.Lengths.{RefusesLength}
 use Rattle.cue_row.specs.Row.{Refuses, IsRow}
 use Rattle.cue_row.specs.ValidRow.{AreWords, IsWord, IsWordStep, IsValidRow, LengthsFit}
 use Rattle.cue_table.specs.Form.{IsBelowAll, AreBranches, IsKept, IsTable}
-use Rattle.cue_table.specs.Tree.{Tree, node, Children, none, child, row_of, below, if_equal, find, branch_at, row_at}
+use Rattle.cue_table.specs.Tree.{Tree, node, Children, none, child, Rest, no_rest, onward, row_of, below, if_equal, find, step_into, branch_at, row_at}
 use Rattle.cue_table.specs.Valid.{IsValidTable}
 use Rattle.cue_report.specs.Answers.{further, IsStepDemanded, HasNoScalar}
 use Rattle.cue_report.specs.Clear.{IsClear}
@@ -45,6 +45,7 @@ use Rattle.cue_report.proofs.Descent.{Told, open_below, seen, first_demanded}
 use Rattle.cue_report.proofs.Empty.{refused, empty_members}
 use Rattle.cue_report.proofs.Found.{AreAmong, found_first, found_later, found_cases}
 use Rattle.cue_report.proofs.Order.{equal_steps}
+use Rattle.cue_report.proofs.Rests.{own, at_label, into_cases, form_into, branches}
 use Rattle.cue_report.proofs.Rows.{RefusedAt}
 
 -- ---- what a valid table says of its places
@@ -204,18 +205,9 @@ split Less step next tree inner other e f = inr f
 split Equal step next tree inner other e f = let same : tree ≡ inner = cc in inl (equal_steps step next e, same)
 split Greater step next tree inner other e f = inr f
 
-pub form_below : (children : Children Row) (step : paths.Step) (inner : Tree Row) → AreBranches (IsKept Refuses IsRow) children → find step children ≡ Some inner → IsTable Refuses IsRow inner
-form_below none step inner h f = cc
-form_below (child next tree children) step inner h f =
-    ⊎_elim (λ e. subst (IsTable Refuses IsRow) e.1 h.2) (λ g. form_below children step inner h.3 g)
-    (split (step_cmp step next) step next tree inner (find step children) refl f)
-
-pub branches : (tree : Tree Row) → IsTable Refuses IsRow tree → AreBranches (IsKept Refuses IsRow) (below tree)
-branches (node row children) h = h.1
-
-whole_below : (tree inner : Tree Row) (step : paths.Step) → find step (below tree) ≡ Some inner → IsWhole tree → IsStepDemanded (Told tree) [] step → IsWhole inner
+whole_below : (tree inner : Tree Row) (step : paths.Step) → step_into tree step ≡ Some inner → IsWhole tree → IsStepDemanded (Told tree) [] step → IsWhole inner
 whole_below tree inner step f w d = record {
-  form = form_below (below tree) step inner (branches tree w.form) f;
+  form = form_into tree inner step w.form f;
   clear = let P : Option (Tree Row) → Type 0 = λ found. IsClear (Seen found) in subst P f (clear_below (Told tree) step w.clear d);
   words = let P : Option (Tree Row) → Type 0 = λ found. IsWorded (Seen found) in subst P f (λ path l h. w.words (step ∷ path) l h);
   rows = λ path. subst (λ found. FitsRow (RowsSeen found path)) f (w.rows (step ∷ path));
@@ -226,9 +218,9 @@ Doc = SomeMeets
 
 -- a document of each branch that is demanded
 abbrev EachHas : Tree Row → Type 0
-EachHas tree = (step : paths.Step) (inner : Tree Row) → find step (below tree) ≡ Some inner → IsWhole inner → Doc (Told inner)
+EachHas tree = (step : paths.Step) (inner : Tree Row) → step_into tree step ≡ Some inner → IsWhole inner → Doc (Told inner)
 
-below_has : (tree inner : Tree Row) (step : paths.Step) → EachHas tree → find step (below tree) ≡ Some inner → IsWhole tree → IsStepDemanded (Told tree) [] step → Doc (beyond (Told tree) step)
+below_has : (tree inner : Tree Row) (step : paths.Step) → EachHas tree → step_into tree step ≡ Some inner → IsWhole tree → IsStepDemanded (Told tree) [] step → Doc (beyond (Told tree) step)
 below_has tree inner step each f w d =
     let found = each step inner f (whole_below tree inner step f w d) in
     let P : Option (Tree Row) → Type 0 = λ found. Doc (Seen found) in
@@ -258,7 +250,7 @@ members_of tree w each (child (index n) here rest) b among =
     record { members = more.members; are = more.are; meet = more.meet; has = λ l inner f d. more.has l inner f d; before = λ k h. more.before k h.1 }
 members_of tree w each (child (label m) here rest) b among =
     let more = members_of tree w each rest b.3 (λ step inner f. among step inner (found_later (label m) step here inner rest b.0 f)) in
-    let found : find (label m) (below tree) ≡ Some here = among (label m) here (found_first (label m) here rest) in
+    let found : step_into tree (label m) ≡ Some here = among (label m) here (found_first (label m) here rest) in
     elim (cases_Bool (is_demanded (row_of tree) (label m) (row_of here))) [
       | inl e ↦
           let demanded : IsStepDemanded (Told tree) [] (label m) = (first_demanded tree here (label m) (seen tree here (label m) found)).0 e in
@@ -283,14 +275,14 @@ members_of tree w each (child (label m) here rest) b among =
 
 of_struct : (tree : Tree Row) → IsWhole tree → EachHas tree → (¬ Told tree [] struct) → Doc (Told tree)
 of_struct tree w each s =
-    let built = members_of tree w each (below tree) (branches tree w.form) (λ step inner f. f) in
+    let built = members_of tree w each (below tree) (branches tree w.form) (λ step inner f. own tree inner step w.form f) in
     (documents.map built.members, built.are, (s, complete built, built.meet))
   where
     complete : (built : Built tree (below tree)) (l : List ℕ) → Told tree (label l ∷ []) (level_at_most 0) → Has l built.members
     complete built l h = ⊎_elim
         (λ f. absurd (open_below tree (label l) [] (level_at_most 0) f h))
-        (λ f. built.has l f.0 f.1 ((first_demanded tree f.0 (label l) (seen tree f.0 (label l) f.1)).1 h))
-        (found_cases (find (label l) (below tree)))
+        (λ f. built.has l f.0 (sym (at_label tree l) ∙ f.1) ((first_demanded tree f.0 (label l) (seen tree f.0 (label l) f.1)).1 h))
+        (found_cases (step_into tree (label l)))
 
 -- ---- a list
 record Listed (count : ℕ) (refuses : ℕ → Refusals) : Type 0 where
@@ -316,11 +308,11 @@ one_item : (tree : Tree Row) → IsWhole tree → EachHas tree → (i : ℕ) →
 one_item tree w each i d = ⊎_elim
     (λ f. (documents.scalar scalars.Null, (tt, tt), λ r. open_below tree (index i) [] (may_be scalars.Null) f r))
     (λ f. below_has tree f.0 (index i) each f.1 w d)
-    (found_cases (find (index i) (below tree)))
+    (found_cases (step_into tree (index i)))
 
-of_list : (row : Row) (children : Children Row) → IsWhole (node (Some row) children) → EachHas (node (Some row) children) → row.list_ok ≡ true → Doc (Told (node (Some row) children))
-of_list row children w each l =
-    let tree : Tree Row = node (Some row) children in
+of_list : (row : Row) (children : Children Row) (rest : Rest Row) → IsWhole (node (Some row) children rest) → EachHas (node (Some row) children rest) → row.list_ok ≡ true → Doc (Told (node (Some row) children rest))
+of_list row children rest w each l =
+    let tree : Tree Row = node (Some row) children rest in
     let built = items_of row.least (at_index (Told tree)) (λ i h. one_item tree w each i h) in
     let e : length_of built.items ≡ row.least = built.length in
     let may : (row.list_ok ≡ false → ⊥) = λ r. false≢true (sym r ∙ l) in (
@@ -341,23 +333,28 @@ of_list row children w each l =
     )
 
 -- ---- each kind
-of_kind : (row : Row) (children : Children Row) (kind : RowKind) → IsKind row kind → IsValidRow row → IsWhole (node (Some row) children) → EachHas (node (Some row) children) → Doc (Told (node (Some row) children))
-of_kind row children kinds.Free k v w each = (documents.scalar scalars.Null, (tt, tt), k.0 scalars.Null)
-of_kind row children kinds.Scalar k v w each =
+of_kind : (row : Row) (children : Children Row) (rest : Rest Row) (kind : RowKind) → IsKind row kind → IsValidRow row → IsWhole (node (Some row) children rest) → EachHas (node (Some row) children rest) → Doc (Told (node (Some row) children rest))
+of_kind row children rest kinds.Free k v w each = (documents.scalar scalars.Null, (tt, tt), k.0 scalars.Null)
+of_kind row children rest kinds.Scalar k v w each =
     let found = some_standing row.value w.form.0.0.value v.texts.value (λ e. k.0 (empty_members row.value e)) in
     (documents.scalar found.scalar, (found.is, found.readable), found.stands)
-of_kind row children kinds.Struct k v w each = of_struct (node (Some row) children) w each (λ r. false≢true (sym r ∙ k.1))
-of_kind row children kinds.List k v w each = of_list row children w each k.2
-of_kind row children kinds.Nothing k v w each =
-    let tree : Tree Row = node (Some row) children in
+of_kind row children rest kinds.Struct k v w each = of_struct (node (Some row) children rest) w each (λ r. false≢true (sym r ∙ k.1))
+of_kind row children rest kinds.List k v w each = of_list row children rest w each k.2
+of_kind row children rest kinds.Nothing k v w each =
+    let tree : Tree Row = node (Some row) children rest in
     absurd ((clear_here (Told tree) w.clear).0 (inl (no_scalars tree [] row refl k.0, k.1, k.2)))
 
 mutual
   build : (tree : Tree Row) → IsWhole tree → Doc (Told tree)
-  build (node None children) w = (documents.scalar scalars.Null, (tt, tt), λ r. r)
-  build (node (Some row) children) w =
+  build (node None children rest) w = (documents.scalar scalars.Null, (tt, tt), λ r. r)
+  build (node (Some row) children rest) w =
       let v : IsValidRow row = w.rows [] in
-      of_kind row children v.kind v.is_kind v w (λ step inner f whole. each children step inner f whole)
+      of_kind row children rest v.kind v.is_kind v w (λ step inner f whole. into_cases (node (Some row) children rest) inner step (Doc (Told inner)) f
+      (λ g. each children step inner g whole) (λ n i is e l. in_rest rest n inner e whole))
+
+  in_rest : (rest : Rest Row) (n : ℕ) (inner : Tree Row) → rest ≡ onward n inner → IsWhole inner → Doc (Told inner)
+  in_rest no_rest n inner e w = cc
+  in_rest (onward m tree) n inner e w = let same : tree ≡ inner = cc in subst (λ t. Doc (Told t)) same (build tree (subst IsWhole (sym same) w))
 
   each : (children : Children Row) (step : paths.Step) (inner : Tree Row) → find step children ≡ Some inner → IsWhole inner → Doc (Told inner)
   each none step inner f w = cc

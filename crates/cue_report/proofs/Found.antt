@@ -1,26 +1,28 @@
 -- The conflicts that a search finds are those of the table.
-use Rattle.std.proofs.Common.{◌≡◌, ◌↔◌, ◌⊎◌, inl, inr, ⊎_elim, Bool, true, false, ◌||◌, List, [], ◌∷◌, ◌++◌, map, Option, None, Some, refl, sym, ap, subst, ◌∙◌}
+use Rattle.std.proofs.Common.{◌≡◌, ◌↔◌, ◌⊎◌, inl, inr, ⊎_elim, ℕ, ◌-◌, ◌<◌, ◌≤◌, arith, Bool, true, false, ◌||◌, List, [], ◌∷◌, ◌++◌, map, Option, None, Some, refl, sym, ap, subst, ◌∙◌}
 use Rattle.std.specs.Bool.{IsTrue}
 use Rattle.std.specs.List.{AllByRecursion, flat_map}
 use Rattle.std.specs.declared.cmp.Ordering.{Ordering}
 use Rattle.std.specs.declared.cmp.Ordering.TheVariants.{Less, Equal, Greater}
 use Rattle.cue_lattice.specs.OneOf.{OneOf}
 use Rattle.cue_lattice.specs.Path as paths
-use Rattle.cue_lattice.specs.Path.{label, step_cmp, Path}
+use Rattle.cue_lattice.specs.Path.{label, index, step_cmp, Path}
 use Rattle.cue_lattice.specs.Question.{level_at_most}
 use Rattle.cue_row.specs.declared.row.Row.{Row}
 use Rattle.cue_row.specs.Row.{Refuses, IsRow}
 use Rattle.cue_table.specs.Form as form
-use Rattle.cue_table.specs.Form.{AreBranches, IsBelowAll, IsKept, IsTable}
-use Rattle.cue_table.specs.Tree.{Tree, node, Children, none, child, row_of, below, if_equal, find}
+use Rattle.cue_table.specs.Form.{AreBranches, AreWithin, IsBelowAll, IsKept, IsRestOf, IsTable}
+use Rattle.cue_table.specs.Tree.{Tree, node, Children, none, child, Rest, no_rest, onward, row_of, rest_of, if_equal, find, step_into}
 use Rattle.cue_report.specs.Answers.{IsDemanded, HasNoValue, IsNotAllowed}
 use Rattle.cue_report.specs.GapSearch.{IsBarred}
 use Rattle.cue_report.specs.Listing.{IsConflict, AreConflicts, IsRising}
-use Rattle.cue_report.specs.Search.{under, told_under, only_if, has_no_value, is_demanded, is_refused, conflict_here, conflicts_in, conflicts_below}
+use Rattle.cue_report.specs.Search.{under, told_under, only_if, has_no_value, is_demanded, is_refused, conflict_here, conflicts_in, conflicts_below, conflicts_onward, each_index, least_at}
 use Rattle.cue_report.specs.declared.conflict.Conflict.{Conflict}
 use Rattle.cue_report.proofs.Empty.{same_truth}
-use Rattle.cue_report.proofs.Rows.{NoValueAt, no_value_is}
-use Rattle.cue_report.proofs.Order.{reverse_cmp, same_step, equal_steps, all_append, all_map, all_from, one_left, one_right, one_map, AreBehind, rising_append, rising_lifted, lifted_before, lifted_behind}
+use Rattle.cue_report.proofs.Elements.{place_of, less_index, each_all, each_one, each_behind, each_below, each_rising}
+use Rattle.cue_report.proofs.Rests.{own, at_rest, IsBefore, into_cases}
+use Rattle.cue_report.proofs.Rows.{NoValueAt, no_value_is, index_allowed, is_below, is_long}
+use Rattle.cue_report.proofs.Order.{reverse_cmp, same_step, equal_steps, all_append, all_map, all_from, one_left, one_right, one_map, AreBefore, AreBehind, rising_append, rising_lifted, lifted_before, lifted_behind}
 use Rattle.cue_report.proofs.Texts.{listed}
 use Rattle.cue_report.proofs.Descent.{Told, open_below, row_below, seen, demanded_down, demanded_up, barred_below, first_demanded, at_root}
 
@@ -35,14 +37,14 @@ abbrev both_ways : {A B C : Type 0} → A ↔ B → B ↔ C → A ↔ C
 both_ways e f = (λ a. f.0 (e.0 a), λ c. e.1 (f.1 c))
 
 -- what the rows below a branch say of values
-value_below : (tree inner : Tree Row) (step : paths.Step) (path : Path) → find step (below tree) ≡ Some inner → HasNoValue (Told tree) (step ∷ path) ↔ HasNoValue (Told inner) path
+value_below : (tree inner : Tree Row) (step : paths.Step) (path : Path) → step_into tree step ≡ Some inner → HasNoValue (Told tree) (step ∷ path) ↔ HasNoValue (Told inner) path
 value_below tree inner step path f =
     let same = row_below tree inner step path f in
     (λ h. subst NoValueAt same h, λ h. subst NoValueAt (sym same) h)
 
 -- a conflict of a branch is one of the tree
 conflict_up :
-    (not_allowed : Bool) (tree inner : Tree Row) (step : paths.Step) (conflict : Conflict) → find step (below tree) ≡ Some inner
+    (not_allowed : Bool) (tree inner : Tree Row) (step : paths.Step) (conflict : Conflict) → step_into tree step ≡ Some inner
     → is_demanded (row_of tree) step (row_of inner) ≡ true → IsConflictIn (is_refused (row_of tree) step) inner conflict
     → IsConflictIn not_allowed tree (under (step ∷ []) conflict)
 conflict_up not_allowed tree inner step conflict f d h = record {
@@ -54,7 +56,7 @@ conflict_up not_allowed tree inner step conflict f d h = record {
 
 -- and the other way round
 conflict_down :
-    (not_allowed : Bool) (tree inner : Tree Row) (step : paths.Step) (conflict : Conflict) (path : Path) → conflict.path ≡ step ∷ path → find step (below tree) ≡ Some inner
+    (not_allowed : Bool) (tree inner : Tree Row) (step : paths.Step) (conflict : Conflict) (path : Path) → conflict.path ≡ step ∷ path → step_into tree step ≡ Some inner
     → IsConflictIn not_allowed tree conflict
     → (is_demanded (row_of tree) step (row_of inner) ≡ true) × IsConflictIn (is_refused (row_of tree) step) inner (record conflict { path = path })
 conflict_down not_allowed tree inner step conflict path e f h =
@@ -76,7 +78,7 @@ either : (a b : Bool) → (a || b) ≡ true → (a ≡ true) ⊎ (b ≡ true)
 either true b h = inl refl
 either false b h = inr h
 
-conflict_stands : (not_allowed : Bool) (tree : Tree Row) (step : paths.Step) (conflict : Conflict) (path : Path) → conflict.path ≡ step ∷ path → find step (below tree) ≡ None → IsConflictIn not_allowed tree conflict → ⊥
+conflict_stands : (not_allowed : Bool) (tree : Tree Row) (step : paths.Step) (conflict : Conflict) (path : Path) → conflict.path ≡ step ∷ path → step_into tree step ≡ None → IsConflictIn not_allowed tree conflict → ⊥
 conflict_stands not_allowed tree step conflict path e f h =
     let demanded : IsDemanded (Told tree) (step ∷ path) = subst (IsDemanded (Told tree)) e h.demanded in
     let value : IsTrue conflict.no_value → HasNoValue (Told tree) (step ∷ path) = subst (λ p. IsTrue conflict.no_value → HasNoValue (Told tree) p) e h.no_value.0 in
@@ -111,14 +113,14 @@ here_sound not_allowed tree r = cases (has_no_value (row_of tree) || not_allowed
     tt,
   ) where
     value : (t : Tree Row) → form.IsRow IsRow (row_of t) → IsTrue (has_no_value (row_of t)) ↔ HasNoValue (Told t) []
-    value (node row children) r = no_value_is row r
+    value (node row children rest) r = no_value_is row r
 
 here_complete :
     (not_allowed : Bool) (tree : Tree Row) (conflict : Conflict) → form.IsRow IsRow (row_of tree) → conflict.path ≡ [] → IsConflictIn not_allowed tree conflict
     → OneOf (λ y. y ≡ conflict) (conflict_here (has_no_value (row_of tree)) not_allowed)
-here_complete not_allowed (node row children) conflict r e h =
-    let value : IsTrue conflict.no_value ↔ NoValueAt row = subst (λ p. IsTrue conflict.no_value ↔ HasNoValue (Told (node row children)) p) e h.no_value in
-    let barred : IsTrue conflict.not_allowed ↔ IsTrue not_allowed = subst (λ p. IsTrue conflict.not_allowed ↔ IsBarred not_allowed (Told (node row children)) p) e h.barred in
+here_complete not_allowed (node row children rest) conflict r e h =
+    let value : IsTrue conflict.no_value ↔ NoValueAt row = subst (λ p. IsTrue conflict.no_value ↔ HasNoValue (Told (node row children rest)) p) e h.no_value in
+    let barred : IsTrue conflict.not_allowed ↔ IsTrue not_allowed = subst (λ p. IsTrue conflict.not_allowed ↔ IsBarred not_allowed (Told (node row children rest)) p) e h.barred in
     let is = no_value_is row r in
     let v : has_no_value row ≡ conflict.no_value = same_truth _ _ (λ b. value.1 (is.0 b)) (λ b. is.1 (value.0 b)) in
     let a : not_allowed ≡ conflict.not_allowed = same_truth _ _ (λ b. barred.1 b) (λ b. barred.0 b) in
@@ -128,8 +130,8 @@ here_complete not_allowed (node row children) conflict r e h =
 
 -- ---- below it
 row_form : (tree : Tree Row) → IsTable Refuses IsRow tree → form.IsRow IsRow (row_of tree)
-row_form (node None children) h = tt
-row_form (node (Some row) children) h = h.0.0
+row_form (node None children rest) h = tt
+row_form (node (Some row) children rest) h = h.0.0
 
 pub found_first : (step : paths.Step) (tree : Tree Row) (children : Children Row) → find step (child step tree children) ≡ Some tree
 found_first step tree children = ap (λ o. if_equal o tree (find step children)) (same_step step)
@@ -150,14 +152,16 @@ found_later next step here tree children b f =
 
 -- which branches of a tree these are
 abbrev pub AreAmong : Tree Row → Children Row → Type 0
-AreAmong whole children = (step : paths.Step) (inner : Tree Row) → find step children ≡ Some inner → find step (below whole) ≡ Some inner
+AreAmong whole children = (step : paths.Step) (inner : Tree Row) → find step children ≡ Some inner → step_into whole step ≡ Some inner
 
 mutual
   sound_in : (not_allowed : Bool) (tree : Tree Row) → IsTable Refuses IsRow tree → AllByRecursion (IsConflictIn not_allowed tree) (conflicts_in not_allowed tree)
-  sound_in not_allowed (node row children) h =
-      all_append (IsConflictIn not_allowed (node row children)) (conflict_here (has_no_value row) not_allowed) (conflicts_below row children)
-      (here_sound not_allowed (node row children) (row_form (node row children) h))
-      (sound_below not_allowed (node row children) children h.1 (λ step inner f. f))
+  sound_in not_allowed (node row children rest) h =
+      all_append (IsConflictIn not_allowed (node row children rest)) (conflict_here (has_no_value row) not_allowed) (conflicts_below row children ++ conflicts_onward row rest)
+      (here_sound not_allowed (node row children rest) (row_form (node row children rest) h))
+      (all_append (IsConflictIn not_allowed (node row children rest)) (conflicts_below row children) (conflicts_onward row rest)
+      (sound_below not_allowed (node row children rest) children h.1 (λ step inner f. own (node row children rest) inner step h f))
+      (sound_onward not_allowed (node row children rest) children rest h.2 refl))
 
   sound_below :
       (not_allowed : Bool) (whole : Tree Row) (children : Children Row) → AreBranches (IsKept Refuses IsRow) children → AreAmong whole children
@@ -165,7 +169,7 @@ mutual
   sound_below not_allowed whole none h m = tt
   sound_below not_allowed whole (child step tree children) h m =
       let inner : List Conflict = conflicts_in (is_refused (row_of whole) step) tree in
-      let found : find step (below whole) ≡ Some tree = m step tree (found_first step tree children) in
+      let found : step_into whole step ≡ Some tree = m step tree (found_first step tree children) in
       let first : AllByRecursion (IsConflictIn not_allowed whole) (only_if (is_demanded (row_of whole) step (row_of tree)) (map (under (step ∷ [])) inner)) =
       only_when (is_demanded (row_of whole) step (row_of tree)) (map (under (step ∷ [])) inner) (λ d.
       all_map (IsConflictIn (is_refused (row_of whole) step) tree) (IsConflictIn not_allowed whole) (under (step ∷ [])) inner
@@ -176,6 +180,16 @@ mutual
       only_when : (b : Bool) (xs : List Conflict) → (b ≡ true → AllByRecursion (IsConflictIn not_allowed whole) xs) → AllByRecursion (IsConflictIn not_allowed whole) (only_if b xs)
       only_when true xs k = k refl
       only_when false xs k = tt
+
+  sound_onward :
+      (not_allowed : Bool) (whole : Tree Row) (children : Children Row) (rest : Rest Row) → IsRestOf (IsKept Refuses IsRow) children rest → rest_of whole ≡ rest
+      → AllByRecursion (IsConflictIn not_allowed whole) (conflicts_onward (row_of whole) rest)
+  sound_onward not_allowed whole children no_rest h e = tt
+  sound_onward not_allowed whole children (onward n tree) h e =
+      let least : ℕ = least_at (row_of whole) in
+      each_all (IsConflictIn false tree) (IsConflictIn not_allowed whole) n (least - n) (conflicts_in false tree)
+      (λ i l m conflict k. conflict_up not_allowed whole tree (index i) conflict (at_rest whole tree n i e l) (is_long (row_of whole) i (omega arith))
+      (subst (λ b. IsConflictIn b tree conflict) (sym (index_allowed (row_of whole) i)) k)) (sound_in false tree h.3)
 
 -- ---- all are found
 pub found_cases : {X : Type 0} (o : Option X) → (o ≡ None) ⊎ ((x : X) × (o ≡ Some x))
@@ -212,17 +226,34 @@ taken row next tree children step inner conflict Equal e g d k later first =
 
 mutual
   complete_in : (not_allowed : Bool) (tree : Tree Row) (conflict : Conflict) (path : Path) → conflict.path ≡ path → IsTable Refuses IsRow tree → IsConflictIn not_allowed tree conflict → OneOf (λ y. y ≡ conflict) (conflicts_in not_allowed tree)
-  complete_in not_allowed (node row children) conflict [] e h k =
-      one_left (λ y. y ≡ conflict) (conflict_here (has_no_value row) not_allowed) (conflicts_below row children)
-      (here_complete not_allowed (node row children) conflict (row_form (node row children) h) e k)
-  complete_in not_allowed (node row children) conflict (step ∷ path) e h k =
-      ⊎_elim (λ f. absurd (conflict_stands not_allowed (node row children) step conflict path e f k)) (λ found.
-      let tree : Tree Row = node row children in
-      let below_it = conflict_down not_allowed tree found.0 step conflict path e found.1 k in
-      one_right (λ y. y ≡ conflict) (conflict_here (has_no_value row) not_allowed) (conflicts_below row children)
-      (subst (λ p. OneOf (λ y. y ≡ record conflict { path = p }) (conflicts_below row children)) (sym e)
-      (complete_below row children step found.0 (record conflict { path = path }) h.1 found.1 below_it.0 below_it.1)))
-      (found_cases (find step children))
+  complete_in not_allowed (node row children rest) conflict [] e h k =
+      one_left (λ y. y ≡ conflict) (conflict_here (has_no_value row) not_allowed) (conflicts_below row children ++ conflicts_onward row rest)
+      (here_complete not_allowed (node row children rest) conflict (row_form (node row children rest) h) e k)
+  complete_in not_allowed (node row children rest) conflict (step ∷ path) e h k =
+      ⊎_elim (λ f. absurd (conflict_stands not_allowed (node row children rest) step conflict path e f k)) (λ found.
+      let below_it = conflict_down not_allowed (node row children rest) found.0 step conflict path e found.1 k in
+      one_right (λ y. y ≡ conflict) (conflict_here (has_no_value row) not_allowed) (conflicts_below row children ++ conflicts_onward row rest)
+      (subst (λ p. OneOf (λ y. y ≡ record conflict { path = p }) (conflicts_below row children ++ conflicts_onward row rest)) (sym e)
+      (into_cases (node row children rest) found.0 step (OneOf (λ y. y ≡ under (step ∷ []) (record conflict { path = path })) (conflicts_below row children ++ conflicts_onward row rest)) found.1
+      (λ g. one_left (λ y. y ≡ under (step ∷ []) (record conflict { path = path })) (conflicts_below row children) (conflicts_onward row rest)
+      (complete_below row children step found.0 (record conflict { path = path }) h.1 g below_it.0 below_it.1))
+      (λ n i is r l. one_right (λ y. y ≡ under (step ∷ []) (record conflict { path = path })) (conflicts_below row children) (conflicts_onward row rest)
+      (complete_onward row children rest step n i found.0 (record conflict { path = path }) h.2 is r l below_it.0 below_it.1)))))
+      (found_cases (step_into (node row children rest) step))
+
+  complete_onward :
+      (row : Option Row) (children : Children Row) (rest : Rest Row) (step : paths.Step) (n i : ℕ) (inner : Tree Row) (conflict : Conflict) → IsRestOf (IsKept Refuses IsRow) children rest
+      → step ≡ index i → rest ≡ onward n inner → n ≤ i → is_demanded row step (row_of inner) ≡ true → IsConflictIn (is_refused row step) inner conflict
+      → OneOf (λ y. y ≡ under (step ∷ []) conflict) (conflicts_onward row rest)
+  complete_onward row children no_rest step n i inner conflict h is e l d k = cc
+  complete_onward row children (onward number tree) step n i inner conflict h is e l d k =
+      let from : number ≡ n = cc in
+      let same : inner ≡ tree = cc in
+      let low : i < least_at row = is_below row i (subst (λ s. is_demanded row s (row_of inner) ≡ true) is d) in
+      let inside : IsConflictIn (is_refused row (index i)) inner conflict = subst (λ s. IsConflictIn (is_refused row s) inner conflict) is k in
+      subst (λ s. OneOf (λ y. y ≡ under (s ∷ []) conflict) (each_index number (least_at row - number) (conflicts_in false tree))) (sym is)
+      (each_one number (least_at row - number) i (conflicts_in false tree) conflict (omega arith) (omega arith)
+      (complete_in false tree conflict conflict.path refl h.3 (subst (λ t. IsConflictIn false t conflict) same (subst (λ b. IsConflictIn b inner conflict) (index_allowed row i) inside))))
 
   complete_below :
       (row : Option Row) (children : Children Row) (step : paths.Step) (inner : Tree Row) (conflict : Conflict) → AreBranches (IsKept Refuses IsRow) children
@@ -235,9 +266,6 @@ mutual
       (λ inside. complete_in (is_refused row next) tree conflict conflict.path refl h.2 inside)
 
 -- ---- in the order of their paths
-abbrev place_of : Conflict → Path
-place_of conflict = conflict.path
-
 below_behind : (low : paths.Step) (row : Option Row) (children : Children Row) → IsBelowAll low children → AreBehind place_of low (conflicts_below row children)
 below_behind low row none h = tt
 below_behind low row (child step tree children) h =
@@ -265,15 +293,68 @@ root_first row (child step tree children) =
     when true xs = each xs
     when false xs = tt
 
+-- the conflicts of the rest stand behind those of what stands before it
+abbrev StandsBefore : paths.Step → Rest Row → Type 0
+StandsBefore (label text) rest = Unit {0}
+StandsBefore (index i) rest = IsBefore i rest
+
+onward_behind : (step : paths.Step) (row : Option Row) (rest : Rest Row) → StandsBefore step rest → AreBehind place_of step (conflicts_onward row rest)
+onward_behind step row no_rest h = tt
+onward_behind step row (onward n tree) h = each_behind step n (least_at row - n) (conflicts_in false tree) (before step h)
+  where
+    before : (s : paths.Step) → StandsBefore s (onward n tree) → (i : ℕ) → n ≤ i → step_cmp s (index i) ≡ Less
+    before (label text) h i l = refl
+    before (index j) h i l = let low : j < n = h in less_index j i (omega arith)
+
+onward_below : (row : Option Row) (rest : Rest Row) → AllByRecursion (λ y. paths.path_cmp [] (place_of y) ≡ Less) (conflicts_onward row rest)
+onward_below row no_rest = tt
+onward_below row (onward n tree) = each_below n (least_at row - n) (conflicts_in false tree)
+
+abbrev AreBeforeRest : Children Row → Rest Row → Type 0
+AreBeforeRest none rest = Unit {0}
+AreBeforeRest (child step tree children) rest = StandsBefore step rest × AreBeforeRest children rest
+
+before_rest : (children : Children Row) (rest : Rest Row) → IsRestOf (IsKept Refuses IsRow) children rest → AreBeforeRest children rest
+before_rest children no_rest h = all children where
+  all : (cs : Children Row) → AreBeforeRest cs no_rest
+  all none = tt
+  all (child (label text) tree cs) = (tt, all cs)
+  all (child (index i) tree cs) = (tt, all cs)
+before_rest children (onward n inner) h = all children h.0 where
+  all : (cs : Children Row) → AreWithin n cs → AreBeforeRest cs (onward n inner)
+  all none w = tt
+  all (child (label text) tree cs) w = (tt, all cs w)
+  all (child (index i) tree cs) w = (w.0, all cs w.1)
+
+below_before : (row : Option Row) (children : Children Row) (rest : Rest Row) → AreBeforeRest children rest → AreBefore place_of (conflicts_below row children) (conflicts_onward row rest)
+below_before row none rest h = tt
+below_before row (child step tree children) rest h =
+    all_append _ (only_if (is_demanded row step (row_of tree)) (map (under (step ∷ [])) (conflicts_in (is_refused row step) tree))) (conflicts_below row children)
+    (when (is_demanded row step (row_of tree)) (map (under (step ∷ [])) (conflicts_in (is_refused row step) tree))
+    (lifted_before place_of (under (step ∷ [])) step (λ x. refl) (conflicts_in (is_refused row step) tree) (conflicts_onward row rest)
+    (onward_behind step row rest h.0)))
+    (below_before row children rest h.1)
+  where
+    when : (b : Bool) (xs : List Conflict) → AreBefore place_of xs (conflicts_onward row rest) → AreBefore place_of (only_if b xs) (conflicts_onward row rest)
+    when true xs k = k
+    when false xs k = tt
+
 mutual
   rising_in : (not_allowed : Bool) (tree : Tree Row) → IsTable Refuses IsRow tree → IsRising place_of (conflicts_in not_allowed tree)
-  rising_in not_allowed (node row children) h =
-      with_here (has_no_value row || not_allowed) (record { path = []; no_value = has_no_value row; not_allowed = not_allowed }) (conflicts_below row children)
-      refl (rising_below row children h.1) (root_first row children)
+  rising_in not_allowed (node row children rest) h =
+      with_here (has_no_value row || not_allowed) (record { path = []; no_value = has_no_value row; not_allowed = not_allowed }) (conflicts_below row children ++ conflicts_onward row rest)
+      refl
+      (rising_append place_of (conflicts_below row children) (conflicts_onward row rest) (rising_below row children h.1) (rising_onward row children rest h.2)
+      (below_before row children rest (before_rest children rest h.2)))
+      (all_append _ (conflicts_below row children) (conflicts_onward row rest) (root_first row children) (onward_below row rest))
     where
       with_here : (b : Bool) (x : Conflict) (xs : List Conflict) → place_of x ≡ [] → IsRising place_of xs → AllByRecursion (λ y. paths.path_cmp [] (place_of y) ≡ Less) xs → IsRising place_of (only_if b (x ∷ []) ++ xs)
       with_here true x xs e k f = (subst (λ p. AllByRecursion (λ y. paths.path_cmp p (place_of y) ≡ Less) xs) (sym e) f, k)
       with_here false x xs e k f = k
+
+  rising_onward : (row : Option Row) (children : Children Row) (rest : Rest Row) → IsRestOf (IsKept Refuses IsRow) children rest → IsRising place_of (conflicts_onward row rest)
+  rising_onward row children no_rest h = tt
+  rising_onward row children (onward n tree) h = each_rising n (least_at row - n) (conflicts_in false tree) (rising_in false tree h.3)
 
   rising_below : (row : Option Row) (children : Children Row) → AreBranches (IsKept Refuses IsRow) children → IsRising place_of (conflicts_below row children)
   rising_below row none h = tt

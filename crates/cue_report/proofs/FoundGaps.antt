@@ -25,7 +25,7 @@ abbrev pub place_of : Gap → Path
 place_of gap = gap.path
 
 -- a gap of a branch is one of the tree
-gap_up :
+pub gap_up :
     (not_allowed : Bool) (tree inner : Tree Row) (step : paths.Step) (gap : Gap) → IsSeen tree inner step
     → is_demanded (row_of tree) step (row_of inner) ≡ true → IsGapIn (is_refused (row_of tree) step) inner gap
     → IsGapIn not_allowed tree (above (step ∷ []) gap)
@@ -36,7 +36,7 @@ gap_up not_allowed tree inner step gap same d h = record {
 }
 
 -- and the other way round
-gap_down :
+pub gap_down :
     (not_allowed : Bool) (tree inner : Tree Row) (step : paths.Step) (gap : Gap) (path : Path) → gap.path ≡ step ∷ path → IsSeen tree inner step
     → IsGapIn not_allowed tree gap → IsGapIn (is_refused (row_of tree) step) inner (record gap { path = path })
 gap_down not_allowed tree inner step gap path e same h =
@@ -130,10 +130,10 @@ none_before [] after step e = cc
 none_before (x ∷ before) after step e = cc
 
 here_up : (not_allowed : Bool) (tree : Tree Row) (gap : Gap) → IsGapHere not_allowed (row_of tree) gap → IsGapIn not_allowed tree gap
-here_up not_allowed (node row children) gap h = record {
-  demanded = subst (IsDemanded (Told (node row children))) (sym h.here) (λ before after step g. absurd (none_before before after step g));
-  allowed = subst (λ p. IsBarred not_allowed (Told (node row children)) p → ⊥) (sym h.here) (λ b. false≢true (sym h.allowed ∙ b));
-  lacking = subst (λ p. IsGapAt (row_at (node row children) p) gap.missing) (sym h.here) h.lacking;
+here_up not_allowed (node row children rest) gap h = record {
+  demanded = subst (IsDemanded (Told (node row children rest))) (sym h.here) (λ before after step g. absurd (none_before before after step g));
+  allowed = subst (λ p. IsBarred not_allowed (Told (node row children rest)) p → ⊥) (sym h.here) (λ b. false≢true (sym h.allowed ∙ b));
+  lacking = subst (λ p. IsGapAt (row_at (node row children rest) p) gap.missing) (sym h.here) h.lacking;
 }
 
 not_true : (b : Bool) → (b ≡ true → ⊥) → b ≡ false
@@ -141,10 +141,10 @@ not_true true h = absurd (h refl)
 not_true false h = refl
 
 pub here_down : (not_allowed : Bool) (tree : Tree Row) (gap : Gap) → gap.path ≡ [] → IsGapIn not_allowed tree gap → IsGapHere not_allowed (row_of tree) gap
-here_down not_allowed (node row children) gap e h = record {
+here_down not_allowed (node row children rest) gap e h = record {
   here = e;
-  allowed = not_true not_allowed (subst (λ p. IsBarred not_allowed (Told (node row children)) p → ⊥) e h.allowed);
-  lacking = subst (λ p. IsGapAt (row_at (node row children) p) gap.missing) e h.lacking;
+  allowed = not_true not_allowed (subst (λ p. IsBarred not_allowed (Told (node row children rest)) p → ⊥) e h.allowed);
+  lacking = subst (λ p. IsGapAt (row_at (node row children rest) p) gap.missing) e h.lacking;
 }
 
 -- where no step is demanded of which D holds, the gaps so far are those of the place
@@ -195,6 +195,28 @@ to_end not_allowed tree D xs h all = record {
         (path_cases x.path),
   );
   rising = h.rising;
+}
+
+-- with others behind them these are all
+pub with_others :
+    (not_allowed : Bool) (tree : Tree Row) (D : paths.Step → Type 0) (P : Gap → Type 0) (xs ys : List Gap) → UpTo not_allowed tree D xs → Lists place_of P ys
+    → ((gap : Gap) → P gap → IsGapIn not_allowed tree gap)
+    → ((gap : Gap) (s : paths.Step) (path : Path) → gap.path ≡ s ∷ path → IsGapIn not_allowed tree gap → D s ⊎ P gap)
+    → ((p : Path) (gap : Gap) → IsIn D p → P gap → path_cmp p gap.path ≡ Less) → Lists place_of (IsGapIn not_allowed tree) (xs ++ ys)
+with_others not_allowed tree D P xs ys h k sound cover order = record {
+  sound = all_append (IsGapIn not_allowed tree) xs ys
+      (all_from (λ gap. IsGapIn not_allowed tree gap × IsIn D gap.path) (IsGapIn not_allowed tree) xs (λ gap g. g.0) h.sound)
+      (all_from P (IsGapIn not_allowed tree) ys sound k.sound);
+  complete = λ x g. ⊎_elim
+      (λ e. one_left (λ y. y ≡ x) xs ys (h.complete x (g, subst (IsIn D) (sym e) tt)))
+      (λ (s, path, e). ⊎_elim
+      (λ d. one_left (λ y. y ≡ x) xs ys (h.complete x (g, subst (IsIn D) (sym e) d)))
+      (λ p. one_right (λ y. y ≡ x) xs ys (k.complete x p))
+      (cover x s path e g))
+      (path_cases x.path);
+  rising = rising_append place_of xs ys h.rising k.rising
+      (all_from (λ gap. IsGapIn not_allowed tree gap × IsIn D gap.path) (λ x. AllByRecursion (λ y. path_cmp (place_of x) (place_of y) ≡ Less) ys) xs
+      (λ x g. all_from P (λ y. path_cmp (place_of x) (place_of y) ≡ Less) ys (λ y p. order x.path y g.1 p) k.sound) h.sound);
 }
 
 -- where no step is demanded, the gaps are those of the place

@@ -1,8 +1,7 @@
 -- The walk of a search for gaps over the branches of a place, and over the elements that have none.
-use Rattle.std.proofs.Common.{◌≡◌, nat_lt, ◌⊎◌, inl, inr, ⊎_elim, ℕ, zero, suc, ◌+◌, ◌-◌, ◌<◌, ◌≤◌, Bool, true, false, List, [], ◌∷◌, ◌++◌, map, Option, None, Some, refl, sym, ap, subst, ◌∙◌, arith, Bor, append_assoc}
+use Rattle.std.proofs.Common.{◌≡◌, ◌⊎◌, inl, inr, ⊎_elim, ℕ, zero, suc, ◌+◌, ◌-◌, ◌<◌, ◌≤◌, Bool, true, false, List, [], ◌∷◌, ◌++◌, map, Option, None, Some, refl, sym, ap, subst, ◌∙◌, arith, append_assoc}
 use Rattle.std.proofs.lemmas.Bool.{false≢true}
 use Rattle.std.proofs.Math.Nat.{eq-or-lt_of_le}
-use Rattle.std.proofs.lemmas.Bool.Decides.{nat_tests}
 use Rattle.std.proofs.lemmas.Cmp.{nat_list_cmp_total, nat_cmp_total}
 use Rattle.std.specs.Cmp.{nat_cmp_is}
 use Rattle.std.specs.List.{flat_map}
@@ -13,25 +12,25 @@ use Rattle.std.specs.declared.cmp.Ordering.TheVariants.{Less, Equal, Greater}
 use Rattle.cue_lattice.specs.Path as paths
 use Rattle.cue_lattice.specs.Path.{label, index, step_cmp, Path}
 use Rattle.cue_row.specs.declared.row.Row.{Row}
-use Rattle.cue_row.specs.declared.step.Step.{Step}
+use Rattle.cue_report.specs.declared.trail.Stride.{Stride}
 use Rattle.cue_row.specs.Row.{Refuses, IsRow}
 use Rattle.cue_table.specs.Form.{AreBranches, IsBelowAll, IsKept, IsTable}
-use Rattle.cue_table.specs.Tree.{Tree, node, Children, none, child, empty, row_of, below, find, if_equal, children_of}
+use Rattle.cue_table.specs.Tree.{Tree, Children, none, child, empty, row_of, below, rest_of, find, step_into, if_equal, children_of}
 use Rattle.cue_table.specs.Size.{children_size}
 use Rattle.cue_table.specs.Walks.{first_child}
 use Rattle.cue_report.specs.Answers.{IsStepDemanded}
-use Rattle.cue_report.specs.GapSearch.{IsGapIn, IsGapHere, Adds, above, told_above, free_at, free_elements, free_before, next_after, least_at}
+use Rattle.cue_report.specs.GapSearch.{IsGapIn, IsGapHere, Adds, above, told_above, free_at, free_elements, free_before, next_after}
 use Rattle.cue_report.specs.Listing.{Lists}
-use Rattle.cue_report.specs.Search.{is_demanded, is_longer, is_refused}
+use Rattle.cue_report.specs.Search.{is_demanded, is_refused, least_at, rest_from}
 use Rattle.cue_report.specs.declared.gap.Gap.{Gap}
 use Rattle.cue_report.proofs.Order.{same_step, equal_steps}
-use Rattle.cue_report.proofs.Rows.{longer_is}
+use Rattle.cue_report.proofs.Rests.{own, at_label, at_fixed, own_before, before_end, up_to_end, branches}
+use Rattle.cue_report.proofs.Rows.{longer_is, is_below, is_long}
 use Rattle.cue_report.proofs.Descent.{Told, seen, seen_empty, first_demanded}
 use Rattle.cue_report.proofs.Open.{free_gap}
 use Rattle.cue_report.proofs.Found.{found_first, found_later, found_cases}
-use Rattle.cue_report.proofs.FoundGaps.{place_of, UpTo, extended, from_here, to_end, moved, one_here, here_only}
-use Rattle.cue_report.proofs.Trails.{shown}
-use Rattle.cue_report.proofs.Walk.{none_left}
+use Rattle.cue_report.proofs.FoundGaps.{place_of, UpTo, extended, from_here, moved, one_here, here_only}
+use Rattle.cue_report.specs.Trail.{shown}
 
 -- ---- steps and branches
 -- a step below all branches is none of them
@@ -76,8 +75,10 @@ abbrev pub IsDone : Children Row → ℕ → paths.Step → Type 0
 IsDone rest next (label text) = IsBelowAll (label text) rest
 IsDone rest next (index n) = n < next
 
-pub record IsOver {X : Type 0} (piece : Gap → List X) (not_allowed : Bool) (tree : Tree Row) (rest : Children Row) (next : ℕ) (start now : List X) (steps held : List (Bor Step)) : Type 0 where
+pub record IsOver {X : Type 0} (piece : Gap → List X) (not_allowed : Bool) (tree : Tree Row) (rest : Children Row) (next : ℕ) (start now : List X) (steps held : List Stride) : Type 0 where
   pub same : held ≡ steps
+  pub table : IsTable Refuses IsRow tree
+  pub within : next ≤ rest_from (rest_of tree) (least_at (row_of tree))
   pub small : children_size rest ≤ children_size (below tree)
   pub rise : AreBranches (IsKept Refuses IsRow) rest
   pub among : (s : paths.Step) (inner : Tree Row) → find s rest ≡ Some inner → find s (below tree) ≡ Some inner
@@ -87,17 +88,14 @@ pub record IsOver {X : Type 0} (piece : Gap → List X) (not_allowed : Bool) (tr
   pub lists : UpTo not_allowed tree (IsDone rest next) found
   pub is : now ≡ start ++ told_above piece (map shown steps) found
 
--- what is demanded is an element that each list has, or has a branch
-demanded_cases :
-    (tree : Tree Row) (s : paths.Step) → IsStepDemanded (Told tree) [] s
-    → ((inner : Tree Row) × (find s (below tree) ≡ Some inner)) ⊎ ((n : ℕ) × (s ≡ index n) × (find s (below tree) ≡ None))
-demanded_cases tree (index n) d = ⊎_elim (λ f. inr (n, refl, f)) (λ f. inl f) (found_cases (find (index n) (below tree)))
-demanded_cases tree (label text) d = ⊎_elim
+-- what stands at a label that is demanded
+demanded_label : (tree : Tree Row) (text : List ℕ) → IsStepDemanded (Told tree) [] (label text) → (inner : Tree Row) × (find (label text) (below tree) ≡ Some inner)
+demanded_label tree text d = ⊎_elim
     (λ f. absurd (false≢true ((first_demanded tree empty (label text) (seen_empty tree (label text) f)).1 d)))
-    (λ f. inl f) (found_cases (find (label text) (below tree)))
+    (λ (inner, f). (inner, sym (at_label tree text) ∙ f)) (found_cases (step_into tree (label text)))
 
 -- what is seen from a place is seen from the place above
-above_further : (path : Path) (step : paths.Step) (xs : List Gap) → map (above (path ++ step ∷ [])) xs ≡ map (above path) (map (above (step ∷ [])) xs)
+pub above_further : (path : Path) (step : paths.Step) (xs : List Gap) → map (above (path ++ step ∷ [])) xs ≡ map (above path) (map (above (step ∷ [])) xs)
 above_further path step [] = refl
 above_further path step (x ∷ xs) =
     let e : (path ++ step ∷ []) ++ x.path ≡ path ++ step ∷ x.path = append_assoc path (step ∷ []) x.path in
@@ -109,7 +107,7 @@ told_append : {X : Type 0} (piece : Gap → List X) (path : Path) (xs ys : List 
 told_append piece path xs ys = ap (flat_map piece) (map-append (above path) xs ys) ∙ flat_map-append piece (map (above path) xs) (map (above path) ys)
 
 -- more is found
-more_found :
+pub more_found :
     {X : Type 0} (piece : Gap → List X) (start now after : List X) (xs ys : List Gap) (path : Path) → now ≡ start ++ told_above piece path xs
     → after ≡ now ++ told_above piece path ys → after ≡ start ++ told_above piece path (xs ++ ys)
 more_found piece start now after xs ys path n a =
@@ -131,10 +129,12 @@ one_more_free piece first number start now after path l n a =
 
 -- ---- the walk begins
 pub started :
-    {X : Type 0} (piece : Gap → List X) (not_allowed : Bool) (tree : Tree Row) (start now : List X) (steps held : List (Bor Step)) → IsTable Refuses IsRow tree → held ≡ steps
+    {X : Type 0} (piece : Gap → List X) (not_allowed : Bool) (tree : Tree Row) (start now : List X) (steps held : List Stride) → IsTable Refuses IsRow tree → held ≡ steps
     → Adds piece (IsGapHere not_allowed (row_of tree)) (map shown steps) start now → IsOver piece not_allowed tree (below tree) 0 start now steps held
 started piece not_allowed tree start now steps held t e h = record {
   same = e;
+  table = t;
+  within = omega arith;
   small = omega arith;
   rise = branches tree t;
   among = λ s inner f. f;
@@ -144,15 +144,8 @@ started piece not_allowed tree start now steps held t e h = record {
   lists = from_here not_allowed tree (IsDone (below tree) 0) h.found h.lists none_done;
   is = h.is;
 } where
-  branches : (t : Tree Row) → IsTable Refuses IsRow t → AreBranches (IsKept Refuses IsRow) (below t)
-  branches (node row children) h = h.1
-
   none_done : (s : paths.Step) → IsStepDemanded (Told tree) [] s → IsDone (below tree) 0 s → ⊥
-  none_done (label text) d b = ⊎_elim
-      (λ (inner, f). not_found (label text) (below tree) inner b f) (λ (n, e, f). no_index n e) (demanded_cases tree (label text) d)
-    where
-      no_index : (n : ℕ) → label text ≡ index n → ⊥
-      no_index n e = cc
+  none_done (label text) d b = let inner = demanded_label tree text d in not_found (label text) (below tree) inner.0 b inner.1
   none_done (index n) d l = let low : n < 0 = l in omega arith
 
 -- ---- a free element is found
@@ -164,12 +157,14 @@ empty_gaps not_allowed e = here_only not_allowed empty (free_at [] ∷ []) (subs
     none_demanded (index n) d = d
 
 freed_one :
-    {X : Type 0} (piece : Gap → List X) (not_allowed : Bool) (tree : Tree Row) (rest : Children Row) (next : ℕ) (start now after : List X) (steps held : List (Bor Step))
-    → IsOver piece not_allowed tree rest next start now steps held → find (index next) (below tree) ≡ None → IsBelowAll (index next) rest
+    {X : Type 0} (piece : Gap → List X) (not_allowed : Bool) (tree : Tree Row) (rest : Children Row) (next : ℕ) (start now after : List X) (steps held : List Stride)
+    → IsOver piece not_allowed tree rest next start now steps held → step_into tree (index next) ≡ None → IsBelowAll (index next) rest → next < rest_from (rest_of tree) (least_at (row_of tree))
     → is_demanded (row_of tree) (index next) None ≡ true
     → after ≡ now ++ told_above piece (map shown steps) (free_at (index next ∷ []) ∷ []) → IsOver piece not_allowed tree rest (next + 1) start after steps held
-freed_one piece not_allowed tree rest next start now after steps held w f b d a = record {
+freed_one piece not_allowed tree rest next start now after steps held w f b m d a = record {
   same = w.same;
+  table = w.table;
+  within = omega (arith, m);
   small = w.small;
   rise = w.rise;
   among = w.among;
@@ -199,27 +194,21 @@ freed_one piece not_allowed tree rest next start now after steps held w f b d a 
   covered (label text) d h = inl h
   covered (index n) d h = ⊎_elim (λ l. inl l) (λ e. inr (ap index e)) (up_to n next h)
 
-is_below : (row : Option Row) (n : ℕ) → is_longer row n ≡ true → n < least_at row
-is_below None n h = absurd (false≢true h)
-is_below (Some row) n h = let l : nat_lt n row.least ≡ true = h in grind (arith, nat_tests)
-
-is_long : (row : Option Row) (n : ℕ) → n < least_at row → is_longer row n ≡ true
-is_long None n h = let l : n < 0 = h in let no : ⊥ = omega arith in absurd no
-is_long (Some row) n h = let l : n < row.least = h in grind (arith, nat_tests)
-
 -- an element that was not looked at, and is below all branches that are left, has none
 no_branch :
-    {X : Type 0} (piece : Gap → List X) (not_allowed : Bool) (tree : Tree Row) (rest : Children Row) (next n : ℕ) (start now : List X) (steps held : List (Bor Step))
-    → IsOver piece not_allowed tree rest next start now steps held → next ≤ n → n < least_at (row_of tree) → IsBelowAll (index n) rest → find (index n) (below tree) ≡ None
-no_branch piece not_allowed tree rest next n start now steps held w l m b = ⊎_elim (λ f. f) (λ (inner, f). absurd (none inner f)) (found_cases (find (index n) (below tree)))
+    {X : Type 0} (piece : Gap → List X) (not_allowed : Bool) (tree : Tree Row) (rest : Children Row) (next n : ℕ) (start now : List X) (steps held : List Stride)
+    → IsOver piece not_allowed tree rest next start now steps held → next ≤ n → n < rest_from (rest_of tree) (least_at (row_of tree)) → IsBelowAll (index n) rest → step_into tree (index n) ≡ None
+no_branch piece not_allowed tree rest next n start now steps held w l m b =
+    let known = before_end (rest_of tree) (least_at (row_of tree)) n m in
+    at_fixed tree n known.1 ∙ ⊎_elim (λ f. f) (λ (inner, f). absurd (none inner f)) (found_cases (find (index n) (below tree)))
   where
     none : (inner : Tree Row) → find (index n) (below tree) ≡ Some inner → ⊥
     none inner f = ⊎_elim (λ d. let low : n < next = d in omega arith) (λ g. not_found (index n) rest inner b g)
-        (w.left (index n) inner ((longer_is (row_of tree) n).0 (is_long (row_of tree) n m)) f)
+        (w.left (index n) inner ((longer_is (row_of tree) n).0 (is_long (row_of tree) n (before_end (rest_of tree) (least_at (row_of tree)) n m).0)) f)
 
-freed :
-    {X : Type 0} (piece : Gap → List X) (not_allowed : Bool) (tree : Tree Row) (rest : Children Row) (next count : ℕ) (start now after : List X) (steps held : List (Bor Step))
-    → IsOver piece not_allowed tree rest next start now steps held → ((n : ℕ) → next ≤ n → n < next + count → (n < least_at (row_of tree)) × IsBelowAll (index n) rest)
+pub freed :
+    {X : Type 0} (piece : Gap → List X) (not_allowed : Bool) (tree : Tree Row) (rest : Children Row) (next count : ℕ) (start now after : List X) (steps held : List Stride)
+    → IsOver piece not_allowed tree rest next start now steps held → ((n : ℕ) → next ≤ n → n < next + count → (n < rest_from (rest_of tree) (least_at (row_of tree))) × IsBelowAll (index n) rest)
     → after ≡ now ++ told_above piece (map shown steps) (free_elements next count) → IsOver piece not_allowed tree rest (next + count) start after steps held
 freed {X = X} piece not_allowed tree rest next zero start now after steps held w free a =
     let same : next ≡ next + 0 = omega arith in
@@ -233,19 +222,28 @@ freed {X = X} piece not_allowed tree rest next (suc count) start now after steps
     let this = free (next + count) (omega arith) (omega arith) in
     subst (λ k. IsOver piece not_allowed tree rest k start after steps held) last
     (freed_one piece not_allowed tree rest (next + count) start so_far after steps held before
-    (no_branch piece not_allowed tree rest (next + count) (next + count) start so_far steps held before (omega arith) this.0 this.1) this.1
-    (is_long (row_of tree) (next + count) this.0)
+    (no_branch piece not_allowed tree rest (next + count) (next + count) start so_far steps held before (omega arith) this.0 this.1) this.1 this.0
+    (is_long (row_of tree) (next + count) (before_end (rest_of tree) (least_at (row_of tree)) (next + count) this.0).0)
     (a ∙ ap (λ xs. now ++ xs) (told_append piece path (free_elements next count) (free_at (index (next + count) ∷ []) ∷ []))
     ∙ sym (append_assoc now (told_above piece path (free_elements next count)) (told_above piece path (free_at (index (next + count) ∷ []) ∷ [])))))
 
+-- an element of its own is before the rest
+own_end :
+    {X : Type 0} (piece : Gap → List X) (not_allowed : Bool) (tree inner : Tree Row) (rest : Children Row) (next number : ℕ) (start now : List X) (steps held : List Stride)
+    → IsOver piece not_allowed tree (child (index number) inner rest) next start now steps held → number < least_at (row_of tree)
+    → number < rest_from (rest_of tree) (least_at (row_of tree))
+own_end piece not_allowed tree inner rest next number start now steps held w d =
+    up_to_end (rest_of tree) (least_at (row_of tree)) number d (own_before tree inner number w.table (w.among (index number) inner (found_first (index number) inner rest)))
+
 -- the free elements before a branch are found
 reached :
-    {X : Type 0} (piece : Gap → List X) (not_allowed : Bool) (tree inner : Tree Row) (rest : Children Row) (next number : ℕ) (start now after : List X) (steps held : List (Bor Step))
+    {X : Type 0} (piece : Gap → List X) (not_allowed : Bool) (tree inner : Tree Row) (rest : Children Row) (next number : ℕ) (start now after : List X) (steps held : List Stride)
     → IsOver piece not_allowed tree (child (index number) inner rest) next start now steps held → number < least_at (row_of tree)
     → after ≡ now ++ told_above piece (map shown steps) (free_elements next (number - next))
     → IsOver piece not_allowed tree (child (index number) inner rest) number start after steps held
 reached piece not_allowed tree inner rest next number start now after steps held w d a =
-    let least : ℕ = least_at (row_of tree) in
+    let end : ℕ = rest_from (rest_of tree) (least_at (row_of tree)) in
+    let last : number < end = own_end piece not_allowed tree inner rest next number start now steps held w d in
     let low : next ≤ number = not_lt number next no_later in
     let all : next + (number - next) ≡ number = omega arith in
     subst (λ k. IsOver piece not_allowed tree (child (index number) inner rest) k start after steps held) all
@@ -257,22 +255,20 @@ reached piece not_allowed tree inner rest next number start now after steps held
 
 -- ---- a branch is looked at, or passed over
 label_covered :
-    {X : Type 0} (piece : Gap → List X) (not_allowed : Bool) (tree inner : Tree Row) (step : paths.Step) (rest : Children Row) (next : ℕ) (start now : List X) (steps held : List (Bor Step))
+    {X : Type 0} (piece : Gap → List X) (not_allowed : Bool) (tree inner : Tree Row) (step : paths.Step) (rest : Children Row) (next : ℕ) (start now : List X) (steps held : List Stride)
     → IsOver piece not_allowed tree (child step inner rest) next start now steps held → (text : List ℕ) → IsStepDemanded (Told tree) [] (label text) → IsBelowAll (label text) rest
     → IsBelowAll (label text) (child step inner rest) ⊎ (label text ≡ step)
-label_covered piece not_allowed tree inner step rest next start now steps held w text d b = ⊎_elim
-    (λ (found, f). ⊎_elim (λ h. inl h) (λ g. ⊎_elim (λ e. inr e) (λ k. absurd (not_found (label text) rest found b k)) (which (label text) step inner found rest g)) (w.left (label text) found d f))
-    (λ (n, e, f). absurd (no_index n e)) (demanded_cases tree (label text) d)
-  where
-    no_index : (n : ℕ) → label text ≡ index n → ⊥
-    no_index n e = cc
+label_covered piece not_allowed tree inner step rest next start now steps held w text d b =
+    let found = demanded_label tree text d in
+    ⊎_elim (λ h. inl h)
+    (λ g. ⊎_elim (λ e. inr e) (λ k. absurd (not_found (label text) rest found.0 b k)) (which (label text) step inner found.0 rest g)) (w.left (label text) found.0 d found.1)
 
 module _
     {X : Type 0} (piece : Gap → List X) (not_allowed : Bool) (tree inner : Tree Row) (step : paths.Step) (rest : Children Row) (next later : ℕ) (start now after : List X)
-    (steps held pushed popped : List (Bor Step)) (x : Bor Step) (w : IsOver piece not_allowed tree (child step inner rest) next start now steps held)
+    (steps held pushed popped : List Stride) (x : Stride) (w : IsOver piece not_allowed tree (child step inner rest) next start now steps held)
     (asked : is_demanded (row_of tree) step (row_of inner) ≡ true) (is : shown x ≡ step) (p : pushed ≡ held ++ x ∷ []) (back : popped ≡ held)
     (adds : Adds piece (IsGapIn (is_refused (row_of tree) step) inner) (map shown pushed) now after)
-    (more : next ≤ later) (new : IsDone rest later step) (behind : (n : ℕ) → n < later → IsBelowAll (index n) rest)
+    (more : next ≤ later) (within : later ≤ rest_from (rest_of tree) (least_at (row_of tree))) (new : IsDone rest later step) (behind : (n : ℕ) → n < later → IsBelowAll (index n) rest)
     (covered : (s : paths.Step) → IsStepDemanded (Told tree) [] s → IsDone rest later s → IsDone (child step inner rest) next s ⊎ (s ≡ step)) where
   kept : (s : paths.Step) → IsDone (child step inner rest) next s → IsDone rest later s
   kept (label text) h = h.1
@@ -291,6 +287,8 @@ module _
   pub looked_in : IsOver piece not_allowed tree rest later start after steps popped
   looked_in = record {
     same = back ∙ w.same;
+    table = w.table;
+    within = within;
     small = let size = w.small in omega arith;
     rise = w.rise.3;
     among = λ s t f. w.among s t (found_later step s inner t rest w.rise.0 f);
@@ -299,14 +297,14 @@ module _
     behind = behind;
     found = w.found ++ map (above (step ∷ [])) adds.found;
     lists = extended not_allowed tree inner step (IsDone (child step inner rest) next) (IsDone rest later) w.found adds.found
-        (seen tree inner step (w.among step inner (found_first step inner rest))) asked adds.lists w.lists before kept new covered;
+        (seen tree inner step (own tree inner step w.table (w.among step inner (found_first step inner rest)))) asked adds.lists w.lists before kept new covered;
     is = more_found piece start now after w.found (map (above (step ∷ [])) adds.found) (map shown steps) w.is inside;
   }
 
 -- the next branch is looked at, and the free elements before it
 pub walked_in :
     {X : Type 0} (piece : Gap → List X) (not_allowed : Bool) (tree inner : Tree Row) (step : paths.Step) (rest rest' : Children Row) (next later : ℕ) (start now free after : List X)
-    (steps held pushed popped : List (Bor Step)) (x : Bor Step) → IsOver piece not_allowed tree rest next start now steps held
+    (steps held pushed popped : List Stride) (x : Stride) → IsOver piece not_allowed tree rest next start now steps held
     → children_of rest ≡ (step, inner) ∷ children_of rest' → is_demanded (row_of tree) step (row_of inner) ≡ true
     → later ≡ next_after next step → free ≡ now ++ told_above piece (map shown steps) (free_before next step)
     → shown x ≡ step → pushed ≡ held ++ x ∷ [] → popped ≡ held
@@ -318,7 +316,7 @@ walked_in piece not_allowed tree inner (label text) rest rest' next later start 
     subst (λ k. IsOver piece not_allowed tree rest' k start after steps popped) (sym l)
     (looked_in piece not_allowed tree inner (label text) rest' next next start now after steps held pushed popped x here asked is p back
     (subst (λ xs. Adds piece (IsGapIn (is_refused (row_of tree) (label text)) inner) (map shown pushed) xs after) none_free adds)
-    (omega arith) here.rise.0 (λ n h. (here.behind n h).1) (covered here))
+    (omega arith) here.within here.rise.0 (λ n h. (here.behind n h).1) (covered here))
   where
     covered : IsOver piece not_allowed tree (child (label text) inner rest') next start now steps held → (s : paths.Step) → IsStepDemanded (Told tree) [] s → IsDone rest' next s → IsDone (child (label text) inner rest') next s ⊎ (s ≡ label text)
     covered here (label other) d h = label_covered piece not_allowed tree inner (label text) rest' next start now steps held here other d h
@@ -330,7 +328,7 @@ walked_in piece not_allowed tree inner (index number) rest rest' next later star
     reached piece not_allowed tree inner rest' next number start now free steps held split (is_below (row_of tree) number asked) f in
     subst (λ k. IsOver piece not_allowed tree rest' k start after steps popped) (sym l)
     (looked_in piece not_allowed tree inner (index number) rest' number (number + 1) start free after steps held pushed popped x here asked is p back adds
-    (omega arith) (omega arith) (behind here) covered)
+    (omega arith) (omega (arith, own_end piece not_allowed tree inner rest' number number start free steps held here (is_below (row_of tree) number asked))) (omega arith) (behind here) covered)
   where
     behind : IsOver piece not_allowed tree (child (index number) inner rest') number start free steps held → (n : ℕ) → n < number + 1 → IsBelowAll (index n) rest'
     behind here n h = ⊎_elim (λ b. (here.behind n b).1) (λ e. subst (λ m. IsBelowAll (index m) rest') (sym e) here.rise.0) (up_to n number h)
@@ -341,7 +339,7 @@ walked_in piece not_allowed tree inner (index number) rest rest' next later star
 
 -- or it is passed over
 pub walked_past :
-    {X : Type 0} (piece : Gap → List X) (not_allowed : Bool) (tree inner : Tree Row) (step : paths.Step) (rest rest' : Children Row) (next : ℕ) (start now : List X) (steps held : List (Bor Step))
+    {X : Type 0} (piece : Gap → List X) (not_allowed : Bool) (tree inner : Tree Row) (step : paths.Step) (rest rest' : Children Row) (next : ℕ) (start now : List X) (steps held : List Stride)
     → IsOver piece not_allowed tree rest next start now steps held → children_of rest ≡ (step, inner) ∷ children_of rest' → is_demanded (row_of tree) step (row_of inner) ≡ false
     → IsOver piece not_allowed tree rest' next start now steps held
 walked_past piece not_allowed tree inner step rest rest' next start now steps held w c unasked =
@@ -350,6 +348,8 @@ walked_past piece not_allowed tree inner step rest rest' next start now steps he
     past : IsOver piece not_allowed tree (child step inner rest') next start now steps held → IsOver piece not_allowed tree rest' next start now steps held
     past here = record {
       same = here.same;
+      table = here.table;
+      within = here.within;
       small = let size = here.small in omega arith;
       rise = here.rise.3;
       among = λ s t f. here.among s t (found_later step s inner t rest' here.rise.0 f);
@@ -365,23 +365,9 @@ walked_past piece not_allowed tree inner step rest rest' next start now steps he
 
       not_asked : (s : paths.Step) → s ≡ step → IsStepDemanded (Told tree) [] s → ⊥
       not_asked s e d = false≢true (sym unasked
-          ∙ (first_demanded tree inner step (seen tree inner step (here.among step inner (found_first step inner rest')))).1 (subst (IsStepDemanded (Told tree) []) e d))
+          ∙ (first_demanded tree inner step (seen tree inner step (own tree inner step here.table (here.among step inner (found_first step inner rest'))))).1 (subst (IsStepDemanded (Told tree) []) e d))
 
       covered : (s : paths.Step) → IsStepDemanded (Told tree) [] s → IsDone rest' next s → IsDone (child step inner rest') next s
       covered (label text) d h = ⊎_elim (λ b. b) (λ e. absurd (not_asked (label text) e d))
           (label_covered piece not_allowed tree inner step rest' next start now steps held here text d h)
       covered (index n) d h = h
-
--- all branches and elements were looked at
-pub ended :
-    {X : Type 0} (piece : Gap → List X) (not_allowed : Bool) (tree : Tree Row) (rest : Children Row) (next least : ℕ) (start now after : List X) (steps held : List (Bor Step))
-    → IsOver piece not_allowed tree rest next start now steps held → children_of rest ≡ [] → least ≡ least_at (row_of tree)
-    → after ≡ now ++ told_above piece (map shown steps) (free_elements next (least - next)) → Adds piece (IsGapIn not_allowed tree) (map shown steps) start after
-ended piece not_allowed tree rest next least start now after steps held w c m a =
-    let over : IsOver piece not_allowed tree none next start now steps held = subst (λ cs. IsOver piece not_allowed tree cs next start now steps held) (none_left rest c) w in
-    let all = freed piece not_allowed tree none next (least - next) start now after steps held over (λ n l h. (subst (λ k. n < k) m (omega arith), tt)) a in
-    record { found = all.found; lists = to_end not_allowed tree (IsDone none (next + (least - next))) all.found all.lists done; is = all.is }
-  where
-    done : (s : paths.Step) → IsStepDemanded (Told tree) [] s → IsDone none (next + (least - next)) s
-    done (label text) d = tt
-    done (index n) d = let low : n < least = subst (λ k. n < k) (sym m) (is_below (row_of tree) n ((longer_is (row_of tree) n).1 d)) in omega arith

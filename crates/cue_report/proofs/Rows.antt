@@ -16,7 +16,7 @@ use Rattle.cue_row.specs.Row.{IsRow}
 use Rattle.cue_table.specs.Form as form
 use Rattle.cue_table.specs.Refuses.{RowRefuses}
 use Rattle.cue_report.specs.Answers.{HasNoValue}
-use Rattle.cue_report.specs.Search.{is_empty_set, is_above, has_no_value, is_wanted, has_level, is_longer, is_refused}
+use Rattle.cue_report.specs.Search.{is_empty_set, is_above, has_no_value, is_wanted, has_level, is_longer, is_refused, least_at}
 use Rattle.cue_report.proofs.Empty.{refused_empty, empty_refused}
 
 -- what the row at a place refuses, where there is one
@@ -95,3 +95,12 @@ refused_is (Some row) text = not_true (allows_label row.labels text)
 pub index_allowed : (row : Option Row) (n : ℕ) → is_refused row (index n) ≡ false
 index_allowed None n = refl
 index_allowed (Some row) n = refl
+
+-- each list is longer than what is below its least length
+pub is_below : (row : Option Row) (n : ℕ) → is_longer row n ≡ true → n < least_at row
+is_below None n h = absurd (false≢true h)
+is_below (Some row) n h = let l : nat_lt n row.least ≡ true = h in grind (arith, nat_tests)
+
+pub is_long : (row : Option Row) (n : ℕ) → n < least_at row → is_longer row n ≡ true
+is_long None n h = let l : n < 0 = h in let no : ⊥ = omega arith in absurd no
+is_long (Some row) n h = let l : n < row.least = h in grind (arith, nat_tests)

@@ -1,18 +1,19 @@
 -- The walk of a search over the branches of a place.
-use Rattle.std.proofs.Common.{◌≡◌, ℕ, ◌+◌, ◌-◌, ◌<◌, ◌≤◌, Bool, true, false, List, [], ◌∷◌, ◌++◌, length, take, map, Option, refl, sym, ap, ◌∙◌, arith, Bor, append_assoc, length-append}
+use Rattle.std.proofs.Common.{◌≡◌, inl, inr, ℕ, suc, min, ◌+◌, ◌-◌, ◌<◌, ◌≤◌, Bool, true, false, List, [], ◌∷◌, ◌++◌, length, take, map, Option, Some, None, refl, sym, ap, ◌∙◌, arith, append_assoc, length-append}
 use Rattle.std.specs.List.{flat_map}
 use Rattle.std.proofs.lemmas.List.{append-nil, map-append, map_push, take_all, take-append-le}
+use Rattle.std.proofs.lemmas.Bool.{cases_lt}
 use Rattle.std.proofs.lemmas.List.Concat.{flat_map-append}
 use Rattle.cue_lattice.specs.Path as paths
-use Rattle.cue_lattice.specs.Path.{Path}
+use Rattle.cue_lattice.specs.Path.{index, Path}
 use Rattle.cue_row.specs.declared.row.Row.{Row}
-use Rattle.cue_row.specs.declared.step.Step.{Step}
-use Rattle.cue_table.specs.Tree.{Tree, node, Children, none, child, row_of, below, children_of}
+use Rattle.cue_report.specs.declared.trail.Stride.{Stride}
+use Rattle.cue_table.specs.Tree.{Tree, node, Children, none, child, Rest, no_rest, onward, row_of, below, rest_of, rest_tree, fixed_of, children_of}
 use Rattle.cue_table.specs.Size.{tree_size, children_size}
 use Rattle.cue_table.specs.Walks.{first_child}
 use Rattle.cue_report.specs.declared.conflict.Conflict.{Conflict}
-use Rattle.cue_report.specs.Search.{under, told_under, only_if, has_no_value, conflict_here, is_demanded, is_refused, conflicts_in, conflicts_below}
-use Rattle.cue_report.proofs.Trails.{shown}
+use Rattle.cue_report.specs.Search.{under, told_under, only_if, has_no_value, conflict_here, is_demanded, is_refused, conflicts_in, conflicts_below, conflicts_onward, each_index, least_at, rest_from}
+use Rattle.cue_report.specs.Trail.{shown}
 
 -- what is seen from a place is seen from the place above
 pub under_further : (path : Path) (step : paths.Step) (xs : List Conflict) → map (under (path ++ step ∷ [])) xs ≡ map (under path) (map (under (step ∷ [])) xs)
@@ -27,7 +28,7 @@ told_append : {X : Type 0} (piece : Conflict → List X) (path : Path) (xs ys : 
 told_append piece path xs ys = ap (flat_map piece) (map-append (under path) xs ys) ∙ flat_map-append piece (map (under path) xs) (map (under path) ys)
 
 -- Of the branches of a place, some are left to be looked at.
-pub record IsWalking {X : Type 0} (piece : Conflict → List X) (row : Option Row) (all rest : Children Row) (before after : List X) (steps now : List (Bor Step)) : Type 0 where
+pub record IsWalking {X : Type 0} (piece : Conflict → List X) (row : Option Row) (all rest : Children Row) (before after : List X) (steps now : List Stride) : Type 0 where
   pub same : now ≡ steps
   pub found : after ++ told_under piece (map shown steps) (conflicts_below row rest) ≡ before ++ told_under piece (map shown steps) (conflicts_below row all)
   pub small : children_size rest ≤ children_size all
@@ -48,7 +49,7 @@ rearranged piece before after tail found new path b t =
 
 -- the next branch is looked at
 pub walked_in :
-    {X : Type 0} (piece : Conflict → List X) (row : Option Row) (all rest rest' : Children Row) (step : paths.Step) (tree : Tree Row) (before after after' : List X) (steps now pushed now' : List (Bor Step)) (x : Bor Step)
+    {X : Type 0} (piece : Conflict → List X) (row : Option Row) (all rest rest' : Children Row) (step : paths.Step) (tree : Tree Row) (before after after' : List X) (steps now pushed now' : List Stride) (x : Stride)
     → IsWalking piece row all rest before after steps now → children_of rest ≡ (step, tree) ∷ children_of rest' → is_demanded row step (row_of tree) ≡ true
     → shown x ≡ step → pushed ≡ now ++ x ∷ []
     → after' ≡ after ++ told_under piece (map shown pushed) (conflicts_in (is_refused row step) tree) → now' ≡ now
@@ -72,7 +73,7 @@ walked_in piece row all rest rest' step tree before after after' steps now pushe
 
 -- or passed over
 pub walked_past :
-    {X : Type 0} (piece : Conflict → List X) (row : Option Row) (all rest rest' : Children Row) (step : paths.Step) (tree : Tree Row) (before after : List X) (steps now : List (Bor Step))
+    {X : Type 0} (piece : Conflict → List X) (row : Option Row) (all rest rest' : Children Row) (step : paths.Step) (tree : Tree Row) (before after : List X) (steps now : List Stride)
     → IsWalking piece row all rest before after steps now → children_of rest ≡ (step, tree) ∷ children_of rest' → is_demanded row step (row_of tree) ≡ false
     → IsWalking piece row all rest' before after steps now
 walked_past piece row all rest rest' step tree before after steps now w c d =
@@ -90,7 +91,7 @@ walked_past piece row all rest rest' step tree before after steps now w c d =
 pub inner_smaller :
     (tree : Tree Row) (rest rest' : Children Row) (step : paths.Step) (inner : Tree Row) → children_size rest ≤ children_size (below tree)
     → children_of rest ≡ (step, inner) ∷ children_of rest' → tree_size inner < tree_size tree
-inner_smaller (node row children) rest rest' step inner s c =
+inner_smaller (node row children others) rest rest' step inner s c =
     let size : children_size rest ≡ tree_size inner + children_size rest' = ap children_size (first_child rest rest' step inner c) in
     omega arith
 
@@ -98,19 +99,89 @@ pub none_left : (rest : Children Row) → children_of rest ≡ [] → rest ≡ n
 none_left none e = refl
 none_left (child step tree rest) e = cc
 
--- all branches were looked at
-walked :
-    {X : Type 0} (piece : Conflict → List X) (tree : Tree Row) (rest : Children Row) (not_allowed : Bool) (start before after : List X) (steps now : List (Bor Step))
-    → IsWalking piece (row_of tree) (below tree) rest before after steps now → children_of rest ≡ []
+-- all branches were looked at, and the rest
+pub walked :
+    {X : Type 0} (piece : Conflict → List X) (tree : Tree Row) (rest : Children Row) (not_allowed : Bool) (start before middle after : List X) (steps now : List Stride)
+    → IsWalking piece (row_of tree) (below tree) rest before middle steps now → children_of rest ≡ []
     → before ≡ start ++ told_under piece (map shown steps) (conflict_here (has_no_value (row_of tree)) not_allowed)
+    → after ≡ middle ++ told_under piece (map shown now) (conflicts_onward (row_of tree) (rest_of tree))
     → after ≡ start ++ told_under piece (map shown steps) (conflicts_in not_allowed tree)
-walked piece (node row children) rest not_allowed start before after steps now w e b =
-    let path : Path = map shown steps in
+walked {X = X} piece (node row children others) rest not_allowed start before middle after steps now w e b a =
+    let told : List Conflict → List X = told_under piece (map shown steps) in
     let here : List Conflict = conflict_here (has_no_value row) not_allowed in
-    sym (append-nil after) ∙ ap (λ cs. after ++ told_under piece path (conflicts_below row cs)) (sym (none_left rest e)) ∙ w.found
-    ∙ ap (λ xs. xs ++ told_under piece path (conflicts_below row children)) b
-    ∙ append_assoc start (told_under piece path here) (told_under piece path (conflicts_below row children))
-    ∙ ap (λ xs. start ++ xs) (sym (told_append piece path here (conflicts_below row children)))
+    let below_it : List Conflict = conflicts_below row children in
+    let further : List Conflict = conflicts_onward row others in
+    let all : middle ≡ before ++ told below_it = sym (append-nil middle) ∙ ap (λ cs. middle ++ told (conflicts_below row cs)) (sym (none_left rest e)) ∙ w.found in
+    a ∙ ap (λ held. middle ++ told_under piece (map shown held) further) w.same ∙ ap (λ xs. xs ++ told further) (all ∙ ap (λ xs. xs ++ told below_it) b)
+    ∙ append_assoc (start ++ told here) (told below_it) (told further) ∙ append_assoc start (told here) (told below_it ++ told further)
+    ∙ ap (λ xs. start ++ (told here ++ xs)) (sym (told_append piece (map shown steps) below_it further))
+    ∙ ap (λ xs. start ++ xs) (sym (told_append piece (map shown steps) here (below_it ++ further)))
+
+-- ---- the rest
+-- one more element was looked at
+pub walked_element :
+    {X : Type 0} (piece : Conflict → List X) (first number : ℕ) (found : List Conflict) (start now after : List X) (path pushed : Path) → first ≤ number
+    → now ≡ start ++ told_under piece path (each_index first (number - first) found) → pushed ≡ path ++ index number ∷ [] → after ≡ now ++ told_under piece pushed found
+    → after ≡ start ++ told_under piece path (each_index first (number + 1 - first) found)
+walked_element {X = X} piece first number found start now after path pushed l n p a =
+    let last : first + (number - first) ≡ number = omega arith in
+    let count : suc (number - first) ≡ number + 1 - first = omega arith in
+    let before : List Conflict = each_index first (number - first) found in
+    let one : ℕ → List Conflict = λ k. map (under (index k ∷ [])) found in
+    a ∙ ap (λ q. now ++ told_under piece q found) p ∙ ap (λ xs. now ++ flat_map piece xs) (under_further path (index number) found)
+    ∙ ap (λ k. now ++ told_under piece path (one k)) (sym last) ∙ ap (λ xs. xs ++ told_under piece path (one (first + (number - first)))) n
+    ∙ append_assoc start (told_under piece path before) (told_under piece path (one (first + (number - first))))
+    ∙ ap (λ xs. start ++ xs) (sym (told_append piece path before (one (first + (number - first)))))
+    ∙ ap (λ k. start ++ told_under piece path (each_index first k found)) count
+
+-- where the elements begin that are looked at
+pub from_least : (n least : ℕ) (found : List Conflict) → each_index (min n least) (least - min n least) found ≡ each_index n (least - n) found
+from_least n least found = elim (cases_lt least n) [
+  | inl h ↦
+      let a : min n least ≡ least = omega (arith, h) in
+      let b : least - least ≡ 0 = omega arith in
+      let c : least - n ≡ 0 = omega (arith, h) in
+      ap (λ k. each_index k (least - k) found) a ∙ ap (λ k. each_index least k found) b ∙ sym (ap (λ k. each_index n k found) c)
+  | inr h ↦ let a : min n least ≡ n = omega (arith, h) in ap (λ k. each_index k (least - k) found) a
+]
+
+pub rest_within : (rest : Rest Row) (least : ℕ) → rest_from rest least ≤ least
+rest_within no_rest least = omega arith
+rest_within (onward n tree) least = omega arith
+
+-- the path one step further
+pub pushed_on : (held steps pushed : List Stride) (x : Stride) → pushed ≡ held ++ x ∷ [] → held ≡ steps → map shown pushed ≡ map shown steps ++ shown x ∷ []
+pushed_on held steps pushed x p h = ap (map shown) p ∙ map_push shown held x ∙ ap (λ zs. map shown zs ++ shown x ∷ []) h
+
+-- the rest is smaller than the place
+pub rest_smaller : (tree rest : Tree Row) → Some rest ≡ rest_tree (rest_of tree) → tree_size rest < tree_size tree
+rest_smaller (node row children no_rest) rest e = cc
+rest_smaller (node row children (onward n inner)) rest e =
+    let same : rest ≡ inner = cc in
+    let size : tree_size rest ≡ tree_size inner = ap tree_size same in
+    omega arith
+
+pub is_onward : (tree rest : Tree Row) → Some rest ≡ rest_tree (rest_of tree) → rest_of tree ≡ onward (fixed_of tree) rest
+is_onward (node row children no_rest) rest e = cc
+is_onward (node row children (onward n inner)) rest e = let same : inner ≡ rest = cc in ap (onward n) same
+
+pub is_ended : (tree : Tree Row) → rest_tree (rest_of tree) ≡ None → rest_of tree ≡ no_rest
+is_ended (node row children no_rest) e = refl
+is_ended (node row children (onward n inner)) e = cc
+
+-- all elements that are the rest were looked at
+pub all_elements :
+    {X : Type 0} (piece : Conflict → List X) (tree rest : Tree Row) (first least last : ℕ) (start after : List X) (path : Path) → Some rest ≡ rest_tree (rest_of tree)
+    → least ≡ least_at (row_of tree) → first ≡ rest_from (rest_of tree) least → last - first ≡ least - first
+    → after ≡ start ++ told_under piece path (each_index first (last - first) (conflicts_in false rest))
+    → after ≡ start ++ told_under piece path (conflicts_onward (row_of tree) (rest_of tree))
+all_elements piece (node row children no_rest) rest first least last start after path r m f l a = cc
+all_elements {X = X} piece (node row children (onward n inner)) rest first least last start after path r m f l a =
+    let same : rest ≡ inner = cc in
+    let told : List Conflict → List X = λ xs. start ++ told_under piece path xs in
+    a ∙ ap (λ k. told (each_index first k (conflicts_in false rest))) l ∙ ap (λ t. told (each_index first (least - first) (conflicts_in false t))) same
+    ∙ ap (λ k. told (each_index k (least - k) (conflicts_in false inner))) f ∙ ap told (from_least n least (conflicts_in false inner))
+    ∙ ap (λ k. told (each_index n (k - n) (conflicts_in false inner))) m
 
 -- what the code asks of a step, by the rows that it has
 pub demand_is : (above above' row row' : Option Row) (step : paths.Step) (found wanted : Bool) → found ≡ is_demanded above step row → above ≡ above' → row ≡ row' → found ≡ wanted → is_demanded above' step row' ≡ wanted
@@ -118,14 +189,3 @@ demand_is above above' row row' step found wanted f a r w = sym (ap (λ q. is_de
 
 pub refusal_is : (above above' : Option Row) (step : paths.Step) (found : Bool) → found ≡ is_refused above step → above ≡ above' → found ≡ is_refused above' step
 refusal_is above above' step found f a = f ∙ ap (λ q. is_refused q step) a
-
--- the same, from where the search was before it looked at the place itself
-pub walked_from :
-    {X : Type 0} (piece : Conflict → List X) (tree : Tree Row) (rest : Children Row) (not_allowed : Bool) (start before after : List X) (steps now : List (Bor Step)) (path : Path)
-    → IsWalking piece (row_of tree) (below tree) rest before after steps now → children_of rest ≡ [] → map shown steps ≡ path
-    → before ≡ start ++ told_under piece path (conflict_here (has_no_value (row_of tree)) not_allowed)
-    → after ≡ start ++ told_under piece path (conflicts_in not_allowed tree)
-walked_from piece tree rest not_allowed start before after steps now path w e p b =
-    walked piece tree rest not_allowed start before after steps now w e
-    (b ∙ ap (λ q. start ++ told_under piece q (conflict_here (has_no_value (row_of tree)) not_allowed)) (sym p))
-    ∙ ap (λ q. start ++ told_under piece q (conflicts_in not_allowed tree)) p

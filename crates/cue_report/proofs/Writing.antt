@@ -1,21 +1,21 @@
 -- The tokens of a document, written one part after the other.
-use Rattle.std.proofs.Common.{◌≡◌, ℕ, ℤ, ◌+◌, ◌<◌, Bool, true, false, Option, Some, None, pos, negsuc, List, [], ◌∷◌, ◌++◌, Result, Ok, Err, OnOk, refl, sym, ap, subst, ◌∙◌, append_assoc, append-nil}
+use Rattle.std.proofs.Common.{◌≡◌, ℕ, ◌+◌, ◌<◌, true, false, Some, None, List, [], ◌∷◌, ◌++◌, Result, Ok, Err, OnOk, refl, sym, ap, subst, ◌∙◌, append_assoc, append-nil}
 use Rattle.json.specs.Print.{print}
 use Rattle.json.specs.Token.{Token}
 use Rattle.json.specs.Tree.{json_tokens, items_tokens, members_tokens}
 use Rattle.json.specs.Written.{Written}
-use Rattle.serde_json.specs.Data.{Data, null, boolean, number, string, array, object, Items, no_items, item, Members, no_members, member}
+use Rattle.serde_json.specs.Data.{Data, null, array, object, Items, no_items, item, Members, no_members, member}
 use Rattle.serde_json.specs.Written.{outline, items_outline, members_outline}
 use Rattle.cue_lattice.specs.Path as paths
 use Rattle.cue_lattice.specs.Path.{label, index}
 use Rattle.cue_row.specs.declared.row.Row.{Row}
-use Rattle.cue_table.specs.Tree.{Tree, Children, row_of, below, find, children_of}
+use Rattle.cue_table.specs.Tree.{Tree, Children, row_of, step_into, children_of}
 use Rattle.serde_json.specs.Data.{put}
-use Rattle.serde_json.specs.Written.{compact_text, has_float}
+use Rattle.serde_json.specs.Written.{compact_text}
 use Rattle.serde_json.proofs.Texts.{print-outline}
-use Rattle.cue_report.specs.GapSearch.{AtPlace, least_at}
+use Rattle.cue_report.specs.GapSearch.{AtPlace}
 use Rattle.cue_report.specs.Gaps.{IsFree}
-use Rattle.cue_report.specs.Search.{is_demanded}
+use Rattle.cue_report.specs.Search.{is_demanded, least_at}
 use Rattle.cue_report.specs.Writing.{Adds, AddsDocument, AddsElements, AddsMembers, AddsScalar}
 use Rattle.cue_report.proofs.Descent.{Told}
 use Rattle.cue_report.proofs.Documents.{with_item, with_member, IsCounted, IsGathered, counted_next, counted_null, taken_label, put_behind, object_shape, array_shape, only_scalars}
@@ -121,7 +121,7 @@ abbrev pub AreMembersSoFar : Tree Row → Children Row → Written → Written �
 AreMembersSoFar tree rest old now = (members : Members) × HasMembers old now members × IsGathered tree rest members
 
 pub next_item : (tree inner : Tree Row) (n : ℕ) (old now after : Written) → AreItemsSoFar tree n old now
-    → find (index n) (below tree) ≡ Some inner → n < least_at (row_of tree) → AddsDocument (Told inner) now after → AreItemsSoFar tree (n + 1) old after
+    → step_into tree (index n) ≡ Some inner → n < least_at (row_of tree) → AddsDocument (Told inner) now after → AreItemsSoFar tree (n + 1) old after
 next_item tree inner n old now after so_far f below_end d = (
   with_item so_far.0 d.0,
   adds_item old now after so_far.0 d.0 so_far.1 d.1,
@@ -129,7 +129,7 @@ next_item tree inner n old now after so_far f below_end d = (
 )
 
 pub next_null : (tree : Tree Row) (n : ℕ) (old now after : Written) → AreItemsSoFar tree n old now
-    → find (index n) (below tree) ≡ None → Adds now after null → AreItemsSoFar tree (n + 1) old after
+    → step_into tree (index n) ≡ None → Adds now after null → AreItemsSoFar tree (n + 1) old after
 next_null tree n old now after so_far f a = (
   with_item so_far.0 null,
   adds_item old now after so_far.0 null so_far.1 a,

@@ -1,6 +1,6 @@
 -- How the gaps of a table are found, place by place.
-use Rattle.std.specs.Prelude.{◌≡◌, ◌↔◌, ◌⊎◌, ℕ, zero, suc, ◌+◌, ◌-◌, Bool, false, List, [], ◌∷◌}
-use Rattle.std.specs.Prelude.{◌++◌, map, Option, None, Some, IsTrue}
+use Rattle.std.specs.Prelude.{◌≡◌, ◌↔◌, ◌⊎◌, ℕ, zero, suc, ◌+◌, ◌-◌, ◌≤◌, ◌<◌, Bool, false, List, [], ◌∷◌}
+use Rattle.std.specs.Prelude.{◌++◌, map, Option, IsTrue}
 use Rattle.std.specs.List.{flat_map}
 use Rattle.cue_lattice.specs.Path as paths
 use Rattle.cue_lattice.specs.Path.{label, index, Path}
@@ -8,7 +8,7 @@ use Rattle.cue_lattice.specs.Question.{Refusals}
 use Rattle.cue_row.specs.declared.row.Row.{Row}
 use Rattle.cue_row.specs.Row as rows
 use Rattle.cue_table.specs.Refuses.{RowRefuses, TableRefuses}
-use Rattle.cue_table.specs.Tree.{Tree, row_at}
+use Rattle.cue_table.specs.Tree.{Tree, Rest, no_rest, onward, row_at}
 use Rattle.cue_report.specs.Answers.{IsDemanded, HasNoValue, IsNotAllowed}
 use Rattle.cue_report.specs.Gaps.{IsMissing, IsFree, HasNoChoice}
 use Rattle.cue_report.specs.Listing.{Lists}
@@ -45,6 +45,19 @@ pub record IsGapHere (not_allowed : Bool) (row : Option Row) (gap : Gap) : Type 
   pub allowed : not_allowed ≡ false
   pub lacking : IsGapAt row gap.missing
 
+-- a gap at or below an element from the first on, before the end, each of which is this tree
+pub record IsGapAmong (first end : ℕ) (tree : Tree Row) (gap : Gap) : Type 0 where
+  pub number : ℕ
+  pub within : (first ≤ number) × (number < end)
+  pub path : Path
+  pub is : gap.path ≡ index number ∷ path
+  pub inner : IsGapIn false tree (record gap { path = path })
+
+-- so of the elements that each list has and that are its rest
+abbrev pub IsGapOnward : ℕ → Rest Row → Gap → Type 0
+IsGapOnward least no_rest gap = ⊥
+IsGapOnward least (onward n tree) gap = IsGapAmong n least tree gap
+
 -- the gap of a path, seen from a place above it
 abbrev pub above : Path → Gap → Gap
 above path gap = record gap { path = path ++ gap.path }
@@ -60,11 +73,6 @@ pub record Adds {X : Type 0} (piece : Gap → List X) (P : Gap → Type 0) (path
   pub found : List Gap
   pub lists : Lists (λ gap. gap.path) P found
   pub is : after ≡ before ++ told_above piece path found
-
--- how many elements each list has
-abbrev pub least_at : Option Row → ℕ
-least_at None = 0
-least_at (Some row) = row.least
 
 -- a place where anything may stand
 abbrev pub free_at : Path → Gap

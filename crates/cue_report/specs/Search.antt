@@ -1,5 +1,5 @@
 -- How the lists of a report are found, place by place.
-use Rattle.std.specs.Prelude.{ℕ, Bool, true, false, not, ◌&&◌, ◌||◌, List, [], ◌∷◌, ◌++◌, map}
+use Rattle.std.specs.Prelude.{ℕ, zero, suc, ◌+◌, ◌-◌, min, Bool, true, false, not, ◌&&◌, ◌||◌, List, [], ◌∷◌, ◌++◌, map}
 use Rattle.std.specs.Prelude.{nat_lt, Option, None, Some}
 use Rattle.std.specs.List.{flat_map}
 use Rattle.cue_lattice.specs.Bools.{is_nil}
@@ -10,7 +10,7 @@ use Rattle.cue_row.specs.LabelSets.{allows_label}
 use Rattle.cue_row.specs.declared.level.Level.{Level}
 use Rattle.cue_row.specs.declared.level.Level.TheVariants.{Optional, Required, Given}
 use Rattle.cue_row.specs.declared.row.Row.{Row}
-use Rattle.cue_table.specs.Tree.{Tree, node, Children, none, child, row_of}
+use Rattle.cue_table.specs.Tree.{Tree, node, Children, none, child, Rest, no_rest, onward, row_of}
 use Rattle.cue_report.specs.declared.conflict.Conflict.{Conflict}
 
 -- whether no scalar is in the set
@@ -79,11 +79,28 @@ conflict_here no_value not_allowed =
     only_if (no_value || not_allowed)
     (record { path = []; no_value = no_value; not_allowed = not_allowed } ∷ [])
 
+-- how many elements each list has
+abbrev pub least_at : Option Row → ℕ
+least_at None = 0
+least_at (Some row) = row.least
+
+-- from which of so many elements on they are the rest: their number, where none is
+abbrev pub rest_from : Rest Row → ℕ → ℕ
+rest_from no_rest least = least
+rest_from (onward n tree) least = min n least
+
+-- the conflicts of so many elements from the first on, each of which has these
+abbrev pub each_index : ℕ → ℕ → List Conflict → List Conflict
+each_index first zero found = []
+each_index first (suc count) found =
+    each_index first count found ++ map (under (index (first + count) ∷ [])) found
+
 -- the conflicts at a place and below, of which the place above refuses the label or not
 abbrev mutual
   pub conflicts_in : Bool → Tree Row → List Conflict
-  conflicts_in not_allowed (node row children) =
-      conflict_here (has_no_value row) not_allowed ++ conflicts_below row children
+  conflicts_in not_allowed (node row children rest) =
+      conflict_here (has_no_value row) not_allowed
+      ++ (conflicts_below row children ++ conflicts_onward row rest)
 
   pub conflicts_below : Option Row → Children Row → List Conflict
   conflicts_below row none = []
@@ -91,3 +108,8 @@ abbrev mutual
       only_if (is_demanded row step (row_of tree))
       (map (under (step ∷ [])) (conflicts_in (is_refused row step) tree))
       ++ conflicts_below row children
+
+  pub conflicts_onward : Option Row → Rest Row → List Conflict
+  conflicts_onward row no_rest = []
+  conflicts_onward row (onward n tree) =
+      each_index n (least_at row - n) (conflicts_in false tree)

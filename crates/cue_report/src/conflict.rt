@@ -2,20 +2,23 @@ ghost use Rattle.std.specs.Prelude.{◌≡◌, ◌↔◌, ◌++◌, [], IfOk, If
 ghost use Rattle.std.specs.Option.{option_map};
 ghost use Rattle.cue_row.specs.Row.{IsRow, RowRefuses};
 ghost use Rattle.cue_table.specs.Refuses.{TableRefuses};
+ghost use Rattle.cue_table.specs.Tree.{row_of, rest_of};
 ghost use Rattle.cue_table.specs.Valid.{IsValidTable};
 ghost use Rattle.cue_report.specs.Documents.{SomeMeets};
 ghost use Rattle.cue_report.specs.Lines.{AddsConflictLines};
 ghost use Rattle.cue_report.specs.Listing.{AreConflicts};
-ghost use Rattle.cue_report.specs.Search.{has_no_value, conflict_here, conflicts_in, told_under};
+ghost use Rattle.cue_report.specs.Search.{has_no_value, conflict_here, conflicts_in};
+ghost use Rattle.cue_report.specs.Search.{conflicts_onward, told_under};
 ghost use Rattle.cue_report.specs.Trail.{shown_steps};
 
 use crate::Place;
-use crate::demand::{is_demanded, is_refused, lacks_value};
+use crate::demand::{is_demanded, is_refused, lacks_value, least_of, rest_from};
 use crate::listed::Listed;
 use crate::sink::ConflictSink;
+use crate::trail::Stride;
 use crate::written::Written;
 use cue_lattice::Memory;
-use cue_row::{Row, Step};
+use cue_row::Row;
 use cue_table::{Branch, Table};
 use std::alloc::Global;
 
@@ -61,7 +64,7 @@ pub fn conflict_lines(alloc: Global, text: String, table: &Table<Row>) -> Result
 #[derive(Drop)]
 struct Search<'a> {
     /// The steps to the place at hand.
-    steps: Vec<&'a Step>,
+    steps: Vec<Stride<'a>>,
 }
 
 impl<'a> Search<'a> {
@@ -76,6 +79,7 @@ impl<'a> Search<'a> {
 
     /// Looks for conflicts at a place, of which the place above refuses the label or not, and below
     /// it.
+    #[cycle(walk)]
     fn visit<S: ConflictSink>(
         &mut self,
         sink: &mut S,
@@ -91,10 +95,35 @@ impl<'a> Search<'a> {
         self.look_at(sink, row, not_allowed)?;
         for (step, child) in branch.children() {
             if is_demanded(row, step, child.row()) {
-                self.steps.push(step)?;
+                self.steps.push(Stride::Own(step))?;
                 self.visit(sink, &child, is_refused(row, step))?;
                 self.steps.pop();
             }
+        }
+        self.visit_rest(sink, branch)
+    }
+
+    /// Looks for conflicts at the elements of a place that each list has and that are its rest.
+    #[cycle(walk)]
+    fn visit_rest<S: ConflictSink>(
+        &mut self,
+        sink: &mut S,
+        branch: &Branch<'a, Row>,
+    ) -> Result<(), Memory>
+        ensures steps { OnOk result (self.new.steps.items ≡ self.old.steps.items) }
+        ensures found { OnOk result (S.told sink.new ≡ S.told sink.old
+            ++ told_under S.piece (shown_steps self.old.steps.items)
+            (conflicts_onward (row_of branch.now) (rest_of branch.now))) }
+    {
+        let Some(rest) = branch.rest() else {
+            return Ok(());
+        };
+        let least = least_of(branch.row());
+        let first = rest_from(branch, least);
+        for number in first..least {
+            self.steps.push(Stride::Element(number))?;
+            self.visit(sink, &rest, false)?;
+            self.steps.pop();
         }
         Ok(())
     }

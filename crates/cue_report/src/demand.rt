@@ -2,9 +2,12 @@ ghost use Rattle.std.specs.Prelude.{◌≡◌};
 ghost use Rattle.std.specs.Option.{option_map};
 ghost use Rattle.cue_row.specs.Row.{IsRow};
 ghost use Rattle.cue_row.specs.Steps.{step_of};
+ghost use Rattle.cue_table.specs.Tree.{rest_of};
 ghost use Rattle.cue_report.specs.Search as search;
+ghost use Rattle.cue_report.specs.Search.{least_at, rest_from};
 
 use cue_row::{Level, Row, Step};
+use cue_table::Branch;
 
 /// Whether no value may stand at a place: no scalar, struct or list, or a list of no length.
 pub(crate) fn lacks_value(row: &Row) -> bool
@@ -50,5 +53,31 @@ pub(crate) fn is_refused(above: Option<&Row>, step: &Step) -> bool
     match (above, step) {
         (Some(row), Step::Label(label)) => !row.labels.allows(label.as_str()),
         _ => false,
+    }
+}
+
+/// How many elements each list has at a place.
+pub(crate) fn least_of(row: Option<&Row>) -> u32
+    ensures { result ≡ least_at (option_map (λ row. row.now) row.entry) }
+{
+    match row {
+        None => 0,
+        Some(row) => row.least,
+    }
+}
+
+/// From which of the elements that each list has on they are the rest of the list at a place: how
+/// many there are, where none is.
+pub(crate) fn rest_from(branch: &Branch<Row>, least: u32) -> u32
+    ensures { result ≡ rest_from (rest_of branch.now) least }
+{
+    if branch.rest().is_none() {
+        return least;
+    }
+    let from = branch.fixed();
+    if from < u64::from(least) {
+        from as u32
+    } else {
+        least
     }
 }

@@ -5,12 +5,12 @@ ghost use Rattle.cue_table.specs.Tree.{row_of};
 ghost use Rattle.serde_json.specs.Data.{Data};
 ghost use Rattle.serde_json.specs.Written.{compact_text};
 ghost use Rattle.cue_report.specs.Export.{data_of};
-ghost use Rattle.cue_report.specs.GapSearch.{AtPlace, least_at};
+ghost use Rattle.cue_report.specs.GapSearch.{AtPlace};
+ghost use Rattle.cue_report.specs.Search.{least_at};
 ghost use Rattle.cue_report.specs.Writing.{Adds, AddsDocument, AddsElements, AddsMembers};
 ghost use Rattle.cue_report.specs.Writing.{AddsScalar, IsDocumentOf};
 
-use crate::demand::is_demanded;
-use crate::gap::least_of;
+use crate::demand::{is_demanded, least_of};
 use crate::shape::{is_free, picked};
 use cue_lattice::Memory;
 use cue_row::{Row, Step};

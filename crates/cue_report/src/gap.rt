@@ -5,17 +5,19 @@ ghost use Rattle.cue_lattice.specs.Path.{index};
 ghost use Rattle.cue_row.specs.Row.{IsRow, RowRefuses};
 ghost use Rattle.cue_row.specs.Steps.{step_of};
 ghost use Rattle.cue_table.specs.Refuses.{TableRefuses};
+ghost use Rattle.cue_table.specs.Tree.{row_of, rest_of};
 ghost use Rattle.cue_report.specs.GapSearch.{IsGapAt, IsOpenAt, IsGapHere, IsGapIn, Adds};
-ghost use Rattle.cue_report.specs.GapSearch.{free_before, free_elements, least_at, next_after};
-ghost use Rattle.cue_report.specs.GapSearch.{told_above};
+ghost use Rattle.cue_report.specs.GapSearch.{free_before, free_elements, next_after};
+ghost use Rattle.cue_report.specs.GapSearch.{told_above, IsGapOnward};
 ghost use Rattle.cue_report.specs.Gaps.{AreGaps};
 ghost use Rattle.cue_report.specs.Lines.{AddsGapLines};
-ghost use Rattle.cue_report.specs.Search.{lacks_value};
+ghost use Rattle.cue_report.specs.Search.{lacks_value, least_at};
 ghost use Rattle.cue_report.specs.Trail.{shown_steps};
 
-use crate::demand::{is_demanded, is_refused};
+use crate::demand::{is_demanded, is_refused, least_of, rest_from};
 use crate::listed::Listed;
 use crate::sink::GapSink;
+use crate::trail::Stride;
 use crate::written::Written;
 use crate::{Place, demand};
 use cue_lattice::{Memory, Narrow};
@@ -60,7 +62,7 @@ pub fn gap_lines(alloc: Global, text: String, table: &Table<Row>) -> Result<Stri
 struct Search<'a> {
     alloc: Global,
     /// The steps to the place at hand.
-    steps: Vec<&'a Step>,
+    steps: Vec<Stride<'a>>,
 }
 
 impl<'a> Search<'a> {
@@ -75,6 +77,7 @@ impl<'a> Search<'a> {
     }
 
     /// Looks for gaps at a place, of which the place above refuses the label or not, and below it.
+    #[cycle(walk)]
     fn visit<S: GapSink>(
         &mut self,
         sink: &mut S,
@@ -93,12 +96,38 @@ impl<'a> Search<'a> {
         for (step, child) in branch.children() {
             if is_demanded(row, step, child.row()) {
                 next = self.reach(sink, next, step)?;
-                self.steps.push(step)?;
+                self.steps.push(Stride::Own(step))?;
                 self.visit(sink, &child, is_refused(row, step))?;
                 self.steps.pop();
             }
         }
-        sink.free_elements(&self.steps, next, least)
+        sink.free_elements(&self.steps, next, rest_from(branch, least))?;
+        self.visit_rest(sink, branch)
+    }
+
+    /// Looks for gaps at the elements of a place that each list has and that are its rest.
+    #[cycle(walk)]
+    fn visit_rest<S: GapSink>(
+        &mut self,
+        sink: &mut S,
+        branch: &Branch<'a, Row>,
+    ) -> Result<(), Memory>
+        ensures steps { OnOk result (self.new.steps.items ≡ self.old.steps.items) }
+        ensures gaps { OnOk result (Adds S.piece
+            (IsGapOnward (least_at (row_of branch.now)) (rest_of branch.now))
+            (shown_steps self.old.steps.items) (S.told sink.old) (S.told sink.new)) }
+    {
+        let Some(rest) = branch.rest() else {
+            return Ok(());
+        };
+        let least = least_of(branch.row());
+        let first = rest_from(branch, least);
+        for number in first..least {
+            self.steps.push(Stride::Element(number))?;
+            self.visit(sink, &rest, false)?;
+            self.steps.pop();
+        }
+        Ok(())
     }
 
     /// Looks for a gap at the place at hand, by the row there.
@@ -138,16 +167,6 @@ impl<'a> Search<'a> {
                 Ok(*number + 1)
             }
         }
-    }
-}
-
-/// How many elements each list has at a place.
-pub(crate) fn least_of(row: Option<&Row>) -> u32
-    ensures { result ≡ least_at (option_map (λ row. row.now) row.entry) }
-{
-    match row {
-        None => 0,
-        Some(row) => row.least,
     }
 }
 

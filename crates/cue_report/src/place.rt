@@ -1,7 +1,9 @@
 ghost use Rattle.std.specs.Prelude.{◌≡◌, map, string_bytes, IfOk};
 ghost use Rattle.cue_row.specs.PathText.{path_text};
 ghost use Rattle.cue_row.specs.Steps.{step_of};
+ghost use Rattle.cue_report.specs.Trail.{shown_steps};
 
+use crate::trail::Stride;
 use cue_lattice::Memory;
 use cue_row::{Step, push_steps};
 use std::alloc::Global;
@@ -52,9 +54,8 @@ impl Place {
 }
 
 /// Copies of the steps.
-pub(crate) fn copied(alloc: Global, steps: &[&Step]) -> Result<Vec<Step>, Memory>
-    ensures { IfOk result (λ copies. map step_of copies.items
-        ≡ map (λ step. step_of step.now) steps.now) }
+pub(crate) fn copied(alloc: Global, steps: &[Stride]) -> Result<Vec<Step>, Memory>
+    ensures { IfOk result (λ copies. map step_of copies.items ≡ shown_steps steps.now) }
 {
     let mut copies = Vec::with_capacity(alloc, steps.len())?;
     for step in steps {

@@ -11,14 +11,14 @@ ghost use Rattle.cue_report.specs.Clear.{IsClear};
 ghost use Rattle.cue_report.specs.Documents.{SomeMeets, Tells, IsExactExport};
 ghost use Rattle.cue_report.specs.Export.{IsShape, IsExport, AreKeys, AreMembers};
 ghost use Rattle.cue_report.specs.Export.{AreElements, keys, count, data_of};
-ghost use Rattle.cue_report.specs.GapSearch.{AtPlace, least_at};
+ghost use Rattle.cue_report.specs.GapSearch.{AtPlace};
+ghost use Rattle.cue_report.specs.Search.{least_at};
 ghost use Rattle.cue_report.specs.Gaps.{IsFree};
 ghost use Rattle.cue_report.specs.ExportText.{IsExportText};
 ghost use Rattle.cue_report.specs.Picks.{IsPicked};
 
-use crate::demand::is_demanded;
+use crate::demand::{is_demanded, least_of};
 use crate::document_text::document_text;
-use crate::gap::least_of;
 use crate::{Export, ExportText, conflict_lines, conflicts, gap_lines, incomplete};
 use cue_lattice::{Memory, Narrow};
 use cue_row::{Row, Step};

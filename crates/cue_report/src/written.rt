@@ -7,6 +7,7 @@ ghost use Rattle.cue_report.specs.Trail.{dotted_behind, shown_steps};
 
 use crate::report::{cause, end_line, lack};
 use crate::sink::{ConflictSink, GapSink};
+use crate::trail::Stride;
 use cue_lattice::Memory;
 use cue_row::{Step, push_steps};
 use std::alloc::Global;
@@ -62,7 +63,7 @@ impl ConflictSink for Written {
 
     fn conflict(
         &mut self,
-        steps: &[&Step],
+        steps: &[Stride],
         no_value: bool,
         not_allowed: bool,
     ) -> Result<(), Memory> {
@@ -80,14 +81,14 @@ impl GapSink for Written {
 
     ghost piece = { gap_line };
 
-    fn gap(&mut self, steps: &[&Step], missing: bool) -> Result<(), Memory> {
+    fn gap(&mut self, steps: &[Stride], missing: bool) -> Result<(), Memory> {
         self.text.push_str("incomplete ")?;
         push_place(&mut self.text, steps)?;
         end_line(&mut self.text, lack(missing))?;
         Ok(())
     }
 
-    fn free_elements(&mut self, steps: &[&Step], first: u32, end: u32) -> Result<(), Memory> {
+    fn free_elements(&mut self, steps: &[Stride], first: u32, end: u32) -> Result<(), Memory> {
         if first >= end {
             return Ok(());
         }
@@ -101,7 +102,7 @@ impl GapSink for Written {
 }
 
 /// Writes the path to which these steps lead.
-fn push_place(out: &mut String, steps: &[&Step]) -> Result<(), Memory>
+fn push_place(out: &mut String, steps: &[Stride]) -> Result<(), Memory>
     ensures { OnOk result (string_bytes out.new
         ≡ string_bytes out.old ++ path_text (shown_steps steps.now)) }
 {
@@ -109,19 +110,19 @@ fn push_place(out: &mut String, steps: &[&Step]) -> Result<(), Memory>
         [] => out.push('.')?,
         [above @ .., last] => {
             push_above(out, above)?;
-            push_steps(out, from_ref(*last))?;
+            last.push_to(out)?;
         }
     }
     Ok(())
 }
 
 /// Writes each of the steps with a dot behind it.
-fn push_above(out: &mut String, steps: &[&Step]) -> Result<(), Memory>
+fn push_above(out: &mut String, steps: &[Stride]) -> Result<(), Memory>
     ensures { OnOk result (string_bytes out.new
         ≡ string_bytes out.old ++ flat_map dotted_behind (shown_steps steps.now)) }
 {
     for step in steps {
-        push_steps(out, from_ref(*step))?;
+        step.push_to(out)?;
         out.push('.')?;
     }
     Ok(())

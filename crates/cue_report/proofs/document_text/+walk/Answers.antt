@@ -5,7 +5,7 @@ use Rattle.cue_row.specs.Steps.{step_of}
 use Rattle.cue_table.specs.Tree.{row_of}
 use Rattle.cue_table.specs.Walks.{found_smaller}
 use Rattle.serde_json.specs.Data.{null, no_items, no_members}
-use Rattle.cue_report.specs.GapSearch.{least_at}
+use Rattle.cue_report.specs.Search.{least_at}
 use Rattle.cue_report.proofs.Documents.{free_null, free_none, row_is, none_counted, none_gathered, passed_index, passed_label, all_gathered}
 use Rattle.cue_report.proofs.Walk.{inner_smaller, none_left, demand_is}
 use Rattle.cue_report.proofs.Writing.{AreItemsSoFar, on_ok, adds_object, adds_array, adds_scalar, ends_items, ends_members, next_item, next_null, next_member}

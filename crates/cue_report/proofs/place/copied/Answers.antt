@@ -1,6 +1,7 @@
 use Rattle.std.proofs.Common.{map, ap, ◌∙◌, arith}
 use Rattle.std.proofs.lemmas.List.{take_all}
-use Rattle.cue_report.proofs.Trails.{shown, trail_more}
+use Rattle.cue_report.specs.Trail.{shown}
+use Rattle.cue_report.proofs.Trails.{trail_more}
 use Rattle.cue_report.proofs.place.copied.Goals as goal
 
 pub loop-step-preserved : goal.loop-step-preserved

@@ -1,6 +1,6 @@
 use Rattle.std.proofs.Common.{◌≡◌, take, map}
 use Rattle.cue_row.specs.Steps.{step_of}
-use Rattle.cue_report.proofs.Trails.{shown}
+use Rattle.cue_report.specs.Trail.{shown}
 use Rattle.cue_report.proofs.place.copied.Given as goal
 
 abbrev pub invariant-loop-step : goal.invariant-loop-step

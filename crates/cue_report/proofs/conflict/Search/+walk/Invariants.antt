@@ -1,0 +1,24 @@
+use Rattle.std.proofs.Common.{◌≡◌, ◌++◌, ◌+◌, ◌-◌, ◌≤◌, map, false}
+use Rattle.cue_table.specs.Size.{tree_size}
+use Rattle.cue_table.specs.Tree.{row_of, below}
+use Rattle.cue_report.specs.Search.{told_under, each_index, conflicts_in}
+use Rattle.cue_report.specs.Trail.{shown}
+use Rattle.cue_report.proofs.Walk.{IsWalking}
+use Rattle.cue_report.proofs.conflict.Search.+walk.Given as goal
+
+abbrev pub decreases-visit : goal.decreases-visit
+decreases-visit g l = tree_size l.branch.now + tree_size l.branch.now + 1
+
+abbrev pub decreases-visit_rest : goal.decreases-visit_rest
+decreases-visit_rest g l = tree_size l.branch.now + tree_size l.branch.now
+
+abbrev pub invariant-visit-loop-step : goal.invariant-visit-loop-step
+invariant-visit-loop-step g l =
+    let told = g.S.ConflictSink.told in
+    IsWalking g.S.ConflictSink.piece (row_of l.branch) (below l.branch) l.step-iterator (told l.initial.sink) (told l.sink) l.initial.self.steps.items l.self.steps.items
+
+abbrev pub invariant-visit_rest-loop-number : goal.invariant-visit_rest-loop-number
+invariant-visit_rest-loop-number g l =
+    let told = g.S.ConflictSink.told in
+    (l.first ≤ l.number) × (l.self.steps.items ≡ l.fn.self.steps.items)
+    × (told l.sink ≡ told l.fn.sink ++ told_under g.S.ConflictSink.piece (map shown l.fn.self.steps.items) (each_index l.first (l.number - l.first) (conflicts_in false l.rest)))
