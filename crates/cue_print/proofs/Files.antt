@@ -9,13 +9,13 @@ use Rattle.cue_print.specs.Spelled.{line, value_text, field_texts, file_text}
 
 pub free_file : (tree : Tree Row) → None ≡ row_of tree → codes "_\n" ≡ file_text (file_of tree)
 unfolding file_text file_of value_text
-free_file (node None children) e = refl
-free_file (node (Some row) children) e = cc
+free_file (node None children rest) e = refl
+free_file (node (Some row) children rest) e = cc
 
 pub lines_file : (tree : Tree Row) (row : Row) → Some row ≡ row_of tree → flat_map line (field_texts (fields_below (below tree))) ≡ file_text (file_of tree)
 unfolding file_text file_of
-lines_file (node None children) row e = cc
-lines_file (node (Some here) children) row e = refl
+lines_file (node None children rest) row e = cc
+lines_file (node (Some here) children rest) row e = refl
 
 pub written : (empty text out : List ℕ) → empty ≡ [] → out ≡ empty ++ text → out ≡ text
 written empty text out e h = h ∙ ap (λ t. t ++ text) e

@@ -1,5 +1,6 @@
 -- Branches that are found at a label or at a number.
-use Rattle.std.proofs.Common.{◌≡◌, ℕ, Bool, true, false, List, Option, Some, None, nat_eq, refl, sym, ap, ◌∙◌, arith}
+use Rattle.std.proofs.Common.{◌≡◌, ℕ, Bool, true, false, List, [], Option, Some, None, nat_eq, refl, sym, ap, ◌∙◌, arith}
+use Rattle.std.specs.Prelude.{is_some, nat_lt, if◌then◌else◌}
 use Rattle.std.specs.Str.{bytes_eq}
 use Rattle.std.specs.Ordering.{nat_cmp}
 use Rattle.std.specs.declared.cmp.Ordering.{Ordering}
@@ -11,9 +12,11 @@ use Rattle.cue_sets.specs.Texts.{text_cmp}
 use Rattle.cue_sets.specs.TextLaws.{reverse_cmp, same_from_equal, bytes_eq-itself, bytes_eq-less, bytes_eq-greater}
 use Rattle.cue_row.specs.declared.level.Level.TheVariants.{Optional}
 use Rattle.cue_row.specs.declared.row.Row.{Row}
-use Rattle.cue_table.specs.Tree.{Tree, Children, none, child, row_of, if_equal, find}
+use Rattle.cue_table.specs.Tree.{Tree, node, Children, none, child, Rest, no_rest, onward, row_of, below, rest_of, if_equal, find, find_with, step_into, rest_tree}
 use Rattle.cue_print.specs.Expressions.{Value, top, Fields, field}
-use Rattle.cue_print.specs.Printed.{level_at, declared, value_of, fields_below, element_below}
+use Rattle.cue_print.specs.Printed.{level_at, declared, value_of, fields_below, element_at, element_below, rest_value}
+use Rattle.cue_print.specs.Spelled.{value_text}
+use Rattle.cue_print.specs.Writing.{told_text}
 
 -- ---- labels
 -- the field of a label, by the branch that is found at it
@@ -21,7 +24,7 @@ abbrev pub field_for : List ℕ → Option (Tree Row) → Fields → Fields
 field_for l None others = field l Optional top others
 field_for l (Some tree) others = field l (level_at (row_of tree)) (value_of tree) others
 
-pub declared_found : (children : Children Row) (l : List ℕ) (others : Fields) → declared l (fields_below children) others ≡ field_for l (find (label l) children) others
+declared_found : (children : Children Row) (l : List ℕ) (others : Fields) → declared l (fields_below children) others ≡ field_for l (find (label l) children) others
 unfolding fields_below
 declared_found none l others = refl
 declared_found (child (index n) tree children) l others = declared_found children l others
@@ -32,6 +35,13 @@ declared_found (child (label m) tree children) l others = at (text_cmp l m) refl
   at Less h later = rw (bytes_eq-greater m l h, h) later
   at Equal h later = rw (ap (bytes_eq m) (same_from_equal l m h) ∙ bytes_eq-itself m, h) refl
   at Greater h later = rw (bytes_eq-less m l (reverse_cmp l m Greater h), h) later
+
+declared_with : (rest : Rest Row) (children : Children Row) (l : List ℕ) (others : Fields) → declared l (fields_below children) others ≡ field_for l (find_with rest (label l) children) others
+declared_with no_rest children l others = declared_found children l others
+declared_with (onward n tree) children l others = declared_found children l others
+
+pub declared_into : (tree : Tree Row) (l : List ℕ) (others : Fields) → declared l (fields_below (below tree)) others ≡ field_for l (step_into tree (label l)) others
+declared_into (node row children rest) l others = declared_with rest children l others
 
 -- ---- numbers
 -- the element of a number, by the branch that is found at it
@@ -52,7 +62,7 @@ other_number n m o h not_equal = by (nat_eq m n) refl where
   by false e = refl
   by true e = absurd (not_equal (sym h ∙ sym (nat_cmp_is n m Equal (sym (same_number m n e)))))
 
-pub element_found : (children : Children Row) (n : ℕ) → element_below children n ≡ element_for (find (index n) children)
+element_found : (children : Children Row) (n : ℕ) → element_below children n ≡ element_for (find (index n) children)
 unfolding element_below
 element_found none n = refl
 element_found (child (label l) tree children) n = element_found children n
@@ -63,3 +73,38 @@ element_found (child (index m) tree children) n = at (nat_cmp n m) refl (element
   at Less h later = rw (other_number n m Less h (λ e. cc), h) later
   at Equal h later = rw (one_number n m (nat_cmp-IsAntisymmetric n m h), h) refl
   at Greater h later = rw (other_number n m Greater h (λ e. cc), h) later
+
+element_with : (rest : Rest Row) (children : Children Row) (n : ℕ) → element_at rest (element_below children) n ≡ element_for (find_with rest (index n) children)
+unfolding element_at
+element_with no_rest children n = element_found children n
+element_with (onward m tree) children n = by (nat_lt n m) where
+  by : (b : Bool) → (if b then element_below children n else value_of tree) ≡ element_for (if b then find (index n) children else Some tree)
+  by true = element_found children n
+  by false = refl
+
+pub element_into : (tree : Tree Row) (n : ℕ) → element_at (rest_of tree) (element_below (below tree)) n ≡ element_for (step_into tree (index n))
+element_into (node row children rest) n = element_with rest children n
+
+-- ---- rests
+pub rest_is_some : (rest : Rest Row) → is_some (rest_tree rest) ≡ is_some (rest_value rest)
+unfolding rest_value
+rest_is_some no_rest = refl
+rest_is_some (onward n tree) = refl
+
+-- what is told of further elements, by the rest that is found
+told_for : Option (Tree Row) → List ℕ
+told_for None = []
+told_for (Some tree) = value_text (value_of tree)
+
+told_found : (rest : Rest Row) → told_text (rest_value rest) ≡ told_for (rest_tree rest)
+unfolding rest_value told_for
+told_found no_rest = refl
+told_found (onward n tree) = refl
+
+pub no_rest_told : (tree : Tree Row) → None ≡ rest_tree (rest_of tree) → [] ≡ told_text (rest_value (rest_of tree))
+unfolding told_for
+no_rest_told tree e = ap told_for e ∙ sym (told_found (rest_of tree))
+
+pub rest_told : (tree rest : Tree Row) → Some rest ≡ rest_tree (rest_of tree) → value_text (value_of rest) ≡ told_text (rest_value (rest_of tree))
+unfolding told_for
+rest_told tree rest e = ap told_for e ∙ sym (told_found (rest_of tree))

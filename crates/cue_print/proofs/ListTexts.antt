@@ -1,12 +1,12 @@
 -- Elements of lists, one after the other.
-use Rattle.std.proofs.Common.{◌≡◌, ℕ, zero, suc, ◌+◌, false, List, [], ◌∷◌, ◌++◌, nat_eq, refl, sym, ap, ◌∙◌, arith}
+use Rattle.std.proofs.Common.{◌≡◌, ℕ, zero, suc, ◌+◌, Bool, false, List, [], ◌∷◌, ◌++◌, Option, nat_eq, refl, sym, ap, ◌∙◌, arith}
 use Rattle.std.specs.Prelude.{codes}
-use Rattle.std.proofs.lemmas.List.{append-nil}
+use Rattle.std.proofs.lemmas.List.{append_assoc, append-nil}
 use Rattle.cue_lattice.specs.Bools.{is_nil}
 use Rattle.cue_print.specs.Expressions.{Value, top}
 use Rattle.cue_print.specs.Printed.{elements_from, elements}
 use Rattle.cue_print.specs.Spelled.{joined, value_text, element_texts}
-use Rattle.cue_print.specs.Writing.{lead}
+use Rattle.cue_print.specs.Writing.{lead, told_text, ending_text}
 use Rattle.cue_print.proofs.Joined.{next_text}
 
 more_from : (first count : ℕ) (value_at : ℕ → Value) → element_texts (elements_from first (suc count) value_at) ≡ element_texts (elements_from first count value_at) ++ value_text (value_at (first + count)) ∷ []
@@ -52,3 +52,15 @@ no_elements_yet out value_at = sym (append-nil out)
 pub top_text : codes "_" ≡ value_text top
 unfolding value_text
 top_text = refl
+
+-- a list goes on
+pub ending_written :
+    (count : ℕ) (exact : Bool) (further : Option Value) (told out led dotted after : List ℕ) → exact ≡ false → told ≡ told_text further
+    → led ≡ out ++ lead (codes ", ") (nat_eq count 0) → dotted ≡ led ++ codes "..." → after ≡ dotted ++ told
+    → after ≡ out ++ ending_text count exact further
+ending_written count exact further told out led dotted after e t l d a =
+    a ∙ ap (λ x. x ++ told) (d ∙ ap (λ x. x ++ codes "...") l)
+    ∙ append_assoc (out ++ lead (codes ", ") (nat_eq count 0)) (codes "...") told
+    ∙ append_assoc out (lead (codes ", ") (nat_eq count 0)) (codes "..." ++ told)
+    ∙ ap (λ x. out ++ (lead (codes ", ") (nat_eq count 0) ++ (codes "..." ++ x))) t
+    ∙ ap (λ b. out ++ ending_text count b further) (sym e)

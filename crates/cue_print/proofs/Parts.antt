@@ -1,6 +1,6 @@
 -- Parts that are unified, one in front of others.
-use Rattle.std.proofs.Common.{◌≡◌, ℕ, Bool, true, false, ◌||◌, List, [], ◌++◌, Option, Some, None, nat_eq, refl, sym, ap, ◌∙◌, append_assoc}
-use Rattle.std.specs.Prelude.{codes, is_some, nat_lt, if◌then◌else◌, ◌==◌}
+use Rattle.std.proofs.Common.{◌≡◌, ℕ, Bool, true, false, ◌||◌, List, [], ◌∷◌, ◌++◌, Option, Some, None, refl, sym, ap, ◌∙◌, append_assoc}
+use Rattle.std.specs.Prelude.{codes, is_some, nat_lt, if◌then◌else◌}
 use Rattle.std.specs.List.{flat_map}
 use Rattle.std.proofs.lemmas.List.{append-nil}
 use Rattle.cue_row.specs.declared.level.Level.{Level}
@@ -8,10 +8,10 @@ use Rattle.cue_row.specs.declared.row.Row.{Row}
 use Rattle.cue_row.specs.LabelSets.{allows_label}
 use Rattle.cue_row.specs.Quoted.{quoted}
 use Rattle.cue_table.specs.Tree.{Tree}
-use Rattle.cue_print.specs.Expressions.{Value, top, all, Parts, no_parts, struct, close, list, bottom, Fields, no_more, field}
-use Rattle.cue_print.specs.Printed.{inside, outside, struct_if_any, struct_part, elements, list_part, has_field, list_left, nothing_value}
-use Rattle.cue_print.specs.Spelled.{joined, enclosed, mark_text, struct_text, list_text, rest_texts, value_text, part_texts, field_texts, element_texts}
-use Rattle.cue_print.specs.Writing.{lead, conjoined, opening, beside_text, struct_before, goes_on, ellipsis_text, longest_text, list_before}
+use Rattle.cue_print.specs.Expressions.{Value, top, all, Parts, no_parts, struct, close, list, bottom, Fields, no_more, field, Ending, ends}
+use Rattle.cue_print.specs.Printed.{inside, outside, struct_if_any, struct_part, elements, dots, list_part, has_field, list_left, nothing_value}
+use Rattle.cue_print.specs.Spelled.{joined, enclosed, mark_text, struct_text, list_text, value_text, part_texts, field_texts, element_texts, ending_texts}
+use Rattle.cue_print.specs.Writing.{lead, conjoined, opening, beside_text, struct_before, is_exact, told_text, ending_text, longest_text, list_before}
 use Rattle.cue_print.proofs.Fields.{fields_of, left_text}
 use Rattle.cue_print.proofs.Joined.{joined_more}
 use Rattle.cue_print.proofs.ListTexts.{none_before}
@@ -52,72 +52,90 @@ struct_then (Some labels) fields parts =
     ap (λ t. closed ++ t) (if_any_then (outside labels fields) parts) ∙ sym (append_assoc closed (behind (struct_if_any (outside labels fields) no_parts)) (behind parts))
 
 -- ---- lists
+-- how a list ends, by whether its elements alone tell it
+abbrev pub ended : Bool → Option Value → Ending
+ended true further = ends
+ended false further = dots further
+
+ending_told : (further : Option Value) → ending_texts (dots further) ≡ (codes "..." ++ told_text further) ∷ []
+unfolding ending_texts
+ending_told None = refl
+ending_told (Some value) = refl
+
 -- the elements of a list, and what ends them
 pub list_ended :
-    (count : ℕ) (value_at : ℕ → Value) (g : Bool)
-    → joined (codes ", ") (element_texts (elements count value_at) ++ rest_texts g) ≡ joined (codes ", ") (element_texts (elements count value_at)) ++ ellipsis_text count g
-list_ended count value_at false =
+    (count : ℕ) (value_at : ℕ → Value) (exact : Bool) (further : Option Value)
+    → joined (codes ", ") (element_texts (elements count value_at) ++ ending_texts (ended exact further)) ≡ joined (codes ", ") (element_texts (elements count value_at)) ++ ending_text count exact further
+unfolding ending_texts
+list_ended count value_at true further =
     ap (joined (codes ", ")) (append-nil (element_texts (elements count value_at))) ∙ sym (append-nil (joined (codes ", ") (element_texts (elements count value_at))))
-list_ended count value_at true =
-    joined_more (codes ", ") (element_texts (elements count value_at)) (codes "...")
-    ∙ ap (λ b. joined (codes ", ") (element_texts (elements count value_at)) ++ (lead (codes ", ") b ++ codes "...")) (none_before count value_at)
+list_ended count value_at false further =
+    ap (λ ts. joined (codes ", ") (element_texts (elements count value_at) ++ ts)) (ending_told further)
+    ∙ joined_more (codes ", ") (element_texts (elements count value_at)) (codes "..." ++ told_text further)
+    ∙ ap (λ b. joined (codes ", ") (element_texts (elements count value_at)) ++ (lead (codes ", ") b ++ (codes "..." ++ told_text further))) (none_before count value_at)
 
-list_told : (least : ℕ) (most : Option ℕ) (value_at : ℕ → Value) → list_text (element_texts (elements least value_at)) (goes_on least most) ++ longest_text least most ≡ value_text (all (list_part least most value_at no_parts))
-unfolding value_text part_texts longest_text
-list_told least None value_at = refl
-list_told least (Some most) value_at = by (nat_eq least most) refl where
+list_told :
+    (least : ℕ) (most : Option ℕ) (value_at : ℕ → Value) (further : Option Value)
+    → list_text (element_texts (elements least value_at) ++ ending_texts (ended (is_exact least most further) further)) ++ longest_text most (is_exact least most further)
+    ≡ value_text (all (list_part least most value_at further no_parts))
+unfolding ending_texts value_text part_texts longest_text
+list_told least None value_at further = refl
+list_told least (Some most) value_at further = by (is_exact least (Some most) further) where
   by :
-      (b : Bool) → nat_eq least most ≡ b
-      → list_text (element_texts (elements least value_at)) (goes_on least (Some most)) ++ longest_text least (Some most) ≡ value_text (all (list_part least (Some most) value_at no_parts))
-  by true e = rw e refl
-  by false e =
+      (b : Bool)
+      → list_text (element_texts (elements least value_at) ++ ending_texts (ended b further)) ++ longest_text (Some most) b
+      ≡ value_text (all (if b then list (elements least value_at) ends no_parts else list (elements least value_at) (dots further) (list (elements most (λ n. top)) ends no_parts)))
+  by true = refl
+  by false =
       let tops : List (List ℕ) = element_texts (elements most (λ n. top)) in
-      rw e (ap (λ t. list_text (element_texts (elements least value_at)) true ++ t)
-      (ap (λ ts. conjoined (enclosed (codes "[") (joined (codes ", ") ts) (codes "]"))) (sym (append-nil tops)) ∙ sym (append-nil (conjoined (list_text tops false)))))
+      ap (λ t. list_text (element_texts (elements least value_at) ++ ending_texts (dots further)) ++ t)
+      (ap (λ ts. conjoined (list_text ts)) (sym (append-nil tops)) ∙ sym (append-nil (conjoined (list_text (tops ++ [])))))
 
-pub list_then : (least : ℕ) (most : Option ℕ) (value_at : ℕ → Value) (parts : Parts) → value_text (all (list_part least most value_at parts)) ≡ value_text (all (list_part least most value_at no_parts)) ++ behind parts
+pub list_then : (least : ℕ) (most : Option ℕ) (value_at : ℕ → Value) (further : Option Value) (parts : Parts) → value_text (all (list_part least most value_at further parts)) ≡ value_text (all (list_part least most value_at further no_parts)) ++ behind parts
 unfolding value_text part_texts
-list_then least None value_at parts = ap (λ t. t ++ behind parts) (sym (alone (list_text (element_texts (elements least value_at)) true)))
-list_then least (Some most) value_at parts = by (nat_eq least most) refl where
-  by :
-      (b : Bool) → nat_eq least most ≡ b
-      → value_text (all (list_part least (Some most) value_at parts)) ≡ value_text (all (list_part least (Some most) value_at no_parts)) ++ behind parts
-  by true e = rw e (ap (λ t. t ++ behind parts) (sym (alone (list_text (element_texts (elements least value_at)) false))))
-  by false e =
-      let short : List ℕ = list_text (element_texts (elements least value_at)) true in
-      let long : List ℕ = conjoined (list_text (element_texts (elements most (λ n. top))) false) in
-      rw e (ap (λ t. short ++ t) (ap (λ t. t ++ behind parts) (sym (alone long))) ∙ sym (append_assoc short (long ++ []) (behind parts)))
+list_then least None value_at further parts = ap (λ t. t ++ behind parts) (sym (alone (list_text (element_texts (elements least value_at) ++ ending_texts (dots further)))))
+list_then least (Some most) value_at further parts = by (is_exact least (Some most) further) where
+  one_or_two : Bool → Parts → Parts
+  one_or_two b others = if b then list (elements least value_at) ends others else list (elements least value_at) (dots further) (list (elements most (λ n. top)) ends others)
+
+  by : (b : Bool) → value_text (all (one_or_two b parts)) ≡ value_text (all (one_or_two b no_parts)) ++ behind parts
+  by true = ap (λ t. t ++ behind parts) (sym (alone (list_text (element_texts (elements least value_at) ++ ending_texts ends))))
+  by false =
+      let short : List ℕ = list_text (element_texts (elements least value_at) ++ ending_texts (dots further)) in
+      let long : List ℕ = conjoined (list_text (element_texts (elements most (λ n. top)) ++ ending_texts ends)) in
+      ap (λ t. short ++ t) (ap (λ t. t ++ behind parts) (sym (alone long))) ∙ sym (append_assoc short (long ++ []) (behind parts))
 
 -- a list is written
 pub list_written :
-    (least : ℕ) (most : Option ℕ) (value_at : ℕ → Value) (out opened filled ended closed after : List ℕ)
-    → opened ≡ out ++ codes "[" → filled ≡ opened ++ joined (codes ", ") (element_texts (elements least value_at)) → ended ≡ filled ++ ellipsis_text least (goes_on least most)
-    → closed ≡ ended ++ codes "]" → after ≡ closed ++ longest_text least most
-    → after ≡ out ++ value_text (all (list_part least most value_at no_parts))
-list_written least most value_at out opened filled ended closed after o f e c a =
+    (least : ℕ) (most : Option ℕ) (value_at : ℕ → Value) (further : Option Value) (exact : Bool) (out opened filled finished closed after : List ℕ)
+    → exact ≡ is_exact least most further → opened ≡ out ++ codes "[" → filled ≡ opened ++ joined (codes ", ") (element_texts (elements least value_at))
+    → finished ≡ filled ++ ending_text least exact further → closed ≡ finished ++ codes "]" → after ≡ closed ++ longest_text most exact
+    → after ≡ out ++ value_text (all (list_part least most value_at further no_parts))
+list_written least most value_at further exact out opened filled finished closed after is o f e c a =
     let inner : List ℕ = joined (codes ", ") (element_texts (elements least value_at)) in
-    let end : List ℕ = ellipsis_text least (goes_on least most) in
+    let end : List ℕ = ending_text least exact further in
     let begun : filled ≡ out ++ (codes "[" ++ inner) = f ∙ ap (λ t. t ++ inner) o ∙ append_assoc out (codes "[") inner in
-    let whole : ended ≡ out ++ (codes "[" ++ (inner ++ end)) = e ∙ ap (λ t. t ++ end) begun ∙ append_assoc out (codes "[" ++ inner) end in
+    let whole : finished ≡ out ++ (codes "[" ++ (inner ++ end)) = e ∙ ap (λ t. t ++ end) begun ∙ append_assoc out (codes "[" ++ inner) end in
     let bracketed : closed ≡ out ++ (codes "[" ++ ((inner ++ end) ++ codes "]")) = c ∙ ap (λ t. t ++ codes "]") whole ∙ append_assoc out (codes "[" ++ (inner ++ end)) (codes "]") in
-    let told : closed ≡ out ++ list_text (element_texts (elements least value_at)) (goes_on least most) =
-    bracketed ∙ ap (λ t. out ++ (codes "[" ++ (t ++ codes "]"))) (sym (list_ended least value_at (goes_on least most))) in
-    a ∙ ap (λ t. t ++ longest_text least most) told
-    ∙ append_assoc out (list_text (element_texts (elements least value_at)) (goes_on least most)) (longest_text least most)
-    ∙ ap (λ t. out ++ t) (list_told least most value_at)
+    let shown : List ℕ = list_text (element_texts (elements least value_at) ++ ending_texts (ended exact further)) in
+    let told : closed ≡ out ++ shown = bracketed ∙ ap (λ t. out ++ (codes "[" ++ (t ++ codes "]"))) (sym (list_ended least value_at exact further)) in
+    a ∙ ap (λ t. t ++ longest_text most exact) told
+    ∙ append_assoc out shown (longest_text most exact)
+    ∙ ap (λ b. out ++ (list_text (element_texts (elements least value_at) ++ ending_texts (ended b further)) ++ longest_text most b)) is
+    ∙ ap (λ t. out ++ t) (list_told least most value_at further)
 
 -- ---- nothing
 -- a value is never told by no part
-pub list_left_behind : (row : Row) (value_at : ℕ → Value) → value_text (all (list_left row value_at (bottom no_parts))) ≡ list_before row value_at ++ codes "_|_"
+pub list_left_behind : (row : Row) (value_at : ℕ → Value) (further : Option Value) → value_text (all (list_left row value_at further (bottom no_parts))) ≡ list_before row value_at further ++ codes "_|_"
 unfolding value_text part_texts list_before
-list_left_behind row value_at = by (nat_lt 0 row.least || is_some row.most) where
+list_left_behind row value_at further = by (nat_lt 0 row.least || is_some row.most || is_some further) where
   by :
       (b : Bool)
-      → value_text (all (if b then list_part row.least row.most value_at (bottom no_parts) else bottom no_parts))
-      ≡ (if b then value_text (all (list_part row.least row.most value_at no_parts)) ++ codes " & " else []) ++ codes "_|_"
+      → value_text (all (if b then list_part row.least row.most value_at further (bottom no_parts) else bottom no_parts))
+      ≡ (if b then value_text (all (list_part row.least row.most value_at further no_parts)) ++ codes " & " else []) ++ codes "_|_"
   by true =
-      list_then row.least row.most value_at (bottom no_parts)
-      ∙ sym (append_assoc (value_text (all (list_part row.least row.most value_at no_parts))) (codes " & ") (codes "_|_"))
+      list_then row.least row.most value_at further (bottom no_parts)
+      ∙ sym (append_assoc (value_text (all (list_part row.least row.most value_at further no_parts))) (codes " & ") (codes "_|_"))
   by false = refl
 
 -- parts behind others, where there is one
@@ -133,46 +151,48 @@ behind_filled (close fields parts) e = refl
 behind_filled (list values g parts) e = refl
 behind_filled (bottom parts) e = refl
 
-one_or_two : (b : Bool) (least most : ℕ) (value_at : ℕ → Value) (parts : Parts) → is_filled (if b then list (elements least value_at) false parts else list (elements least value_at) true (list (elements most (λ n. top)) false parts)) ≡ true
+one_or_two :
+    (b : Bool) (least most : ℕ) (value_at : ℕ → Value) (further : Option Value) (parts : Parts)
+    → is_filled (if b then list (elements least value_at) ends parts else list (elements least value_at) (dots further) (list (elements most (λ n. top)) ends parts)) ≡ true
 unfolding is_filled
-one_or_two true least most value_at parts = refl
-one_or_two false least most value_at parts = refl
+one_or_two true least most value_at further parts = refl
+one_or_two false least most value_at further parts = refl
 
-left_filled : (row : Row) (value_at : ℕ → Value) → is_filled (list_left row value_at (bottom no_parts)) ≡ true
+left_filled : (row : Row) (value_at : ℕ → Value) (further : Option Value) → is_filled (list_left row value_at further (bottom no_parts)) ≡ true
 unfolding is_filled
-left_filled row value_at = by (nat_lt 0 row.least || is_some row.most) where
-  part : (most : Option ℕ) → is_filled (list_part row.least most value_at (bottom no_parts)) ≡ true
+left_filled row value_at further = by (nat_lt 0 row.least || is_some row.most || is_some further) where
+  part : (most : Option ℕ) → is_filled (list_part row.least most value_at further (bottom no_parts)) ≡ true
   part None = refl
-  part (Some most) = one_or_two (row.least == most) row.least most value_at (bottom no_parts)
+  part (Some most) = one_or_two (is_exact row.least (Some most) further) row.least most value_at further (bottom no_parts)
 
-  by : (b : Bool) → is_filled (if b then list_part row.least row.most value_at (bottom no_parts) else bottom no_parts) ≡ true
+  by : (b : Bool) → is_filled (if b then list_part row.least row.most value_at further (bottom no_parts) else bottom no_parts) ≡ true
   by false = refl
   by true = part row.most
 
-nothing_told : (row : Row) (fields : Fields) (value_at : ℕ → Value) → struct_before row fields ++ (list_before row value_at ++ codes "_|_") ≡ value_text (nothing_value row fields value_at)
+nothing_told : (row : Row) (fields : Fields) (value_at : ℕ → Value) (further : Option Value) → struct_before row fields ++ (list_before row value_at further ++ codes "_|_") ≡ value_text (nothing_value row fields value_at further)
 unfolding struct_before
-nothing_told row fields value_at = ap (λ t. struct_before row fields ++ t) (sym (list_left_behind row value_at)) ∙ by (is_some row.labels || has_field fields) where
+nothing_told row fields value_at further = ap (λ t. struct_before row fields ++ t) (sym (list_left_behind row value_at further)) ∙ by (is_some row.labels || has_field fields) where
   rest : Parts
-  rest = list_left row value_at (bottom no_parts)
+  rest = list_left row value_at further (bottom no_parts)
 
   by :
       (b : Bool)
-      → (if b then value_text (all (struct_part row.labels fields no_parts)) ++ codes " & " else []) ++ value_text (all (list_left row value_at (bottom no_parts)))
-      ≡ value_text (all (if b then struct_part row.labels fields (list_left row value_at (bottom no_parts)) else list_left row value_at (bottom no_parts)))
+      → (if b then value_text (all (struct_part row.labels fields no_parts)) ++ codes " & " else []) ++ value_text (all (list_left row value_at further (bottom no_parts)))
+      ≡ value_text (all (if b then struct_part row.labels fields (list_left row value_at further (bottom no_parts)) else list_left row value_at further (bottom no_parts)))
   by true =
-      append_assoc (value_text (all (struct_part row.labels fields no_parts))) (codes " & ") (value_text (all (list_left row value_at (bottom no_parts))))
-      ∙ ap (λ t. value_text (all (struct_part row.labels fields no_parts)) ++ t) (sym (behind_filled (list_left row value_at (bottom no_parts)) (left_filled row value_at)))
-      ∙ sym (struct_then row.labels fields (list_left row value_at (bottom no_parts)))
+      append_assoc (value_text (all (struct_part row.labels fields no_parts))) (codes " & ") (value_text (all (list_left row value_at further (bottom no_parts))))
+      ∙ ap (λ t. value_text (all (struct_part row.labels fields no_parts)) ++ t) (sym (behind_filled (list_left row value_at further (bottom no_parts)) (left_filled row value_at further)))
+      ∙ sym (struct_then row.labels fields (list_left row value_at further (bottom no_parts)))
   by false = refl
 
 pub nothing_written :
-    (row : Row) (fields : Fields) (value_at : ℕ → Value) (out one two after : List ℕ)
-    → one ≡ out ++ struct_before row fields → two ≡ one ++ list_before row value_at → after ≡ two ++ codes "_|_" → after ≡ out ++ value_text (nothing_value row fields value_at)
-nothing_written row fields value_at out one two after a b c =
-    c ∙ ap (λ t. t ++ codes "_|_") (b ∙ ap (λ t. t ++ list_before row value_at) a)
-    ∙ append_assoc (out ++ struct_before row fields) (list_before row value_at) (codes "_|_")
-    ∙ append_assoc out (struct_before row fields) (list_before row value_at ++ codes "_|_")
-    ∙ ap (λ t. out ++ t) (nothing_told row fields value_at)
+    (row : Row) (fields : Fields) (value_at : ℕ → Value) (further : Option Value) (out one two after : List ℕ)
+    → one ≡ out ++ struct_before row fields → two ≡ one ++ list_before row value_at further → after ≡ two ++ codes "_|_" → after ≡ out ++ value_text (nothing_value row fields value_at further)
+nothing_written row fields value_at further out one two after a b c =
+    c ∙ ap (λ t. t ++ codes "_|_") (b ∙ ap (λ t. t ++ list_before row value_at further) a)
+    ∙ append_assoc (out ++ struct_before row fields) (list_before row value_at further) (codes "_|_")
+    ∙ append_assoc out (struct_before row fields) (list_before row value_at further ++ codes "_|_")
+    ∙ ap (λ t. out ++ t) (nothing_told row fields value_at further)
 
 -- ---- fields whose labels may not stand
 abbrev pub outside_of : Option (List (List ℕ)) → Fields → Fields

@@ -26,13 +26,13 @@ mutual
     scalar : Option (List Term) → List Term → Value
     all : Parts → Value
 
-  -- a struct literal; one in `close`; a list literal, and whether `...` ends it; or `_|_`: each in
-  -- front of other parts
+  -- a struct literal; one in `close`; a list literal with its ending; or `_|_`: each in front of
+  -- other parts
   pub data Parts : Type 0 where
     no_parts : Parts
     struct : Fields → Parts → Parts
     close : Fields → Parts → Parts
-    list : Elements → Bool → Parts → Parts
+    list : Elements → Ending → Parts → Parts
     bottom : Parts → Parts
 
   -- a label, its level and its value, in front of other fields
@@ -43,3 +43,10 @@ mutual
   pub data Elements : Type 0 where
     no_elements : Elements
     element : Value → Elements → Elements
+
+  -- how a list ends: with its last element, with `...`, or with `...` and what each further element
+  -- is
+  pub data Ending : Type 0 where
+    ends : Ending
+    goes_on : Ending
+    goes_on_as : Value → Ending

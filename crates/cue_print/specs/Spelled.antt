@@ -11,6 +11,7 @@ use Rattle.cue_print.specs.Expressions.{at_least, between, texts, text, other_te
 use Rattle.cue_print.specs.Expressions.{Value, top, scalar, all, Parts, no_parts, struct, close}
 use Rattle.cue_print.specs.Expressions.{list, bottom}
 use Rattle.cue_print.specs.Expressions.{Fields, no_more, field, Elements, no_elements, element}
+use Rattle.cue_print.specs.Expressions.{Ending, ends, goes_on, goes_on_as}
 
 -- the texts, with a separator between each two
 abbrev pub joined : List ℕ → List (List ℕ) → List ℕ
@@ -78,15 +79,9 @@ mark_text Given = codes ": "
 abbrev pub struct_text : List (List ℕ) → List ℕ
 struct_text declarations = enclosed (codes "{") (joined (codes ", ") declarations) (codes "}")
 
--- what ends a list, where longer lists may stand
-abbrev pub rest_texts : Bool → List (List ℕ)
-rest_texts false = []
-rest_texts true = codes "..." ∷ []
-
--- a list literal of some elements
-abbrev pub list_text : List (List ℕ) → Bool → List ℕ
-list_text elements goes_on =
-    enclosed (codes "[") (joined (codes ", ") (elements ++ rest_texts goes_on)) (codes "]")
+-- a list literal of some elements and what ends them
+abbrev pub list_text : List (List ℕ) → List ℕ
+list_text elements = enclosed (codes "[") (joined (codes ", ") elements) (codes "]")
 
 unfoldable mutual
   pub value_text : Value → List ℕ
@@ -99,8 +94,8 @@ unfoldable mutual
   part_texts (struct fields parts) = struct_text (field_texts fields) ∷ part_texts parts
   part_texts (close fields parts) =
       enclosed (codes "close(") (struct_text (field_texts fields)) (codes ")") ∷ part_texts parts
-  part_texts (list elements goes_on parts) =
-      list_text (element_texts elements) goes_on ∷ part_texts parts
+  part_texts (list elements ending parts) =
+      list_text (element_texts elements ++ ending_texts ending) ∷ part_texts parts
   part_texts (bottom parts) = codes "_|_" ∷ part_texts parts
 
   pub field_texts : Fields → List (List ℕ)
@@ -111,6 +106,11 @@ unfoldable mutual
   pub element_texts : Elements → List (List ℕ)
   element_texts no_elements = []
   element_texts (element value elements) = value_text value ∷ element_texts elements
+
+  pub ending_texts : Ending → List (List ℕ)
+  ending_texts ends = []
+  ending_texts goes_on = codes "..." ∷ []
+  ending_texts (goes_on_as value) = (codes "..." ++ value_text value) ∷ []
 
 -- ---- files
 abbrev pub line : List ℕ → List ℕ

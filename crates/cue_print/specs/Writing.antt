@@ -1,10 +1,10 @@
 -- How the program puts texts together.
-use Rattle.std.specs.Prelude.{ℕ, Bool, true, false, not, ◌||◌, List, [], ◌++◌, Option, None, Some}
-use Rattle.std.specs.Prelude.{is_some, nat_lt, ◌==◌, codes, if◌then◌else◌}
+use Rattle.std.specs.Prelude.{ℕ, Bool, true, false, not, ◌||◌, ◌&&◌, List, [], ◌++◌, Option, None}
+use Rattle.std.specs.Prelude.{Some, is_some, nat_lt, ◌==◌, codes, if◌then◌else◌}
 use Rattle.std.specs.List.{flat_map}
 use Rattle.cue_row.specs.declared.row.Row.{Row}
 use Rattle.cue_print.specs.Expressions.{Value, top, all, no_parts, Fields}
-use Rattle.cue_print.specs.Spelled.{joined, enclosed, value_text, part_texts, element_texts}
+use Rattle.cue_print.specs.Spelled.{list_text, value_text, part_texts, element_texts}
 use Rattle.cue_print.specs.Printed.{outside, struct_if_any, struct_part, list_part, has_field}
 use Rattle.cue_print.specs.Printed.{elements}
 
@@ -37,27 +37,33 @@ struct_before row fields =
     else []
 
 -- ---- lists
--- whether a list may be longer than the least length, or is told in two parts
-abbrev pub goes_on : ℕ → Option ℕ → Bool
-goes_on least None = true
-goes_on least (Some most) = not (least == most)
+-- whether the elements alone tell a list
+abbrev pub is_exact : ℕ → Option ℕ → Option Value → Bool
+is_exact least None further = false
+is_exact least (Some most) further = least == most && not (is_some further)
 
--- what ends the elements of a list, by their number
-abbrev pub ellipsis_text : ℕ → Bool → List ℕ
-ellipsis_text count false = []
-ellipsis_text count true = lead (codes ", ") (count == 0) ++ codes "..."
+-- what each further element is, where something is said of it
+abbrev pub told_text : Option Value → List ℕ
+told_text None = []
+told_text (Some value) = value_text value
 
--- the list of the greatest length, behind others; nothing where that is the least, or there is none
-unfoldable pub longest_text : ℕ → Option ℕ → List ℕ
-longest_text least None = []
-longest_text least (Some most) =
-    if least == most then []
-    else conjoined (enclosed (codes "[")
-    (joined (codes ", ") (element_texts (elements most (λ n. top)))) (codes "]"))
+-- what ends the elements of a list, by their number and whether they alone tell it
+abbrev pub ending_text : ℕ → Bool → Option Value → List ℕ
+ending_text count true further = []
+ending_text count false further =
+    lead (codes ", ") (count == 0) ++ (codes "..." ++ told_text further)
+
+-- the list of the greatest length, behind others; nothing where the elements alone tell it, or there
+-- is none
+unfoldable pub longest_text : Option ℕ → Bool → List ℕ
+longest_text None is_exact = []
+longest_text (Some most) true = []
+longest_text (Some most) false =
+    conjoined (list_text (element_texts (elements most (λ n. top))))
 
 -- the list part of a place where nothing may stand, in front of others
-unfoldable pub list_before : Row → (ℕ → Value) → List ℕ
-list_before row value_at =
-    if nat_lt 0 row.least || is_some row.most
-    then value_text (all (list_part row.least row.most value_at no_parts)) ++ codes " & "
+unfoldable pub list_before : Row → (ℕ → Value) → Option Value → List ℕ
+list_before row value_at further =
+    if nat_lt 0 row.least || is_some row.most || is_some further
+    then value_text (all (list_part row.least row.most value_at further no_parts)) ++ codes " & "
     else []

@@ -1,16 +1,17 @@
 //! What places are printed as.
 ghost use Rattle.std.specs.Prelude.{◌≡◌, ◌++◌, ◌||◌, is_some, nat_lt, codes, OnOk, string_bytes};
 ghost use Rattle.std.specs.Option.{option_map};
-ghost use Rattle.cue_table.specs.Tree.{below, row_of};
+ghost use Rattle.cue_table.specs.Tree.{below, rest_of, row_of};
 ghost use Rattle.cue_row.specs.Quoted.{quoted};
 ghost use Rattle.cue_print.specs.Expressions.{top, all, no_parts};
 ghost use Rattle.cue_print.specs.Spelled.{joined, mark_text, value_text, field_texts};
 ghost use Rattle.cue_print.specs.Spelled.{element_texts};
 ghost use Rattle.cue_print.specs.Printed.{struct_part, list_part, nothing_value, elements, inside};
 ghost use Rattle.cue_print.specs.Printed.{has_field, level_at};
-ghost use Rattle.cue_print.specs.Printed.{value_of, fields_below, element_below};
-ghost use Rattle.cue_print.specs.Writing.{beside_text, struct_before, opening, goes_on};
-ghost use Rattle.cue_print.specs.Writing.{ellipsis_text, longest_text, list_before};
+ghost use Rattle.cue_print.specs.Printed.{value_of, fields_below, element_below, element_at};
+ghost use Rattle.cue_print.specs.Printed.{rest_value};
+ghost use Rattle.cue_print.specs.Writing.{beside_text, struct_before, opening, is_exact};
+ghost use Rattle.cue_print.specs.Writing.{ending_text, longest_text, list_before};
 
 use crate::scalar::push_scalar;
 use crate::writer::separate;
@@ -59,8 +60,9 @@ fn push_nothing(
     branch: &Branch<Row>,
 ) -> Result<(), Memory>
     ensures { OnOk result (string_bytes out.new ≡ string_bytes out.old
-        ++ value_text (nothing_value row.now
-        (fields_below (below branch.now)) (element_below (below branch.now)))) }
+        ++ value_text (nothing_value row.now (fields_below (below branch.now))
+        (element_at (rest_of branch.now) (element_below (below branch.now)))
+        (rest_value (rest_of branch.now)))) }
 {
     push_struct_before(alloc, out, row, branch)?;
     push_list_before(alloc, out, row, branch)?;
@@ -98,7 +100,7 @@ fn has_struct_part(row: &Row, branch: &Branch<Row>) -> bool
     has_field(branch)
 }
 
-/// Writes a list in front of other parts, where lengths are left out.
+/// Writes a list in front of other parts, where lengths are left out or further elements are told.
 #[cycle(walk)]
 #[tactic(auto, unfolding(crate::specs::Writing::list_before))]
 fn push_list_before(
@@ -108,9 +110,10 @@ fn push_list_before(
     branch: &Branch<Row>,
 ) -> Result<(), Memory>
     ensures { OnOk result (string_bytes out.new ≡ string_bytes out.old
-        ++ list_before row.now (element_below (below branch.now))) }
+        ++ list_before row.now (element_at (rest_of branch.now) (element_below (below branch.now)))
+        (rest_value (rest_of branch.now))) }
 {
-    if !has_list_part(row) {
+    if !has_list_part(row, branch) {
         return Ok(());
     }
     push_list(alloc, out, row, branch)?;
@@ -118,11 +121,19 @@ fn push_list_before(
     Ok(())
 }
 
-/// Whether lengths are left out at a place.
-fn has_list_part(row: &Row) -> bool
-    ensures { result ≡ (nat_lt 0 row.now.least || is_some row.now.most) }
+/// Whether lengths are left out at a place, or something is said of further elements.
+fn has_list_part(row: &Row, branch: &Branch<Row>) -> bool
+    ensures { result ≡ (nat_lt 0 row.now.least || is_some row.now.most
+        || is_some (rest_value (rest_of branch.now))) }
 {
-    row.least > 0 || row.most.is_some()
+    row.least > 0 || row.most.is_some() || is_told(branch)
+}
+
+/// Whether something is said of the further elements of a place.
+fn is_told(branch: &Branch<Row>) -> bool
+    ensures { result ≡ is_some (rest_value (rest_of branch.now)) }
+{
+    branch.rest().is_some()
 }
 
 /// Whether a label stands below a place.
@@ -293,35 +304,49 @@ fn push_mark(out: &mut String, level: Level) -> Result<(), Memory>
 fn push_list(alloc: Global, out: &mut String, row: &Row, branch: &Branch<Row>) -> Result<(), Memory>
     ensures { OnOk result (string_bytes out.new ≡ string_bytes out.old
         ++ value_text (all (list_part row.now.least row.now.most
-        (element_below (below branch.now)) no_parts))) }
+        (element_at (rest_of branch.now) (element_below (below branch.now)))
+        (rest_value (rest_of branch.now)) no_parts))) }
 {
+    let is_exact = is_exact(row, branch);
     out.push_str("[")?;
     push_elements(alloc, out, row.least, branch)?;
-    push_ellipsis(out, row.least, goes_on(row.least, row.most))?;
+    push_ending(alloc, out, row.least, is_exact, branch)?;
     out.push_str("]")?;
-    push_longest(out, row.least, row.most)
+    push_longest(out, row.most, is_exact)
 }
 
-/// Whether a list may be longer than the least length, or is told in two parts.
-fn goes_on(least: u32, most: Option<u32>) -> bool
-    ensures { result ≡ goes_on least most }
+/// Whether the elements alone tell a list: it has one length, and nothing is said of further
+/// elements.
+fn is_exact(row: &Row, branch: &Branch<Row>) -> bool
+    ensures { result ≡ is_exact row.now.least row.now.most (rest_value (rest_of branch.now)) }
 {
-    match most {
-        None => true,
-        Some(most) => least != most,
+    match row.most {
+        None => false,
+        Some(most) => row.least == most && !is_told(branch),
     }
 }
 
-/// Writes what ends the elements of a list, by their number.
-fn push_ellipsis(out: &mut String, count: u32, goes_on: bool) -> Result<(), Memory>
-    ensures { OnOk result (string_bytes out.new
-        ≡ string_bytes out.old ++ ellipsis_text count goes_on) }
+/// Writes what ends the elements of a list, by their number and whether they alone tell it.
+#[cycle(walk)]
+fn push_ending(
+    alloc: Global,
+    out: &mut String,
+    count: u32,
+    is_exact: bool,
+    branch: &Branch<Row>,
+) -> Result<(), Memory>
+    ensures { OnOk result (string_bytes out.new ≡ string_bytes out.old
+        ++ ending_text count is_exact (rest_value (rest_of branch.now))) }
 {
-    if goes_on {
-        separate(out, ", ", count == 0)?;
-        out.push_str("...")?;
+    if is_exact {
+        return Ok(());
     }
-    Ok(())
+    separate(out, ", ", count == 0)?;
+    out.push_str("...")?;
+    match branch.rest() {
+        None => Ok(()),
+        Some(rest) => push_value(alloc, out, &rest),
+    }
 }
 
 /// Writes as many elements of a place.
@@ -334,7 +359,7 @@ fn push_elements(
 ) -> Result<(), Memory>
     ensures { OnOk result (string_bytes out.new ≡ string_bytes out.old
         ++ joined (codes ", ") (element_texts (elements count
-        (element_below (below branch.now))))) }
+        (element_at (rest_of branch.now) (element_below (below branch.now)))))) }
 {
     for number in 0..count {
         separate(out, ", ", number == 0)?;
@@ -346,15 +371,16 @@ fn push_elements(
     Ok(())
 }
 
-/// Writes a list of the greatest length, where that is not the least.
+/// Writes a list of the greatest length behind others, unless the elements alone tell the list.
 #[tactic(auto, unfolding(crate::specs::Writing::longest_text))]
-fn push_longest(out: &mut String, least: u32, most: Option<u32>) -> Result<(), Memory>
-    ensures { OnOk result (string_bytes out.new ≡ string_bytes out.old ++ longest_text least most) }
+fn push_longest(out: &mut String, most: Option<u32>, is_exact: bool) -> Result<(), Memory>
+    ensures { OnOk result (string_bytes out.new
+        ≡ string_bytes out.old ++ longest_text most is_exact) }
 {
     let Some(most) = most else {
         return Ok(());
     };
-    if least == most {
+    if is_exact {
         return Ok(());
     }
     out.push_str(" & [")?;

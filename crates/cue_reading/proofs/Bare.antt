@@ -1,11 +1,11 @@
 -- The tree that a table is printed as has no places.
 use Rattle.std.proofs.Common.{◌≡◌, ℕ, Bool, true, false, List, [], ◌∷◌, map, Option, None, Some, refl, ap, ap₂, if◌then◌else◌}
 use Rattle.cue_syntax.specs.Syntax as grammar
-use Rattle.cue_syntax.specs.Unplaced.{unplaced, unplaced_elements, unplaced_branches, unplaced_entries, unplaced_file}
+use Rattle.cue_syntax.specs.Unplaced.{unplaced, unplaced_elements, unplaced_rest, unplaced_branches, unplaced_entries, unplaced_file}
 use Rattle.cue_print.specs.Expressions.{Term, null, truths, truth, integers, number, at_most, at_least, between, texts, text, other_texts}
-use Rattle.cue_print.specs.Expressions.{Value, top, scalar, all, Parts, no_parts, struct, close, list, bottom, Fields, no_more, field, Elements, no_elements, element}
+use Rattle.cue_print.specs.Expressions.{Value, top, scalar, all, Parts, no_parts, struct, close, list, bottom, Fields, no_more, field, Elements, no_elements, element, Ending, ends, goes_on, goes_on_as}
 use Rattle.cue_print.specs.Spelled.{is_compound}
-use Rattle.cue_reading.specs.PrintedTree.{unified, label_of, term_tree, branches, terms_branches, terms_tree, operand_tree, scalar_tree, value_tree, part_trees, field_trees, element_trees, has_some, file_tree, rest_tree}
+use Rattle.cue_reading.specs.PrintedTree.{unified, label_of, term_tree, branches, terms_branches, terms_tree, operand_tree, scalar_tree, value_tree, part_trees, field_trees, element_trees, ending_tree, has_some, file_tree}
 
 bare_texts : (ts : List (List ℕ)) → unplaced_elements (grammar.elements_of (map grammar.other_text ts)) ≡ grammar.elements_of (map grammar.other_text ts)
 bare_texts [] = refl
@@ -70,7 +70,7 @@ mutual
   bare_parts no_parts = refl
   bare_parts (struct fields parts) = ap₂ (λ fs es. grammar.element (grammar.struct fs false) es) (bare_fields fields) (bare_parts parts)
   bare_parts (close fields parts) = ap₂ (λ fs es. grammar.element (grammar.close 0 fs false false) es) (bare_fields fields) (bare_parts parts)
-  bare_parts (list elements goes_on parts) = ap₂ (λ ls es. grammar.element (grammar.list ls (rest_tree goes_on) false) es) (bare_elements elements) (bare_parts parts)
+  bare_parts (list elements ending parts) = ap₂ grammar.element (ap₂ (λ ls rest. grammar.list ls rest false) (bare_elements elements) (bare_ending ending)) (bare_parts parts)
   bare_parts (bottom parts) = ap (λ es. grammar.element grammar.bottom es) (bare_parts parts)
 
   pub bare_fields : (fields : Fields) → unplaced_entries (field_trees fields) ≡ field_trees fields
@@ -80,6 +80,11 @@ mutual
   bare_elements : (elements : Elements) → unplaced_elements (element_trees elements) ≡ element_trees elements
   bare_elements no_elements = refl
   bare_elements (element value elements) = ap₂ grammar.element (bare_value value) (bare_elements elements)
+
+  bare_ending : (ending : Ending) → unplaced_rest (ending_tree ending) ≡ ending_tree ending
+  bare_ending ends = refl
+  bare_ending goes_on = refl
+  bare_ending (goes_on_as value) = ap grammar.each_rest (bare_value value)
 
 -- The tree of a printed file has no places.
 pub unplaced_already : (fields : Fields) → unplaced_file (file_tree fields) ≡ file_tree fields

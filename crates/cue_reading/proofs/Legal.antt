@@ -6,12 +6,12 @@ use Rattle.cue_scope.specs.Core.{Core, is_scalar, are_scalar, are_scalar_choices
 use Rattle.cue_scope.specs.Definitions.{definitions}
 use Rattle.cue_scope.specs.Graph.{IsIn, IsReached, start, go_on}
 use Rattle.cue_scope.specs.Meaning.{meant, meant_elements, meant_branches}
-use Rattle.cue_scope.specs.Names.{Scope, has_label, inside, faults, faults_of_elements, faults_of_branches, faults_of_entries}
-use Rattle.cue_scope.specs.Terms.{terms, terms_of_elements, terms_of_branches, terms_of_entries}
+use Rattle.cue_scope.specs.Names.{Scope, has_label, inside, faults, faults_of_elements, faults_of_rest, faults_of_branches, faults_of_entries}
+use Rattle.cue_scope.specs.Terms.{terms, terms_of_elements, terms_of_rest, terms_of_branches, terms_of_entries}
 use Rattle.cue_print.specs.Expressions.{Term, null, truths, truth, integers, number, at_most, at_least, between, texts, text, other_texts}
-use Rattle.cue_print.specs.Expressions.{Value, top, scalar, all, Parts, no_parts, struct, close, list, bottom, Fields, no_more, field, Elements, no_elements, element}
+use Rattle.cue_print.specs.Expressions.{Value, top, scalar, all, Parts, no_parts, struct, close, list, bottom, Fields, no_more, field, Elements, no_elements, element, Ending, ends, goes_on, goes_on_as}
 use Rattle.cue_print.specs.Spelled.{is_compound}
-use Rattle.cue_reading.specs.PrintedTree.{unified, term_tree, branches, terms_branches, terms_tree, operand_tree, scalar_tree, value_tree, part_trees, field_trees, element_trees}
+use Rattle.cue_reading.specs.PrintedTree.{unified, term_tree, branches, terms_branches, terms_tree, operand_tree, scalar_tree, value_tree, part_trees, field_trees, element_trees, ending_tree}
 use Rattle.cue_reading.proofs.Places.{both_none}
 
 -- no label is in scope
@@ -95,7 +95,7 @@ mutual
   parts_named no_parts scope out = refl
   parts_named (struct fields parts) scope out = both_none (fields_named fields (inside (field_trees fields) scope) (open_inside fields scope out)) (parts_named parts scope out)
   parts_named (close fields parts) scope out = both_none (closed_named scope (field_trees fields) out (fields_named fields (inside (field_trees fields) scope) (open_inside fields scope out))) (parts_named parts scope out)
-  parts_named (list elements goes_on parts) scope out = both_none (elements_named elements scope out) (parts_named parts scope out)
+  parts_named (list elements ending parts) scope out = both_none (both_none (elements_named elements scope out) (ending_named ending scope out)) (parts_named parts scope out)
   parts_named (bottom parts) scope out = parts_named parts scope out
 
   pub fields_named : (fields : Fields) (scope : Scope) → IsOpen scope → faults_of_entries [] scope (field_trees fields) ≡ []
@@ -105,6 +105,11 @@ mutual
   elements_named : (elements : Elements) (scope : Scope) → IsOpen scope → faults_of_elements [] scope (element_trees elements) ≡ []
   elements_named no_elements scope out = refl
   elements_named (element value elements) scope out = both_none (value_named value scope out) (elements_named elements scope out)
+
+  ending_named : (ending : Ending) (scope : Scope) → IsOpen scope → faults_of_rest [] scope (ending_tree ending) ≡ []
+  ending_named ends scope out = refl
+  ending_named goes_on scope out = refl
+  ending_named (goes_on_as value) scope out = value_named value scope out
 
 -- ---- definitions
 pub no_definitions : (fields : Fields) → definitions (field_trees fields) ≡ []
@@ -220,7 +225,7 @@ mutual
   parts_terms no_parts meaning = refl
   parts_terms (struct fields parts) meaning = both_none (fields_terms fields meaning) (parts_terms parts meaning)
   parts_terms (close fields parts) meaning = both_none (fields_terms fields meaning) (parts_terms parts meaning)
-  parts_terms (list elements goes_on parts) meaning = both_none (elements_terms elements meaning) (parts_terms parts meaning)
+  parts_terms (list elements ending parts) meaning = both_none (both_none (elements_terms elements meaning) (ending_terms ending meaning)) (parts_terms parts meaning)
   parts_terms (bottom parts) meaning = parts_terms parts meaning
 
   pub fields_terms : (fields : Fields) (meaning : ℕ → Core) → terms_of_entries [] meaning (field_trees fields) ≡ []
@@ -230,3 +235,8 @@ mutual
   elements_terms : (elements : Elements) (meaning : ℕ → Core) → terms_of_elements [] meaning (element_trees elements) ≡ []
   elements_terms no_elements meaning = refl
   elements_terms (element value elements) meaning = both_none (value_terms value meaning) (elements_terms elements meaning)
+
+  ending_terms : (ending : Ending) (meaning : ℕ → Core) → terms_of_rest [] meaning (ending_tree ending) ≡ []
+  ending_terms ends meaning = refl
+  ending_terms goes_on meaning = refl
+  ending_terms (goes_on_as value) meaning = value_terms value meaning

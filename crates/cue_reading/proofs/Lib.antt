@@ -5,6 +5,7 @@ pub mod Names
 pub mod Decimals
 pub mod Texts
 pub mod Integers
+pub mod Pieces
 pub mod Placed
 pub mod Rows
 pub mod Terms

@@ -118,6 +118,13 @@ pub ellipsis_read : IsRead (codes "...") (kinds.Mark points.Ellipsis ∷ [])
 unfolding mark
 ellipsis_read = mark_read (codes "...") points.Ellipsis (omega arith) refl refl refl (λ rest. refl)
 
+-- and in front of a text that goes on
+pub ellipsis_read_on : {text : List ℕ} {k : List TokenKind} → IsRead text k → IsRead (codes "..." ++ text) (kinds.Mark points.Ellipsis ∷ k)
+unfolding mark
+ellipsis_read_on {text} {k} is = record {
+  reads = λ ended rest more stops after. one_mark {text = codes "..."} {rest = text ++ rest} (omega arith) (ascii_text (codes "...") refl) refl (is.reads true rest more stops after);
+}
+
 pub close_parenthesis_read : IsRead (codes ")") (kinds.Mark points.CloseParenthesis ∷ [])
 unfolding mark single_mark
 close_parenthesis_read = mark_read (codes ")") points.CloseParenthesis (omega arith) refl refl refl (λ rest. refl)

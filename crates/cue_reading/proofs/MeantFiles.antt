@@ -1,6 +1,7 @@
 -- The tree that a valid table is printed as means the table.
 use Rattle.std.proofs.Common.{◌≡◌, ◌↔◌, inl, ⊎_elim, ℕ, List, [], ◌∷◌, Option, None, Some, refl, sym, ap, subst, ◌∙◌}
 use Rattle.std.proofs.lemmas.Bool.{false≢true}
+use Rattle.cue_lattice.specs.Limits.{step_limit}
 use Rattle.cue_lattice.specs.Path.{label, index, Path}
 use Rattle.cue_lattice.specs.Question.{Question, SameAnswers}
 use Rattle.cue_row.specs.declared.level.Level.TheVariants.{Optional}
@@ -16,10 +17,11 @@ use Rattle.cue_scope.specs.Definitions.{Definition, definitions}
 use Rattle.cue_scope.specs.Meaning.{meaning, meant, meant_members, meant_fields}
 use Rattle.cue_table.specs.Form.{IsTree}
 use Rattle.cue_table.specs.Refuses.{TableRefuses}
-use Rattle.cue_table.specs.Tree.{Tree, node}
+use Rattle.cue_table.specs.Tree.{Tree, node, find, find_with}
 use Rattle.cue_table.specs.Inner.ValidWalk.{IsSound}
 use Rattle.cue_table.specs.Valid.{IsValidTable}
-use Rattle.cue_table.proofs.Validity.{valid_sound, valid_root}
+use Rattle.cue_table.proofs.Depth.{depth_rows}
+use Rattle.cue_table.proofs.Validity.{valid_root, valid_walk}
 use Rattle.cue_syntax.specs.Syntax.{Entries}
 use Rattle.cue_syntax.specs.Unplaced.{unplaced_entries}
 use Rattle.cue_eval.specs.Places.{StructRefuses}
@@ -31,7 +33,7 @@ use Rattle.cue_reading.specs.Inner.Meanings.{FieldsRefuse, LabelsRefuse}
 use Rattle.cue_reading.specs.Meant.{IsMeantAgain}
 use Rattle.cue_reading.proofs.MeantKinds.{as_struct, struct_no_elements}
 use Rattle.cue_reading.proofs.MeantStructs.{open_silent}
-use Rattle.cue_reading.proofs.MeantTrees.{Kept, fit_below, optional_row, fields_mean, elements_mean}
+use Rattle.cue_reading.proofs.MeantTrees.{Kept, fit_below, label_with, optional_row, same_found, fields_mean, elements_mean, rest_means}
 use Rattle.cue_reading.proofs.Places.{declarations_placed}
 
 -- of what is printed each declaration is regular
@@ -62,26 +64,29 @@ root_refuses row valid is none level question =
 file_means : (ds : List Definition) (m : ℕ → Core) (table : Tree Row) (fields : Fields) → IsValidTable table → file_of table ≡ Some fields
     → SameAnswers (LiteralRefuses (FieldsRefuse ds m fields)) (TableRefuses RowRefuses table)
 unfolding file_of
-file_means ds m (node None children) fields valid is path question = cc
-file_means ds m (node (Some row) children) fields valid is path question =
+file_means ds m (node None children rest) fields valid is path question = cc
+file_means ds m (node (Some row) children rest) fields valid is path question =
     let same : fields_below children ≡ fields = cc in
-    subst (λ fs. LiteralRefuses (FieldsRefuse ds m fs) path question ↔ TableRefuses RowRefuses (node (Some row) children) path question) same (by_path path)
+    subst (λ fs. LiteralRefuses (FieldsRefuse ds m fs) path question ↔ TableRefuses RowRefuses (node (Some row) children rest) path question) same (by_path path)
   where
-    sound : IsSound (node (Some row) children)
-    sound = valid_sound (node (Some row) children) row refl valid
+    sound : IsSound (node (Some row) children rest)
+    sound = ((valid_walk (node (Some row) children rest) row valid.form (depth_rows Kept step_limit (node (Some row) children rest) valid.form (λ path r e. valid.paths path r e)) refl).1 valid).1
 
-    form : IsTree Kept (node (Some row) children)
+    form : IsTree Kept (node (Some row) children rest)
     form = valid.form
 
-    by_path : (path : Path) → LiteralRefuses (FieldsRefuse ds m (fields_below children)) path question ↔ TableRefuses RowRefuses (node (Some row) children) path question
+    by_path : (path : Path) → LiteralRefuses (FieldsRefuse ds m (fields_below children)) path question ↔ TableRefuses RowRefuses (node (Some row) children rest) path question
     by_path [] =
-        let root = valid_root (node (Some row) children) row refl valid in
+        let root = valid_root (node (Some row) children rest) row refl valid in
         root_refuses row sound.0 root.0.0 root.0.1 root.1 question
-    by_path (label l ∷ path) = fields_mean ds m row children form.1 sound.1 l path question
+    by_path (label l ∷ path) =
+        let below = fields_mean ds m row children form.1 sound.2 l path question in
+        let same = same_found (find_with rest (label l) children) (find (label l) children) path question (label_with rest l children) in
+        (λ h. same.1 (below.0 h), λ h. below.1 (same.0 h))
     by_path (index n ∷ path) =
-        let root = valid_root (node (Some row) children) row refl valid in
-        let below = elements_mean ds m row children form.1 sound.1 n path question in
-        (λ h. absurd h, λ h. absurd (struct_no_elements row root.0.0 ((fit_below ds m row children sound.1).elements n path question (below.1 h))))
+        let root = valid_root (node (Some row) children rest) row refl valid in
+        let below = rest_means ds m rest row children form.2 sound.3 (elements_mean ds m row children form.1 sound.2) n path question in
+        (λ h. absurd h, λ h. absurd (struct_no_elements row root.0.0 ((fit_below ds m row children rest sound.2 sound.3).elements n path question (below.1 h))))
 
 -- what the declarations mean, wherever they stand
 declarations_mean : (es : Entries) (ds : List Definition) (m : ℕ → Core) (table : Tree Row) (fields : Fields) → IsValidTable table → file_of table ≡ Some fields → unplaced_entries es ≡ field_trees fields

@@ -1,6 +1,6 @@
 -- What a printed row means, with what is printed below it.
-use Rattle.std.proofs.Common.{◌≡◌, ◌↔◌, ◌⊎◌, inl, inr, ⊎_elim, ℕ, ◌<◌, Bool, true, false, ◌||◌, List, [], ◌∷◌, Option, None, Some, is_some, refl, sym, ap, subst, ◌∙◌, if◌then◌else◌, nat_lt, arith}
-use Rattle.std.proofs.lemmas.Bool.{false≢true, or_parts, lt-ltb}
+use Rattle.std.proofs.Common.{◌≡◌, ◌↔◌, ◌⊎◌, inl, inr, ⊎_elim, ℕ, ◌<◌, ◌≤◌, Bool, true, false, ◌||◌, List, [], ◌∷◌, Option, None, Some, is_some, refl, sym, ap, subst, ◌∙◌, if◌then◌else◌, nat_lt, arith}
+use Rattle.std.proofs.lemmas.Bool.{false≢true, or_parts, lt-ltb, ltb-false}
 use Rattle.cue_lattice.specs.Path.{Path, label, index}
 use Rattle.cue_lattice.specs.Question.{Question, may_be, usual, struct, list, allows, level_at_most, length_at_most, length_at_least}
 use Rattle.cue_row.specs.Row.{IsRow}
@@ -22,7 +22,7 @@ use Rattle.cue_print.specs.Expressions.{Term, Value, top, all, Parts, no_parts, 
 use Rattle.cue_print.specs.Printed.{struct_part, list_part, scalar_value, has_field, struct_left, list_left, nothing_value, scalar_or_nothing, value_by, row_value}
 use Rattle.cue_print.specs.Terms.{terms_of}
 use Rattle.cue_reading.specs.PrintedTree.{unified, value_tree, part_trees}
-use Rattle.cue_reading.specs.Inner.Meanings.{ValueRefuses, OnePartRefuses, FieldsRefuse, AreDistinct, LabelsRefuse, AsStruct, AsList, RowAndBelow, Fit}
+use Rattle.cue_reading.specs.Inner.Meanings.{ValueRefuses, OnePartRefuses, FieldsRefuse, AreFurther, AreDistinct, LabelsRefuse, AsStruct, AsList, RowAndBelow, Fit}
 use Rattle.cue_reading.specs.Inner.ScalarMeaning.{SetsRefuse, printed_scalars}
 use Rattle.cue_reading.proofs.MeantFields.{top_silent, no_field_silent}
 use Rattle.cue_reading.proofs.MeantKinds.{free_no_fields, free_no_elements, scalar_no_fields, scalar_no_elements, struct_no_elements, list_no_fields, as_free, as_scalar, as_struct, as_list, BottomRefuses, JustLengths, just_lengths, nothing_struct, nothing_list, nothing_bottom, nothing_refuses}
@@ -115,8 +115,17 @@ module _ (ds : List Definition) (meaning : ℕ → Core) where
   lengths_there least most (length_at_most n) h e = least_there least n (is_some most) h e
   lengths_there least most (length_at_least n) h e = most_there least most n h e
 
+  -- where the list is left out, nothing is refused in it
+  elements_there : (least : ℕ) (most : Bool) (value_at : ℕ → Value) (further : Option Value) (i : ℕ) (path : Path) (question : Question) → AreFurther least value_at further
+      → ValueRefuses ds meaning (value_at i) path question → (nat_lt 0 least || most || is_some further) ≡ false → ⊥
+  elements_there least most value_at (Some value) i path question alike h e = false≢true (sym (or_parts (nat_lt 0 least || most) true e).1)
+  elements_there least most value_at None i path question alike h e =
+      let none : least ≤ 0 = ltb-false 0 least (or_parts (nat_lt 0 least) most (or_parts (nat_lt 0 least || most) false e).0).0 in
+      let far : least ≤ i = omega arith in
+      top_silent ds meaning path question (subst (λ v. ValueRefuses ds meaning v path question) (alike i far) h)
+
   -- ---- a row, by what is printed below it
-  module _ (row : Row) (fields : Fields) (value_at : ℕ → Value) where
+  module _ (row : Row) (fields : Fields) (value_at : ℕ → Value) (further : Option Value) where
     abbrev Labelled : List ℕ → Path → Question → Type 0
     Labelled = FieldsRefuse ds meaning fields
 
@@ -127,11 +136,11 @@ module _ (ds : List Definition) (meaning : ℕ → Core) where
     abbrev pub Means : Value → Type 0
     Means value = (path : Path) (question : Question) → ValueRefuses ds meaning value path question ↔ RowAndBelow row Labelled Numbered path question
 
-    chosen : (s l : Bool) → row.struct_ok ≡ s → row.list_ok ≡ l → row_value row fields value_at ≡ value_by s l row fields value_at
+    chosen : (s l : Bool) → row.struct_ok ≡ s → row.list_ok ≡ l → row_value row fields value_at further ≡ value_by s l row fields value_at further
     unfolding row_value
-    chosen s l e f = ap (λ b. value_by b row.list_ok row fields value_at) e ∙ ap (λ b. value_by s b row fields value_at) f
+    chosen s l e f = ap (λ b. value_by b row.list_ok row fields value_at further) e ∙ ap (λ b. value_by s b row fields value_at further) f
 
-    module _ (is : IsRow row) (lengths : IsValidRow row) (distinct : AreDistinct fields) (fit : Fit row Labelled Numbered) where
+    module _ (is : IsRow row) (lengths : IsValidRow row) (distinct : AreDistinct fields) (alike : AreFurther row.least value_at further) (fit : Fit row Labelled Numbered) where
       free_means : IsKind row kinds.Free → UsualFits row kinds.Free → LabelsFit row kinds.Free → LengthsFit row kinds.Free → Means top
       free_means kind common labels bounds [] question = (λ h. absurd (top_silent ds meaning [] question h), λ h. absurd (as_free row kind common labels bounds question h))
       free_means kind common labels bounds (label l ∷ path) question = (λ h. absurd (top_silent ds meaning (label l ∷ path) question h), λ h. absurd (free_no_fields row kind (fit.fields l path question h)))
@@ -157,69 +166,69 @@ module _ (ds : List Definition) (meaning : ℕ → Core) where
         by_path (label l ∷ path) = here (label l ∷ path)
         by_path (index i ∷ path) = (λ h. absurd ((here (index i ∷ path)).0 h), λ h. absurd (struct_no_elements row kind (fit.elements i path question h)))
 
-      list_row_means : IsKind row kinds.List → UsualFits row kinds.List → LabelsFit row kinds.List → Means (all (list_part row.least row.most value_at no_parts))
+      list_row_means : IsKind row kinds.List → UsualFits row kinds.List → LabelsFit row kinds.List → Means (all (list_part row.least row.most value_at further no_parts))
       list_row_means kind common labels path question = by_path path where
-        here : (path : Path) → ValueRefuses ds meaning (all (list_part row.least row.most value_at no_parts)) path question ↔ AsList row.least row.most Numbered path question
-        here path = alone (list_part row.least row.most value_at no_parts) path question (list_means ds meaning row.least row.most value_at no_parts lengths.limits path question)
+        here : (path : Path) → ValueRefuses ds meaning (all (list_part row.least row.most value_at further no_parts)) path question ↔ AsList row.least row.most Numbered path question
+        here path = alone (list_part row.least row.most value_at further no_parts) path question (list_means ds meaning row.least row.most value_at further no_parts lengths.limits alike path question)
 
-        by_path : (path : Path) → ValueRefuses ds meaning (all (list_part row.least row.most value_at no_parts)) path question ↔ RowAndBelow row Labelled Numbered path question
+        by_path : (path : Path) → ValueRefuses ds meaning (all (list_part row.least row.most value_at further no_parts)) path question ↔ RowAndBelow row Labelled Numbered path question
         by_path [] = let same = as_list row kind common labels question in (λ h. same.0 ((here []).0 h), λ h. (here []).1 (same.1 h))
         by_path (label l ∷ path) = (λ h. absurd ((here (label l ∷ path)).0 h), λ h. absurd (list_no_fields row kind (fit.fields l path question h)))
-        by_path (index i ∷ path) = (λ h. ((here (index i ∷ path)).0 h).1, λ h. (here (index i ∷ path)).1 (fit.least i path question h, h))
+        by_path (index i ∷ path) = here (index i ∷ path)
 
       -- ---- nothing
       abbrev End : Parts
       End = printed.bottom no_parts
 
       abbrev Lists : Parts
-      Lists = list_left row value_at End
+      Lists = list_left row value_at further End
 
       structs : (path : Path) (question : Question) → OnePartRefuses ds meaning (struct_part row.labels fields Lists) path question ↔ (AsStruct row.labels Labelled path question ⊎ OnePartRefuses ds meaning Lists path question)
       structs = struct_means ds meaning row.labels fields Lists distinct
 
-      lists : (path : Path) (question : Question) → OnePartRefuses ds meaning (list_part row.least row.most value_at End) path question ↔ (AsList row.least row.most Numbered path question ⊎ OnePartRefuses ds meaning End path question)
-      lists = list_means ds meaning row.least row.most value_at End lengths.limits
+      lists : (path : Path) (question : Question) → OnePartRefuses ds meaning (list_part row.least row.most value_at further End) path question ↔ (AsList row.least row.most Numbered path question ⊎ OnePartRefuses ds meaning End path question)
+      lists = list_means ds meaning row.least row.most value_at further End lengths.limits alike
 
       abbrev HasStruct : Bool
       HasStruct = is_some row.labels || has_field fields
 
       abbrev HasList : Bool
-      HasList = nat_lt 0 row.least || is_some row.most
+      HasList = nat_lt 0 row.least || is_some row.most || is_some further
 
       -- what one of the three refuses, and from one of them
-      nothing_to : (path : Path) (question : Question) → ValueRefuses ds meaning (nothing_value row fields value_at) path question
+      nothing_to : (path : Path) (question : Question) → ValueRefuses ds meaning (nothing_value row fields value_at further) path question
           → AsStruct row.labels Labelled path question ⊎ (AsList row.least row.most Numbered path question ⊎ Here BottomRefuses path question)
       nothing_to path question h =
           ⊎_elim inl
           (λ g. ⊎_elim (λ f. inr (inl f)) (λ f. inr (inr ((bottom_means path question).0 f)))
-          (left_means (AsList row.least row.most Numbered path question) (list_part row.least row.most value_at End) End path question (lists path question) HasList g))
+          (left_means (AsList row.least row.most Numbered path question) (list_part row.least row.most value_at further End) End path question (lists path question) HasList g))
           (left_means (AsStruct row.labels Labelled path question) (struct_part row.labels fields Lists) Lists path question (structs path question) HasStruct ((all_means (struct_left row fields Lists) path question).0 h))
 
-      from_struct : (path : Path) (question : Question) → (HasStruct ≡ false → ⊥) → AsStruct row.labels Labelled path question → ValueRefuses ds meaning (nothing_value row fields value_at) path question
+      from_struct : (path : Path) (question : Question) → (HasStruct ≡ false → ⊥) → AsStruct row.labels Labelled path question → ValueRefuses ds meaning (nothing_value row fields value_at further) path question
       from_struct path question there h =
           (all_means (struct_left row fields Lists) path question).1
           (left_some (AsStruct row.labels Labelled path question) (struct_part row.labels fields Lists) Lists path question (structs path question) HasStruct there h)
 
-      from_lists : (path : Path) (question : Question) → OnePartRefuses ds meaning Lists path question → ValueRefuses ds meaning (nothing_value row fields value_at) path question
+      from_lists : (path : Path) (question : Question) → OnePartRefuses ds meaning Lists path question → ValueRefuses ds meaning (nothing_value row fields value_at further) path question
       from_lists path question h =
           (all_means (struct_left row fields Lists) path question).1
           (left_rest (AsStruct row.labels Labelled path question) (struct_part row.labels fields Lists) Lists path question (structs path question) HasStruct h)
 
-      from_list : (path : Path) (question : Question) → (HasList ≡ false → ⊥) → AsList row.least row.most Numbered path question → ValueRefuses ds meaning (nothing_value row fields value_at) path question
+      from_list : (path : Path) (question : Question) → (HasList ≡ false → ⊥) → AsList row.least row.most Numbered path question → ValueRefuses ds meaning (nothing_value row fields value_at further) path question
       from_list path question there h =
-          from_lists path question (left_some (AsList row.least row.most Numbered path question) (list_part row.least row.most value_at End) End path question (lists path question) HasList there h)
+          from_lists path question (left_some (AsList row.least row.most Numbered path question) (list_part row.least row.most value_at further End) End path question (lists path question) HasList there h)
 
-      from_bottom : (path : Path) (question : Question) → Here BottomRefuses path question → ValueRefuses ds meaning (nothing_value row fields value_at) path question
+      from_bottom : (path : Path) (question : Question) → Here BottomRefuses path question → ValueRefuses ds meaning (nothing_value row fields value_at further) path question
       from_bottom path question h =
-          from_lists path question (left_rest (AsList row.least row.most Numbered path question) (list_part row.least row.most value_at End) End path question (lists path question) HasList ((bottom_means path question).1 h))
+          from_lists path question (left_rest (AsList row.least row.most Numbered path question) (list_part row.least row.most value_at further End) End path question (lists path question) HasList ((bottom_means path question).1 h))
 
-      nothing_means : IsKind row kinds.Nothing → UsualFits row kinds.Nothing → Means (nothing_value row fields value_at)
+      nothing_means : IsKind row kinds.Nothing → UsualFits row kinds.Nothing → Means (nothing_value row fields value_at further)
       nothing_means kind common [] question = (
         λ h. ⊎_elim (nothing_struct row kind common question) (λ g. ⊎_elim (nothing_list row kind common question) (nothing_bottom row kind common question) g) (nothing_to [] question h),
         λ h. ⊎_elim (from_bottom [] question)
             (λ g. ⊎_elim
             (λ f. from_struct [] question (labels_there row.labels (has_field fields) question f) (inr f))
-            (λ f. from_list [] question (lengths_there row.least row.most question f) (just_lengths row.least row.most question f)) g)
+            (λ f. from_list [] question (λ e. lengths_there row.least row.most question f (or_parts (nat_lt 0 row.least || is_some row.most) (is_some further) e).0) (just_lengths row.least row.most question f)) g)
             (nothing_refuses row kind common question h),
       )
       nothing_means kind common (label l ∷ path) question = (
@@ -227,16 +236,16 @@ module _ (ds : List Definition) (meaning : ℕ → Core) where
         λ h. from_struct (label l ∷ path) question (fields_there (is_some row.labels) fields l path question h) h,
       )
       nothing_means kind common (index i ∷ path) question = (
-        λ h. ⊎_elim (λ g. absurd g) (λ g. ⊎_elim (λ f. f.1) (λ f. absurd f) g) (nothing_to (index i ∷ path) question h),
-        λ h. let low = fit.least i path question h in from_list (index i ∷ path) question (least_there row.least i (is_some row.most) low) (low, h),
+        λ h. ⊎_elim (λ g. absurd g) (λ g. ⊎_elim (λ f. f) (λ f. absurd f) g) (nothing_to (index i ∷ path) question h),
+        λ h. from_list (index i ∷ path) question (elements_there row.least (is_some row.most) value_at further i path question alike h) h,
       )
 
       -- ---- by kinds
-      some_terms : (ts : List Term) → (ts ≡ [] → ⊥) → scalar_or_nothing ts row fields value_at ≡ scalar_value ts (terms_of row.usual) (terms_of (without row.value row.usual))
+      some_terms : (ts : List Term) → (ts ≡ [] → ⊥) → scalar_or_nothing ts row fields value_at further ≡ scalar_value ts (terms_of row.usual) (terms_of (without row.value row.usual))
       some_terms [] some = absurd (some refl)
       some_terms (t ∷ ts) some = refl
 
-      by_kind : (kind : RowKind) → IsKind row kind → UsualFits row kind → LabelsFit row kind → LengthsFit row kind → Means (row_value row fields value_at)
+      by_kind : (kind : RowKind) → IsKind row kind → UsualFits row kind → LabelsFit row kind → LengthsFit row kind → Means (row_value row fields value_at further)
       by_kind kinds.Free k common labels bounds = subst Means (sym (chosen true true k.1 k.2)) (free_means k common labels bounds)
       by_kind kinds.Scalar k common labels bounds =
           let some = some_terms (terms_of row.value) (λ e. k.0 (no_terms row.value is.value e)) in
@@ -244,8 +253,8 @@ module _ (ds : List Definition) (meaning : ℕ → Core) where
       by_kind kinds.Struct k common labels bounds = subst Means (sym (chosen true false k.1 k.2)) (struct_row_means k common bounds)
       by_kind kinds.List k common labels bounds = subst Means (sym (chosen false true k.1 k.2)) (list_row_means k common labels)
       by_kind kinds.Nothing k common labels bounds =
-          let none = ap (λ ts. scalar_or_nothing ts row fields value_at) (empty_terms row.value is.value k.0) in
+          let none = ap (λ ts. scalar_or_nothing ts row fields value_at further) (empty_terms row.value is.value k.0) in
           subst Means (sym (chosen false false k.1 k.2 ∙ none)) (nothing_means k common)
 
-      pub row_means : Means (row_value row fields value_at)
+      pub row_means : Means (row_value row fields value_at further)
       row_means = by_kind lengths.kind lengths.is_kind lengths.usual lengths.labels lengths.row_lengths

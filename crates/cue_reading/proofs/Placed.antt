@@ -1,147 +1,27 @@
 -- A tree is given the places of tokens that have its kinds.
-use Rattle.std.proofs.Common.{◌≡◌, ℕ, Bool, true, false, List, [], ◌∷◌, ◌++◌, Option, None, Some, refl, sym, ap, ap₂, subst, ◌∙◌, append_assoc, append-nil, flat_map, codes}
-use Rattle.std.specs.List.{AllByRecursion}
-use Rattle.std.proofs.lemmas.List.{map-append}
+use Rattle.std.proofs.Common.{◌≡◌, ℕ, Bool, List, [], ◌∷◌, ◌++◌, refl, sym, ap, ap₂, subst, ◌∙◌, append-nil, flat_map, codes}
 use Rattle.cue_lex.specs.declared.token.Token.{Token}
 use Rattle.cue_lex.specs.declared.token.TokenKind.{TokenKind}
 use Rattle.cue_lex.specs.declared.token.TokenKind.TheVariants as kinds
 use Rattle.cue_lex.specs.declared.punctuation.Punctuation.TheVariants as points
 use Rattle.cue_syntax.specs.declared.tree.Identifier.{Identifier}
 use Rattle.cue_syntax.specs.declared.tree.Label.{Label}
-use Rattle.cue_syntax.specs.declared.tree.Mark.{Mark}
-use Rattle.cue_syntax.specs.declared.tree.Mark.TheVariants as marks
-use Rattle.cue_syntax.specs.declared.tree.Sign.{Sign}
-use Rattle.cue_syntax.specs.declared.tree.Sign.TheVariants as signs
-use Rattle.cue_syntax.specs.declared.tree.Signed.{Signed}
-use Rattle.cue_syntax.specs.declared.tree.Package.{Package}
-use Rattle.cue_syntax.specs.Syntax.{FileTree, Expression, name, integer, text, bottom, bound, other_integer, other_text, parenthesis, struct, close, list, conjunction, disjunction, Elements, no_elements, element, Branch, branch, Branches, no_branches, next_branch, Entry, ellipsis, field, definition, Entries, no_entries, entry, Rest, no_rest, any_rest}
-use Rattle.cue_syntax.specs.Spelling.{Piece, Reads, StandsAt, IsPlace, one, one_at, placed, comma_if, star_if, identifier_kind, comparison_kind, spell_sign, spell_signed, label_kind, spell_mark, spell_label, spell_rest, spell, spell_elements, spell_more_elements, spell_branch, spell_branches, spell_more_branches, spell_entry, spell_entries, spell_more_entries, spell_package, spell_file}
-use Rattle.cue_syntax.specs.Unplaced.{unplaced, unplaced_elements, unplaced_branch, unplaced_branches, unplaced_entry, unplaced_entries, unplaced_file}
-use Rattle.cue_syntax.proofs.ReadingsJoin.{reads_then, reads_none, reads_one_at, reads_placed}
+use Rattle.cue_syntax.specs.Syntax.{FileTree, Expression, name, integer, text, bottom, bound, other_integer, other_text, parenthesis, struct, close, list, conjunction, disjunction, Elements, no_elements, element, Branch, branch, Branches, no_branches, next_branch, Entry, ellipsis, field, definition, Entries, no_entries, entry, Rest, no_rest, any_rest, each_rest}
+use Rattle.cue_syntax.specs.Spelling.{Piece, Reads, one, one_at, placed, comma_if, star_if, identifier_kind, comparison_kind, spell_signed, spell_label, spell_dots, spell_rest, spell, spell_elements, spell_more_elements, spell_branch, spell_branches, spell_more_branches, spell_entry, spell_entries, spell_more_entries, spell_package, spell_file}
+use Rattle.cue_syntax.specs.Unplaced.{unplaced, unplaced_elements, unplaced_rest, unplaced_branch, unplaced_branches, unplaced_entry, unplaced_entries, unplaced_file}
+use Rattle.cue_syntax.proofs.ReadingsJoin.{reads_then, reads_none, reads_placed}
 use Rattle.cue_reading.specs.Kinds.{kinds_of}
 use Rattle.cue_reading.specs.Spelled.{spelled_kinds}
-
--- ---- pieces that keep no place
-abbrev AreFree : List Piece → Type 0
-AreFree = AllByRecursion (λ piece. piece.places ≡ [])
-
-free_then : (p q : List Piece) → AreFree p → AreFree q → AreFree (p ++ q)
-free_then [] q first second = second
-free_then (x ∷ p) q first second = (first.0, free_then p q first.1 second)
-
-free_comma : (comma : Bool) → AreFree (comma_if comma)
-free_comma true = (refl, tt)
-free_comma false = tt
-
-free_star : (star : Bool) → AreFree (star_if star)
-free_star true = (refl, tt)
-free_star false = tt
-
-free_sign : (sign : Sign) → AreFree (spell_sign sign)
-free_sign signs.Absent = tt
-free_sign signs.Minus = (refl, tt)
-free_sign signs.Plus = (refl, tt)
-
-free_signed : (n : Signed) → AreFree (spell_signed n)
-free_signed n = free_then (spell_sign n.sign) (one (kinds.Integer n.magnitude)) (free_sign n.sign) (refl, tt)
-
-free_mark : (mark : Mark) → AreFree (spell_mark mark)
-free_mark marks.Regular = tt
-free_mark marks.Optional = (refl, tt)
-free_mark marks.Required = (refl, tt)
-
-free_label : (label : Label) → AreFree (spell_label label)
-free_label label =
-    free_then (one (label_kind label.name) ++ spell_mark label.mark) (one (kinds.Mark points.Colon)) (free_then (one (label_kind label.name)) (spell_mark label.mark) (refl, tt) (free_mark label.mark)) (refl, tt)
-
-free_chain : (chain : List Label) → AreFree (flat_map spell_label chain)
-free_chain [] = tt
-free_chain (label ∷ chain) = free_then (spell_label label) (flat_map spell_label chain) (free_label label) (free_chain chain)
-
-free_package : (clause : Option Package) → AreFree (spell_package clause)
-free_package None = tt
-free_package (Some clause) = free_then (one (kinds.Name (codes "package")) ++ one (identifier_kind clause.name)) (comma_if clause.comma) (refl, (refl, tt)) (free_comma clause.comma)
-
-free_rest : (es : Elements) (tail : Rest) → AreFree (spell_rest es tail)
-free_rest es no_rest = tt
-free_rest no_elements any_rest = (refl, tt)
-free_rest (element e es) any_rest = (refl, (refl, tt))
-
--- ---- tokens that have the kinds of some pieces, and then further ones
--- pieces in two parts
-split : (p q : List Piece) (tokens : List Token) (more : List TokenKind) → kinds_of tokens ≡ spelled_kinds (p ++ q) ++ more → kinds_of tokens ≡ spelled_kinds p ++ (spelled_kinds q ++ more)
-split p q tokens more are = are ∙ ap (λ ks. ks ++ more) (map-append (λ (piece : Piece). piece.kind) p q) ∙ append_assoc (spelled_kinds p) (spelled_kinds q) more
-
-record IsTaken (pieces : List Piece) (tokens : List Token) (more : List TokenKind) : Type 0 where
-  pub left : List Token
-  pub reads : Reads tokens pieces left
-  pub kinds : kinds_of left ≡ more
-
-stands : (token : Token) (places : List ℕ) → places ≡ [] → StandsAt token places
-stands token [] none = tt
-stands token (place ∷ places) none = cc
-
--- pieces that keep no place are taken
-taken : (pieces : List Piece) → AreFree pieces → (tokens : List Token) (more : List TokenKind) → kinds_of tokens ≡ spelled_kinds pieces ++ more → IsTaken pieces tokens more
-taken [] free tokens more are = record { left = tokens; reads = reads_none; kinds = are }
-taken (piece ∷ pieces) free [] more are = cc
-taken (piece ∷ pieces) free (token ∷ tokens) more are =
-    let kind : token.kind ≡ piece.kind = cc in
-    let behind : kinds_of tokens ≡ spelled_kinds pieces ++ more = cc in
-    let others = taken pieces free.1 tokens more behind in
-    record { left = others.left; reads = record { follows = (kind, stands token piece.places free.0, others.reads.follows) }; kinds = others.kinds }
-
--- a tree with other places, whose spelling is taken
-record IsPlaced {T : Type 0} (spelled : T → List Piece) (bare : T → T) (tree : T) (tokens : List Token) (more : List TokenKind) : Type 0 where
-  pub there : T
-  pub same : bare there ≡ bare tree
-  pub left : List Token
-  pub reads : Reads tokens (spelled there) left
-  pub kinds : kinds_of left ≡ more
-
--- a tree without places
-fixed : (e : Expression) → AreFree (spell e) → (tokens : List Token) (more : List TokenKind) → kinds_of tokens ≡ spelled_kinds (spell e) ++ more → IsPlaced spell unplaced e tokens more
-fixed e free tokens more are =
-    let all = taken (spell e) free tokens more are in
-    record { there = e; same = refl; left = all.left; reads = all.reads; kinds = all.kinds }
-
--- one token with its place
-record IsFirst (kind : TokenKind) (tokens : List Token) (more : List TokenKind) : Type 0 where
-  pub place : ℕ
-  pub left : List Token
-  pub reads : Reads tokens (one_at place kind) left
-  pub kinds : kinds_of left ≡ more
-
-first_taken : (kind : TokenKind) (tokens : List Token) (more : List TokenKind) → kinds_of tokens ≡ kind ∷ more → IsFirst kind tokens more
-first_taken kind [] more are = cc
-first_taken kind (token ∷ tokens) more are =
-    let is : token.kind ≡ kind = cc in
-    let behind : kinds_of tokens ≡ more = cc in
-    record { place = token.from; left = tokens; reads = reads_one_at token refl is; kinds = behind }
-
--- the place of the first token
-place_of : (tokens : List Token) → (place : ℕ) × IsPlace tokens place
-place_of [] = (0, tt)
-place_of (token ∷ tokens) = (token.from, refl)
-
--- the first place changes no kind
-pub placed_kinds : (from : ℕ) (p : List Piece) → spelled_kinds (placed from p) ≡ spelled_kinds p
-placed_kinds from [] = refl
-placed_kinds from (x ∷ p) = refl
-
--- `...` stands behind the same elements
-same_rest : (es ds : Elements) (tail : Rest) → unplaced_elements es ≡ unplaced_elements ds → spell_rest es tail ≡ spell_rest ds tail
-same_rest es ds no_rest same = refl
-same_rest no_elements no_elements any_rest same = refl
-same_rest no_elements (element d ds) any_rest same = cc
-same_rest (element e es) no_elements any_rest same = cc
-same_rest (element e es) (element d ds) any_rest same = refl
+use Rattle.cue_reading.proofs.Pieces.{free_then, free_comma, free_star, free_signed, free_label, free_chain, free_package, free_dots, split, taken, IsPlaced, fixed, first_taken, place_of, placed_kinds, same_rest}
 
 abbrev PlacesExpression : Expression → Type 0
 PlacesExpression e = (tokens : List Token) (more : List TokenKind) → kinds_of tokens ≡ spelled_kinds (spell e) ++ more → IsPlaced spell unplaced e tokens more
 
 abbrev PlacesElements : (Elements → List Piece) → Elements → Type 0
 PlacesElements spelled es = (tokens : List Token) (more : List TokenKind) → kinds_of tokens ≡ spelled_kinds (spelled es) ++ more → IsPlaced spelled unplaced_elements es tokens more
+
+abbrev PlacesRest : Elements → Rest → Type 0
+PlacesRest es tail = (tokens : List Token) (more : List TokenKind) → kinds_of tokens ≡ spelled_kinds (spell_rest es tail) ++ more → IsPlaced (spell_rest es) unplaced_rest tail tokens more
 
 abbrev PlacesBranch : Branch → Type 0
 PlacesBranch b = (tokens : List Token) (more : List TokenKind) → kinds_of tokens ≡ spelled_kinds (spell_branch b) ++ more → IsPlaced spell_branch unplaced_branch b tokens more
@@ -212,8 +92,24 @@ place_struct es comma inner tokens more are =
     let inside = place_braced es comma inner tokens more are in
     record { there = struct inside.there comma; same = ap (λ x. struct x comma) inside.same; left = inside.left; reads = inside.reads; kinds = inside.kinds }
 
-place_list : (es : Elements) (tail : Rest) (comma : Bool) → PlacesElements (spell_elements (kinds.Mark points.Comma)) es → PlacesExpression (list es tail comma)
-place_list es tail comma inner tokens more are =
+-- what ends a list
+no_rest_there : (es : Elements) → PlacesRest es no_rest
+no_rest_there es tokens more are = record { there = no_rest; same = refl; left = tokens; reads = reads_none; kinds = are }
+
+any_rest_there : (es : Elements) → PlacesRest es any_rest
+any_rest_there es tokens more are =
+    let all = taken (spell_dots es) (free_dots es) tokens more are in
+    record { there = any_rest; same = refl; left = all.left; reads = all.reads; kinds = all.kinds }
+
+place_each : (es : Elements) (e : Expression) → PlacesExpression e → PlacesRest es (each_rest e)
+place_each es e inner tokens more are =
+    let a = split (spell_dots es) (spell e) tokens more are in
+    let dots = taken (spell_dots es) (free_dots es) tokens (spelled_kinds (spell e) ++ more) a in
+    let inside = inner dots.left more dots.kinds in
+    record { there = each_rest inside.there; same = ap each_rest inside.same; left = inside.left; reads = reads_then dots.reads inside.reads; kinds = inside.kinds }
+
+place_list : (es : Elements) (tail : Rest) (comma : Bool) → PlacesElements (spell_elements (kinds.Mark points.Comma)) es → PlacesRest es tail → PlacesExpression (list es tail comma)
+place_list es tail comma inner last tokens more are =
     let p1 = one (kinds.Mark points.OpenBracket) in
     let p2 = spell_elements (kinds.Mark points.Comma) es in
     let p3 = spell_rest es tail in
@@ -227,13 +123,13 @@ place_list es tail comma inner tokens more are =
     let d = split p1 p2 tokens k3 c in
     let opens = taken p1 (refl, tt) tokens (spelled_kinds p2 ++ k3) d in
     let inside = inner opens.left k3 opens.kinds in
-    let rests = taken p3 (free_rest es tail) inside.left k4 inside.kinds in
+    let rests = last inside.left k4 inside.kinds in
     let commas = taken (comma_if comma) (free_comma comma) rests.left k5 rests.kinds in
     let closes = taken p5 (refl, tt) commas.left more commas.kinds in
-    let rest_reads = subst (λ p. Reads inside.left p rests.left) (sym (same_rest inside.there es tail inside.same)) rests.reads in
+    let rest_reads = subst (λ p. Reads inside.left p rests.left) (sym (same_rest inside.there es rests.there inside.same)) rests.reads in
     record {
-      there = list inside.there tail comma;
-      same = ap (λ x. list x tail comma) inside.same;
+      there = list inside.there rests.there comma;
+      same = ap₂ (λ x rest. list x rest comma) inside.same rests.same;
       left = closes.left;
       reads = reads_then (reads_then (reads_then (reads_then opens.reads inside.reads) rest_reads) commas.reads) closes.reads;
       kinds = closes.kinds;
@@ -404,7 +300,7 @@ mutual
   place (parenthesis e comma) = place_parenthesis e comma (place e)
   place (struct es comma) = place_struct es comma (place_entries es)
   place (close from es inner comma) = place_close from es inner comma (place_entries es)
-  place (list es tail comma) = place_list es tail comma (place_elements es (kinds.Mark points.Comma))
+  place (list es tail comma) = place_list es tail comma (place_elements es (kinds.Mark points.Comma)) (place_rest tail es)
   place (conjunction es) = place_conjunction es (place_elements es (kinds.Mark points.Ampersand))
   place (disjunction bs) = place_disjunction bs (place_branches bs)
 
@@ -415,6 +311,11 @@ mutual
   place_more_elements : (es : Elements) (sign : TokenKind) → PlacesElements (spell_more_elements sign) es
   place_more_elements no_elements sign = no_more_elements_there sign
   place_more_elements (element e es) sign = place_more_element sign e es (place e) (place_more_elements es sign)
+
+  place_rest : (tail : Rest) (es : Elements) → PlacesRest es tail
+  place_rest no_rest es = no_rest_there es
+  place_rest any_rest es = any_rest_there es
+  place_rest (each_rest e) es = place_each es e (place e)
 
   place_branch : (b : Branch) → PlacesBranch b
   place_branch (branch marked from e) = place_branch_of marked from e (place e)

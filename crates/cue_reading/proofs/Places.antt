@@ -7,17 +7,17 @@ use Rattle.cue_lattice.specs.declared.refusal.Refusal.{Refusal}
 use Rattle.cue_syntax.specs.declared.tree.Identifier.{Identifier}
 use Rattle.cue_syntax.specs.declared.tree.Identifier.TheVariants as identifiers
 use Rattle.cue_syntax.specs.declared.tree.Label.{Label}
-use Rattle.cue_syntax.specs.Syntax.{Expression, name, integer, text, bottom, bound, other_integer, other_text, parenthesis, struct, close, list, conjunction, disjunction, Elements, no_elements, element, Branch, branch, Branches, no_branches, next_branch, Entry, ellipsis, field, definition, Entries, no_entries, entry, Rest, no_rest, any_rest}
-use Rattle.cue_syntax.specs.Unplaced.{unplaced, unplaced_elements, unplaced_branch, unplaced_branches, unplaced_entry, unplaced_entries}
-use Rattle.cue_syntax.specs.Grammar.{IsUnary, IsConjunct, IsTerm, IsNested, AreUnary, AreNested, TwoElements, TwoBranches, EndsEntries, EndsElements, IsRight, AreRight, IsRightBranch, AreRightBranches, IsRightEntry, AreRightEntries, levels, levels_of_elements, levels_of_branch, levels_of_branches, levels_of_entry, levels_of_entries}
-use Rattle.cue_syntax.specs.Words.{HasWords, HaveWords, HasWordsBranch, HaveWordsBranches, HasWordsEntry, HaveWordsEntries}
+use Rattle.cue_syntax.specs.Syntax.{Expression, name, integer, text, bottom, bound, other_integer, other_text, parenthesis, struct, close, list, conjunction, disjunction, Elements, no_elements, element, Branch, branch, Branches, no_branches, next_branch, Entry, ellipsis, field, definition, Entries, no_entries, entry, Rest, no_rest, any_rest, each_rest}
+use Rattle.cue_syntax.specs.Unplaced.{unplaced, unplaced_elements, unplaced_rest, unplaced_branch, unplaced_branches, unplaced_entry, unplaced_entries}
+use Rattle.cue_syntax.specs.Grammar.{IsUnary, IsConjunct, IsTerm, IsNested, AreUnary, AreNested, TwoElements, TwoBranches, EndsEntries, EndsElements, IsRight, AreRight, IsRightRest, IsRightBranch, AreRightBranches, IsRightEntry, AreRightEntries, levels, levels_of_elements, levels_of_rest, levels_of_branch, levels_of_branches, levels_of_entry, levels_of_entries}
+use Rattle.cue_syntax.specs.Words.{HasWords, HaveWords, HasWordsRest, HasWordsBranch, HaveWordsBranches, HasWordsEntry, HaveWordsEntries}
 use Rattle.cue_scope.specs.Core.{Core, is_scalar}
 use Rattle.cue_scope.specs.Core as meant_as
 use Rattle.cue_scope.specs.Definitions.{Definition, definitions}
 use Rattle.cue_scope.specs.Meaning.{text_of, nested, meant_rest, meant, meant_elements, meant_branches, meant_members, meant_fields}
 use Rattle.cue_scope.specs.Named.{named_of, is_literal}
-use Rattle.cue_scope.specs.Names.{Scope, is_unquoted, has_label, inside, behind, fault_of, fault_of_close, faults, faults_of_elements, faults_of_branches, faults_of_entries}
-use Rattle.cue_scope.specs.Terms.{terms, terms_of_elements, terms_of_branches, terms_of_entries}
+use Rattle.cue_scope.specs.Names.{Scope, is_unquoted, has_label, inside, behind, fault_of, fault_of_close, faults, faults_of_elements, faults_of_rest, faults_of_branches, faults_of_entries}
+use Rattle.cue_scope.specs.Terms.{terms, terms_of_elements, terms_of_rest, terms_of_branches, terms_of_entries}
 
 -- ---- form
 unary_placed : (e : Expression) → IsUnary (unplaced e) → IsUnary e
@@ -60,10 +60,11 @@ ends_placed true no_entries ends = ends
 ends_placed true (entry e es) ends = tt
 ends_placed false es ends = tt
 
-ends_elements_placed : (comma : Bool) (rest : Rest) (es : Elements) → EndsElements comma rest (unplaced_elements es) → EndsElements comma rest es
+ends_elements_placed : (comma : Bool) (rest : Rest) (es : Elements) → EndsElements comma (unplaced_rest rest) (unplaced_elements es) → EndsElements comma rest es
 ends_elements_placed true no_rest no_elements ends = ends
 ends_elements_placed true no_rest (element e es) ends = tt
 ends_elements_placed true any_rest es ends = tt
+ends_elements_placed true (each_rest e) es ends = tt
 ends_elements_placed false rest es ends = tt
 
 mutual
@@ -78,13 +79,18 @@ mutual
   right_placed (parenthesis e comma) is = right_placed e is
   right_placed (struct es comma) is = (entries_right es is.0, all_nested_placed es is.1, ends_placed comma es is.2)
   right_placed (close from es inner comma) is = (entries_right es is.0, all_nested_placed es is.1, ends_placed inner es is.2)
-  right_placed (list es rest comma) is = (elements_right es is.0, ends_elements_placed comma rest es is.1)
+  right_placed (list es rest comma) is = (elements_right es is.0, rest_right rest is.1, ends_elements_placed comma rest es is.2)
   right_placed (conjunction es) is = (elements_right es is.0, all_unary_placed es is.1, two_elements_placed es is.2)
   right_placed (disjunction bs) is = (branches_right bs is.0, two_branches_placed bs is.1)
 
   elements_right : (es : Elements) → AreRight (unplaced_elements es) → AreRight es
   elements_right no_elements are = tt
   elements_right (element e es) are = (right_placed e are.0, elements_right es are.1)
+
+  rest_right : (rest : Rest) → IsRightRest (unplaced_rest rest) → IsRightRest rest
+  rest_right no_rest is = tt
+  rest_right any_rest is = tt
+  rest_right (each_rest e) is = right_placed e is
 
   branch_right : (b : Branch) → IsRightBranch (unplaced_branch b) → IsRightBranch b
   branch_right (branch marked from e) is = (right_placed e is.0, term_placed marked e is.1)
@@ -114,13 +120,18 @@ mutual
   words_placed (parenthesis e comma) is = words_placed e is
   words_placed (struct es comma) is = entries_words es is
   words_placed (close from es inner comma) is = entries_words es is
-  words_placed (list es rest comma) is = elements_words es is
+  words_placed (list es rest comma) is = (elements_words es is.0, rest_words rest is.1)
   words_placed (conjunction es) is = elements_words es is
   words_placed (disjunction bs) is = branches_words bs is
 
   elements_words : (es : Elements) → HaveWords (unplaced_elements es) → HaveWords es
   elements_words no_elements are = tt
   elements_words (element e es) are = (words_placed e are.0, elements_words es are.1)
+
+  rest_words : (rest : Rest) → HasWordsRest (unplaced_rest rest) → HasWordsRest rest
+  rest_words no_rest is = tt
+  rest_words any_rest is = tt
+  rest_words (each_rest e) is = words_placed e is
 
   branch_words : (b : Branch) → HasWordsBranch (unplaced_branch b) → HasWordsBranch b
   branch_words (branch marked from e) is = words_placed e is
@@ -150,13 +161,18 @@ mutual
   levels_placed (parenthesis e comma) = ap (λ n. 1 + n) (levels_placed e)
   levels_placed (struct es comma) = ap (λ n. 1 + n) (entries_levels es)
   levels_placed (close from es inner comma) = ap (λ n. 2 + n) (entries_levels es)
-  levels_placed (list es rest comma) = ap (λ n. 1 + n) (elements_levels es)
+  levels_placed (list es rest comma) = ap₂ (λ m n. 1 + max m n) (elements_levels es) (rest_levels rest)
   levels_placed (conjunction es) = elements_levels es
   levels_placed (disjunction bs) = branches_levels bs
 
   elements_levels : (es : Elements) → levels_of_elements (unplaced_elements es) ≡ levels_of_elements es
   elements_levels no_elements = refl
   elements_levels (element e es) = ap₂ max (levels_placed e) (elements_levels es)
+
+  rest_levels : (rest : Rest) → levels_of_rest (unplaced_rest rest) ≡ levels_of_rest rest
+  rest_levels no_rest = refl
+  rest_levels any_rest = refl
+  rest_levels (each_rest e) = levels_placed e
 
   branch_levels : (b : Branch) → levels_of_branch (unplaced_branch b) ≡ levels_of_branch b
   branch_levels (branch marked from e) = levels_placed e
@@ -187,13 +203,18 @@ mutual
   meant_placed (parenthesis e comma) ds m = meant_placed e ds m
   meant_placed (struct es comma) ds m = ap meant_as.struct (members_placed es ds m)
   meant_placed (close from es inner comma) ds m = ap meant_as.close (members_placed es ds m)
-  meant_placed (list es rest comma) ds m = ap (λ cs. meant_as.list (meant_as.followed_by cs (meant_rest rest))) (cores_placed es ds m)
+  meant_placed (list es rest comma) ds m = ap₂ (λ cs others. meant_as.list (meant_as.followed_by cs others)) (cores_placed es ds m) (rest_placed rest ds m)
   meant_placed (conjunction es) ds m = ap meant_as.conjunction (cores_placed es ds m)
   meant_placed (disjunction bs) ds m = ap meant_as.disjunction (choices_placed bs ds m)
 
   cores_placed : (es : Elements) (ds : List Definition) (m : ℕ → Core) → meant_elements ds m (unplaced_elements es) ≡ meant_elements ds m es
   cores_placed no_elements ds m = refl
   cores_placed (element e es) ds m = ap₂ meant_as.core (meant_placed e ds m) (cores_placed es ds m)
+
+  rest_placed : (rest : Rest) (ds : List Definition) (m : ℕ → Core) → meant_rest ds m (unplaced_rest rest) ≡ meant_rest ds m rest
+  rest_placed no_rest ds m = refl
+  rest_placed any_rest ds m = refl
+  rest_placed (each_rest e) ds m = ap meant_as.each (meant_placed e ds m)
 
   choices_placed : (bs : Branches) (ds : List Definition) (m : ℕ → Core) → meant_branches ds m (unplaced_branches bs) ≡ meant_branches ds m bs
   choices_placed no_branches ds m = refl
@@ -286,7 +307,9 @@ mutual
   faults_placed (close from es inner comma) a b same none =
       both_none (close_placed from a b same (none_left (fault_of_close a 0) (faults_of_entries [] (inside (unplaced_entries es) a) (unplaced_entries es)) none))
       (entries_faults es (inside (unplaced_entries es) a) (inside es b) (inside_placed es a b same) (none_right (fault_of_close a 0) (faults_of_entries [] (inside (unplaced_entries es) a) (unplaced_entries es)) none))
-  faults_placed (list es rest comma) a b same none = elements_faults es a b same none
+  faults_placed (list es rest comma) a b same none =
+      both_none (elements_faults es a b same (none_left (faults_of_elements [] a (unplaced_elements es)) (faults_of_rest [] a (unplaced_rest rest)) none))
+      (rest_faults rest a b same (none_right (faults_of_elements [] a (unplaced_elements es)) (faults_of_rest [] a (unplaced_rest rest)) none))
   faults_placed (conjunction es) a b same none = elements_faults es a b same none
   faults_placed (disjunction bs) a b same none = branches_faults bs a b same none
 
@@ -295,6 +318,11 @@ mutual
   elements_faults (element e es) a b same none =
       both_none (faults_placed e a b same (none_left (faults [] a (unplaced e)) (faults_of_elements [] a (unplaced_elements es)) none))
       (elements_faults es a b same (none_right (faults [] a (unplaced e)) (faults_of_elements [] a (unplaced_elements es)) none))
+
+  rest_faults : (rest : Rest) (a b : Scope) → AreSame a b → faults_of_rest [] a (unplaced_rest rest) ≡ [] → faults_of_rest [] b rest ≡ []
+  rest_faults no_rest a b same none = refl
+  rest_faults any_rest a b same none = refl
+  rest_faults (each_rest e) a b same none = faults_placed e a b same none
 
   branches_faults : (bs : Branches) (a b : Scope) → AreSame a b → faults_of_branches [] a (unplaced_branches bs) ≡ [] → faults_of_branches [] b bs ≡ []
   branches_faults no_branches a b same none = refl
@@ -335,7 +363,9 @@ mutual
   terms_placed (parenthesis e comma) m none = terms_placed e m none
   terms_placed (struct es comma) m none = entries_terms es m none
   terms_placed (close from es inner comma) m none = entries_terms es m none
-  terms_placed (list es rest comma) m none = elements_terms es m none
+  terms_placed (list es rest comma) m none =
+      both_none (elements_terms es m (none_left (terms_of_elements [] m (unplaced_elements es)) (terms_of_rest [] m (unplaced_rest rest)) none))
+      (rest_terms rest m (none_right (terms_of_elements [] m (unplaced_elements es)) (terms_of_rest [] m (unplaced_rest rest)) none))
   terms_placed (conjunction es) m none = elements_terms es m none
   terms_placed (disjunction bs) m none = branches_terms bs m none
 
@@ -344,6 +374,11 @@ mutual
   elements_terms (element e es) m none =
       both_none (terms_placed e m (none_left (terms [] m (unplaced e)) (terms_of_elements [] m (unplaced_elements es)) none))
       (elements_terms es m (none_right (terms [] m (unplaced e)) (terms_of_elements [] m (unplaced_elements es)) none))
+
+  rest_terms : (rest : Rest) (m : ℕ → Core) → terms_of_rest [] m (unplaced_rest rest) ≡ [] → terms_of_rest [] m rest ≡ []
+  rest_terms no_rest m none = refl
+  rest_terms any_rest m none = refl
+  rest_terms (each_rest e) m none = terms_placed e m none
 
   branches_terms : (bs : Branches) (m : ℕ → Core) → terms_of_branches [] m (unplaced_branches bs) ≡ [] → terms_of_branches [] m bs ≡ []
   branches_terms no_branches m none = refl

@@ -19,7 +19,7 @@ use Rattle.cue_reading.proofs.Integers.{integer_read}
 use Rattle.cue_reading.proofs.Joins.{leads_on, led, read_then, read_on, read_as}
 use Rattle.cue_reading.proofs.Marks.{at_most_leads, at_least_leads, not_equal_leads, star_leads, parenthesis_leads, and_leads, bar_leads, bottom_read, close_parenthesis_read, stop_space, stop_parenthesis}
 use Rattle.cue_reading.proofs.Names.{null_read, bool_read, false_read, true_read, int_read, string_read}
-use Rattle.cue_reading.proofs.Placed.{placed_kinds}
+use Rattle.cue_reading.proofs.Pieces.{placed_kinds}
 use Rattle.cue_reading.proofs.Rows.{row_read, each_kinds, unified_spelled, each_branch, branches_spelled}
 use Rattle.cue_reading.proofs.Texts.{text_read}
 

@@ -1,5 +1,5 @@
 -- What a valid table is printed as can be printed.
-use Rattle.std.proofs.Common.{◌≡◌, ℕ, zero, suc, ◌+◌, ℤ, pos, ◌+ℤ◌, ◌≤ℤ◌, ◌&&◌, ◌||◌, ◌==◌, Bool, true, false, List, [], ◌∷◌, ◌++◌, map, filter, cond, Option, None, Some, is_some, refl, ap, subst, ◌∙◌, arith, nat_lt, if◌then◌else◌, Ordering, Less, Equal, Greater}
+use Rattle.std.proofs.Common.{◌≡◌, ℕ, zero, suc, ◌+◌, ℤ, pos, ◌+ℤ◌, ◌≤ℤ◌, ◌&&◌, ◌||◌, ◌==◌, Bool, true, false, not, List, [], ◌∷◌, ◌++◌, map, filter, cond, Option, None, Some, is_some, refl, ap, subst, ◌∙◌, arith, nat_lt, if◌then◌else◌, Ordering, Less, Equal, Greater}
 use Rattle.std.specs.Ordering.{int_eq}
 use Rattle.std.specs.Str.{bytes_eq}
 use Rattle.std.specs.List.{AllByRecursion}
@@ -14,18 +14,18 @@ use Rattle.cue_scalars.specs.declared.scalar_set.ScalarSet.{ScalarSet}
 use Rattle.cue_row.specs.declared.row.Row.{Row}
 use Rattle.cue_row.specs.Row.{Refuses, IsRow}
 use Rattle.cue_row.specs.ValidRow.{AreWords, AreLabelWords, HasWords, IsWordStep}
-use Rattle.cue_table.specs.Tree.{Tree, node, Children, none, child, find, row_at}
-use Rattle.cue_table.specs.Form.{IsBelowAll, IsTaken, IsTree, AreBranches, IsKept}
+use Rattle.cue_table.specs.Tree.{Tree, node, Children, none, child, Rest, no_rest, onward, find, row_at}
+use Rattle.cue_table.specs.Form.{IsBelowAll, IsTaken, IsTree, AreBranches, IsRestOf, IsKept}
 use Rattle.cue_table.specs.Valid.{IsValidTable}
 use Rattle.cue_table.proofs.Depth.{found_row, found_later, taken_row}
-use Rattle.cue_table.proofs.Exact.{find_first}
+use Rattle.cue_table.proofs.Branches.{find_first, find_own, find_rest}
 use Rattle.cue_print.specs.Difference.{inserted_at, inserted, all_inserted, texts_without, without}
 use Rattle.cue_print.specs.Expressions.{Term, integers, number, at_most, at_least, between, text}
-use Rattle.cue_print.specs.Expressions.{Value, top, Parts, no_parts, list, bottom, Fields, no_more, field}
-use Rattle.cue_print.specs.Printed.{declared, inside, outside, struct_if_any, struct_part, elements_from, elements, list_part, scalar_value, has_field, list_left, nothing_value, scalar_or_nothing, value_by, row_value, value_of, fields_below, element_below, file_of}
+use Rattle.cue_print.specs.Expressions.{Value, top, Parts, no_parts, list, bottom, Fields, no_more, field, ends}
+use Rattle.cue_print.specs.Printed.{declared, inside, outside, struct_if_any, struct_part, elements_from, elements, dots, list_part, scalar_value, has_field, list_left, nothing_value, scalar_or_nothing, value_by, row_value, value_of, fields_below, element_below, element_at, rest_value, file_of}
 use Rattle.cue_print.specs.Terms.{null_terms, truth_terms, piece_term, text_terms, terms_of}
 use Rattle.cue_print.proofs.Left.{left_set}
-use Rattle.cue_reading.specs.Inner.Printable.{IsPrintableTerm, ArePrintableTerms, HasPart, IsPrintable, ArePrintableParts, ArePrintableFields, ArePrintableElements}
+use Rattle.cue_reading.specs.Inner.Printable.{IsPrintableTerm, ArePrintableTerms, HasPart, IsPrintable, ArePrintableParts, ArePrintableFields, ArePrintableElements, IsPrintableEnding}
 
 -- ---- words
 cond_words : (t : List ℕ) (ts : List (List ℕ)) (kept : Bool) → IsWord t → AreWords ts → AreWords (cond kept (t ∷ ts) ts)
@@ -144,22 +144,28 @@ elements_printable : (first count : ℕ) (value_at : ℕ → Value) → ((n : �
 elements_printable first zero value_at are = tt
 elements_printable first (suc count) value_at are = (are first, elements_printable (first + 1) count value_at are)
 
-list_by : (one : Bool) (least most : ℕ) (value_at : ℕ → Value) (parts : Parts) → ((n : ℕ) → IsPrintable (value_at n)) → ArePrintableParts parts
-    → ArePrintableParts (if one then list (elements least value_at) false parts else list (elements least value_at) true (list (elements most (λ n. top)) false parts))
-list_by true least most value_at parts are more = (elements_printable 0 least value_at are, more)
-list_by false least most value_at parts are more = (elements_printable 0 least value_at are, (elements_printable 0 most (λ n. top) (λ n. tt), more))
+-- one list, or two of which the second has the greatest length
+abbrev lists_by : Bool → ℕ → ℕ → (ℕ → Value) → Option Value → Parts → Parts
+lists_by one least most value_at further parts =
+    if one then list (elements least value_at) ends parts else list (elements least value_at) (dots further) (list (elements most (λ n. top)) ends parts)
 
-list_printable : (least : ℕ) (most : Option ℕ) (value_at : ℕ → Value) (parts : Parts) → ((n : ℕ) → IsPrintable (value_at n)) → ArePrintableParts parts → ArePrintableParts (list_part least most value_at parts)
-list_printable least None value_at parts are more = (elements_printable 0 least value_at are, more)
-list_printable least (Some most) value_at parts are more = list_by (least == most) least most value_at parts are more
+list_by : (one : Bool) (least most : ℕ) (value_at : ℕ → Value) (further : Option Value) (parts : Parts) → ((n : ℕ) → IsPrintable (value_at n)) → IsPrintableEnding (dots further) → ArePrintableParts parts
+    → ArePrintableParts (lists_by one least most value_at further parts)
+list_by true least most value_at further parts are last more = (elements_printable 0 least value_at are, tt, more)
+list_by false least most value_at further parts are last more = (elements_printable 0 least value_at are, last, (elements_printable 0 most (λ n. top) (λ n. tt), tt, more))
 
-list_some_by : (one : Bool) (least most : ℕ) (value_at : ℕ → Value) (parts : Parts) → HasPart (if one then list (elements least value_at) false parts else list (elements least value_at) true (list (elements most (λ n. top)) false parts))
-list_some_by true _ _ _ _ = tt
-list_some_by false _ _ _ _ = tt
+list_printable : (least : ℕ) (most : Option ℕ) (value_at : ℕ → Value) (further : Option Value) (parts : Parts) → ((n : ℕ) → IsPrintable (value_at n)) → IsPrintableEnding (dots further) → ArePrintableParts parts
+    → ArePrintableParts (list_part least most value_at further parts)
+list_printable least None value_at further parts are last more = (elements_printable 0 least value_at are, last, more)
+list_printable least (Some most) value_at further parts are last more = list_by (least == most && not (is_some further)) least most value_at further parts are last more
 
-list_some : (least : ℕ) (most : Option ℕ) (value_at : ℕ → Value) (parts : Parts) → HasPart (list_part least most value_at parts)
-list_some _ None _ _ = tt
-list_some least (Some most) value_at parts = list_some_by (least == most) least most value_at parts
+list_some_by : (one : Bool) (least most : ℕ) (value_at : ℕ → Value) (further : Option Value) (parts : Parts) → HasPart (lists_by one least most value_at further parts)
+list_some_by true _ _ _ _ _ = tt
+list_some_by false _ _ _ _ _ = tt
+
+list_some : (least : ℕ) (most : Option ℕ) (value_at : ℕ → Value) (further : Option Value) (parts : Parts) → HasPart (list_part least most value_at further parts)
+list_some _ None _ _ _ = tt
+list_some least (Some most) value_at further parts = list_some_by (least == most && not (is_some further)) least most value_at further parts
 
 -- ---- places
 part_by : (there : Bool) (here other : Parts) → ArePrintableParts here → ArePrintableParts other → ArePrintableParts (if there then here else other)
@@ -171,21 +177,22 @@ some_by true here other first second = first
 some_by false here other first second = second
 
 -- what is known of a row and of what stands below it
-record IsPlace (row : Row) (fields : Fields) (value_at : ℕ → Value) : Type 0 where
+record IsPlace (row : Row) (fields : Fields) (value_at : ℕ → Value) (further : Option Value) : Type 0 where
   pub is : IsRow row
   pub words : HasWords row
   pub below : ArePrintableFields fields
   pub values : (n : ℕ) → IsPrintable (value_at n)
+  pub ending : IsPrintableEnding (dots further)
 
-nothing_printable : (row : Row) (fields : Fields) (value_at : ℕ → Value) → IsPlace row fields value_at → IsPrintable (nothing_value row fields value_at)
-nothing_printable row fields value_at place =
-    let listed = nat_lt 0 row.least || is_some row.most in
+nothing_printable : (row : Row) (fields : Fields) (value_at : ℕ → Value) (further : Option Value) → IsPlace row fields value_at further → IsPrintable (nothing_value row fields value_at further)
+nothing_printable row fields value_at further place =
+    let listed = nat_lt 0 row.least || is_some row.most || is_some further in
     let fielded = is_some row.labels || has_field fields in
     let end = bottom no_parts in
-    let lists = list_part row.least row.most value_at end in
-    let left = list_left row value_at end in
-    let left_are : ArePrintableParts left = part_by listed lists end (list_printable row.least row.most value_at end place.values tt) tt in (
-      some_by fielded (struct_part row.labels fields left) left (struct_some row.labels fields left) (some_by listed lists end (list_some row.least row.most value_at end) tt),
+    let lists = list_part row.least row.most value_at further end in
+    let left = list_left row value_at further end in
+    let left_are : ArePrintableParts left = part_by listed lists end (list_printable row.least row.most value_at further end place.values place.ending tt) tt in (
+      some_by fielded (struct_part row.labels fields left) left (struct_some row.labels fields left) (some_by listed lists end (list_some row.least row.most value_at further end) tt),
       part_by fielded (struct_part row.labels fields left) left (struct_printable row.labels fields left place.words.labels place.below left_are) left_are,
     )
 
@@ -193,23 +200,23 @@ scalar_printable : (value usual others : List Term) → ArePrintableTerms value 
 scalar_printable value usual [] first second third = (tt, first)
 scalar_printable value usual (term ∷ others) first second third = (second, third)
 
-scalar_or_nothing_printable : (terms : List Term) (row : Row) (fields : Fields) (value_at : ℕ → Value) → ArePrintableTerms terms → IsPlace row fields value_at → IsPrintable (scalar_or_nothing terms row fields value_at)
-scalar_or_nothing_printable [] row fields value_at are place = nothing_printable row fields value_at place
-scalar_or_nothing_printable (term ∷ terms) row fields value_at are place =
+scalar_or_nothing_printable : (terms : List Term) (row : Row) (fields : Fields) (value_at : ℕ → Value) (further : Option Value) → ArePrintableTerms terms → IsPlace row fields value_at further → IsPrintable (scalar_or_nothing terms row fields value_at further)
+scalar_or_nothing_printable [] row fields value_at further are place = nothing_printable row fields value_at further place
+scalar_or_nothing_printable (term ∷ terms) row fields value_at further are place =
     scalar_printable (term ∷ terms) (terms_of row.usual) (terms_of (without row.value row.usual)) are
     (set_printable row.usual place.is.usual place.words.usual)
     (set_printable (without row.value row.usual) (left_set row.value row.usual place.is.value place.is.usual)
     (left_words row.value.texts.0 row.value.texts.1 row.usual.texts.0 row.usual.texts.1 place.words.value place.words.usual))
 
-value_printable : (struct_ok list_ok : Bool) (row : Row) (fields : Fields) (value_at : ℕ → Value) → IsPlace row fields value_at → IsPrintable (value_by struct_ok list_ok row fields value_at)
-value_printable true true row fields value_at place = tt
-value_printable true false row fields value_at place = (struct_some row.labels fields no_parts, struct_printable row.labels fields no_parts place.words.labels place.below tt)
-value_printable false true row fields value_at place = (list_some row.least row.most value_at no_parts, list_printable row.least row.most value_at no_parts place.values tt)
-value_printable false false row fields value_at place = scalar_or_nothing_printable (terms_of row.value) row fields value_at (set_printable row.value place.is.value place.words.value) place
+value_printable : (struct_ok list_ok : Bool) (row : Row) (fields : Fields) (value_at : ℕ → Value) (further : Option Value) → IsPlace row fields value_at further → IsPrintable (value_by struct_ok list_ok row fields value_at further)
+value_printable true true row fields value_at further place = tt
+value_printable true false row fields value_at further place = (struct_some row.labels fields no_parts, struct_printable row.labels fields no_parts place.words.labels place.below tt)
+value_printable false true row fields value_at further place = (list_some row.least row.most value_at further no_parts, list_printable row.least row.most value_at further no_parts place.values place.ending tt)
+value_printable false false row fields value_at further place = scalar_or_nothing_printable (terms_of row.value) row fields value_at further (set_printable row.value place.is.value place.words.value) place
 
-row_printable : (row : Row) (fields : Fields) (value_at : ℕ → Value) → IsPlace row fields value_at → IsPrintable (row_value row fields value_at)
+row_printable : (row : Row) (fields : Fields) (value_at : ℕ → Value) (further : Option Value) → IsPlace row fields value_at further → IsPrintable (row_value row fields value_at further)
 unfolding row_value
-row_printable row fields value_at place = value_printable row.struct_ok row.list_ok row fields value_at place
+row_printable row fields value_at further place = value_printable row.struct_ok row.list_ok row fields value_at further place
 
 -- ---- trees
 abbrev Kept : Row → Type 0
@@ -229,10 +236,16 @@ later_facts : (step : Step) (tree : Tree Row) (children : Children Row) → IsBe
 later_facts step tree children below facts other branch found = facts other branch (found_later step tree children below other branch found (step_cmp other step) refl)
 
 -- the rows below a place are rows of the tree
-below_facts : (here : Row) (children : Children Row) → AreFacts (node (Some here) children) → AreFactsBelow children
-below_facts here children facts step tree found path row at =
-    let fact = facts (step ∷ path) row (ap (λ t. found_row t path) found ∙ at) in
+below_facts : (here : Row) (children : Children Row) (rest : Rest Row) → IsRestOf Kept children rest → AreFacts (node (Some here) children rest) → AreFactsBelow children
+below_facts here children rest is facts step tree found path row at =
+    let fact = facts (step ∷ path) row (ap (λ t. found_row t path) (find_own Kept rest step tree children is found) ∙ at) in
     (fact.0, fact.1.0, fact.1.1)
+
+-- so are those of the rest
+rest_facts : (here : Row) (children : Children Row) (n : ℕ) (tree : Tree Row) → AreFacts (node (Some here) children (onward n tree)) → AreFacts tree
+rest_facts here children n tree facts path row at =
+    let fact = facts (index n ∷ path) row (ap (λ t. found_row t path) (find_rest n tree children n (omega arith)) ∙ at) in
+    (fact.0, fact.1.1)
 
 -- the label of a branch is a word
 label_word : (l : List ℕ) (tree : Tree Row) (children : Children Row) → IsTaken tree → IsTree Kept tree → AreFactsBelow (child (label l) tree children) → IsWord l
@@ -244,19 +257,32 @@ value_if : (here : Bool) (a b : Value) → IsPrintable a → IsPrintable b → I
 value_if true a b first second = first
 value_if false a b first second = second
 
+-- an element is one of its own or the rest
+at_printable : (rest : Rest Row) (own : ℕ → Value) → ((n : ℕ) → IsPrintable (own n)) → IsPrintableEnding (dots (rest_value rest)) → (n : ℕ) → IsPrintable (element_at rest own n)
+unfolding value_of
+at_printable no_rest own are last n = are n
+at_printable (onward m tree) own are last n = value_if (nat_lt n m) (own n) (value_of tree) (are n) last
+
 mutual
   unfolding value_of
 
   tree_printable : (tree : Tree Row) → IsTree Kept tree → AreFacts tree → IsPrintable (value_of tree)
-  tree_printable (node None children) is facts = tt
-  tree_printable (node (Some row) children) is facts =
-      row_printable row (fields_below children) (element_below children)
+  tree_printable (node None children rest) is facts = tt
+  tree_printable (node (Some row) children rest) is facts =
+      let below = below_facts row children rest is.2 facts in
+      let further = rest_printable rest row children is.2 facts in
+      row_printable row (fields_below children) (element_at rest (element_below children)) (rest_value rest)
       (record {
         is = is.0.0;
         words = (facts [] row refl).0;
-        below = fields_printable children is.1 (below_facts row children facts);
-        values = element_printable children is.1 (below_facts row children facts);
+        below = fields_printable children is.1 below;
+        values = at_printable rest (element_below children) (element_printable children is.1 below) further;
+        ending = further;
       })
+
+  rest_printable : (rest : Rest Row) (here : Row) (children : Children Row) → IsRestOf Kept children rest → AreFacts (node (Some here) children rest) → IsPrintableEnding (dots (rest_value rest))
+  rest_printable no_rest here children is facts = tt
+  rest_printable (onward n tree) here children is facts = tree_printable tree is.3 (rest_facts here children n tree facts)
 
   fields_printable : (children : Children Row) → AreBranches Kept children → AreFactsBelow children → ArePrintableFields (fields_below children)
   fields_printable none are facts = tt
@@ -273,8 +299,8 @@ mutual
 -- The fields of a valid table can be printed.
 pub valid_printable : (table : Tree Row) (fields : Fields) → IsValidTable table → file_of table ≡ Some fields → ArePrintableFields fields
 unfolding file_of
-valid_printable (node None children) fields valid is = cc
-valid_printable (node (Some row) children) fields valid is =
-    let facts : AreFacts (node (Some row) children) = λ path here at. ((valid.rows path here at).texts, valid.labels path here at) in
+valid_printable (node None children rest) fields valid is = cc
+valid_printable (node (Some row) children rest) fields valid is =
+    let facts : AreFacts (node (Some row) children rest) = λ path here at. ((valid.rows path here at).texts, valid.labels path here at) in
     let same : fields_below children ≡ fields = cc in
-    subst ArePrintableFields same (fields_printable children valid.form.1 (below_facts row children facts))
+    subst ArePrintableFields same (fields_printable children valid.form.1 (below_facts row children rest valid.form.2 facts))

@@ -1,5 +1,5 @@
 -- Printed values are read.
-use Rattle.std.proofs.Common.{◌≡◌, ◌<◌, ℕ, Bool, true, false, List, [], ◌∷◌, ◌++◌, length, refl, sym, ap, ◌∙◌, arith, append_assoc, append-nil, flat_map, codes}
+use Rattle.std.proofs.Common.{◌≡◌, ◌<◌, ℕ, false, List, [], ◌∷◌, ◌++◌, length, refl, sym, ap, ◌∙◌, arith, append_assoc, append-nil, flat_map, codes}
 use Rattle.std.proofs.lemmas.List.{map-append}
 use Rattle.cue_lattice.specs.Word.{IsWord}
 use Rattle.cue_lex.specs.declared.token.TokenKind.{TokenKind}
@@ -10,15 +10,15 @@ use Rattle.cue_row.specs.declared.level.Level.{Level}
 use Rattle.cue_row.specs.declared.level.Level.TheVariants.{Optional, Required, Given}
 use Rattle.cue_syntax.specs.Syntax as grammar
 use Rattle.cue_syntax.specs.Spelling.{Piece, one, spell, spell_rest, spell_elements, spell_entry, spell_entries}
-use Rattle.cue_print.specs.Expressions.{Value, top, scalar, all, Parts, no_parts, struct, close, list, bottom, Fields, no_more, field, Elements, no_elements, element}
-use Rattle.cue_print.specs.Spelled.{joined, enclosed, mark_text, struct_text, rest_texts, list_text, value_text, part_texts, field_texts, element_texts}
+use Rattle.cue_print.specs.Expressions.{Value, top, scalar, all, Parts, no_parts, struct, close, list, bottom, Fields, no_more, field, Elements, no_elements, element, Ending, ends, goes_on, goes_on_as}
+use Rattle.cue_print.specs.Spelled.{joined, enclosed, mark_text, struct_text, list_text, value_text, part_texts, field_texts, element_texts, ending_texts}
 use Rattle.cue_reading.specs.Kinds.{IsRead}
 use Rattle.cue_reading.specs.Inner.Joining.{AreRead}
 use Rattle.cue_reading.specs.Spelled.{spelled_kinds}
-use Rattle.cue_reading.specs.Inner.Printable.{HasPart, IsPrintable, ArePrintableParts, ArePrintableFields, ArePrintableElements}
-use Rattle.cue_reading.specs.PrintedTree.{unified, label_of, value_tree, part_trees, field_trees, element_trees, rest_tree}
+use Rattle.cue_reading.specs.Inner.Printable.{HasPart, IsPrintable, ArePrintableParts, ArePrintableFields, ArePrintableElements, IsPrintableEnding}
+use Rattle.cue_reading.specs.PrintedTree.{unified, label_of, value_tree, part_trees, field_trees, element_trees, ending_tree}
 use Rattle.cue_reading.proofs.Joins.{led, read_on, read_as}
-use Rattle.cue_reading.proofs.Marks.{brace_leads, bracket_leads, comma_leads, and_leads, colon_leads, optional_leads, required_leads, bottom_read, ellipsis_read, close_parenthesis_read, close_brace_read, close_bracket_read, stop_space, stop_comma, stop_parenthesis, stop_brace, stop_bracket, stop_colon, stop_question, stop_exclamation}
+use Rattle.cue_reading.proofs.Marks.{brace_leads, bracket_leads, comma_leads, and_leads, colon_leads, optional_leads, required_leads, bottom_read, ellipsis_read, ellipsis_read_on, close_parenthesis_read, close_brace_read, close_bracket_read, stop_space, stop_comma, stop_parenthesis, stop_brace, stop_bracket, stop_colon, stop_question, stop_exclamation}
 use Rattle.cue_reading.proofs.Names.{top_read, close_leads}
 use Rattle.cue_reading.proofs.Rows.{joined_kinds, row_read, enclosed_read, each_kinds, elements_spelled, unified_spelled, each_entry, entries_spelled}
 use Rattle.cue_reading.proofs.Terms.{scalar_read}
@@ -45,48 +45,56 @@ close_read : (texts : List (List ℕ)) (es : grammar.Entries) → AreRead texts 
 close_read texts es are = read_as (closes es) (led close_leads (read_on (λ rest. stop_parenthesis) (struct_read texts es are) close_parenthesis_read))
 
 -- ---- lists
-rest_kinds : Bool → List (List TokenKind)
-rest_kinds false = []
-rest_kinds true = (kinds.Mark points.Ellipsis ∷ []) ∷ []
+rest_kinds : grammar.Rest → List (List TokenKind)
+rest_kinds grammar.no_rest = []
+rest_kinds grammar.any_rest = (kinds.Mark points.Ellipsis ∷ []) ∷ []
+rest_kinds (grammar.each_rest e) = (kinds.Mark points.Ellipsis ∷ spelled_kinds (spell e)) ∷ []
 
-rest_read : (texts : List (List ℕ)) (ks : List (List TokenKind)) (goes_on : Bool) → AreRead texts ks → AreRead (texts ++ rest_texts goes_on) (ks ++ rest_kinds goes_on)
-unfolding rest_kinds
-rest_read [] [] false are = tt
-rest_read [] [] true are = (ellipsis_read, tt)
-rest_read [] (k ∷ ks) goes_on are = absurd are
-rest_read (t ∷ ts) [] goes_on are = absurd are
-rest_read (t ∷ ts) (k ∷ ks) goes_on are = (are.0, rest_read ts ks goes_on are.1)
+tail_read : (texts tail : List (List ℕ)) (ks others : List (List TokenKind)) → AreRead texts ks → AreRead tail others → AreRead (texts ++ tail) (ks ++ others)
+tail_read [] tail [] others are last = last
+tail_read [] tail (k ∷ ks) others are last = absurd are
+tail_read (t ∷ ts) tail [] others are last = absurd are
+tail_read (t ∷ ts) tail (k ∷ ks) others are last = (are.0, tail_read ts tail ks others are.1 last)
 
 flat_then : {X : Type 0} (f : X → List TokenKind) (xs ys : List X) → flat_map f (xs ++ ys) ≡ flat_map f xs ++ flat_map f ys
 flat_then f [] ys = refl
 flat_then f (x ∷ xs) ys = ap (λ ks. f x ++ ks) (flat_then f xs ys) ∙ sym (append_assoc (f x) (flat_map f xs) (flat_map f ys))
 
-rest_joined : (es : grammar.Elements) (goes_on : Bool) → joined_kinds (kinds.Mark points.Comma) (each_kinds es ++ rest_kinds goes_on) ≡ spelled_kinds (spell_elements (kinds.Mark points.Comma) es ++ spell_rest es (rest_tree goes_on))
-unfolding rest_kinds
-rest_joined es false =
-    ap (joined_kinds (kinds.Mark points.Comma)) (append-nil (each_kinds es)) ∙ elements_spelled (kinds.Mark points.Comma) es ∙ ap spelled_kinds (sym (append-nil (spell_elements (kinds.Mark points.Comma) es)))
-rest_joined grammar.no_elements true = refl
-rest_joined (grammar.element e es) true =
+-- what stands behind some elements, with the comma before it
+behind_joined : (e : grammar.Expression) (es : grammar.Elements) (pieces : List Piece) (end : List TokenKind) → spelled_kinds pieces ≡ kinds.Mark points.Comma ∷ end
+    → joined_kinds (kinds.Mark points.Comma) (each_kinds (grammar.element e es) ++ end ∷ []) ≡ spelled_kinds (spell_elements (kinds.Mark points.Comma) (grammar.element e es) ++ pieces)
+behind_joined e es pieces end same =
     let piece = λ (p : Piece). p.kind in
     let comma = λ (other : List TokenKind). (kinds.Mark points.Comma ∷ []) ++ other in
-    let end = (kinds.Mark points.Ellipsis ∷ []) ∷ [] in
-    ap (λ ks. spelled_kinds (spell e) ++ ks) (flat_then comma (each_kinds es) ((kinds.Mark points.Ellipsis ∷ []) ∷ []))
-    ∙ sym (append_assoc (spelled_kinds (spell e)) (flat_map (λ other. (kinds.Mark points.Comma ∷ []) ++ other) (each_kinds es)) (kinds.Mark points.Comma ∷ kinds.Mark points.Ellipsis ∷ []))
-    ∙ ap (λ ks. ks ++ (kinds.Mark points.Comma ∷ kinds.Mark points.Ellipsis ∷ [])) (elements_spelled (kinds.Mark points.Comma) (grammar.element e es))
-    ∙ sym (map-append piece (spell_elements (kinds.Mark points.Comma) (grammar.element e es)) (one (kinds.Mark points.Comma) ++ one (kinds.Mark points.Ellipsis)))
+    let tail : List TokenKind = kinds.Mark points.Comma ∷ end in
+    let front = spell_elements (kinds.Mark points.Comma) (grammar.element e es) in
+    ap (λ ks. spelled_kinds (spell e) ++ ks) (flat_then comma (each_kinds es) (end ∷ []))
+    ∙ sym (append_assoc (spelled_kinds (spell e)) (flat_map comma (each_kinds es)) (tail ++ []))
+    ∙ ap (λ ks. ks ++ (tail ++ [])) (elements_spelled (kinds.Mark points.Comma) (grammar.element e es))
+    ∙ ap (λ ks. spelled_kinds front ++ ks) (append-nil tail ∙ sym same)
+    ∙ sym (map-append piece front pieces)
 
-brackets : (es : grammar.Elements) (goes_on : Bool) → (kinds.Mark points.OpenBracket ∷ []) ++ (joined_kinds (kinds.Mark points.Comma) (each_kinds es ++ rest_kinds goes_on) ++ (kinds.Mark points.CloseBracket ∷ []))
-    ≡ spelled_kinds (spell (grammar.list es (rest_tree goes_on) false))
-brackets es goes_on =
+rest_joined : (es : grammar.Elements) (rest : grammar.Rest) → joined_kinds (kinds.Mark points.Comma) (each_kinds es ++ rest_kinds rest) ≡ spelled_kinds (spell_elements (kinds.Mark points.Comma) es ++ spell_rest es rest)
+unfolding rest_kinds
+rest_joined es grammar.no_rest =
+    ap (joined_kinds (kinds.Mark points.Comma)) (append-nil (each_kinds es)) ∙ elements_spelled (kinds.Mark points.Comma) es ∙ ap spelled_kinds (sym (append-nil (spell_elements (kinds.Mark points.Comma) es)))
+rest_joined grammar.no_elements grammar.any_rest = refl
+rest_joined grammar.no_elements (grammar.each_rest e) = append-nil (kinds.Mark points.Ellipsis ∷ spelled_kinds (spell e))
+rest_joined (grammar.element e es) grammar.any_rest = behind_joined e es (spell_rest (grammar.element e es) grammar.any_rest) (kinds.Mark points.Ellipsis ∷ []) refl
+rest_joined (grammar.element e es) (grammar.each_rest f) = behind_joined e es (spell_rest (grammar.element e es) (grammar.each_rest f)) (kinds.Mark points.Ellipsis ∷ spelled_kinds (spell f)) refl
+
+brackets : (es : grammar.Elements) (rest : grammar.Rest) → (kinds.Mark points.OpenBracket ∷ []) ++ (joined_kinds (kinds.Mark points.Comma) (each_kinds es ++ rest_kinds rest) ++ (kinds.Mark points.CloseBracket ∷ []))
+    ≡ spelled_kinds (spell (grammar.list es rest false))
+brackets es rest =
     let piece = λ (p : Piece). p.kind in
-    let inside = spell_elements (kinds.Mark points.Comma) es ++ spell_rest es (rest_tree goes_on) in
-    ap (λ ks. kinds.Mark points.OpenBracket ∷ (ks ++ (kinds.Mark points.CloseBracket ∷ []))) (rest_joined es goes_on ∙ ap spelled_kinds (sym (append-nil inside)))
+    let inside = spell_elements (kinds.Mark points.Comma) es ++ spell_rest es rest in
+    ap (λ ks. kinds.Mark points.OpenBracket ∷ (ks ++ (kinds.Mark points.CloseBracket ∷ []))) (rest_joined es rest ∙ ap spelled_kinds (sym (append-nil inside)))
     ∙ ap (λ ks. kinds.Mark points.OpenBracket ∷ ks) (sym (map-append piece (inside ++ []) (one (kinds.Mark points.CloseBracket))))
 
-list_read : (texts : List (List ℕ)) (es : grammar.Elements) (goes_on : Bool) → AreRead texts (each_kinds es) → IsRead (list_text texts goes_on) (spelled_kinds (spell (grammar.list es (rest_tree goes_on) false)))
-list_read texts es goes_on are =
-    read_as (brackets es goes_on)
-    (enclosed_read (texts ++ rest_texts goes_on) (each_kinds es ++ rest_kinds goes_on) bracket_leads (λ rest. stop_comma) comma_leads (λ rest. stop_bracket) close_bracket_read (rest_read texts (each_kinds es) goes_on are))
+list_read : (texts tail : List (List ℕ)) (es : grammar.Elements) (rest : grammar.Rest) → AreRead texts (each_kinds es) → AreRead tail (rest_kinds rest) → IsRead (list_text (texts ++ tail)) (spelled_kinds (spell (grammar.list es rest false)))
+list_read texts tail es rest are last =
+    read_as (brackets es rest)
+    (enclosed_read (texts ++ tail) (each_kinds es ++ rest_kinds rest) bracket_leads (λ rest. stop_comma) comma_leads (λ rest. stop_bracket) close_bracket_read (tail_read texts tail (each_kinds es) (rest_kinds rest) are last))
 
 -- ---- fields
 field_read : (label : List ℕ) (level : Level) (v : List ℕ) (e : grammar.Expression) → IsWord label → IsRead v (spelled_kinds (spell e)) → IsRead (quoted label ++ (mark_text level ++ v)) (spelled_kinds (spell_entry (grammar.field (label_of label level) [] e)))
@@ -109,7 +117,7 @@ some_parts (bottom parts) some = omega arith
 
 -- ---- values
 mutual
-  unfolding value_text value_tree
+  unfolding value_text value_tree rest_kinds
 
   pub value_read : (value : Value) → IsPrintable value → IsRead (value_text value) (spelled_kinds (spell (value_tree value)))
   value_read top is = top_read
@@ -120,7 +128,7 @@ mutual
   each_part no_parts are = tt
   each_part (struct fields parts) are = (struct_read (field_texts fields) (field_trees fields) (each_field fields are.0), each_part parts are.1)
   each_part (close fields parts) are = (close_read (field_texts fields) (field_trees fields) (each_field fields are.0), each_part parts are.1)
-  each_part (list elements goes_on parts) are = (list_read (element_texts elements) (element_trees elements) goes_on (each_element elements are.0), each_part parts are.1)
+  each_part (list elements ending parts) are = (list_read (element_texts elements) (ending_texts ending) (element_trees elements) (ending_tree ending) (each_element elements are.0) (ending_read ending are.1), each_part parts are.2)
   each_part (bottom parts) are = (bottom_read, each_part parts are)
 
   pub each_field : (fields : Fields) → ArePrintableFields fields → AreRead (field_texts fields) (each_entry (field_trees fields))
@@ -130,3 +138,8 @@ mutual
   each_element : (elements : Elements) → ArePrintableElements elements → AreRead (element_texts elements) (each_kinds (element_trees elements))
   each_element no_elements are = tt
   each_element (element value elements) are = (value_read value are.0, each_element elements are.1)
+
+  ending_read : (ending : Ending) → IsPrintableEnding ending → AreRead (ending_texts ending) (rest_kinds (ending_tree ending))
+  ending_read ends is = tt
+  ending_read goes_on is = (ellipsis_read, tt)
+  ending_read (goes_on_as value) is = (ellipsis_read_on (value_read value is), tt)

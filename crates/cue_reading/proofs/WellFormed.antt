@@ -8,13 +8,13 @@ use Rattle.cue_lattice.specs.Scalar.{IsInteger}
 use Rattle.cue_lattice.specs.Word.{IsWord}
 use Rattle.cue_row.specs.declared.level.Level.{Level}
 use Rattle.cue_syntax.specs.Syntax as grammar
-use Rattle.cue_syntax.specs.Grammar.{IsKeyword, IsInRange, IsUnary, IsConjunct, AreUnary, AreNested, TwoBranches, IsRight, AreRight, AreRightBranches, AreRightEntries, EndsEntries}
-use Rattle.cue_syntax.specs.Words.{HasWords, HaveWords, HaveWordsBranches, HaveWordsEntries}
+use Rattle.cue_syntax.specs.Grammar.{IsKeyword, IsInRange, IsUnary, IsConjunct, AreUnary, AreNested, TwoBranches, IsRight, AreRight, IsRightRest, AreRightBranches, AreRightEntries, EndsEntries}
+use Rattle.cue_syntax.specs.Words.{HasWords, HaveWords, HasWordsRest, HaveWordsBranches, HaveWordsEntries}
 use Rattle.cue_print.specs.Expressions.{Term, null, truths, truth, integers, number, at_most, at_least, between, texts, text, other_texts}
-use Rattle.cue_print.specs.Expressions.{Value, top, scalar, all, Parts, no_parts, struct, close, list, bottom, Fields, no_more, field, Elements, no_elements, element}
+use Rattle.cue_print.specs.Expressions.{Value, top, scalar, all, Parts, no_parts, struct, close, list, bottom, Fields, no_more, field, Elements, no_elements, element, Ending, ends, goes_on, goes_on_as}
 use Rattle.cue_print.specs.Spelled.{is_conjunction, is_compound}
-use Rattle.cue_reading.specs.Inner.Printable.{IsPrintableTerm, ArePrintableTerms, IsPrintableDefault, HasPart, IsPrintable, ArePrintableParts, ArePrintableFields, ArePrintableElements}
-use Rattle.cue_reading.specs.PrintedTree.{named, signed, unified, label_of, term_tree, branches, terms_branches, terms_tree, operand_tree, scalar_tree, value_tree, part_trees, field_trees, element_trees, has_some}
+use Rattle.cue_reading.specs.Inner.Printable.{IsPrintableTerm, ArePrintableTerms, IsPrintableDefault, HasPart, IsPrintable, ArePrintableParts, ArePrintableFields, ArePrintableElements, IsPrintableEnding}
+use Rattle.cue_reading.specs.PrintedTree.{named, signed, unified, label_of, term_tree, branches, terms_branches, terms_tree, operand_tree, scalar_tree, value_tree, part_trees, field_trees, element_trees, ending_tree, has_some}
 use Rattle.cue_reading.proofs.Integers.{positive_below, negative_below}
 use Rattle.cue_reading.proofs.Marks.{ascii_text}
 
@@ -200,6 +200,10 @@ record AreWellElements (es : grammar.Elements) : Type 0 where
   pub right : AreRight es
   pub words : HaveWords es
 
+record IsWellRest (rest : grammar.Rest) : Type 0 where
+  pub right : IsRightRest rest
+  pub words : HasWordsRest rest
+
 parts_well : (es : grammar.Elements) → (es ≡ grammar.no_elements → ⊥) → AreWell es → IsWell (unified es)
 parts_well grammar.no_elements some are = absurd (some refl)
 parts_well (grammar.element e es) some are = unified_well e es are
@@ -233,10 +237,11 @@ mutual
       let inside = fields_well fields are.0 in
       let more = each_part_well parts are.1 in
       record { right = ((inside.right, inside.nested, tt), more.right); unary = (tt, more.unary); words = (inside.words, more.words) }
-  each_part_well (list elements goes_on parts) are =
+  each_part_well (list elements ending parts) are =
       let inside = elements_well elements are.0 in
-      let more = each_part_well parts are.1 in
-      record { right = ((inside.right, tt), more.right); unary = (tt, more.unary); words = (inside.words, more.words) }
+      let end = ending_well ending are.1 in
+      let more = each_part_well parts are.2 in
+      record { right = ((inside.right, end.right, tt), more.right); unary = (tt, more.unary); words = ((inside.words, end.words), more.words) }
   each_part_well (bottom parts) are = let more = each_part_well parts are in record { right = (tt, more.right); unary = (tt, more.unary); words = (tt, more.words) }
 
   pub fields_well : (fields : Fields) → ArePrintableFields fields → AreWellEntries (field_trees fields)
@@ -249,6 +254,11 @@ mutual
       let here = value_well value are.0 in
       let more = elements_well elements are.1 in
       record { right = (here.right, more.right); words = (here.words, more.words) }
+
+  ending_well : (ending : Ending) → IsPrintableEnding ending → IsWellRest (ending_tree ending)
+  ending_well ends is = record { right = tt; words = tt }
+  ending_well goes_on is = record { right = tt; words = tt }
+  ending_well (goes_on_as value) is = let well = value_well value is in record { right = well.right; words = well.words }
 
 pub ends_well : (fields : Fields) → EndsEntries (has_some fields) (field_trees fields)
 unfolding field_trees

@@ -19,6 +19,7 @@ use Rattle.cue_print.specs.Expressions.{at_least, between, texts, text, other_te
 use Rattle.cue_print.specs.Expressions.{Value, top, scalar, all, Parts, no_parts, struct, close}
 use Rattle.cue_print.specs.Expressions.{list, bottom}
 use Rattle.cue_print.specs.Expressions.{Fields, no_more, field, Elements, no_elements, element}
+use Rattle.cue_print.specs.Expressions.{Ending, ends, goes_on, goes_on_as}
 use Rattle.cue_print.specs.Spelled.{is_compound}
 
 -- ---- scalars
@@ -36,11 +37,6 @@ at_most_tree n = grammar.bound comparisons.AtMost (signed n)
 
 abbrev pub at_least_tree : ℤ → Expression
 at_least_tree n = grammar.bound comparisons.AtLeast (signed n)
-
--- `...` at the end of a list, where it goes on
-abbrev pub rest_tree : Bool → grammar.Rest
-rest_tree true = grammar.any_rest
-rest_tree false = grammar.no_rest
 
 -- expressions with `&` between them: one stands alone
 abbrev pub unified : grammar.Elements → Expression
@@ -116,8 +112,8 @@ unfoldable mutual
       grammar.element (grammar.struct (field_trees fields) false) (part_trees parts)
   part_trees (close fields parts) =
       grammar.element (grammar.close 0 (field_trees fields) false false) (part_trees parts)
-  part_trees (list elements goes_on parts) =
-      grammar.element (grammar.list (element_trees elements) (rest_tree goes_on) false)
+  part_trees (list elements ending parts) =
+      grammar.element (grammar.list (element_trees elements) (ending_tree ending) false)
       (part_trees parts)
   part_trees (bottom parts) = grammar.element grammar.bottom (part_trees parts)
 
@@ -130,6 +126,12 @@ unfoldable mutual
   element_trees no_elements = grammar.no_elements
   element_trees (element value elements) =
       grammar.element (value_tree value) (element_trees elements)
+
+  -- `...` at the end of a list, where it goes on, and what each further element is
+  pub ending_tree : Ending → grammar.Rest
+  ending_tree ends = grammar.no_rest
+  ending_tree goes_on = grammar.any_rest
+  ending_tree (goes_on_as value) = grammar.each_rest (value_tree value)
 
 -- ---- files
 -- whether there is a declaration: a comma is inserted behind the last one

@@ -10,12 +10,12 @@ use std::process::Abort;
 use std::test::Fail;
 
 /// The export of a table.
-fn exported(alloc: Global, table: Made<Table<Row>>) -> Made<Export> {
+pub fn exported(alloc: Global, table: Made<Table<Row>>) -> Made<Export> {
     export(alloc, &table?)
 }
 
 /// The JSON of an export, or the lines of what is in its way.
-fn told(alloc: Global, export: Made<Export>) -> Made<String> {
+pub fn told(alloc: Global, export: Made<Export>) -> Made<String> {
     match export? {
         Export::Json(text) => Ok(text),
         Export::Conflicts(found) => lines(alloc, &found, &[]),
@@ -24,7 +24,7 @@ fn told(alloc: Global, export: Made<Export>) -> Made<String> {
 }
 
 /// The export of a table as text.
-fn export_told(alloc: Global, table: Made<Table<Row>>) -> Made<String> {
+pub fn export_told(alloc: Global, table: Made<Table<Row>>) -> Made<String> {
     match export_text(alloc, &table?)? {
         ExportText::Json(text) => Ok(text),
         ExportText::Conflicts(lines) => Ok(lines),

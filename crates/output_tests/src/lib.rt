@@ -9,4 +9,6 @@ mod prints;
 #[cfg(test)]
 mod reports;
 #[cfg(test)]
+mod rests;
+#[cfg(test)]
 mod sample;

@@ -1,6 +1,6 @@
 //! What tables are printed as.
-use crate::sample::Place::{Closed, Free, Integers, List, Nothing, Struct, Values};
-use crate::sample::{Made, NONE, Place, Scalars, assert_text, table};
+use crate::sample::Place::{Closed, Free, Integers, List, Nothing, Struct, Text, Values};
+use crate::sample::{Made, NONE, Place, Rest, Scalars, assert_text, table, with_rests};
 use cue_print::{others_are_left, print};
 use cue_row::Level::{Given, Optional, Required};
 use cue_row::{Level, Row};
@@ -120,6 +120,73 @@ fn lists_tell_their_lengths(rt: HostRuntime) -> Result<(), Fail> {
         &rt,
         &places,
         "\"k\": [...]\n\"l\": [1, _, ...] & [_]\n\"m\": [_, 2]\n",
+    )
+}
+
+/// Asserts what the table with these places is printed as, where each element of some lists is so
+/// from an index on.
+fn assert_printed_with_rests<H: AllocGlobal + Abort>(
+    rt: &H,
+    places: &[(&str, Level, Place)],
+    rests: &[Rest],
+    wanted: &str,
+) -> Result<(), Fail> {
+    let alloc = rt.alloc();
+    let table = with_rests(alloc, table(alloc, places), rests);
+    assert_text(rt, printed(alloc, table), wanted)
+}
+
+#[test]
+fn further_elements_stand_behind_the_dots(rt: HostRuntime) -> Result<(), Fail> {
+    let int = Integers(i64::MIN, i64::MAX);
+    let places = [
+        ("k", Given, List(0, None)),
+        ("l", Given, List(2, None)),
+        ("l0", Optional, Integers(1, 1)),
+        ("l1", Optional, Text("x")),
+        ("m", Given, List(2, None)),
+    ];
+    let each = [("", Optional, int)];
+    let rests: [Rest; 3] = [("k", 0, &each), ("l", 1, &each), ("m", 0, &each)];
+    assert_printed_with_rests(
+        &rt,
+        &places,
+        &rests,
+        "\"k\": [...int]\n\"l\": [1, _|_, ...int]\n\"m\": [int, int, ...int]\n",
+    )
+}
+
+#[test]
+fn a_greatest_length_stands_beside_further_elements(rt: HostRuntime) -> Result<(), Fail> {
+    let int = Integers(i64::MIN, i64::MAX);
+    let places = [
+        ("l", Given, List(2, Some(2))),
+        ("l0", Optional, Integers(1, 1)),
+        ("l1", Optional, Integers(2, 2)),
+        ("m", Given, List(2, Some(1))),
+    ];
+    let each = [("", Optional, int)];
+    let one = [("", Optional, Integers(1, 1))];
+    let rests: [Rest; 2] = [("l", 0, &each), ("m", 1, &one)];
+    assert_printed_with_rests(
+        &rt,
+        &places,
+        &rests,
+        "\"l\": [1, 2, ...int] & [_, _]\n\"m\": [_, 1, ...1] & [_]\n",
+    )
+}
+
+#[test]
+fn further_elements_are_told_of_nothing(rt: HostRuntime) -> Result<(), Fail> {
+    let places = [("a", Given, Nothing), ("l", Given, List(0, None))];
+    let one = [("", Optional, Integers(1, 1))];
+    let none = [("", Optional, Nothing)];
+    let rests: [Rest; 2] = [("a", 0, &one), ("l", 0, &none)];
+    assert_printed_with_rests(
+        &rt,
+        &places,
+        &rests,
+        "\"a\": [...1] & _|_\n\"l\": [..._|_]\n",
     )
 }
 

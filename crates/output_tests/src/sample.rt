@@ -1,5 +1,5 @@
 //! Tables for the tests of reports and printed text, told by words.
-use cue_lattice::{Memory, Narrow, Text};
+use cue_lattice::{Memory, Narrow, STEP_LIMIT, Text};
 use cue_row::{Labels, Level, Path, Row, Step};
 use cue_scalars::ScalarSet;
 use cue_sets::{IntSet, TextSet};
@@ -267,13 +267,52 @@ fn add(table: &mut Table<Row>, path: Made<Path>, row: Made<Row>) -> Made<()> {
     table.add(&path?, &row?)
 }
 
-/// The table of an open struct with these places, each with its level.
-pub fn table(alloc: Global, places: &[(&str, Level, Place)]) -> Made<Table<Row>> {
+/// The table with these places, each with its level.
+fn bare(alloc: Global, places: &[(&str, Level, Place)]) -> Made<Table<Row>> {
     let mut table = Table::new(alloc);
-    let open = row(alloc, Level::Optional, Place::Struct);
-    add(&mut table, Ok(Path::root(alloc)), open)?;
     for (word, level, place) in places {
         add(&mut table, path(alloc, word), row(alloc, *level, *place))?;
+    }
+    Ok(table)
+}
+
+/// The table with an open struct at its root.
+fn opened(alloc: Global, table: Made<Table<Row>>) -> Made<Table<Row>> {
+    let mut table = table?;
+    let open = row(alloc, Level::Optional, Place::Struct);
+    add(&mut table, Ok(Path::root(alloc)), open)?;
+    Ok(table)
+}
+
+/// The table of an open struct with these places, each with its level.
+pub fn table(alloc: Global, places: &[(&str, Level, Place)]) -> Made<Table<Row>> {
+    opened(alloc, bare(alloc, places))
+}
+
+/// The rest of a list: where the list is, from which index on, and the places of each element, as
+/// they are seen from it.
+pub type Rest<'a> = (&'a str, u32, &'a [(&'a str, Level, Place<'a>)]);
+
+/// Adds what each element of the list at a path is from an index on, unless this is too deep.
+fn add_rest(
+    table: &mut Table<Row>,
+    path: Made<Path>,
+    from: u32,
+    rest: Made<Table<Row>>,
+) -> Made<()> {
+    let path = path?;
+    let rest = rest?;
+    if rest.depth() >= STEP_LIMIT - path.steps().len() {
+        return Ok(());
+    }
+    table.add_rest(&path, from, &rest)
+}
+
+/// The table, whose lists have these rests.
+pub fn with_rests(alloc: Global, table: Made<Table<Row>>, rests: &[Rest]) -> Made<Table<Row>> {
+    let mut table = table?;
+    for (word, from, places) in rests {
+        add_rest(&mut table, path(alloc, word), *from, bare(alloc, places))?;
     }
     Ok(table)
 }

@@ -1,5 +1,5 @@
 -- What printed expressions refuse, and what a row refuses that they are printed for.
-use Rattle.std.specs.Prelude.{◌≡◌, ◌<◌, ◌⊎◌, ℕ, List, [], ◌∷◌, Option}
+use Rattle.std.specs.Prelude.{◌≡◌, ◌<◌, ◌≤◌, ◌⊎◌, ℕ, List, [], ◌∷◌, Option, None, Some}
 use Rattle.cue_lattice.specs.Path.{Path, label, index}
 use Rattle.cue_lattice.specs.Question as questions
 use Rattle.cue_lattice.specs.Question.{Question}
@@ -16,7 +16,7 @@ use Rattle.cue_scope.specs.Definitions.{Definition}
 use Rattle.cue_scope.specs.Meaning.{meant, meant_elements, meant_members}
 use Rattle.cue_eval.specs.Places.{Here, StructRefuses, MarkRefuses}
 use Rattle.cue_eval.specs.Refuses.{Refuses, PartsRefuse, FieldRefuses}
-use Rattle.cue_print.specs.Expressions.{Value, Parts, Fields, no_more, field}
+use Rattle.cue_print.specs.Expressions.{Value, top, Parts, Fields, no_more, field}
 use Rattle.cue_reading.specs.PrintedTree.{label_mark, value_tree, part_trees, field_trees}
 
 module _ (ds : List Definition) (meaning : ℕ → Core) where
@@ -61,6 +61,15 @@ AsStruct labels fields [] question = StructRefuses question ⊎ LabelsRefuse lab
 AsStruct labels fields (label l ∷ path) question = fields l path question
 AsStruct labels fields (index i ∷ path) question = ⊥
 
+-- what each element from the least length of a list on is, where something is said of it or not
+abbrev pub further_value : Option Value → Value
+further_value None = top
+further_value (Some value) = value
+
+-- from the least length on each element is so
+abbrev pub AreFurther : ℕ → (ℕ → Value) → Option Value → Type 0
+AreFurther least value_at further = (i : ℕ) → least ≤ i → value_at i ≡ further_value further
+
 -- where a list stands, by its least length and its greatest
 abbrev pub LengthsRefuse : ℕ → Option ℕ → Question → Type 0
 LengthsRefuse least most (questions.may_be scalar) = IsScalar scalar
@@ -73,7 +82,7 @@ LengthsRefuse least most _ = ⊥
 abbrev pub AsList : ℕ → Option ℕ → (ℕ → Path → Question → Type 0) → Path → Question → Type 0
 AsList least most elements [] question = LengthsRefuse least most question
 AsList least most elements (label l ∷ path) question = ⊥
-AsList least most elements (index i ∷ path) question = (i < least) × elements i path question
+AsList least most elements (index i ∷ path) question = elements i path question
 
 -- what a row refuses but for its level, which stands at its label
 abbrev pub PlaceRefuses : Row → Question → Type 0
@@ -87,13 +96,10 @@ RowAndBelow row fields elements [] question = PlaceRefuses row question
 RowAndBelow row fields elements (label l ∷ path) question = fields l path question
 RowAndBelow row fields elements (index i ∷ path) question = elements i path question
 
--- Fields and elements stand below the kinds of rows that can hold them alone, elements below the
--- least length.
+-- Fields and elements stand below the kinds of rows that can hold them alone.
 pub record Fit (row : Row) (labelled : List ℕ → Path → Question → Type 0)
     (numbered : ℕ → Path → Question → Type 0) : Type 0 where
   pub fields : (l : List ℕ) (path : Path) (question : Question) → labelled l path question
       → IsKind row kinds.Struct ⊎ IsKind row kinds.Nothing
   pub elements : (i : ℕ) (path : Path) (question : Question) → numbered i path question
       → IsKind row kinds.List ⊎ IsKind row kinds.Nothing
-  pub least : (i : ℕ) (path : Path) (question : Question) → numbered i path question
-      → i < row.least

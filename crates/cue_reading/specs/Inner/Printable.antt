@@ -9,6 +9,7 @@ use Rattle.cue_print.specs.Expressions.{at_least, between, text, other_texts}
 use Rattle.cue_print.specs.Expressions.{Value, top, scalar, all, Parts, no_parts, struct, close}
 use Rattle.cue_print.specs.Expressions.{list, bottom}
 use Rattle.cue_print.specs.Expressions.{Fields, no_more, field, Elements, no_elements, element}
+use Rattle.cue_print.specs.Expressions.{Ending, ends, goes_on, goes_on_as}
 
 abbrev pub IsPrintableTerm : Term → Type 0
 IsPrintableTerm (number n) = IsInteger n
@@ -43,8 +44,8 @@ abbrev mutual
   ArePrintableParts no_parts = Unit {0}
   ArePrintableParts (struct fields parts) = ArePrintableFields fields × ArePrintableParts parts
   ArePrintableParts (close fields parts) = ArePrintableFields fields × ArePrintableParts parts
-  ArePrintableParts (list elements goes_on parts) =
-      ArePrintableElements elements × ArePrintableParts parts
+  ArePrintableParts (list elements ending parts) =
+      ArePrintableElements elements × IsPrintableEnding ending × ArePrintableParts parts
   ArePrintableParts (bottom parts) = ArePrintableParts parts
 
   pub ArePrintableFields : Fields → Type 0
@@ -56,3 +57,8 @@ abbrev mutual
   ArePrintableElements no_elements = Unit {0}
   ArePrintableElements (element value elements) =
       IsPrintable value × ArePrintableElements elements
+
+  pub IsPrintableEnding : Ending → Type 0
+  IsPrintableEnding ends = Unit {0}
+  IsPrintableEnding goes_on = Unit {0}
+  IsPrintableEnding (goes_on_as value) = IsPrintable value

@@ -2,20 +2,19 @@ use Rattle.std.proofs.Common.{◌≡◌, ℕ, ◌+◌, ◌++◌, [], ◌∷◌, 
 use Rattle.std.specs.Prelude.{codes}
 use Rattle.std.specs.Option.{option_map}
 use Rattle.std.proofs.lemmas.Bool.{false≢true}
-use Rattle.std.proofs.lemmas.List.{drop_more, drop_all}
+use Rattle.std.proofs.lemmas.List.{append-nil, drop_more, drop_all}
 use Rattle.cue_lattice.specs.Path.{label, index}
 use Rattle.cue_row.specs.declared.level.Level.TheVariants.{Optional}
 use Rattle.cue_row.specs.Quoted.{quoted}
-use Rattle.cue_table.specs.Tree.{below, row_of, find}
+use Rattle.cue_table.specs.Tree.{below, rest_of, row_of, step_into}
 use Rattle.cue_table.specs.Walks.{found_smaller}
 use Rattle.cue_print.specs.Expressions.{top}
-use Rattle.cue_print.specs.Printed.{level_at, value_of, inside, fields_below, element_below}
+use Rattle.cue_print.specs.Printed.{level_at, value_of, inside, fields_below, element_below, element_at, rest_value}
 use Rattle.cue_print.specs.Spelled.{joined, mark_text, value_text, field_texts}
 use Rattle.cue_print.specs.Terms.{terms_of}
-use Rattle.cue_print.specs.Writing.{ellipsis_text}
 use Rattle.cue_print.proofs.Fields.{fields_of, fields_are, left_text, next_left, all_left, none_left_of}
-use Rattle.cue_print.proofs.Found.{field_for, element_for, declared_found, element_found}
-use Rattle.cue_print.proofs.ListTexts.{no_elements_yet, next_element, top_text}
+use Rattle.cue_print.proofs.Found.{field_for, element_for, declared_into, element_into, no_rest_told, rest_told}
+use Rattle.cue_print.proofs.ListTexts.{no_elements_yet, next_element, top_text, ending_written}
 use Rattle.cue_print.proofs.Parts.{list_written, nothing_written, outside_of, outside_text, outside_first, next_outside, outside_more, outside_ended, outside_absent}
 use Rattle.cue_print.proofs.Places.{no_row, by_kind, no_terms, no_members, by_terms, without_terms, open_written, closed_written}
 use Rattle.cue_print.proofs.Scalars.{on_ok}
@@ -31,7 +30,7 @@ later P i h = ap P (not_first i) ∙ h where
   not_first n = grind arith
 
 pub push_elements-loop-number-init : goal.push_elements-loop-number-init
-push_elements-loop-number-init t c = no_elements_yet (string_bytes c.args.out.now) (element_below (below c.args.branch.now))
+push_elements-loop-number-init t c = no_elements_yet (string_bytes c.args.out.now) (element_at (rest_of c.args.branch.now) (element_below (below c.args.branch.now)))
 
 pub push_elements-push_value-requires : goal.push_elements-push_value-requires
 push_elements-push_value-requires t c =
@@ -40,8 +39,8 @@ push_elements-push_value-requires t c =
 pub push_elements-loop-number-preserved : goal.push_elements-loop-number-preserved
 push_elements-loop-number-preserved t c =
     let n = c.loop-number.number in
-    let values = element_below (below c.args.branch.now) in
-    let found = element_found (below c.args.branch.now) n ∙ ap element_for (sym c.find.ensures.branch) in
+    let values = element_at (rest_of c.args.branch.now) (element_below (below c.args.branch.now)) in
+    let found = element_into c.args.branch.now n ∙ ap element_for (sym c.find.ensures.branch) in
     next_element n values _ _ _ _ c.loop-number.invariant c.in_ok-separate.ensures
     (elim c.match-find.branch [
       | push_elements-in-None+in_ok-push_str-in-None w ↦
@@ -49,6 +48,18 @@ push_elements-loop-number-preserved t c =
       | push_elements-in-Some+in_ok-push_value-in-Some w ↦
           ap string_bytes w.out-is ∙ w.in_ok-push_value-in-Some.ensures ∙ ap (λ v. string_bytes c.separate.new.out ++ value_text v) (sym (found ∙ ap element_for w.in-Some.is))
     ])
+
+pub push_ending-returns-in-None : goal.push_ending-returns-in-None
+push_ending-returns-in-None t c =
+    ending_written c.args.count c.args.is_exact (rest_value (rest_of c.args.branch.now)) [] _ _ _ _ c.if-is_exact.false (no_rest_told c.args.branch.now c.in-None.ensures.rest)
+    c.in_ok-separate.ensures c.in_ok-push_str.ensures.bytes (sym (append-nil _))
+
+pub push_ending-returns-in-Some : goal.push_ending-returns-in-Some
+push_ending-returns-in-Some t c =
+    on_ok c.push_value.result
+    (λ e. ending_written c.args.count c.args.is_exact (rest_value (rest_of c.args.branch.now)) _ _ _ _ _ c.if-is_exact.false (rest_told c.args.branch.now c.in-Some.rest c.in-Some.ensures.rest)
+    c.in_ok-separate.ensures c.in_ok-push_str.ensures.bytes e)
+    c.push_value.ensures
 
 pub push_fields-loop-label-init : goal.push_fields-loop-label-init
 push_fields-loop-label-init t c =
@@ -85,7 +96,7 @@ push_inside-loop-i-preserved t c =
     let l = c.index-labels-i.result in
     let rest = inside (drop (i + 1) labels) fields in
     let left : drop i labels ≡ l ∷ drop (i + 1) labels = drop_more labels i l c.loop-i-test.true ∙ ap (λ x. x ∷ drop (i + 1) labels) (sym c.index-labels-i.is) in
-    let found = declared_found children l rest ∙ ap (λ f. field_for l f rest) (ap (λ x. find (label x) children) (sym c.in_ok-copy.ensures) ∙ sym c.find.ensures.branch) in
+    let found = declared_into c.args.branch.now l rest ∙ ap (λ f. field_for l f rest) (ap (λ x. step_into c.args.branch.now (label x)) (sym c.in_ok-copy.ensures) ∙ sym c.find.ensures.branch) in
     let before = ap (λ ls. string_bytes c.loop-i.out ++ left_text (nat_eq i 0) (inside ls fields)) (sym left) ∙ c.loop-i.invariant in
     later (λ b. string_bytes c.match-find.out ++ left_text b rest) i
     (elim c.match-find.branch [
@@ -108,14 +119,13 @@ pub push_list-returns : goal.push_list-returns
 push_list-returns t c =
     let row = c.args.row.now in
     on_ok c.push_longest.result
-    (λ e. list_written row.least row.most (element_below (below c.args.branch.now)) _ _ _ _ _ _ c.in_ok-push_str.ensures.bytes c.in_ok-push_elements.ensures
-    (c.in_ok-push_ellipsis.ensures ∙ ap (λ b. string_bytes c.push_elements.new.out ++ ellipsis_text row.least b) c.goes_on.ensures)
-    c.in_ok-push_str-2.ensures.bytes e)
+    (λ e. list_written row.least row.most (element_at (rest_of c.args.branch.now) (element_below (below c.args.branch.now))) (rest_value (rest_of c.args.branch.now)) c.is_exact-is_exact.result _ _ _ _ _ _
+    c.is_exact-is_exact.ensures c.in_ok-push_str.ensures.bytes c.in_ok-push_elements.ensures c.in_ok-push_ending.ensures c.in_ok-push_str-2.ensures.bytes e)
     c.push_longest.ensures
 
 pub push_nothing-returns : goal.push_nothing-returns
 push_nothing-returns t c =
-    nothing_written c.args.row.now (fields_below (below c.args.branch.now)) (element_below (below c.args.branch.now)) _ _ _ _ c.in_ok-push_struct_before.ensures c.in_ok-push_list_before.ensures c.in_ok-push_str.ensures.bytes
+    nothing_written c.args.row.now (fields_below (below c.args.branch.now)) (element_at (rest_of c.args.branch.now) (element_below (below c.args.branch.now))) (rest_value (rest_of c.args.branch.now)) _ _ _ _ c.in_ok-push_struct_before.ensures c.in_ok-push_list_before.ensures c.in_ok-push_str.ensures.bytes
 
 pub push_outside-loop-label-init : goal.push_outside-loop-label-init
 push_outside-loop-label-init t c =
@@ -173,7 +183,7 @@ push_value-returns-then-is_empty t c =
     let none = no_terms row.value c.known.ensures (c.is_empty.ensures.0 c.if-is_empty.true) in
     on_ok c.push_nothing.result
     (λ e. e ∙ ap (λ v. string_bytes c.args.out.now ++ value_text v)
-    (without_terms (terms_of row.value) row _ _ none ∙ by_kind c.args.branch.now row false false c.in-Some.ensures.row c.in-false-false.is-0 c.in-false-false.is-1))
+    (without_terms (terms_of row.value) row _ _ _ none ∙ by_kind c.args.branch.now row false false c.in-Some.ensures.row c.in-false-false.is-0 c.in-false-false.is-1))
     c.push_nothing.ensures
 
 pub push_value-returns-in_ok-push_str-in-true-true : goal.push_value-returns-in_ok-push_str-in-true-true
@@ -199,5 +209,5 @@ push_value-returns-else-is_empty t c =
     let some : terms_of row.value ≡ [] → ⊥ = λ e. false≢true (sym c.if-is_empty.false ∙ c.is_empty.ensures.1 (no_members row.value e)) in
     on_ok c.push_scalar.result
     (λ e. e ∙ ap (λ v. string_bytes c.args.out.now ++ value_text v)
-    (by_terms (terms_of row.value) row _ _ some ∙ by_kind c.args.branch.now row false false c.in-Some.ensures.row c.in-false-false.is-0 c.in-false-false.is-1))
+    (by_terms (terms_of row.value) row _ _ _ some ∙ by_kind c.args.branch.now row false false c.in-Some.ensures.row c.in-false-false.is-0 c.in-false-false.is-1))
     c.push_scalar.ensures

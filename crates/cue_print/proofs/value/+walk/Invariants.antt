@@ -1,8 +1,8 @@
 use Rattle.std.proofs.Common.{◌≡◌, ◌+◌, ◌*◌, ◌++◌, drop, nat_eq, string_bytes}
 use Rattle.std.specs.Prelude.{codes}
 use Rattle.cue_table.specs.Size.{tree_size}
-use Rattle.cue_table.specs.Tree.{below}
-use Rattle.cue_print.specs.Printed.{elements, inside, fields_below, element_below}
+use Rattle.cue_table.specs.Tree.{below, rest_of}
+use Rattle.cue_print.specs.Printed.{elements, inside, fields_below, element_below, element_at}
 use Rattle.cue_print.specs.Spelled.{joined, field_texts, element_texts}
 use Rattle.cue_print.specs.Writing.{beside_text}
 use Rattle.cue_print.proofs.Fields.{fields_of, left_text}
@@ -43,6 +43,9 @@ decreases-push_outside l = 6 * tree_size l.branch.now
 abbrev pub decreases-push_elements : goal.decreases-push_elements
 decreases-push_elements l = 6 * tree_size l.branch.now
 
+abbrev pub decreases-push_ending : goal.decreases-push_ending
+decreases-push_ending l = 6 * tree_size l.branch.now
+
 abbrev pub invariant-push_fields-loop-label : goal.invariant-push_fields-loop-label
 invariant-push_fields-loop-label l =
     IsWriting l.branch l.label-iterator (string_bytes l.out) (left_text l.is_first (fields_of l.label-iterator))
@@ -60,4 +63,4 @@ invariant-push_inside-loop-i l =
 
 abbrev pub invariant-push_elements-loop-number : goal.invariant-push_elements-loop-number
 invariant-push_elements-loop-number l =
-    string_bytes l.out ≡ string_bytes l.initial.out ++ joined (codes ", ") (element_texts (elements l.number (element_below (below l.branch))))
+    string_bytes l.out ≡ string_bytes l.initial.out ++ joined (codes ", ") (element_texts (elements l.number (element_at (rest_of l.branch) (element_below (below l.branch)))))
