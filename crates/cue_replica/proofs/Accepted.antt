@@ -9,7 +9,7 @@ use Rattle.cue_row.specs.Row.{RowRefuses}
 use Rattle.cue_row.specs.declared.row.Row.{Row}
 use Rattle.cue_table.specs.Tree.{empty, row_at}
 use Rattle.cue_table.specs.Refuses.{RowRefuses as RowsRefuse}
-use Rattle.cue_table.proofs.Validity.{empty_valid, nothing_at}
+use Rattle.cue_table.proofs.ValidWalks.{empty_valid, nothing_at}
 use Rattle.cue_replica.specs.Language.{Table, language, opening}
 use Rattle.cue_replica.specs.Replica.{Adds}
 use Rattle.cue_replica.specs.Accepted.{IsOfTexts, IsOfState, IsAcceptable, IsOfPieces}

@@ -6,9 +6,7 @@ use Rattle.cue_lattice.specs.Meets.{Meets}
 use Rattle.cue_lattice.specs.Question.{Refusals}
 use Rattle.cue_lattice.specs.World.{Piece, AllAlong, IsUnified, IsAdmitted, IsExactOnDocuments, pieces_refuse}
 use Rattle.cue_lattice.proofs.Meeting.{each, less, same, admitted_meets, meeting_is_admitted}
-use Rattle.cue_row.specs.declared.row.Row.{Row}
 use Rattle.cue_row.specs.Row.{RowRefuses}
-use Rattle.cue_table.specs.Tree.{Tree}
 use Rattle.cue_table.specs.Refuses.{TableRefuses}
 use Rattle.cue_syntax.specs.Syntax.{FileTree}
 use Rattle.cue_scope.specs.Meaning.{meant_text}

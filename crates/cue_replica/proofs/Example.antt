@@ -1,11 +1,10 @@
 -- A legal text.
-use Rattle.std.proofs.Common.{◌≡◌, ◌<◌, ℕ, zero, suc, List, [], ◌∷◌, Ok, None, false, refl, arith}
+use Rattle.std.proofs.Common.{ℕ, [], None, false, refl, arith}
 use Rattle.std.specs.Prelude.{codes}
 use Rattle.std.specs.Str.{IsUtf8, is_utf8, chars}
 use Rattle.std.proofs.lemmas.Str.{IsUtf8-from_is_utf8}
 use lib.Utf8.{encode}
 use Rattle.cue_lattice.specs.Limits.{level_limit}
-use Rattle.cue_lex.specs.declared.token.Token.{Token}
 use Rattle.cue_replica.proofs.Lexed.{words, lexed}
 use Rattle.cue_syntax.specs.declared.tree.LabelName.TheVariants as names
 use Rattle.cue_syntax.specs.declared.tree.Mark.TheVariants as marks

@@ -2,7 +2,7 @@
 use Rattle.std.proofs.Common.{◌≡◌, ◌≢◌, ◌⊎◌, inl, inr, ⊎_elim, ℕ, List, Option, None, Some, refl, sym, subst}
 use Rattle.cue_lattice.specs.Question.{SameAnswers}
 use Rattle.cue_table.specs.Tree.{node}
-use Rattle.cue_table.proofs.Validity.{valid_empty}
+use Rattle.cue_table.proofs.ValidWalks.{valid_empty}
 use Rattle.cue_eval.specs.Texts as meaning
 use Rattle.cue_print.specs.Expressions.{Fields}
 use Rattle.cue_print.specs.Printed.{file_of}
@@ -26,8 +26,8 @@ use Rattle.cue_replica.proofs.Texts.{one_reading, no_text_fault}
 -- where something is known, there is a file
 has_file : (table : Table) → language.IsValid table → table ≢ opening → (fields : Fields) × (file_of table ≡ Some fields)
 unfolding file_of
-has_file (node None children) valid known = absurd (known (valid_empty (node None children) refl valid))
-has_file (node (Some row) children) valid known = (_, refl)
+has_file (node None children rest) valid known = absurd (known (valid_empty (node None children rest) refl valid))
+has_file (node (Some row) children rest) valid known = (_, refl)
 
 -- the text's own tree
 tree_of : (text : List ℕ) (fields : Fields) (read : IsLegalAs text (file_tree fields)) → IsTreeOf text read.placed

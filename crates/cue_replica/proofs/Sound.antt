@@ -1,5 +1,5 @@
 -- The language keeps to what is asked of every language.
-use Rattle.std.proofs.Common.{◌≡◌, ◌⊎◌, ◌<◌, ◌^◌, ℕ, List, length, refl, ap, sym, ◌∙◌, subst, ⊎_elim, inl, inr}
+use Rattle.std.proofs.Common.{◌≡◌, ◌⊎◌, ◌<◌, ◌^◌, ℕ, List, [], ◌∷◌, length, refl, ap, sym, ◌∙◌, subst, ⊎_elim, inl, inr}
 use Rattle.cue_lattice.specs.declared.refusal.Kind.{Kind}
 use Rattle.cue_lattice.specs.declared.refusal.Kind.TheVariants as kinds
 use Rattle.cue_lattice.specs.declared.refusal.Refusal.{Refusal}
@@ -7,23 +7,35 @@ use Rattle.cue_lattice.specs.Question.{SameAnswers}
 use Rattle.cue_lattice.specs.Refusal.{memory, refusal_at}
 use Rattle.cue_lattice.specs.World.{IsSound}
 use Rattle.cue_row.specs.Row.{RowRefuses}
-use Rattle.cue_table.specs.Tree.{rows_of}
 use Rattle.cue_table.specs.Refuses.{TableRefuses}
 use Rattle.cue_table.specs.Valid.{IsValidTable}
-use Rattle.cue_codec.specs.State.{table_bytes}
+use Rattle.cue_codec.specs.State.{table_bytes, IsTableBytes}
 use Rattle.cue_codec.specs.Decoding.{IsOtherVersion, IsUndecoded}
 use Rattle.cue_codec.proofs.ReadStates as codec
-use Rattle.cue_codec.proofs.WrittenStates.{state_parts}
+use Rattle.std.specs.List.{AllByRecursion}
+use Rattle.cue_codec.specs.Entry.{Entry, StateStep, at, to_rest, IsToldStep, entries_of}
+use Rattle.cue_codec.specs.Version.{written}
+use Rattle.cue_codec.proofs.WrittenStates.{parts_of_state}
 use Rattle.cue_replica.specs.Language.{Table, language}
 use Rattle.cue_replica.specs.States.{IsTableOf, IsState, state_refuses, IsStateFault, IsStateRefusedAtOnce}
 use Rattle.cue_replica.specs.Texts.{IsTextFault}
 use Rattle.cue_replica.proofs.Asked.{one_table}
 use Rattle.cue_replica.proofs.Texts.{no_text_fault, memory_no_text_fault, text_at_once}
 
+-- the version that is written tells every table
+each_told : (steps : List StateStep) → AllByRecursion (IsToldStep written) steps
+each_told [] = tt
+each_told (at step ∷ steps) = (tt, each_told steps)
+each_told (to_rest ∷ steps) = (tt, each_told steps)
+
+told_in_second : (entries : List Entry) → AllByRecursion (λ entry. AllByRecursion (IsToldStep written) entry.path) entries
+told_in_second [] = tt
+told_in_second (entry ∷ entries) = (each_told entry.path, told_in_second entries)
+
 -- a table that memory can spell is told by its bytes
 one_spelling : (bytes : List ℕ) (a b : Table) → length bytes < 2 ^ 64 → IsTableOf bytes a → IsTableOf bytes b → a ≡ b
 one_spelling bytes a b held h k =
-    codec.one_table a b h.valid k.valid (subst (λ (bs : List ℕ). length bs < 2 ^ 64) (sym h.spelled) held) (h.spelled ∙ sym k.spelled)
+    codec.one_table a b bytes h.valid k.valid held h.spelled k.spelled
 
 -- the table that bytes are read as refuses what the bytes do
 pub state_answers :
@@ -36,12 +48,10 @@ state_answers table bytes held is path question = (
       subst (λ (t : Table). TableRefuses RowRefuses t path question) one h.2,
 )
 
--- the bytes of a table are of the known version
-pub known_version : (table : Table) (bytes : List ℕ) → table_bytes table ≡ bytes → IsOtherVersion bytes → ⊥
-known_version table bytes spelled other =
-    let whole = sym (state_parts (rows_of table)) ∙ spelled ∙ other.2 in
-    let same : 1 ≡ other.0 = cc in
-    other.3 (sym same)
+-- the bytes of a table are of a version that is known
+pub known_version : (table : Table) (bytes : List ℕ) → IsTableBytes bytes table → IsOtherVersion bytes → ⊥
+known_version table bytes is other =
+    codec.known_version is.0 bytes _ (sym is.2 ∙ parts_of_state is.0 (entries_of is.0 table)) other
 
 no_state_fault : (bytes : List ℕ) (why : Refusal) → IsState bytes → IsStateFault bytes why → ⊥
 no_state_fault bytes why is fault =
@@ -78,7 +88,7 @@ reads_own :
     (table : Table) → IsValidTable table → length (table_bytes table) < 2 ^ 64
     → IsState (table_bytes table) × SameAnswers (state_refuses (table_bytes table)) (TableRefuses RowRefuses table)
 reads_own table valid held =
-    let is : IsTableOf (table_bytes table) table = record { valid = valid; spelled = refl } in
+    let is : IsTableOf (table_bytes table) table = record { valid = valid; spelled = (written, told_in_second (entries_of written table), refl) } in
     let same = state_answers table (table_bytes table) held is in (
       (table, is),
       λ path question. ((same path question).1, (same path question).0),

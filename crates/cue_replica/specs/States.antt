@@ -9,13 +9,13 @@ use Rattle.cue_row.specs.Row.{RowRefuses}
 use Rattle.cue_table.specs.Tree.{Tree}
 use Rattle.cue_table.specs.Refuses.{TableRefuses}
 use Rattle.cue_table.specs.Valid.{IsValidTable}
-use Rattle.cue_codec.specs.State.{table_bytes}
+use Rattle.cue_codec.specs.State.{IsTableBytes}
 use Rattle.cue_codec.specs.Decoding.{IsRejected, BeginsAsState}
 
--- the table is valid, and has these bytes
+-- the table is valid, and has these bytes in one of the versions
 pub record IsTableOf (bytes : List ℕ) (table : Tree Row) : Type 0 where
   pub valid : IsValidTable table
-  pub spelled : table_bytes table ≡ bytes
+  pub spelled : IsTableBytes bytes table
 
 -- some valid table has the bytes
 abbrev pub IsState : List ℕ → Type 0
@@ -37,6 +37,6 @@ abbrev pub IsStateFault : List ℕ → Refusal → Type 0
 IsStateFault bytes why = (why.place ≡ 0) × IsRejected bytes why.kind
 
 -- Bytes whose fault is found with no memory: they do not begin as those of a state do, with the
--- mark, the version and the count of the rows.
+-- mark, a version that is known and the count of the rows.
 abbrev pub IsStateRefusedAtOnce : List ℕ → Type 0
 IsStateRefusedAtOnce bytes = ¬ BeginsAsState bytes

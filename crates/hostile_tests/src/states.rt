@@ -6,7 +6,7 @@ use std::test::Fail;
 
 /// The state of `a: 1`.
 const ONE: &[u8] = &[
-    0xFE, 0x43, 0x55, 0x45, 1, 0, 0, 0, 0, 0, 0, 0, 2, // two rows
+    0xFE, 0x43, 0x55, 0x45, 2, 0, 0, 0, 0, 0, 0, 0, 2, // two rows
     0, 0, 2, 0, // the root
     1, 0, 0, 1, 0x61, 2, 1, // a scalar at the label a
     0, 0, 0, 0, 0, 0, 0, 0, 1, // a set of one piece
@@ -23,7 +23,7 @@ const COUNTS: &[(usize, usize)] = &[(5, 8), (17, 1), (19, 2), (25, 8), (50, 8), 
 
 /// The front of a state whose struct at `a` lists the labels that are allowed.
 const LABELS: &[u8] = &[
-    0xFE, 0x43, 0x55, 0x45, 1, 0, 0, 0, 0, 0, 0, 0, 2, // two rows
+    0xFE, 0x43, 0x55, 0x45, 2, 0, 0, 0, 0, 0, 0, 0, 2, // two rows
     0, 0, 2, 0, // the root
     1, 0, 0, 1, 0x61, 2, 2, 1, // a struct with a set of labels at the label a
 ];
@@ -122,12 +122,12 @@ fn counts_that_are_too_great(rt: HostRuntime) -> Result<(), Fail> {
 
 /// The state of a list of at least 65,536 elements at `l`, of which nothing may be the first.
 pub const CLASH: &[u8] = &[
-    0xFE, 0x43, 0x55, 0x45, 1, 0, 0, 0, 0, 0, 0, 0, 3, // three rows
+    0xFE, 0x43, 0x55, 0x45, 2, 0, 0, 0, 0, 0, 0, 0, 3, // three rows
     0, 0, 2, 0, // the root
     1, 0, 0, 1, 0x6C, 2, 3, // a list at the label l
-    0, 1, 0, 0, 0, //
+    0, 1, 0, 0, 0, 0, 0, 0, 1, // of 65,536 elements at least, alike from the second on
     2, 0, 0, 1, 0x6C, 1, 0, 0, 0, 0, 0, 4, // nothing at its element 0
-    0, 0, 0, 0, 0, 0,
+    0, 0, 0, 0, 0, 0, 0, 0, 0, 0,
 ];
 
 /// Whether the report of the site that these bytes make has so many lines, and begins and ends so.

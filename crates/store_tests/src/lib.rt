@@ -20,6 +20,8 @@ mod orders;
 #[cfg(test)]
 mod refusals;
 #[cfg(test)]
+mod rests;
+#[cfg(test)]
 mod scalars;
 #[cfg(test)]
 mod sites;

@@ -64,8 +64,8 @@ fn forms_that_are_left_out(rt: HostRuntime) -> Result<(), Fail> {
     let embedding = Kind::LeftOut(Form::Embedding);
     assert_refuses(&rt, "a\n", embedding, 0)?;
     assert_refuses(&rt, "_\n", embedding, 0)?;
-    let rest = Kind::LeftOut(Form::TypedRest);
-    assert_refuses(&rt, "l: [...int]\n", rest, 7)
+    let ellipsis = Kind::LeftOut(Form::TypedEllipsis);
+    assert_refuses(&rt, "a: {...int}\n", ellipsis, 7)
 }
 
 #[test]

@@ -12,7 +12,7 @@ const REPLIES: [u8; 31] = *b"\0\0\0\x01\0\0\0\0\x09\0\0{\"a\":1}\0\0\0\x09\x14\0
 /// The state of `a: 1`, as the reply to the request for it.
 const STATE: [u8; 97] = [
     0, 0, 0, 0x5D, 0, // the length, and what was accepted
-    0xFE, 0x43, 0x55, 0x45, 1, 0, 0, 0, 0, 0, 0, 0, 2, // two rows
+    0xFE, 0x43, 0x55, 0x45, 2, 0, 0, 0, 0, 0, 0, 0, 2, // two rows
     0, 0, 2, 0, // the root
     1, 0, 0, 1, 0x61, 2, 1, // a scalar at the label a
     0, 0, 0, 0, 0, 0, 0, 0, 1, // a set of one piece

@@ -7,7 +7,7 @@ use std::test::Fail;
 
 /// The state of `a: 1`.
 pub const ONE: &[u8] = &[
-    0xFE, 0x43, 0x55, 0x45, 1, 0, 0, 0, 0, 0, 0, 0, 2, // two rows
+    0xFE, 0x43, 0x55, 0x45, 2, 0, 0, 0, 0, 0, 0, 0, 2, // two rows
     0, 0, 2, 0, // the root
     1, 0, 0, 1, 0x61, 2, 1, // a scalar at the label a
     0, 0, 0, 0, 0, 0, 0, 0, 1, // a set of one piece
@@ -19,14 +19,15 @@ pub const ONE: &[u8] = &[
 ];
 
 /// The state that refuses nothing.
-const FREE: &[u8] = &[0xFE, 0x43, 0x55, 0x45, 1, 0, 0, 0, 0, 0, 0, 0, 0];
+const FREE: &[u8] = &[0xFE, 0x43, 0x55, 0x45, 2, 0, 0, 0, 0, 0, 0, 0, 0];
 
 /// The state of a label a at which nothing may stand.
 const CLASH: &[u8] = &[
-    0xFE, 0x43, 0x55, 0x45, 1, 0, 0, 0, 0, 0, 0, 0, 2, // two rows
+    0xFE, 0x43, 0x55, 0x45, 2, 0, 0, 0, 0, 0, 0, 0, 2, // two rows
     0, 0, 2, 0, // the root
     1, 0, 0, 1, 0x61, 2, 4, // nothing at the label a
     0, 0, 0, 0, 0, 0, // all labels below, and lists of any length
+    0, 0, 0, 0, // whose elements are alike from the first on
 ];
 
 /// The state of `a: 1` with its two rows in the other order.
