@@ -21,7 +21,7 @@ use cue_report::{conflicts, export, incomplete};
 use cue_row::{Labels, Level};
 use cue_scalars::ScalarSet;
 use cue_sets::{IntSet, TextSet};
-use cue_table::{Path, Row, Step, Table};
+use cue_table::{Draft, Path, Place, Row, Step, Table};
 use std::alloc::Global;
 
 /// What is done with a table or its state.
@@ -140,16 +140,18 @@ fn table<R: Narrow>(
     outer: &R,
     row: &R,
 ) -> Result<Table<R>, Memory> {
-    let mut made = Table::new(alloc);
-    let _is_last = made.append(&Path::root(alloc), root.copy(alloc)?)?;
+    let mut made = Draft::new(alloc);
+    let _is_last = made.append(&Place::root(alloc), root.copy(alloc)?)?;
     for level in 0..levels {
         let steps = parent(alloc, level.saturating_add(1))?;
-        let _is_last = made.append(&path(alloc, steps), outer.copy(alloc)?)?;
+        let place = Place::of_path(alloc, path(alloc, steps))?;
+        let _is_last = made.append(&place, outer.copy(alloc)?)?;
     }
     for number in 0..fields {
-        let _is_last = made.append(&field(alloc, levels, number)?, row.copy(alloc)?)?;
+        let place = Place::of_path(alloc, field(alloc, levels, number)?)?;
+        let _is_last = made.append(&place, row.copy(alloc)?)?;
     }
-    Ok(made)
+    Ok(made.finish().unwrap_or(Table::new(alloc)))
 }
 
 /// The row of a struct that allows these labels.

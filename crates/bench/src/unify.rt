@@ -11,7 +11,7 @@ use crate::fault::{Fault, number};
 use crate::tables::integer_row;
 use anyhow::Error;
 use cue_lattice::{Memory, Narrow, Text};
-use cue_table::{Path, Step, Table};
+use cue_table::{Draft, Path, Place, Step, Table};
 use std::alloc::Global;
 
 /// Where the parent of all rows is.
@@ -85,13 +85,14 @@ fn table<R: Narrow>(
     fields: Fields,
     row: &R,
 ) -> Result<Table<R>, Memory> {
-    let mut made = Table::new(alloc);
+    let mut made = Draft::new(alloc);
     let mut number = fields.first;
     for _ in 0..fields.count {
-        let _is_last = made.append(&path(alloc, shape, number)?, row.copy(alloc)?)?;
+        let place = Place::of_path(alloc, path(alloc, shape, number)?)?;
+        let _is_last = made.append(&place, row.copy(alloc)?)?;
         number = number.saturating_add(fields.apart);
     }
-    Ok(made)
+    Ok(made.finish().unwrap_or(Table::new(alloc)))
 }
 
 /// The tables that are unified into one of so many rows, whose fields have the even numbers.
