@@ -123,6 +123,19 @@ fn lists_tell_their_lengths(rt: HostRuntime) -> Result<(), Fail> {
     )
 }
 
+/// Elements that are any integers.
+const ANY_INTEGER: &[(&str, Level, Place<'static>)] = &[(
+    "",
+    Optional,
+    Integers(i64::MIN, i64::MAX),
+)];
+
+/// Elements that are 1.
+const ONE: &[(&str, Level, Place<'static>)] = &[("", Optional, Integers(1, 1))];
+
+/// Elements that nothing is.
+const NO_VALUE: &[(&str, Level, Place<'static>)] = &[("", Optional, Nothing)];
+
 /// Asserts what the table with these places is printed as, where each element of some lists is so
 /// from an index on.
 fn assert_printed_with_rests<H: AllocGlobal + Abort>(
@@ -158,16 +171,13 @@ fn further_elements_stand_behind_the_dots(rt: HostRuntime) -> Result<(), Fail> {
 
 #[test]
 fn a_greatest_length_stands_beside_further_elements(rt: HostRuntime) -> Result<(), Fail> {
-    let int = Integers(i64::MIN, i64::MAX);
     let places = [
         ("l", Given, List(2, Some(2))),
         ("l0", Optional, Integers(1, 1)),
         ("l1", Optional, Integers(2, 2)),
         ("m", Given, List(2, Some(1))),
     ];
-    let each = [("", Optional, int)];
-    let one = [("", Optional, Integers(1, 1))];
-    let rests: [Rest; 2] = [("l", 0, &each), ("m", 1, &one)];
+    let rests: [Rest; 2] = [("l", 0, ANY_INTEGER), ("m", 1, ONE)];
     assert_printed_with_rests(
         &rt,
         &places,
@@ -179,9 +189,7 @@ fn a_greatest_length_stands_beside_further_elements(rt: HostRuntime) -> Result<(
 #[test]
 fn further_elements_are_told_of_nothing(rt: HostRuntime) -> Result<(), Fail> {
     let places = [("a", Given, Nothing), ("l", Given, List(0, None))];
-    let one = [("", Optional, Integers(1, 1))];
-    let none = [("", Optional, Nothing)];
-    let rests: [Rest; 2] = [("a", 0, &one), ("l", 0, &none)];
+    let rests: [Rest; 2] = [("a", 0, ONE), ("l", 0, NO_VALUE)];
     assert_printed_with_rests(
         &rt,
         &places,

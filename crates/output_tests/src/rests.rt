@@ -7,6 +7,12 @@ use cue_row::Level::{Given, Optional, Required};
 use std::process::Abort;
 use std::test::Fail;
 
+/// Elements that are lists with an element.
+const LISTS: &[(&str, Level, Place<'static>)] = &[("", Optional, List(1, None))];
+
+/// Elements that are 5.
+const FIVE: &[(&str, Level, Place<'static>)] = &[("", Optional, Integers(5, 5))];
+
 /// Asserts what the table with these places and rests is exported as, by lists and without them.
 fn assert_exported<H: AllocGlobal + Abort>(
     rt: &H,
@@ -116,8 +122,6 @@ fn a_rest_behind_the_least_length_is_not_demanded(rt: HostRuntime) -> Result<(),
 #[test]
 fn rests_stand_in_rests(rt: HostRuntime) -> Result<(), Fail> {
     let places = [("l", Given, List(2, None)), ("l1", Optional, List(0, None))];
-    let inner = [("", Optional, List(1, None))];
-    let each = [("", Optional, Integers(5, 5))];
-    let rests: [Rest; 3] = [("l", 0, &inner), ("l0", 0, &each), ("l1", 0, &each)];
+    let rests: [Rest; 3] = [("l", 0, LISTS), ("l0", 0, FIVE), ("l1", 0, FIVE)];
     assert_exported(&rt, &places, &rests, "{\"l\":[[5],[5]]}")
 }
