@@ -1,19 +1,42 @@
-"""Reads the printed text of a table (`cuestore print`) into what is said at each path."""
+"""Reads the printed text of a table (`cuestore print`) into what is said at each place."""
+import re
+
 from fragments import run, stop, tokens_of
 
 MARKS = {":": "", "?:": "?", "!:": "!"}
+STEP = re.compile(r'"(?:\\.|[^"\\])*"|\[\d+\.\.\]|[^.]+')
+
+
+class Place:
+    """What is said at a place: its mark, and the text of its value, where inner fields are `..`; the places below it by
+    their steps; of a list, how many elements are written out, the place that each further one is like, where something is
+    said of those, and whether there may be such elements."""
+
+    def __init__(self):
+        self.said, self.inner = None, {}
+        self.count, self.rest, self.goes_on = 0, None, True
+
+    def at(self, step):
+        """The place at a step below this one; nothing, where nothing is said of it."""
+        if step in self.inner:
+            return self.inner[step]
+        return self.rest if self.goes_on and (step.isdecimal() or step == rest_step(self.count)) else None
+
+    def steps(self, *others):
+        """The steps below this place and these, in order."""
+        return sorted({*self.inner}.union(*(other.inner for other in others)), key=order_of)
 
 
 class Printed:
-    """What is said at each path: its mark, and the text of its value, where inner fields are `..`."""
+    """Reads a printed text, token by token, into the place of its root."""
 
     def __init__(self, text):
         self.tokens = [token for token in tokens_of(text) if token.text]
-        self.at, self.said = 0, {}
+        self.at, self.root = 0, Place()
         if [token.text for token in self.tokens] == ["_"]:
             return
         while self.at < len(self.tokens):
-            self.field("")
+            self.field(self.root)
 
     def peek(self):
         return self.tokens[self.at].text if self.at < len(self.tokens) else ""
@@ -22,32 +45,34 @@ class Printed:
         self.at += 1
         return self.tokens[self.at - 1].text
 
-    def field(self, path):
-        label = self.take()
+    def field(self, place):
+        inner = place.inner.setdefault(step_of(self.take()), Place())
         mark = self.take()
         if mark in "?!":
             mark += self.take()
-        inner = joined(path, step_of(label))
-        known = self.said.get(inner)
-        value = self.value(inner)
-        if known and value != "_":
-            value = value if known[1] == "_" else f"{known[1]} & {value}"
-        self.said[inner] = (MARKS[mark], value if not known or value != "_" else known[1])
+        known, value = inner.said, self.value(inner)
+        if known and value == "_":
+            value = known[1]
+        elif known and known[1] != "_":
+            value = f"{known[1]} & {value}"
+        inner.said = (MARKS[mark], value)
 
-    def value(self, path):
-        """The value's text, up to what ends it here; what stands inside it is kept under its own path."""
+    def value(self, place):
+        """The value's text, up to what ends it here; what stands inside it is kept at places below this one."""
         words = []
         while self.peek() not in ("", ",", "}", "]", ")") and not self.begins_a_field(words):
             word = self.take()
             if word == "{":
-                words.append(self.struct(path))
+                words.append(self.struct(place))
             elif word == "[":
-                words.append(self.list(path))
+                words.append(self.list(place))
             elif word == "(":
-                words.append("(" + self.value(path) + ")")
+                words.append("(" + self.value(place) + ")")
                 self.take()
             else:
                 words.append(word)
+        if words[-3:] == [f"[{place.count}..]", "&", f"[{place.count}]"]:
+            del words[-3:-1]
         return spaced(words)
 
     def begins_a_field(self, words):
@@ -55,11 +80,11 @@ class Printed:
         ahead = [token.text for token in self.tokens[self.at:self.at + 3]]
         return bool(words) and self.peek()[:1] == '"' and (ahead[1:2] == [":"] or ahead[1:] in (["?", ":"], ["!", ":"]))
 
-    def struct(self, path):
+    def struct(self, place):
         labels = []
         while self.peek() != "}":
             labels.append(self.peek())
-            self.field(path)
+            self.field(place)
             if self.peek() == ",":
                 self.take()
         self.take()
@@ -67,21 +92,25 @@ class Printed:
         closed = self.at >= 2 and labels_closed(self.tokens, self.at, labels)
         return "{" + (", ".join(labels) if closed else ".." if labels else "") + "}"
 
-    def list(self, path):
-        count, rest = 0, ""
+    def list(self, place):
+        count, is_open = 0, False
         while self.peek() != "]":
             if self.peek() == "...":
-                rest = self.take()
+                is_open = bool(self.take())
+                if self.peek() != "]":
+                    place.rest = Place()
+                    place.rest.said = ("", self.value(place.rest))
             else:
-                inner = joined(path, str(count))
+                inner = place.inner.setdefault(str(count), Place())
                 value = self.value(inner)
-                if value != "_" or inner not in self.said:
-                    self.said[inner] = ("", value)
+                if value != "_" or not inner.said:
+                    inner.said = ("", value)
                 count += 1
             if self.peek() == ",":
                 self.take()
         self.take()
-        return f"[{count}{rest and '..'}]"
+        place.count, place.goes_on = max(count, place.count), place.goes_on and is_open
+        return f"[{count}{'..' if is_open else ''}]"
 
 
 def labels_closed(tokens, at, labels):
@@ -111,13 +140,28 @@ def step_of(label):
     return bare if plain else label
 
 
+def rest_step(count):
+    """The step of each element from so many on."""
+    return f"[{count}..]"
+
+
+def steps_of(path):
+    """The steps of a path; none of the root's."""
+    return STEP.findall(path)
+
+
+def order_of(step):
+    """Labels come before elements, and elements by their numbers."""
+    return (step.isdecimal(), int(step) if step.isdecimal() else 0, step)
+
+
 def joined(path, step):
     return f"{path}.{step}" if path else step
 
 
 def printed_of(name, files):
-    """What is said by all inputs together, path by path."""
+    """The root's place, of what is said by all inputs together."""
     status, out, faults = run(["print", "--", *files])
     if status:
         stop(name, (out + faults).decode(errors="replace").strip(), status)
-    return Printed(out.decode()).said
+    return Printed(out.decode()).root
