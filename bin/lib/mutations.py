@@ -39,7 +39,8 @@ LIMITS = [text.encode() for text in (
     "#A0: {a: 1}\n" + "".join(f"#A{k + 1}: {{l: #A{k}, r: #A{k}}}\n" for k in range(7)) + "x: #A7\n",
     "".join(f"#A{k + 1}: #A{k} & {{b{k}?: int}}\n" for k in range(60)) + "#A0: {a: 1}\nx: #A60\n",
     "a: " + " & ".join(f"!={k}" for k in range(60)), "a: " + " | ".join(f'"{k}"' for k in range(60)),
-    "".join(f"k{k}: {k}\n" for k in range(60)), "x: close({a: 1}) & {b: 2}\n", "l: [1, 2, ...] & [_, _, 3]\n")]
+    "".join(f"k{k}: {k}\n" for k in range(60)), "x: close({a: 1}) & {b: 2}\n", "l: [1, 2, ...] & [_, _, 3]\n",
+    "a: " + "[..." * 63 + "1" + "]" * 63, "l: [...int] & [_, \"x\", ...] & [...>=0]\n")]
 
 
 def turned(data, chance):
@@ -137,9 +138,10 @@ class Fields:
 
     def read_row(self):
         for _ in range(self.number(1)):
-            if self.number(1, False) == 0:
+            step = self.number(1, False)
+            if step == 0:
                 self.skip(self.number(2))
-            else:
+            elif step == 1:
                 self.number(4)
         self.number(1)
         kind = self.number(1)
@@ -151,6 +153,8 @@ class Fields:
         if kind in (3, 4):
             self.number(4)
             if self.number(1) == 1:
+                self.number(4)
+            if self.data[4] == 2:
                 self.number(4)
 
     def read_set(self):
