@@ -12,6 +12,7 @@ SHARED = ["#P: {host: string, port?: int}\nx: #P\n", 'x: {host: "h", prt: 1}\n']
 USED = ["#B: {x: int, y?: int}\n#A: #B & {x: 3}\nv: #A\n", "v: y: 4\n"]
 LISTS = ["l: [1, 2]\n", "l: [1, ...]\n"]
 CLASH = LISTS + ["l: [1]\n"]
+RESTS = ["l: [...{x: int}]\n", "l: [_, {x: 1}, ...]\n"]
 ONE = bytes.fromhex("fe4355450200000000000000020000020001000001610201" + "000000000000000001" + "0000000000000001" * 2
                     + "000000000000000000" + "000000000000000001" + "0000000000000001" * 2 + "000000000000000000")
 
@@ -120,6 +121,8 @@ def all_runs():
     runs += asked("lists", LISTS, {"export": (0, '{"l":[1,2]}\n')})
     runs += asked("lists that clash", CLASH, {"export": (2, "conflict l no value\n"),
                                               "print": (0, '"l": [1, 2, ...] & [_]\n')})
+    runs += asked("rests of lists", RESTS, {"export": (3, "incomplete l.0.x not a single value\n"),
+                                            "print": (0, '"l": [{"x": int}, {"x": 1}, ...{"x": int}]\n')})
     runs += three_sites()
     files = {"t": b"a: 1\n", "state": ONE}
     runs += [Run("the state of a number", "state t", 0, ONE, files),
