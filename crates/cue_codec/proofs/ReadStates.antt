@@ -29,7 +29,7 @@ use Rattle.cue_codec.specs.StateRow.{IsStateStep}
 use Rattle.cue_codec.specs.State.{mark, table_bytes_in, IsTableBytes}
 use Rattle.cue_codec.specs.Version.{version_byte, IsNoVersion}
 use Rattle.cue_codec.specs.Decoding.{IsOtherVersion, IsNoState, IsRejected, BeginsAsState, IsUndecoded, AreReadRows, NoRows}
-use Rattle.cue_codec.proofs.Codes.{OneItem, wide64, one_number, one_list, list_step, items_none, items_more, all_more, refused_so}
+use Rattle.cue_codec.proofs.Codes.{OneItem, wide64, one_number, one_list, list_step, items_none, items_more, all_more}
 use Rattle.cue_codec.proofs.EachItem.{all_back, all_weaker}
 use Rattle.cue_codec.proofs.KeptRows.{front_before, rows_kept}
 use Rattle.cue_codec.proofs.KnownPlaces.{entries_placed, place_kept, rows_more, after_more, rows_split}
@@ -78,15 +78,21 @@ headless_end bytes rest e none =
 versioned : (version : Version) (bytes rest after : List ℕ) (byte : ℕ) → bytes ≡ mark ++ rest → rest ≡ byte ∷ after → version_byte version ≡ byte → bytes ≡ mark ++ (version_byte version ∷ after)
 versioned version bytes rest after byte e is same = e ∙ ap (λ t. mark ++ t) (is ∙ ap (λ n. n ∷ after) (sym same))
 
+-- the bytes of a table begin so
+pub table_begins : (tree : Tree Row) (bytes : List ℕ) → IsTableBytes bytes tree → BeginsAsState bytes
+table_begins tree bytes is = (is.0, length (entries_of is.0 tree), flat_map (row_bytes is.0) (entries_of is.0 tree), table_parts bytes tree is)
+
 -- where the count is cut
+pub headless_begun : (version : Version) (bytes rest after : List ℕ) (byte : ℕ) → bytes ≡ mark ++ rest → rest ≡ byte ∷ after → version_byte version ≡ byte → None ≡ number_at w64 after → BeginsAsState bytes → ⊥
+headless_begun version bytes rest after byte e is same none begun =
+    let whole = versioned version bytes rest after byte e is same in
+    let same = tails (version_byte version) (version_byte begun.0) after _ (same_after bytes (version_byte version ∷ after) (version_byte begun.0 ∷ _) whole begun.3) in
+    omega (arith, number_missing w64 after none, ap length same, length-append (to_be_bytes w64 begun.1) begun.2, wide64.len begun.1)
+
 pub headless_count : (version : Version) (bytes rest after : List ℕ) (byte : ℕ) → bytes ≡ mark ++ rest → rest ≡ byte ∷ after → version_byte version ≡ byte → None ≡ number_at w64 after → IsRejected bytes kinds.NotState
 headless_count version bytes rest after byte e is same none =
-    let whole = versioned version bytes rest after byte e is same in
-    rejected bytes (known_version version bytes after whole)
-    (λ tree h f.
-    let rows : List Entry = entries_of f.0 tree in
-    let same = tails (version_byte version) (version_byte f.0) after _ (same_after bytes (version_byte version ∷ after) (version_byte f.0 ∷ _) whole (table_parts bytes tree f)) in
-    omega (arith, number_missing w64 after none, ap length same, length-append (to_be_bytes w64 (length rows)) (flat_map (row_bytes f.0) rows), wide64.len (length rows)))
+    rejected bytes (known_version version bytes after (versioned version bytes rest after byte e is same))
+    (λ tree h f. headless_begun version bytes rest after byte e is same none (table_begins tree bytes f))
 
 pub head_found : (version : Version) (bytes rest after end : List ℕ) (byte count : ℕ) → IsBytes bytes → bytes ≡ mark ++ rest → rest ≡ byte ∷ after → version_byte version ≡ byte → Some (count, end) ≡ number_at w64 after
     → bytes ≡ mark ++ (version_byte version ∷ (to_be_bytes w64 count ++ end))
@@ -98,10 +104,6 @@ head_found version bytes rest after end byte count fits e is same found =
 -- bytes that begin as those of a state are of a known version
 pub begun_known : (bytes : List ℕ) → BeginsAsState bytes → IsOtherVersion bytes → ⊥
 begun_known bytes begun = known_version begun.0 bytes (to_be_bytes w64 begun.1 ++ begun.2) begun.3
-
--- the bytes of a table begin so
-pub table_begins : (tree : Tree Row) (bytes : List ℕ) → IsTableBytes bytes tree → BeginsAsState bytes
-table_begins tree bytes is = (is.0, length (entries_of is.0 tree), flat_map (row_bytes is.0) (entries_of is.0 tree), table_parts bytes tree is)
 
 marked : (a b c d : ℕ) (rest : List ℕ) → ((a ≡ 254) × (b ≡ 67) × (c ≡ 85) × (d ≡ 69)) ⊎ ((a ≡ 254) × (b ≡ 67) × (c ≡ 85) × (d ≡ 69) → ⊥)
 marked a b c d rest =
@@ -155,11 +157,9 @@ items_first v code one (x ∷ xs) (y ∷ ys) rest p q n e =
 
 -- where a row is missing, so many do not stand
 pub rows_missing :
-    (version : Version) (kind : Kind) (bytes rest : List ℕ) (count missing : ℕ) (rows : List (Place × Row)) (indexes known : List ℕ) → AreRead version bytes rest count missing rows indexes known → 0 < missing
-    → IsRefused kind (BeginsNone (IsStateRow version) (row_bytes version) rest) → IsRefused kind (NoRows version count bytes)
-rows_missing version kind bytes rest count missing rows indexes known read some refused =
-    refused_so kind (BeginsNone (IsStateRow version) (row_bytes version) rest) (NoRows version count bytes)
-    (λ none tree r. items_none (IsStateRow version) (row_bytes version) (one_row version) count read.entries bytes rest read.each (omega (arith, some, read.counted)) read.parts none (entries_of version tree) [] (r.counted, r.rows) (r.parts ∙ sym (append-nil (flat_map (row_bytes version) (entries_of version tree))))) refused
+    (version : Version) (bytes rest : List ℕ) (count missing : ℕ) (rows : List (Place × Row)) (indexes known : List ℕ) → AreRead version bytes rest count missing rows indexes known → 0 < missing → BeginsNone (IsStateRow version) (row_bytes version) rest → NoRows version count bytes
+rows_missing version bytes rest count missing rows indexes known read some none tree r =
+    items_none (IsStateRow version) (row_bytes version) (one_row version) count read.entries bytes rest read.each (omega (arith, some, read.counted)) read.parts none (entries_of version tree) [] (r.counted, r.rows) (r.parts ∙ sym (append-nil (flat_map (row_bytes version) (entries_of version tree))))
 
 -- where bytes are left after them, these are no rows
 pub rows_trailing :
@@ -279,7 +279,7 @@ in_version version bytes rest tree e is =
     subst (λ (v : Version). IsToldIn v tree × (table_bytes_in v tree ≡ bytes)) same (is.1, is.2)
 
 -- the rows of a valid table with these bytes
-valid_read :
+pub valid_read :
     (version : Version) (bytes rest : List ℕ) (count : ℕ) (tree : Tree Row) → bytes ≡ mark ++ (version_byte version ∷ (to_be_bytes w64 count ++ rest)) → count < 2 ^ 64 → length bytes < 2 ^ 64 → IsValidTable tree
     → IsTableBytes bytes tree → AreReadRows version count rest tree
 valid_read version bytes rest count tree e lt fits h has =

@@ -51,7 +51,7 @@ row_behind depth steps step row =
     ∙ sym (append_assoc steps (step_bytes written step) (flat_map (step_bytes written) row.path ++ said)) in
     λ i. count i ∷ path i
 
-rows_behind : (depth : ℕ) (steps : List ℕ) (step : StateStep) (rows : List Entry) → flat_map (row_bytes_from written depth steps) (map (behind step) rows) ≡ flat_map (row_bytes_from written (depth + 1) (steps ++ step_bytes written step)) rows
+pub rows_behind : (depth : ℕ) (steps : List ℕ) (step : StateStep) (rows : List Entry) → flat_map (row_bytes_from written depth steps) (map (behind step) rows) ≡ flat_map (row_bytes_from written (depth + 1) (steps ++ step_bytes written step)) rows
 rows_behind depth steps step [] = refl
 rows_behind depth steps step (row ∷ rows) =
     flat_map-cons (row_bytes_from written depth steps) (behind step row) (map (behind step) rows)
@@ -127,7 +127,7 @@ valid_short row h = record {
   short_labels None k = tt
   short_labels (Some labels) k = short_words labels k
 
-child_word : (parent : Row) (step : Step) (row : Option Row) → HasChild parent step row → IsWordStep step
+pub child_word : (parent : Row) (step : Step) (row : Option Row) → HasChild parent step row → IsWordStep step
 child_word parent step None h = absurd h
 child_word parent step (Some row) h = h.word
 

@@ -59,15 +59,14 @@ parts_of_state version rows = refl
 pub state_parts : (rows : List Entry) → state_bytes written rows ≡ mark ++ (2 ∷ (to_be_bytes w64 (length rows) ++ flat_map (row_bytes written) rows))
 state_parts rows = parts_of_state written rows
 
--- the head and the rows are the state, where they fit into memory
-pub state_written :
-    (tree : Tree Row) (out rows : List ℕ) (count : ℕ) → length out < 2 ^ 64 → count ≡ min (length (entries_of written tree)) (2 ^ 64 - 1) → rows ≡ flat_map (row_bytes_from written 0 []) (entries_of written tree) → out ≡ mark ++ (2 ∷ (to_be_bytes w64 count ++ rows))
-    → out ≡ table_bytes tree
-state_written tree out rows count fits counted spelled e =
-    let all : rows ≡ flat_map (row_bytes written) (entries_of written tree) = spelled ∙ rows_from_root (entries_of written tree) in
-    let few = rows_few written (entries_of written tree) in
-    let same : count ≡ length (entries_of written tree) = omega (arith, fits, counted, few, ap length all, ap length e, length-append mark (1 ∷ (to_be_bytes w64 count ++ rows)), length-append (to_be_bytes w64 count) rows) in
-    e ∙ ap (λ t. mark ++ (2 ∷ (to_be_bytes w64 count ++ t))) all ∙ ap (λ n. mark ++ (2 ∷ (to_be_bytes w64 n ++ flat_map (row_bytes written) (entries_of written tree)))) same ∙ sym (state_parts (entries_of written tree))
+-- the head and the rows are the state, where 64 bits tell how many rows there are
+pub state_begun :
+    (tree : Tree Row) (count : ℕ) → count ≡ min (length (entries_of written tree)) (2 ^ 64 - 1) → count < 2 ^ 64 - 1
+    → (mark ++ (2 ∷ to_be_bytes w64 count)) ++ flat_map (row_bytes_from written 0 []) (entries_of written tree) ≡ table_bytes tree
+state_begun tree count counted few =
+    let rows = rows_from_root (entries_of written tree) in
+    let same : count ≡ length (entries_of written tree) = omega (arith, counted, few) in
+    ap (λ t. mark ++ (2 ∷ (to_be_bytes w64 count ++ t))) rows ∙ ap (λ n. mark ++ (2 ∷ (to_be_bytes w64 n ++ flat_map (row_bytes written) (entries_of written tree)))) same ∙ sym (state_parts (entries_of written tree))
 
 -- a valid table has no path that is too long
 pub valid_deep : (tree : Tree Row) → IsValidTable tree → tree_depth tree ≤ step_limit

@@ -1,7 +1,9 @@
 pub mod Decoding
 pub mod Entry
+pub mod Inner
 pub mod Known
 pub mod Parts
+pub mod Pieces
 pub mod Reading
 pub mod RowBytes
 pub mod Size

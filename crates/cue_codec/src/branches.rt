@@ -1,17 +1,14 @@
-//! The rows of a table as bytes, branch by branch.
+//! The branches of a table: how many rows they have, and the row of a place as bytes.
 
-ghost use Rattle.std.specs.Prelude.{◌≡◌, [], ◌+◌, ◌-◌, ◌^◌, ◌<◌, ◌≤◌, ◌++◌, length, min, OnOk};
-ghost use Rattle.std.specs.List.{flat_map};
-ghost use Rattle.cue_lattice.specs.Limits.{step_limit};
-ghost use Rattle.cue_table.specs.Tree.{fixed_of};
-ghost use Rattle.cue_table.specs.Depth.{tree_depth};
+ghost use Rattle.std.specs.Prelude.{◌≡◌, [], ◌-◌, ◌^◌, ◌<◌, ◌≤◌, ◌++◌, length, min, OnErr, OnOk};
+ghost use Rattle.cue_row.specs.Begun.{StillBegins};
 ghost use Rattle.cue_table.specs.Inner.ValidWalk.{IsSound};
 ghost use Rattle.cue_codec.specs.Entry.{entries_of};
 ghost use Rattle.cue_codec.specs.RowBytes.{row_bytes_from, IsShortRow};
 ghost use Rattle.cue_codec.specs.Version.{written};
+ghost use Rattle.cue_codec.specs.Inner.Ways.{tree_bytes, branches_bytes, branches_of};
 
 use crate::row_writing::put_parts;
-use crate::writing::{put_rest, put_step};
 use cue_lattice::Memory;
 use cue_row::Row;
 use cue_table::Branch;
@@ -45,9 +42,10 @@ fn put_own_row(
 ) -> Result<(), Memory>
     requires short { IsShortRow row.now }
     requires fixed { fixed < 2 ^ 32 }
-    ensures { OnOk result (out.new.items ≡ out.old.items
+    ensures written { OnOk result (out.new.items ≡ out.old.items
         ++ row_bytes_from written depth steps.now
         (record { path = []; fixed = fixed; row = row.now })) }
+    ensures kept { OnErr result (StillBegins out.old.items out.new.items) }
 {
     out.push(depth)?;
     out.extend_from_slice(steps)?;
@@ -55,34 +53,23 @@ fn put_own_row(
     put_parts(out, row, fixed)
 }
 
-/// Writes the rows of a branch that is so many steps from the root. These steps were written
-/// before, as `steps`, and afterwards stand there again. The recursion is as deep as the branch.
-pub fn put_branch(
+/// Writes the row at a branch that is so many steps from the root: of its rows, those of the
+/// branches below it are left. The steps to it were written before, as `steps`.
+pub fn put_place(
     out: &mut Vec<u8>,
     depth: u8,
-    steps: &mut Vec<u8>,
+    steps: &[u8],
     branch: &Branch<Row>,
 ) -> Result<(), Memory>
-    requires deep { depth + tree_depth branch.now ≤ step_limit }
-    requires sound { IsSound branch.now }
-    ensures rows { OnOk result (out.new.items ≡ out.old.items
-        ++ flat_map (row_bytes_from written depth steps.old.items)
-        (entries_of written branch.now)) }
-    ensures steps { OnOk result (steps.new.items ≡ steps.old.items) }
+    requires { IsSound branch.now }
+    ensures rows { OnOk result (out.new.items
+        ++ branches_bytes depth steps.now (branches_of branch.now)
+        ≡ out.old.items ++ tree_bytes depth steps.now branch.now) }
+    ensures longer { OnOk result (length out.old.items < length out.new.items) }
+    ensures kept { OnErr result (StillBegins out.old.items out.new.items) }
 {
-    if let Some(row) = branch.row() {
-        put_own_row(out, depth, steps.as_slice(), row, branch.fixed())?;
+    match branch.row() {
+        None => Ok(()),
+        Some(row) => put_own_row(out, depth, steps, row, branch.fixed()),
     }
-    let len = steps.len();
-    for (step, below) in branch.children() {
-        put_step(steps, step)?;
-        put_branch(out, depth + 1, steps, &below)?;
-        steps.truncate(len);
-    }
-    if let Some(rest) = branch.rest() {
-        put_rest(steps)?;
-        put_branch(out, depth + 1, steps, &rest)?;
-        steps.truncate(len);
-    }
-    Ok(())
 }

@@ -3,19 +3,16 @@
 ghost use Rattle.std.specs.Prelude.{◌≡◌, ◌<◌, ◌^◌, ◌∷◌, ◌++◌, ℕ, List, IfOk, IfErr, IfSome, IfNone};
 ghost use Rattle.std.specs.Int.{w64, to_be_bytes};
 ghost use Rattle.cue_table.specs.Valid.{IsValidTable};
-ghost use Rattle.cue_codec.specs.Reading.{IsRefused};
-ghost use Rattle.cue_codec.specs.Known.{AreDrafted};
 ghost use Rattle.cue_codec.specs.State.{mark, IsTableBytes};
-ghost use Rattle.cue_codec.specs.Decoding.{AreReadRows, NoRows, IsUndecoded, IsRejected};
+ghost use Rattle.cue_codec.specs.Decoding.{BeginsAsState, IsUndecoded, IsRejected};
 ghost use Rattle.cue_codec.specs.Version.{version_byte};
 
+use crate::drafting::Drafting;
 use crate::reading::u64_at;
-use crate::row_reader::RowReader;
-use crate::telling::tells;
 use crate::version::Version;
 use cue_lattice::Kind;
 use cue_row::Row;
-use cue_table::{Draft, Place, Table};
+use cue_table::Table;
 use std::alloc::Global;
 
 /// What stands after this byte.
@@ -42,11 +39,12 @@ fn after_mark(bytes: &[u8]) -> Option<&[u8]>
 }
 
 /// The version, how many rows there are, and the bytes after the head.
-fn head_at(bytes: &[u8]) -> Result<(Version, u64, &[u8]), Kind>
+pub fn head_at(bytes: &[u8]) -> Result<(Version, u64, &[u8]), Kind>
     ensures ok { IfOk result (λ x. bytes.now
         ≡ mark ++ (version_byte x.0 ∷ (to_be_bytes w64 x.1 ++ x.2.now))) }
     ensures small { IfOk result (λ x. x.1 < 2 ^ 64) }
     ensures refused { IfErr result (IsRejected bytes.now) }
+    ensures begun { IfErr result (λ kind. ¬ BeginsAsState bytes.now) }
 {
     let Some(rest) = after_mark(bytes) else {
         return Err(Kind::NotState);
@@ -63,60 +61,6 @@ fn head_at(bytes: &[u8]) -> Result<(Version, u64, &[u8]), Kind>
     Ok((version, count, rest))
 }
 
-/// So many rows, one after another, each added behind the others as it is read, and the indexes from
-/// which on the elements of each are alike. Its place is made of the one before it, so that all
-/// costs what the bytes cost.
-fn drafted(
-    alloc: Global,
-    version: Version,
-    count: u64,
-    bytes: &[u8],
-) -> Result<(Draft<Row>, Vec<u64>), Kind>
-    ensures ok { IfOk result (λ x. AreDrafted version bytes.now count x.0 x.1.items) }
-    ensures refused { IfErr result (λ kind. IsRefused kind (NoRows version count bytes.now)) }
-{
-    let mut draft = Draft::new(alloc);
-    let mut indexes = Vec::new(alloc);
-    let mut known = [0; 65];
-    let mut reader = RowReader::new(bytes);
-    let mut place = Place::root(alloc);
-    let mut left = count;
-    while left > 0 {
-        let (next, fixed, row) = reader.read(alloc, version, place, &known)?;
-        place = next;
-        let Ok(is_added) = draft.append(&place, row) else {
-            return Err(Kind::Memory);
-        };
-        if !is_added {
-            return Err(Kind::NotState);
-        }
-        let Ok(()) = indexes.push(fixed) else {
-            return Err(Kind::Memory);
-        };
-        known[place.slots().len()] = fixed;
-        left -= 1;
-    }
-    if !reader.is_at_end() {
-        return Err(Kind::NotState);
-    }
-    Ok((draft, indexes))
-}
-
-/// The table of so many rows, where their bytes are all there are.
-fn rows_at(alloc: Global, version: Version, count: u64, bytes: &[u8]) -> Result<Table<Row>, Kind>
-    ensures ok { IfOk result (AreReadRows version count bytes.now) }
-    ensures refused { IfErr result (λ kind. IsRefused kind (NoRows version count bytes.now)) }
-{
-    let (draft, indexes) = drafted(alloc, version, count, bytes)?;
-    let Some(table) = draft.finish() else {
-        return Err(Kind::NotState);
-    };
-    if !tells(version, &table, indexes.as_slice()) {
-        return Err(Kind::NotState);
-    }
-    Ok(table)
-}
-
 /// The valid table whose state bytes these are, in whichever version. They are refused as `Version`
 /// exactly where they begin with the mark and a version that is not known; else as `NotState` where
 /// no valid table has them, and as `Memory` where memory ran out, which it does only where mark,
@@ -127,7 +71,7 @@ pub fn decode(alloc: Global, bytes: &[u8]) -> Result<Table<Row>, Kind>
     ensures refused { IfErr result (IsUndecoded bytes.now) }
 {
     let (version, count, rest) = head_at(bytes)?;
-    let table = rows_at(alloc, version, count, rest)?;
+    let table = Drafting::new(alloc, version, count).finish(rest)?;
     if !table.is_valid() {
         return Err(Kind::NotState);
     }

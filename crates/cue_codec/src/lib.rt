@@ -3,16 +3,22 @@
 
 mod branches;
 mod decoding;
+mod drafting;
 mod encoding;
 mod lists;
 mod paths;
 mod reading;
+mod row_pieces;
 mod row_reader;
+mod row_walk;
 mod row_writing;
 mod rows;
+mod scan;
 mod sets;
 mod sizes;
 mod spelling;
+mod state_reader;
+mod state_writer;
 mod telling;
 mod version;
 mod writing;
@@ -26,4 +32,6 @@ pub use sizes::size;
 pub use spelling::{
     bytes_of_kinds, law_of_entries, one_row_spelling, one_state_spelling, one_table_spelling,
 };
+pub use state_reader::StateReader;
+pub use state_writer::StateWriter;
 pub use version::Version;

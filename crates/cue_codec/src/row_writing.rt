@@ -1,6 +1,8 @@
-//! What a row says, as bytes.
+//! What a row says, as bytes. Where memory runs out, what stood there before still begins the
+//! bytes.
 
-ghost use Rattle.std.specs.Prelude.{◌≡◌, ◌<◌, ◌^◌, ◌++◌, OnOk};
+ghost use Rattle.std.specs.Prelude.{◌≡◌, ◌<◌, ◌^◌, ◌++◌, OnErr, OnOk};
+ghost use Rattle.cue_row.specs.Begun.{StillBegins};
 ghost use Rattle.cue_codec.specs.RowBytes.{parts_bytes, parts_of, scalars_bytes, left_out_bytes};
 ghost use Rattle.cue_codec.specs.RowBytes.{IsShortRow};
 ghost use Rattle.cue_codec.specs.Version.{written};
@@ -14,8 +16,9 @@ use cue_row::Row;
 #[tactic(auto, unfolding(crate::specs::RowBytes::scalars_bytes))]
 fn put_scalars(out: &mut Vec<u8>, row: &Row) -> Result<(), Memory>
     requires { IsShortRow row.now }
-    ensures { OnOk result (out.new.items ≡ out.old.items
+    ensures written { OnOk result (out.new.items ≡ out.old.items
         ++ scalars_bytes (row.now.value, row.now.usual)) }
+    ensures kept { OnErr result (StillBegins out.old.items out.new.items) }
 {
     put_set(out, &row.value)?;
     put_set(out, &row.usual)
@@ -26,8 +29,9 @@ fn put_scalars(out: &mut Vec<u8>, row: &Row) -> Result<(), Memory>
 fn put_left_out(out: &mut Vec<u8>, row: &Row, fixed: u64) -> Result<(), Memory>
     requires short { IsShortRow row.now }
     requires fixed { fixed < 2 ^ 32 }
-    ensures { OnOk result (out.new.items ≡ out.old.items
+    ensures written { OnOk result (out.new.items ≡ out.old.items
         ++ left_out_bytes written (row.now.labels, (row.now.least, row.now.most, fixed))) }
+    ensures kept { OnErr result (StillBegins out.old.items out.new.items) }
 {
     put_labels(out, &row.labels)?;
     put_lengths(out, row.least, row.most, fixed)
@@ -39,8 +43,9 @@ fn put_left_out(out: &mut Vec<u8>, row: &Row, fixed: u64) -> Result<(), Memory>
 pub fn put_parts(out: &mut Vec<u8>, row: &Row, fixed: u64) -> Result<(), Memory>
     requires short { IsShortRow row.now }
     requires fixed { fixed < 2 ^ 32 }
-    ensures { OnOk result (out.new.items ≡ out.old.items
+    ensures written { OnOk result (out.new.items ≡ out.old.items
         ++ parts_bytes written (parts_of row.now fixed)) }
+    ensures kept { OnErr result (StillBegins out.old.items out.new.items) }
 {
     match (row.struct_ok, row.list_ok) {
         (true, true) => {

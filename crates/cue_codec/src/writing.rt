@@ -1,7 +1,9 @@
-//! The parts of a row as bytes.
+//! The parts of a row as bytes. Where memory runs out, what stood there before still begins the
+//! bytes.
 
-ghost use Rattle.std.specs.Prelude.{◌≡◌, ◌<◌, ◌^◌, ◌++◌, OnOk};
+ghost use Rattle.std.specs.Prelude.{◌≡◌, ◌<◌, ◌^◌, ◌++◌, OnErr, OnOk};
 ghost use Rattle.std.specs.List.{flat_map, AllByRecursion};
+ghost use Rattle.cue_row.specs.Begun.{StillBegins};
 ghost use Rattle.cue_row.specs.Steps.{step_of};
 ghost use Rattle.cue_codec.specs.Entry.{at, to_rest};
 ghost use Rattle.cue_codec.specs.Parts.{integer_bytes, counted_bytes, piece_bytes, text_bytes};
@@ -17,7 +19,8 @@ use cue_sets::TextSet;
 
 #[tactic(auto, unfolding(crate::specs::Parts::integer_bytes))]
 fn put_integer(out: &mut Vec<u8>, integer: i64) -> Result<(), Memory>
-    ensures { OnOk result (out.new.items ≡ out.old.items ++ integer_bytes integer) }
+    ensures written { OnOk result (out.new.items ≡ out.old.items ++ integer_bytes integer) }
+    ensures kept { OnErr result (StillBegins out.old.items out.new.items) }
 {
     out.extend_from_slice(&integer.to_be_bytes())?;
     Ok(())
@@ -25,7 +28,8 @@ fn put_integer(out: &mut Vec<u8>, integer: i64) -> Result<(), Memory>
 
 #[tactic(auto, unfolding(crate::specs::Parts::piece_bytes))]
 fn put_piece(out: &mut Vec<u8>, piece: (i64, i64)) -> Result<(), Memory>
-    ensures { OnOk result (out.new.items ≡ out.old.items ++ piece_bytes piece) }
+    ensures written { OnOk result (out.new.items ≡ out.old.items ++ piece_bytes piece) }
+    ensures kept { OnErr result (StillBegins out.old.items out.new.items) }
 {
     put_integer(out, piece.0)?;
     put_integer(out, piece.1)?;
@@ -35,7 +39,8 @@ fn put_piece(out: &mut Vec<u8>, piece: (i64, i64)) -> Result<(), Memory>
 #[tactic(auto, unfolding(crate::specs::Parts::text_bytes))]
 fn put_text(out: &mut Vec<u8>, text: &Text) -> Result<(), Memory>
     requires { IsShort text.now }
-    ensures { OnOk result (out.new.items ≡ out.old.items ++ text_bytes text.now) }
+    ensures written { OnOk result (out.new.items ≡ out.old.items ++ text_bytes text.now) }
+    ensures kept { OnErr result (StillBegins out.old.items out.new.items) }
 {
     let bytes = text.as_bytes();
     out.extend_from_slice(&(bytes.len() as u16).to_be_bytes())?;
@@ -44,7 +49,9 @@ fn put_text(out: &mut Vec<u8>, text: &Text) -> Result<(), Memory>
 }
 
 fn put_each_piece(out: &mut Vec<u8>, pieces: &[(i64, i64)]) -> Result<(), Memory>
-    ensures { OnOk result (out.new.items ≡ out.old.items ++ flat_map piece_bytes pieces.now) }
+    ensures written { OnOk result (out.new.items ≡ out.old.items
+        ++ flat_map piece_bytes pieces.now) }
+    ensures kept { OnErr result (StillBegins out.old.items out.new.items) }
 {
     for piece in pieces {
         put_piece(out, *piece)?;
@@ -54,7 +61,9 @@ fn put_each_piece(out: &mut Vec<u8>, pieces: &[(i64, i64)]) -> Result<(), Memory
 
 #[tactic(auto, unfolding(crate::specs::Parts::counted_bytes))]
 fn put_pieces(out: &mut Vec<u8>, pieces: &[(i64, i64)]) -> Result<(), Memory>
-    ensures { OnOk result (out.new.items ≡ out.old.items ++ counted_bytes piece_bytes pieces.now) }
+    ensures written { OnOk result (out.new.items ≡ out.old.items
+        ++ counted_bytes piece_bytes pieces.now) }
+    ensures kept { OnErr result (StillBegins out.old.items out.new.items) }
 {
     out.extend_from_slice(&(pieces.len() as u64).to_be_bytes())?;
     put_each_piece(out, pieces)
@@ -62,7 +71,8 @@ fn put_pieces(out: &mut Vec<u8>, pieces: &[(i64, i64)]) -> Result<(), Memory>
 
 fn put_each_text(out: &mut Vec<u8>, texts: &[Text]) -> Result<(), Memory>
     requires { AllByRecursion IsShort texts.now }
-    ensures { OnOk result (out.new.items ≡ out.old.items ++ flat_map text_bytes texts.now) }
+    ensures written { OnOk result (out.new.items ≡ out.old.items ++ flat_map text_bytes texts.now) }
+    ensures kept { OnErr result (StillBegins out.old.items out.new.items) }
 {
     for text in texts {
         put_text(out, text)?;
@@ -73,7 +83,9 @@ fn put_each_text(out: &mut Vec<u8>, texts: &[Text]) -> Result<(), Memory>
 #[tactic(auto, unfolding(crate::specs::Parts::counted_bytes))]
 fn put_texts(out: &mut Vec<u8>, texts: &[Text]) -> Result<(), Memory>
     requires { AllByRecursion IsShort texts.now }
-    ensures { OnOk result (out.new.items ≡ out.old.items ++ counted_bytes text_bytes texts.now) }
+    ensures written { OnOk result (out.new.items ≡ out.old.items
+        ++ counted_bytes text_bytes texts.now) }
+    ensures kept { OnErr result (StillBegins out.old.items out.new.items) }
 {
     out.extend_from_slice(&(texts.len() as u64).to_be_bytes())?;
     put_each_text(out, texts)
@@ -82,7 +94,8 @@ fn put_texts(out: &mut Vec<u8>, texts: &[Text]) -> Result<(), Memory>
 #[tactic(auto, unfolding(crate::specs::Parts::text_set_bytes))]
 fn put_text_set(out: &mut Vec<u8>, set: &TextSet) -> Result<(), Memory>
     requires { AllByRecursion IsShort set.now.1 }
-    ensures { OnOk result (out.new.items ≡ out.old.items ++ text_set_bytes set.now) }
+    ensures written { OnOk result (out.new.items ≡ out.old.items ++ text_set_bytes set.now) }
+    ensures kept { OnErr result (StillBegins out.old.items out.new.items) }
 {
     let (all_but, texts) = set.listed();
     out.push(u8::from(all_but))?;
@@ -99,7 +112,8 @@ fn flags_of(null: bool, no: bool, yes: bool) -> u8
 #[tactic(auto, unfolding(crate::specs::Parts::set_bytes))]
 pub fn put_set(out: &mut Vec<u8>, set: &ScalarSet) -> Result<(), Memory>
     requires { AllByRecursion IsShort set.now.texts.1 }
-    ensures { OnOk result (out.new.items ≡ out.old.items ++ set_bytes set.now) }
+    ensures written { OnOk result (out.new.items ≡ out.old.items ++ set_bytes set.now) }
+    ensures kept { OnErr result (StillBegins out.old.items out.new.items) }
 {
     out.push(flags_of(set.null, set.no, set.yes))?;
     put_pieces(out, set.ints.pieces())?;
@@ -110,7 +124,8 @@ pub fn put_set(out: &mut Vec<u8>, set: &ScalarSet) -> Result<(), Memory>
 #[tactic(auto, unfolding(crate::specs::Parts::labels_bytes))]
 pub fn put_labels(out: &mut Vec<u8>, labels: &Labels) -> Result<(), Memory>
     requires { AreShortLabels labels.now }
-    ensures { OnOk result (out.new.items ≡ out.old.items ++ labels_bytes labels.now) }
+    ensures written { OnOk result (out.new.items ≡ out.old.items ++ labels_bytes labels.now) }
+    ensures kept { OnErr result (StillBegins out.old.items out.new.items) }
 {
     match labels.listed() {
         None => {
@@ -126,7 +141,8 @@ pub fn put_labels(out: &mut Vec<u8>, labels: &Labels) -> Result<(), Memory>
 
 #[tactic(auto, unfolding(crate::specs::Parts::most_bytes))]
 fn put_most(out: &mut Vec<u8>, most: Option<u32>) -> Result<(), Memory>
-    ensures { OnOk result (out.new.items ≡ out.old.items ++ most_bytes most) }
+    ensures written { OnOk result (out.new.items ≡ out.old.items ++ most_bytes most) }
+    ensures kept { OnErr result (StillBegins out.old.items out.new.items) }
 {
     match most {
         None => {
@@ -149,8 +165,9 @@ pub fn put_lengths(
     fixed: u64,
 ) -> Result<(), Memory>
     requires { fixed < 2 ^ 32 }
-    ensures { OnOk result (out.new.items ≡ out.old.items
+    ensures written { OnOk result (out.new.items ≡ out.old.items
         ++ lengths_bytes written (least, most, fixed)) }
+    ensures kept { OnErr result (StillBegins out.old.items out.new.items) }
 {
     out.extend_from_slice(&least.to_be_bytes())?;
     put_most(out, most)?;
@@ -162,8 +179,9 @@ pub fn put_lengths(
 #[tactic(auto, unfolding(crate::specs::Parts::step_bytes))]
 pub fn put_step(out: &mut Vec<u8>, step: &Step) -> Result<(), Memory>
     requires { IsShortStep (step_of step.now) }
-    ensures { OnOk result (out.new.items ≡ out.old.items
+    ensures written { OnOk result (out.new.items ≡ out.old.items
         ++ step_bytes written (at (step_of step.now))) }
+    ensures kept { OnErr result (StillBegins out.old.items out.new.items) }
 {
     match step {
         Step::Label(text) => {
@@ -181,7 +199,8 @@ pub fn put_step(out: &mut Vec<u8>, step: &Step) -> Result<(), Memory>
 /// Writes the step to the rest of a list.
 #[tactic(auto, unfolding(crate::specs::Parts::step_bytes))]
 pub fn put_rest(out: &mut Vec<u8>) -> Result<(), Memory>
-    ensures { OnOk result (out.new.items ≡ out.old.items ++ step_bytes written to_rest) }
+    ensures written { OnOk result (out.new.items ≡ out.old.items ++ step_bytes written to_rest) }
+    ensures kept { OnErr result (StillBegins out.old.items out.new.items) }
 {
     out.push(2)?;
     Ok(())

@@ -76,7 +76,7 @@ fn with_struct(state: Made<Vec<u8>>, level: u8) -> Made<Vec<u8>> {
 }
 
 /// The state of structs one in the other, that many below the root, each at `a` in the one before.
-fn nested(alloc: Global, levels: u8) -> Made<Vec<u8>> {
+pub fn nested(alloc: Global, levels: u8) -> Made<Vec<u8>> {
     let root = copied(alloc, part(integer(), 0, SECOND));
     let mut state = altered(root, COUNT, levels.wrapping_add(1));
     for level in 1..=levels {

@@ -12,6 +12,8 @@ mod large;
 #[cfg(test)]
 mod many;
 #[cfg(test)]
+mod pieces;
+#[cfg(test)]
 mod plain;
 #[cfg(test)]
 mod rests;
@@ -23,3 +25,5 @@ mod states;
 mod tables;
 #[cfg(test)]
 mod valid;
+#[cfg(test)]
+mod written;

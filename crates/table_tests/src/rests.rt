@@ -23,7 +23,7 @@ const FIXED: usize = 32;
 const LIST: usize = 33;
 
 /// The state of `l: [...int]`.
-fn integers() -> &'static [u8] {
+pub fn integers() -> &'static [u8] {
     &[
         0xfe, 0x43, 0x55, 0x45, 2, 0, 0, 0, 0, 0, 0, 0, 3, 0, 0, 2, 0, 1, 0, 0, 1, 0x6c, 2, 3, 0,
         0, 0, 0, 0, 0, 0, 0, 0, 2, 0, 0, 1, 0x6c, 2, 0, 1, 0, 0, 0, 0, 0, 0, 0, 0, 1, 0x80, 0, 0,

@@ -10,7 +10,7 @@ use std::test::Fail;
 pub type Made<T> = Result<T, Memory>;
 
 /// The state with no row.
-fn empty() -> &'static [u8] {
+pub fn empty() -> &'static [u8] {
     &[0xfe, 0x43, 0x55, 0x45, 2, 0, 0, 0, 0, 0, 0, 0, 0]
 }
 
@@ -25,7 +25,7 @@ pub fn integer() -> &'static [u8] {
 }
 
 /// The state of `port: 443`.
-fn port() -> &'static [u8] {
+pub fn port() -> &'static [u8] {
     &[
         0xfe, 0x43, 0x55, 0x45, 2, 0, 0, 0, 0, 0, 0, 0, 2, 0, 0, 2, 0, 1, 0, 0, 4, 0x70, 0x6f,
         0x72, 0x74, 2, 1, 0, 0, 0, 0, 0, 0, 0, 0, 1, 0, 0, 0, 0, 0, 0, 1, 0xbb, 0, 0, 0, 0, 0, 0,
@@ -35,7 +35,7 @@ fn port() -> &'static [u8] {
 }
 
 /// The state of a conflict at `a`: an open struct at the root, and nothing.
-fn conflict() -> &'static [u8] {
+pub fn conflict() -> &'static [u8] {
     &[
         0xfe, 0x43, 0x55, 0x45, 2, 0, 0, 0, 0, 0, 0, 0, 2, 0, 0, 2, 0, 1, 0, 0, 1, 0x61, 2, 4, 0,
         0, 0, 0, 0, 0, 0, 0, 0, 0,
@@ -51,7 +51,7 @@ pub fn list() -> &'static [u8] {
 }
 
 /// The state of `a: {b: "xyz"}`.
-fn nested() -> &'static [u8] {
+pub fn nested() -> &'static [u8] {
     &[
         0xfe, 0x43, 0x55, 0x45, 2, 0, 0, 0, 0, 0, 0, 0, 3, 0, 0, 2, 0, 1, 0, 0, 1, 0x61, 2, 2, 0,
         2, 0, 0, 1, 0x61, 0, 0, 1, 0x62, 2, 1, 0, 0, 0, 0, 0, 0, 0, 0, 0, 0, 0, 0, 0, 0, 0, 0, 0,
@@ -141,7 +141,7 @@ pub fn part(bytes: &[u8], from: usize, to: usize) -> &[u8] {
 }
 
 /// The bytes from a place on.
-fn after(bytes: &[u8], from: usize) -> &[u8] {
+pub fn after(bytes: &[u8], from: usize) -> &[u8] {
     part(bytes, from, bytes.len())
 }
 
@@ -167,7 +167,7 @@ pub fn altered(bytes: Made<Vec<u8>>, at: usize, byte: u8) -> Made<Vec<u8>> {
 }
 
 /// The state of `a: 1` with another byte at a place.
-fn other(alloc: Global, at: usize, byte: u8) -> Made<Vec<u8>> {
+pub fn other(alloc: Global, at: usize, byte: u8) -> Made<Vec<u8>> {
     altered(copied(alloc, integer()), at, byte)
 }
 

@@ -1,0 +1,147 @@
+-- Rows read one after another, by their bytes.
+use Rattle.std.proofs.Common.{◌≡◌, ℕ, ◌-◌, ◌<◌, true, false, List, [], ◌∷◌, ◌++◌, append_assoc, length, map, ⊎_elim, refl, sym, ap, subst, ◌∙◌, arith}
+use Rattle.std.specs.List.{flat_map}
+use Rattle.std.proofs.lemmas.List.{append-nil, append_cancel_right}
+use Rattle.cue_lattice.specs.declared.refusal.Kind.{Kind}
+use Rattle.cue_lattice.specs.declared.refusal.Kind.TheVariants as kinds
+use Rattle.cue_row.specs.declared.row.Row.{Row}
+use Rattle.cue_row.specs.Row.{Refuses}
+use Rattle.cue_table.specs.Slots.{Place}
+use Rattle.cue_table.specs.RowList.{AppendsKept}
+use Rattle.cue_codec.specs.declared.version.Version.{Version}
+use Rattle.cue_codec.specs.Decoding.{NoRows}
+use Rattle.cue_codec.specs.Entry.{Entry, entry_at}
+use Rattle.cue_codec.specs.Known.{known_with, rows_with, IsKnown, unknown, AreRead, AreDrafted}
+use Rattle.cue_codec.specs.Reading.{Begins, BeginsNone, IsRefused}
+use Rattle.cue_codec.specs.RowBytes.{row_bytes, IsStateRow}
+use Rattle.cue_codec.specs.Inner.Drafting.{RowsRead, entries_from, rows_bytes, IsDrafting, IsNext, NoneNext, IsMore, BeginsNoRows}
+use Rattle.cue_codec.specs.Inner.Scans.{IsWholeRow}
+use Rattle.cue_codec.proofs.KnownPlaces.{told_with}
+use Rattle.cue_codec.proofs.ReadStates.{known_next, rows_missing, rows_one_more, rows_unordered, rows_trailing}
+
+-- rows at their places, with their indexes, are those of the entries
+entries_again : (known : List ℕ) (entries : List Entry) → entries_from (rows_with known entries) (map (λ entry. entry.fixed) entries) ≡ entries
+entries_again known [] = refl
+entries_again known (entry ∷ entries) = λ i.
+    record { path = told_with known entry.path i; fixed = entry.fixed; row = entry.row }
+    ∷ entries_again (known_with known (length entry.path) entry.fixed) entries i
+
+module _ {version : Version} {bytes left : List ℕ} {count missing : ℕ} {rows : List (Place × Row)} {indexes known : List ℕ} where
+  read_entries : (read : AreRead version bytes left count missing rows indexes known) → entries_from rows indexes ≡ read.entries
+  read_entries read = (λ i. entries_from (read.places i) (read.told i)) ∙ entries_again unknown read.entries
+
+  -- the bytes of the rows, and those that are left
+  pub read_parts : AreRead version bytes left count missing rows indexes known → bytes ≡ rows_bytes version rows indexes ++ left
+  read_parts read = read.parts ∙ ap (λ entries. flat_map (row_bytes version) entries ++ left) (sym (read_entries read))
+
+  -- the rows that were read, with other bytes behind them
+  pub read_with : (more : List ℕ) → AreRead version bytes left count missing rows indexes known → AreRead version (rows_bytes version rows indexes ++ more) more count missing rows indexes known
+  read_with more read = record {
+    entries = read.entries;
+    each = read.each;
+    parts = ap (λ entries. flat_map (row_bytes version) entries ++ more) (read_entries read);
+    counted = read.counted;
+    places = read.places;
+    told = read.told;
+    after = read.after;
+  }
+
+-- and with none
+pub read_alone : (version : Version) (bytes left : List ℕ) (count missing : ℕ) (rows : List (Place × Row)) (indexes known : List ℕ) → AreRead version bytes left count missing rows indexes known → AreRead version (rows_bytes version rows indexes) [] count missing rows indexes known
+read_alone version bytes left count missing rows indexes known read =
+    subst (λ b. AreRead version b [] count missing rows indexes known) (append-nil (rows_bytes version rows indexes)) (read_with [] read)
+
+begins_more : {X : Type 0} (v : X → Type 0) (code : X → List ℕ) (x : X) (bytes rest more : List ℕ) → Begins v code x bytes rest → Begins v code x (bytes ++ more) (rest ++ more)
+begins_more v code x bytes rest more b = record { value = b.value; parts = ap (λ t. t ++ more) b.parts ∙ append_assoc (code x) rest more }
+
+module _ (version : Version) (count left : ℕ) (rows : List (Place × Row)) (indexes known : List ℕ) (read : AreRead version (rows_bytes version rows indexes) [] count left rows indexes known) where
+  -- the row that was read is the next
+  pub next_row : (bytes rest : List ℕ) (new : List (Place × Row)) (place : Place) (fixed : ℕ) (row : Row) → 0 < left → Begins (IsStateRow version) (row_bytes version) (entry_at place fixed row) bytes rest → IsKnown known place → AppendsKept Refuses rows place row new true
+      → AreRead version (rows_bytes version new (indexes ++ fixed ∷ [])) [] count (left - 1) new (indexes ++ fixed ∷ []) (known_with known (length place) fixed)
+      × (rows_bytes version new (indexes ++ fixed ∷ []) ≡ rows_bytes version rows indexes ++ row_bytes version (entry_at place fixed row))
+  next_row bytes rest new place fixed row some begins is added =
+      let old : List ℕ = rows_bytes version rows indexes in
+      let here : List ℕ = row_bytes version (entry_at place fixed row) in
+      let more = rows_one_more version (old ++ bytes) bytes rest count left rows new indexes known place fixed row (read_with bytes read) some begins is added in (
+        read_alone version (old ++ bytes) rest count (left - 1) new (indexes ++ fixed ∷ []) (known_with known (length place) fixed) more,
+        append_cancel_right (rows_bytes version new (indexes ++ fixed ∷ [])) (old ++ here) rest (sym (read_parts more) ∙ ap (λ t. old ++ t) begins.parts ∙ sym (append_assoc old here rest)),
+      )
+
+  pub next_ok : (bytes rest : List ℕ) (new : List (Place × Row)) (place : Place) (fixed : ℕ) (row : Row) (items : List ℕ) → items ≡ indexes ++ fixed ∷ [] → 0 < left → Begins (IsStateRow version) (row_bytes version) (entry_at place fixed row) bytes rest → IsKnown known place
+      → AppendsKept Refuses rows place row new true
+      → IsNext (record { version = version; count = count; left = left; bytes = rows_bytes version rows indexes }) bytes (record { version = version; count = count; left = left - 1; bytes = rows_bytes version new items }) rest
+  next_ok bytes rest new place fixed row items listed some begins is added = record {
+    version = refl;
+    count = refl;
+    left = omega (arith, some);
+    entry = entry_at place fixed row;
+    begins = begins;
+    longer = ap (rows_bytes version new) listed ∙ (next_row bytes rest new place fixed row some begins is added).1;
+  }
+
+  pub next_drafting : (bytes rest : List ℕ) (new : List (Place × Row)) (place : Place) (fixed : ℕ) (row : Row) (items after : List ℕ) → items ≡ indexes ++ fixed ∷ [] → after ≡ known_with known (length place) fixed → length after ≡ 65 → 0 < left
+      → Begins (IsStateRow version) (row_bytes version) (entry_at place fixed row) bytes rest → IsKnown known place → AppendsKept Refuses rows place row new true → IsDrafting version count (left - 1) new items after place
+  next_drafting bytes rest new place fixed row items after listed same deep some begins is added = record {
+    read = subst (λ t. AreRead version (rows_bytes version new t) [] count (left - 1) new t after) (sym listed)
+        (subst (AreRead version (rows_bytes version new (indexes ++ fixed ∷ [])) [] count (left - 1) new (indexes ++ fixed ∷ [])) (sym same) (next_row bytes rest new place fixed row some begins is added).0);
+    steps = begins.value.path;
+    placed = subst (λ k. IsKnown k place) (sym same) (known_next known place fixed is);
+    deep = deep;
+  }
+
+  -- where a row is missing and none stands in front, or it doesn't stand behind the others
+  pub next_missing : 0 < left → (bytes : List ℕ) → BeginsNone (IsStateRow version) (row_bytes version) bytes → NoneNext (record { version = version; count = count; left = left; bytes = rows_bytes version rows indexes }) bytes
+  next_missing some bytes none = λ more stays.
+      rows_missing version (rows_bytes version rows indexes ++ (bytes ++ more)) (bytes ++ more) count left rows indexes known (read_with (bytes ++ more) read) some (stays none)
+
+  pub next_unordered : (bytes rest : List ℕ) (new : List (Place × Row)) (place : Place) (fixed : ℕ) (row : Row) → 0 < left → Begins (IsStateRow version) (row_bytes version) (entry_at place fixed row) bytes rest → IsKnown known place → AppendsKept Refuses rows place row new false
+      → NoneNext (record { version = version; count = count; left = left; bytes = rows_bytes version rows indexes }) bytes
+  next_unordered bytes rest new place fixed row some begins is not = λ more stays.
+      rows_unordered version (rows_bytes version rows indexes ++ (bytes ++ more)) (bytes ++ more) (rest ++ more) count left rows new indexes known place fixed row (read_with (bytes ++ more) read) some (begins_more (IsStateRow version) (row_bytes version) (entry_at place fixed row) bytes rest more begins) is not
+
+  -- where none is missing and bytes follow
+  pub next_trailing : left ≡ 0 → (more : List ℕ) → (more ≡ [] → ⊥) → NoRows version count (rows_bytes version rows indexes ++ more)
+  next_trailing none more some =
+      let here = subst (λ n. AreRead version (rows_bytes version rows indexes ++ more) more count n rows indexes known) none (read_with more read) in
+      rows_trailing version (rows_bytes version rows indexes ++ more) more count rows indexes known here some
+
+-- where none is missing
+pub all_drafted : (version : Version) (count left : ℕ) (rows : List (Place × Row)) (indexes known : List ℕ) → left ≡ 0 → AreRead version (rows_bytes version rows indexes) [] count left rows indexes known → AreDrafted version (rows_bytes version rows indexes) count rows indexes
+all_drafted version count left rows indexes known none read = (known, subst (λ n. AreRead version (rows_bytes version rows indexes) [] count n rows indexes known) none read)
+
+-- ---- one row of which all bytes stand
+
+pub whole_row : (old new : RowsRead) (row rest : List ℕ) → IsWholeRow old.version row → IsNext old row new rest → IsMore old row new
+whole_row old new row rest whole next =
+    let here : List ℕ = row_bytes old.version next.entry in
+    let none : [] ≡ rest = whole next.entry rest [] next.begins.value (append-nil row ∙ next.begins.parts) in
+    let same : here ≡ row = sym (append-nil here) ∙ ap (λ t. here ++ t) none ∙ sym next.begins.parts in
+    record { version = next.version; count = next.count; bytes = next.longer ∙ ap (λ t. old.bytes ++ t) same }
+
+whole_none : (version : Version) (row more : List ℕ) → IsWholeRow version row → BeginsNone (IsStateRow version) (row_bytes version) row → BeginsNone (IsStateRow version) (row_bytes version) (row ++ more)
+whole_none version row more whole none = λ entry rest p e.
+    let here : List ℕ = row_bytes version entry in
+    let same : row ≡ here = append_cancel_right row here rest (ap (λ t. row ++ t) (sym (whole entry rest more p e)) ∙ e) in
+    none entry [] p (same ∙ sym (append-nil here))
+
+pub whole_refused : (old : RowsRead) (row : List ℕ) → IsWholeRow old.version row → NoneNext old row → BeginsNoRows old.version old.count (old.bytes ++ row)
+whole_refused old row whole none = λ more.
+    subst (NoRows old.version old.count) (sym (append_assoc old.bytes row more)) (none more (whole_none old.version row more whole))
+
+-- ---- rows that stand for others
+
+-- what holds of the rows so far and the bytes behind them holds of all
+pub same_rows : (P : Version → ℕ → List ℕ → Type 0) (old new : RowsRead) (bytes rest : List ℕ) → new.version ≡ old.version → new.count ≡ old.count → new.bytes ++ rest ≡ old.bytes ++ bytes
+    → P new.version new.count (new.bytes ++ rest) → P old.version old.count (old.bytes ++ bytes)
+same_rows P old new bytes rest v c e h =
+    subst (P old.version old.count) e (subst (λ n. P old.version n (new.bytes ++ rest)) c (subst (λ w. P w new.count (new.bytes ++ rest)) v h))
+
+-- no rows go on so
+pub none_on : (new : RowsRead) (rest : List ℕ) → NoneNext new rest → NoRows new.version new.count (new.bytes ++ rest)
+none_on new rest none =
+    let same : rest ++ [] ≡ rest = append-nil rest in
+    subst (λ t. NoRows new.version new.count (new.bytes ++ t)) same (none [] (subst (BeginsNone (IsStateRow new.version) (row_bytes new.version)) (sym same)))
+
+-- what is refused for another reason than want of memory
+pub not_memory : (kind : Kind) (R : Type 0) → (kind ≡ kinds.Memory → ⊥) → IsRefused kind R → R
+not_memory kind R not refused = ⊎_elim (λ memory. absurd (not memory)) (λ reason. reason.1) refused

@@ -1,0 +1,181 @@
+//! State bytes read in pieces.
+
+ghost use Rattle.std.specs.Prelude.{◌≡◌, ◌<◌, ◌^◌, ◌++◌, [], length, take, IfOk, IfErr, OnOk};
+ghost use Rattle.cue_codec.specs.Pieces.{so_far, IsTakenIn, IsNotTakenIn, IsReadTable, IsUnread};
+ghost use Rattle.cue_codec.specs.Pieces.{failed};
+ghost use Rattle.cue_table.specs.Valid.{IsValidTable};
+
+use crate::decoding::{decode, head_at};
+use crate::row_pieces::RowPieces;
+use cue_lattice::{Kind, Memory};
+use cue_row::Row;
+use cue_table::Table;
+use std::alloc::Global;
+use std::marker::Model;
+use std::mem;
+
+/// How many bytes the head of a state has: the mark, the version and the count of rows.
+const HEAD_LEN: usize = 13;
+
+/// What was taken in.
+#[derive(Drop)]
+pub(crate) enum Taken {
+    /// So many bytes of the head, at the front of its room.
+    Head([u8; HEAD_LEN], usize),
+    /// The head, and bytes of rows.
+    Rows(RowPieces),
+    /// The mark and a version that is not known.
+    OtherVersion,
+    /// Bytes with which no state begins.
+    NoState,
+    /// Nothing, since memory ran out.
+    Failed,
+}
+
+/// A reader that is handed state bytes piece by piece, cut wherever they are cut. It keeps the head,
+/// the rows that were read, and the bytes of one row that is unfinished. Contracts see what it has
+/// taken in.
+#[derive(Drop)]
+pub struct StateReader {
+    alloc: Global,
+    taken: Taken,
+}
+
+impl Model for StateReader {
+    ghost use Rattle.cue_codec.specs.Pieces.{Intake};
+
+    ghost Value = { Intake };
+
+    ghost use Rattle.cue_codec.specs.Inner.Intakes.{intake_of, IsSound};
+
+    ghost view = { λ reader. intake_of reader.taken };
+
+    ghost invariant = { λ reader. IsSound reader.taken };
+}
+
+impl Taken {
+    ghost use Rattle.cue_codec.specs.Inner.Intakes.{with_head, intake_of, IsSound, HasTaken};
+
+    /// Rows, with bytes that come next.
+    fn more_rows(rows: RowPieces, piece: &[u8]) -> Result<Taken, Memory>
+        requires { rows.count < 2 ^ 64 }
+        ensures { IfOk result
+            (HasTaken (with_head rows.version rows.count (rows.bytes ++ piece.now))) }
+    {
+        match rows.feed(piece)? {
+            Some(rows) => Ok(Taken::Rows(rows)),
+            None => Ok(Taken::NoState),
+        }
+    }
+
+    /// A whole head, with bytes that come next.
+    fn whole_head(alloc: Global, head: [u8; HEAD_LEN], piece: &[u8]) -> Result<Taken, Memory>
+        requires { length head ≡ 13 }
+        ensures { IfOk result (HasTaken (head ++ piece.now)) }
+    {
+        match head_at(&head) {
+            Ok((version, count, _)) => {
+                Taken::more_rows(RowPieces::new(alloc, version, count), piece)
+            }
+            Err(kind) => match kind {
+                Kind::Version => Ok(Taken::OtherVersion),
+                _ => Ok(Taken::NoState),
+            },
+        }
+    }
+
+    /// So many bytes of the head, with bytes that come next.
+    fn more_head(
+        alloc: Global,
+        head: [u8; HEAD_LEN],
+        len: usize,
+        piece: &[u8],
+    ) -> Result<Taken, Memory>
+        requires room { length head ≡ 13 }
+        requires short { len < 13 }
+        ensures { IfOk result (HasTaken (take len head ++ piece.now)) }
+    {
+        let mut head = head;
+        let count = piece.len().min(HEAD_LEN - len);
+        let (front, rest) = piece.split_at(count);
+        head[len..len + count].copy_from_slice(front);
+        if len + count < HEAD_LEN {
+            return Ok(Taken::Head(head, len + count));
+        }
+        Taken::whole_head(alloc, head, rest)
+    }
+
+    /// What was taken in, with bytes that come next.
+    fn more(self, alloc: Global, piece: &[u8]) -> Result<Taken, Kind>
+        requires { IsSound self }
+        ensures sound { IfOk result IsSound }
+        ensures ok { IfOk result
+            (λ new. IsTakenIn (intake_of self) piece.now (intake_of new)) }
+        ensures err { IfErr result (λ kind. IsNotTakenIn (intake_of self) kind failed) }
+    {
+        let fed = match self {
+            Taken::Head(head, len) => Taken::more_head(alloc, head, len, piece),
+            Taken::Rows(rows) => Taken::more_rows(rows, piece),
+            Taken::OtherVersion => return Ok(Taken::OtherVersion),
+            Taken::NoState => return Ok(Taken::NoState),
+            Taken::Failed => return Err(Kind::Failed),
+        };
+        match fed {
+            Ok(taken) => Ok(taken),
+            Err(_) => Err(Kind::Memory),
+        }
+    }
+}
+
+impl StateReader {
+    /// A reader that was handed nothing. This takes no memory.
+    pub fn new(alloc: Global) -> StateReader
+        ensures { result ≡ so_far [] }
+    {
+        StateReader {
+            alloc,
+            taken: Taken::Head([0; HEAD_LEN], 0),
+        }
+    }
+
+    /// Takes in the bytes that come next. A fault that stands whatever follows is told by `finish`;
+    /// from then on nothing is kept, and pieces are dropped.
+    ///
+    /// # Errors
+    ///
+    /// `Memory` where memory ran out, and from then on `Failed`, for good.
+    pub fn feed(&mut self, piece: &[u8]) -> Result<(), Kind>
+        ensures ok { OnOk result (IsTakenIn self.old piece.now self.new) }
+        ensures err { IfErr result (λ kind. IsNotTakenIn self.old kind self.new) }
+    {
+        let taken = mem::replace(&mut self.taken, Taken::Failed);
+        self.taken = taken.more(self.alloc, piece)?;
+        Ok(())
+    }
+
+    /// The valid table whose state bytes were taken in, in whichever version.
+    ///
+    /// # Errors
+    ///
+    /// As those of `decode`; and `Failed` where memory ran out before.
+    pub fn finish(self) -> Result<Table<Row>, Kind>
+        ensures valid { IfOk result IsValidTable }
+        ensures bytes { IfOk result (IsReadTable self) }
+        ensures refused { IfErr result (IsUnread self) }
+    {
+        let StateReader { alloc, taken } = self;
+        match taken {
+            Taken::Head(head, len) => decode(alloc, &head[..len]),
+            Taken::Rows(rows) => {
+                let table = rows.finish()?;
+                if !table.is_valid() {
+                    return Err(Kind::NotState);
+                }
+                Ok(table)
+            }
+            Taken::OtherVersion => Err(Kind::Version),
+            Taken::NoState => Err(Kind::NotState),
+            Taken::Failed => Err(Kind::Failed),
+        }
+    }
+}
