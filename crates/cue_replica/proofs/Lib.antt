@@ -7,6 +7,7 @@ pub mod Events
 pub mod Example
 pub mod Lexed
 pub mod PrintedAgain
+pub mod Reading
 pub mod Runs
 pub mod Sound
 pub mod Texts

@@ -84,11 +84,15 @@ decoder_version bytes kind (inr (inr h)) other = absurd (h.1 other)
 pub state_not_at_once : (bytes : List ℕ) → IsState bytes → IsStateRefusedAtOnce bytes → ⊥
 state_not_at_once bytes is first = let fault = state_at_once bytes first in no_state_fault bytes fault.0 is fault.1
 
+-- a valid table is that of its own bytes
+pub own_table : (table : Table) → IsValidTable table → IsTableOf (table_bytes table) table
+own_table table valid = record { valid = valid; spelled = (written, told_in_second (entries_of written table), refl) }
+
 reads_own :
     (table : Table) → IsValidTable table → length (table_bytes table) < 2 ^ 64
     → IsState (table_bytes table) × SameAnswers (state_refuses (table_bytes table)) (TableRefuses RowRefuses table)
 reads_own table valid held =
-    let is : IsTableOf (table_bytes table) table = record { valid = valid; spelled = (written, told_in_second (entries_of written table), refl) } in
+    let is = own_table table valid in
     let same = state_answers table (table_bytes table) held is in (
       (table, is),
       λ path question. ((same path question).1, (same path question).0),

@@ -3,6 +3,7 @@ pub mod Documents
 pub mod Inner
 pub mod Language
 pub mod PrintedAgain
+pub mod Reading
 pub mod Replica
 pub mod Reports
 pub mod States

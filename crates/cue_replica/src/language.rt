@@ -2,6 +2,7 @@ ghost use Rattle.std.specs.Prelude.{codes};
 ghost use Rattle.cue_lattice.specs.World.{IsSound};
 ghost use Rattle.cue_replica.specs.Language.{Table, language};
 ghost use Rattle.cue_replica.specs.PrintedAgain.{GivesTheSiteAgain};
+ghost use Rattle.cue_replica.specs.Reading.{AreReadInPieces};
 
 /// What every language of the store must keep to holds of the one that this crate takes: a legal
 /// text and the bytes of a state have no fault, so that they are never refused but for memory;
@@ -26,4 +27,13 @@ pub fn legal_text()
 #[tactic(auto, using(crate::proofs::PrintedAgain::gives_again))]
 pub fn printed_text_gives_the_site_again()
     ensures { GivesTheSiteAgain }
+{}
+
+/// State bytes mean the same to a reader however they are cut. What a reader has taken in tells of
+/// all bytes that it was handed; and where it stands at a fault, that is the one fault of these
+/// bytes, whatever follows them, so that `take` would answer it too, or want memory.
+///
+/// It computes nothing: it states a law.
+pub fn states_are_read_in_pieces()
+    ensures { AreReadInPieces }
 {}

@@ -11,10 +11,13 @@ mod language;
 mod replica;
 mod world;
 
+pub use cue_codec::{StateReader, StateWriter};
 pub use cue_lattice::{Form, Kind, Memory, Refusal, TEXT_LIMIT, Text};
 pub use cue_report::{Conflict, Export, ExportText, Gap, Place, Value, lines, path_text};
 pub use cue_row::{Path, Step};
 pub use history::run;
-pub use language::{legal_text, printed_text_gives_the_site_again, sound_language};
+pub use language::{
+    legal_text, printed_text_gives_the_site_again, sound_language, states_are_read_in_pieces,
+};
 pub use replica::Replica;
 pub use world::{Event, Outcome, World};

@@ -1,4 +1,5 @@
-ghost use Rattle.std.specs.Prelude.{◌≡◌, ◌<◌, ◌⊎◌, ◌↔◌, [], false, length, string_bytes, IsTrue};
+ghost use Rattle.std.specs.Prelude.{◌≡◌, ◌<◌, ◌⊎◌, ◌↔◌, ◌^◌, ℕ, List, [], false, length};
+ghost use Rattle.std.specs.Prelude.{string_bytes, IsTrue};
 ghost use Rattle.std.specs.Prelude.{IfOk, IfErr, IfSome, IfNone, OnOk, OnErr, IsErrOf};
 ghost use Rattle.cue_lattice.specs.Limits.{text_limit};
 ghost use Rattle.cue_lattice.specs.Refusal.{memory, refusal_at};
@@ -11,11 +12,12 @@ ghost use Rattle.cue_report.specs.Picks.{IsPicked};
 ghost use Rattle.cue_codec.specs.Size.{size_of};
 ghost use Rattle.cue_replica.specs.Language.{language, opening};
 ghost use Rattle.cue_replica.specs.PrintedAgain.{IsReadAgain};
+ghost use Rattle.cue_replica.specs.Reading.{HasTakenIn, StandsAt};
 ghost use Rattle.cue_replica.specs.Reports.{IsExportOf, AreConflictsOf, AreGapsOf, printed};
 ghost use Rattle.cue_replica.specs.Reports.{IsExportTextOf, AddsConflictLinesOf, AddsGapLinesOf};
 
 use crate::fragment::read;
-use cue_codec::{decode, encode, size};
+use cue_codec::{StateReader, StateWriter, decode, encode, size};
 use cue_lattice::{Kind, Memory, Refusal};
 use cue_report::{Conflict, Export, ExportText, Gap, Value};
 use cue_row::Row;
@@ -50,6 +52,8 @@ impl Model for Replica {
 }
 
 impl Replica {
+    ghost use Rattle.cue_table.specs.Valid.{IsValidTable};
+    ghost use Rattle.cue_replica.specs.Inner.Reads.{Reads};
     ghost use Rattle.cue_replica.specs.Replica.{Adds};
 
     /// A site that has accepted nothing.
@@ -106,12 +110,62 @@ impl Replica {
         ensures err { OnErr result (self.new ≡ self.old) }
         ensures valid { language.IsValid self.new }
     {
-        let taken = match decode(self.alloc, bytes) {
-            Ok(taken) => taken,
-            Err(kind) => return Err(Refusal::at(kind, 0)),
-        };
-        self.table.meet_with(taken)?;
-        Ok(())
+        let read = decode(self.alloc, bytes);
+        self.take_table(read)
+    }
+
+    /// Accepts the state bytes that a reader was handed piece by piece, as `take` accepts them: the
+    /// table that they give replaces nothing before it was read and unified as a whole. The reader
+    /// is spent, whatever the answer is; refused bytes change nothing.
+    ///
+    /// # Errors
+    ///
+    /// `Version`, `NotState` and `Memory` as those of `take`; the fault at which the reader stands;
+    /// and `Failed` where a `feed` of the reader answered `Memory`. All at place 0.
+    pub fn take_read(&mut self, reader: StateReader) -> Result<(), Refusal>
+        // As `take` answers all bytes that the reader was handed.
+        ensures state { (bytes : List ℕ) → HasTakenIn reader bytes
+            → OnOk result (language.IsState bytes) }
+        ensures ok { (bytes : List ℕ) → HasTakenIn reader bytes
+            → OnOk result (Adds self.old (language.state_refuses bytes) self.new) }
+        ensures refused { (bytes : List ℕ) → HasTakenIn reader bytes → IfErr result (λ why.
+            ((why ≡ memory) × ¬ language.IsStateRefusedAtOnce bytes)
+            ⊎ language.IsStateFault bytes why) }
+        ensures version { (bytes : List ℕ) → HasTakenIn reader bytes → IsOtherVersion bytes
+            → IsErrOf result (refusal_at Kind.Version 0) }
+        // A fault at which the reader stands is always told, and for it no memory is wanted.
+        ensures fault { (kind : Kind) → StandsAt reader kind
+            → IsErrOf result (refusal_at kind 0) }
+        ensures err { OnErr result (self.new ≡ self.old) }
+        ensures valid { language.IsValid self.new }
+    {
+        self.take_table(reader.finish())
+    }
+
+    /// Accepts the table that state bytes were read as, or refuses them for what reading them came
+    /// to.
+    fn take_table(&mut self, read: Result<Table<Row>, Kind>) -> Result<(), Refusal>
+        requires { IfOk read IsValidTable }
+        ensures state { (bytes : List ℕ) → Reads bytes read
+            → OnOk result (language.IsState bytes) }
+        ensures ok { (bytes : List ℕ) → Reads bytes read → length bytes < 2 ^ 64
+            → OnOk result (Adds self.old (language.state_refuses bytes) self.new) }
+        ensures refused { (bytes : List ℕ) → Reads bytes read → IfErr result (λ why.
+            ((why ≡ memory) × ¬ language.IsStateRefusedAtOnce bytes)
+            ⊎ language.IsStateFault bytes why) }
+        ensures version { (bytes : List ℕ) → Reads bytes read → IsOtherVersion bytes
+            → IsErrOf result (refusal_at Kind.Version 0) }
+        ensures none { IfErr read (λ kind. IsErrOf result (refusal_at kind 0)) }
+        ensures err { OnErr result (self.new ≡ self.old) }
+        ensures valid { language.IsValid self.new }
+    {
+        match read {
+            Ok(taken) => {
+                self.table.meet_with(taken)?;
+                Ok(())
+            }
+            Err(kind) => Err(Refusal::at(kind, 0)),
+        }
     }
 
     /// The state bytes of the table.
@@ -119,6 +173,17 @@ impl Replica {
         ensures { IfOk result (λ bytes. bytes.items ≡ language.written self.now) }
     {
         encode(alloc, &self.table)
+    }
+
+    /// What writes the state bytes of the table, piece by piece.
+    ///
+    /// # Errors
+    ///
+    /// `Memory`.
+    pub fn state_writer(&self) -> Result<StateWriter<'_>, Memory>
+        ensures { IfOk result (λ writer. writer ≡ language.written self.now) }
+    {
+        StateWriter::new(self.alloc, &self.table)
     }
 
     /// How many bytes the state of the table has, or the greatest number of 64 bits where it is

@@ -18,6 +18,8 @@ mod lists;
 #[cfg(test)]
 mod orders;
 #[cfg(test)]
+mod pieces;
+#[cfg(test)]
 mod refusals;
 #[cfg(test)]
 mod rests;

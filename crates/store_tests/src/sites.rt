@@ -2,7 +2,9 @@
 //!
 //! Each call of a site stands in a function of its own, which promises nothing: so the tests that
 //! use these are proved without all that the calls promise.
-use cue_replica::{Conflict, Export, Gap, Memory, Refusal, Replica, lines};
+use cue_replica::{
+    Conflict, Export, Gap, Kind, Memory, Refusal, Replica, StateReader, StateWriter, lines,
+};
 use std::alloc::Global;
 use std::process::Abort;
 use std::test::Fail;
@@ -42,6 +44,36 @@ pub fn taken(alloc: Global, bytes: &[u8]) -> Result<Replica, Refusal> {
     let mut site = new_site(alloc);
     pass(&mut site, bytes)?;
     Ok(site)
+}
+
+/// A reader that was handed nothing.
+pub fn new_reader(alloc: Global) -> StateReader {
+    StateReader::new(alloc)
+}
+
+/// Hands a reader a piece of state bytes.
+pub fn hand_piece(reader: &mut StateReader, piece: &[u8]) -> Result<(), Kind> {
+    reader.feed(piece)
+}
+
+/// Hands a site the state bytes that a reader was handed.
+pub fn pass_read(site: &mut Replica, reader: StateReader) -> Result<(), Refusal> {
+    site.take_read(reader)
+}
+
+/// What writes the state bytes of a site.
+pub fn state_writer(site: &Replica) -> Result<StateWriter<'_>, Memory> {
+    site.state_writer()
+}
+
+/// Fills a room with the state bytes that come next.
+pub fn fill(writer: &mut StateWriter<'_>, room: &mut [u8]) -> Result<usize, Memory> {
+    writer.fill(room)
+}
+
+/// How many bytes the state of a site has.
+pub fn state_size(site: &Replica) -> u64 {
+    site.state_size()
 }
 
 /// Another site with the same table.
