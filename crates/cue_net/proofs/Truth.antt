@@ -11,13 +11,13 @@ use Rattle.cue_answer.specs.declared.question.Status.{Status}
 use Rattle.cue_answer.specs.declared.question.Status.TheVariants as statuses
 use Rattle.cue_answer.specs.declared.told.Answer.{Answer}
 use Rattle.cue_answer.specs.Answers.{Tells, line_end, code_of}
-use Rattle.cue_replica.specs.Language.{Table}
+use Rattle.cue_replica.specs.Language.{Table, language}
 use Rattle.cue_wire.specs.declared.request.Request as requests
 use Rattle.cue_wire.specs.declared.request.Request.TheVariants as asked
 use Rattle.cue_wire.specs.Clients.{request_of, request_body, request_frame}
 use Rattle.cue_wire.specs.Frames.{framed, IsBody, AreFrames}
 use Rattle.cue_wire.specs.Requests.{Request, text, state, ask, body_of, question_byte}
-use Rattle.cue_wire.specs.Serving.{Serves, ServesAll, Answers, refusing, accepting}
+use Rattle.cue_wire.specs.Serving.{Serves, ServesAll, Answers, IsReply, refusing, accepting}
 use Rattle.cue_wire.specs.Serving as serving
 use Rattle.cue_wire.proofs.Readings.{are_readings}
 use Rattle.cue_net.specs.Printed.{IsPrintedExport}
@@ -85,6 +85,12 @@ same_request (ask a) (ask b) is = ap ask (same_question a b (ap first_byte is))
 Framed : List ℕ → Type 0
 Framed reply = (body : List ℕ) × (reply ≡ framed body) × IsBody body
 
+-- what is told is a frame
+told_framed : (what reply : List ℕ) → IsReply what reply → Framed reply
+unfolding Framed
+told_framed what reply (inl fits) = (acceptance what, fits.1, omega (arith, fits.0))
+told_framed what reply (inr long) = (refusal (refusal_at kinds.ReplyTooLong 0), long.1, omega arith)
+
 -- each reply is a frame
 answers_framed : (request : Request) (before after : Table) (reply : List ℕ) → Answers request before after reply → Framed reply
 unfolding Framed
@@ -92,8 +98,10 @@ answers_framed (text t) before after reply (inl a) = (acceptance [], a.1, omega 
 answers_framed (text t) before after reply (inr a) = (refusal a.0, a.3, omega arith)
 answers_framed (state bytes) before after reply (inl a) = (acceptance [], a.1, omega arith)
 answers_framed (state bytes) before after reply (inr a) = (refusal a.0, a.3, omega arith)
-answers_framed (ask question) before after reply (same, (answer, tells, inl fits)) = (acceptance (serving.told question answer), fits.1, omega (arith, fits.0))
-answers_framed (ask question) before after reply (same, (answer, tells, inr long)) = (refusal (refusal_at kinds.ReplyTooLong 0), long.1, omega arith)
+answers_framed (ask questions.State) before after reply (same, is) = told_framed (language.written before) reply is
+answers_framed (ask questions.Export) before after reply (same, (answer, tells, is)) = told_framed (serving.told questions.Export answer) reply is
+answers_framed (ask questions.Report) before after reply (same, (answer, tells, is)) = told_framed (serving.told questions.Report answer) reply is
+answers_framed (ask questions.Print) before after reply (same, (answer, tells, is)) = told_framed (serving.told questions.Print answer) reply is
 
 reply_framed : (body : List ℕ) (before after : Table) (reply : List ℕ) → Serves body before after reply → Framed reply
 unfolding Framed

@@ -65,14 +65,29 @@ served Step P before after taken (Ok u) start old new is serves did ok err =
     let reply = handed Step before after taken old new did (added_to old new taken ok err) in
     (reply.0, serves reply.0 reply.1, subst (λ (s : List ℕ). new ≡ s ++ reply.0) is reply.2)
 
--- The answer to a question was told as the reply.
+-- a reply that tells an answer to another question than the one for the state
+with_answer : (question : Question) (table : Table) (answer : Answer) (reply : List ℕ) → question ≢ questions.State → Tells question table answer
+    → IsReply (told question answer) reply → IsAnswered question table reply
+with_answer questions.State table answer reply other tells is = absurd (other refl)
+with_answer questions.Export table answer reply other tells is = (answer, tells, is)
+with_answer questions.Print table answer reply other tells is = (answer, tells, is)
+with_answer questions.Report table answer reply other tells is = (answer, tells, is)
+
+-- The answer to such a question was told as the reply.
 pub answered : {E : Type 0} (question : Question) (table : Table) (answer : Answer) (all old new : List ℕ) (r : Result (Unit {0}) E)
-    → Tells question table answer → all ≡ told question answer
+    → question ≢ questions.State → Tells question table answer → all ≡ told question answer
     → OnOk r ((reply : List ℕ) × IsReply all reply × (new ≡ old ++ reply))
     → OnOk r ((reply : List ℕ) × IsAnswered question table reply × (new ≡ old ++ reply))
-answered question table answer all old new (Ok u) tells e h =
-    (h.0, (answer, tells, subst (λ what. IsReply what h.0) e h.1), h.2)
-answered question table answer all old new (Err x) tells e h = tt
+answered question table answer all old new (Ok u) other tells e h =
+    (h.0, with_answer question table answer h.0 other tells (subst (λ what. IsReply what h.0) e h.1), h.2)
+answered question table answer all old new (Err x) other tells e h = tt
+
+-- The state of a site was told as the reply.
+pub answered_state : {E : Type 0} (question : Question) (table : Table) (old new : List ℕ) (r : Result (Unit {0}) E) → question ≡ questions.State
+    → OnOk r ((reply : List ℕ) × IsReply (language.written table) reply × (new ≡ old ++ reply))
+    → OnOk r ((reply : List ℕ) × IsAnswered question table reply × (new ≡ old ++ reply))
+answered_state question table old new (Err x) is h = tt
+answered_state question table old new (Ok u) is h = (h.0, subst (λ q. IsAnswered q table h.0) (sym is) h.1, h.2)
 
 pub told_export : (question : Question) (answer : Answer) (code : ℕ) (bytes : List ℕ) → question ≡ questions.Export
     → code ≡ code_of answer.status → bytes ≡ answer.bytes.items → code ∷ bytes ≡ told question answer

@@ -50,6 +50,11 @@ used_up stream rest start new used gains is =
 pub extends : (old more new : List ℕ) → new ≡ old ++ more → Extends old new
 extends old more new is = (more, is)
 
+-- what extends an extension
+pub extends_through : (old front middle new : List ℕ) → middle ≡ old ++ front → Extends middle new → Extends old new
+extends_through old front middle new is more =
+    (front ++ more.0, more.1 ∙ ap (λ zs. zs ++ more.0) is ∙ append_assoc old front more.0)
+
 -- what is cut back to its former length is as it was
 pub cut_back : {X : Type 0} (old more new : List X) (n : ℕ) → new ≡ old ++ more → n ≡ length old → take n new ≡ old
 cut_back old more new n is long = ap (take n) is ∙ take_at old more n (sym long)

@@ -6,7 +6,7 @@ use Rattle.cue_lattice.specs.declared.refusal.Kind.TheVariants as kinds
 use Rattle.cue_lattice.specs.Refusal.{number_of, refusal_at, memory}
 use Rattle.cue_replica.specs.declared.world.Outcome.{Outcome}
 use Rattle.cue_replica.specs.declared.world.Outcome.TheVariants.{Accepted, Refused}
-use Rattle.cue_replica.specs.Language.{Table}
+use Rattle.cue_replica.specs.Language.{Table, language}
 use Rattle.cue_replica.specs.World.{Submits, Takes}
 use Rattle.cue_answer.specs.declared.question.Question.{Question}
 use Rattle.cue_answer.specs.declared.question.Question.TheVariants as questions
@@ -42,8 +42,10 @@ IsReply what reply =
     ((length what < frame_limit) × (reply ≡ accepting what))
     ⊎ ((frame_limit ≤ length what) × (reply ≡ refusing (refusal_at kinds.ReplyTooLong 0)))
 
--- the reply to a question about the table
+-- The reply to a question about the table: to the one for the state its bytes, of whatever number
+-- they are, and else what is told of an answer.
 abbrev pub IsAnswered : Question → Table → List ℕ → Type 0
+IsAnswered questions.State table reply = IsReply (language.written table) reply
 IsAnswered question table reply =
     (answer : Answer) × Tells question table answer × IsReply (told question answer) reply
 

@@ -7,6 +7,7 @@ ghost use Rattle.cue_wire.specs.Serving.{accepting, refusing, IsAnswered, Serves
 
 use crate::call::Call;
 use crate::reply::{SHORT_REPLY, accept, refuse};
+use crate::state_reply::tell_state;
 use cue_answer::{Question, answer_to};
 use cue_replica::{Kind, Memory, Refusal, Replica};
 use std::alloc::Global;
@@ -62,9 +63,15 @@ fn tell(alloc: Global, question: Question, site: &Replica, out: &mut Vec<u8>) ->
         × (out.new.items ≡ out.old.items ++ reply)) }
     ensures err { OnErr result (out.new.items ≡ out.old.items) }
 {
-    let answer = answer_to(alloc, question, site)?;
     match question {
-        Question::Export => accept(out, &[answer.status.code()], answer.bytes.as_slice()),
-        _ => accept(out, &[], answer.bytes.as_slice()),
+        Question::State => tell_state(site, out),
+        Question::Export => {
+            let answer = answer_to(alloc, question, site)?;
+            accept(out, &[answer.status.code()], answer.bytes.as_slice())
+        }
+        _ => {
+            let answer = answer_to(alloc, question, site)?;
+            accept(out, &[], answer.bytes.as_slice())
+        }
     }
 }

@@ -15,6 +15,7 @@ mod laws;
 mod reply;
 mod request;
 mod session;
+mod state_reply;
 
 pub use client::Client;
 pub use connection::{Ended, serve};

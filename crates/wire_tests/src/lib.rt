@@ -12,3 +12,5 @@ mod faults;
 mod replies;
 #[cfg(test)]
 mod starved;
+#[cfg(test)]
+mod states;

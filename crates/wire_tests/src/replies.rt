@@ -10,7 +10,7 @@ const REQUESTS: [u8; 19] = *b"\0\0\0\x06\x01a: 1\n\0\0\0\x01\x04\0\0\0\0";
 const REPLIES: [u8; 31] = *b"\0\0\0\x01\0\0\0\0\x09\0\0{\"a\":1}\0\0\0\x09\x14\0\0\0\0\0\0\0\0";
 
 /// The state of `a: 1`, as the reply to the request for it.
-const STATE: [u8; 97] = [
+pub const STATE: [u8; 97] = [
     0, 0, 0, 0x5D, 0, // the length, and what was accepted
     0xFE, 0x43, 0x55, 0x45, 2, 0, 0, 0, 0, 0, 0, 0, 2, // two rows
     0, 0, 2, 0, // the root

@@ -1,5 +1,6 @@
 //! Sessions that memory runs out for. With ample memory these tests tell little; they hold as well
 //! whichever one allocation is refused.
+use crate::replies::STATE;
 use cue_wire::{Kind, Replica, Session};
 use std::alloc::Global;
 
@@ -7,6 +8,9 @@ use std::alloc::Global;
 const TEXT: &[u8] = b"\0\0\0\x06\x01a: 1\n";
 
 const EXPORT: &[u8] = b"\0\0\0\x01\x04";
+
+/// The question for the state.
+const ASK: &[u8] = b"\0\0\0\x01\x03";
 
 /// No request.
 const NOTHING: &[u8] = b"\0\0\0\0";
@@ -44,4 +48,16 @@ fn a_session_that_memory_ran_out_for_is_taken_over(rt: HostRuntime) {
         assert!(rt; serves_in_the_end(rt.alloc(), &mut site, frame, &mut out));
     }
     assert!(rt; out.as_slice() == REPLIES.as_slice());
+}
+
+#[test]
+fn a_state_that_memory_ran_out_for_is_told_in_the_end(rt: HostRuntime) {
+    let mut site = Replica::new(rt.alloc());
+    let mut out = Vec::new(rt.alloc());
+    for frame in [TEXT, ASK, NOTHING] {
+        assert!(rt; serves_in_the_end(rt.alloc(), &mut site, frame, &mut out));
+    }
+    let replies = out.as_slice();
+    assert!(rt; replies.starts_with(b"\0\0\0\x01\0"));
+    assert!(rt; replies.get(5..102) == Some(STATE.as_slice()) && replies.len() == 115);
 }
