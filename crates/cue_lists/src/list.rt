@@ -1,5 +1,5 @@
 use anyhow::{Context, anyhow};
-use cue_program::{Question, Replica, Stop, answer_to, printed, take_file};
+use cue_program::{Enough, Input, Kept, Question, Replica, Stop, answer_to, printed, take_file};
 use serde_json::Value;
 use std::alloc::Global;
 
@@ -36,11 +36,12 @@ fn bytes_of(alloc: Global, input: &Value) -> anyhow::Result<Vec<u8>> {
 }
 
 /// Hands inputs to a site in their order, up to the first that is refused.
-pub fn take_all(site: &mut Replica, inputs: &[Vec<u8>]) -> Result<(), Stop> {
+pub fn take_all(alloc: Global, site: &mut Replica, inputs: &[Vec<u8>]) -> Result<(), Stop> {
     let mut number = 0usize;
     for bytes in inputs {
         number = number.saturating_add(1);
-        take_file(site, bytes.as_slice(), number)?;
+        let file = Input::<Enough>::begin(alloc, bytes.as_slice())?;
+        take_file(site, file, number)?;
     }
     Ok(())
 }

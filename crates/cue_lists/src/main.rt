@@ -66,7 +66,7 @@ fn compare(rt: &HostRuntime, number: usize, line: &str, counts: &mut Counts) -> 
     let list = Value::from_str(alloc, line)?;
     let inputs = inputs_of(alloc, &list)?;
     let mut site = Replica::new(alloc);
-    let came = take_all(&mut site, &inputs);
+    let came = take_all(alloc, &mut site, &inputs);
     for (question, name) in QUESTIONS {
         let reply = answer(alloc, question, &site, came)?;
         if question == Question::Export {

@@ -2,7 +2,6 @@
 use Rattle.std.proofs.Common.{◌≡◌, ℕ, Some, None, Option, List, [], ◌++◌, IfSome, refl, sym, ap, subst, ◌∙◌}
 use Rattle.std.proofs.lemmas.List.{append_assoc, append-nil}
 use Rattle.std.specs.Io.KnownBytes.{Appends, Keeps, Consumes, IsAtEnd}
-use Rattle.cue_program.specs.inner.Reading.{HasRead}
 
 -- what was appended and then kept was appended
 pub appends_keeps : (a b c : Option (List ℕ)) (bytes : List ℕ) → Appends a b bytes → Keeps b c → Appends a c bytes
@@ -10,6 +9,18 @@ appends_keeps None b c bytes h k = tt
 appends_keeps (Some x) None c bytes h k = absurd h
 appends_keeps (Some x) (Some y) None bytes h k = absurd k
 appends_keeps (Some x) (Some y) (Some z) bytes h k = k ∙ h
+
+-- what was appended in two steps was appended in a row
+pub appends_more : (a b c : Option (List ℕ)) (front more : List ℕ) → Appends a b front → Appends b c more → Appends a c (front ++ more)
+appends_more None b c front more h k = tt
+appends_more (Some x) None c front more h k = absurd h
+appends_more (Some x) (Some y) None front more h k = absurd k
+appends_more (Some x) (Some y) (Some z) front more h k = k ∙ (ap (λ r. r ++ more) h ∙ append_assoc x front more)
+
+-- where nothing was appended
+pub appends_none : (a : Option (List ℕ)) → Appends a a []
+appends_none None = tt
+appends_none (Some x) = sym (append-nil x)
 
 -- what was consumed in two steps was consumed in a row
 pub consumes_more : (a b c : Option (List ℕ)) (front more : List ℕ) → Consumes a b front → Consumes b c more → Consumes a c (front ++ more)
@@ -28,7 +39,3 @@ consumed_all (Some x) (Some y) all h k = sym (h ∙ ap (λ r. all ++ r) k ∙ ap
 pub consumes_none : (a : Option (List ℕ)) → Consumes a a []
 consumes_none None = tt
 consumes_none (Some x) = refl
-
--- what was read after bytes that were consumed was consumed with them
-pub read_more : (a b c : Option (List ℕ)) (before after : List ℕ) → Consumes a b before → HasRead b c before after → Consumes a c after
-read_more a b c before after h k = subst (λ (all : List ℕ). Consumes a c all) (sym k.2) (consumes_more a b c before k.0 h k.1)

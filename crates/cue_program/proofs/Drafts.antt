@@ -1,11 +1,11 @@
 -- What calls in a row do to what lies where.
-use Rattle.std.proofs.Common.{◌≡◌, ◌≢◌, ◌⊎◌, ⊎_elim, inl, inr, ℕ, ◌<◌, Bool, true, false, Some, None, Option, List, [], ◌∷◌, ◌++◌, length, arith, refl, sym, ap, subst, ◌∙◌}
+use Rattle.std.proofs.Common.{◌≡◌, ◌≢◌, ◌⊎◌, ⊎_elim, inl, inr, ℕ, ◌<◌, Bool, true, false, Some, None, Option, List, [], ◌∷◌, ◌++◌, length, Result, Ok, Err, OnOk, OnErr, arith, refl, sym, ap, subst, ◌∙◌}
 use Rattle.std.specs.Str.{bytes_eq}
 use Rattle.std.proofs.lemmas.Slice.Eq.{bytes_eq-Decides}
 use Rattle.std.proofs.lemmas.Bool.{both_ways}
 use Rattle.std.proofs.lemmas.List.{length-append}
 use Rattle.cue_program.specs.Files.{Holdings, IsElsewhereSame, IsPut, IsSameTree, IsUnharmed, KeepsFiles, Turns}
-use Rattle.cue_program.specs.inner.Drafts.{HasMoved, IsBeside, IsFound, IsKept, IsNewAt, IsPutAt, IsTouchedAt, Stays}
+use Rattle.cue_program.specs.inner.Drafts.{HasMoved, IsBeside, IsFound, IsKept, IsNewAt, IsPutAt, IsTouchedAt, IsWritten, Stays}
 use Rattle.cue_program.specs.declared.shelf.Form.{Form}
 use Rattle.cue_program.specs.declared.shelf.Form.TheVariants as forms
 
@@ -187,3 +187,14 @@ pub known_special :
 known_special name place None b f h = tt
 known_special name place (Some x) None f h = absurd h
 known_special name place (Some x) (Some y) f h = special_unharmed name place x y f.0 f.1 h
+
+-- what was written in place, or a part of it
+pub overwritten :
+    {T E : Type 0} (place bytes : List ℕ) (r : Result T E) (a b : Option Holdings) → Turns (IsWritten place bytes r) a b → OnOk r (Turns (IsPutAt place bytes) a b)
+overwritten place bytes (Ok done) a b h = h
+overwritten place bytes (Err fault) a b h = tt
+
+pub not_overwritten :
+    {T E : Type 0} (place bytes : List ℕ) (r : Result T E) (a b : Option Holdings) → Turns (IsWritten place bytes r) a b → OnErr r (Turns (IsTouchedAt place) a b)
+not_overwritten place bytes (Ok done) a b h = tt
+not_overwritten place bytes (Err fault) a b h = h

@@ -1,8 +1,9 @@
 pub mod Devices
 pub mod Drafts
 pub mod Files
-pub mod Kept
+pub mod Keeping
 pub mod Lines
+pub mod Pieces
 pub mod Requests
 pub mod Streams
 pub mod Texts

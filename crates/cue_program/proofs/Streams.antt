@@ -10,7 +10,6 @@ use Rattle.cue_replica.specs.Accepted.{IsAcceptable}
 use Rattle.cue_replica.specs.declared.Refusal.{Refusal}
 use Rattle.cue_replica.proofs.Accepted.{of_no_piece, of_one_piece_more}
 use Rattle.cue_program.specs.declared.stop.Stop.{Stop}
-use Rattle.cue_program.specs.declared.stop.Stop.TheVariants as stops
 use Rattle.cue_program.specs.Files.{AreAll, Holdings, known_at, texts}
 use Rattle.cue_program.specs.Inputs.{AreStreamPieces, Begin, Holds, IsFirstRefused, IsInputRefused, IsPieceRefusal, IsStateRefusal, files, inputs_of, stream}
 use Rattle.cue_program.specs.Stops.{IsRefusedAs, IsUnreadable}
@@ -25,16 +24,16 @@ of_one_state bytes new first is adds valid =
     (state bytes ∷ [], (bytes, refl, inl (first, refl)), of_one_piece_more opening new [] (state bytes) of_no_piece is adds valid)
 
 pub refused_state :
-    (bytes : List ℕ) (why : Refusal) → slice_get bytes 0 ≡ Some 254 → IsStateRefusal bytes why
-    → IsInputRefused (stream (Some bytes)) (stops.RefusedInput why 1)
-refused_state bytes why first fault = record {
+    (bytes : List ℕ) (why : Refusal) (stop : Stop) → slice_get bytes 0 ≡ Some 254 → IsStateRefusal bytes why → IsRefusedAs why 1 stop
+    → IsInputRefused (stream (Some bytes)) stop
+refused_state bytes why stop first fault told = record {
   before = [];
   piece = state bytes;
   why = why;
   begin = (state bytes ∷ [], [], (bytes, refl, inl (first, refl)), refl);
   accepted = tt;
   refusal = fault;
-  told = refl;
+  told = told;
 }
 
 -- texts

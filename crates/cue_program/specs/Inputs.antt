@@ -1,8 +1,10 @@
 -- The inputs of a run, the pieces in them, and which of them is refused.
 use Rattle.std.specs.Prelude.{◌≡◌, ◌≢◌, ◌⊎◌, ℕ, ◌+◌, ◌-◌, ◌^◌, ◌<◌, ◌≤◌, min, List, [], ◌∷◌, ◌++◌, map}
-use Rattle.std.specs.Prelude.{Option, Some, length, slice_get}
+use Rattle.std.specs.Prelude.{Option, Some, length, slice_get, take}
+use Rattle.std.specs.Global.{Vec}
 use Rattle.std.specs.List.{AllByRecursion}
 use Rattle.std.specs.Str.{IsUtf8, IsValidUpTo}
+use Rattle.cue_codec.specs.Pieces.{IsIntake}
 use Rattle.cue_lattice.specs.World.{Piece, text, state, AllAlong}
 use Rattle.cue_replica.specs.Accepted.{text_limit, refusal_at, memory, IsAcceptable, IsOfPieces}
 use Rattle.cue_replica.specs.Language.{Table, language}
@@ -11,6 +13,9 @@ use Rattle.cue_replica.specs.declared.Refusal.{Refusal}
 use Rattle.cue_program.specs.Files.{AreAll, Holdings, known_at}
 use Rattle.cue_program.specs.Parts.{lines_of, AreParts}
 use Rattle.cue_program.specs.Stops.{IsRefusedAs, IsUnreadable}
+use Rattle.cue_program.specs.declared.kept.Enough.{Enough}
+use Rattle.cue_program.specs.declared.kept.Input.{Input}
+use Rattle.cue_program.specs.declared.kept.Input.TheVariants as read
 use Rattle.cue_program.specs.declared.stop.Stop.{Stop}
 
 -- The inputs, in their order: files; or, where none is named, what a reader gives. Of each this is
@@ -23,6 +28,29 @@ pub data Inputs : Type 0 where
 abbrev pub inputs_of : Option Holdings → List (List ℕ) → Option (List ℕ) → Inputs
 inputs_of held [] known = stream known
 inputs_of held (name ∷ names) known = files (map (known_at held) (name ∷ names))
+
+-- An input with these bytes was read: where the first is FE (hexadecimal), a reader of states has
+-- taken them in; and otherwise so much of them is kept.
+abbrev pub IsRead : {K : Type 0} → (K → List ℕ → Type 0) → Input K → List ℕ → Type 0
+IsRead IsKept (read.State reader) bytes = (slice_get bytes 0 ≡ Some 254) × IsIntake bytes reader
+IsRead IsKept (read.Text kept) bytes = (slice_get bytes 0 ≢ Some 254) × IsKept kept bytes
+
+-- What is kept of these bytes tells what they are refused for, or is all of them: of a state all
+-- bytes are kept, and of any others no more than one beyond those that a text may have.
+abbrev pub IsEnoughOf : List ℕ → List ℕ → Type 0
+IsEnoughOf bytes kept =
+    ((slice_get bytes 0 ≡ Some 254) × (kept ≡ bytes))
+    ⊎ ((slice_get bytes 0 ≢ Some 254) × (kept ≡ take (text_limit + 1) bytes))
+
+-- a file with these bytes was read, as many as a memory can hold: enough of a text is kept
+abbrev pub IsFileRead : Input Enough → List ℕ → Type 0
+IsFileRead file bytes =
+    IsRead (λ kept all. IsEnoughOf all kept.bytes.items) file bytes × (length bytes < 2 ^ 64)
+
+-- a stream with these bytes was read, as many as a memory can hold: all bytes of texts are kept
+abbrev pub IsStreamRead : Input (Vec ℕ) → List ℕ → Type 0
+IsStreamRead input bytes =
+    IsRead (λ kept all. kept.items ≡ all) input bytes × (length bytes < 2 ^ 64)
 
 -- what a file hands in: a state where its first byte is FE (hexadecimal), and otherwise one text
 abbrev pub IsFilePiece : List ℕ → Piece → Type 0

@@ -29,6 +29,10 @@ IsUnreadable stop = IsDevice stop ⊎ IsTurnsUsed stop ⊎ IsMemory stop
 abbrev pub read_limit : ℕ
 read_limit = 65536
 
+-- how many bytes one read asks for, and one write of a state hands on at most
+abbrev pub piece_size : ℕ
+piece_size = 65536
+
 -- Why a device could not be read to its end, by its counts of calls and of failures before and
 -- after: it failed; or all calls that an input may take were made; or memory ran out.
 abbrev pub IsReadFault : ℕ → ℕ → ℕ → ℕ → Stop → Type 0

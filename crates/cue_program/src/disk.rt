@@ -3,11 +3,12 @@ ghost use Rattle.cue_program.specs.Stops.{IsDevice, IsMemory};
 
 use crate::shelf::{Form, Shelf};
 use crate::stop::Stop;
+use crate::writing::tell_state;
 use cue_device::Fault;
-use cue_replica::Memory;
+use cue_replica::{Memory, Replica};
 use std::alloc::Global;
 use std::fs::{File, OpenFile, OpenOptions};
-use std::io::{ErrorKind, Write};
+use std::io::ErrorKind;
 use std::rt::Files;
 use std::{fs, io};
 
@@ -29,17 +30,23 @@ impl<H: Files> Shelf for H {
         }
     }
 
-    fn draft(&mut self, place: &str, like: Option<&str>, bytes: &[u8]) -> Result<bool, Fault> {
+    fn draft(
+        &mut self,
+        alloc: Global,
+        place: &str,
+        like: Option<&str>,
+        site: &Replica,
+    ) -> Result<bool, Stop> {
         let mut file = match File::create_new(&*self, place) {
             Ok(file) => file,
             Err(error) if error.kind() == ErrorKind::AlreadyExists => return Ok(false),
-            Err(_) => return Err(Fault),
+            Err(_) => return Err(Stop::Device),
         };
-        match fill(&*self, &mut file, like, bytes) {
+        match fill(&*self, alloc, &mut file, like, site) {
             Ok(()) => Ok(true),
-            Err(_) => {
+            Err(stop) => {
                 let _ = fs::remove_file(&*self, place);
-                Err(Fault)
+                Err(stop)
             }
         }
     }
@@ -52,10 +59,11 @@ impl<H: Files> Shelf for H {
         done(fs::remove_file(&*self, place))
     }
 
-    fn overwrite(&mut self, place: &str, bytes: &[u8]) -> Result<(), Fault> {
-        let mut file = done(OpenOptions::new().write(true).open(&*self, place))?;
-        done(file.write_all(bytes))?;
-        done(file.flush())
+    fn overwrite(&mut self, alloc: Global, place: &str, site: &Replica) -> Result<(), Stop> {
+        match OpenOptions::new().write(true).open(&*self, place) {
+            Ok(mut file) => tell_state(alloc, site, &mut file),
+            Err(_) => Err(Stop::Device),
+        }
     }
 }
 
@@ -98,12 +106,27 @@ fn place_of<H: Files>(rt: &H, alloc: Global, name: &str) -> Result<String, Stop>
     }
 }
 
-/// Gives a new file its mode and its bytes, and has them reach the disk.
-fn fill<H: Files>(rt: &H, file: &mut H::File, like: Option<&str>, bytes: &[u8]) -> io::Result<()> {
-    if let Some(like) = like {
-        file.set_permissions(fs::metadata(rt, like)?.permissions())?;
+/// Gives a new file its mode and the state bytes of a site, and has them reach the disk.
+fn fill<H: Files>(
+    rt: &H,
+    alloc: Global,
+    file: &mut H::File,
+    like: Option<&str>,
+    site: &Replica,
+) -> Result<(), Stop>
+    ensures { IfErr result (λ stop. IsDevice stop ⊎ IsMemory stop) }
+{
+    done(set_mode(rt, file, like))?;
+    match tell_state(alloc, site, file) {
+        Ok(()) => Ok(done(file.sync_all())?),
+        Err(stop) => Err(stop),
     }
-    file.write_all(bytes)?;
-    file.flush()?;
-    file.sync_all()
+}
+
+/// Gives a new file the mode of the file that is named, where one is.
+fn set_mode<H: Files>(rt: &H, file: &mut H::File, like: Option<&str>) -> io::Result<()> {
+    match like {
+        Some(like) => file.set_permissions(fs::metadata(rt, like)?.permissions()),
+        None => Ok(()),
+    }
 }

@@ -1,24 +1,24 @@
-ghost use Rattle.std.specs.Prelude.{◌≡◌, ◌<◌, ◌+◌, ◌^◌, length, IsTrue, IfOk, IfErr, OnOk};
+ghost use Rattle.std.specs.Prelude.{◌≡◌, ◌<◌, ◌≤◌, ◌+◌, ◌^◌, ℕ, List, length, IfOk, IfErr, OnOk};
 ghost use Rattle.std.specs.Prelude.{vec_len};
-ghost use Rattle.std.specs.Io.KnownBytes.{IsAtEnd};
-ghost use Rattle.cue_program.specs.Files.{AreAll};
-ghost use Rattle.cue_program.specs.Stops.{read_limit, IsMemory, IsReadFault};
-ghost use Rattle.cue_program.specs.inner.Reading.{HasRead, IsPieceFault};
+ghost use Rattle.std.specs.Io.KnownBytes.{ReadConsumes};
+ghost use Rattle.cue_program.specs.Stops.{piece_size, read_limit, IsDevice, IsReadFault};
+ghost use Rattle.cue_program.specs.inner.Reading.{IsAllRead, IsRestFault, IsRestRead};
 
+use crate::kept::Kept;
 use crate::stop::Stop;
 use cue_device::Source;
 use cue_replica::{Kind, Memory};
 use std::alloc::Global;
 
-/// How many bytes one read asks for.
+/// How many bytes one read asks for, and one write hands on at most.
 const PIECE: usize = 65_536;
 
 /// How many reads one input may take, with the one that finds its end.
-pub const MAX_READS: usize = 65_536;
+const MAX_READS: usize = 65_536;
 
 /// Room for what one read gives. It serves for one input after the other.
 pub fn room(alloc: Global) -> Result<Vec<u8>, Memory>
-    ensures { IfOk result (λ piece. 0 < vec_len piece) }
+    ensures { IfOk result (λ piece. vec_len piece ≡ piece_size) }
 {
     Ok(vec![in alloc; 0u8; PIECE]?)
 }
@@ -29,46 +29,68 @@ pub fn room(alloc: Global) -> Result<Vec<u8>, Memory>
 ///
 /// `Device` where a read fails, `TurnsUsed` where the end isn't found in 65,536 reads, and
 /// `Memory`.
-pub fn read_all<S: Source>(alloc: Global, input: &mut S, piece: &mut [u8]) -> Result<Vec<u8>, Stop>
-    requires some { 0 < length piece.old }
+pub fn read_all<S: Source, K: Kept>(
+    alloc: Global,
+    input: &mut S,
+    piece: &mut [u8],
+) -> Result<K, Stop>
+    requires room { length piece.old ≡ piece_size }
     requires calls { S.called input.old + read_limit < 2 ^ 64 }
     ensures room { length piece.new ≡ length piece.old }
-    ensures all { IfOk result (λ all. AreAll (S.to_come input.old) all.items) }
+    ensures all { IfOk result (λ kept. IsAllRead (K.keeps kept) (S.to_come input.old)) }
     ensures fault { IfErr result (IsReadFault (S.called input.old) (S.failed input.old)
         (S.called input.new) (S.failed input.new)) }
 {
-    let mut all = Vec::new(alloc);
-    for _ in 0..MAX_READS {
-        match read_piece(input, piece, &mut all) {
-            Ok(true) => return Ok(all),
-            Ok(false) => {}
+    let count = match read_piece(input, piece) {
+        Ok(count) => count,
+        Err(stop) => return Err(stop),
+    };
+    let mut kept = K::begin(alloc, &piece[..count])?;
+    if count == 0 {
+        return Ok(kept);
+    }
+    match read_rest(input, piece, &mut kept) {
+        Ok(()) => Ok(kept),
+        Err(stop) => Err(stop),
+    }
+}
+
+/// Reads an input to its end of which one piece was read.
+fn read_rest<S: Source, K: Kept>(input: &mut S, piece: &mut [u8], kept: &mut K) -> Result<(), Stop>
+    requires room { length piece.old ≡ piece_size }
+    requires calls { S.called input.old + read_limit ≤ 2 ^ 64 }
+    ensures room { length piece.new ≡ length piece.old }
+    ensures rest { (front : List ℕ) → 0 < length front → K.keeps kept.old front
+        → OnOk result (IsRestRead (K.keeps kept.new) front (S.to_come input.old)) }
+    ensures fault { IfErr result (IsRestFault (S.called input.old) (S.failed input.old)
+        (S.called input.new) (S.failed input.new)) }
+{
+    for _ in 1..MAX_READS {
+        let count = match read_piece(input, piece) {
+            Ok(count) => count,
             Err(stop) => return Err(stop),
+        };
+        if count == 0 {
+            return Ok(());
         }
+        kept.go_on(&piece[..count])?;
     }
     Err(Stop::Refused(Kind::TurnsUsed))
 }
 
-/// Reads once and keeps what was read. Answers whether that was the end.
-pub fn read_piece<S: Source>(
-    input: &mut S,
-    piece: &mut [u8],
-    all: &mut Vec<u8>,
-) -> Result<bool, Stop>
-    requires some { 0 < length piece.old }
-    requires calls { S.called input.old + 1 < 2 ^ 64 }
+/// Reads once, and answers how many bytes that gave: none at the end.
+fn read_piece<S: Source>(input: &mut S, piece: &mut [u8]) -> Result<usize, Stop>
+    requires { S.called input.old + 1 < 2 ^ 64 }
     ensures room { length piece.new ≡ length piece.old }
     ensures counted { S.called input.new ≡ S.called input.old + 1 }
     ensures failures { OnOk result (S.failed input.new ≡ S.failed input.old) }
-    ensures read { OnOk result (HasRead (S.to_come input.old) (S.to_come input.new)
-        all.old.items all.new.items) }
-    ensures end { IfOk result (λ ended. IsTrue ended → IsAtEnd (S.to_come input.new)) }
-    ensures more { IfOk result (λ ended. (IsTrue ended → ⊥) → vec_len all.old < vec_len all.new) }
-    ensures fault { IfErr result (IsPieceFault (S.failed input.old) (S.failed input.new)) }
+    ensures bound { IfOk result (λ count. count ≤ length piece.new) }
+    ensures read { ReadConsumes (S.to_come input.old) (S.to_come input.new) result piece.new }
+    ensures fault { IfErr result (λ stop. IsDevice stop
+        × (S.failed input.old < S.failed input.new)) }
 {
-    let count = match input.read(piece) {
-        Ok(count) => count,
-        Err(_) => return Err(Stop::Device),
-    };
-    all.extend_from_slice(&piece[..count])?;
-    Ok(count == 0)
+    match input.read(piece) {
+        Ok(count) => Ok(count),
+        Err(_) => Err(Stop::Device),
+    }
 }

@@ -5,9 +5,8 @@
 #![tactic(auto)]
 
 mod disk;
-mod enough;
 mod input;
-mod out;
+mod kept;
 mod parts;
 mod put;
 mod request;
@@ -15,15 +14,17 @@ mod run;
 mod shelf;
 mod site;
 mod stop;
+mod writing;
 
 pub use cue_answer::{Answer, Question, Status, answer_to, printed};
 pub use cue_device::Fault;
-pub use cue_replica::{Kind, Memory, Refusal, Replica};
+pub use cue_replica::{Kind, Memory, Refusal, Replica, StateReader};
 pub use cue_wire::Request;
-pub use out::tell;
+pub use kept::{Enough, Input, Kept};
 pub use parts::first_part;
 pub use request::requests_for;
-pub use run::{answer_for, merge_into};
+pub use run::{answer_for, merge_into, site_for};
 pub use shelf::{Form, Shelf};
 pub use site::{site_of, take_file};
 pub use stop::Stop;
+pub use writing::{tell, tell_state};

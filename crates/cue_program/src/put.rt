@@ -1,24 +1,26 @@
 ghost use Rattle.std.specs.Prelude.{◌≡◌, ◌⊎◌, IfOk, IfErr, OnOk, OnErr, string_bytes};
+ghost use Rattle.cue_replica.specs.Language.{language};
 ghost use Rattle.cue_program.specs.Files.{IsPut, IsUnharmed, Turns};
 ghost use Rattle.cue_program.specs.inner.Drafts.{IsBeside, IsKept, IsPutAt};
 ghost use Rattle.cue_program.specs.Stops.{IsDevice, IsMemory};
 
 use crate::shelf::{Form, Shelf};
 use crate::stop::Stop;
+use cue_replica::Replica;
 use std::alloc::Global;
 
 /// How many names are tried for the file that is written first.
 const MOST_DRAFTS: usize = 16;
 
-/// Puts these bytes at a name, so that at no moment less than a whole file stands there: they go to
-/// a new file beside it, reach the disk, and take its place in one step. The new file has the mode
-/// of the old one. Something special, as a device or a pipe, is written in place.
+/// Puts the state bytes of a site at a name, so that at no moment less than a whole file stands
+/// there: they go to a new file beside it, reach the disk, and take its place in one step. The new
+/// file has the mode of the old one. Something special, as a device or a pipe, is written in place.
 ///
 /// # Errors
 ///
 /// `Device` and `Memory`. A file that lay there is unharmed then.
-pub fn put<S: Shelf>(shelf: &mut S, alloc: Global, name: &str, bytes: &[u8]) -> Result<(), Stop>
-    ensures put { OnOk result (Turns (IsPut name.now bytes.now)
+pub fn put<S: Shelf>(shelf: &mut S, alloc: Global, name: &str, site: &Replica) -> Result<(), Stop>
+    ensures put { OnOk result (Turns (IsPut name.now (language.written site.now))
         (S.held shelf.old) (S.held shelf.new)) }
     ensures unharmed { OnErr result (Turns (IsUnharmed name.now)
         (S.held shelf.old) (S.held shelf.new)) }
@@ -30,29 +32,26 @@ pub fn put<S: Shelf>(shelf: &mut S, alloc: Global, name: &str, bytes: &[u8]) -> 
     };
     let place = place.as_str();
     match form {
-        Form::Special => match shelf.overwrite(place, bytes) {
-            Ok(()) => Ok(()),
-            Err(_) => Err(Stop::Device),
-        },
-        Form::File => replace(shelf, alloc, place, Some(place), bytes),
-        Form::Nothing => replace(shelf, alloc, place, None, bytes),
+        Form::Special => shelf.overwrite(alloc, place, site),
+        Form::File => replace(shelf, alloc, place, Some(place), site),
+        Form::Nothing => replace(shelf, alloc, place, None, site),
     }
 }
 
-/// Puts bytes at a place where a file lies, or nothing.
+/// Puts the state bytes of a site at a place where a file lies, or nothing.
 fn replace<S: Shelf>(
     shelf: &mut S,
     alloc: Global,
     place: &str,
     like: Option<&str>,
-    bytes: &[u8],
+    site: &Replica,
 ) -> Result<(), Stop>
-    ensures put { OnOk result (Turns (IsPutAt place.now bytes.now)
+    ensures put { OnOk result (Turns (IsPutAt place.now (language.written site.now))
         (S.held shelf.old) (S.held shelf.new)) }
     ensures kept { OnErr result (Turns IsKept (S.held shelf.old) (S.held shelf.new)) }
     ensures fault { IfErr result (λ stop. IsDevice stop ⊎ IsMemory stop) }
 {
-    let draft = match draft_beside(shelf, alloc, place, like, bytes) {
+    let draft = match draft_beside(shelf, alloc, place, like, site) {
         Ok(draft) => draft,
         Err(stop) => return Err(stop),
     };
@@ -66,17 +65,17 @@ fn replace<S: Shelf>(
     }
 }
 
-/// Makes a new file with these bytes beside a place, and answers where: the place's name with
-/// `.part` behind it, more than once where such files lie there already.
+/// Makes a new file with the state bytes of a site beside a place, and answers where: the place's
+/// name with `.part` behind it, more than once where such files lie there already.
 fn draft_beside<S: Shelf>(
     shelf: &mut S,
     alloc: Global,
     place: &str,
     like: Option<&str>,
-    bytes: &[u8],
+    site: &Replica,
 ) -> Result<String, Stop>
     ensures made { IfOk result (λ draft.
-        Turns (IsBeside place.now (string_bytes draft) bytes.now)
+        Turns (IsBeside place.now (string_bytes draft) (language.written site.now))
         (S.held shelf.old) (S.held shelf.new)) }
     ensures kept { OnErr result (Turns IsKept (S.held shelf.old) (S.held shelf.new)) }
     ensures fault { IfErr result (λ stop. IsDevice stop ⊎ IsMemory stop) }
@@ -84,10 +83,10 @@ fn draft_beside<S: Shelf>(
     let mut beside = String::from_str(alloc, place)?;
     for _ in 0..MOST_DRAFTS {
         beside.push_str(".part")?;
-        match shelf.draft(beside.as_str(), like, bytes) {
+        match shelf.draft(alloc, beside.as_str(), like, site) {
             Ok(true) => return Ok(beside),
             Ok(false) => {}
-            Err(_) => return Err(Stop::Device),
+            Err(stop) => return Err(stop),
         }
     }
     Err(Stop::Device)

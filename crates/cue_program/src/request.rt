@@ -9,6 +9,7 @@ ghost use Rattle.cue_program.specs.inner.Sending.{AreTextRequests, IsFileRequest
 ghost use Rattle.cue_program.specs.inner.Sending.{IsNoText, IsPartUnsent};
 
 use crate::input::room;
+use crate::kept::Enough;
 use crate::parts::first_part;
 use crate::run::{read_file, read_input};
 use crate::shelf::Shelf;
@@ -56,11 +57,11 @@ fn requests_of_files<H: AllocGlobal + Shelf>(rt: &H, names: &[&str]) -> Result<V
     let mut piece = room(rt.alloc())?;
     for name in names {
         let number = requests.len().saturating_add(1);
-        let bytes = match read_file(rt, name, &mut piece) {
-            Ok(bytes) => bytes,
+        let file: Enough = match read_file(rt, name, &mut piece) {
+            Ok(file) => file,
             Err(stop) => return Err(stop),
         };
-        match request_of_file(rt.alloc(), bytes, number) {
+        match request_of_file(rt.alloc(), file.bytes, number) {
             Ok(request) => requests.push(request)?,
             Err(stop) => return Err(stop),
         }

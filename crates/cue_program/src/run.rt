@@ -1,12 +1,12 @@
-ghost use Rattle.std.specs.Prelude.{◌≡◌, ◌<◌, length, map, IfOk, IfErr, OnOk};
-ghost use Rattle.cue_program.specs.Files.{AreAll, known_at, texts};
+ghost use Rattle.std.specs.Prelude.{◌≡◌, length, map, IfOk, IfErr, OnOk};
+ghost use Rattle.cue_program.specs.Files.{known_at, texts};
 ghost use Rattle.cue_program.specs.Inputs.{Holds, files, inputs_of};
 ghost use Rattle.cue_program.specs.Runs.{IsAnswerOn, IsMergeOn, IsMergeStopOn, IsStopOn};
-ghost use Rattle.cue_program.specs.Stops.{IsUnreadable};
-ghost use Rattle.cue_program.specs.inner.Reading.{HasEnough};
+ghost use Rattle.cue_program.specs.Stops.{piece_size, IsUnreadable};
+ghost use Rattle.cue_program.specs.inner.Reading.{IsAllRead};
 
-use crate::enough::read_enough;
 use crate::input::{read_all, room};
+use crate::kept::{Enough, Input, Kept};
 use crate::put::put;
 use crate::shelf::Shelf;
 use crate::site::{site_of, take_file};
@@ -17,14 +17,12 @@ use cue_replica::Replica;
 use std::alloc::Global;
 use std::io::Read;
 
-/// What one new site answers that has taken all inputs in their order, as it is printed: the files
-/// of these names, each read and handed on before the next is opened; or, without one, what the
-/// reader gives.
+/// What one new site answers that has taken all inputs, as `site_for` says, as it is printed. A
+/// state is answered whole: `tell_state` writes the one of a site without holding it.
 ///
 /// # Errors
 ///
-/// `RefusedInput` for the first input that is refused, with its number from 1; `Device`,
-/// `TurnsUsed` and `Memory`.
+/// As `site_for`.
 pub fn answer_for<H: AllocGlobal + Shelf, R: Read>(
     rt: &H,
     question: Question,
@@ -49,7 +47,7 @@ pub fn answer_for<H: AllocGlobal + Shelf, R: Read>(
 ///
 /// # Errors
 ///
-/// As `answer_for`. A file that lay under the name is unharmed then.
+/// As `site_for`. A file that lay under the name is unharmed then.
 pub fn merge_into<H: AllocGlobal + Shelf, R: Read>(
     rt: &mut H,
     name: &str,
@@ -68,12 +66,17 @@ pub fn merge_into<H: AllocGlobal + Shelf, R: Read>(
         Err(stop) => return Err(stop),
     };
     let alloc = rt.alloc();
-    let state = site.state(alloc)?;
-    put(rt, alloc, name, &state)
+    put(rt, alloc, name, &site)
 }
 
-/// A new site that has taken all inputs.
-fn site_for<H: AllocGlobal + Shelf, R: Read>(
+/// One new site that has taken all inputs in their order: the files of these names, each read and
+/// handed on before the next is opened; or, without one, what the reader gives.
+///
+/// # Errors
+///
+/// `RefusedInput` for the first input that is refused, with its number from 1; `Device`,
+/// `TurnsUsed` and `Memory`.
+pub fn site_for<H: AllocGlobal + Shelf, R: Read>(
     rt: &H,
     files: &[&str],
     input: &mut R,
@@ -87,14 +90,14 @@ fn site_for<H: AllocGlobal + Shelf, R: Read>(
         return site_of_files(rt, files);
     }
     match read_input(rt.alloc(), input) {
-        Ok(bytes) => site_of(rt.alloc(), &bytes),
+        Ok(input) => site_of(rt.alloc(), input),
         Err(stop) => Err(stop),
     }
 }
 
-/// All bytes of a reader.
-pub fn read_input<R: Read>(alloc: Global, input: &mut R) -> Result<Vec<u8>, Stop>
-    ensures all { IfOk result (λ all. AreAll (R.remaining input.old) all.items) }
+/// What is kept of a reader that is read to its end.
+pub fn read_input<R: Read, K: Kept>(alloc: Global, input: &mut R) -> Result<K, Stop>
+    ensures all { IfOk result (λ kept. IsAllRead (K.keeps kept) (R.remaining input.old)) }
     ensures fault { IfErr result IsUnreadable }
 {
     let mut piece = room(alloc)?;
@@ -112,11 +115,11 @@ fn site_of_files<H: AllocGlobal + Shelf>(rt: &H, names: &[&str]) -> Result<Repli
     let mut number = 0;
     for name in names {
         number += 1;
-        let bytes = match read_file(rt, name, &mut piece) {
-            Ok(bytes) => bytes,
+        let file = match read_file(rt, name, &mut piece) {
+            Ok(file) => file,
             Err(stop) => return Err(stop),
         };
-        match take_file(&mut site, &bytes, number) {
+        match take_file(&mut site, file, number) {
             Ok(()) => {}
             Err(stop) => return Err(stop),
         }
@@ -124,15 +127,15 @@ fn site_of_files<H: AllocGlobal + Shelf>(rt: &H, names: &[&str]) -> Result<Repli
     Ok(site)
 }
 
-/// Enough of the file of this name to be taken or refused, by reads into this room.
-pub fn read_file<H: AllocGlobal + Shelf>(
+/// What is kept of the file of this name that is read to its end, by reads into this room.
+pub fn read_file<H: AllocGlobal + Shelf, K: Kept>(
     rt: &H,
     name: &str,
     piece: &mut [u8],
-) -> Result<Vec<u8>, Stop>
-    requires { 0 < length piece.old }
-    ensures enough { IfOk result (λ kept. HasEnough
-        (known_at (H.held rt.now) name.now) kept.items) }
+) -> Result<K, Stop>
+    requires { length piece.old ≡ piece_size }
+    ensures all { IfOk result (λ kept. IsAllRead (K.keeps kept)
+        (known_at (H.held rt.now) name.now)) }
     ensures fault { IfErr result IsUnreadable }
     ensures room { length piece.new ≡ length piece.old }
 {
@@ -140,5 +143,5 @@ pub fn read_file<H: AllocGlobal + Shelf>(
         Ok(file) => file,
         Err(_) => return Err(Stop::Device),
     };
-    read_enough(rt.alloc(), &mut Reader::new(file), piece)
+    read_all(rt.alloc(), &mut Reader::new(file), piece)
 }

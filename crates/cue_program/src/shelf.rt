@@ -1,10 +1,12 @@
 ghost use Rattle.std.specs.Prelude.{◌⊎◌, Option, None, IfOk, IfErr, string_bytes};
+ghost use Rattle.cue_replica.specs.Language.{language};
 ghost use Rattle.cue_program.specs.Files.{Holdings, IsOpened, Turns};
 ghost use Rattle.cue_program.specs.inner.Drafts.{IsFound, IsDrafted, IsMoved, IsTouchedAt, IsWritten};
 ghost use Rattle.cue_program.specs.Stops.{IsDevice, IsMemory};
 
 use crate::stop::Stop;
 use cue_device::Fault;
+use cue_replica::Replica;
 use std::alloc::Global;
 use std::io::Read;
 
@@ -50,14 +52,22 @@ pub trait Shelf {
         ensures fault { IfErr result (λ stop. IsDevice stop ⊎ IsMemory stop) };
 
     /// Makes a new file at this place, with the mode of the file that is named, where one is, and
-    /// with these bytes, which reach the disk. Answers false where anything lies there already.
+    /// with the state bytes of this site, which reach the disk. They are made in pieces while they
+    /// are written. Answers false where anything lies there already.
     ///
     /// # Errors
     ///
-    /// `Fault`, and then a new file may lie there, with a part of the bytes.
-    fn draft(&mut self, place: &str, like: Option<&str>, bytes: &[u8]) -> Result<bool, Fault>
-        ensures drafted { Turns (IsDrafted place.now bytes.now result)
-            (held self.old) (held self.new) };
+    /// `Device` and `Memory`, and then a new file may lie there, with a part of the bytes.
+    fn draft(
+        &mut self,
+        alloc: Global,
+        place: &str,
+        like: Option<&str>,
+        site: &Replica,
+    ) -> Result<bool, Stop>
+        ensures drafted { Turns (IsDrafted place.now (language.written site.now) result)
+            (held self.old) (held self.new) }
+        ensures fault { IfErr result (λ stop. IsDevice stop ⊎ IsMemory stop) };
 
     /// Moves a file to a place, in one step, in the place of a file that lies there.
     ///
@@ -75,12 +85,14 @@ pub trait Shelf {
     fn remove(&mut self, place: &str) -> Result<(), Fault>
         ensures touched { Turns (IsTouchedAt place.now) (held self.old) (held self.new) };
 
-    /// Writes bytes to what lies at this place.
+    /// Writes the state bytes of this site to what lies at this place. They are made in pieces while
+    /// they are written.
     ///
     /// # Errors
     ///
-    /// `Fault`, and then a part of the bytes may have been written.
-    fn overwrite(&mut self, place: &str, bytes: &[u8]) -> Result<(), Fault>
-        ensures written { Turns (IsWritten place.now bytes.now result)
-            (held self.old) (held self.new) };
+    /// `Device` and `Memory`, and then a part of the bytes may have been written.
+    fn overwrite(&mut self, alloc: Global, place: &str, site: &Replica) -> Result<(), Stop>
+        ensures written { Turns (IsWritten place.now (language.written site.now) result)
+            (held self.old) (held self.new) }
+        ensures fault { IfErr result (λ stop. IsDevice stop ⊎ IsMemory stop) };
 }

@@ -1,4 +1,4 @@
-ghost use Rattle.std.specs.Prelude.{◌≡◌, ◌↔◌, ◌≤◌, Some, IsTrue, IfOk, IfErr, OnOk, OnErr};
+ghost use Rattle.std.specs.Prelude.{◌≡◌, ◌↔◌, ◌≤◌, ℕ, List, Some, IsTrue, IfOk, IfErr, OnOk, OnErr};
 ghost use Rattle.std.specs.Prelude.{length, slice_get};
 ghost use Rattle.std.specs.Str.{IsUtf8};
 ghost use Rattle.cue_replica.specs.Language.{language};
@@ -6,57 +6,80 @@ ghost use Rattle.cue_replica.specs.Replica.{Adds};
 ghost use Rattle.cue_lattice.specs.World.{Piece, piece_refuses};
 ghost use Rattle.cue_replica.specs.Accepted.{IsAcceptable, text_limit};
 ghost use Rattle.cue_program.specs.Inputs.{IsFilePiece, IsPieceRefusal, IsTextRefusal, stream};
+ghost use Rattle.cue_program.specs.Inputs.{IsStateRefusal, IsFileRead, IsStreamRead};
+ghost use Rattle.cue_replica.specs.Reading.{HasTakenIn};
 ghost use Rattle.cue_program.specs.Inputs.{Holds, IsByteFault, IsInputRefused, IsText};
 ghost use Rattle.cue_program.specs.Stops.{IsRefusedAs};
 ghost use Rattle.cue_program.specs.inner.Texts.{AreTexts, IsTextRefused};
 
+use crate::kept::{Enough, Input};
 use crate::parts::first_part;
 use crate::stop::Stop;
-use cue_replica::{Kind, Refusal, Replica, TEXT_LIMIT};
+use cue_replica::{Kind, Refusal, Replica, StateReader, TEXT_LIMIT};
 use std::alloc::Global;
 use std::str;
 
 /// The byte that begins state bytes, and no text.
 const STATE: u8 = 0xFE;
 
-/// A new site that has taken the inputs in these bytes: one state, where they begin with the byte
-/// FE (hexadecimal), and otherwise texts, which are split at lines that are exactly `---`.
+/// A new site that has taken what a reader gave: one state, or texts, which are split at lines that
+/// are exactly `---`.
 ///
 /// # Errors
 ///
 /// `RefusedInput` for the first input that is refused, with its number from 1.
-pub fn site_of(alloc: Global, bytes: &[u8]) -> Result<Replica, Stop>
-    ensures holds { IfOk result (Holds (stream (Some bytes.now))) }
-    ensures refused { IfErr result (IsInputRefused (stream (Some bytes.now))) }
+pub fn site_of(alloc: Global, input: Input<Vec<u8>>) -> Result<Replica, Stop>
+    ensures holds { (bytes : List ℕ) → IsStreamRead input bytes
+        → IfOk result (Holds (stream (Some bytes))) }
+    ensures refused { (bytes : List ℕ) → IsStreamRead input bytes
+        → IfErr result (IsInputRefused (stream (Some bytes))) }
 {
-    if begins_a_state(bytes) {
-        let mut site = Replica::new(alloc);
-        return match site.take(bytes) {
-            Ok(()) => Ok(site),
-            Err(why) => Err(Stop::RefusedInput(why, 1)),
-        };
+    match input {
+        Input::State(reader) => {
+            let mut site = Replica::new(alloc);
+            match take_state(&mut site, reader, 1) {
+                Ok(()) => Ok(site),
+                Err(stop) => Err(stop),
+            }
+        }
+        Input::Text(bytes) => site_of_texts(alloc, &bytes),
     }
-    site_of_texts(alloc, bytes)
 }
 
-/// Hands the bytes of a file to a site, as the input of this number: a state, where they begin with
-/// the byte FE (hexadecimal), and otherwise one text.
+/// Hands a file to a site, as the input of this number: a state, or one text.
 ///
 /// # Errors
 ///
 /// `RefusedInput`, and then the site is as before.
-pub fn take_file(site: &mut Replica, bytes: &[u8], number: usize) -> Result<(), Stop>
-    ensures accepts { OnOk result ((piece : Piece) × IsFilePiece bytes.now piece
+pub fn take_file(site: &mut Replica, file: Input<Enough>, number: usize) -> Result<(), Stop>
+    ensures accepts { (bytes : List ℕ) → IsFileRead file bytes
+        → OnOk result ((piece : Piece) × IsFilePiece bytes piece
         × IsAcceptable piece × Adds site.old (piece_refuses language piece) site.new) }
     ensures valid { OnOk result (language.IsValid site.new) }
-    ensures refused { IfErr result (λ stop. (piece : Piece) × (why : Refusal)
-        × IsFilePiece bytes.now piece × IsPieceRefusal piece why × IsRefusedAs why number stop) }
+    ensures refused { (bytes : List ℕ) → IsFileRead file bytes
+        → IfErr result (λ stop. (piece : Piece) × (why : Refusal)
+        × IsFilePiece bytes piece × IsPieceRefusal piece why × IsRefusedAs why number stop) }
     ensures unchanged { OnErr result (site.new ≡ site.old) }
 {
-    if !begins_a_state(bytes) {
-        return submit(site, bytes, number);
+    match file {
+        Input::State(reader) => take_state(site, reader, number),
+        Input::Text(text) => submit(site, &text.bytes, number),
     }
-    match site.take(bytes) {
+}
+
+/// Hands a state that was taken in to a site, as the input of this number.
+fn take_state(site: &mut Replica, reader: StateReader, number: usize) -> Result<(), Stop>
+    ensures state { (bytes : List ℕ) → HasTakenIn reader bytes
+        → OnOk result (language.IsState bytes) }
+    ensures adds { (bytes : List ℕ) → HasTakenIn reader bytes
+        → OnOk result (Adds site.old (language.state_refuses bytes) site.new) }
+    ensures valid { OnOk result (language.IsValid site.new) }
+    ensures refused { (bytes : List ℕ) → HasTakenIn reader bytes
+        → IfErr result (λ stop. (why : Refusal) × IsStateRefusal bytes why
+        × IsRefusedAs why number stop) }
+    ensures unchanged { OnErr result (site.new ≡ site.old) }
+{
+    match site.take_read(reader) {
         Ok(()) => Ok(()),
         Err(why) => Err(Stop::RefusedInput(why, number)),
     }

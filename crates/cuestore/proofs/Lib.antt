@@ -1,3 +1,4 @@
 pub mod Arguments
 pub mod Networks
 pub mod Numbers
+pub mod Replies

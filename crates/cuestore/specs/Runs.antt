@@ -1,14 +1,16 @@
 -- Whole runs of the program, on devices whose bytes are known or not.
-use Rattle.std.specs.Prelude.{◌≡◌, ◌⊎◌, ℕ, List, [], Option, Some, None, Ok}
+use Rattle.std.specs.Prelude.{◌≡◌, ◌⊎◌, ℕ, List, [], ◌++◌, Option, Some, None, Ok, codes}
 use Rattle.std.specs.Io.KnownBytes.{Appends}
 use Rattle.cue_answer.specs.Answers.{Says, code_of}
+use Rattle.cue_replica.specs.Language.{Table, language}
 use Rattle.cue_net.specs.Halts.{IsDeviceOrMemory}
 use Rattle.cue_net.specs.Printed.{IsServedExport}
 use Rattle.cue_program.specs.declared.Answer.{Answer}
+use Rattle.cue_program.specs.declared.Question.TheVariants as questions
 use Rattle.cue_program.specs.declared.Status.TheVariants as statuses
 use Rattle.cue_program.specs.declared.Stop.{Stop}
 use Rattle.cue_program.specs.Files.{Holdings}
-use Rattle.cue_program.specs.Inputs.{inputs_of}
+use Rattle.cue_program.specs.Inputs.{Holds, inputs_of}
 use Rattle.cue_program.specs.Runs.{IsAnswerOn, IsMergeOn, IsMergeStopOn, IsStopOn}
 use Rattle.cuestore.specs.declared.fault.Fault.{Fault}
 use Rattle.cuestore.specs.declared.fault.Fault.TheVariants as faults
@@ -88,9 +90,35 @@ abbrev pub IsUnwritten : List (List ℕ) → Around → ℕ → Type 0
 IsUnwritten words around status =
     (answer : Answer) × IsAnswerToWords words around answer × (status ≡ 4)
 
+-- the words ask for the state of inputs, all of which a site has taken that holds this table; no
+-- file changed
+abbrev pub IsStateOfWords : List (List ℕ) → Around → Table → Type 0
+IsStateOfWords words around table =
+    (files : List (List ℕ)) × (asked words ≡ Some (asking questions.State files))
+    × Holds (inputs_of around.before files around.input) table
+    × (around.after ≡ around.before)
+
+-- How a run ends that writes these state bytes while it makes them: they were all added to the
+-- output; or those in front, which were made before memory ran out, and then the line that tells
+-- it; or they could not be written.
+abbrev pub IsStateTold : List ℕ → Option (List ℕ) → Option (List ℕ) → ℕ → Type 0
+IsStateTold bytes before after status =
+    ((status ≡ 0) × Appends before after bytes)
+    ⊎ ((status ≡ 1) × ((front back : List ℕ) × (bytes ≡ front ++ back)
+    × Appends before after (front ++ codes "refused 24 Memory\n")))
+    ⊎ (status ≡ 4)
+
+-- the run writes the state that the words ask for
+abbrev pub IsStateWritten :
+    List (List ℕ) → Around → Option (List ℕ) → Option (List ℕ) → ℕ → Type 0
+IsStateWritten words around before after status =
+    (table : Table) × IsStateOfWords words around table
+    × IsStateTold (language.written table) before after status
+
 -- How a run on these words ends, by what the output has before and after.
 abbrev pub IsRun : List (List ℕ) → Around → Option (List ℕ) → Option (List ℕ) → ℕ → Type 0
 IsRun words around before after status =
     IsAnswered words around before after status
     ⊎ IsStopped words around before after status
     ⊎ IsUnwritten words around status
+    ⊎ IsStateWritten words around before after status

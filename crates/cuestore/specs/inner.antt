@@ -1,2 +1,3 @@
 -- What private clauses alone cite.
+pub mod Replies
 pub mod Scanning

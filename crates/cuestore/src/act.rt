@@ -1,7 +1,8 @@
 ghost use Rattle.std.specs.Prelude.{◌≡◌, ◌⊎◌, IfOk, IfErr, List, ℕ, map, string_bytes};
 ghost use Rattle.cuestore.specs.Faults.{IsMemory, IsTold};
-ghost use Rattle.cuestore.specs.Runs.{Around, IsAnswerTo, IsAnswerToWords, IsFaultOfWords, IsRun};
+ghost use Rattle.cuestore.specs.Runs.{Around, IsAnswerTo, IsFaultOfWords, IsRun};
 ghost use Rattle.cuestore.specs.Runs.{IsStopTo};
+ghost use Rattle.cuestore.specs.inner.Replies.{IsReplyTold, IsReplyToWords};
 ghost use Rattle.cuestore.specs.Words.{asked_by, merging};
 ghost use Rattle.cue_program.specs.Files.{texts};
 ghost use Rattle.std.specs.Io.KnownBytes.{Appends};
@@ -9,7 +10,10 @@ ghost use Rattle.std.specs.Io.KnownBytes.{Appends};
 use crate::command::{Command, command_of, given_words};
 use crate::fault::Fault;
 use crate::network::{looped, pushed, served};
-use cue_program::{Answer, Shelf, Status, Stop, answer_for, merge_into, tell};
+use cue_program::{
+    Answer, Question, Replica, Shelf, Status, Stop, answer_for, merge_into, site_for, tell,
+    tell_state,
+};
 use std::alloc::Global;
 use std::env::Env;
 use std::io::{Read, Write};
@@ -26,6 +30,10 @@ use std::net::{Net, TcpListener, TcpStream};
 /// the state bytes. `merge` puts the state bytes at the name that stands first. The first refused
 /// input ends the run with the line `refused NUMBER NAME at PLACE in K`, which goes to `out` too.
 /// `usage fault` and `device fault` go to `faults`.
+///
+/// State bytes are read, and made while they are written, in pieces of 65,536 bytes. Where memory
+/// runs out while `state` writes them, the line `refused 24 Memory` stands behind those that were
+/// written.
 ///
 /// `serve` listens on a port of 127.0.0.1, serves so many connections from one new site, one after
 /// the other, and then prints as `export` does. `push` sends the inputs to the site that is served
@@ -48,13 +56,7 @@ where
         (W.contents out.old) (W.contents out.new) result }
 {
     match reply_to(rt, words, input) {
-        Ok(answer) => match tell(out, &answer.bytes) {
-            Ok(()) => answer.status.code(),
-            Err(_) => {
-                let _ = tell(faults, b"device fault\n");
-                4
-            }
-        },
+        Ok(reply) => show(rt.alloc(), &reply, out, faults),
         Err(fault) => report(rt.alloc(), &fault, out, faults),
     }
 }
@@ -84,11 +86,20 @@ where
     }
 }
 
+/// What is printed of a run that was not stopped.
+#[derive(Drop)]
+enum Reply {
+    /// An answer, whole.
+    Answer(Answer),
+    /// The state bytes of this site, which are made while they are written.
+    State(Replica),
+}
+
 /// What the command that the words ask for prints.
-fn reply_to<H, R: Read>(rt: &mut H, words: &[String], input: &mut R) -> Result<Answer, Fault>
+fn reply_to<H, R: Read>(rt: &mut H, words: &[String], input: &mut R) -> Result<Reply, Fault>
 where
     H: AllocGlobal + Shelf + Net<Listener = TcpListener, Stream = TcpStream>,
-    ensures answer { IfOk result (IsAnswerToWords (map string_bytes words.now) (record {
+    ensures reply { IfOk result (IsReplyToWords (map string_bytes words.now) (record {
       before = H.held rt.old;
       after = H.held rt.new;
       input = R.remaining input.old;
@@ -103,9 +114,34 @@ where
         Ok(command) => command,
         Err(fault) => return Err(fault),
     };
-    match answer(rt, &command, input) {
-        Ok(answer) => Ok(answer),
-        Err(stop) => Err(Fault::Stopped(stop)),
+    match &command {
+        Command::Ask {
+            question: Question::State,
+            files,
+        } => match site_for(&*rt, files, input) {
+            Ok(site) => Ok(Reply::State(site)),
+            Err(stop) => Err(Fault::Stopped(stop)),
+        },
+        _ => match answer(rt, &command, input) {
+            Ok(answer) => Ok(Reply::Answer(answer)),
+            Err(stop) => Err(Fault::Stopped(stop)),
+        },
+    }
+}
+
+/// Writes what is printed, and answers the exit status.
+fn show<W: Write, F: Write>(alloc: Global, reply: &Reply, out: &mut W, faults: &mut F) -> u8
+    ensures { IsReplyTold reply.now (W.contents out.old) (W.contents out.new) result }
+{
+    match reply {
+        Reply::Answer(answer) => match tell(out, &answer.bytes) {
+            Ok(()) => answer.status.code(),
+            Err(stop) => report(alloc, &Fault::Stopped(stop), out, faults),
+        },
+        Reply::State(site) => match tell_state(alloc, site, out) {
+            Ok(()) => Status::Done.code(),
+            Err(stop) => report(alloc, &Fault::Stopped(stop), out, faults),
+        },
     }
 }
 

@@ -17,8 +17,8 @@ pub enum Entry<'a> {
     Bytes(&'a [u8]),
     /// A file that fails once these bytes were read.
     Cut(&'a [u8]),
-    /// A file that gives 17 bytes a read.
-    Slow(&'a [u8]),
+    /// A file that gives so many bytes a read.
+    Slow(&'a [u8], usize),
 }
 
 /// What lies at the place `out`.
@@ -151,9 +151,9 @@ impl<'a> Disk<'a> {
                 file.rest = bytes;
                 file.fails = true;
             }
-            Entry::Slow(bytes) => {
+            Entry::Slow(bytes, most) => {
                 file.rest = bytes;
-                file.most = 17;
+                file.most = *most;
             }
         }
         file

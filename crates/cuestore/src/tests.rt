@@ -7,6 +7,7 @@ mod lists;
 mod long_files;
 mod network;
 mod orders;
+mod pieces;
 mod refusals;
 mod scalars;
 mod states;

@@ -10,10 +10,10 @@ use std::test::Fail;
 /// still takes.
 #[derive(Drop)]
 pub struct Pages {
-    log: RefCell<Vec<u8>>,
-    bytes: RefCell<Vec<u8>>,
-    part: RefCell<Vec<u8>>,
-    calls: Cell<usize>,
+    pub log: RefCell<Vec<u8>>,
+    pub bytes: RefCell<Vec<u8>>,
+    pub part: RefCell<Vec<u8>>,
+    pub calls: Cell<usize>,
 }
 
 /// Nothing was written yet, and `out` is empty.
@@ -94,7 +94,7 @@ fn takes_files_in_their_order(rt: HostRuntime) -> Result<(), Fail> {
 }
 
 /// Whether just these bytes were written there.
-fn has(written: &RefCell<Vec<u8>>, bytes: &[u8]) -> bool {
+pub fn has(written: &RefCell<Vec<u8>>, bytes: &[u8]) -> bool {
     match written.try_borrow() {
         Ok(written) => written.as_slice() == bytes,
         Err(_) => false,
@@ -168,7 +168,7 @@ fn spares(alloc: Global, out: Out, calls: usize, end: &[u8]) -> Result<bool, Fai
     Ok(told && has(&pages.bytes, b"") && ends(&pages.log, end))
 }
 
-fn ends(log: &RefCell<Vec<u8>>, end: &[u8]) -> bool {
+pub fn ends(log: &RefCell<Vec<u8>>, end: &[u8]) -> bool {
     match log.try_borrow() {
         Ok(log) => log.as_slice().ends_with(end),
         Err(_) => false,

@@ -41,8 +41,8 @@ fn reads_to_the_end(alloc: Global) -> Result<bool, Fail> {
     let used_up = "refused 21 TurnsUsed\n";
     Ok(
         reports(alloc, Entry::Cut(&lines), 4, "", "device fault\n")?
-            && is_too_long(alloc, Entry::Slow(&lines[1..]))?
-            && reports(alloc, Entry::Slow(&lines), 1, used_up, "")?,
+            && is_too_long(alloc, Entry::Slow(&lines[1..], 17))?
+            && reports(alloc, Entry::Slow(&lines, 17), 1, used_up, "")?,
     )
 }
 
@@ -53,7 +53,7 @@ fn a_long_file_is_read_to_its_end(rt: HostRuntime) -> Result<(), Fail> {
 }
 
 /// A text of so many fields.
-fn fields(alloc: Global, count: u32) -> Result<String, Fail> {
+pub fn fields(alloc: Global, count: u32) -> Result<String, Fail> {
     let mut text = String::new(alloc);
     for k in 0..count {
         let line = format!(in alloc; "a{k}: 1\n")?;

@@ -15,10 +15,11 @@ returns-in-Ok-clause-requests g c =
     let held = g.H.Shelf.held c.args.rt.now in
     let known = g.R.Read.remaining c.args.input.now in
     let empty : length c.args.files.now ≡ 0 = search rules in
+    let all : AreAll known c.in-Ok.bytes.items = subst (λ (b : List ℕ). AreAll known b) (sym c.in-Ok.ensures.all.2) c.in-Ok.ensures.all.1 in
     IfOk-weaker c.requests_of.result (λ (asked : Vec requests.Request Global). AreRequests (stream (Some c.in-Ok.bytes.items)) asked.items)
     (λ (asked : Vec requests.Request Global). AreRequests (inputs_of held (texts c.args.files.now) known) asked.items)
     (λ asked h. subst (λ (i : Inputs). AreRequests i asked.items) (sym (inputs_none held c.args.files.now known empty))
-    (sent_of_known known c.in-Ok.bytes.items asked.items c.in-Ok.ensures.all h))
+    (sent_of_known known c.in-Ok.bytes.items asked.items all h))
     c.requests_of.ensures.requests
 
 pub returns-in-Ok-clause-stop : goal.returns-in-Ok-clause-stop
@@ -26,8 +27,9 @@ returns-in-Ok-clause-stop g c =
     let held = g.H.Shelf.held c.args.rt.now in
     let known = g.R.Read.remaining c.args.input.now in
     let empty : length c.args.files.now ≡ 0 = search rules in
+    let all : AreAll known c.in-Ok.bytes.items = subst (λ (b : List ℕ). AreAll known b) (sym c.in-Ok.ensures.all.2) c.in-Ok.ensures.all.1 in
     IfErr-weaker c.requests_of.result (IsUnsentOn (stream (Some c.in-Ok.bytes.items))) (IsUnsentOn (inputs_of held (texts c.args.files.now) known))
-    (λ stop h. subst (λ (i : Inputs). IsUnsentOn i stop) (sym (inputs_none held c.args.files.now known empty)) (unsent_of_known known c.in-Ok.bytes.items stop c.in-Ok.ensures.all h))
+    (λ stop h. subst (λ (i : Inputs). IsUnsentOn i stop) (sym (inputs_none held c.args.files.now known empty)) (unsent_of_known known c.in-Ok.bytes.items stop all h))
     c.requests_of.ensures.stop
 
 pub returns-in-Err-clause-stop : goal.returns-in-Err-clause-stop

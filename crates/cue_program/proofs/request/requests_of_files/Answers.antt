@@ -5,7 +5,7 @@ use Rattle.cue_program.specs.Inputs.{files}
 use Rattle.cue_program.specs.Requests.{AreRequests, CanBeSent, IsPieceFault, IsUnsentOn}
 use Rattle.cue_program.proofs.Files.{some_name, take_known, split_known}
 use Rattle.cue_program.proofs.Requests.{files_sent_none, files_sent_more, files_unsent, files_sent_unread}
-use Rattle.cue_program.proofs.Kept.{fine_is_all, refused_is_all, long_fault, long_is_unsent}
+use Rattle.cue_program.proofs.Keeping.{fine_is_all, refused_is_all, long_fault, long_is_unsent}
 use Rattle.cue_program.proofs.request.requests_of_files.Goals as goal
 
 pub loop-name-init : goal.loop-name-init
@@ -31,7 +31,7 @@ returns-in-Err-request_of_file-clause-stop g c =
     let i = c.loop-name.name-index in
     ⊎_elim
     (λ fault.
-    let whole = refused_is_all IsPieceFault _ c.in-Ok.bytes.items c.saturating_add-number.result c.in-Err-request_of_file.stop long_fault c.in-Ok.ensures.enough fault in
+    let whole = refused_is_all IsPieceFault _ c.in-Ok.file.bytes.items c.saturating_add-number.result c.in-Err-request_of_file.stop long_fault c.in-Ok.ensures.all fault in
     subst (λ (ks : List (Option (List ℕ))). IsUnsentOn (files ks) c.in-Err-request_of_file.stop)
     (sym (split_known K names i _ c.loop-name-test.true))
     (files_unsent (map K (texts (take i names))) (map K (texts (drop (i + 1) names))) _ c.loop-name.requests.items c.saturating_add-number.result
@@ -50,7 +50,7 @@ loop-name-preserved g c =
       sent = subst (λ (rs : List requests.Request). AreRequests (files (map K (texts (take (i + 1) names)))) rs) (sym c.in_ok-push-in-Ok-request_of_file.ensures.items)
           (subst (λ (ks : List (Option (List ℕ))). AreRequests (files ks) (c.loop-name.requests.items ++ c.in-Ok-request_of_file.request ∷ []))
           (sym (take_known K names i _ c.loop-name-test.true))
-          (files_sent_more (map K (texts (take i names))) _ c.in-Ok.bytes.items c.loop-name.requests.items c.in-Ok-request_of_file.request
-          c.loop-name.invariant.sent (fine_is_all CanBeSent _ c.in-Ok.bytes.items long_is_unsent c.in-Ok.ensures.enough sent.0 sent.1 sent.2) sent));
+          (files_sent_more (map K (texts (take i names))) _ c.in-Ok.file.bytes.items c.loop-name.requests.items c.in-Ok-request_of_file.request
+          c.loop-name.invariant.sent (fine_is_all CanBeSent _ c.in-Ok.file.bytes.items long_is_unsent c.in-Ok.ensures.all sent.0 sent.1 sent.2) sent));
       room = search rules;
     }

@@ -1,5 +1,6 @@
-use Rattle.std.proofs.Common.{◌<◌, map, take, vec_len}
+use Rattle.std.proofs.Common.{◌≡◌, map, take, vec_len}
 use Rattle.cue_program.specs.Files.{known_at, texts}
+use Rattle.cue_program.specs.Stops.{piece_size}
 use Rattle.cue_program.specs.Inputs.{files}
 use Rattle.cue_program.specs.Requests.{AreRequests}
 use Rattle.cue_program.proofs.request.requests_of_files.Given as goal
@@ -7,5 +8,5 @@ use Rattle.cue_program.proofs.request.requests_of_files.Given as goal
 abbrev pub invariant-loop-name : goal.invariant-loop-name
 invariant-loop-name g l = record {
   sent : AreRequests (files (map (known_at (g.H.Shelf.held l.fn.rt)) (texts (take l.name-index l.fn.names)))) l.requests.items;
-  room : 0 < vec_len l.piece;
+  room : vec_len l.piece ≡ piece_size;
 }

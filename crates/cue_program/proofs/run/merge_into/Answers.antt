@@ -1,6 +1,4 @@
-use Rattle.std.proofs.Common.{ℕ, List, ◌∙◌, ⊎_elim, inl, inr, subst}
-use Rattle.cue_replica.specs.Language.{language}
-use Rattle.cue_program.specs.Files.{IsPut, Turns}
+use Rattle.std.proofs.Common.{⊎_elim, inl, inr}
 use Rattle.cue_program.proofs.Drafts.{known_unharmed, known_kept_none}
 use Rattle.cue_program.proofs.Files.{ok_more, err_both}
 use Rattle.cue_program.proofs.run.merge_into.Goals as goal
@@ -11,13 +9,7 @@ returns-in-Err-clause-stop g c =
 
 pub returns-clause-merges : goal.returns-clause-merges
 returns-clause-merges g c =
-    ok_more c.put.result c.put.ensures.put
-    (λ h. (
-      c.in-Ok.site,
-      c.in-Ok.ensures.holds,
-      subst (λ (b : List ℕ). Turns (IsPut c.args.name.now b) (g.H.Shelf.held c.args.rt.now) (g.H.Shelf.held c.put.new.shelf))
-          (c.deref.ensures.value ∙ c.in_ok-state.ensures) h,
-    ))
+    ok_more c.put.result c.put.ensures.put (λ h. (c.in-Ok.site, c.in-Ok.ensures.holds, h))
 
 pub returns-clause-stop : goal.returns-clause-stop
 returns-clause-stop g c =

@@ -1,13 +1,10 @@
 use Rattle.std.proofs.Common.{◌≡◌, ℕ, List, Option, rules, sym, subst, ap, inl, inr, ◌+◌, map, take, drop, ◌∙◌, arith, length, []}
-use Rattle.cue_lattice.specs.World.{Piece}
-use Rattle.cue_replica.specs.declared.Refusal.{Refusal}
 use Rattle.cue_replica.specs.Accepted.{IsAcceptable}
-use Rattle.cue_program.specs.Stops.{IsRefusedAs}
 use Rattle.cue_program.specs.Files.{known_at, texts}
-use Rattle.cue_program.specs.Inputs.{Holds, IsFilePiece, IsInputRefused, IsInputUnread, IsPieceRefusal, files}
+use Rattle.cue_program.specs.Inputs.{Holds, IsInputRefused, IsInputUnread, files}
 use Rattle.cue_program.specs.Runs.{IsStopOn}
-use Rattle.cue_program.proofs.Files.{Accepts, some_name, files_none, files_more, files_refused, files_unread, take_known, split_known, length_known}
-use Rattle.cue_program.proofs.Kept.{fine_is_all, refused_is_all, long_refusal, long_is_illegal}
+use Rattle.cue_program.proofs.Files.{some_name, files_none, files_more, files_refused, files_unread, take_known, split_known, length_known}
+use Rattle.cue_program.proofs.Pieces.{held_in_memory}
 use Rattle.cue_program.proofs.run.site_of_files.Goals as goal
 
 pub loop-name-init : goal.loop-name-init
@@ -33,29 +30,27 @@ returns-in-Err-take_file-clause-stop g c =
     let names = c.args.names.now in
     let i = c.loop-name.name-index in
     let front = map K (texts (take i names)) in
-    let whole = refused_is_all IsPieceRefusal _ c.in-Ok.bytes.items (c.loop-name.number + 1) c.in-Err-take_file.stop long_refusal c.in-Ok.ensures.enough
-    (subst (λ (b : List ℕ). (piece : Piece) × (why : Refusal) × IsFilePiece b piece × IsPieceRefusal piece why × IsRefusedAs why (c.loop-name.number + 1) c.in-Err-take_file.stop)
-    c.deref.ensures.value c.in-Err-take_file.ensures.refused) in
+    let read = c.in-Ok.ensures.all in
     inl (subst (λ (ks : List (Option (List ℕ))). IsInputRefused (files ks) c.in-Err-take_file.stop)
     (sym (split_known K names i _ c.loop-name-test.true))
     (files_refused front (map K (texts (drop (i + 1) names))) _ (c.loop-name.number + 1) c.loop-name.site
-    whole.0 c.in-Err-take_file.stop c.loop-name.invariant.holds whole.1
+    read.0 c.in-Err-take_file.stop c.loop-name.invariant.holds read.1
     (ap (λ n. n + 1) (c.loop-name.invariant.counted ∙ sym (length_known K names i c.loop-name-test.true)))
     (omega (arith, c.loop-name.auto.number-fits))
-    whole.2))
+    (c.in-Err-take_file.ensures.refused read.0 (read.2, held_in_memory read.0 read.3))))
 
 pub loop-name-preserved : goal.loop-name-preserved
 loop-name-preserved g c =
     let K = known_at (g.H.Shelf.held c.args.rt.now) in
     let names = c.args.names.now in
     let i = c.loop-name.name-index in
-    let accepted = subst (λ (b : List ℕ). Accepts b c.loop-name.site c.take_file.new.site) c.deref.ensures.value c.in-Ok-take_file.ensures.accepts in
+    let read = c.in-Ok.ensures.all in
     record {
       holds = subst (λ (ks : List (Option (List ℕ))). Holds (files ks) c.take_file.new.site)
           (sym (take_known K names i _ c.loop-name-test.true))
-          (files_more (map K (texts (take i names))) _ c.loop-name.site c.take_file.new.site c.in-Ok.bytes.items
-          c.loop-name.invariant.holds (fine_is_all IsAcceptable _ c.in-Ok.bytes.items long_is_illegal c.in-Ok.ensures.enough accepted.0 accepted.1 accepted.2)
-          accepted c.in-Ok-take_file.ensures.valid);
+          (files_more (map K (texts (take i names))) _ c.loop-name.site c.take_file.new.site read.0
+          c.loop-name.invariant.holds read.1 (c.in-Ok-take_file.ensures.accepts read.0 (read.2, held_in_memory read.0 read.3))
+          c.in-Ok-take_file.ensures.valid);
       counted = search rules;
       room = search rules;
     }

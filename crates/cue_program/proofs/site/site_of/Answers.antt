@@ -1,33 +1,39 @@
-use Rattle.std.proofs.Common.{◌++◌, [], ◌∷◌, inl, inr, subst, refl}
-use Rattle.std.proofs.lemmas.Bool.{both_ways}
+use Rattle.std.proofs.Common.{◌≡◌, ℕ, List, Some, subst, ◌∙◌}
+use Rattle.std.specs.Global.{Vec}
 use Rattle.std.proofs.lemmas.Result.{IfOk-weaker, IfErr-weaker}
-use Rattle.cue_lattice.specs.World.{state}
 use Rattle.cue_replica.specs.Language.{Table, language}
 use Rattle.cue_replica.specs.Replica.{Adds}
-use Rattle.cue_program.specs.Inputs.{Holds, IsInputRefused, stream}
+use Rattle.cue_program.specs.Inputs.{Holds, IsInputRefused, IsStreamRead, stream}
 use Rattle.cue_program.specs.inner.Texts.{AreTexts, IsTextRefused}
+use Rattle.cue_program.specs.declared.kept.Input.{Input}
 use Rattle.cue_program.proofs.Streams.{of_one_state, refused_state, texts_held, texts_refused}
-use Rattle.std.proofs.Common.{Some}
 use Rattle.cue_program.proofs.site.site_of.Goals as goal
 
 pub returns-in-Ok-clause-holds : goal.returns-in-Ok-clause-holds
-returns-in-Ok-clause-holds c =
-    of_one_state c.args.bytes.now c.take.new.self (c.begins_a_state.ensures.0 c.if-begins_a_state.true) c.in-Ok.ensures.state
-    (subst (λ (old : Table). Adds old (language.state_refuses c.args.bytes.now) c.take.new.self) c.new-site.ensures c.in-Ok.ensures.ok)
+returns-in-Ok-clause-holds c bytes h =
+    let is = (subst (λ (input : Input (Vec ℕ)). IsStreamRead input bytes) c.in-State.is h) in
+    of_one_state bytes c.take_state.new.site is.0.0 (c.in-Ok.ensures.state bytes (is.0.1, is.1))
+    (subst (λ (old : Table). Adds old (language.state_refuses bytes) c.take_state.new.site) c.new-site.ensures (c.in-Ok.ensures.adds bytes (is.0.1, is.1)))
     c.in-Ok.ensures.valid
 
-pub returns-clause-holds : goal.returns-clause-holds
-returns-clause-holds c =
-    IfOk-weaker c.site_of_texts.result (AreTexts c.args.bytes.now) (Holds (stream (Some c.args.bytes.now)))
-    (λ site h. texts_held c.args.bytes.now site (λ is. both_ways c.begins_a_state.result c.if-begins_a_state.false (c.begins_a_state.ensures.1 is)) h)
+pub returns-in-Err-clause-refused : goal.returns-in-Err-clause-refused
+returns-in-Err-clause-refused c bytes h =
+    let is = (subst (λ (input : Input (Vec ℕ)). IsStreamRead input bytes) c.in-State.is h) in
+    let fault = c.in-Err.ensures.refused bytes (is.0.1, is.1) in
+    refused_state bytes fault.0 c.in-Err.stop is.0.0 fault.1 fault.2
+
+pub returns-in-Text-clause-holds : goal.returns-in-Text-clause-holds
+returns-in-Text-clause-holds c bytes h =
+    let is = (subst (λ (input : Input (Vec ℕ)). IsStreamRead input bytes) c.in-Text.is h) in
+    let same : c.deref.result.now ≡ bytes = c.deref.ensures.value ∙ is.0.1 in
+    IfOk-weaker c.site_of_texts.result (AreTexts c.deref.result.now) (Holds (stream (Some bytes)))
+    (λ site texts. texts_held bytes site is.0.0 (subst (λ (b : List ℕ). AreTexts b site) same texts))
     c.site_of_texts.ensures.holds
 
-pub returns-in-Err-clause-refused : goal.returns-in-Err-clause-refused
-returns-in-Err-clause-refused c =
-    refused_state c.args.bytes.now c.in-Err.why (c.begins_a_state.ensures.0 c.if-begins_a_state.true) c.in-Err.ensures.refused
-
-pub returns-clause-refused : goal.returns-clause-refused
-returns-clause-refused c =
-    IfErr-weaker c.site_of_texts.result (IsTextRefused c.args.bytes.now) (IsInputRefused (stream (Some c.args.bytes.now)))
-    (λ stop h. texts_refused c.args.bytes.now stop (λ is. both_ways c.begins_a_state.result c.if-begins_a_state.false (c.begins_a_state.ensures.1 is)) h)
+pub returns-in-Text-clause-refused : goal.returns-in-Text-clause-refused
+returns-in-Text-clause-refused c bytes h =
+    let is = (subst (λ (input : Input (Vec ℕ)). IsStreamRead input bytes) c.in-Text.is h) in
+    let same : c.deref.result.now ≡ bytes = c.deref.ensures.value ∙ is.0.1 in
+    IfErr-weaker c.site_of_texts.result (IsTextRefused c.deref.result.now) (IsInputRefused (stream (Some bytes)))
+    (λ stop texts. texts_refused bytes stop is.0.0 (subst (λ (b : List ℕ). IsTextRefused b stop) same texts))
     c.site_of_texts.ensures.refused

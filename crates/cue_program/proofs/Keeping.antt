@@ -1,20 +1,20 @@
 -- What is kept of an input whose end is looked for, and what it tells of the whole input.
 use Rattle.std.proofs.Common.{◌≡◌, ◌≢◌, ◌⊎◌, inl, inr, ℕ, zero, suc, ◌+◌, ◌<◌, min, Bool, true, false, Option, Some, List, [], ◌∷◌, ◌++◌, length, take, nat_le, arith, refl, sym, ap, ◌∙◌, subst}
 use Rattle.std.specs.Prelude.{slice_get}
-use Rattle.std.specs.Io.KnownBytes.{Consumes, IsAtEnd}
 use Rattle.std.proofs.lemmas.Bool.{leb-true, leb-false}
 use Rattle.std.proofs.lemmas.List.{length-take, take_all}
 use Rattle.cue_lattice.specs.World.{Piece, text}
 use Rattle.cue_replica.specs.Accepted.{text_limit}
-use Rattle.cue_replica.specs.Language.{language}
+use Rattle.cue_replica.specs.Language.{Table, language}
+use Rattle.cue_replica.specs.Replica.{Adds}
 use Rattle.cue_replica.specs.declared.Refusal.{Refusal}
 use Rattle.cue_replica.proofs.Texts.{lexed_short}
 use Rattle.cue_program.specs.Files.{AreAll}
-use Rattle.cue_program.specs.Inputs.{IsByteFault, IsFilePiece, IsText, IsTextRefusal}
+use Rattle.cue_program.specs.Inputs.{IsByteFault, IsEnoughOf, IsFilePiece, IsPieceRefusal, IsText, IsTextRefusal}
+use Rattle.cue_program.proofs.Files.{Accepts}
 use Rattle.cue_program.specs.Stops.{IsRefusedAs}
 use Rattle.cue_program.specs.declared.stop.Stop.{Stop}
-use Rattle.cue_program.specs.inner.Reading.{HasEnough, HasRead, IsEnoughOf}
-use Rattle.cue_program.proofs.Devices.{consumed_all, consumes_more, consumes_none}
+use Rattle.cue_program.specs.inner.Reading.{IsAllRead}
 
 -- what is put behind a front changes no front that is as long
 take_front : (n : ℕ) (xs ys : List ℕ) → take n (take n xs ++ ys) ≡ take n (xs ++ ys)
@@ -35,27 +35,6 @@ enough_more (x ∷ all) kept bytes next (inr h) (inl k) =
     absurd (h.0 (sym (first_kept text_limit (x ∷ all) bytes) ∙ subst (λ (b : List ℕ). slice_get (b ++ bytes) 0 ≡ Some 254) h.1 k.0))
 enough_more (x ∷ all) kept bytes next (inr h) (inr k) =
     inr (h.0, k.1 ∙ (ap (λ (b : List ℕ). take (text_limit + 1) (b ++ bytes)) h.1 ∙ take_front (text_limit + 1) (x ∷ all) bytes))
-
--- so much was read of a device, and this of it was kept
-abbrev pub Keeps : Option (List ℕ) → Option (List ℕ) → List ℕ → Type 0
-Keeps old new kept = (all : List ℕ) × Consumes old new all × IsEnoughOf all kept
-
-pub keeps_none : (a : Option (List ℕ)) → Keeps a a []
-keeps_none a = ([], consumes_none a, inr ((λ e. absurd (go e)), refl))
-  where
-    go : slice_get {X = ℕ} [] 0 ≡ Some 254 → ⊥
-    go e = cc
-
-pub keeps_more :
-    (a b c : Option (List ℕ)) (kept added next : List ℕ) → Keeps a b kept → HasRead b c kept added → IsEnoughOf added next → Keeps a c next
-keeps_more a b c kept added next h k enough = (
-  h.0 ++ k.0,
-  consumes_more a b c h.0 k.0 h.1 k.1,
-  enough_more h.0 kept k.0 next h.2 (subst (λ (b : List ℕ). IsEnoughOf b next) k.2 enough),
-)
-
-pub keeps_all : (a b : Option (List ℕ)) (kept : List ℕ) → Keeps a b kept → IsAtEnd b → HasEnough a kept
-keeps_all a b kept h end = (h.0, consumed_all a b h.0 h.1 end, h.2)
 
 -- What is kept is all; or the input is no state, and too long for a text, and so is what is kept.
 whole_or_long : (all kept : List ℕ) → IsEnoughOf all kept
@@ -83,7 +62,7 @@ whole_or_long all kept (inr h) = go (nat_le (length all) text_limit) refl
 -- where what is kept of a file is a piece that is fine, and no text that is too long is, it is all of the file
 pub fine_is_all :
     (IsFine : Piece → Type 0) (known : Option (List ℕ)) (kept : List ℕ) → ((long : List ℕ) → text_limit < length long → IsFine (text long) → ⊥)
-    → HasEnough known kept → (piece : Piece) → IsFilePiece kept piece → IsFine piece → AreAll known kept
+    → IsAllRead (λ all. IsEnoughOf all kept) known → (piece : Piece) → IsFilePiece kept piece → IsFine piece → AreAll known kept
 fine_is_all IsFine known kept none h piece is fine = go (whole_or_long h.0 kept h.2) is
   where
     go : (kept ≡ h.0) ⊎ ((slice_get h.0 0 ≢ Some 254) × (slice_get kept 0 ≢ Some 254) × (text_limit < length kept) × (text_limit < length h.0))
@@ -96,7 +75,7 @@ fine_is_all IsFine known kept none h piece is fine = go (whole_or_long h.0 kept 
 pub refused_is_all :
     (IsReason : Piece → Refusal → Type 0) (known : Option (List ℕ)) (kept : List ℕ) (number : ℕ) (stop : Stop)
     → ((long other : List ℕ) (why : Refusal) → text_limit < length long → text_limit < length other → IsReason (text long) why → IsReason (text other) why)
-    → HasEnough known kept
+    → IsAllRead (λ all. IsEnoughOf all kept) known
     → ((piece : Piece) × (why : Refusal) × IsFilePiece kept piece × IsReason piece why × IsRefusedAs why number stop)
     → (all : List ℕ) × AreAll known all × ((piece : Piece) × (why : Refusal) × IsFilePiece all piece × IsReason piece why × IsRefusedAs why number stop)
 refused_is_all IsReason known kept number stop alike h fault = go (whole_or_long h.0 kept h.2) fault.2
@@ -126,3 +105,30 @@ long_is_illegal long a h = absurd (omega (arith, a, lexed_short long h.1.words h
 
 pub long_is_unsent : (long : List ℕ) → text_limit < length long → IsText long → ⊥
 long_is_unsent long a h = absurd (omega (arith, a, h.0))
+
+-- a text that is accepted and enough of a file is all of it
+pub text_accepted :
+    (bytes kept : List ℕ) (old new : Table) → slice_get bytes 0 ≢ Some 254 → IsEnoughOf bytes kept → language.IsLegal kept
+    → Adds old (language.text_refuses kept) new → Accepts bytes old new
+text_accepted bytes kept old new first enough legal adds = go (whole_or_long bytes kept enough)
+  where
+    go : (kept ≡ bytes) ⊎ ((slice_get bytes 0 ≢ Some 254) × (slice_get kept 0 ≢ Some 254) × (text_limit < length kept) × (text_limit < length bytes)) → Accepts bytes old new
+    go (inl same) = (
+      text bytes,
+      inr (first, refl),
+      subst language.IsLegal same legal,
+      subst (λ (t : List ℕ). Adds old (language.text_refuses t) new) same adds,
+    )
+    go (inr long) = absurd (long_is_illegal kept long.2 legal)
+
+-- what enough of a file is refused for as a text the file is
+pub text_refused :
+    (bytes kept : List ℕ) (number : ℕ) (stop : Stop) → slice_get bytes 0 ≢ Some 254 → IsEnoughOf bytes kept
+    → ((why : Refusal) × IsRefusedAs why number stop × IsTextRefusal kept why)
+    → (piece : Piece) × (why : Refusal) × IsFilePiece bytes piece × IsPieceRefusal piece why × IsRefusedAs why number stop
+text_refused bytes kept number stop first enough fault = go (whole_or_long bytes kept enough)
+  where
+    go : (kept ≡ bytes) ⊎ ((slice_get bytes 0 ≢ Some 254) × (slice_get kept 0 ≢ Some 254) × (text_limit < length kept) × (text_limit < length bytes))
+        → (piece : Piece) × (why : Refusal) × IsFilePiece bytes piece × IsPieceRefusal piece why × IsRefusedAs why number stop
+    go (inl same) = (text bytes, fault.0, inr (first, refl), subst (λ (t : List ℕ). IsTextRefusal t fault.0) same fault.2, fault.1)
+    go (inr long) = (text bytes, fault.0, inr (first, refl), long_refusal kept bytes fault.0 long.2 long.3 fault.2, fault.1)
