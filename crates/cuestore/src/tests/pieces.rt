@@ -57,15 +57,23 @@ fn reports(alloc: Global, file: Entry, status: u8, out: &str, faults: &str) -> R
     Ok(run.is(status, out.as_bytes(), faults.as_bytes()))
 }
 
+/// These bytes, and zeros behind them up to so many.
+fn padded(alloc: Global, front: &[u8], len: usize) -> Result<Vec<u8>, Fail> {
+    let mut bytes = Vec::new(alloc);
+    bytes.extend_from_slice(front)?;
+    bytes.resize(len, 0)?;
+    Ok(bytes)
+}
+
 /// Whether a fault of a state in front waits for the end of the file: where the file can't be read
 /// to it, that is told.
 fn reads_to_the_end(alloc: Global, mark: &[u8], refused: &str) -> Result<bool, Fail> {
-    let mut bytes = vec![in alloc; 0u8; 65_536]?;
-    bytes[..mark.len()].copy_from_slice(mark);
+    let short = padded(alloc, mark, 65_535)?;
+    let bytes = padded(alloc, mark, 65_536)?;
     let used_up = "refused 21 TurnsUsed\n";
     Ok(
         reports(alloc, Entry::Bytes(&bytes), 1, refused, "")?
-            && reports(alloc, Entry::Slow(&bytes[..65_535], 1), 1, refused, "")?
+            && reports(alloc, Entry::Slow(&short, 1), 1, refused, "")?
             && reports(alloc, Entry::Slow(&bytes, 1), 1, used_up, "")?
             && reports(alloc, Entry::Cut(&bytes), 4, "", "device fault\n")?,
     )
@@ -126,12 +134,11 @@ fn spares(alloc: Global, state: &[u8], calls: usize) -> Result<bool, Fail> {
 /// Whether a merge spares the file at `out` whichever of its writes fails, by steps of 100.
 fn spares_at_each_write(alloc: Global) -> Result<bool, Fail> {
     let state = state_of_fields(alloc, 2_000)?;
-    let mut calls = 4;
-    while calls < 4 + state.len() / 50 {
+    for step in 0..state.len() / 5_000 {
+        let calls = usize::saturating_add(4, usize::saturating_mul(step, 100));
         if !spares(alloc, &state, calls)? {
             return Ok(false);
         }
-        calls += 100;
     }
     Ok(true)
 }
