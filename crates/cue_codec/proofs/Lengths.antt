@@ -1,5 +1,5 @@
 -- How many bytes the parts of a state take.
-use Rattle.std.proofs.Common.{◌≡◌, ℕ, ◌+◌, ◌*◌, ◌<◌, ◌≤◌, ℤ, List, [], ◌∷◌, ◌++◌, length, take, get_or, Option, Some, None, refl, sym, ap, ◌∙◌, arith}
+use Rattle.std.proofs.Common.{◌≡◌, ℕ, zero, suc, ◌+◌, ◌*◌, ◌<◌, ◌≤◌, ℤ, List, [], ◌∷◌, ◌++◌, length, take, get_or, Option, Some, None, refl, sym, ap, ◌∙◌, arith}
 use Rattle.std.specs.Int.{w16, w64, to_be_bytes}
 use Rattle.std.specs.List.{flat_map}
 use Rattle.std.proofs.lemmas.List.{append-nil, length-append, take_more, take_all}
@@ -8,8 +8,10 @@ use Rattle.cue_lattice.specs.Path.{Step, label, index}
 use Rattle.cue_scalars.specs.declared.scalar_set.ScalarSet.{ScalarSet}
 use Rattle.cue_row.specs.declared.row.Row.{Row}
 use Rattle.cue_row.specs.Levels.{level_of}
-use Rattle.cue_table.specs.Tree.{Tree, Children, row_of, rest_of, rest_tree, children_of}
+use Rattle.cue_table.specs.Spans.{Span, field, elements, first_of, alike, spanned, spread}
+use Rattle.cue_table.specs.Tree.{Tree, Children, child, row_of, rest_of, rest_tree, children_of}
 use Rattle.cue_codec.specs.Entry.{at, to_rest, Entry, entries_of, entries_below, entries_onward}
+use Rattle.cue_codec.specs.Inner.Spans.{branch_count}
 use Rattle.cue_codec.specs.Parts.{Lengths, integer_bytes, counted_bytes, piece_bytes, text_bytes, text_set_bytes, set_bytes, labels_bytes, most_bytes, index_bytes, lengths_bytes, step_bytes, bit}
 use Rattle.cue_codec.specs.RowBytes.{free, scalar, struct, list, nothing, parts_bytes, parts_of, scalars_bytes, left_out_bytes, row_bytes, row_bytes_from}
 use Rattle.cue_codec.specs.Size.{saturated, size_of}
@@ -129,15 +131,46 @@ size_begin depth bytes tree row steps parts size e s p h =
 pub size_begin_below : (depth : ℕ) (bytes : List ℕ) (tree : Tree Row) → row_of tree ≡ None → saturated (0 + length (flat_map (row_bytes_from written depth bytes) (others_of written tree))) ≡ size_of (flat_map (row_bytes_from written depth bytes) (entries_of written tree))
 size_begin_below depth bytes tree e = omega (arith, ap length (bytes_begin_below depth bytes tree [] e))
 
-pub size_more :
-    (depth : ℕ) (bytes : List ℕ) (step : Step) (tree : Tree Row) (rest left : Children Row) (behind : List Entry) (steps one size more all : ℕ) → children_of rest ≡ (step, tree) ∷ children_of left
-    → steps ≡ size_of bytes → one ≡ size_of (step_bytes written (at step)) → ((d : ℕ) (b : List ℕ) → saturated (steps + one) ≡ size_of b → more ≡ size_of (flat_map (row_bytes_from written d b) (entries_of written tree)))
-    → saturated (size + length (flat_map (row_bytes_from written depth bytes) (entries_below written rest ++ behind))) ≡ all → saturated (saturated (size + more) + length (flat_map (row_bytes_from written depth bytes) (entries_below written left ++ behind))) ≡ all
-size_more depth bytes step tree rest left behind steps one size more all e s o m h =
+size_child :
+    (depth : ℕ) (bytes : List ℕ) (step : Step) (tree : Tree Row) (children : Children Row) (behind : List Entry)
+    → length (flat_map (row_bytes_from written depth bytes) (entries_below written (child step tree children) ++ behind))
+    ≡ length (flat_map (row_bytes_from written (depth + 1) (bytes ++ step_bytes written (at step))) (entries_of written tree)) + length (flat_map (row_bytes_from written depth bytes) (entries_below written children ++ behind))
+size_child depth bytes step tree children behind =
     let these = flat_map (row_bytes_from written (depth + 1) (bytes ++ step_bytes written (at step))) (entries_of written tree) in
-    let count = m (depth + 1) (bytes ++ step_bytes written (at step)) (omega (arith, s, o, length-append bytes (step_bytes written (at step)))) in
-    let parts = bytes_more depth bytes step tree rest left behind [] these (flat_map (row_bytes_from written depth bytes) (entries_below written rest ++ behind)) e refl refl in
-    omega (arith, count, h, ap length parts, length-append these (flat_map (row_bytes_from written depth bytes) (entries_below written left ++ behind)))
+    let parts = bytes_more depth bytes step tree (child step tree children) children behind [] these (flat_map (row_bytes_from written depth bytes) (entries_below written (child step tree children) ++ behind)) refl refl refl in
+    sym (ap length parts) ∙ length-append these (flat_map (row_bytes_from written depth bytes) (entries_below written children ++ behind))
+
+size_alike :
+    (depth : ℕ) (bytes : List ℕ) (i more : ℕ) (tree : Tree Row) (others : Children Row) (behind : List Entry) (one : ℕ)
+    → ((n : ℕ) → one ≡ size_of (flat_map (row_bytes_from written (depth + 1) (bytes ++ step_bytes written (at (index n)))) (entries_of written tree)))
+    → saturated ((more + 1) * one + length (flat_map (row_bytes_from written depth bytes) (entries_below written others ++ behind)))
+    ≡ size_of (flat_map (row_bytes_from written depth bytes) (entries_below written (alike i more tree others) ++ behind))
+size_alike depth bytes i zero tree others behind one o = omega (arith, o i, size_child depth bytes (index i) tree others behind)
+size_alike depth bytes i (suc more) tree others behind one o =
+    omega (arith, o i, size_child depth bytes (index i) tree (alike (suc i) more tree others) behind, size_alike depth bytes (suc i) more tree others behind one o)
+
+-- branches that are kept as one take as many bytes each, since each index does
+size_spanned :
+    (depth : ℕ) (bytes : List ℕ) (span : Span) (tree : Tree Row) (others : Children Row) (behind : List Entry) (steps first one : ℕ)
+    → steps ≡ size_of bytes → first ≡ size_of (step_bytes written (at (first_of span))) → ((d : ℕ) (b : List ℕ) → saturated (steps + first) ≡ size_of b → one ≡ size_of (flat_map (row_bytes_from written d b) (entries_of written tree)))
+    → saturated (branch_count span * one + length (flat_map (row_bytes_from written depth bytes) (entries_below written others ++ behind)))
+    ≡ size_of (flat_map (row_bytes_from written depth bytes) (entries_below written (spanned span tree others) ++ behind))
+size_spanned depth bytes (field text) tree others behind steps first one s f m =
+    let step = step_bytes written (at (label text)) in
+    let count = m (depth + 1) (bytes ++ step) (omega (arith, s, f, length-append bytes step)) in
+    omega (arith, count, size_child depth bytes (label text) tree others behind)
+size_spanned depth bytes (elements i more) tree others behind steps first one s f m =
+    size_alike depth bytes i more tree others behind one
+    (λ n. m (depth + 1) (bytes ++ step_bytes written (at (index n))) (omega (arith, s, f, index_length i, index_length n, length-append bytes (step_bytes written (at (index n))))))
+
+pub size_more :
+    (depth : ℕ) (bytes : List ℕ) (span : Span) (tree : Tree Row) (rest left : List (Span × Tree Row)) (behind : List Entry) (steps first size one all : ℕ) → rest ≡ (span, tree) ∷ left
+    → steps ≡ size_of bytes → first ≡ size_of (step_bytes written (at (first_of span))) → ((d : ℕ) (b : List ℕ) → saturated (steps + first) ≡ size_of b → one ≡ size_of (flat_map (row_bytes_from written d b) (entries_of written tree)))
+    → saturated (size + length (flat_map (row_bytes_from written depth bytes) (entries_below written (spread rest) ++ behind))) ≡ all
+    → saturated (saturated (size + saturated (branch_count span * one)) + length (flat_map (row_bytes_from written depth bytes) (entries_below written (spread left) ++ behind))) ≡ all
+size_more depth bytes span tree rest left behind steps first size one all e s f m h =
+    let these = size_spanned depth bytes span tree (spread left) behind steps first one s f m in
+    omega (arith, these, h, ap (λ spans. length (flat_map (row_bytes_from written depth bytes) (entries_below written (spread spans) ++ behind))) e)
 
 rest_length : length (step_bytes written to_rest) ≡ 1
 unfolding step_bytes

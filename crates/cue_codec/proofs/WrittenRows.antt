@@ -1,5 +1,5 @@
 -- The bytes of the rows of a branch, written by a walk.
-use Rattle.std.proofs.Common.{◌≡◌, ℕ, ◌+◌, ◌^◌, ◌<◌, List, [], ◌∷◌, ◌++◌, append_assoc, length, map, Option, Some, None, refl, sym, ap, subst, ◌∙◌, arith}
+use Rattle.std.proofs.Common.{◌≡◌, ℕ, ◌+◌, ◌*◌, ◌^◌, ◌<◌, zero, suc, List, [], ◌∷◌, ◌++◌, append_assoc, length, map, min, Option, Some, None, refl, sym, ap, subst, ◌∙◌, arith}
 use Rattle.std.specs.List.{flat_map, AllByRecursion}
 use Rattle.std.proofs.lemmas.List.{append-nil, length-append, length-map}
 use Rattle.std.proofs.lemmas.List.Concat.{flat_map-append, flat_map-cons}
@@ -7,11 +7,13 @@ use Rattle.cue_lattice.specs.Path.{Step, label, index}
 use Rattle.cue_row.specs.declared.row.Row.{Row}
 use Rattle.cue_row.specs.Levels.{level_of}
 use Rattle.cue_row.specs.ValidRow.{IsWord, IsWordStep, AreLabelWords, AreLengths, IsValidRow}
-use Rattle.cue_table.specs.Tree.{Tree, node, Children, row_of, below, rest_of, rest_tree, fixed_of, children_of}
+use Rattle.cue_table.specs.Spans.{Span, field, elements, alike, spanned, spread}
+use Rattle.cue_table.specs.Tree.{Tree, node, Children, child, row_of, below, rest_of, rest_tree, fixed_of, children_of}
 use Rattle.cue_table.specs.Inner.ValidWalk.{IsSound, AreSound, HasChild}
 use Rattle.cue_table.specs.Walks.{first_child}
 use Rattle.cue_table.proofs.ValidWalks.{sound_parts, rest_sound}
 use Rattle.cue_codec.specs.Entry.{StateStep, at, to_rest, Entry, behind, entries_of, entries_below, entries_onward}
+use Rattle.cue_codec.specs.Inner.Spans.{branch_count}
 use Rattle.cue_codec.specs.Parts.{step_bytes}
 use Rattle.cue_codec.specs.Reading.{IsShort, IsShortStep, AreShortLabels}
 use Rattle.cue_codec.specs.RowBytes.{parts_bytes, parts_of, row_bytes_from, IsShortRow}
@@ -26,13 +28,37 @@ count_begin tree row e = omega (arith, ap length (entries_begin written tree row
 pub count_below : (tree : Tree Row) → row_of tree ≡ None → length (entries_of written tree) ≡ length (others_of written tree)
 count_below tree e = ap length (entries_begin_below written tree e)
 
+count_child : (step : Step) (tree : Tree Row) (children : Children Row) → length (entries_below written (child step tree children)) ≡ length (entries_of written tree) + length (entries_below written children)
+count_child step tree children =
+    length-append (map (behind (at step)) (entries_of written tree)) (entries_below written children)
+    ∙ ap (λ n. n + length (entries_below written children)) (length-map (entries_of written tree) (behind (at step)))
+
+count_alike : (i more : ℕ) (tree : Tree Row) (others : Children Row) → length (entries_below written (alike i more tree others)) ≡ (more + 1) * length (entries_of written tree) + length (entries_below written others)
+count_alike i zero tree others = omega (arith, count_child (index i) tree others)
+count_alike i (suc more) tree others = omega (arith, count_child (index i) tree (alike (suc i) more tree others), count_alike (suc i) more tree others)
+
+count_spanned : (span : Span) (tree : Tree Row) (others : Children Row) → length (entries_below written (spanned span tree others)) ≡ branch_count span * length (entries_of written tree) + length (entries_below written others)
+count_spanned (field text) tree others = omega (arith, count_child (label text) tree others)
+count_spanned (elements i more) tree others = count_alike i more tree others
+
+-- branches that are kept as one have as many rows each
 pub count_more :
-    (step : Step) (tree : Tree Row) (rest left : Children Row) (more : List Entry) → children_of rest ≡ (step, tree) ∷ children_of left
-    → length (entries_below written rest ++ more) ≡ length (entries_of written tree) + length (entries_below written left ++ more)
-count_more step tree rest left more e =
-    ap length (entries_more written step tree rest left more e)
-    ∙ length-append (map (behind (at step)) (entries_of written tree)) (entries_below written left ++ more)
-    ∙ ap (λ n. n + length (entries_below written left ++ more)) (length-map (entries_of written tree) (behind (at step)))
+    (span : Span) (tree : Tree Row) (rest left : List (Span × Tree Row)) (more : List Entry) → rest ≡ (span, tree) ∷ left
+    → length (entries_below written (spread rest) ++ more) ≡ branch_count span * length (entries_of written tree) + length (entries_below written (spread left) ++ more)
+count_more span tree rest left more e =
+    omega (arith, ap (λ spans. length (entries_below written (spread spans))) e, count_spanned span tree (spread left), length-append (entries_below written (spread rest)) more, length-append (entries_below written (spread left)) more)
+
+-- where no span is left, no branch is
+pub no_branch : (rest : List (Span × Tree Row)) → rest ≡ [] → children_of (spread rest) ≡ []
+no_branch rest e = ap (λ spans. children_of (spread spans)) e
+
+-- a product is as far as 64 bits tell what it is of a number that is told so far
+pub times_most : (count n most : ℕ) → min (count * min n most) most ≡ min (count * n) most
+times_most zero n most = omega arith
+times_most (suc count) n most = omega (arith, plus_most n (count * min n most) (count * n) most (times_most count n most))
+  where
+    plus_most : (n a b most : ℕ) → min a most ≡ min b most → min (min n most + a) most ≡ min (n + b) most
+    plus_most n a b most e = omega (arith, e)
 
 pub count_rest : (tree branch : Tree Row) → rest_tree (rest_of tree) ≡ Some branch → length (entries_onward written (rest_of tree)) ≡ length (entries_of written branch)
 count_rest tree branch e = ap length (entries_rest written tree branch e) ∙ length-map (entries_of written branch) (behind to_rest)

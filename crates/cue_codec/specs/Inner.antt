@@ -3,5 +3,6 @@ pub mod Intakes
 pub mod Walks
 pub mod Ways
 pub mod Scans
+pub mod Spans
 pub mod Drafting
 pub mod Pieces

@@ -1,19 +1,32 @@
-//! The branches of a table: how many rows they have, and the row of a place as bytes.
+//! The branches of a table: how many come together, how many rows they have, and the row of a place
+//! as bytes.
 
 ghost use Rattle.std.specs.Prelude.{◌≡◌, [], ◌-◌, ◌^◌, ◌<◌, ◌≤◌, ◌++◌, length, min, OnErr, OnOk};
 ghost use Rattle.cue_row.specs.Begun.{StillBegins};
 ghost use Rattle.cue_table.specs.Inner.ValidWalk.{IsSound};
+ghost use Rattle.cue_table.specs.StepsOfCode.{span_of};
 ghost use Rattle.cue_codec.specs.Entry.{entries_of};
 ghost use Rattle.cue_codec.specs.RowBytes.{row_bytes_from, IsShortRow};
 ghost use Rattle.cue_codec.specs.Version.{written};
+ghost use Rattle.cue_codec.specs.Inner.Spans.{branch_count};
 ghost use Rattle.cue_codec.specs.Inner.Ways.{tree_bytes, branches_bytes, branches_of};
 
 use crate::row_writing::put_parts;
 use cue_lattice::Memory;
 use cue_row::Row;
-use cue_table::Branch;
+use cue_table::{Branch, Span};
 
-/// How many rows a branch has, as far as 64 bits tell.
+/// How many branches are kept as one.
+pub fn branch_count(span: Span) -> u64
+    ensures { result ≡ branch_count (span_of span.entry) }
+{
+    match span {
+        Span::Label(_) => 1,
+        Span::Elements { first: _, more } => u64::from(more) + 1,
+    }
+}
+
+/// How many rows a branch has, as far as 64 bits tell. What is kept as one is counted once.
 pub fn row_count(branch: &Branch<Row>) -> u64
     ensures { result ≡ min (length (entries_of written branch.now)) (2 ^ 64 - 1) }
 {
@@ -21,8 +34,9 @@ pub fn row_count(branch: &Branch<Row>) -> u64
         None => 0,
         Some(_) => 1,
     };
-    for (_, below) in branch.children() {
-        count = u64::saturating_add(count, row_count(&below));
+    for (span, below) in branch.spans() {
+        let rows = u64::saturating_mul(branch_count(span), row_count(&below));
+        count = u64::saturating_add(count, rows);
     }
     match branch.rest() {
         None => count,

@@ -18,15 +18,15 @@ ghost use Rattle.cue_codec.specs.Inner.Walks.{walk_bytes, IsWalk};
 use crate::branches::put_place;
 use crate::writing::{put_rest, put_step};
 use cue_lattice::Memory;
-use cue_row::{Row, Step};
-use cue_table::{Branch, Children};
+use cue_row::Row;
+use cue_table::{Branch, Children, StepRef};
 use std::alloc::Global;
 
 /// The step to a branch.
 #[derive(Drop)]
 pub enum Way<'a> {
     /// A label or an index.
-    At(&'a Step),
+    At(StepRef<'a>),
     /// The step to the rest of a list.
     ToRest,
 }
@@ -91,7 +91,7 @@ fn put_way(steps: &mut Vec<u8>, way: &Way<'_>) -> Result<(), Memory>
     ensures kept { OnErr result (StillBegins steps.old.items steps.new.items) }
 {
     match way {
-        Way::At(step) => put_step(steps, step),
+        Way::At(step) => put_step(steps, *step),
         Way::ToRest => put_rest(steps),
     }
 }

@@ -2,7 +2,7 @@
 
 ghost use Rattle.std.specs.Prelude.{◌≡◌, ℕ, List, ◌+◌};
 ghost use Rattle.std.specs.List.{flat_map};
-ghost use Rattle.cue_row.specs.Steps.{step_of};
+ghost use Rattle.cue_table.specs.StepsOfCode.{step_at};
 ghost use Rattle.cue_table.specs.Tree.{fixed_of};
 ghost use Rattle.cue_codec.specs.Entry.{at, entries_of};
 ghost use Rattle.cue_codec.specs.Parts.{counted_bytes, text_bytes, set_bytes, labels_bytes};
@@ -12,11 +12,12 @@ ghost use Rattle.cue_codec.specs.Size.{saturated, size_of};
 ghost use Rattle.cue_codec.specs.State.{table_bytes};
 ghost use Rattle.cue_codec.specs.Version.{written};
 
+use crate::branches::branch_count;
 use crate::rows::is_empty;
 use cue_lattice::Text;
-use cue_row::{Labels, Row, Step};
+use cue_row::{Labels, Row};
 use cue_scalars::ScalarSet;
-use cue_table::{Branch, Table};
+use cue_table::{Branch, StepRef, Table};
 
 fn add(left: u64, right: u64) -> u64
     ensures { result ≡ saturated (left + right) }
@@ -84,16 +85,17 @@ fn parts_size(row: &Row) -> u64
 
 /// How many bytes a label or an index takes.
 #[tactic(auto, using(crate::proofs::Lengths::label_length, crate::proofs::Lengths::index_length))]
-fn step_size(step: &Step) -> u64
-    ensures { result ≡ size_of (step_bytes written (at (step_of step.now))) }
+fn step_size(step: StepRef) -> u64
+    ensures { result ≡ size_of (step_bytes written (at (step_at step.entry))) }
 {
     match step {
-        Step::Label(text) => add(3, text.as_bytes().len() as u64),
-        Step::Index(_) => 5,
+        StepRef::Label(text) => add(3, text.as_bytes().len() as u64),
+        StepRef::Index(_) => 5,
     }
 }
 
-/// How many bytes the rows of a branch take, where the bytes of the steps to it are so many.
+/// How many bytes the rows of a branch take, where the bytes of the steps to it are so many. What is
+/// kept as one is walked once, as each index takes as many bytes.
 fn rows_size(steps: u64, branch: &Branch<Row>) -> u64
     ensures { (depth : ℕ) (bytes : List ℕ) → steps ≡ size_of bytes
         → result ≡ size_of (flat_map (row_bytes_from written depth bytes)
@@ -104,8 +106,9 @@ fn rows_size(steps: u64, branch: &Branch<Row>) -> u64
         // a byte for the number of steps, and one for the level
         Some(row) => add(add(2, steps), parts_size(row)),
     };
-    for (step, below) in branch.children() {
-        size = add(size, rows_size(add(steps, step_size(step)), &below));
+    for (span, below) in branch.spans() {
+        let one = rows_size(add(steps, step_size(span.first())), &below);
+        size = add(size, u64::saturating_mul(branch_count(span), one));
     }
     match branch.rest() {
         None => size,

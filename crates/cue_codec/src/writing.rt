@@ -4,7 +4,7 @@
 ghost use Rattle.std.specs.Prelude.{◌≡◌, ◌<◌, ◌^◌, ◌++◌, OnErr, OnOk};
 ghost use Rattle.std.specs.List.{flat_map, AllByRecursion};
 ghost use Rattle.cue_row.specs.Begun.{StillBegins};
-ghost use Rattle.cue_row.specs.Steps.{step_of};
+ghost use Rattle.cue_table.specs.StepsOfCode.{step_at};
 ghost use Rattle.cue_codec.specs.Entry.{at, to_rest};
 ghost use Rattle.cue_codec.specs.Parts.{integer_bytes, counted_bytes, piece_bytes, text_bytes};
 ghost use Rattle.cue_codec.specs.Parts.{flags, text_set_bytes, set_bytes, labels_bytes, most_bytes};
@@ -13,9 +13,10 @@ ghost use Rattle.cue_codec.specs.Reading.{IsShort, IsShortStep, AreShortLabels};
 ghost use Rattle.cue_codec.specs.Version.{written};
 
 use cue_lattice::{Memory, Text};
-use cue_row::{Labels, Step};
+use cue_row::Labels;
 use cue_scalars::ScalarSet;
 use cue_sets::TextSet;
+use cue_table::StepRef;
 
 #[tactic(auto, unfolding(crate::specs::Parts::integer_bytes))]
 fn put_integer(out: &mut Vec<u8>, integer: i64) -> Result<(), Memory>
@@ -177,18 +178,18 @@ pub fn put_lengths(
 
 /// Writes a label or an index.
 #[tactic(auto, unfolding(crate::specs::Parts::step_bytes))]
-pub fn put_step(out: &mut Vec<u8>, step: &Step) -> Result<(), Memory>
-    requires { IsShortStep (step_of step.now) }
+pub fn put_step(out: &mut Vec<u8>, step: StepRef) -> Result<(), Memory>
+    requires { IsShortStep (step_at step) }
     ensures written { OnOk result (out.new.items ≡ out.old.items
-        ++ step_bytes written (at (step_of step.now))) }
+        ++ step_bytes written (at (step_at step.entry))) }
     ensures kept { OnErr result (StillBegins out.old.items out.new.items) }
 {
     match step {
-        Step::Label(text) => {
+        StepRef::Label(text) => {
             out.push(0)?;
             put_text(out, text)
         }
-        Step::Index(number) => {
+        StepRef::Index(number) => {
             out.push(1)?;
             out.extend_from_slice(&number.to_be_bytes())?;
             Ok(())

@@ -146,7 +146,7 @@ impl<'a> Place<'a> {
     {
         let mut steps = Vec::new(alloc);
         for (step, _) in self.own.children() {
-            steps.push(step.copy(alloc)?)?;
+            steps.push(step.to_step(alloc)?)?;
         }
         for index in self.own.fixed()..u64::from(alike) {
             steps.push(Step::Index(index as u32))?;

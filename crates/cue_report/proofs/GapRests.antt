@@ -10,13 +10,13 @@ use Rattle.cue_lattice.specs.OneOf.{OneOf}
 use Rattle.cue_lattice.specs.Path as paths
 use Rattle.cue_lattice.specs.Path.{label, index, step_cmp, Path, path_cmp}
 use Rattle.cue_row.specs.declared.row.Row.{Row}
+use Rattle.cue_table.specs.StepsOfCode.{step_at}
+use Rattle.cue_table.specs.declared.step_ref.StepRef.{StepRef}
 use Rattle.cue_table.specs.Tree.{Tree, node, Children, none, Rest, no_rest, onward, row_of, rest_of, rest_tree, children_of}
 use Rattle.cue_report.specs.GapSearch.{IsGapIn, IsGapAmong, IsGapOnward, Adds, above, told_above, free_elements}
 use Rattle.cue_report.specs.Listing.{Lists}
 use Rattle.cue_report.specs.Search.{least_at, rest_from}
-use Rattle.cue_report.specs.Trail.{shown}
 use Rattle.cue_report.specs.declared.gap.Gap.{Gap}
-use Rattle.cue_report.specs.declared.trail.Stride.{Stride}
 use Rattle.cue_report.proofs.Descent.{seen}
 use Rattle.cue_report.proofs.Elements.{less_index}
 use Rattle.cue_report.proofs.FoundGaps.{place_of, IsIn, step_demanded, gap_up, gap_down, with_others}
@@ -161,16 +161,16 @@ onward_behind (onward n inner) least p gap d h = subst (λ q. path_cmp p q ≡ L
 
 -- all branches, the free elements behind them and the rest were looked at
 pub ended :
-    {X : Type 0} (piece : Gap → List X) (not_allowed : Bool) (tree : Tree Row) (rest : Children Row) (next least end : ℕ) (start now middle after : List X) (steps held : List Stride)
+    {X : Type 0} (piece : Gap → List X) (not_allowed : Bool) (tree : Tree Row) (rest : Children Row) (next least end : ℕ) (start now middle after : List X) (steps held : List StepRef)
     → IsOver piece not_allowed tree rest next start now steps held → children_of rest ≡ [] → least ≡ least_at (row_of tree) → end ≡ rest_from (rest_of tree) least
-    → middle ≡ now ++ told_above piece (map shown held) (free_elements next (end - next))
-    → Adds piece (IsGapOnward (least_at (row_of tree)) (rest_of tree)) (map shown held) middle after → Adds piece (IsGapIn not_allowed tree) (map shown steps) start after
+    → middle ≡ now ++ told_above piece (map step_at held) (free_elements next (end - next))
+    → Adds piece (IsGapOnward (least_at (row_of tree)) (rest_of tree)) (map step_at held) middle after → Adds piece (IsGapIn not_allowed tree) (map step_at steps) start after
 ended {X = X} piece not_allowed tree rest next least end start now middle after steps held w c m e a adds =
     let last : ℕ = rest_from (rest_of tree) (least_at (row_of tree)) in
     let is : end ≡ last = e ∙ ap (rest_from (rest_of tree)) m in
     let over : IsOver piece not_allowed tree none next start now steps held = subst (λ cs. IsOver piece not_allowed tree cs next start now steps held) (none_left rest c) w in
     let to : next + (end - next) ≡ last = omega (arith, is, over.within) in
-    let free : middle ≡ now ++ told_above piece (map shown steps) (free_elements next (end - next)) = a ∙ ap (λ s. now ++ told_above piece (map shown s) (free_elements next (end - next))) w.same in
+    let free : middle ≡ now ++ told_above piece (map step_at steps) (free_elements next (end - next)) = a ∙ ap (λ s. now ++ told_above piece (map step_at s) (free_elements next (end - next))) w.same in
     let all : IsOver piece not_allowed tree none last start middle steps held =
     subst (λ k. IsOver piece not_allowed tree none k start middle steps held) to
     (freed piece not_allowed tree none next (end - next) start now middle steps held over (λ n l h. (omega (arith, to, h), tt)) free) in
@@ -178,7 +178,7 @@ ended {X = X} piece not_allowed tree rest next least end start now middle after 
       found = all.found ++ adds.found;
       lists = with_others not_allowed tree (IsDone none last) (IsGapOnward (least_at (row_of tree)) (rest_of tree)) all.found adds.found all.lists adds.lists
           (λ gap h. onward_up not_allowed tree (rest_of tree) gap refl h) cover (onward_behind (rest_of tree) (least_at (row_of tree)));
-      is = more_found piece start middle after all.found adds.found (map shown steps) all.is (adds.is ∙ ap (λ s. middle ++ told_above piece (map shown s) adds.found) w.same);
+      is = more_found piece start middle after all.found adds.found (map step_at steps) all.is (adds.is ∙ ap (λ s. middle ++ told_above piece (map step_at s) adds.found) w.same);
     }
   where
     cover :

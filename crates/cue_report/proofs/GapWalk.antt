@@ -12,8 +12,9 @@ use Rattle.std.specs.declared.cmp.Ordering.TheVariants.{Less, Equal, Greater}
 use Rattle.cue_lattice.specs.Path as paths
 use Rattle.cue_lattice.specs.Path.{label, index, step_cmp, Path}
 use Rattle.cue_row.specs.declared.row.Row.{Row}
-use Rattle.cue_report.specs.declared.trail.Stride.{Stride}
 use Rattle.cue_row.specs.Row.{Refuses, IsRow}
+use Rattle.cue_table.specs.StepsOfCode.{step_at}
+use Rattle.cue_table.specs.declared.step_ref.StepRef.{StepRef}
 use Rattle.cue_table.specs.Form.{AreBranches, IsBelowAll, IsKept, IsTable}
 use Rattle.cue_table.specs.Tree.{Tree, Children, none, child, empty, row_of, below, rest_of, find, step_into, if_equal, children_of}
 use Rattle.cue_table.specs.Size.{children_size}
@@ -30,7 +31,6 @@ use Rattle.cue_report.proofs.Descent.{Told, seen, seen_empty, first_demanded}
 use Rattle.cue_report.proofs.Open.{free_gap}
 use Rattle.cue_report.proofs.Found.{found_first, found_later, found_cases}
 use Rattle.cue_report.proofs.FoundGaps.{place_of, UpTo, extended, from_here, moved, one_here, here_only}
-use Rattle.cue_report.specs.Trail.{shown}
 
 -- ---- steps and branches
 -- a step below all branches is none of them
@@ -75,7 +75,7 @@ abbrev pub IsDone : Children Row → ℕ → paths.Step → Type 0
 IsDone rest next (label text) = IsBelowAll (label text) rest
 IsDone rest next (index n) = n < next
 
-pub record IsOver {X : Type 0} (piece : Gap → List X) (not_allowed : Bool) (tree : Tree Row) (rest : Children Row) (next : ℕ) (start now : List X) (steps held : List Stride) : Type 0 where
+pub record IsOver {X : Type 0} (piece : Gap → List X) (not_allowed : Bool) (tree : Tree Row) (rest : Children Row) (next : ℕ) (start now : List X) (steps held : List StepRef) : Type 0 where
   pub same : held ≡ steps
   pub table : IsTable Refuses IsRow tree
   pub within : next ≤ rest_from (rest_of tree) (least_at (row_of tree))
@@ -86,7 +86,7 @@ pub record IsOver {X : Type 0} (piece : Gap → List X) (not_allowed : Bool) (tr
   pub behind : (n : ℕ) → n < next → IsBelowAll (index n) rest
   pub found : List Gap
   pub lists : UpTo not_allowed tree (IsDone rest next) found
-  pub is : now ≡ start ++ told_above piece (map shown steps) found
+  pub is : now ≡ start ++ told_above piece (map step_at steps) found
 
 -- what stands at a label that is demanded
 demanded_label : (tree : Tree Row) (text : List ℕ) → IsStepDemanded (Told tree) [] (label text) → (inner : Tree Row) × (find (label text) (below tree) ≡ Some inner)
@@ -129,8 +129,8 @@ one_more_free piece first number start now after path l n a =
 
 -- ---- the walk begins
 pub started :
-    {X : Type 0} (piece : Gap → List X) (not_allowed : Bool) (tree : Tree Row) (start now : List X) (steps held : List Stride) → IsTable Refuses IsRow tree → held ≡ steps
-    → Adds piece (IsGapHere not_allowed (row_of tree)) (map shown steps) start now → IsOver piece not_allowed tree (below tree) 0 start now steps held
+    {X : Type 0} (piece : Gap → List X) (not_allowed : Bool) (tree : Tree Row) (start now : List X) (steps held : List StepRef) → IsTable Refuses IsRow tree → held ≡ steps
+    → Adds piece (IsGapHere not_allowed (row_of tree)) (map step_at steps) start now → IsOver piece not_allowed tree (below tree) 0 start now steps held
 started piece not_allowed tree start now steps held t e h = record {
   same = e;
   table = t;
@@ -157,10 +157,10 @@ empty_gaps not_allowed e = here_only not_allowed empty (free_at [] ∷ []) (subs
     none_demanded (index n) d = d
 
 freed_one :
-    {X : Type 0} (piece : Gap → List X) (not_allowed : Bool) (tree : Tree Row) (rest : Children Row) (next : ℕ) (start now after : List X) (steps held : List Stride)
+    {X : Type 0} (piece : Gap → List X) (not_allowed : Bool) (tree : Tree Row) (rest : Children Row) (next : ℕ) (start now after : List X) (steps held : List StepRef)
     → IsOver piece not_allowed tree rest next start now steps held → step_into tree (index next) ≡ None → IsBelowAll (index next) rest → next < rest_from (rest_of tree) (least_at (row_of tree))
     → is_demanded (row_of tree) (index next) None ≡ true
-    → after ≡ now ++ told_above piece (map shown steps) (free_at (index next ∷ []) ∷ []) → IsOver piece not_allowed tree rest (next + 1) start after steps held
+    → after ≡ now ++ told_above piece (map step_at steps) (free_at (index next ∷ []) ∷ []) → IsOver piece not_allowed tree rest (next + 1) start after steps held
 freed_one piece not_allowed tree rest next start now after steps held w f b m d a = record {
   same = w.same;
   table = w.table;
@@ -173,7 +173,7 @@ freed_one piece not_allowed tree rest next start now after steps held w f b m d 
   found = w.found ++ free_at (index next ∷ []) ∷ [];
   lists = extended not_allowed tree empty (index next) (IsDone rest next) (IsDone rest (next + 1)) w.found (free_at [] ∷ []) (seen_empty tree (index next) f) d
       (empty_gaps (is_refused (row_of tree) (index next)) (allowed (row_of tree))) w.lists before kept (omega arith) covered;
-  is = more_found piece start now after w.found (free_at (index next ∷ []) ∷ []) (map shown steps) w.is a;
+  is = more_found piece start now after w.found (free_at (index next ∷ []) ∷ []) (map step_at steps) w.is a;
 } where
   allowed : (row : Option Row) → is_refused row (index next) ≡ false
   allowed None = refl
@@ -196,7 +196,7 @@ freed_one piece not_allowed tree rest next start now after steps held w f b m d 
 
 -- an element that was not looked at, and is below all branches that are left, has none
 no_branch :
-    {X : Type 0} (piece : Gap → List X) (not_allowed : Bool) (tree : Tree Row) (rest : Children Row) (next n : ℕ) (start now : List X) (steps held : List Stride)
+    {X : Type 0} (piece : Gap → List X) (not_allowed : Bool) (tree : Tree Row) (rest : Children Row) (next n : ℕ) (start now : List X) (steps held : List StepRef)
     → IsOver piece not_allowed tree rest next start now steps held → next ≤ n → n < rest_from (rest_of tree) (least_at (row_of tree)) → IsBelowAll (index n) rest → step_into tree (index n) ≡ None
 no_branch piece not_allowed tree rest next n start now steps held w l m b =
     let known = before_end (rest_of tree) (least_at (row_of tree)) n m in
@@ -207,15 +207,15 @@ no_branch piece not_allowed tree rest next n start now steps held w l m b =
         (w.left (index n) inner ((longer_is (row_of tree) n).0 (is_long (row_of tree) n (before_end (rest_of tree) (least_at (row_of tree)) n m).0)) f)
 
 pub freed :
-    {X : Type 0} (piece : Gap → List X) (not_allowed : Bool) (tree : Tree Row) (rest : Children Row) (next count : ℕ) (start now after : List X) (steps held : List Stride)
+    {X : Type 0} (piece : Gap → List X) (not_allowed : Bool) (tree : Tree Row) (rest : Children Row) (next count : ℕ) (start now after : List X) (steps held : List StepRef)
     → IsOver piece not_allowed tree rest next start now steps held → ((n : ℕ) → next ≤ n → n < next + count → (n < rest_from (rest_of tree) (least_at (row_of tree))) × IsBelowAll (index n) rest)
-    → after ≡ now ++ told_above piece (map shown steps) (free_elements next count) → IsOver piece not_allowed tree rest (next + count) start after steps held
+    → after ≡ now ++ told_above piece (map step_at steps) (free_elements next count) → IsOver piece not_allowed tree rest (next + count) start after steps held
 freed {X = X} piece not_allowed tree rest next zero start now after steps held w free a =
     let same : next ≡ next + 0 = omega arith in
     subst (λ xs. IsOver piece not_allowed tree rest (next + 0) start xs steps held) (sym (a ∙ append-nil now))
     (subst (λ k. IsOver piece not_allowed tree rest k start now steps held) same w)
 freed {X = X} piece not_allowed tree rest next (suc count) start now after steps held w free a =
-    let path : Path = map shown steps in
+    let path : Path = map step_at steps in
     let so_far : List X = now ++ told_above piece path (free_elements next count) in
     let last : next + count + 1 ≡ next + suc count = omega arith in
     let before = freed piece not_allowed tree rest next count start now so_far steps held w (λ n l m. free n l (omega arith)) refl in
@@ -229,7 +229,7 @@ freed {X = X} piece not_allowed tree rest next (suc count) start now after steps
 
 -- an element of its own is before the rest
 own_end :
-    {X : Type 0} (piece : Gap → List X) (not_allowed : Bool) (tree inner : Tree Row) (rest : Children Row) (next number : ℕ) (start now : List X) (steps held : List Stride)
+    {X : Type 0} (piece : Gap → List X) (not_allowed : Bool) (tree inner : Tree Row) (rest : Children Row) (next number : ℕ) (start now : List X) (steps held : List StepRef)
     → IsOver piece not_allowed tree (child (index number) inner rest) next start now steps held → number < least_at (row_of tree)
     → number < rest_from (rest_of tree) (least_at (row_of tree))
 own_end piece not_allowed tree inner rest next number start now steps held w d =
@@ -237,9 +237,9 @@ own_end piece not_allowed tree inner rest next number start now steps held w d =
 
 -- the free elements before a branch are found
 reached :
-    {X : Type 0} (piece : Gap → List X) (not_allowed : Bool) (tree inner : Tree Row) (rest : Children Row) (next number : ℕ) (start now after : List X) (steps held : List Stride)
+    {X : Type 0} (piece : Gap → List X) (not_allowed : Bool) (tree inner : Tree Row) (rest : Children Row) (next number : ℕ) (start now after : List X) (steps held : List StepRef)
     → IsOver piece not_allowed tree (child (index number) inner rest) next start now steps held → number < least_at (row_of tree)
-    → after ≡ now ++ told_above piece (map shown steps) (free_elements next (number - next))
+    → after ≡ now ++ told_above piece (map step_at steps) (free_elements next (number - next))
     → IsOver piece not_allowed tree (child (index number) inner rest) number start after steps held
 reached piece not_allowed tree inner rest next number start now after steps held w d a =
     let end : ℕ = rest_from (rest_of tree) (least_at (row_of tree)) in
@@ -255,7 +255,7 @@ reached piece not_allowed tree inner rest next number start now after steps held
 
 -- ---- a branch is looked at, or passed over
 label_covered :
-    {X : Type 0} (piece : Gap → List X) (not_allowed : Bool) (tree inner : Tree Row) (step : paths.Step) (rest : Children Row) (next : ℕ) (start now : List X) (steps held : List Stride)
+    {X : Type 0} (piece : Gap → List X) (not_allowed : Bool) (tree inner : Tree Row) (step : paths.Step) (rest : Children Row) (next : ℕ) (start now : List X) (steps held : List StepRef)
     → IsOver piece not_allowed tree (child step inner rest) next start now steps held → (text : List ℕ) → IsStepDemanded (Told tree) [] (label text) → IsBelowAll (label text) rest
     → IsBelowAll (label text) (child step inner rest) ⊎ (label text ≡ step)
 label_covered piece not_allowed tree inner step rest next start now steps held w text d b =
@@ -265,9 +265,9 @@ label_covered piece not_allowed tree inner step rest next start now steps held w
 
 module _
     {X : Type 0} (piece : Gap → List X) (not_allowed : Bool) (tree inner : Tree Row) (step : paths.Step) (rest : Children Row) (next later : ℕ) (start now after : List X)
-    (steps held pushed popped : List Stride) (x : Stride) (w : IsOver piece not_allowed tree (child step inner rest) next start now steps held)
-    (asked : is_demanded (row_of tree) step (row_of inner) ≡ true) (is : shown x ≡ step) (p : pushed ≡ held ++ x ∷ []) (back : popped ≡ held)
-    (adds : Adds piece (IsGapIn (is_refused (row_of tree) step) inner) (map shown pushed) now after)
+    (steps held pushed popped : List StepRef) (x : StepRef) (w : IsOver piece not_allowed tree (child step inner rest) next start now steps held)
+    (asked : is_demanded (row_of tree) step (row_of inner) ≡ true) (is : step_at x ≡ step) (p : pushed ≡ held ++ x ∷ []) (back : popped ≡ held)
+    (adds : Adds piece (IsGapIn (is_refused (row_of tree) step) inner) (map step_at pushed) now after)
     (more : next ≤ later) (within : later ≤ rest_from (rest_of tree) (least_at (row_of tree))) (new : IsDone rest later step) (behind : (n : ℕ) → n < later → IsBelowAll (index n) rest)
     (covered : (s : paths.Step) → IsStepDemanded (Told tree) [] s → IsDone rest later s → IsDone (child step inner rest) next s ⊎ (s ≡ step)) where
   kept : (s : paths.Step) → IsDone (child step inner rest) next s → IsDone rest later s
@@ -278,11 +278,11 @@ module _
   before (label text) h = h.0
   before (index n) h = (w.behind n h).0
 
-  trail : map shown pushed ≡ map shown steps ++ step ∷ []
-  trail = ap (map shown) p ∙ map_push shown held x ∙ ap (λ z. map shown held ++ z ∷ []) is ∙ ap (λ zs. map shown zs ++ step ∷ []) w.same
+  trail : map step_at pushed ≡ map step_at steps ++ step ∷ []
+  trail = ap (map step_at) p ∙ map_push step_at held x ∙ ap (λ z. map step_at held ++ z ∷ []) is ∙ ap (λ zs. map step_at zs ++ step ∷ []) w.same
 
-  inside : after ≡ now ++ told_above piece (map shown steps) (map (above (step ∷ [])) adds.found)
-  inside = adds.is ∙ ap (λ q. now ++ told_above piece q adds.found) trail ∙ ap (λ xs. now ++ flat_map piece xs) (above_further (map shown steps) step adds.found)
+  inside : after ≡ now ++ told_above piece (map step_at steps) (map (above (step ∷ [])) adds.found)
+  inside = adds.is ∙ ap (λ q. now ++ told_above piece q adds.found) trail ∙ ap (λ xs. now ++ flat_map piece xs) (above_further (map step_at steps) step adds.found)
 
   pub looked_in : IsOver piece not_allowed tree rest later start after steps popped
   looked_in = record {
@@ -298,24 +298,24 @@ module _
     found = w.found ++ map (above (step ∷ [])) adds.found;
     lists = extended not_allowed tree inner step (IsDone (child step inner rest) next) (IsDone rest later) w.found adds.found
         (seen tree inner step (own tree inner step w.table (w.among step inner (found_first step inner rest)))) asked adds.lists w.lists before kept new covered;
-    is = more_found piece start now after w.found (map (above (step ∷ [])) adds.found) (map shown steps) w.is inside;
+    is = more_found piece start now after w.found (map (above (step ∷ [])) adds.found) (map step_at steps) w.is inside;
   }
 
 -- the next branch is looked at, and the free elements before it
 pub walked_in :
     {X : Type 0} (piece : Gap → List X) (not_allowed : Bool) (tree inner : Tree Row) (step : paths.Step) (rest rest' : Children Row) (next later : ℕ) (start now free after : List X)
-    (steps held pushed popped : List Stride) (x : Stride) → IsOver piece not_allowed tree rest next start now steps held
+    (steps held pushed popped : List StepRef) (x : StepRef) → IsOver piece not_allowed tree rest next start now steps held
     → children_of rest ≡ (step, inner) ∷ children_of rest' → is_demanded (row_of tree) step (row_of inner) ≡ true
-    → later ≡ next_after next step → free ≡ now ++ told_above piece (map shown steps) (free_before next step)
-    → shown x ≡ step → pushed ≡ held ++ x ∷ [] → popped ≡ held
-    → Adds piece (IsGapIn (is_refused (row_of tree) step) inner) (map shown pushed) free after → IsOver piece not_allowed tree rest' later start after steps popped
+    → later ≡ next_after next step → free ≡ now ++ told_above piece (map step_at steps) (free_before next step)
+    → step_at x ≡ step → pushed ≡ held ++ x ∷ [] → popped ≡ held
+    → Adds piece (IsGapIn (is_refused (row_of tree) step) inner) (map step_at pushed) free after → IsOver piece not_allowed tree rest' later start after steps popped
 walked_in piece not_allowed tree inner (label text) rest rest' next later start now free after steps held pushed popped x w c asked l f is p back adds =
     let here : IsOver piece not_allowed tree (child (label text) inner rest') next start now steps held =
     subst (λ cs. IsOver piece not_allowed tree cs next start now steps held) (first_child rest rest' (label text) inner c) w in
     let none_free : free ≡ now = f ∙ append-nil now in
     subst (λ k. IsOver piece not_allowed tree rest' k start after steps popped) (sym l)
     (looked_in piece not_allowed tree inner (label text) rest' next next start now after steps held pushed popped x here asked is p back
-    (subst (λ xs. Adds piece (IsGapIn (is_refused (row_of tree) (label text)) inner) (map shown pushed) xs after) none_free adds)
+    (subst (λ xs. Adds piece (IsGapIn (is_refused (row_of tree) (label text)) inner) (map step_at pushed) xs after) none_free adds)
     (omega arith) here.within here.rise.0 (λ n h. (here.behind n h).1) (covered here))
   where
     covered : IsOver piece not_allowed tree (child (label text) inner rest') next start now steps held → (s : paths.Step) → IsStepDemanded (Told tree) [] s → IsDone rest' next s → IsDone (child (label text) inner rest') next s ⊎ (s ≡ label text)
@@ -339,7 +339,7 @@ walked_in piece not_allowed tree inner (index number) rest rest' next later star
 
 -- or it is passed over
 pub walked_past :
-    {X : Type 0} (piece : Gap → List X) (not_allowed : Bool) (tree inner : Tree Row) (step : paths.Step) (rest rest' : Children Row) (next : ℕ) (start now : List X) (steps held : List Stride)
+    {X : Type 0} (piece : Gap → List X) (not_allowed : Bool) (tree inner : Tree Row) (step : paths.Step) (rest rest' : Children Row) (next : ℕ) (start now : List X) (steps held : List StepRef)
     → IsOver piece not_allowed tree rest next start now steps held → children_of rest ≡ (step, inner) ∷ children_of rest' → is_demanded (row_of tree) step (row_of inner) ≡ false
     → IsOver piece not_allowed tree rest' next start now steps held
 walked_past piece not_allowed tree inner step rest rest' next start now steps held w c unasked =

@@ -5,9 +5,10 @@ use Rattle.std.proofs.lemmas.List.{append_assoc, append-nil, flat_map_more, take
 use Rattle.cue_lattice.specs.Path as paths
 use Rattle.cue_lattice.specs.Path.{Path}
 use Rattle.cue_row.specs.PathText.{dot, step_text, path_text}
-use Rattle.cue_report.specs.declared.trail.Stride.{Stride}
+use Rattle.cue_table.specs.StepsOfCode.{step_at}
+use Rattle.cue_table.specs.declared.step_ref.StepRef.{StepRef}
 use Rattle.cue_report.specs.Lines.{line_end}
-use Rattle.cue_report.specs.Trail.{dotted_behind, shown, shown_steps}
+use Rattle.cue_report.specs.Trail.{dotted_behind, shown_steps}
 
 -- what is written for each element, with that of the next one
 pub next_piece : {X : Type 0} (f : X → List ℕ) (xs : List X) (i : ℕ) (x : X) (start before after : List ℕ) → i < length xs → x ≡ get_or xs i x → before ≡ start ++ flat_map f (take i xs) → after ≡ before ++ f x → after ≡ start ++ flat_map f (take (i + 1) xs)
@@ -39,25 +40,25 @@ element_line path step list why is =
 
 -- the steps above, and the one at the end
 pub path_written :
-    (steps above : List Stride) (last : Stride) (out before after : List ℕ) → steps ≡ above ++ last ∷ [] → before ≡ out ++ flat_map dotted_behind (shown_steps above)
-    → after ≡ before ++ step_text (shown last) → after ≡ out ++ path_text (shown_steps steps)
+    (steps above : List StepRef) (last : StepRef) (out before after : List ℕ) → steps ≡ above ++ last ∷ [] → before ≡ out ++ flat_map dotted_behind (shown_steps above)
+    → after ≡ before ++ step_text (step_at last) → after ≡ out ++ path_text (shown_steps steps)
 path_written steps above last out before after is b a =
-    let step : paths.Step = shown last in
+    let step : paths.Step = step_at last in
     a ∙ ap (λ t. t ++ step_text step) b ∙ append_assoc out (flat_map dotted_behind (shown_steps above)) (step_text step)
     ∙ ap (λ t. out ++ t) (sym (path_behind (shown_steps above) step))
-    ∙ ap (λ p. out ++ path_text p) (sym (ap shown_steps is ∙ map_push shown above last))
+    ∙ ap (λ p. out ++ path_text p) (sym (ap shown_steps is ∙ map_push step_at above last))
 
 -- one step more, with a dot behind it
 pub next_above :
-    (steps : List Stride) (i : ℕ) (step : Stride) (out before middle after : List ℕ) → i < length steps → step ≡ get_or steps i step
-    → before ≡ out ++ flat_map dotted_behind (shown_steps (take i steps)) → middle ≡ before ++ step_text (shown step) → after ≡ middle ++ dot ∷ []
+    (steps : List StepRef) (i : ℕ) (step : StepRef) (out before middle after : List ℕ) → i < length steps → step ≡ get_or steps i step
+    → before ≡ out ++ flat_map dotted_behind (shown_steps (take i steps)) → middle ≡ before ++ step_text (step_at step) → after ≡ middle ++ dot ∷ []
     → after ≡ out ++ flat_map dotted_behind (shown_steps (take (i + 1) steps))
 next_above steps i step out before middle after h is b m a =
-    let text : List ℕ = step_text (shown step) in
-    let last : shown (get_or steps i step) ≡ shown step = ap shown (sym is) in
-    a ∙ ap (λ t. t ++ dot ∷ []) m ∙ append_assoc before text (dot ∷ []) ∙ ap (λ t. t ++ dotted_behind (shown step)) b
-    ∙ flat_map_more dotted_behind out (shown_steps (take i steps)) (shown step)
-    ∙ ap (λ p. out ++ flat_map dotted_behind p) (ap (λ s. shown_steps (take i steps) ++ s ∷ []) (sym last) ∙ sym (map_more shown steps i step h))
+    let text : List ℕ = step_text (step_at step) in
+    let last : step_at (get_or steps i step) ≡ step_at step = ap step_at (sym is) in
+    a ∙ ap (λ t. t ++ dot ∷ []) m ∙ append_assoc before text (dot ∷ []) ∙ ap (λ t. t ++ dotted_behind (step_at step)) b
+    ∙ flat_map_more dotted_behind out (shown_steps (take i steps)) (step_at step)
+    ∙ ap (λ p. out ++ flat_map dotted_behind p) (ap (λ s. shown_steps (take i steps) ++ s ∷ []) (sym last) ∙ sym (map_more step_at steps i step h))
 
 -- pieces written one behind the other
 pub three_pieces : (out a b c first second third : List ℕ) → first ≡ out ++ a → second ≡ first ++ b → third ≡ second ++ c → third ≡ out ++ (a ++ (b ++ c))

@@ -3,22 +3,22 @@ use Rattle.std.proofs.Common.{◌≡◌, ℕ, ◌+◌, ◌<◌, List, [], ◌∷
 use Rattle.std.proofs.lemmas.List.{map_push, map_more}
 use Rattle.cue_row.specs.Steps.{step_of}
 use Rattle.cue_row.specs.declared.step.Step.{Step}
-use Rattle.cue_report.specs.Trail.{shown}
-use Rattle.cue_report.specs.declared.trail.Stride.{Stride}
+use Rattle.cue_table.specs.StepsOfCode.{step_at}
+use Rattle.cue_table.specs.declared.step_ref.StepRef.{StepRef}
 
 pub trail_more :
-    (xs : List Stride) (i : ℕ) (item : Stride) (copied : Step) (old new : List Step) → i < length xs → item ≡ get_or xs i item
-    → step_of copied ≡ shown item → map step_of old ≡ map shown (take i xs) → new ≡ old ++ copied ∷ [] → map step_of new ≡ map shown (take (i + 1) xs)
+    (xs : List StepRef) (i : ℕ) (item : StepRef) (copied : Step) (old new : List Step) → i < length xs → item ≡ get_or xs i item
+    → step_of copied ≡ step_at item → map step_of old ≡ map step_at (take i xs) → new ≡ old ++ copied ∷ [] → map step_of new ≡ map step_at (take (i + 1) xs)
 trail_more xs i item copied old new h is c e n =
     ap (map step_of) n ∙ map_push step_of old copied
     ∙ ap (λ ys. ys ++ step_of copied ∷ []) e
-    ∙ ap (λ s. map shown (take i xs) ++ s ∷ []) c
-    ∙ ap (λ s. map shown (take i xs) ++ shown s ∷ []) is
-    ∙ sym (map_more shown xs i item h)
+    ∙ ap (λ s. map step_at (take i xs) ++ s ∷ []) c
+    ∙ ap (λ s. map step_at (take i xs) ++ step_at s ∷ []) is
+    ∙ sym (map_more step_at xs i item h)
 
 -- the copies of the steps, and an element behind them
 pub element_trail :
-    (copies after : List Step) (held now : List Stride) (x : Step) → map step_of copies ≡ map shown held → held ≡ now → after ≡ copies ++ x ∷ []
-    → map step_of after ≡ map shown now ++ step_of x ∷ []
+    (copies after : List Step) (held now : List StepRef) (x : Step) → map step_of copies ≡ map step_at held → held ≡ now → after ≡ copies ++ x ∷ []
+    → map step_of after ≡ map step_at now ++ step_of x ∷ []
 element_trail copies after held now x c h a =
-    ap (map step_of) a ∙ map_push step_of copies x ∙ ap (λ ys. ys ++ step_of x ∷ []) c ∙ ap (λ zs. map shown zs ++ step_of x ∷ []) h
+    ap (map step_of) a ∙ map_push step_of copies x ∙ ap (λ ys. ys ++ step_of x ∷ []) c ∙ ap (λ zs. map step_at zs ++ step_of x ∷ []) h

@@ -5,15 +5,15 @@ use Rattle.std.proofs.lemmas.List.{append-nil, map-append, map_push, take_all, t
 use Rattle.std.proofs.lemmas.Bool.{cases_lt}
 use Rattle.std.proofs.lemmas.List.Concat.{flat_map-append}
 use Rattle.cue_lattice.specs.Path as paths
-use Rattle.cue_lattice.specs.Path.{index, Path}
+use Rattle.cue_lattice.specs.Path.{label, index, Path}
 use Rattle.cue_row.specs.declared.row.Row.{Row}
-use Rattle.cue_report.specs.declared.trail.Stride.{Stride}
+use Rattle.cue_table.specs.StepsOfCode.{step_at}
+use Rattle.cue_table.specs.declared.step_ref.StepRef.{StepRef}
 use Rattle.cue_table.specs.Tree.{Tree, node, Children, none, child, Rest, no_rest, onward, row_of, below, rest_of, rest_tree, fixed_of, children_of}
 use Rattle.cue_table.specs.Size.{tree_size, children_size}
 use Rattle.cue_table.specs.Walks.{first_child}
 use Rattle.cue_report.specs.declared.conflict.Conflict.{Conflict}
-use Rattle.cue_report.specs.Search.{under, told_under, only_if, has_no_value, conflict_here, is_demanded, is_refused, conflicts_in, conflicts_below, conflicts_onward, each_index, least_at, rest_from}
-use Rattle.cue_report.specs.Trail.{shown}
+use Rattle.cue_report.specs.Search.{under, told_under, only_if, has_no_value, conflict_here, has_level, is_demanded, is_refused, conflicts_in, conflicts_below, conflicts_onward, each_index, least_at, rest_from}
 
 -- what is seen from a place is seen from the place above
 pub under_further : (path : Path) (step : paths.Step) (xs : List Conflict) → map (under (path ++ step ∷ [])) xs ≡ map (under path) (map (under (step ∷ [])) xs)
@@ -28,9 +28,9 @@ told_append : {X : Type 0} (piece : Conflict → List X) (path : Path) (xs ys : 
 told_append piece path xs ys = ap (flat_map piece) (map-append (under path) xs ys) ∙ flat_map-append piece (map (under path) xs) (map (under path) ys)
 
 -- Of the branches of a place, some are left to be looked at.
-pub record IsWalking {X : Type 0} (piece : Conflict → List X) (row : Option Row) (all rest : Children Row) (before after : List X) (steps now : List Stride) : Type 0 where
+pub record IsWalking {X : Type 0} (piece : Conflict → List X) (row : Option Row) (all rest : Children Row) (before after : List X) (steps now : List StepRef) : Type 0 where
   pub same : now ≡ steps
-  pub found : after ++ told_under piece (map shown steps) (conflicts_below row rest) ≡ before ++ told_under piece (map shown steps) (conflicts_below row all)
+  pub found : after ++ told_under piece (map step_at steps) (conflicts_below row rest) ≡ before ++ told_under piece (map step_at steps) (conflicts_below row all)
   pub small : children_size rest ≤ children_size all
 
 -- the last step is taken back
@@ -49,17 +49,17 @@ rearranged piece before after tail found new path b t =
 
 -- the next branch is looked at
 pub walked_in :
-    {X : Type 0} (piece : Conflict → List X) (row : Option Row) (all rest rest' : Children Row) (step : paths.Step) (tree : Tree Row) (before after after' : List X) (steps now pushed now' : List Stride) (x : Stride)
+    {X : Type 0} (piece : Conflict → List X) (row : Option Row) (all rest rest' : Children Row) (step : paths.Step) (tree : Tree Row) (before after after' : List X) (steps now pushed now' : List StepRef) (x : StepRef)
     → IsWalking piece row all rest before after steps now → children_of rest ≡ (step, tree) ∷ children_of rest' → is_demanded row step (row_of tree) ≡ true
-    → shown x ≡ step → pushed ≡ now ++ x ∷ []
-    → after' ≡ after ++ told_under piece (map shown pushed) (conflicts_in (is_refused row step) tree) → now' ≡ now
+    → step_at x ≡ step → pushed ≡ now ++ x ∷ []
+    → after' ≡ after ++ told_under piece (map step_at pushed) (conflicts_in (is_refused row step) tree) → now' ≡ now
     → IsWalking piece row all rest' before after' steps now'
 walked_in piece row all rest rest' step tree before after after' steps now pushed now' x w c d s p a n =
     let split : rest ≡ child step tree rest' = first_child rest rest' step tree c in
     let inner : List Conflict = conflicts_in (is_refused row step) tree in
-    let path : Path = map shown steps in
-    let trail : map shown pushed ≡ path ++ step ∷ [] =
-    ap (map shown) p ∙ map_push shown now x ∙ ap (λ z. map shown now ++ z ∷ []) s ∙ ap (λ zs. map shown zs ++ step ∷ []) w.same in
+    let path : Path = map step_at steps in
+    let trail : map step_at pushed ≡ path ++ step ∷ [] =
+    ap (map step_at) p ∙ map_push step_at now x ∙ ap (λ z. map step_at now ++ z ∷ []) s ∙ ap (λ zs. map step_at zs ++ step ∷ []) w.same in
     let found : before ++ told_under piece path (conflicts_below row all) ≡ after ++ told_under piece path (map (under (step ∷ [])) inner ++ conflicts_below row rest') =
     sym w.found ∙ ap (λ cs. after ++ told_under piece path (conflicts_below row cs)) split
     ∙ ap (λ b. after ++ told_under piece path (only_if b (map (under (step ∷ [])) inner) ++ conflicts_below row rest')) d in
@@ -73,12 +73,12 @@ walked_in piece row all rest rest' step tree before after after' steps now pushe
 
 -- or passed over
 pub walked_past :
-    {X : Type 0} (piece : Conflict → List X) (row : Option Row) (all rest rest' : Children Row) (step : paths.Step) (tree : Tree Row) (before after : List X) (steps now : List Stride)
+    {X : Type 0} (piece : Conflict → List X) (row : Option Row) (all rest rest' : Children Row) (step : paths.Step) (tree : Tree Row) (before after : List X) (steps now : List StepRef)
     → IsWalking piece row all rest before after steps now → children_of rest ≡ (step, tree) ∷ children_of rest' → is_demanded row step (row_of tree) ≡ false
     → IsWalking piece row all rest' before after steps now
 walked_past piece row all rest rest' step tree before after steps now w c d =
     let split : rest ≡ child step tree rest' = first_child rest rest' step tree c in
-    let path : Path = map shown steps in
+    let path : Path = map step_at steps in
     record {
       same = w.same;
       found = sym (ap (λ cs. after ++ told_under piece path (conflicts_below row cs)) split
@@ -101,21 +101,21 @@ none_left (child step tree rest) e = cc
 
 -- all branches were looked at, and the rest
 pub walked :
-    {X : Type 0} (piece : Conflict → List X) (tree : Tree Row) (rest : Children Row) (not_allowed : Bool) (start before middle after : List X) (steps now : List Stride)
+    {X : Type 0} (piece : Conflict → List X) (tree : Tree Row) (rest : Children Row) (not_allowed : Bool) (start before middle after : List X) (steps now : List StepRef)
     → IsWalking piece (row_of tree) (below tree) rest before middle steps now → children_of rest ≡ []
-    → before ≡ start ++ told_under piece (map shown steps) (conflict_here (has_no_value (row_of tree)) not_allowed)
-    → after ≡ middle ++ told_under piece (map shown now) (conflicts_onward (row_of tree) (rest_of tree))
-    → after ≡ start ++ told_under piece (map shown steps) (conflicts_in not_allowed tree)
+    → before ≡ start ++ told_under piece (map step_at steps) (conflict_here (has_no_value (row_of tree)) not_allowed)
+    → after ≡ middle ++ told_under piece (map step_at now) (conflicts_onward (row_of tree) (rest_of tree))
+    → after ≡ start ++ told_under piece (map step_at steps) (conflicts_in not_allowed tree)
 walked {X = X} piece (node row children others) rest not_allowed start before middle after steps now w e b a =
-    let told : List Conflict → List X = told_under piece (map shown steps) in
+    let told : List Conflict → List X = told_under piece (map step_at steps) in
     let here : List Conflict = conflict_here (has_no_value row) not_allowed in
     let below_it : List Conflict = conflicts_below row children in
     let further : List Conflict = conflicts_onward row others in
     let all : middle ≡ before ++ told below_it = sym (append-nil middle) ∙ ap (λ cs. middle ++ told (conflicts_below row cs)) (sym (none_left rest e)) ∙ w.found in
-    a ∙ ap (λ held. middle ++ told_under piece (map shown held) further) w.same ∙ ap (λ xs. xs ++ told further) (all ∙ ap (λ xs. xs ++ told below_it) b)
+    a ∙ ap (λ held. middle ++ told_under piece (map step_at held) further) w.same ∙ ap (λ xs. xs ++ told further) (all ∙ ap (λ xs. xs ++ told below_it) b)
     ∙ append_assoc (start ++ told here) (told below_it) (told further) ∙ append_assoc start (told here) (told below_it ++ told further)
-    ∙ ap (λ xs. start ++ (told here ++ xs)) (sym (told_append piece (map shown steps) below_it further))
-    ∙ ap (λ xs. start ++ xs) (sym (told_append piece (map shown steps) here (below_it ++ further)))
+    ∙ ap (λ xs. start ++ (told here ++ xs)) (sym (told_append piece (map step_at steps) below_it further))
+    ∙ ap (λ xs. start ++ xs) (sym (told_append piece (map step_at steps) here (below_it ++ further)))
 
 -- ---- the rest
 -- one more element was looked at
@@ -150,8 +150,8 @@ rest_within no_rest least = omega arith
 rest_within (onward n tree) least = omega arith
 
 -- the path one step further
-pub pushed_on : (held steps pushed : List Stride) (x : Stride) → pushed ≡ held ++ x ∷ [] → held ≡ steps → map shown pushed ≡ map shown steps ++ shown x ∷ []
-pushed_on held steps pushed x p h = ap (map shown) p ∙ map_push shown held x ∙ ap (λ zs. map shown zs ++ shown x ∷ []) h
+pub pushed_on : (held steps pushed : List StepRef) (x : StepRef) → pushed ≡ held ++ x ∷ [] → held ≡ steps → map step_at pushed ≡ map step_at steps ++ step_at x ∷ []
+pushed_on held steps pushed x p h = ap (map step_at) p ∙ map_push step_at held x ∙ ap (λ zs. map step_at zs ++ step_at x ∷ []) h
 
 -- the rest is smaller than the place
 pub rest_smaller : (tree rest : Tree Row) → Some rest ≡ rest_tree (rest_of tree) → tree_size rest < tree_size tree
@@ -186,6 +186,10 @@ all_elements {X = X} piece (node row children (onward n inner)) rest first least
 -- what the code asks of a step, by the rows that it has
 pub demand_is : (above above' row row' : Option Row) (step : paths.Step) (found wanted : Bool) → found ≡ is_demanded above step row → above ≡ above' → row ≡ row' → found ≡ wanted → is_demanded above' step row' ≡ wanted
 demand_is above above' row row' step found wanted f a r w = sym (ap (λ q. is_demanded q step row') a) ∙ sym (ap (λ q. is_demanded above step q) r) ∙ sym f ∙ w
+
+-- so of a label, which asks nothing of the row above
+pub label_demand_is : (above row row' : Option Row) (step : paths.Step) (name : List ℕ) (found wanted : Bool) → step ≡ label name → found ≡ has_level row → row ≡ row' → found ≡ wanted → is_demanded above step row' ≡ wanted
+label_demand_is above row row' step name found wanted s f r w = ap (λ q. is_demanded above q row') s ∙ sym (ap has_level r) ∙ sym f ∙ w
 
 pub refusal_is : (above above' : Option Row) (step : paths.Step) (found : Bool) → found ≡ is_refused above step → above ≡ above' → found ≡ is_refused above' step
 refusal_is above above' step found f a = f ∙ ap (λ q. is_refused q step) a

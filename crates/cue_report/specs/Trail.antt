@@ -1,20 +1,14 @@
 -- Where a search is.
 use Rattle.std.specs.Prelude.{ℕ, List, [], ◌∷◌, ◌++◌, map}
 use Rattle.cue_lattice.specs.Path as paths
-use Rattle.cue_lattice.specs.Path.{index, Path}
+use Rattle.cue_lattice.specs.Path.{Path}
 use Rattle.cue_row.specs.PathText.{dot, step_text}
-use Rattle.cue_row.specs.Steps.{step_of}
-use Rattle.cue_report.specs.declared.trail.Stride.{Stride}
-use Rattle.cue_report.specs.declared.trail.Stride.TheVariants.{Own, Element}
-
--- the step on the way
-abbrev pub shown : Stride → paths.Step
-shown (Own step) = step_of step.now
-shown (Element number) = index number
+use Rattle.cue_table.specs.StepsOfCode.{step_at}
+use Rattle.cue_table.specs.declared.step_ref.StepRef.{StepRef}
 
 -- the path of these steps
-abbrev pub shown_steps : List Stride → Path
-shown_steps steps = map shown steps
+abbrev pub shown_steps : List StepRef → Path
+shown_steps steps = map step_at steps
 
 -- the step and a dot
 abbrev pub dotted_behind : paths.Step → List ℕ

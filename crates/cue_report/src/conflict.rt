@@ -15,11 +15,10 @@ use crate::Place;
 use crate::demand::{is_demanded, is_refused, lacks_value, least_of, rest_from};
 use crate::listed::Listed;
 use crate::sink::ConflictSink;
-use crate::trail::Stride;
 use crate::written::Written;
 use cue_lattice::Memory;
 use cue_row::Row;
-use cue_table::{Branch, Table};
+use cue_table::{Branch, StepRef, Table};
 use std::alloc::Global;
 
 /// A place where nothing may stand, or whose label is not allowed, or both.
@@ -64,7 +63,7 @@ pub fn conflict_lines(alloc: Global, text: String, table: &Table<Row>) -> Result
 #[derive(Drop)]
 struct Search<'a> {
     /// The steps to the place at hand.
-    steps: Vec<Stride<'a>>,
+    steps: Vec<StepRef<'a>>,
 }
 
 impl<'a> Search<'a> {
@@ -95,7 +94,7 @@ impl<'a> Search<'a> {
         self.look_at(sink, row, not_allowed)?;
         for (step, child) in branch.children() {
             if is_demanded(row, step, child.row()) {
-                self.steps.push(Stride::Own(step))?;
+                self.steps.push(step)?;
                 self.visit(sink, &child, is_refused(row, step))?;
                 self.steps.pop();
             }
@@ -121,7 +120,7 @@ impl<'a> Search<'a> {
         let least = least_of(branch.row());
         let first = rest_from(branch, least);
         for number in first..least {
-            self.steps.push(Stride::Element(number))?;
+            self.steps.push(StepRef::Index(number))?;
             self.visit(sink, &rest, false)?;
             self.steps.pop();
         }

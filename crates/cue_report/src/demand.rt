@@ -1,13 +1,13 @@
 ghost use Rattle.std.specs.Prelude.{◌≡◌};
 ghost use Rattle.std.specs.Option.{option_map};
 ghost use Rattle.cue_row.specs.Row.{IsRow};
-ghost use Rattle.cue_row.specs.Steps.{step_of};
+ghost use Rattle.cue_table.specs.StepsOfCode.{step_at};
 ghost use Rattle.cue_table.specs.Tree.{rest_of};
 ghost use Rattle.cue_report.specs.Search as search;
 ghost use Rattle.cue_report.specs.Search.{least_at, rest_from};
 
-use cue_row::{Level, Row, Step};
-use cue_table::Branch;
+use cue_row::{Level, Row};
+use cue_table::{Branch, StepRef};
 
 /// Whether no value may stand at a place: no scalar, struct or list, or a list of no length.
 pub(crate) fn lacks_value(row: &Row) -> bool
@@ -25,33 +25,33 @@ pub(crate) fn lacks_value(row: &Row) -> bool
 
 /// Whether the step from one place to the next is demanded: to a field that is required or there,
 /// or to an element that each list has.
-pub(crate) fn is_demanded(above: Option<&Row>, step: &Step, row: Option<&Row>) -> bool
+pub(crate) fn is_demanded(above: Option<&Row>, step: StepRef, row: Option<&Row>) -> bool
     ensures { result ≡ search.is_demanded (option_map (λ row. row.now) above.entry)
-        (step_of step.now)
+        (step_at step.entry)
         (option_map (λ row. row.now) row.entry) }
 {
     match step {
-        Step::Label(_) => match row {
+        StepRef::Label(_) => match row {
             None => false,
             Some(row) => match row.level {
                 Level::Optional => false,
                 Level::Required | Level::Given => true,
             },
         },
-        Step::Index(number) => match above {
+        StepRef::Index(number) => match above {
             None => false,
-            Some(above) => *number < above.least,
+            Some(above) => number < above.least,
         },
     }
 }
 
 /// Whether a place does not allow the label of a step.
-pub(crate) fn is_refused(above: Option<&Row>, step: &Step) -> bool
+pub(crate) fn is_refused(above: Option<&Row>, step: StepRef) -> bool
     ensures { result ≡ search.is_refused (option_map (λ row. row.now) above.entry)
-        (step_of step.now) }
+        (step_at step.entry) }
 {
     match (above, step) {
-        (Some(row), Step::Label(label)) => !row.labels.allows(label.as_str()),
+        (Some(row), StepRef::Label(label)) => !row.labels.allows(label.as_str()),
         _ => false,
     }
 }

@@ -15,7 +15,7 @@ use crate::shape::{is_free, picked};
 use cue_lattice::Memory;
 use cue_row::{Row, Step};
 use cue_scalars::Scalar;
-use cue_table::{Branch, Table};
+use cue_table::{Branch, StepRef, Table};
 use json::Writer;
 use std::alloc::Global;
 
@@ -65,13 +65,13 @@ fn write_members(alloc: Global, out: &mut Writer, branch: &Branch<Row>) -> Resul
     out.begin_object()?;
     for (step, child) in branch.children() {
         match step {
-            Step::Label(name) => {
+            StepRef::Label(name) => {
                 if is_demanded(row, step, child.row()) {
                     out.key(name.as_str())?;
                     write_document(alloc, out, &child)?;
                 }
             }
-            Step::Index(_) => {}
+            StepRef::Index(_) => {}
         }
     }
     out.end_object()?;

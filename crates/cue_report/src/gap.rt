@@ -3,8 +3,8 @@ ghost use Rattle.std.specs.Prelude.{IfOk, IfSome, IfNone, IsTrue, OnOk, string_b
 ghost use Rattle.std.specs.Option.{option_map};
 ghost use Rattle.cue_lattice.specs.Path.{index};
 ghost use Rattle.cue_row.specs.Row.{IsRow, RowRefuses};
-ghost use Rattle.cue_row.specs.Steps.{step_of};
 ghost use Rattle.cue_table.specs.Refuses.{TableRefuses};
+ghost use Rattle.cue_table.specs.StepsOfCode.{step_at};
 ghost use Rattle.cue_table.specs.Tree.{row_of, rest_of};
 ghost use Rattle.cue_report.specs.GapSearch.{IsGapAt, IsOpenAt, IsGapHere, IsGapIn, Adds};
 ghost use Rattle.cue_report.specs.GapSearch.{free_before, free_elements, next_after};
@@ -17,12 +17,11 @@ ghost use Rattle.cue_report.specs.Trail.{shown_steps};
 use crate::demand::{is_demanded, is_refused, least_of, rest_from};
 use crate::listed::Listed;
 use crate::sink::GapSink;
-use crate::trail::Stride;
 use crate::written::Written;
 use crate::{Place, demand};
 use cue_lattice::{Memory, Narrow};
-use cue_row::{Level, Row, Step};
-use cue_table::{Branch, Table};
+use cue_row::{Level, Row};
+use cue_table::{Branch, StepRef, Table};
 use std::alloc::Global;
 
 /// A place for which more has to be said before anything can be exported.
@@ -62,7 +61,7 @@ pub fn gap_lines(alloc: Global, text: String, table: &Table<Row>) -> Result<Stri
 struct Search<'a> {
     alloc: Global,
     /// The steps to the place at hand.
-    steps: Vec<Stride<'a>>,
+    steps: Vec<StepRef<'a>>,
 }
 
 impl<'a> Search<'a> {
@@ -96,7 +95,7 @@ impl<'a> Search<'a> {
         for (step, child) in branch.children() {
             if is_demanded(row, step, child.row()) {
                 next = self.reach(sink, next, step)?;
-                self.steps.push(Stride::Own(step))?;
+                self.steps.push(step)?;
                 self.visit(sink, &child, is_refused(row, step))?;
                 self.steps.pop();
             }
@@ -123,7 +122,7 @@ impl<'a> Search<'a> {
         let least = least_of(branch.row());
         let first = rest_from(branch, least);
         for number in first..least {
-            self.steps.push(Stride::Element(number))?;
+            self.steps.push(StepRef::Index(number))?;
             self.visit(sink, &rest, false)?;
             self.steps.pop();
         }
@@ -153,18 +152,18 @@ impl<'a> Search<'a> {
 
     /// Tells the elements of the place at hand from the next on that are before this step: they
     /// are free. Tells the first one behind the step.
-    fn reach<S: GapSink>(&self, sink: &mut S, next: u32, step: &Step) -> Result<u32, Memory>
-        requires { (n : ℕ) → step_of step.now ≡ index n → n < 4294967295 }
+    fn reach<S: GapSink>(&self, sink: &mut S, next: u32, step: StepRef) -> Result<u32, Memory>
+        requires { (n : ℕ) → step_at step ≡ index n → n < 4294967295 }
         ensures gaps { OnOk result (S.told sink.new ≡ S.told sink.old
             ++ told_above S.piece (shown_steps self.now.steps.items)
-            (free_before next (step_of step.now))) }
-        ensures next { IfOk result (λ found. found ≡ next_after next (step_of step.now)) }
+            (free_before next (step_at step.entry))) }
+        ensures next { IfOk result (λ found. found ≡ next_after next (step_at step.entry)) }
     {
         match step {
-            Step::Label(_) => Ok(next),
-            Step::Index(number) => {
-                sink.free_elements(&self.steps, next, *number)?;
-                Ok(*number + 1)
+            StepRef::Label(_) => Ok(next),
+            StepRef::Index(number) => {
+                sink.free_elements(&self.steps, next, number)?;
+                Ok(number + 1)
             }
         }
     }

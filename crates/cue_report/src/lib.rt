@@ -12,7 +12,6 @@ mod place;
 mod report;
 mod shape;
 mod sink;
-mod trail;
 mod written;
 
 pub use conflict::{Conflict, conflict_lines, conflicts};

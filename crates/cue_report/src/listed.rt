@@ -4,10 +4,10 @@ ghost use Rattle.cue_report.specs.Trail.{shown_steps};
 
 use crate::place::copied;
 use crate::sink::{ConflictSink, GapSink};
-use crate::trail::Stride;
 use crate::{Conflict, Gap, Place};
 use cue_lattice::Memory;
 use cue_row::Step;
+use cue_table::StepRef;
 use std::alloc::Global;
 
 /// What a search finds, as a list.
@@ -45,7 +45,7 @@ impl ConflictSink for Listed<Conflict> {
 
     fn conflict(
         &mut self,
-        steps: &[Stride],
+        steps: &[StepRef],
         no_value: bool,
         not_allowed: bool,
     ) -> Result<(), Memory> {
@@ -66,13 +66,13 @@ impl GapSink for Listed<Gap> {
 
     ghost piece = { λ gap. gap ∷ [] };
 
-    fn gap(&mut self, steps: &[Stride], missing: bool) -> Result<(), Memory> {
+    fn gap(&mut self, steps: &[StepRef], missing: bool) -> Result<(), Memory> {
         let path = Place::new(copied(self.alloc, steps)?);
         self.list.push(Gap { path, missing })?;
         Ok(())
     }
 
-    fn free_elements(&mut self, steps: &[Stride], first: u32, end: u32) -> Result<(), Memory> {
+    fn free_elements(&mut self, steps: &[StepRef], first: u32, end: u32) -> Result<(), Memory> {
         for number in first..end {
             let mut path = copied(self.alloc, steps)?;
             path.push(Step::Index(number))?;

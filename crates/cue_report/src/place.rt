@@ -3,9 +3,9 @@ ghost use Rattle.cue_row.specs.PathText.{path_text};
 ghost use Rattle.cue_row.specs.Steps.{step_of};
 ghost use Rattle.cue_report.specs.Trail.{shown_steps};
 
-use crate::trail::Stride;
 use cue_lattice::Memory;
 use cue_row::{Step, push_steps};
+use cue_table::StepRef;
 use std::alloc::Global;
 use std::marker::Model;
 
@@ -54,12 +54,12 @@ impl Place {
 }
 
 /// Copies of the steps.
-pub(crate) fn copied(alloc: Global, steps: &[Stride]) -> Result<Vec<Step>, Memory>
+pub(crate) fn copied(alloc: Global, steps: &[StepRef]) -> Result<Vec<Step>, Memory>
     ensures { IfOk result (λ copies. map step_of copies.items ≡ shown_steps steps.now) }
 {
     let mut copies = Vec::with_capacity(alloc, steps.len())?;
     for step in steps {
-        copies.push(step.copy(alloc)?)?;
+        copies.push(step.to_step(alloc)?)?;
     }
     Ok(copies)
 }

@@ -23,7 +23,7 @@ use crate::{Export, ExportText, conflict_lines, conflicts, gap_lines, incomplete
 use cue_lattice::{Memory, Narrow};
 use cue_row::{Row, Step};
 use cue_scalars::Scalar;
-use cue_table::{Branch, Table};
+use cue_table::{Branch, StepRef, Table};
 use serde_json::{Map, Value, put};
 use std::alloc::Global;
 
@@ -173,13 +173,13 @@ fn members_of(alloc: Global, branch: &Branch<Row>) -> Result<Map<String, Value>,
     let mut members = Map::new(alloc);
     for (step, child) in branch.children() {
         match step {
-            Step::Label(name) => {
+            StepRef::Label(name) => {
                 if is_demanded(row, step, child.row()) {
                     let document = document_of(alloc, &child)?;
                     put(&mut members, alloc, name.as_str(), document)?;
                 }
             }
-            Step::Index(_) => {}
+            StepRef::Index(_) => {}
         }
     }
     Ok(members)

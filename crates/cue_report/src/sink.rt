@@ -4,8 +4,8 @@ ghost use Rattle.cue_report.specs.Trail.{shown_steps};
 ghost use Rattle.cue_report.specs.declared.conflict.Conflict.{Conflict as Conflicts};
 ghost use Rattle.cue_report.specs.declared.gap.Gap.{Gap as Gaps};
 
-use crate::trail::Stride;
 use cue_lattice::Memory;
+use cue_table::StepRef;
 
 /// What a search tells of the conflicts that it finds.
 pub(crate) trait ConflictSink {
@@ -20,7 +20,7 @@ pub(crate) trait ConflictSink {
     /// Tells of a conflict at the place to which these steps lead.
     fn conflict(
         &mut self,
-        steps: &[Stride],
+        steps: &[StepRef],
         no_value: bool,
         not_allowed: bool,
     ) -> Result<(), Memory>
@@ -42,14 +42,14 @@ pub(crate) trait GapSink {
     ghost piece: { Gaps → List Self.Piece };
 
     /// Tells of a gap at the place to which these steps lead.
-    fn gap(&mut self, steps: &[Stride], missing: bool) -> Result<(), Memory>
+    fn gap(&mut self, steps: &[StepRef], missing: bool) -> Result<(), Memory>
         ensures { OnOk result (told self.new ≡ told self.old ++ piece (record {
           path = shown_steps steps.now;
           missing = missing;
         })) };
 
     /// Tells of the elements of that place from the first on, before the end: they are free.
-    fn free_elements(&mut self, steps: &[Stride], first: u32, end: u32) -> Result<(), Memory>
+    fn free_elements(&mut self, steps: &[StepRef], first: u32, end: u32) -> Result<(), Memory>
         ensures { OnOk result (told self.new ≡ told self.old
             ++ told_above piece (shown_steps steps.now) (free_elements first (end - first))) };
 }

@@ -1,15 +1,16 @@
 ghost use Rattle.std.specs.Prelude.{◌≡◌, ◌++◌, OnOk, codes, string_bytes};
 ghost use Rattle.std.specs.List.{flat_map};
 ghost use Rattle.cue_lattice.specs.Path.{index};
-ghost use Rattle.cue_row.specs.PathText.{path_text, step_text};
+ghost use Rattle.cue_row.specs.PathText.{label_text, path_text, step_text};
+ghost use Rattle.cue_table.specs.StepsOfCode.{step_at};
 ghost use Rattle.cue_report.specs.Lines.{conflict_line, gap_line, line_end};
 ghost use Rattle.cue_report.specs.Trail.{dotted_behind, shown_steps};
 
 use crate::report::{cause, end_line, lack};
 use crate::sink::{ConflictSink, GapSink};
-use crate::trail::Stride;
-use cue_lattice::Memory;
-use cue_row::{Step, push_steps};
+use cue_lattice::{Memory, Text};
+use cue_row::{Step, is_bare, push_quoted, push_steps};
+use cue_table::StepRef;
 use std::alloc::Global;
 use std::slice::from_ref;
 
@@ -48,7 +49,7 @@ impl Written {
     {
         self.text.push_str("incomplete ")?;
         self.text.push_str(self.list.as_str())?;
-        push_steps(&mut self.text, from_ref(&Step::Index(number)))?;
+        push_index(&mut self.text, number)?;
         end_line(&mut self.text, lack(false))?;
         Ok(())
     }
@@ -63,7 +64,7 @@ impl ConflictSink for Written {
 
     fn conflict(
         &mut self,
-        steps: &[Stride],
+        steps: &[StepRef],
         no_value: bool,
         not_allowed: bool,
     ) -> Result<(), Memory> {
@@ -81,14 +82,14 @@ impl GapSink for Written {
 
     ghost piece = { gap_line };
 
-    fn gap(&mut self, steps: &[Stride], missing: bool) -> Result<(), Memory> {
+    fn gap(&mut self, steps: &[StepRef], missing: bool) -> Result<(), Memory> {
         self.text.push_str("incomplete ")?;
         push_place(&mut self.text, steps)?;
         end_line(&mut self.text, lack(missing))?;
         Ok(())
     }
 
-    fn free_elements(&mut self, steps: &[Stride], first: u32, end: u32) -> Result<(), Memory> {
+    fn free_elements(&mut self, steps: &[StepRef], first: u32, end: u32) -> Result<(), Memory> {
         if first >= end {
             return Ok(());
         }
@@ -102,7 +103,7 @@ impl GapSink for Written {
 }
 
 /// Writes the path to which these steps lead.
-fn push_place(out: &mut String, steps: &[Stride]) -> Result<(), Memory>
+fn push_place(out: &mut String, steps: &[StepRef]) -> Result<(), Memory>
     ensures { OnOk result (string_bytes out.new
         ≡ string_bytes out.old ++ path_text (shown_steps steps.now)) }
 {
@@ -110,20 +111,50 @@ fn push_place(out: &mut String, steps: &[Stride]) -> Result<(), Memory>
         [] => out.push('.')?,
         [above @ .., last] => {
             push_above(out, above)?;
-            last.push_to(out)?;
+            push_step(out, *last)?;
         }
     }
     Ok(())
 }
 
 /// Writes each of the steps with a dot behind it.
-fn push_above(out: &mut String, steps: &[Stride]) -> Result<(), Memory>
+fn push_above(out: &mut String, steps: &[StepRef]) -> Result<(), Memory>
     ensures { OnOk result (string_bytes out.new
         ≡ string_bytes out.old ++ flat_map dotted_behind (shown_steps steps.now)) }
 {
     for step in steps {
-        step.push_to(out)?;
+        push_step(out, *step)?;
         out.push('.')?;
     }
     Ok(())
+}
+
+/// Writes one step.
+fn push_step(out: &mut String, step: StepRef) -> Result<(), Memory>
+    ensures { OnOk result (string_bytes out.new
+        ≡ string_bytes out.old ++ step_text (step_at step.entry)) }
+{
+    match step {
+        StepRef::Label(label) => push_label(out, label),
+        StepRef::Index(number) => push_index(out, number),
+    }
+}
+
+/// Writes the step to the field with a label.
+fn push_label(out: &mut String, label: &Text) -> Result<(), Memory>
+    ensures { OnOk result (string_bytes out.new ≡ string_bytes out.old ++ label_text label.now) }
+{
+    if is_bare(label.as_bytes()) {
+        out.push_str(label.as_str())?;
+        return Ok(());
+    }
+    push_quoted(out, label.as_str())
+}
+
+/// Writes the step to the element with an index.
+fn push_index(out: &mut String, number: u32) -> Result<(), Memory>
+    ensures { OnOk result
+        (string_bytes out.new ≡ string_bytes out.old ++ step_text (index number)) }
+{
+    push_steps(out, from_ref(&Step::Index(number)))
 }

@@ -1,11 +1,11 @@
 -- Branches of lists and of places, found at steps, and that each refuses something.
-use Rattle.std.proofs.Common.{◌≡◌, ◌↔◌, ◌≤◌, ◌<◌, ℕ, zero, suc, nat_lt, Bool, true, false, if◌then◌else◌, Option, Some, None, ◌∷◌, [], refl, sym, ap, subst, ◌∙◌, arith}
+use Rattle.std.proofs.Common.{◌≡◌, ◌↔◌, ◌≤◌, ◌<◌, ℕ, if◌then◌else◌, Option, Some, None, ◌∷◌, [], refl, sym, ap, subst, ◌∙◌, arith}
 use Rattle.std.specs.Option.{option_and_then}
 use Rattle.std.specs.declared.cmp.Ordering.TheVariants.{Less, Equal, Greater}
 use Rattle.cue_lattice.specs.Path.{Step, label, index, step_cmp, Path}
-use Rattle.cue_table.specs.Tree.{Tree, node, Children, none, child, Rest, no_rest, onward, row_of, if_equal, find, find_with, step_into, branch_at}
+use Rattle.cue_table.specs.Tree.{Tree, node, Children, none, child, Rest, no_rest, onward, row_of, if_equal, find, find_with, branch_at}
 use Rattle.cue_table.specs.Refuses.{RowRefuses, TableRefuses}
-use Rattle.cue_table.specs.Form.{IsBelowAll, IsTaken, IsTree, AreBranches, IsKept, AreWithin, IsRestOf}
+use Rattle.cue_table.specs.Form.{IsBelowAll, IsTaken, IsTree, IsKept, AreWithin, IsRestOf}
 use Rattle.cue_table.proofs.Order.{step_total, equal_steps}
 use Rattle.std.proofs.lemmas.Bool.{lt-ltb, le-ltb}
 use Rattle.std.specs.declared.cmp.Ordering.{Ordering}

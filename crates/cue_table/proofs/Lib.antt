@@ -29,5 +29,6 @@ pub mod Order
 pub mod RestBegins
 pub mod RowLists
 pub mod SlotOrder
+pub mod Spanned
 pub mod ValidWalks
 pub mod Validity

@@ -1,10 +1,9 @@
 -- The rows of a tree as a list, written down by a walk.
-use Rattle.std.proofs.Common.{◌≡◌, ◌+◌, ◌<◌, List, [], ◌∷◌, ◌++◌, append_assoc, map, max, Some, None, refl, sym, ap, ◌∙◌, arith}
-use Rattle.std.proofs.lemmas.List.{append-nil, map-append}
+use Rattle.std.proofs.Common.{◌≡◌, ◌+◌, ◌<◌, List, [], ◌∷◌, map, max, Some, None, refl, sym, ap, arith}
 use Rattle.cue_lattice.specs.Path.{Step}
-use Rattle.cue_table.specs.Tree.{Tree, node, Children, none, child, no_rest, onward, row_of, below, rest_of, rest_tree, children_of}
-use Rattle.cue_table.specs.Slots.{Slot, at, from, Place, behind, rows_of, rows_below, rows_onward}
-use Rattle.cue_table.specs.Size.{tree_size, children_size, rest_size}
+use Rattle.cue_table.specs.Tree.{Tree, node, Children, none, child, no_rest, onward, below, rest_of, rest_tree, children_of}
+use Rattle.cue_table.specs.Slots.{Place}
+use Rattle.cue_table.specs.Size.{tree_size, children_size}
 use Rattle.cue_table.specs.Depth.{tree_depth, children_depth, rest_depth}
 use Rattle.cue_table.specs.Rows.{beyond}
 use Rattle.cue_table.specs.Walks.{first_child}

@@ -1,14 +1,13 @@
 -- The steps of the walk that tells valid tables, and the table with no row.
 use Rattle.std.specs.Option.{is_some}
-use Rattle.std.proofs.Common.{◌≡◌, ◌↔◌, false, ◌+◌, ◌<◌, ◌≤◌, [], ◌∷◌, Option, Some, None, refl, sym, ap, subst, inl, ⊎_elim, arith}
-use Rattle.cue_lattice.specs.Path.{Step, index, Path}
+use Rattle.std.proofs.Common.{◌≡◌, ◌↔◌, false, ◌<◌, ◌≤◌, [], ◌∷◌, Option, Some, None, refl, sym, ap, subst, inl, ⊎_elim, arith}
+use Rattle.cue_lattice.specs.Path.{index, Path}
 use Rattle.cue_row.specs.ValidRow.{IsValidRow}
 use Rattle.cue_row.specs.declared.row.Row.{Row}
 use Rattle.cue_table.specs.Tree.{Tree, node, Children, none, child, Rest, no_rest, onward, row_of, below, rest_of, rest_tree, fixed_of, empty, row_at, children_of}
 use Rattle.cue_table.specs.Size.{tree_size, children_size}
-use Rattle.cue_table.specs.Walks.{first_child}
 use Rattle.cue_table.specs.Valid.{further, IsOpenStruct, IsValidTable}
-use Rattle.cue_table.specs.Inner.ValidWalk.{HasChild, HasElement, IsSound, AreSound, IsRestSound}
+use Rattle.cue_table.specs.Inner.ValidWalk.{HasElement, IsSound, AreSound, IsRestSound}
 
 -- a table with no row at its root is valid just where it is empty
 pub valid_empty : (tree : Tree Row) → row_of tree ≡ None → IsValidTable tree → tree ≡ empty
@@ -36,32 +35,6 @@ empty_valid = record {
   kinds = λ path step parent row d e. absurd (nothing_at path parent d);
   elements = λ path row i j e l m. absurd (nothing_at path row e);
 }
-
--- A walk over branches that went one further: what is left decides the others.
-pub sound_more :
-    (parent : Row) (all rest left : Children Row) (step : Step) (tree : Tree Row) → children_of rest ≡ (step, tree) ∷ children_of left
-    → (AreSound parent all ↔ AreSound parent rest) → HasChild parent step (row_of tree) → IsSound tree
-    → AreSound parent all ↔ AreSound parent left
-sound_more parent all rest left step tree e same child_is tree_is =
-    let parts = first_child rest left step tree e in (
-      λ h. let now = subst (AreSound parent) parts (same.0 h) in now.2,
-      λ h. same.1 (subst (AreSound parent) (sym parts) (child_is, tree_is, h)),
-    )
-
--- the branch at hand is right where all are
-pub sound_first :
-    (parent : Row) (all rest left : Children Row) (step : Step) (tree : Tree Row) → children_of rest ≡ (step, tree) ∷ children_of left
-    → (AreSound parent all ↔ AreSound parent rest) → AreSound parent all → HasChild parent step (row_of tree) × IsSound tree
-sound_first parent all rest left step tree e same h = let now = subst (AreSound parent) (first_child rest left step tree e) (same.0 h) in (now.0, now.1)
-
--- where nothing is left, all are right
-pub sound_all : (parent : Row) (all rest : Children Row) → children_of rest ≡ [] → (AreSound parent all ↔ AreSound parent rest) → AreSound parent all
-sound_all parent all none e same = same.1 tt
-sound_all parent all (child step tree rest) e same = cc
-
--- the first branch and those behind it have together the size of all
-pub left_smaller : (rest left : Children Row) (step : Step) (tree : Tree Row) → children_of rest ≡ (step, tree) ∷ children_of left → tree_size tree + children_size left ≡ children_size rest
-left_smaller rest left step tree e = sym (ap children_size (first_child rest left step tree e))
 
 -- the branches of a table are smaller than the table
 pub below_smaller : (tree : Tree Row) → children_size (below tree) < tree_size tree

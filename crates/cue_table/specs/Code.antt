@@ -4,6 +4,7 @@ use Rattle.std.proofs.Common.{ap}
 use Rattle.std.specs.Coded.{Coded, coded_ℕ, coded_list, coded×}
 use base.Stored.{Gv, gnil, gnum, gcons, num}
 use Rattle.cue_lattice.specs.Path.{Step, label, index}
+use Rattle.cue_table.specs.Spans.{Span, field, elements}
 use Rattle.cue_table.specs.Tree.{Tree, node, Children, none, child, Rest, no_rest, onward}
 
 abbrev pub head : Gv → Gv
@@ -95,7 +96,7 @@ mutual
 abbrev pub tree_code : {R : Type 0} → Coded R → Coded (Tree R)
 tree_code c = record { code = tree_gv c.code; inj = tree_inj c }
 
--- the codes of branches, of those at labels and of those at indexes
+-- the codes of branches, of those at labels, of those at indexes and of spans
 abbrev pub children_code : {R : Type 0} → Coded R → Coded (Children R)
 children_code c = record { code = children_gv c.code; inj = children_inj c }
 
@@ -104,3 +105,23 @@ labels_code c = coded_list (coded× texts (tree_code c))
 
 abbrev pub items_code : {R : Type 0} → Coded R → Coded (List (ℕ × Tree R))
 items_code c = coded_list (coded× coded_ℕ (tree_code c))
+
+pub span_gv : Span → Gv
+span_gv (field text) = gcons (gnum 0) (texts.code text)
+span_gv (elements first more) = gcons (gnum 1) (gcons (gnum first) (gnum more))
+
+pub span_inj : (s t : Span) → span_gv s ≡ span_gv t → s ≡ t
+unfolding span_gv
+span_inj (field s) (field t) e = ap field (texts.inj s t (ap tail e))
+span_inj (elements i m) (elements j n) e =
+    let first : i ≡ j = ap (λ g. num (head (tail g))) e in
+    let more : m ≡ n = ap (λ g. num (tail (tail g))) e in
+    λ k. elements (first k) (more k)
+span_inj (field s) (elements j n) e = cc
+span_inj (elements i m) (field t) e = cc
+
+abbrev pub coded_span : Coded Span
+coded_span = record { code = span_gv; inj = span_inj }
+
+abbrev pub spans_code : {R : Type 0} → Coded R → Coded (List (Span × Tree R))
+spans_code c = coded_list (coded× coded_span (tree_code c))

@@ -11,6 +11,8 @@ pub mod Rows
 pub mod Size
 pub mod Slots
 pub mod SlotsOfCode
+pub mod Spans
+pub mod StepsOfCode
 pub mod Tree
 pub mod Valid
 pub mod Walks

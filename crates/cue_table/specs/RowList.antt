@@ -4,8 +4,8 @@ use Rattle.std.specs.List.{AllByRecursion}
 use Rattle.std.specs.declared.cmp.Ordering.{Ordering}
 use Rattle.std.specs.declared.cmp.Ordering.TheVariants.{Less}
 use Rattle.cue_lattice.specs.Path.{Step, step_cmp}
-use Rattle.cue_table.specs.Slots.{Place, place_cmp, rows_of}
-use Rattle.cue_table.specs.Tree.{Tree, Children, none, child}
+use Rattle.cue_table.specs.Slots.{Place, place_cmp}
+use Rattle.cue_table.specs.Tree.{Children, none, child}
 
 -- each row stands before the place
 abbrev pub AreBefore : {R : Type 0} → Place → List (Place × R) → Type 0

@@ -4,9 +4,10 @@ ghost use Rattle.cue_table.specs.Tree.{row_of, below, rest_of, rest_tree, fixed_
 ghost use Rattle.cue_table.specs.Tree.{behind_last, labels_of, items_of};
 ghost use Rattle.cue_table.specs.Form.{AreBranches, IsKept, IsTable};
 ghost use Rattle.cue_row.specs.Steps.{step_of};
+ghost use Rattle.cue_table.specs.Spans.{spread};
 ghost use Rattle.cue_table.specs.Inner.View.{branches};
 
-use crate::iter::{Children, Items, Labels};
+use crate::iter::{Children, Items, Labels, Spans};
 use crate::node::{Child, Node};
 use cue_lattice::Narrow;
 use cue_row::Step;
@@ -71,6 +72,16 @@ impl<'a, R: Narrow> Branch<'a, R> {
     {
         let node = self.node;
         Children::new(&node.children)
+    }
+
+    /// The branches below that stand at a step of their own. Those of neighbouring elements that are
+    /// kept as one come together, so that a walk costs what the table holds.
+    pub fn spans(&self) -> Spans<'a, R>
+        ensures list { spread result ≡ below self.now }
+        ensures form { IsTable R.refuses R.is_value self.now }
+    {
+        let node = self.node;
+        Spans::new(&node.children)
     }
 
     /// The branches at labels, by the bytes of the labels.

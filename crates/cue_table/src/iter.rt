@@ -3,11 +3,11 @@ ghost use Rattle.std.specs.Prelude.{◌≡◌};
 ghost use Rattle.std.specs.Iterator.{YieldsFirstBy, item_count};
 ghost use Rattle.cue_table.specs.Tree.{children_of, labels_of, items_of};
 ghost use Rattle.cue_table.specs.Form.{AreBranches, IsKept};
-ghost use Rattle.cue_row.specs.Steps.{step_of};
-ghost use Rattle.cue_table.specs.Inner.View.{branches};
+ghost use Rattle.cue_table.specs.StepsOfCode.{step_at, span_of};
+ghost use Rattle.cue_table.specs.Inner.View.{branches, spans_in};
 
-use crate::Branch;
 use crate::node::Child;
+use crate::{Branch, Span, StepRef};
 use cue_lattice::Narrow;
 use cue_row::Step;
 use std::marker::Model;
@@ -45,16 +45,71 @@ impl<'a, R: Narrow> Children<'a, R> {
 }
 
 impl<'a, R: Narrow> Iterator for Children<'a, R> {
-    type Item = (&'a Step, Branch<'a, R>);
+    type Item = (StepRef<'a>, Branch<'a, R>);
 
-    ghost next_gives = { YieldsFirstBy (λ item. (step_of item.0.now, item.1)) children_of };
+    ghost next_gives = { YieldsFirstBy (λ item. (step_at item.0, item.1)) children_of };
 
     ghost remaining = { item_count children_of };
 
-    fn next(&mut self) -> Option<(&'a Step, Branch<'a, R>)> {
+    fn next(&mut self) -> Option<(StepRef<'a>, Branch<'a, R>)> {
         let (child, rest) = self.rest.split_first()?;
         self.rest = rest;
-        Some((&child.step, Branch::new(&child.node)))
+        Some((StepRef::of(&child.step), Branch::new(&child.node)))
+    }
+}
+
+/// The branches below a place, those of neighbouring elements that are kept as one together, in the
+/// order of the steps. Contracts see the list of those that are left.
+#[derive(Drop)]
+pub struct Spans<'a, R: Narrow> {
+    rest: &'a [Child<R>],
+}
+
+impl<'a, R: Narrow> Model for Spans<'a, R> {
+    ghost use Rattle.std.specs.Prelude.{List};
+    ghost use Rattle.cue_table.specs.Spans.{Span};
+    ghost use Rattle.cue_table.specs.Tree.{Tree};
+    ghost use Rattle.cue_table.specs.Code.{spans_code};
+
+    ghost Value = { List (Span × Tree R) };
+
+    ghost coded = { spans_code R.code };
+
+    ghost use Rattle.cue_table.specs.Inner.View.{branches, spans_in};
+    ghost use Rattle.cue_table.specs.Form.{AreBranches, IsKept};
+
+    ghost view = { λ it. spans_in it.rest.now };
+
+    ghost invariant = { λ it. AreBranches (IsKept R.refuses R.is_value) (branches it.rest.now) };
+}
+
+impl<'a, R: Narrow> Spans<'a, R> {
+    pub(crate) fn new(rest: &'a [Child<R>]) -> Spans<'a, R>
+        requires { AreBranches (IsKept R.refuses R.is_value) (branches rest.now) }
+        ensures { result ≡ spans_in rest.now }
+    {
+        Spans { rest }
+    }
+}
+
+impl<'a, R: Narrow> Iterator for Spans<'a, R> {
+    type Item = (Span<'a>, Branch<'a, R>);
+
+    ghost next_gives = { YieldsFirstBy (λ item. (span_of item.0, item.1)) (λ rest. rest) };
+
+    ghost remaining = { item_count (λ rest. rest) };
+
+    fn next(&mut self) -> Option<(Span<'a>, Branch<'a, R>)> {
+        let (child, rest) = self.rest.split_first()?;
+        self.rest = rest;
+        let span = match &child.step {
+            Step::Label(label) => Span::Label(label),
+            Step::Index(number) => Span::Elements {
+                first: *number,
+                more: 0,
+            },
+        };
+        Some((span, Branch::new(&child.node)))
     }
 }
 

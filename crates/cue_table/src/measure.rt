@@ -8,7 +8,7 @@ use cue_lattice::Narrow;
 
 impl<R: Narrow> Table<R> {
     /// How many steps the longest path has at which something is known, at most
-    /// [`cue_lattice::STEP_LIMIT`]. Each branch is walked once, and no memory is taken.
+    /// [`cue_lattice::STEP_LIMIT`]. What is kept as one is walked once, and no memory is taken.
     pub fn depth(&self) -> usize
         ensures depth { result ≡ tree_depth self.now }
         ensures most { result ≤ step_limit }
@@ -23,7 +23,7 @@ fn depth_of<R: Narrow>(branch: &Branch<R>) -> usize
     ensures { result ≡ tree_depth branch.now }
 {
     let mut depth = 0;
-    for (_, below) in branch.children() {
+    for (_, below) in branch.spans() {
         depth = usize::max(depth, depth_of(&below) + 1);
     }
     match branch.rest() {

@@ -39,7 +39,7 @@ fn push_rows<'a, R: Narrow>(
         rows.push((place.copy(alloc)?, row))?;
     }
     for (step, below) in branch.children() {
-        let slot = Slot::At(step.copy(alloc)?);
+        let slot = Slot::At(step.to_step(alloc)?);
         push_rows(alloc, rows, &place.then(alloc, slot)?, &below)?;
     }
     if let Some(rest) = branch.rest() {

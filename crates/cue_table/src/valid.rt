@@ -5,16 +5,16 @@ ghost use Rattle.cue_row.specs.Row.{IsRow, Refuses};
 ghost use Rattle.cue_row.specs.declared.row.Row.{Row as RowValue};
 ghost use Rattle.cue_row.specs.declared.kind.RowKind.TheVariants.{Nothing};
 ghost use Rattle.cue_row.specs.declared.level.Level.TheVariants.{Optional};
-ghost use Rattle.cue_row.specs.Steps.{step_of};
 ghost use Rattle.cue_table.specs.Tree.{Tree, row_of, rest_of, below, none, no_rest};
 ghost use Rattle.cue_table.specs.Form.{IsTable};
 ghost use Rattle.cue_table.specs.Meet.{IsMet};
+ghost use Rattle.cue_table.specs.StepsOfCode.{step_at};
 ghost use Rattle.cue_table.specs.Valid.{IsOpenStruct, IsValidTable};
 ghost use Rattle.cue_table.specs.Inner.ValidWalk.{HasChild, HasElement, IsSound};
 ghost use Rattle.cue_table.specs.Inner.ValidWalk.{MayBeElement, MayStand};
 
-use crate::{Branch, Table};
-use cue_row::{Level, Row, RowKind, Step};
+use crate::{Branch, StepRef, Table};
+use cue_row::{Level, Row, RowKind};
 
 impl Table<Row> {
     /// Whether a site may hold the table, and state bytes tell it. This takes no memory.
@@ -76,8 +76,8 @@ fn is_sound(branch: &Branch<Row>) -> bool
     if branch.fixed() > u64::from(row.least) {
         return false;
     }
-    for (step, below) in branch.children() {
-        if !has_child(row, step, &below) {
+    for (span, below) in branch.spans() {
+        if !has_child(row, span.first(), &below) {
             return false;
         }
         if !is_sound(&below) {
@@ -91,8 +91,8 @@ fn is_sound(branch: &Branch<Row>) -> bool
 }
 
 /// Whether a row stands one step below a row, and may stand there.
-fn has_child(parent: &Row, step: &Step, below: &Branch<Row>) -> bool
-    ensures { IsTrue result ↔ HasChild parent.now (step_of step.now) (row_of below.now) }
+fn has_child(parent: &Row, step: StepRef, below: &Branch<Row>) -> bool
+    ensures { IsTrue result ↔ HasChild parent.now (step_at step.entry) (row_of below.now) }
 {
     match below.row() {
         None => false,
@@ -111,15 +111,15 @@ fn has_element(parent: &Row, rest: &Branch<Row>) -> bool
 }
 
 /// Whether a row may stand one step below another.
-fn may_stand(parent: &Row, step: &Step, row: &Row) -> bool
-    ensures { IsTrue result ↔ MayStand parent.now (step_of step.now) row.now }
+fn may_stand(parent: &Row, step: StepRef, row: &Row) -> bool
+    ensures { IsTrue result ↔ MayStand parent.now (step_at step.entry) row.now }
 {
     if !step.is_short() {
         return false;
     }
     match step {
-        Step::Label(_) => is_kind(parent, RowKind::Struct),
-        Step::Index(_) => may_be_element(parent, row),
+        StepRef::Label(_) => is_kind(parent, RowKind::Struct),
+        StepRef::Index(_) => may_be_element(parent, row),
     }
 }
 

@@ -4,7 +4,7 @@ use Rattle.std.specs.List.{flat_map}
 use Rattle.std.specs.Option.{option_map, option_to_list}
 use Rattle.cue_lattice.specs.Limits.{step_limit}
 use Rattle.cue_row.specs.declared.row.Row.{Row}
-use Rattle.cue_row.specs.Steps.{step_of}
+use Rattle.cue_table.specs.StepsOfCode.{step_at}
 use Rattle.cue_table.specs.Tree.{Tree, Children, below, rest_of, rest_tree, children_of}
 use Rattle.cue_table.specs.Depth.{tree_depth}
 use Rattle.cue_table.specs.Inner.ValidWalk.{IsSound}
@@ -18,7 +18,7 @@ use Rattle.cue_codec.specs.RowBytes.{row_bytes_from}
 use Rattle.cue_codec.specs.Version.{written}
 
 abbrev pub told_way : Way → StateStep
-told_way (ways.At step) = at (step_of step.now)
+told_way (ways.At step) = at (step_at step)
 told_way ways.ToRest = to_rest
 
 -- branches with the step to each, that of the rest behind the others

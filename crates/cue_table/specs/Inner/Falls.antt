@@ -3,7 +3,7 @@ use Rattle.std.specs.Prelude.{◌+◌, ◌≤◌, max, List, [], ◌∷◌, Opti
 use Rattle.std.specs.Global.{Global}
 use Rattle.std.proofs.Common.{arith}
 use denote.Param.Weighed.{most}
-use Rattle.cue_table.specs.Size.{tree_size, children_size, rest_size}
+use Rattle.cue_table.specs.Size.{tree_size, children_size}
 use Rattle.cue_table.specs.Inner.View.{branches, tree_of}
 use Rattle.cue_table.specs.declared.node.Node.TheInside.{Inside}
 use Rattle.cue_table.specs.declared.node.Node.TheDeep.{deep-Node}

@@ -2,6 +2,9 @@
 use Rattle.std.specs.Prelude.{List, [], ◌∷◌, Option, Some, None, Box}
 use Rattle.std.specs.Global.{Global}
 use Rattle.cue_row.specs.Steps.{step_of}
+use Rattle.cue_row.specs.declared.step.Step.{Step}
+use Rattle.cue_row.specs.declared.step.Step.TheVariants.{Label, Index}
+use Rattle.cue_table.specs.Spans.{Span, field, elements}
 use Rattle.cue_table.specs.Tree.{Tree, node, Children, none, child, Rest, no_rest, onward}
 use Rattle.cue_table.specs.declared.node.Child.{Child}
 use Rattle.cue_table.specs.declared.node.Node.TheInside.{Inside}
@@ -17,3 +20,12 @@ rest_in (Some b) = onward b.value.from b.value.node
 
 abbrev pub tree_of : {R Q : Type 0} → Inside R Q → Tree R
 tree_of a = node a.row (branches a.children.items) (rest_in a.rest)
+
+-- a step of its own as a span
+abbrev pub span_at : Step → Span
+span_at (Label text) = field text
+span_at (Index number) = elements number 0
+
+abbrev pub spans_in : {R Q : Type 0} → List (Child R Q) → List (Span × Tree R)
+spans_in [] = []
+spans_in (c ∷ cs) = (span_at c.step, c.node) ∷ spans_in cs

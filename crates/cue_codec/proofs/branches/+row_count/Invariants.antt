@@ -1,4 +1,5 @@
 use Rattle.std.proofs.Common.{◌≡◌, ◌+◌, ◌-◌, ◌^◌, ◌≤◌, ◌++◌, length, min}
+use Rattle.cue_table.specs.Spans.{spread}
 use Rattle.cue_table.specs.Tree.{below, rest_of}
 use Rattle.cue_table.specs.Size.{tree_size, children_size}
 use Rattle.cue_codec.specs.Entry.{entries_of, entries_below, entries_onward}
@@ -9,9 +10,9 @@ abbrev pub decreases-row_count : goal.decreases-row_count
 decreases-row_count l = tree_size l.branch.now
 
 -- what was counted and what is left are all
-abbrev pub invariant-loop-below : goal.invariant-loop-below
-invariant-loop-below l = record {
-  counted : min (l.count + length (entries_below written l.below-iterator ++ entries_onward written (rest_of l.branch))) (2 ^ 64 - 1) ≡ min (length (entries_of written l.branch)) (2 ^ 64 - 1);
+abbrev pub invariant-loop-span : goal.invariant-loop-span
+invariant-loop-span l = record {
+  counted : min (l.count + length (entries_below written (spread l.span-iterator) ++ entries_onward written (rest_of l.branch))) (2 ^ 64 - 1) ≡ min (length (entries_of written l.branch)) (2 ^ 64 - 1);
   fits : l.count ≤ 2 ^ 64 - 1;
-  smaller : children_size l.below-iterator ≤ children_size (below l.branch);
+  smaller : children_size (spread l.span-iterator) ≤ children_size (below l.branch);
 }

@@ -1,13 +1,13 @@
 use Rattle.std.proofs.Common.{refl, sym, ap, ◌∙◌, ◌<◌, ◌+◌, subst, None, Some, arith}
 use Rattle.std.proofs.lemmas.Bool.{false≢true}
 use Rattle.cue_lattice.specs.Path.{label, index}
-use Rattle.cue_row.specs.Steps.{step_of}
+use Rattle.cue_table.specs.StepsOfCode.{step_at}
 use Rattle.cue_table.specs.Tree.{row_of}
 use Rattle.cue_table.specs.Walks.{found_smaller}
 use Rattle.serde_json.specs.Data.{null, no_items, no_members}
 use Rattle.cue_report.specs.Search.{least_at}
 use Rattle.cue_report.proofs.Documents.{free_null, free_none, row_is, none_counted, none_gathered, passed_index, passed_label, all_gathered}
-use Rattle.cue_report.proofs.Walk.{inner_smaller, none_left, demand_is}
+use Rattle.cue_report.proofs.Walk.{inner_smaller, none_left, label_demand_is}
 use Rattle.cue_report.proofs.Writing.{AreItemsSoFar, on_ok, adds_object, adds_array, adds_scalar, ends_items, ends_members, next_item, next_null, next_member}
 use Rattle.cue_report.proofs.document_text.+walk.Goals.{write_elements-in-None+in_ok-null-in-None, write_elements-in-Some+in_ok-write_document-in-Some}
 use Rattle.cue_report.proofs.document_text.+walk.Goals as goal
@@ -85,20 +85,20 @@ write_members-loop-step-init t c = (
 
 pub write_members-write_document-requires : goal.write_members-write_document-requires
 write_members-write_document-requires t c =
-    (let smaller = inner_smaller c.args.branch.now c.loop-step.step-iterator c.next.new.self (step_of c.in-Some.step.now) c.in-Some.child c.loop-step.invariant.2.small c.in-Some.ensures.steps in omega arith, tt)
+    (let smaller = inner_smaller c.args.branch.now c.loop-step.step-iterator c.next.new.self (step_at c.in-Some.step) c.in-Some.child c.loop-step.invariant.2.small c.in-Some.ensures.steps in omega arith, tt)
 
 pub write_members-loop-step-preserved-in-Continue-branch-3 : goal.write_members-loop-step-preserved-in-Continue-branch-3
 write_members-loop-step-preserved-in-Continue-branch-3 t c =
-    let step = step_of c.in-Some.step.now in
-    let asked = demand_is _ _ _ _ step c.is_demanded.result _ c.is_demanded.ensures c.row-row.ensures.row c.row.ensures.row c.if-is_demanded.true in
+    let step = step_at c.in-Some.step in
+    let asked = label_demand_is (row_of c.args.branch.now) _ _ step c.in-Label.name.now c.is_demanded.result _ (ap step_at c.in-Label.is) c.is_demanded.ensures c.row.ensures.row c.if-is_demanded.true in
     next_member c.args.branch.now c.in-Some.child step c.as_str.result.now c.loop-step.step-iterator c.next.new.self c.args.out.now c.loop-step.out c.key.new.self c.write_document.new.out
-    c.loop-step.invariant c.in-Some.ensures.steps (ap step_of c.in-Label.is ∙ ap label (sym c.as_str.ensures)) asked c.in_ok-key-in-Label.ensures.ok c.in_ok-key-in-Label.ensures.room.0
+    c.loop-step.invariant c.in-Some.ensures.steps (ap step_at c.in-Label.is ∙ ap label (sym c.as_str.ensures)) asked c.in_ok-key-in-Label.ensures.ok c.in_ok-key-in-Label.ensures.room.0
     c.in_ok-write_document-in-Label.ensures
 
 pub write_members-loop-step-preserved-else-is_demanded : goal.write_members-loop-step-preserved-else-is_demanded
 write_members-loop-step-preserved-else-is_demanded t c =
-    let step = step_of c.in-Some.step.now in
-    let asked = demand_is _ _ _ _ step c.is_demanded.result _ c.is_demanded.ensures c.row-row.ensures.row c.row.ensures.row c.if-is_demanded.false in
+    let step = step_at c.in-Some.step in
+    let asked = label_demand_is (row_of c.args.branch.now) _ _ step c.in-Label.name.now c.is_demanded.result _ (ap step_at c.in-Label.is) c.is_demanded.ensures c.row.ensures.row c.if-is_demanded.false in
     let so_far = c.loop-step.invariant in
     (so_far.0, so_far.1, passed_label c.args.branch.now c.in-Some.child step c.loop-step.step-iterator c.next.new.self so_far.0 so_far.2 c.in-Some.ensures.steps asked)
 
@@ -107,8 +107,8 @@ write_members-loop-step-preserved t c =
     let so_far = c.loop-step.invariant in (
       so_far.0,
       so_far.1,
-      passed_index c.args.branch.now c.in-Some.child (step_of c.in-Some.step.now) c.in-Index.field-0 c.loop-step.step-iterator c.next.new.self so_far.0 so_far.2
-          c.in-Some.ensures.steps (ap step_of c.in-Index.is),
+      passed_index c.args.branch.now c.in-Some.child (step_at c.in-Some.step) c.in-Index.field-0 c.loop-step.step-iterator c.next.new.self so_far.0 so_far.2
+          c.in-Some.ensures.steps (ap step_at c.in-Index.is),
     )
 
 pub write_members-returns : goal.write_members-returns

@@ -1,14 +1,14 @@
 use Rattle.std.proofs.Common.{refl, sym, ap, ◌∙◌, ◌<◌, None, Some, arith}
 use Rattle.std.proofs.lemmas.Bool.{false≢true}
 use Rattle.cue_lattice.specs.Path.{index}
-use Rattle.cue_row.specs.Steps.{step_of}
+use Rattle.cue_table.specs.StepsOfCode.{step_at}
 use Rattle.cue_table.specs.Tree.{row_of}
 use Rattle.cue_table.specs.Walks.{found_smaller}
 use Rattle.serde_json.specs.View.{view, members_view}
 use Rattle.serde_json.specs.declared.value.Value.{Null}
 use Rattle.cue_report.specs.Search.{least_at}
 use Rattle.cue_report.proofs.Documents.{free_place, free_none, struct_shape, list_shape, only_scalars, row_is, counted_in, counted_free, none_gathered, passed_index, passed_label, taken_label, all_gathered}
-use Rattle.cue_report.proofs.Walk.{inner_smaller, none_left, demand_is}
+use Rattle.cue_report.proofs.Walk.{inner_smaller, none_left, label_demand_is}
 use Rattle.cue_report.proofs.shape.+walk.Goals.{elements_of-in-None, elements_of-in-Some+in_ok-document-in-Some}
 use Rattle.cue_report.proofs.shape.+walk.Goals as goal
 
@@ -61,27 +61,27 @@ members_of-loop-step-init t c =
 
 pub members_of-document_of-requires : goal.members_of-document_of-requires
 members_of-document_of-requires t c =
-    (let smaller = inner_smaller c.args.branch.now c.loop-step.step-iterator c.next.new.self (step_of c.in-Some.step.now) c.in-Some.child c.loop-step.invariant.small c.in-Some.ensures.steps in omega arith, tt)
+    (let smaller = inner_smaller c.args.branch.now c.loop-step.step-iterator c.next.new.self (step_at c.in-Some.step) c.in-Some.child c.loop-step.invariant.small c.in-Some.ensures.steps in omega arith, tt)
 
 pub members_of-loop-step-preserved-in-Continue-branch-2 : goal.members_of-loop-step-preserved-in-Continue-branch-2
 members_of-loop-step-preserved-in-Continue-branch-2 t c =
-    let step = step_of c.in-Some.step.now in
-    let asked = demand_is _ _ _ _ step c.is_demanded.result _ c.is_demanded.ensures c.row-row.ensures.row c.row.ensures.row c.if-is_demanded.true in
-    taken_label c.args.branch.now c.in-Some.child step c.in-Label.name c.as_str.result.now c.loop-step.step-iterator c.next.new.self (members_view c.loop-step.members.entries)
-    (members_view c.put.new.map.entries) (view c.in_ok-document-in-Label.document) c.loop-step.invariant c.in-Some.ensures.steps (ap step_of c.in-Label.is) asked c.as_str.ensures
+    let step = step_at c.in-Some.step in
+    let asked = label_demand_is (row_of c.args.branch.now) _ _ step c.in-Label.name.now c.is_demanded.result _ (ap step_at c.in-Label.is) c.is_demanded.ensures c.row.ensures.row c.if-is_demanded.true in
+    taken_label c.args.branch.now c.in-Some.child step c.in-Label.name.now c.as_str.result.now c.loop-step.step-iterator c.next.new.self (members_view c.loop-step.members.entries)
+    (members_view c.put.new.map.entries) (view c.in_ok-document-in-Label.document) c.loop-step.invariant c.in-Some.ensures.steps (ap step_at c.in-Label.is) asked c.as_str.ensures
     c.in_ok-put-in-Label.ensures.ok c.in_ok-document-in-Label.ensures.document c.in_ok-document-in-Label.ensures.no_float
 
 pub members_of-loop-step-preserved-else-is_demanded : goal.members_of-loop-step-preserved-else-is_demanded
 members_of-loop-step-preserved-else-is_demanded t c =
-    let step = step_of c.in-Some.step.now in
-    let asked = demand_is _ _ _ _ step c.is_demanded.result _ c.is_demanded.ensures c.row-row.ensures.row c.row.ensures.row c.if-is_demanded.false in
+    let step = step_at c.in-Some.step in
+    let asked = label_demand_is (row_of c.args.branch.now) _ _ step c.in-Label.name.now c.is_demanded.result _ (ap step_at c.in-Label.is) c.is_demanded.ensures c.row.ensures.row c.if-is_demanded.false in
     passed_label c.args.branch.now c.in-Some.child step c.loop-step.step-iterator c.next.new.self (members_view c.loop-step.members.entries) c.loop-step.invariant
     c.in-Some.ensures.steps asked
 
 pub members_of-loop-step-preserved : goal.members_of-loop-step-preserved
 members_of-loop-step-preserved t c =
-    passed_index c.args.branch.now c.in-Some.child (step_of c.in-Some.step.now) c.in-Index.field-0 c.loop-step.step-iterator c.next.new.self (members_view c.loop-step.members.entries)
-    c.loop-step.invariant c.in-Some.ensures.steps (ap step_of c.in-Index.is)
+    passed_index c.args.branch.now c.in-Some.child (step_at c.in-Some.step) c.in-Index.field-0 c.loop-step.step-iterator c.next.new.self (members_view c.loop-step.members.entries)
+    c.loop-step.invariant c.in-Some.ensures.steps (ap step_at c.in-Index.is)
 
 pub members_of-returns-clause-keys : goal.members_of-returns-clause-keys
 members_of-returns-clause-keys t c =

@@ -1,5 +1,4 @@
 use Rattle.std.proofs.Common.{rules, sym, ◌∙◌}
-use Rattle.std.proofs.lemmas.Bool.{false≢true}
 use Rattle.cue_table.proofs.Nodes.{same_parts}
 use Rattle.cue_table.proofs.node.+same.Goals as goal
 

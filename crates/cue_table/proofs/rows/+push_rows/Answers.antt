@@ -2,33 +2,34 @@ use Rattle.std.proofs.Common.{◌∷◌, ◌++◌, length, [], sym, ap, ◌∙�
 use Rattle.cue_table.specs.Slots.{at}
 use Rattle.std.proofs.lemmas.List.{length-append}
 use Rattle.cue_row.specs.Steps.{step_of}
+use Rattle.cue_table.specs.StepsOfCode.{step_at}
 use Rattle.cue_table.proofs.Listing.{left_size, left_depth, below_size, below_depth}
 use Rattle.cue_table.proofs.ListingRows.{rows_more, rows_end, rows_last, rows_none}
 use Rattle.cue_table.proofs.rows.+push_rows.Goals as goal
 
 pub then-requires : goal.then-requires
 then-requires g t c =
-    let deep = left_depth (step_of c.in-Some-2.step.now) c.in-Some-2.below c.loop-step.step-iterator c.next.new.self c.in-Some-2.ensures.steps in
+    let deep = left_depth (step_at c.in-Some-2.step) c.in-Some-2.below c.loop-step.step-iterator c.next.new.self c.in-Some-2.ensures.steps in
     let all = below_depth c.args.branch.now in
     omega arith
 
 pub push_rows-requires : goal.push_rows-requires
 push_rows-requires g t c =
-    let deep = left_depth (step_of c.in-Some-2.step.now) c.in-Some-2.below c.loop-step.step-iterator c.next.new.self c.in-Some-2.ensures.steps in
+    let deep = left_depth (step_at c.in-Some-2.step) c.in-Some-2.below c.loop-step.step-iterator c.next.new.self c.in-Some-2.ensures.steps in
     let all = below_depth c.args.branch.now in
-    let size = left_size (step_of c.in-Some-2.step.now) c.in-Some-2.below c.loop-step.step-iterator c.next.new.self c.in-Some-2.ensures.steps in
+    let size = left_size (step_at c.in-Some-2.step) c.in-Some-2.below c.loop-step.step-iterator c.next.new.self c.in-Some-2.ensures.steps in
     let less = below_size c.args.branch.now in
-    let long = length-append c.args.place.now (at (step_of c.in_ok-copy-2.field-0) ∷ []) in
+    let long = length-append c.args.place.now (at (step_of c.in_ok-to_step.field-0) ∷ []) in
     let len = ap length c.in_ok-then.ensures in
     λ κs incl. (omega (arith, c.decreases), (incl.0, (incl.1, omega arith)))
 
 pub loop-step-preserved : goal.loop-step-preserved
 loop-step-preserved g t c =
-    let deep = left_depth (step_of c.in-Some-2.step.now) c.in-Some-2.below c.loop-step.step-iterator c.next.new.self c.in-Some-2.ensures.steps in
-    let size = left_size (step_of c.in-Some-2.step.now) c.in-Some-2.below c.loop-step.step-iterator c.next.new.self c.in-Some-2.ensures.steps in
-    let place = ap (λ s. c.args.place.now ++ at (step_of s) ∷ []) (sym c.in_ok-copy-2.ensures) ∙ sym c.in_ok-then.ensures in
+    let deep = left_depth (step_at c.in-Some-2.step) c.in-Some-2.below c.loop-step.step-iterator c.next.new.self c.in-Some-2.ensures.steps in
+    let size = left_size (step_at c.in-Some-2.step) c.in-Some-2.below c.loop-step.step-iterator c.next.new.self c.in-Some-2.ensures.steps in
+    let place = ap (λ s. c.args.place.now ++ at s ∷ []) (sym c.in_ok-to_step.ensures) ∙ sym c.in_ok-then.ensures in
     record {
-      rows = rows_more c.args.place.now (step_of c.in-Some-2.step.now) c.in-Some-2.below c.args.branch.now c.loop-step.step-iterator c.next.new.self _ _ _ c.in-Some-2.ensures.steps
+      rows = rows_more c.args.place.now (step_at c.in-Some-2.step) c.in-Some-2.below c.args.branch.now c.loop-step.step-iterator c.next.new.self _ _ _ c.in-Some-2.ensures.steps
           (rw place c.in_ok-push_rows.ensures) c.loop-step.invariant.rows;
       smaller = omega arith;
       deep = omega arith;

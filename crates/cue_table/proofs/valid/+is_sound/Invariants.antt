@@ -1,4 +1,5 @@
 use Rattle.std.proofs.Common.{◌≤◌, ◌↔◌}
+use Rattle.cue_table.specs.Spans.{spread}
 use Rattle.cue_table.specs.Tree.{below}
 use Rattle.cue_table.specs.Size.{tree_size, children_size}
 use Rattle.cue_table.specs.Inner.ValidWalk.{AreSound}
@@ -8,8 +9,8 @@ abbrev pub decreases-is_sound : goal.decreases-is_sound
 decreases-is_sound l = tree_size l.branch.now
 
 -- what is left decides the others
-abbrev pub invariant-loop-step : goal.invariant-loop-step
-invariant-loop-step l = record {
-  left : AreSound l.row (below l.branch) ↔ AreSound l.row l.step-iterator;
-  smaller : children_size l.step-iterator ≤ children_size (below l.branch);
+abbrev pub invariant-loop-span : goal.invariant-loop-span
+invariant-loop-span l = record {
+  left : AreSound l.row (below l.branch) ↔ AreSound l.row (spread l.span-iterator);
+  smaller : children_size (spread l.span-iterator) ≤ children_size (below l.branch);
 }

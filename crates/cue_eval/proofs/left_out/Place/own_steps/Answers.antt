@@ -1,7 +1,7 @@
 use Rattle.std.proofs.Common.{◌≤◌, ◌<◌, ⊎_elim, ap, arith}
 use Rattle.std.proofs.lemmas.Bool.{cases_lt}
 use Rattle.cue_lattice.specs.Path.{index}
-use Rattle.cue_row.specs.Steps.{step_of}
+use Rattle.cue_table.specs.StepsOfCode.{step_at}
 use Rattle.cue_table.specs.Tree.{below}
 use Rattle.cue_eval.proofs.LabelTables.{own_step, next_step, all_steps, among_old, among_new}
 use Rattle.cue_eval.proofs.left_out.Place.own_steps.Goals as goal
@@ -15,7 +15,7 @@ returns c =
 pub loop-step-preserved : goal.loop-step-preserved
 loop-step-preserved c =
     rw c.in_ok-push.ensures.items
-    (next_step (below c.args.self.now.own) c.loop-step.step-iterator c.next.new.self c.loop-step.steps.items c.in_ok-copy.field-0 (step_of c.in-Some.step.now) c.in-Some.field-0-1 c.loop-step.invariant c.in-Some.ensures.steps (ap step_of c.in_ok-copy.ensures))
+    (next_step (below c.args.self.now.own) c.loop-step.step-iterator c.next.new.self c.loop-step.steps.items c.in_ok-to_step.field-0 (step_at c.in-Some.step) c.in-Some.field-0-1 c.loop-step.invariant c.in-Some.ensures.steps c.in_ok-to_step.ensures)
 
 pub loop-index-init : goal.loop-index-init
 loop-index-init c = record {

@@ -1,8 +1,8 @@
 use Rattle.std.proofs.Common.{◌≡◌, ◌++◌, ◌+◌, ◌-◌, ◌≤◌, map, false}
+use Rattle.cue_table.specs.StepsOfCode.{step_at}
 use Rattle.cue_table.specs.Size.{tree_size}
 use Rattle.cue_table.specs.Tree.{row_of, below}
 use Rattle.cue_report.specs.Search.{told_under, each_index, conflicts_in}
-use Rattle.cue_report.specs.Trail.{shown}
 use Rattle.cue_report.proofs.Walk.{IsWalking}
 use Rattle.cue_report.proofs.conflict.Search.+walk.Given as goal
 
@@ -21,4 +21,4 @@ abbrev pub invariant-visit_rest-loop-number : goal.invariant-visit_rest-loop-num
 invariant-visit_rest-loop-number g l =
     let told = g.S.ConflictSink.told in
     (l.first ≤ l.number) × (l.self.steps.items ≡ l.fn.self.steps.items)
-    × (told l.sink ≡ told l.fn.sink ++ told_under g.S.ConflictSink.piece (map shown l.fn.self.steps.items) (each_index l.first (l.number - l.first) (conflicts_in false l.rest)))
+    × (told l.sink ≡ told l.fn.sink ++ told_under g.S.ConflictSink.piece (map step_at l.fn.self.steps.items) (each_index l.first (l.number - l.first) (conflicts_in false l.rest)))

@@ -1,7 +1,7 @@
 use Rattle.std.proofs.Common.{◌≡◌, ◌+◌, ◌≤◌, map}
+use Rattle.cue_table.specs.StepsOfCode.{step_at}
 use Rattle.cue_table.specs.Size.{tree_size}
 use Rattle.cue_report.specs.GapSearch.{Adds, IsGapAmong}
-use Rattle.cue_report.specs.Trail.{shown}
 use Rattle.cue_report.proofs.GapWalk.{IsOver}
 use Rattle.cue_report.proofs.gap.Search.+walk.Given as goal
 
@@ -20,4 +20,4 @@ abbrev pub invariant-visit_rest-loop-number : goal.invariant-visit_rest-loop-num
 invariant-visit_rest-loop-number g l =
     let told = g.S.GapSink.told in
     (l.first ≤ l.number) × (l.self.steps.items ≡ l.fn.self.steps.items)
-    × Adds g.S.GapSink.piece (IsGapAmong l.first l.number l.rest) (map shown l.fn.self.steps.items) (told l.fn.sink) (told l.sink)
+    × Adds g.S.GapSink.piece (IsGapAmong l.first l.number l.rest) (map step_at l.fn.self.steps.items) (told l.fn.sink) (told l.sink)

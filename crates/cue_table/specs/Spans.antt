@@ -1,0 +1,29 @@
+-- Branches that are kept as one: neighbouring elements that are alike.
+use Rattle.std.specs.Prelude.{ℕ, zero, suc, List, [], ◌∷◌}
+use Rattle.cue_lattice.specs.Path.{Step, label, index}
+use Rattle.cue_table.specs.Tree.{Tree, Children, none, child}
+
+-- the branch at a label, or that of the element with an index and of so many behind it
+pub data Span : Type 0 where
+  field : List ℕ → Span
+  elements : ℕ → ℕ → Span
+
+-- the step to the first of its branches
+abbrev pub first_of : Span → Step
+first_of (field text) = label text
+first_of (elements i more) = index i
+
+-- the element with an index and so many behind it, all alike, and then other branches
+abbrev pub alike : {R : Type 0} → ℕ → ℕ → Tree R → Children R → Children R
+alike i zero tree others = child (index i) tree others
+alike i (suc more) tree others = child (index i) tree (alike (suc i) more tree others)
+
+-- the branches of a span, and then other ones
+abbrev pub spanned : {R : Type 0} → Span → Tree R → Children R → Children R
+spanned (field text) tree others = child (label text) tree others
+spanned (elements i more) tree others = alike i more tree others
+
+-- the branches of all spans
+abbrev pub spread : {R : Type 0} → List (Span × Tree R) → Children R
+spread [] = none
+spread ((span, tree) ∷ spans) = spanned span tree (spread spans)
