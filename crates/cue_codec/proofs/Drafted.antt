@@ -1,10 +1,11 @@
 -- Rows read one after another, by their bytes.
-use Rattle.std.proofs.Common.{◌≡◌, ℕ, ◌-◌, ◌<◌, true, false, List, [], ◌∷◌, ◌++◌, append_assoc, length, map, ⊎_elim, refl, sym, ap, subst, ◌∙◌, arith}
+use Rattle.std.proofs.Common.{◌≡◌, ℕ, ◌-◌, ◌<◌, true, false, List, [], ◌∷◌, ◌++◌, append_assoc, length, map, take, Some, ⊎_elim, refl, sym, ap, subst, ◌∙◌, arith}
 use Rattle.std.specs.List.{flat_map}
-use Rattle.std.proofs.lemmas.List.{append-nil, append_cancel_right}
+use Rattle.std.proofs.lemmas.List.{append-nil, append_cancel_right, length-append, take-append-le, take_all}
 use Rattle.cue_lattice.specs.declared.refusal.Kind.{Kind}
 use Rattle.cue_lattice.specs.declared.refusal.Kind.TheVariants as kinds
 use Rattle.cue_row.specs.declared.row.Row.{Row}
+use Rattle.cue_row.specs.Levels.{level_of}
 use Rattle.cue_row.specs.Row.{Refuses}
 use Rattle.cue_table.specs.Slots.{Place}
 use Rattle.cue_table.specs.RowList.{AppendsKept}
@@ -13,8 +14,10 @@ use Rattle.cue_codec.specs.Decoding.{NoRows}
 use Rattle.cue_codec.specs.Entry.{Entry, entry_at}
 use Rattle.cue_codec.specs.Known.{known_with, rows_with, IsKnown, unknown, AreRead, AreDrafted}
 use Rattle.cue_codec.specs.Reading.{Begins, BeginsNone, IsRefused}
-use Rattle.cue_codec.specs.RowBytes.{row_bytes, IsStateRow}
+use Rattle.cue_codec.specs.Parts.{path_bytes}
+use Rattle.cue_codec.specs.RowBytes.{row_bytes, parts_bytes, parts_of, IsStateRow}
 use Rattle.cue_codec.specs.Inner.Drafting.{RowsRead, entries_from, rows_bytes, IsDrafting, IsNext, NoneNext, IsMore, BeginsNoRows}
+use Rattle.cue_codec.specs.Inner.Pieces.{IsFront}
 use Rattle.cue_codec.specs.Inner.Scans.{IsWholeRow}
 use Rattle.cue_codec.proofs.KnownPlaces.{told_with}
 use Rattle.cue_codec.proofs.ReadStates.{known_next, rows_missing, rows_one_more, rows_unordered, rows_trailing}
@@ -95,9 +98,10 @@ module _ (version : Version) (count left : ℕ) (rows : List (Place × Row)) (in
       rows_missing version (rows_bytes version rows indexes ++ (bytes ++ more)) (bytes ++ more) count left rows indexes known (read_with (bytes ++ more) read) some (stays none)
 
   pub next_unordered : (bytes rest : List ℕ) (new : List (Place × Row)) (place : Place) (fixed : ℕ) (row : Row) → 0 < left → Begins (IsStateRow version) (row_bytes version) (entry_at place fixed row) bytes rest → IsKnown known place → AppendsKept Refuses rows place row new false
-      → NoneNext (record { version = version; count = count; left = left; bytes = rows_bytes version rows indexes }) bytes
-  next_unordered bytes rest new place fixed row some begins is not = λ more stays.
-      rows_unordered version (rows_bytes version rows indexes ++ (bytes ++ more)) (bytes ++ more) (rest ++ more) count left rows new indexes known place fixed row (read_with (bytes ++ more) read) some (begins_more (IsStateRow version) (row_bytes version) (entry_at place fixed row) bytes rest more begins) is not
+      → BeginsNoRows version count (rows_bytes version rows indexes ++ bytes)
+  next_unordered bytes rest new place fixed row some begins is not = λ more.
+      subst (NoRows version count) (sym (append_assoc (rows_bytes version rows indexes) bytes more))
+      (rows_unordered version (rows_bytes version rows indexes ++ (bytes ++ more)) (bytes ++ more) (rest ++ more) count left rows new indexes known place fixed row (read_with (bytes ++ more) read) some (begins_more (IsStateRow version) (row_bytes version) (entry_at place fixed row) bytes rest more begins) is not)
 
   -- where none is missing and bytes follow
   pub next_trailing : left ≡ 0 → (more : List ℕ) → (more ≡ [] → ⊥) → NoRows version count (rows_bytes version rows indexes ++ more)
@@ -141,6 +145,33 @@ pub none_on : (new : RowsRead) (rest : List ℕ) → NoneNext new rest → NoRow
 none_on new rest none =
     let same : rest ++ [] ≡ rest = append-nil rest in
     subst (λ t. NoRows new.version new.count (new.bytes ++ t)) same (none [] (subst (BeginsNone (IsStateRow new.version) (row_bytes new.version)) (sym same)))
+
+pub none_begun : (version : Version) (count : ℕ) (bytes : List ℕ) → BeginsNoRows version count bytes → NoRows version count bytes
+none_begun version count bytes none = subst (NoRows version count) (append-nil bytes) (none [])
+
+-- ---- a row in front of bytes
+
+row_some : (version : Version) (entry : Entry) → 0 < length (row_bytes version entry)
+unfolding row_bytes
+row_some version entry = omega (arith, length-append (path_bytes version entry.path) (level_of entry.row.level ∷ parts_bytes version (parts_of entry.row entry.fixed)))
+
+pub front_row : (old new : RowsRead) (bytes rest : List ℕ) (len : ℕ) → IsNext old bytes new rest → len ≡ length bytes - length rest → IsFront old bytes (Some (new, len))
+front_row old new bytes rest len next e =
+    let here : List ℕ = row_bytes old.version next.entry in
+    let long : len ≡ length here = omega (arith, e, ap length next.begins.parts, length-append here rest) in
+    let some = row_some old.version next.entry in
+    let same : take len bytes ≡ here = ap (take len) next.begins.parts ∙ take-append-le len here rest (omega (arith, long)) ∙ take_all len here (omega (arith, long)) in (
+      omega (arith, e),
+      record { version = next.version; count = next.count; bytes = next.longer ∙ ap (λ t. old.bytes ++ t) (sym same) },
+      λ none. absurd (omega (arith, long, some, none)),
+    )
+
+pub front_none : (old new : RowsRead) (bytes : List ℕ) → new ≡ old → IsFront old bytes (Some (new, 0))
+front_none old new bytes e = (
+  omega arith,
+  record { version = ap (λ (r : RowsRead). r.version) e; count = ap (λ (r : RowsRead). r.count) e; bytes = ap (λ (r : RowsRead). r.bytes) e ∙ sym (append-nil old.bytes) },
+  λ none. e,
+)
 
 -- what is refused for another reason than want of memory
 pub not_memory : (kind : Kind) (R : Type 0) → (kind ≡ kinds.Memory → ⊥) → IsRefused kind R → R

@@ -1,11 +1,11 @@
 -- Rows whose bytes come in pieces.
-use Rattle.std.proofs.Common.{◌≡◌, ℕ, ◌+◌, ◌<◌, List, [], ◌∷◌, ◌++◌, append_assoc, length, take, drop, refl, sym, ap, subst, ◌∙◌, arith}
-use Rattle.std.proofs.lemmas.List.{append-nil, length-append, take-append-drop}
+use Rattle.std.proofs.Common.{◌≡◌, ℕ, ◌+◌, ◌<◌, List, [], ◌∷◌, ◌++◌, append_assoc, length, take, drop, Some, refl, sym, ap, subst, ◌∙◌, arith}
+use Rattle.std.proofs.lemmas.List.{append-nil, length-append, length-take, take-append-drop}
 use Rattle.cue_codec.specs.declared.scan.Scan.{Scan}
 use Rattle.cue_codec.specs.declared.version.Version.{Version}
 use Rattle.cue_codec.specs.Decoding.{NoRows}
 use Rattle.cue_codec.specs.Inner.Drafting.{RowsRead, IsMore, BeginsNoRows}
-use Rattle.cue_codec.specs.Inner.Pieces.{ArePieces}
+use Rattle.cue_codec.specs.Inner.Pieces.{ArePieces, IsFront, IsTaken}
 use Rattle.cue_codec.specs.Inner.Scans.{by_byte, by_path, the_rest, goes_on, IsScanned, IsWholeRow}
 use Rattle.cue_codec.proofs.Scanned.{scanned_none, scanned_more, scanned_whole}
 
@@ -77,6 +77,25 @@ more_next rows new unfinished front items added none = record {
   count = added.count;
   bytes = ap (λ t. new.bytes ++ t) none ∙ append-nil new.bytes ∙ added.bytes ∙ sym (append_assoc rows.bytes unfinished front);
 }
+
+-- ---- a row in front
+
+module _ (rows new : RowsRead) (unfinished bytes : List ℕ) (len : ℕ) (none : unfinished ≡ []) where
+  pub pieces_front : (scan : Scan) (taken more : ℕ) → ArePieces rows scan unfinished taken → IsFront rows bytes (Some (new, len)) → more ≡ taken + len → ArePieces new scan unfinished more
+  pieces_front scan taken more is front long = record {
+    scanned = subst (λ v. IsScanned v scan unfinished) (sym front.1.version) is.scanned;
+    counted = omega (arith, long, is.counted, front.0, ap length front.1.bytes, ap length none, length-append rows.bytes (take len bytes), length-take len bytes, length-append rows.bytes unfinished, length-append new.bytes unfinished);
+  }
+
+  pub front_taken : IsFront rows bytes (Some (new, len)) → 0 < len → IsTaken (with_bytes rows unfinished) bytes (Some (with_bytes new unfinished, len))
+  front_taken front some = (
+    some,
+    front.0,
+    more_next rows new unfinished (take len bytes) unfinished (subst (λ t. IsMore rows (t ++ take len bytes) new) (sym none) front.1) none,
+  )
+
+pub front_refused : (rows : RowsRead) (unfinished bytes : List ℕ) → unfinished ≡ [] → BeginsNoRows rows.version rows.count (rows.bytes ++ bytes) → BeginsNoRows rows.version rows.count ((rows.bytes ++ unfinished) ++ bytes)
+front_refused rows unfinished bytes none h = subst (λ t. BeginsNoRows rows.version rows.count (t ++ bytes)) (sym (append-nil rows.bytes) ∙ ap (λ t. rows.bytes ++ t) (sym none)) h
 
 -- ---- piece by piece
 

@@ -2,7 +2,8 @@
 
 ghost use Rattle.std.specs.Prelude.{◌≡◌, ◌<◌, ◌↔◌, ◌++◌, [], ℕ, List, IsTrue, IfOk, IfErr};
 ghost use Rattle.cue_codec.specs.Decoding.{AreReadRows, NoRows};
-ghost use Rattle.cue_codec.specs.Inner.Drafting.{IsNext, NoneNext, IsFed};
+ghost use Rattle.cue_codec.specs.Inner.Drafting.{BeginsNoRows, IsFed};
+ghost use Rattle.cue_codec.specs.Inner.Pieces.{HasNext, IsFront};
 ghost use Rattle.cue_codec.specs.Inner.Scans.{IsWholeRow};
 ghost use Rattle.cue_codec.specs.Reading.{IsRefused};
 
@@ -14,6 +15,7 @@ use cue_row::Row;
 use cue_table::{Draft, Place, Table};
 use std::alloc::Global;
 use std::marker::Model;
+use std::mem;
 
 /// The rows that were read of so many, each added behind the others as it is read, and the indexes
 /// from which on the elements of each are alike. The place of a row is made of the one before it,
@@ -49,6 +51,15 @@ impl Model for Drafting {
         d.place };
 }
 
+/// Rows, where one was looked for in front of bytes.
+#[derive(Drop)]
+pub enum Next {
+    /// With the row that stands there.
+    Row(Drafting),
+    /// As they were, since no row stands there.
+    NoRow(Drafting),
+}
+
 impl Drafting {
     /// None of so many rows. This takes no memory.
     pub fn new(alloc: Global, version: Version, count: u64) -> Drafting
@@ -82,43 +93,37 @@ impl Drafting {
         self.left == 0
     }
 
-    /// The rows with the one that the reader reads next.
-    pub fn next(self, reader: &mut RowReader) -> Result<Drafting, Kind>
+    /// The rows with the one that the reader reads next, if one stands there.
+    pub fn next(self, reader: &mut RowReader) -> Result<Next, Kind>
         requires { 0 < self.left }
-        ensures ok { IfOk result (λ next. IsNext self reader.old next reader.new) }
-        ensures refused { IfErr result (λ kind. IsRefused kind (NoneNext self reader.old)) }
+        ensures ok { IfOk result (HasNext self reader.old reader.new) }
+        ensures refused { IfErr result (λ kind. IsRefused kind
+            (BeginsNoRows self.version self.count (self.bytes ++ reader.old))) }
     {
-        let Drafting {
-            alloc,
-            version,
-            count,
-            left,
-            mut draft,
-            mut indexes,
-            mut known,
-            place,
-        } = self;
-        let (place, fixed, row) = reader.read(alloc, version, place, &known)?;
-        let Ok(is_added) = draft.append(&place, row) else {
+        let mut rows = self;
+        let before = mem::replace(&mut rows.place, Place::root(rows.alloc));
+        let (place, fixed, row) = match reader.read(rows.alloc, rows.version, before, &rows.known) {
+            Ok(row) => row,
+            Err(kind) => {
+                return match kind {
+                    Kind::Memory => Err(Kind::Memory),
+                    _ => Ok(Next::NoRow(rows)),
+                };
+            }
+        };
+        let Ok(is_added) = rows.draft.append(&place, row) else {
             return Err(Kind::Memory);
         };
         if !is_added {
             return Err(Kind::NotState);
         }
-        let Ok(()) = indexes.push(fixed) else {
+        let Ok(()) = rows.indexes.push(fixed) else {
             return Err(Kind::Memory);
         };
-        known[place.slots().len()] = fixed;
-        Ok(Drafting {
-            alloc,
-            version,
-            count,
-            left: left - 1,
-            draft,
-            indexes,
-            known,
-            place,
-        })
+        rows.known[place.slots().len()] = fixed;
+        rows.left -= 1;
+        rows.place = place;
+        Ok(Next::Row(rows))
     }
 
     /// The rows with the one whose bytes these are. There is none where no rows begin so.
@@ -129,7 +134,25 @@ impl Drafting {
     {
         let mut reader = RowReader::new(row);
         match self.next(&mut reader) {
-            Ok(rows) => Ok(Some(rows)),
+            Ok(Next::Row(rows)) => Ok(Some(rows)),
+            Ok(Next::NoRow(_)) => Ok(None),
+            Err(kind) => match kind {
+                Kind::Memory => Err(Memory),
+                _ => Ok(None),
+            },
+        }
+    }
+
+    /// The rows with the one whose bytes stand in front, and how many these are; or as they were
+    /// where no whole row stands there. There is nothing where no rows begin so.
+    pub fn add_front(self, bytes: &[u8]) -> Result<Option<(Drafting, usize)>, Memory>
+        requires { 0 < self.left }
+        ensures { IfOk result (IsFront self bytes.now) }
+    {
+        let mut reader = RowReader::new(bytes);
+        match self.next(&mut reader) {
+            Ok(Next::Row(rows)) => Ok(Some((rows, bytes.len() - reader.len()))),
+            Ok(Next::NoRow(rows)) => Ok(Some((rows, 0))),
             Err(kind) => match kind {
                 Kind::Memory => Err(Memory),
                 _ => Ok(None),
@@ -169,7 +192,10 @@ impl Drafting {
         let mut rows = self;
         let mut reader = RowReader::new(bytes);
         while !rows.is_full() {
-            rows = rows.next(&mut reader)?;
+            rows = match rows.next(&mut reader)? {
+                Next::Row(next) => next,
+                Next::NoRow(_) => return Err(Kind::NotState),
+            };
         }
         if !reader.is_at_end() {
             return Err(Kind::NotState);

@@ -80,9 +80,8 @@ impl RowPieces {
         }
     }
 
-    /// Takes in bytes that come next, of which there are some, as far as one row goes, and says how
-    /// many these are. There is nothing where no rows begin so.
-    fn take(self, bytes: &[u8]) -> Result<Option<(RowPieces, usize)>, Memory>
+    /// As [`RowPieces::take`], where the bytes are scanned.
+    fn scan_on(self, bytes: &[u8]) -> Result<Option<(RowPieces, usize)>, Memory>
         requires { 0 < length bytes.now }
         ensures { IfOk result (IsTaken self bytes.now) }
     {
@@ -119,6 +118,40 @@ impl RowPieces {
             unfinished,
             taken,
         };
+        Ok(Some((pieces, len)))
+    }
+
+    /// Takes in bytes that come next, of which there are some, as far as one row goes, and says how
+    /// many these are. There is nothing where no rows begin so. A row whose bytes all stand here is
+    /// read from them, and only one that is cut is scanned and kept.
+    fn take(self, bytes: &[u8]) -> Result<Option<(RowPieces, usize)>, Memory>
+        requires { 0 < length bytes.now }
+        ensures { IfOk result (IsTaken self bytes.now) }
+    {
+        if !self.unfinished.is_empty() || self.rows.is_full() {
+            return self.scan_on(bytes);
+        }
+        let RowPieces {
+            rows,
+            scan,
+            unfinished,
+            taken,
+        } = self;
+        let Some((rows, len)) = rows.add_front(bytes)? else {
+            return Ok(None);
+        };
+        let Some(taken) = taken.checked_add(len as u64) else {
+            return Err(Memory);
+        };
+        let pieces = RowPieces {
+            rows,
+            scan,
+            unfinished,
+            taken,
+        };
+        if len == 0 {
+            return pieces.scan_on(bytes);
+        }
         Ok(Some((pieces, len)))
     }
 

@@ -76,6 +76,13 @@ impl<'a> RowReader<'a> {
         self.rest.is_empty()
     }
 
+    /// How many bytes are left.
+    pub fn len(&self) -> usize
+        ensures { result ≡ length self.now }
+    {
+        self.rest.len()
+    }
+
     /// The row whose bytes in this version stand in front, with its place and from which index on
     /// its elements are alike; the reader goes on after it. The place is made of the one before it,
     /// and a rest on it begins at the index that is known of the row above. Where no row's bytes
