@@ -1,26 +1,22 @@
 -- Two places that are met as lists of equal length.
-use Rattle.std.proofs.Common.{◌≡◌, ◌+◌, ◌<◌, ℕ, List, ◌∷◌, [], Option, Some, None, Bool, true, false, not, refl, sym, ap, subst, ◌∙◌, inl, inr, ⊎_elim}
+use Rattle.std.proofs.Common.{◌≡◌, ◌+◌, ◌<◌, ℕ, Option, Some, None, Bool, true, false, not, refl, sym, ap, subst, ◌∙◌, inl, inr, ⊎_elim}
 use Rattle.std.specs.Option.{is_some}
 use Rattle.std.proofs.lemmas.Bool.{cases_lt}
 use Rattle.std.specs.Prelude.{Box}
 use Rattle.std.specs.Global.{Global}
-use Rattle.cue_lattice.specs.Path.{Step, label, index, step_cmp, Path}
-use Rattle.cue_table.specs.declared.node.Child.{Child}
+use Rattle.cue_lattice.specs.Path.{label, index, step_cmp, Path}
 use Rattle.cue_table.specs.declared.node.Onward.{Onward}
 use Rattle.cue_table.specs.declared.node.Node.TheInside.{Inside}
-use Rattle.cue_table.specs.Tree.{Tree, node, Children, none, child, Rest, no_rest, onward, below, find, step_into, rest_tree}
+use Rattle.cue_table.specs.Tree.{Tree, Children, none, child, Rest, no_rest, onward, find, rest_tree}
 use Rattle.cue_table.specs.Depth.{tree_depth, rest_depth}
-use Rattle.cue_table.specs.Refuses.{RowRefuses}
 use Rattle.cue_table.specs.Form.{IsRow, IsTree, AreBranches, AreWithin, IsRestOf, IsKept}
-use Rattle.cue_table.specs.Meet.{AreMet, IsMerge, IsMet, IsUnion}
-use Rattle.cue_table.specs.Inner.Plan.{take, change, changed, or_row}
-use Rattle.cue_table.specs.Inner.Rests.{AreMetBelow, AreMetRests, BranchRefuses, IsBranch, IsUnrolled, found_to}
-use Rattle.cue_table.specs.Inner.View.{branches, rest_in, tree_of}
+use Rattle.cue_table.specs.Meet.{IsMerge, IsMet, IsUnion}
+use Rattle.cue_table.specs.Inner.Rests.{AreMetRests, BranchRefuses, IsBranch}
+use Rattle.cue_table.specs.Inner.View.{below_in, branches, rest_in, tree_of}
 use Rattle.cue_table.proofs.Behind.{none_from}
 use Rattle.cue_table.proofs.Branches.{find_first, found_refuses, not_silent}
 use Rattle.cue_table.proofs.Depth.{found_later}
 use Rattle.cue_table.proofs.Finding.{find_form}
-use Rattle.cue_table.proofs.Unrolling.{found_low, found_high}
 
 module _ {R : Type 0} where
   -- where each element that is found stands below an index, all do
@@ -67,34 +63,9 @@ module _ {R Q : Type 0} (refuses : R → Q → Type 0) where
       (subst (λ o. IsUnion (BranchRefuses refuses x path) (BranchRefuses refuses o path) (BranchRefuses refuses c path)) (sym f)
       (subst (λ o. IsUnion (BranchRefuses refuses x path) (BranchRefuses refuses y path) (BranchRefuses refuses o path)) (sym g) h))
 
-  -- elements before an index are met one by one, and from it on with one another
-  found_met :
-      (n : ℕ) (a b c : Option (Tree R)) (left right met : Children R) → AreMet refuses left right met → AreMetRests refuses a b c → (step : Step) (path : Path)
-      → IsUnion (BranchRefuses refuses (found_to n a step left) path) (BranchRefuses refuses (found_to n b step right) path) (BranchRefuses refuses (found_to n c step met) path)
-  found_met n a b c left right met own rests (label text) path = own (label text) path
-  found_met n a b c left right met own rests (index i) path = elim (cases_lt i n) [
-    | inl low ↦ union_as _ _ _ _ _ _ path (found_low n i a left low) (found_low n i b right low) (found_low n i c met low) (own (index i) path)
-    | inr high ↦ union_as _ _ _ _ _ _ path (found_high n i a left high) (found_high n i b right high) (found_high n i c met high) (rests path)
-  ]
-
-  -- so are the places
-  pub aligned_met :
-      (n : ℕ) (s t u : Tree R) (a b c : Option (Tree R)) (left right met : Children R)
-      → ((step : Step) → step_into s step ≡ found_to n a step left) → ((step : Step) → step_into t step ≡ found_to n b step right) → ((step : Step) → step_into u step ≡ found_to n c step met)
-      → AreMet refuses left right met → AreMetRests refuses a b c → AreMetBelow refuses s t u
-  aligned_met n s t u a b c left right met e f g own rests step path =
-      union_as _ _ _ _ _ _ path (e step) (f step) (g step) (found_met n a b c left right met own rests step path)
-
 module _ {R Q : Type 0} where
-  -- a node answers as its lists do
-  pub unrolled_place :
-      (a : Inside R Q) (tree : Tree R) (copied : List (Child R Q)) (n : ℕ) (own : Children R) → tree_of a ≡ tree → copied ≡ a.children.items → IsUnrolled n (rest_in a.rest) (branches copied) own
-      → (step : Step) → step_into tree step ≡ found_to n (rest_tree (rest_in a.rest)) step own
-  unrolled_place a tree copied n own e f same step =
-      ap (λ t. step_into t step) (sym e) ∙ ap (λ xs. step_into (node a.row (branches xs) (rest_in a.rest)) step) (sym f) ∙ same step
-
   -- the parts of a node in form are in form
-  pub node_form : (P : R → Type 0) (a : Inside R Q) (tree : Tree R) → tree_of a ≡ tree → IsTree P tree → IsRow P a.row × AreBranches P (branches a.children.items) × IsRestOf P (branches a.children.items) (rest_in a.rest)
+  pub node_form : (P : R → Type 0) (a : Inside R Q) (tree : Tree R) → tree_of a ≡ tree → IsTree P tree → IsRow P a.row × AreBranches P (below_in (branches a.children.items) a.rest) × IsRestOf P (below_in (branches a.children.items) a.rest) (rest_in a.rest)
   node_form P a tree e h = let here : IsTree P (tree_of a) = subst (IsTree P) (sym e) h in here
 
   -- what is boxed as the rest is the rest
@@ -117,21 +88,3 @@ module _ {R Q : Type 0} (refuses : R → Q → Type 0) where
 module _ {R Q : Type 0} where
   pub none_there : (rest : Option (Box (Onward R Q) Global)) (is_none : Bool) → is_none ≡ true → is_some rest ≡ not is_none → rest_in rest ≡ no_rest
   none_there rest is_none e h = no_rest_there rest (h ∙ ap not e)
-
-module _ {R Q S : Type 0} (refuses : R → S → Type 0) where
-  -- the union of two trees, by rows and by what is below
-  pub anew_met :
-      (a : Inside R Q) (b : Inside R Q) (s t : Tree R) (row q : Option R) (children : Children R) (rest : Rest R) (met : Tree R) → tree_of a ≡ s → tree_of b ≡ t
-      → node q children rest ≡ met
-      → IsUnion (RowRefuses refuses a.row) (RowRefuses refuses b.row) (RowRefuses refuses (or_row row a.row))
-      → AreMetBelow refuses s (node None (branches b.children.items) (rest_in b.rest)) met
-      → IsMet refuses s t (changed (change row (take children) rest) s)
-  anew_met a b s t row q children rest met e f g rows both =
-      subst (λ x. IsMet refuses x t (changed (change row (take children) rest) x)) e
-      (subst (λ x. IsMet refuses (tree_of a) x (changed (change row (take children) rest) (tree_of a))) f
-      (by (subst (λ x. AreMetBelow refuses x (node None (branches b.children.items) (rest_in b.rest)) (node q children rest)) (sym e)
-      (subst (λ x. AreMetBelow refuses s (node None (branches b.children.items) (rest_in b.rest)) x) (sym g) both))))
-    where
-      by : AreMetBelow refuses (tree_of a) (node None (branches b.children.items) (rest_in b.rest)) (node q children rest) → IsMet refuses (tree_of a) (tree_of b) (changed (change row (take children) rest) (tree_of a))
-      by below [] question = rows question
-      by below (step ∷ path) question = below step path question

@@ -6,7 +6,8 @@ use Rattle.cue_table.specs.declared.node.Child.{Child}
 use Rattle.cue_table.specs.declared.plan.Piece.{Piece}
 use Rattle.cue_table.specs.declared.plan.Piece.TheVariants.{Keep, Insert, Alter}
 use Rattle.cue_table.specs.Tree.{Children, child}
-use Rattle.cue_table.specs.Inner.Plan.{Change, Pieces, done, changed, merged, join, front, past, first_changed, pieces_size, IsAmending}
+use Rattle.cue_table.specs.Inner.Join.{join}
+use Rattle.cue_table.specs.Inner.Plan.{Change, Pieces, done, changed, merged, front, past, first_changed, pieces_size, IsAmending}
 use Rattle.cue_table.specs.Inner.PlanView.{amended, piece_before, pieces_of}
 use Rattle.cue_table.specs.Inner.View.{branches}
 use Rattle.cue_table.proofs.Planning.{past_drop}

@@ -20,7 +20,7 @@ use Rattle.cue_table.specs.Form.{IsBelowAll, Rise, IsTaken}
 use Rattle.cue_table.specs.RowList.{AreBefore, last_cmp}
 use Rattle.cue_table.specs.Inner.Drafts.{alone, against_step, IsApart, Hangs}
 use Rattle.cue_table.specs.Inner.Loose.{IsLoose, AreLoose, IsLooseRest}
-use Rattle.cue_table.specs.Inner.View.{branches, rest_in}
+use Rattle.cue_table.specs.Inner.View.{below_in, branches, rest_in}
 use Rattle.cue_table.specs.declared.hang.Hung.{Hung}
 use Rattle.cue_table.specs.declared.hang.Hung.TheVariants.{Behind, Within, Apart}
 use Rattle.cue_table.proofs.Order.{equal_steps}
@@ -279,12 +279,13 @@ module _ {R Q : Type 0} where
 
   -- where the last branch of a place stands behind a step, not all rows stand before it
   pub not_before_step :
-      (P : R → Type 0) (here : Option R) (cs : List (Child R Q)) (rest : Rest R) (step : Step) (place : Place) → against_step step (node here (branches cs) rest) ≡ Greater
-      → IsLoose P (node here (branches cs) rest) → AreBefore (at step ∷ place) (rows_of (node here (branches cs) rest)) → ⊥
-  not_before_step P here cs no_rest step place e h b =
+      (P : R → Type 0) (here : Option R) (cs : List (Child R Q)) (rest : Option (Box (Onward R Q) Global)) (step : Step) (place : Place)
+      → against_step step (node here (below_in (branches cs) rest) (rest_in rest)) ≡ Greater → IsLoose P (node here (below_in (branches cs) rest) (rest_in rest))
+      → AreBefore (at step ∷ place) (rows_of (node here (below_in (branches cs) rest) (rest_in rest))) → ⊥
+  not_before_step P here cs None step place e h b =
       let below = all_right (λ row. place_cmp row.0 (at step ∷ place) ≡ Less) (map (λ r. ([], r)) (option_to_list here)) (rows_below (branches cs) ++ []) b in
       not_before_last P step place cs h.1 e (subst (AreBefore (at step ∷ place)) (append-nil (rows_below (branches cs))) below)
-  not_before_step P here cs (onward n tree) step place e h b = not_before_rest P here (branches cs) n tree (at step) place refl h.2 b
+  not_before_step P here cs (Some o) step place e h b = not_before_rest P here (below_in (branches cs) (Some o)) o.value.from o.value.node (at step) place refl h.2 b
 
   below_last : (s : Step) (front : List (Child R Q)) (c : Child R Q) → IsBelowAll s (branches (front ++ c ∷ [])) → step_cmp s (step_of c.step) ≡ Less
   below_last s [] c h = h.0

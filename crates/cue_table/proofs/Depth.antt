@@ -60,7 +60,7 @@ module _ {R : Type 0} where
   depth_else true own rest tree n f h e = f e
   depth_else false own rest tree n f h e = let same : rest ≡ tree = cc in subst (λ t. tree_depth t < n) same h
 
-  depth_with : (rest : Rest R) (step : Step) (children : Children R) (tree : Tree R) → find_with rest step children ≡ Some tree → tree_depth tree < max (children_depth children) (rest_depth rest)
+  pub depth_with : (rest : Rest R) (step : Step) (children : Children R) (tree : Tree R) → find_with rest step children ≡ Some tree → tree_depth tree < max (children_depth children) (rest_depth rest)
   depth_with no_rest step children tree e = let h = found_depth step children tree e in omega arith
   depth_with (onward n other) (label text) children tree e = let h = found_depth (label text) children tree e in omega arith
   depth_with (onward n other) (index i) children tree e =

@@ -5,7 +5,8 @@ use Rattle.cue_table.specs.declared.node.Child.{Child}
 use Rattle.cue_table.specs.declared.plan.Piece.{Piece}
 use Rattle.cue_table.specs.declared.plan.Piece.TheVariants.{Keep, Insert, Alter}
 use Rattle.cue_table.specs.Tree.{Children, none, child}
-use Rattle.cue_table.specs.Inner.Plan.{Change, changed, merged, width, join, front, first_changed, pieces_size}
+use Rattle.cue_table.specs.Inner.Join.{join}
+use Rattle.cue_table.specs.Inner.Plan.{Change, changed, merged, width, front, first_changed, pieces_size}
 use Rattle.cue_table.specs.Inner.PlanView.{pieces_of}
 use Rattle.cue_table.specs.Inner.View.{branches}
 use Rattle.cue_table.proofs.Planning.{past_drop}

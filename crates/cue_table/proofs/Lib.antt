@@ -2,7 +2,9 @@ mod Adding
 mod Aligning
 mod Amending
 mod Behind
+mod Copying
 pub mod ByHalves
+mod Fields
 mod Filling
 mod Hanging
 mod Last
@@ -10,7 +12,8 @@ mod Merging
 mod MetBranches
 mod Planning
 mod Resting
-mod Unrolling
+mod Settling
+mod Sweeping
 pub mod Alike
 pub mod Appending
 pub mod Branches
@@ -18,6 +21,8 @@ pub mod Depth
 pub mod Drafts
 pub mod Exact
 pub mod Finding
+pub mod Gaps
+pub mod Joined
 pub mod Lattice
 pub mod Listed
 pub mod Listing
@@ -28,7 +33,9 @@ pub mod Nodes
 pub mod Order
 pub mod RestBegins
 pub mod RowLists
+pub mod RunPlaces
 pub mod SlotOrder
 pub mod Spanned
 pub mod ValidWalks
 pub mod Validity
+pub mod Ways

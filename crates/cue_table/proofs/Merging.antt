@@ -8,7 +8,8 @@ use Rattle.cue_table.specs.Refuses.{TableRefuses}
 use Rattle.cue_table.specs.Form.{IsBelowAll, IsTaken, IsTree, AreBranches, IsKept, IsTable}
 use Rattle.cue_table.specs.Meet.{BranchesRefuse, IsMerge, IsMet, IsUnion}
 use Rattle.cue_table.specs.Inner.Place.{AreBefore}
-use Rattle.cue_table.specs.Inner.Plan.{join, front, past, first_changed}
+use Rattle.cue_table.specs.Inner.Join.{join}
+use Rattle.cue_table.specs.Inner.Plan.{front, past, first_changed}
 use Rattle.cue_table.proofs.Order.{equal_steps}
 use Rattle.cue_table.proofs.Branches.{find_before, find_past, find_below, below_all, found_refuses, not_silent}
 

@@ -4,17 +4,18 @@ use Rattle.std.specs.List.{insert as inserted}
 use Rattle.cue_row.specs.Steps.{step_of}
 use Rattle.cue_table.specs.declared.node.Child.{Child}
 use Rattle.cue_table.specs.declared.node.Node.TheInside.{Inside}
-use Rattle.cue_table.specs.Tree.{Tree, node, none, child, no_rest, row_of}
+use Rattle.cue_table.specs.Tree.{Tree, node, none, child, no_rest, rest_of, row_of}
 use Rattle.cue_table.specs.Refuses.{RowRefuses}
 use Rattle.cue_table.specs.Form.{AreBranches, IsKept, IsTable}
 use Rattle.cue_table.specs.Meet.{IsMerge, IsMet, IsUnion}
 use Rattle.cue_table.specs.Inner.Place.{IsPlace, IsGap}
-use Rattle.cue_table.specs.Inner.Plan.{take, or_row, join, front, past, first_changed}
+use Rattle.cue_table.specs.Inner.Join.{join}
+use Rattle.cue_table.specs.Inner.Plan.{take, or_row, front, past, first_changed}
 use Rattle.cue_table.specs.Inner.View.{branches, rest_in, tree_of}
 use Rattle.cue_table.proofs.Filling.{branches_join, branches_take}
 use Rattle.cue_table.proofs.Merging.{merge_stay, merge_insert, merge_alter}
 use Rattle.cue_table.proofs.Nodes.{form_from}
-use Rattle.cue_table.proofs.Planning.{past_at, past_drop, planned_views}
+use Rattle.cue_table.proofs.Planning.{changed_free, past_at, past_drop, planned_views}
 
 module _ {R Q : Type 0} where
   inserted_at : (cs : List (Child R Q)) (c : Child R Q) (at : ℕ) → branches (inserted cs at c) ≡ join (front at (branches cs)) (child (step_of c.step) c.node (past at (branches cs)))
@@ -63,4 +64,5 @@ pub met_nodes :
     → IsUnion (RowRefuses refuses a.row) (RowRefuses refuses b.row) (RowRefuses refuses (or_row row a.row))
     → IsMerge refuses P (branches a.children.items) (branches b.children.items) (branches cs) → new ≡ node (or_row row a.row) (branches cs) no_rest → IsMet refuses s t new
 met_nodes refuses P a b s t new row cs e f x y rows merge is =
-    subst (IsMet refuses s t) (sym (is ∙ ap (λ x. node (or_row row (row_of x)) (branches cs) no_rest) e)) (planned_views refuses P a b s t row (take (branches cs)) e f x y rows merge)
+    subst (IsMet refuses s t) (sym (is ∙ ap (λ x. node (or_row row (row_of x)) (branches cs) no_rest) e))
+    (subst (IsMet refuses s t) (changed_free row (take (branches cs)) s (sym (ap rest_of e) ∙ x)) (planned_views refuses P a b s t row (take (branches cs)) e f x y rows merge))

@@ -8,20 +8,29 @@ use Rattle.cue_lattice.specs.Path.{label, index, step_cmp}
 use Rattle.cue_row.specs.declared.step.Step.{Step}
 use Rattle.cue_row.specs.declared.step.Step.TheVariants.{Label, Index}
 use Rattle.cue_row.specs.Steps.{step_of}
-use Rattle.cue_table.specs.Tree.{Tree, node, Children, none, child, Rest, taken, labels_of, items_of}
+use Rattle.cue_table.specs.Tree.{Tree, node, Children, none, child, taken, labels_of, items_of}
 use Rattle.std.specs.Global.{Global}
 use Rattle.std.specs.Prelude.{Box}
 use Rattle.cue_table.specs.declared.node.Onward.{Onward}
 use Rattle.cue_table.specs.Tree.{behind_last}
 use Rattle.cue_table.specs.Form.{IsBelowAll, Rise, StartsAtIndex, IsTree, AreBranches, IsRestOf}
-use Rattle.cue_table.specs.Inner.View.{branches, rest_in, tree_of}
+use Rattle.cue_table.specs.Inner.View.{below_in, branches, rest_in, run_branches, tree_of}
 use Rattle.cue_table.specs.declared.node.Child.{Child}
 use Rattle.cue_table.specs.declared.node.Node.TheInside.{Inside}
 use Rattle.cue_table.proofs.Finding.{at_or_below}
+use Rattle.cue_table.proofs.Joined.{join_parts}
 
 -- the branches of a tree in form are in form
+below_form : {R Q : Type 0} (P : R → Type 0) (a : Inside R Q) (tree : Tree R) → tree_of a ≡ tree → IsTree P tree → AreBranches P (below_in (branches a.children.items) a.rest)
+below_form P a tree e h = let here : IsTree P (tree_of a) = subst (IsTree P) (sym e) h in here.1
+
+own_form : {R Q : Type 0} (P : R → Type 0) (cs : List (Child R Q)) (rest : Option (Box (Onward R Q) Global)) → AreBranches P (below_in (branches cs) rest) → AreBranches P (branches cs)
+own_form P cs None h = h
+own_form P cs (Some b) h = (join_parts P (branches cs) (run_branches b.value.runs.items) h).0
+
+-- so are those at steps of their own
 pub branches_form : {R Q : Type 0} (P : R → Type 0) (a : Inside R Q) (tree : Tree R) → tree_of a ≡ tree → IsTree P tree → AreBranches P (branches a.children.items)
-branches_form P a tree e h = let here : IsTree P (tree_of a) = subst (IsTree P) (sym e) h in here.1
+branches_form P a tree e h = own_form P a.children.items a.rest (below_form P a tree e h)
 
 before_less : (i n : ℕ) → nat_cmp i n ≡ Less → i < n
 before_less i n h = search rules
@@ -30,34 +39,23 @@ before_less i n h = search rules
 pub rest_form : {R Q : Type 0} (P : R → Type 0) (a : Inside R Q) (tree : Tree R) (b : Box (Onward R Q) Global) → tree_of a ≡ tree → a.rest ≡ Some b → IsTree P tree → IsTree P b.value.node
 rest_form P a tree b e r h =
     let here : IsTree P (tree_of a) = subst (IsTree P) (sym e) h in
-    let rest : IsRestOf P (branches a.children.items) (rest_in (Some b)) = subst (λ x. IsRestOf P (branches a.children.items) (rest_in x)) r here.2 in
+    let rest : IsRestOf P (below_in (branches a.children.items) (Some b)) (rest_in (Some b)) = subst (λ x. IsRestOf P (below_in (branches a.children.items) x) (rest_in x)) r here.2 in
     rest.3
 
 -- a node with branches is not empty
 pub taken_below :
-    {R Q : Type 0} (row : Option R) (cs : List (Child R Q)) (rest : Rest R) (len : ℕ) → len ≡ length cs → false ≡ nat_eq len 0
-    → taken (node row (branches cs) rest) ≡ Some (node row (branches cs) rest)
+    {R Q : Type 0} (row : Option R) (cs : List (Child R Q)) (rest : Option (Box (Onward R Q) Global)) (len : ℕ) → len ≡ length cs → false ≡ nat_eq len 0
+    → taken (node row (below_in (branches cs) rest) (rest_in rest)) ≡ Some (node row (below_in (branches cs) rest) (rest_in rest))
 taken_below (Some row) cs rest len e h = refl
-taken_below None (c ∷ cs) rest len e h = refl
+taken_below None (c ∷ cs) None len e h = refl
+taken_below None (c ∷ cs) (Some b) len e h = refl
 taken_below None [] rest len e h = let no : nat_eq 0 0 ≡ false = subst (λ n. nat_eq n 0 ≡ false) e (sym h) in cc
-
--- after an index come indexes
-starts_after : {R : Type 0} (n : ℕ) (children : Children R) → IsBelowAll (index n) children → StartsAtIndex children
-starts_after n none h = tt
-starts_after n (child (label text) tree children) h = let e = h.0 in cc
-starts_after n (child (index m) tree children) h = tt
 
 -- no label stands after an index
 no_labels : {R : Type 0} (n : ℕ) (children : Children R) → IsBelowAll (index n) children → labels_of children ≡ []
 no_labels n none h = refl
 no_labels n (child (label text) tree children) h = let e = h.0 in cc
 no_labels n (child (index m) tree children) h = no_labels n children h.1
-
-step_of_same : (s t : Step) → step_of s ≡ step_of t → s ≡ t
-step_of_same (Label l) (Label m) e = let same : l ≡ m = cc in ap Label same
-step_of_same (Index l) (Index m) e = let same : l ≡ m = cc in ap Index same
-step_of_same (Label l) (Index m) e = cc
-step_of_same (Index l) (Label m) e = cc
 
 -- the step is a label
 abbrev pub is_label : Step → Bool
@@ -156,33 +154,3 @@ module _ {R Q : Type 0} where
   starts_from [] (suc k) p = tt
   starts_from (c ∷ cs) (suc k) p =
       starts_from cs k (λ i d low lt. p.0 (suc i) d (omega arith) (omega arith), λ i d low lt. p.1 (suc i) d (omega arith) (omega arith))
-
-  -- the branches tell the children that they are made of
-  pub branches_same : (cs ds : List (Child R Q)) → branches cs ≡ branches ds → cs ≡ ds
-  branches_same [] [] e = refl
-  branches_same (c ∷ cs) (d ∷ ds) e =
-      let steps : step_of c.step ≡ step_of d.step = cc in
-      let step : c.step ≡ d.step = step_of_same c.step d.step steps in
-      let tree : c.node ≡ d.node = cc in
-      let others : branches cs ≡ branches ds = cc in
-      let rest = branches_same cs ds others in
-      λ i. record { step = step i; node = tree i } ∷ rest i
-  branches_same [] (d ∷ ds) e = cc
-  branches_same (c ∷ cs) [] e = cc
-
-  -- nodes are equal where their rows, their children and their rests are
-  pub same_nodes :
-      (a b : Inside R Q) (s t : Tree R) → tree_of a ≡ s → tree_of b ≡ t
-      → (a.row ≡ b.row) → (a.children.items ≡ b.children.items) → (rest_in a.rest ≡ rest_in b.rest) → s ≡ t
-  same_nodes a b s t e f row children rest =
-      sym e ∙ (λ i. node (row i) (branches (children i)) (rest i)) ∙ f
-
-  pub same_parts :
-      (a b : Inside R Q) (s t : Tree R) → tree_of a ≡ s → tree_of b ≡ t → s ≡ t
-      → (a.row ≡ b.row) × (a.children.items ≡ b.children.items) × (rest_in a.rest ≡ rest_in b.rest)
-  same_parts a b s t e f g =
-      let same : node a.row (branches a.children.items) (rest_in a.rest) ≡ node b.row (branches b.children.items) (rest_in b.rest) = e ∙ g ∙ sym f in
-      let row : a.row ≡ b.row = cc in
-      let inner : branches a.children.items ≡ branches b.children.items = cc in
-      let rest : rest_in a.rest ≡ rest_in b.rest = cc in
-      (row, branches_same a.children.items b.children.items inner, rest)

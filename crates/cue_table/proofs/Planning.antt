@@ -1,19 +1,28 @@
 -- What the loop keeps that plans the union of two lists of branches.
-use Rattle.std.proofs.Common.{◌≡◌, ℕ, zero, suc, ◌+◌, ◌≤◌, ◌<◌, List, [], ◌∷◌, ◌++◌, append_assoc, length, drop, get_or, Option, refl, sym, ap, subst, ◌∙◌, arith, length-drop, add-one}
+use Rattle.std.proofs.Common.{◌≡◌, ℕ, zero, suc, ◌+◌, ◌≤◌, ◌<◌, List, [], ◌∷◌, ◌++◌, append_assoc, length, drop, get_or, Option, Some, None, refl, sym, ap, subst, ◌∙◌, arith, length-drop, add-one}
 use Rattle.cue_row.specs.Steps.{step_of}
 use Rattle.cue_table.specs.declared.node.Child.{Child}
 use Rattle.cue_table.specs.declared.plan.Piece.{Piece}
 use Rattle.cue_table.specs.declared.plan.Piece.TheVariants.{Keep, Insert, Alter}
-use Rattle.cue_table.specs.Tree.{Tree, node, none, child, no_rest, onward, row_of, below, rest_of}
+use Rattle.std.specs.Prelude.{Box}
+use Rattle.std.specs.Global.{Global}
+use Rattle.cue_table.specs.declared.node.Onward.{Onward}
+use Rattle.cue_table.specs.Tree.{Tree, Children, node, none, child, no_rest, onward, row_of, below, rest_of}
 use Rattle.cue_table.specs.declared.node.Node.TheInside.{Inside}
 use Rattle.cue_table.specs.Refuses.{RowRefuses}
-use Rattle.cue_table.specs.Form.{AreBranches, IsKept, IsTable}
+use Rattle.cue_table.specs.Form.{AreBranches, IsKept, IsRow, IsTable, IsTree}
 use Rattle.cue_table.specs.Meet.{IsMerge, IsMet, IsUnion}
+use Rattle.std.specs.declared.cmp.Ordering.{Ordering}
+use Rattle.std.specs.declared.cmp.Ordering.TheVariants.{Greater}
+use Rattle.cue_lattice.specs.Path.{Step}
+use Rattle.cue_table.specs.Inner.Drafts.{against_step}
 use Rattle.cue_table.specs.Inner.Place.{IsPlace, IsGap}
-use Rattle.cue_table.specs.Inner.Plan.{Change, change, Branches, changed, changed_below, merged, or_row, width, join, front, past}
+use Rattle.cue_table.specs.Inner.Join.{join}
+use Rattle.cue_table.specs.Inner.Plan.{Change, change, Branches, changed, changed_below, merged, or_row, width, front, past}
 use Rattle.cue_table.specs.Inner.PlanView.{pieces_of}
 use Rattle.cue_table.specs.Depth.{tree_depth, children_depth}
-use Rattle.cue_table.specs.Inner.View.{branches, rest_in, tree_of}
+use Rattle.cue_table.specs.Inner.View.{below_in, branches, rest_in, run_branches, tree_of}
+use Rattle.cue_table.proofs.Joined.{join_none}
 use Rattle.cue_table.proofs.Merging.{merge_stay, merge_insert, merge_alter}
 
 module _ {R Q : Type 0} where
@@ -170,11 +179,66 @@ module _ {R Q : Type 0} (refuses : R → Q → Type 0) (is_value : R → Type 0)
       (goes_end refuses is_value left right rest pieces g, goes_end_room refuses is_value left right rest pieces g)
   ended left right rest (c ∷ others) pieces more g n e = absurd (omega arith)
 
+-- a place without a rest has its own branches alone
+pub own_only : {R Q : Type 0} (own : Children R) (rest : Option (Box (Onward R Q) Global)) → rest_in rest ≡ no_rest → below_in own rest ≡ own
+own_only own None e = refl
+own_only own (Some b) e = cc
+
+-- behind no runs it has just these, too
+pub no_runs : {R Q : Type 0} (own : Children R) (b : Box (Onward R Q) Global) → b.value.runs.items ≡ [] → below_in own (Some b) ≡ own
+no_runs own b e = ap (λ rs. join own (run_branches rs)) e ∙ join_none own
+
+-- a place without a rest as its own branches tell it
+pub own_view : {R Q : Type 0} (a : Inside R Q) (s : Tree R) → tree_of a ≡ s → rest_in a.rest ≡ no_rest → node a.row (branches a.children.items) (rest_in a.rest) ≡ s
+own_view a s e x = ap (λ cs. node a.row cs (rest_in a.rest)) (sym (own_only (branches a.children.items) a.rest x)) ∙ e
+
+-- where a place may go on behind its branches, it has no rest
+pub free_rest : {R : Type 0} (step : Step) (s : Tree R) (o : Ordering) → against_step step s ≡ o → (o ≡ Greater → ⊥) → rest_of s ≡ no_rest
+free_rest step (node row children no_rest) o e n = refl
+free_rest step (node row children (onward m tree)) o e n = absurd (n (sym e))
+
+-- what becomes of a place without a rest
+pub changed_free : {R : Type 0} (row : Option R) (lists : Branches R) (s : Tree R) → rest_of s ≡ no_rest → changed (change row lists) s ≡ node (or_row row (row_of s)) (changed_below lists (below s)) no_rest
+changed_free row lists (node q cs no_rest) x = refl
+changed_free row lists (node q cs (onward n tree)) x = absurd cc
+
+form_changed : {R : Type 0} (P : R → Type 0) (s : Tree R) (row : Option R) (lists : Branches R) → rest_of s ≡ no_rest → IsRow P (or_row row (row_of s)) → AreBranches P (changed_below lists (below s)) → IsTree P (changed (change row lists) s)
+form_changed P (node q cs no_rest) row lists x h k = (h, k, tt)
+form_changed P (node q cs (onward n tree)) row lists x h k = absurd cc
+
+module _ {R Q : Type 0} where
+  own_below : (a : Inside R Q) (s : Tree R) → tree_of a ≡ s → rest_in a.rest ≡ no_rest → below s ≡ branches a.children.items
+  own_below a s e x = ap below (sym e) ∙ own_only (branches a.children.items) a.rest x
+
+  -- a place without a rest is as deep as its own branches
+  pub own_depth : (a : Inside R Q) (s : Tree R) → tree_of a ≡ s → rest_in a.rest ≡ no_rest → children_depth (branches a.children.items) ≤ tree_depth s
+  own_depth a s e x = below_depth s (branches a.children.items) (own_below a s e x)
+    where
+      below_depth : (s : Tree R) (cs : Children R) → below s ≡ cs → children_depth cs ≤ tree_depth s
+      below_depth (node row children rest) cs e = subst (λ x. children_depth x ≤ tree_depth (node row children rest)) e (omega arith)
+
+  -- the row of a place in form is in form, and so are its branches where it has no rest
+  pub row_form : (P : R → Type 0) (a : Inside R Q) (s : Tree R) → tree_of a ≡ s → IsTree P s → IsRow P a.row
+  row_form P a s e h = let here : IsTree P (tree_of a) = subst (IsTree P) (sym e) h in here.0
+
+  pub own_form : (P : R → Type 0) (a : Inside R Q) (s : Tree R) → tree_of a ≡ s → rest_in a.rest ≡ no_rest → IsTree P s → AreBranches P (branches a.children.items)
+  own_form P a s e x h =
+      let here : IsTree P (tree_of a) = subst (IsTree P) (sym e) h in
+      subst (AreBranches P) (own_only (branches a.children.items) a.rest x) here.1
+
+  -- so is what becomes of it
+  pub planned_form :
+      (P : R → Type 0) (a : Inside R Q) (s : Tree R) (row : Option R) (lists : Branches R) → tree_of a ≡ s → rest_in a.rest ≡ no_rest → IsRow P (or_row row a.row)
+      → AreBranches P (changed_below lists (branches a.children.items)) → IsTree P (changed (change row lists) s)
+  planned_form P a s row lists e x h k =
+      let here : AreBranches P (changed_below lists (below (tree_of a))) = subst (λ cs. AreBranches P (changed_below lists cs)) (sym (own_only (branches a.children.items) a.rest x)) k in
+      subst (λ t. IsTree P (changed (change row lists) t)) e (form_changed P (tree_of a) row lists x h here)
+
 -- the union of two trees, by rows and by branches
 planned_met :
     {R Q : Type 0} (refuses : R → Q → Type 0) (P : R → Type 0) (s t : Tree R) (row : Option R) (lists : Branches R) → rest_of s ≡ no_rest → rest_of t ≡ no_rest
     → IsUnion (RowRefuses refuses (row_of s)) (RowRefuses refuses (row_of t)) (RowRefuses refuses (or_row row (row_of s)))
-    → IsMerge refuses P (below s) (below t) (changed_below lists (below s)) → IsMet refuses s t (changed (change row lists no_rest) s)
+    → IsMerge refuses P (below s) (below t) (changed_below lists (below s)) → IsMet refuses s t (changed (change row lists) s)
 planned_met refuses P (node q cs no_rest) (node r ds no_rest) row lists x y rows merge [] question = rows question
 planned_met refuses P (node q cs no_rest) (node r ds no_rest) row lists x y rows merge (step ∷ path) question = merge.refused step path question
 planned_met refuses P (node q cs (onward n tree)) t row lists x y rows merge path question = absurd cc
@@ -186,7 +250,10 @@ pub planned_views :
     → rest_in a.rest ≡ no_rest → rest_in b.rest ≡ no_rest
     → IsUnion (RowRefuses refuses a.row) (RowRefuses refuses b.row) (RowRefuses refuses (or_row row a.row))
     → IsMerge refuses P (branches a.children.items) (branches b.children.items) (changed_below lists (branches a.children.items))
-    → IsMet refuses s t (changed (change row lists no_rest) s)
+    → IsMet refuses s t (changed (change row lists) s)
 planned_views refuses P a b s t row lists e f x y rows merge =
-    let here : IsMet refuses (tree_of a) (tree_of b) (changed (change row lists no_rest) (tree_of a)) = planned_met refuses P (tree_of a) (tree_of b) row lists x y rows merge in
-    subst (λ x. IsMet refuses x t (changed (change row lists no_rest) x)) e (subst (λ x. IsMet refuses (tree_of a) x (changed (change row lists no_rest) (tree_of a))) f here)
+    let both : IsMerge refuses P (below (tree_of a)) (below (tree_of b)) (changed_below lists (below (tree_of a))) =
+    subst (λ cs. IsMerge refuses P cs (below (tree_of b)) (changed_below lists cs)) (sym (own_only (branches a.children.items) a.rest x))
+    (subst (λ cs. IsMerge refuses P (branches a.children.items) cs (changed_below lists (branches a.children.items))) (sym (own_only (branches b.children.items) b.rest y)) merge) in
+    let here : IsMet refuses (tree_of a) (tree_of b) (changed (change row lists) (tree_of a)) = planned_met refuses P (tree_of a) (tree_of b) row lists x y rows both in
+    subst (λ x. IsMet refuses x t (changed (change row lists) x)) e (subst (λ x. IsMet refuses (tree_of a) x (changed (change row lists) (tree_of a))) f here)

@@ -1,14 +1,26 @@
 -- Whether a rest begins where it does in the form of a table.
-use Rattle.cue_table.specs.Size.{tree_size, children_size}
+use Rattle.std.proofs.Common.{◌≡◌, ◌↔◌, ◌<◌, ◌≤◌, ◌+◌, ◌++◌, ℕ, zero, suc, List, [], ◌∷◌, length, Option, Some, None, refl, sym, ap, subst, ◌∙◌, arith}
+use Rattle.std.specs.Prelude.{Box, IsTrue, Bool, true, false, not}
+use Rattle.std.specs.Global.{Global}
+use Rattle.cue_lattice.specs.Path.{label, index}
+use Rattle.cue_row.specs.Steps.{step_of}
 use Rattle.cue_table.specs.declared.node.Child.{Child}
-use Rattle.cue_table.specs.Inner.View.{branches}
-use Rattle.std.proofs.Common.{length, get_or, ◌≡◌, ◌↔◌, ◌<◌, ◌≤◌, ◌+◌, ℕ, zero, suc, List, [], ◌∷◌, Some, None, refl, sym, ap, ◌∙◌, arith}
-use Rattle.std.specs.Prelude.{IsTrue, Bool, true, false, not}
-use Rattle.cue_lattice.specs.Path.{index}
-use Rattle.cue_table.specs.Tree.{Tree, Children, find, behind_last}
-use Rattle.cue_table.specs.Form.{IsTree, AreBranches, AreWithin, Differs}
-use Rattle.cue_table.specs.Inner.Loose.{IsLoose, AreLoose}
+use Rattle.cue_table.specs.declared.node.Node.TheInside.{Inside}
+use Rattle.cue_table.specs.declared.node.Onward.{Onward}
+use Rattle.cue_table.specs.declared.node.Run.{Run}
+use Rattle.cue_table.specs.Size.{tree_size}
+use Rattle.cue_table.specs.Form.{Rise, IsTree, AreBranches, AreWithin, Differs}
+use Rattle.cue_table.specs.Spans.{alike}
+use Rattle.cue_table.specs.Tree.{Tree, node, Children, none, child, below, find, behind_last}
+use Rattle.cue_table.specs.Inner.Join.{join}
+use Rattle.cue_table.specs.Inner.Loose.{IsBehind, IsLastElement, IsLoose}
+use Rattle.cue_table.specs.Inner.View.{below_in, branches, last_of, more_of, rest_in, run_branches, tree_of}
+use Rattle.cue_table.proofs.Branches.{find_first, find_past}
 use Rattle.cue_table.proofs.Exact.{none_within, within_last}
+use Rattle.cue_table.proofs.Joined.{below_front, greater_number, join_assoc, join_none, number_less}
+use Rattle.cue_table.proofs.Loosened.{loose_rise}
+use Rattle.cue_table.proofs.Nodes.{behind_label}
+use Rattle.cue_table.proofs.RunPlaces.{runs_join}
 
 pub not_true : (b : Bool) → IsTrue (not b) → IsTrue b → ⊥
 not_true true h k = cc
@@ -51,24 +63,90 @@ module _ {R : Type 0} where
   pub begins_early : (n k : ℕ) (last : Tree R) (children : Children R) → find (index k) children ≡ Some last → n ≤ k → AreWithin n children → ⊥
   begins_early n k last children f l h = let no : Some last ≡ None = sym f ∙ none_within n k children h l in cc
 
+-- ---- the last element
+module _ {R : Type 0} where
+  last_joined : (a : Children R) (n : ℕ) (tree : Tree R) → Rise (join a (child (index n) tree none)) → IsLastElement n tree (join a (child (index n) tree none))
+  last_joined none n tree h = record { last = omega arith; found = find_first (index n) tree none }
+  last_joined (child (label text) here a) n tree h =
+      let more = last_joined a n tree h.1 in
+      record { last = more.last; found = find_past (index n) (label text) here (join a (child (index n) tree none)) refl ∙ more.found }
+  last_joined (child (index i) here a) n tree h =
+      let more = last_joined a n tree h.1 in
+      let after = (below_front (index i) a (child (index n) tree none) h.0).1 in
+      let less = number_less i n after.0 in
+      record { last = omega (arith, more.last, less); found = find_past (index n) (index i) here (join a (child (index n) tree none)) (greater_number n i less) ∙ more.found }
+
+  abbrev all_but : ℕ → ℕ → Tree R → Children R
+  all_but i zero tree = none
+  all_but i (suc m) tree = child (index i) tree (all_but (suc i) m tree)
+
+  alike_last : (i m : ℕ) (tree : Tree R) → alike i m tree none ≡ join (all_but i m tree) (child (index (i + m)) tree none)
+  alike_last i zero tree = let same : i ≡ i + zero = omega arith in ap (λ n. child (index n) tree none) same
+  alike_last i (suc m) tree =
+      let same : suc i + m ≡ i + suc m = omega arith in
+      ap (child (index i) tree) (alike_last (suc i) m tree) ∙ ap (λ n. child (index i) tree (join (all_but (suc i) m tree) (child (index n) tree none))) same
+
+last_is : {R : Type 0} (a : Children R) (n : ℕ) (tree : Tree R) (all : Children R) → all ≡ join a (child (index n) tree none) → Rise all → IsLastElement n tree all
+last_is a n tree all e h = subst (IsLastElement n tree) (sym e) (last_joined a n tree (subst Rise e h))
+
+module _ {R Q : Type 0} where
+  -- that of the last run
+  pub last_run : (cs : List (Child R Q)) (rs front : List (Run R Q)) (r : Run R Q) → rs ≡ front ++ r ∷ [] → Rise (join (branches cs) (run_branches rs))
+      → IsLastElement (last_of r.first r.more) r.node (join (branches cs) (run_branches rs))
+  last_run cs rs front r e h =
+      let own = branches cs in
+      let others = run_branches front in
+      let more = more_of r.first r.more in
+      last_is (join own (join others (all_but r.first more r.node))) (last_of r.first r.more) r.node (join own (run_branches rs))
+      (ap (λ runs. join own (run_branches runs)) e ∙ ap (join own) (runs_join front (r ∷ []) ∙ ap (join others) (alike_last r.first more r.node) ∙ sym (join_assoc others (all_but r.first more r.node) (child (index (r.first + more)) r.node none)))
+      ∙ sym (join_assoc own (join others (all_but r.first more r.node)) (child (index (r.first + more)) r.node none))) h
+
+  branches_end : (front : List (Child R Q)) (c : Child R Q) → branches (front ++ c ∷ []) ≡ join (branches front) (child (step_of c.step) c.node none)
+  branches_end [] c = refl
+  branches_end (d ∷ front) c = ap (child (step_of d.step) d.node) (branches_end front c)
+
+  -- or that of the last branch, where there are no runs
+  pub last_branch : (cs front : List (Child R Q)) (rs : List (Run R Q)) (c : Child R Q) (n : ℕ) → length rs ≡ 0 → cs ≡ front ++ c ∷ [] → step_of c.step ≡ index n → Rise (join (branches cs) (run_branches rs))
+      → IsLastElement n c.node (join (branches cs) (run_branches rs))
+  last_branch cs front (r ∷ rs) c n l e f h = absurd (omega (arith, l))
+  last_branch cs front [] c n l e f h =
+      last_is (branches front) n c.node (join (branches cs) none)
+      (join_none (branches cs) ∙ ap branches e ∙ branches_end front c ∙ ap (λ s. join (branches front) (child s c.node none)) f) h
+
+  pub no_element_last : (cs front : List (Child R Q)) (rs : List (Run R Q)) (c : Child R Q) (text : List ℕ) → length rs ≡ 0 → cs ≡ front ++ c ∷ [] → step_of c.step ≡ label text → Rise (join (branches cs) (run_branches rs))
+      → behind_last (join (branches cs) (run_branches rs)) ≡ 0
+  no_element_last cs front (r ∷ rs) c text l e f h = absurd (omega (arith, l))
+  no_element_last cs front [] c text l e f h =
+      let same : join (branches cs) none ≡ branches (front ++ c ∷ []) = join_none (branches cs) ∙ ap branches e in
+      ap behind_last same ∙ behind_label front c text (subst Rise same h) f
+
+-- ---- the form of a tree whose rows and branches have theirs
 module _ {R Q : Type 0} (P : R → Type 0) where
-  -- each branch of a tree whose rows are told is of that form
-  pub child_loose : (cs : List (Child R Q)) (i : ℕ) (d : Child R Q) → i < length cs → AreLoose P (branches cs) → IsLoose P (get_or cs i d).node
-  child_loose [] i d l h = absurd (omega arith)
-  child_loose (c ∷ cs) zero d l h = h.2
-  child_loose (c ∷ cs) (suc i) d l h = child_loose cs i d (omega arith) h.3
+  abbrev whole : Inside R Q → Option (Box (Onward R Q) Global) → Tree R
+  whole a rest = node a.row (below_in (branches a.children.items) rest) (rest_in rest)
 
-  pub child_formed : (cs : List (Child R Q)) (i : ℕ) (d : Child R Q) → i < length cs → AreBranches P (branches cs) → IsTree P (get_or cs i d).node
-  child_formed [] i d l h = absurd (omega arith)
-  child_formed (c ∷ cs) zero d l h = h.2
-  child_formed (c ∷ cs) (suc i) d l h = child_formed cs i d (omega arith) h.3
+  -- it is right where there is no rest
+  pub formed_alone : (a : Inside R Q) (tree : Tree R) → tree_of a ≡ tree → a.rest ≡ None → IsLoose P tree → AreBranches P (below tree) → IsTree P tree
+  formed_alone a tree e f = subst (λ t. IsLoose P t → AreBranches P (below t) → IsTree P t) (sym (ap (whole a) f) ∙ e) (λ h k. (h.0, k, tt))
 
-  pub all_formed : (cs : List (Child R Q)) → AreLoose P (branches cs) → ((j : ℕ) (d : Child R Q) → j < length cs → IsTree P (get_or cs j d).node) → AreBranches P (branches cs)
-  all_formed [] h f = tt
-  all_formed (c ∷ cs) h f = (h.0, h.1, f 0 c (omega arith), all_formed cs h.3 (λ j d l. f (suc j) d (omega arith)))
+  -- or where its rest is
+  pub formed_rest :
+      (a : Inside R Q) (tree : Tree R) (b : Box (Onward R Q) Global) → tree_of a ≡ tree → a.rest ≡ Some b → IsLoose P tree → AreBranches P (below tree)
+      → IsTree P tree ↔ (IsBehind b.value.from b.value.node (join (branches a.children.items) (run_branches b.value.runs.items)) × IsTree P b.value.node)
+  formed_rest a tree b e f =
+      let right : Type 0 = IsBehind b.value.from b.value.node (join (branches a.children.items) (run_branches b.value.runs.items)) × IsTree P b.value.node in
+      subst (λ t. IsLoose P t → AreBranches P (below t) → IsTree P t ↔ right) (sym (ap (whole a) f) ∙ e)
+      (λ h k. (λ w. ((w.2.0, w.2.1), w.2.3), λ w. (h.0, k, (w.0.0, w.0.1, h.2.0, w.1))))
 
-  -- each branch is smaller than all together
-  pub child_smaller : (cs : List (Child R Q)) (i : ℕ) (d : Child R Q) → i < length cs → tree_size (get_or cs i d).node ≤ children_size (branches cs)
-  child_smaller [] i d l = absurd (omega arith)
-  child_smaller (c ∷ cs) zero d l = omega arith
-  child_smaller (c ∷ cs) (suc i) d l = let less = child_smaller cs i d (omega arith) in omega arith
+  -- the branches of a place with a rest rise
+  pub rest_rise : (a : Inside R Q) (tree : Tree R) (b : Box (Onward R Q) Global) → tree_of a ≡ tree → a.rest ≡ Some b → IsLoose P tree → Rise (join (branches a.children.items) (run_branches b.value.runs.items))
+  rest_rise a tree b e f h =
+      let here : IsLoose P (whole a (Some b)) = subst (IsLoose P) (sym (sym (ap (whole a) f) ∙ e)) h in
+      loose_rise P (join (branches a.children.items) (run_branches b.value.runs.items)) here.1
+
+  -- its rest has that form too, and is smaller
+  pub rest_loose : (a : Inside R Q) (tree : Tree R) (b : Box (Onward R Q) Global) → tree_of a ≡ tree → a.rest ≡ Some b → IsLoose P tree → IsLoose P b.value.node × (tree_size b.value.node < tree_size tree)
+  rest_loose a tree b e f h =
+      let here : IsLoose P (whole a (Some b)) = subst (IsLoose P) (sym (sym (ap (whole a) f) ∙ e)) h in
+      let size : tree_size (whole a (Some b)) ≡ tree_size tree = ap tree_size (sym (ap (whole a) f) ∙ e) in
+      (here.2.1, omega (arith, size))

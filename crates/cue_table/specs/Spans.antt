@@ -13,6 +13,11 @@ abbrev pub first_of : Span → Step
 first_of (field text) = label text
 first_of (elements i more) = index i
 
+-- how many stand behind it
+abbrev pub more_in : Span → ℕ
+more_in (field text) = 0
+more_in (elements i more) = more
+
 -- the element with an index and so many behind it, all alike, and then other branches
 abbrev pub alike : {R : Type 0} → ℕ → ℕ → Tree R → Children R → Children R
 alike i zero tree others = child (index i) tree others

@@ -71,7 +71,7 @@ impl<'a, R: Narrow> Branch<'a, R> {
         ensures form { IsTable R.refuses R.is_value self.now }
     {
         let node = self.node;
-        Children::new(&node.children)
+        Children::new(node.cursor())
     }
 
     /// The branches below that stand at a step of their own. Those of neighbouring elements that are
@@ -81,7 +81,7 @@ impl<'a, R: Narrow> Branch<'a, R> {
         ensures form { IsTable R.refuses R.is_value self.now }
     {
         let node = self.node;
-        Spans::new(&node.children)
+        Spans::new(node.cursor())
     }
 
     /// The branches at labels, by the bytes of the labels.
@@ -99,7 +99,7 @@ impl<'a, R: Narrow> Branch<'a, R> {
         ensures form { IsTable R.refuses R.is_value self.now }
     {
         let node = self.node;
-        Items::new(&node.children)
+        Items::new(node.cursor())
     }
 
     /// What each element is from index [`Branch::fixed`] on, unless nothing is known of it.

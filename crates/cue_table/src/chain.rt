@@ -58,13 +58,7 @@ pub(crate) fn rest_alone<R: Narrow>(
 ) -> Result<Node<R>, Memory>
     ensures { IfOk result (λ list. list ≡ node None none (onward from below)) }
 {
-    let rest = Box::new(
-        alloc,
-        Onward {
-            from: u64::from(from),
-            node: below,
-        },
-    )?;
+    let rest = Box::new(alloc, Onward::alone(alloc, u64::from(from), below))?;
     Ok(Node {
         row: None,
         children: Vec::new(alloc),

@@ -9,7 +9,7 @@ ghost use Rattle.cue_table.specs.Inner.PlanView.{HasRoom, amended, below_of, pie
 ghost use Rattle.cue_table.specs.Inner.View.{branches};
 
 use crate::node::{Child, Node};
-use crate::plan::{Below, Piece, Plan};
+use crate::plan::{Becomes, Below, Piece, Plan};
 use cue_lattice::Narrow;
 use std::alloc::Global;
 use std::mem;
@@ -20,11 +20,18 @@ use std::vec::IntoIter;
 pub(crate) fn change<R: Narrow>(alloc: Global, old: Node<R>, plan: Plan<R>) -> Node<R>
     ensures { result ≡ changed plan old }
 {
-    let Plan { row, below, rest } = plan;
-    Node {
-        row: row.or(old.row),
-        children: change_below(alloc, old.children, below),
-        rest,
+    match plan.becomes {
+        Becomes::Made(other) => other,
+        Becomes::Changed(row, below) => {
+            if old.rest.is_some() {
+                return old;
+            }
+            Node {
+                row: row.or(old.row),
+                children: change_below(alloc, old.children, below),
+                rest: None,
+            }
+        }
     }
 }
 

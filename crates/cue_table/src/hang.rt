@@ -68,7 +68,7 @@ fn one_step<R: Narrow>(alloc: Global, step: Step, below: Node<R>) -> Result<Node
 fn one_rest<R: Narrow>(alloc: Global, from: u64, below: Node<R>) -> Result<Node<R>, Memory>
     ensures { IfOk result (λ above. above ≡ node None none (onward from below)) }
 {
-    let rest = Box::new(alloc, Onward { from, node: below })?;
+    let rest = Box::new(alloc, Onward::alone(alloc, from, below))?;
     Ok(Node {
         row: None,
         children: Vec::new(alloc),
@@ -174,13 +174,6 @@ fn put_rest<R: Narrow>(
     ensures err { OnErr result (node.new ≡ node.old) }
 {
     let below = alone(alloc, beyond, row)?;
-    let rest = Box::new(
-        alloc,
-        Onward {
-            from: number,
-            node: below,
-        },
-    )?;
-    node.rest = Some(rest);
+    node.rest = Some(Box::new(alloc, Onward::alone(alloc, number, below))?);
     Ok(Hung::Behind)
 }

@@ -1,11 +1,14 @@
 //! The iterators over the branches of a place.
-ghost use Rattle.std.specs.Prelude.{◌≡◌};
+ghost use Rattle.std.specs.Prelude.{◌≡◌, None};
 ghost use Rattle.std.specs.Iterator.{YieldsFirstBy, item_count};
 ghost use Rattle.cue_table.specs.Tree.{children_of, labels_of, items_of};
 ghost use Rattle.cue_table.specs.Form.{AreBranches, IsKept};
 ghost use Rattle.cue_table.specs.StepsOfCode.{step_at, span_of};
-ghost use Rattle.cue_table.specs.Inner.View.{branches, spans_in};
+ghost use Rattle.cue_table.specs.Spans.{spread};
+ghost use Rattle.cue_table.specs.Inner.Cursors.{spans_left};
+ghost use Rattle.cue_table.specs.Inner.View.{branches};
 
+use crate::cursor::Cursor;
 use crate::node::Child;
 use crate::{Branch, Span, StepRef};
 use cue_lattice::Narrow;
@@ -16,7 +19,7 @@ use std::marker::Model;
 /// that are left.
 #[derive(Drop)]
 pub struct Children<'a, R: Narrow> {
-    rest: &'a [Child<R>],
+    left: Cursor<'a, R>,
 }
 
 impl<'a, R: Narrow> Model for Children<'a, R> {
@@ -27,20 +30,22 @@ impl<'a, R: Narrow> Model for Children<'a, R> {
 
     ghost coded = { children_code R.code };
 
-    ghost use Rattle.cue_table.specs.Inner.View.{branches};
+    ghost use Rattle.cue_table.specs.Spans.{spread};
+    ghost use Rattle.cue_table.specs.Inner.Cursors.{spans_left};
     ghost use Rattle.cue_table.specs.Form.{AreBranches, IsKept};
 
-    ghost view = { λ it. branches it.rest.now };
+    ghost view = { λ it. spread (spans_left it.left) };
 
-    ghost invariant = { λ it. AreBranches (IsKept R.refuses R.is_value) (branches it.rest.now) };
+    ghost invariant = { λ it.
+        AreBranches (IsKept R.refuses R.is_value) (spread (spans_left it.left)) };
 }
 
 impl<'a, R: Narrow> Children<'a, R> {
-    pub(crate) fn new(rest: &'a [Child<R>]) -> Children<'a, R>
-        requires { AreBranches (IsKept R.refuses R.is_value) (branches rest.now) }
-        ensures { result ≡ branches rest.now }
+    pub(crate) fn new(left: Cursor<'a, R>) -> Children<'a, R>
+        requires { AreBranches (IsKept R.refuses R.is_value) (spread (spans_left left)) }
+        ensures { result ≡ spread (spans_left left.entry) }
     {
-        Children { rest }
+        Children { left }
     }
 }
 
@@ -52,9 +57,9 @@ impl<'a, R: Narrow> Iterator for Children<'a, R> {
     ghost remaining = { item_count children_of };
 
     fn next(&mut self) -> Option<(StepRef<'a>, Branch<'a, R>)> {
-        let (child, rest) = self.rest.split_first()?;
-        self.rest = rest;
-        Some((StepRef::of(&child.step), Branch::new(&child.node)))
+        let (span, node) = self.left.next()?;
+        self.left.put_back(span, 0, node);
+        Some((span.first(), Branch::new(node)))
     }
 }
 
@@ -62,7 +67,7 @@ impl<'a, R: Narrow> Iterator for Children<'a, R> {
 /// order of the steps. Contracts see the list of those that are left.
 #[derive(Drop)]
 pub struct Spans<'a, R: Narrow> {
-    rest: &'a [Child<R>],
+    left: Cursor<'a, R>,
 }
 
 impl<'a, R: Narrow> Model for Spans<'a, R> {
@@ -75,20 +80,22 @@ impl<'a, R: Narrow> Model for Spans<'a, R> {
 
     ghost coded = { spans_code R.code };
 
-    ghost use Rattle.cue_table.specs.Inner.View.{branches, spans_in};
+    ghost use Rattle.cue_table.specs.Spans.{spread};
+    ghost use Rattle.cue_table.specs.Inner.Cursors.{spans_left};
     ghost use Rattle.cue_table.specs.Form.{AreBranches, IsKept};
 
-    ghost view = { λ it. spans_in it.rest.now };
+    ghost view = { λ it. spans_left it.left };
 
-    ghost invariant = { λ it. AreBranches (IsKept R.refuses R.is_value) (branches it.rest.now) };
+    ghost invariant = { λ it.
+        AreBranches (IsKept R.refuses R.is_value) (spread (spans_left it.left)) };
 }
 
 impl<'a, R: Narrow> Spans<'a, R> {
-    pub(crate) fn new(rest: &'a [Child<R>]) -> Spans<'a, R>
-        requires { AreBranches (IsKept R.refuses R.is_value) (branches rest.now) }
-        ensures { result ≡ spans_in rest.now }
+    pub(crate) fn new(left: Cursor<'a, R>) -> Spans<'a, R>
+        requires { AreBranches (IsKept R.refuses R.is_value) (spread (spans_left left)) }
+        ensures { result ≡ spans_left left.entry }
     {
-        Spans { rest }
+        Spans { left }
     }
 }
 
@@ -100,16 +107,8 @@ impl<'a, R: Narrow> Iterator for Spans<'a, R> {
     ghost remaining = { item_count (λ rest. rest) };
 
     fn next(&mut self) -> Option<(Span<'a>, Branch<'a, R>)> {
-        let (child, rest) = self.rest.split_first()?;
-        self.rest = rest;
-        let span = match &child.step {
-            Step::Label(label) => Span::Label(label),
-            Step::Index(number) => Span::Elements {
-                first: *number,
-                more: 0,
-            },
-        };
-        Some((span, Branch::new(&child.node)))
+        let (span, node) = self.left.next()?;
+        Some((span, Branch::new(node)))
     }
 }
 
@@ -171,7 +170,7 @@ impl<'a, R: Narrow> Iterator for Labels<'a, R> {
 /// of those that are left.
 #[derive(Drop)]
 pub struct Items<'a, R: Narrow> {
-    rest: &'a [Child<R>],
+    left: Cursor<'a, R>,
 }
 
 impl<'a, R: Narrow> Model for Items<'a, R> {
@@ -184,23 +183,28 @@ impl<'a, R: Narrow> Model for Items<'a, R> {
     ghost coded = { items_code R.code };
 
     ghost use Rattle.cue_table.specs.Tree.{items_of};
-    ghost use Rattle.cue_table.specs.Inner.View.{branches};
+    ghost use Rattle.cue_table.specs.Spans.{spread};
+    ghost use Rattle.cue_table.specs.Inner.Cursors.{spans_left};
     ghost use Rattle.cue_table.specs.Form.{AreBranches, IsKept, StartsAtIndex};
 
-    ghost view = { λ it. items_of (branches it.rest.now) };
+    ghost view = { λ it. items_of (spread (spans_left it.left)) };
 
-    ghost invariant = { λ it. AreBranches (IsKept R.refuses R.is_value) (branches it.rest.now)
-        × StartsAtIndex (branches it.rest.now) };
+    ghost invariant = { λ it.
+        AreBranches (IsKept R.refuses R.is_value) (spread (spans_left it.left))
+        × StartsAtIndex (spread (spans_left it.left)) };
 }
 
 impl<'a, R: Narrow> Items<'a, R> {
-    pub(crate) fn new(children: &'a [Child<R>]) -> Items<'a, R>
-        requires { AreBranches (IsKept R.refuses R.is_value) (branches children.now) }
-        ensures { result ≡ items_of (branches children.now) }
+    pub(crate) fn new(mut left: Cursor<'a, R>) -> Items<'a, R>
+        requires begun { left.begun ≡ None }
+        requires form { AreBranches (IsKept R.refuses R.is_value) (spread (spans_left left)) }
+        ensures { result ≡ items_of (spread (spans_left left.entry)) }
     {
-        let labels = children.partition_point(|child| matches!(&child.step, Step::Label(_)));
-        let (_, rest) = children.split_at(labels);
-        Items { rest }
+        let labels = left
+            .own
+            .partition_point(|child| matches!(&child.step, Step::Label(_)));
+        left.own = left.own.split_at(labels).1;
+        Items { left }
     }
 }
 
@@ -212,13 +216,13 @@ impl<'a, R: Narrow> Iterator for Items<'a, R> {
     ghost remaining = { item_count (λ rest. rest) };
 
     fn next(&mut self) -> Option<(u32, Branch<'a, R>)> {
-        let (child, rest) = self.rest.split_first()?;
-        match &child.step {
+        let (span, node) = self.left.next()?;
+        match span {
             // Only indexes are left.
-            Step::Label(_) => None,
-            Step::Index(number) => {
-                self.rest = rest;
-                Some((*number, Branch::new(&child.node)))
+            Span::Label(_) => None,
+            Span::Elements { first, more: _ } => {
+                self.left.put_back(span, 0, node);
+                Some((first, Branch::new(node)))
             }
         }
     }

@@ -1,12 +1,17 @@
-ghost use Rattle.std.specs.Prelude.{◌≡◌, ◌↔◌, map, IfOk, IfSome, IsTrue, MatchResult, None};
+ghost use Rattle.std.specs.Prelude.{◌≡◌, [], None, map, IfOk, IfSome, MatchResult};
 ghost use Rattle.std.specs.Option.{option_map};
 ghost use Rattle.cue_table.specs.Tree.{empty, below, row_of, taken, find, step_into, branch_at};
 ghost use Rattle.cue_table.specs.Form.{IsTable, Rise};
+ghost use Rattle.cue_lattice.specs.Path.{index};
 ghost use Rattle.cue_row.specs.Steps.{step_of};
-ghost use Rattle.cue_table.specs.Inner.View.{branches, rest_in};
+ghost use Rattle.cue_table.specs.Spans.{spread};
+ghost use Rattle.cue_table.specs.Inner.Cursors.{spans_left};
+ghost use Rattle.cue_table.specs.Inner.View.{branches, last_of, rest_in, run_branches, runs_in};
 ghost use Rattle.cue_table.specs.Inner.Place.{IsGap, IsPlace};
 
 use crate::boxed::Boxed;
+use crate::cursor::Cursor;
+use crate::runs::{find_element, find_run};
 use cue_lattice::{Memory, Narrow};
 use cue_row::Step;
 use std::alloc::Global;
@@ -20,7 +25,7 @@ pub struct Node<R: Narrow> {
     pub(crate) row: Option<Boxed<R>>,
     /// The branches below, each at its step, in the order of the steps.
     pub(crate) children: Vec<Child<R>>,
-    /// What each element is from an index on, behind those among the branches.
+    /// How a list goes on behind these branches, where something is known of its further elements.
     pub(crate) rest: Option<Box<Onward<R>>>,
 }
 
@@ -32,12 +37,24 @@ pub(crate) struct Child<R: Narrow> {
     pub(crate) node: Node<R>,
 }
 
-/// What each element is from an index on.
+/// How a list goes on: elements of their own, and what each element is from an index on.
 #[derive(Drop)]
 #[cycle(node)]
 pub(crate) struct Onward<R: Narrow> {
-    /// The first of these indexes, at most 2^32.
+    /// Elements behind those among the branches, in their order.
+    pub(crate) runs: Vec<Run<R>>,
+    /// The first index from which on all elements are alike, at most 2^32.
     pub(crate) from: u64,
+    pub(crate) node: Node<R>,
+}
+
+/// Neighbouring elements that are alike, kept once: that with the first index, and so many behind
+/// it, as far as there are indexes.
+#[derive(Drop)]
+#[cycle(node)]
+pub(crate) struct Run<R: Narrow> {
+    pub(crate) first: u32,
+    pub(crate) more: u32,
     pub(crate) node: Node<R>,
 }
 
@@ -94,19 +111,42 @@ impl<R: Narrow> Node<R> {
         }
     }
 
-    /// The branch one step below: an element behind those among the branches is the rest.
+    /// The branch one step below: an element from the index of the rest on is the rest.
     pub(crate) fn step_into(&self, step: &Step) -> Option<&Node<R>>
         requires { Rise (below self.now) }
         ensures { option_map (λ node. node.now) result ≡ step_into self.now (step_of step.now) }
     {
-        if let Some(rest) = &self.rest {
-            if let Step::Index(number) = step {
-                if u64::from(*number) >= rest.from {
-                    return Some(&rest.node);
-                }
-            }
+        match step {
+            Step::Label(_) => find(&self.children, step),
+            Step::Index(number) => self.element(*number),
         }
-        find(&self.children, step)
+    }
+
+    /// The element with an index.
+    pub(crate) fn element(&self, number: u32) -> Option<&Node<R>>
+        requires { Rise (below self.now) }
+        ensures { option_map (λ node. node.now) result ≡ step_into self.now (index number) }
+    {
+        let own = find_element(&self.children, number);
+        let Some(onward) = &self.rest else {
+            return own;
+        };
+        if u64::from(number) >= onward.from {
+            return Some(&onward.node);
+        }
+        own.or(find_run(&onward.runs, number))
+    }
+
+    /// The way along the branches.
+    pub(crate) fn cursor(&self) -> Cursor<R>
+        ensures all { spread (spans_left result) ≡ below self.now }
+        ensures begun { result.begun ≡ None }
+    {
+        Cursor {
+            begun: None,
+            own: &self.children,
+            runs: runs_behind(&self.rest),
+        }
     }
 
     /// The branch at a path.
@@ -123,20 +163,6 @@ impl<R: Narrow> Node<R> {
         Some(node)
     }
 
-    /// Whether both are the same place.
-    #[cycle(same)]
-    pub(crate) fn same(&self, other: &Node<R>) -> bool
-        ensures { IsTrue result ↔ (self.now ≡ other.now) }
-    {
-        if !same_row(&self.row, &other.row) {
-            return false;
-        }
-        if !same_children(&self.children, &other.children) {
-            return false;
-        }
-        same_rest(&self.rest, &other.rest)
-    }
-
     #[cycle(copy)]
     pub(crate) fn copy(&self, alloc: Global) -> Result<Node<R>, Memory>
         ensures { IfOk result (λ node. node ≡ self.now) }
@@ -146,6 +172,19 @@ impl<R: Narrow> Node<R> {
             children: copy_children(alloc, &self.children)?,
             rest: copy_rest(alloc, &self.rest)?,
         })
+    }
+}
+
+impl<R: Narrow> Onward<R> {
+    /// A rest behind no elements of its own.
+    pub(crate) fn alone(alloc: Global, from: u64, node: Node<R>) -> Onward<R>
+        ensures { (result.runs.items ≡ []) × (result.from ≡ from) × (result.node ≡ node) }
+    {
+        Onward {
+            runs: Vec::new(alloc),
+            from,
+            node,
+        }
     }
 }
 
@@ -161,32 +200,30 @@ impl<R: Narrow> Child<R> {
     }
 }
 
-fn same_row<R: Narrow>(left: &Option<Boxed<R>>, right: &Option<Boxed<R>>) -> bool
-    ensures { IsTrue result ↔ (left.now ≡ right.now) }
-{
-    match (left, right) {
-        (None, None) => true,
-        (Some(a), Some(b)) => a.row().same(b.row()),
-        _ => false,
+impl<R: Narrow> Run<R> {
+    #[cycle(copy)]
+    pub(crate) fn copy(&self, alloc: Global) -> Result<Run<R>, Memory>
+        ensures { IfOk result (λ copied. copied ≡ self.now) }
+    {
+        Ok(Run {
+            first: self.first,
+            more: self.more,
+            node: self.node.copy(alloc)?,
+        })
+    }
+
+    /// The index of the last of its elements.
+    pub(crate) fn last(&self) -> u32
+        ensures { result ≡ last_of self.now.first self.now.more }
+    {
+        self.first.saturating_add(self.more)
     }
 }
 
-#[cycle(same)]
-fn same_children<R: Narrow>(left: &[Child<R>], right: &[Child<R>]) -> bool
-    ensures { IsTrue result ↔ (left.now ≡ right.now) }
-{
-    if left.len() != right.len() {
-        return false;
-    }
-    for (i, child) in left.iter().enumerate() {
-        if !child.step.same(&right[i].step) || !child.node.same(&right[i].node) {
-            return false;
-        }
-    }
-    true
-}
-
-fn copy_row<R: Narrow>(alloc: Global, row: &Option<Boxed<R>>) -> Result<Option<Boxed<R>>, Memory>
+pub(crate) fn copy_row<R: Narrow>(
+    alloc: Global,
+    row: &Option<Boxed<R>>,
+) -> Result<Option<Boxed<R>>, Memory>
     ensures { IfOk result (λ copied. copied ≡ row.now) }
 {
     match row {
@@ -209,33 +246,45 @@ pub(crate) fn copy_children<R: Narrow>(
     Ok(copied)
 }
 
-#[cycle(same)]
-fn same_rest<R: Narrow>(left: &Option<Box<Onward<R>>>, right: &Option<Box<Onward<R>>>) -> bool
-    ensures { IsTrue result ↔ (rest_in left.now ≡ rest_in right.now) }
-{
-    match (left, right) {
-        (None, None) => true,
-        (Some(a), Some(b)) => a.from == b.from && a.node.same(&b.node),
-        _ => false,
-    }
-}
-
 #[cycle(copy)]
 fn copy_rest<R: Narrow>(
     alloc: Global,
     rest: &Option<Box<Onward<R>>>,
 ) -> Result<Option<Box<Onward<R>>>, Memory>
-    ensures { IfOk result (λ copied. rest_in copied ≡ rest_in rest.now) }
+    ensures runs { IfOk result (λ copied. runs_in copied ≡ runs_in rest.now) }
+    ensures rest { IfOk result (λ copied. rest_in copied ≡ rest_in rest.now) }
 {
     match rest {
         None => Ok(None),
-        Some(onward) => Ok(Some(Box::new(
-            alloc,
-            Onward {
+        Some(onward) => {
+            let copied = Onward {
+                runs: copy_runs(alloc, &onward.runs)?,
                 from: onward.from,
                 node: onward.node.copy(alloc)?,
-            },
-        )?)),
+            };
+            Ok(Some(Box::new(alloc, copied)?))
+        }
+    }
+}
+
+#[cycle(copy)]
+fn copy_runs<R: Narrow>(alloc: Global, runs: &[Run<R>]) -> Result<Vec<Run<R>>, Memory>
+    ensures { IfOk result (λ copied. copied.items ≡ runs.now) }
+{
+    let mut copied = Vec::with_capacity(alloc, runs.len())?;
+    for run in runs {
+        copied.push(run.copy(alloc)?)?;
+    }
+    Ok(copied)
+}
+
+/// The elements behind those among the branches.
+fn runs_behind<R: Narrow>(rest: &Option<Box<Onward<R>>>) -> &[Run<R>]
+    ensures { run_branches result.now ≡ runs_in rest.now }
+{
+    match rest {
+        None => &[],
+        Some(onward) => &onward.runs,
     }
 }
 

@@ -6,15 +6,12 @@ ghost use Rattle.cue_table.specs.Meet.{IsMerge, IsMet, IsUnion};
 ghost use Rattle.cue_table.specs.Inner.Plan.{IsAmending, changed, changed_below, merged};
 ghost use Rattle.cue_table.specs.Inner.Plan.{or_row, width};
 ghost use Rattle.cue_table.specs.Inner.PlanView.{HasRoom, below_of, pieces_of};
-ghost use Rattle.cue_table.specs.Inner.Rests.{AreMetBelow, AreMetRests, IsBranch};
-ghost use Rattle.cue_table.specs.Tree.{rest_tree};
 ghost use Rattle.cue_table.specs.Refuses.{RowRefuses};
-ghost use Rattle.cue_table.specs.Inner.View.{branches, rest_in};
+ghost use Rattle.cue_table.specs.Inner.View.{branches};
 
 use crate::boxed::Boxed;
-use crate::fill::{change, change_below};
-use crate::node::{Child, Node, Onward, copy_children, place};
-use crate::rest::{fixed, settled, unrolled};
+use crate::lists::list_met;
+use crate::node::{Child, Node, place};
 use cue_lattice::{Memory, Narrow, Narrowed};
 use std::alloc::Global;
 use std::marker::Model;
@@ -23,12 +20,18 @@ use std::marker::Model;
 #[derive(Drop)]
 #[cycle(plan)]
 pub(crate) struct Plan<R: Narrow> {
-    /// The row that will stand there, unless it stays as it is.
-    pub(crate) row: Option<Boxed<R>>,
-    /// What becomes of the branches.
-    pub(crate) below: Below<R>,
-    /// What further elements are then.
-    pub(crate) rest: Option<Box<Onward<R>>>,
+    pub(crate) becomes: Becomes<R>,
+}
+
+/// What becomes of a place.
+#[derive(Drop)]
+#[cycle(plan)]
+pub(crate) enum Becomes<R: Narrow> {
+    /// Of one without a rest, the row that will stand there, unless it stays as it is, and what
+    /// becomes of the branches.
+    Changed(Option<Boxed<R>>, Below<R>),
+    /// Another place stands there.
+    Made(Node<R>),
 }
 
 /// What becomes of the branches of a place.
@@ -65,17 +68,17 @@ impl<R: Narrow> Model for Plan<R> {
 
     ghost coded = { change_code R.code };
 
-    ghost use Rattle.cue_table.specs.Inner.PlanView.{HasRoom, change_of};
+    ghost use Rattle.cue_table.specs.Inner.PlanView.{IsRoomy, change_of};
 
     ghost view = { change_of };
 
-    ghost invariant = { λ a. HasRoom a.below };
+    ghost invariant = { λ a. IsRoomy a.becomes };
 
     ghost size = { change_size };
 
-    ghost use Rattle.cue_table.specs.Inner.PlanFalls.{below_falls};
+    ghost use Rattle.cue_table.specs.Inner.PlanFalls.{becomes_falls};
 
-    ghost size_decreases = { λ a h. below_falls R.Narrow a.below };
+    ghost size_decreases = { λ a h. becomes_falls R.Narrow a.becomes };
 }
 
 /// What becomes of a place that takes another one over.
@@ -91,99 +94,14 @@ pub(crate) fn planned<R: Narrow>(
     ensures refused { IfOk result (λ plan. IsMet R.refuses left.now right (changed plan left.now)) }
 {
     if left.rest.is_some() || right.rest.is_some() {
-        return plan_anew(alloc, left, right);
+        let becomes = Becomes::Made(list_met(alloc, left, right)?);
+        return Ok(Plan { becomes });
     }
+    let row = plan_row(alloc, &left.row, right.row)?;
+    let below = plan_below(alloc, &left.children, right.children)?;
     Ok(Plan {
-        row: plan_row(alloc, &left.row, right.row)?,
-        below: plan_below(alloc, &left.children, right.children)?,
-        rest: None,
+        becomes: Becomes::Changed(row, below),
     })
-}
-
-/// What becomes of a place where it or the one that it takes over has a rest: its branches and its
-/// rest are made anew.
-#[cycle(plan)]
-fn plan_anew<R: Narrow>(alloc: Global, left: &Node<R>, right: Node<R>) -> Result<Plan<R>, Memory>
-    requires left { IsTable R.refuses R.is_value left.now }
-    requires right { IsTable R.refuses R.is_value right }
-    ensures form { IfOk result (λ plan. IsTable R.refuses R.is_value (changed plan left.now)) }
-    ensures refused { IfOk result (λ plan. IsMet R.refuses left.now right (changed plan left.now)) }
-{
-    let Node {
-        row,
-        children,
-        rest,
-    } = right;
-    let row = plan_row(alloc, &left.row, row)?;
-    let others = Node {
-        row: None,
-        children,
-        rest,
-    };
-    let Node {
-        row: _,
-        children,
-        rest,
-    } = aligned(alloc, left, others)?;
-    Ok(Plan {
-        row,
-        below: Below::Take(children),
-        rest,
-    })
-}
-
-/// The branches and the rest of two places, met as lists of equal length. Up to the index from which
-/// on all elements are alike in both, each stands in a branch of its own. The row is left out.
-#[cycle(plan)]
-fn aligned<R: Narrow>(alloc: Global, left: &Node<R>, right: Node<R>) -> Result<Node<R>, Memory>
-    requires left { IsTable R.refuses R.is_value left.now }
-    requires right { IsTable R.refuses R.is_value right }
-    ensures form { IfOk result (IsTable R.refuses R.is_value) }
-    ensures refused { IfOk result (AreMetBelow R.refuses left.now right) }
-{
-    let fixed = u64::max(fixed(left), fixed(&right));
-    let copied = copy_children(alloc, &left.children)?;
-    let own = unrolled(alloc, copied, &left.rest, fixed)?;
-    let others = unrolled(alloc, right.children, &right.rest, fixed)?;
-    let rest = met_rest(alloc, &left.rest, right.rest)?;
-    let below = plan_below(alloc, &own, others)?;
-    settled(alloc, change_below(alloc, own, below), fixed, rest)
-}
-
-/// What two rests are together.
-#[cycle(plan)]
-fn met_rest<R: Narrow>(
-    alloc: Global,
-    left: &Option<Box<Onward<R>>>,
-    right: Option<Box<Onward<R>>>,
-) -> Result<Option<Node<R>>, Memory>
-    requires left { IsBranch (IsKept R.refuses R.is_value) (rest_tree (rest_in left.now)) }
-    requires right { IsBranch (IsKept R.refuses R.is_value) (rest_tree (rest_in right)) }
-    ensures form { IfOk result (IsBranch (IsKept R.refuses R.is_value)) }
-    ensures refused { IfOk result (AreMetRests R.refuses (rest_tree (rest_in left.now))
-        (rest_tree (rest_in right))) }
-{
-    match (left, right) {
-        (None, None) => Ok(None),
-        (None, Some(rest)) => Ok(Some(Box::into_inner(rest).node)),
-        (Some(rest), None) => Ok(Some(rest.node.copy(alloc)?)),
-        (Some(rest), Some(other)) => {
-            let met = met(alloc, &rest.node, Box::into_inner(other).node)?;
-            Ok(Some(met))
-        }
-    }
-}
-
-/// Two places met, the left one from a copy.
-#[cycle(plan)]
-fn met<R: Narrow>(alloc: Global, left: &Node<R>, right: Node<R>) -> Result<Node<R>, Memory>
-    requires left { IsTable R.refuses R.is_value left.now }
-    requires right { IsTable R.refuses R.is_value right }
-    ensures form { IfOk result (IsTable R.refuses R.is_value) }
-    ensures refused { IfOk result (IsMet R.refuses left.now right) }
-{
-    let plan = planned(alloc, left, right)?;
-    Ok(change(alloc, left.copy(alloc)?, plan))
 }
 
 /// The row that will stand at a place, unless it stays as it is.

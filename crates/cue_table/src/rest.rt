@@ -1,19 +1,14 @@
-//! Lists with a rest: their elements in branches of their own up to an index, and the rest as early
-//! as it can begin.
-ghost use Rattle.std.specs.Prelude.{◌≡◌, ◌↔◌, ◌≤◌, max, IfOk, IsTrue};
-ghost use Rattle.cue_row.specs.Steps.{step_of};
-ghost use Rattle.cue_table.specs.Depth.{children_depth, rest_depth};
-ghost use Rattle.cue_table.specs.Form.{AreBranches, AreWithin, IsKept, IsRestOf, IsTable};
-ghost use Rattle.cue_table.specs.Inner.Rests.{IsBranch, IsUnrolled, Repeats, found_to};
-ghost use Rattle.cue_table.specs.Inner.View.{branches, rest_in};
-ghost use Rattle.cue_table.specs.Tree.{fixed_of, fixed_with, step_into};
-ghost use Rattle.cue_lattice.specs.Path as paths;
+//! Lists with a rest: how they go on, and a rest that begins as early as it can.
+ghost use Rattle.std.specs.Prelude.{◌≡◌, ◌↔◌, IfSome, IfNone};
+ghost use Rattle.std.specs.Option.{option_map};
+ghost use Rattle.cue_table.specs.Form.{IsKept, IsTable, IsTaken};
+ghost use Rattle.cue_table.specs.Inner.Rests.{AreElements, IsLastRun, IsSettled, Repeats};
+ghost use Rattle.cue_table.specs.Inner.View.{run_branches};
+ghost use Rattle.cue_table.specs.Tree.{fixed_of, rest_of, rest_tree};
 
 use crate::branch::behind_last;
-use crate::node::{Child, Node, Onward};
-use cue_lattice::{Memory, Narrow};
-use cue_row::Step;
-use std::alloc::Global;
+use crate::node::{Node, Onward, Run};
+use cue_lattice::Narrow;
 
 /// From which index on all elements of a place are alike.
 pub(crate) fn fixed<R: Narrow>(node: &Node<R>) -> u64
@@ -26,89 +21,42 @@ pub(crate) fn fixed<R: Narrow>(node: &Node<R>) -> u64
     }
 }
 
-/// The branches of a place with each element before an index in a branch of its own: from its index
-/// on the rest stands in copies.
-pub(crate) fn unrolled<R: Narrow>(
-    alloc: Global,
-    mut children: Vec<Child<R>>,
-    rest: &Option<Box<Onward<R>>>,
-    to: u64,
-) -> Result<Vec<Child<R>>, Memory>
-    requires form { AreBranches (IsKept R.refuses R.is_value) (branches children.items) }
-    requires rest { IsRestOf (IsKept R.refuses R.is_value) (branches children.items)
-        (rest_in rest.now) }
-    requires fixed { fixed_with (rest_in rest.now) (branches children.items) ≤ to }
-    ensures form { IfOk result (λ own. AreBranches (IsKept R.refuses R.is_value)
-        (branches own.items)) }
-    ensures within { IfOk result (λ own. AreWithin to (branches own.items)) }
-    ensures same { IfOk result (λ own. IsUnrolled to (rest_in rest.now) (branches children.items)
-        (branches own.items)) }
-    ensures depth { IfOk result (λ own. children_depth (branches own.items)
-        ≤ max (children_depth (branches children.items)) (rest_depth (rest_in rest.now))) }
+/// What each of these elements is.
+pub(crate) fn rest<R: Narrow>(node: &Node<R>) -> Option<&Node<R>>
+    ensures { option_map (λ node. node.now) result ≡ rest_tree (rest_of node.now) }
 {
-    let Some(onward) = rest else {
-        return Ok(children);
-    };
-    for number in onward.from..to {
-        let Ok(number) = u32::try_from(number) else {
-            // No step has so great an index.
-            return Err(Memory);
-        };
-        let node = onward.node.copy(alloc)?;
-        children.push(Child {
-            step: Step::Index(number),
-            node,
-        })?;
+    match &node.rest {
+        None => None,
+        Some(rest) => Some(&rest.node),
     }
-    Ok(children)
 }
 
-/// A place of these branches, and of this rest from an index on. The rest begins earlier where the
-/// last elements before it are as it is.
-pub(crate) fn settled<R: Narrow>(
-    alloc: Global,
-    mut children: Vec<Child<R>>,
-    fixed: u64,
-    rest: Option<Node<R>>,
-) -> Result<Node<R>, Memory>
-    requires form { AreBranches (IsKept R.refuses R.is_value) (branches children.items) }
-    requires within { AreWithin fixed (branches children.items) }
-    requires rest { IsBranch (IsKept R.refuses R.is_value) rest }
-    ensures form { IfOk result (IsTable R.refuses R.is_value) }
-    ensures same { IfOk result (λ node. (step : paths.Step)
-        → step_into node step ≡ found_to fixed rest step (branches children.items)) }
+/// How a list goes on that has these elements, and this rest from an index on. The rest begins
+/// earlier where the last elements before it are as it is.
+pub(crate) fn settled<R: Narrow>(mut runs: Vec<Run<R>>, fixed: u64, node: Node<R>) -> Onward<R>
+    requires elements { AreElements (IsKept R.refuses R.is_value) fixed (run_branches runs.items) }
+    requires taken { IsTaken node }
+    requires rest { IsTable R.refuses R.is_value node }
+    ensures { IsSettled (IsKept R.refuses R.is_value) fixed (run_branches runs.items) node result }
 {
-    let Some(node) = rest else {
-        return Ok(Node {
-            row: None,
-            children,
-            rest: None,
-        });
-    };
     let mut from = fixed;
-    while repeats(&children, from, &node) {
-        children.pop();
-        from -= 1;
+    while let Some(first) = repeated(&runs, from, &node) {
+        runs.pop();
+        from = u64::from(first);
     }
-    let rest = Box::new(alloc, Onward { from, node })?;
-    Ok(Node {
-        row: None,
-        children,
-        rest: Some(rest),
-    })
+    Onward { runs, from, node }
 }
 
-/// Whether the element before an index is as the rest.
-fn repeats<R: Narrow>(children: &[Child<R>], from: u64, rest: &Node<R>) -> bool
-    requires form { AreBranches (IsKept R.refuses R.is_value) (branches children.now) }
-    requires within { AreWithin from (branches children.now) }
-    ensures { IsTrue result ↔ Repeats from rest.now (branches children.now) }
+/// The first index of the last run, where this ends at an index and is as the rest from there on.
+fn repeated<R: Narrow>(runs: &[Run<R>], from: u64, rest: &Node<R>) -> Option<u32>
+    requires { AreElements (IsKept R.refuses R.is_value) from (run_branches runs.now) }
+    ensures some { IfSome result (IsLastRun runs.now from rest.now) }
+    ensures none { IfNone result (¬ Repeats from rest.now (run_branches runs.now)) }
 {
-    let Some((last, _)) = children.split_last() else {
-        return false;
-    };
-    match &last.step {
-        Step::Label(_) => false,
-        Step::Index(number) => u64::from(*number) + 1 == from && last.node.same(rest),
+    let (last, _) = runs.split_last()?;
+    if u64::from(last.last()) + 1 == from && last.node.same(rest) {
+        Some(last.first)
+    } else {
+        None
     }
 }

@@ -2,7 +2,7 @@
 ghost use Rattle.std.specs.Prelude.{◌≡◌, ◌↔◌, IfOk, IsTrue};
 ghost use Rattle.cue_row.specs.Steps.{step_of};
 ghost use Rattle.cue_row.specs.ValidRow.{IsWordStep};
-ghost use Rattle.cue_table.specs.Spans.{first_of};
+ghost use Rattle.cue_table.specs.Spans.{first_of, more_in};
 ghost use Rattle.cue_table.specs.StepsOfCode.{step_at, span_of};
 
 use cue_lattice::{Memory, Text, WORD_LIMIT};
@@ -48,6 +48,17 @@ impl<'a> StepRef<'a> {
         }
     }
 
+    /// Whether both are one step.
+    pub fn same(self, other: StepRef) -> bool
+        ensures { IsTrue result ↔ (step_at self.entry ≡ step_at other.entry) }
+    {
+        match (self, other) {
+            (StepRef::Label(left), StepRef::Label(right)) => left.same(right),
+            (StepRef::Index(left), StepRef::Index(right)) => left == right,
+            _ => false,
+        }
+    }
+
     /// Whether the step is none of a label that is too long, of more than [`WORD_LIMIT`] bytes.
     pub fn is_short(self) -> bool
         ensures { IsTrue result ↔ IsWordStep (step_at self.entry) }
@@ -67,6 +78,16 @@ impl<'a> Span<'a> {
         match self {
             Span::Label(label) => StepRef::Label(label),
             Span::Elements { first, more: _ } => StepRef::Index(first),
+        }
+    }
+
+    /// How many branches stand behind the first one.
+    pub fn more(self) -> u32
+        ensures { result ≡ more_in (span_of self.entry) }
+    {
+        match self {
+            Span::Label(_) => 0,
+            Span::Elements { first: _, more } => more,
         }
     }
 }

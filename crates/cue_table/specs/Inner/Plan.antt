@@ -1,13 +1,16 @@
 -- What becomes of a tree that takes another one over.
 use Rattle.std.specs.Prelude.{ℕ, zero, suc, ◌+◌, Option, Some, None}
 use Rattle.cue_lattice.specs.Path.{Step}
-use Rattle.cue_table.specs.Tree.{Tree, node, Children, none, child, Rest, row_of, below}
+use Rattle.cue_table.specs.Inner.Join.{join}
+use Rattle.cue_table.specs.Tree.{Tree, node, Children, none, child, Rest, no_rest, onward, row_of}
+use Rattle.cue_table.specs.Tree.{below, rest_of}
 
 mutual
-  -- the row that stands there then, unless it stays as it is; what becomes of the branches; and what
-  -- further elements are then
+  -- Of a place without a rest, the row that stands there then, unless it stays as it is, and what
+  -- becomes of the branches; or another place stands there.
   pub data Change (R : Type 0) : Type 0 where
-    change : Option R → Branches R → Rest R → Change R
+    change : Option R → Branches R → Change R
+    renew : Tree R → Change R
 
   -- the branches stay; they are these; or they are merged with others
   pub data Branches (R : Type 0) : Type 0 where
@@ -21,11 +24,6 @@ mutual
     keep : ℕ → Pieces R → Pieces R
     insert : ℕ → Step → Tree R → Pieces R → Pieces R
     alter : ℕ → Change R → Pieces R → Pieces R
-
--- the one list of branches and then the other
-abbrev pub join : {R : Type 0} → Children R → Children R → Children R
-join none others = others
-join (child step tree children) others = child step tree (join children others)
 
 -- the first n branches
 abbrev pub front : {R : Type 0} → ℕ → Children R → Children R
@@ -50,11 +48,18 @@ abbrev pub or_row : {R : Type 0} → Option R → Option R → Option R
 or_row None row = row
 or_row (Some row) old = Some row
 
+-- a tree with a rest as it is, and another one in place of one without
+abbrev pub unless_rest : {R : Type 0} → Rest R → Tree R → Tree R → Tree R
+unless_rest no_rest old new = new
+unless_rest (onward n tree) old new = old
+
 abbrev mutual
   -- the tree after a change
   pub changed : {R : Type 0} → Change R → Tree R → Tree R
-  changed (change row branches rest) tree =
-      node (or_row row (row_of tree)) (changed_below branches (below tree)) rest
+  changed (change row branches) tree =
+      unless_rest (rest_of tree) tree
+      (node (or_row row (row_of tree)) (changed_below branches (below tree)) no_rest)
+  changed (renew other) tree = other
 
   -- its branches
   pub changed_below : {R : Type 0} → Branches R → Children R → Children R
@@ -88,7 +93,8 @@ IsAmending (alter n next pieces) = IsAmending pieces
 abbrev mutual
   -- how many changes there are, by which a recursion over them ends
   pub change_size : {R : Type 0} → Change R → ℕ
-  change_size (change row branches rest) = branches_size branches + 1
+  change_size (change row branches) = branches_size branches + 1
+  change_size (renew other) = 1
 
   pub branches_size : {R : Type 0} → Branches R → ℕ
   branches_size stay = 0

@@ -4,15 +4,15 @@ use Rattle.std.proofs.Common.{ap}
 use Rattle.std.specs.Coded.{Coded}
 use base.Stored.{Gv, gnil, gnum, gcons, num}
 use Rattle.cue_table.specs.Code.{head, tail, step_gv, step_inj, row_gv, row_inj, tree_gv, tree_inj}
-use Rattle.cue_table.specs.Code.{children_gv, children_inj, rest_gv, rest_inj}
-use Rattle.cue_table.specs.Inner.Plan.{Change, change, Branches, stay, take, merge, Pieces}
+use Rattle.cue_table.specs.Code.{children_gv, children_inj}
+use Rattle.cue_table.specs.Inner.Plan.{Change, change, renew, Branches, stay, take, merge, Pieces}
 use Rattle.cue_table.specs.Inner.Plan.{done, keep}
 use Rattle.cue_table.specs.Inner.Plan.{insert, alter}
 
 mutual
   pub change_gv : {R : Type 0} → (R → Gv) → Change R → Gv
-  change_gv c (change row branches rest) =
-      gcons (row_gv c row) (gcons (branches_gv c branches) (rest_gv c rest))
+  change_gv c (change row branches) = gcons gnil (gcons (row_gv c row) (branches_gv c branches))
+  change_gv c (renew other) = gcons (gnum 0) (tree_gv c other)
 
   pub branches_gv : {R : Type 0} → (R → Gv) → Branches R → Gv
   branches_gv c stay = gnum 0
@@ -33,11 +33,13 @@ mutual
 
   pub change_inj : {R : Type 0} (c : Coded R) (a b : Change R)
       → change_gv c.code a ≡ change_gv c.code b → a ≡ b
-  change_inj c (change q cs m) (change r ds n) e =
-      let row = row_inj c q r (ap head e) in
-      let branches = branches_inj c cs ds (ap (λ g. head (tail g)) e) in
-      let rest = rest_inj c m n (ap (λ g. tail (tail g)) e) in
-      λ i. change (row i) (branches i) (rest i)
+  change_inj c (change q cs) (change r ds) e =
+      let row = row_inj c q r (ap (λ g. head (tail g)) e) in
+      let branches = branches_inj c cs ds (ap (λ g. tail (tail g)) e) in
+      λ i. change (row i) (branches i)
+  change_inj c (renew s) (renew t) e = ap renew (tree_inj c s t (ap tail e))
+  change_inj c (change q cs) (renew t) e = cc
+  change_inj c (renew s) (change r ds) e = cc
 
   pub branches_inj : {R : Type 0} (c : Coded R) (a b : Branches R)
       → branches_gv c.code a ≡ branches_gv c.code b → a ≡ b

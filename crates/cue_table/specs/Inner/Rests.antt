@@ -1,11 +1,18 @@
 -- Lists with a rest that are met: what answers at each step, and how the rest begins.
-use Rattle.std.specs.Prelude.{◌≡◌, ℕ, zero, suc, nat_lt, if◌then◌else◌, [], ◌∷◌, Option, Some, None}
+use Rattle.std.specs.Prelude.{◌≡◌, ℕ, zero, suc, ◌+◌, ◌≤◌, nat_lt, if◌then◌else◌, List, [], ◌∷◌, ◌++◌}
+use Rattle.std.specs.Prelude.{length, take, Option, Some, None}
 use Rattle.std.specs.Option.{option_and_then}
 use Rattle.cue_lattice.specs.Path as paths
 use Rattle.cue_lattice.specs.Path.{label, index, Path}
-use Rattle.cue_table.specs.Tree.{Tree, node, Children, none, child, Rest, no_rest, row_of, find, find_with, rest_tree}
+use Rattle.cue_table.specs.Tree.{Tree, node, Children, none, child, no_rest, onward, row_of, find}
+use Rattle.cue_table.specs.Tree.{find_with, step_into}
 use Rattle.cue_table.specs.Tree.{branch_at}
-use Rattle.cue_table.specs.Form.{IsTaken, IsTree}
+use Rattle.cue_table.specs.Form.{IsTaken, IsTree, AreBranches, AreWithin, IsRestOf}
+use Rattle.cue_table.specs.Inner.Runs.{AreFrom}
+use Rattle.cue_table.specs.Inner.View.{branches, last_of, run_branches}
+use Rattle.cue_table.specs.declared.node.Child.{Child}
+use Rattle.cue_table.specs.declared.node.Onward.{Onward}
+use Rattle.cue_table.specs.declared.node.Run.{Run}
 use Rattle.cue_table.specs.Meet.{IsUnion}
 use Rattle.cue_table.specs.Refuses.{RowRefuses, TableRefuses}
 
@@ -40,15 +47,52 @@ abbrev pub found_to : {R : Type 0} → ℕ → Option (Tree R) → paths.Step �
 found_to n rest (label text) children = find (label text) children
 found_to n rest (index i) children = if nat_lt i n then find (index i) children else rest
 
--- the same answers at each step, with each element before an index in a branch of its own
-abbrev pub IsUnrolled : {R : Type 0} → ℕ → Rest R → Children R → Children R → Type 0
-IsUnrolled n rest children own =
-    (step : paths.Step) → find_with rest step children ≡ found_to n (rest_tree rest) step own
-
 -- the element before an index is as the rest
 abbrev pub Repeats : {R : Type 0} → ℕ → Tree R → Children R → Type 0
 Repeats zero rest children = ⊥
 Repeats (suc i) rest children = find (index i) children ≡ Some rest
+
+-- elements before an index, in form
+pub record AreElements {R : Type 0} (P : R → Type 0) (n : ℕ) (elements : Children R) : Type 0 where
+  pub form : AreBranches P elements
+  pub within : AreWithin n elements
+  pub indexes : AreFrom 0 elements
+
+-- the last run begins at an index, ends before another one, and is as the rest
+pub record IsLastRun {R Q : Type 0} (runs : List (Run R Q)) (from : ℕ) (rest : Tree R)
+    (first : ℕ) : Type 0 where
+  pub others : List (Run R Q)
+  pub last : Run R Q
+  pub is : runs ≡ others ++ last ∷ []
+  pub begins : first ≡ last.first
+  pub ends : last_of last.first last.more + 1 ≡ from
+  pub repeats : last.node ≡ rest
+
+-- A list that goes on so is in form, and each element is what it was: that of the list before an
+-- index, and the rest from it on.
+pub record IsSettled {R Q : Type 0} (P : R → Type 0) (fixed : ℕ) (elements : Children R)
+    (tree : Tree R) (made : Onward R Q) : Type 0 where
+  pub form : AreBranches P (run_branches made.runs.items)
+  pub indexes : AreFrom 0 (run_branches made.runs.items)
+  pub rest : IsRestOf P (run_branches made.runs.items) (onward made.from made.node)
+  pub same : (i : ℕ) → find_with (onward made.from made.node) (index i) (run_branches made.runs.items)
+      ≡ found_to fixed (Some tree) (index i) elements
+
+-- Lists that go on in form, each element of which refuses exactly what those of two places do.
+pub record AreElementsMet {R Q S : Type 0} (refuses : R → S → Type 0) (P : R → Type 0)
+    (left right : Tree R) (made : Onward R Q) : Type 0 where
+  pub form : AreBranches P (run_branches made.runs.items)
+  pub indexes : AreFrom 0 (run_branches made.runs.items)
+  pub rest : IsRestOf P (run_branches made.runs.items) (onward made.from made.node)
+  pub met : (i : ℕ) → AreMetRests refuses (step_into left (index i)) (step_into right (index i))
+      (find_with (onward made.from made.node) (index i) (run_branches made.runs.items))
+
+-- so many of the branches are fields, and the others are elements
+pub record AreFields {R Q : Type 0} (children : List (Child R Q)) (count : ℕ) : Type 0 where
+  pub in_range : count ≤ length children
+  pub within : AreWithin 0 (branches (take count children))
+  pub same : (text : List ℕ) → find (label text) (branches (take count children))
+      ≡ find (label text) (branches children)
 
 -- a tree further from the root, at the end of a path
 abbrev pub along : {R : Type 0} → Path → Tree R → Tree R

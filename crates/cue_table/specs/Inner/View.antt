@@ -1,25 +1,48 @@
 -- How contracts see the nodes of the program.
-use Rattle.std.specs.Prelude.{List, [], ◌∷◌, Option, Some, None, Box}
+use Rattle.std.specs.Prelude.{ℕ, ◌+◌, ◌-◌, ◌^◌, min, List, [], ◌∷◌, Option, Some, None, Box}
 use Rattle.std.specs.Global.{Global}
 use Rattle.cue_row.specs.Steps.{step_of}
 use Rattle.cue_row.specs.declared.step.Step.{Step}
 use Rattle.cue_row.specs.declared.step.Step.TheVariants.{Label, Index}
-use Rattle.cue_table.specs.Spans.{Span, field, elements}
+use Rattle.cue_table.specs.Spans.{Span, field, elements, alike}
+use Rattle.cue_table.specs.Inner.Join.{join}
 use Rattle.cue_table.specs.Tree.{Tree, node, Children, none, child, Rest, no_rest, onward}
 use Rattle.cue_table.specs.declared.node.Child.{Child}
 use Rattle.cue_table.specs.declared.node.Node.TheInside.{Inside}
 use Rattle.cue_table.specs.declared.node.Onward.{Onward}
+use Rattle.cue_table.specs.declared.node.Run.{Run}
 
 abbrev pub branches : {R Q : Type 0} → List (Child R Q) → Children R
 branches [] = none
 branches (c ∷ cs) = child (step_of c.step) c.node (branches cs)
+
+-- how many elements a run has behind its first one, as far as there are indexes of 32 bits
+abbrev pub more_of : ℕ → ℕ → ℕ
+more_of first more = min more (2 ^ 32 - 1 - first)
+
+abbrev pub last_of : ℕ → ℕ → ℕ
+last_of first more = first + more_of first more
+
+-- the elements of runs
+abbrev pub run_branches : {R Q : Type 0} → List (Run R Q) → Children R
+run_branches [] = none
+run_branches (r ∷ rs) = alike r.first (more_of r.first r.more) r.node (run_branches rs)
+
+abbrev pub runs_in : {R Q : Type 0} → Option (Box (Onward R Q) Global) → Children R
+runs_in None = none
+runs_in (Some b) = run_branches b.value.runs.items
+
+-- the branches of a place: its own ones, and elements behind them
+abbrev pub below_in : {R Q : Type 0} → Children R → Option (Box (Onward R Q) Global) → Children R
+below_in own None = own
+below_in own (Some b) = join own (run_branches b.value.runs.items)
 
 abbrev pub rest_in : {R Q : Type 0} → Option (Box (Onward R Q) Global) → Rest R
 rest_in None = no_rest
 rest_in (Some b) = onward b.value.from b.value.node
 
 abbrev pub tree_of : {R Q : Type 0} → Inside R Q → Tree R
-tree_of a = node a.row (branches a.children.items) (rest_in a.rest)
+tree_of a = node a.row (below_in (branches a.children.items) a.rest) (rest_in a.rest)
 
 -- a step of its own as a span
 abbrev pub span_at : Step → Span
@@ -29,3 +52,7 @@ span_at (Index number) = elements number 0
 abbrev pub spans_in : {R Q : Type 0} → List (Child R Q) → List (Span × Tree R)
 spans_in [] = []
 spans_in (c ∷ cs) = (span_at c.step, c.node) ∷ spans_in cs
+
+abbrev pub run_spans : {R Q : Type 0} → List (Run R Q) → List (Span × Tree R)
+run_spans [] = []
+run_spans (r ∷ rs) = (elements r.first (more_of r.first r.more), r.node) ∷ run_spans rs

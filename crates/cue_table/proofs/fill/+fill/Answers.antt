@@ -1,18 +1,23 @@
-use Rattle.std.proofs.Common.{arith, ◌≡◌, ◌<◌, ◌≤◌, length, min, ◌+◌, ◌++◌, ◌∷◌, [], vec_len, take, drop, refl, ap, sym, ◌∙◌}
+use Rattle.std.proofs.Common.{arith, ◌≡◌, ◌<◌, ◌≤◌, length, min, ◌+◌, ◌++◌, ◌∷◌, [], vec_len, take, drop, refl, ap, subst, sym, ◌∙◌}
 use Rattle.std.specs.Vec.{vec_capacity}
 use Rattle.std.specs.Vec.Iter.{into_iter_items}
 use Rattle.cue_table.specs.declared.plan.Piece.TheVariants.{Keep, Insert, Alter}
-use Rattle.cue_table.specs.Inner.Plan.{IsAmending, change_size, changed, first_changed, merged, pieces_size}
-use Rattle.cue_table.specs.Inner.PlanView.{change_of, piece_before, pieces_of}
+use Rattle.cue_table.specs.Inner.Plan.{IsAmending, branches_size, change_size, changed, first_changed, merged, pieces_size}
+use Rattle.cue_table.specs.Inner.PlanView.{HasRoom, IsRoomy, below_of, change_in, change_of, piece_before, pieces_of}
 use Rattle.cue_table.specs.Inner.View.{branches}
 use Rattle.cue_table.proofs.Amending.{altered_here, amends_more, amends_end, first_amends, first_size, passed}
 use Rattle.cue_table.proofs.Filling.{fills_next, fills_keep, fills_insert, fills_alter, fills_none, fills_as, fills_end, both_none}
 use Rattle.cue_table.proofs.fill.+fill.Goals as goal
 
+pub change-same-old : goal.change-same-old
+change-same-old g t c = refl
+
 pub change-change_below-requires : goal.change-change_below-requires
 change-change_below-requires g t c κs within =
     let size : change_size (change_of c.plan.inside) ≡ change_size c.args.plan = ap change_size c.plan.view_is in
-    (omega (arith, c.decreases, size), (within.0, (within.1, c.plan.invariant)))
+    let is : change_size (change_of c.plan.inside) ≡ branches_size (below_of c.in-Changed.below) + 1 = ap (λ b. change_size (change_in b)) c.in-Changed.is in
+    let room : HasRoom c.in-Changed.below = subst IsRoomy c.in-Changed.is c.plan.invariant in
+    (omega (arith, c.decreases, size, is, ap (λ b. branches_size (below_of b)) c.in-Changed.below-is), (within.0, (within.1, subst HasRoom (sym c.in-Changed.below-is) room)))
 
 pub merge-loop-piece-preserved-in-Keep : goal.merge-loop-piece-preserved-in-Keep
 merge-loop-piece-preserved-in-Keep g t c =
@@ -68,6 +73,82 @@ merge-loop-piece-preserved-in-Some-next g t c =
 
 pub merge-loop-piece-preserved-in_default-next : goal.merge-loop-piece-preserved-in_default-next
 merge-loop-piece-preserved-in_default-next g t c =
+    let old = c.args.old.items in
+    let pieces = c.args.pieces.items in
+    let made = c.loop-piece.room.items in
+    let rest = into_iter_items c.loop-piece.rest in
+    let others = into_iter_items c.next.new.self in
+    let len = vec_len c.loop-piece.room in
+    let cap = vec_capacity c.loop-piece.room in
+    let n = c.in-Alter.count in
+    let f = fills_next old pieces made rest (into_iter_items c.loop-piece.others) others len cap c.in-Some.piece (Alter n c.in-Alter.plan) c.loop-piece.invariant c.in-Some.ensures.cases.0 c.in-Alter.is in
+    let k = c.keep-in-Alter.ensures in
+    let after = into_iter_items c.next-in-Alter.new.self in
+    let gone = sym c.next-in-Alter.new.self.rest.ok.0 ∙ c.in_default-next.ensures.cases.1 in
+    let end : drop n rest ≡ after = sym k.rest ∙ both_none (into_iter_items c.keep-in-Alter.new.rest) after (sym c.keep-in-Alter.new.rest.rest.ok.0 ∙ c.in_default-next.ensures.cases.0) gone in
+    fills_as old pieces (made ++ take n rest) c.keep-in-Alter.new.room.items after after others (vec_len c.keep-in-Alter.new.room) (vec_len c.keep-in-Alter.new.room) cap (vec_capacity c.keep-in-Alter.new.room)
+    (fills_none old pieces made rest others len (vec_len c.keep-in-Alter.new.room) cap n c.in-Alter.plan after f k.len end gone)
+    k.kept refl (omega arith) (omega (arith, k.capacity))
+
+pub merge-loop-piece-preserved-in_default-next-2 : goal.merge-loop-piece-preserved-in_default-next-2
+merge-loop-piece-preserved-in_default-next-2 g t c =
+    let old = c.args.old.items in
+    let pieces = c.args.pieces.items in
+    let made = c.loop-piece.room.items in
+    let rest = into_iter_items c.loop-piece.rest in
+    let others = into_iter_items c.next.new.self in
+    let len = vec_len c.loop-piece.room in
+    let cap = vec_capacity c.loop-piece.room in
+    let n = c.in-Alter.count in
+    let f = fills_next old pieces made rest (into_iter_items c.loop-piece.others) others len cap c.in-Some.piece (Alter n c.in-Alter.plan) c.loop-piece.invariant c.in-Some.ensures.cases.0 c.in-Alter.is in
+    let k = c.keep-in-Alter.ensures in
+    let after = into_iter_items c.next-in-Alter.new.self in
+    let gone = sym c.next-in-Alter.new.self.rest.ok.0 ∙ c.in_default-next.ensures.cases.1 in
+    let end : drop n rest ≡ after = sym k.rest ∙ both_none (into_iter_items c.keep-in-Alter.new.rest) after (sym c.keep-in-Alter.new.rest.rest.ok.0 ∙ c.in_default-next.ensures.cases.0) gone in
+    fills_as old pieces (made ++ take n rest) c.keep-in-Alter.new.room.items after after others (vec_len c.keep-in-Alter.new.room) (vec_len c.keep-in-Alter.new.room) cap (vec_capacity c.keep-in-Alter.new.room)
+    (fills_none old pieces made rest others len (vec_len c.keep-in-Alter.new.room) cap n c.in-Alter.plan after f k.len end gone)
+    k.kept refl (omega arith) (omega (arith, k.capacity))
+
+pub merge-loop-piece-preserved-in_default-next-3 : goal.merge-loop-piece-preserved-in_default-next-3
+merge-loop-piece-preserved-in_default-next-3 g t c =
+    let old = c.args.old.items in
+    let pieces = c.args.pieces.items in
+    let made = c.loop-piece.room.items in
+    let rest = into_iter_items c.loop-piece.rest in
+    let others = into_iter_items c.next.new.self in
+    let len = vec_len c.loop-piece.room in
+    let cap = vec_capacity c.loop-piece.room in
+    let n = c.in-Alter.count in
+    let f = fills_next old pieces made rest (into_iter_items c.loop-piece.others) others len cap c.in-Some.piece (Alter n c.in-Alter.plan) c.loop-piece.invariant c.in-Some.ensures.cases.0 c.in-Alter.is in
+    let k = c.keep-in-Alter.ensures in
+    let after = into_iter_items c.next-in-Alter.new.self in
+    let gone = sym c.next-in-Alter.new.self.rest.ok.0 ∙ c.in_default-next.ensures.cases.1 in
+    let end : drop n rest ≡ after = sym k.rest ∙ both_none (into_iter_items c.keep-in-Alter.new.rest) after (sym c.keep-in-Alter.new.rest.rest.ok.0 ∙ c.in_default-next.ensures.cases.0) gone in
+    fills_as old pieces (made ++ take n rest) c.keep-in-Alter.new.room.items after after others (vec_len c.keep-in-Alter.new.room) (vec_len c.keep-in-Alter.new.room) cap (vec_capacity c.keep-in-Alter.new.room)
+    (fills_none old pieces made rest others len (vec_len c.keep-in-Alter.new.room) cap n c.in-Alter.plan after f k.len end gone)
+    k.kept refl (omega arith) (omega (arith, k.capacity))
+
+pub merge-loop-piece-preserved-in_default-next-4 : goal.merge-loop-piece-preserved-in_default-next-4
+merge-loop-piece-preserved-in_default-next-4 g t c =
+    let old = c.args.old.items in
+    let pieces = c.args.pieces.items in
+    let made = c.loop-piece.room.items in
+    let rest = into_iter_items c.loop-piece.rest in
+    let others = into_iter_items c.next.new.self in
+    let len = vec_len c.loop-piece.room in
+    let cap = vec_capacity c.loop-piece.room in
+    let n = c.in-Alter.count in
+    let f = fills_next old pieces made rest (into_iter_items c.loop-piece.others) others len cap c.in-Some.piece (Alter n c.in-Alter.plan) c.loop-piece.invariant c.in-Some.ensures.cases.0 c.in-Alter.is in
+    let k = c.keep-in-Alter.ensures in
+    let after = into_iter_items c.next-in-Alter.new.self in
+    let gone = sym c.next-in-Alter.new.self.rest.ok.0 ∙ c.in_default-next.ensures.cases.1 in
+    let end : drop n rest ≡ after = sym k.rest ∙ both_none (into_iter_items c.keep-in-Alter.new.rest) after (sym c.keep-in-Alter.new.rest.rest.ok.0 ∙ c.in_default-next.ensures.cases.0) gone in
+    fills_as old pieces (made ++ take n rest) c.keep-in-Alter.new.room.items after after others (vec_len c.keep-in-Alter.new.room) (vec_len c.keep-in-Alter.new.room) cap (vec_capacity c.keep-in-Alter.new.room)
+    (fills_none old pieces made rest others len (vec_len c.keep-in-Alter.new.room) cap n c.in-Alter.plan after f k.len end gone)
+    k.kept refl (omega arith) (omega (arith, k.capacity))
+
+pub merge-loop-piece-preserved-in_default-next-5 : goal.merge-loop-piece-preserved-in_default-next-5
+merge-loop-piece-preserved-in_default-next-5 g t c =
     let old = c.args.old.items in
     let pieces = c.args.pieces.items in
     let made = c.loop-piece.room.items in
@@ -152,3 +233,9 @@ pub amend_next-returns-clause-amends : goal.amend_next-returns-clause-amends
 amend_next-returns-clause-amends g t c more =
     rw c.in-Alter.is (c.alter.ensures.altered (merged more)
     ∙ passed (first_changed (changed c.in-Alter.plan) (merged more)) c.args.children.now.items c.args.at c.in-Alter.count c.further-here.result (c.further-here.ensures ∙ ap (λ n. min (c.args.at + c.in-Alter.count) n) (c.len-in-Alter.ensures ∙ c.args.children.now.ok.0)))
+
+pub merge-loop-piece-smaller-in_default-next-5 : goal.merge-loop-piece-smaller-in_default-next-5
+merge-loop-piece-smaller-in_default-next-5 g t c = omega (arith, c.in-Some.ensures.len, c.in-Some.ensures.cases)
+
+pub merge-loop-piece-smaller : goal.merge-loop-piece-smaller
+merge-loop-piece-smaller g t c = omega (arith, c.in-Some.ensures.len, c.in-Some.ensures.cases)

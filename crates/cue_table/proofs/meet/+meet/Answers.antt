@@ -6,12 +6,12 @@ use Rattle.cue_table.specs.Form.{IsKept}
 use Rattle.cue_table.specs.Inner.Place.{IsPlace, IsGap}
 use Rattle.cue_table.specs.Inner.Plan.{or_row}
 use Rattle.cue_table.specs.Inner.View.{branches, rest_in, tree_of}
-use Rattle.cue_table.specs.Size.{tree_size}
+use Rattle.cue_table.specs.Size.{children_size, tree_size}
 use Rattle.cue_table.proofs.Aligning.{none_there}
 use Rattle.cue_table.proofs.Finding.{branches_rise}
 use Rattle.cue_table.proofs.MetBranches.{put_in, met_at, met_nodes}
 use Rattle.cue_table.proofs.Nodes.{branches_form}
-use Rattle.cue_table.proofs.Planning.{at_form}
+use Rattle.cue_table.proofs.Planning.{at_form, own_only}
 use Rattle.cue_table.proofs.meet.+meet.Goals as goal
 use Rattle.cue_table.proofs.meet.+meet.Goals.{meet_own-in-Some+in-Some-1, meet_own-in-Some+in-None-1, meet_own-in_default}
 
@@ -19,19 +19,22 @@ pub meet_own-meet_below-requires : goal.meet_own-meet_below-requires
 meet_own-meet_below-requires g t c κs within =
     let P = IsKept g.R.Narrow.refuses g.R.Narrow.is_value in
     let size : tree_size (tree_of c.right.inside) ≡ tree_size c.args.right = ap tree_size c.right.view_is in
-    (omega (arith, c.decreases, size), (within.0, (within.1, (branches_form P c.left.inside c.args.left.now c.left.view_is c.requires.left, branches_form P c.right.inside c.args.right c.right.view_is c.requires.right))))
+    let right : rest_in c.right.inside.rest ≡ no_rest = ap rest_of c.right.view_is ∙ c.requires.right_rest in
+    let own = ap children_size (own_only (branches c.right.inside.children.items) c.right.inside.rest right) in
+    (omega (arith, c.decreases, size, own), (within.0, (within.1, (branches_form P c.left.inside c.args.left.now c.left.view_is c.requires.left, branches_form P c.right.inside c.args.right c.right.view_is c.requires.right))))
 
 pub meet_own-returns-clause-ok : goal.meet_own-returns-clause-ok
 meet_own-returns-clause-ok g t c =
     let cs = c.meet_below.new.left.items in
     let left : rest_in c.left.inside.rest ≡ no_rest = ap rest_of c.left.view_is ∙ c.requires.left_rest in
     let right : rest_in c.right.inside.rest ≡ no_rest = ap rest_of c.right.view_is ∙ c.requires.right_rest in
+    let own = own_only (branches cs) c.left.inside.rest left in
     let met = met_nodes g.R.Narrow.refuses (IsKept g.R.Narrow.refuses g.R.Narrow.is_value) c.left.inside c.right.inside c.args.left.now c.args.right c.match-met-2.left c.in_ok-met.met cs c.left.view_is c.right.view_is
     left right c.in_ok-met.ensures.refused c.in_ok-meet_below.ensures.ok in
     elim c.match-met-2.branch [
-      | meet_own-in-Some+in-Some-1 w ↦ met (w.left-is ∙ (λ i. node (or_row (sym w.in-Some.is i) c.left.inside.row) (branches cs) (left i)))
-      | meet_own-in-Some+in-None-1 w ↦ met (w.left-is ∙ (λ i. node (or_row (sym w.in-Some.is i) c.left.inside.row) (branches cs) (left i)))
-      | meet_own-in_default w ↦ met (w.left-is ∙ (λ i. node (or_row (sym w.in_default.is i) c.left.inside.row) (branches cs) (left i)))
+      | meet_own-in-Some+in-Some-1 w ↦ met (w.left-is ∙ (λ i. node (or_row (sym w.in-Some.is i) c.left.inside.row) (own i) (left i)))
+      | meet_own-in-Some+in-None-1 w ↦ met (w.left-is ∙ (λ i. node (or_row (sym w.in-Some.is i) c.left.inside.row) (own i) (left i)))
+      | meet_own-in_default w ↦ met (w.left-is ∙ (λ i. node (or_row (sym w.in_default.is i) c.left.inside.row) (own i) (left i)))
     ]
 
 pub meet_into-same-left : goal.meet_into-same-left

@@ -1,11 +1,11 @@
 use Rattle.cue_table.specs.Form.{IsKept}
-use Rattle.cue_table.specs.Inner.View.{branches}
-use Rattle.cue_table.proofs.Unrolling.{Settles}
+use Rattle.cue_table.specs.Inner.View.{run_branches}
+use Rattle.cue_table.proofs.Settling.{Settles}
 use Rattle.cue_table.proofs.rest.settled.Given as goal
 
-abbrev pub invariant-loop-children : goal.invariant-loop-children
-invariant-loop-children g l =
-    Settles (IsKept g.R.Narrow.refuses g.R.Narrow.is_value) l.fn.fixed l.node (branches l.fn.children.items) l.children.items l.from
+abbrev pub invariant-loop-first : goal.invariant-loop-first
+invariant-loop-first g l =
+    Settles (IsKept g.R.Narrow.refuses g.R.Narrow.is_value) l.fn.fixed l.node (run_branches l.fn.runs.items) l.runs.items l.from
 
-abbrev pub decreases-loop-children : goal.decreases-loop-children
-decreases-loop-children g l = l.from
+abbrev pub decreases-loop-first : goal.decreases-loop-first
+decreases-loop-first g l = l.from

@@ -1,8 +1,9 @@
-use Rattle.cue_table.specs.Form.{IsKept}
-use Rattle.cue_table.proofs.Nodes.{branches_form}
+use Rattle.std.proofs.Common.{sym, subst}
+use Rattle.cue_table.specs.Form.{IsKept, AreBranches}
+use Rattle.cue_table.proofs.Ways.{tree_below}
 use Rattle.cue_table.proofs.branch.Branch.children.Goals as goal
 
 pub new-requires : goal.new-requires
 new-requires g c =
     let P = IsKept g.R.Narrow.refuses g.R.Narrow.is_value in
-    rw c.deref.ensures.value (branches_form P c.node.inside c.self.inside.node.now c.node.view_is c.self.invariant)
+    subst (AreBranches P) (sym c.cursor.ensures.all) (tree_below P c.self.inside.node.now c.self.invariant)

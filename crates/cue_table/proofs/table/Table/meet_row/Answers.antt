@@ -6,7 +6,7 @@ use Rattle.cue_table.specs.Meet.{IsUnion}
 use Rattle.cue_table.specs.Inner.Plan.{or_row}
 use Rattle.cue_table.specs.Refuses.{RowRefuses}
 use Rattle.cue_table.specs.Tree.{node}
-use Rattle.cue_table.specs.Inner.View.{branches, rest_in}
+use Rattle.cue_table.specs.Inner.View.{below_in, branches, rest_in}
 use Rattle.cue_table.proofs.Hanging.{added_row}
 use Rattle.cue_table.proofs.table.Table.meet_row.Goals as goal
 
@@ -39,13 +39,13 @@ invariant_of-self-in_default g c = c.self.invariant
 pub invariant_of-self-2 : goal.invariant_of-self-2
 invariant_of-self-2 g c =
     let P = IsKept g.R.Narrow.refuses g.R.Narrow.is_value in
-    let tree = node c.root.inside.row (branches c.root.inside.children.items) (rest_in c.root.inside.rest) in
+    let tree = node c.root.inside.row (below_in (branches c.root.inside.children.items) c.root.inside.rest) (rest_in c.root.inside.rest) in
     let form : IsTree P tree = subst (IsTree P) (sym c.root.view_is) c.self.invariant.0 in
     let low : tree_depth tree ≤ step_limit = subst (λ t. tree_depth t ≤ step_limit) (sym c.root.view_is) c.self.invariant.1 in
     ((subst (λ row. IsRow P (or_row row c.root.inside.row)) c.in-Some.is c.in_ok-met.ensures.form, form.1, form.2), low)
 
 pub returns-clause-ok : goal.returns-clause-ok
 returns-clause-ok g c =
-    added_row g.R.Narrow.refuses c.root.inside.row (Some c.in-Some.met) c.in_ok-met.field-0 c.args.row (branches c.root.inside.children.items) (rest_in c.root.inside.rest) c.args.self.now (c.root.view_is ∙ c.self.view_is)
+    added_row g.R.Narrow.refuses c.root.inside.row (Some c.in-Some.met) c.in_ok-met.field-0 c.args.row (below_in (branches c.root.inside.children.items) c.root.inside.rest) (rest_in c.root.inside.rest) c.args.self.now (c.root.view_is ∙ c.self.view_is)
     (ap (λ row. or_row row c.root.inside.row) c.in-Some.is)
     (subst (λ row. IsUnion (RowRefuses g.R.Narrow.refuses c.root.inside.row) (g.R.Narrow.refuses row) (RowRefuses g.R.Narrow.refuses (or_row c.in_ok-met.field-0 c.root.inside.row))) c.in_ok-new.ensures c.in_ok-met.ensures.refused)

@@ -1,0 +1,130 @@
+//! Places met where one of both is a list with a rest.
+ghost use Rattle.std.specs.Prelude.{◌≡◌, ◌<◌, ◌^◌, IfOk};
+ghost use Rattle.std.specs.Option.{option_map};
+ghost use Rattle.cue_table.specs.Form.{IsKept, IsTable, Rise};
+ghost use Rattle.cue_table.specs.Meet.{IsMet};
+ghost use Rattle.cue_table.specs.Inner.Rests.{AreElementsMet, AreFields, AreMetRests, IsBranch};
+ghost use Rattle.cue_table.specs.Inner.View.{branches};
+
+use crate::fill::{change, change_below};
+use crate::node::{Child, Node, Onward, Run, copy_children, copy_row};
+use crate::plan::{plan_below, plan_row, planned};
+use crate::rest::{fixed, rest, settled};
+use cue_lattice::{Memory, Narrow};
+use cue_row::Step;
+use std::alloc::Global;
+
+/// Two places met, of which one has a rest. All that the left one has is copied.
+#[cycle(plan)]
+pub(crate) fn list_met<R: Narrow>(
+    alloc: Global,
+    left: &Node<R>,
+    right: Node<R>,
+) -> Result<Node<R>, Memory>
+    requires left { IsTable R.refuses R.is_value left.now }
+    requires right { IsTable R.refuses R.is_value right }
+    ensures form { IfOk result (IsTable R.refuses R.is_value) }
+    ensures refused { IfOk result (IsMet R.refuses left.now right) }
+{
+    let onward = elements_met(alloc, left, &right)?;
+    let Node {
+        row,
+        children: mut others,
+        rest: _,
+    } = right;
+    let own_row = copy_row(alloc, &left.row)?;
+    let row = plan_row(alloc, &left.row, row)?.or(own_row);
+    let (own, _) = left.children.split_at(field_count(&left.children));
+    let own = copy_children(alloc, own)?;
+    others.truncate(field_count(&others));
+    let below = plan_below(alloc, &own, others)?;
+    Ok(Node {
+        row,
+        children: change_below(alloc, own, below),
+        rest: Some(Box::new(alloc, onward)?),
+    })
+}
+
+/// The elements of two places met, each stretch that is alike in both once, and the rests.
+#[cycle(plan)]
+fn elements_met<R: Narrow>(
+    alloc: Global,
+    left: &Node<R>,
+    right: &Node<R>,
+) -> Result<Onward<R>, Memory>
+    requires left { IsTable R.refuses R.is_value left.now }
+    requires right { IsTable R.refuses R.is_value right.now }
+    ensures { IfOk result
+        (AreElementsMet R.refuses (IsKept R.refuses R.is_value) left.now right.now) }
+{
+    let fixed = u64::max(fixed(left), fixed(right));
+    let mut runs = Vec::new(alloc);
+    let mut at = 0;
+    while at < fixed {
+        let first = index_of(at)?;
+        let end = left.alike_to(first).min(right.alike_to(first)).min(fixed);
+        let last = index_of(end - 1)?;
+        let element = found_met(alloc, left.element(first), right.element(first))?;
+        if let Some(node) = element {
+            let more = last - first;
+            runs.push(Run { first, more, node })?;
+        }
+        at = end;
+    }
+    match found_met(alloc, rest(left), rest(right))? {
+        Some(node) => Ok(settled(runs, fixed, node)),
+        // One of both has a rest.
+        None => Err(Memory),
+    }
+}
+
+/// A number as an index: no step has a greater one than those of 32 bits.
+fn index_of(number: u64) -> Result<u32, Memory>
+    ensures same { IfOk result (λ index. index ≡ number) }
+    ensures word { IfOk result (λ index. index < 2 ^ 32) }
+{
+    match u32::try_from(number) {
+        Ok(index) => Ok(index),
+        Err(_) => Err(Memory),
+    }
+}
+
+/// What two branches are together that may be there.
+#[cycle(plan)]
+fn found_met<R: Narrow>(
+    alloc: Global,
+    left: Option<&Node<R>>,
+    right: Option<&Node<R>>,
+) -> Result<Option<Node<R>>, Memory>
+    requires left { IsBranch (IsKept R.refuses R.is_value) (option_map (λ node. node.now) left) }
+    requires right { IsBranch (IsKept R.refuses R.is_value) (option_map (λ node. node.now) right) }
+    ensures form { IfOk result (IsBranch (IsKept R.refuses R.is_value)) }
+    ensures refused { IfOk result (AreMetRests R.refuses
+        (option_map (λ node. node.now) left.entry) (option_map (λ node. node.now) right.entry)) }
+{
+    match (left, right) {
+        (None, None) => Ok(None),
+        (Some(node), None) | (None, Some(node)) => Ok(Some(node.copy(alloc)?)),
+        (Some(node), Some(other)) => Ok(Some(met(alloc, node, other.copy(alloc)?)?)),
+    }
+}
+
+/// Two places met, the left one from a copy.
+#[cycle(plan)]
+fn met<R: Narrow>(alloc: Global, left: &Node<R>, right: Node<R>) -> Result<Node<R>, Memory>
+    requires left { IsTable R.refuses R.is_value left.now }
+    requires right { IsTable R.refuses R.is_value right }
+    ensures form { IfOk result (IsTable R.refuses R.is_value) }
+    ensures refused { IfOk result (IsMet R.refuses left.now right) }
+{
+    let plan = planned(alloc, left, right)?;
+    Ok(change(alloc, left.copy(alloc)?, plan))
+}
+
+/// How many of the branches are fields; these stand before the elements.
+fn field_count<R: Narrow>(children: &[Child<R>]) -> usize
+    requires { Rise (branches children.now) }
+    ensures { AreFields children.now result }
+{
+    children.partition_point(|child| matches!(&child.step, Step::Label(_)))
+}

@@ -1,0 +1,123 @@
+//! Where an element is among runs of elements that are alike.
+ghost use Rattle.std.specs.Prelude.{◌≡◌, MatchResult};
+ghost use Rattle.std.specs.Option.{option_map};
+ghost use Rattle.cue_lattice.specs.Path.{index};
+ghost use Rattle.cue_table.specs.Form.{Rise};
+ghost use Rattle.cue_table.specs.Inner.Alike.{AreAlike, IsRun, IsBetween, run_cmp};
+ghost use Rattle.cue_table.specs.Inner.Place.{IsGap, IsPlace};
+ghost use Rattle.cue_table.specs.Inner.View.{branches, run_branches};
+ghost use Rattle.cue_table.specs.Tree.{below, find, step_into};
+
+use crate::node::{Child, Node, Run, place};
+use cue_lattice::Narrow;
+use cue_row::Step;
+use std::cmp::Ordering;
+
+impl<R: Narrow> Run<R> {
+    /// Whether its elements stand before an index, at it, or behind it.
+    fn compare(&self, number: u32) -> Ordering
+        ensures { result ≡ run_cmp number self.now }
+    {
+        if self.last() < number {
+            Ordering::Less
+        } else if number < self.first {
+            Ordering::Greater
+        } else {
+            Ordering::Equal
+        }
+    }
+}
+
+/// Where the run of an element is among runs, or where it would stand.
+fn run_place<R: Narrow>(runs: &[Run<R>], number: u32) -> Result<usize, usize>
+    requires { Rise (run_branches runs.now) }
+    ensures { MatchResult result (IsRun runs.now number) (IsBetween runs.now number) }
+{
+    runs.binary_search_by(|run| run.compare(number))
+}
+
+/// The element with an index among runs.
+pub(crate) fn find_run<R: Narrow>(runs: &[Run<R>], number: u32) -> Option<&Node<R>>
+    requires { Rise (run_branches runs.now) }
+    ensures { option_map (λ node. node.now) result
+        ≡ find (index number) (run_branches runs.now) }
+{
+    match run_place(runs, number) {
+        Ok(at) => Some(&runs[at].node),
+        Err(_) => None,
+    }
+}
+
+/// An index behind this one up to which the elements among runs are alike.
+fn alike_in_runs<R: Narrow>(runs: &[Run<R>], number: u32) -> u64
+    requires { Rise (run_branches runs.now) }
+    ensures { AreAlike number result (λ i. find (index i) (run_branches runs.now)) }
+{
+    match run_place(runs, number) {
+        Ok(at) => u64::from(runs[at].last()) + 1,
+        Err(at) => {
+            if at < runs.len() {
+                u64::from(runs[at].first)
+            } else {
+                u64::MAX
+            }
+        }
+    }
+}
+
+/// Where an element is among branches, or where it would stand.
+fn element_place<R: Narrow>(children: &[Child<R>], number: u32) -> Result<usize, usize>
+    requires { Rise (branches children.now) }
+    ensures { MatchResult result (IsPlace children.now (index number))
+        (IsGap children.now (index number)) }
+{
+    place(children, &Step::Index(number))
+}
+
+/// The element with an index among branches.
+pub(crate) fn find_element<R: Narrow>(children: &[Child<R>], number: u32) -> Option<&Node<R>>
+    requires { Rise (branches children.now) }
+    ensures { option_map (λ node. node.now) result
+        ≡ find (index number) (branches children.now) }
+{
+    match element_place(children, number) {
+        Ok(at) => Some(&children[at].node),
+        Err(_) => None,
+    }
+}
+
+/// An index behind this one up to which the elements among branches are alike.
+fn alike_among<R: Narrow>(children: &[Child<R>], number: u32) -> u64
+    requires { Rise (branches children.now) }
+    ensures { AreAlike number result (λ i. find (index i) (branches children.now)) }
+{
+    let Err(at) = element_place(children, number) else {
+        return u64::from(number) + 1;
+    };
+    if at >= children.len() {
+        return u64::MAX;
+    }
+    match &children[at].step {
+        // No label stands behind an index.
+        Step::Label(_) => u64::from(number) + 1,
+        Step::Index(next) => u64::from(*next),
+    }
+}
+
+impl<R: Narrow> Node<R> {
+    /// An index behind this one up to which all elements are alike.
+    pub(crate) fn alike_to(&self, number: u32) -> u64
+        requires { Rise (below self.now) }
+        ensures { AreAlike number result (λ i. step_into self.now (index i)) }
+    {
+        let own = alike_among(&self.children, number);
+        let Some(onward) = &self.rest else {
+            return own;
+        };
+        if u64::from(number) >= onward.from {
+            return u64::MAX;
+        }
+        own.min(alike_in_runs(&onward.runs, number))
+            .min(onward.from)
+    }
+}

@@ -1,0 +1,64 @@
+//! Whether two places are the same.
+ghost use Rattle.std.specs.Prelude.{◌≡◌, ◌↔◌, IsTrue};
+ghost use Rattle.cue_table.specs.Spans.{spread};
+ghost use Rattle.cue_table.specs.Inner.Cursors.{spans_left};
+ghost use Rattle.cue_table.specs.Inner.View.{rest_in};
+
+use crate::Span;
+use crate::boxed::Boxed;
+use crate::cursor::Cursor;
+use crate::node::{Node, Onward};
+use cue_lattice::Narrow;
+
+impl<R: Narrow> Node<R> {
+    /// Whether both are the same place.
+    #[cycle(same)]
+    pub(crate) fn same(&self, other: &Node<R>) -> bool
+        ensures { IsTrue result ↔ (self.now ≡ other.now) }
+    {
+        same_row(&self.row, &other.row)
+            && same_rest(&self.rest, &other.rest)
+            && same_below(self.cursor(), other.cursor())
+    }
+}
+
+fn same_row<R: Narrow>(left: &Option<Boxed<R>>, right: &Option<Boxed<R>>) -> bool
+    ensures { IsTrue result ↔ (left.now ≡ right.now) }
+{
+    match (left, right) {
+        (None, None) => true,
+        (Some(a), Some(b)) => a.row().same(b.row()),
+        _ => false,
+    }
+}
+
+#[cycle(same)]
+fn same_rest<R: Narrow>(left: &Option<Box<Onward<R>>>, right: &Option<Box<Onward<R>>>) -> bool
+    ensures { IsTrue result ↔ (rest_in left.now ≡ rest_in right.now) }
+{
+    match (left, right) {
+        (None, None) => true,
+        (Some(a), Some(b)) => a.from == b.from && a.node.same(&b.node),
+        _ => false,
+    }
+}
+
+/// Whether the same branches are left on both ways. Elements that are alike on both are compared
+/// once.
+#[cycle(same)]
+fn same_below<'a, R: Narrow>(mut left: Cursor<'a, R>, mut right: Cursor<'a, R>) -> bool
+    ensures { IsTrue result ↔ (spread (spans_left left.entry) ≡ spread (spans_left right.entry)) }
+{
+    while let Some((span, node)) = left.next() {
+        let Some((other_span, other)) = right.next() else {
+            return false;
+        };
+        if !span.first().same(other_span.first()) || !node.same(other) {
+            return false;
+        }
+        let passed = u32::min(span.more(), other_span.more());
+        left.put_back(span, passed, node);
+        right.put_back(other_span, passed, other);
+    }
+    right.next().is_none()
+}
