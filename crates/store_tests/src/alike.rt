@@ -1,0 +1,72 @@
+//! Lists of many elements that are alike: they are kept once, so what is done to them costs what is
+//! written, and not what it says.
+use crate::sites::{hand, pass, state_size, taken};
+use std::test::Fail;
+
+/// A list at `l` of 65,536 elements at least, the last of which is 5.
+const LAST: &[u8] = &[
+    0xFE, 0x43, 0x55, 0x45, 2, 0, 0, 0, 0, 0, 0, 0, 3, // three rows
+    0, 0, 2, 0, // the root
+    1, 0, 0, 1, 0x6C, 2, 3, // a list at the label l
+    0, 1, 0, 0, 0, 0, 1, 0, 0, // of 65,536 elements at least, alike behind them
+    2, 0, 0, 1, 0x6C, 1, 0, 0, 0xFF, 0xFF, 0, 1, // a scalar in the last
+    0, 0, 0, 0, 0, 0, 0, 0, 1, // a set of one piece
+    0, 0, 0, 0, 0, 0, 0, 5, 0, 0, 0, 0, 0, 0, 0, 5, // the integer 5
+    0, 0, 0, 0, 0, 0, 0, 0, 0, // no text
+    0, 0, 0, 0, 0, 0, 0, 0, 1, // the usual set is the same
+    0, 0, 0, 0, 0, 0, 0, 5, 0, 0, 0, 0, 0, 0, 0, 5, //
+    0, 0, 0, 0, 0, 0, 0, 0, 0,
+];
+
+/// A list at `l`, each element of which is such a list.
+const EACH_LAST: &[u8] = &[
+    0xFE, 0x43, 0x55, 0x45, 2, 0, 0, 0, 0, 0, 0, 0, 4, // four rows
+    0, 0, 2, 0, // the root
+    1, 0, 0, 1, 0x6C, 2, 3, // a list at the label l
+    0, 0, 0, 0, 0, 0, 0, 0, 0, // of any length, whose elements are alike from the first on
+    2, 0, 0, 1, 0x6C, 2, 0, 3, // a list in its rest
+    0, 1, 0, 0, 0, 0, 1, 0, 0, // of 65,536 elements at least, alike behind them
+    3, 0, 0, 1, 0x6C, 2, 1, 0, 0, 0xFF, 0xFF, 0, 1, // a scalar in the last
+    0, 0, 0, 0, 0, 0, 0, 0, 1, // a set of one piece
+    0, 0, 0, 0, 0, 0, 0, 5, 0, 0, 0, 0, 0, 0, 0, 5, // the integer 5
+    0, 0, 0, 0, 0, 0, 0, 0, 0, // no text
+    0, 0, 0, 0, 0, 0, 0, 0, 1, // the usual set is the same
+    0, 0, 0, 0, 0, 0, 0, 5, 0, 0, 0, 0, 0, 0, 0, 5, //
+    0, 0, 0, 0, 0, 0, 0, 0, 0,
+];
+
+/// A list at `l` of 65,536 elements at least, the last of which is a list that begins with 7.
+const LAST_BEGINS: &[u8] = &[
+    0xFE, 0x43, 0x55, 0x45, 2, 0, 0, 0, 0, 0, 0, 0, 4, // four rows
+    0, 0, 2, 0, // the root
+    1, 0, 0, 1, 0x6C, 2, 3, // a list at the label l
+    0, 1, 0, 0, 0, 0, 1, 0, 0, // of 65,536 elements at least, alike behind them
+    2, 0, 0, 1, 0x6C, 1, 0, 0, 0xFF, 0xFF, 0, 3, // a list in the last
+    0, 0, 0, 1, 0, 0, 0, 0, 1, // of one element at least
+    3, 0, 0, 1, 0x6C, 1, 0, 0, 0xFF, 0xFF, 1, 0, 0, 0, 0, 0, 1, // a scalar in the first
+    0, 0, 0, 0, 0, 0, 0, 0, 1, // a set of one piece
+    0, 0, 0, 0, 0, 0, 0, 7, 0, 0, 0, 0, 0, 0, 0, 7, // the integer 7
+    0, 0, 0, 0, 0, 0, 0, 0, 0, // no text
+    0, 0, 0, 0, 0, 0, 0, 0, 1, // the usual set is the same
+    0, 0, 0, 0, 0, 0, 0, 7, 0, 0, 0, 0, 0, 0, 0, 7, //
+    0, 0, 0, 0, 0, 0, 0, 0, 0,
+];
+
+#[test]
+fn elements_that_are_alike(rt: HostRuntime) -> Result<(), Fail> {
+    let mut site = taken(rt.alloc(), LAST)?;
+    hand(&mut site, "l: [...int]\n")?;
+    // 65,535 rows of 80 bytes, and those of the root, of the list, of the last element and of the rest
+    assert!(rt; state_size(&site) == 5_242_989);
+    Ok(())
+}
+
+#[test]
+fn lists_of_such_lists(rt: HostRuntime) -> Result<(), Fail> {
+    let mut site = taken(rt.alloc(), EACH_LAST)?;
+    pass(&mut site, LAST_BEGINS)?;
+    hand(&mut site, "l: [...[...int]]\n")?;
+    // 65,537 lists, each with 65,537 rows below it
+    assert!(rt; state_size(&site) == 365_084_213_375);
+    Ok(())
+}
