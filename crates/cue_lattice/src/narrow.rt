@@ -1,4 +1,4 @@
-ghost use Rattle.std.specs.Prelude.{◌≡◌, ◌↔◌, ◌⊎◌, IsTrue, IfOk};
+ghost use Rattle.std.specs.Prelude.{◌≡◌, ◌↔◌, ◌⊎◌, IsTrue, IfOk, OnOk, OnErr};
 ghost use Rattle.cue_lattice.specs.Narrowed.{IsNarrowedBy};
 ghost use Rattle.cue_lattice.specs.declared.narrow.Narrowed.TheVariants.{Unchanged};
 ghost use Rattle.cue_lattice.specs.OneOf.{OneOf};
@@ -33,6 +33,16 @@ impl<N: Narrow> Narrowed<N> {
         ensures { IsTrue result ↔ (self.now ≡ Unchanged) }
     {
         matches!(self, Narrowed::Unchanged)
+    }
+
+    /// Puts the value that it becomes into its place.
+    pub fn put_into(self, place: &mut N)
+        ensures { place.new ≡ value_after place.old self }
+    {
+        match self {
+            Narrowed::Unchanged => {}
+            Narrowed::To(met) => *place = met,
+        }
     }
 }
 
@@ -80,6 +90,19 @@ pub trait Narrow: Sized + Drop {
             return Ok(Narrowed::Unchanged);
         }
         Ok(Narrowed::To(met))
+    }
+
+    /// Unifies a value that is not needed any more into this one, which then refuses exactly what
+    /// one of both did. After want of memory it is as it was.
+    fn narrow(&mut self, alloc: Global, other: Self) -> Result<(), Memory>
+        ensures ok { OnOk result ((question : Self.Question) →
+            refuses self.new question ↔ (refuses self.old question ⊎ refuses other question)) }
+        ensures err { OnErr result (self.new ≡ self.old) }
+    {
+        if let Narrowed::To(met) = self.narrowed_by(alloc, other)? {
+            *self = met;
+        }
+        Ok(())
     }
 
     /// Whether both are one value.

@@ -104,6 +104,21 @@ impl Narrow for Row {
         }))
     }
 
+    fn narrow(&mut self, alloc: Global, other: Row) -> Result<(), Memory> {
+        let value = self.value.change_by(alloc, other.value)?;
+        let usual = self.usual.change_by(alloc, other.usual)?;
+        let labels = self.labels.narrowed_by(alloc, other.labels)?;
+        self.level = self.level.greater(other.level);
+        self.value.apply(value);
+        self.usual.apply(usual);
+        self.struct_ok = both(self.struct_ok, other.struct_ok);
+        self.list_ok = both(self.list_ok, other.list_ok);
+        labels.put_into(&mut self.labels);
+        self.least = self.least.max(other.least);
+        self.most = smaller(self.most, other.most);
+        Ok(())
+    }
+
     fn same(&self, other: &Row) -> bool {
         self.has_form_of(other)
             && self.value.same(&other.value)

@@ -1,3 +1,4 @@
+pub mod Changes
 pub mod Pairs
 pub mod ScalarLaws
 pub mod Scalars

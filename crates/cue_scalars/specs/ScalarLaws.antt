@@ -1,5 +1,5 @@
 -- Laws of sets of scalars.
-use Rattle.std.proofs.Common.{◌≡◌, Bool, true, false, ◌↔◌}
+use Rattle.std.proofs.Common.{◌≡◌, true, false, ◌↔◌}
 use Rattle.cue_lattice.specs.Bools.{bool_same}
 use Rattle.cue_lattice.specs.declared.scalar.Scalar.{Scalar}
 use Rattle.cue_lattice.specs.declared.scalar.Scalar.TheVariants as scalars

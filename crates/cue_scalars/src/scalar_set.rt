@@ -5,7 +5,9 @@ ghost use Rattle.cue_lattice.specs.declared.scalar.Scalar.{Scalar};
 ghost use Rattle.cue_lattice.specs.declared.scalar.Scalar.TheVariants as scalars;
 ghost use Rattle.cue_scalars.specs.Scalars.{members, kind, only_of, IsOnlyScalar, IsFirstScalar};
 ghost use Rattle.cue_scalars.specs.Scalars.{IsWithin};
+ghost use Rattle.cue_scalars.specs.Changes.{IsChanged, Unifies};
 
+use crate::ScalarChange;
 use cue_lattice::{Memory, Narrow, Narrowed, Scalar, Text};
 use cue_sets::{IntSet, TextSet};
 use std::alloc::Global;
@@ -105,7 +107,7 @@ impl ScalarSet {
         })
     }
 
-    /// The members of either set, whose texts are moved and not copied.
+    /// The members of either set, whose pieces and texts are moved where that serves.
     pub fn into_union(self, alloc: Global, other: ScalarSet) -> Result<ScalarSet, Memory>
         ensures { IfOk result (λ all. (scalar : Scalar) →
             members all scalar ≡ (members self scalar || members other scalar)) }
@@ -114,7 +116,7 @@ impl ScalarSet {
             null: self.null || other.null,
             no: self.no || other.no,
             yes: self.yes || other.yes,
-            ints: self.ints.union(alloc, &other.ints)?,
+            ints: self.ints.into_union(alloc, other.ints)?,
             texts: self.texts.into_union(alloc, other.texts)?,
         })
     }
@@ -205,6 +207,44 @@ impl ScalarSet {
         self.texts.is_within(&other.texts)
     }
 
+    /// What becomes of this set where the other one is unified into it.
+    pub fn change_by(&self, alloc: Global, other: ScalarSet) -> Result<ScalarChange, Memory>
+        ensures { IfOk result (λ change. Unifies change self.now other) }
+    {
+        let ScalarSet {
+            null,
+            no,
+            yes,
+            ints,
+            texts,
+        } = other;
+        Ok(ScalarChange {
+            null: both(self.null, null),
+            no: both(self.no, no),
+            yes: both(self.yes, yes),
+            ints: self.ints.narrowed_by(alloc, ints)?,
+            texts: self.texts.change_by(alloc, texts)?,
+        })
+    }
+
+    /// Changes the set where it stands. This takes no memory.
+    pub fn apply(&mut self, change: ScalarChange)
+        ensures { IsChanged change self.old self.new }
+    {
+        let ScalarChange {
+            null,
+            no,
+            yes,
+            ints,
+            texts,
+        } = change;
+        self.null = null;
+        self.no = no;
+        self.yes = yes;
+        ints.put_into(&mut self.ints);
+        self.texts.apply(texts);
+    }
+
     /// Whether null and the truth values that are members are members of the other set too.
     fn is_plain_within(&self, other: &ScalarSet) -> bool
         ensures { result ≡ ((not self.now.null || other.now.null)
@@ -227,6 +267,13 @@ impl ScalarSet {
     {
         self.null && self.no && self.yes
     }
+}
+
+/// Whether both are true.
+fn both(left: bool, right: bool) -> bool
+    ensures { result ≡ (left && right) }
+{
+    left && right
 }
 
 /// The only one of null, false and true, where it is one.
@@ -306,6 +353,12 @@ impl Narrow for ScalarSet {
             ints: ints.or_copy(alloc, &self.ints)?,
             texts: texts.or_copy(alloc, &self.texts)?,
         }))
+    }
+
+    fn narrow(&mut self, alloc: Global, other: ScalarSet) -> Result<(), Memory> {
+        let change = self.change_by(alloc, other)?;
+        self.apply(change);
+        Ok(())
     }
 
     fn same(&self, other: &ScalarSet) -> bool {

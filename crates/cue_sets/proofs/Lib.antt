@@ -1,10 +1,13 @@
 pub mod Ahead
+pub mod Apart
 pub mod Beside
+pub mod Following
 pub mod Inside
 pub mod Merged
 pub mod Neighbours
 pub mod OnePiece
 pub mod PieceTests
+pub mod Removed
 pub mod Search
 pub mod Steps
 pub mod Swept

@@ -1,3 +1,5 @@
+pub mod Apart
+pub mod Changes
 pub mod Combination
 pub mod Kept
 pub mod Merge

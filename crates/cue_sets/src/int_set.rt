@@ -1,4 +1,4 @@
-ghost use Rattle.std.specs.Prelude.{◌≡◌, ℤ, ◌≤ℤ◌, ◌↔◌, ◌&&◌, ◌||◌, not};
+ghost use Rattle.std.specs.Prelude.{◌≡◌, ℤ, ◌≤ℤ◌, ◌↔◌, ◌++◌, ◌&&◌, ◌||◌, not};
 ghost use Rattle.std.specs.Prelude.{true, [], ◌∷◌, IfOk, IfSome, IfNone, Ok, Some, None};
 ghost use Rattle.std.specs.Prelude.{IsTrue};
 ghost use Rattle.std.specs.Ordering.{int_eq};
@@ -8,7 +8,7 @@ ghost use Rattle.cue_sets.specs.Combination.{keeps};
 
 use crate::combination::Combination;
 use crate::kept::Kept;
-use crate::pieces::{combine, has, is_canonical, is_within};
+use crate::pieces::{combine, has, is_before, is_canonical, is_within};
 use cue_lattice::{Memory, Narrow, Narrowed};
 use std::alloc::Global;
 use std::marker::Model;
@@ -127,6 +127,21 @@ impl IntSet {
         self.combined(alloc, Combination::Union, other)
     }
 
+    /// The members of either set, which are taken over. Where this set ends before the other begins,
+    /// the pieces of the other are put at its end.
+    pub fn into_union(self, alloc: Global, other: IntSet) -> Result<IntSet, Memory>
+        ensures { IfOk result (λ all. (n : ℤ) →
+            is_member all n ≡ (is_member self n || is_member other n)) }
+    {
+        if other.is_empty() {
+            return Ok(self);
+        }
+        if !is_before(self.pieces.as_slice(), other.pieces.as_slice()) {
+            return self.union(alloc, &other);
+        }
+        self.followed_by(alloc, other)
+    }
+
     /// The members of this set that the other lacks.
     pub fn without(&self, alloc: Global, other: &IntSet) -> Result<IntSet, Memory>
         ensures { IfOk result (λ rest. (n : ℤ) →
@@ -198,6 +213,19 @@ impl IntSet {
         let pieces = combine(alloc, how, self.pieces.as_slice(), other.pieces.as_slice())?;
         Ok(IntSet {
             pieces: Kept::of(pieces),
+        })
+    }
+
+    /// The members of both sets, where the pieces of the other come after those of this one.
+    fn followed_by(self, alloc: Global, other: IntSet) -> Result<IntSet, Memory>
+        requires { IsCanonical (self ++ other) }
+        ensures { IfOk result (λ all. (n : ℤ) →
+            is_member all n ≡ (is_member self n || is_member other n)) }
+    {
+        let IntSet { pieces } = self;
+        let IntSet { pieces: later } = other;
+        Ok(IntSet {
+            pieces: pieces.followed_by(alloc, later)?,
         })
     }
 

@@ -1,4 +1,4 @@
-ghost use Rattle.std.specs.Prelude.{◌≡◌, ◌∷◌, [], ℤ, ◌&&◌, IfOk, IfSome};
+ghost use Rattle.std.specs.Prelude.{◌≡◌, ◌∷◌, ◌++◌, [], ℤ, ◌&&◌, IfOk, IfSome};
 ghost use Rattle.cue_sets.specs.Kept.{listed};
 ghost use Rattle.cue_sets.specs.Pieces.{is_member, IsCanonical};
 
@@ -52,6 +52,25 @@ impl Kept {
             [(first, last)] => Kept::one(*first, *last),
             _ => Kept::Many(pieces),
         }
+    }
+
+    /// These pieces, and then those of another list.
+    pub(crate) fn followed_by(self, alloc: Global, later: Kept) -> Result<Kept, Memory>
+        ensures { IfOk result (λ all. listed all ≡ listed self ++ listed later) }
+    {
+        let mut pieces = match self {
+            Kept::Many(pieces) => pieces,
+            Kept::One(piece) => {
+                let mut pieces = Vec::with_capacity(alloc, 2)?;
+                pieces.push(piece)?;
+                pieces
+            }
+        };
+        match later {
+            Kept::One(piece) => pieces.push(piece)?,
+            Kept::Many(mut later) => pieces.append(&mut later)?,
+        }
+        Ok(Kept::Many(pieces))
     }
 
     /// The piece, where there is one and no other.

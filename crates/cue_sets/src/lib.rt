@@ -7,11 +7,14 @@
 mod combination;
 mod int_set;
 mod kept;
+mod leaving;
 mod moving;
 mod pieces;
+mod text_change;
 mod text_set;
 mod texts;
 
 pub use cue_lattice::{Memory, Narrow, Narrowed, Text};
 pub use int_set::IntSet;
+pub use text_change::TextChange;
 pub use text_set::TextSet;

@@ -1,7 +1,9 @@
 //! Two lists of texts as one, whose texts are moved.
-ghost use Rattle.std.specs.Prelude.{◌≡◌, ◌+◌, ◌<◌, Bool, [], length, IfOk, IfSome, IfNone};
+ghost use Rattle.std.specs.Prelude.{◌≡◌, ◌+◌, ◌<◌, Bool, [], length, IfOk, IfSome, IfNone, IsTrue};
+ghost use Rattle.cue_sets.specs.Apart.{AreApart};
 ghost use Rattle.cue_sets.specs.Merge.{lists, merged, prepended_if};
 ghost use Rattle.cue_sets.specs.Taken.{IsLeast, left_of};
+ghost use Rattle.cue_sets.specs.Texts.{IsAscending};
 
 use crate::texts::Lists;
 use cue_lattice::{Memory, Text};
@@ -47,17 +49,36 @@ fn take_least(left: &mut VecDeque<Text>, right: &mut VecDeque<Text>) -> Option<L
     })
 }
 
-/// The list of a combination of two sets, whose texts are moved. Both lists are walked once.
+/// Whether the last text of an ascending list is below the first one of another. Then a combination
+/// that lists the texts of both has the one list after the other.
+fn is_before(left: &[Text], right: &[Text]) -> bool
+    requires { IsAscending left.now }
+    ensures { IsTrue result → AreApart left.now right.now }
+{
+    if left.is_empty() || right.is_empty() {
+        return true;
+    }
+    left[left.len() - 1].compare(&right[0]).is_lt()
+}
+
+/// The list of a combination of two sets, whose texts are moved. Where one list ends before the
+/// other begins, and all texts stay, the other is put at its end. Otherwise both lists are walked
+/// once.
 pub(crate) fn merge_moved(
     alloc: Global,
     how: Lists,
-    left: Vec<Text>,
-    right: Vec<Text>,
+    mut left: Vec<Text>,
+    mut right: Vec<Text>,
 ) -> Result<Vec<Text>, Memory>
+    requires { IsAscending left.items }
     ensures { IfOk result (λ texts.
         texts.items ≡ merged (lists how.how how.left_all_but how.right_all_but) left.items
         right.items) }
 {
+    if how.keeps(true, false) && how.keeps(false, true) && is_before(&left, &right) {
+        left.append(&mut right)?;
+        return Ok(left);
+    }
     let mut texts = Vec::with_capacity(alloc, left.len() + right.len())?;
     let (mut on_left, mut on_right) = (VecDeque::from(left), VecDeque::from(right));
     while let Some(least) = take_least(&mut on_left, &mut on_right) {

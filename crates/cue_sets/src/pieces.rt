@@ -134,6 +134,20 @@ pub(crate) fn is_within(left: &[(i64, i64)], right: &[(i64, i64)]) -> bool
     }
 }
 
+/// Whether both lists have pieces, and between the last piece of the left one and the first piece
+/// of the right one at least one number is left out. Then they are the pieces of a set, one list
+/// after the other.
+pub(crate) fn is_before(left: &[(i64, i64)], right: &[(i64, i64)]) -> bool
+    requires left { IsCanonical left.now }
+    requires right { IsCanonical right.now }
+    ensures { IsTrue result → IsCanonical (left.now ++ right.now) }
+{
+    match (left.last(), right.first()) {
+        (Some((_, last)), Some((first, _))) => *last < *first && *last + 1 < *first,
+        _ => false,
+    }
+}
+
 /// Whether some piece has a number, by a binary search.
 pub(crate) fn has(pieces: &[(i64, i64)], number: i64) -> bool
     requires { IsCanonical pieces.now }

@@ -1,9 +1,14 @@
 ghost use Rattle.std.specs.Prelude.{◌≡◌, ◌↔◌, ℕ, Bool, List, [], ◌∷◌, true, false, not, ◌&&◌, ◌||◌};
 ghost use Rattle.std.specs.Prelude.{IfOk, IfSome, IfNone, Ok, IsTrue};
 ghost use Rattle.cue_sets.specs.Combination.{keeps};
-ghost use Rattle.cue_sets.specs.Texts.{is_text_member, IsAscending, IsFirstText, IsOnlyText};
+ghost use Rattle.cue_sets.specs.Changes.{IsChanged, Unifies};
+ghost use Rattle.cue_sets.specs.declared.text_change.TextChange.TheVariants.{Keep};
+ghost use Rattle.cue_sets.specs.Texts.{is_listed, is_text_member, IsAscending, IsFirstText};
+ghost use Rattle.cue_sets.specs.Texts.{IsOnlyText};
 
+use crate::TextChange;
 use crate::combination::Combination;
+use crate::leaving::remove_each;
 use crate::moving::{merge_beside, merge_moved};
 use crate::texts::{
     Lists, are_same, ascends, copies, each_is_listed, has, is_member, merge, zeros, zeros_listed,
@@ -11,6 +16,9 @@ use crate::texts::{
 use cue_lattice::{Memory, Narrow, Narrowed, Text};
 use std::alloc::Global;
 use std::marker::Model;
+
+/// How many texts are searched for or taken out of a list one by one, however long that is.
+const FEW: usize = 8;
 
 /// A set of texts: a finite one, or all texts but finitely many.
 ///
@@ -198,6 +206,52 @@ impl TextSet {
         each_is_listed(texts, others, !other.all_but)
     }
 
+    /// What becomes of this set where the other one is unified into it. Where one of the two lists
+    /// few texts and the other many, this takes no memory.
+    pub fn change_by(&self, alloc: Global, mut other: TextSet) -> Result<TextChange, Memory>
+        ensures { IfOk result (λ change. Unifies change self.now other) }
+    {
+        if !other.all_but && other.is_kept_soon(self) {
+            other.keep(self);
+            return Ok(TextChange::Become(other));
+        }
+        if !self.all_but && self.is_kept_soon(&other) {
+            return Ok(TextChange::Keep(other));
+        }
+        match self.narrowed_by(alloc, other)? {
+            Narrowed::Unchanged => Ok(TextChange::Stay),
+            Narrowed::To(met) => Ok(TextChange::Become(met)),
+        }
+    }
+
+    /// Changes the set where it stands. This takes no memory.
+    pub fn apply(&mut self, change: TextChange)
+        ensures { IsChanged change self.old self.new }
+    {
+        match change {
+            TextChange::Stay => {}
+            TextChange::Become(set) => *self = set,
+            TextChange::Keep(set) => self.keep(&set),
+        }
+    }
+
+    /// Whether few comparisons tell which of the listed texts the other set has.
+    fn is_kept_soon(&self, other: &TextSet) -> bool {
+        let (count, others) = (self.texts.len(), other.texts.len());
+        count <= FEW || count < others / 16 || other.all_but && others <= FEW
+    }
+
+    /// Of the texts that are listed, those stay that the other set has.
+    fn keep(&mut self, other: &TextSet)
+        ensures { IsChanged (Keep other.now) self.old self.new }
+    {
+        if other.all_but && other.texts.len() <= FEW {
+            remove_each(&mut self.texts, other.texts.as_slice());
+            return;
+        }
+        self.texts.retain(|text| other.contains(text.as_str()));
+    }
+
     fn combined(&self, alloc: Global, how: Combination, other: &TextSet) -> Result<TextSet, Memory>
         ensures { IfOk result (λ set. (text : List ℕ) →
             is_text_member set text ≡ keeps how (is_text_member self.now text)
@@ -303,6 +357,12 @@ impl Narrow for TextSet {
             return Ok(Narrowed::To(other));
         }
         Ok(Narrowed::To(self.meet_moving(alloc, other)?))
+    }
+
+    fn narrow(&mut self, alloc: Global, other: TextSet) -> Result<(), Memory> {
+        let change = self.change_by(alloc, other)?;
+        self.apply(change);
+        Ok(())
     }
 
     fn same(&self, other: &TextSet) -> bool {

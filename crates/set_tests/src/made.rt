@@ -40,6 +40,13 @@ pub fn is_kept<N: Narrow>(alloc: Global, value: Made<N>, other: Made<N>) -> Made
     Ok(value?.narrowed_by(alloc, other?)?.is_unchanged())
 }
 
+/// The value into which the other one is unified where it stands.
+pub fn changed<N: Narrow>(alloc: Global, value: Made<N>, other: Made<N>) -> Made<N> {
+    let mut value = value?;
+    value.narrow(alloc, other?)?;
+    Ok(value)
+}
+
 /// The unification of a list.
 pub fn meet_of_all<N: Narrow>(alloc: Global, values: Made<Vec<N>>) -> Made<N> {
     meet_all(alloc, values?.as_slice())
