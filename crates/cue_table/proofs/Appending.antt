@@ -12,7 +12,7 @@ use Rattle.cue_lattice.specs.Path.{Step, step_cmp}
 use Rattle.cue_row.specs.Steps.{step_of}
 use Rattle.std.specs.Global.{Global}
 use Rattle.cue_table.specs.declared.node.Onward.{Onward}
-use Rattle.cue_table.specs.declared.node.Child.{Child}
+use Rattle.cue_table.specs.Inner.Child.{Child}
 use Rattle.cue_table.specs.Tree.{Tree, node, Children, none, child, Rest, no_rest, onward, find, taken}
 use Rattle.cue_table.specs.Slots.{Slot, at, from, slot_cmp, Place, place_cmp, behind, rows_of, rows_below, rows_onward}
 use Rattle.cue_table.specs.Depth.{tree_depth, children_depth}
@@ -91,9 +91,9 @@ module _ {R : Type 0} where
   hung_taken old new place row (Apart back) t h = subst IsTaken (sym h.0) t
 
   -- a branch that a call gave a row, or left as it was, is not empty
-  pub result_taken : {E : Type 0} (r : Result (Hung R) E) (old new : Tree R) (place : Place) (row : R) → IsTaken old → IfOk r (Hangs old place row new) → OnErr r (new ≡ old) → IsTaken new
-  result_taken (Ok hung) old new place row t h e = hung_taken old new place row hung t h
-  result_taken (Err err) old new place row t h e = subst IsTaken (sym e) t
+  pub result_taken : {E : Type 0} (r : Result (Hung R) E) (old new : Child R) (place : Place) (row : R) → IsTaken old.node → IfOk r (Hangs old.node place row new.node) → OnErr r (new ≡ old) → IsTaken new.node
+  result_taken (Ok hung) old new place row t h e = hung_taken old.node new.node place row hung t h
+  result_taken (Err err) old new place row t h e = subst (λ (c : Child R). IsTaken c.node) (sym e) t
 
   pub is_taken : (tree : Tree R) (found : Tree R) → taken tree ≡ Some found → IsTaken tree
   is_taken (node (Some r) cs q) found e = tt
@@ -225,42 +225,42 @@ module _ {R : Type 0} where
   step_free step here children no_rest o e n = (refl, e)
   step_free step here children (onward m tree) o e n = absurd (n (sym e))
 
-module _ {R Q : Type 0} where
-  pub last_is : (front : List (Child R Q)) (c : Child R Q) (step : Step) → last_cmp step (branches (front ++ c ∷ [])) ≡ step_cmp (step_of c.step) step
+module _ {R : Type 0} where
+  pub last_is : (front : List (Child R)) (c : Child R) (step : Step) → last_cmp step (branches (front ++ c ∷ [])) ≡ step_cmp (step_of c.step) step
   last_is [] c step = refl
   last_is (x ∷ []) c step = refl
   last_is (x ∷ y ∷ front) c step = last_is (y ∷ front) c step
 
   pub against_free :
-      (step : Step) (here : Option R) (cs : List (Child R Q)) (rest : Option (Box (Onward R Q) Global)) → is_some rest ≡ false
+      {Q : Type 0} (step : Step) (here : Option R) (cs : List (Child R)) (rest : Option (Box (Onward R Q) Global)) → is_some rest ≡ false
       → last_cmp step (branches cs) ≡ against_step step (node here (branches cs) (rest_in rest))
   against_free step here cs None e = refl
   against_free step here cs (Some b) e = cc
 
-  below_end : (front : List (Child R Q)) (c : Child R Q) → rows_below (branches (front ++ c ∷ [])) ≡ rows_below (branches front) ++ map (behind (at (step_of c.step))) (rows_of c.node)
+  below_end : (front : List (Child R)) (c : Child R) → rows_below (branches (front ++ c ∷ [])) ≡ rows_below (branches front) ++ map (behind (at (step_of c.step))) (rows_of c.node)
   below_end [] c = append-nil (map (behind (at (step_of c.step))) (rows_of c.node))
   below_end (x ∷ front) c =
       ap (λ t. map (behind (at (step_of x.step))) (rows_of x.node) ++ t) (below_end front c)
       ∙ sym (append_assoc (map (behind (at (step_of x.step))) (rows_of x.node)) (rows_below (branches front)) (map (behind (at (step_of c.step))) (rows_of c.node)))
 
-  pub depth_end : (front : List (Child R Q)) (c : Child R Q) → children_depth (branches (front ++ c ∷ [])) ≡ max (children_depth (branches front)) (tree_depth c.node + 1)
+  pub depth_end : (front : List (Child R)) (c : Child R) → children_depth (branches (front ++ c ∷ [])) ≡ max (children_depth (branches front)) (tree_depth c.node + 1)
   depth_end [] c = omega arith
   depth_end (x ∷ front) c = omega (arith, depth_end front c)
 
-  below_replaced : (s : Step) (front : List (Child R Q)) (c d : Child R Q) → c.step ≡ d.step → IsBelowAll s (branches (front ++ c ∷ [])) → IsBelowAll s (branches (front ++ d ∷ []))
+  below_replaced : (s : Step) (front : List (Child R)) (c d : Child R) → c.step ≡ d.step → IsBelowAll s (branches (front ++ c ∷ [])) → IsBelowAll s (branches (front ++ d ∷ []))
   below_replaced s [] c d e h = (subst (λ x. step_cmp s (step_of x) ≡ Less) e h.0, tt)
   below_replaced s (x ∷ front) c d e h = (h.0, below_replaced s front c d e h.1)
 
-  loose_replaced : (P : R → Type 0) (front : List (Child R Q)) (c d : Child R Q) → c.step ≡ d.step → AreLoose P (branches (front ++ c ∷ [])) → IsTaken d.node → IsLoose P d.node → AreLoose P (branches (front ++ d ∷ []))
+  loose_replaced : (P : R → Type 0) (front : List (Child R)) (c d : Child R) → c.step ≡ d.step → AreLoose P (branches (front ++ c ∷ [])) → IsTaken d.node → IsLoose P d.node → AreLoose P (branches (front ++ d ∷ []))
   loose_replaced P [] c d e h t k = (tt, t, k, tt)
   loose_replaced P (x ∷ front) c d e h t k = (below_replaced (step_of x.step) front c d e h.0, h.1, h.2, loose_replaced P front c d e h.3 t k)
 
-  last_loose : (P : R → Type 0) (front : List (Child R Q)) (c : Child R Q) → AreLoose P (branches (front ++ c ∷ [])) → IsTaken c.node × IsLoose P c.node
+  last_loose : (P : R → Type 0) (front : List (Child R)) (c : Child R) → AreLoose P (branches (front ++ c ∷ [])) → IsTaken c.node × IsLoose P c.node
   last_loose P [] c h = (h.1, h.2)
   last_loose P (x ∷ front) c h = last_loose P front c h.3
 
   -- one more branch behind all others
-  loose_more : (P : R → Type 0) (cs : List (Child R Q)) (c : Child R Q) → last_cmp (step_of c.step) (branches cs) ≡ Less → AreLoose P (branches cs) → IsTaken c.node → IsLoose P c.node → AreLoose P (branches (cs ++ c ∷ []))
+  loose_more : (P : R → Type 0) (cs : List (Child R)) (c : Child R) → last_cmp (step_of c.step) (branches cs) ≡ Less → AreLoose P (branches cs) → IsTaken c.node → IsLoose P c.node → AreLoose P (branches (cs ++ c ∷ []))
   loose_more P [] c l h t k = (tt, t, k, tt)
   loose_more P (x ∷ []) c l h t k = ((l, tt), h.1, h.2, (tt, t, k, tt))
   loose_more P (x ∷ y ∷ cs) c l h t k =
@@ -268,7 +268,7 @@ module _ {R Q : Type 0} where
       ((h.0.0, below_all (step_of x.step) (step_of y.step) (branches (cs ++ c ∷ [])) h.0.0 more.0), h.1, h.2, more)
 
   -- where the last branch stands behind a step, not all rows stand before it
-  not_before_last : (P : R → Type 0) (step : Step) (place : Place) (cs : List (Child R Q)) → AreLoose P (branches cs) → last_cmp step (branches cs) ≡ Greater → AreBefore (at step ∷ place) (rows_below (branches cs)) → ⊥
+  not_before_last : (P : R → Type 0) (step : Step) (place : Place) (cs : List (Child R)) → AreLoose P (branches cs) → last_cmp step (branches cs) ≡ Greater → AreBefore (at step ∷ place) (rows_below (branches cs)) → ⊥
   not_before_last P step place [] h e b = cc
   not_before_last P step place (x ∷ []) h e b =
       let first = some_row P x.node h.1 h.2 in
@@ -279,7 +279,7 @@ module _ {R Q : Type 0} where
 
   -- where the last branch of a place stands behind a step, not all rows stand before it
   pub not_before_step :
-      (P : R → Type 0) (here : Option R) (cs : List (Child R Q)) (rest : Option (Box (Onward R Q) Global)) (step : Step) (place : Place)
+      {Q : Type 0} (P : R → Type 0) (here : Option R) (cs : List (Child R)) (rest : Option (Box (Onward R Q) Global)) (step : Step) (place : Place)
       → against_step step (node here (below_in (branches cs) rest) (rest_in rest)) ≡ Greater → IsLoose P (node here (below_in (branches cs) rest) (rest_in rest))
       → AreBefore (at step ∷ place) (rows_of (node here (below_in (branches cs) rest) (rest_in rest))) → ⊥
   not_before_step P here cs None step place e h b =
@@ -287,12 +287,12 @@ module _ {R Q : Type 0} where
       not_before_last P step place cs h.1 e (subst (AreBefore (at step ∷ place)) (append-nil (rows_below (branches cs))) below)
   not_before_step P here cs (Some o) step place e h b = not_before_rest P here (below_in (branches cs) (Some o)) o.value.from o.value.node (at step) place refl h.2 b
 
-  below_last : (s : Step) (front : List (Child R Q)) (c : Child R Q) → IsBelowAll s (branches (front ++ c ∷ [])) → step_cmp s (step_of c.step) ≡ Less
+  below_last : (s : Step) (front : List (Child R)) (c : Child R) → IsBelowAll s (branches (front ++ c ∷ [])) → step_cmp s (step_of c.step) ≡ Less
   below_last s [] c h = h.0
   below_last s (d ∷ front) c h = below_last s front c h.1
 
   -- the last branch is found at its step
-  pub find_end : (front : List (Child R Q)) (c : Child R Q) → Rise (branches (front ++ c ∷ [])) → find (step_of c.step) (branches (front ++ c ∷ [])) ≡ Some c.node
+  pub find_end : (front : List (Child R)) (c : Child R) → Rise (branches (front ++ c ∷ [])) → find (step_of c.step) (branches (front ++ c ∷ [])) ≡ Some c.node
   find_end [] c h = find_first (step_of c.step) c.node none
   find_end (d ∷ front) c h =
       let low = below_last (step_of d.step) front c h.0 in
@@ -300,7 +300,7 @@ module _ {R Q : Type 0} where
 
   -- the last branch took the row
   hung_seam :
-      (P : R → Type 0) (here : Option R) (front : List (Child R Q)) (c d : Child R Q) (place : Place) (row : R) (hung : Hung R) → c.step ≡ d.step → AreLoose P (branches (front ++ c ∷ []))
+      (P : R → Type 0) (here : Option R) (front : List (Child R)) (c d : Child R) (place : Place) (row : R) (hung : Hung R) → c.step ≡ d.step → AreLoose P (branches (front ++ c ∷ []))
       → Hangs c.node place row d.node hung
       → Hangs (node here (branches (front ++ c ∷ [])) no_rest) (at (step_of c.step) ∷ place) row (node here (branches (front ++ d ∷ [])) no_rest) hung
   hung_seam P here front c d place row Behind e f h =
@@ -338,67 +338,64 @@ module _ {R Q : Type 0} where
   )
 
   -- the branches before the last one, where `item` is the last
-  fronts : (cs : List (Child R Q)) (n : ℕ) (item : Child R Q) → n ≡ length cs - 1 → 0 < length cs → item ≡ slice_index_or cs n item → (front : List (Child R Q)) × (cs ≡ front ++ item ∷ []) × ((d : Child R Q) → slice_set cs n d ≡ front ++ d ∷ [])
+  fronts : (cs : List (Child R)) (n : ℕ) (item : Child R) → n ≡ length cs - 1 → 0 < length cs → item ≡ slice_index_or cs n item → (front : List (Child R)) × (cs ≡ front ++ item ∷ []) × ((d : Child R) → slice_set cs n d ≡ front ++ d ∷ [])
   fronts cs n item e some is =
       let view = snoc cs some in
       let front = view.0 in
       let last = view.1 in
-      let k : n ≡ length front = e ∙ ap (λ (xs : List (Child R Q)). length xs - 1) view.2 ∙ last_at front last in
+      let k : n ≡ length front = e ∙ ap (λ (xs : List (Child R)). length xs - 1) view.2 ∙ last_at front last in
       let same : item ≡ last = is ∙ ap (λ m. get_or cs m item) k ∙ ap (λ xs. get_or xs (length front) item) view.2 ∙ get_or-append_seam front last [] item in
       (front, view.2 ∙ ap (λ x. front ++ x ∷ []) (sym same), λ d. ap (λ m. set cs m d) k ∙ ap (λ xs. set xs (length front) d) view.2 ∙ set-append_seam front last [] d)
 
-  last_some : (cs : List (Child R Q)) (step : Step) (o : Ordering) → last_cmp step (branches cs) ≡ o → (o ≡ Less → ⊥) → 0 < length cs
+  last_some : (cs : List (Child R)) (step : Step) (o : Ordering) → last_cmp step (branches cs) ≡ o → (o ≡ Less → ⊥) → 0 < length cs
   last_some [] step o e n = absurd (n (sym e))
   last_some (x ∷ cs) step o e n = omega arith
 
   -- `item` is the last of the branches, and stands at the step
-  pub record IsLast (cs : List (Child R Q)) (n : ℕ) (item : Child R Q) (step : Step) : Type 0 where
+  pub record IsLast (cs : List (Child R)) (n : ℕ) (item : Child R) (step : Step) : Type 0 where
     pub place : n ≡ length cs - 1
     pub is : item ≡ slice_index_or cs n item
     pub last : last_cmp step (branches cs) ≡ Equal
 
-  some_of : (cs : List (Child R Q)) (n : ℕ) (item : Child R Q) (step : Step) → IsLast cs n item step → 0 < length cs
+  some_of : (cs : List (Child R)) (n : ℕ) (item : Child R) (step : Step) → IsLast cs n item step → 0 < length cs
   some_of cs n item step h = last_some cs step Equal h.last (λ x. cc)
 
   -- what stands last is in form
-  pub item_loose : (P : R → Type 0) (cs : List (Child R Q)) (n : ℕ) (item : Child R Q) (step : Step) → IsLast cs n item step → AreLoose P (branches cs) → IsTaken item.node × IsLoose P item.node
+  pub item_loose : (P : R → Type 0) (cs : List (Child R)) (n : ℕ) (item : Child R) (step : Step) → IsLast cs n item step → AreLoose P (branches cs) → IsTaken item.node × IsLoose P item.node
   item_loose P cs n item step l h =
       let view = fronts cs n item l.place (some_of cs n item step l) l.is in
       last_loose P view.0 item (subst (λ xs. AreLoose P (branches xs)) view.1 h)
 
   pub hung_last :
-      (P : R → Type 0) (here : Option R) (cs : List (Child R Q)) (n : ℕ) (item : Child R Q) (new : Tree R) (step : Step) (place : Place) (row : R) (hung : Hung R)
-      → IsLast cs n item step → AreLoose P (branches cs) → Hangs item.node place row new hung
-      → Hangs (node here (branches cs) no_rest) (at step ∷ place) row (node here (branches (slice_set cs n (record { step = item.step; node = new }))) no_rest) hung
-  hung_last P here cs n item new step place row hung l f h =
+      (P : R → Type 0) (here : Option R) (cs : List (Child R)) (n : ℕ) (item new : Child R) (step : Step) (place : Place) (row : R) (hung : Hung R)
+      → IsLast cs n item step → AreLoose P (branches cs) → new.step ≡ item.step → Hangs item.node place row new.node hung
+      → Hangs (node here (branches cs) no_rest) (at step ∷ place) row (node here (branches (slice_set cs n new)) no_rest) hung
+  hung_last P here cs n item new step place row hung l f e h =
       let view = fronts cs n item l.place (some_of cs n item step l) l.is in
-      let d : Child R Q = record { step = item.step; node = new } in
       let same : step_of item.step ≡ step = equal_steps (step_of item.step) step (sym (last_is view.0 item step) ∙ ap (λ xs. last_cmp step (branches xs)) (sym view.1) ∙ l.last) in
-      let seam = hung_seam P here view.0 item d place row hung refl (subst (λ xs. AreLoose P (branches xs)) view.1 f) h in
-      subst (λ s. Hangs (node here (branches cs) no_rest) (at s ∷ place) row (node here (branches (slice_set cs n d)) no_rest) hung) same
-      (subst (λ xs. Hangs (node here (branches xs) no_rest) (at (step_of item.step) ∷ place) row (node here (branches (slice_set cs n d)) no_rest) hung) (sym view.1)
-      (subst (λ xs. Hangs (node here (branches (view.0 ++ item ∷ [])) no_rest) (at (step_of item.step) ∷ place) row (node here (branches xs) no_rest) hung) (sym (view.2 d)) seam))
+      let seam = hung_seam P here view.0 item new place row hung (sym e) (subst (λ xs. AreLoose P (branches xs)) view.1 f) h in
+      subst (λ s. Hangs (node here (branches cs) no_rest) (at s ∷ place) row (node here (branches (slice_set cs n new)) no_rest) hung) same
+      (subst (λ xs. Hangs (node here (branches xs) no_rest) (at (step_of item.step) ∷ place) row (node here (branches (slice_set cs n new)) no_rest) hung) (sym view.1)
+      (subst (λ xs. Hangs (node here (branches (view.0 ++ item ∷ [])) no_rest) (at (step_of item.step) ∷ place) row (node here (branches xs) no_rest) hung) (sym (view.2 new)) seam))
 
   pub loose_last :
-      (P : R → Type 0) (cs : List (Child R Q)) (n : ℕ) (item : Child R Q) (new : Tree R) (step : Step) → IsLast cs n item step → AreLoose P (branches cs) → IsTaken new → IsLoose P new
-      → AreLoose P (branches (slice_set cs n (record { step = item.step; node = new })))
-  loose_last P cs n item new step l h t k =
+      (P : R → Type 0) (cs : List (Child R)) (n : ℕ) (item new : Child R) (step : Step) → IsLast cs n item step → AreLoose P (branches cs) → new.step ≡ item.step → IsTaken new.node → IsLoose P new.node
+      → AreLoose P (branches (slice_set cs n new))
+  loose_last P cs n item new step l h e t k =
       let view = fronts cs n item l.place (some_of cs n item step l) l.is in
-      let d : Child R Q = record { step = item.step; node = new } in
-      subst (λ xs. AreLoose P (branches xs)) (sym (view.2 d)) (loose_replaced P view.0 item d refl (subst (λ xs. AreLoose P (branches xs)) view.1 h) t k)
+      subst (λ xs. AreLoose P (branches xs)) (sym (view.2 new)) (loose_replaced P view.0 item new (sym e) (subst (λ xs. AreLoose P (branches xs)) view.1 h) t k)
 
   pub deep_last :
-      (cs : List (Child R Q)) (n len : ℕ) (item : Child R Q) (new : Tree R) (step : Step) → IsLast cs n item step → tree_depth new ≤ max (tree_depth item.node) len
-      → children_depth (branches (slice_set cs n (record { step = item.step; node = new }))) ≤ max (children_depth (branches cs)) (len + 1)
+      (cs : List (Child R)) (n len : ℕ) (item new : Child R) (step : Step) → IsLast cs n item step → tree_depth new.node ≤ max (tree_depth item.node) len
+      → children_depth (branches (slice_set cs n new)) ≤ max (children_depth (branches cs)) (len + 1)
   deep_last cs n len item new step l h =
       let view = fronts cs n item l.place (some_of cs n item step l) l.is in
-      let d : Child R Q = record { step = item.step; node = new } in
-      let after : children_depth (branches (slice_set cs n d)) ≡ max (children_depth (branches view.0)) (tree_depth new + 1) = ap (λ xs. children_depth (branches xs)) (view.2 d) ∙ depth_end view.0 d in
+      let after : children_depth (branches (slice_set cs n new)) ≡ max (children_depth (branches view.0)) (tree_depth new.node + 1) = ap (λ xs. children_depth (branches xs)) (view.2 new) ∙ depth_end view.0 new in
       let before : children_depth (branches cs) ≡ max (children_depth (branches view.0)) (tree_depth item.node + 1) = ap (λ xs. children_depth (branches xs)) view.1 ∙ depth_end view.0 item in
       omega (arith, after, before, h)
 
   -- one more branch with one row alone, behind all others
-  pub record IsPushed (cs all : List (Child R Q)) (rest : Rest R) (step : Step) (place : Place) (row : R) (c : Child R Q) : Type 0 where
+  pub record IsPushed (cs all : List (Child R)) (rest : Rest R) (step : Step) (place : Place) (row : R) (c : Child R) : Type 0 where
     pub all_are : all ≡ cs ++ c ∷ []
     pub at_step : step_of c.step ≡ step
     pub is_alone : c.node ≡ alone place row
@@ -406,7 +403,7 @@ module _ {R Q : Type 0} where
     pub last : last_cmp step (branches cs) ≡ Less
 
   pub pushed_rows :
-      (here : Option R) (cs all : List (Child R Q)) (rest : Rest R) (step : Step) (place : Place) (row : R) (c : Child R Q) → IsPushed cs all rest step place row c
+      (here : Option R) (cs all : List (Child R)) (rest : Rest R) (step : Step) (place : Place) (row : R) (c : Child R) → IsPushed cs all rest step place row c
       → rows_of (node here (branches all) rest) ≡ rows_of (node here (branches cs) rest) ++ (at step ∷ place, row) ∷ []
   pushed_rows here cs all rest step place row c h =
       let own : List (Place × R) = map (λ r. ([], r)) (option_to_list here) in
@@ -417,12 +414,12 @@ module _ {R Q : Type 0} where
       subst (λ r. rows_of (node here (branches all) r) ≡ rows_of (node here (branches cs) r) ++ more) (sym h.none)
       (ap (λ rows. own ++ (rows ++ [])) below ∙ joined_more own (rows_below (branches cs)) more)
 
-  pub pushed_loose : (P : R → Type 0) (cs all : List (Child R Q)) (rest : Rest R) (step : Step) (place : Place) (row : R) (c : Child R Q) → IsPushed cs all rest step place row c → AreLoose P (branches cs) → P row → AreLoose P (branches all)
+  pub pushed_loose : (P : R → Type 0) (cs all : List (Child R)) (rest : Rest R) (step : Step) (place : Place) (row : R) (c : Child R) → IsPushed cs all rest step place row c → AreLoose P (branches cs) → P row → AreLoose P (branches all)
   pushed_loose P cs all rest step place row c h f k =
       subst (λ xs. AreLoose P (branches xs)) (sym h.all_are)
       (loose_more P cs c (ap (λ x. last_cmp x (branches cs)) h.at_step ∙ h.last) f (subst IsTaken (sym h.is_alone) (alone_taken place row)) (subst (IsLoose P) (sym h.is_alone) (alone_loose P place row k)))
 
-  pub pushed_depth : (cs all : List (Child R Q)) (rest : Rest R) (step : Step) (place : Place) (row : R) (c : Child R Q) → IsPushed cs all rest step place row c → children_depth (branches all) ≤ max (children_depth (branches cs)) (length place + 1)
+  pub pushed_depth : (cs all : List (Child R)) (rest : Rest R) (step : Step) (place : Place) (row : R) (c : Child R) → IsPushed cs all rest step place row c → children_depth (branches all) ≤ max (children_depth (branches cs)) (length place + 1)
   pushed_depth cs all rest step place row c h =
       let after : children_depth (branches all) ≡ max (children_depth (branches cs)) (tree_depth c.node + 1) = ap (λ xs. children_depth (branches xs)) h.all_are ∙ depth_end cs c in
       omega (arith, after, ap (λ x. tree_depth x) h.is_alone, alone_depth place row)

@@ -5,7 +5,7 @@ use Rattle.std.specs.declared.cmp.Ordering.{Ordering}
 use Rattle.std.specs.declared.cmp.Ordering.TheVariants.{Less, Equal, Greater}
 use Rattle.cue_lattice.specs.Path.{Step, label, index, step_cmp}
 use Rattle.cue_row.specs.Steps.{step_of}
-use Rattle.cue_table.specs.declared.node.Child.{Child}
+use Rattle.cue_table.specs.Inner.Child.{Child}
 use Rattle.cue_table.specs.Tree.{Tree, Children, none, child, if_equal, find, behind_last}
 use Rattle.cue_table.specs.Form.{IsBelowAll, IsTaken, IsTree, AreBranches, AreWithin}
 use Rattle.cue_table.specs.RowList.{last_cmp}
@@ -74,63 +74,63 @@ module _ {R : Type 0} where
   alone_label : (l : List ℕ) (step : Step) (tree : Tree R) → step ≡ label l → AreWithin 0 (child step tree none)
   alone_label l step tree e = subst (λ s. AreWithin 0 (child s tree none)) (sym e) tt
 
-module _ {R Q : Type 0} where
+module _ {R : Type 0} where
   -- other steps find what they found before
-  pub find_other : (step : Step) (cs : List (Child R Q)) (c : Child R Q) → (step_cmp step (step_of c.step) ≡ Equal → ⊥) → find step (branches (cs ++ c ∷ [])) ≡ find step (branches cs)
+  pub find_other : (step : Step) (cs : List (Child R)) (c : Child R) → (step_cmp step (step_of c.step) ≡ Equal → ⊥) → find step (branches (cs ++ c ∷ [])) ≡ find step (branches cs)
   find_other step [] c h = skip (step_cmp step (step_of c.step)) c.node None h
   find_other step (x ∷ cs) c h = ap (if_equal (step_cmp step (step_of x.step)) x.node) (find_other step cs c h)
 
-  below_end : (step : Step) (cs : List (Child R Q)) (c : Child R Q) → IsBelowAll step (branches (cs ++ c ∷ [])) → step_cmp step (step_of c.step) ≡ Less
+  below_end : (step : Step) (cs : List (Child R)) (c : Child R) → IsBelowAll step (branches (cs ++ c ∷ [])) → step_cmp step (step_of c.step) ≡ Less
   below_end step [] c h = h.0
   below_end step (x ∷ cs) c h = below_end step cs c h.1
 
-  below_others : (step : Step) (cs : List (Child R Q)) (c : Child R Q) → IsBelowAll step (branches (cs ++ c ∷ [])) → IsBelowAll step (branches cs)
+  below_others : (step : Step) (cs : List (Child R)) (c : Child R) → IsBelowAll step (branches (cs ++ c ∷ [])) → IsBelowAll step (branches cs)
   below_others step [] c h = tt
   below_others step (x ∷ cs) c h = (h.0, below_others step cs c h.1)
 
   -- the last branch is found at its step
-  pub find_end : (P : R → Type 0) (cs : List (Child R Q)) (c : Child R Q) → AreBranches P (branches (cs ++ c ∷ [])) → find (step_of c.step) (branches (cs ++ c ∷ [])) ≡ Some c.node
+  pub find_end : (P : R → Type 0) (cs : List (Child R)) (c : Child R) → AreBranches P (branches (cs ++ c ∷ [])) → find (step_of c.step) (branches (cs ++ c ∷ [])) ≡ Some c.node
   find_end P [] c h = find_first (step_of c.step) c.node none
   find_end P (x ∷ cs) c h =
       let past = reverse_cmp (step_of x.step) (step_of c.step) Less (below_end (step_of x.step) cs c h.0) in
       find_past (step_of c.step) (step_of x.step) x.node (branches (cs ++ c ∷ [])) past ∙ find_end P cs c h.3
 
   -- the branches before the last are in form
-  pub form_others : (P : R → Type 0) (cs : List (Child R Q)) (c : Child R Q) → AreBranches P (branches (cs ++ c ∷ [])) → AreBranches P (branches cs)
+  pub form_others : (P : R → Type 0) (cs : List (Child R)) (c : Child R) → AreBranches P (branches (cs ++ c ∷ [])) → AreBranches P (branches cs)
   form_others P [] c h = tt
   form_others P (x ∷ cs) c h = (below_others (step_of x.step) cs c h.0, h.1, h.2, form_others P cs c h.3)
 
   -- an element behind others, which stand below it
-  pub within_end : (n : ℕ) (cs : List (Child R Q)) (c : Child R Q) → step_of c.step ≡ index n → AreWithin n (branches cs) → AreWithin (n + 1) (branches (cs ++ c ∷ []))
+  pub within_end : (n : ℕ) (cs : List (Child R)) (c : Child R) → step_of c.step ≡ index n → AreWithin n (branches cs) → AreWithin (n + 1) (branches (cs ++ c ∷ []))
   within_end n [] c e k = alone_within n (step_of c.step) c.node e
   within_end n (x ∷ cs) c e k = within_front n (n + 1) (step_of x.step) x.node (branches cs) (branches (cs ++ c ∷ [])) (omega arith) (λ rest. within_end n cs c e rest) k
 
   -- the others stand below the last element
-  pub within_others : (P : R → Type 0) (n i : ℕ) (cs : List (Child R Q)) (c : Child R Q) → step_of c.step ≡ index i → AreBranches P (branches (cs ++ c ∷ [])) → AreWithin n (branches (cs ++ c ∷ [])) → AreWithin i (branches cs)
+  pub within_others : (P : R → Type 0) (n i : ℕ) (cs : List (Child R)) (c : Child R) → step_of c.step ≡ index i → AreBranches P (branches (cs ++ c ∷ [])) → AreWithin n (branches (cs ++ c ∷ [])) → AreWithin i (branches cs)
   within_others P n i [] c e h k = tt
   within_others P n i (x ∷ cs) c e h k =
       let low : step_cmp (step_of x.step) (index i) ≡ Less = subst (λ s. step_cmp (step_of x.step) s ≡ Less) e (below_end (step_of x.step) cs c h.0) in
       within_low n i (step_of x.step) x.node (branches (cs ++ c ∷ [])) (branches cs) low (λ rest. within_others P n i cs c e h.3 rest) k
 
   -- where a label stands last, there is no element
-  pub within_label : (P : R → Type 0) (l : List ℕ) (cs : List (Child R Q)) (c : Child R Q) → step_of c.step ≡ label l → AreBranches P (branches (cs ++ c ∷ [])) → AreWithin 0 (branches (cs ++ c ∷ []))
+  pub within_label : (P : R → Type 0) (l : List ℕ) (cs : List (Child R)) (c : Child R) → step_of c.step ≡ label l → AreBranches P (branches (cs ++ c ∷ [])) → AreWithin 0 (branches (cs ++ c ∷ []))
   within_label P l [] c e h = alone_label l (step_of c.step) c.node e
   within_label P l (x ∷ cs) c e h =
       let low : step_cmp (step_of x.step) (label l) ≡ Less = subst (λ s. step_cmp (step_of x.step) s ≡ Less) e (below_end (step_of x.step) cs c h.0) in
       within_labels l (step_of x.step) x.node (branches (cs ++ c ∷ [])) low (within_label P l cs c e h.3)
 
-  last_low : (n : ℕ) (cs : List (Child R Q)) → AreWithin n (branches cs) → last_cmp (index n) (branches cs) ≡ Less
+  last_low : (n : ℕ) (cs : List (Child R)) → AreWithin n (branches cs) → last_cmp (index n) (branches cs) ≡ Less
   last_low n [] k = refl
   last_low n (x ∷ []) k = low_step n (step_of x.step) x.node none k
   last_low n (x ∷ y ∷ cs) k = last_low n (y ∷ cs) (within_later n (step_of x.step) x.node (branches (y ∷ cs)) k)
 
   -- one more element is in form
-  pub form_end : (P : R → Type 0) (n : ℕ) (cs : List (Child R Q)) (c : Child R Q) → step_of c.step ≡ index n → AreWithin n (branches cs) → AreBranches P (branches cs) → IsTaken c.node → IsTree P c.node → AreBranches P (branches (cs ++ c ∷ []))
+  pub form_end : (P : R → Type 0) (n : ℕ) (cs : List (Child R)) (c : Child R) → step_of c.step ≡ index n → AreWithin n (branches cs) → AreBranches P (branches cs) → IsTaken c.node → IsTree P c.node → AreBranches P (branches (cs ++ c ∷ []))
   form_end P n cs c e k h t f =
       form_more P cs c (subst (λ s. last_cmp s (branches cs) ≡ Less) (sym e) (last_low n cs k)) h t f
 
   -- the element before an index, where one is found there, stands last
-  pub end_is : (P : R → Type 0) (i : ℕ) (cs : List (Child R Q)) (c : Child R Q) (tree : Tree R) → AreBranches P (branches (cs ++ c ∷ [])) → AreWithin (suc i) (branches (cs ++ c ∷ [])) → find (index i) (branches (cs ++ c ∷ [])) ≡ Some tree → step_of c.step ≡ index i
+  pub end_is : (P : R → Type 0) (i : ℕ) (cs : List (Child R)) (c : Child R) (tree : Tree R) → AreBranches P (branches (cs ++ c ∷ [])) → AreWithin (suc i) (branches (cs ++ c ∷ [])) → find (index i) (branches (cs ++ c ∷ [])) ≡ Some tree → step_of c.step ≡ index i
   end_is P i cs c tree h k e = by (step_of c.step) refl
     where
       by : (s : Step) → step_of c.step ≡ s → step_of c.step ≡ index i

@@ -3,7 +3,7 @@ use Rattle.std.specs.Prelude.{◌+◌, ◌*◌, ◌≤◌, List, [], ◌∷◌}
 use Rattle.std.proofs.Common.{arith}
 use denote.Param.Weighed.{most}
 use Rattle.cue_lattice.specs.declared.narrow.Narrow.{Ghosts}
-use Rattle.cue_table.specs.declared.node.Node.TheDeep.{deep-Run, size-Onward, size-Run}
+use Rattle.cue_table.specs.declared.child.Child.TheDeep.{deep-Run, size-Onward, size-Run}
 use Rattle.cue_table.specs.declared.node.Onward.{Onward}
 use Rattle.cue_table.specs.declared.node.Run.{Run}
 

@@ -6,7 +6,7 @@ use Rattle.cue_lattice.specs.Path.{label, index}
 use Rattle.cue_row.specs.declared.step.Step.{Step}
 use Rattle.cue_row.specs.declared.step.Step.TheVariants.{Label, Index}
 use Rattle.cue_row.specs.Steps.{step_of}
-use Rattle.cue_table.specs.declared.node.Child.{Child}
+use Rattle.cue_table.specs.Inner.Child.{Child}
 use Rattle.cue_table.specs.Tree.{Tree, Children, none, child, if_equal, find}
 use Rattle.cue_table.specs.Form.{IsBelowAll, Rise, AreBranches, AreWithin}
 use Rattle.std.specs.Prelude.{Box}
@@ -36,22 +36,22 @@ module _ {R : Type 0} where
   join_depth none b = omega arith
   join_depth (child step tree children) b = omega (arith, join_depth children b)
 
-module _ {R Q : Type 0} where
+module _ {R : Type 0} where
   -- no element is among the fields
-  pub fields_within : (cs : List (Child R Q)) (k : ℕ) → IsPartitionPoint (λ c. is_label c.step ≡ true) (λ c. is_label c.step ≡ false) cs k → AreWithin 0 (branches (take k cs))
+  pub fields_within : (cs : List (Child R)) (k : ℕ) → IsPartitionPoint (λ c. is_label c.step ≡ true) (λ c. is_label c.step ≡ false) cs k → AreWithin 0 (branches (take k cs))
   fields_within cs zero p = tt
   fields_within [] (suc k) p = tt
   fields_within (c ∷ cs) (suc k) p =
       front_within c.step c.node (branches (take k cs)) (p.0 0 c (omega arith) (omega arith))
       (fields_within cs k (λ i d low lt. p.0 (suc i) d (omega arith) (omega arith), λ i d low lt. p.1 (suc i) d (omega arith) (omega arith)))
 
-  no_field : (text : List ℕ) (cs : List (Child R Q)) → Rise (branches cs) → ((i : ℕ) (d : Child R Q) → i < length cs → is_label (get_or cs i d).step ≡ false) → find (label text) (branches cs) ≡ None
+  no_field : (text : List ℕ) (cs : List (Child R)) → Rise (branches cs) → ((i : ℕ) (d : Child R) → i < length cs → is_label (get_or cs i d).step ≡ false) → find (label text) (branches cs) ≡ None
   no_field text [] a h = refl
   no_field text (c ∷ cs) a h =
       element_first text c.step c.node (branches cs) (h 0 c (omega arith)) a.0 (no_field text cs a.1 (λ i d l. h (suc i) d (omega arith)))
 
   -- a label is found among them where it is found at all
-  pub fields_found : (text : List ℕ) (cs : List (Child R Q)) (k : ℕ) → Rise (branches cs) → IsPartitionPoint (λ c. is_label c.step ≡ true) (λ c. is_label c.step ≡ false) cs k
+  pub fields_found : (text : List ℕ) (cs : List (Child R)) (k : ℕ) → Rise (branches cs) → IsPartitionPoint (λ c. is_label c.step ≡ true) (λ c. is_label c.step ≡ false) cs k
       → find (label text) (branches (take k cs)) ≡ find (label text) (branches cs)
   fields_found text cs zero a p = sym (no_field text cs a (λ i d l. p.1 i d (omega arith) l))
   fields_found text [] (suc k) a p = refl
@@ -60,25 +60,25 @@ module _ {R Q : Type 0} where
       (fields_found text cs k a.1 (λ i d low lt. p.0 (suc i) d (omega arith) (omega arith), λ i d low lt. p.1 (suc i) d (omega arith) (omega arith)))
 
   -- the first branches are in form
-  pub form_take : (P : R → Type 0) (cs : List (Child R Q)) (k : ℕ) → AreBranches P (branches cs) → AreBranches P (branches (take k cs))
+  pub form_take : (P : R → Type 0) (cs : List (Child R)) (k : ℕ) → AreBranches P (branches cs) → AreBranches P (branches (take k cs))
   form_take P cs zero h = tt
   form_take P [] (suc k) h = tt
   form_take P (c ∷ cs) (suc k) h = (below_take (step_of c.step) cs k h.0, h.1, h.2, form_take P cs k h.3)
     where
-      below_take : (s : paths.Step) (cs : List (Child R Q)) (k : ℕ) → IsBelowAll s (branches cs) → IsBelowAll s (branches (take k cs))
+      below_take : (s : paths.Step) (cs : List (Child R)) (k : ℕ) → IsBelowAll s (branches cs) → IsBelowAll s (branches (take k cs))
       below_take s cs zero h = tt
       below_take s [] (suc k) h = tt
       below_take s (c ∷ cs) (suc k) h = (h.0, below_take s cs k h.1)
 
   -- they are no deeper than all
-  take_depth : (cs : List (Child R Q)) (k : ℕ) → children_depth (branches (take k cs)) ≤ children_depth (branches cs)
+  take_depth : (cs : List (Child R)) (k : ℕ) → children_depth (branches (take k cs)) ≤ children_depth (branches cs)
   take_depth cs zero = omega arith
   take_depth [] (suc k) = omega arith
   take_depth (c ∷ cs) (suc k) = omega (arith, take_depth cs k)
 
-  below_in_depth : (cs : List (Child R Q)) (rest : Option (Box (Onward R Q) Global)) → children_depth (branches cs) ≤ children_depth (below_in (branches cs) rest)
+  below_in_depth : {Q : Type 0} (cs : List (Child R)) (rest : Option (Box (Onward R Q) Global)) → children_depth (branches cs) ≤ children_depth (below_in (branches cs) rest)
   below_in_depth cs None = omega arith
   below_in_depth cs (Some b) = join_depth (branches cs) (run_branches b.value.runs.items)
 
-  pub fields_depth : (a : Inside R Q) (tree : Tree R) (k : ℕ) → tree_of a ≡ tree → children_depth (branches (take k a.children.items)) ≤ tree_depth tree
+  pub fields_depth : {Q : Type 0} (a : Inside R Q) (tree : Tree R) (k : ℕ) → tree_of a ≡ tree → children_depth (branches (take k a.children.items)) ≤ tree_depth tree
   fields_depth a tree k e = omega (arith, take_depth a.children.items k, below_in_depth a.children.items a.rest, ap tree_depth e)

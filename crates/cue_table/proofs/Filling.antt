@@ -1,143 +1,120 @@
--- What the loop keeps that carries out a change of branches.
-use Rattle.std.proofs.Common.{◌≡◌, ℕ, zero, suc, ◌+◌, ◌-◌, ◌≤◌, ◌<◌, List, [], ◌∷◌, ◌++◌, append_assoc, length, take, drop, refl, sym, ap, subst, ◌∙◌, arith}
-use Rattle.cue_row.specs.Steps.{step_of}
-use Rattle.cue_table.specs.declared.node.Child.{Child}
-use Rattle.cue_table.specs.declared.plan.Piece.{Piece}
-use Rattle.cue_table.specs.declared.plan.Piece.TheVariants.{Keep, Insert, Alter}
-use Rattle.cue_table.specs.Tree.{Children, none, child}
-use Rattle.cue_table.specs.Inner.Join.{join}
-use Rattle.cue_table.specs.Inner.Plan.{Change, changed, merged, width, front, first_changed, pieces_size}
-use Rattle.cue_table.specs.Inner.PlanView.{pieces_of}
-use Rattle.cue_table.specs.Inner.View.{branches}
-use Rattle.cue_table.proofs.Planning.{past_drop}
+-- What the loops keep that carry out changes of a list of branches.
+use Rattle.std.proofs.Common.{◌≡◌, ℕ, zero, suc, ◌+◌, ◌-◌, ◌≤◌, ◌<◌, List, [], ◌∷◌, ◌++◌, append_assoc, length, take, drop, take-add, length-drop, length-set, slice_set, refl, sym, ap, subst, ◌∙◌, arith}
+use Rattle.std.proofs.lemmas.List.{drop-drop, take_more_set, drop-set-lt}
+use Rattle.cue_table.specs.declared.changes.Change.{Change}
+use Rattle.cue_table.specs.Inner.Changes.{AreReplaced, Fit, behind, merged, over}
+use Rattle.cue_table.specs.Inner.Child.{Child}
 
-module _ {R : Type 0} where
-  pub join_none : (a : Children R) → join a none ≡ a
-  join_none none = refl
-  join_none (child s t a) = ap (child s t) (join_none a)
+take_whole : {X : Type 0} (xs : List X) → take (length xs) xs ≡ xs
+take_whole [] = refl
+take_whole (x ∷ xs) = ap (λ ys. x ∷ ys) (take_whole xs)
 
-  join_assoc : (a b c : Children R) → join (join a b) c ≡ join a (join b c)
-  join_assoc none b c = refl
-  join_assoc (child s t a) b c = ap (child s t) (join_assoc a b c)
+take_drop : {X : Type 0} (n : ℕ) (xs : List X) → take n xs ++ drop n xs ≡ xs
+take_drop zero xs = refl
+take_drop (suc n) [] = refl
+take_drop (suc n) (x ∷ xs) = ap (λ ys. x ∷ ys) (take_drop n xs)
 
 module _ {R Q : Type 0} where
-  pub branches_join : (xs ys : List (Child R Q)) → branches (xs ++ ys) ≡ join (branches xs) (branches ys)
-  branches_join [] ys = refl
-  branches_join (x ∷ xs) ys = ap (child (step_of x.step) x.node) (branches_join xs ys)
+  -- What is made so far, and what the changes that are left make of the branches that are left, is the whole.
+  pub record Fills (old : List (Child R)) (changes : List (Change R Q)) (made rest : List (Child R)) (others : List (Change R Q)) (len cap : ℕ) : Type 0 where
+    pub whole : made ++ merged others rest ≡ merged changes old
+    pub fit : Fit others rest
+    pub room : len + length rest + length others ≤ cap
 
-  pub branches_take : (n : ℕ) (xs : List (Child R Q)) → branches (take n xs) ≡ front n (branches xs)
-  branches_take zero xs = refl
-  branches_take (suc n) [] = refl
-  branches_take (suc n) (x ∷ xs) = ap (child (step_of x.step) x.node) (branches_take n xs)
+  pub fills_start :
+      (old made rest : List (Child R)) (changes others : List (Change R Q)) (len cap : ℕ) → made ≡ [] → rest ≡ old → others ≡ changes → Fit changes old → len + length old + length changes ≤ cap
+      → Fills old changes made rest others len cap
+  fills_start old made rest changes others len cap e f n h r =
+      subst (λ xs. Fills old changes made xs others len cap) (sym f)
+      (subst (λ xs. Fills old changes made old xs len cap) (sym n) (record { whole = ap (λ xs. xs ++ merged changes old) e; fit = h; room = r }))
 
-  -- What is made so far, and what the pieces that are left make of the branches that are left, is the whole.
-  pub record Fills (old : List (Child R Q)) (pieces : List (Piece R Q)) (made rest : List (Child R Q)) (others : List (Piece R Q)) (len cap : ℕ) : Type 0 where
-    pub whole : join (branches made) (merged (pieces_of others) (branches rest)) ≡ merged (pieces_of pieces) (branches old)
-    pub room : len + width (pieces_of others) ≤ cap
-    pub smaller : pieces_size (pieces_of others) ≤ pieces_size (pieces_of pieces)
+  -- the first of the changes that are left, as the code has them
+  pub fills_next :
+      (old made rest : List (Child R)) (changes all others : List (Change R Q)) (c : Change R Q) (len cap : ℕ) → Fills old changes made rest all len cap → all ≡ c ∷ others
+      → (c.kept + over c.replaces ≤ length rest) × (len + length rest + length others + 1 ≤ cap)
+  fills_next old made rest changes all others c len cap f e =
+      let g = subst (λ xs. Fills old changes made rest xs len cap) e f in
+      let fit = g.fit in
+      let room = g.room in
+      (fit.0, omega arith)
 
-  pub fills_start : (old made : List (Child R Q)) (pieces : List (Piece R Q)) (len cap : ℕ) → made ≡ [] → len ≡ 0 → width (pieces_of pieces) ≤ cap → Fills old pieces made old pieces len cap
-  fills_start old made pieces len cap e n w = record {
-    whole = ap (λ x. join (branches x) (merged (pieces_of pieces) (branches old))) e;
-    room = omega arith;
-    smaller = omega arith;
-  }
-
-  -- so many branches moved over
-  pub moved :
-      (n : ℕ) (made rest : List (Child R Q)) (more : Children R)
-      → join (branches (made ++ take n rest)) more ≡ join (branches made) (join (front n (branches rest)) more)
-  moved n made rest more =
-      ap (λ x. join x more) (branches_join made (take n rest)) ∙ join_assoc (branches made) (branches (take n rest)) more
-      ∙ ap (λ x. join (branches made) (join x more)) (branches_take n rest)
-
-  pub one_more : (made : List (Child R Q)) (c : Child R Q) (more : Children R) → join (branches (made ++ c ∷ [])) more ≡ join (branches made) (child (step_of c.step) c.node more)
-  one_more made c more = ap (λ x. join x more) (branches_join made (c ∷ [])) ∙ join_assoc (branches made) (branches (c ∷ [])) more
-
-  pub fills_keep :
-      (old : List (Child R Q)) (pieces : List (Piece R Q)) (made rest : List (Child R Q)) (others : List (Piece R Q)) (len len' cap n : ℕ)
-      → Fills old pieces made rest (Keep n ∷ others) len cap → len' ≤ len + n → Fills old pieces (made ++ take n rest) (drop n rest) others len' cap
-  fills_keep old pieces made rest others len len' cap n f l =
-      let room = f.room in
-      let small = f.smaller in
+  -- a change more
+  pub fills_more :
+      (old made rest made' rest' : List (Child R)) (changes all others : List (Change R Q)) (c : Change R Q) (len len' cap cap' : ℕ) → Fills old changes made rest all len cap → all ≡ c ∷ others
+      → made' ≡ (made ++ take c.kept rest) ++ c.child ∷ [] → rest' ≡ behind c rest → len' ≤ len + c.kept + 1 → cap' ≡ cap → Fills old changes made' rest' others len' cap'
+  fills_more old made rest made' rest' changes all others c len len' cap cap' f e m r l k =
+      let g = subst (λ xs. Fills old changes made rest xs len cap) e f in
+      let fit = g.fit in
+      let room = g.room in
+      let first = length-drop c.kept rest in
+      let second = length-drop (over c.replaces) (drop c.kept rest) in
+      let left = ap length r in
       record {
-        whole = moved n made rest (merged (pieces_of others) (branches (drop n rest)))
-            ∙ ap (λ x. join (branches made) (join (front n (branches rest)) (merged (pieces_of others) x))) (sym (past_drop n rest)) ∙ f.whole;
-        room = omega arith;
-        smaller = omega arith;
+        whole = ap (λ xs. xs ++ merged others rest') m ∙ ap (λ xs. ((made ++ take c.kept rest) ++ c.child ∷ []) ++ merged others xs) r
+            ∙ append_assoc (made ++ take c.kept rest) (c.child ∷ []) (merged others (behind c rest)) ∙ append_assoc made (take c.kept rest) (c.child ∷ merged others (behind c rest)) ∙ g.whole;
+        fit = subst (Fit others) (sym r) fit.1;
+        room = omega (arith, fit.0, room, first, second, left, l, k);
       }
 
-  pub fills_insert :
-      (old : List (Child R Q)) (pieces : List (Piece R Q)) (made rest : List (Child R Q)) (others : List (Piece R Q)) (len len' cap n : ℕ) (c : Child R Q)
-      → Fills old pieces made rest (Insert n c ∷ others) len cap → len' ≤ len + n → Fills old pieces ((made ++ take n rest) ++ c ∷ []) (drop n rest) others (len' + 1) cap
-  fills_insert old pieces made rest others len len' cap n c f l =
-      let room = f.room in
-      let small = f.smaller in
-      record {
-        whole = one_more (made ++ take n rest) c (merged (pieces_of others) (branches (drop n rest)))
-            ∙ moved n made rest (child (step_of c.step) c.node (merged (pieces_of others) (branches (drop n rest))))
-            ∙ ap (λ x. join (branches made) (join (front n (branches rest)) (child (step_of c.step) c.node (merged (pieces_of others) x)))) (sym (past_drop n rest)) ∙ f.whole;
-        room = omega arith;
-        smaller = omega arith;
-      }
+  -- no change is left
+  pub fills_end :
+      (old made rest made' : List (Child R)) (changes others : List (Change R Q)) (len cap count : ℕ) → Fills old changes made rest others len cap → length others ≡ 0
+      → count ≡ length rest → made' ≡ made ++ take count rest → made' ≡ merged changes old
+  fills_end old made rest made' changes [] len cap count f z e m = m ∙ ap (λ n. made ++ take n rest) e ∙ ap (λ xs. made ++ xs) (take_whole rest) ∙ f.whole
+  fills_end old made rest made' changes (c ∷ others) len cap count f z e m = absurd (omega arith)
 
-  -- the next branch changes
-  pub fills_alter :
-      (old : List (Child R Q)) (pieces : List (Piece R Q)) (made rest : List (Child R Q)) (others : List (Piece R Q)) (len len' cap n : ℕ) (next : Change R)
-      (c d : Child R Q) (after : List (Child R Q))
-      → Fills old pieces made rest (Alter n next ∷ others) len cap → len' ≤ len + n → drop n rest ≡ c ∷ after → d.step ≡ c.step → d.node ≡ changed next c.node
-      → Fills old pieces ((made ++ take n rest) ++ d ∷ []) after others (len' + 1) cap
-  fills_alter old pieces made rest others len len' cap n next c d after f l e s t =
-      let room = f.room in
-      let small = f.smaller in
-      record {
-        whole = one_more (made ++ take n rest) d (merged (pieces_of others) (branches after))
-            ∙ moved n made rest (child (step_of d.step) d.node (merged (pieces_of others) (branches after)))
-            ∙ ap (λ x. join (branches made) (join (front n (branches rest)) (child (step_of x) d.node (merged (pieces_of others) (branches after))))) s
-            ∙ ap (λ x. join (branches made) (join (front n (branches rest)) (child (step_of c.step) x (merged (pieces_of others) (branches after))))) t
-            ∙ ap (λ x. join (branches made) (join (front n (branches rest)) (first_changed (changed next) (merged (pieces_of others)) (branches x)))) (sym e)
-            ∙ ap (λ x. join (branches made) (join (front n (branches rest)) (first_changed (changed next) (merged (pieces_of others)) x))) (sym (past_drop n rest)) ∙ f.whole;
-        room = omega arith;
-        smaller = omega arith;
-      }
+  -- What is replaced up to a place, and what the changes that are left make of the branches from there, is the whole.
+  pub record Replaces (old : List (Child R)) (changes : List (Change R Q)) (now : List (Child R)) (others : List (Change R Q)) (at : ℕ) : Type 0 where
+    pub whole : take at now ++ merged others (drop at now) ≡ merged changes old
+    pub inside : at ≤ length now
+    pub fit : Fit others (drop at now)
+    pub replaced : AreReplaced others
 
-  -- no branch is left to change
-  pub fills_none :
-      (old : List (Child R Q)) (pieces : List (Piece R Q)) (made rest : List (Child R Q)) (others : List (Piece R Q)) (len len' cap n : ℕ) (next : Change R) (after : List (Child R Q))
-      → Fills old pieces made rest (Alter n next ∷ others) len cap → len' ≤ len + n → drop n rest ≡ after → length after ≡ 0
-      → Fills old pieces (made ++ take n rest) after others len' cap
-  fills_none old pieces made rest others len len' cap n next [] f l e z =
-      let room = f.room in
-      let small = f.smaller in
-      record {
-        whole = moved n made rest (merged (pieces_of others) none)
-            ∙ ap (λ x. join (branches made) (join (front n (branches rest)) (first_changed (changed next) (merged (pieces_of others)) (branches x)))) (sym e)
-            ∙ ap (λ x. join (branches made) (join (front n (branches rest)) (first_changed (changed next) (merged (pieces_of others)) x))) (sym (past_drop n rest)) ∙ f.whole;
-        room = omega arith;
-        smaller = omega arith;
-      }
-  fills_none old pieces made rest others len len' cap n next (c ∷ after) f l e z = absurd (omega arith)
+  pub replaces_start :
+      (old : List (Child R)) (changes others : List (Change R Q)) → others ≡ changes → Fit changes old → AreReplaced changes → Replaces old changes old others 0
+  replaces_start old changes others e h k =
+      subst (λ xs. Replaces old changes old xs 0) (sym e) (record { whole = refl; inside = omega arith; fit = h; replaced = k })
 
-  pub fills_end : (old : List (Child R Q)) (pieces : List (Piece R Q)) (made rest : List (Child R Q)) (others : List (Piece R Q)) (len cap : ℕ) → Fills old pieces made rest others len cap → length others ≡ 0
-      → branches made ≡ merged (pieces_of pieces) (branches old)
-  fills_end old pieces made rest [] len cap f z = sym (join_none (branches made)) ∙ f.whole
-  fills_end old pieces made rest (s ∷ others) len cap f z = absurd (omega arith)
+  -- the next change is at a place of the list
+  pub replaces_next :
+      (old now : List (Child R)) (changes all others : List (Change R Q)) (c : Change R Q) (at : ℕ) → Replaces old changes now all at → all ≡ c ∷ others → at + c.kept < length now
+  replaces_next old now changes all others c at f e =
+      let g = subst (λ xs. Replaces old changes now xs at) e f in
+      let fit = g.fit in
+      let replaced = g.replaced in
+      let one : over c.replaces ≡ 1 = ap over replaced.0 in
+      omega (arith, fit.0, one, g.inside, length-drop at now)
 
-  -- the first pieces of those that are left, as the code has them
-  pub fills_next : (old : List (Child R Q)) (pieces : List (Piece R Q)) (made rest : List (Child R Q)) (all others : List (Piece R Q)) (len cap : ℕ) (s k : Piece R Q) → Fills old pieces made rest all len cap → all ≡ s ∷ others → s ≡ k
-      → Fills old pieces made rest (k ∷ others) len cap
-  fills_next old pieces made rest all others len cap s k f e h = subst (λ x. Fills old pieces made rest x len cap) (e ∙ ap (λ x. x ∷ others) h) f
+  pub replaces_more :
+      (old now later : List (Child R)) (changes all others : List (Change R Q)) (c : Change R Q) (at : ℕ) → Replaces old changes now all at → all ≡ c ∷ others
+      → later ≡ slice_set now (at + c.kept) c.child → Replaces old changes later others (at + c.kept + 1)
+  replaces_more old now later changes all others c at f e is =
+      let g = subst (λ xs. Replaces old changes now xs at) e f in
+      let fit = g.fit in
+      let replaced = g.replaced in
+      let n = c.kept in
+      let p = at + n in
+      let d = c.child in
+      let low = replaces_next old now changes all others c at f e in
+      let one : over c.replaces ≡ 1 = ap over replaced.0 in
+      let set = slice_set now p d in
+      let a : take (p + 1) set ≡ (take at now ++ take n (drop at now)) ++ d ∷ [] = take_more_set now p d low ∙ ap (λ xs. xs ++ d ∷ []) (take-add at n now) in
+      let b : drop (p + 1) set ≡ behind c (drop at now) =
+      drop-set-lt (p + 1) now p d (omega arith) ∙ sym (drop-drop 1 p now) ∙ ap (drop 1) (sym (drop-drop n at now)) ∙ ap (λ m. drop m (drop n (drop at now))) (sym one) in
+      subst (λ xs. Replaces old changes xs others (p + 1)) (sym is)
+      (record {
+        whole = ap (λ xs. xs ++ merged others (drop (p + 1) set)) a ∙ ap (λ xs. ((take at now ++ take n (drop at now)) ++ d ∷ []) ++ merged others xs) b
+            ∙ append_assoc (take at now ++ take n (drop at now)) (d ∷ []) (merged others (behind c (drop at now)))
+            ∙ append_assoc (take at now) (take n (drop at now)) (d ∷ merged others (behind c (drop at now))) ∙ g.whole;
+        inside = let same = length-set now p d in omega (arith, same, low);
+        fit = subst (Fit others) (sym b) fit.1;
+        replaced = replaced.1;
+      })
 
-  pub fills_as :
-      (old : List (Child R Q)) (pieces : List (Piece R Q)) (a b rest after : List (Child R Q)) (others : List (Piece R Q)) (m n k l : ℕ) → Fills old pieces a rest others m k → b ≡ a → after ≡ rest → n ≤ m → k ≤ l
-      → Fills old pieces b after others n l
-  fills_as old pieces a b rest after others m n k l f e h x y =
-      let room = f.room in
-      record {
-        whole = ap (λ z. join (branches z) (merged (pieces_of others) (branches after))) e ∙ ap (λ z. join (branches a) (merged (pieces_of others) (branches z))) h ∙ f.whole;
-        room = omega arith;
-        smaller = f.smaller;
-      }
+  pub replaces_end :
+      (old now : List (Child R)) (changes others : List (Change R Q)) (at : ℕ) → Replaces old changes now others at → length others ≡ 0 → now ≡ merged changes old
+  replaces_end old now changes [] at f z = sym (take_drop at now) ∙ f.whole
+  replaces_end old now changes (c ∷ others) at f z = absurd (omega arith)
 
 module _ {X : Type 0} where
   -- what is moved so far, and how many more
@@ -202,8 +179,3 @@ module _ {X : Type 0} where
       let a : made' ++ take 0 rest' ≡ made ++ take count rest = subst (λ y. made' ++ take y rest' ≡ made ++ take count rest) all k.kept in
       let b : drop 0 rest' ≡ drop count rest = subst (λ y. drop y rest' ≡ drop count rest) all k.left in
       (sym (append_none made') ∙ a, b)
-
-  pub both_none : (xs ys : List X) → length xs ≡ 0 → length ys ≡ 0 → xs ≡ ys
-  both_none [] [] e f = refl
-  both_none (x ∷ xs) ys e f = absurd (omega arith)
-  both_none [] (y ∷ ys) e f = absurd (omega arith)

@@ -13,9 +13,9 @@ use Rattle.cue_row.specs.declared.step.Step as steps
 use Rattle.cue_table.specs.Tree.{Tree, node, Children, none, child, Rest, no_rest, onward, below, find, find_with, step_into, if_equal, branch_at}
 use Rattle.cue_table.specs.Form.{IsBelowAll, Rise, IsTaken, IsTree, AreBranches, IsRestOf}
 use Rattle.cue_table.specs.Inner.Place.{AreBefore, IsPlace, IsGap}
-use Rattle.cue_table.specs.Inner.Plan.{past}
+use Rattle.cue_table.specs.Inner.Parts.{past}
 use Rattle.cue_table.specs.Inner.View.{branches}
-use Rattle.cue_table.specs.declared.node.Child.{Child}
+use Rattle.cue_table.specs.Inner.Child.{Child}
 use Rattle.cue_table.proofs.Order.{step_total, equal_steps}
 
 -- two steps compare the other way round when they are exchanged
@@ -52,18 +52,18 @@ none_here Less tree other h e = e
 none_here Equal tree other h e = absurd (h refl)
 none_here Greater tree other h e = e
 
-module _ {R Q : Type 0} where
+module _ {R : Type 0} where
   -- the place of a branch, by how its step compares with the wanted one
-  abbrev rank : Step → Child R Q → ℕ
+  abbrev rank : Step → Child R → ℕ
   rank step c = ordering_index (step_cmp (step_of c.step) step)
 
   -- what is below all is below each
-  pub at_or_below : (x : Step) (cs : List (Child R Q)) (k : ℕ) (d : Child R Q) → IsBelowAll x (branches cs) → k < length cs → step_cmp x (step_of (get_or cs k d).step) ≡ Less
+  pub at_or_below : (x : Step) (cs : List (Child R)) (k : ℕ) (d : Child R) → IsBelowAll x (branches cs) → k < length cs → step_cmp x (step_of (get_or cs k d).step) ≡ Less
   at_or_below x [] k d b l = absurd (omega arith)
   at_or_below x (c ∷ cs) zero d b l = b.0
   at_or_below x (c ∷ cs) (suc k) d b l = at_or_below x cs k d b.1 (omega arith)
 
-  ranks_ascend : (cs : List (Child R Q)) (step : Step) → Rise (branches cs) → IsNonDecreasingBy (rank step) cs
+  ranks_ascend : (cs : List (Child R)) (step : Step) → Rise (branches cs) → IsNonDecreasingBy (rank step) cs
   ranks_ascend [] step a i j d h l = absurd (omega arith)
   ranks_ascend (c ∷ cs) step a zero zero d h l = omega arith
   ranks_ascend (c ∷ cs) step a zero (suc j) d h l =
@@ -72,7 +72,7 @@ module _ {R Q : Type 0} where
   ranks_ascend (c ∷ cs) step a (suc i) (suc j) d h l = ranks_ascend cs step a.1 i j d (omega arith) (omega arith)
 
   -- a branch is found at its step
-  pub find_at : (cs : List (Child R Q)) (step : Step) (k : ℕ) (d : Child R Q) → Rise (branches cs) → k < length cs → step ≡ step_of (get_or cs k d).step → find step (branches cs) ≡ Some (get_or cs k d).node
+  pub find_at : (cs : List (Child R)) (step : Step) (k : ℕ) (d : Child R) → Rise (branches cs) → k < length cs → step ≡ step_of (get_or cs k d).step → find step (branches cs) ≡ Some (get_or cs k d).node
   find_at [] step k d a l e = absurd (omega arith)
   find_at (c ∷ cs) step zero d a l e =
       ap (λ o. if_equal o c.node (find step (branches cs))) (subst (λ s. step_cmp step s ≡ Equal) e (same_step step))
@@ -83,14 +83,14 @@ module _ {R Q : Type 0} where
       ∙ find_at cs step k d a.1 (omega arith) e
 
   -- no branch is found at a step that none has
-  pub find_none : (cs : List (Child R Q)) (step : Step) → ((k : ℕ) (d : Child R Q) → k < length cs → step_cmp step (step_of (get_or cs k d).step) ≡ Equal → ⊥) → find step (branches cs) ≡ None
+  pub find_none : (cs : List (Child R)) (step : Step) → ((k : ℕ) (d : Child R) → k < length cs → step_cmp step (step_of (get_or cs k d).step) ≡ Equal → ⊥) → find step (branches cs) ≡ None
   find_none [] step h = refl
   find_none (c ∷ cs) step h =
       none_here (step_cmp step (step_of c.step)) c.node (find step (branches cs)) (λ e. h 0 c (omega arith) e)
       (find_none cs step (λ k d l e. h (suc k) d (omega arith) e))
 
   -- what stands before a branch is before its step
-  before_found : (cs : List (Child R Q)) (step : Step) (k : ℕ) → Rise (branches cs) → k < length cs → ((d : Child R Q) → step_of (get_or cs k d).step ≡ step) → AreBefore k step (branches cs)
+  before_found : (cs : List (Child R)) (step : Step) (k : ℕ) → Rise (branches cs) → k < length cs → ((d : Child R) → step_of (get_or cs k d).step ≡ step) → AreBefore k step (branches cs)
   before_found cs step zero a l e = tt
   before_found [] step (suc k) a l e = absurd (omega arith)
   before_found (c ∷ cs) step (suc k) a l e = (
@@ -99,13 +99,13 @@ module _ {R Q : Type 0} where
   )
 
   -- what is below a step by place stands before it
-  before_gap : (cs : List (Child R Q)) (step : Step) (n : ℕ) → n ≤ length cs → ((k : ℕ) (d : Child R Q) → k < n → step_cmp (step_of (get_or cs k d).step) step ≡ Less) → AreBefore n step (branches cs)
+  before_gap : (cs : List (Child R)) (step : Step) (n : ℕ) → n ≤ length cs → ((k : ℕ) (d : Child R) → k < n → step_cmp (step_of (get_or cs k d).step) step ≡ Less) → AreBefore n step (branches cs)
   before_gap cs step zero l h = tt
   before_gap [] step (suc n) l h = absurd (omega arith)
   before_gap (c ∷ cs) step (suc n) l h = (h 0 c (omega arith), before_gap cs step n (omega arith) (λ k d less. h (suc k) d (omega arith)))
 
   -- what is above a step by place is above it
-  after_gap : (cs : List (Child R Q)) (step : Step) (n : ℕ) → ((k : ℕ) (d : Child R Q) → n ≤ k → k < length cs → step_cmp (step_of (get_or cs k d).step) step ≡ Greater) → IsBelowAll step (past n (branches cs))
+  after_gap : (cs : List (Child R)) (step : Step) (n : ℕ) → ((k : ℕ) (d : Child R) → n ≤ k → k < length cs → step_cmp (step_of (get_or cs k d).step) step ≡ Greater) → IsBelowAll step (past n (branches cs))
   after_gap [] step zero h = tt
   after_gap (c ∷ cs) step zero h = (
     reverse_cmp (step_of c.step) step Greater (h 0 c (omega arith) (omega arith)),
@@ -116,11 +116,11 @@ module _ {R Q : Type 0} where
 
   -- what a binary search by the steps answers
   pub place_searched :
-      (cs : List (Child R Q)) (step : Step) (r : Result ℕ ℕ) → Rise (branches cs) → IsSearchInRange r (length cs)
+      (cs : List (Child R)) (step : Step) (r : Result ℕ ℕ) → Rise (branches cs) → IsSearchInRange r (length cs)
       → IsBinarySearchResult (λ c. step_cmp (step_of c.step) step) cs r
       → MatchResult r (IsPlace cs step) (IsGap cs step)
   place_searched cs step (Ok at) a bound found =
-      let same : (d : Child R Q) → step_of (get_or cs at d).step ≡ step = λ d. equal_steps _ step (found d) in
+      let same : (d : Child R) → step_of (get_or cs at d).step ≡ step = λ d. equal_steps _ step (found d) in
       record {
         in_range = bound;
         is_there = λ d. find_at cs step at d a bound (sym (same d));

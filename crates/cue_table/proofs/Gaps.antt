@@ -3,7 +3,7 @@ use Rattle.std.proofs.Common.{◌≡◌, ◌+◌, ◌<◌, ◌≤◌, min, ℕ, 
 use Rattle.std.specs.Ordering.{nat_cmp}
 use Rattle.std.specs.declared.cmp.Ordering.TheVariants.{Less}
 use Rattle.cue_lattice.specs.Path.{Step, label, index, step_cmp}
-use Rattle.cue_table.specs.declared.node.Child.{Child}
+use Rattle.cue_table.specs.Inner.Child.{Child}
 use Rattle.std.specs.Prelude.{Box}
 use Rattle.std.specs.Global.{Global}
 use Rattle.cue_table.specs.declared.node.Onward.{Onward}
@@ -13,7 +13,7 @@ use Rattle.cue_table.specs.Inner.Join.{join}
 use Rattle.cue_table.specs.Form.{IsBelowAll, Rise}
 use Rattle.cue_table.specs.Inner.Alike.{AreAlike}
 use Rattle.cue_table.specs.Inner.Place.{AreBefore, IsGap}
-use Rattle.cue_table.specs.Inner.Plan.{past}
+use Rattle.cue_table.specs.Inner.Parts.{past}
 use Rattle.cue_table.specs.Inner.View.{below_in, branches, rest_in, run_branches, tree_of}
 use Rattle.cue_table.proofs.Branches.{find_below, find_fixed, find_past, below_all}
 use Rattle.cue_table.proofs.Finding.{reverse_cmp}
@@ -60,15 +60,15 @@ get_any [] k d e l = absurd (omega arith)
 get_any (x ∷ xs) zero d e l = refl
 get_any (x ∷ xs) (suc k) d e l = get_any xs k d e (omega arith)
 
-module _ {R Q : Type 0} where
-  past_long : (k : ℕ) (cs : List (Child R Q)) → length cs ≤ k → past k (branches cs) ≡ none
+module _ {R : Type 0} where
+  past_long : (k : ℕ) (cs : List (Child R)) → length cs ≤ k → past k (branches cs) ≡ none
   past_long zero [] l = refl
   past_long zero (c ∷ cs) l = absurd (omega arith)
   past_long (suc k) [] l = refl
   past_long (suc k) (c ∷ cs) l = past_long k cs (omega arith)
 
   -- behind all branches nothing is found
-  pub alike_onward : (cs : List (Child R Q)) (number at to : ℕ) → IsGap cs (index number) at → length cs ≤ at → number < to → AreAlike number to (λ i. find (index i) (branches cs))
+  pub alike_onward : (cs : List (Child R)) (number at to : ℕ) → IsGap cs (index number) at → length cs ≤ at → number < to → AreAlike number to (λ i. find (index i) (branches cs))
   alike_onward cs number at to gap l h =
       let none_at : (i : ℕ) → number ≤ i → find (index i) (branches cs) ≡ None = λ i low.
       gap_none at (index i) (branches cs) (all_before at number i (branches cs) low gap.before) (past_end at (branches cs) (index i) (past_long at cs l)) in
@@ -76,7 +76,7 @@ module _ {R Q : Type 0} where
 
   -- and neither before the next element
   pub alike_before :
-      (cs rest : List (Child R Q)) (number at next : ℕ) (tree : Tree R) → Rise (branches cs) → IsGap cs (index number) at → past at (branches cs) ≡ child (index next) tree (branches rest)
+      (cs rest : List (Child R)) (number at next : ℕ) (tree : Tree R) → Rise (branches cs) → IsGap cs (index number) at → past at (branches cs) ≡ child (index next) tree (branches rest)
       → AreAlike number next (λ i. find (index i) (branches cs))
   alike_before cs rest number at next tree a gap e =
       let after : IsBelowAll (index number) (child (index next) tree (branches rest)) = subst (IsBelowAll (index number)) e gap.after in
@@ -87,16 +87,16 @@ module _ {R Q : Type 0} where
       record { behind = low; same = λ i l h. none_at i l h ∙ sym (none_at number (omega arith) low) }
 
   -- the branches of a place rise, and so do its runs
-  pub own_rise : (cs : List (Child R Q)) (rest : Option (Box (Onward R Q) Global)) → Rise (below_in (branches cs) rest) → Rise (branches cs)
+  pub own_rise : {Q : Type 0} (cs : List (Child R)) (rest : Option (Box (Onward R Q) Global)) → Rise (below_in (branches cs) rest) → Rise (branches cs)
   own_rise cs None h = h
   own_rise cs (Some b) h = (rise_parts (branches cs) (run_branches b.value.runs.items) h).0
 
-  pub runs_rise : (cs : List (Child R Q)) (rest : Option (Box (Onward R Q) Global)) (b : Box (Onward R Q) Global) → rest ≡ Some b → Rise (below_in (branches cs) rest) → Rise (run_branches b.value.runs.items)
+  pub runs_rise : {Q : Type 0} (cs : List (Child R)) (rest : Option (Box (Onward R Q) Global)) (b : Box (Onward R Q) Global) → rest ≡ Some b → Rise (below_in (branches cs) rest) → Rise (run_branches b.value.runs.items)
   runs_rise cs rest b e h = (rise_parts (branches cs) (run_branches b.value.runs.items) (subst (λ r. Rise (below_in (branches cs) r)) e h)).1
 
   -- before a rest, elements are alike where those among the branches and those among the runs are
   pub alike_both :
-      (a : Inside R Q) (tree : Tree R) (b : Box (Onward R Q) Global) (number own runs to : ℕ) → tree_of a ≡ tree → a.rest ≡ Some b → number < b.value.from
+      {Q : Type 0} (a : Inside R Q) (tree : Tree R) (b : Box (Onward R Q) Global) (number own runs to : ℕ) → tree_of a ≡ tree → a.rest ≡ Some b → number < b.value.from
       → AreAlike number own (λ i. find (index i) (branches a.children.items)) → AreAlike number runs (λ i. find (index i) (run_branches b.value.runs.items))
       → to ≡ min (min own runs) b.value.from → AreAlike number to (λ i. step_into tree (index i))
   alike_both a tree b number own runs to e f l mine others is =

@@ -9,13 +9,12 @@ use Rattle.cue_lattice.specs.OneOf.{OneOf}
 use Rattle.cue_lattice.specs.Path.{Step, step_cmp, Path}
 use Rattle.cue_row.specs.Steps.{step_of}
 use Rattle.cue_row.specs.declared.step.Step as program
-use Rattle.cue_table.specs.declared.node.Child.{Child}
+use Rattle.cue_table.specs.Inner.Child.{Child}
 use Rattle.cue_table.specs.Tree.{Tree, node, Children, none, child, Rest, no_rest, onward, empty, taken, find}
 use Rattle.cue_table.specs.Depth.{tree_depth, children_depth}
 use Rattle.cue_table.specs.Form.{IsBelowAll, IsTaken, IsTree, AreBranches, IsRestOf}
 use Rattle.cue_table.specs.Many.{IsOfBranches, IsUnified, under}
 use Rattle.cue_table.specs.Meet.{IsMet, IsAdded}
-use Rattle.cue_table.specs.Inner.Plan.{or_row}
 use Rattle.cue_table.specs.Refuses.{RowRefuses, TableRefuses}
 use Rattle.cue_table.specs.RowList.{last_cmp}
 use Rattle.cue_table.specs.Inner.View.{branches}
@@ -25,29 +24,29 @@ use Rattle.cue_table.proofs.Branches.{FoundRefuses, find_first, find_before, fin
 use Rattle.cue_table.proofs.Finding.{same_step}
 use Rattle.cue_table.proofs.Order.{equal_steps}
 
-module _ {R Q : Type 0} where
+module _ {R : Type 0} where
   -- a step before all branches is before the last
-  before_last : (step : Step) (cs : List (Child R Q)) (c : Child R Q) → IsBelowAll step (branches (cs ++ c ∷ [])) → step_cmp step (step_of c.step) ≡ Less
+  before_last : (step : Step) (cs : List (Child R)) (c : Child R) → IsBelowAll step (branches (cs ++ c ∷ [])) → step_cmp step (step_of c.step) ≡ Less
   before_last step [] c h = h.0
   before_last step (x ∷ cs) c h = before_last step cs c h.1
 
   -- one more behind all others is in form
   pub hung_form :
-      (P : R → Type 0) (row : Option R) (rest : Rest R) (cs all : List (Child R Q)) (c : Child R Q) → rest ≡ no_rest → all ≡ cs ++ c ∷ [] → last_cmp (step_of c.step) (branches cs) ≡ Less → IsTree P (node row (branches cs) rest)
+      (P : R → Type 0) (row : Option R) (rest : Rest R) (cs all : List (Child R)) (c : Child R) → rest ≡ no_rest → all ≡ cs ++ c ∷ [] → last_cmp (step_of c.step) (branches cs) ≡ Less → IsTree P (node row (branches cs) rest)
       → IsTaken c.node → IsTree P c.node → IsTree P (node row (branches all) rest)
   hung_form P row rest cs all c ends e last h t k = (h.0, subst (λ xs. AreBranches P (branches xs)) (sym e) (form_more P cs c last h.1 t k), subst (IsRestOf P (branches all)) (sym ends) tt)
 
   pub hung_depth :
-      (row : Option R) (rest : Rest R) (cs all : List (Child R Q)) (c : Child R Q) → all ≡ cs ++ c ∷ [] → tree_depth (node row (branches cs) rest) ≤ step_limit → tree_depth c.node < step_limit
+      (row : Option R) (rest : Rest R) (cs all : List (Child R)) (c : Child R) → all ≡ cs ++ c ∷ [] → tree_depth (node row (branches cs) rest) ≤ step_limit → tree_depth c.node < step_limit
       → tree_depth (node row (branches all) rest) ≤ step_limit
   hung_depth row rest cs all c e h k =
       let after = ap (λ xs. children_depth (branches xs)) e ∙ depth_last cs c in
       omega (arith, after)
 
-module _ {R Q S : Type 0} (refuses : R → S → Type 0) where
+module _ {R S : Type 0} (refuses : R → S → Type 0) where
   -- the branch at a step of the list with one more, by how the step compares with the first one's
   found_behind :
-      (x : Child R Q) (cs : List (Child R Q)) (c : Child R Q) (at : Step) (path : Path) (question : S) → step_cmp (step_of x.step) (step_of c.step) ≡ Less
+      (x : Child R) (cs : List (Child R)) (c : Child R) (at : Step) (path : Path) (question : S) → step_cmp (step_of x.step) (step_of c.step) ≡ Less
       → (FoundRefuses refuses (find at (branches (cs ++ c ∷ []))) path question ↔ (FoundRefuses refuses (find at (branches cs)) path question ⊎ ((step_of c.step ≡ at) × TableRefuses refuses c.node path question)))
       → (o : Ordering) → step_cmp at (step_of x.step) ≡ o
       → FoundRefuses refuses (find at (branches (x ∷ cs ++ c ∷ []))) path question ↔ (FoundRefuses refuses (find at (branches (x ∷ cs))) path question ⊎ ((step_of c.step ≡ at) × TableRefuses refuses c.node path question))
@@ -75,7 +74,7 @@ module _ {R Q S : Type 0} (refuses : R → S → Type 0) where
 
   -- what a list of branches with one more behind refuses
   found_more :
-      (P : R → Type 0) (cs : List (Child R Q)) (c : Child R Q) (at : Step) (path : Path) (question : S) → AreBranches P (branches (cs ++ c ∷ []))
+      (P : R → Type 0) (cs : List (Child R)) (c : Child R) (at : Step) (path : Path) (question : S) → AreBranches P (branches (cs ++ c ∷ []))
       → FoundRefuses refuses (find at (branches (cs ++ c ∷ []))) path question ↔ (FoundRefuses refuses (find at (branches cs)) path question ⊎ ((step_of c.step ≡ at) × TableRefuses refuses c.node path question))
   found_more P [] c at path question h =
       let one = one_branch refuses (step_of c.step) c.node at path question (step_cmp at (step_of c.step)) refl in
@@ -85,7 +84,7 @@ module _ {R Q S : Type 0} (refuses : R → S → Type 0) where
 
   -- a tree with one branch more behind is met with that branch
   pub hung_met :
-      (P : R → Type 0) (row : Option R) (cs all : List (Child R Q)) (c : Child R Q) → all ≡ cs ++ c ∷ [] → AreBranches P (branches all)
+      (P : R → Type 0) (row : Option R) (cs all : List (Child R)) (c : Child R) → all ≡ cs ++ c ∷ [] → AreBranches P (branches all)
       → IsMet refuses (node row (branches cs) no_rest) (under (step_of c.step) c.node) (node row (branches all) no_rest)
   hung_met P row cs all c e h [] question =
       (λ g. inl g, ⊎_elim (λ g. g) (λ g. absurd (under_root refuses (step_of c.step) c.node question g)))
@@ -118,10 +117,10 @@ module _ {R Q : Type 0} (refuses : R → Q → Type 0) where
   hung_none step old now table given e f gone =
       subst (λ t. IsMet refuses old (under step t) now) f (subst (λ t. IsMet refuses old (under step table) t) (sym e) (hung_empty step old table gone))
 
-module _ {R Q S : Type 0} (refuses : R → S → Type 0) where
+module _ {R S : Type 0} (refuses : R → S → Type 0) where
   -- the same of what a call was given
   pub hung_ok :
-      (P : R → Type 0) (row : Option R) (rest : Rest R) (cs all : List (Child R Q)) (c : Child R Q) (step : Step) (old table : Tree R) → rest ≡ no_rest → node row (branches cs) rest ≡ old → step_of c.step ≡ step → c.node ≡ table
+      (P : R → Type 0) (row : Option R) (rest : Rest R) (cs all : List (Child R)) (c : Child R) (step : Step) (old table : Tree R) → rest ≡ no_rest → node row (branches cs) rest ≡ old → step_of c.step ≡ step → c.node ≡ table
       → all ≡ cs ++ c ∷ [] → AreBranches P (branches all) → IsMet refuses old (under step table) (node row (branches all) rest)
   hung_ok P row rest cs all c step old table ends is at below e h =
       subst (λ t. IsMet refuses t (under step table) (node row (branches all) rest)) is
@@ -215,6 +214,6 @@ module _ {R Q : Type 0} (refuses : R → Q → Type 0) where
   added_here before after row children rest h (step ∷ path) question = (λ k. inl k, ⊎_elim (λ k. k) (λ k. let e = k.0 in absurd (cc)))
 
   -- the same of a tree that was given
-  pub added_row : (before after found : Option R) (row : R) (children : Children R) (rest : Rest R) (old : Tree R) → node before children rest ≡ old → or_row found before ≡ after → AddsHere before row (or_row found before) → IsAdded refuses old [] row (node after children rest)
-  added_row before after found row children rest old is e h =
-      subst (λ t. IsAdded refuses t [] row (node after children rest)) is (subst (λ r. IsAdded refuses (node before children rest) [] row (node r children rest)) e (added_here before (or_row found before) row children rest h))
+  pub added_row : (before after : Option R) (row : R) (children : Children R) (rest : Rest R) (old : Tree R) → node before children rest ≡ old → AddsHere before row after → IsAdded refuses old [] row (node after children rest)
+  added_row before after row children rest old is h =
+      subst (λ t. IsAdded refuses t [] row (node after children rest)) is (added_here before after row children rest h)

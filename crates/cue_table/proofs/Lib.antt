@@ -1,19 +1,20 @@
 mod Adding
 mod Aligning
-mod Amending
 mod Behind
+mod Changing
 mod Copying
-pub mod ByHalves
 mod Fields
 mod Filling
 mod Hanging
 mod Last
 mod Merging
 mod MetBranches
-mod Planning
+mod Nearing
+mod Owned
 mod Resting
 mod Settling
 mod Sweeping
+pub mod ByHalves
 pub mod Alike
 pub mod Appending
 pub mod Branches

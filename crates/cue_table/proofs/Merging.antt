@@ -9,7 +9,7 @@ use Rattle.cue_table.specs.Form.{IsBelowAll, IsTaken, IsTree, AreBranches, IsKep
 use Rattle.cue_table.specs.Meet.{BranchesRefuse, IsMerge, IsMet, IsUnion}
 use Rattle.cue_table.specs.Inner.Place.{AreBefore}
 use Rattle.cue_table.specs.Inner.Join.{join}
-use Rattle.cue_table.specs.Inner.Plan.{front, past, first_changed}
+use Rattle.cue_table.specs.Inner.Parts.{front, past}
 use Rattle.cue_table.proofs.Order.{equal_steps}
 use Rattle.cue_table.proofs.Branches.{find_before, find_past, find_below, below_all, found_refuses, not_silent}
 
@@ -82,6 +82,16 @@ module _ {R Q : Type 0} (refuses : R → Q → Type 0) where
         λ k. ⊎_elim (λ x. inl ((alone_at s a step e path question).1 x)) (λ x. inr ((alone_at s b step e path question).1 x)) (all.0 ((alone_at s c step e path question).0 k)),
         λ k. (alone_at s c step e path question).1 (all.1 (⊎_elim (λ x. inl ((alone_at s a step e path question).0 x)) (λ x. inr ((alone_at s b step e path question).0 x)) k)),
       )
+
+  -- what one branch refuses, another one at its step does that refuses no less
+  there :
+      (s : Step) (t u : Tree R) (l : Children R) → find s l ≡ Some t → IsMet refuses t u t → (step : Step) (o : Ordering) → step_cmp step s ≡ o → (path : Path) (question : Q)
+      → BranchesRefuse refuses (child s u none) step path question → BranchesRefuse refuses l step path question
+  there s t u l found met step Less e path question k = absurd (alone_off s u step Less e (λ f. cc) path question k)
+  there s t u l found met step Greater e path question k = absurd (alone_off s u step Greater e (λ f. cc) path question k)
+  there s t u l found met step Equal e path question k =
+      found_refuses refuses (Some t) (find step l) (sym (ap (λ x. find x l) (equal_steps step s e) ∙ found)) path question
+      ((met path question).1 (inr ((alone_at s u step e path question).0 k)))
 
   module _ (P : R → Type 0) where
     -- what only one side has
@@ -156,6 +166,21 @@ module _ {R Q : Type 0} (refuses : R → Q → Type 0) where
           above = λ step under over. (under.0, rest.above step under.1 over.1);
         }
 
+    -- the first of the right list adds nothing to the branch at its step
+    pub merge_same :
+        (s : Step) (t u : Tree R) (l r m : Children R) → AreBranches P (child s u r) → find s l ≡ Some t → IsMet refuses t u t
+        → IsMerge refuses P l r m → IsMerge refuses P l (child s u r) m
+    merge_same s t u l r m k e met rest = record {
+      form = rest.form;
+      refused = λ step path question.
+          let second = in_front s u r k.0 step path question in
+          let others = rest.refused step path question in (
+            λ x. ⊎_elim (λ y. inl y) (λ y. inr (second.1 (inr y))) (others.0 x),
+            ⊎_elim (λ x. others.1 (inl x)) (λ x. ⊎_elim (λ y. others.1 (inl (there s t u l e met step (step_cmp step s) refl path question y))) (λ y. others.1 (inr y)) (second.0 x)),
+          );
+      above = λ step low over. rest.above step low over.1;
+    }
+
     past_form : (n : ℕ) (l : Children R) → AreBranches P l → AreBranches P (past n l)
     past_form zero l h = h
     past_form (suc n) none h = tt
@@ -196,12 +221,9 @@ module _ {R Q : Type 0} (refuses : R → Q → Type 0) where
 
     -- the next branch is met with one at its step
     pub merge_alter :
-        (n : ℕ) (s : Step) (t u : Tree R) (l rest r : Children R) (f : Tree R → Tree R) (g : Children R → Children R)
-        → AreBranches Kept l → AreBranches Kept (child s u r) → AreBefore n s l → past n l ≡ child s t rest
-        → IsTable refuses is_value (f t) → IsMet refuses t u (f t) → IsMerge refuses Kept rest r (g rest)
-        → IsMerge refuses Kept l (child s u r) (join (front n l) (first_changed f g (past n l)))
-    merge_alter n s t u l rest r f g h k b e form met more =
+        (n : ℕ) (s : Step) (t u v : Tree R) (l rest r m : Children R) → AreBranches Kept l → AreBranches Kept (child s u r) → AreBefore n s l → past n l ≡ child s t rest
+        → IsTable refuses is_value v → IsMet refuses t u v → IsMerge refuses Kept rest r m → IsMerge refuses Kept l (child s u r) (join (front n l) (child s v m))
+    merge_alter n s t u v l rest r m h k b e form met more =
         let here : AreBranches Kept (child s t rest) = subst (AreBranches Kept) e (past_form Kept n l h) in
-        let both = merge_both Kept s t u (f t) rest r (g rest) here k (met_taken t u (f t) here.1 here.2 met) form met more in
-        merge_front Kept n s u l r (first_changed f g (past n l)) h k b
-        (subst (λ x. IsMerge refuses Kept x (child s u r) (first_changed f g x)) (sym e) both)
+        let both = merge_both Kept s t u v rest r m here k (met_taken t u v here.1 here.2 met) form met more in
+        merge_front Kept n s u l r (child s v m) h k b (subst (λ x. IsMerge refuses Kept x (child s u r) (child s v m)) (sym e) both)

@@ -15,7 +15,7 @@ use Rattle.cue_table.specs.declared.node.Onward.{Onward}
 use Rattle.cue_table.specs.Tree.{behind_last}
 use Rattle.cue_table.specs.Form.{IsBelowAll, Rise, StartsAtIndex, IsTree, AreBranches, IsRestOf}
 use Rattle.cue_table.specs.Inner.View.{below_in, branches, rest_in, run_branches, tree_of}
-use Rattle.cue_table.specs.declared.node.Child.{Child}
+use Rattle.cue_table.specs.Inner.Child.{Child}
 use Rattle.cue_table.specs.declared.node.Node.TheInside.{Inside}
 use Rattle.cue_table.proofs.Finding.{at_or_below}
 use Rattle.cue_table.proofs.Joined.{join_parts}
@@ -24,7 +24,7 @@ use Rattle.cue_table.proofs.Joined.{join_parts}
 below_form : {R Q : Type 0} (P : R → Type 0) (a : Inside R Q) (tree : Tree R) → tree_of a ≡ tree → IsTree P tree → AreBranches P (below_in (branches a.children.items) a.rest)
 below_form P a tree e h = let here : IsTree P (tree_of a) = subst (IsTree P) (sym e) h in here.1
 
-own_form : {R Q : Type 0} (P : R → Type 0) (cs : List (Child R Q)) (rest : Option (Box (Onward R Q) Global)) → AreBranches P (below_in (branches cs) rest) → AreBranches P (branches cs)
+own_form : {R Q : Type 0} (P : R → Type 0) (cs : List (Child R)) (rest : Option (Box (Onward R Q) Global)) → AreBranches P (below_in (branches cs) rest) → AreBranches P (branches cs)
 own_form P cs None h = h
 own_form P cs (Some b) h = (join_parts P (branches cs) (run_branches b.value.runs.items) h).0
 
@@ -44,7 +44,7 @@ rest_form P a tree b e r h =
 
 -- a node with branches is not empty
 pub taken_below :
-    {R Q : Type 0} (row : Option R) (cs : List (Child R Q)) (rest : Option (Box (Onward R Q) Global)) (len : ℕ) → len ≡ length cs → false ≡ nat_eq len 0
+    {R Q : Type 0} (row : Option R) (cs : List (Child R)) (rest : Option (Box (Onward R Q) Global)) (len : ℕ) → len ≡ length cs → false ≡ nat_eq len 0
     → taken (node row (below_in (branches cs) rest) (rest_in rest)) ≡ Some (node row (below_in (branches cs) rest) (rest_in rest))
 taken_below (Some row) cs rest len e h = refl
 taken_below None (c ∷ cs) None len e h = refl
@@ -67,10 +67,10 @@ label_below (Label l) y h e = refl
 label_below (Index m) (Index n) h e = e
 label_below (Index m) (Label l) h e = cc
 
-module _ {R Q : Type 0} where
+module _ {R : Type 0} where
   -- where an index stands first, there is no label
   pub no_labels_left :
-      (P : R → Type 0) (all rest : List (Child R Q)) (c : Child R Q) (n : ℕ) (labels : List (List ℕ × Tree R))
+      (P : R → Type 0) (all rest : List (Child R)) (c : Child R) (n : ℕ) (labels : List (List ℕ × Tree R))
       → all ≡ c ∷ rest → c.step ≡ Index n → labels_of (branches all) ≡ labels → AreBranches P (branches all) → labels ≡ []
   no_labels_left P all rest c n labels e i v h =
       let form : AreBranches P (branches (c ∷ rest)) = subst (λ cs. AreBranches P (branches cs)) e h in
@@ -79,7 +79,7 @@ module _ {R Q : Type 0} where
       ∙ no_labels n (branches rest) after
 
   -- labels come first
-  pub labels_first : (cs : List (Child R Q)) → Rise (branches cs) → IsPartitionedBy (λ c. is_label c.step) cs
+  pub labels_first : (cs : List (Child R)) → Rise (branches cs) → IsPartitionedBy (λ c. is_label c.step) cs
   labels_first [] h i j d le lt e = absurd (omega arith)
   labels_first (c ∷ cs) h zero zero d le lt e = e
   labels_first (c ∷ cs) h zero (suc j) d le lt e =
@@ -87,12 +87,12 @@ module _ {R Q : Type 0} where
   labels_first (c ∷ cs) h (suc i) zero d le lt e = absurd (omega arith)
   labels_first (c ∷ cs) h (suc i) (suc j) d le lt e = labels_first cs h.1 i j d (omega arith) (omega arith) e
 
-  below_last : (s : paths.Step) (cs : List (Child R Q)) (c : Child R Q) → IsBelowAll s (branches (cs ++ c ∷ [])) → step_cmp s (step_of c.step) ≡ Less
+  below_last : (s : paths.Step) (cs : List (Child R)) (c : Child R) → IsBelowAll s (branches (cs ++ c ∷ [])) → step_cmp s (step_of c.step) ≡ Less
   below_last s [] c h = h.0
   below_last s (d ∷ cs) c h = below_last s cs c h.1
 
   -- behind an element that stands last
-  pub behind_index : (cs : List (Child R Q)) (c : Child R Q) (n : ℕ) → Rise (branches (cs ++ c ∷ [])) → step_of c.step ≡ index n → behind_last (branches (cs ++ c ∷ [])) ≡ n + 1
+  pub behind_index : (cs : List (Child R)) (c : Child R) (n : ℕ) → Rise (branches (cs ++ c ∷ [])) → step_of c.step ≡ index n → behind_last (branches (cs ++ c ∷ [])) ≡ n + 1
   behind_index [] c n h e = ap (λ s. behind_last (child s c.node none)) e ∙ omega arith
   behind_index (d ∷ cs) c n h e = by (step_of d.step) refl (behind_index cs c n h.1 e)
     where
@@ -105,7 +105,7 @@ module _ {R Q : Type 0} where
           rw others (omega arith)
 
   -- where a label stands last, there is no element
-  pub behind_label : (cs : List (Child R Q)) (c : Child R Q) (l : List ℕ) → Rise (branches (cs ++ c ∷ [])) → step_of c.step ≡ label l → behind_last (branches (cs ++ c ∷ [])) ≡ 0
+  pub behind_label : (cs : List (Child R)) (c : Child R) (l : List ℕ) → Rise (branches (cs ++ c ∷ [])) → step_of c.step ≡ label l → behind_last (branches (cs ++ c ∷ [])) ≡ 0
   behind_label [] c l h e = ap (λ s. behind_last (child s c.node none)) e
   behind_label (d ∷ cs) c l h e = by (step_of d.step) refl (behind_label cs c l h.1 e)
     where
@@ -117,12 +117,12 @@ module _ {R Q : Type 0} where
           cc
 
   -- the branches from a place on are in form
-  pub form_from : (P : R → Type 0) (cs : List (Child R Q)) (k : ℕ) → AreBranches P (branches cs) → AreBranches P (branches (drop k cs))
+  pub form_from : (P : R → Type 0) (cs : List (Child R)) (k : ℕ) → AreBranches P (branches cs) → AreBranches P (branches (drop k cs))
   form_from P cs zero h = h
   form_from P [] (suc k) h = tt
   form_from P (c ∷ cs) (suc k) h = form_from P cs k h.3
 
-  items_skip : (c : Child R Q) (cs : List (Child R Q)) → is_label c.step ≡ true → items_of (branches (c ∷ cs)) ≡ items_of (branches cs)
+  items_skip : (c : Child R) (cs : List (Child R)) → is_label c.step ≡ true → items_of (branches (c ∷ cs)) ≡ items_of (branches cs)
   items_skip c cs e = by c.step e
     where
       by : (s : Step) → is_label s ≡ true → items_of (child (step_of s) c.node (branches cs)) ≡ items_of (branches cs)
@@ -131,7 +131,7 @@ module _ {R Q : Type 0} where
 
   -- what stands after the labels is all items
   pub items_from :
-      (cs : List (Child R Q)) (k : ℕ) → IsPartitionPoint (λ c. is_label c.step ≡ true) (λ c. is_label c.step ≡ false) cs k
+      (cs : List (Child R)) (k : ℕ) → IsPartitionPoint (λ c. is_label c.step ≡ true) (λ c. is_label c.step ≡ false) cs k
       → items_of (branches (drop k cs)) ≡ items_of (branches cs)
   items_from cs zero p = refl
   items_from [] (suc k) p = refl
@@ -139,7 +139,7 @@ module _ {R Q : Type 0} where
       items_from cs k (λ i d low lt. p.0 (suc i) d (omega arith) (omega arith), λ i d low lt. p.1 (suc i) d (omega arith) (omega arith))
       ∙ sym (items_skip c cs (p.0 0 c (omega arith) (omega arith)))
 
-  starts_at : (c : Child R Q) (cs : List (Child R Q)) → is_label c.step ≡ false → StartsAtIndex (branches (c ∷ cs))
+  starts_at : (c : Child R) (cs : List (Child R)) → is_label c.step ≡ false → StartsAtIndex (branches (c ∷ cs))
   starts_at c cs e = by c.step e
     where
       by : (s : Step) → is_label s ≡ false → StartsAtIndex (child (step_of s) c.node (branches cs))
@@ -147,7 +147,7 @@ module _ {R Q : Type 0} where
       by (Index n) e = tt
 
   pub starts_from :
-      (cs : List (Child R Q)) (k : ℕ) → IsPartitionPoint (λ c. is_label c.step ≡ true) (λ c. is_label c.step ≡ false) cs k
+      (cs : List (Child R)) (k : ℕ) → IsPartitionPoint (λ c. is_label c.step ≡ true) (λ c. is_label c.step ≡ false) cs k
       → StartsAtIndex (branches (drop k cs))
   starts_from [] zero p = tt
   starts_from (c ∷ cs) zero p = starts_at c cs (p.1 0 c (omega arith) (omega arith))

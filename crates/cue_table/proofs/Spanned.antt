@@ -5,7 +5,7 @@ use Rattle.cue_row.specs.declared.row.Row.{Row}
 use Rattle.cue_row.specs.Steps.{step_of}
 use Rattle.cue_row.specs.declared.step.Step.{Step}
 use Rattle.cue_row.specs.declared.step.Step.TheVariants.{Label, Index}
-use Rattle.cue_table.specs.declared.node.Child.{Child}
+use Rattle.cue_table.specs.Inner.Child.{Child}
 use Rattle.cue_table.specs.Depth.{tree_depth, children_depth}
 use Rattle.cue_table.specs.Inner.ValidWalk.{HasChild, IsSound, AreSound}
 use Rattle.cue_table.specs.Inner.View.{branches, spans_in, span_at}
@@ -42,7 +42,7 @@ module _ {R : Type 0} where
   none_left rest e = ap (λ spans. children_depth (spread spans)) e
 
   -- a list of branches as spans, each of one
-  pub spread_in : {Q : Type 0} (cs : List (Child R Q)) → spread (spans_in cs) ≡ branches cs
+  pub spread_in : (cs : List (Child R)) → spread (spans_in cs) ≡ branches cs
   spread_in [] = refl
   spread_in (c ∷ cs) = one c.step c.node (spread (spans_in cs)) ∙ ap (child (step_of c.step) c.node) (spread_in cs)
     where

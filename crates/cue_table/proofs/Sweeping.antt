@@ -1,10 +1,9 @@
 -- Lists that are met index by index, each stretch that is alike in both once.
 use Rattle.std.proofs.Common.{◌≡◌, ◌+◌, ◌-◌, ◌^◌, ◌<◌, ◌≤◌, min, nat_lt, if◌then◌else◌, ℕ, zero, suc, List, [], ◌∷◌, ◌++◌, Option, Some, None, refl, sym, ap, subst, ◌∙◌, inl, inr, arith}
-use Rattle.std.specs.Option.{option_or}
 use Rattle.std.proofs.lemmas.Bool.{cases_lt}
 use Rattle.cue_lattice.specs.Path as paths
 use Rattle.cue_lattice.specs.Path.{label, index, Path}
-use Rattle.cue_table.specs.declared.node.Child.{Child}
+use Rattle.cue_table.specs.Inner.Child.{Child}
 use Rattle.cue_table.specs.declared.node.Onward.{Onward}
 use Rattle.cue_table.specs.declared.node.Run.{Run}
 use Rattle.cue_table.specs.Tree.{Tree, node, Children, none, no_rest, onward, row_of, rest_of, rest_tree, fixed_of, find, find_with, step_into}
@@ -15,7 +14,6 @@ use Rattle.cue_table.specs.Refuses.{RowRefuses}
 use Rattle.cue_table.specs.Spans.{alike}
 use Rattle.cue_table.specs.Inner.Alike.{AreAlike}
 use Rattle.cue_table.specs.Inner.Join.{join}
-use Rattle.cue_table.specs.Inner.Plan.{or_row}
 use Rattle.cue_table.specs.Inner.Rests.{AreElements, AreElementsMet, AreMetRests, IsBranch, IsSettled}
 use Rattle.cue_table.specs.Inner.Runs.{AreFrom}
 use Rattle.std.specs.Prelude.{Box}
@@ -156,10 +154,6 @@ module _ {R Q S : Type 0} (refuses : R → S → Type 0) (is_value : R → Type 
   }
 
 -- ---- fields and elements as one place
-pub or_is : {X : Type 0} (x y : Option X) → option_or x y ≡ or_row x y
-or_is None y = refl
-or_is (Some x) y = refl
-
 module _ {R : Type 0} where
   from_alike : (i m : ℕ) (tree : Tree R) (others : Children R) → AreFrom 0 others → AreFrom 0 (alike i m tree others)
   from_alike i zero tree others h = (omega arith, h)
@@ -190,7 +184,7 @@ module _ {R Q : Type 0} where
   runs_from [] = tt
   runs_from (r ∷ rs) = from_alike r.first (more_of r.first r.more) r.node (run_branches rs) (runs_from rs)
 
-  field_below : (text : List ℕ) (cs : List (Child R Q)) (rest : Option (Box (Onward R Q) Global)) (row : Option R) → step_into (node row (below_in (branches cs) rest) (rest_in rest)) (label text) ≡ find (label text) (branches cs)
+  field_below : (text : List ℕ) (cs : List (Child R)) (rest : Option (Box (Onward R Q) Global)) (row : Option R) → step_into (node row (below_in (branches cs) rest) (rest_in rest)) (label text) ≡ find (label text) (branches cs)
   field_below text cs None row = refl
   field_below text cs (Some b) row = field_found text (branches cs) (run_branches b.value.runs.items) (runs_from b.value.runs.items)
 
@@ -201,7 +195,7 @@ module _ {R Q : Type 0} where
 module _ {R Q S : Type 0} (refuses : R → S → Type 0) (P : R → Type 0) where
   -- two lists are met where their rows are, their fields and their elements
   pub list_met :
-      (a b : Inside R Q) (s t : Tree R) (own others : List (Child R Q)) (row : Option R) (fields : Children R) (made : Onward R Q) → tree_of a ≡ s → tree_of b ≡ t
+      (a b : Inside R Q) (s t : Tree R) (own others : List (Child R)) (row : Option R) (fields : Children R) (made : Onward R Q) → tree_of a ≡ s → tree_of b ≡ t
       → ((text : List ℕ) → find (label text) (branches own) ≡ find (label text) (branches a.children.items)) → ((text : List ℕ) → find (label text) (branches others) ≡ find (label text) (branches b.children.items))
       → IsUnion (RowRefuses refuses a.row) (RowRefuses refuses b.row) (RowRefuses refuses row) → IsMerge refuses P (branches own) (branches others) fields → AreWithin 0 fields
       → AreElementsMet refuses P s t made → IsMet refuses s t (node row (join fields (run_branches made.runs.items)) (onward made.from made.node))

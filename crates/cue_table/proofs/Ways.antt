@@ -7,7 +7,7 @@ use Rattle.std.specs.List.Sorted.{IsPartitionPoint}
 use Rattle.std.proofs.lemmas.Bool.{cases_lt, lt-ltb, le-ltb}
 use Rattle.cue_lattice.specs.Path.{Step, label, index}
 use Rattle.cue_table.specs.declared.cursor.Cursor.{Cursor}
-use Rattle.cue_table.specs.declared.node.Child.{Child}
+use Rattle.cue_table.specs.Inner.Child.{Child}
 use Rattle.cue_table.specs.declared.node.Run.{Run}
 use Rattle.cue_table.specs.declared.node.Node.TheInside.{Inside}
 use Rattle.cue_table.specs.declared.node.Onward.{Onward}
@@ -40,7 +40,7 @@ module _ {R : Type 0} where
   spread_runs (r ∷ rs) = ap (alike r.first (more_of r.first r.more) r.node) (spread_runs rs)
 
   -- the branches of a whole place
-  pub spread_place : {Q : Type 0} (cs : List (Child R Q)) (rs : List (Run R Q)) → spread (spans_in cs ++ run_spans rs) ≡ join (branches cs) (run_branches rs)
+  pub spread_place : {Q : Type 0} (cs : List (Child R)) (rs : List (Run R Q)) → spread (spans_in cs ++ run_spans rs) ≡ join (branches cs) (run_branches rs)
   spread_place cs rs = spread_join (spans_in cs) (run_spans rs) ∙ ap (λ a. join a (spread (run_spans rs))) (spread_in cs) ∙ ap (join (branches cs)) (spread_runs rs)
 
   -- ---- the first branch of a span and so many others, and what is behind them
@@ -152,17 +152,17 @@ pub map_or : {A B : Type 0} (f : A → B) (x y : Option A) → option_map f (opt
 map_or f None y = refl
 map_or f (Some x) y = refl
 
-module _ {R Q : Type 0} where
-  runs_label : (text : List ℕ) (rs : List (Run R Q)) → find (label text) (run_branches rs) ≡ None
+module _ {R : Type 0} where
+  runs_label : {Q : Type 0} (text : List ℕ) (rs : List (Run R Q)) → find (label text) (run_branches rs) ≡ None
   runs_label text [] = refl
   runs_label text (r ∷ rs) = alike_label text r.first (more_of r.first r.more) r.node (run_branches rs) ∙ runs_label text rs
 
-  pub below_joined : (own : Children R) (rest : Option (Box (Onward R Q) Global)) → join own (runs_in rest) ≡ below_in own rest
+  pub below_joined : {Q : Type 0} (own : Children R) (rest : Option (Box (Onward R Q) Global)) → join own (runs_in rest) ≡ below_in own rest
   below_joined own None = join_none own
   below_joined own (Some b) = refl
 
   -- ---- one step below a place: a field
-  field_in : (row : Option R) (cs : List (Child R Q)) (rest : Option (Box (Onward R Q) Global)) (text : List ℕ) → step_into (node row (below_in (branches cs) rest) (rest_in rest)) (label text) ≡ find (label text) (branches cs)
+  field_in : {Q : Type 0} (row : Option R) (cs : List (Child R)) (rest : Option (Box (Onward R Q) Global)) (text : List ℕ) → step_into (node row (below_in (branches cs) rest) (rest_in rest)) (label text) ≡ find (label text) (branches cs)
   field_in row cs None text = refl
   field_in row cs (Some b) text =
       let runs = run_branches b.value.runs.items in
@@ -172,11 +172,11 @@ module _ {R Q : Type 0} where
       or_none None = refl
       or_none (Some t) = refl
 
-  pub field_below : (a : Inside R Q) (tree : Tree R) (text : List ℕ) → tree_of a ≡ tree → find (label text) (branches a.children.items) ≡ step_into tree (label text)
+  pub field_below : {Q : Type 0} (a : Inside R Q) (tree : Tree R) (text : List ℕ) → tree_of a ≡ tree → find (label text) (branches a.children.items) ≡ step_into tree (label text)
   field_below a tree text e = sym (field_in a.row a.children.items a.rest text) ∙ ap (λ t. step_into t (label text)) e
 
   -- an element before the rest
-  pub element_before : (a : Inside R Q) (tree : Tree R) (b : Box (Onward R Q) Global) (n : ℕ) → tree_of a ≡ tree → a.rest ≡ Some b → n < b.value.from
+  pub element_before : {Q : Type 0} (a : Inside R Q) (tree : Tree R) (b : Box (Onward R Q) Global) (n : ℕ) → tree_of a ≡ tree → a.rest ≡ Some b → n < b.value.from
       → option_or (find (index n) (branches a.children.items)) (find (index n) (run_branches b.value.runs.items)) ≡ step_into tree (index n)
   element_before a tree b n e f l =
       let cs = branches a.children.items in
@@ -202,7 +202,7 @@ labels_join none b e = e
 labels_join (child (label text) tree children) b e = ap (λ ls. (text, tree) ∷ ls) (labels_join children b e)
 labels_join (child (index i) tree children) b e = labels_join children b e
 
-pub labels_below : {R Q : Type 0} (cs : List (Child R Q)) (rest : Option (Box (Onward R Q) Global)) → labels_of (branches cs) ≡ labels_of (below_in (branches cs) rest)
+pub labels_below : {R Q : Type 0} (cs : List (Child R)) (rest : Option (Box (Onward R Q) Global)) → labels_of (branches cs) ≡ labels_of (below_in (branches cs) rest)
 labels_below cs None = refl
 labels_below cs (Some b) = sym (labels_join (branches cs) (run_branches b.value.runs.items) (labels_runs b.value.runs.items))
 
@@ -241,21 +241,21 @@ items_join none b = refl
 items_join (child (label text) tree children) b = items_join children b
 items_join (child (index i) tree children) b = ap (λ items. (i, tree) ∷ items) (items_join children b)
 
-module _ {R Q : Type 0} where
-  form_behind : (P : R → Type 0) (cs : List (Child R Q)) (k : ℕ) (b : Children R) → AreBranches P (join (branches cs) b) → AreBranches P (join (branches (drop k cs)) b)
+module _ {R : Type 0} where
+  form_behind : (P : R → Type 0) (cs : List (Child R)) (k : ℕ) (b : Children R) → AreBranches P (join (branches cs) b) → AreBranches P (join (branches (drop k cs)) b)
   form_behind P cs zero b h = h
   form_behind P [] (suc k) b h = h
   form_behind P (c ∷ cs) (suc k) b h = form_behind P cs k b h.3
 
-  abbrev Labels : List (Child R Q) → ℕ → Type 0
+  abbrev Labels : List (Child R) → ℕ → Type 0
   Labels cs k = IsPartitionPoint (λ c. is_label c.step ≡ true) (λ c. is_label c.step ≡ false) cs k
 
   -- a way that has not begun has all branches of its lists
-  whole_way : (cursor : Cursor R Q) → cursor.begun ≡ None → spread (spans_left cursor) ≡ join (branches cursor.own.now) (run_branches cursor.runs.now)
+  whole_way : {Q : Type 0} (cursor : Cursor R Q) → cursor.begun ≡ None → spread (spans_left cursor) ≡ join (branches cursor.own.now) (run_branches cursor.runs.now)
   whole_way cursor e = ap (λ b. spread (begun_spans b ++ (spans_in cursor.own.now ++ run_spans cursor.runs.now))) e ∙ spread_place cursor.own.now cursor.runs.now
 
   -- without its labels it has the elements alone
-  pub items_way : (P : R → Type 0) (left right : Cursor R Q) (k : ℕ) → left.begun ≡ None → right.begun ≡ None → right.own.now ≡ drop k left.own.now → right.runs.now ≡ left.runs.now
+  pub items_way : {Q : Type 0} (P : R → Type 0) (left right : Cursor R Q) (k : ℕ) → left.begun ≡ None → right.begun ≡ None → right.own.now ≡ drop k left.own.now → right.runs.now ≡ left.runs.now
       → Labels left.own.now k → AreBranches P (spread (spans_left left))
       → AreBranches P (spread (spans_left right)) × StartsAtIndex (spread (spans_left right)) × (items_of (spread (spans_left right)) ≡ items_of (spread (spans_left left)))
   items_way P left right k e f own runs point h =
@@ -270,7 +270,7 @@ module _ {R Q : Type 0} where
       )
 
   -- the labels of its own branches come first
-  pub own_way : (P : R → Type 0) (left : Cursor R Q) → left.begun ≡ None → AreBranches P (spread (spans_left left)) → Rise (branches left.own.now)
+  pub own_way : {Q : Type 0} (P : R → Type 0) (left : Cursor R Q) → left.begun ≡ None → AreBranches P (spread (spans_left left)) → Rise (branches left.own.now)
   own_way P left e h =
       let parts = join_parts P (branches left.own.now) (run_branches left.runs.now) (subst (AreBranches P) (whole_way left e) h) in
       branches_rise P (branches left.own.now) parts.0

@@ -1,5 +1,5 @@
 //! A row in a box.
-ghost use Rattle.std.specs.Prelude.{◌≡◌, IfOk};
+ghost use Rattle.std.specs.Prelude.{◌≡◌, ◌↔◌, ◌⊎◌, IfOk, OnErr, OnOk};
 
 use cue_lattice::{Memory, Narrow};
 use std::alloc::Global;
@@ -32,6 +32,18 @@ impl<R: Narrow> Boxed<R> {
         ensures { result.now ≡ self.now }
     {
         &self.inner
+    }
+
+    /// Unifies another row into this one, where it stands. After want of memory it is as it was.
+    pub(crate) fn narrow(&mut self, alloc: Global, other: Boxed<R>) -> Result<(), Memory>
+        ensures value { OnOk result (R.is_value self.new) }
+        ensures ok { OnOk result ((question : R.Question) →
+            R.refuses self.new question ↔ (R.refuses self.old question ⊎ R.refuses other question)) }
+        ensures err { OnErr result (self.new ≡ self.old) }
+    {
+        self.inner.narrow(alloc, other.into_row())?;
+        self.inner.known();
+        Ok(())
     }
 
     pub(crate) fn into_row(self) -> R

@@ -7,8 +7,9 @@ ghost use Rattle.cue_row.specs.Steps.{step_of};
 ghost use Rattle.cue_table.specs.Spans.{spread};
 ghost use Rattle.cue_table.specs.Inner.View.{branches};
 
+use crate::child::Child;
 use crate::iter::{Children, Items, Labels, Spans};
-use crate::node::{Child, Node};
+use crate::node::Node;
 use cue_lattice::Narrow;
 use cue_row::Step;
 use std::marker::Model;
@@ -136,7 +137,7 @@ pub(crate) fn behind_last<R: Narrow>(children: &[Child<R>]) -> u64
     let Some((last, _)) = children.split_last() else {
         return 0;
     };
-    match &last.step {
+    match last.step() {
         Step::Label(_) => 0,
         Step::Index(number) => u64::from(*number) + 1,
     }

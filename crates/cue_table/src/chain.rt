@@ -8,7 +8,8 @@ ghost use Rattle.cue_table.specs.RowList.{last_cmp};
 ghost use Rattle.cue_table.specs.Tree.{node, none, child, no_rest, onward};
 
 use crate::boxed::Boxed;
-use crate::node::{Child, Node, Onward};
+use crate::child::Child;
+use crate::node::{Node, Onward};
 use cue_lattice::{Memory, Narrow};
 use cue_row::Step;
 use std::alloc::Global;
@@ -42,7 +43,7 @@ pub(crate) fn one_branch<R: Narrow>(
         ≡ node None (child (step_of step) below none) no_rest) }
 {
     let mut children = Vec::with_capacity(alloc, 1)?;
-    children.push(Child { step, node: below })?;
+    children.push(Child::new(alloc, step, below)?)?;
     Ok(Node {
         row: None,
         children,
@@ -90,6 +91,6 @@ pub(crate) fn last_against<R: Narrow>(children: &[Child<R>], step: &Step) -> Ord
 {
     match children.split_last() {
         None => Ordering::Less,
-        Some((last, _)) => last.step.compare(step),
+        Some((last, _)) => last.step().compare(step),
     }
 }

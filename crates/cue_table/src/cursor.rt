@@ -6,7 +6,8 @@ ghost use Rattle.cue_table.specs.Inner.Cursors.{Fits, behind, spans_left};
 ghost use Rattle.cue_table.specs.Inner.View.{more_of, span_at};
 
 use crate::Span;
-use crate::node::{Child, Node, Run};
+use crate::child::Child;
+use crate::node::{Node, Run};
 use cue_lattice::Narrow;
 use cue_row::Step;
 
@@ -42,7 +43,7 @@ impl<'a, R: Narrow> Cursor<'a, R> {
         }
         if let Some((child, own)) = self.own.split_first() {
             self.own = own;
-            return Some((span_at(&child.step), &child.node));
+            return Some((span_at(child.step()), child.node()));
         }
         let (run, runs) = self.runs.split_first()?;
         self.runs = runs;

@@ -1,151 +1,83 @@
-//! A change of a place, as it was planned. It takes no memory, and moves what stays.
-ghost use Rattle.std.specs.Prelude.{◌≡◌, ◌+◌, ◌≤◌, ◌++◌, length, min, take, drop};
+//! Changes of a list of branches carried out. What stays is moved.
+ghost use Rattle.std.specs.Prelude.{◌≡◌, ◌+◌, ◌≤◌, ◌++◌, length, take, drop, OnErr, OnOk, IsTrue};
 ghost use Rattle.std.specs.Vec.{vec_len, vec_capacity};
 ghost use Rattle.std.specs.Vec.Iter.{into_iter_items};
-ghost use Rattle.cue_table.specs.Tree.{Children};
-ghost use Rattle.cue_table.specs.Inner.Plan.{Pieces, done, IsAmending, changed, changed_below};
-ghost use Rattle.cue_table.specs.Inner.Plan.{first_changed, merged, width};
-ghost use Rattle.cue_table.specs.Inner.PlanView.{HasRoom, amended, below_of, piece_before, pieces_of};
-ghost use Rattle.cue_table.specs.Inner.View.{branches};
+ghost use Rattle.cue_table.specs.Inner.Changes.{AreReplaced, Fit, merged, over};
 
-use crate::node::{Child, Node};
-use crate::plan::{Becomes, Below, Piece, Plan};
-use cue_lattice::Narrow;
+use crate::changes::Change;
+use crate::child::Child;
+use cue_lattice::{Memory, Narrow};
 use std::alloc::Global;
 use std::mem;
 use std::vec::IntoIter;
 
-/// The place after a change.
-#[cycle(fill)]
-pub(crate) fn change<R: Narrow>(alloc: Global, old: Node<R>, plan: Plan<R>) -> Node<R>
-    ensures { result ≡ changed plan old }
-{
-    match plan.becomes {
-        Becomes::Made(other) => other,
-        Becomes::Changed(row, below) => {
-            if old.rest.is_some() {
-                return old;
-            }
-            Node {
-                row: row.or(old.row),
-                children: change_below(alloc, old.children, below),
-                rest: None,
-            }
-        }
-    }
-}
-
-/// Its branches.
-#[cycle(fill)]
-pub(crate) fn change_below<R: Narrow>(
-    alloc: Global,
-    old: Vec<Child<R>>,
-    below: Below<R>,
-) -> Vec<Child<R>>
-    requires { HasRoom below }
-    ensures { branches result.items ≡ changed_below (below_of below) (branches old.items) }
-{
-    match below {
-        Below::Stay => old,
-        Below::Take(children) => children,
-        Below::Amend(pieces) => amend(alloc, old, pieces),
-        Below::Merge(pieces, room) => merge(alloc, old, pieces, room),
-    }
-}
-
-/// The branches of a list, some of which change where they stand.
-#[cycle(fill)]
-fn amend<R: Narrow>(alloc: Global, mut old: Vec<Child<R>>, pieces: Vec<Piece<R>>) -> Vec<Child<R>>
-    requires { IsAmending (pieces_of pieces.items) }
-    ensures { branches result.items ≡ merged (pieces_of pieces.items) (branches old.items) }
-{
-    let mut at = 0;
-    let mut others = pieces.into_iter();
-    while let Some(piece) = others.next() {
-        at = amend_next(alloc, &mut old, at, piece);
-    }
-    old.truncate(at);
-    old
-}
-
-/// Goes on from a place of a list as a piece says, and gives the place behind.
-#[cycle(fill)]
-fn amend_next<R: Narrow>(
+/// Changes a list of branches. After want of memory it is as it was.
+pub(crate) fn carry_out<R: Narrow>(
     alloc: Global,
     children: &mut Vec<Child<R>>,
-    at: usize,
-    piece: Piece<R>,
-) -> usize
-    requires inside { at ≤ length children.old.items }
-    requires amends { IsAmending (piece_before piece done) }
-    ensures inside { result ≤ length children.new.items }
-    ensures amends { (others : Pieces R) → amended result (merged others) children.new.items
-        ≡ amended at (merged (piece_before piece others)) children.old.items }
+    changes: Vec<Change<R>>,
+) -> Result<(), Memory>
+    requires { Fit changes.items children.old.items }
+    ensures ok { OnOk result (children.new.items ≡ merged changes.items children.old.items) }
+    ensures err { OnErr result (children.new.items ≡ children.old.items) }
 {
-    match piece {
-        Piece::Keep(count) => further(at, count, children.len()),
-        Piece::Insert(_, _) => at,
-        Piece::Alter(count, plan) => {
-            let here = further(at, count, children.len());
-            alter(alloc, children, here, plan)
+    if adds_none(&changes) {
+        replace(children, changes);
+        return Ok(());
+    }
+    let room = Vec::with_capacity(alloc, children.len() + changes.len())?;
+    let old = mem::replace(children, Vec::new(alloc));
+    *children = merge(old, changes, room);
+    Ok(())
+}
+
+/// Whether each change is in place of a branch.
+fn adds_none<R: Narrow>(changes: &[Change<R>]) -> bool
+    ensures { IsTrue result → AreReplaced changes.now }
+{
+    for change in changes {
+        if !change.replaces {
+            return false;
         }
     }
+    true
 }
 
-/// Changes the branch at a place of a list, if there is one, and gives the place behind it.
-#[cycle(fill)]
-fn alter<R: Narrow>(alloc: Global, children: &mut Vec<Child<R>>, at: usize, plan: Plan<R>) -> usize
-    requires { at ≤ length children.old.items }
-    ensures inside { result ≤ length children.new.items }
-    ensures altered { (others : Children R → Children R) → amended result others children.new.items
-        ≡ amended at (first_changed (changed plan) others) children.old.items }
+/// Puts new branches in place of others, where these stand.
+fn replace<R: Narrow>(children: &mut Vec<Child<R>>, changes: Vec<Change<R>>)
+    requires fit { Fit changes.items children.old.items }
+    requires replaced { AreReplaced changes.items }
+    ensures { children.new.items ≡ merged changes.items children.old.items }
 {
-    if at >= children.len() {
-        return at;
+    let mut at = 0;
+    let mut others = changes.into_iter();
+    while let Some(change) = others.next() {
+        at += change.kept;
+        children[at] = change.child;
+        at += 1;
     }
-    let child = &mut children[at];
-    let node = mem::replace(&mut child.node, Node::new(alloc));
-    child.node = change(alloc, node, plan);
-    at + 1
 }
 
-/// So many places further, but not past the end.
-fn further(at: usize, count: usize, end: usize) -> usize
-    ensures { result ≡ min (at + count) end }
-{
-    at.saturating_add(count).min(end)
-}
-
-/// The branches of a list, and others among them. The room is for all of them.
-#[cycle(fill)]
+/// The branches of a list after changes. The room is for all of them.
 fn merge<R: Narrow>(
-    alloc: Global,
     old: Vec<Child<R>>,
-    pieces: Vec<Piece<R>>,
+    changes: Vec<Change<R>>,
     mut room: Vec<Child<R>>,
 ) -> Vec<Child<R>>
+    requires fit { Fit changes.items old.items }
     requires empty { vec_len room ≡ 0 }
-    requires space { width (pieces_of pieces.items) ≤ vec_capacity room }
-    ensures { branches result.items ≡ merged (pieces_of pieces.items) (branches old.items) }
+    requires space { vec_len old + vec_len changes ≤ vec_capacity room }
+    ensures { result.items ≡ merged changes.items old.items }
 {
     let mut rest = old.into_iter();
-    let mut others = pieces.into_iter();
-    while let Some(piece) = others.next() {
-        match piece {
-            Piece::Keep(count) => keep(&mut room, &mut rest, count),
-            Piece::Insert(count, child) => {
-                keep(&mut room, &mut rest, count);
-                room.push_reserved(child);
-            }
-            Piece::Alter(count, plan) => {
-                keep(&mut room, &mut rest, count);
-                if let Some(Child { step, node }) = rest.next() {
-                    let node = change(alloc, node, plan);
-                    room.push_reserved(Child { step, node });
-                }
-            }
-        }
+    let mut others = changes.into_iter();
+    while let Some(change) = others.next() {
+        keep(&mut room, &mut rest, change.kept);
+        pass(&mut rest, change.replaces);
+        room.push_reserved(change.child);
     }
+    let count = rest.len();
+    keep(&mut room, &mut rest, count);
     room
 }
 
@@ -162,5 +94,14 @@ fn keep<R: Narrow>(room: &mut Vec<Child<R>>, rest: &mut IntoIter<Child<R>, Globa
             None => return,
             Some(child) => room.push_reserved(child),
         }
+    }
+}
+
+/// Goes past the next branch, where that is replaced.
+fn pass<R: Narrow>(rest: &mut IntoIter<Child<R>, Global>, replaced: bool)
+    ensures { into_iter_items rest.new ≡ drop (over replaced) (into_iter_items rest.old) }
+{
+    if replaced {
+        rest.next();
     }
 }

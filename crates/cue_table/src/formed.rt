@@ -6,7 +6,8 @@ ghost use Rattle.cue_table.specs.Inner.Loose.{IsBehind, IsLastElement, IsLoose};
 ghost use Rattle.cue_table.specs.Inner.View.{branches, run_branches};
 ghost use Rattle.cue_table.specs.Tree.{behind_last};
 
-use crate::node::{Child, Node, Onward, Run};
+use crate::child::Child;
+use crate::node::{Node, Onward, Run};
 use cue_lattice::Narrow;
 use cue_row::Step;
 
@@ -55,8 +56,8 @@ fn last_element<'a, R: Narrow>(
         return Some((run.last(), &run.node));
     }
     let (child, _) = children.split_last()?;
-    match &child.step {
+    match child.step() {
         Step::Label(_) => None,
-        Step::Index(number) => Some((*number, &child.node)),
+        Step::Index(number) => Some((*number, child.node())),
     }
 }

@@ -12,7 +12,8 @@ ghost use Rattle.cue_table.specs.Inner.Loose.{IsLoose};
 
 use crate::Slot;
 use crate::boxed::Boxed;
-use crate::node::{Child, Node, Onward};
+use crate::child::Child;
+use crate::node::{Node, Onward};
 use cue_lattice::{Memory, Narrow};
 use cue_row::Step;
 use std::alloc::Global;
@@ -30,12 +31,16 @@ pub(crate) enum Hung<R> {
 }
 
 /// One row alone, at its place.
-pub(crate) fn alone<R: Narrow>(alloc: Global, slots: &[Slot], row: R) -> Result<Node<R>, Memory>
+pub(crate) fn alone<R: Narrow>(
+    alloc: Global,
+    slots: &[Slot],
+    row: Boxed<R>,
+) -> Result<Node<R>, Memory>
     ensures { IfOk result (λ node. node ≡ alone (map slot_of slots.now) row) }
 {
     match slots {
         [] => Ok(Node {
-            row: Some(Boxed::new(alloc, row)?),
+            row: Some(row),
             children: Vec::new(alloc),
             rest: None,
         }),
@@ -56,7 +61,7 @@ fn one_step<R: Narrow>(alloc: Global, step: Step, below: Node<R>) -> Result<Node
     ensures { IfOk result (λ above. above ≡ node None (child (step_of step) below none) no_rest) }
 {
     let mut children = Vec::with_capacity(alloc, 1)?;
-    children.push(Child { step, node: below })?;
+    children.push(Child::new(alloc, step, below)?)?;
     Ok(Node {
         row: None,
         children,
@@ -85,18 +90,19 @@ fn against_step<R: Narrow>(node: &Node<R>, step: &Step) -> Ordering
     }
     match node.children.split_last() {
         None => Ordering::Less,
-        Some((last, _)) => last.step.compare(step),
+        Some((last, _)) => last.step().compare(step),
     }
 }
 
 /// Hangs a row in that is to stand behind all others. The recursion is as deep as the place, and
 /// goes along the last branches alone.
+#[cycle(hang)]
 pub(crate) fn hang<R: Narrow>(
     alloc: Global,
     node: &mut Node<R>,
     slots: &[Slot],
-    row: R,
-) -> Result<Hung<R>, Memory>
+    row: Boxed<R>,
+) -> Result<Hung<Boxed<R>>, Memory>
     requires form { IsLoose (IsKept R.refuses R.is_value) node.old }
     requires row { IsKept R.refuses R.is_value row }
     ensures form { IsLoose (IsKept R.refuses R.is_value) node.new }
@@ -108,7 +114,7 @@ pub(crate) fn hang<R: Narrow>(
         if node.taken().is_some() {
             return Ok(Hung::Within);
         }
-        node.row = Some(Boxed::new(alloc, row)?);
+        node.row = Some(row);
         return Ok(Hung::Behind);
     };
     match first {
@@ -116,7 +122,7 @@ pub(crate) fn hang<R: Narrow>(
             Ordering::Less => push_step(alloc, node, step, beyond, row),
             Ordering::Equal => {
                 let at = node.children.len() - 1;
-                hang(alloc, &mut node.children[at].node, beyond, row)
+                hang_below(alloc, &mut node.children[at], beyond, row)
             }
             Ordering::Greater => Ok(Hung::Within),
         },
@@ -133,14 +139,41 @@ pub(crate) fn hang<R: Narrow>(
     }
 }
 
+/// Hangs a row in below a branch, which is written where it stands if it has one owner.
+#[cycle(hang)]
+fn hang_below<R: Narrow>(
+    alloc: Global,
+    child: &mut Child<R>,
+    beyond: &[Slot],
+    row: Boxed<R>,
+) -> Result<Hung<Boxed<R>>, Memory>
+    requires form { IsLoose (IsKept R.refuses R.is_value) child.old.node }
+    requires row { IsKept R.refuses R.is_value row }
+    ensures form { IsLoose (IsKept R.refuses R.is_value) child.new.node }
+    ensures step { child.new.step ≡ child.old.step }
+    ensures depth { tree_depth child.new.node
+        ≤ max (tree_depth child.old.node) (length beyond.now) }
+    ensures hangs { IfOk result
+        (Hangs child.old.node (map slot_of beyond.now) row child.new.node) }
+    ensures err { OnErr result (child.new ≡ child.old) }
+{
+    if let Some(held) = child.own() {
+        return hang(alloc, &mut held.node, beyond, row);
+    }
+    let mut node = child.node().copy(alloc)?;
+    let hung = hang(alloc, &mut node, beyond, row)?;
+    child.renew(alloc, node)?;
+    Ok(hung)
+}
+
 /// Hangs a row in below a step behind all branches.
 fn push_step<R: Narrow>(
     alloc: Global,
     node: &mut Node<R>,
     step: &Step,
     beyond: &[Slot],
-    row: R,
-) -> Result<Hung<R>, Memory>
+    row: Boxed<R>,
+) -> Result<Hung<Boxed<R>>, Memory>
     requires form { IsLoose (IsKept R.refuses R.is_value) node.old }
     requires row { IsKept R.refuses R.is_value row }
     requires last { against_step (step_of step.now) node.old ≡ Less }
@@ -152,7 +185,8 @@ fn push_step<R: Narrow>(
 {
     let step = step.copy(alloc)?;
     let below = alone(alloc, beyond, row)?;
-    node.children.push(Child { step, node: below })?;
+    let child = Child::new(alloc, step, below)?;
+    node.children.push(child)?;
     Ok(Hung::Behind)
 }
 
@@ -162,8 +196,8 @@ fn put_rest<R: Narrow>(
     node: &mut Node<R>,
     number: u64,
     beyond: &[Slot],
-    row: R,
-) -> Result<Hung<R>, Memory>
+    row: Boxed<R>,
+) -> Result<Hung<Boxed<R>>, Memory>
     requires form { IsLoose (IsKept R.refuses R.is_value) node.old }
     requires row { IsKept R.refuses R.is_value row }
     requires none { rest_of node.old ≡ no_rest }

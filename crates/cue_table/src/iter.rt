@@ -8,8 +8,8 @@ ghost use Rattle.cue_table.specs.Spans.{spread};
 ghost use Rattle.cue_table.specs.Inner.Cursors.{spans_left};
 ghost use Rattle.cue_table.specs.Inner.View.{branches};
 
+use crate::child::Child;
 use crate::cursor::Cursor;
-use crate::node::Child;
 use crate::{Branch, Span, StepRef};
 use cue_lattice::Narrow;
 use cue_row::Step;
@@ -155,10 +155,10 @@ impl<'a, R: Narrow> Iterator for Labels<'a, R> {
 
     fn next(&mut self) -> Option<(&'a str, Branch<'a, R>)> {
         let (child, rest) = self.rest.split_first()?;
-        match &child.step {
+        match child.step() {
             Step::Label(text) => {
                 self.rest = rest;
-                Some((text.as_str(), Branch::new(&child.node)))
+                Some((text.as_str(), Branch::new(child.node())))
             }
             // No label stands after an index.
             Step::Index(_) => None,
@@ -202,7 +202,7 @@ impl<'a, R: Narrow> Items<'a, R> {
     {
         let labels = left
             .own
-            .partition_point(|child| matches!(&child.step, Step::Label(_)));
+            .partition_point(|child| matches!(child.step(), Step::Label(_)));
         left.own = left.own.split_at(labels).1;
         Items { left }
     }

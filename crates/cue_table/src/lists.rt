@@ -6,16 +6,16 @@ ghost use Rattle.cue_table.specs.Meet.{IsMet};
 ghost use Rattle.cue_table.specs.Inner.Rests.{AreElementsMet, AreFields, AreMetRests, IsBranch};
 ghost use Rattle.cue_table.specs.Inner.View.{branches};
 
-use crate::fill::{change, change_below};
-use crate::node::{Child, Node, Onward, Run, copy_children, copy_row};
-use crate::plan::{plan_below, plan_row, planned};
+use crate::child::Child;
+use crate::meet::{meet_below, node_met, node_or, row_met, row_or};
+use crate::node::{Node, Onward, Run, copy_children};
 use crate::rest::{fixed, rest, settled};
 use cue_lattice::{Memory, Narrow};
 use cue_row::Step;
 use std::alloc::Global;
 
-/// Two places met, of which one has a rest. All that the left one has is copied.
-#[cycle(plan)]
+/// Two places met, of which one has a rest. It shares what stays below.
+#[cycle(meet)]
 pub(crate) fn list_met<R: Narrow>(
     alloc: Global,
     left: &Node<R>,
@@ -32,21 +32,21 @@ pub(crate) fn list_met<R: Narrow>(
         children: mut others,
         rest: _,
     } = right;
-    let own_row = copy_row(alloc, &left.row)?;
-    let row = plan_row(alloc, &left.row, row)?.or(own_row);
+    let row = row_met(alloc, &left.row, row)?;
+    let row = row_or(alloc, row, &left.row)?;
     let (own, _) = left.children.split_at(field_count(&left.children));
-    let own = copy_children(alloc, own)?;
+    let mut children = copy_children(alloc, own)?;
     others.truncate(field_count(&others));
-    let below = plan_below(alloc, &own, others)?;
+    meet_below(alloc, &mut children, others)?;
     Ok(Node {
         row,
-        children: change_below(alloc, own, below),
+        children,
         rest: Some(Box::new(alloc, onward)?),
     })
 }
 
 /// The elements of two places met, each stretch that is alike in both once, and the rests.
-#[cycle(plan)]
+#[cycle(meet)]
 fn elements_met<R: Narrow>(
     alloc: Global,
     left: &Node<R>,
@@ -90,7 +90,7 @@ fn index_of(number: u64) -> Result<u32, Memory>
 }
 
 /// What two branches are together that may be there.
-#[cycle(plan)]
+#[cycle(meet)]
 fn found_met<R: Narrow>(
     alloc: Global,
     left: Option<&Node<R>>,
@@ -105,20 +105,20 @@ fn found_met<R: Narrow>(
     match (left, right) {
         (None, None) => Ok(None),
         (Some(node), None) | (None, Some(node)) => Ok(Some(node.copy(alloc)?)),
-        (Some(node), Some(other)) => Ok(Some(met(alloc, node, other.copy(alloc)?)?)),
+        (Some(node), Some(other)) => Ok(Some(whole_met(alloc, node, other.copy(alloc)?)?)),
     }
 }
 
-/// Two places met, the left one from a copy.
-#[cycle(plan)]
-fn met<R: Narrow>(alloc: Global, left: &Node<R>, right: Node<R>) -> Result<Node<R>, Memory>
+/// Two places met, shared with the left one where it stays as it is.
+#[cycle(meet)]
+fn whole_met<R: Narrow>(alloc: Global, left: &Node<R>, right: Node<R>) -> Result<Node<R>, Memory>
     requires left { IsTable R.refuses R.is_value left.now }
     requires right { IsTable R.refuses R.is_value right }
     ensures form { IfOk result (IsTable R.refuses R.is_value) }
     ensures refused { IfOk result (IsMet R.refuses left.now right) }
 {
-    let plan = planned(alloc, left, right)?;
-    Ok(change(alloc, left.copy(alloc)?, plan))
+    let met = node_met(alloc, left, right)?;
+    Ok(node_or(alloc, met, left)?)
 }
 
 /// How many of the branches are fields; these stand before the elements.
@@ -126,5 +126,5 @@ fn field_count<R: Narrow>(children: &[Child<R>]) -> usize
     requires { Rise (branches children.now) }
     ensures { AreFields children.now result }
 {
-    children.partition_point(|child| matches!(&child.step, Step::Label(_)))
+    children.partition_point(|child| matches!(child.step(), Step::Label(_)))
 }

@@ -1,18 +1,24 @@
 //! A place that takes another one over. One branch alone is met where it stands, or put in among
-//! the others; what is more than that is planned before anything changes.
-ghost use Rattle.std.specs.Prelude.{◌≡◌, OnErr, OnOk};
+//! the others; where there are more, all that changes is made before anything moves.
+ghost use Rattle.std.specs.Prelude.{◌≡◌, IfOk, OnErr, OnOk};
+ghost use Rattle.std.specs.Option.{option_map};
 ghost use Rattle.cue_row.specs.Steps.{step_of};
 ghost use Rattle.cue_table.specs.Tree.{child, none, no_rest, rest_of};
-ghost use Rattle.cue_table.specs.Form.{AreBranches, IsKept, IsTable};
-ghost use Rattle.cue_table.specs.Meet.{IsMerge, IsMet};
+ghost use Rattle.cue_table.specs.Form.{AreBranches, IsKept, IsRow, IsTable};
+ghost use Rattle.cue_table.specs.Meet.{IsMerge, IsMet, IsUnion};
+ghost use Rattle.cue_table.specs.Refuses.{RowRefuses};
+ghost use Rattle.cue_table.specs.Inner.Changes.{or_old};
+ghost use Rattle.cue_table.specs.Inner.Parts.{or_row};
 ghost use Rattle.cue_table.specs.Inner.View.{branches};
 
-use crate::fill::{change, change_below};
-use crate::node::{Child, Node, place};
-use crate::plan::{plan_below, plan_row, planned};
-use cue_lattice::{Memory, Narrow};
+use crate::boxed::Boxed;
+use crate::changes::changes;
+use crate::child::Child;
+use crate::fill::carry_out;
+use crate::lists::list_met;
+use crate::node::{Node, copy_children, copy_row, place};
+use cue_lattice::{Memory, Narrow, Narrowed};
 use std::alloc::Global;
-use std::mem;
 
 /// Unifies another place into a place, with all below. After want of memory it is as it was.
 #[cycle(meet)]
@@ -30,9 +36,7 @@ pub(crate) fn meet_into<R: Narrow>(
     if left.rest.is_none() && right.rest.is_none() {
         return meet_own(alloc, left, right);
     }
-    let plan = planned(alloc, left, right)?;
-    let old = mem::replace(left, Node::new(alloc));
-    *left = change(alloc, old, plan);
+    *left = list_met(alloc, left, right)?;
     Ok(())
 }
 
@@ -52,7 +56,10 @@ fn meet_own<R: Narrow>(alloc: Global, left: &mut Node<R>, right: Node<R>) -> Res
         children,
         rest: _,
     } = right;
-    let met = plan_row(alloc, &left.row, row)?;
+    if children.is_empty() {
+        return narrow_row(alloc, &mut left.row, row);
+    }
+    let met = row_met(alloc, &left.row, row)?;
     meet_below(alloc, &mut left.children, children)?;
     if let Some(row) = met {
         left.row = Some(row);
@@ -60,9 +67,9 @@ fn meet_own<R: Narrow>(alloc: Global, left: &mut Node<R>, right: Node<R>) -> Res
     Ok(())
 }
 
-/// Unifies other branches into those of a place.
+/// Unifies other branches into those of a place. After want of memory these are as they were.
 #[cycle(meet)]
-fn meet_below<R: Narrow>(
+pub(crate) fn meet_below<R: Narrow>(
     alloc: Global,
     left: &mut Vec<Child<R>>,
     mut right: Vec<Child<R>>,
@@ -73,15 +80,17 @@ fn meet_below<R: Narrow>(
         (branches left.old.items) (branches right.items) (branches left.new.items)) }
     ensures err { OnErr result (left.new.items ≡ left.old.items) }
 {
-    if right.len() == 1 && !left.is_empty() {
+    if left.is_empty() {
+        *left = right;
+        return Ok(());
+    }
+    if right.len() == 1 {
         if let Some(child) = right.pop() {
             return meet_one(alloc, left, child);
         }
     }
-    let below = plan_below(alloc, left, right)?;
-    let old = mem::replace(left, Vec::new(alloc));
-    *left = change_below(alloc, old, below);
-    Ok(())
+    let changes = changes(alloc, left, right)?;
+    carry_out(alloc, left, changes)
 }
 
 /// Unifies one branch into those of a place, where it stands or would stand.
@@ -99,11 +108,198 @@ fn meet_one<R: Narrow>(
         (branches left.new.items)) }
     ensures err { OnErr result (left.new.items ≡ left.old.items) }
 {
-    match place(left, &other.step) {
-        Ok(at) => meet_into(alloc, &mut left[at].node, other.node),
+    match place(left, other.step()) {
+        Ok(at) => {
+            let node = other.into_node(alloc)?;
+            meet_child(alloc, &mut left[at], node)
+        }
         Err(at) => {
             left.insert(at, other)?;
             Ok(())
         }
+    }
+}
+
+/// Unifies a place into a branch: where it stands, unless the branch has another owner.
+#[cycle(meet)]
+fn meet_child<R: Narrow>(alloc: Global, left: &mut Child<R>, right: Node<R>) -> Result<(), Memory>
+    requires left { IsTable R.refuses R.is_value left.old.node }
+    requires right { IsTable R.refuses R.is_value right }
+    ensures step { left.new.step ≡ left.old.step }
+    ensures form { IsTable R.refuses R.is_value left.new.node }
+    ensures ok { OnOk result (IsMet R.refuses left.old.node right left.new.node) }
+    ensures err { OnErr result (left.new ≡ left.old) }
+{
+    if let Some(held) = left.own() {
+        return meet_into(alloc, &mut held.node, right);
+    }
+    if let Some(met) = child_met(alloc, left, right)? {
+        *left = met;
+    }
+    Ok(())
+}
+
+/// A branch unified with a place, unless it stays as it is.
+#[cycle(meet)]
+pub(crate) fn child_met<R: Narrow>(
+    alloc: Global,
+    left: &Child<R>,
+    right: Node<R>,
+) -> Result<Option<Child<R>>, Memory>
+    requires left { IsTable R.refuses R.is_value left.now.node }
+    requires right { IsTable R.refuses R.is_value right }
+    ensures step { IfOk result (λ met. (or_old met left.now).step ≡ left.now.step) }
+    ensures form { IfOk result (λ met. IsTable R.refuses R.is_value (or_old met left.now).node) }
+    ensures refused { IfOk result (λ met.
+        IsMet R.refuses left.now.node right (or_old met left.now).node) }
+{
+    let Some(node) = node_met(alloc, left.node(), right)? else {
+        return Ok(None);
+    };
+    Ok(Some(Child::new(alloc, left.step().copy(alloc)?, node)?))
+}
+
+/// A place unified with another one, unless it stays as it is. It shares what stays below.
+#[cycle(meet)]
+pub(crate) fn node_met<R: Narrow>(
+    alloc: Global,
+    left: &Node<R>,
+    right: Node<R>,
+) -> Result<Option<Node<R>>, Memory>
+    requires left { IsTable R.refuses R.is_value left.now }
+    requires right { IsTable R.refuses R.is_value right }
+    ensures form { IfOk result (λ met. IsTable R.refuses R.is_value (or_old met left.now)) }
+    ensures refused { IfOk result (λ met. IsMet R.refuses left.now right (or_old met left.now)) }
+{
+    if left.rest.is_some() || right.rest.is_some() {
+        return Ok(Some(list_met(alloc, left, right)?));
+    }
+    let row = row_met(alloc, &left.row, right.row)?;
+    let children = below_met(alloc, &left.children, right.children)?;
+    if row.is_none() && children.is_none() {
+        return Ok(None);
+    }
+    Ok(Some(Node {
+        row: row_or(alloc, row, &left.row)?,
+        children: children_or(alloc, children, &left.children)?,
+        rest: None,
+    }))
+}
+
+/// Branches unified with others, unless they stay as they are.
+#[cycle(meet)]
+fn below_met<R: Narrow>(
+    alloc: Global,
+    left: &[Child<R>],
+    right: Vec<Child<R>>,
+) -> Result<Option<Vec<Child<R>>>, Memory>
+    requires left { AreBranches (IsKept R.refuses R.is_value) (branches left.now) }
+    requires right { AreBranches (IsKept R.refuses R.is_value) (branches right.items) }
+    ensures { IfOk result (λ met. IsMerge R.refuses (IsKept R.refuses R.is_value)
+        (branches left.now) (branches right.items)
+        (branches (or_old (option_map (λ list. list.items) met) left.now))) }
+{
+    if left.is_empty() && !right.is_empty() {
+        return Ok(Some(right));
+    }
+    let changes = changes(alloc, left, right)?;
+    if changes.is_empty() {
+        return Ok(None);
+    }
+    let mut met = copy_children(alloc, left)?;
+    carry_out(alloc, &mut met, changes)?;
+    Ok(Some(met))
+}
+
+/// Unifies another row into that of a place, where it stands. After want of memory it is as it was.
+pub(crate) fn narrow_row<R: Narrow>(
+    alloc: Global,
+    left: &mut Option<Boxed<R>>,
+    right: Option<Boxed<R>>,
+) -> Result<(), Memory>
+    requires left { IsRow (IsKept R.refuses R.is_value) left.old }
+    requires right { IsRow (IsKept R.refuses R.is_value) right }
+    ensures form { IsRow (IsKept R.refuses R.is_value) left.new }
+    ensures ok { OnOk result
+        (IsUnion (RowRefuses R.refuses left.old) (RowRefuses R.refuses right)
+        (RowRefuses R.refuses left.new)) }
+    ensures err { OnErr result (left.new ≡ left.old) }
+{
+    let Some(row) = right else {
+        return Ok(());
+    };
+    if let Some(old) = left {
+        return old.narrow(alloc, row);
+    }
+    *left = Some(row);
+    Ok(())
+}
+
+/// The row that will stand at a place, unless it stays as it is.
+pub(crate) fn row_met<R: Narrow>(
+    alloc: Global,
+    left: &Option<Boxed<R>>,
+    right: Option<Boxed<R>>,
+) -> Result<Option<Boxed<R>>, Memory>
+    requires left { IsRow (IsKept R.refuses R.is_value) left.now }
+    requires right { IsRow (IsKept R.refuses R.is_value) right }
+    ensures form { IfOk result (λ row. IsRow (IsKept R.refuses R.is_value) (or_row row left.now)) }
+    ensures refused { IfOk result (λ row.
+        IsUnion (RowRefuses R.refuses left.now) (RowRefuses R.refuses right)
+        (RowRefuses R.refuses (or_row row left.now))) }
+{
+    match (left, right) {
+        (None, row) => Ok(row),
+        (Some(_), None) => Ok(None),
+        (Some(old), Some(row)) => match old.row().narrowed_by(alloc, row.into_row())? {
+            Narrowed::Unchanged => Ok(None),
+            Narrowed::To(met) => {
+                met.known();
+                Ok(Some(Boxed::new(alloc, met)?))
+            }
+        },
+    }
+}
+
+/// The new row, if there is one, and else a copy of the old one.
+pub(crate) fn row_or<R: Narrow>(
+    alloc: Global,
+    new: Option<Boxed<R>>,
+    old: &Option<Boxed<R>>,
+) -> Result<Option<Boxed<R>>, Memory>
+    ensures { IfOk result (λ row. row ≡ or_row new old.now) }
+{
+    match new {
+        None => copy_row(alloc, old),
+        Some(row) => Ok(Some(row)),
+    }
+}
+
+/// The new place, if there is one, and else the old one, with what is below shared.
+pub(crate) fn node_or<R: Narrow>(
+    alloc: Global,
+    new: Option<Node<R>>,
+    old: &Node<R>,
+) -> Result<Node<R>, Memory>
+    ensures { IfOk result (λ node. node ≡ or_old new old.now) }
+{
+    match new {
+        None => old.copy(alloc),
+        Some(node) => Ok(node),
+    }
+}
+
+/// The new branches, if there are some, and else the old ones, shared.
+fn children_or<R: Narrow>(
+    alloc: Global,
+    new: Option<Vec<Child<R>>>,
+    old: &[Child<R>],
+) -> Result<Vec<Child<R>>, Memory>
+    ensures { IfOk result (λ children.
+        children.items ≡ or_old (option_map (λ list. list.items) new) old.now) }
+{
+    match new {
+        None => copy_children(alloc, old),
+        Some(children) => Ok(children),
     }
 }

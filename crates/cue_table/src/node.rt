@@ -10,6 +10,7 @@ ghost use Rattle.cue_table.specs.Inner.View.{branches, last_of, rest_in, run_bra
 ghost use Rattle.cue_table.specs.Inner.Place.{IsGap, IsPlace};
 
 use crate::boxed::Boxed;
+use crate::child::Child;
 use crate::cursor::Cursor;
 use crate::runs::{find_element, find_run};
 use cue_lattice::{Memory, Narrow};
@@ -27,14 +28,6 @@ pub struct Node<R: Narrow> {
     pub(crate) children: Vec<Child<R>>,
     /// How a list goes on behind these branches, where something is known of its further elements.
     pub(crate) rest: Option<Box<Onward<R>>>,
-}
-
-/// A branch at its step.
-#[derive(Drop)]
-#[cycle(node)]
-pub(crate) struct Child<R: Narrow> {
-    pub(crate) step: Step,
-    pub(crate) node: Node<R>,
 }
 
 /// How a list goes on: elements of their own, and what each element is from an index on.
@@ -67,11 +60,11 @@ impl<R: Narrow> Model for Node<R> {
     ghost coded = { tree_code R.code };
 
     ghost use Rattle.cue_table.specs.Inner.View.{tree_of};
-    ghost use Rattle.cue_table.specs.Size.{tree_size};
+    ghost use Rattle.cue_table.specs.Inner.Child.{node_size};
 
     ghost view = { tree_of };
 
-    ghost size = { tree_size };
+    ghost size = { node_size };
 
     ghost use Rattle.cue_table.specs.Inner.Falls.{parts_fall};
 
@@ -163,6 +156,7 @@ impl<R: Narrow> Node<R> {
         Some(node)
     }
 
+    /// An equal place. Its branches are shared.
     #[cycle(copy)]
     pub(crate) fn copy(&self, alloc: Global) -> Result<Node<R>, Memory>
         ensures { IfOk result (λ node. node ≡ self.now) }
@@ -185,18 +179,6 @@ impl<R: Narrow> Onward<R> {
             from,
             node,
         }
-    }
-}
-
-impl<R: Narrow> Child<R> {
-    #[cycle(copy)]
-    pub(crate) fn copy(&self, alloc: Global) -> Result<Child<R>, Memory>
-        ensures { IfOk result (λ copied. copied ≡ self.now) }
-    {
-        Ok(Child {
-            step: self.step.copy(alloc)?,
-            node: self.node.copy(alloc)?,
-        })
     }
 }
 
@@ -232,7 +214,7 @@ pub(crate) fn copy_row<R: Narrow>(
     }
 }
 
-#[cycle(copy)]
+/// The same branches once more, which share what they hold.
 pub(crate) fn copy_children<R: Narrow>(
     alloc: Global,
     children: &[Child<R>],
@@ -241,7 +223,7 @@ pub(crate) fn copy_children<R: Narrow>(
 {
     let mut copied = Vec::with_capacity(alloc, children.len())?;
     for child in children {
-        copied.push(child.copy(alloc)?)?;
+        copied.push(child.copy()?)?;
     }
     Ok(copied)
 }
@@ -295,7 +277,7 @@ pub(crate) fn find<'a, R: Narrow>(children: &'a [Child<R>], step: &Step) -> Opti
         ≡ find (step_of step.now) (branches children.now) }
 {
     match place(children, step) {
-        Ok(at) => Some(&children[at].node),
+        Ok(at) => Some(children[at].node()),
         Err(_) => None,
     }
 }
@@ -306,5 +288,5 @@ pub(crate) fn place<R: Narrow>(children: &[Child<R>], step: &Step) -> Result<usi
     ensures { MatchResult result (IsPlace children.now (step_of step.now))
         (IsGap children.now (step_of step.now)) }
 {
-    children.binary_search_by(|child| child.step.compare(step))
+    children.binary_search_by(|child| child.step().compare(step))
 }

@@ -8,7 +8,8 @@ ghost use Rattle.cue_table.specs.Inner.Place.{IsGap, IsPlace};
 ghost use Rattle.cue_table.specs.Inner.View.{branches, run_branches};
 ghost use Rattle.cue_table.specs.Tree.{below, find, step_into};
 
-use crate::node::{Child, Node, Run, place};
+use crate::child::Child;
+use crate::node::{Node, Run, place};
 use cue_lattice::Narrow;
 use cue_row::Step;
 use std::cmp::Ordering;
@@ -81,7 +82,7 @@ pub(crate) fn find_element<R: Narrow>(children: &[Child<R>], number: u32) -> Opt
         ≡ find (index number) (branches children.now) }
 {
     match element_place(children, number) {
-        Ok(at) => Some(&children[at].node),
+        Ok(at) => Some(children[at].node()),
         Err(_) => None,
     }
 }
@@ -97,7 +98,7 @@ fn alike_among<R: Narrow>(children: &[Child<R>], number: u32) -> u64
     if at >= children.len() {
         return u64::MAX;
     }
-    match &children[at].step {
+    match children[at].step() {
         // No label stands behind an index.
         Step::Label(_) => u64::from(number) + 1,
         Step::Index(next) => u64::from(*next),

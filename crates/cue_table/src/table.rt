@@ -14,9 +14,9 @@ ghost use Rattle.cue_table.specs.RowList.{last_cmp};
 use crate::Branch;
 use crate::boxed::Boxed;
 use crate::chain::{hung_along, last_against, one_branch, rest_alone, single};
-use crate::meet::meet_into;
-use crate::node::{Child, Node};
-use crate::plan::plan_row;
+use crate::child::Child;
+use crate::meet::{meet_into, narrow_row};
+use crate::node::Node;
 use cue_lattice::{Memory, Narrow};
 use cue_row::{Path, Step};
 use std::alloc::Global;
@@ -155,11 +155,8 @@ impl<R: Narrow> Table<R> {
             return Ok(());
         }
         row.known();
-        let Some(met) = plan_row(self.alloc, &root.row, Some(Boxed::new(self.alloc, row)?))? else {
-            return Ok(());
-        };
-        root.row = Some(met);
-        Ok(())
+        let row = Boxed::new(self.alloc, row)?;
+        narrow_row(self.alloc, &mut root.row, Some(row))
     }
 
     /// Unifies a table into each element, from an index on, of the list at a path. After want of
@@ -226,6 +223,7 @@ impl<R: Narrow> Table<R> {
         ensures ok { OnOk result (IsMet R.refuses self.old (under (step_of step) table) self.new) }
         ensures err { OnErr result (self.new ≡ self.old) }
     {
+        let alloc = self.alloc;
         let root = &mut self.root;
         let Table {
             alloc: _,
@@ -234,7 +232,8 @@ impl<R: Narrow> Table<R> {
         if node.taken().is_none() {
             return Ok(());
         }
-        root.children.push(Child { step, node })?;
+        let child = Child::new(alloc, step, node)?;
+        root.children.push(child)?;
         Ok(())
     }
 

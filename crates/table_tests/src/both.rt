@@ -160,6 +160,30 @@ pub fn meets<R: Narrow>(
     )
 }
 
+/// Whether copies of a table that take other rows, one after the other and at once, have both lists
+/// of rows, and the table and a further copy the first one alone.
+pub fn parts_from_copies<R: Narrow>(
+    alloc: Global,
+    left: &[Entry<R>],
+    right: &[Entry<R>],
+) -> Result<bool, Memory> {
+    let table = tree(alloc, left)?;
+    let idle = table.copy(alloc)?;
+    let mut added = table.copy(alloc)?;
+    for entry in right {
+        added.add(&entry.path, &entry.row)?;
+    }
+    let mut met = table.copy(alloc)?;
+    met.meet_with(tree(alloc, right)?)?;
+    let alone = plain(alloc, left)?;
+    Ok(
+        has_rows(alloc, &table, &alone)?
+            && has_rows(alloc, &idle, &alone)?
+            && added.same(&met)
+            && has_both(alloc, left, right, &met)?,
+    )
+}
+
 /// Whether the tree tells two tables apart as the plain list does.
 pub fn tells_apart<R: Narrow>(
     alloc: Global,

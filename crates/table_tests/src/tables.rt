@@ -1,6 +1,7 @@
 //! Each list of rows through the tree and through the plain list.
 use crate::both::{
-    adds, adds_or_stays, below, meets, meets_or_stays, roots, takes_or_stays, tells_apart,
+    adds, adds_or_stays, below, meets, meets_or_stays, parts_from_copies, roots, takes_or_stays,
+    tells_apart,
 };
 use crate::large::{mixes, takes_small_ones};
 use crate::many::{hangs, unifies};
@@ -30,6 +31,20 @@ fn meets_each_two_tables(rt: HostRuntime) -> Result<(), Fail> {
         for right in TABLES {
             assert!(rt;
                 meets(alloc, &rows(alloc, left)?, &rows(alloc, right)?)?,
+                "{left}, {right}"
+            );
+        }
+    }
+    Ok(())
+}
+
+#[test]
+fn writes_to_no_other_copy(rt: HostRuntime) -> Result<(), Fail> {
+    let alloc = rt.alloc();
+    for left in TABLES {
+        for right in TABLES {
+            assert!(rt;
+                parts_from_copies(alloc, &rows(alloc, left)?, &rows(alloc, right)?)?,
                 "{left}, {right}"
             );
         }

@@ -6,9 +6,9 @@ use Rattle.cue_lattice.specs.Path.{step_cmp}
 use Rattle.cue_row.specs.Steps.{step_of}
 use Rattle.cue_table.specs.Form.{IsBelowAll}
 use Rattle.cue_table.specs.Tree.{Children, none, child, find}
-use Rattle.cue_table.specs.Inner.Plan.{past}
+use Rattle.cue_table.specs.Inner.Parts.{past}
 use Rattle.cue_table.specs.Inner.View.{branches}
-use Rattle.cue_table.specs.declared.node.Child.{Child}
+use Rattle.cue_table.specs.Inner.Child.{Child}
 
 -- the first n branches stand before the step
 abbrev pub AreBefore : {R : Type 0} → ℕ → paths.Step → Children R → Type 0
@@ -18,16 +18,16 @@ AreBefore (suc n) step (child next tree children) =
     (step_cmp next step ≡ Less) × AreBefore n step children
 
 -- the branch at the step stands at this place of the list
-pub record IsPlace {R Q : Type 0} (children : List (Child R Q)) (step : paths.Step)
+pub record IsPlace {R : Type 0} (children : List (Child R)) (step : paths.Step)
     (at : ℕ) : Type 0 where
   pub in_range : at < length children
-  pub is_there : (d : Child R Q)
+  pub is_there : (d : Child R)
       → find step (branches children) ≡ Some (slice_index_or children at d).node
-  pub at_step : (d : Child R Q) → step_of (slice_index_or children at d).step ≡ step
+  pub at_step : (d : Child R) → step_of (slice_index_or children at d).step ≡ step
   pub before : AreBefore at step (branches children)
 
 -- no branch is at the step, and one would stand at this place of the list
-pub record IsGap {R Q : Type 0} (children : List (Child R Q)) (step : paths.Step)
+pub record IsGap {R : Type 0} (children : List (Child R)) (step : paths.Step)
     (at : ℕ) : Type 0 where
   pub in_range : at ≤ length children
   pub absent : find step (branches children) ≡ None

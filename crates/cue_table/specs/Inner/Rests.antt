@@ -10,7 +10,7 @@ use Rattle.cue_table.specs.Tree.{branch_at}
 use Rattle.cue_table.specs.Form.{IsTaken, IsTree, AreBranches, AreWithin, IsRestOf}
 use Rattle.cue_table.specs.Inner.Runs.{AreFrom}
 use Rattle.cue_table.specs.Inner.View.{branches, last_of, run_branches}
-use Rattle.cue_table.specs.declared.node.Child.{Child}
+use Rattle.cue_table.specs.Inner.Child.{Child}
 use Rattle.cue_table.specs.declared.node.Onward.{Onward}
 use Rattle.cue_table.specs.declared.node.Run.{Run}
 use Rattle.cue_table.specs.Meet.{IsUnion}
@@ -88,7 +88,7 @@ pub record AreElementsMet {R Q S : Type 0} (refuses : R → S → Type 0) (P : R
       (find_with (onward made.from made.node) (index i) (run_branches made.runs.items))
 
 -- so many of the branches are fields, and the others are elements
-pub record AreFields {R Q : Type 0} (children : List (Child R Q)) (count : ℕ) : Type 0 where
+pub record AreFields {R : Type 0} (children : List (Child R)) (count : ℕ) : Type 0 where
   pub in_range : count ≤ length children
   pub within : AreWithin 0 (branches (take count children))
   pub same : (text : List ℕ) → find (label text) (branches (take count children))

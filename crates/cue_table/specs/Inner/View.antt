@@ -7,12 +7,17 @@ use Rattle.cue_row.specs.declared.step.Step.TheVariants.{Label, Index}
 use Rattle.cue_table.specs.Spans.{Span, field, elements, alike}
 use Rattle.cue_table.specs.Inner.Join.{join}
 use Rattle.cue_table.specs.Tree.{Tree, node, Children, none, child, Rest, no_rest, onward}
-use Rattle.cue_table.specs.declared.node.Child.{Child}
+use Rattle.cue_table.specs.Inner.Child.{Child}
+use Rattle.cue_table.specs.declared.child.Child.TheInside as held
 use Rattle.cue_table.specs.declared.node.Node.TheInside.{Inside}
 use Rattle.cue_table.specs.declared.node.Onward.{Onward}
 use Rattle.cue_table.specs.declared.node.Run.{Run}
 
-abbrev pub branches : {R Q : Type 0} → List (Child R Q) → Children R
+-- a branch as it is held
+abbrev pub child_of : {R Q : Type 0} → held.Inside R Q → Child R
+child_of a = record { step = a.held.value.step; node = a.held.value.node }
+
+abbrev pub branches : {R : Type 0} → List (Child R) → Children R
 branches [] = none
 branches (c ∷ cs) = child (step_of c.step) c.node (branches cs)
 
@@ -49,7 +54,7 @@ abbrev pub span_at : Step → Span
 span_at (Label text) = field text
 span_at (Index number) = elements number 0
 
-abbrev pub spans_in : {R Q : Type 0} → List (Child R Q) → List (Span × Tree R)
+abbrev pub spans_in : {R : Type 0} → List (Child R) → List (Span × Tree R)
 spans_in [] = []
 spans_in (c ∷ cs) = (span_at c.step, c.node) ∷ spans_in cs
 

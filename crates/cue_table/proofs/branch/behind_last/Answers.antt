@@ -12,11 +12,11 @@ returns-in-Label g c =
     let P = IsKept g.R.Narrow.refuses g.R.Narrow.is_value in
     let cut = c.in-Some.ensures.cases.0 in
     let rises = subst (λ cs. Rise (branches cs)) cut (branches_rise P (branches c.args.children.now) c.requires) in
-    sym (ap (λ cs. behind_last (branches cs)) cut ∙ behind_label c.in-Some.field-0-1.now c.in-Some.last.now _ rises (ap step_of c.in-Label.is))
+    sym (ap (λ cs. behind_last (branches cs)) cut ∙ behind_label c.in-Some.field-0-1.now c.in-Some.last.now _ rises (ap step_of (sym c.step.ensures ∙ c.in-Label.is)))
 
 pub returns-in-Index : goal.returns-in-Index
 returns-in-Index g c =
     let P = IsKept g.R.Narrow.refuses g.R.Narrow.is_value in
     let cut = c.in-Some.ensures.cases.0 in
     let rises = subst (λ cs. Rise (branches cs)) cut (branches_rise P (branches c.args.children.now) c.requires) in
-    ap (λ n. n + 1) c.from.ensures ∙ sym (ap (λ cs. behind_last (branches cs)) cut ∙ behind_index c.in-Some.field-0-1.now c.in-Some.last.now _ rises (ap step_of c.in-Index.is))
+    ap (λ n. n + 1) c.from.ensures ∙ sym (ap (λ cs. behind_last (branches cs)) cut ∙ behind_index c.in-Some.field-0-1.now c.in-Some.last.now _ rises (ap step_of (sym c.step.ensures ∙ c.in-Index.is)))

@@ -17,19 +17,19 @@ use Rattle.cue_table.specs.Inner.Join.{join}
 use Rattle.cue_table.specs.Inner.Loose.{AreLoose, IsLoose}
 use Rattle.cue_table.specs.Inner.View.{below_in, branches, rest_in, run_branches, tree_of}
 use Rattle.cue_table.proofs.Appending.{IsLast, step_free, item_loose, hung_last, loose_last, deep_last, not_before_here, not_before_step, not_before_rest, apart_rest, hung_rest, result_taken, taken_found, less_apart, equal_numbers}
-use Rattle.cue_table.proofs.Planning.{free_rest, own_only, own_view}
+use Rattle.cue_table.proofs.Owned.{free_rest, own_only, own_view}
 use Rattle.cue_table.proofs.hang.+hang.Goals as goal
 
-pub returns-then-is_some-clause-hangs : goal.returns-then-is_some-clause-hangs
-returns-then-is_some-clause-hangs g t c =
+pub hang-returns-then-is_some-clause-hangs : goal.hang-returns-then-is_some-clause-hangs
+hang-returns-then-is_some-clause-hangs g t c =
     let P = IsKept g.R.Narrow.refuses g.R.Narrow.is_value in (
       refl,
       not_before_here P c.args.node.now (map slot_of c.args.slots.now) (length-map c.args.slots.now slot_of ∙ c.in_default.ensures.cases)
           (taken_found _ c.taken.result c.args.node.now (sym c.is_some.ensures ∙ c.if-is_some.true) c.taken.ensures) c.requires.form,
     )
 
-pub hang-requires : goal.hang-requires
-hang-requires g t c κs within =
+pub hang-hang_below-requires : goal.hang-hang_below-requires
+hang-hang_below-requires g t c κs within =
     let P = IsKept g.R.Narrow.refuses g.R.Narrow.is_value in
     let cs = c.node.inside.children.items in
     let rest = rest_in c.node.inside.rest in
@@ -44,8 +44,8 @@ hang-requires g t c κs within =
     let one = item_loose P cs n item step last form.1 in
     (search rules, (within.0, (within.1, (one.1, (c.requires.row.0, c.requires.row.1)))))
 
-pub returns-in-Equal-clause-form : goal.returns-in-Equal-clause-form
-returns-in-Equal-clause-form g t c =
+pub hang-returns-in-Equal-clause-form : goal.hang-returns-in-Equal-clause-form
+hang-returns-in-Equal-clause-form g t c =
     let P = IsKept g.R.Narrow.refuses g.R.Narrow.is_value in
     let cs = c.node.inside.children.items in
     let rest = rest_in c.node.inside.rest in
@@ -58,12 +58,12 @@ returns-in-Equal-clause-form g t c =
     let n = c.len-at.result - 1 in
     let last : IsLast cs n item step = record { place = omega (arith, c.len-at.ensures); is = c.index_mut.ensures.value; last = free.1 } in
     let one = item_loose P cs n item step last form.1 in
-    let taken = result_taken c.hang.result item.node c.hang.new.node (map slot_of c.in-Some.beyond.now) c.args.row one.0 c.hang.ensures.hangs c.hang.ensures.err in
-    let own = own_only (branches (slice_set cs n (record { step = item.step; node = c.hang.new.node }))) c.node.inside.rest nothing in
-    (form.0, subst (AreLoose P) (sym own) (loose_last P cs n item c.hang.new.node step last form.1 taken c.hang.ensures.form), form.2)
+    let taken = result_taken c.hang_below.result item c.hang_below.new.child (map slot_of c.in-Some.beyond.now) c.args.row one.0 c.hang_below.ensures.hangs c.hang_below.ensures.err in
+    let own = own_only (branches (slice_set cs n c.hang_below.new.child)) c.node.inside.rest nothing in
+    (form.0, subst (AreLoose P) (sym own) (loose_last P cs n item c.hang_below.new.child step last form.1 c.hang_below.ensures.step taken c.hang_below.ensures.form), form.2)
 
-pub returns-in-Equal-clause-depth : goal.returns-in-Equal-clause-depth
-returns-in-Equal-clause-depth g t c =
+pub hang-returns-in-Equal-clause-depth : goal.hang-returns-in-Equal-clause-depth
+hang-returns-in-Equal-clause-depth g t c =
     let P = IsKept g.R.Narrow.refuses g.R.Narrow.is_value in
     let cs = c.node.inside.children.items in
     let rest = rest_in c.node.inside.rest in
@@ -75,12 +75,12 @@ returns-in-Equal-clause-depth g t c =
     let item = c.index_mut.result.now in
     let n = c.len-at.result - 1 in
     let last : IsLast cs n item step = record { place = omega (arith, c.len-at.ensures); is = c.index_mut.ensures.value; last = free.1 } in
-    let deep = deep_last cs n (length c.in-Some.beyond.now) item c.hang.new.node step last c.hang.ensures.depth in
-    let own = own_only (branches (slice_set cs n (record { step = item.step; node = c.hang.new.node }))) c.node.inside.rest nothing in
+    let deep = deep_last cs n (length c.in-Some.beyond.now) item c.hang_below.new.child step last c.hang_below.ensures.depth in
+    let own = own_only (branches (slice_set cs n c.hang_below.new.child)) c.node.inside.rest nothing in
     omega (arith, deep, ap children_depth own, ap (λ x. tree_depth x) view, ap length c.in-Some.ensures.cases.0)
 
-pub returns-in-Equal-clause-hangs : goal.returns-in-Equal-clause-hangs
-returns-in-Equal-clause-hangs g t c =
+pub hang-returns-in-Equal-clause-hangs : goal.hang-returns-in-Equal-clause-hangs
+hang-returns-in-Equal-clause-hangs g t c =
     let P = IsKept g.R.Narrow.refuses g.R.Narrow.is_value in
     let cs = c.node.inside.children.items in
     let rest = rest_in c.node.inside.rest in
@@ -93,20 +93,20 @@ returns-in-Equal-clause-hangs g t c =
     let n = c.len-at.result - 1 in
     let last : IsLast cs n item step = record { place = omega (arith, c.len-at.ensures); is = c.index_mut.ensures.value; last = free.1 } in
     let beyond : Place = map slot_of c.in-Some.beyond.now in
-    let new = c.hang.new.node in
+    let new = c.hang_below.new.child in
     let row = c.args.row in
-    let all = slice_set cs n (record { step = item.step; node = new }) in
+    let all = slice_set cs n new in
     let place : map slot_of c.args.slots.now ≡ at step ∷ beyond = ap (map slot_of) c.in-Some.ensures.cases.0 ∙ ap (λ s. slot_of s ∷ beyond) c.in-At.is in
     let own = own_only (branches all) c.node.inside.rest nothing in
-    subst (λ x. IfOk c.hang.result (Hangs c.args.node.now (map slot_of c.args.slots.now) row (node c.node.inside.row x rest))) (sym own)
-    (IfOk-weaker c.hang.result (Hangs item.node beyond row new) (Hangs c.args.node.now (map slot_of c.args.slots.now) row (node c.node.inside.row (branches all) rest))
+    subst (λ x. IfOk c.hang_below.result (Hangs c.args.node.now (map slot_of c.args.slots.now) row (node c.node.inside.row x rest))) (sym own)
+    (IfOk-weaker c.hang_below.result (Hangs item.node beyond row new.node) (Hangs c.args.node.now (map slot_of c.args.slots.now) row (node c.node.inside.row (branches all) rest))
     (λ hung h. subst (λ x. Hangs x (map slot_of c.args.slots.now) row (node c.node.inside.row (branches all) rest) hung) view
     (subst (λ p. Hangs (node c.node.inside.row (branches cs) rest) p row (node c.node.inside.row (branches all) rest) hung) (sym place)
     (subst (λ r. Hangs (node c.node.inside.row (branches cs) r) (at step ∷ beyond) row (node c.node.inside.row (branches all) r) hung) (sym free.0)
-    (hung_last P c.node.inside.row cs n item new step beyond row hung last form.1 h)))) c.hang.ensures.hangs)
+    (hung_last P c.node.inside.row cs n item new step beyond row hung last form.1 c.hang_below.ensures.step h)))) c.hang_below.ensures.hangs)
 
-pub returns-in-Greater-clause-hangs : goal.returns-in-Greater-clause-hangs
-returns-in-Greater-clause-hangs g t c =
+pub hang-returns-in-Greater-clause-hangs : goal.hang-returns-in-Greater-clause-hangs
+hang-returns-in-Greater-clause-hangs g t c =
     let P = IsKept g.R.Narrow.refuses g.R.Narrow.is_value in
     let step = step_of c.in-At.step in
     let form : IsLoose P (tree_of c.node.inside) = subst (IsLoose P) (sym c.node.view_is) c.requires.form in
@@ -118,8 +118,8 @@ returns-in-Greater-clause-hangs g t c =
           (subst (λ p. AreBefore p (rows_of (tree_of c.node.inside))) place (subst (λ x. AreBefore (map slot_of c.args.slots.now) (rows_of x)) (sym c.node.view_is) b)),
     )
 
-pub returns-in-Less-cmp-clause-hangs : goal.returns-in-Less-cmp-clause-hangs
-returns-in-Less-cmp-clause-hangs g t c =
+pub hang-returns-in-Less-cmp-clause-hangs : goal.hang-returns-in-Less-cmp-clause-hangs
+hang-returns-in-Less-cmp-clause-hangs g t c =
     let P = IsKept g.R.Narrow.refuses g.R.Narrow.is_value in
     let own = branches c.node.inside.children.items in
     let cs = below_in own (Some c.in-Some-rest.rest) in
@@ -137,8 +137,8 @@ returns-in-Less-cmp-clause-hangs g t c =
           (apart_rest P c.node.inside.row cs m n tree beyond (less_apart m n (order ∙ c.in-Less-cmp.is)) form.2)),
     )
 
-pub returns-in-Equal-cmp-clause-hangs : goal.returns-in-Equal-cmp-clause-hangs
-returns-in-Equal-cmp-clause-hangs g t c =
+pub hang-returns-in-Equal-cmp-clause-hangs : goal.hang-returns-in-Equal-cmp-clause-hangs
+hang-returns-in-Equal-cmp-clause-hangs g t c =
     let P = IsKept g.R.Narrow.refuses g.R.Narrow.is_value in
     let own = branches c.node.inside.children.items in
     let all = below_in own (Some c.in-Some-rest.rest) in
@@ -153,18 +153,18 @@ returns-in-Equal-cmp-clause-hangs g t c =
     let same : m ≡ n = equal_numbers m n (order ∙ c.in-Equal-cmp.is) in
     let old = c.deref_mut.result.now in
     let cs = join own (run_branches old.runs.items) in
-    let new = c.hang-in-Equal-cmp.new.node in
+    let new = c.hang.new.node in
     let row = c.args.row in
     let after = node c.node.inside.row cs (onward old.from new) in
     let full : from old.from ∷ beyond ≡ map slot_of c.args.slots.now = ap (λ (o : Onward _ _). from o.from ∷ beyond) c.deref_mut.ensures.value ∙ ap (λ k. from k ∷ beyond) same ∙ sym place in
     let before : node c.node.inside.row cs (onward old.from old.node) ≡ c.args.node.now = ap (λ (o : Onward _ _). node c.node.inside.row (join own (run_branches o.runs.items)) (onward o.from o.node)) c.deref_mut.ensures.value ∙ now in
-    IfOk-weaker c.hang-in-Equal-cmp.result (Hangs old.node beyond row new) (Hangs c.args.node.now (map slot_of c.args.slots.now) row after)
+    IfOk-weaker c.hang.result (Hangs old.node beyond row new) (Hangs c.args.node.now (map slot_of c.args.slots.now) row after)
     (λ hung h. subst (λ x. Hangs x (map slot_of c.args.slots.now) row after hung) before
     (subst (λ p. Hangs (node c.node.inside.row cs (onward old.from old.node)) p row after hung) full (hung_rest c.node.inside.row cs old.from old.node new beyond row hung h)))
-    c.hang-in-Equal-cmp.ensures.hangs
+    c.hang.ensures.hangs
 
-pub returns-in-Greater-cmp-clause-hangs : goal.returns-in-Greater-cmp-clause-hangs
-returns-in-Greater-cmp-clause-hangs g t c =
+pub hang-returns-in-Greater-cmp-clause-hangs : goal.hang-returns-in-Greater-cmp-clause-hangs
+hang-returns-in-Greater-cmp-clause-hangs g t c =
     let P = IsKept g.R.Narrow.refuses g.R.Narrow.is_value in
     let own = branches c.node.inside.children.items in
     let cs = below_in own (Some c.in-Some-rest.rest) in

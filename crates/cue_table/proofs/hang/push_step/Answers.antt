@@ -11,7 +11,7 @@ use Rattle.cue_table.specs.Inner.Drafts.{against_step}
 use Rattle.cue_table.specs.Inner.Loose.{AreLoose, IsLoose}
 use Rattle.cue_table.specs.Inner.View.{branches, rest_in}
 use Rattle.cue_table.proofs.Appending.{IsPushed, step_free, pushed_rows, pushed_loose, pushed_depth}
-use Rattle.cue_table.proofs.Planning.{free_rest, own_only, own_view}
+use Rattle.cue_table.proofs.Owned.{free_rest, own_only, own_view}
 use Rattle.cue_table.proofs.hang.push_step.Goals as goal
 
 pub returns-clause-form : goal.returns-clause-form
@@ -25,7 +25,7 @@ returns-clause-form g c =
     let own = own_only (branches c.push.new.self.items) c.node.inside.rest nothing in
     let free = step_free step c.node.inside.row (branches cs) rest Less (ap (against_step step) view ∙ c.requires.last) (λ e. cc) in
     let more : IsPushed cs c.push.new.self.items rest step (map slot_of c.args.beyond.now) c.args.row _ =
-    record { all_are = c.in_ok-push.ensures.items; at_step = ap step_of c.in_ok-step.ensures; is_alone = c.in_ok-below.ensures; none = free.0; last = free.1 } in
+    record { all_are = c.in_ok-push.ensures.items; at_step = ap step_of (c.in_ok-child.ensures.step ∙ c.in_ok-step.ensures); is_alone = c.in_ok-child.ensures.node ∙ c.in_ok-below.ensures; none = free.0; last = free.1 } in
     let form : IsLoose P (node c.node.inside.row (branches cs) rest) = subst (IsLoose P) (sym view) c.requires.form in
     (form.0, subst (AreLoose P) (sym own) (pushed_loose P cs c.push.new.self.items rest step (map slot_of c.args.beyond.now) c.args.row _ more form.1 c.requires.row), form.2)
 
@@ -39,7 +39,7 @@ returns-clause-depth g c =
     let own = own_only (branches c.push.new.self.items) c.node.inside.rest nothing in
     let free = step_free step c.node.inside.row (branches cs) rest Less (ap (against_step step) view ∙ c.requires.last) (λ e. cc) in
     let more : IsPushed cs c.push.new.self.items rest step (map slot_of c.args.beyond.now) c.args.row _ =
-    record { all_are = c.in_ok-push.ensures.items; at_step = ap step_of c.in_ok-step.ensures; is_alone = c.in_ok-below.ensures; none = free.0; last = free.1 } in
+    record { all_are = c.in_ok-push.ensures.items; at_step = ap step_of (c.in_ok-child.ensures.step ∙ c.in_ok-step.ensures); is_alone = c.in_ok-child.ensures.node ∙ c.in_ok-below.ensures; none = free.0; last = free.1 } in
     let deep = pushed_depth cs c.push.new.self.items rest step (map slot_of c.args.beyond.now) c.args.row _ more in
     omega (arith, deep, ap children_depth own, ap (λ x. tree_depth x) view, length-map c.args.beyond.now slot_of)
 
@@ -53,6 +53,6 @@ returns-clause-hangs g c =
     let own = own_only (branches c.push.new.self.items) c.node.inside.rest nothing in
     let free = step_free step c.node.inside.row (branches cs) rest Less (ap (against_step step) view ∙ c.requires.last) (λ e. cc) in
     let more : IsPushed cs c.push.new.self.items rest step (map slot_of c.args.beyond.now) c.args.row _ =
-    record { all_are = c.in_ok-push.ensures.items; at_step = ap step_of c.in_ok-step.ensures; is_alone = c.in_ok-below.ensures; none = free.0; last = free.1 } in
+    record { all_are = c.in_ok-push.ensures.items; at_step = ap step_of (c.in_ok-child.ensures.step ∙ c.in_ok-step.ensures); is_alone = c.in_ok-child.ensures.node ∙ c.in_ok-below.ensures; none = free.0; last = free.1 } in
     ap (λ x. rows_of (node c.node.inside.row x rest)) own ∙ pushed_rows c.node.inside.row cs c.push.new.self.items rest step (map slot_of c.args.beyond.now) c.args.row _ more
     ∙ ap (λ t. rows_of t ++ (at step ∷ map slot_of c.args.beyond.now, c.args.row) ∷ []) view

@@ -9,7 +9,7 @@ use Rattle.cue_table.specs.Tree.{node, no_rest, onward, rest_of}
 use Rattle.cue_table.specs.Inner.Loose.{AreLoose, IsLoose}
 use Rattle.cue_table.specs.Inner.View.{branches, rest_in}
 use Rattle.cue_table.proofs.Appending.{alone_depth, alone_taken, alone_loose, put_rows}
-use Rattle.cue_table.proofs.Planning.{no_runs, own_view}
+use Rattle.cue_table.proofs.Owned.{no_runs, own_view}
 use Rattle.cue_table.proofs.hang.put_rest.Goals as goal
 
 pub returns-clause-form : goal.returns-clause-form

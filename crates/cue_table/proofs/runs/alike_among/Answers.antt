@@ -3,9 +3,10 @@ use Rattle.cue_lattice.specs.Path.{index}
 use Rattle.cue_row.specs.Steps.{step_of}
 use Rattle.cue_table.specs.Tree.{child, find}
 use Rattle.cue_table.specs.Inner.Alike.{AreAlike}
+use Rattle.cue_table.specs.Inner.Child.{Child}
 use Rattle.cue_table.specs.Inner.View.{branches}
 use Rattle.cue_table.proofs.Gaps.{alike_alone, alike_before, alike_onward}
-use Rattle.cue_table.proofs.Planning.{past_at}
+use Rattle.cue_table.proofs.Owned.{past_at}
 use Rattle.cue_table.proofs.runs.alike_among.Goals as goal
 
 pub returns-in_default : goal.returns-in_default
@@ -23,7 +24,7 @@ returns-in-Index g c =
     let d = c.index-children-at.result in
     subst (λ n. AreAlike c.args.number n (λ i. find (index i) (branches cs))) (sym c.from-in-Index.ensures)
     (alike_before cs (drop (suc at) cs) c.args.number at c.in-Index.next (get_or cs at d).node c.requires c.in-Err.ensures
-    (past_at at cs d (omega (arith, c.if-at-children.false)) ∙ ap (λ s. child (step_of s) (get_or cs at d).node (branches (drop (suc at) cs))) c.in-Index.is))
+    (past_at at cs d (omega (arith, c.if-at-children.false)) ∙ ap (λ s. child (step_of s) (get_or cs at d).node (branches (drop (suc at) cs))) (ap (λ (x : Child _). x.step) (sym c.index-children-at.is) ∙ sym c.step.ensures ∙ c.in-Index.is)))
 
 pub returns-then-at-children : goal.returns-then-at-children
 returns-then-at-children g c =

@@ -1,0 +1,307 @@
+use Rattle.std.proofs.Common.{arith, take, refl, ap, subst, sym, ◌∙◌, ◌≡◌, [], Some}
+use Rattle.std.proofs.lemmas.List.{nil_from_length}
+use Rattle.std.proofs.lemmas.Result.{on_ok_weaker}
+use Rattle.std.specs.Option.{option_map}
+use Rattle.std.specs.Vec.Iter.{into_iter_items}
+use Rattle.cue_lattice.specs.Path.{index, label}
+use Rattle.cue_row.specs.Steps.{step_of}
+use Rattle.cue_table.specs.Depth.{tree_depth, children_depth}
+use Rattle.cue_table.specs.Form.{IsKept, IsRow, IsTree, AreBranches, AreWithin, Rise}
+use Rattle.cue_table.specs.Meet.{IsMerge, IsMet, IsUnion}
+use Rattle.cue_table.specs.Refuses.{RowRefuses}
+use Rattle.cue_table.specs.Tree.{find, node, no_rest, rest_of, step_into}
+use Rattle.cue_table.specs.Inner.Alike.{AreAlike}
+use Rattle.cue_table.specs.Inner.Changes.{IsChange, or_old}
+use Rattle.cue_table.specs.Inner.Place.{IsPlace, IsGap}
+use Rattle.cue_table.specs.Inner.Parts.{or_row}
+use Rattle.cue_table.specs.Inner.Rests.{AreElementsMet, AreMetRests, IsBranch}
+use Rattle.cue_table.specs.Inner.View.{branches, rest_in, run_branches}
+use Rattle.cue_table.proofs.Aligning.{merged_within, no_rest_there}
+use Rattle.cue_table.proofs.Changing.{adds, alters, at_form, goes_end, goes_on, goes_past, met_at, put_in, stays}
+use Rattle.cue_table.proofs.Fields.{fields_depth, form_take}
+use Rattle.cue_table.proofs.Finding.{branches_rise, tree_rises}
+use Rattle.cue_table.proofs.Merging.{merge_stay, met_taken}
+use Rattle.cue_table.proofs.MetBranches.{met_nodes, met_still, none_is}
+use Rattle.cue_table.proofs.Nodes.{branches_form}
+use Rattle.cue_table.proofs.Owned.{own_only}
+use Rattle.cue_table.proofs.Sweeping.{list_form, list_met, rest_branch, rest_depth, step_branch, step_depth, stretch, sweeps_end, sweeps_gap, sweeps_run}
+use Rattle.cue_table.proofs.+meet.Goals as goal
+use Rattle.cue_table.proofs.+meet.Goals.{meet::meet_own-in-Some+in-Some-1, meet::meet_own-in-Some+in-None-1, meet::meet_own-in_default}
+
+-- ---- the elements of two places
+pub lists::elements_met-alike_to-requires : goal.lists::elements_met-alike_to-requires
+lists::elements_met-alike_to-requires g t c = tree_rises (IsKept g.R.Narrow.refuses g.R.Narrow.is_value) c.args.left.now c.requires.left
+
+pub lists::elements_met-alike_to-requires-in-loop-at : goal.lists::elements_met-alike_to-requires-in-loop-at
+lists::elements_met-alike_to-requires-in-loop-at g t c = tree_rises (IsKept g.R.Narrow.refuses g.R.Narrow.is_value) c.args.right.now c.requires.right
+
+pub lists::elements_met-element-requires : goal.lists::elements_met-element-requires
+lists::elements_met-element-requires g t c = tree_rises (IsKept g.R.Narrow.refuses g.R.Narrow.is_value) c.args.left.now c.requires.left
+
+pub lists::elements_met-element-requires-in-loop-at : goal.lists::elements_met-element-requires-in-loop-at
+lists::elements_met-element-requires-in-loop-at g t c = tree_rises (IsKept g.R.Narrow.refuses g.R.Narrow.is_value) c.args.right.now c.requires.right
+
+pub lists::elements_met-found_met-requires : goal.lists::elements_met-found_met-requires
+lists::elements_met-found_met-requires g t c κs within =
+    let P = IsKept g.R.Narrow.refuses g.R.Narrow.is_value in
+    let deep = step_depth c.args.right.now (index c.in_ok-first.first) _ c.element-in-loop-at.ensures in
+    (omega (arith, c.decreases, deep), (within.0, (within.1, (step_branch P c.args.left.now (index c.in_ok-first.first) _ c.requires.left c.element.ensures, step_branch P c.args.right.now (index c.in_ok-first.first) _ c.requires.right c.element-in-loop-at.ensures))))
+
+pub lists::elements_met-loop-at-preserved-in_ok-push : goal.lists::elements_met-loop-at-preserved-in_ok-push
+lists::elements_met-loop-at-preserved-in_ok-push g t c =
+    let r = g.R.Narrow.refuses in
+    let v = g.R.Narrow.is_value in
+    let left = c.args.left.now in
+    let right = c.args.right.now in
+    let first = c.in_ok-first.ensures.same in
+    let alike =
+    stretch r left right c.max-fixed.result c.loop-at.at c.alike_to.result c.alike_to-in-loop-at.result c.min-end.result c.in_ok-element.element _ _ c.loop-at-test.true
+    (subst (λ n. AreAlike n c.alike_to.result (λ i. step_into left (index i))) first c.alike_to.ensures) (subst (λ n. AreAlike n c.alike_to-in-loop-at.result (λ i. step_into right (index i))) first c.alike_to-in-loop-at.ensures)
+    (omega (arith, c.min-end.ensures, c.min.ensures)) (c.element.ensures ∙ ap (λ n. step_into left (index n)) first) (c.element-in-loop-at.ensures ∙ ap (λ n. step_into right (index n)) first) c.in_ok-element.ensures.refused in
+    sweeps_run r v left right c.max-fixed.result c.loop-at.runs.items c.push.new.self.items _ c.loop-at.at c.min-end.result c.in_ok-element.element c.loop-at.invariant alike c.in_ok-element.ensures.form c.in-Some.is
+    c.in_ok-push.ensures.items first (omega (arith, first, c.in_ok-last.ensures.same)) (omega (arith, c.in_ok-last.ensures.same, c.in_ok-last.ensures.word))
+
+pub lists::elements_met-loop-at-preserved : goal.lists::elements_met-loop-at-preserved
+lists::elements_met-loop-at-preserved g t c =
+    let r = g.R.Narrow.refuses in
+    let v = g.R.Narrow.is_value in
+    let left = c.args.left.now in
+    let right = c.args.right.now in
+    let first = c.in_ok-first.ensures.same in
+    let alike =
+    stretch r left right c.max-fixed.result c.loop-at.at c.alike_to.result c.alike_to-in-loop-at.result c.min-end.result c.in_ok-element.element _ _ c.loop-at-test.true
+    (subst (λ n. AreAlike n c.alike_to.result (λ i. step_into left (index i))) first c.alike_to.ensures) (subst (λ n. AreAlike n c.alike_to-in-loop-at.result (λ i. step_into right (index i))) first c.alike_to-in-loop-at.ensures)
+    (omega (arith, c.min-end.ensures, c.min.ensures)) (c.element.ensures ∙ ap (λ n. step_into left (index n)) first) (c.element-in-loop-at.ensures ∙ ap (λ n. step_into right (index n)) first) c.in_ok-element.ensures.refused in
+    sweeps_gap r v left right c.max-fixed.result c.loop-at.runs.items c.loop-at.at c.min-end.result c.in_ok-element.element c.loop-at.invariant alike c.in_default.is
+
+pub lists::elements_met-found_met-requires-2 : goal.lists::elements_met-found_met-requires-2
+lists::elements_met-found_met-requires-2 g t c κs within =
+    let P = IsKept g.R.Narrow.refuses g.R.Narrow.is_value in
+    let deep = rest_depth c.args.right.now _ c.rest-2.ensures in
+    (omega (arith, c.decreases, deep), (within.0, (within.1, (rest_branch P c.args.left.now _ c.requires.left c.rest.ensures, rest_branch P c.args.right.now _ c.requires.right c.rest-2.ensures))))
+
+pub lists::elements_met-returns-in-Some-2 : goal.lists::elements_met-returns-in-Some-2
+lists::elements_met-returns-in-Some-2 g t c =
+    let r = g.R.Narrow.refuses in
+    sweeps_end r g.R.Narrow.is_value c.args.left.now c.args.right.now c.max-fixed.result c.loop-at.at c.loop-at.runs.items (option_map (λ node. node.now) c.rest.result) (option_map (λ node. node.now) c.rest-2.result) c.in-Some-2.node c.settled.result c.loop-at.invariant c.loop-at-test.false
+    c.requires.left c.requires.right (omega (arith, c.fixed.ensures, c.max-fixed.ensures)) (omega (arith, c.fixed-2.ensures, c.max-fixed.ensures)) c.rest.ensures c.rest-2.ensures
+    (subst (λ o. AreMetRests r (option_map (λ node. node.now) c.rest.result) (option_map (λ node. node.now) c.rest-2.result) o) c.in-Some-2.is c.in_ok-node.ensures.refused) c.settled.ensures
+
+-- ---- what changes in a list of branches
+pub changes::changed_by-place_near-requires : goal.changes::changed_by-place_near-requires
+changes::changed_by-place_near-requires g t c = branches_rise (IsKept g.R.Narrow.refuses g.R.Narrow.is_value) (branches c.args.left.now) c.requires.left
+
+pub changes::changed_by-child_met-requires : goal.changes::changed_by-child_met-requires
+changes::changed_by-child_met-requires g t c κs within =
+    let r = g.R.Narrow.refuses in
+    let v = g.R.Narrow.is_value in
+    let place : IsPlace c.args.left.now (step_of c.args.other.step) c.in-Ok.kept = subst (λ s. IsPlace c.args.left.now (step_of s) c.in-Ok.kept) c.step.ensures c.in-Ok.ensures in
+    let deep = ap tree_depth c.in_ok-other-in-Ok.ensures in
+    (omega (arith, c.decreases, deep), (within.0, (within.1, (at_form r v c.args.left.now c.in-Ok.kept c.branch_at.result.now c.requires.left place.in_range c.branch_at.ensures, subst (IsTree (IsKept r v)) (sym c.in_ok-other-in-Ok.ensures) c.requires.right))))
+
+pub changes::changed_by-returns-in_default : goal.changes::changed_by-returns-in_default
+changes::changed_by-returns-in_default g t c =
+    let r = g.R.Narrow.refuses in
+    let place : IsPlace c.args.left.now (step_of c.args.other.step) c.in-Ok.kept = subst (λ s. IsPlace c.args.left.now (step_of s) c.in-Ok.kept) c.step.ensures c.in-Ok.ensures in
+    let d = c.branch_at.result.now in
+    stays r g.R.Narrow.is_value c.args.left.now c.args.other d c.in-Ok.kept place c.branch_at.ensures
+    (subst (λ n. IsMet r d.node n d.node) c.in_ok-other-in-Ok.ensures
+    (subst (λ met. IsMet r d.node c.in_ok-other-in-Ok.other (or_old met d).node) c.in_default.is c.in_ok-child-in-Ok.ensures.refused))
+
+pub changes::changed_by-returns-in-Err : goal.changes::changed_by-returns-in-Err
+changes::changed_by-returns-in-Err g t c =
+    adds g.R.Narrow.refuses g.R.Narrow.is_value c.args.left.now c.args.other c.in-Err.kept c.requires.left (subst (λ s. IsGap c.args.left.now (step_of s) c.in-Err.kept) c.step.ensures c.in-Err.ensures)
+
+pub changes::changed_by-returns-in-Some : goal.changes::changed_by-returns-in-Some
+changes::changed_by-returns-in-Some g t c =
+    let r = g.R.Narrow.refuses in
+    let v = g.R.Narrow.is_value in
+    let place : IsPlace c.args.left.now (step_of c.args.other.step) c.in-Ok.kept = subst (λ s. IsPlace c.args.left.now (step_of s) c.in-Ok.kept) c.step.ensures c.in-Ok.ensures in
+    let d = c.branch_at.result.now in
+    let e = c.in-Some.child in
+    alters r v c.args.left.now c.args.other d e c.in-Ok.kept c.requires.left place c.branch_at.ensures
+    (subst (λ met. (or_old met d).step ≡ d.step) c.in-Some.is c.in_ok-child-in-Ok.ensures.step)
+    (subst (λ met. IsTree (IsKept r v) (or_old met d).node) c.in-Some.is c.in_ok-child-in-Ok.ensures.form)
+    (subst (λ n. IsMet r d.node n e.node) c.in_ok-other-in-Ok.ensures
+    (subst (λ met. IsMet r d.node c.in_ok-other-in-Ok.other (or_old met d).node) c.in-Some.is c.in_ok-child-in-Ok.ensures.refused))
+
+pub changes::changes-behind-rest-requires : goal.changes::changes-behind-rest-requires
+changes::changes-behind-rest-requires g t c =
+    let r = g.R.Narrow.refuses in
+    let change : IsChange r (IsKept r g.R.Narrow.is_value) c.loop-other.rest.now c.in-Some.other (Some c.in-Some-2.change) =
+    subst (IsChange r (IsKept r g.R.Narrow.is_value) c.loop-other.rest.now c.in-Some.other) c.in-Some-2.is c.in_ok-change.ensures in
+    (change.fit [] tt).0
+
+pub changes::changes-loop-other-preserved-in-Continue-branch-4 : goal.changes::changes-loop-other-preserved-in-Continue-branch-4
+changes::changes-loop-other-preserved-in-Continue-branch-4 g t c =
+    goes_on g.R.Narrow.refuses g.R.Narrow.is_value c.args.left.now c.args.right.items c.loop-other.rest.now (into_iter_items c.loop-other.others) (into_iter_items c.next.new.self) c.behind-rest.result.now c.loop-other.changes.items c.push.new.self.items c.in-Some.other c.in-Some-2.change c.in_ok-change.field-0
+    c.loop-other.invariant c.in-Some.ensures.items c.in_ok-change.ensures c.in-Some-2.is c.behind-rest.ensures c.in_ok-push.ensures.items
+
+pub changes::changes-loop-other-preserved : goal.changes::changes-loop-other-preserved
+changes::changes-loop-other-preserved g t c =
+    goes_past g.R.Narrow.refuses g.R.Narrow.is_value c.args.left.now c.args.right.items c.loop-other.rest.now (into_iter_items c.loop-other.others) (into_iter_items c.next.new.self) c.loop-other.changes.items c.in-Some.other c.in_ok-change.field-0
+    c.loop-other.invariant c.in-Some.ensures.items c.in_ok-change.ensures c.in_default-2.is
+
+pub changes::changes-returns-clause-fit : goal.changes::changes-returns-clause-fit
+changes::changes-returns-clause-fit g t c =
+    (goes_end g.R.Narrow.refuses g.R.Narrow.is_value c.args.left.now c.args.right.items c.loop-other.rest.now (into_iter_items c.loop-other.others) c.loop-other.changes.items c.loop-other.invariant (sym c.loop-other.others.rest.ok.0 ∙ c.in_default.ensures.cases.0)).0
+
+pub changes::changes-returns-clause-union : goal.changes::changes-returns-clause-union
+changes::changes-returns-clause-union g t c =
+    (goes_end g.R.Narrow.refuses g.R.Narrow.is_value c.args.left.now c.args.right.items c.loop-other.rest.now (into_iter_items c.loop-other.others) c.loop-other.changes.items c.loop-other.invariant (sym c.loop-other.others.rest.ok.0 ∙ c.in_default.ensures.cases.0)).1
+
+-- ---- two branches that may be there
+pub lists::whole_met-returns-clause-form : goal.lists::whole_met-returns-clause-form
+lists::whole_met-returns-clause-form g t c = subst (IsTree (IsKept g.R.Narrow.refuses g.R.Narrow.is_value)) (sym c.in_ok-node_or.ensures) c.in_ok-met.ensures.form
+
+pub lists::whole_met-returns-clause-refused : goal.lists::whole_met-returns-clause-refused
+lists::whole_met-returns-clause-refused g t c = subst (IsMet g.R.Narrow.refuses c.args.left.now c.args.right) (sym c.in_ok-node_or.ensures) c.in_ok-met.ensures.refused
+
+pub lists::found_met-returns-in_ok-whole_met-in-Some-Some-clause-form : goal.lists::found_met-returns-in_ok-whole_met-in-Some-Some-clause-form
+lists::found_met-returns-in_ok-whole_met-in-Some-Some-clause-form g t c =
+    let left = subst (λ o. IsBranch (IsKept g.R.Narrow.refuses g.R.Narrow.is_value) (option_map (λ node. node.now) o)) c.in-Some-Some.is-0 c.requires.left in
+    (met_taken g.R.Narrow.refuses g.R.Narrow.is_value c.in-Some-Some.node.now c.in_ok-copy-in-Some-Some.field-0 c.in_ok-whole_met-in-Some-Some.field-0 left.0 left.1 c.in_ok-whole_met-in-Some-Some.ensures.refused, c.in_ok-whole_met-in-Some-Some.ensures.form)
+
+-- ---- two places of which one has a rest
+pub lists::list_met-field_count-requires : goal.lists::list_met-field_count-requires
+lists::list_met-field_count-requires g t c =
+    subst (λ cs. Rise (branches cs)) (sym c.deref-2.ensures.value)
+    (branches_rise (IsKept g.R.Narrow.refuses g.R.Narrow.is_value) (branches c.left.inside.children.items) (branches_form (IsKept g.R.Narrow.refuses g.R.Narrow.is_value) c.left.inside c.args.left.now c.left.view_is c.requires.left))
+
+pub lists::list_met-field_count-requires-2 : goal.lists::list_met-field_count-requires-2
+lists::list_met-field_count-requires-2 g t c =
+    subst (λ cs. Rise (branches cs)) (sym c.deref-3.ensures.value)
+    (branches_rise (IsKept g.R.Narrow.refuses g.R.Narrow.is_value) (branches c.right.inside.children.items) (branches_form (IsKept g.R.Narrow.refuses g.R.Narrow.is_value) c.right.inside c.args.right c.right.view_is c.requires.right))
+
+pub lists::list_met-meet_below-requires : goal.lists::list_met-meet_below-requires
+lists::list_met-meet_below-requires g t c κs within =
+    let P = IsKept g.R.Narrow.refuses g.R.Narrow.is_value in
+    let own = c.in_ok-children.ensures ∙ c.split_at.ensures.front ∙ ap (take c.field_count.result) c.deref.ensures.value in
+    let deep = fields_depth c.right.inside c.args.right c.field_count-2.result c.right.view_is in
+    let cut = ap (λ cs. children_depth (branches cs)) c.truncate.ensures.items in (
+      omega (arith, c.decreases, deep, cut),
+      (
+        within.0,
+        (
+          within.1,
+          (
+            subst (λ cs. AreBranches P (branches cs)) (sym own) (form_take P c.left.inside.children.items c.field_count.result (branches_form P c.left.inside c.args.left.now c.left.view_is c.requires.left)),
+            subst (λ cs. AreBranches P (branches cs)) (sym c.truncate.ensures.items) (form_take P c.right.inside.children.items c.field_count-2.result (branches_form P c.right.inside c.args.right c.right.view_is c.requires.right)),
+          ),
+        ),
+      ),
+    )
+
+pub lists::list_met-returns-clause-form : goal.lists::list_met-returns-clause-form
+lists::list_met-returns-clause-form g t c =
+    let r = g.R.Narrow.refuses in
+    let P = IsKept r g.R.Narrow.is_value in
+    let made = c.in_ok-new.field-0.value in
+    let elements = subst (λ o. AreElementsMet r P c.args.left.now c.args.right o) (sym c.in_ok-new.ensures.ok) c.in_ok-onward.ensures in
+    let own = c.in_ok-children.ensures ∙ c.split_at.ensures.front ∙ ap (take c.field_count.result) (c.deref.ensures.value ∙ sym c.deref-2.ensures.value) in
+    let others = c.truncate.ensures.items ∙ ap (take c.field_count-2.result) (sym c.deref-3.ensures.value) in
+    let merge : IsMerge r P (branches c.in_ok-children.children.items) (branches c.truncate.new.self.items) (branches c.meet_below.new.left.items) = c.in_ok-meet_below.ensures.ok in
+    let within =
+    merged_within r g.R.Narrow.is_value 0 (branches c.in_ok-children.children.items) (branches c.truncate.new.self.items) (branches c.meet_below.new.left.items)
+    (subst (λ cs. AreWithin 0 (branches cs)) (sym own) c.field_count.ensures.within) (subst (λ cs. AreWithin 0 (branches cs)) (sym others) c.field_count-2.ensures.within) merge in
+    list_form P c.in_ok-row-2.row (branches c.meet_below.new.left.items) (run_branches made.runs.items) made.from made.node
+    (subst (IsRow P) (sym c.in_ok-row-2.ensures) c.in_ok-row.ensures.form) merge.form within elements.form elements.indexes elements.rest
+
+pub lists::list_met-returns-clause-refused : goal.lists::list_met-returns-clause-refused
+lists::list_met-returns-clause-refused g t c =
+    let r = g.R.Narrow.refuses in
+    let P = IsKept r g.R.Narrow.is_value in
+    let made = c.in_ok-new.field-0.value in
+    let elements = subst (λ o. AreElementsMet r P c.args.left.now c.args.right o) (sym c.in_ok-new.ensures.ok) c.in_ok-onward.ensures in
+    let own = c.in_ok-children.ensures ∙ c.split_at.ensures.front ∙ ap (take c.field_count.result) (c.deref.ensures.value ∙ sym c.deref-2.ensures.value) in
+    let others = c.truncate.ensures.items ∙ ap (take c.field_count-2.result) (sym c.deref-3.ensures.value) in
+    let merge : IsMerge r P (branches c.in_ok-children.children.items) (branches c.truncate.new.self.items) (branches c.meet_below.new.left.items) = c.in_ok-meet_below.ensures.ok in
+    let within =
+    merged_within r g.R.Narrow.is_value 0 (branches c.in_ok-children.children.items) (branches c.truncate.new.self.items) (branches c.meet_below.new.left.items)
+    (subst (λ cs. AreWithin 0 (branches cs)) (sym own) c.field_count.ensures.within) (subst (λ cs. AreWithin 0 (branches cs)) (sym others) c.field_count-2.ensures.within) merge in
+    list_met r P c.left.inside c.right.inside c.args.left.now c.args.right c.in_ok-children.children.items c.truncate.new.self.items c.in_ok-row-2.row (branches c.meet_below.new.left.items) made c.left.view_is c.right.view_is
+    (λ text. ap (λ cs. find (label text) (branches cs)) own ∙ c.field_count.ensures.same text ∙ ap (λ cs. find (label text) (branches cs)) c.deref-2.ensures.value)
+    (λ text. ap (λ cs. find (label text) (branches cs)) others ∙ c.field_count-2.ensures.same text ∙ ap (λ cs. find (label text) (branches cs)) c.deref-3.ensures.value)
+    (subst (λ o. IsUnion (RowRefuses r c.left.inside.row) (RowRefuses r c.right.inside.row) (RowRefuses r o)) (sym c.in_ok-row-2.ensures) c.in_ok-row.ensures.refused)
+    merge within elements
+
+-- ---- a place that takes another one over
+pub meet::meet_own-returns-then-is_empty-clause-ok : goal.meet::meet_own-returns-then-is_empty-clause-ok
+meet::meet_own-returns-then-is_empty-clause-ok g t c =
+    let r = g.R.Narrow.refuses in
+    let P = IsKept r g.R.Narrow.is_value in
+    let cs = c.left.inside.children.items in
+    let left : rest_in c.left.inside.rest ≡ no_rest = ap rest_of c.left.view_is ∙ c.requires.left_rest in
+    let right : rest_in c.right.inside.rest ≡ no_rest = ap rest_of c.right.view_is ∙ c.requires.right_rest in
+    let own = own_only (branches cs) c.left.inside.rest left in
+    let nothing = nil_from_length c.right.inside.children.items (grind (arith, c.is_empty.ensures, c.if-is_empty.true, c.right.inside.children.ok.0)) in
+    let merge : IsMerge r P (branches cs) (branches c.right.inside.children.items) (branches cs) = subst (λ xs. IsMerge r P (branches cs) (branches xs) (branches cs)) (sym nothing) (merge_stay r P (branches cs) (branches_form P c.left.inside c.args.left.now c.left.view_is c.requires.left)) in
+    on_ok_weaker c.narrow_row.result
+    (λ met. met_nodes r P c.left.inside c.right.inside c.args.left.now c.args.right _ c.narrow_row.new.left (branches cs) c.left.view_is c.right.view_is left right met merge (λ i. node c.narrow_row.new.left (own i) (left i))) c.narrow_row.ensures.ok
+
+pub meet::meet_own-returns-clause-ok : goal.meet::meet_own-returns-clause-ok
+meet::meet_own-returns-clause-ok g t c =
+    let cs = c.meet_below.new.left.items in
+    let left : rest_in c.left.inside.rest ≡ no_rest = ap rest_of c.left.view_is ∙ c.requires.left_rest in
+    let right : rest_in c.right.inside.rest ≡ no_rest = ap rest_of c.right.view_is ∙ c.requires.right_rest in
+    let own = own_only (branches cs) c.left.inside.rest left in
+    let met = met_nodes g.R.Narrow.refuses (IsKept g.R.Narrow.refuses g.R.Narrow.is_value) c.left.inside c.right.inside c.args.left.now c.args.right c.match-met-2.left (or_row c.in_ok-met.met c.left.inside.row) (branches cs) c.left.view_is c.right.view_is
+    left right c.in_ok-met.ensures.refused c.in_ok-meet_below.ensures.ok in
+    elim c.match-met-2.branch [
+      | meet::meet_own-in-Some+in-Some-1 w ↦ met (w.left-is ∙ (λ i. node (or_row (sym w.in-Some.is i) c.left.inside.row) (own i) (left i)))
+      | meet::meet_own-in-Some+in-None-1 w ↦ met (w.left-is ∙ (λ i. node (or_row (sym w.in-Some.is i) c.left.inside.row) (own i) (left i)))
+      | meet::meet_own-in_default w ↦ met (w.left-is ∙ (λ i. node (or_row (sym w.in_default.is i) c.left.inside.row) (own i) (left i)))
+    ]
+
+pub meet::meet_one-place-requires : goal.meet::meet_one-place-requires
+meet::meet_one-place-requires g t c = rw c.deref.ensures.value (branches_rise (IsKept g.R.Narrow.refuses g.R.Narrow.is_value) (branches c.args.left.now.items) c.requires.left)
+
+pub meet::meet_one-meet_child-requires : goal.meet::meet_one-meet_child-requires
+meet::meet_one-meet_child-requires g t c κs within =
+    let r = g.R.Narrow.refuses in
+    let v = g.R.Narrow.is_value in
+    let place : IsPlace c.args.left.now.items (step_of c.args.other.step) c.in-Ok.at = subst (λ s. IsPlace c.args.left.now.items (step_of s) c.in-Ok.at) c.step.ensures (rw c.deref.ensures.value at c.in-Ok.ensures) in
+    let mine = c.requires.right in
+    let deep = ap tree_depth c.in_ok-node-in-Ok.ensures in
+    (omega (arith, c.decreases, deep), (within.0, (within.1, (at_form r v c.args.left.now.items c.in-Ok.at c.index_mut.result.now c.requires.left place.in_range c.index_mut.ensures.value, subst (IsTree (IsKept r v)) (sym c.in_ok-node-in-Ok.ensures) mine.2))))
+
+pub meet::meet_one-returns-in_ok-node-in-Ok-clause-ok : goal.meet::meet_one-returns-in_ok-node-in-Ok-clause-ok
+meet::meet_one-returns-in_ok-node-in-Ok-clause-ok g t c =
+    let r = g.R.Narrow.refuses in
+    let place : IsPlace c.args.left.now.items (step_of c.args.other.step) c.in-Ok.at = subst (λ s. IsPlace c.args.left.now.items (step_of s) c.in-Ok.at) c.step.ensures (rw c.deref.ensures.value at c.in-Ok.ensures) in
+    on_ok_weaker c.meet_child.result
+    (λ met. met_at r g.R.Narrow.is_value c.args.left.now.items c.args.other c.index_mut.result.now c.meet_child.new.left c.in-Ok.at c.requires.left c.requires.right place c.index_mut.ensures.value
+    c.meet_child.ensures.step c.meet_child.ensures.form (subst (λ n. IsMet r c.index_mut.result.now.node n c.meet_child.new.left.node) c.in_ok-node-in-Ok.ensures met)) c.meet_child.ensures.ok
+
+pub meet::meet_one-returns-in_ok-insert-in-Err-clause-ok : goal.meet::meet_one-returns-in_ok-insert-in-Err-clause-ok
+meet::meet_one-returns-in_ok-insert-in-Err-clause-ok g t c =
+    let gap : IsGap c.args.left.now.items (step_of c.args.other.step) c.in-Err.at = subst (λ s. IsGap c.args.left.now.items (step_of s) c.in-Err.at) c.step.ensures (rw c.deref.ensures.value at c.in-Err.ensures) in
+    put_in g.R.Narrow.refuses g.R.Narrow.is_value c.args.left.now.items c.insert.new.self.items c.args.other c.in-Err.at c.requires.left c.requires.right gap c.in_ok-insert-in-Err.ensures.items
+
+-- ---- a place that stays as it is, or another one
+pub meet::node_met-returns-then-is_none-2-clause-refused : goal.meet::node_met-returns-then-is_none-2-clause-refused
+meet::node_met-returns-then-is_none-2-clause-refused g t c =
+    let r = g.R.Narrow.refuses in
+    let P = IsKept r g.R.Narrow.is_value in
+    let a = c.left.inside in
+    let b = c.right.inside in
+    let list = c.in_ok-children.children in
+    let none = none_is list c.is_none-then-is_none.result c.if-is_none-2.true c.is_none-then-is_none.ensures in
+    let after = or_old (option_map (λ list. list.items) list) c.deref.result.now in
+    met_still r P a b c.args.left.now c.args.right c.in_ok-row.row (branches after) c.left.view_is c.right.view_is (no_rest_there a.rest (sym c.if-is_some.ensures)) (no_rest_there b.rest (sym c.if-is_some-2.ensures))
+    (none_is c.in_ok-row.row c.is_none.result c.if-is_none.true c.is_none.ensures)
+    (ap (λ l. branches (or_old (option_map (λ list. list.items) l) c.deref.result.now)) none ∙ ap branches c.deref.ensures.value) c.in_ok-row.ensures.refused
+    (subst (λ cs. IsMerge r P (branches cs) (branches b.children.items) (branches after)) c.deref.ensures.value c.in_ok-children.ensures)
+
+pub meet::node_met-returns-clause-refused : goal.meet::node_met-returns-clause-refused
+meet::node_met-returns-clause-refused g t c =
+    let r = g.R.Narrow.refuses in
+    let a = c.left.inside in
+    let b = c.right.inside in
+    let left = no_rest_there a.rest (sym c.if-is_some.ensures) in
+    let right = no_rest_there b.rest (sym c.if-is_some-2.ensures) in
+    let items = c.in_ok-children_or.ensures ∙ ap (or_old (option_map (λ list. list.items) c.in_ok-children.children)) c.deref-2.ensures.value in
+    met_nodes r (IsKept r g.R.Narrow.is_value) a b c.args.left.now c.args.right _ c.in_ok-row_or.field-0 (branches c.in_ok-children_or.field-0.items) c.left.view_is c.right.view_is left right
+    (subst (λ row. IsUnion (RowRefuses r a.row) (RowRefuses r b.row) (RowRefuses r row)) (sym c.in_ok-row_or.ensures) c.in_ok-row.ensures.refused)
+    (subst (λ cs. IsMerge r (IsKept r g.R.Narrow.is_value) (branches a.children.items) (branches b.children.items) (branches cs)) (sym items)
+    (subst (λ cs. IsMerge r (IsKept r g.R.Narrow.is_value) (branches cs) (branches b.children.items) (branches (or_old (option_map (λ list. list.items) c.in_ok-children.children) cs))) c.deref.ensures.value c.in_ok-children.ensures)) refl

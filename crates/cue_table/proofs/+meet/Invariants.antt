@@ -1,0 +1,64 @@
+use Rattle.std.proofs.Common.{◌+◌, ◌-◌, ◌*◌}
+use Rattle.std.specs.Option.{option_map}
+use Rattle.std.specs.Vec.Iter.{into_iter_items, into_iter_len}
+use Rattle.cue_table.specs.Depth.{tree_depth, children_depth}
+use Rattle.cue_table.specs.Inner.View.{branches}
+use Rattle.cue_table.proofs.Changing.{GoesOn}
+use Rattle.cue_table.proofs.Sweeping.{Sweeps, found_depth}
+use Rattle.cue_table.proofs.+meet.Given as goal
+
+abbrev pub decreases-meet::meet_one : goal.decreases-meet::meet_one
+decreases-meet::meet_one g l = 8 * tree_depth l.other.node + 9
+
+abbrev pub decreases-meet::meet_child : goal.decreases-meet::meet_child
+decreases-meet::meet_child g l = 8 * tree_depth l.right + 8
+
+abbrev pub decreases-changes::changed_by : goal.decreases-changes::changed_by
+decreases-changes::changed_by g l = 8 * tree_depth l.other.node + 8
+
+abbrev pub decreases-meet::child_met : goal.decreases-meet::child_met
+decreases-meet::child_met g l = 8 * tree_depth l.right + 7
+
+abbrev pub decreases-lists::whole_met : goal.decreases-lists::whole_met
+decreases-lists::whole_met g l = 8 * tree_depth l.right + 7
+
+abbrev pub decreases-meet::node_met : goal.decreases-meet::node_met
+decreases-meet::node_met g l = 8 * tree_depth l.right + 6
+
+abbrev pub decreases-meet::meet_into : goal.decreases-meet::meet_into
+decreases-meet::meet_into g l = 8 * tree_depth l.right + 6
+
+abbrev pub decreases-meet::meet_own : goal.decreases-meet::meet_own
+decreases-meet::meet_own g l = 8 * tree_depth l.right + 5
+
+abbrev pub decreases-lists::list_met : goal.decreases-lists::list_met
+decreases-lists::list_met g l = 8 * tree_depth l.right + 5
+
+abbrev pub decreases-lists::elements_met : goal.decreases-lists::elements_met
+decreases-lists::elements_met g l = 8 * tree_depth l.right.now + 4
+
+abbrev pub decreases-meet::meet_below : goal.decreases-meet::meet_below
+decreases-meet::meet_below g l = 8 * children_depth (branches l.right.items) + 4
+
+abbrev pub decreases-meet::below_met : goal.decreases-meet::below_met
+decreases-meet::below_met g l = 8 * children_depth (branches l.right.items) + 4
+
+abbrev pub decreases-changes::changes : goal.decreases-changes::changes
+decreases-changes::changes g l = 8 * children_depth (branches l.right.items) + 2
+
+abbrev pub decreases-lists::found_met : goal.decreases-lists::found_met
+decreases-lists::found_met g l = 8 * found_depth (option_map (λ node. node.now) l.right) + 1
+
+abbrev pub invariant-changes::changes-loop-other : goal.invariant-changes::changes-loop-other
+invariant-changes::changes-loop-other g l =
+    GoesOn g.R.Narrow.refuses g.R.Narrow.is_value l.left l.fn.right.items l.rest (into_iter_items l.others) l.changes.items
+
+abbrev pub decreases-changes::changes-loop-other : goal.decreases-changes::changes-loop-other
+decreases-changes::changes-loop-other g l = into_iter_len l.others
+
+abbrev pub invariant-lists::elements_met-loop-at : goal.invariant-lists::elements_met-loop-at
+invariant-lists::elements_met-loop-at g l =
+    Sweeps g.R.Narrow.refuses g.R.Narrow.is_value l.left l.right l.fixed l.runs.items l.at
+
+abbrev pub decreases-lists::elements_met-loop-at : goal.decreases-lists::elements_met-loop-at
+decreases-lists::elements_met-loop-at g l = l.fixed - l.at

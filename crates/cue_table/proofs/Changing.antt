@@ -1,0 +1,188 @@
+-- What changes in a list of branches that takes others over.
+use Rattle.std.proofs.Common.{◌≡◌, ℕ, zero, suc, ◌≤◌, ◌<◌, List, [], ◌∷◌, ◌++◌, append_assoc, length, take, drop, get_or, slice_set, Option, Some, None, true, false, refl, sym, ap, subst, ◌∙◌, arith}
+use Rattle.std.specs.List.{insert as inserted}
+use Rattle.std.specs.Option.{option_to_list}
+use Rattle.cue_row.specs.Steps.{step_of}
+use Rattle.cue_table.specs.Tree.{none, child}
+use Rattle.cue_table.specs.Depth.{tree_depth, children_depth}
+use Rattle.cue_table.specs.Form.{AreBranches, IsKept, IsTable}
+use Rattle.cue_table.specs.Meet.{IsMerge, IsMet}
+use Rattle.cue_table.specs.Inner.Changes.{Fit, IsChange, behind, behind_found, merged}
+use Rattle.cue_table.specs.Inner.Child.{Child}
+use Rattle.cue_table.specs.Inner.Join.{join}
+use Rattle.cue_table.specs.Inner.Place.{IsPlace, IsGap}
+use Rattle.cue_table.specs.Inner.Parts.{front, past}
+use Rattle.cue_table.specs.Inner.View.{branches}
+use Rattle.cue_table.specs.declared.changes.Change.{Change}
+use Rattle.cue_table.proofs.Merging.{merge_stay, merge_insert, merge_alter, merge_same}
+use Rattle.cue_table.proofs.Nodes.{form_from}
+use Rattle.cue_table.proofs.Owned.{past_at, past_drop}
+
+append_none : {X : Type 0} (xs : List X) → xs ++ [] ≡ xs
+append_none [] = refl
+append_none (x ∷ xs) = ap (λ ys. x ∷ ys) (append_none xs)
+
+module _ {R : Type 0} where
+  pub branches_join : (xs ys : List (Child R)) → branches (xs ++ ys) ≡ join (branches xs) (branches ys)
+  branches_join [] ys = refl
+  branches_join (x ∷ xs) ys = ap (child (step_of x.step) x.node) (branches_join xs ys)
+
+  pub branches_take : (n : ℕ) (xs : List (Child R)) → branches (take n xs) ≡ front n (branches xs)
+  branches_take zero xs = refl
+  branches_take (suc n) [] = refl
+  branches_take (suc n) (x ∷ xs) = ap (child (step_of x.step) x.node) (branches_take n xs)
+
+  -- a branch behind the first ones, and then others
+  put : (n : ℕ) (xs ys : List (Child R)) (c : Child R) → branches (take n xs ++ c ∷ ys) ≡ join (front n (branches xs)) (child (step_of c.step) c.node (branches ys))
+  put n xs ys c = branches_join (take n xs) (c ∷ ys) ∙ ap (λ x. join x (child (step_of c.step) c.node (branches ys))) (branches_take n xs)
+
+  drop_one : (n : ℕ) (xs : List (Child R)) → drop 1 (drop n xs) ≡ drop (suc n) xs
+  drop_one zero xs = refl
+  drop_one (suc n) [] = refl
+  drop_one (suc n) (x ∷ xs) = drop_one n xs
+
+  -- in place of the branch at a place
+  set_at : (n : ℕ) (xs : List (Child R)) (c : Child R) → n < length xs → take n xs ++ c ∷ drop 1 (drop n xs) ≡ slice_set xs n c
+  set_at n [] c l = absurd (omega arith)
+  set_at zero (x ∷ xs) c l = refl
+  set_at (suc n) (x ∷ xs) c l = ap (λ ys. x ∷ ys) (set_at n xs c (omega arith))
+
+module _ {R Q : Type 0} (refuses : R → Q → Type 0) (is_value : R → Type 0) where
+  abbrev Kept : R → Type 0
+  Kept = IsKept refuses is_value
+
+  -- a new branch
+  pub adds :
+      (left : List (Child R)) (c : Child R) (at : ℕ) → AreBranches Kept (branches left) → IsGap left (step_of c.step) at
+      → IsChange refuses Kept left c (Some (record { kept = at; replaces = false; child = c }))
+  adds left c at h gap =
+      let bound = gap.in_range in
+      record {
+        fit = λ tail f. (omega arith, f);
+        union = λ others tail k m.
+            subst (IsMerge refuses Kept (branches left) (child (step_of c.step) c.node others)) (sym (put at left (merged tail (drop at left)) c))
+            (merge_insert refuses Kept at (step_of c.step) c.node (branches left) others (branches (merged tail (drop at left))) h k gap.before gap.after
+            (subst (λ x. IsMerge refuses Kept x others (branches (merged tail (drop at left)))) (sym (past_drop at left)) m));
+      }
+
+  -- the next branch changes
+  pub alters :
+      (left : List (Child R)) (c d e : Child R) (at : ℕ) → AreBranches Kept (branches left) → IsPlace left (step_of c.step) at → d ≡ get_or left at d
+      → e.step ≡ d.step → IsTable refuses is_value e.node → IsMet refuses d.node c.node e.node → IsChange refuses Kept left c (Some (record { kept = at; replaces = true; child = e }))
+  alters left c d e at h place is same form met =
+      let bound = place.in_range in
+      let step : step_of d.step ≡ step_of c.step = ap (λ x. step_of x.step) is ∙ place.at_step d in
+      let here : past at (branches left) ≡ child (step_of c.step) d.node (branches (drop 1 (drop at left))) =
+      past_at at left d bound ∙ ap (λ x. child (step_of x.step) x.node (branches (drop (suc at) left))) (sym is)
+      ∙ ap (λ s. child s d.node (branches (drop (suc at) left))) step ∙ ap (λ xs. child (step_of c.step) d.node (branches xs)) (sym (drop_one at left)) in
+      record {
+        fit = λ tail f. (omega arith, f);
+        union = λ others tail k m.
+            let rest = merged tail (drop 1 (drop at left)) in
+            subst (IsMerge refuses Kept (branches left) (child (step_of c.step) c.node others))
+            (sym (put at left rest e ∙ ap (λ s. join (front at (branches left)) (child s e.node (branches rest))) (ap step_of same ∙ step)))
+            (merge_alter refuses is_value at (step_of c.step) d.node c.node e.node (branches left) (branches (drop 1 (drop at left))) others (branches rest) h k place.before here form met m);
+      }
+
+  -- the branch at the step stays as it is
+  pub stays :
+      (left : List (Child R)) (c d : Child R) (at : ℕ) → IsPlace left (step_of c.step) at → d ≡ get_or left at d → IsMet refuses d.node c.node d.node
+      → IsChange refuses Kept left c None
+  stays left c d at place is met = record {
+    fit = λ tail f. f;
+    union = λ others tail k m.
+        merge_same refuses Kept (step_of c.step) d.node c.node (branches left) others (branches (merged tail left)) k (place.is_there d ∙ ap (λ x. Some x.node) (sym is)) met m;
+  }
+
+  -- one branch alone: put in where it would stand
+  pub put_in :
+      (left after : List (Child R)) (c : Child R) (at : ℕ) → AreBranches Kept (branches left) → AreBranches Kept (child (step_of c.step) c.node none) → IsGap left (step_of c.step) at
+      → after ≡ inserted left at c → IsMerge refuses Kept (branches left) (child (step_of c.step) c.node none) (branches after)
+  put_in left after c at h k gap is =
+      let change = adds left c at h gap in
+      subst (λ x. IsMerge refuses Kept (branches left) (child (step_of c.step) c.node none) (branches x)) (sym is)
+      (change.union none [] k (merge_stay refuses Kept (branches (drop at left)) (form_from Kept left at h)))
+
+  -- and met where it stands
+  pub met_at :
+      (left : List (Child R)) (c d e : Child R) (at : ℕ) → AreBranches Kept (branches left) → AreBranches Kept (child (step_of c.step) c.node none)
+      → IsPlace left (step_of c.step) at → d ≡ get_or left at d → e.step ≡ d.step → IsTable refuses is_value e.node → IsMet refuses d.node c.node e.node
+      → IsMerge refuses Kept (branches left) (child (step_of c.step) c.node none) (branches (slice_set left at e))
+  met_at left c d e at h k place is same form met =
+      let change = alters left c d e at h place is same form met in
+      subst (λ x. IsMerge refuses Kept (branches left) (child (step_of c.step) c.node none) (branches x)) (set_at at left e place.in_range)
+      (change.union none [] k (merge_stay refuses Kept (branches (drop 1 (drop at left))) (form_from Kept (drop at left) 1 (form_from Kept left at h))))
+
+  -- Whatever makes the union of what is left of both lists makes that of the lists, behind the changes so far.
+  pub record GoesOn (left right rest others : List (Child R)) (changes : List (Change R Q)) : Type 0 where
+    pub rest_form : AreBranches Kept (branches rest)
+    pub others_form : AreBranches Kept (branches others)
+    pub smaller : children_depth (branches others) ≤ children_depth (branches right)
+    pub fit : (tail : List (Change R Q)) → Fit tail rest → Fit (changes ++ tail) left
+    pub union : (tail : List (Change R Q)) → IsMerge refuses Kept (branches rest) (branches others) (branches (merged tail rest))
+        → IsMerge refuses Kept (branches left) (branches right) (branches (merged (changes ++ tail) left))
+
+  pub goes_start :
+      (left right others : List (Child R)) (changes : List (Change R Q)) → AreBranches Kept (branches left) → AreBranches Kept (branches right) → others ≡ right → changes ≡ []
+      → GoesOn left right left others changes
+  goes_start left right others changes h k e f =
+      subst (λ xs. GoesOn left right left xs changes) (sym e)
+      (subst (GoesOn left right left right) (sym f) (record { rest_form = h; others_form = k; smaller = omega arith; fit = λ tail m. m; union = λ tail m. m }))
+
+  behind_form : (found : Option (Change R Q)) (rest : List (Child R)) → AreBranches Kept (branches rest) → AreBranches Kept (branches (behind_found found rest))
+  behind_form None rest h = h
+  behind_form (Some change) rest h = let n = change.kept in form_from Kept (drop n rest) _ (form_from Kept rest n h)
+
+  -- the first of the other branches as the code has it
+  pub first_form : (left right rest all others : List (Child R)) (changes : List (Change R Q)) (c : Child R) → GoesOn left right rest all changes → all ≡ c ∷ others → IsTable refuses is_value c.node
+  first_form left right rest all others changes c g e = let h : AreBranches Kept (branches (c ∷ others)) = subst (λ xs. AreBranches Kept (branches xs)) e g.others_form in h.2
+
+  pub first_smaller : (left right rest all others : List (Child R)) (changes : List (Change R Q)) (c : Child R) → GoesOn left right rest all changes → all ≡ c ∷ others → tree_depth c.node < children_depth (branches right)
+  first_smaller left right rest all others changes c g e =
+      let h : children_depth (branches (c ∷ others)) ≤ children_depth (branches right) = subst (λ xs. children_depth (branches xs) ≤ children_depth (branches right)) e g.smaller in
+      omega arith
+
+  goes_more :
+      (left right rest others : List (Child R)) (changes : List (Change R Q)) (c : Child R) (found : Option (Change R Q)) → GoesOn left right rest (c ∷ others) changes
+      → IsChange refuses Kept rest c found → GoesOn left right (behind_found found rest) others (changes ++ option_to_list found)
+  goes_more left right rest others changes c found g change =
+      let k = g.others_form in
+      let small = g.smaller in
+      record {
+        rest_form = behind_form found rest g.rest_form;
+        others_form = k.3;
+        smaller = omega arith;
+        fit = λ tail f. rw append_assoc (g.fit (option_to_list found ++ tail) (change.fit tail f));
+        union = λ tail m. rw append_assoc (g.union (option_to_list found ++ tail) (change.union (branches others) tail k m));
+      }
+
+  -- one branch more that changes something
+  pub goes_on :
+      (left right rest all others after : List (Child R)) (changes more : List (Change R Q)) (c : Child R) (change : Change R Q) (found : Option (Change R Q)) → GoesOn left right rest all changes → all ≡ c ∷ others
+      → IsChange refuses Kept rest c found → found ≡ Some change → after ≡ behind change rest → more ≡ changes ++ change ∷ [] → GoesOn left right after others more
+  goes_on left right rest all others after changes more c change found g e h is f n =
+      let here = goes_more left right rest others changes c (Some change) (subst (λ xs. GoesOn left right rest xs changes) e g) (subst (IsChange refuses Kept rest c) is h) in
+      subst (λ xs. GoesOn left right xs others more) (sym f) (subst (GoesOn left right (behind change rest) others) (sym n) here)
+
+  -- and one more that changes nothing
+  pub goes_past :
+      (left right rest all others : List (Child R)) (changes : List (Change R Q)) (c : Child R) (found : Option (Change R Q)) → GoesOn left right rest all changes → all ≡ c ∷ others
+      → IsChange refuses Kept rest c found → found ≡ None → GoesOn left right rest others changes
+  goes_past left right rest all others changes c found g e h is =
+      subst (GoesOn left right rest others) (append_none changes)
+      (goes_more left right rest others changes c None (subst (λ xs. GoesOn left right rest xs changes) e g) (subst (IsChange refuses Kept rest c) is h))
+
+  -- no branch is left
+  pub goes_end :
+      (left right rest others : List (Child R)) (changes : List (Change R Q)) → GoesOn left right rest others changes → length others ≡ 0
+      → Fit changes left × IsMerge refuses Kept (branches left) (branches right) (branches (merged changes left))
+  goes_end left right rest [] changes g n =
+      subst (λ xs. Fit xs left × IsMerge refuses Kept (branches left) (branches right) (branches (merged xs left))) (append_none changes)
+      (g.fit [] tt, g.union [] (merge_stay refuses Kept (branches rest) g.rest_form))
+  goes_end left right rest (c ∷ others) changes g n = absurd (omega arith)
+
+-- the branch at a place is in form
+pub at_form : {R Q : Type 0} (refuses : R → Q → Type 0) (is_value : R → Type 0) (cs : List (Child R)) (at : ℕ) (d : Child R) → AreBranches (IsKept refuses is_value) (branches cs) → at < length cs → d ≡ get_or cs at d → IsTable refuses is_value d.node
+at_form refuses is_value [] at d h l is = absurd (omega arith)
+at_form refuses is_value (c ∷ cs) zero d h l is = subst (λ x. IsTable refuses is_value x.node) (sym is) h.2
+at_form refuses is_value (c ∷ cs) (suc at) d h l is = at_form refuses is_value cs at d h.3 (omega arith) is

@@ -1,0 +1,60 @@
+-- Changes of a list of branches that takes others over.
+use Rattle.std.specs.Prelude.{◌≡◌, ◌≤◌, ◌+◌, ◌++◌, ℕ, Bool, true, false, List, [], ◌∷◌, Option, Some, None}
+use Rattle.std.specs.Prelude.{length, take, drop}
+use Rattle.std.specs.Option.{option_to_list}
+use Rattle.cue_row.specs.Steps.{step_of}
+use Rattle.cue_table.specs.Form.{AreBranches}
+use Rattle.cue_table.specs.Meet.{IsMerge}
+use Rattle.cue_table.specs.Tree.{Children, child}
+use Rattle.cue_table.specs.Inner.Child.{Child}
+use Rattle.cue_table.specs.Inner.View.{branches}
+use Rattle.cue_table.specs.declared.changes.Change.{Change}
+
+-- what is new, where it is there, and else what was before
+abbrev pub or_old : {X : Type 0} → Option X → X → X
+or_old None old = old
+or_old (Some new) old = new
+
+-- how many branches give way
+abbrev pub over : Bool → ℕ
+over true = 1
+over false = 0
+
+-- the branches behind a change
+abbrev pub behind : {R Q : Type 0} → Change R Q → List (Child R) → List (Child R)
+behind change children = drop (over change.replaces) (drop change.kept children)
+
+-- the branches after the changes
+abbrev pub merged : {R Q : Type 0} → List (Change R Q) → List (Child R) → List (Child R)
+merged [] children = children
+merged (change ∷ changes) children =
+    take change.kept children ++ change.child ∷ merged changes (behind change children)
+
+-- there are as many branches as the changes go past
+abbrev pub Fit : {R Q : Type 0} → List (Change R Q) → List (Child R) → Type 0
+Fit [] children = Unit {0}
+Fit (change ∷ changes) children =
+    (change.kept + over change.replaces ≤ length children) × Fit changes (behind change children)
+
+-- each is in place of a branch
+abbrev pub AreReplaced : {R Q : Type 0} → List (Change R Q) → Type 0
+AreReplaced [] = Unit {0}
+AreReplaced (change ∷ changes) = (change.replaces ≡ true) × AreReplaced changes
+
+-- the branches behind the change, if there is one
+abbrev pub behind_found : {R Q : Type 0} → Option (Change R Q) → List (Child R) → List (Child R)
+behind_found None children = children
+behind_found (Some change) children = behind change children
+
+-- What makes the union of the branches behind the change with others makes that of all of them with
+-- the other branch before those others, behind the change.
+pub record IsChange {R Q : Type 0} (refuses : R → Q → Type 0) (P : R → Type 0)
+    (left : List (Child R)) (other : Child R) (found : Option (Change R Q)) : Type 0 where
+  pub fit : (tail : List (Change R Q)) → Fit tail (behind_found found left)
+      → Fit (option_to_list found ++ tail) left
+  pub union : (others : Children R) (tail : List (Change R Q))
+      → AreBranches P (child (step_of other.step) other.node others)
+      → IsMerge refuses P (branches (behind_found found left)) others
+      (branches (merged tail (behind_found found left)))
+      → IsMerge refuses P (branches left) (child (step_of other.step) other.node others)
+      (branches (merged (option_to_list found ++ tail) left))

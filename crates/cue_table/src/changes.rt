@@ -1,0 +1,96 @@
+//! What changes in a list of branches that takes others over. It is made before the list changes,
+//! so that the change itself only moves branches.
+ghost use Rattle.std.specs.Prelude.{◌≡◌, ◌≤◌, ◌<◌, ◌+◌, length, slice_index_or, IfOk};
+ghost use Rattle.cue_table.specs.Form.{AreBranches, IsKept, IsTable};
+ghost use Rattle.cue_table.specs.Meet.{IsMerge};
+ghost use Rattle.cue_table.specs.Inner.Changes.{Fit, IsChange, behind, merged, over};
+ghost use Rattle.cue_table.specs.Inner.View.{branches};
+
+use crate::child::Child;
+use crate::meet::child_met;
+use crate::near::place_near;
+use cue_lattice::{Memory, Narrow};
+use std::alloc::Global;
+
+/// A branch that is new in a list. So many branches before it stay as they are.
+#[derive(Drop)]
+pub(crate) struct Change<R: Narrow> {
+    pub(crate) kept: usize,
+    /// Whether it stands in place of the next branch.
+    pub(crate) replaces: bool,
+    pub(crate) child: Child<R>,
+}
+
+/// What changes in a list of branches that takes others over. What they add nothing to stays.
+#[cycle(meet)]
+pub(crate) fn changes<R: Narrow>(
+    alloc: Global,
+    left: &[Child<R>],
+    right: Vec<Child<R>>,
+) -> Result<Vec<Change<R>>, Memory>
+    requires left { AreBranches (IsKept R.refuses R.is_value) (branches left.now) }
+    requires right { AreBranches (IsKept R.refuses R.is_value) (branches right.items) }
+    ensures fit { IfOk result (λ changes. Fit changes.items left.now) }
+    ensures union { IfOk result (λ changes. IsMerge R.refuses (IsKept R.refuses R.is_value)
+        (branches left.now) (branches right.items) (branches (merged changes.items left.now))) }
+{
+    let mut changes = Vec::with_capacity(alloc, right.len())?;
+    let mut rest = left;
+    let mut others = right.into_iter();
+    while let Some(other) = others.next() {
+        if let Some(change) = changed_by(alloc, rest, other)? {
+            rest = behind(rest, &change);
+            changes.push(change)?;
+        }
+    }
+    Ok(changes)
+}
+
+/// What another branch changes in a list.
+#[cycle(meet)]
+fn changed_by<R: Narrow>(
+    alloc: Global,
+    left: &[Child<R>],
+    other: Child<R>,
+) -> Result<Option<Change<R>>, Memory>
+    requires left { AreBranches (IsKept R.refuses R.is_value) (branches left.now) }
+    requires right { IsTable R.refuses R.is_value other.node }
+    ensures { IfOk result
+        (IsChange R.refuses (IsKept R.refuses R.is_value) left.now other) }
+{
+    match place_near(left, other.step()) {
+        Err(kept) => Ok(Some(Change {
+            kept,
+            replaces: false,
+            child: other,
+        })),
+        Ok(kept) => {
+            let other = other.into_node(alloc)?;
+            let Some(child) = child_met(alloc, branch_at(left, kept), other)? else {
+                return Ok(None);
+            };
+            Ok(Some(Change {
+                kept,
+                replaces: true,
+                child,
+            }))
+        }
+    }
+}
+
+/// The branch at a place of a list.
+fn branch_at<R: Narrow>(children: &[Child<R>], at: usize) -> &Child<R>
+    requires { at < length children.now }
+    ensures { result.now ≡ slice_index_or children.now at result.now }
+{
+    &children[at]
+}
+
+/// The branches behind a change.
+fn behind<'a, R: Narrow>(children: &'a [Child<R>], change: &Change<R>) -> &'a [Child<R>]
+    requires { change.now.kept + over change.now.replaces ≤ length children.now }
+    ensures { result.now ≡ behind change.now children.now }
+{
+    let rest = &children[change.kept..];
+    if change.replaces { &rest[1..] } else { rest }
+}
