@@ -1,5 +1,5 @@
 -- Rows read one after another, by their bytes.
-use Rattle.std.proofs.Common.{◌≡◌, ℕ, ◌-◌, ◌<◌, true, false, List, [], ◌∷◌, ◌++◌, append_assoc, length, map, take, Some, ⊎_elim, refl, sym, ap, subst, ◌∙◌, arith}
+use Rattle.std.proofs.Common.{◌≡◌, ℕ, ◌-◌, ◌<◌, ◌≤◌, Bool, true, false, List, [], ◌∷◌, ◌++◌, append_assoc, length, map, take, Some, ⊎_elim, refl, sym, ap, subst, ◌∙◌, arith}
 use Rattle.std.specs.List.{flat_map}
 use Rattle.std.proofs.lemmas.List.{append-nil, append_cancel_right, length-append, take-append-le, take_all}
 use Rattle.cue_lattice.specs.declared.refusal.Kind.{Kind}
@@ -17,7 +17,7 @@ use Rattle.cue_codec.specs.Reading.{Begins, BeginsNone, IsRefused}
 use Rattle.cue_codec.specs.Parts.{path_bytes}
 use Rattle.cue_codec.specs.RowBytes.{row_bytes, parts_bytes, parts_of, IsStateRow}
 use Rattle.cue_codec.specs.Inner.Drafting.{RowsRead, entries_from, rows_bytes, IsDrafting, IsNext, NoneNext, IsMore, BeginsNoRows}
-use Rattle.cue_codec.specs.Inner.Pieces.{IsFront}
+use Rattle.cue_codec.specs.Inner.Pieces.{IsAdded, HasNext, IsFront}
 use Rattle.cue_codec.specs.Inner.Scans.{IsWholeRow}
 use Rattle.cue_codec.proofs.KnownPlaces.{told_with}
 use Rattle.cue_codec.proofs.ReadStates.{known_next, rows_missing, rows_one_more, rows_unordered, rows_trailing}
@@ -109,6 +109,22 @@ module _ (version : Version) (count left : ℕ) (rows : List (Place × Row)) (in
       let here = subst (λ n. AreRead version (rows_bytes version rows indexes ++ more) more count n rows indexes known) none (read_with more read) in
       rows_trailing version (rows_bytes version rows indexes ++ more) more count rows indexes known here some
 
+-- no row was added: whichever row is looked for next, its place is made anew
+pub drafting_kept : (version : Version) (count left : ℕ) (rows new : List (Place × Row)) (indexes items known : List ℕ) (place : Place) → IsDrafting version count left rows indexes known place → new ≡ rows → items ≡ indexes → IsDrafting version count left new items known []
+drafting_kept version count left rows new indexes items known place is e f = record {
+  read = subst (λ t. AreRead version (rows_bytes version t items) [] count left t items known) (sym e)
+      (subst (λ t. AreRead version (rows_bytes version rows t) [] count left rows t known) (sym f) is.read);
+  steps = (tt, omega arith);
+  placed = refl;
+  deep = is.deep;
+}
+
+-- so what contracts see of them is the same
+pub same_read : (version : Version) (count left : ℕ) (rows new : List (Place × Row)) (indexes items : List ℕ) (old : RowsRead) → record { version = version; count = count; left = left; bytes = rows_bytes version rows indexes } ≡ old → new ≡ rows → items ≡ indexes
+    → record { version = version; count = count; left = left; bytes = rows_bytes version new items } ≡ old
+same_read version count left rows new indexes items old is e f =
+    (λ i. record { version = version; count = count; left = left; bytes = rows_bytes version (e i) (f i) }) ∙ is
+
 -- where none is missing
 pub all_drafted : (version : Version) (count left : ℕ) (rows : List (Place × Row)) (indexes known : List ℕ) → left ≡ 0 → AreRead version (rows_bytes version rows indexes) [] count left rows indexes known → AreDrafted version (rows_bytes version rows indexes) count rows indexes
 all_drafted version count left rows indexes known none read = (known, subst (λ n. AreRead version (rows_bytes version rows indexes) [] count n rows indexes known) none read)
@@ -131,6 +147,11 @@ whole_none version row more whole none = λ entry rest p e.
 pub whole_refused : (old : RowsRead) (row : List ℕ) → IsWholeRow old.version row → NoneNext old row → BeginsNoRows old.version old.count (old.bytes ++ row)
 whole_refused old row whole none = λ more.
     subst (NoRows old.version old.count) (sym (append_assoc old.bytes row more)) (none more (whole_none old.version row more whole))
+
+-- so it is with a row that was looked for there
+pub whole_next : (old new : RowsRead) (row rest : List ℕ) (is_added : Bool) → IsWholeRow old.version row → HasNext old row new rest is_added → IsAdded old row new is_added
+whole_next old new row rest true whole next = whole_row old new row rest whole next
+whole_next old new row rest false whole next = (next.0, whole_refused old row whole next.2)
 
 -- ---- rows that stand for others
 
@@ -155,7 +176,7 @@ row_some : (version : Version) (entry : Entry) → 0 < length (row_bytes version
 unfolding row_bytes
 row_some version entry = omega (arith, length-append (path_bytes version entry.path) (level_of entry.row.level ∷ parts_bytes version (parts_of entry.row entry.fixed)))
 
-pub front_row : (old new : RowsRead) (bytes rest : List ℕ) (len : ℕ) → IsNext old bytes new rest → len ≡ length bytes - length rest → IsFront old bytes (Some (new, len))
+pub front_row : (old new : RowsRead) (bytes rest : List ℕ) (len : ℕ) → IsNext old bytes new rest → len ≡ length bytes - length rest → IsFront old bytes new (Some len)
 front_row old new bytes rest len next e =
     let here : List ℕ = row_bytes old.version next.entry in
     let long : len ≡ length here = omega (arith, e, ap length next.begins.parts, length-append here rest) in
@@ -166,12 +187,28 @@ front_row old new bytes rest len next e =
       λ none. absurd (omega (arith, long, some, none)),
     )
 
-pub front_none : (old new : RowsRead) (bytes : List ℕ) → new ≡ old → IsFront old bytes (Some (new, 0))
+pub front_none : (old new : RowsRead) (bytes : List ℕ) → new ≡ old → IsFront old bytes new (Some 0)
 front_none old new bytes e = (
   omega arith,
   record { version = ap (λ (r : RowsRead). r.version) e; count = ap (λ (r : RowsRead). r.count) e; bytes = ap (λ (r : RowsRead). r.bytes) e ∙ sym (append-nil old.bytes) },
   λ none. e,
 )
+
+-- a row was looked for in front of bytes
+pub front_next : (old new : RowsRead) (bytes rest : List ℕ) (len : ℕ) (is_added : Bool) → HasNext old bytes new rest is_added → len ≡ length bytes - length rest → IsFront old bytes new (Some len)
+front_next old new bytes rest len true next e = front_row old new bytes rest len next e
+front_next old new bytes rest len false next e =
+    let none : 0 ≡ len = omega (arith, e, ap length next.1) in
+    subst (λ n. IsFront old bytes new (Some n)) none (front_none old new bytes next.0)
+
+pub next_within : (old new : RowsRead) (bytes rest : List ℕ) (is_added : Bool) → HasNext old bytes new rest is_added → length rest ≤ length bytes
+next_within old new bytes rest true next = omega (arith, ap length next.begins.parts, length-append (row_bytes old.version next.entry) rest)
+next_within old new bytes rest false next = omega (arith, ap length next.1)
+
+-- what was read and what is left are together the same
+pub next_bytes : (old new : RowsRead) (bytes rest : List ℕ) → IsNext old bytes new rest → new.bytes ++ rest ≡ old.bytes ++ bytes
+next_bytes old new bytes rest next =
+    ap (λ t. t ++ rest) next.longer ∙ append_assoc old.bytes (row_bytes old.version next.entry) rest ∙ ap (λ t. old.bytes ++ t) (sym next.begins.parts)
 
 -- what is refused for another reason than want of memory
 pub not_memory : (kind : Kind) (R : Type 0) → (kind ≡ kinds.Memory → ⊥) → IsRefused kind R → R

@@ -62,6 +62,12 @@ number_takes w limit reads bytes n rest fits e =
     let front : to_be_bytes w n ≡ take (byte_len w) bytes = rw (← n-is) (reads.back (take (byte_len w) bytes) (omega (arith, length-take (byte_len w) bytes)) (IsBytes-take (byte_len w) bytes fits)) in
     (rw (front, ← rest-is) (sym (take-append-drop (byte_len w) bytes)), rw (← n-is) (reads.below (take (byte_len w) bytes) (IsBytes-take (byte_len w) bytes fits)))
 
+-- a zero and a count, where these stand in front
+pub count_again : (bytes rest after : List ℕ) (tag found count : ℕ) → IsBytes bytes → bytes ≡ tag ∷ rest → tag ≡ 0 → Some (found, after) ≡ number_at w64 rest → found ≡ count → bytes ≡ 0 ∷ (to_be_bytes w64 count ++ after)
+count_again bytes rest after tag found count fits e zero is same =
+    let takes = number_takes w64 (2 ^ 64) read64 rest found after (IsBytes-rest tag bytes rest e fits) is in
+    e ∙ ap (λ (t : List ℕ). tag ∷ t) takes.0 ∙ (λ i. zero i ∷ (to_be_bytes w64 (same i) ++ after))
+
 pub number_missing : (w : Width) (bytes : List ℕ) → None ≡ number_at w bytes → length bytes < byte_len w
 unfolding number_at
 number_missing w bytes e =

@@ -63,6 +63,10 @@ module _ (rows : RowsRead) (scan : Scan) (unfinished front : List ℕ) (taken : 
       pieces_clear new start items more on none
       (omega (arith, long, is.counted, ap length added.bytes, length-append rows.bytes (unfinished ++ front), length-append rows.bytes unfinished, length-append unfinished front))
 
+-- so it is with the same rows
+pub pieces_kept : (rows new : RowsRead) (scan : Scan) (unfinished : List ℕ) (taken : ℕ) → ArePieces rows scan unfinished taken → new ≡ rows → ArePieces new scan unfinished taken
+pieces_kept rows new scan unfinished taken is same = subst (λ r. ArePieces r scan unfinished taken) (sym same) is
+
 -- the bytes in front were taken in
 pub more_on : (rows : RowsRead) (unfinished front items : List ℕ) → items ≡ unfinished ++ front → IsMore (with_bytes rows unfinished) front (with_bytes rows items)
 more_on rows unfinished front items longer = record {
@@ -81,13 +85,13 @@ more_next rows new unfinished front items added none = record {
 -- ---- a row in front
 
 module _ (rows new : RowsRead) (unfinished bytes : List ℕ) (len : ℕ) (none : unfinished ≡ []) where
-  pub pieces_front : (scan : Scan) (taken more : ℕ) → ArePieces rows scan unfinished taken → IsFront rows bytes (Some (new, len)) → more ≡ taken + len → ArePieces new scan unfinished more
+  pub pieces_front : (scan : Scan) (taken more : ℕ) → ArePieces rows scan unfinished taken → IsFront rows bytes new (Some len) → more ≡ taken + len → ArePieces new scan unfinished more
   pieces_front scan taken more is front long = record {
     scanned = subst (λ v. IsScanned v scan unfinished) (sym front.1.version) is.scanned;
     counted = omega (arith, long, is.counted, front.0, ap length front.1.bytes, ap length none, length-append rows.bytes (take len bytes), length-take len bytes, length-append rows.bytes unfinished, length-append new.bytes unfinished);
   }
 
-  pub front_taken : IsFront rows bytes (Some (new, len)) → 0 < len → IsTaken (with_bytes rows unfinished) bytes (Some (with_bytes new unfinished, len))
+  pub front_taken : IsFront rows bytes new (Some len) → 0 < len → IsTaken (with_bytes rows unfinished) bytes (with_bytes new unfinished) (Some len)
   front_taken front some = (
     some,
     front.0,

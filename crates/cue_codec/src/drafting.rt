@@ -1,9 +1,9 @@
 //! Rows read one after another, of which a table is made.
 
-ghost use Rattle.std.specs.Prelude.{◌≡◌, ◌<◌, ◌↔◌, ◌++◌, [], ℕ, List, IsTrue, IfOk, IfErr};
+ghost use Rattle.std.specs.Prelude.{◌≡◌, ◌<◌, ◌↔◌, ◌++◌, [], ℕ, List, IsTrue, IfOk, IfErr, OnErr};
 ghost use Rattle.cue_codec.specs.Decoding.{AreReadRows, NoRows};
-ghost use Rattle.cue_codec.specs.Inner.Drafting.{BeginsNoRows, IsFed};
-ghost use Rattle.cue_codec.specs.Inner.Pieces.{HasNext, IsFront};
+ghost use Rattle.cue_codec.specs.Inner.Drafting.{BeginsNoRows};
+ghost use Rattle.cue_codec.specs.Inner.Pieces.{HasNext, IsAdded, IsFront};
 ghost use Rattle.cue_codec.specs.Inner.Scans.{IsWholeRow};
 ghost use Rattle.cue_codec.specs.Reading.{IsRefused};
 
@@ -51,15 +51,6 @@ impl Model for Drafting {
         d.place };
 }
 
-/// Rows, where one was looked for in front of bytes.
-#[derive(Drop)]
-pub enum Next {
-    /// With the row that stands there.
-    Row(Drafting),
-    /// As they were, since no row stands there.
-    NoRow(Drafting),
-}
-
 impl Drafting {
     /// None of so many rows. This takes no memory.
     pub fn new(alloc: Global, version: Version, count: u64) -> Drafting
@@ -93,66 +84,68 @@ impl Drafting {
         self.left == 0
     }
 
-    /// The rows with the one that the reader reads next, if one stands there.
-    pub fn next(self, reader: &mut RowReader) -> Result<Next, Kind>
-        requires { 0 < self.left }
-        ensures ok { IfOk result (HasNext self reader.old reader.new) }
+    /// Adds the row that the reader reads next, and says whether one stands there: where none does,
+    /// all is left as it is. So are the rows after a refusal.
+    pub fn next(&mut self, reader: &mut RowReader) -> Result<bool, Kind>
+        requires { 0 < self.old.left }
+        ensures ok { IfOk result (HasNext self.old reader.old self.new reader.new) }
         ensures refused { IfErr result (λ kind. IsRefused kind
-            (BeginsNoRows self.version self.count (self.bytes ++ reader.old))) }
+            (BeginsNoRows self.old.version self.old.count (self.old.bytes ++ reader.old))) }
+        ensures err { OnErr result (self.new ≡ self.old) }
     {
-        let mut rows = self;
-        let before = mem::replace(&mut rows.place, Place::root(rows.alloc));
-        let (place, fixed, row) = match reader.read(rows.alloc, rows.version, before, &rows.known) {
+        let before = mem::replace(&mut self.place, Place::root(self.alloc));
+        let (place, fixed, row) = match reader.read(self.alloc, self.version, before, &self.known) {
             Ok(row) => row,
-            Err(kind) => {
-                return match kind {
-                    Kind::Memory => Err(Kind::Memory),
-                    _ => Ok(Next::NoRow(rows)),
-                };
-            }
+            Err(kind) => match kind {
+                Kind::Memory => return Err(Kind::Memory),
+                _ => return Ok(false),
+            },
         };
-        let Ok(is_added) = rows.draft.append(&place, row) else {
+        let Ok(()) = self.indexes.reserve(1) else {
+            return Err(Kind::Memory);
+        };
+        let Ok(is_added) = self.draft.append(&place, row) else {
             return Err(Kind::Memory);
         };
         if !is_added {
             return Err(Kind::NotState);
         }
-        let Ok(()) = rows.indexes.push(fixed) else {
-            return Err(Kind::Memory);
-        };
-        rows.known[place.slots().len()] = fixed;
-        rows.left -= 1;
-        rows.place = place;
-        Ok(Next::Row(rows))
+        self.indexes.push_reserved(fixed);
+        self.known[place.slots().len()] = fixed;
+        self.left -= 1;
+        self.place = place;
+        Ok(true)
     }
 
-    /// The rows with the one whose bytes these are. There is none where no rows begin so.
-    pub fn add(self, row: &[u8]) -> Result<Option<Drafting>, Memory>
-        requires whole { IsWholeRow self.version row.now }
-        requires missing { 0 < self.left }
-        ensures { IfOk result (IsFed self row.now) }
+    /// Adds the row whose bytes these are, and says whether there is one: there is none where no
+    /// rows begin so. All is left as it is then, and after want of memory.
+    pub fn add(&mut self, row: &[u8]) -> Result<bool, Memory>
+        requires whole { IsWholeRow self.old.version row.now }
+        requires missing { 0 < self.old.left }
+        ensures ok { IfOk result (IsAdded self.old row.now self.new) }
+        ensures err { OnErr result (self.new ≡ self.old) }
     {
         let mut reader = RowReader::new(row);
         match self.next(&mut reader) {
-            Ok(Next::Row(rows)) => Ok(Some(rows)),
-            Ok(Next::NoRow(_)) => Ok(None),
+            Ok(is_added) => Ok(is_added),
             Err(kind) => match kind {
                 Kind::Memory => Err(Memory),
-                _ => Ok(None),
+                _ => Ok(false),
             },
         }
     }
 
-    /// The rows with the one whose bytes stand in front, and how many these are; or as they were
-    /// where no whole row stands there. There is nothing where no rows begin so.
-    pub fn add_front(self, bytes: &[u8]) -> Result<Option<(Drafting, usize)>, Memory>
-        requires { 0 < self.left }
-        ensures { IfOk result (IsFront self bytes.now) }
+    /// Adds the row whose bytes stand in front, and says how many these are; there are none where
+    /// no whole row stands there. There is no number where no rows begin so. All is left as it is
+    /// where none is added, and after want of memory.
+    pub fn add_front(&mut self, bytes: &[u8]) -> Result<Option<usize>, Memory>
+        requires { 0 < self.old.left }
+        ensures ok { IfOk result (IsFront self.old bytes.now self.new) }
+        ensures err { OnErr result (self.new ≡ self.old) }
     {
         let mut reader = RowReader::new(bytes);
         match self.next(&mut reader) {
-            Ok(Next::Row(rows)) => Ok(Some((rows, bytes.len() - reader.len()))),
-            Ok(Next::NoRow(rows)) => Ok(Some((rows, 0))),
+            Ok(_) => Ok(Some(bytes.len() - reader.len())),
             Err(kind) => match kind {
                 Kind::Memory => Err(Memory),
                 _ => Ok(None),
@@ -192,10 +185,10 @@ impl Drafting {
         let mut rows = self;
         let mut reader = RowReader::new(bytes);
         while !rows.is_full() {
-            rows = match rows.next(&mut reader)? {
-                Next::Row(next) => next,
-                Next::NoRow(_) => return Err(Kind::NotState),
-            };
+            let is_added = rows.next(&mut reader)?;
+            if !is_added {
+                return Err(Kind::NotState);
+            }
         }
         if !reader.is_at_end() {
             return Err(Kind::NotState);

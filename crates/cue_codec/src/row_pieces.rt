@@ -3,8 +3,7 @@
 ghost use Rattle.std.specs.Prelude.{◌≡◌, ◌<◌, ◌≤◌, ◌+◌, ◌^◌, ◌++◌, [], length, take, IfOk, IfErr};
 ghost use Rattle.cue_codec.specs.Decoding.{AreReadRows, NoRows};
 ghost use Rattle.cue_codec.specs.Inner.Drafting.{IsFed};
-ghost use Rattle.cue_codec.specs.Inner.Pieces.{IsTaken, IsAdded};
-ghost use Rattle.cue_codec.specs.Inner.Scans.{IsWholeRow};
+ghost use Rattle.cue_codec.specs.Inner.Pieces.{IsTaken};
 ghost use Rattle.cue_codec.specs.Reading.{IsRefused};
 
 use crate::drafting::Drafting;
@@ -41,32 +40,6 @@ impl Model for RowPieces {
     ghost invariant = { λ p. ArePieces p.rows p.scan p.unfinished.items p.taken };
 }
 
-/// The rows with the one whose bytes these are, of which some stand in a list; the list is then
-/// empty. There are none where no rows begin so.
-fn with_row(
-    rows: Drafting,
-    unfinished: Vec<u8>,
-    bytes: &[u8],
-) -> Result<Option<(Drafting, Vec<u8>)>, Memory>
-    requires whole { IsWholeRow rows.version (unfinished.items ++ bytes.now) }
-    requires missing { 0 < rows.left }
-    ensures { IfOk result (IsAdded rows (unfinished.items ++ bytes.now)) }
-{
-    if unfinished.is_empty() {
-        return match rows.add(bytes)? {
-            Some(rows) => Ok(Some((rows, unfinished))),
-            None => Ok(None),
-        };
-    }
-    let mut unfinished = unfinished;
-    unfinished.extend_from_slice(bytes)?;
-    let Some(rows) = rows.add(unfinished.as_slice())? else {
-        return Ok(None);
-    };
-    unfinished.clear();
-    Ok(Some((rows, unfinished)))
-}
-
 impl RowPieces {
     /// None of so many rows. This takes no memory.
     pub fn new(alloc: Global, version: Version, count: u64) -> RowPieces
@@ -80,79 +53,56 @@ impl RowPieces {
         }
     }
 
-    /// As [`RowPieces::take`], where the bytes are scanned.
-    fn scan_on(self, bytes: &[u8]) -> Result<Option<(RowPieces, usize)>, Memory>
-        requires { 0 < length bytes.now }
-        ensures { IfOk result (IsTaken self bytes.now) }
+    /// As [`RowPieces::take`], where a row is missing and the bytes are scanned.
+    fn scan_on(&mut self, bytes: &[u8]) -> Result<Option<usize>, Memory>
+        requires some { 0 < length bytes.now }
+        requires missing { 0 < self.old.left }
+        ensures { IfOk result (IsTaken self.old bytes.now self.new) }
     {
-        let RowPieces {
-            rows,
-            mut scan,
-            mut unfinished,
-            taken,
-        } = self;
-        if rows.is_full() {
-            return Ok(None);
-        }
-        let len = scan.scan(rows.version(), bytes);
+        let mut scan = self.scan;
+        let len = scan.scan(self.rows.version(), bytes);
         let (front, _) = bytes.split_at(len);
-        let Some(taken) = taken.checked_add(len as u64) else {
+        let Some(taken) = self.taken.checked_add(len as u64) else {
             return Err(Memory);
         };
+        self.unfinished.extend_from_slice(front)?;
+        self.scan = scan;
+        self.taken = taken;
         if !scan.is_at_end() {
-            unfinished.extend_from_slice(front)?;
-            let pieces = RowPieces {
-                rows,
-                scan,
-                unfinished,
-                taken,
-            };
-            return Ok(Some((pieces, len)));
+            return Ok(Some(len));
         }
-        let Some((rows, unfinished)) = with_row(rows, unfinished, front)? else {
+        if !self.rows.add(self.unfinished.as_slice())? {
             return Ok(None);
-        };
-        let pieces = RowPieces {
-            rows,
-            scan: Scan::row(),
-            unfinished,
-            taken,
-        };
-        Ok(Some((pieces, len)))
+        }
+        self.unfinished.clear();
+        self.scan = Scan::row();
+        Ok(Some(len))
     }
 
     /// Takes in bytes that come next, of which there are some, as far as one row goes, and says how
-    /// many these are. There is nothing where no rows begin so. A row whose bytes all stand here is
-    /// read from them, and only one that is cut is scanned and kept.
-    fn take(self, bytes: &[u8]) -> Result<Option<(RowPieces, usize)>, Memory>
+    /// many these are. There is no number where no rows begin so. A row whose bytes all stand here
+    /// is read from them, and only one that is cut is scanned and kept.
+    fn take(&mut self, bytes: &[u8]) -> Result<Option<usize>, Memory>
         requires { 0 < length bytes.now }
-        ensures { IfOk result (IsTaken self bytes.now) }
+        ensures { IfOk result (IsTaken self.old bytes.now self.new) }
     {
-        if !self.unfinished.is_empty() || self.rows.is_full() {
+        if self.rows.is_full() {
+            return Ok(None);
+        }
+        if !self.unfinished.is_empty() {
             return self.scan_on(bytes);
         }
-        let RowPieces {
-            rows,
-            scan,
-            unfinished,
-            taken,
-        } = self;
-        let Some((rows, len)) = rows.add_front(bytes)? else {
-            return Ok(None);
-        };
-        let Some(taken) = taken.checked_add(len as u64) else {
+        let Some(_) = self.taken.checked_add(bytes.len() as u64) else {
             return Err(Memory);
         };
-        let pieces = RowPieces {
-            rows,
-            scan,
-            unfinished,
-            taken,
+        let Some(len) = self.rows.add_front(bytes)? else {
+            return Ok(None);
         };
         if len == 0 {
-            return pieces.scan_on(bytes);
+            return self.scan_on(bytes);
         }
-        Ok(Some((pieces, len)))
+        self.taken += len as u64;
+        Ok(Some(len))
     }
 
     /// Takes in a piece. There is nothing where no rows begin so.
@@ -162,10 +112,9 @@ impl RowPieces {
         let mut pieces = self;
         let mut rest = piece;
         while !rest.is_empty() {
-            let Some((next, len)) = pieces.take(rest)? else {
+            let Some(len) = pieces.take(rest)? else {
                 return Ok(None);
             };
-            pieces = next;
             let (_, back) = rest.split_at(len);
             rest = back;
         }

@@ -1,6 +1,7 @@
 //! Sets, read from the front of the bytes.
 
-ghost use Rattle.std.specs.Prelude.{◌≡◌, ◌<◌, ◌∷◌, [], IfOk, IfErr, IfSome, IfNone};
+ghost use Rattle.std.specs.Prelude.{◌≡◌, ◌<◌, ◌∷◌, ◌++◌, [], IfOk, IfErr, IfSome, IfNone};
+ghost use Rattle.std.specs.Int.{w64, to_be_bytes};
 ghost use Rattle.cue_codec.specs.Parts.{bit, counted_bytes, piece_bytes, text_set_bytes, set_bytes};
 ghost use Rattle.cue_codec.specs.Parts.{labels_bytes};
 ghost use Rattle.cue_codec.specs.Reading.{Begins, BeginsNone, IsRefused};
@@ -8,7 +9,7 @@ ghost use Rattle.cue_codec.specs.StateRow.{IsStateIntegers, IsStateTexts, IsStat
 ghost use Rattle.cue_codec.specs.StateRow.{AreStateLabels};
 
 use crate::lists::{pieces_at, texts_at};
-use crate::reading::{flags_of, piece_at};
+use crate::reading::{flags_of, piece_at, u64_at};
 use cue_lattice::{Kind, Narrow};
 use cue_row::Labels;
 use cue_scalars::ScalarSet;
@@ -79,21 +80,29 @@ fn text_set_at(alloc: Global, bytes: &[u8]) -> Result<(TextSet, &[u8]), Kind>
     Ok((set, rest))
 }
 
-/// What stands in front of the piece of a set of integers in one piece and nothing else: no flag,
-/// and a count of one.
-const PIECE_FOLLOWS: [u8; 9] = [0, 0, 0, 0, 0, 0, 0, 0, 1];
-
-/// What stands behind it: the listed texts alone, of which there are none.
-const NO_TEXT: [u8; 9] = [0, 0, 0, 0, 0, 0, 0, 0, 0];
+/// What stands behind a zero and this count, where they stand in front.
+fn after_count(count: u64, bytes: &[u8]) -> Option<&[u8]>
+    ensures { IfSome result (λ rest. bytes.now ≡ 0 ∷ (to_be_bytes w64 count ++ rest.now)) }
+{
+    let (tag, rest) = bytes.split_first()?;
+    if *tag != 0 {
+        return None;
+    }
+    let (found, rest) = u64_at(rest)?;
+    if found != count {
+        return None;
+    }
+    Some(rest)
+}
 
 /// The set of one integer and nothing else, or of all integers up to one or from one on, where its
 /// bytes stand in front. This takes no memory.
 fn piece_set_at(alloc: Global, bytes: &[u8]) -> Option<(ScalarSet, &[u8])>
     ensures { IfSome result (λ x. Begins IsStateSet set_bytes x.0 bytes.now x.1.now) }
 {
-    let rest = bytes.strip_prefix(&PIECE_FOLLOWS)?;
+    let rest = after_count(1, bytes)?;
     let ((first, last), rest) = piece_at(rest)?;
-    let rest = rest.strip_prefix(&NO_TEXT)?;
+    let rest = after_count(0, rest)?;
     let ints = between(alloc, first, last)?;
     ints.known();
     let set = ScalarSet {

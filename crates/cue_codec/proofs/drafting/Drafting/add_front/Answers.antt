@@ -1,12 +1,19 @@
-use Rattle.std.proofs.Common.{List, ℕ, subst, arith}
-use Rattle.cue_codec.specs.Inner.Drafting.{IsNext}
-use Rattle.cue_codec.proofs.Drafted.{front_row, front_none}
+use Rattle.std.proofs.Common.{◌++◌, List, ℕ, subst, arith}
+use Rattle.cue_codec.specs.Inner.Drafting.{BeginsNoRows}
+use Rattle.cue_codec.specs.Inner.Pieces.{HasNext}
+use Rattle.cue_codec.proofs.Drafted.{front_next, not_memory}
 use Rattle.cue_codec.proofs.drafting.Drafting.add_front.Goals as goal
 
-pub returns-in-Ok-Row : goal.returns-in-Ok-Row
-returns-in-Ok-Row c =
-    front_row c.args.self c.in-Ok-Row.rows c.args.bytes.now c.next.new.reader _
-    (subst (λ (b : List ℕ). IsNext c.args.self b c.in-Ok-Row.rows c.next.new.reader) c.new-reader.ensures (rw c.in-Ok-Row.field-0-is at c.in-Ok-Row.ensures.ok)) (omega arith)
+pub returns-in-Ok-clause-ok : goal.returns-in-Ok-clause-ok
+returns-in-Ok-clause-ok c =
+    let old = c.args.self.now in
+    front_next old c.next.new.self c.args.bytes.now c.next.new.reader _ c.in-Ok.field-0
+    (subst (λ (b : List ℕ). HasNext old b c.next.new.self c.next.new.reader c.in-Ok.field-0) c.new-reader.ensures c.in-Ok.ensures.ok) (omega arith)
 
-pub returns-in-Ok-NoRow : goal.returns-in-Ok-NoRow
-returns-in-Ok-NoRow c = front_none c.args.self c.in-Ok-NoRow.rows c.args.bytes.now (rw c.in-Ok-NoRow.field-0-is at c.in-Ok-NoRow.ensures.ok).0
+pub returns-in_default-clause-ok : goal.returns-in_default-clause-ok
+returns-in_default-clause-ok c =
+    let old = c.args.self.now in (
+      c.in-Err.ensures.err,
+      subst (λ (b : List ℕ). BeginsNoRows old.version old.count (old.bytes ++ b)) c.new-reader.ensures
+          (not_memory c.in-Err.kind _ c.in_default.not-Memory c.in-Err.ensures.refused),
+    )
