@@ -7,6 +7,7 @@ use Rattle.cue_lex.specs.declared.punctuation.Punctuation.TheVariants as points
 use Rattle.cue_syntax.specs.declared.stop.Why.TheVariants as reasons
 use Rattle.cue_syntax.specs.declared.stop.Stop.{Stop}
 use Rattle.cue_syntax.specs.Spelling.{Reads, one, one_at, comma_if}
+use Rattle.cue_syntax.specs.Operands.{EndsOperand}
 use Rattle.cue_syntax.specs.Stops.{at_hand}
 use Rattle.cue_syntax.specs.Viability.{StandsSign, IsMark, IsCallOfClose}
 use Rattle.cue_syntax.specs.Recogniser.{Goal, Stack, depth, step, Closes, Moves, Stops, Refused, entries, more_parts, more_terms, bar, term, unary, expression, parenthesis, parenthesis_end, behind_close, closed}
@@ -285,3 +286,11 @@ pub first_refused : {n end : ℕ} {a : List Token} {r : Stop} → Refused n end 
 first_refused {n = n} {a = a} s =
     let f = first_here a in
     refused_behind (first_opens f.0 f.1 f.2) (refused_under (behind_first f.0 ∷ []) (first_level n f.0) (first_closes f.0) s)
+
+-- an operand or a bound that no mark joins to another one is an expression
+pub alone_moves : {n : ℕ} {a b : List Token} → ¬ StandsSign (kinds.Mark points.Star) a → EndsOperand b → Moves n (unary ∷ []) a [] b → Moves n (expression ∷ []) a [] b
+alone_moves {a = a} lacks ends m = moves_then (first_at a lacks) (moves_then (term_moves (moves_then (unmarked_moves lacks) (moves_then (part_moves m) (parts_end ends.0)))) (terms_end ends.1))
+
+-- what is refused of a first operand or bound without a mark is refused of the expression
+pub alone_refused : {n end : ℕ} {a : List Token} {r : Stop} → ¬ StandsSign (kinds.Mark points.Star) a → Refused n end (unary ∷ []) a r → Refused n end (expression ∷ []) a r
+alone_refused lacks s = first_refused (refused_behind (unmarked_moves lacks) (part_refused s))

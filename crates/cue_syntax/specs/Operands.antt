@@ -35,3 +35,9 @@ abbrev pub IsSign : Sign → TokenKind → Type 0
 IsSign signs.Minus kind = kind ≡ kinds.Mark points.Minus
 IsSign signs.Plus kind = kind ≡ kinds.Mark points.Plus
 IsSign signs.Absent kind = (kind ≢ kinds.Mark points.Minus) × (kind ≢ kinds.Mark points.Plus)
+
+-- neither `&` nor `|` follows an operand, and no parenthesis, which would make it a call
+abbrev pub EndsOperand : List Token → Type 0
+EndsOperand ts =
+    ¬ StandsSign (kinds.Mark points.Ampersand) ts × ¬ StandsSign (kinds.Mark points.Bar) ts
+    × ¬ StandsSign (kinds.Mark points.OpenParenthesis) ts

@@ -1,7 +1,7 @@
 ghost use Rattle.std.specs.Prelude.{◌≡◌, ◌+◌, ◌<◌, ◌∷◌, ◌↔◌, [], IfOk, IfErr, IfSome, IfNone};
 ghost use Rattle.std.specs.Prelude.{length, MatchOption, IsTrue, false, codes};
 ghost use Rattle.cue_syntax.specs.Spelling.{Reads, one, one_at, comma_if, IsPlace};
-ghost use Rattle.cue_syntax.specs.Operands.{IsOperandAt};
+ghost use Rattle.cue_syntax.specs.Operands.{IsOperandAt, EndsOperand};
 ghost use Rattle.cue_syntax.specs.Parsed.{IsFurther, IsOnward};
 ghost use Rattle.cue_lattice.specs.Refusal.{refusal_at};
 ghost use Rattle.cue_syntax.specs.Stops.{at_hand};
@@ -212,6 +212,22 @@ impl<'a> Cursor<'a> {
                 }
             }
             _ => Err(self.syntax()),
+        }
+    }
+
+    /// Whether what stands at hand ends an operand and what holds it: no mark that joins operands,
+    /// and no call.
+    pub fn ends_operand(self) -> bool
+        ensures { IsTrue result → EndsOperand self.entry.rest.now }
+    {
+        match self.next() {
+            Some((token, _)) => match &token.kind {
+                TokenKind::Mark(
+                    Punctuation::Ampersand | Punctuation::Bar | Punctuation::OpenParenthesis,
+                ) => false,
+                _ => true,
+            },
+            None => true,
         }
     }
 

@@ -2,7 +2,7 @@ ghost use Rattle.std.specs.Prelude.{◌≡◌, ◌+◌, ◌⊎◌, ◌↔◌, �
 ghost use Rattle.std.specs.Prelude.{Bool, false, true};
 ghost use Rattle.cue_syntax.specs.Syntax.{expression, rest_tree, branch_tree, entry_tree};
 ghost use Rattle.cue_syntax.specs.Syntax.{elements, entries};
-ghost use Rattle.cue_syntax.specs.Grammar.{IsUnary, IsConjunct, IsNested, AreNested};
+ghost use Rattle.cue_syntax.specs.Grammar.{IsExpression, IsUnary, IsConjunct, IsNested, AreNested};
 ghost use Rattle.cue_syntax.specs.Grammar.{IsTermOf, IsRestOf, IsEntry, AreElements, AreEntries};
 ghost use Rattle.cue_syntax.specs.Grammar.{AreBraced};
 ghost use Rattle.cue_syntax.specs.Viability.{StandsSign, IsCallOfClose, BeginsLabel};
@@ -17,7 +17,7 @@ ghost use Rattle.cue_syntax.specs.Stops.{memory, at_hand};
 
 use crate::cursor::{Cursor, Operand, Parsed};
 use crate::label::{begins_label, label, labels};
-use crate::literal::literal;
+use crate::literal::{literal, lone};
 use crate::memory::{boxed, fitted, push};
 use crate::stop::{Stop, Why};
 use crate::tree::{Declaration, Expr, Rest, Term};
@@ -41,7 +41,82 @@ pub fn expression<'a>(alloc: Global, cursor: Cursor<'a>, room: usize) -> Parsed<
         MovesBetween room (goals.expression ∷ []) [] cursor.entry r.1) }
     ensures refused { IfErr result (Refuses room (goals.expression ∷ []) cursor.entry) }
 {
-    let (first, rest) = term(alloc, cursor, room)?;
+    match lone(cursor) {
+        Some(read) => Ok(read),
+        None => compound(alloc, cursor, room),
+    }
+}
+
+/// An expression that is no literal alone.
+#[cycle(parser)]
+fn compound<'a>(alloc: Global, cursor: Cursor<'a>, room: usize) -> Parsed<'a, Expr<'a>>
+    ensures spelled { IfOk result (ReadsExpression room cursor.entry) }
+    ensures further { IfOk result (λ r. IsFurther cursor.entry r.1) }
+    ensures moves { IfOk result (λ r.
+        MovesBetween room (goals.expression ∷ []) [] cursor.entry r.1) }
+    ensures refused { IfErr result (Refuses room (goals.expression ∷ []) cursor.entry) }
+{
+    if cursor.stands(Punctuation::Star) {
+        let (marked, behind) = term(alloc, cursor, room)?;
+        return disjunction(alloc, cursor, marked, behind, room);
+    }
+    let (first, rest) = unary(alloc, cursor, room)?;
+    if rest.ends_operand() {
+        return Ok((first, rest));
+    }
+    joined(alloc, cursor, first, rest, room)
+}
+
+/// An expression without a mark, of which the first operand or bound is read.
+#[cycle(parser)]
+fn joined<'a>(
+    alloc: Global,
+    cursor: Cursor<'a>,
+    first: Expr<'a>,
+    rest: Cursor<'a>,
+    room: usize,
+) -> Parsed<'a, Expr<'a>>
+    requires unmarked { ¬ StandsSign (TokenKind.Mark Punctuation.Star) cursor.rest.now }
+    requires spelled { IsExpression room cursor.rest.now (expression first) rest.rest.now }
+    requires further { IsFurther cursor rest }
+    requires moves { MovesBetween room (goals.unary ∷ []) [] cursor rest }
+    requires unary { IsUnary (expression first) }
+    ensures spelled { IfOk result (ReadsExpression room cursor.entry) }
+    ensures further { IfOk result (λ r. IsFurther cursor.entry r.1) }
+    ensures moves { IfOk result (λ r.
+        MovesBetween room (goals.expression ∷ []) [] cursor.entry r.1) }
+    ensures refused { IfErr result (Refuses room (goals.expression ∷ []) cursor.entry) }
+{
+    let from = cursor.place();
+    let (value, rest) = parts(alloc, cursor, first, rest, room)?;
+    let first = Term {
+        marked: false,
+        from,
+        value,
+    };
+    disjunction(alloc, cursor, first, rest, room)
+}
+
+/// An expression of which the first term is read: this term, or two or more joined by `|`.
+#[cycle(parser)]
+fn disjunction<'a>(
+    alloc: Global,
+    cursor: Cursor<'a>,
+    first: Term<'a>,
+    rest: Cursor<'a>,
+    room: usize,
+) -> Parsed<'a, Expr<'a>>
+    requires spelled { IsTermOf room cursor.rest.now (branch_tree first) rest.rest.now }
+    requires further { IsFurther cursor rest }
+    requires moves { MovesBetween room (goals.term ∷ []) [] cursor rest }
+    requires marked { IsTrue first.marked
+        ↔ StandsSign (TokenKind.Mark Punctuation.Star) cursor.rest.now }
+    ensures spelled { IfOk result (ReadsExpression room cursor.entry) }
+    ensures further { IfOk result (λ r. IsFurther cursor.entry r.1) }
+    ensures moves { IfOk result (λ r.
+        MovesBetween room (goals.expression ∷ []) [] cursor.entry r.1) }
+    ensures refused { IfErr result (Refuses room (goals.expression ∷ []) cursor.entry) }
+{
     let Some(mut after) = rest.skip(Punctuation::Bar) else {
         if first.marked {
             return Err(rest.syntax());
@@ -111,6 +186,30 @@ fn conjunction<'a>(alloc: Global, cursor: Cursor<'a>, room: usize) -> Parsed<'a,
         cursor.entry) }
 {
     let (first, rest) = unary(alloc, cursor, room)?;
+    parts(alloc, cursor, first, rest, room)
+}
+
+/// One part, which is read, or two or more parts joined by `&`.
+#[cycle(parser)]
+fn parts<'a>(
+    alloc: Global,
+    cursor: Cursor<'a>,
+    first: Expr<'a>,
+    rest: Cursor<'a>,
+    room: usize,
+) -> Parsed<'a, Expr<'a>>
+    requires spelled { IsExpression room cursor.rest.now (expression first) rest.rest.now }
+    requires further { IsFurther cursor rest }
+    requires moves { MovesBetween room (goals.unary ∷ []) [] cursor rest }
+    requires unary { IsUnary (expression first) }
+    ensures spelled { IfOk result (ReadsExpression room cursor.entry) }
+    ensures further { IfOk result (λ r. IsFurther cursor.entry r.1) }
+    ensures moves { IfOk result (λ r.
+        MovesBetween room (goals.unary ∷ goals.more_parts ∷ []) [] cursor.entry r.1) }
+    ensures conjunct { IfOk result (λ r. IsConjunct (expression r.0)) }
+    ensures refused { IfErr result (Refuses room (goals.unary ∷ goals.more_parts ∷ [])
+        cursor.entry) }
+{
     let Some(mut after) = rest.skip(Punctuation::Ampersand) else {
         return Ok((first, rest));
     };

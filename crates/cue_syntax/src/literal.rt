@@ -1,4 +1,4 @@
-ghost use Rattle.std.specs.Prelude.{◌≡◌, ◌∷◌, [], ◌↔◌, IfOk, IfErr, IsTrue};
+ghost use Rattle.std.specs.Prelude.{◌≡◌, ◌∷◌, [], ◌↔◌, IfOk, IfErr, IfSome, IsTrue};
 ghost use Rattle.cue_syntax.specs.Spelling.{Reads, one, spell_signed};
 ghost use Rattle.cue_syntax.specs.Spelling.{identifier_kind, comparison_kind};
 ghost use Rattle.cue_syntax.specs.Grammar as Grammar;
@@ -6,7 +6,7 @@ ghost use Rattle.cue_syntax.specs.Grammar.{IsInRange, IsOperand};
 ghost use Rattle.cue_syntax.specs.Grammar.{IsClause, IsKeyword};
 ghost use Rattle.cue_syntax.specs.Viability.{Stands, StandsSign, Opens, IsCallOfClose};
 ghost use Rattle.cue_syntax.specs.Viability.{IsIdentifier, IsComparison, BeginsInteger};
-ghost use Rattle.cue_syntax.specs.Operands.{IsBeginning, IsSign};
+ghost use Rattle.cue_syntax.specs.Operands.{IsBeginning, IsSign, EndsOperand};
 ghost use Rattle.cue_syntax.specs.Recogniser.{unary, signed, magnitude};
 ghost use Rattle.cue_syntax.specs.Parsed.{IsFurther, ReadsLiteral, MovesBetween, RefusesAlways};
 
@@ -46,6 +46,48 @@ pub fn literal<'a>(cursor: Cursor<'a>) -> Parsed<'a, Expr<'a>>
             Beginning::NotEqual => other(cursor),
             Beginning::Nothing => Err(cursor.syntax()),
         },
+    }
+}
+
+/// A literal of one token, where what stands behind it ends the expression.
+pub fn lone<'a>(cursor: Cursor<'a>) -> Option<(Expr<'a>, Cursor<'a>)>
+    ensures spelled { IfSome result (ReadsLiteral cursor.entry) }
+    ensures further { IfSome result (λ r. IsFurther cursor.entry r.1) }
+    ensures moves { IfSome result (λ r. MovesBetween 0 (unary ∷ []) [] cursor.entry r.1) }
+    ensures unmarked { IfSome result (λ r.
+        ¬ StandsSign (TokenKind.Mark Punctuation.Star) cursor.entry.rest.now) }
+    ensures ends { IfSome result (λ r. EndsOperand r.1.rest.now) }
+{
+    let (token, after) = cursor.next()?;
+    if !after.ends_operand() {
+        return None;
+    }
+    match &token.kind {
+        TokenKind::Integer(magnitude) => {
+            if *magnitude > greatest(Sign::Absent) {
+                return None;
+            }
+            let integer = Signed {
+                sign: Sign::Absent,
+                magnitude: *magnitude,
+            };
+            Some((Expr::Integer(integer), after))
+        }
+        TokenKind::Text(text) => Some((Expr::Text(text.word()), after)),
+        TokenKind::Name(name) => {
+            if is_keyword(name) {
+                return None;
+            }
+            let name = Identifier::Plain(name.share());
+            let from = token.from as usize;
+            Some((Expr::Name { name, from }, after))
+        }
+        TokenKind::Definition(name) => {
+            let name = Identifier::Definition(name.share());
+            let from = token.from as usize;
+            Some((Expr::Name { name, from }, after))
+        }
+        _ => None,
     }
 }
 

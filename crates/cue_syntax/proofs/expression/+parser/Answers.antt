@@ -5,12 +5,12 @@ use Rattle.cue_lex.specs.declared.punctuation.Punctuation.TheVariants as points
 use Rattle.cue_syntax.specs.declared.tree.Expr.{Expr}
 use Rattle.cue_syntax.specs.declared.tree.Rest.TheVariants as rests
 use Rattle.cue_syntax.specs.declared.tree.Term.{Term}
-use Rattle.cue_syntax.specs.Syntax.{no_elements, parenthesis, struct, close, list, conjunction, disjunction, elements, branches, entries, expression, rest_tree}
-use Rattle.cue_syntax.specs.Grammar.{IsExpression, IsEntry, AreElements, AreEntries, AreNested}
-use Rattle.cue_syntax.proofs.ReadingsJoin.{reads_one_at}
+use Rattle.cue_syntax.specs.Syntax.{no_elements, branch, parenthesis, struct, close, list, conjunction, disjunction, elements, branches, entries, expression, rest_tree}
+use Rattle.cue_syntax.specs.Grammar.{IsExpression, IsTermOf, IsEntry, AreElements, AreEntries, AreNested}
+use Rattle.cue_syntax.proofs.ReadingsJoin.{reads_one_at, reads_none}
 use Rattle.cue_syntax.proofs.RowsGrow.{nested_pushed}
-use Rattle.cue_syntax.proofs.Views.{view-Parenthesis, view-Struct, view-Close, view-Conjunction, view-Disjunction, view-Field, view-Definition, view-List, view-Ends}
-use Rattle.cue_syntax.proofs.PartsMakeTrees.{AreTerms, AreParts, Between, terms_first, terms_next, terms_more, between_pushed, disjunction_is, parts_first, parts_next, parts_more, conjunction_is, elements_next, entries_next, braced_is, struct_is, close_is, parenthesis_is, list_is, open_list_is, field_is, definition_is}
+use Rattle.cue_syntax.proofs.Views.{view-term, view-Parenthesis, view-Struct, view-Close, view-Conjunction, view-Disjunction, view-Field, view-Definition, view-List, view-Ends}
+use Rattle.cue_syntax.proofs.PartsMakeTrees.{term_is, AreTerms, AreParts, Between, terms_first, terms_next, terms_more, between_pushed, disjunction_is, parts_first, parts_next, parts_more, conjunction_is, elements_next, entries_next, braced_is, struct_is, close_is, parenthesis_is, list_is, open_list_is, field_is, definition_is}
 use Rattle.cue_syntax.specs.Viability.{StandsSign, BeginsLabel, behind_begun}
 use Rattle.cue_syntax.specs.Begun.{BeginsEntry}
 use Rattle.cue_syntax.proofs.TextsBeginSo.{begun, begins_always, no_memory, read_stands}
@@ -18,7 +18,7 @@ use Rattle.cue_syntax.specs.Recogniser as goals
 use Rattle.cue_syntax.proofs.MovesAndStops.{moves_then, moves_more, refused_behind, refused_end, if_ok, stopped, stops_here, stops_there}
 use Rattle.cue_syntax.proofs.RefusalsPassOn.{passed_on, passed_on_each, memory_passed_on}
 use Rattle.cue_syntax.proofs.MovesOverLabels.{misses_entry}
-use Rattle.cue_syntax.proofs.MovesOverOperands.{no_room, inner_comma, inner_closes, inner_halts, parenthesis_opens, parenthesis_refused, struct_moves, struct_refused, call_opens, call_paren, call_no_room, closed_halts, brace_no_room, close_moves, close_refused, unmarked_moves, marked_moves, parts_end, parts_go, part_moves, part_refused, terms_end, terms_go, term_moves, term_refused, first_moves, first_go, first_end, first_halts, first_refused}
+use Rattle.cue_syntax.proofs.MovesOverOperands.{no_room, inner_comma, inner_closes, inner_halts, parenthesis_opens, parenthesis_refused, struct_moves, struct_refused, call_opens, call_paren, call_no_room, closed_halts, brace_no_room, close_moves, close_refused, unmarked_moves, marked_moves, parts_end, parts_go, part_moves, part_refused, terms_end, terms_go, term_moves, term_refused, first_moves, first_go, first_end, first_halts, first_refused, alone_moves, alone_refused}
 use Rattle.cue_syntax.proofs.MovesOverRows.{ellipsis_comma, ellipsis_closes, ellipsis_halts, list_opens, refused_inside, list_refused, dots_refused, row_ends, element_moves, element_refused, element_next, row_closes, row_halts, open_ellipsis, entry_next, braces_close, braces_halt, entry_ellipsis, chain_value, chain_value_refused, field_moves, field_refused, definition_moves, definition_refused, no_entry_refused}
 use Rattle.cue_syntax.proofs.expression.+parser.Goals as goal
 use Rattle.cue_syntax.proofs.expression.+parser.Goals.{list-then-row-via-then-row, list-then-row-via-else-row+then-is_empty, list-then-row+in_default, list-else-row+else-is_empty}
@@ -53,20 +53,20 @@ structure-returns-clause-spelled t c =
     (subst (λ z. IsExpression c.args.room a (struct (entries z) c.in_ok-row.row.comma) b) (sym c.fitted.ensures)
     (struct_is c.in_ok-inside.ensures.left c.in_ok-open.ensures.reads c.in_ok-row.ensures.spelled))
 
-pub conjunction-parts-init : goal.conjunction-parts-init
-conjunction-parts-init t c =
-    let pushed : c.push.new.values.items ≡ c.in_ok-first.first ∷ [] =
-    c.in_ok-push.ensures.pushed ∙ ap (λ (z : List Expr). z ++ c.in_ok-first.first ∷ []) c.new-parts.ensures.items in
+pub parts-parts-init : goal.parts-parts-init
+parts-parts-init t c =
+    let pushed : c.push.new.values.items ≡ c.args.first ∷ [] =
+    c.in_ok-push.ensures.pushed ∙ ap (λ (z : List Expr). z ++ c.args.first ∷ []) c.new-parts.ensures.items in
     record {
-      shorter = omega (arith, c.in_ok-first.ensures.further.shorter, c.in-Some.ensures.further.shorter);
+      shorter = omega (arith, c.requires.further.shorter, c.in-Some.ensures.further.shorter);
       parts = subst (λ z. AreParts c.args.room c.args.cursor.rest.now z c.in-Some.after.rest.now) (sym pushed)
-          (parts_first c.in_ok-first.first c.in_ok-first.ensures.spelled c.in_ok-first.ensures.unary c.in-Some.ensures.reads);
-      end = c.in-Some.ensures.further.end ∙ c.in_ok-first.ensures.further.end;
-      moves = moves_then (part_moves c.in_ok-first.ensures.moves) (parts_go c.in-Some.ensures.reads);
+          (parts_first c.args.first c.requires.spelled c.requires.unary c.in-Some.ensures.reads);
+      end = c.in-Some.ensures.further.end ∙ c.requires.further.end;
+      moves = moves_then (part_moves c.requires.moves) (parts_go c.in-Some.ensures.reads);
     }
 
-pub conjunction-parts-preserved : goal.conjunction-parts-preserved
-conjunction-parts-preserved t c =
+pub parts-parts-preserved : goal.parts-parts-preserved
+parts-parts-preserved t c =
     let pushed : c.push-in-parts.new.values.items ≡ c.parts.parts.items ++ c.in_ok-next.next ∷ [] = search rules in
     record {
       shorter = omega (arith, c.in_ok-next.ensures.further.shorter, c.in-Some-skip.ensures.further.shorter);
@@ -77,8 +77,8 @@ conjunction-parts-preserved t c =
       moves = moves_then c.parts.invariant.moves (moves_then (part_moves c.in_ok-next.ensures.moves) (parts_go c.in-Some-skip.ensures.reads));
     }
 
-pub conjunction-returns-in-None-clause-spelled : goal.conjunction-returns-in-None-clause-spelled
-conjunction-returns-in-None-clause-spelled t c =
+pub parts-returns-in-None-clause-spelled : goal.parts-returns-in-None-clause-spelled
+parts-returns-in-None-clause-spelled t c =
     let a = c.args.cursor.rest.now in
     let b = c.in_ok-next.rest.rest.now in
     let pushed : c.push-in-parts.new.values.items ≡ c.parts.parts.items ++ c.in_ok-next.next ∷ [] = search rules in
@@ -86,20 +86,20 @@ conjunction-returns-in-None-clause-spelled t c =
     (subst (λ (z : List Expr). IsExpression c.args.room a (conjunction (elements z)) b) (sym pushed)
     (conjunction_is (parts_next c.parts.parts.items c.in_ok-next.next c.parts.invariant.parts c.in_ok-next.ensures.spelled c.in_ok-next.ensures.unary)))
 
-pub expression-terms-init : goal.expression-terms-init
-expression-terms-init t c =
-    let pushed : c.push.new.values.items ≡ c.in_ok-first.first ∷ [] =
-    c.in_ok-push.ensures.pushed ∙ ap (λ (z : List Term). z ++ c.in_ok-first.first ∷ []) c.new-terms.ensures.items in
+pub disjunction-terms-init : goal.disjunction-terms-init
+disjunction-terms-init t c =
+    let pushed : c.push.new.values.items ≡ c.args.first ∷ [] =
+    c.in_ok-push.ensures.pushed ∙ ap (λ (z : List Term). z ++ c.args.first ∷ []) c.new-terms.ensures.items in
     record {
-      shorter = omega (arith, c.in_ok-first.ensures.further.shorter, c.in-Some.ensures.further.shorter);
+      shorter = omega (arith, c.requires.further.shorter, c.in-Some.ensures.further.shorter);
       terms = subst (λ z. AreTerms c.args.room c.args.cursor.rest.now z c.in-Some.after.rest.now) (sym pushed)
-          (terms_first c.in_ok-first.first c.in_ok-first.ensures.spelled c.in-Some.ensures.reads);
-      end = c.in-Some.ensures.further.end ∙ c.in_ok-first.ensures.further.end;
-      moves = moves_then (first_moves c.in_ok-first.first.marked c.in_ok-first.ensures.marked.0 c.in_ok-first.ensures.marked.1 c.in_ok-first.ensures.moves) (first_go c.in_ok-first.first.marked c.in-Some.ensures.reads);
+          (terms_first c.args.first c.requires.spelled c.in-Some.ensures.reads);
+      end = c.in-Some.ensures.further.end ∙ c.requires.further.end;
+      moves = moves_then (first_moves c.args.first.marked c.requires.marked.0 c.requires.marked.1 c.requires.moves) (first_go c.args.first.marked c.in-Some.ensures.reads);
     }
 
-pub expression-terms-preserved : goal.expression-terms-preserved
-expression-terms-preserved t c =
+pub disjunction-terms-preserved : goal.disjunction-terms-preserved
+disjunction-terms-preserved t c =
     let pushed : c.push-in-terms.new.values.items ≡ c.terms.terms.items ++ c.in_ok-next.next ∷ [] = search rules in
     record {
       shorter = omega (arith, c.in_ok-next.ensures.further.shorter, c.in-Some-skip.ensures.further.shorter);
@@ -109,8 +109,8 @@ expression-terms-preserved t c =
       moves = moves_then c.terms.invariant.moves (moves_then (term_moves c.in_ok-next.ensures.moves) (terms_go c.in-Some-skip.ensures.reads));
     }
 
-pub expression-returns-in-None-clause-spelled : goal.expression-returns-in-None-clause-spelled
-expression-returns-in-None-clause-spelled t c =
+pub disjunction-returns-in-None-clause-spelled : goal.disjunction-returns-in-None-clause-spelled
+disjunction-returns-in-None-clause-spelled t c =
     let a = c.args.cursor.rest.now in
     let b = c.in_ok-next.rest.rest.now in
     let pushed : c.push-in-terms.new.values.items ≡ c.terms.terms.items ++ c.in_ok-next.next ∷ [] = search rules in
@@ -217,32 +217,56 @@ further-returns-in_err-each-clause-refused t c =
 pub conjunction-returns-in_err-first-clause-refused : goal.conjunction-returns-in_err-first-clause-refused
 conjunction-returns-in_err-first-clause-refused t c = passed_on c.from_residual.result c.from_residual.ensures.1 (part_refused c.in_err-first.ensures.refused)
 
-pub conjunction-returns-in_err-next-clause-refused : goal.conjunction-returns-in_err-next-clause-refused
-conjunction-returns-in_err-next-clause-refused t c = passed_on c.from_residual-in_err-next.result c.from_residual-in_err-next.ensures.1 (refused_behind c.parts.invariant.moves (refused_end c.parts.invariant.end (part_refused c.in_err-next.ensures.refused)))
+pub parts-returns-in_err-next-clause-refused : goal.parts-returns-in_err-next-clause-refused
+parts-returns-in_err-next-clause-refused t c = passed_on c.from_residual-in_err-next.result c.from_residual-in_err-next.ensures.1 (refused_behind c.parts.invariant.moves (refused_end c.parts.invariant.end (part_refused c.in_err-next.ensures.refused)))
 
-pub conjunction-returns-in-None-clause-moves : goal.conjunction-returns-in-None-clause-moves
-conjunction-returns-in-None-clause-moves t c =
+pub parts-returns-in-None-clause-moves : goal.parts-returns-in-None-clause-moves
+parts-returns-in-None-clause-moves t c =
     let lacks : ¬ StandsSign (kinds.Mark points.Ampersand) c.in_ok-next.rest.rest.now = search rules in
     moves_then c.parts.invariant.moves (moves_then (part_moves c.in_ok-next.ensures.moves) (parts_end lacks))
 
-pub expression-returns-in_err-first-clause-refused : goal.expression-returns-in_err-first-clause-refused
-expression-returns-in_err-first-clause-refused t c = passed_on c.from_residual.result c.from_residual.ensures.1 (first_refused c.in_err-first.ensures.refused)
+pub expression-returns-in-Some-clause-moves : goal.expression-returns-in-Some-clause-moves
+expression-returns-in-Some-clause-moves t c = alone_moves c.in-Some.ensures.unmarked c.in-Some.ensures.ends (moves_more (omega arith) c.in-Some.ensures.moves)
 
-pub expression-returns-then-first-clause-refused : goal.expression-returns-then-first-clause-refused
-expression-returns-then-first-clause-refused t c =
-    let lacks : ¬ StandsSign (kinds.Mark points.Bar) c.in_ok-first.rest.rest.now = search rules in
-    refused_behind (first_moves c.in_ok-first.first.marked c.in_ok-first.ensures.marked.0 c.in_ok-first.ensures.marked.1 c.in_ok-first.ensures.moves) (refused_end c.in_ok-first.ensures.further.end (stopped (stops_here c.syntax.ensures (first_halts c.in_ok-first.first.marked c.if-first.true lacks))))
+pub compound-returns-in_err-marked-clause-refused : goal.compound-returns-in_err-marked-clause-refused
+compound-returns-in_err-marked-clause-refused t c = passed_on c.from_residual.result c.from_residual.ensures.1 (first_refused c.in_err-marked.ensures.refused)
 
-pub expression-returns-in_default-clause-moves : goal.expression-returns-in_default-clause-moves
-expression-returns-in_default-clause-moves t c =
-    let lacks : ¬ StandsSign (kinds.Mark points.Bar) c.in_ok-first.rest.rest.now = search rules in
-    moves_then (first_moves c.in_ok-first.first.marked c.in_ok-first.ensures.marked.0 c.in_ok-first.ensures.marked.1 c.in_ok-first.ensures.moves) (first_end c.in_ok-first.first.marked c.if-first.false lacks)
+pub compound-returns-in_err-first-clause-refused : goal.compound-returns-in_err-first-clause-refused
+compound-returns-in_err-first-clause-refused t c =
+    let lacks : ¬ StandsSign (kinds.Mark points.Star) c.args.cursor.rest.now = search rules in
+    passed_on c.from_residual-in_err-first.result c.from_residual-in_err-first.ensures.1 (alone_refused lacks c.in_err-first.ensures.refused)
 
-pub expression-returns-in_err-next-clause-refused : goal.expression-returns-in_err-next-clause-refused
-expression-returns-in_err-next-clause-refused t c = passed_on c.from_residual-in_err-next.result c.from_residual-in_err-next.ensures.1 (refused_behind c.terms.invariant.moves (refused_end c.terms.invariant.end (term_refused c.in_err-next.ensures.refused)))
+pub compound-returns-then-ends_operand-clause-moves : goal.compound-returns-then-ends_operand-clause-moves
+compound-returns-then-ends_operand-clause-moves t c =
+    let lacks : ¬ StandsSign (kinds.Mark points.Star) c.args.cursor.rest.now = search rules in
+    alone_moves lacks (c.ends_operand.ensures c.if-ends_operand.true) c.in_ok-first.ensures.moves
 
-pub expression-returns-in-None-clause-moves : goal.expression-returns-in-None-clause-moves
-expression-returns-in-None-clause-moves t c =
+pub joined-disjunction-requires : goal.joined-disjunction-requires
+joined-disjunction-requires t c =
+    let a = c.args.cursor.rest.now in
+    let b = c.in_ok-value.rest.rest.now in
+    let first : IsTermOf c.args.room a (branch false c.place-from.result (expression c.in_ok-value.value)) b =
+    term_is false c.place-from.result reads_none c.place-from.ensures.is c.in_ok-value.ensures.spelled c.in_ok-value.ensures.conjunct in
+    (omega (arith, c.decreases), (subst (λ z. IsTermOf c.args.room a z b) (sym (view-term _)) first, (c.in_ok-value.ensures.further, (moves_then (unmarked_moves c.requires.unmarked) c.in_ok-value.ensures.moves, (λ e. (let f : false ≡ true = e in cc), λ stands. absurd (c.requires.unmarked stands))))))
+
+pub joined-returns-in_err-value-clause-refused : goal.joined-returns-in_err-value-clause-refused
+joined-returns-in_err-value-clause-refused t c = passed_on c.from_residual.result c.from_residual.ensures.1 (first_refused (refused_behind (unmarked_moves c.requires.unmarked) c.in_err-value.ensures.refused))
+
+pub disjunction-returns-then-first-clause-refused : goal.disjunction-returns-then-first-clause-refused
+disjunction-returns-then-first-clause-refused t c =
+    let lacks : ¬ StandsSign (kinds.Mark points.Bar) c.args.rest.rest.now = search rules in
+    refused_behind (first_moves c.args.first.marked c.requires.marked.0 c.requires.marked.1 c.requires.moves) (refused_end c.requires.further.end (stopped (stops_here c.syntax.ensures (first_halts c.args.first.marked c.if-first.true lacks))))
+
+pub disjunction-returns-in_default-clause-moves : goal.disjunction-returns-in_default-clause-moves
+disjunction-returns-in_default-clause-moves t c =
+    let lacks : ¬ StandsSign (kinds.Mark points.Bar) c.args.rest.rest.now = search rules in
+    moves_then (first_moves c.args.first.marked c.requires.marked.0 c.requires.marked.1 c.requires.moves) (first_end c.args.first.marked c.if-first.false lacks)
+
+pub disjunction-returns-in_err-next-clause-refused : goal.disjunction-returns-in_err-next-clause-refused
+disjunction-returns-in_err-next-clause-refused t c = passed_on c.from_residual-in_err-next.result c.from_residual-in_err-next.ensures.1 (refused_behind c.terms.invariant.moves (refused_end c.terms.invariant.end (term_refused c.in_err-next.ensures.refused)))
+
+pub disjunction-returns-in-None-clause-moves : goal.disjunction-returns-in-None-clause-moves
+disjunction-returns-in-None-clause-moves t c =
     let lacks : ¬ StandsSign (kinds.Mark points.Bar) c.in_ok-next.rest.rest.now = search rules in
     moves_then c.terms.invariant.moves (moves_then (term_moves c.in_ok-next.ensures.moves) (terms_end lacks))
 

@@ -12,40 +12,52 @@ abbrev rank : ℕ → ℕ → ℕ
 rank room place = 16 * room + place
 
 abbrev pub decreases-braces : goal.decreases-braces
-decreases-braces l = rank l.room 9
+decreases-braces l = rank l.room 13
 
 abbrev pub decreases-declarations : goal.decreases-declarations
-decreases-declarations l = rank l.room 8
+decreases-declarations l = rank l.room 12
 
 abbrev pub decreases-declaration : goal.decreases-declaration
-decreases-declaration l = rank l.room 7
+decreases-declaration l = rank l.room 11
 
 abbrev pub decreases-list : goal.decreases-list
 decreases-list l = rank l.room 0
 
 abbrev pub decreases-further : goal.decreases-further
-decreases-further l = rank l.room 6
+decreases-further l = rank l.room 10
 
 abbrev pub decreases-elements : goal.decreases-elements
-decreases-elements l = rank l.room 6
+decreases-elements l = rank l.room 10
 
 abbrev pub decreases-definition : goal.decreases-definition
-decreases-definition l = rank l.room 6
+decreases-definition l = rank l.room 10
 
 abbrev pub decreases-field : goal.decreases-field
-decreases-field l = rank l.room 6
+decreases-field l = rank l.room 10
 
 abbrev pub decreases-parenthesis : goal.decreases-parenthesis
 decreases-parenthesis l = rank l.room 0
 
 abbrev pub decreases-expression : goal.decreases-expression
-decreases-expression l = rank l.room 5
+decreases-expression l = rank l.room 9
+
+abbrev pub decreases-compound : goal.decreases-compound
+decreases-compound l = rank l.room 8
+
+abbrev pub decreases-joined : goal.decreases-joined
+decreases-joined l = rank l.room 7
+
+abbrev pub decreases-disjunction : goal.decreases-disjunction
+decreases-disjunction l = rank l.room 6
 
 abbrev pub decreases-term : goal.decreases-term
-decreases-term l = rank l.room 4
+decreases-term l = rank l.room 5
 
 abbrev pub decreases-conjunction : goal.decreases-conjunction
-decreases-conjunction l = rank l.room 3
+decreases-conjunction l = rank l.room 4
+
+abbrev pub decreases-parts : goal.decreases-parts
+decreases-parts l = rank l.room 3
 
 abbrev pub decreases-unary : goal.decreases-unary
 decreases-unary l = rank l.room 2
@@ -53,27 +65,27 @@ decreases-unary l = rank l.room 2
 abbrev pub decreases-close : goal.decreases-close
 decreases-close l = rank l.room 1
 
-abbrev pub invariant-expression-terms : goal.invariant-expression-terms
-invariant-expression-terms l = record {
+abbrev pub invariant-disjunction-terms : goal.invariant-disjunction-terms
+invariant-disjunction-terms l = record {
   shorter : length l.after.rest.now ≤ length l.cursor.rest.now;
   terms : AreTerms l.room l.cursor.rest.now l.terms.items l.after.rest.now;
   end : l.after.end ≡ l.cursor.end;
   moves : Moves l.room (expression ∷ []) l.cursor.rest.now (term ∷ more_terms ∷ []) l.after.rest.now;
 }
 
-abbrev pub decreases-expression-terms : goal.decreases-expression-terms
-decreases-expression-terms l = length l.after.rest.now
+abbrev pub decreases-disjunction-terms : goal.decreases-disjunction-terms
+decreases-disjunction-terms l = length l.after.rest.now
 
-abbrev pub invariant-conjunction-parts : goal.invariant-conjunction-parts
-invariant-conjunction-parts l = record {
+abbrev pub invariant-parts-parts : goal.invariant-parts-parts
+invariant-parts-parts l = record {
   shorter : length l.after.rest.now ≤ length l.cursor.rest.now;
   parts : AreParts l.room l.cursor.rest.now l.parts.items l.after.rest.now;
   end : l.after.end ≡ l.cursor.end;
   moves : Moves l.room (unary ∷ more_parts ∷ []) l.cursor.rest.now (unary ∷ more_parts ∷ []) l.after.rest.now;
 }
 
-abbrev pub decreases-conjunction-parts : goal.decreases-conjunction-parts
-decreases-conjunction-parts l = length l.after.rest.now
+abbrev pub decreases-parts-parts : goal.decreases-parts-parts
+decreases-parts-parts l = length l.after.rest.now
 
 abbrev pub invariant-elements-elements : goal.invariant-elements-elements
 invariant-elements-elements l = record {
