@@ -6,4 +6,6 @@ pub mod Lines
 pub mod Pieces
 pub mod Requests
 pub mod Streams
+pub mod Takings
 pub mod Texts
+pub mod Unfinished

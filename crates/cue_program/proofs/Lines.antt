@@ -39,7 +39,7 @@ past : (t : Bool) (k n : ℕ) → nat_lt k n ≡ t → cond t (Some k) None ≡ 
 past true k n is e = absurd (none-some k (sym e))
 past false k n is e = ltb-false k n is
 
-none_breaks : (bytes : List ℕ) → position (λ b. b == 10) bytes ≡ None → (i : ℕ) → i < length bytes → (get_or bytes i 0 == 10) ≡ false
+pub none_breaks : (bytes : List ℕ) → position (λ b. b == 10) bytes ≡ None → (i : ℕ) → i < length bytes → (get_or bytes i 0 == 10) ≡ false
 none_breaks bytes e i less =
     let p : ℕ → Bool = λ b. b == 10 in
     let all : length bytes ≤ position_or_len p bytes = past (nat_lt (position_or_len p bytes) (length bytes)) (position_or_len p bytes) (length bytes) refl e in
@@ -73,11 +73,11 @@ Walked bytes rest =
 pub walked_none : (bytes : List ℕ) → Walked bytes bytes
 walked_none bytes = ([], tt, refl, refl)
 
-part_push : (front : List (List ℕ)) (line : List ℕ) → IsPart front → (IsSeparator line → ⊥) → IsPart (front ++ line ∷ [])
+pub part_push : (front : List (List ℕ)) (line : List ℕ) → IsPart front → (IsSeparator line → ⊥) → IsPart (front ++ line ∷ [])
 part_push [] line h other = (other, tt)
 part_push (x ∷ front) line h other = (h.0, part_push front line h.1 other)
 
-concat_push : (front : List (List ℕ)) (line : List ℕ) → concat (front ++ line ∷ []) ≡ concat front ++ line
+pub concat_push : (front : List (List ℕ)) (line : List ℕ) → concat (front ++ line ∷ []) ≡ concat front ++ line
 concat_push front line = concat-append front (line ∷ []) ∙ ap (λ l. concat front ++ l) (append-nil line)
 
 -- one line more was looked at, where it doesn't separate

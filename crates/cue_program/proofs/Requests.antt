@@ -16,9 +16,10 @@ use Rattle.cue_program.specs.Requests.{AreRequests, CanBeSent, IsPieceFault, IsU
 use Rattle.cue_program.specs.Stops.{IsMemory, IsRefusedAs, IsUnreadable}
 use Rattle.cue_program.specs.declared.stop.Stop.{Stop}
 use Rattle.cue_program.specs.inner.Sending.{AreTextRequests, IsFileRequest, IsFileUnsent, IsNoText, IsPartUnsent}
+use Rattle.cue_program.specs.inner.Texts.{AreFirstParts}
 use Rattle.cue_program.proofs.Files.{all_texts, files_first_refused, files_unread}
 use Rattle.cue_program.proofs.Streams.{parts_refused, refused_of_known}
-use Rattle.cue_program.proofs.Texts.{SoFar, next_part, part_refused, so_far_more}
+use Rattle.cue_program.proofs.Texts.{next_part, part_refused, so_far_more}
 
 all_push : {X : Type 0} (P : X → Type 0) (xs : List X) (x : X) → AllByRecursion P xs → P x → AllByRecursion P (xs ++ x ∷ [])
 all_push P [] x h p = (p, tt)
@@ -47,7 +48,7 @@ one_more f asked request xs x same means =
 -- the requests hand in these parts, of which each is a text
 abbrev pub Sends : List ℕ → List requests.Request → Option (List ℕ) → Type 0
 Sends bytes asked rest =
-    (parts : List (List ℕ)) × AllByRecursion IsText parts × SoFar bytes parts rest × (map request_of asked ≡ map asking.text parts)
+    (parts : List (List ℕ)) × AllByRecursion IsText parts × AreFirstParts bytes parts rest × (map request_of asked ≡ map asking.text parts)
 
 pub sends_none : (bytes : List ℕ) → Sends bytes [] (Some bytes)
 sends_none bytes = ([], tt, (λ parts are. are), refl)

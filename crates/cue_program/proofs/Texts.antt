@@ -6,24 +6,18 @@ use Rattle.std.specs.Str.{bytes_eq}
 use Rattle.std.proofs.lemmas.Slice.Eq.{bytes_eq-Decides}
 use Rattle.std.proofs.lemmas.Bool.{both_ways}
 use Rattle.std.proofs.lemmas.List.{append_assoc, length-append}
-use Rattle.cue_replica.specs.Language.{Table, language, opening}
+use Rattle.cue_replica.specs.Language.{Table, language}
 use Rattle.cue_replica.specs.Replica.{Adds}
-use Rattle.cue_replica.specs.Accepted.{IsOfTexts}
-use Rattle.cue_replica.proofs.Accepted.{of_no_text, of_one_text_more}
+use Rattle.cue_replica.proofs.Accepted.{of_one_text_more}
 use Rattle.cue_program.specs.Parts.{lines_of, AreParts, IsSeparator, IsFirstPart}
 use Rattle.cue_program.specs.Inputs.{IsTextRefusal}
 use Rattle.cue_program.specs.Stops.{IsRefusedAs}
-use Rattle.cue_program.specs.inner.Texts.{AreTexts, IsPartRefused, IsTextRefused}
+use Rattle.cue_program.specs.inner.Texts.{AreFirstParts, AreTexts, HasTakenParts, IsPartRefused, IsTextRefused}
 use Rattle.cue_program.specs.declared.stop.Stop.{Stop}
 use Rattle.cue_replica.specs.declared.Refusal.{Refusal}
 use Rattle.cue_program.proofs.Lines.{joined}
 
--- with the parts of the rest these are the parts of the bytes
-abbrev pub SoFar : List ℕ → List (List ℕ) → Option (List ℕ) → Type 0
-SoFar bytes done None = AreParts (lines_of bytes) done
-SoFar bytes done (Some rest) = (parts : List (List ℕ)) → AreParts (lines_of rest) parts → AreParts (lines_of bytes) (done ++ parts)
-
-pub next_part : (bytes part : List ℕ) (after : Option (List ℕ)) → IsFirstPart bytes part after → SoFar bytes (part ∷ []) after
+pub next_part : (bytes part : List ℕ) (after : Option (List ℕ)) → IsFirstPart bytes part after → AreFirstParts bytes (part ∷ []) after
 next_part bytes part None h = (h.1, joined bytes ∙ sym h.0)
 next_part bytes part (Some rest) h = λ parts are. go parts are
   where
@@ -31,8 +25,8 @@ next_part bytes part (Some rest) h = λ parts are. go parts are
     go [] are = absurd are
     go (next ∷ parts) are = (h.0, lines_of rest, h.1, h.6, h.2, h.3, h.4, are)
 
-pub so_far_more : (bytes rest part : List ℕ) (done : List (List ℕ)) (after : Option (List ℕ)) → SoFar bytes done (Some rest)
-    → SoFar rest (part ∷ []) after → SoFar bytes (done ++ part ∷ []) after
+pub so_far_more : (bytes rest part : List ℕ) (done : List (List ℕ)) (after : Option (List ℕ)) → AreFirstParts bytes done (Some rest)
+    → AreFirstParts rest (part ∷ []) after → AreFirstParts bytes (done ++ part ∷ []) after
 so_far_more bytes rest part done None far next = far (part ∷ []) next
 so_far_more bytes rest part done (Some after) far next = λ parts are.
     subst (λ (all : List (List ℕ)). AreParts (lines_of bytes) all) (sym (append_assoc done (part ∷ []) parts)) (far (part ∷ parts) (next parts are))
@@ -60,28 +54,19 @@ first_empty : (line : List ℕ) (lines parts : List (List ℕ)) → IsSeparator 
 first_empty line lines [] is are = absurd are
 first_empty line lines (part ∷ parts) is are = ([], lines, line, refl, tt, refl, is, are)
 
-some_parts : (lines : List (List ℕ)) → (parts : List (List ℕ)) × AreParts lines parts
+pub some_parts : (lines : List (List ℕ)) → (parts : List (List ℕ)) × AreParts lines parts
 some_parts [] = ([] ∷ [], (tt, refl))
 some_parts (line ∷ lines) =
     let rest = some_parts lines in
     ⊎_elim (λ is. ([] ∷ rest.0, first_empty line lines rest.0 is rest.1)) (λ other. first_longer line lines rest.0 other rest.1) (separates line)
 
 -- the parts from this one on
-pub parts_from : (bytes rest part : List ℕ) (done : List (List ℕ)) (after : Option (List ℕ)) → SoFar bytes done (Some rest) → IsFirstPart rest part after
+pub parts_from : (bytes rest part : List ℕ) (done : List (List ℕ)) (after : Option (List ℕ)) → AreFirstParts bytes done (Some rest) → IsFirstPart rest part after
     → (others : List (List ℕ)) × AreParts (lines_of bytes) (done ++ part ∷ others)
 parts_from bytes rest part done None far first = ([], far (part ∷ []) (next_part rest part None first))
 parts_from bytes rest part done (Some after) far first =
     let others = some_parts (lines_of after) in
     (others.0, far (part ∷ others.0) (next_part rest part (Some after) first others.0 others.1))
-
--- the table is the unification of the parts so far, which are so many
-abbrev pub Submitted : List ℕ → Table → ℕ → Option (List ℕ) → Type 0
-Submitted bytes table number rest =
-    (done : List (List ℕ)) × IsOfTexts table done × SoFar bytes done rest × (number ≡ min (length done) (2 ^ 64 - 1))
-
--- an empty site has submitted no parts
-pub submitted_none : (bytes : List ℕ) → Submitted bytes opening 0 (Some bytes)
-submitted_none bytes = ([], of_no_text, (λ parts are. are), refl)
 
 pub counted : (done : List (List ℕ)) (part : List ℕ) (old new : ℕ) → old ≡ min (length done) (2 ^ 64 - 1) → new ≡ min (old + 1) (2 ^ 64 - 1)
     → new ≡ min (length done + 1) (2 ^ 64 - 1)
@@ -89,9 +74,9 @@ counted done part old new is next = omega (arith, is, next)
 
 -- a site that adds what the next part refuses has submitted one part more
 pub submitted_more :
-    (bytes rest part : List ℕ) (old new : Table) (count number : ℕ) (after : Option (List ℕ)) → Submitted bytes old count (Some rest)
+    (bytes rest part : List ℕ) (old new : Table) (count number : ℕ) (after : Option (List ℕ)) → HasTakenParts bytes old count (Some rest)
     → IsFirstPart rest part after → number ≡ min (count + 1) (2 ^ 64 - 1) → language.IsLegal part → Adds old (language.text_refuses part) new
-    → language.IsValid new → Submitted bytes new number after
+    → language.IsValid new → HasTakenParts bytes new number after
 submitted_more bytes rest part old new count number after s first next legal adds valid = (
   s.0 ++ part ∷ [],
   of_one_text_more old new s.0 part s.1 legal adds valid,
@@ -100,13 +85,13 @@ submitted_more bytes rest part old new count number after s first next legal add
 )
 
 -- a site that has submitted each part holds the unification of the parts
-pub submitted_all : (bytes : List ℕ) (table : Table) (number : ℕ) → Submitted bytes table number None → AreTexts bytes table
+pub submitted_all : (bytes : List ℕ) (table : Table) (number : ℕ) → HasTakenParts bytes table number None → AreTexts bytes table
 submitted_all bytes table number s = (s.0, s.2, s.1)
 
 -- where the next part is refused, it is the first of the bytes that is
 pub part_refused :
     (IsFine : List ℕ → Type 0) (IsReason : List ℕ → Refusal → Type 0) (bytes rest part : List ℕ) (done : List (List ℕ)) (number : ℕ) (after : Option (List ℕ)) (stop : Stop)
-    → AllByRecursion IsFine done → SoFar bytes done (Some rest) → IsFirstPart rest part after → number ≡ min (length done + 1) (2 ^ 64 - 1)
+    → AllByRecursion IsFine done → AreFirstParts bytes done (Some rest) → IsFirstPart rest part after → number ≡ min (length done + 1) (2 ^ 64 - 1)
     → ((why : Refusal) × IsRefusedAs why number stop × IsReason part why) → IsPartRefused IsFine IsReason bytes stop
 part_refused IsFine IsReason bytes rest part done number after stop fine far first at fault =
     let from = parts_from bytes rest part done after far first in
@@ -114,7 +99,7 @@ part_refused IsFine IsReason bytes rest part done number after stop fine far fir
 
 -- where the next part is refused, the first refused part of the bytes stops the run
 pub submitted_not :
-    (bytes rest part : List ℕ) (old : Table) (count number : ℕ) (after : Option (List ℕ)) (stop : Stop) → Submitted bytes old count (Some rest)
+    (bytes rest part : List ℕ) (old : Table) (count number : ℕ) (after : Option (List ℕ)) (stop : Stop) → HasTakenParts bytes old count (Some rest)
     → IsFirstPart rest part after → number ≡ min (count + 1) (2 ^ 64 - 1)
     → ((why : Refusal) × IsRefusedAs why number stop × IsTextRefusal part why) → IsTextRefused bytes stop
 submitted_not bytes rest part old count number after stop s first next fault =

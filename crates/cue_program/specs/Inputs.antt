@@ -1,7 +1,6 @@
 -- The inputs of a run, the pieces in them, and which of them is refused.
 use Rattle.std.specs.Prelude.{◌≡◌, ◌≢◌, ◌⊎◌, ℕ, ◌+◌, ◌-◌, ◌^◌, ◌<◌, ◌≤◌, min, List, [], ◌∷◌, ◌++◌, map}
 use Rattle.std.specs.Prelude.{Option, Some, length, slice_get, take}
-use Rattle.std.specs.Global.{Vec}
 use Rattle.std.specs.List.{AllByRecursion}
 use Rattle.std.specs.Str.{IsUtf8, IsValidUpTo}
 use Rattle.cue_codec.specs.Pieces.{IsIntake}
@@ -46,11 +45,6 @@ IsEnoughOf bytes kept =
 abbrev pub IsFileRead : Input Enough → List ℕ → Type 0
 IsFileRead file bytes =
     IsRead (λ kept all. IsEnoughOf all kept.bytes.items) file bytes × (length bytes < 2 ^ 64)
-
--- a stream with these bytes was read, as many as a memory can hold: all bytes of texts are kept
-abbrev pub IsStreamRead : Input (Vec ℕ) → List ℕ → Type 0
-IsStreamRead input bytes =
-    IsRead (λ kept all. kept.items ≡ all) input bytes × (length bytes < 2 ^ 64)
 
 -- what a file hands in: a state where its first byte is FE (hexadecimal), and otherwise one text
 abbrev pub IsFilePiece : List ℕ → Piece → Type 0

@@ -2,4 +2,5 @@
 pub mod Drafts
 pub mod Reading
 pub mod Sending
+pub mod Taking
 pub mod Texts

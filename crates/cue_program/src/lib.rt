@@ -14,6 +14,7 @@ mod run;
 mod shelf;
 mod site;
 mod stop;
+mod taking;
 mod writing;
 
 pub use cue_answer::{Answer, Question, Status, answer_to, printed};
@@ -25,6 +26,6 @@ pub use parts::first_part;
 pub use request::requests_for;
 pub use run::{answer_for, merge_into, site_for};
 pub use shelf::{Form, Shelf};
-pub use site::{site_of, take_file};
+pub use site::take_file;
 pub use stop::Stop;
 pub use writing::{tell, tell_state};

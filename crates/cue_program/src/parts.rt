@@ -1,12 +1,13 @@
 ghost use Rattle.std.specs.Prelude.{◌≡◌, ◌<◌, ◌==◌, ◌++◌, ◌↔◌, ◌∷◌, [], length};
-ghost use Rattle.std.specs.Prelude.{IsTrue, IfSome};
+ghost use Rattle.std.specs.Prelude.{IsTrue, IfSome, IfNone};
 ghost use Rattle.std.specs.List.{position};
 ghost use Rattle.std.specs.Option.{option_map};
 ghost use Rattle.cue_program.specs.Parts.{lines_of, IsSeparator, IsFirstPart};
+ghost use Rattle.cue_program.specs.inner.Taking.{IsLineEnd, IsUnbroken};
 
 /// Whether the line separates two parts: it is exactly `---`, with its line break or, at the end,
 /// without one.
-fn is_separator(line: &[u8]) -> bool
+pub fn is_separator(line: &[u8]) -> bool
     ensures { IsTrue result ↔ IsSeparator line.now }
 {
     line == b"---\n".as_slice() || line == b"---".as_slice()
@@ -30,6 +31,16 @@ fn first_line(bytes: &[u8]) -> (&[u8], &[u8])
         Some(length) => bytes.split_at(length + 1),
         None => (bytes, &[]),
     }
+}
+
+/// Up to the first line break, and what follows it, where there is one.
+pub fn line_end(bytes: &[u8]) -> Option<(&[u8], &[u8])>
+    ensures ended { IfSome result (λ cut. IsLineEnd cut.0.now) }
+    ensures whole { IfSome result (λ cut. bytes.now ≡ cut.0.now ++ cut.1.now) }
+    ensures none { IfNone result (IsUnbroken bytes.now) }
+{
+    let length = line_break(bytes)?;
+    Some(bytes.split_at(length + 1))
 }
 
 /// The part in front of the first separating line, and what follows that line, where there is one.

@@ -1,20 +1,22 @@
-ghost use Rattle.std.specs.Prelude.{◌≡◌, ◌↔◌, ◌≤◌, ℕ, List, Some, IsTrue, IfOk, IfErr, OnOk, OnErr};
-ghost use Rattle.std.specs.Prelude.{length, slice_get};
+ghost use Rattle.std.specs.Prelude.{◌≡◌, ◌⊎◌, ◌↔◌, ◌≤◌, ℕ, List, Some, length, slice_get};
+ghost use Rattle.std.specs.Prelude.{IsTrue, IfOk, IfErr, OnOk, OnErr};
 ghost use Rattle.std.specs.Str.{IsUtf8};
 ghost use Rattle.cue_replica.specs.Language.{language};
 ghost use Rattle.cue_replica.specs.Replica.{Adds};
 ghost use Rattle.cue_lattice.specs.World.{Piece, piece_refuses};
 ghost use Rattle.cue_replica.specs.Accepted.{IsAcceptable, text_limit};
 ghost use Rattle.cue_program.specs.Inputs.{IsFilePiece, IsPieceRefusal, IsTextRefusal, stream};
-ghost use Rattle.cue_program.specs.Inputs.{IsStateRefusal, IsFileRead, IsStreamRead};
+ghost use Rattle.cue_program.specs.Inputs.{IsStateRefusal, IsFileRead};
 ghost use Rattle.cue_replica.specs.Reading.{HasTakenIn};
 ghost use Rattle.cue_program.specs.Inputs.{Holds, IsByteFault, IsInputRefused, IsText};
-ghost use Rattle.cue_program.specs.Stops.{IsRefusedAs};
-ghost use Rattle.cue_program.specs.inner.Texts.{AreTexts, IsTextRefused};
+ghost use Rattle.cue_program.specs.Stops.{IsMemory, IsRefusedAs};
+ghost use Rattle.cue_program.specs.inner.Taking.{IsStreamRead};
+ghost use Rattle.cue_program.specs.inner.Texts.{AreTexts, HasTakenParts, IsTextRefused};
 
 use crate::kept::{Enough, Input};
 use crate::parts::first_part;
 use crate::stop::Stop;
+use crate::taking::Texts;
 use cue_replica::{Kind, Refusal, Replica, StateReader, TEXT_LIMIT};
 use std::alloc::Global;
 use std::str;
@@ -27,12 +29,12 @@ const STATE: u8 = 0xFE;
 ///
 /// # Errors
 ///
-/// `RefusedInput` for the first input that is refused, with its number from 1.
-pub fn site_of(alloc: Global, input: Input<Vec<u8>>) -> Result<Replica, Stop>
+/// `RefusedInput` for the first input that is refused, with its number from 1; `Memory`.
+pub fn site_of(alloc: Global, input: Input<Texts>) -> Result<Replica, Stop>
     ensures holds { (bytes : List ℕ) → IsStreamRead input bytes
         → IfOk result (Holds (stream (Some bytes))) }
-    ensures refused { (bytes : List ℕ) → IsStreamRead input bytes
-        → IfErr result (IsInputRefused (stream (Some bytes))) }
+    ensures stop { (bytes : List ℕ) → IsStreamRead input bytes
+        → IfErr result (λ stop. IsInputRefused (stream (Some bytes)) stop ⊎ IsMemory stop) }
 {
     match input {
         Input::State(reader) => {
@@ -42,7 +44,7 @@ pub fn site_of(alloc: Global, input: Input<Vec<u8>>) -> Result<Replica, Stop>
                 Err(stop) => Err(stop),
             }
         }
-        Input::Text(bytes) => site_of_texts(alloc, &bytes),
+        Input::Text(texts) => texts.finish(),
     }
 }
 
@@ -92,13 +94,13 @@ pub fn begins_a_state(bytes: &[u8]) -> bool
     bytes.first() == Some(&STATE)
 }
 
-/// A new site that has accepted each part of these bytes as a text.
-fn site_of_texts(alloc: Global, bytes: &[u8]) -> Result<Replica, Stop>
-    ensures holds { IfOk result (AreTexts bytes.now) }
-    ensures refused { IfErr result (IsTextRefused bytes.now) }
+/// Hands each part of these bytes to a site that has taken so many.
+pub fn take_parts(mut site: Replica, mut number: usize, bytes: &[u8]) -> Result<Replica, Stop>
+    ensures holds { (all : List ℕ) → HasTakenParts all site number (Some bytes.now)
+        → IfOk result (AreTexts all) }
+    ensures refused { (all : List ℕ) → HasTakenParts all site number (Some bytes.now)
+        → IfErr result (IsTextRefused all) }
 {
-    let mut site = Replica::new(alloc);
-    let mut number = 0usize;
     let mut rest = Some(bytes);
     while let Some(bytes) = rest {
         number = number.saturating_add(1);
@@ -112,7 +114,7 @@ fn site_of_texts(alloc: Global, bytes: &[u8]) -> Result<Replica, Stop>
 }
 
 /// Hands the input of this number to a site, as a text.
-fn submit(site: &mut Replica, part: &[u8], number: usize) -> Result<(), Stop>
+pub fn submit(site: &mut Replica, part: &[u8], number: usize) -> Result<(), Stop>
     ensures legal { OnOk result (language.IsLegal part.now) }
     ensures adds { OnOk result (Adds site.old (language.text_refuses part.now) site.new) }
     ensures valid { OnOk result (language.IsValid site.new) }

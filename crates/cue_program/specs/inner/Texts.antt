@@ -1,5 +1,6 @@
 -- The parts of what a reader gives, as texts.
-use Rattle.std.specs.Prelude.{ℕ, ◌+◌, ◌-◌, ◌^◌, min, List, ◌∷◌, ◌++◌, length}
+use Rattle.std.specs.Prelude.{◌≡◌, ℕ, ◌+◌, ◌-◌, ◌^◌, min, List, ◌∷◌, ◌++◌, length}
+use Rattle.std.specs.Prelude.{Option, Some, None}
 use Rattle.std.specs.List.{AllByRecursion}
 use Rattle.cue_replica.specs.Accepted.{IsOfTexts}
 use Rattle.cue_replica.specs.Language.{Table, language}
@@ -14,6 +15,24 @@ use Rattle.cue_program.specs.declared.stop.Stop.{Stop}
 abbrev pub AreTexts : List ℕ → Table → Type 0
 AreTexts bytes table =
     (parts : List (List ℕ)) × AreParts (lines_of bytes) parts × IsOfTexts table parts
+
+-- with the parts of the rest, where there is one, these are the parts of the bytes
+abbrev pub AreFirstParts : List ℕ → List (List ℕ) → Option (List ℕ) → Type 0
+AreFirstParts bytes done None = AreParts (lines_of bytes) done
+AreFirstParts bytes done (Some rest) =
+    (parts : List (List ℕ)) → AreParts (lines_of rest) parts
+    → AreParts (lines_of bytes) (done ++ parts)
+
+-- the number is so many, or the greatest number that can be told
+abbrev pub Counts : ℕ → List (List ℕ) → Type 0
+Counts number done = number ≡ min (length done) (2 ^ 64 - 1)
+
+-- The table is the unification of the first parts of the bytes, which are so many, and this is the
+-- rest.
+abbrev pub HasTakenParts : List ℕ → Table → ℕ → Option (List ℕ) → Type 0
+HasTakenParts bytes table number rest =
+    (done : List (List ℕ)) × IsOfTexts table done × AreFirstParts bytes done rest
+    × Counts number done
 
 -- the parts in front are fine, and the next one is refused for such a reason
 abbrev pub IsPartRefused :

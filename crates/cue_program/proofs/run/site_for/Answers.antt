@@ -1,9 +1,10 @@
-use Rattle.std.proofs.Common.{◌≡◌, ◌<◌, List, ℕ, Some, Option, rules, length, inl, inr, subst, sym, ap, ◌∙◌, IfOk, IfErr}
+use Rattle.std.proofs.Common.{◌≡◌, ◌⊎◌, ⊎_elim, ◌<◌, List, ℕ, Some, Option, rules, length, inl, inr, subst, sym, ap, ◌∙◌, IfOk, IfErr}
 use Rattle.std.proofs.lemmas.Result.{IfOk-weaker, IfErr-weaker}
 use Rattle.cue_replica.specs.Accepted.{IsAcceptable}
 use Rattle.cue_program.specs.Files.{texts}
 use Rattle.cue_program.specs.Inputs.{Inputs, Holds, IsInputRefused, IsInputUnread, IsPieceRefusal, inputs_of, stream}
 use Rattle.cue_program.specs.Runs.{IsStopOn}
+use Rattle.cue_program.specs.Stops.{IsMemory}
 use Rattle.cue_program.proofs.Pieces.{held_in_memory}
 use Rattle.cue_program.proofs.Streams.{held_of_known, refused_of_known, inputs_none, inputs_some}
 use Rattle.cue_program.proofs.run.site_for.Goals as goal
@@ -24,9 +25,11 @@ returns-in-Ok-clause-stop g c =
     let known = g.R.Read.remaining c.args.input.now in
     let empty : length c.args.files.now ≡ 0 = search rules in
     let read = c.in-Ok.ensures.all in
-    IfErr-weaker c.site_of.result (IsInputRefused (stream (Some read.0))) (IsStopOn (inputs_of held (texts c.args.files.now) known))
-    (λ stop h. inl (subst (λ (i : Inputs). IsInputRefused i stop) (sym (inputs_none held c.args.files.now known empty)) (refused_of_known IsAcceptable IsPieceRefusal known read.0 stop read.1 h)))
-    (c.site_of.ensures.refused read.0 (read.2, held_in_memory read.0 read.3))
+    IfErr-weaker c.site_of.result (λ stop. IsInputRefused (stream (Some read.0)) stop ⊎ IsMemory stop) (IsStopOn (inputs_of held (texts c.args.files.now) known))
+    (λ stop why. ⊎_elim
+    (λ h. inl (subst (λ (i : Inputs). IsInputRefused i stop) (sym (inputs_none held c.args.files.now known empty)) (refused_of_known IsAcceptable IsPieceRefusal known read.0 stop read.1 h)))
+    (λ memory. inr (inr memory)) why)
+    (c.site_of.ensures.stop read.0 (read.2, held_in_memory read.0 read.3))
 
 pub returns-in-Err-clause-stop : goal.returns-in-Err-clause-stop
 returns-in-Err-clause-stop g c =

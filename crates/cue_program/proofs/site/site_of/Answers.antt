@@ -1,39 +1,40 @@
-use Rattle.std.proofs.Common.{◌≡◌, ℕ, List, Some, subst, ◌∙◌}
-use Rattle.std.specs.Global.{Vec}
+use Rattle.std.proofs.Common.{◌⊎◌, ⊎_elim, ℕ, List, Some, inl, inr, subst}
 use Rattle.std.proofs.lemmas.Result.{IfOk-weaker, IfErr-weaker}
 use Rattle.cue_replica.specs.Language.{Table, language}
 use Rattle.cue_replica.specs.Replica.{Adds}
-use Rattle.cue_program.specs.Inputs.{Holds, IsInputRefused, IsStreamRead, stream}
+use Rattle.cue_program.specs.Inputs.{Holds, IsInputRefused, stream}
+use Rattle.cue_program.specs.Stops.{IsMemory}
+use Rattle.cue_program.specs.inner.Taking.{IsStreamRead}
 use Rattle.cue_program.specs.inner.Texts.{AreTexts, IsTextRefused}
 use Rattle.cue_program.specs.declared.kept.Input.{Input}
+use Rattle.cue_program.specs.declared.taking.Texts.{Texts}
 use Rattle.cue_program.proofs.Streams.{of_one_state, refused_state, texts_held, texts_refused}
 use Rattle.cue_program.proofs.site.site_of.Goals as goal
 
 pub returns-in-Ok-clause-holds : goal.returns-in-Ok-clause-holds
 returns-in-Ok-clause-holds c bytes h =
-    let is = (subst (λ (input : Input (Vec ℕ)). IsStreamRead input bytes) c.in-State.is h) in
+    let is = (subst (λ (input : Input Texts). IsStreamRead input bytes) c.in-State.is h) in
     of_one_state bytes c.take_state.new.site is.0.0 (c.in-Ok.ensures.state bytes (is.0.1, is.1))
     (subst (λ (old : Table). Adds old (language.state_refuses bytes) c.take_state.new.site) c.new-site.ensures (c.in-Ok.ensures.adds bytes (is.0.1, is.1)))
     c.in-Ok.ensures.valid
 
-pub returns-in-Err-clause-refused : goal.returns-in-Err-clause-refused
-returns-in-Err-clause-refused c bytes h =
-    let is = (subst (λ (input : Input (Vec ℕ)). IsStreamRead input bytes) c.in-State.is h) in
+pub returns-in-Err-clause-stop : goal.returns-in-Err-clause-stop
+returns-in-Err-clause-stop c bytes h =
+    let is = (subst (λ (input : Input Texts). IsStreamRead input bytes) c.in-State.is h) in
     let fault = c.in-Err.ensures.refused bytes (is.0.1, is.1) in
-    refused_state bytes fault.0 c.in-Err.stop is.0.0 fault.1 fault.2
+    inl (refused_state bytes fault.0 c.in-Err.stop is.0.0 fault.1 fault.2)
 
 pub returns-in-Text-clause-holds : goal.returns-in-Text-clause-holds
 returns-in-Text-clause-holds c bytes h =
-    let is = (subst (λ (input : Input (Vec ℕ)). IsStreamRead input bytes) c.in-Text.is h) in
-    let same : c.deref.result.now ≡ bytes = c.deref.ensures.value ∙ is.0.1 in
-    IfOk-weaker c.site_of_texts.result (AreTexts c.deref.result.now) (Holds (stream (Some bytes)))
-    (λ site texts. texts_held bytes site is.0.0 (subst (λ (b : List ℕ). AreTexts b site) same texts))
-    c.site_of_texts.ensures.holds
+    let is = (subst (λ (input : Input Texts). IsStreamRead input bytes) c.in-Text.is h) in
+    IfOk-weaker c.finish.result (AreTexts bytes) (Holds (stream (Some bytes)))
+    (λ site texts. texts_held bytes site is.0.0 texts)
+    (c.finish.ensures.holds bytes is.0.1)
 
-pub returns-in-Text-clause-refused : goal.returns-in-Text-clause-refused
-returns-in-Text-clause-refused c bytes h =
-    let is = (subst (λ (input : Input (Vec ℕ)). IsStreamRead input bytes) c.in-Text.is h) in
-    let same : c.deref.result.now ≡ bytes = c.deref.ensures.value ∙ is.0.1 in
-    IfErr-weaker c.site_of_texts.result (IsTextRefused c.deref.result.now) (IsInputRefused (stream (Some bytes)))
-    (λ stop texts. texts_refused bytes stop is.0.0 (subst (λ (b : List ℕ). IsTextRefused b stop) same texts))
-    c.site_of_texts.ensures.refused
+pub returns-in-Text-clause-stop : goal.returns-in-Text-clause-stop
+returns-in-Text-clause-stop c bytes h =
+    let is = (subst (λ (input : Input Texts). IsStreamRead input bytes) c.in-Text.is h) in
+    IfErr-weaker c.finish.result
+    (λ stop. IsMemory stop ⊎ IsTextRefused bytes stop) (λ stop. IsInputRefused (stream (Some bytes)) stop ⊎ IsMemory stop)
+    (λ stop why. ⊎_elim (λ memory. inr memory) (λ refused. inl (texts_refused bytes stop is.0.0 refused)) why)
+    (c.finish.ensures.stop bytes is.0.1)
