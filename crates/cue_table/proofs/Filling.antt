@@ -1,8 +1,8 @@
 -- What the loops keep that carry out changes of a list of branches.
-use Rattle.std.proofs.Common.{◌≡◌, ℕ, zero, suc, ◌+◌, ◌-◌, ◌≤◌, ◌<◌, List, [], ◌∷◌, ◌++◌, append_assoc, length, take, drop, take-add, length-drop, length-set, slice_set, refl, sym, ap, subst, ◌∙◌, arith}
-use Rattle.std.proofs.lemmas.List.{drop-drop, take_more_set, drop-set-lt}
+use Rattle.std.proofs.Common.{◌≡◌, ℕ, zero, suc, ◌+◌, ◌-◌, ◌≤◌, ◌<◌, List, [], ◌∷◌, ◌++◌, append_assoc, length, take, drop, take-add, length-drop, refl, sym, ap, subst, ◌∙◌, arith}
+use Rattle.std.proofs.lemmas.List.{drop-drop}
 use Rattle.cue_table.specs.declared.changes.Change.{Change}
-use Rattle.cue_table.specs.Inner.Changes.{AreReplaced, Fit, behind, merged, over}
+use Rattle.cue_table.specs.Inner.Changes.{Fit, added, behind, merged, more, over}
 use Rattle.cue_table.specs.Inner.Child.{Child}
 
 take_whole : {X : Type 0} (xs : List X) → take (length xs) xs ≡ xs
@@ -63,58 +63,65 @@ module _ {R Q : Type 0} where
   fills_end old made rest made' changes [] len cap count f z e m = m ∙ ap (λ n. made ++ take n rest) e ∙ ap (λ xs. made ++ xs) (take_whole rest) ∙ f.whole
   fills_end old made rest made' changes (c ∷ others) len cap count f z e m = absurd (omega arith)
 
-  -- What is replaced up to a place, and what the changes that are left make of the branches from there, is the whole.
-  pub record Replaces (old : List (Child R)) (changes : List (Change R Q)) (now : List (Child R)) (others : List (Change R Q)) (at : ℕ) : Type 0 where
+  -- how many changes add a branch, up to one and from there on
+  pub added_more :
+      (changes : List (Change R Q)) (i count count' : ℕ) (c : Change R Q) (rest : List (Change R Q)) → drop i changes ≡ c ∷ rest
+      → count + added (drop i changes) ≡ added changes → count' ≡ count + more c.replaces → count' + added (drop (i + 1) changes) ≡ added changes
+  added_more changes i count count' c rest e h k =
+      let one : added (drop i changes) ≡ more c.replaces + added rest = ap added e in
+      let tail : drop (i + 1) changes ≡ rest = sym (drop-drop 1 i changes) ∙ ap (drop 1) e in
+      let same = ap added tail in
+      omega (arith, h, k, one, same)
+
+  -- What is changed up to a place, and what the changes that are left make of the branches from there, is the whole.
+  pub record Puts (old : List (Child R)) (changes : List (Change R Q)) (now : List (Child R)) (others : List (Change R Q)) (at len cap : ℕ) : Type 0 where
     pub whole : take at now ++ merged others (drop at now) ≡ merged changes old
     pub inside : at ≤ length now
     pub fit : Fit others (drop at now)
-    pub replaced : AreReplaced others
+    pub room : len + added others ≤ cap
 
-  pub replaces_start :
-      (old : List (Child R)) (changes others : List (Change R Q)) → others ≡ changes → Fit changes old → AreReplaced changes → Replaces old changes old others 0
-  replaces_start old changes others e h k =
-      subst (λ xs. Replaces old changes old xs 0) (sym e) (record { whole = refl; inside = omega arith; fit = h; replaced = k })
+  pub puts_start :
+      (old : List (Child R)) (changes others : List (Change R Q)) (len cap : ℕ) → others ≡ changes → Fit changes old → len + added changes ≤ cap → Puts old changes old others 0 len cap
+  puts_start old changes others len cap e h r =
+      subst (λ xs. Puts old changes old xs 0 len cap) (sym e) (record { whole = refl; inside = omega arith; fit = h; room = r })
 
-  -- the next change is at a place of the list
-  pub replaces_next :
-      (old now : List (Child R)) (changes all others : List (Change R Q)) (c : Change R Q) (at : ℕ) → Replaces old changes now all at → all ≡ c ∷ others → at + c.kept < length now
-  replaces_next old now changes all others c at f e =
-      let g = subst (λ xs. Replaces old changes now xs at) e f in
+  -- the next change is at a place of the list, for which there is room
+  pub puts_next :
+      (old now : List (Child R)) (changes all others : List (Change R Q)) (c : Change R Q) (at len cap : ℕ) → Puts old changes now all at len cap → all ≡ c ∷ others
+      → (at + c.kept + over c.replaces ≤ length now) × (len + more c.replaces ≤ cap)
+  puts_next old now changes all others c at len cap f e =
+      let g = subst (λ xs. Puts old changes now xs at len cap) e f in
       let fit = g.fit in
-      let replaced = g.replaced in
-      let one : over c.replaces ≡ 1 = ap over replaced.0 in
-      omega (arith, fit.0, one, g.inside, length-drop at now)
+      (omega (arith, fit.0, g.inside, length-drop at now), omega (arith, g.room))
 
-  pub replaces_more :
-      (old now later : List (Child R)) (changes all others : List (Change R Q)) (c : Change R Q) (at : ℕ) → Replaces old changes now all at → all ≡ c ∷ others
-      → later ≡ slice_set now (at + c.kept) c.child → Replaces old changes later others (at + c.kept + 1)
-  replaces_more old now later changes all others c at f e is =
-      let g = subst (λ xs. Replaces old changes now xs at) e f in
+  pub puts_more :
+      (old now later : List (Child R)) (changes all others : List (Change R Q)) (c : Change R Q) (at len len' cap cap' : ℕ) → Puts old changes now all at len cap → all ≡ c ∷ others
+      → take (at + c.kept) later ≡ take (at + c.kept) now → drop (at + c.kept) later ≡ c.child ∷ drop (over c.replaces) (drop (at + c.kept) now)
+      → len' ≡ len + more c.replaces → cap' ≡ cap → Puts old changes later others (at + c.kept + 1) len' cap'
+  puts_more old now later changes all others c at len len' cap cap' f e before from l k =
+      let g = subst (λ xs. Puts old changes now xs at len cap) e f in
       let fit = g.fit in
-      let replaced = g.replaced in
       let n = c.kept in
       let p = at + n in
       let d = c.child in
-      let low = replaces_next old now changes all others c at f e in
-      let one : over c.replaces ≡ 1 = ap over replaced.0 in
-      let set = slice_set now p d in
-      let a : take (p + 1) set ≡ (take at now ++ take n (drop at now)) ++ d ∷ [] = take_more_set now p d low ∙ ap (λ xs. xs ++ d ∷ []) (take-add at n now) in
-      let b : drop (p + 1) set ≡ behind c (drop at now) =
-      drop-set-lt (p + 1) now p d (omega arith) ∙ sym (drop-drop 1 p now) ∙ ap (drop 1) (sym (drop-drop n at now)) ∙ ap (λ m. drop m (drop n (drop at now))) (sym one) in
-      subst (λ xs. Replaces old changes xs others (p + 1)) (sym is)
-      (record {
-        whole = ap (λ xs. xs ++ merged others (drop (p + 1) set)) a ∙ ap (λ xs. ((take at now ++ take n (drop at now)) ++ d ∷ []) ++ merged others xs) b
+      let a : take (p + 1) later ≡ (take at now ++ take n (drop at now)) ++ d ∷ [] =
+      take-add p 1 later ∙ ap (λ xs. xs ++ take 1 (drop p later)) (before ∙ take-add at n now) ∙ ap (λ xs. (take at now ++ take n (drop at now)) ++ take 1 xs) from in
+      let b : drop (p + 1) later ≡ behind c (drop at now) =
+      sym (drop-drop 1 p later) ∙ ap (drop 1) from ∙ ap (drop (over c.replaces)) (sym (drop-drop n at now)) in
+      let long = ap length from in
+      record {
+        whole = ap (λ xs. xs ++ merged others (drop (p + 1) later)) a ∙ ap (λ xs. ((take at now ++ take n (drop at now)) ++ d ∷ []) ++ merged others xs) b
             ∙ append_assoc (take at now ++ take n (drop at now)) (d ∷ []) (merged others (behind c (drop at now)))
             ∙ append_assoc (take at now) (take n (drop at now)) (d ∷ merged others (behind c (drop at now))) ∙ g.whole;
-        inside = let same = length-set now p d in omega (arith, same, low);
+        inside = omega (arith, long, length-drop p later);
         fit = subst (Fit others) (sym b) fit.1;
-        replaced = replaced.1;
-      })
+        room = omega (arith, g.room, l, k);
+      }
 
-  pub replaces_end :
-      (old now : List (Child R)) (changes others : List (Change R Q)) (at : ℕ) → Replaces old changes now others at → length others ≡ 0 → now ≡ merged changes old
-  replaces_end old now changes [] at f z = sym (take_drop at now) ∙ f.whole
-  replaces_end old now changes (c ∷ others) at f z = absurd (omega arith)
+  pub puts_end :
+      (old now : List (Child R)) (changes others : List (Change R Q)) (at len cap : ℕ) → Puts old changes now others at len cap → length others ≡ 0 → now ≡ merged changes old
+  puts_end old now changes [] at len cap f z = sym (take_drop at now) ∙ f.whole
+  puts_end old now changes (c ∷ others) at len cap f z = absurd (omega arith)
 
 module _ {X : Type 0} where
   -- what is moved so far, and how many more

@@ -1,8 +1,8 @@
 //! Changes of a list of branches carried out. What stays is moved.
-ghost use Rattle.std.specs.Prelude.{◌≡◌, ◌+◌, ◌≤◌, ◌++◌, length, take, drop, OnErr, OnOk, IsTrue};
+ghost use Rattle.std.specs.Prelude.{◌≡◌, ◌+◌, ◌≤◌, ◌++◌, ◌∷◌, take, drop, OnErr, OnOk};
 ghost use Rattle.std.specs.Vec.{vec_len, vec_capacity};
 ghost use Rattle.std.specs.Vec.Iter.{into_iter_items};
-ghost use Rattle.cue_table.specs.Inner.Changes.{AreReplaced, Fit, merged, over};
+ghost use Rattle.cue_table.specs.Inner.Changes.{Fit, added, merged, more, over};
 
 use crate::changes::Change;
 use crate::child::Child;
@@ -10,6 +10,9 @@ use cue_lattice::{Memory, Narrow};
 use std::alloc::Global;
 use std::mem;
 use std::vec::IntoIter;
+
+/// The most new branches that are put in where they stand, by one move of memory for each.
+const FEW: usize = 16;
 
 /// Changes a list of branches. After want of memory it is as it was.
 pub(crate) fn carry_out<R: Narrow>(
@@ -21,8 +24,10 @@ pub(crate) fn carry_out<R: Narrow>(
     ensures ok { OnOk result (children.new.items ≡ merged changes.items children.old.items) }
     ensures err { OnErr result (children.new.items ≡ children.old.items) }
 {
-    if adds_none(&changes) {
-        replace(children, changes);
+    let added = added(&changes);
+    if added <= FEW {
+        children.reserve(added)?;
+        put_in(children, changes);
         return Ok(());
     }
     let room = Vec::with_capacity(alloc, children.len() + changes.len())?;
@@ -31,31 +36,50 @@ pub(crate) fn carry_out<R: Narrow>(
     Ok(())
 }
 
-/// Whether each change is in place of a branch.
-fn adds_none<R: Narrow>(changes: &[Change<R>]) -> bool
-    ensures { IsTrue result → AreReplaced changes.now }
+/// How many changes are in place of no branch.
+fn added<R: Narrow>(changes: &[Change<R>]) -> usize
+    ensures { result ≡ added changes.now }
 {
+    let mut added = 0;
     for change in changes {
         if !change.replaces {
-            return false;
+            added += 1;
         }
     }
-    true
+    added
 }
 
-/// Puts new branches in place of others, where these stand.
-fn replace<R: Narrow>(children: &mut Vec<Child<R>>, changes: Vec<Change<R>>)
+/// Puts new branches among others, where these stand. There is room for those that are added.
+fn put_in<R: Narrow>(children: &mut Vec<Child<R>>, changes: Vec<Change<R>>)
     requires fit { Fit changes.items children.old.items }
-    requires replaced { AreReplaced changes.items }
+    requires room { vec_len children.old + added changes.items ≤ vec_capacity children.old }
     ensures { children.new.items ≡ merged changes.items children.old.items }
 {
     let mut at = 0;
     let mut others = changes.into_iter();
     while let Some(change) = others.next() {
         at += change.kept;
-        children[at] = change.child;
+        put_at(children, at, change.replaces, change.child);
         at += 1;
     }
+}
+
+/// Puts a branch in at a place of a list, or in place of the one there.
+fn put_at<R: Narrow>(children: &mut Vec<Child<R>>, at: usize, replaces: bool, child: Child<R>)
+    requires place { at + over replaces ≤ vec_len children.old }
+    requires room { vec_len children.old + more replaces ≤ vec_capacity children.old }
+    ensures before { take at children.new.items ≡ take at children.old.items }
+    ensures from { drop at children.new.items
+        ≡ child ∷ drop (over replaces) (drop at children.old.items) }
+    ensures len { vec_len children.new ≡ vec_len children.old + more replaces }
+    ensures capacity { vec_capacity children.new ≡ vec_capacity children.old }
+{
+    if replaces {
+        children[at] = child;
+        return;
+    }
+    // There is room, so that none is taken.
+    children.insert(at, child).ok();
 }
 
 /// The branches of a list after changes. The room is for all of them.

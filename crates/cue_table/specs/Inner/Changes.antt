@@ -1,5 +1,5 @@
 -- Changes of a list of branches that takes others over.
-use Rattle.std.specs.Prelude.{◌≡◌, ◌≤◌, ◌+◌, ◌++◌, ℕ, Bool, true, false, List, [], ◌∷◌, Option, Some, None}
+use Rattle.std.specs.Prelude.{◌≤◌, ◌+◌, ◌++◌, ℕ, Bool, true, false, List, [], ◌∷◌, Option, Some, None}
 use Rattle.std.specs.Prelude.{length, take, drop}
 use Rattle.std.specs.Option.{option_to_list}
 use Rattle.cue_row.specs.Steps.{step_of}
@@ -36,10 +36,14 @@ Fit [] children = Unit {0}
 Fit (change ∷ changes) children =
     (change.kept + over change.replaces ≤ length children) × Fit changes (behind change children)
 
--- each is in place of a branch
-abbrev pub AreReplaced : {R Q : Type 0} → List (Change R Q) → Type 0
-AreReplaced [] = Unit {0}
-AreReplaced (change ∷ changes) = (change.replaces ≡ true) × AreReplaced changes
+-- how many branches there are more
+abbrev pub more : Bool → ℕ
+more true = 0
+more false = 1
+
+abbrev pub added : {R Q : Type 0} → List (Change R Q) → ℕ
+added [] = 0
+added (change ∷ changes) = more change.replaces + added changes
 
 -- the branches behind the change, if there is one
 abbrev pub behind_found : {R Q : Type 0} → Option (Change R Q) → List (Child R) → List (Child R)
