@@ -1,7 +1,7 @@
 -- Sites that accept one text more, or a state.
 use Rattle.std.proofs.Common.{ℕ, List, [], ◌∷◌, ◌++◌, map, Option, Some, None, ◌≡◌, refl, subst}
 use Rattle.std.specs.List.{AllByRecursion}
-use Rattle.std.proofs.lemmas.List.{map_push}
+use Rattle.std.proofs.lemmas.List.{map-append, map_push}
 use Rattle.cue_lattice.specs.Path.{Path}
 use Rattle.cue_lattice.specs.Question.{Question}
 use Rattle.cue_lattice.specs.World.{Piece, piece_refuses, IsUnified, text, state}
@@ -38,6 +38,23 @@ pub of_one_text_more :
 of_one_text_more old new texts more is legal adds valid = (
   all_push language.IsLegal texts more is.0 legal,
   rw map_push (unified_more old new (language.text_refuses more) (map text texts) (text more ∷ []) is.1 adds valid (one_piece (text more))),
+)
+
+all_append : (P : List ℕ → Type 0) (texts more : List (List ℕ)) → AllByRecursion P texts → AllByRecursion P more → AllByRecursion P (texts ++ more)
+all_append P [] more h k = k
+all_append P (t ∷ texts) more h k = (h.0, all_append P texts more h.1 k)
+
+-- the texts of two sites together are of the language
+pub legal_together : (texts more : List (List ℕ)) → AllByRecursion language.IsLegal texts → AllByRecursion language.IsLegal more → AllByRecursion language.IsLegal (texts ++ more)
+legal_together = all_append language.IsLegal
+
+-- a site that adds what another one refuses holds the unification of the texts of both
+pub of_texts_together :
+    (old late new : Table) (texts more : List (List ℕ)) → IsOfTexts old texts → IsOfTexts late more
+    → Adds old (language.table_refuses late) new → language.IsValid new → IsOfTexts new (texts ++ more)
+of_texts_together old late new texts more is others adds valid = (
+  legal_together texts more is.0 others.0,
+  rw map-append (unified_more old new (language.table_refuses late) (map text texts) (map text more) is.1 adds valid others.1.1),
 )
 
 -- a new site that adds what the bytes of a state refuse holds that state

@@ -142,6 +142,24 @@ impl Replica {
         self.take_table(reader.finish())
     }
 
+    /// Accepts all that another site has accepted. What only one of both knows is moved.
+    ///
+    /// # Errors
+    ///
+    /// `Memory`, and then this site is as before.
+    pub fn unify(&mut self, other: Replica) -> Result<(), Memory>
+        ensures ok { OnOk result (Adds self.old (language.table_refuses other) self.new) }
+        ensures err { OnErr result (self.new ≡ self.old) }
+        ensures valid { language.IsValid self.new }
+    {
+        let Replica {
+            table: others,
+            alloc: _,
+        } = other;
+        self.table.meet_with(others)?;
+        Ok(())
+    }
+
     /// Accepts the table that state bytes were read as, or refuses them for what reading them came
     /// to.
     fn take_table(&mut self, read: Result<Table<Row>, Kind>) -> Result<(), Refusal>

@@ -126,6 +126,21 @@ fn across_sites(alloc: Global, texts: &[&str], bytes: &[u8]) -> Result<bool, Mem
     have_states(alloc, &world, last, bytes)
 }
 
+/// Sites that were handed one text each, unified.
+fn unified(alloc: Global, texts: &[&str]) -> Result<Replica, Refusal> {
+    let mut all = new_site(alloc);
+    for text in texts {
+        all.unify(site(alloc, &[*text])?)?;
+    }
+    Ok(all)
+}
+
+/// Whether sites that are handed one text each have these state bytes once they are unified.
+fn are_unified(alloc: Global, texts: &[&str], bytes: &[u8]) -> Result<bool, Refusal> {
+    let all = unified(alloc, texts)?;
+    Ok(has_state(alloc, &all, bytes)?)
+}
+
 /// A new site that was handed what is printed of a site.
 fn read_again(alloc: Global, other: &Replica) -> Result<Replica, Refusal> {
     let text = printed(alloc, other)?;
@@ -150,6 +165,7 @@ fn is_agreed(alloc: Global, texts: &[&str], site: &Replica, bytes: &[u8]) -> Res
     Ok(
         in_turns(alloc, texts, bytes)?
             && across_sites(alloc, texts, bytes)?
+            && are_unified(alloc, texts, bytes)?
             && is_taken_again(alloc, site, bytes)?
             && is_read_again(alloc, site, bytes)?,
     )
