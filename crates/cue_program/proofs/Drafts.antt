@@ -1,10 +1,9 @@
 -- What calls in a row do to what lies where.
-use Rattle.std.proofs.Common.{◌≡◌, ◌≢◌, ◌⊎◌, ⊎_elim, inl, inr, ℕ, ◌<◌, Bool, true, false, Some, None, Option, List, [], ◌∷◌, ◌++◌, length, Result, Ok, Err, OnOk, OnErr, arith, refl, sym, ap, subst, ◌∙◌}
+use Rattle.std.proofs.Common.{◌≡◌, ◌≢◌, ◌⊎◌, ⊎_elim, inl, inr, ℕ, ◌<◌, Bool, true, false, Some, None, Option, List, length, Result, Ok, Err, OnOk, OnErr, arith, refl, sym, ap, subst, ◌∙◌}
 use Rattle.std.specs.Str.{bytes_eq}
 use Rattle.std.proofs.lemmas.Slice.Eq.{bytes_eq-Decides}
 use Rattle.std.proofs.lemmas.Bool.{both_ways}
-use Rattle.std.proofs.lemmas.List.{length-append}
-use Rattle.cue_program.specs.Files.{Holdings, IsElsewhereSame, IsPut, IsSameTree, IsUnharmed, KeepsFiles, Turns}
+use Rattle.cue_program.specs.Files.{Holdings, IsElsewhereSame, IsPut, IsSameTree, IsUnharmed, Turns}
 use Rattle.cue_program.specs.inner.Drafts.{HasMoved, IsBeside, IsFound, IsKept, IsNewAt, IsPutAt, IsTouchedAt, IsWritten, Stays}
 use Rattle.cue_program.specs.declared.shelf.Form.{Form}
 use Rattle.cue_program.specs.declared.shelf.Form.TheVariants as forms

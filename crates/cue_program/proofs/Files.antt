@@ -1,21 +1,19 @@
 -- The inputs that were handed to a site so far.
-use Rattle.std.proofs.Common.{◌≡◌, ℕ, suc, ◌+◌, ◌-◌, ◌^◌, ◌<◌, ◌≤◌, min, List, [], ◌∷◌, ◌++◌, Result, Ok, Err, OnOk, OnErr, IfErr, Option, Some, None, IfSome, map, take, drop, length, arith, Bor, refl, sym, ap, ◌∙◌, subst, inl, inr, ⊎_elim}
+use Rattle.std.proofs.Common.{◌≡◌, ℕ, suc, ◌+◌, ◌-◌, ◌^◌, ◌<◌, ◌≤◌, min, List, [], ◌∷◌, ◌++◌, Result, Ok, Err, OnOk, OnErr, IfErr, Option, map, take, drop, length, arith, Bor, refl, sym, ap, ◌∙◌, subst}
 use Rattle.std.specs.List.{AllByRecursion}
-use Rattle.std.proofs.lemmas.List.{append_assoc, length-append, length-take, map-append, map_push, take_more, take-append-drop, drop_more}
-use Rattle.cue_lattice.specs.World.{Piece, text, state, piece_refuses, AllAlong, IsUnified}
+use Rattle.std.proofs.lemmas.List.{append_assoc, length-take, map-append, map_push, take_more, take-append-drop, drop_more}
+use Rattle.cue_lattice.specs.World.{Piece, text, piece_refuses, AllAlong}
 use Rattle.cue_replica.specs.Language.{Table, language, opening}
 use Rattle.cue_replica.specs.Replica.{Adds}
-use Rattle.cue_replica.specs.Accepted.{IsAcceptable, IsOfPieces, IsOfTexts}
+use Rattle.cue_replica.specs.Accepted.{IsAcceptable}
 use Rattle.cue_replica.specs.declared.Refusal.{Refusal}
 use Rattle.cue_replica.proofs.Accepted.{of_no_piece, of_one_piece_more}
 use Rattle.cue_replica.proofs.Along.{along_push, length-along}
 use Rattle.cue_program.specs.declared.stop.Stop.{Stop}
 use Rattle.std.specs.Prelude.{get_or}
 use Rattle.cue_program.specs.Files.{AreAll, texts}
-use Rattle.cue_program.specs.Inputs.{AreStreamPieces, ArePieces, Begin, Gives, Holds, Inputs, IsFilePiece, IsFirstRefused, IsFirstUnread, IsInputRefused, IsPieceRefusal, files, stream}
-use Rattle.cue_program.specs.Runs.{IsStopOn}
-use Rattle.cue_program.specs.Stops.{IsMemory, IsRefusedAs, IsUnreadable}
-use Rattle.cue_program.specs.inner.Texts.{AreTexts, IsTextRefused}
+use Rattle.cue_program.specs.Inputs.{Gives, Holds, IsFilePiece, IsFirstRefused, IsFirstUnread, IsInputRefused, IsPieceRefusal, files}
+use Rattle.cue_program.specs.Stops.{IsRefusedAs, IsUnreadable}
 
 -- the site has accepted the piece of these bytes
 abbrev pub Accepts : List ℕ → Table → Table → Type 0

@@ -1,3 +1,4 @@
+pub mod Batches
 pub mod Devices
 pub mod Drafts
 pub mod Files

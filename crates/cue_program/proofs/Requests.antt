@@ -3,17 +3,16 @@ use Rattle.std.proofs.Common.{◌≡◌, ◌≢◌, ◌⊎◌, Result, Ok, Err, 
 use Rattle.std.specs.Prelude.{slice_get}
 use Rattle.std.specs.List.{AllByRecursion}
 use Rattle.std.proofs.lemmas.List.{map_push}
-use Rattle.cue_lattice.specs.World.{Piece, text, state, AllAlong}
-use Rattle.cue_replica.specs.declared.Refusal.{Refusal}
+use Rattle.cue_lattice.specs.World.{text, state}
 use Rattle.cue_replica.proofs.Along.{along_push}
 use Rattle.cue_wire.specs.declared.request.Request as requests
 use Rattle.cue_wire.specs.Clients.{request_of}
 use Rattle.cue_wire.specs.Requests as asking
 use Rattle.cue_program.specs.Files.{AreAll}
-use Rattle.cue_program.specs.Inputs.{AreStreamPieces, Gives, IsByteFault, IsFirstRefused, IsText, files, stream}
-use Rattle.cue_program.specs.Parts.{lines_of, AreParts, IsFirstPart}
+use Rattle.cue_program.specs.Inputs.{AreStreamPieces, Gives, IsByteFault, IsText, files, stream}
+use Rattle.cue_program.specs.Parts.{IsFirstPart}
 use Rattle.cue_program.specs.Requests.{AreRequests, CanBeSent, IsPieceFault, IsUnsentOn, request_for}
-use Rattle.cue_program.specs.Stops.{IsMemory, IsRefusedAs, IsUnreadable}
+use Rattle.cue_program.specs.Stops.{IsMemory, IsUnreadable}
 use Rattle.cue_program.specs.declared.stop.Stop.{Stop}
 use Rattle.cue_program.specs.inner.Sending.{AreTextRequests, IsFileRequest, IsFileUnsent, IsNoText, IsPartUnsent}
 use Rattle.cue_program.specs.inner.Texts.{AreFirstParts}

@@ -1,7 +1,6 @@
 -- What a site has taken of a reader's bytes.
-use Rattle.std.proofs.Common.{◌≡◌, ◌≢◌, ℕ, suc, ◌+◌, ◌-◌, ◌^◌, min, List, [], ◌∷◌, ◌++◌, Option, Some, None, map, length, Bor, ◌<◌, arith, refl, sym, ap, ◌∙◌, subst, inl, inr}
+use Rattle.std.proofs.Common.{◌≡◌, ◌≢◌, ℕ, ◌+◌, ◌-◌, ◌^◌, min, List, [], ◌∷◌, ◌++◌, Option, Some, map, length, Bor, ◌<◌, arith, refl, sym, ◌∙◌, subst, inl, inr}
 use Rattle.std.specs.Prelude.{slice_get}
-use Rattle.std.specs.List.{AllByRecursion}
 use Rattle.std.proofs.lemmas.List.{append_assoc}
 use Rattle.cue_lattice.specs.World.{Piece, text, state}
 use Rattle.cue_replica.specs.Language.{Table, language, opening}
@@ -11,8 +10,8 @@ use Rattle.cue_replica.specs.declared.Refusal.{Refusal}
 use Rattle.cue_replica.proofs.Accepted.{of_no_piece, of_one_piece_more}
 use Rattle.cue_program.specs.declared.stop.Stop.{Stop}
 use Rattle.cue_program.specs.Files.{AreAll, Holdings, known_at, texts}
-use Rattle.cue_program.specs.Inputs.{AreStreamPieces, Begin, Holds, IsFirstRefused, IsInputRefused, IsPieceRefusal, IsStateRefusal, files, inputs_of, stream}
-use Rattle.cue_program.specs.Stops.{IsRefusedAs, IsUnreadable}
+use Rattle.cue_program.specs.Inputs.{AreStreamPieces, Holds, IsFirstRefused, IsInputRefused, IsPieceRefusal, IsStateRefusal, files, inputs_of, stream}
+use Rattle.cue_program.specs.Stops.{IsRefusedAs}
 use Rattle.cue_program.specs.inner.Texts.{AreTexts, IsPartRefused, IsTextRefused}
 use Rattle.cue_program.proofs.Files.{all_texts, length_texts, map_texts}
 

@@ -1,37 +1,38 @@
 -- Texts that a site takes while they are read.
-use Rattle.std.proofs.Common.{◌≡◌, inl, inr, ℕ, ◌+◌, ◌-◌, ◌^◌, ◌<◌, ◌≤◌, min, true, false, Option, Some, None, Result, Ok, Err, OnOk, List, [], ◌∷◌, ◌++◌, length, arith, refl, sym, ap, subst, ◌∙◌}
+use Rattle.std.proofs.Common.{◌≡◌, ◌⊎◌, inl, inr, ℕ, ◌+◌, ◌-◌, ◌^◌, ◌<◌, ◌≤◌, min, true, false, Option, Some, None, Result, Ok, Err, OnOk, List, [], ◌∷◌, ◌++◌, length, arith, refl, sym, ap, subst, ◌∙◌}
 use Rattle.std.specs.Prelude.{codes}
 use Rattle.std.specs.Option.{is_some}
 use Rattle.std.proofs.lemmas.Bool.{false≢true}
 use Rattle.std.proofs.lemmas.List.{append_assoc, append-nil, length-append}
 use Rattle.cue_replica.specs.Accepted.{IsOfTexts, text_limit, refusal_at}
-use Rattle.cue_replica.specs.Language.{Table, language, opening}
-use Rattle.cue_replica.specs.Replica.{Adds}
+use Rattle.cue_replica.specs.Language.{Table, language}
 use Rattle.cue_replica.specs.declared.Kind.TheVariants as kinds
 use Rattle.cue_replica.specs.declared.Refusal.{Refusal}
-use Rattle.cue_replica.proofs.Accepted.{of_no_text, of_one_text_more}
 use Rattle.cue_program.specs.Inputs.{IsTextRefusal}
 use Rattle.cue_program.specs.Parts.{IsFirstPart, IsSeparator}
-use Rattle.cue_program.specs.Stops.{IsRefusedAs}
+use Rattle.cue_program.specs.Stops.{IsMemory, IsRefusedAs}
+use Rattle.cue_program.specs.inner.Gathered.{IsGathered}
 use Rattle.cue_program.specs.inner.Taking.{HasRead, HasTaken, IsLineEnd, IsOpenOr, IsRefusedWithin, IsStopWithin, IsUnbroken}
 use Rattle.cue_program.specs.inner.Texts.{AreFirstParts, HasTakenParts, IsTextRefused}
 use Rattle.cue_program.specs.declared.stop.Stop.{Stop}
 use Rattle.cue_program.specs.declared.stop.Stop.TheVariants as stops
+use Rattle.cue_program.specs.declared.gathered.Gathered.{Gathered}
 use Rattle.cue_program.specs.declared.taking.Taken.{Taken}
+use Rattle.cue_program.proofs.Batches.{all_legal}
 use Rattle.cue_program.proofs.Texts.{counted, next_part, part_refused, so_far_more}
 use Rattle.cue_program.proofs.Unfinished.{end_behind, first_is_long, line_first, no_lines, one_line_more, unbroken_more}
 
 -- the old site with another unfinished part
 pub record IsSameSite (old new : Taken) : Type 0 where
-  pub site : new.site ≡ old.site
+  pub gathered : new.gathered ≡ old.gathered
   pub number : new.number ≡ old.number
 
 -- a new site has taken nothing
-pub taken_none : (taken : Taken) → taken.site ≡ opening → taken.number ≡ 0 → taken.part.items ≡ [] → taken.line.items ≡ [] → HasTaken taken []
-taken_none taken site number part line = record {
+pub taken_none : (taken : Taken) → IsGathered taken.gathered [] → taken.number ≡ 0 → taken.part.items ≡ [] → taken.line.items ≡ [] → HasTaken taken []
+taken_none taken none number part line = record {
   read = record {
     done = [];
-    texts = subst (λ (t : Table). IsOfTexts t []) (sym site) of_no_text;
+    texts = none;
     counted = number;
     rest = λ more. rw (part, line) (λ parts are. are);
     whole = rw part no_lines;
@@ -46,7 +47,7 @@ pub line_read :
     → new.line.items ≡ old.line.items ++ piece → HasRead new (bytes ++ piece)
 line_read old new bytes piece h same part line = record {
   done = h.done;
-  texts = subst (λ (t : Table). IsOfTexts t h.done) (sym same.site) h.texts;
+  texts = subst (λ (t : Gathered). IsGathered t h.done) (sym same.gathered) h.texts;
   counted = same.number ∙ h.counted;
   rest = λ more. rw (append_assoc bytes piece more, part, line, append_assoc old.line.items piece more) (h.rest (piece ++ more));
   whole = rw part h.whole;
@@ -58,7 +59,7 @@ pub line_kept :
     → new.part.items ≡ old.part.items ++ old.line.items → new.line.items ≡ [] → HasRead new bytes
 line_kept old new bytes h ended other same part line = record {
   done = h.done;
-  texts = subst (λ (t : Table). IsOfTexts t h.done) (sym same.site) h.texts;
+  texts = subst (λ (t : Gathered). IsGathered t h.done) (sym same.gathered) h.texts;
   counted = same.number ∙ h.counted;
   rest = λ more. rw (part, line, append_assoc old.part.items old.line.items more) (h.rest more);
   whole = rw part (one_line_more old.part.items old.line.items h.whole ended other);
@@ -79,13 +80,13 @@ first_ends taken bytes more h is = (
 
 -- the part is finished, and was taken
 pub part_taken :
-    (old new : Taken) (bytes : List ℕ) → HasRead old bytes → old.line.items ≡ codes "---\n" → new.number ≡ min (old.number + 1) (2 ^ 64 - 1)
-    → language.IsLegal old.part.items → Adds old.site (language.text_refuses old.part.items) new.site → language.IsValid new.site
+    (old new : Taken) (bytes : List ℕ) (h : HasRead old bytes) → old.line.items ≡ codes "---\n" → new.number ≡ min (old.number + 1) (2 ^ 64 - 1)
+    → IsGathered new.gathered (h.done ++ old.part.items ∷ [])
     → new.part.items ≡ [] → new.line.items ≡ [] → HasTaken new bytes
-part_taken old new bytes h is next legal adds valid part line = record {
+part_taken old new bytes h is next gathered part line = record {
   read = record {
     done = h.done ++ old.part.items ∷ [];
-    texts = of_one_text_more old.site new.site h.done old.part.items h.texts legal adds valid;
+    texts = gathered;
     counted = counted h.done old.part.items old.number new.number h.counted next
         ∙ ap (λ n. min n (2 ^ 64 - 1)) (sym (length-append h.done (old.part.items ∷ [])));
     rest = λ more.
@@ -98,15 +99,17 @@ part_taken old new bytes h is next legal adds valid part line = record {
   short = omega (arith, ap (λ (l : List ℕ). length l) part, ap (λ (l : List ℕ). length l) line);
 }
 
--- the part is finished, and was refused
+-- the part is finished, and was refused, or memory ran out
 pub part_stops :
-    (old : Taken) (bytes : List ℕ) (number : ℕ) (stop : Stop) → HasRead old bytes → old.line.items ≡ codes "---\n"
-    → number ≡ min (old.number + 1) (2 ^ 64 - 1)
-    → ((why : Refusal) × IsRefusedAs why number stop × IsTextRefusal old.part.items why) → IsRefusedWithin bytes stop
-part_stops old bytes number stop h is next fault = λ more.
+    (old : Taken) (bytes part : List ℕ) (number : ℕ) (stop : Stop) → HasRead old bytes → old.line.items ≡ codes "---\n"
+    → number ≡ min (old.number + 1) (2 ^ 64 - 1) → part ≡ old.part.items
+    → (IsMemory stop ⊎ ((why : Refusal) × IsRefusedAs why number stop × IsTextRefusal part why)) → IsStopWithin bytes stop
+part_stops old bytes part number stop h is next same (inl memory) = inl memory
+part_stops old bytes part number stop h is next same (inr fault) = inr (λ more.
     let all = old.part.items ++ (old.line.items ++ more) in
-    part_refused language.IsLegal IsTextRefusal (bytes ++ more) all old.part.items h.done number (Some more) stop h.texts.0 (h.rest more)
-    (first_ends old bytes more h is) (counted h.done old.part.items old.number number h.counted next) fault
+    part_refused language.IsLegal IsTextRefusal (bytes ++ more) all old.part.items h.done number (Some more) stop (all_legal old.gathered.site old.gathered.batch h.done h.texts) (h.rest more)
+    (first_ends old bytes more h is) (counted h.done old.part.items old.number number h.counted next)
+    (subst (λ (t : List ℕ). (why : Refusal) × IsRefusedAs why number stop × IsTextRefusal t why) same fault))
 
 -- the part is too long, whatever follows
 pub long_stops :
@@ -119,7 +122,7 @@ long_stops taken bytes why number h plain less is next stop told = λ more.
       long.0,
       long.1,
       h.rest more (long.0 ∷ long.1) long.2,
-      h.texts.0,
+      all_legal taken.gathered.site taken.gathered.batch h.done h.texts,
       (why, subst (λ (n : ℕ). IsRefusedAs why n stop) (counted h.done long.0 taken.number number h.counted next) told, inl (inl (long.3, is))),
     )
 
@@ -133,11 +136,12 @@ refused_whole bytes stop h = subst (λ (b : List ℕ). IsTextRefused b stop) (ap
 
 -- at the end the unfinished part is the rest
 pub rest_at_end :
-    (taken : Taken) (bytes rest : List ℕ) → HasRead taken bytes → rest ≡ taken.part.items ++ taken.line.items
-    → HasTakenParts bytes taken.site taken.number (Some rest)
-rest_at_end taken bytes rest h is = (
+    (taken : Taken) (bytes rest : List ℕ) (site : Table) → HasRead taken bytes
+    → ((texts : List (List ℕ)) → IsGathered taken.gathered texts → IsOfTexts site texts) → rest ≡ taken.part.items ++ taken.line.items
+    → HasTakenParts bytes site taken.number (Some rest)
+rest_at_end taken bytes rest site h gathered is = (
   h.done,
-  h.texts,
+  gathered h.done h.texts,
   subst (λ (b : List ℕ). AreFirstParts b h.done (Some rest)) (append-nil bytes)
       (subst (λ (r : List ℕ). AreFirstParts (bytes ++ []) h.done (Some r))
       (ap (λ (l : List ℕ). taken.part.items ++ l) (append-nil taken.line.items) ∙ sym is) (h.rest [])),

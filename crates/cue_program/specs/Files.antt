@@ -1,7 +1,7 @@
 -- What lies where, as far as it is known: what is read of a name, and what becomes of the files when
 -- bytes are put at a name.
-use Rattle.std.specs.Prelude.{◌≡◌, ◌≢◌, ◌⊎◌, ℕ, List, Option, Some, None, Bool, true, false, Result}
-use Rattle.std.specs.Prelude.{Ok, Err, IfSome, map}
+use Rattle.std.specs.Prelude.{◌≡◌, ◌≢◌, ℕ, List, Option, Some, None, Bool, false}
+use Rattle.std.specs.Prelude.{IfSome, map}
 use Rattle.std.specs.Borrow.{Bor}
 
 -- A name leads to a place, which is another one where the name is a link's. At a place lies a

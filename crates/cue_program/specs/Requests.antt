@@ -1,5 +1,5 @@
 -- What inputs are as requests to a site, and which of them can't be sent.
-use Rattle.std.specs.Prelude.{◌≡◌, ◌⊎◌, ℕ, List, map, ⊤}
+use Rattle.std.specs.Prelude.{◌≡◌, ◌⊎◌, List, map, ⊤}
 use Rattle.std.specs.List.{AllByRecursion}
 use Rattle.cue_lattice.specs.World.{Piece, text, state}
 use Rattle.cue_replica.specs.declared.Refusal.{Refusal}

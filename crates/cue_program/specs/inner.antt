@@ -1,5 +1,6 @@
 -- What private clauses alone cite.
 pub mod Drafts
+pub mod Gathered
 pub mod Reading
 pub mod Sending
 pub mod Taking

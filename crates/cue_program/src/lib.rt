@@ -5,6 +5,7 @@
 #![tactic(auto)]
 
 mod disk;
+mod gathered;
 mod input;
 mod kept;
 mod parts;

@@ -6,9 +6,10 @@ ghost use Rattle.cue_program.specs.inner.Texts.{AreTexts, IsTextRefused};
 ghost use Rattle.cue_program.specs.inner.Taking.{AreTaken, HasRead, HasTaken, IsLineEnd};
 ghost use Rattle.cue_program.specs.inner.Taking.{IsRefusedWithin, IsStopWithin, IsUnbroken};
 
+use crate::gathered::Gathered;
 use crate::kept::Kept;
 use crate::parts::{is_separator, line_end};
-use crate::site::{submit, take_parts};
+use crate::site::take_parts;
 use crate::stop::Stop;
 use cue_replica::{Kind, Memory, Refusal, Replica, TEXT_LIMIT};
 use std::alloc::Global;
@@ -77,10 +78,10 @@ impl Texts {
     }
 }
 
-/// A site that has taken the parts that are finished, and what was read of the next.
+/// What has taken the parts that are finished, and what was read of the next.
 #[derive(Drop)]
 pub struct Taken {
-    pub site: Replica,
+    pub gathered: Gathered,
     /// How many parts are finished.
     pub number: usize,
     /// The whole lines of the next part.
@@ -95,7 +96,7 @@ impl Taken {
         ensures { HasTaken result [] }
     {
         Taken {
-            site: Replica::new(alloc),
+            gathered: Gathered::new(alloc),
             number: 0,
             part: Vec::new(alloc),
             line: Vec::new(alloc),
@@ -138,15 +139,15 @@ impl Taken {
         self.check_length()
     }
 
-    /// Hands the part to the site, and begins the next behind the separating line.
+    /// Hands the part on, and begins the next behind the separating line.
     fn end_part(&mut self) -> Result<(), Stop>
         ensures taken { (bytes : List ℕ) → HasRead self.old bytes
             → self.old.line.items ≡ codes "---\n" → OnOk result (HasTaken self.new bytes) }
         ensures stop { (bytes : List ℕ) → HasRead self.old bytes
-            → self.old.line.items ≡ codes "---\n" → IfErr result (IsRefusedWithin bytes) }
+            → self.old.line.items ≡ codes "---\n" → IfErr result (IsStopWithin bytes) }
     {
         self.number = self.number.saturating_add(1);
-        match submit(&mut self.site, &self.part, self.number) {
+        match self.gathered.take(&self.part, self.number) {
             Ok(()) => {}
             Err(stop) => return Err(stop),
         }
@@ -177,6 +178,6 @@ impl Taken {
             → IfErr result (λ stop. IsMemory stop ⊎ IsTextRefused bytes stop) }
     {
         self.part.extend_from_slice(&self.line)?;
-        take_parts(self.site, self.number, &self.part)
+        take_parts(self.gathered.finish()?, self.number, &self.part)
     }
 }

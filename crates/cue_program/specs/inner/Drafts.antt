@@ -1,6 +1,6 @@
 -- What single calls do to what lies where.
-use Rattle.std.specs.Prelude.{◌≡◌, ◌≢◌, ◌⊎◌, ◌<◌, ℕ, List, Option, Some, None, Bool, true, false, Result}
-use Rattle.std.specs.Prelude.{Ok, Err, length}
+use Rattle.std.specs.Prelude.{◌≡◌, ◌≢◌, ◌⊎◌, ℕ, List, Option, Some, None, Bool, true, false, Result}
+use Rattle.std.specs.Prelude.{Ok, Err}
 use Rattle.cue_program.specs.Files.{Holdings, IsElsewhereSame, IsSameTree, KeepsFiles, Knows}
 use Rattle.cue_program.specs.declared.shelf.Form.{Form}
 use Rattle.cue_program.specs.declared.shelf.Form.TheVariants as forms

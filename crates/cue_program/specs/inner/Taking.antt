@@ -2,10 +2,11 @@
 use Rattle.std.specs.Prelude.{◌≡◌, ◌⊎◌, ◌≤◌, ◌<◌, ◌+◌, ◌^◌, ◌==◌, ℕ, List, [], ◌∷◌, ◌++◌, length}
 use Rattle.std.specs.Prelude.{Option, Some, None, false}
 use Rattle.std.specs.List.{AllByRecursion, concat}
-use Rattle.cue_replica.specs.Accepted.{IsOfTexts, text_limit}
+use Rattle.cue_replica.specs.Accepted.{text_limit}
 use Rattle.cue_program.specs.Parts.{lines_of, IsPart}
 use Rattle.cue_program.specs.Inputs.{IsRead}
 use Rattle.cue_program.specs.Stops.{IsMemory}
+use Rattle.cue_program.specs.inner.Gathered.{IsGathered}
 use Rattle.cue_program.specs.inner.Texts.{AreFirstParts, Counts, IsTextRefused}
 use Rattle.cue_program.specs.declared.kept.Input.{Input}
 use Rattle.cue_program.specs.declared.stop.Stop.{Stop}
@@ -27,10 +28,10 @@ pub record AreWholeLines (bytes : List ℕ) : Type 0 where
   pub joined : concat lines ≡ bytes
   pub behind : (more : List ℕ) → lines_of (bytes ++ more) ≡ lines ++ lines_of more
 
--- The site has taken the finished parts of the bytes, which are so many; what follows them is kept.
+-- The finished parts of the bytes were taken, which are so many; what follows them is kept.
 pub record HasRead (taken : Taken) (bytes : List ℕ) : Type 0 where
   pub done : List (List ℕ)
-  pub texts : IsOfTexts taken.site done
+  pub texts : IsGathered taken.gathered done
   pub counted : Counts taken.number done
   pub rest : (more : List ℕ)
       → AreFirstParts (bytes ++ more) done

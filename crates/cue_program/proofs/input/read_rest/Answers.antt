@@ -1,5 +1,4 @@
-use Rattle.std.proofs.Common.{◌≡◌, ◌+◌, ◌-◌, arith, rules, ◌∙◌}
-use Rattle.cue_program.specs.Stops.{piece_size}
+use Rattle.std.proofs.Common.{◌≡◌, ◌+◌, ◌-◌, arith, ◌∙◌}
 use Rattle.cue_program.proofs.Pieces.{goes_further}
 use Rattle.cue_program.proofs.input.read_rest.Goals as goal
 

@@ -1,9 +1,9 @@
-use Rattle.std.proofs.Common.{◌<◌, ◌∷◌, [], Bool, Ok, length, string_bytes, rules, arith, ap, subst, ℕ, List}
+use Rattle.std.proofs.Common.{◌<◌, ◌∷◌, [], Bool, Ok, length, string_bytes, arith, ap, subst, ℕ, List}
 use Rattle.std.proofs.lemmas.List.{length-append}
 use Rattle.std.proofs.lemmas.Result.{err_from_is_err_and}
 use Rattle.cue_replica.specs.Language.{language}
 use Rattle.cue_program.specs.Files.{Turns}
-use Rattle.cue_program.specs.inner.Drafts.{IsBeside, IsDrafted, IsNewAt}
+use Rattle.cue_program.specs.inner.Drafts.{IsDrafted, IsNewAt}
 use Rattle.cue_program.specs.declared.stop.Stop.{Stop}
 use Rattle.cue_program.proofs.Drafts.{known_beside, known_kept, known_kept_on, known_stays_on}
 use Rattle.cue_program.proofs.put.draft_beside.Goals as goal

@@ -1,7 +1,7 @@
-use Rattle.std.proofs.Common.{List, ℕ, string_bytes, subst, sym}
+use Rattle.std.proofs.Common.{List, ℕ, string_bytes, subst}
 use Rattle.cue_replica.specs.Language.{language}
 use Rattle.cue_program.specs.Files.{Turns}
-use Rattle.cue_program.specs.inner.Drafts.{IsFound, IsKept, IsPutAt, IsTouchedAt}
+use Rattle.cue_program.specs.inner.Drafts.{IsFound, IsPutAt, IsTouchedAt}
 use Rattle.cue_program.specs.declared.shelf.Form.{Form}
 use Rattle.cue_program.proofs.Files.{ok_more, err_more}
 use Rattle.cue_program.proofs.Drafts.{known_put_under, known_unharmed, known_special, overwritten, not_overwritten}

@@ -1,6 +1,6 @@
-use Rattle.std.proofs.Common.{◌≡◌, ℕ, List, Some, inl, inr, refl, subst, sym}
+use Rattle.std.proofs.Common.{◌≡◌, ℕ, List, Some, inl, refl, subst, sym}
 use Rattle.std.proofs.lemmas.Bool.{both_ways}
-use Rattle.cue_lattice.specs.World.{text, state}
+use Rattle.cue_lattice.specs.World.{state}
 use Rattle.std.specs.Prelude.{slice_get}
 use Rattle.cue_program.proofs.Requests.{file_text_sent, file_text_unsent}
 use Rattle.cue_program.proofs.request.request_of_file.Goals as goal

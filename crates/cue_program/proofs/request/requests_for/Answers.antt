@@ -1,4 +1,4 @@
-use Rattle.std.proofs.Common.{◌≡◌, ◌<◌, List, ℕ, Some, Option, rules, length, inl, inr, subst, sym, IfOk, IfErr}
+use Rattle.std.proofs.Common.{◌≡◌, ◌<◌, List, ℕ, Some, rules, length, inl, inr, subst, sym, IfOk, IfErr}
 use Rattle.std.specs.Prelude.{Vec}
 use Rattle.std.specs.Global.{Global}
 use Rattle.std.proofs.lemmas.Result.{IfOk-weaker, IfErr-weaker}

@@ -1,4 +1,4 @@
-use Rattle.std.proofs.Common.{◌≡◌, ℕ, ◌+◌, ◌-◌, ◌^◌, min, List, Option, Bor, ap, subst, sym, ◌∙◌, inl, inr, ⊎_elim}
+use Rattle.std.proofs.Common.{ℕ, ◌+◌, ◌-◌, ◌^◌, min, List, Option, Bor, ap, subst, sym, ◌∙◌, inr, ⊎_elim}
 use Rattle.std.specs.Option.{option_map}
 use Rattle.cue_wire.specs.declared.request.Request as requests
 use Rattle.cue_program.proofs.Requests.{Sends, sends_none, sends_more, sends_not, sends_all}

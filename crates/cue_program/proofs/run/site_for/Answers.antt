@@ -1,4 +1,4 @@
-use Rattle.std.proofs.Common.{◌≡◌, ◌⊎◌, ⊎_elim, ◌<◌, List, ℕ, Some, Option, rules, length, inl, inr, subst, sym, ap, ◌∙◌, IfOk, IfErr}
+use Rattle.std.proofs.Common.{◌≡◌, ◌⊎◌, ⊎_elim, ◌<◌, Some, rules, length, inl, inr, subst, sym, IfOk, IfErr}
 use Rattle.std.proofs.lemmas.Result.{IfOk-weaker, IfErr-weaker}
 use Rattle.cue_replica.specs.Accepted.{IsAcceptable}
 use Rattle.cue_program.specs.Files.{texts}

@@ -1,8 +1,7 @@
-use Rattle.std.proofs.Common.{◌≡◌, ℕ, List, Option, rules, sym, subst, ap, inl, inr, ◌+◌, map, take, drop, ◌∙◌, arith, length, []}
+use Rattle.std.proofs.Common.{ℕ, List, Option, rules, sym, subst, ap, inl, inr, ◌+◌, map, take, drop, ◌∙◌, arith, []}
 use Rattle.cue_replica.specs.Accepted.{IsAcceptable}
 use Rattle.cue_program.specs.Files.{known_at, texts}
 use Rattle.cue_program.specs.Inputs.{Holds, IsInputRefused, IsInputUnread, files}
-use Rattle.cue_program.specs.Runs.{IsStopOn}
 use Rattle.cue_program.proofs.Files.{some_name, files_none, files_more, files_refused, files_unread, take_known, split_known, length_known}
 use Rattle.cue_program.proofs.Pieces.{held_in_memory}
 use Rattle.cue_program.proofs.run.site_of_files.Goals as goal

@@ -1,4 +1,4 @@
-use Rattle.std.proofs.Common.{◌≡◌, ◌<◌, map, take, vec_len}
+use Rattle.std.proofs.Common.{◌≡◌, map, take, vec_len}
 use Rattle.cue_program.specs.Files.{known_at, texts}
 use Rattle.cue_program.specs.Stops.{piece_size}
 use Rattle.cue_program.specs.Inputs.{Holds, files}

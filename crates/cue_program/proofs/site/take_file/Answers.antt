@@ -1,12 +1,10 @@
-use Rattle.std.proofs.Common.{◌≡◌, ◌≢◌, ℕ, List, Some, inl, inr, refl, subst}
-use Rattle.std.specs.Prelude.{slice_get}
+use Rattle.std.proofs.Common.{ℕ, List, inl, refl, subst}
 use Rattle.std.proofs.lemmas.Result.{IfErr-weaker}
 use Rattle.cue_lattice.specs.World.{Piece, state}
-use Rattle.cue_codec.specs.Pieces.{IsIntake}
 use Rattle.cue_replica.specs.Language.{language}
 use Rattle.cue_replica.specs.Replica.{Adds}
 use Rattle.cue_replica.specs.declared.Refusal.{Refusal}
-use Rattle.cue_program.specs.Inputs.{IsEnoughOf, IsFilePiece, IsFileRead, IsPieceRefusal, IsStateRefusal, IsTextRefusal}
+use Rattle.cue_program.specs.Inputs.{IsFilePiece, IsFileRead, IsPieceRefusal, IsStateRefusal, IsTextRefusal}
 use Rattle.cue_program.specs.Stops.{IsRefusedAs}
 use Rattle.cue_program.specs.declared.kept.Enough.{Enough}
 use Rattle.cue_program.specs.declared.kept.Input.{Input}

@@ -1,4 +1,3 @@
-use Rattle.std.proofs.Common.{ℕ, List}
 use Rattle.cue_program.proofs.Files.{ok_more}
 use Rattle.cue_program.proofs.Pieces.{state_more, text_more}
 use Rattle.cue_program.proofs.kept.InputKept.go_on.Goals as goal

@@ -12,18 +12,16 @@ returns-then-is_separator-clause-taken c front h =
     let is = c.in_ok-extend_from_slice.ensures.items in
     let ended = line_ended c.args.self.now front c.args.end.now c.extend_from_slice.new.self.items h c.requires is in
     c.end_part.ensures.taken (front ++ c.args.end.now)
-    (line_read c.args.self.now _ front c.args.end.now h.read (record { site = refl; number = refl }) refl is)
+    (line_read c.args.self.now _ front c.args.end.now h.read (record { gathered = refl; number = refl }) refl is)
     (separator_ended c.extend_from_slice.new.self.items ended (subst IsSeparator c.deref.ensures.value (c.is_separator.ensures.0 c.if-is_separator.true)))
 
 pub returns-then-is_separator-clause-stop : goal.returns-then-is_separator-clause-stop
 returns-then-is_separator-clause-stop c front h =
     let is = c.in_ok-extend_from_slice.ensures.items in
     let ended = line_ended c.args.self.now front c.args.end.now c.extend_from_slice.new.self.items h c.requires is in
-    let bytes = front ++ c.args.end.now in
-    IfErr-weaker c.end_part.result (IsRefusedWithin bytes) (IsStopWithin bytes) (λ stop refused. inr refused)
-    (c.end_part.ensures.stop bytes
-    (line_read c.args.self.now _ front c.args.end.now h.read (record { site = refl; number = refl }) refl is)
-    (separator_ended c.extend_from_slice.new.self.items ended (subst IsSeparator c.deref.ensures.value (c.is_separator.ensures.0 c.if-is_separator.true))))
+    c.end_part.ensures.stop (front ++ c.args.end.now)
+    (line_read c.args.self.now _ front c.args.end.now h.read (record { gathered = refl; number = refl }) refl is)
+    (separator_ended c.extend_from_slice.new.self.items ended (subst IsSeparator c.deref.ensures.value (c.is_separator.ensures.0 c.if-is_separator.true)))
 
 pub returns-clause-taken : goal.returns-clause-taken
 returns-clause-taken c front h =
@@ -31,10 +29,10 @@ returns-clause-taken c front h =
     let ended = line_ended c.args.self.now front c.args.end.now c.extend_from_slice.new.self.items h c.requires is in
     let bytes = front ++ c.args.end.now in
     taken_where_short _ bytes c.check_length.result
-    (line_kept (record { site = c.args.self.now.site; number = c.args.self.now.number; part = c.args.self.now.part; line = c.extend_from_slice.new.self }) _ bytes
-    (line_read c.args.self.now _ front c.args.end.now h.read (record { site = refl; number = refl }) refl is) ended
+    (line_kept (record { gathered = c.args.self.now.gathered; number = c.args.self.now.number; part = c.args.self.now.part; line = c.extend_from_slice.new.self }) _ bytes
+    (line_read c.args.self.now _ front c.args.end.now h.read (record { gathered = refl; number = refl }) refl is) ended
     (λ sep. both_ways c.is_separator.result c.if-is_separator.false (c.is_separator.ensures.1 (subst IsSeparator (sym c.deref.ensures.value) sep)))
-    (record { site = refl; number = refl })
+    (record { gathered = refl; number = refl })
     (c.in_ok-extend_from_slice-2.ensures.items ∙ ap (λ (l : List ℕ). c.args.self.now.part.items ++ l) c.deref-2.ensures.value)
     c.clear.ensures.items)
     (subst IsUnbroken (sym c.clear.ensures.items) tt)
@@ -47,10 +45,10 @@ returns-clause-stop c front h =
     let bytes = front ++ c.args.end.now in
     IfErr-weaker c.check_length.result (IsRefusedWithin bytes) (IsStopWithin bytes) (λ stop refused. inr refused)
     (c.check_length.ensures.long bytes
-    (line_kept (record { site = c.args.self.now.site; number = c.args.self.now.number; part = c.args.self.now.part; line = c.extend_from_slice.new.self }) _ bytes
-    (line_read c.args.self.now _ front c.args.end.now h.read (record { site = refl; number = refl }) refl is) ended
+    (line_kept (record { gathered = c.args.self.now.gathered; number = c.args.self.now.number; part = c.args.self.now.part; line = c.extend_from_slice.new.self }) _ bytes
+    (line_read c.args.self.now _ front c.args.end.now h.read (record { gathered = refl; number = refl }) refl is) ended
     (λ sep. both_ways c.is_separator.result c.if-is_separator.false (c.is_separator.ensures.1 (subst IsSeparator (sym c.deref.ensures.value) sep)))
-    (record { site = refl; number = refl })
+    (record { gathered = refl; number = refl })
     (c.in_ok-extend_from_slice-2.ensures.items ∙ ap (λ (l : List ℕ). c.args.self.now.part.items ++ l) c.deref-2.ensures.value)
     c.clear.ensures.items)
     (subst IsUnbroken (sym c.clear.ensures.items) tt))

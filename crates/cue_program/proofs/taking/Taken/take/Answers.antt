@@ -21,7 +21,7 @@ returns-clause-taken c front h =
     let read = c.loop-end.invariant front h in
     let is = c.in_ok-extend_from_slice.ensures.items in
     taken_where_short _ (front ++ c.args.piece.now) c.check_length.result
-    (rest_read c.loop-end.self _ front c.args.piece.now c.loop-end.rest.now read (record { site = refl; number = refl }) refl is)
+    (rest_read c.loop-end.self _ front c.args.piece.now c.loop-end.rest.now read (record { gathered = refl; number = refl }) refl is)
     (line_plain c.loop-end.self (front ++ read.0) c.loop-end.rest.now c.extend_from_slice.new.self.items read.2 c.in_default.ensures.none is)
     c.check_length.ensures.short
 
@@ -32,5 +32,5 @@ returns-clause-stop c front h =
     let bytes = front ++ c.args.piece.now in
     IfErr-weaker c.check_length.result (IsRefusedWithin bytes) (IsStopWithin bytes) (λ stop refused. inr refused)
     (c.check_length.ensures.long bytes
-    (rest_read c.loop-end.self _ front c.args.piece.now c.loop-end.rest.now read (record { site = refl; number = refl }) refl is)
+    (rest_read c.loop-end.self _ front c.args.piece.now c.loop-end.rest.now read (record { gathered = refl; number = refl }) refl is)
     (line_plain c.loop-end.self (front ++ read.0) c.loop-end.rest.now c.extend_from_slice.new.self.items read.2 c.in_default.ensures.none is))
