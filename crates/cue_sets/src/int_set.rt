@@ -73,6 +73,16 @@ impl IntSet {
         Ok(IntSet::between(i64::MIN, number))
     }
 
+    /// The integers from `first` to `last`, with both. This takes no memory.
+    pub fn between(first: i64, last: i64) -> IntSet
+        requires { first ≤ℤ last }
+        ensures { result ≡ (first, last) ∷ [] }
+    {
+        IntSet {
+            pieces: Kept::one(first, last),
+        }
+    }
+
     /// All integers of 64 bits but one.
     pub fn but(alloc: Global, number: i64) -> Result<IntSet, Memory>
         ensures { IfOk result (λ set. (n : ℤ) →
@@ -227,16 +237,6 @@ impl IntSet {
         Ok(IntSet {
             pieces: pieces.followed_by(alloc, later)?,
         })
-    }
-
-    /// The integers from `first` to `last`, with both.
-    fn between(first: i64, last: i64) -> IntSet
-        requires { first ≤ℤ last }
-        ensures { result ≡ (first, last) ∷ [] }
-    {
-        IntSet {
-            pieces: Kept::one(first, last),
-        }
     }
 }
 

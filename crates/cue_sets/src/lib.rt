@@ -18,3 +18,4 @@ pub use cue_lattice::{Memory, Narrow, Narrowed, Text};
 pub use int_set::IntSet;
 pub use text_change::TextChange;
 pub use text_set::TextSet;
+pub use texts::are_same;

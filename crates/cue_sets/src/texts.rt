@@ -206,7 +206,7 @@ fn each_is_met(texts: &[Text], others: &[Text], wanted: bool) -> bool
 }
 
 /// Whether two lists have the same texts in the same order.
-pub(crate) fn are_same(left: &[Text], right: &[Text]) -> bool
+pub fn are_same(left: &[Text], right: &[Text]) -> bool
     ensures { IsTrue result ↔ (left.now ≡ right.now) }
 {
     if left.len() != right.len() {
