@@ -154,32 +154,10 @@ fn table<R: Narrow>(
     Ok(made.finish().unwrap_or(Table::new(alloc)))
 }
 
-/// The row of a struct that allows these labels.
-fn a_struct(alloc: Global, level: Level, labels: Labels) -> Result<Row, Memory> {
-    Ok(Row {
-        level,
-        value: ScalarSet::empty(alloc)?,
-        usual: ScalarSet::empty(alloc)?,
-        struct_ok: true,
-        list_ok: false,
-        labels,
-        least: 0,
-        most: None,
-    })
-}
-
 /// The row of a field that has one of these scalars.
 fn scalar(alloc: Global, value: ScalarSet) -> Result<Row, Memory> {
-    Ok(Row {
-        level: Level::Given,
-        usual: value.copy(alloc)?,
-        value,
-        struct_ok: false,
-        list_ok: false,
-        labels: Labels::all(alloc)?,
-        least: 0,
-        most: None,
-    })
+    let usual = value.copy(alloc)?;
+    Row::of_scalars(alloc, Level::Given, value, usual)
 }
 
 /// The row of a field that has an integer as its value.
@@ -258,12 +236,12 @@ fn allowed(alloc: Global, shape: Shape, count: u32) -> Result<Labels, Memory> {
 
 /// The row at the top.
 fn top(alloc: Global) -> Result<Row, Memory> {
-    a_struct(alloc, Level::Optional, Labels::all(alloc)?)
+    Row::of_struct(alloc, Level::Optional, Labels::all(alloc)?)
 }
 
 /// The row of the parent of the fields.
 fn outer(alloc: Global, shape: Shape, count: u32) -> Result<Row, Memory> {
-    a_struct(alloc, Level::Given, allowed(alloc, shape, count)?)
+    Row::of_struct(alloc, Level::Given, allowed(alloc, shape, count)?)
 }
 
 /// The row of a field.

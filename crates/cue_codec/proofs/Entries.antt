@@ -1,7 +1,7 @@
 -- The rows of a table, one place after another.
 use Rattle.std.proofs.Common.{◌≡◌, List, [], ◌∷◌, ◌++◌, append_assoc, map, Some, None, refl, ap, ◌∙◌}
 use Rattle.cue_lattice.specs.Path.{Step}
-use Rattle.cue_row.specs.declared.row.Row.{Row}
+use Rattle.cue_row.specs.declared.parts.RowParts.{RowParts as Row}
 use Rattle.cue_table.specs.Tree.{Tree, node, Children, none, child, no_rest, onward, row_of, below, rest_of, rest_tree, children_of}
 use Rattle.cue_table.specs.Walks.{first_child}
 use Rattle.cue_codec.specs.declared.version.Version.{Version}

@@ -6,7 +6,7 @@ use Rattle.std.proofs.lemmas.List.{append-nil, length-append, take_more, take_al
 use Rattle.std.proofs.lemmas.List.Concat.{flat_map-cons, flat_map-append}
 use Rattle.cue_lattice.specs.Path.{Step, label, index}
 use Rattle.cue_scalars.specs.declared.scalar_set.ScalarSet.{ScalarSet}
-use Rattle.cue_row.specs.declared.row.Row.{Row}
+use Rattle.cue_row.specs.declared.parts.RowParts.{RowParts as Row}
 use Rattle.cue_row.specs.Levels.{level_of}
 use Rattle.cue_table.specs.Spans.{Span, field, elements, first_of, alike, spanned, spread}
 use Rattle.cue_table.specs.Tree.{Tree, Children, child, row_of, rest_of, rest_tree, children_of}

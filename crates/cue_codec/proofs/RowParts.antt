@@ -3,7 +3,7 @@ use Rattle.std.proofs.Common.{◌≡◌, ℕ, ◌≤◌, Bool, true, false, List
 use Rattle.std.proofs.lemmas.Bool.{false≢true}
 use Rattle.cue_scalars.specs.declared.scalar_set.ScalarSet.{ScalarSet}
 use Rattle.cue_row.specs.declared.level.Level.{Level}
-use Rattle.cue_row.specs.declared.row.Row.{Row}
+use Rattle.cue_row.specs.declared.parts.RowParts.{RowParts as Row}
 use Rattle.cue_codec.specs.declared.version.Version.{Version}
 use Rattle.cue_codec.specs.Parts.{Lengths, set_bytes, labels_bytes, lengths_bytes}
 use Rattle.cue_codec.specs.Reading.{Begins, BeginsNone, AreWideLengths}

@@ -1,16 +1,19 @@
 -- Sets of texts, sets of scalars and labels: their bytes tell them.
-use Rattle.std.proofs.Common.{◌≡◌, ℕ, ◌<◌, ◌≤◌, ℤ, Bool, true, false, List, [], ◌∷◌, ◌++◌, length, get_or, drop, Option, Some, None, refl, sym, ap, subst, ◌∙◌, append_assoc, arith}
+use Rattle.std.proofs.Common.{◌≡◌, ℕ, ◌-◌, ◌<◌, ◌≤◌, ℤ, Bool, true, false, List, [], ◌∷◌, ◌++◌, length, get_or, take, drop, Option, Some, None, refl, sym, ap, subst, ◌∙◌, append_assoc, arith}
 use Rattle.std.specs.Int.{w64, to_be_bytes, cast_signed, cast_unsigned}
 use Rattle.std.specs.List.{flat_map}
+use Rattle.std.proofs.lemmas.List.{append-nil, take_at, length-append}
+use Rattle.std.proofs.lemmas.List.Concat.{flat_map-cons}
 use Rattle.cue_sets.specs.Pieces.{IsCanonical}
 use Rattle.cue_sets.specs.Texts.{IsAscending}
 use Rattle.cue_scalars.specs.declared.scalar_set.ScalarSet.{ScalarSet}
+use Rattle.cue_row.specs.Kept.{text_set}
 use Rattle.cue_codec.specs.Parts.{bit, flags, counted_bytes, piece_bytes, text_bytes, text_set_bytes, set_bytes, labels_bytes}
 use Rattle.cue_codec.specs.Reading.{Begins, BeginsNone, IsPiece, IsWord, AreSo, AreCounted}
 use Rattle.cue_codec.specs.StateRow.{IsStateIntegers, AreStateTexts, IsStateTexts, IsStateSet, AreStateLabels}
 use Rattle.cue_codec.proofs.Codes.{OneItem, one_counted, counted_found}
 use Rattle.cue_codec.proofs.Numbers.{one_text}
-use Rattle.cue_codec.proofs.SetLaws.{one_integers, one_piece_alone}
+use Rattle.cue_codec.proofs.SetLaws.{one_integers, integers_found, one_piece_alone}
 
 bit_small : (b : Bool) → bit b ≤ 1
 bit_small false = omega arith
@@ -144,6 +147,27 @@ pub piece_set_found :
 piece_set_found bytes middle behind rest first last ints texts is b after made canonical none =
     set_found bytes (to_be_bytes w64 1 ++ middle) behind rest 0 (record { null = false; no = false; yes = false; ints = ints; texts = texts }) is refl
     (one_piece_alone (to_be_bytes w64 1 ++ middle) middle behind first last ints refl b made canonical) (no_text_found behind rest texts after none)
+
+-- the same bytes again tell the same set
+pub set_again : (bytes behind rest : List ℕ) (set : ScalarSet) → behind ≡ take (length bytes - length behind) bytes ++ rest → Begins IsStateSet set_bytes set bytes behind → Begins IsStateSet set_bytes set behind rest
+set_again bytes behind rest set again b =
+    let len : length bytes - length behind ≡ length (set_bytes set) = omega (arith, ap length b.parts, length-append (set_bytes set) behind) in
+    let told : take (length bytes - length behind) bytes ≡ set_bytes set = ap (λ n. take n bytes) len ∙ ap (λ (x : List ℕ). take (length (set_bytes set)) x) b.parts ∙ take_at (set_bytes set) behind (length (set_bytes set)) refl in
+    record { value = b.value; parts = again ∙ ap (λ (x : List ℕ). x ++ rest) told }
+
+-- one text and nothing else, by its fixed words
+pub text_alone_found : (bytes middle behind rest : List ℕ) (text : List ℕ) → bytes ≡ 0 ∷ (to_be_bytes w64 0 ++ middle) → middle ≡ 0 ∷ (to_be_bytes w64 1 ++ behind) → Begins IsWord text_bytes text behind rest
+    → Begins IsStateSet set_bytes (text_set text) bytes rest
+text_alone_found bytes middle behind rest text is after b =
+    let none : Begins (AreSo IsPiece 0) (flat_map piece_bytes) [] middle middle = record { value = (refl, tt); parts = refl } in
+    let pieces = counted_found IsPiece piece_bytes 0 [] (to_be_bytes w64 0 ++ middle) middle middle (omega arith) refl none in
+    let ints = integers_found [] [] (to_be_bytes w64 0 ++ middle) middle pieces refl tt in
+    let one : Begins (AreSo IsWord 1) (flat_map text_bytes) (text ∷ []) behind rest = record {
+      value = (refl, (b.value, tt));
+      parts = b.parts ∙ ap (λ (t : List ℕ). t ++ rest) (sym (flat_map-cons text_bytes text [] ∙ append-nil (text_bytes text)));
+    } in
+    let counted = counted_found IsWord text_bytes 1 (text ∷ []) (to_be_bytes w64 1 ++ behind) behind rest (omega arith) refl one in
+    set_found bytes (to_be_bytes w64 0 ++ middle) middle rest 0 (text_set text) is refl ints (text_set_found middle (to_be_bytes w64 1 ++ behind) rest 0 false (text ∷ []) (false, text ∷ []) after refl counted refl (tt, tt))
 
 -- ---- labels
 

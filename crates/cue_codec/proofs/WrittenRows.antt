@@ -4,7 +4,7 @@ use Rattle.std.specs.List.{flat_map, AllByRecursion}
 use Rattle.std.proofs.lemmas.List.{append-nil, length-append, length-map}
 use Rattle.std.proofs.lemmas.List.Concat.{flat_map-append, flat_map-cons}
 use Rattle.cue_lattice.specs.Path.{Step, label, index}
-use Rattle.cue_row.specs.declared.row.Row.{Row}
+use Rattle.cue_row.specs.declared.parts.RowParts.{RowParts as Row}
 use Rattle.cue_row.specs.Levels.{level_of}
 use Rattle.cue_row.specs.ValidRow.{IsWord, IsWordStep, AreLabelWords, AreLengths, IsValidRow}
 use Rattle.cue_table.specs.Spans.{Span, field, elements, alike, spanned, spread}

@@ -5,7 +5,7 @@ use Rattle.std.specs.List.{flat_map, AllByRecursion}
 use Rattle.cue_lattice.specs.Bools.{is_nil}
 use Rattle.cue_scalars.specs.declared.scalar_set.ScalarSet.{ScalarSet}
 use Rattle.cue_row.specs.declared.level.Level.{Level}
-use Rattle.cue_row.specs.declared.row.Row.{Row}
+use Rattle.cue_row.specs.declared.parts.RowParts.{RowParts as Row}
 use Rattle.cue_row.specs.Levels.{level_of}
 pub use Rattle.cue_row.specs.Made.{empty_set, full_set}
 use Rattle.cue_row.specs.Made.{free_row, scalar_row, struct_row, list_row, nothing_row}

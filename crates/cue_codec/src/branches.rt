@@ -63,7 +63,7 @@ fn put_own_row(
 {
     out.push(depth)?;
     out.extend_from_slice(steps)?;
-    out.push(row.level.number())?;
+    out.push(row.level().number())?;
     put_parts(out, row, fixed)
 }
 

@@ -20,8 +20,8 @@ fn put_scalars(out: &mut Vec<u8>, row: &Row) -> Result<(), Memory>
         ++ scalars_bytes (row.now.value, row.now.usual)) }
     ensures kept { OnErr result (StillBegins out.old.items out.new.items) }
 {
-    put_set(out, &row.value)?;
-    put_set(out, &row.usual)
+    put_set(out, &row.value())?;
+    put_set(out, &row.usual())
 }
 
 /// Writes the labels and the lengths that are left out.
@@ -33,8 +33,8 @@ fn put_left_out(out: &mut Vec<u8>, row: &Row, fixed: u64) -> Result<(), Memory>
         ++ left_out_bytes written (row.now.labels, (row.now.least, row.now.most, fixed))) }
     ensures kept { OnErr result (StillBegins out.old.items out.new.items) }
 {
-    put_labels(out, &row.labels)?;
-    put_lengths(out, row.least, row.most, fixed)
+    put_labels(out, row.labels())?;
+    put_lengths(out, row.least(), row.most(), fixed)
 }
 
 /// Writes the kind of a row, and what it leaves open, where its elements are alike from an index
@@ -47,21 +47,21 @@ pub fn put_parts(out: &mut Vec<u8>, row: &Row, fixed: u64) -> Result<(), Memory>
         ++ parts_bytes written (parts_of row.now fixed)) }
     ensures kept { OnErr result (StillBegins out.old.items out.new.items) }
 {
-    match (row.struct_ok, row.list_ok) {
+    match (row.struct_ok(), row.list_ok()) {
         (true, true) => {
             out.push(0)?;
             Ok(())
         }
         (true, false) => {
             out.push(2)?;
-            put_labels(out, &row.labels)
+            put_labels(out, row.labels())
         }
         (false, true) => {
             out.push(3)?;
-            put_lengths(out, row.least, row.most, fixed)
+            put_lengths(out, row.least(), row.most(), fixed)
         }
         (false, false) => {
-            if is_empty(&row.value) {
+            if is_empty(&row.value()) {
                 out.push(4)?;
                 return put_left_out(out, row, fixed);
             }

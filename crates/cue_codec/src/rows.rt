@@ -1,30 +1,56 @@
 //! What of a row stands after its level: what it says, and from which index on its elements are
 //! alike, which is 0 where it has none.
 
-ghost use Rattle.std.specs.Prelude.{◌≡◌, IfOk, IfErr};
-ghost use Rattle.cue_codec.specs.Parts.{labels_bytes, lengths_bytes};
-ghost use Rattle.cue_codec.specs.Reading.{BeginsNone, IsRefused, AreWideLengths};
-ghost use Rattle.cue_codec.specs.StateRow.{AreStateLabels};
+ghost use Rattle.std.specs.Prelude.{◌≡◌, IfOk, IfErr, IfSome};
+ghost use Rattle.cue_scalars.specs.declared.scalar_set.ScalarSet.{ScalarSet as Set};
+ghost use Rattle.cue_row.specs.Kept.{text_set};
+ghost use Rattle.cue_codec.specs.Parts.{set_bytes, labels_bytes, lengths_bytes};
+ghost use Rattle.cue_codec.specs.Reading.{Begins, BeginsNone, IsRefused, AreWideLengths};
+ghost use Rattle.cue_codec.specs.StateRow.{IsStateSet, AreStateLabels};
 ghost use Rattle.cue_codec.specs.RowBytes.{scalar, struct, list, nothing, scalars_bytes, Reads};
 ghost use Rattle.cue_codec.specs.RowBytes.{left_out_bytes, parts_bytes, is_empty_set};
 ghost use Rattle.cue_codec.specs.RowBytes.{AreScalars, AreLeftOut, IsStateParts};
 
 use crate::reading::lengths_at;
-use crate::sets::{labels_at, set_at};
+use crate::sets::{labels_at, lone_text_at, set_at};
 use crate::version::Version;
-use cue_lattice::Kind;
-use cue_row::{Level, Row};
-use cue_scalars::ScalarSet;
+use cue_lattice::{Kind, Text};
+use cue_row::{Level, Row, Scalars};
 use std::alloc::Global;
 
 /// Whether no scalar is a member.
-pub fn is_empty(set: &ScalarSet) -> bool
+pub fn is_empty(set: &Scalars) -> bool
     ensures { result ≡ is_empty_set set.now }
 {
-    !set.null && !set.no && !set.yes && set.ints.is_empty() && set.texts.is_empty()
+    let (all_but, texts) = set.texts();
+    let has_plain = set.null() || set.no() || set.yes();
+    !has_plain && set.pieces().is_empty() && !all_but && texts.is_empty()
 }
 
-/// Some scalar, and the usual ones.
+/// What stands behind bytes that stand once more, where these are those in front of them. So where a
+/// set ends there, the same set stands behind it.
+fn after_again<'a>(bytes: &[u8], behind: &'a [u8]) -> Option<&'a [u8]>
+    ensures { IfSome result (λ rest. (set : Set) →
+        Begins IsStateSet set_bytes set bytes.now behind.now →
+        Begins IsStateSet set_bytes set behind.now rest.now) }
+{
+    let len = bytes.len().checked_sub(behind.len())?;
+    let rest = behind.strip_prefix(&bytes[..len])?;
+    Some(rest)
+}
+
+/// The text of the set of one text, all of it usual, where the bytes of both sets stand in front.
+fn usual_text_at(bytes: &[u8]) -> Option<(&str, &[u8])>
+    ensures { IfSome result (λ x. Begins AreScalars scalars_bytes
+        (text_set x.0.now, text_set x.0.now) bytes.now x.1.now) }
+{
+    let (text, behind) = lone_text_at(bytes)?;
+    let rest = after_again(bytes, behind)?;
+    Some((text, rest))
+}
+
+/// Some scalar, and the usual ones. Where their bytes are the same, the set is read once, and a
+/// single text without a list.
 fn scalar_at(alloc: Global, level: Level, bytes: &[u8]) -> Result<(Row, u64, &[u8]), Kind>
     ensures ok { IfOk result
         (λ x. Reads (λ sets. scalar sets.0 sets.1) AreScalars scalars_bytes level x.0 x.1
@@ -32,12 +58,26 @@ fn scalar_at(alloc: Global, level: Level, bytes: &[u8]) -> Result<(Row, u64, &[u
     ensures refused { IfErr result (λ kind. IsRefused kind
         (BeginsNone AreScalars scalars_bytes bytes.now)) }
 {
+    if let Some((text, rest)) = usual_text_at(bytes) {
+        let Ok(text) = Text::from_str(alloc, text) else {
+            return Err(Kind::Memory);
+        };
+        return Ok((Row::of_text(level, text), 0, rest));
+    }
     let (value, middle) = set_at(alloc, bytes)?;
-    if is_empty(&value) {
+    if is_empty(&Scalars::of(&value)) {
         return Err(Kind::NotState);
     }
+    if let Some(rest) = after_again(bytes, middle) {
+        let Ok(row) = Row::of_all_usual(alloc, level, value) else {
+            return Err(Kind::Memory);
+        };
+        return Ok((row, 0, rest));
+    }
     let (usual, rest) = set_at(alloc, middle)?;
-    let row = Row::of_scalars(alloc, level, value, usual).unwrap();
+    let Ok(row) = Row::of_scalars(alloc, level, value, usual) else {
+        return Err(Kind::Memory);
+    };
     Ok((row, 0, rest))
 }
 
@@ -49,7 +89,9 @@ fn struct_at(alloc: Global, level: Level, bytes: &[u8]) -> Result<(Row, u64, &[u
         (BeginsNone AreStateLabels labels_bytes bytes.now)) }
 {
     let (labels, rest) = labels_at(alloc, bytes)?;
-    let row = Row::of_struct(alloc, level, labels).unwrap();
+    let Ok(row) = Row::of_struct(alloc, level, labels) else {
+        return Err(Kind::Memory);
+    };
     Ok((row, 0, rest))
 }
 
@@ -69,7 +111,9 @@ fn list_at(
     let Some(((least, most, fixed), rest)) = lengths_at(version, bytes) else {
         return Err(Kind::NotState);
     };
-    let row = Row::of_list(alloc, level, least, most).unwrap();
+    let Ok(row) = Row::of_list(alloc, level, least, most) else {
+        return Err(Kind::Memory);
+    };
     Ok((row, fixed, rest))
 }
 
@@ -90,7 +134,9 @@ fn nothing_at(
     let Some(((least, most, fixed), rest)) = lengths_at(version, middle) else {
         return Err(Kind::NotState);
     };
-    let row = Row::of_nothing(alloc, level, labels, least, most).unwrap();
+    let Ok(row) = Row::of_nothing(alloc, level, labels, least, most) else {
+        return Err(Kind::Memory);
+    };
     Ok((row, fixed, rest))
 }
 
@@ -111,10 +157,7 @@ pub fn parts_at(
         return Err(Kind::NotState);
     };
     match *tag {
-        0 => {
-            let row = Row::of_anything(alloc, level).unwrap();
-            Ok((row, 0, rest))
-        }
+        0 => Ok((Row::of_anything(level), 0, rest)),
         1 => scalar_at(alloc, level, rest),
         2 => struct_at(alloc, level, rest),
         3 => list_at(alloc, version, level, rest),

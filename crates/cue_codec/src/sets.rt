@@ -2,6 +2,7 @@
 
 ghost use Rattle.std.specs.Prelude.{◌≡◌, ◌<◌, ◌∷◌, ◌++◌, [], IfOk, IfErr, IfSome, IfNone};
 ghost use Rattle.std.specs.Int.{w64, to_be_bytes};
+ghost use Rattle.cue_row.specs.Kept.{text_set};
 ghost use Rattle.cue_codec.specs.Parts.{bit, counted_bytes, piece_bytes, text_set_bytes, set_bytes};
 ghost use Rattle.cue_codec.specs.Parts.{labels_bytes};
 ghost use Rattle.cue_codec.specs.Reading.{Begins, BeginsNone, IsRefused};
@@ -9,29 +10,12 @@ ghost use Rattle.cue_codec.specs.StateRow.{IsStateIntegers, IsStateTexts, IsStat
 ghost use Rattle.cue_codec.specs.StateRow.{AreStateLabels};
 
 use crate::lists::{pieces_at, texts_at};
-use crate::reading::{flags_of, piece_at, u64_at};
+use crate::reading::{flags_of, piece_at, text_at, u64_at};
 use cue_lattice::{Kind, Narrow};
 use cue_row::Labels;
 use cue_scalars::ScalarSet;
 use cue_sets::{IntSet, TextSet};
 use std::alloc::Global;
-
-/// The set of the integers from a first to a last one, where these are the same, or one of them is
-/// the least or the greatest. This takes no memory.
-fn between(alloc: Global, first: i64, last: i64) -> Option<IntSet>
-    ensures { IfSome result (λ set. set ≡ (first, last) ∷ []) }
-{
-    if first == last {
-        return IntSet::one(alloc, first).ok();
-    }
-    if last == i64::MAX {
-        return IntSet::at_least(alloc, first).ok();
-    }
-    if first == i64::MIN {
-        return IntSet::at_most(alloc, last).ok();
-    }
-    None
-}
 
 /// A set of integers.
 fn int_set_at(alloc: Global, bytes: &[u8]) -> Result<(IntSet, &[u8]), Kind>
@@ -95,15 +79,18 @@ fn after_count(count: u64, bytes: &[u8]) -> Option<&[u8]>
     Some(rest)
 }
 
-/// The set of one integer and nothing else, or of all integers up to one or from one on, where its
-/// bytes stand in front. This takes no memory.
+/// The set of the integers of one piece and nothing else, where its bytes stand in front. This takes
+/// no memory.
 fn piece_set_at(alloc: Global, bytes: &[u8]) -> Option<(ScalarSet, &[u8])>
     ensures { IfSome result (λ x. Begins IsStateSet set_bytes x.0 bytes.now x.1.now) }
 {
     let rest = after_count(1, bytes)?;
     let ((first, last), rest) = piece_at(rest)?;
     let rest = after_count(0, rest)?;
-    let ints = between(alloc, first, last)?;
+    if first > last {
+        return None;
+    }
+    let ints = IntSet::between(first, last);
     ints.known();
     let set = ScalarSet {
         null: false,
@@ -113,6 +100,16 @@ fn piece_set_at(alloc: Global, bytes: &[u8]) -> Option<(ScalarSet, &[u8])>
         texts: TextSet::none(alloc).unwrap(),
     };
     Some((set, rest))
+}
+
+/// The text of the set of one text and nothing else, where its bytes stand in front.
+pub fn lone_text_at(bytes: &[u8]) -> Option<(&str, &[u8])>
+    ensures { IfSome result (λ x. Begins IsStateSet set_bytes (text_set x.0.now) bytes.now x.1.now) }
+{
+    let rest = after_count(0, bytes)?;
+    let rest = after_count(1, rest)?;
+    let (text, rest) = text_at(rest)?;
+    Some((text, rest))
 }
 
 /// A set of scalars.

@@ -2,6 +2,7 @@
 
 ghost use Rattle.std.specs.Prelude.{◌≡◌, ℕ, List, ◌+◌};
 ghost use Rattle.std.specs.List.{flat_map};
+ghost use Rattle.std.specs.Option.{option_map};
 ghost use Rattle.cue_table.specs.StepsOfCode.{step_at};
 ghost use Rattle.cue_table.specs.Tree.{fixed_of};
 ghost use Rattle.cue_codec.specs.Entry.{at, entries_of};
@@ -15,8 +16,7 @@ ghost use Rattle.cue_codec.specs.Version.{written};
 use crate::branches::branch_count;
 use crate::rows::is_empty;
 use cue_lattice::Text;
-use cue_row::{Labels, Row};
-use cue_scalars::ScalarSet;
+use cue_row::{Row, Scalars};
 use cue_table::{Branch, StepRef, Table};
 
 fn add(left: u64, right: u64) -> u64
@@ -36,19 +36,19 @@ fn texts_size(texts: &[Text]) -> u64
 }
 
 #[tactic(auto, using(crate::proofs::Lengths::set_length))]
-fn set_size(set: &ScalarSet) -> u64
+fn set_size(set: &Scalars) -> u64
     ensures { result ≡ size_of (set_bytes set.now) }
 {
-    let pieces = u64::saturating_mul(16, set.ints.pieces().len() as u64);
-    let (_, texts) = set.texts.listed();
+    let pieces = u64::saturating_mul(16, set.pieces().len() as u64);
+    let (_, texts) = set.texts();
     add(add(10, pieces), texts_size(texts))
 }
 
 #[tactic(auto, using(crate::proofs::Lengths::lengths_of_labels))]
-fn labels_size(labels: &Labels) -> u64
-    ensures { result ≡ size_of (labels_bytes labels.now) }
+fn labels_size(labels: Option<&[Text]>) -> u64
+    ensures { result ≡ size_of (labels_bytes (option_map (λ texts. texts.now) labels.entry)) }
 {
-    match labels.listed() {
+    match labels {
         None => 1,
         Some(texts) => add(1, texts_size(texts)),
     }
@@ -69,16 +69,16 @@ fn lengths_size(least: u32, most: Option<u32>) -> u64
 fn parts_size(row: &Row) -> u64
     ensures { (fixed : ℕ) → result ≡ size_of (parts_bytes written (parts_of row.now fixed)) }
 {
-    match (row.struct_ok, row.list_ok) {
+    match (row.struct_ok(), row.list_ok()) {
         (true, true) => 1,
-        (true, false) => add(1, labels_size(&row.labels)),
-        (false, true) => add(1, lengths_size(row.least, row.most)),
+        (true, false) => add(1, labels_size(row.labels())),
+        (false, true) => add(1, lengths_size(row.least(), row.most())),
         (false, false) => {
-            if is_empty(&row.value) {
-                let left_out = lengths_size(row.least, row.most);
-                return add(1, add(labels_size(&row.labels), left_out));
+            if is_empty(&row.value()) {
+                let left_out = lengths_size(row.least(), row.most());
+                return add(1, add(labels_size(row.labels()), left_out));
             }
-            add(1, add(set_size(&row.value), set_size(&row.usual)))
+            add(1, add(set_size(&row.value()), set_size(&row.usual())))
         }
     }
 }

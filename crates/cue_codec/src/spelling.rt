@@ -1,7 +1,7 @@
 //! What the format promises of two rows, of two lists of rows, and of two tables.
 
 ghost use Rattle.std.specs.Prelude.{◌≡◌, ◌<◌, ◌^◌, ℕ, List, ◌++◌, length, map};
-ghost use Rattle.cue_row.specs.declared.row.Row.{Row};
+ghost use Rattle.cue_row.specs.declared.parts.RowParts.{RowParts as Row};
 ghost use Rattle.cue_codec.specs.declared.version.Version.{Version};
 ghost use Rattle.cue_codec.specs.Entry.{Entry, entries_of, told_row, without_index};
 ghost use Rattle.cue_codec.specs.KindBytes.{AreBytesOfKinds};

@@ -3,6 +3,7 @@
 
 ghost use Rattle.std.specs.Prelude.{◌≡◌, ◌<◌, ◌^◌, ◌++◌, OnErr, OnOk};
 ghost use Rattle.std.specs.List.{flat_map, AllByRecursion};
+ghost use Rattle.std.specs.Option.{option_map};
 ghost use Rattle.cue_row.specs.Begun.{StillBegins};
 ghost use Rattle.cue_table.specs.StepsOfCode.{step_at};
 ghost use Rattle.cue_codec.specs.Entry.{at, to_rest};
@@ -13,9 +14,7 @@ ghost use Rattle.cue_codec.specs.Reading.{IsShort, IsShortStep, AreShortLabels};
 ghost use Rattle.cue_codec.specs.Version.{written};
 
 use cue_lattice::{Memory, Text};
-use cue_row::Labels;
-use cue_scalars::ScalarSet;
-use cue_sets::TextSet;
+use cue_row::Scalars;
 use cue_table::StepRef;
 
 #[tactic(auto, unfolding(crate::specs::Parts::integer_bytes))]
@@ -93,12 +92,12 @@ fn put_texts(out: &mut Vec<u8>, texts: &[Text]) -> Result<(), Memory>
 }
 
 #[tactic(auto, unfolding(crate::specs::Parts::text_set_bytes))]
-fn put_text_set(out: &mut Vec<u8>, set: &TextSet) -> Result<(), Memory>
-    requires { AllByRecursion IsShort set.now.1 }
-    ensures written { OnOk result (out.new.items ≡ out.old.items ++ text_set_bytes set.now) }
+fn put_text_set(out: &mut Vec<u8>, all_but: bool, texts: &[Text]) -> Result<(), Memory>
+    requires { AllByRecursion IsShort texts.now }
+    ensures written { OnOk result (out.new.items ≡ out.old.items
+        ++ text_set_bytes (all_but, texts.now)) }
     ensures kept { OnErr result (StillBegins out.old.items out.new.items) }
 {
-    let (all_but, texts) = set.listed();
     out.push(u8::from(all_but))?;
     put_texts(out, texts)
 }
@@ -111,24 +110,26 @@ fn flags_of(null: bool, no: bool, yes: bool) -> u8
 }
 
 #[tactic(auto, unfolding(crate::specs::Parts::set_bytes))]
-pub fn put_set(out: &mut Vec<u8>, set: &ScalarSet) -> Result<(), Memory>
+pub fn put_set(out: &mut Vec<u8>, set: &Scalars) -> Result<(), Memory>
     requires { AllByRecursion IsShort set.now.texts.1 }
     ensures written { OnOk result (out.new.items ≡ out.old.items ++ set_bytes set.now) }
     ensures kept { OnErr result (StillBegins out.old.items out.new.items) }
 {
-    out.push(flags_of(set.null, set.no, set.yes))?;
-    put_pieces(out, set.ints.pieces())?;
-    put_text_set(out, &set.texts)
+    out.push(flags_of(set.null(), set.no(), set.yes()))?;
+    put_pieces(out, set.pieces())?;
+    let (all_but, texts) = set.texts();
+    put_text_set(out, all_but, texts)
 }
 
 /// Writes which labels may stand: all, or the listed ones.
 #[tactic(auto, unfolding(crate::specs::Parts::labels_bytes))]
-pub fn put_labels(out: &mut Vec<u8>, labels: &Labels) -> Result<(), Memory>
-    requires { AreShortLabels labels.now }
-    ensures written { OnOk result (out.new.items ≡ out.old.items ++ labels_bytes labels.now) }
+pub fn put_labels(out: &mut Vec<u8>, labels: Option<&[Text]>) -> Result<(), Memory>
+    requires { AreShortLabels (option_map (λ texts. texts.now) labels) }
+    ensures written { OnOk result (out.new.items ≡ out.old.items
+        ++ labels_bytes (option_map (λ texts. texts.now) labels.entry)) }
     ensures kept { OnErr result (StillBegins out.old.items out.new.items) }
 {
-    match labels.listed() {
+    match labels {
         None => {
             out.push(0)?;
             Ok(())

@@ -2,7 +2,7 @@
 use Rattle.std.specs.Prelude.{◌↔◌}
 use Rattle.cue_lattice.specs.Document.{Document, IsDocument}
 use Rattle.cue_lattice.specs.Meets.{Meets}
-use Rattle.cue_row.specs.declared.row.Row.{Row}
+use Rattle.cue_row.specs.declared.parts.RowParts.{RowParts as Row}
 use Rattle.cue_row.specs.Row.{RowRefuses}
 use Rattle.cue_table.specs.Tree.{Tree}
 use Rattle.cue_table.specs.Refuses.{TableRefuses}

@@ -3,7 +3,7 @@ use Rattle.std.proofs.Common.{◌≡◌, ◌↔◌, [], ◌∷◌, ◌++◌, Opt
 use Rattle.std.specs.Option.{option_and_then}
 use Rattle.cue_lattice.specs.Path.{Path, Step}
 use Rattle.cue_lattice.specs.Question.{Question}
-use Rattle.cue_row.specs.declared.row.Row.{Row}
+use Rattle.cue_row.specs.declared.parts.RowParts.{RowParts as Row}
 use Rattle.cue_row.specs.declared.question.Question as program
 use Rattle.cue_row.specs.Questions.{question_of}
 use Rattle.cue_row.specs.Row as rows

@@ -7,7 +7,7 @@ use Rattle.cue_lattice.specs.Question.{Question, may_be, usual, struct, list, al
 use Rattle.cue_row.specs.LabelSets.{RefusesLabel}
 use Rattle.cue_row.specs.Questions.{question_of, asked_by}
 use Rattle.cue_row.specs.Row.{RowRefuses, Refuses}
-use Rattle.cue_row.specs.declared.row.Row.{Row}
+use Rattle.cue_row.specs.declared.parts.RowParts.{RowParts as Row}
 use Rattle.cue_scope.specs.Core.{Core, closed}
 use Rattle.cue_table.specs.Meet.{IsMet}
 use Rattle.cue_table.specs.Refuses as tables

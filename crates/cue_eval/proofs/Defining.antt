@@ -3,7 +3,7 @@ use Rattle.std.proofs.Common.{◌≡◌, ◌+◌, ◌≤◌, ℕ, Option, None, 
 use Rattle.std.specs.Prelude.{IsTrue}
 use Rattle.cue_lattice.specs.Limits.{step_limit}
 use Rattle.cue_row.specs.Row.{Refuses, IsRow}
-use Rattle.cue_row.specs.declared.row.Row.{Row}
+use Rattle.cue_row.specs.declared.parts.RowParts.{RowParts as Row}
 use Rattle.cue_table.specs.Depth.{tree_depth}
 use Rattle.cue_table.specs.Form.{IsTable}
 use Rattle.cue_table.specs.Tree.{Tree}

@@ -6,7 +6,7 @@ use Rattle.std.proofs.lemmas.Bool.Decides.{eqb_tells}
 use Rattle.std.specs.Prelude.{IfOk, slice_get}
 use Rattle.cue_lattice.specs.Limits.{size_limit, step_limit}
 use Rattle.cue_row.specs.Row.{Refuses, IsRow}
-use Rattle.cue_row.specs.declared.row.Row.{Row}
+use Rattle.cue_row.specs.declared.parts.RowParts.{RowParts as Row}
 use Rattle.cue_scalars.specs.declared.valued.Valued.{Valued}
 use Rattle.cue_table.specs.Form.{IsTable}
 use Rattle.cue_table.specs.Tree.{Tree}

@@ -12,7 +12,7 @@ use Rattle.cue_row.specs.Questions.{question_of, asked_by}
 use Rattle.cue_row.specs.Row.{RowRefuses, Refuses, IsRow}
 use Rattle.cue_row.specs.Steps.{step_of}
 use Rattle.cue_row.specs.declared.question.Question as program
-use Rattle.cue_row.specs.declared.row.Row.{Row}
+use Rattle.cue_row.specs.declared.parts.RowParts.{RowParts as Row}
 use Rattle.cue_row.specs.declared.step.Step.{Step}
 use Rattle.cue_table.specs.Depth.{tree_depth}
 use Rattle.cue_table.specs.Form.{IsTable, IsKept}
@@ -210,6 +210,19 @@ pub alone_result : {E : Type 0} (r : Result (Tree Row) E) (before : Tree Row) (r
     → ((question : Question) → RowRefuses row question ↔ own question) → IfOk r (λ after. SameAnswers (Answers after) (Here own))
 alone_result (Ok after) before row own none rooted is = alone before after row own none rooted is
 alone_result (Err e) before row own none rooted is = rooted
+
+here_same : (p q : Question → Type 0) → ((question : Question) → p question ↔ q question) → SameAnswers (Here p) (Here q)
+here_same p q same [] question = same question
+here_same p q same (step ∷ path) question = (λ h. h, λ h. h)
+
+-- a table of one row, by what the row refuses
+pub row_alone : {E : Type 0} (r : Result (Tree Row) E) (row : Row) (own : Question → Type 0) → IfOk r (λ table. SameAnswers (Answers table) (Here (RowRefuses row)))
+    → ((question : Question) → RowRefuses row question ↔ own question) → IfOk r (λ table. SameAnswers (Answers table) (Here own))
+row_alone (Ok table) row own given is = λ path question.
+    let a = given path question in
+    let b = here_same (RowRefuses row) own is path question in
+    (λ h. b.0 (a.0 h), λ h. a.1 (b.1 h))
+row_alone (Err e) row own given is = given
 
 here_short : (own : Question → Type 0) (path : Path) (question : Question) (n : ℕ) → Here own path question → length path ≤ n
 here_short own [] question n h = omega arith

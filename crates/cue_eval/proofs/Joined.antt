@@ -5,7 +5,7 @@ use Rattle.cue_lattice.specs.OneOf.{OneOf}
 use Rattle.cue_lattice.proofs.OneOf.{one_of-push}
 use Rattle.cue_lattice.specs.Path.{Path}
 use Rattle.cue_lattice.specs.Question.{Question, SameAnswers}
-use Rattle.cue_row.specs.declared.row.Row.{Row}
+use Rattle.cue_row.specs.declared.parts.RowParts.{RowParts as Row}
 use Rattle.cue_scalars.specs.Pairs.{Pair, all_of}
 use Rattle.cue_scalars.specs.Values.{pair_of}
 use Rattle.cue_scalars.specs.declared.valued.Valued.{Valued}

@@ -7,7 +7,7 @@ use Rattle.cue_lattice.specs.Path.{Path}
 use Rattle.cue_lattice.specs.Question.{Question, SameAnswers}
 use Rattle.cue_scalars.specs.declared.valued.Valued.{Valued}
 use Rattle.cue_scalars.specs.Values.{pair_of}
-use Rattle.cue_row.specs.declared.row.Row.{Row}
+use Rattle.cue_row.specs.declared.parts.RowParts.{RowParts as Row}
 use Rattle.cue_table.specs.Tree.{Tree, empty}
 use Rattle.cue_syntax.specs.Syntax as tree
 use Rattle.cue_syntax.specs.Syntax.{Expression, Branches, no_branches, next_branch, branch}
@@ -143,6 +143,15 @@ pub leaf_result : {E : Type 0} (r : Result (Tree Row) E) (ds : List Definition) 
     → IfOk r (λ table. SameAnswers (Answers table) (Here (ScalarRefuses (pair_of v)))) → IfOk r (HasAnswersOf (meant ds m e))
 leaf_result (Ok table) ds m e v l is same = leaf_answers ds m e v table l is same
 leaf_result (Err x) ds m e v l is same = same
+
+-- of a table that refuses as the expression's pair does
+pub scalar_result : {E : Type 0} (r : Result (Tree Row) E) (ds : List Definition) (m : ℕ → Core) (e : Expression) → IsScalarLeaf e
+    → IfOk r (λ table. SameAnswers (Answers table) (Here (ScalarRefuses (pair (meant ds m e))))) → IfOk r (HasAnswersOf (meant ds m e))
+scalar_result (Ok table) ds m e l same = λ path question.
+    let r = leaf_refuses ds m e l path question in
+    let s = same path question in
+    (λ h. r.1 (s.0 h), λ h. s.1 (r.0 h))
+scalar_result (Err x) ds m e l same = same
 
 pub word_result : {E : Type 0} (r : Result (Tree Row) E) (t : List ℕ) (v : Valued) → pair_of v ≡ pair (meant_word t)
     → IfOk r (λ table. SameAnswers (Answers table) (Here (ScalarRefuses (pair_of v)))) → IfOk r (HasAnswersOf (meant_word t))

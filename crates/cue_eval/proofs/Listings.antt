@@ -8,7 +8,7 @@ use Rattle.cue_lattice.specs.Path.{Path, label, index}
 use Rattle.cue_lattice.specs.Question.{Question}
 use Rattle.cue_row.specs.Row.{Refuses, IsRow}
 use Rattle.cue_row.specs.Steps.{step_of}
-use Rattle.cue_row.specs.declared.row.Row.{Row}
+use Rattle.cue_row.specs.declared.parts.RowParts.{RowParts as Row}
 use Rattle.cue_row.specs.declared.step.Step.{Step}
 use Rattle.cue_row.specs.declared.step.Step.TheVariants.{Index}
 use Rattle.cue_table.specs.Depth.{tree_depth}

@@ -4,7 +4,7 @@ use Rattle.std.specs.Prelude.{IfOk}
 use Rattle.cue_lattice.specs.Path.{label, index}
 use Rattle.cue_lattice.specs.Question.{Question, allows, SameAnswers}
 use Rattle.cue_row.specs.LabelSets.{RefusesLabel}
-use Rattle.cue_row.specs.declared.row.Row.{Row}
+use Rattle.cue_row.specs.declared.parts.RowParts.{RowParts as Row}
 use Rattle.cue_row.specs.declared.step.Step.{Step}
 use Rattle.cue_table.specs.Tree.{Tree}
 use Rattle.cue_scope.specs.Core.{struct, close, list, Cores, Elements, followed_by, Members}

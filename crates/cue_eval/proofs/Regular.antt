@@ -2,7 +2,7 @@
 use Rattle.std.proofs.Common.{◌↔◌, ◌≤◌, ℕ, inl, inr, ⊎_elim, Bool, List, [], ◌∷◌, arith}
 use Rattle.cue_lattice.specs.Path.{Path, label, index}
 use Rattle.cue_lattice.specs.Question.{Question}
-use Rattle.cue_row.specs.declared.row.Row.{Row}
+use Rattle.cue_row.specs.declared.parts.RowParts.{RowParts as Row}
 use Rattle.cue_table.specs.Tree.{Tree}
 use Rattle.cue_syntax.specs.Syntax as tree
 use Rattle.cue_syntax.specs.Syntax.{Entries, no_entries, entry, ellipsis, field, definition}

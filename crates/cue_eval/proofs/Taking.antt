@@ -6,7 +6,7 @@ use Rattle.cue_lattice.specs.Path.{Path}
 use Rattle.cue_lattice.specs.Question.{Question}
 use Rattle.cue_lattice.proofs.OneOf.{one_of-push}
 use Rattle.cue_row.specs.Row.{Refuses, IsRow}
-use Rattle.cue_row.specs.declared.row.Row.{Row}
+use Rattle.cue_row.specs.declared.parts.RowParts.{RowParts as Row}
 use Rattle.cue_scalars.specs.Values.{pair_of}
 use Rattle.cue_scalars.specs.declared.valued.Valued.{Valued}
 use Rattle.cue_table.specs.Form.{IsTable}

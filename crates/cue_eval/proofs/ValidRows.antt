@@ -13,7 +13,7 @@ use Rattle.cue_sets.specs.Pieces.{least, greatest}
 use Rattle.cue_sets.specs.PieceLaws.{is_member-below, is_member-above}
 use Rattle.cue_scalars.specs.Scalars.{members, IsScalarSet, RefusesScalar}
 use Rattle.cue_scalars.specs.declared.scalar_set.ScalarSet.{ScalarSet}
-use Rattle.cue_row.specs.declared.row.Row.{Row}
+use Rattle.cue_row.specs.declared.parts.RowParts.{RowParts as Row}
 use Rattle.cue_row.specs.declared.kind.RowKind.{RowKind}
 use Rattle.cue_row.specs.declared.kind.RowKind.TheVariants as kinds
 use Rattle.cue_row.specs.declared.question.Question as program

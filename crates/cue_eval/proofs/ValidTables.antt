@@ -4,7 +4,7 @@ use Rattle.cue_lattice.specs.Limits.{size_limit, step_limit}
 use Rattle.cue_lattice.specs.Path.{Path, Step, label, index}
 use Rattle.cue_lattice.specs.Question as questions
 use Rattle.cue_lattice.specs.Question.{Question, level_at_most, length_at_most, allows}
-use Rattle.cue_row.specs.declared.row.Row.{Row}
+use Rattle.cue_row.specs.declared.parts.RowParts.{RowParts as Row}
 use Rattle.cue_row.specs.declared.level.Level.{Level}
 use Rattle.cue_row.specs.declared.level.Level.TheVariants.{Optional, Required, Given}
 use Rattle.cue_row.specs.Levels.{level_of}

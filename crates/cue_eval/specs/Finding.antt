@@ -3,7 +3,7 @@ use Rattle.std.specs.Prelude.{◌≡◌, ◌≤◌, ◌<◌, ℕ, Bool, true, fa
 use Rattle.std.specs.Prelude.{None, IsTrue, length, drop, slice_index, slice_index_or}
 use Rattle.cue_lattice.specs.Limits.{size_limit, step_limit}
 use Rattle.cue_row.specs.Row.{Refuses, IsRow}
-use Rattle.cue_row.specs.declared.row.Row.{Row}
+use Rattle.cue_row.specs.declared.parts.RowParts.{RowParts as Row}
 use Rattle.cue_table.specs.Form.{IsTable}
 use Rattle.cue_table.specs.Tree.{Tree}
 use Rattle.cue_syntax.specs.Grammar.{IsRight, AreRight}

@@ -5,7 +5,7 @@ use Rattle.cue_lattice.specs.declared.scalar.Scalar.TheVariants.{Text}
 use Rattle.cue_lattice.specs.Path.{Path}
 use Rattle.cue_lattice.specs.Question.{Question, may_be, usual, allows, length_at_most}
 use Rattle.cue_sets.specs.Texts.{is_listed}
-use Rattle.cue_row.specs.declared.row.Row.{Row}
+use Rattle.cue_row.specs.declared.parts.RowParts.{RowParts as Row}
 use Rattle.cue_row.specs.Row as rows
 use Rattle.cue_row.specs.ValidRow.{IsWordStep}
 use Rattle.cue_table.specs.Tree.{Tree}

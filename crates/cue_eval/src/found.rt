@@ -1,7 +1,7 @@
 //! What is known of the definitions of a text, and what their bodies refuse.
 ghost use Rattle.std.specs.Prelude.{◌≡◌, ◌<◌, Some, None, [], ◌∷◌, IfOk, OnOk, IfSome, length};
 ghost use Rattle.std.specs.Prelude.{slice_set, slice_index_or};
-ghost use Rattle.cue_row.specs.declared.row.Row.{Row as Rows};
+ghost use Rattle.cue_row.specs.declared.parts.RowParts.{RowParts as Rows};
 ghost use Rattle.cue_scope.specs.Core as core;
 ghost use Rattle.cue_scope.specs.Core.{conjunction};
 ghost use Rattle.cue_scope.specs.Definitions.{definitions as definitions_of};

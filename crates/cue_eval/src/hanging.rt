@@ -32,13 +32,22 @@ pub(crate) fn rooted(mut table: Table<Row>, row: Row) -> Result<Table<Row>, Memo
     Ok(table)
 }
 
+/// What is known where a row stands alone.
+pub(crate) fn table_of(alloc: Global, row: Row) -> Result<Table<Row>, Memory>
+    ensures form { IfOk result (IsTable Refuses IsRow) }
+    ensures answers { IfOk result (λ table. SameAnswers (Answers table)
+        (Here (RowRefuses row))) }
+{
+    rooted(Table::new(alloc), row)
+}
+
 /// What is known where these scalars stand.
 pub(crate) fn scalar_table(alloc: Global, valued: Valued) -> Result<Table<Row>, Memory>
     ensures form { IfOk result (IsTable Refuses IsRow) }
     ensures answers { IfOk result (λ table. SameAnswers (Answers table)
         (Here (ScalarRefuses (pair_of valued)))) }
 {
-    rooted(Table::new(alloc), scalar_row(alloc, valued)?)
+    table_of(alloc, scalar_row(alloc, valued)?)
 }
 
 /// To the tables of the parts of an `&` comes one of the scalars among its parts, where there are
@@ -92,13 +101,13 @@ pub(crate) fn list_of(
 }
 
 /// A field with its mark, of what is known of its value.
-pub(crate) fn marked(alloc: Global, mut table: Table<Row>, mark: Mark) -> Result<Table<Row>, Memory>
+pub(crate) fn marked(mut table: Table<Row>, mark: Mark) -> Result<Table<Row>, Memory>
     ensures form { IfOk result (IsTable Refuses IsRow) }
     ensures answers { IfOk result (λ after. SameAnswers (Answers after)
         (λ path question. Here (MarkRefuses mark) path question ⊎ Answers table path question)) }
 {
     let row = match table.take_row() {
-        None => mark_row(alloc, mark)?,
+        None => mark_row(mark),
         Some(row) => raised(row, mark),
     };
     rooted(table, row)
@@ -130,7 +139,7 @@ pub(crate) fn behind(
         [] => Ok(table),
         [first, rest @ ..] => {
             let inner = behind(alloc, rest, table)?;
-            let field = marked(alloc, inner, first.mark)?;
+            let field = marked(inner, first.mark)?;
             let mut fields = Vec::with_capacity(alloc, 1)?;
             fields.push((step_to(alloc, first)?, field))?;
             struct_of(alloc, fields, Labels::all(alloc)?)

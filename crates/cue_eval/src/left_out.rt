@@ -22,7 +22,7 @@ ghost use Rattle.cue_eval.specs.declared.declared.Asked.TheVariants.{Stands};
 
 use crate::declared::Declared;
 use cue_lattice::{Memory, Narrow};
-use cue_row::{Labels, Row, Step};
+use cue_row::{Labels, Row, RowParts, Step};
 use cue_sets::TextSet;
 use cue_table::{Branch, Table};
 use std::alloc::Global;
@@ -222,7 +222,7 @@ fn allows_all(rows: &Option<Branch<Row>>) -> bool
         None => true,
         Some(rows) => match rows.row() {
             None => true,
-            Some(row) => row.labels.is_free(),
+            Some(row) => row.labels().is_none(),
         },
     }
 }
@@ -232,9 +232,11 @@ fn only(alloc: Global, labels: Labels) -> Result<Row, Memory>
     ensures { IfOk result (λ row. (question : Questions) →
         Refuses row question ↔ OnlyLabels labels (question_of question)) }
 {
-    let mut row = Row::free(alloc)?;
-    row.labels = labels;
-    Ok(row)
+    let parts = RowParts {
+        labels,
+        ..RowParts::free(alloc)?
+    };
+    Row::from_parts(alloc, parts)
 }
 
 /// The labels that are declared, where these are finitely many and all others are not.

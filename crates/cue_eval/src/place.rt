@@ -8,10 +8,12 @@ ghost use Rattle.cue_row.specs.Row.{RowRefuses};
 ghost use Rattle.cue_eval.specs.Places.{ScalarRefuses, StructRefuses, ListRefuses, MarkRefuses};
 ghost use Rattle.cue_eval.specs.Places.{level_of_mark};
 ghost use Rattle.cue_eval.specs.Gathered.{LabelsRefuse};
+ghost use Rattle.cue_eval.specs.Pairs.{plain};
+ghost use Rattle.cue_eval.specs.Sets.{integer_alone, text_alone};
 
-use cue_lattice::{Memory, Narrow};
+use cue_lattice::{Memory, Text};
 use cue_row::{Labels, Level, Row};
-use cue_scalars::{ScalarSet, Valued};
+use cue_scalars::Valued;
 use cue_syntax::Mark;
 use std::alloc::Global;
 
@@ -20,17 +22,27 @@ pub(crate) fn scalar_row(alloc: Global, valued: Valued) -> Result<Row, Memory>
     ensures { IfOk result (λ row. (question : Asked) →
         RowRefuses row question ↔ ScalarRefuses (pair_of valued) question) }
 {
-    let (value, usual) = valued.settle(alloc)?;
-    Ok(Row {
-        level: Level::Optional,
-        value,
-        usual,
-        struct_ok: false,
-        list_ok: false,
-        labels: Labels::all(alloc)?,
-        least: 0,
-        most: None,
-    })
+    let Valued { value, usual } = valued;
+    match usual {
+        None => Row::of_all_usual(alloc, Level::Optional, value),
+        Some(usual) => Row::of_scalars(alloc, Level::Optional, value, usual),
+    }
+}
+
+/// The row of a place where one integer stands.
+pub(crate) fn integer_row(number: i64) -> Row
+    ensures { (question : Asked) → RowRefuses result question
+        ↔ ScalarRefuses (plain (integer_alone number)) question }
+{
+    Row::of_integer(Level::Optional, number)
+}
+
+/// The row of a place where one text stands.
+pub(crate) fn text_row(text: Text) -> Row
+    ensures { (question : Asked) → RowRefuses result question
+        ↔ ScalarRefuses (plain (text_alone text)) question }
+{
+    Row::of_text(Level::Optional, text)
 }
 
 /// The row of a place where a struct stands that has these labels alone.
@@ -38,16 +50,7 @@ pub(crate) fn struct_row(alloc: Global, labels: Labels) -> Result<Row, Memory>
     ensures { IfOk result (λ row. (question : Asked) →
         RowRefuses row question ↔ (StructRefuses question ⊎ LabelsRefuse labels question)) }
 {
-    Ok(Row {
-        level: Level::Optional,
-        value: ScalarSet::empty(alloc)?,
-        usual: ScalarSet::empty(alloc)?,
-        struct_ok: true,
-        list_ok: false,
-        labels,
-        least: 0,
-        most: None,
-    })
+    Row::of_struct(alloc, Level::Optional, labels)
 }
 
 /// The row of a place where a list of so many elements stands, and whether it ends in `...`.
@@ -57,33 +60,15 @@ pub(crate) fn list_row(alloc: Global, count: usize, goes_on: bool) -> Result<Row
         RowRefuses row question ↔ ListRefuses count goes_on question) }
 {
     let count = count as u32;
-    Ok(Row {
-        level: Level::Optional,
-        value: ScalarSet::empty(alloc)?,
-        usual: ScalarSet::empty(alloc)?,
-        struct_ok: false,
-        list_ok: true,
-        labels: Labels::all(alloc)?,
-        least: count,
-        most: if goes_on { None } else { Some(count) },
-    })
+    let most = if goes_on { None } else { Some(count) };
+    Row::of_list(alloc, Level::Optional, count, most)
 }
 
 /// The row that a field's mark alone makes.
-pub(crate) fn mark_row(alloc: Global, mark: Mark) -> Result<Row, Memory>
-    ensures { IfOk result (λ row. (question : Asked) →
-        RowRefuses row question ↔ MarkRefuses mark question) }
+pub(crate) fn mark_row(mark: Mark) -> Row
+    ensures { (question : Asked) → RowRefuses result question ↔ MarkRefuses mark question }
 {
-    Ok(Row {
-        level: level_of(mark),
-        value: ScalarSet::free(alloc)?,
-        usual: ScalarSet::free(alloc)?,
-        struct_ok: true,
-        list_ok: true,
-        labels: Labels::all(alloc)?,
-        least: 0,
-        most: None,
-    })
+    Row::of_anything(level_of(mark))
 }
 
 /// The row of a field with this mark, where its value has this row.
@@ -91,8 +76,8 @@ pub(crate) fn raised(row: Row, mark: Mark) -> Row
     ensures { (question : Asked) → RowRefuses result question
         ↔ (RowRefuses row question ⊎ MarkRefuses mark question) }
 {
-    let level = row.level.greater(level_of(mark));
-    Row { level, ..row }
+    let level = row.level().greater(level_of(mark));
+    row.at_level(level)
 }
 
 /// The level of a field with this mark.

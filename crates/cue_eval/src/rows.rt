@@ -22,11 +22,14 @@ ghost use Rattle.cue_eval.specs.Ready.{AreReadyParts, AreReadyElements, IsReadyR
 ghost use Rattle.cue_eval.specs.Ready.{AreReadyEntries, AreReadyFields, IsField, AreGiven, AtLabels, IsScalarLeaf};
 ghost use Rattle.cue_eval.specs.Refuses.{ElementsRefuse, ElementRefuses, is_open};
 
-use crate::hanging::{behind, list_of, marked, push_scalars, scalar_table, step_to, struct_of};
+use crate::hanging::{
+    behind, list_of, marked, push_scalars, scalar_table, step_to, struct_of, table_of,
+};
 use crate::labels::labels_of;
 use crate::pair::Pairs;
 use crate::parts::{distinct, is_scalar_part, number_of};
-use crate::scalars::nothing;
+use crate::place::{integer_row, text_row};
+use crate::scalars::{integer_of, nothing};
 use cue_lattice::Memory;
 use cue_row::{Labels, Row, Step};
 use cue_syntax::{Declaration, Expr, Identifier, Label, Rest};
@@ -70,7 +73,8 @@ impl<'a, 'f, 't> Tables<'a, 'f, 't> {
         }
     }
 
-    /// A scalar expression that is neither a name nor a conjunction.
+    /// A scalar expression that is neither a name nor a conjunction. One integer or one text is a
+    /// row at once, without its set.
     fn scalar(&self, expression: &Expr) -> Result<Table<Row>, Memory>
         requires ready { IsReady self.now (tree.expression expression.now) }
         requires scalar { IsScalarLeaf (tree.expression expression.now) }
@@ -78,8 +82,12 @@ impl<'a, 'f, 't> Tables<'a, 'f, 't> {
         ensures answers { IfOk result (HasAnswersOf
             (core_of self.now.pairs (tree.expression expression.now))) }
     {
-        let valued = self.pairs.pair(expression)?;
-        scalar_table(self.pairs.alloc, valued)
+        let alloc = self.pairs.alloc;
+        match expression {
+            Expr::Integer(written) => table_of(alloc, integer_row(integer_of(*written))),
+            Expr::Text(text) => table_of(alloc, text_row(text.to_text(alloc)?)),
+            _ => scalar_table(alloc, self.pairs.pair(expression)?),
+        }
     }
 
     /// A name.
@@ -252,7 +260,7 @@ impl<'a, 'f, 't> Tables<'a, 'f, 't> {
         let step = step_to(self.pairs.alloc, label)?;
         let inner = self.rows(value)?;
         let table = behind(self.pairs.alloc, chain, inner)?;
-        Ok((step, marked(self.pairs.alloc, table, label.mark)?))
+        Ok((step, marked(table, label.mark)?))
     }
 
     /// A list of these elements, and whether it goes on.

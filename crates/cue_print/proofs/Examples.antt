@@ -7,7 +7,7 @@ use lib.Utf8.{encode}
 use Rattle.cue_sets.specs.Pieces.{least, greatest}
 use Rattle.cue_scalars.specs.declared.scalar_set.ScalarSet.{ScalarSet}
 use Rattle.cue_row.specs.declared.level.Level.TheVariants.{Optional, Required, Given}
-use Rattle.cue_row.specs.declared.row.Row.{Row}
+use Rattle.cue_row.specs.declared.parts.RowParts.{RowParts as Row}
 use Rattle.cue_lattice.specs.Path.{label, index}
 use Rattle.cue_table.specs.Tree.{Tree, node, Children, none, child, no_rest, onward, empty}
 use Rattle.cue_print.specs.Spelled.{term_text, terms_text, operand_text, default_text, value_text, part_texts, field_texts, element_texts, ending_texts, file_text}

@@ -5,7 +5,7 @@ use Rattle.std.specs.List.{flat_map}
 use Rattle.std.proofs.lemmas.List.{append-nil}
 use Rattle.cue_lattice.specs.Path.{label, index}
 use Rattle.cue_row.specs.declared.level.Level.{Level}
-use Rattle.cue_row.specs.declared.row.Row.{Row}
+use Rattle.cue_row.specs.declared.parts.RowParts.{RowParts as Row}
 use Rattle.cue_row.specs.Quoted.{quoted}
 use Rattle.cue_table.specs.Tree.{Tree, Children, none, child, row_of, labels_of}
 use Rattle.cue_print.specs.Expressions.{Value, Fields, no_more, field}

@@ -11,7 +11,7 @@ use Rattle.cue_lattice.specs.Path.{label, index}
 use Rattle.cue_sets.specs.Texts.{text_cmp}
 use Rattle.cue_sets.specs.TextLaws.{reverse_cmp, same_from_equal, bytes_eq-itself, bytes_eq-less, bytes_eq-greater}
 use Rattle.cue_row.specs.declared.level.Level.TheVariants.{Optional}
-use Rattle.cue_row.specs.declared.row.Row.{Row}
+use Rattle.cue_row.specs.declared.parts.RowParts.{RowParts as Row}
 use Rattle.cue_table.specs.Tree.{Tree, node, Children, none, child, Rest, no_rest, onward, row_of, below, rest_of, if_equal, find, find_with, step_into, rest_tree}
 use Rattle.cue_print.specs.Expressions.{Value, top, Fields, field}
 use Rattle.cue_print.specs.Printed.{level_at, declared, value_of, fields_below, element_at, element_below, rest_value}

@@ -4,7 +4,7 @@ use Rattle.std.specs.Prelude.{codes, is_some, nat_lt, if◌then◌else◌}
 use Rattle.std.specs.List.{flat_map}
 use Rattle.std.proofs.lemmas.List.{append-nil}
 use Rattle.cue_row.specs.declared.level.Level.{Level}
-use Rattle.cue_row.specs.declared.row.Row.{Row}
+use Rattle.cue_row.specs.declared.parts.RowParts.{RowParts as Row}
 use Rattle.cue_row.specs.LabelSets.{allows_label}
 use Rattle.cue_row.specs.Quoted.{quoted}
 use Rattle.cue_table.specs.Tree.{Tree}

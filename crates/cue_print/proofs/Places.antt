@@ -10,7 +10,7 @@ use Rattle.cue_sets.specs.Texts.{is_text_member}
 use Rattle.cue_sets.specs.TextLaws.{some_text}
 use Rattle.cue_scalars.specs.declared.scalar_set.ScalarSet.{ScalarSet}
 use Rattle.cue_scalars.specs.Scalars.{members, IsScalarSet}
-use Rattle.cue_row.specs.declared.row.Row.{Row}
+use Rattle.cue_row.specs.declared.parts.RowParts.{RowParts as Row}
 use Rattle.cue_table.specs.Tree.{Tree, node, below, rest_of, row_of}
 use Rattle.cue_print.specs.Difference.{without}
 use Rattle.cue_print.specs.Expressions.{Value, top, all, no_parts, Term, Fields}

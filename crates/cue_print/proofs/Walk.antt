@@ -1,6 +1,6 @@
 -- Walks over the fields below a place, which write one after the other.
 use Rattle.std.proofs.Common.{◌≡◌, ℕ, ◌<◌, List, ◌∷◌, ◌++◌, sym, subst}
-use Rattle.cue_row.specs.declared.row.Row.{Row}
+use Rattle.cue_row.specs.declared.parts.RowParts.{RowParts as Row}
 use Rattle.cue_table.specs.Tree.{Tree, below, labels_of}
 use Rattle.cue_table.specs.Size.{tree_size}
 use Rattle.cue_table.specs.Walks.{AreSmaller, labels_smaller}

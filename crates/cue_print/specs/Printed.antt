@@ -6,7 +6,7 @@ use Rattle.cue_lattice.specs.Path.{label, index}
 use Rattle.cue_sets.specs.Texts.{is_listed}
 use Rattle.cue_row.specs.declared.level.Level.{Level}
 use Rattle.cue_row.specs.declared.level.Level.TheVariants.{Optional}
-use Rattle.cue_row.specs.declared.row.Row.{Row}
+use Rattle.cue_row.specs.declared.parts.RowParts.{RowParts as Row}
 use Rattle.cue_table.specs.Tree.{Tree, node, Children, none, child, Rest, no_rest, onward, row_of}
 use Rattle.cue_print.specs.Difference.{without}
 use Rattle.cue_print.specs.Expressions.{Term, Value, top, scalar, all, Parts, no_parts, struct}

@@ -2,7 +2,7 @@
 use Rattle.std.specs.Prelude.{ℕ, Bool, true, false, not, ◌||◌, ◌&&◌, List, [], ◌++◌, Option, None}
 use Rattle.std.specs.Prelude.{Some, is_some, nat_lt, ◌==◌, codes, if◌then◌else◌}
 use Rattle.std.specs.List.{flat_map}
-use Rattle.cue_row.specs.declared.row.Row.{Row}
+use Rattle.cue_row.specs.declared.parts.RowParts.{RowParts as Row}
 use Rattle.cue_print.specs.Expressions.{Value, top, all, no_parts, Fields}
 use Rattle.cue_print.specs.Spelled.{list_text, value_text, part_texts, element_texts}
 use Rattle.cue_print.specs.Printed.{outside, struct_if_any, struct_part, list_part, has_field}

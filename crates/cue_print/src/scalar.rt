@@ -8,7 +8,7 @@ ghost use Rattle.cue_print.specs.TermOf.{term_of};
 use crate::term::Term;
 use crate::terms::{push_operand, push_terms, terms_of};
 use cue_lattice::{Memory, Narrow};
-use cue_row::Row;
+use cue_row::{Row, Scalars};
 use cue_scalars::ScalarSet;
 use std::alloc::Global;
 
@@ -20,11 +20,11 @@ pub(crate) fn push_scalar(alloc: Global, out: &mut String, row: &Row) -> Result<
         (terms_of (without row.now.value row.now.usual)))) }
 {
     let others = unusual(alloc, row)?;
-    let terms = terms_of(alloc, &others)?;
+    let terms = terms_of(alloc, &Scalars::of(&others))?;
     if terms.is_empty() {
-        return push_terms(out, &terms_of(alloc, &row.value)?);
+        return push_terms(out, &terms_of(alloc, &row.value())?);
     }
-    push_default(out, &terms_of(alloc, &row.usual)?)?;
+    push_default(out, &terms_of(alloc, &row.usual())?)?;
     push_terms(out, &terms)
 }
 
@@ -32,9 +32,8 @@ pub(crate) fn push_scalar(alloc: Global, out: &mut String, row: &Row) -> Result<
 fn unusual(alloc: Global, row: &Row) -> Result<ScalarSet, Memory>
     ensures { IfOk result (λ set. set ≡ without row.now.value row.now.usual) }
 {
-    row.value.known();
-    row.usual.known();
-    let set = row.value.without(alloc, &row.usual)?;
+    row.known();
+    let set = row.unusual(alloc)?;
     set.known();
     Ok(set)
 }

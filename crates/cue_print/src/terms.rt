@@ -8,22 +8,22 @@ ghost use Rattle.cue_print.specs.TermOf.{term_of};
 use crate::term::{Term, is_conjunction, push_term};
 use crate::writer::separate;
 use cue_lattice::{Memory, Text};
-use cue_scalars::ScalarSet;
-use cue_sets::TextSet;
+use cue_row::Scalars;
 use std::alloc::Global;
 
 /// The terms of a set: null, truth values, integers upwards, texts by their bytes.
 #[tactic(auto, unfolding(crate::specs::Terms::terms_of))]
-pub(crate) fn terms_of<'a>(alloc: Global, set: &'a ScalarSet) -> Result<Vec<Term<'a>>, Memory>
+pub(crate) fn terms_of<'a>(alloc: Global, set: &Scalars<'a>) -> Result<Vec<Term<'a>>, Memory>
     ensures { IfOk result (λ terms. map term_of terms.items ≡ terms_of set.now) }
 {
     let mut terms = Vec::new(alloc);
-    if set.null {
+    if set.null() {
         terms.push(Term::Null)?;
     }
-    add_truths(&mut terms, set.no, set.yes)?;
-    add_pieces(&mut terms, set.ints.pieces())?;
-    add_texts(&mut terms, &set.texts)?;
+    add_truths(&mut terms, set.no(), set.yes())?;
+    add_pieces(&mut terms, set.pieces())?;
+    let (all_but, texts) = set.texts();
+    add_texts(&mut terms, all_but, texts)?;
     Ok(terms)
 }
 
@@ -72,12 +72,11 @@ fn term_of_piece<'a>(piece: (i64, i64)) -> Term<'a>
     Term::Between(first, last)
 }
 
-/// Adds the terms of a set of texts.
-fn add_texts<'a>(terms: &mut Vec<Term<'a>>, set: &'a TextSet) -> Result<(), Memory>
+/// Adds the terms of a set of texts: of all but the listed ones, or of these.
+fn add_texts<'a>(terms: &mut Vec<Term<'a>>, all_but: bool, texts: &'a [Text]) -> Result<(), Memory>
     ensures { OnOk result (map term_of terms.new.items
-        ≡ map term_of terms.old.items ++ text_terms set.now) }
+        ≡ map term_of terms.old.items ++ text_terms (all_but, texts.now)) }
 {
-    let (all_but, texts) = set.listed();
     if !all_but {
         return add_listed(terms, texts);
     }

@@ -34,7 +34,7 @@ pub(crate) fn push_value(
         out.push_str("_")?;
         return Ok(());
     };
-    match (row.struct_ok, row.list_ok) {
+    match (row.struct_ok(), row.list_ok()) {
         (true, true) => {
             out.push_str("_")?;
             Ok(())
@@ -42,8 +42,8 @@ pub(crate) fn push_value(
         (true, false) => push_struct(alloc, out, row, branch),
         (false, true) => push_list(alloc, out, row, branch),
         (false, false) => {
-            row.value.known();
-            if row.value.is_empty() {
+            row.known();
+            if row.has_no_scalar() {
                 return push_nothing(alloc, out, row, branch);
             }
             push_scalar(alloc, out, row)
@@ -94,7 +94,7 @@ fn push_struct_before(
 fn has_struct_part(row: &Row, branch: &Branch<Row>) -> bool
     ensures { result ≡ (is_some row.now.labels || has_field (fields_below (below branch.now))) }
 {
-    if row.labels.listed().is_some() {
+    if row.labels().is_some() {
         return true;
     }
     has_field(branch)
@@ -126,7 +126,7 @@ fn has_list_part(row: &Row, branch: &Branch<Row>) -> bool
     ensures { result ≡ (nat_lt 0 row.now.least || is_some row.now.most
         || is_some (rest_value (rest_of branch.now))) }
 {
-    row.least > 0 || row.most.is_some() || is_told(branch)
+    row.least() > 0 || row.most().is_some() || is_told(branch)
 }
 
 /// Whether something is said of the further elements of a place.
@@ -160,7 +160,7 @@ fn push_struct(
         ++ value_text (all (struct_part row.now.labels
         (fields_below (below branch.now)) no_parts))) }
 {
-    match row.labels.listed() {
+    match row.labels() {
         None => {
             out.push_str("{")?;
             push_fields(alloc, out, branch)?;
@@ -226,7 +226,7 @@ fn push_outside(
 {
     let mut is_first = true;
     for (label, field) in branch.labels() {
-        if !row.labels.allows(label) {
+        if !row.allows(label) {
             push_opening(out, is_first)?;
             push_field(alloc, out, label, &field)?;
             is_first = false;
@@ -283,7 +283,7 @@ fn level_of(row: Option<&Row>) -> Level
 {
     match row {
         None => Level::Optional,
-        Some(row) => row.level,
+        Some(row) => row.level(),
     }
 }
 
@@ -309,10 +309,10 @@ fn push_list(alloc: Global, out: &mut String, row: &Row, branch: &Branch<Row>) -
 {
     let is_exact = is_exact(row, branch);
     out.push_str("[")?;
-    push_elements(alloc, out, row.least, branch)?;
-    push_ending(alloc, out, row.least, is_exact, branch)?;
+    push_elements(alloc, out, row.least(), branch)?;
+    push_ending(alloc, out, row.least(), is_exact, branch)?;
     out.push_str("]")?;
-    push_longest(out, row.most, is_exact)
+    push_longest(out, row.most(), is_exact)
 }
 
 /// Whether the elements alone tell a list: it has one length, and nothing is said of further
@@ -320,9 +320,9 @@ fn push_list(alloc: Global, out: &mut String, row: &Row, branch: &Branch<Row>) -
 fn is_exact(row: &Row, branch: &Branch<Row>) -> bool
     ensures { result ≡ is_exact row.now.least row.now.most (rest_value (rest_of branch.now)) }
 {
-    match row.most {
+    match row.most() {
         None => false,
-        Some(most) => row.least == most && !is_told(branch),
+        Some(most) => row.least() == most && !is_told(branch),
     }
 }
 

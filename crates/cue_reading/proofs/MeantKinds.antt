@@ -7,7 +7,7 @@ use Rattle.cue_lattice.specs.Scalar.{IsScalar}
 use Rattle.cue_lattice.specs.Question.{Question, may_be, usual, struct, list, allows, level_at_most, length_at_most, length_at_least}
 use Rattle.cue_scalars.specs.Scalars.{RefusesScalar}
 use Rattle.cue_scalars.specs.declared.scalar_set.ScalarSet.{ScalarSet}
-use Rattle.cue_row.specs.declared.row.Row.{Row}
+use Rattle.cue_row.specs.declared.parts.RowParts.{RowParts as Row}
 use Rattle.cue_row.specs.Kinds.{IsEmptySet, IsKind}
 use Rattle.cue_row.specs.LabelSets.{RefusesLabel}
 use Rattle.cue_row.specs.Lengths.{RefusesLength}

@@ -7,7 +7,7 @@ use Rattle.cue_row.specs.Row.{IsRow}
 use Rattle.cue_row.specs.Kinds.{IsKind}
 use Rattle.cue_row.specs.Lengths.{RefusesLength}
 use Rattle.cue_row.specs.ValidRow.{UsualFits, LabelsFit, LengthsFit, IsValidRow}
-use Rattle.cue_row.specs.declared.row.Row.{Row}
+use Rattle.cue_row.specs.declared.parts.RowParts.{RowParts as Row}
 use Rattle.cue_row.specs.declared.kind.RowKind.{RowKind}
 use Rattle.cue_row.specs.declared.kind.RowKind.TheVariants as kinds
 use Rattle.cue_scope.specs.Core.{Core}

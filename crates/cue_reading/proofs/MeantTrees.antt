@@ -7,7 +7,7 @@ use Rattle.cue_lattice.specs.Path.{Step, label, index, step_cmp, Path}
 use Rattle.cue_lattice.specs.Question.{Question, may_be, usual, struct, list, allows, level_at_most, length_at_most, length_at_least}
 use Rattle.cue_row.specs.declared.level.Level.{Level}
 use Rattle.cue_row.specs.declared.level.Level.TheVariants.{Optional, Required, Given}
-use Rattle.cue_row.specs.declared.row.Row.{Row}
+use Rattle.cue_row.specs.declared.parts.RowParts.{RowParts as Row}
 use Rattle.cue_row.specs.Kinds.{IsKind}
 use Rattle.cue_row.specs.Levels.{level_of}
 use Rattle.cue_row.specs.Row.{RowRefuses, Refuses, IsRow}

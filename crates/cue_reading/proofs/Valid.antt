@@ -11,7 +11,7 @@ use Rattle.cue_sets.specs.Pieces.{least, greatest, AscendsFrom}
 use Rattle.cue_sets.specs.Texts.{text_cmp, is_listed}
 use Rattle.cue_scalars.specs.Scalars.{IsScalarSet}
 use Rattle.cue_scalars.specs.declared.scalar_set.ScalarSet.{ScalarSet}
-use Rattle.cue_row.specs.declared.row.Row.{Row}
+use Rattle.cue_row.specs.declared.parts.RowParts.{RowParts as Row}
 use Rattle.cue_row.specs.Row.{Refuses, IsRow}
 use Rattle.cue_row.specs.ValidRow.{AreWords, AreLabelWords, HasWords, IsWordStep}
 use Rattle.cue_table.specs.Tree.{Tree, node, Children, none, child, Rest, no_rest, onward, find, row_at}

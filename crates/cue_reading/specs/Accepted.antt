@@ -1,7 +1,7 @@
 -- What the grammar and the checks say of the tree that a table is printed as.
 use Rattle.std.specs.Prelude.{◌≡◌, ◌⊎◌, ◌<◌, Some}
 use Rattle.cue_lattice.specs.Limits.{level_limit, size_limit, step_limit}
-use Rattle.cue_row.specs.declared.row.Row.{Row}
+use Rattle.cue_row.specs.declared.parts.RowParts.{RowParts as Row}
 use Rattle.cue_table.specs.Tree.{Tree}
 use Rattle.cue_table.specs.Valid.{IsValidTable}
 use Rattle.cue_syntax.specs.Syntax.{FileTree}

@@ -2,7 +2,7 @@
 use Rattle.std.specs.Prelude.{◌≡◌, ◌⊎◌, ℕ, List, Some, Ok, Err}
 use Rattle.cue_lex.specs.declared.token.Token.{Token}
 use Rattle.cue_lex.specs.Tokens.{tokens, too_long}
-use Rattle.cue_row.specs.declared.row.Row.{Row}
+use Rattle.cue_row.specs.declared.parts.RowParts.{RowParts as Row}
 use Rattle.cue_table.specs.Tree.{Tree}
 use Rattle.cue_table.specs.Valid.{IsValidTable}
 use Rattle.cue_syntax.specs.Syntax.{FileTree}

@@ -6,7 +6,7 @@ use Rattle.cue_lattice.specs.Path.{Path}
 use Rattle.cue_lattice.specs.Question.{Question}
 use Rattle.cue_lattice.specs.World.{Piece, piece_refuses, IsUnified, text, state}
 use Rattle.cue_row.specs.Row.{RowRefuses}
-use Rattle.cue_row.specs.declared.row.Row.{Row}
+use Rattle.cue_row.specs.declared.parts.RowParts.{RowParts as Row}
 use Rattle.cue_table.specs.Tree.{empty, row_at}
 use Rattle.cue_table.specs.Refuses.{RowRefuses as RowsRefuse}
 use Rattle.cue_table.proofs.ValidWalks.{empty_valid, nothing_at}

@@ -1,6 +1,6 @@
 -- The language that the store takes, and its format of states.
 use Rattle.cue_lattice.specs.World.{Meaning}
-use Rattle.cue_row.specs.declared.row.Row.{Row}
+use Rattle.cue_row.specs.declared.parts.RowParts.{RowParts as Row}
 use Rattle.cue_row.specs.Row.{RowRefuses}
 use Rattle.cue_table.specs.Tree.{Tree, empty}
 use Rattle.cue_table.specs.Refuses.{TableRefuses}

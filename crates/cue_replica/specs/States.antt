@@ -4,7 +4,7 @@ use Rattle.cue_lattice.specs.Document.{Document}
 use Rattle.cue_lattice.specs.Meets.{Meets}
 use Rattle.cue_lattice.specs.Question.{Refusals}
 use Rattle.cue_lattice.specs.declared.refusal.Refusal.{Refusal}
-use Rattle.cue_row.specs.declared.row.Row.{Row}
+use Rattle.cue_row.specs.declared.parts.RowParts.{RowParts as Row}
 use Rattle.cue_row.specs.Row.{RowRefuses}
 use Rattle.cue_table.specs.Tree.{Tree}
 use Rattle.cue_table.specs.Refuses.{TableRefuses}

@@ -27,7 +27,7 @@ use Rattle.cue_sets.specs.TextLaws.{is_listed-zeros, greatest_length, zeros}
 use Rattle.cue_scalars.specs.Scalars as sets
 use Rattle.cue_scalars.specs.Scalars.{members, IsScalarSet}
 use Rattle.cue_scalars.specs.declared.scalar_set.ScalarSet.{ScalarSet}
-use Rattle.cue_row.specs.declared.row.Row.{Row}
+use Rattle.cue_row.specs.declared.parts.RowParts.{RowParts as Row}
 use Rattle.cue_row.specs.declared.kind.RowKind.{RowKind}
 use Rattle.cue_row.specs.declared.kind.RowKind.TheVariants as kinds
 use Rattle.cue_row.specs.Kinds.{IsKind}

@@ -13,7 +13,7 @@ use Rattle.cue_scalars.specs.declared.scalar_set.ScalarSet.{ScalarSet}
 use Rattle.cue_row.specs.Chosen as rows
 use Rattle.cue_row.specs.Kinds.{IsEmptySet}
 use Rattle.cue_row.specs.Row.{IsRow}
-use Rattle.cue_row.specs.declared.row.Row.{Row}
+use Rattle.cue_row.specs.declared.parts.RowParts.{RowParts as Row}
 use Rattle.cue_report.specs.Gaps.{IsOnly, IsChosen}
 use Rattle.cue_report.proofs.Rows.{RefusedAt}
 

@@ -15,7 +15,7 @@ use Rattle.cue_lattice.specs.Question.{Refusals, may_be, struct, list, level_at_
 use Rattle.cue_lattice.specs.declared.scalar.Scalar.{Scalar}
 use Rattle.cue_lattice.specs.declared.scalar.Scalar.TheVariants as scalars
 use Rattle.cue_scalars.specs.Scalars.{members, IsFirstScalar}
-use Rattle.cue_row.specs.declared.row.Row.{Row}
+use Rattle.cue_row.specs.declared.parts.RowParts.{RowParts as Row}
 use Rattle.cue_row.specs.Row.{Refuses, IsRow}
 use Rattle.cue_row.specs.Chosen as chosen
 use Rattle.cue_table.specs.Form.{IsBelowAll, AreBranches, IsKept, IsTable}

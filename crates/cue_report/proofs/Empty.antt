@@ -14,7 +14,7 @@ use Rattle.cue_sets.specs.TextLaws.{first_is_listed, is_listed-zeros, greatest_l
 use Rattle.cue_scalars.specs.Scalars.{IsScalarSet, RefusesScalar}
 use Rattle.cue_scalars.specs.declared.scalar_set.ScalarSet.{ScalarSet}
 use Rattle.cue_row.specs.Kinds.{IsEmptySet}
-use Rattle.cue_row.specs.declared.row.Row.{Row}
+use Rattle.cue_row.specs.declared.parts.RowParts.{RowParts as Row}
 use Rattle.cue_report.specs.Search.{is_empty_set, lacks_value}
 
 no_piece : (pieces : List (ℤ × ℤ)) → IsCanonical pieces → ((n : ℤ) → IsInteger n → is_member pieces n ≡ false) → pieces ≡ []

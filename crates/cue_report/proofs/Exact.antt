@@ -1,7 +1,7 @@
 -- Reports are exact against documents.
 use Rattle.std.proofs.Common.{◌≡◌, ◌↔◌, ℕ, false, nat_eq, List, [], ◌∷◌, length, refl, sym, subst}
 use Rattle.cue_lattice.specs.Question.{Refusals}
-use Rattle.cue_row.specs.declared.row.Row.{Row}
+use Rattle.cue_row.specs.declared.parts.RowParts.{RowParts as Row}
 use Rattle.cue_table.specs.Tree.{Tree}
 use Rattle.cue_table.specs.Valid.{IsValidTable}
 use Rattle.serde_json.specs.Data.{Data}

@@ -23,7 +23,7 @@ use Rattle.cue_sets.specs.Texts.{is_text_member}
 use Rattle.cue_sets.specs.TextLaws.{first_is_listed, is_listed-zeros, greatest_length, zeros}
 use Rattle.cue_scalars.specs.Scalars.{members, IsScalarSet, RefusesScalar}
 use Rattle.cue_scalars.specs.declared.scalar_set.ScalarSet.{ScalarSet}
-use Rattle.cue_row.specs.declared.row.Row.{Row}
+use Rattle.cue_row.specs.declared.parts.RowParts.{RowParts as Row}
 use Rattle.cue_row.specs.declared.kind.RowKind.{RowKind}
 use Rattle.cue_row.specs.declared.kind.RowKind.TheVariants as kinds
 use Rattle.cue_row.specs.Kinds.{IsEmptySet, IsKind}

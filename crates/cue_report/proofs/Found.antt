@@ -8,7 +8,7 @@ use Rattle.cue_lattice.specs.OneOf.{OneOf}
 use Rattle.cue_lattice.specs.Path as paths
 use Rattle.cue_lattice.specs.Path.{label, index, step_cmp, Path}
 use Rattle.cue_lattice.specs.Question.{level_at_most}
-use Rattle.cue_row.specs.declared.row.Row.{Row}
+use Rattle.cue_row.specs.declared.parts.RowParts.{RowParts as Row}
 use Rattle.cue_row.specs.Row.{Refuses, IsRow}
 use Rattle.cue_table.specs.Form as form
 use Rattle.cue_table.specs.Form.{AreBranches, AreWithin, IsBelowAll, IsKept, IsRestOf, IsTable}

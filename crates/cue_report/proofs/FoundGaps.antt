@@ -8,7 +8,7 @@ use Rattle.std.specs.declared.cmp.Ordering.TheVariants.{Less}
 use Rattle.cue_lattice.specs.OneOf.{OneOf}
 use Rattle.cue_lattice.specs.Path as paths
 use Rattle.cue_lattice.specs.Path.{step_cmp, Path, path_cmp}
-use Rattle.cue_row.specs.declared.row.Row.{Row}
+use Rattle.cue_row.specs.declared.parts.RowParts.{RowParts as Row}
 use Rattle.cue_table.specs.Tree.{Tree, node, row_of, row_at}
 use Rattle.cue_report.specs.Answers.{IsDemanded, IsStepDemanded, IsNotAllowed}
 use Rattle.cue_report.specs.Gaps.{IsGap, AreGaps}

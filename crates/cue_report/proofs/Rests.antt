@@ -5,7 +5,7 @@ use Rattle.cue_lattice.specs.Path as paths
 use Rattle.cue_lattice.specs.Path.{label, index, step_cmp}
 use Rattle.std.specs.declared.cmp.Ordering.{Ordering}
 use Rattle.std.specs.declared.cmp.Ordering.TheVariants.{Less, Equal, Greater}
-use Rattle.cue_row.specs.declared.row.Row.{Row}
+use Rattle.cue_row.specs.declared.parts.RowParts.{RowParts as Row}
 use Rattle.cue_row.specs.Row.{Refuses, IsRow}
 use Rattle.cue_table.specs.Form.{AreBranches, AreWithin, IsKept, IsRestOf, IsTable}
 use Rattle.cue_table.specs.Tree.{Tree, node, Children, none, child, Rest, no_rest, onward, below, rest_of, if_equal, find, find_with, step_into}

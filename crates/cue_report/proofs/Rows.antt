@@ -7,7 +7,7 @@ use Rattle.cue_lattice.specs.Path.{label, index, Path}
 use Rattle.cue_lattice.specs.Question.{Question, allows, level_at_most, length_at_most}
 use Rattle.cue_row.specs.declared.level.Level.{Level}
 use Rattle.cue_row.specs.declared.level.Level.TheVariants.{Optional, Required, Given}
-use Rattle.cue_row.specs.declared.row.Row.{Row}
+use Rattle.cue_row.specs.declared.parts.RowParts.{RowParts as Row}
 use Rattle.cue_row.specs.LabelSets.{allows_label}
 use Rattle.cue_row.specs.Lengths.{RefusesLength}
 use Rattle.cue_row.specs.Levels.{level_of}

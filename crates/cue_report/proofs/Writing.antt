@@ -8,7 +8,7 @@ use Rattle.serde_json.specs.Data.{Data, null, array, object, Items, no_items, it
 use Rattle.serde_json.specs.Written.{outline, items_outline, members_outline}
 use Rattle.cue_lattice.specs.Path as paths
 use Rattle.cue_lattice.specs.Path.{label, index}
-use Rattle.cue_row.specs.declared.row.Row.{Row}
+use Rattle.cue_row.specs.declared.parts.RowParts.{RowParts as Row}
 use Rattle.cue_table.specs.Tree.{Tree, Children, row_of, step_into, children_of}
 use Rattle.serde_json.specs.Data.{put}
 use Rattle.serde_json.specs.Written.{compact_text}

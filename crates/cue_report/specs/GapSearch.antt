@@ -5,7 +5,7 @@ use Rattle.std.specs.List.{flat_map}
 use Rattle.cue_lattice.specs.Path as paths
 use Rattle.cue_lattice.specs.Path.{label, index, Path}
 use Rattle.cue_lattice.specs.Question.{Refusals}
-use Rattle.cue_row.specs.declared.row.Row.{Row}
+use Rattle.cue_row.specs.declared.parts.RowParts.{RowParts as Row}
 use Rattle.cue_row.specs.Row as rows
 use Rattle.cue_table.specs.Refuses.{RowRefuses, TableRefuses}
 use Rattle.cue_table.specs.Tree.{Tree, Rest, no_rest, onward, row_at}

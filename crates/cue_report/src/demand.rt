@@ -14,13 +14,13 @@ pub(crate) fn lacks_value(row: &Row) -> bool
     requires { IsRow row.now }
     ensures { result ≡ search.lacks_value row.now }
 {
-    if row.list_ok {
-        return match row.most {
+    if row.list_ok() {
+        return match row.most() {
             None => false,
-            Some(most) => most < row.least,
+            Some(most) => most < row.least(),
         };
     }
-    !row.struct_ok && row.value.is_empty()
+    !row.struct_ok() && row.has_no_scalar()
 }
 
 /// Whether the step from one place to the next is demanded: to a field that is required or there,
@@ -33,14 +33,14 @@ pub(crate) fn is_demanded(above: Option<&Row>, step: StepRef, row: Option<&Row>)
     match step {
         StepRef::Label(_) => match row {
             None => false,
-            Some(row) => match row.level {
+            Some(row) => match row.level() {
                 Level::Optional => false,
                 Level::Required | Level::Given => true,
             },
         },
         StepRef::Index(number) => match above {
             None => false,
-            Some(above) => number < above.least,
+            Some(above) => number < above.least(),
         },
     }
 }
@@ -51,7 +51,7 @@ pub(crate) fn is_refused(above: Option<&Row>, step: StepRef) -> bool
         (step_at step.entry) }
 {
     match (above, step) {
-        (Some(row), StepRef::Label(label)) => !row.labels.allows(label.as_str()),
+        (Some(row), StepRef::Label(label)) => !row.allows(label.as_str()),
         _ => false,
     }
 }
@@ -62,7 +62,7 @@ pub(crate) fn least_of(row: Option<&Row>) -> u32
 {
     match row {
         None => 0,
-        Some(row) => row.least,
+        Some(row) => row.least(),
     }
 }
 

@@ -47,10 +47,10 @@ fn write_document(alloc: Global, out: &mut Writer, branch: &Branch<Row>) -> Resu
         out.null()?;
         return Ok(());
     }
-    if row.struct_ok {
+    if row.struct_ok() {
         return write_members(alloc, out, branch);
     }
-    if row.list_ok {
+    if row.list_ok() {
         return write_elements(alloc, out, branch);
     }
     write_scalar(alloc, out, row)

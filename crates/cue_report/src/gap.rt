@@ -185,7 +185,7 @@ fn gap_at(alloc: Global, row: Option<&Row>) -> Result<Option<bool>, Memory>
     if demand::lacks_value(row) {
         return Ok(None);
     }
-    if let Level::Required = row.level {
+    if let Level::Required = row.level() {
         return Ok(Some(true));
     }
     if is_open(alloc, row)? {
@@ -201,8 +201,8 @@ fn is_open(alloc: Global, row: &Row) -> Result<bool, Memory>
     requires value { lacks_value row.now ≡ false }
     ensures { IfOk result (λ found. IsTrue found ↔ IsOpenAt (Some row.now)) }
 {
-    match (row.struct_ok, row.list_ok) {
-        (true, true) => Ok(row.value.is_free()),
+    match (row.struct_ok(), row.list_ok()) {
+        (true, true) => Ok(row.has_all_scalars()),
         (false, false) => Ok(row.chosen(alloc)?.is_none()),
         (true, false) | (false, true) => Ok(false),
     }

@@ -1,5 +1,5 @@
 ghost use Rattle.cue_lattice.specs.Question.{SameAnswers};
-ghost use Rattle.cue_row.specs.declared.row.Row.{Row};
+ghost use Rattle.cue_row.specs.declared.parts.RowParts.{RowParts as Row};
 ghost use Rattle.cue_row.specs.Row.{RowRefuses};
 ghost use Rattle.cue_table.specs.Tree.{Tree};
 ghost use Rattle.cue_table.specs.Refuses.{TableRefuses};

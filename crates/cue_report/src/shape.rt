@@ -103,11 +103,11 @@ fn document_of(alloc: Global, branch: &Branch<Row>) -> Result<Value, Memory>
     if is_free(row) {
         return Ok(Value::Null);
     }
-    if row.struct_ok {
+    if row.struct_ok() {
         let members = members_of(alloc, branch)?;
         return Ok(Value::Object(members));
     }
-    if row.list_ok {
+    if row.list_ok() {
         let elements = elements_of(alloc, branch)?;
         return Ok(Value::Array(elements));
     }
@@ -119,13 +119,13 @@ fn document_of(alloc: Global, branch: &Branch<Row>) -> Result<Value, Memory>
 pub(crate) fn is_free(row: &Row) -> bool
     ensures { IsTrue result ↔ IsFree (AtPlace (Some row.now)) [] }
 {
-    if !row.struct_ok {
+    if !row.struct_ok() {
         return false;
     }
-    if !row.list_ok {
+    if !row.list_ok() {
         return false;
     }
-    row.value.is_free()
+    row.has_all_scalars()
 }
 
 /// The scalar that is told at a place, in JSON: the chosen one or, where none is chosen, the first
@@ -153,7 +153,7 @@ pub(crate) fn picked(alloc: Global, row: &Row) -> Result<Option<Scalar>, Memory>
     match row.chosen(alloc)? {
         Some(scalar) => Ok(Some(scalar)),
         None => {
-            let first = row.value.first(alloc)?;
+            let first = row.first_scalar(alloc)?;
             Ok(first)
         }
     }

@@ -4,7 +4,7 @@ use Rattle.std.proofs.lemmas.Bool.{false≢true}
 use Rattle.cue_lattice.specs.declared.scalar.Scalar.{Scalar}
 use Rattle.cue_scalars.specs.Scalars.{RefusesScalar}
 use Rattle.cue_row.specs.declared.level.Level.TheVariants.{Optional}
-use Rattle.cue_row.specs.declared.row.Row.{Row}
+use Rattle.cue_row.specs.declared.parts.RowParts.{RowParts as Row}
 use Rattle.cue_row.specs.declared.question.Question.{Question}
 use Rattle.cue_row.specs.declared.question.Question.TheVariants as questions
 use Rattle.cue_row.specs.Levels.{level_of}
@@ -17,7 +17,7 @@ use Rattle.cue_row.specs.RowLaws.{same_level}
 no_length : (most : Option ℕ) (n : ℕ) → most ≡ None → RefusesLength most n → ⊥
 no_length most n e r = subst (λ (m : Option ℕ). RefusesLength m n) e r
 
-not_false : (b : Bool) → (b ≡ false → ⊥) → b ≡ true
+pub not_false : (b : Bool) → (b ≡ false → ⊥) → b ≡ true
 not_false true h = refl
 not_false false h = absurd (h refl)
 

@@ -4,3 +4,4 @@ pub mod MetRows
 pub mod Texts
 pub mod MetSets
 pub mod MetValid
+mod SmallRows

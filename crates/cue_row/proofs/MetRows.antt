@@ -4,7 +4,7 @@ use Rattle.cue_lattice.specs.declared.scalar.Scalar.{Scalar}
 use Rattle.std.proofs.lemmas.Bool.{cases_lt}
 use Rattle.cue_scalars.specs.Scalars.{RefusesScalar}
 use Rattle.cue_scalars.proofs.Narrowed.{and_refuses}
-use Rattle.cue_row.specs.declared.row.Row.{Row}
+use Rattle.cue_row.specs.declared.parts.RowParts.{RowParts as Row}
 use Rattle.cue_row.specs.declared.question.Question.{Question}
 use Rattle.cue_row.specs.declared.question.Question.TheVariants as questions
 use Rattle.cue_row.specs.Levels.{level_of}

@@ -6,7 +6,7 @@ use Rattle.cue_lattice.specs.declared.scalar.Scalar.{Scalar}
 use Rattle.cue_lattice.specs.declared.scalar.Scalar.TheVariants as scalar_forms
 use Rattle.cue_scalars.specs.Scalars.{members, IsWithin}
 use Rattle.cue_scalars.specs.ScalarLaws.{same_scalars}
-use Rattle.cue_row.specs.declared.row.Row.{Row}
+use Rattle.cue_row.specs.declared.parts.RowParts.{RowParts as Row}
 use Rattle.cue_row.specs.declared.level.Level.{Level}
 use Rattle.cue_row.specs.declared.level.Level.TheVariants.{Optional}
 use Rattle.cue_row.specs.declared.kind.RowKind.{RowKind}

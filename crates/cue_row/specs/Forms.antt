@@ -3,7 +3,7 @@ use Rattle.std.specs.Prelude.{◌≡◌, ◌≤◌, ℕ, true, false, None}
 use Rattle.cue_row.specs.Levels.{level_of}
 use Rattle.cue_row.specs.Lengths.{RefusesLength}
 use Rattle.cue_row.specs.declared.level.Level.TheVariants.{Optional}
-use Rattle.cue_row.specs.declared.row.Row.{Row}
+use Rattle.cue_row.specs.declared.parts.RowParts.{RowParts as Row}
 
 -- it refuses no level, struct, list or length
 pub record AllowsAllForms (row : Row) : Type 0 where

@@ -9,7 +9,9 @@ pub mod Questions
 pub mod Lengths
 pub mod Forms
 pub mod Row
+pub mod Seen
 pub mod Made
+pub mod Kept
 pub mod RowLaws
 pub mod Kinds
 pub mod Chosen

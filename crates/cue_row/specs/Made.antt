@@ -3,7 +3,7 @@ use Rattle.std.specs.Prelude.{ℕ, true, false, List, [], ◌∷◌, Option, Non
 use Rattle.cue_lattice.specs.Scalar.{least, greatest}
 use Rattle.cue_scalars.specs.declared.scalar_set.ScalarSet.{ScalarSet}
 use Rattle.cue_row.specs.declared.level.Level.{Level}
-use Rattle.cue_row.specs.declared.row.Row.{Row}
+use Rattle.cue_row.specs.declared.parts.RowParts.{RowParts as Row}
 
 abbrev pub empty_set : ScalarSet
 empty_set = record { null = false; no = false; yes = false; ints = []; texts = (false, []) }
@@ -43,6 +43,10 @@ scalar_row level value usual = record {
   most = None;
 }
 
+-- these scalars alone, all of them usual
+abbrev pub lone_row : Level → ScalarSet → Row
+lone_row level set = scalar_row level set set
+
 -- a struct alone, with these labels
 abbrev pub struct_row : Level → Option (List (List ℕ)) → Row
 struct_row level labels = record {
@@ -80,4 +84,17 @@ nothing_row level labels least most = record {
   labels = labels;
   least = least;
   most = most;
+}
+
+-- the same row, of this level
+abbrev pub at_level : Level → Row → Row
+at_level level row = record {
+  level = level;
+  value = row.value;
+  usual = row.usual;
+  struct_ok = row.struct_ok;
+  list_ok = row.list_ok;
+  labels = row.labels;
+  least = row.least;
+  most = row.most;
 }

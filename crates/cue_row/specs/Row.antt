@@ -3,7 +3,7 @@ use Rattle.std.specs.Prelude.{◌≡◌, ◌↔◌, ◌⊎◌, ◌<◌, false}
 use Rattle.cue_lattice.specs.Question.{Question, may_be, usual, struct, list, allows, level_at_most}
 use Rattle.cue_lattice.specs.Question.{length_at_most, length_at_least}
 use Rattle.cue_scalars.specs.Scalars.{RefusesScalar, IsScalarSet}
-use Rattle.cue_row.specs.declared.row.Row.{Row}
+use Rattle.cue_row.specs.declared.parts.RowParts.{RowParts as Row}
 use Rattle.cue_row.specs.declared.question.Question as program
 use Rattle.cue_row.specs.Levels.{level_of}
 use Rattle.cue_row.specs.LabelSets.{RefusesLabel, AreLabels}

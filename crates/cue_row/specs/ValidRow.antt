@@ -6,7 +6,7 @@ use Rattle.cue_lattice.specs.Limits.{length_limit}
 pub use Rattle.cue_lattice.specs.Word.{IsWord}
 use Rattle.cue_lattice.specs.Path.{Step, label, index}
 use Rattle.cue_scalars.specs.Scalars.{IsWithin}
-use Rattle.cue_row.specs.declared.row.Row.{Row}
+use Rattle.cue_row.specs.declared.parts.RowParts.{RowParts as Row}
 use Rattle.cue_row.specs.declared.kind.RowKind.{RowKind}
 use Rattle.cue_row.specs.declared.kind.RowKind.TheVariants as kinds
 use Rattle.cue_row.specs.declared.question.Question.{Question}

@@ -1,11 +1,18 @@
-ghost use Rattle.std.specs.Prelude.{IfOk, IfSome, IfNone};
+ghost use Rattle.std.specs.Prelude.{◌≡◌, ◌↔◌, ◌&&◌, false, not, IfOk, IfSome, IfNone, IsTrue};
 ghost use Rattle.cue_lattice.specs.declared.scalar.Scalar.{Scalar as Scalars};
 ghost use Rattle.cue_row.specs.declared.kind.RowKind.{RowKind as Kinds};
 ghost use Rattle.cue_row.specs.Chosen.{IsChosen};
-ghost use Rattle.cue_row.specs.Kinds.{IsKind};
+ghost use Rattle.cue_row.specs.Kinds.{IsEmptySet, IsFullSet, IsKind};
+ghost use Rattle.cue_row.specs.Kept.{small_parts, IsSmall};
+ghost use Rattle.cue_row.specs.declared.small.Small.TheVariants.{Anything};
+ghost use Rattle.cue_row.specs.declared.level.Level.{Level as Levels};
+ghost use Rattle.cue_scalars.specs.Scalars.{members, IsFirstScalar};
 
-use crate::Row;
+use crate::row::Form;
+use crate::small::{Few, Small};
+use crate::{Row, RowParts};
 use cue_lattice::{Memory, Narrow, Scalar};
+use cue_scalars::ScalarSet;
 use std::alloc::Global;
 
 /// What may stand at a place.
@@ -27,6 +34,129 @@ impl Row {
     /// What may stand at the place. Each row of a valid table has a kind; a row that lets two kinds
     /// of things stand, but not all, has none.
     pub fn kind(&self) -> Option<RowKind>
+        ensures some { IfSome result (IsKind self.now) }
+        ensures none { IfNone result ((kind : Kinds) → ¬ IsKind self.now kind) }
+    {
+        match &self.form {
+            Form::Small(_, small) => Some(small.kind()),
+            Form::Whole(parts) => parts.kind(),
+        }
+    }
+
+    /// The chosen scalar: the only usual one, or, where no scalar is usual, the only one that may
+    /// stand. This takes memory only for a text.
+    pub fn chosen(&self, alloc: Global) -> Result<Option<Scalar>, Memory>
+        ensures some { IfOk result (λ found. IfSome found (IsChosen self.now)) }
+        ensures none { IfOk result (λ found. IfNone found
+            ((scalar : Scalars) → ¬ IsChosen self.now scalar)) }
+    {
+        match &self.form {
+            Form::Small(_, Small::Integers((first, last))) if first == last => {
+                Ok(Some(Scalar::Int(*first)))
+            }
+            Form::Small(_, Small::Text(text)) => Ok(Some(Scalar::Text(text.copy(alloc)?))),
+            Form::Small(level, small) => small.parts(alloc, *level)?.chosen(alloc),
+            Form::Whole(parts) => parts.chosen(alloc),
+        }
+    }
+
+    /// The first scalar that may stand, where there is one: in the order null, false, true, integers
+    /// upwards, texts by their bytes. This takes memory only for a text.
+    pub fn first_scalar(&self, alloc: Global) -> Result<Option<Scalar>, Memory>
+        ensures some { IfOk result (λ found. IfSome found (IsFirstScalar self.now.value)) }
+        ensures none { IfOk result (λ found. IfNone found
+            ((scalar : Scalars) → members self.now.value scalar ≡ false)) }
+    {
+        match &self.form {
+            Form::Small(level, small) => small.parts(alloc, *level)?.value.first(alloc),
+            Form::Whole(parts) => parts.value.first(alloc),
+        }
+    }
+
+    /// The scalars that may stand and are not usual.
+    pub fn unusual(&self, alloc: Global) -> Result<ScalarSet, Memory>
+        ensures { IfOk result (λ set. (scalar : Scalars) → members set scalar
+            ≡ (members self.now.value scalar && not (members self.now.usual scalar))) }
+    {
+        match &self.form {
+            Form::Small(_, _) => ScalarSet::empty(alloc),
+            Form::Whole(parts) => parts.value.without(alloc, &parts.usual),
+        }
+    }
+
+    /// Whether no scalar may stand.
+    pub fn has_no_scalar(&self) -> bool
+        ensures { IsTrue result ↔ IsEmptySet self.now.value }
+    {
+        match &self.form {
+            Form::Small(_, small) => small.has_no_scalar(),
+            Form::Whole(parts) => parts.value.is_empty(),
+        }
+    }
+
+    /// Whether each scalar may stand.
+    pub fn has_all_scalars(&self) -> bool
+        ensures { IsTrue result ↔ IsFullSet self.now.value }
+    {
+        match &self.form {
+            Form::Small(_, small) => small.is_anything(),
+            Form::Whole(parts) => parts.value.is_free(),
+        }
+    }
+}
+
+impl Small {
+    /// What may stand at the place.
+    fn kind(&self) -> RowKind
+        requires { IsSmall self.now }
+        ensures { (level : Levels) → IsKind (small_parts level self.now) result }
+    {
+        match self {
+            Small::Anything => RowKind::Free,
+            Small::Struct => RowKind::Struct,
+            Small::Few(few) if few.is_none() => RowKind::Nothing,
+            Small::Few(_) => RowKind::Scalar,
+            Small::Integers(_) => RowKind::Scalar,
+            Small::Text(_) => RowKind::Scalar,
+        }
+    }
+}
+
+impl Small {
+    /// Whether anything may stand.
+    pub(crate) fn is_anything(&self) -> bool
+        ensures { IsTrue result ↔ (self.now ≡ Anything) }
+    {
+        matches!(self, Small::Anything)
+    }
+
+    /// Whether no scalar may stand.
+    fn has_no_scalar(&self) -> bool
+        requires { IsSmall self.now }
+        ensures { (level : Levels) → IsTrue result ↔ IsEmptySet (small_parts level self.now).value }
+    {
+        match self {
+            Small::Struct => true,
+            Small::Few(few) => few.is_none(),
+            Small::Anything => false,
+            Small::Integers(_) => false,
+            Small::Text(_) => false,
+        }
+    }
+}
+
+impl Few {
+    /// Whether none of them may stand.
+    fn is_none(self) -> bool
+        ensures { result ≡ (not self.null && not self.no && not self.yes && not self.texts) }
+    {
+        !self.null && !self.no && !self.yes && !self.texts
+    }
+}
+
+impl RowParts {
+    /// What may stand at the place.
+    pub(crate) fn kind(&self) -> Option<RowKind>
         ensures some { IfSome result (IsKind self.now) }
         ensures none { IfNone result ((kind : Kinds) → ¬ IsKind self.now kind) }
     {
@@ -58,9 +188,8 @@ impl Row {
         }
     }
 
-    /// The chosen scalar: the only usual one, or, where no scalar is usual, the only one that may
-    /// stand. This takes memory only for a text.
-    pub fn chosen(&self, alloc: Global) -> Result<Option<Scalar>, Memory>
+    /// The chosen scalar.
+    pub(crate) fn chosen(&self, alloc: Global) -> Result<Option<Scalar>, Memory>
         ensures some { IfOk result (λ found. IfSome found (IsChosen self.now)) }
         ensures none { IfOk result (λ found. IfNone found
             ((scalar : Scalars) → ¬ IsChosen self.now scalar)) }

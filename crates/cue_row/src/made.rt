@@ -1,10 +1,11 @@
-//! Rows by what may stand at their place. They take no memory.
+//! Rows by what may stand at their place.
 
-ghost use Rattle.std.specs.Prelude.{◌≡◌, Ok};
+ghost use Rattle.std.specs.Prelude.{◌≡◌, IfOk, Ok};
 ghost use Rattle.cue_row.specs.Made.{empty_set, full_set};
 
-use crate::{Labels, Level, Row};
-use cue_lattice::Memory;
+use crate::small::Small;
+use crate::{Labels, Level, Row, RowParts};
+use cue_lattice::{Memory, Narrow, Text};
 use cue_scalars::ScalarSet;
 use cue_sets::{IntSet, TextSet};
 use std::alloc::Global;
@@ -33,14 +34,111 @@ fn all_scalars(alloc: Global) -> Result<ScalarSet, Memory>
     })
 }
 
+/// Rows by what may stand. Those of which most places have one take no memory.
 impl Row {
+    ghost use Rattle.cue_row.specs.Kept.{integers_set, text_set};
+    ghost use Rattle.cue_row.specs.Made.{free_row, scalar_row, struct_row, list_row, nothing_row};
+    ghost use Rattle.cue_row.specs.Made.{lone_row};
+
+    /// The row of a place of this level where anything may stand. This takes no memory.
+    pub fn of_anything(level: Level) -> Row
+        ensures { result ≡ free_row level }
+    {
+        Row::small(level, Small::Anything)
+    }
+
+    /// The row of a place where these scalars alone may stand, and these are the usual ones.
+    pub fn of_scalars(
+        alloc: Global,
+        level: Level,
+        value: ScalarSet,
+        usual: ScalarSet,
+    ) -> Result<Row, Memory>
+        ensures { IfOk result (λ row. row ≡ scalar_row level value usual) }
+    {
+        if value.same(&usual) {
+            return Row::of_all_usual(alloc, level, value);
+        }
+        Row::whole(alloc, RowParts::of_scalars(alloc, level, value, usual)?)
+    }
+
+    /// The row of a place where these scalars alone may stand, all of them usual. A row that is small
+    /// takes memory for a long text alone.
+    pub fn of_all_usual(alloc: Global, level: Level, value: ScalarSet) -> Result<Row, Memory>
+        ensures { IfOk result (λ row. row ≡ scalar_row level value value) }
+    {
+        match Small::of_scalars(alloc, &value)? {
+            Some(small) => Ok(Row::small(level, small)),
+            None => {
+                let usual = value.copy(alloc)?;
+                Row::whole(alloc, RowParts::of_scalars(alloc, level, value, usual)?)
+            }
+        }
+    }
+
+    /// The row of a place where one integer alone may stand. This takes no memory.
+    pub fn of_integer(level: Level, number: i64) -> Row
+        ensures { result ≡ lone_row level (integers_set (number, number)) }
+    {
+        Row::small(level, Small::Integers((number, number)))
+    }
+
+    /// The row of a place where one text alone may stand. This takes no memory.
+    pub fn of_text(level: Level, text: Text) -> Row
+        ensures { result ≡ lone_row level (text_set text) }
+    {
+        Row::small(level, Small::Text(text))
+    }
+
+    /// The row of a place where a struct alone may stand, with these labels. Where all may stand
+    /// below this takes no memory.
+    pub fn of_struct(alloc: Global, level: Level, labels: Labels) -> Result<Row, Memory>
+        ensures { IfOk result (λ row. row ≡ struct_row level labels) }
+    {
+        if labels.listed().is_none() {
+            return Ok(Row::small(level, Small::Struct));
+        }
+        Row::whole(alloc, RowParts::of_struct(alloc, level, labels)?)
+    }
+
+    /// The row of a place where a list alone may stand, of these lengths.
+    pub fn of_list(
+        alloc: Global,
+        level: Level,
+        least: u32,
+        most: Option<u32>,
+    ) -> Result<Row, Memory>
+        ensures { IfOk result (λ row. row ≡ list_row level least most) }
+    {
+        Row::whole(alloc, RowParts::of_list(alloc, level, least, most)?)
+    }
+
+    /// The row of a place where nothing may stand, and which labels and lengths are left out.
+    pub fn of_nothing(
+        alloc: Global,
+        level: Level,
+        labels: Labels,
+        least: u32,
+        most: Option<u32>,
+    ) -> Result<Row, Memory>
+        ensures { IfOk result (λ row. row ≡ nothing_row level labels least most) }
+    {
+        Row::from_parts(
+            alloc,
+            RowParts::of_nothing(alloc, level, labels, least, most)?,
+        )
+    }
+}
+
+/// Parts by what may stand. They take no memory.
+impl RowParts {
     ghost use Rattle.cue_row.specs.Made.{free_row, scalar_row, struct_row, list_row, nothing_row};
 
-    /// The row of a place of this level where anything may stand.
-    pub fn of_anything(alloc: Global, level: Level) -> Result<Row, Memory>
+    /// The parts of a place of this level where anything may stand.
+    pub(crate) fn of_anything(alloc: Global, level: Level) -> Result<RowParts, Memory>
         ensures { result ≡ Ok (free_row level) }
     {
-        Ok(Row {
+        Ok(RowParts {
             level,
             value: all_scalars(alloc)?,
             usual: all_scalars(alloc)?,
@@ -52,16 +150,16 @@ impl Row {
         })
     }
 
-    /// The row of a place where these scalars alone may stand, and these are the usual ones.
-    pub fn of_scalars(
+    /// The parts of a place where these scalars alone may stand, and these are the usual ones.
+    pub(crate) fn of_scalars(
         alloc: Global,
         level: Level,
         value: ScalarSet,
         usual: ScalarSet,
-    ) -> Result<Row, Memory>
+    ) -> Result<RowParts, Memory>
         ensures { result ≡ Ok (scalar_row level value usual) }
     {
-        Ok(Row {
+        Ok(RowParts {
             level,
             value,
             usual,
@@ -73,11 +171,11 @@ impl Row {
         })
     }
 
-    /// The row of a place where a struct alone may stand, with these labels.
-    pub fn of_struct(alloc: Global, level: Level, labels: Labels) -> Result<Row, Memory>
+    /// The parts of a place where a struct alone may stand, with these labels.
+    pub(crate) fn of_struct(alloc: Global, level: Level, labels: Labels) -> Result<RowParts, Memory>
         ensures { result ≡ Ok (struct_row level labels) }
     {
-        Ok(Row {
+        Ok(RowParts {
             level,
             value: no_scalar(alloc)?,
             usual: no_scalar(alloc)?,
@@ -89,16 +187,16 @@ impl Row {
         })
     }
 
-    /// The row of a place where a list alone may stand, of these lengths.
-    pub fn of_list(
+    /// The parts of a place where a list alone may stand, of these lengths.
+    pub(crate) fn of_list(
         alloc: Global,
         level: Level,
         least: u32,
         most: Option<u32>,
-    ) -> Result<Row, Memory>
+    ) -> Result<RowParts, Memory>
         ensures { result ≡ Ok (list_row level least most) }
     {
-        Ok(Row {
+        Ok(RowParts {
             level,
             value: no_scalar(alloc)?,
             usual: no_scalar(alloc)?,
@@ -110,17 +208,17 @@ impl Row {
         })
     }
 
-    /// The row of a place where nothing may stand, and which labels and lengths are left out.
-    pub fn of_nothing(
+    /// The parts of a place where nothing may stand, and which labels and lengths are left out.
+    pub(crate) fn of_nothing(
         alloc: Global,
         level: Level,
         labels: Labels,
         least: u32,
         most: Option<u32>,
-    ) -> Result<Row, Memory>
+    ) -> Result<RowParts, Memory>
         ensures { result ≡ Ok (nothing_row level labels least most) }
     {
-        Ok(Row {
+        Ok(RowParts {
             level,
             value: no_scalar(alloc)?,
             usual: no_scalar(alloc)?,

@@ -1,30 +1,242 @@
-ghost use Rattle.std.specs.Prelude.{◌≡◌, ◌↔◌, ◌⊎◌, ◌&&◌, ℕ, IsTrue};
-ghost use Rattle.cue_row.specs.Lengths.{RefusesLength};
+ghost use Rattle.std.specs.Prelude.{◌≡◌, ◌↔◌, IfOk, IfSome, IsTrue};
+ghost use Rattle.std.specs.Option.{option_map};
+ghost use Rattle.cue_row.specs.LabelSets.{allows_label, AreLabels};
+ghost use Rattle.cue_row.specs.Made.{at_level};
+ghost use Rattle.cue_row.specs.Row.{IsMetRow, Refuses};
+ghost use Rattle.cue_lattice.specs.Narrowed.{IsNarrowedBy};
 
-use crate::{Labels, Level, Question};
-use cue_lattice::{Memory, Narrow, Narrowed};
-use cue_scalars::ScalarSet;
+use crate::small::Small;
+use crate::{Labels, Level, Question, RowParts, Scalars};
+use cue_lattice::{Memory, Narrow, Narrowed, Text};
+use cue_sets::are_same;
 use std::alloc::Global;
+use std::marker::Model;
+
+/// How a row is kept.
+#[derive(Debug, Drop)]
+pub(crate) enum Form {
+    /// In the value itself.
+    Small(Level, Small),
+    /// Part by part, in a box.
+    Whole(Box<RowParts>),
+}
 
 /// What is known of one place of a configuration. A row refuses questions, and unification refuses
 /// what one side refuses.
+///
+/// Contracts see its parts, a [`RowParts`]. The rows that most places have lie in its 40 bytes: those
+/// where anything may stand, a struct with any labels, integers of one range, one text, all texts,
+/// or some of null, false and true. Others are kept in a box.
 #[derive(Debug, Drop)]
 pub struct Row {
-    pub level: Level,
+    pub(crate) form: Form,
+}
+
+impl Model for Row {
+    ghost use Rattle.cue_row.specs.declared.parts.RowParts.{RowParts as Parts};
+    ghost use Rattle.cue_row.specs.Kept.{parts_of, IsKept};
+
+    ghost Value = { Parts };
+
+    ghost view = { λ row. parts_of row.form };
+
+    ghost invariant = { λ row. IsKept row.form };
+}
+
+impl Row {
+    ghost use Rattle.cue_row.specs.Kept.{small_parts, IsSmall};
+    ghost use Rattle.cue_row.specs.declared.level.Level.{Level as Levels};
+
+    /// The row with these parts.
+    pub fn from_parts(alloc: Global, parts: RowParts) -> Result<Row, Memory>
+        ensures { IfOk result (λ row. row ≡ parts) }
+    {
+        match parts.small(alloc)? {
+            Some(small) => Ok(Row::small(parts.level, small)),
+            None => Row::whole(alloc, parts),
+        }
+    }
+
+    /// The parts of the row, which is taken over.
+    pub fn into_parts(self, alloc: Global) -> Result<RowParts, Memory>
+        ensures { IfOk result (λ parts. parts ≡ self) }
+    {
+        match self.form {
+            Form::Small(level, small) => small.parts(alloc, level),
+            Form::Whole(parts) => Ok(Box::into_inner(parts)),
+        }
+    }
+
+    /// How much is asked of the place.
+    pub fn level(&self) -> Level
+        ensures { result ≡ self.now.level }
+    {
+        match &self.form {
+            Form::Small(level, _) => *level,
+            Form::Whole(parts) => parts.level,
+        }
+    }
+
+    /// The same row, of this level.
+    pub fn at_level(self, level: Level) -> Row
+        ensures { result ≡ at_level level self }
+    {
+        match self.form {
+            Form::Small(_, small) => Row::small(level, small),
+            Form::Whole(mut parts) => {
+                parts.level = level;
+                Row {
+                    form: Form::Whole(parts),
+                }
+            }
+        }
+    }
+
     /// Which scalars may stand.
-    pub value: ScalarSet,
+    pub fn value(&self) -> Scalars
+        ensures { result ≡ self.now.value }
+    {
+        match &self.form {
+            Form::Small(_, small) => small.scalars(),
+            Form::Whole(parts) => Scalars::of(&parts.value),
+        }
+    }
+
     /// Of which scalars a default is chosen.
-    pub usual: ScalarSet,
+    pub fn usual(&self) -> Scalars
+        ensures { result ≡ self.now.usual }
+    {
+        match &self.form {
+            Form::Small(_, small) => small.scalars(),
+            Form::Whole(parts) => Scalars::of(&parts.usual),
+        }
+    }
+
     /// Whether a struct may stand.
-    pub struct_ok: bool,
+    pub fn struct_ok(&self) -> bool
+        ensures { result ≡ self.now.struct_ok }
+    {
+        match &self.form {
+            Form::Small(_, small) => matches!(small, Small::Anything | Small::Struct),
+            Form::Whole(parts) => parts.struct_ok,
+        }
+    }
+
     /// Whether a list may stand.
-    pub list_ok: bool,
-    /// Which labels may stand directly below.
-    pub labels: Labels,
+    pub fn list_ok(&self) -> bool
+        ensures { result ≡ self.now.list_ok }
+    {
+        match &self.form {
+            Form::Small(_, small) => matches!(small, Small::Anything),
+            Form::Whole(parts) => parts.list_ok,
+        }
+    }
+
+    /// The labels that may stand directly below, where not all may.
+    pub fn labels(&self) -> Option<&[Text]>
+        ensures list { option_map (λ labels. labels.now) result ≡ self.now.labels }
+        ensures ascending { AreLabels self.now.labels }
+    {
+        match &self.form {
+            Form::Small(_, _) => None,
+            Form::Whole(parts) => parts.labels.listed(),
+        }
+    }
+
+    /// Whether a label may stand directly below. This is a binary search.
+    pub fn allows(&self, label: &str) -> bool
+        ensures { result ≡ allows_label self.now.labels label.now }
+    {
+        match &self.form {
+            Form::Small(_, _) => true,
+            Form::Whole(parts) => parts.labels.allows(label),
+        }
+    }
+
     /// The least length of a list.
-    pub least: u32,
+    pub fn least(&self) -> u32
+        ensures { result ≡ self.now.least }
+    {
+        match &self.form {
+            Form::Small(_, _) => 0,
+            Form::Whole(parts) => parts.least,
+        }
+    }
+
     /// The greatest length of a list, where there is one.
-    pub most: Option<u32>,
+    pub fn most(&self) -> Option<u32>
+        ensures { result ≡ self.now.most }
+    {
+        match &self.form {
+            Form::Small(_, _) => None,
+            Form::Whole(parts) => parts.most,
+        }
+    }
+
+    /// A small row of this level.
+    pub(crate) fn small(level: Level, small: Small) -> Row
+        requires { IsSmall small }
+        ensures { result ≡ small_parts level small }
+    {
+        Row {
+            form: Form::Small(level, small),
+        }
+    }
+
+    /// A row that is kept part by part.
+    pub(crate) fn whole(alloc: Global, parts: RowParts) -> Result<Row, Memory>
+        ensures { IfOk result (λ row. row ≡ parts) }
+    {
+        Ok(Row {
+            form: Form::Whole(Box::new(alloc, parts)?),
+        })
+    }
+
+    /// The parts of the row.
+    fn parts(&self, alloc: Global) -> Result<RowParts, Memory>
+        ensures { IfOk result (λ parts. parts ≡ self.now) }
+    {
+        match &self.form {
+            Form::Small(level, small) => small.parts(alloc, *level),
+            Form::Whole(parts) => parts.copy(alloc),
+        }
+    }
+
+    /// Whether both are small, and told to be the same at a glance.
+    fn is_alike(&self, other: &Row) -> bool
+        ensures { IsTrue result → self.now ≡ other.now }
+    {
+        match (&self.form, &other.form) {
+            (Form::Small(left, small), Form::Small(right, other)) => {
+                left.same(*right) && small.same(other)
+            }
+            _ => false,
+        }
+    }
+
+    /// The unification of two small rows, where it is found without parts.
+    fn meet_small(&self, alloc: Global, other: &Row) -> Result<Option<Row>, Memory>
+        ensures { IfOk result (λ found. IfSome found (IsMetRow self.now other.now)) }
+    {
+        let (Form::Small(left, small), Form::Small(right, other)) = (&self.form, &other.form) else {
+            return Ok(None);
+        };
+        match small.meet(alloc, other)? {
+            None => Ok(None),
+            Some(met) => Ok(Some(Row::small(left.greater(*right), met))),
+        }
+    }
+
+    /// What the parts become where another row is unified into this one.
+    fn narrowed_parts(&self, alloc: Global, other: Row) -> Result<Narrowed<RowParts>, Memory>
+        ensures { IfOk result (IsNarrowedBy Refuses self.now other) }
+    {
+        let other = other.into_parts(alloc)?;
+        match &self.form {
+            Form::Small(level, small) => small.parts(alloc, *level)?.narrowed_by(alloc, other),
+            Form::Whole(parts) => parts.narrowed_by(alloc, other),
+        }
+    }
 }
 
 /// A row refuses what its parts refuse.
@@ -40,168 +252,89 @@ impl Narrow for Row {
 
     ghost exact = { same_rows };
 
-    fn free(alloc: Global) -> Result<Row, Memory> {
-        Ok(Row {
-            level: Level::Optional,
-            value: ScalarSet::free(alloc)?,
-            usual: ScalarSet::free(alloc)?,
-            struct_ok: true,
-            list_ok: true,
-            labels: Labels::free(alloc)?,
-            least: 0,
-            most: None,
-        })
+    fn free(_alloc: Global) -> Result<Row, Memory> {
+        Ok(Row::of_anything(Level::Optional))
     }
 
     fn is_free(&self) -> bool {
-        if !self.allows_all_forms() {
-            return false;
+        match &self.form {
+            Form::Small(level, small) => level.same(Level::Optional) && small.is_anything(),
+            Form::Whole(parts) => parts.is_free(),
         }
-        if !self.value.is_free() {
-            return false;
-        }
-        if !self.usual.is_free() {
-            return false;
-        }
-        self.labels.is_free()
     }
 
     fn meet(&self, alloc: Global, other: &Row) -> Result<Row, Memory> {
-        Ok(Row {
-            level: self.level.greater(other.level),
-            value: Narrow::meet(&self.value, alloc, &other.value)?,
-            usual: Narrow::meet(&self.usual, alloc, &other.usual)?,
-            struct_ok: self.struct_ok && other.struct_ok,
-            list_ok: self.list_ok && other.list_ok,
-            labels: self.labels.meet(alloc, &other.labels)?,
-            least: self.least.max(other.least),
-            most: smaller(self.most, other.most),
-        })
+        if let Some(met) = self.meet_small(alloc, other)? {
+            return Ok(met);
+        }
+        let met = self.parts(alloc)?.meet(alloc, &other.parts(alloc)?)?;
+        Row::from_parts(alloc, met)
     }
 
     fn narrowed_by(&self, alloc: Global, other: Row) -> Result<Narrowed<Row>, Memory> {
-        let stays = self.is_form_within(&other);
-        let level = self.level.greater(other.level);
-        let struct_ok = both(self.struct_ok, other.struct_ok);
-        let list_ok = both(self.list_ok, other.list_ok);
-        let least = self.least.max(other.least);
-        let most = smaller(self.most, other.most);
-        let value = self.value.narrowed_by(alloc, other.value)?;
-        let usual = self.usual.narrowed_by(alloc, other.usual)?;
-        let labels = self.labels.narrowed_by(alloc, other.labels)?;
-        if stays && value.is_unchanged() && usual.is_unchanged() && labels.is_unchanged() {
+        if self.is_alike(&other) {
             return Ok(Narrowed::Unchanged);
         }
-        Ok(Narrowed::To(Row {
-            level,
-            value: value.or_copy(alloc, &self.value)?,
-            usual: usual.or_copy(alloc, &self.usual)?,
-            struct_ok,
-            list_ok,
-            labels: labels.or_copy(alloc, &self.labels)?,
-            least,
-            most,
-        }))
+        if let Some(met) = self.meet_small(alloc, &other)? {
+            if met.same(self) {
+                return Ok(Narrowed::Unchanged);
+            }
+            return Ok(Narrowed::To(met));
+        }
+        match self.narrowed_parts(alloc, other)? {
+            Narrowed::Unchanged => Ok(Narrowed::Unchanged),
+            Narrowed::To(met) => Ok(Narrowed::To(Row::from_parts(alloc, met)?)),
+        }
     }
 
     fn narrow(&mut self, alloc: Global, other: Row) -> Result<(), Memory> {
-        let value = self.value.change_by(alloc, other.value)?;
-        let usual = self.usual.change_by(alloc, other.usual)?;
-        let labels = self.labels.narrowed_by(alloc, other.labels)?;
-        self.level = self.level.greater(other.level);
-        self.value.apply(value);
-        self.usual.apply(usual);
-        self.struct_ok = both(self.struct_ok, other.struct_ok);
-        self.list_ok = both(self.list_ok, other.list_ok);
-        labels.put_into(&mut self.labels);
-        self.least = self.least.max(other.least);
-        self.most = smaller(self.most, other.most);
+        if let Form::Whole(parts) = &mut self.form {
+            let other = other.into_parts(alloc)?;
+            return parts.narrow(alloc, other);
+        }
+        if let Narrowed::To(met) = self.narrowed_by(alloc, other)? {
+            *self = met;
+        }
         Ok(())
     }
 
     fn same(&self, other: &Row) -> bool {
-        self.has_form_of(other)
-            && self.value.same(&other.value)
-            && self.usual.same(&other.usual)
-            && self.labels.same(&other.labels)
+        if self.is_alike(other) {
+            return true;
+        }
+        self.level().same(other.level())
+            && self.struct_ok() == other.struct_ok()
+            && self.list_ok() == other.list_ok()
+            && self.least() == other.least()
+            && self.most() == other.most()
+            && self.value().same(&other.value())
+            && self.usual().same(&other.usual())
+            && same_labels(self.labels(), other.labels())
     }
 
     fn copy(&self, alloc: Global) -> Result<Row, Memory> {
-        Ok(Row {
-            level: self.level,
-            value: self.value.copy(alloc)?,
-            usual: self.usual.copy(alloc)?,
-            struct_ok: self.struct_ok,
-            list_ok: self.list_ok,
-            labels: self.labels.copy(alloc)?,
-            least: self.least,
-            most: self.most,
-        })
+        match &self.form {
+            Form::Small(level, small) => Ok(Row::small(*level, small.copy(alloc)?)),
+            Form::Whole(parts) => Row::whole(alloc, parts.copy(alloc)?),
+        }
     }
 
     fn known(&self) {
-        self.value.known();
-        self.usual.known();
-        self.labels.known();
+        match &self.form {
+            Form::Small(_, _) => {}
+            Form::Whole(parts) => parts.known(),
+        }
     }
 }
 
-impl Row {
-    ghost use Rattle.cue_row.specs.Forms.{AllowsAllForms, HaveOneForm, IsFormWithin};
-
-    /// Whether the row refuses nothing but scalars and labels.
-    fn allows_all_forms(&self) -> bool
-        ensures { IsTrue result ↔ AllowsAllForms self.now }
-    {
-        self.level == Level::Optional
-            && self.struct_ok
-            && self.list_ok
-            && self.least == 0
-            && self.most.is_none()
-    }
-
-    /// Whether this row refuses what the other refuses of levels, structs, lists and lengths.
-    fn is_form_within(&self, other: &Row) -> bool
-        ensures { IsTrue result → IsFormWithin self.now other.now }
-    {
-        if other.level.number() > self.level.number() || other.least > self.least {
-            return false;
-        }
-        if self.struct_ok && !other.struct_ok || self.list_ok && !other.list_ok {
-            return false;
-        }
-        match (self.most, other.most) {
-            (_, None) => true,
-            (None, Some(_)) => false,
-            (Some(most), Some(other)) => most <= other,
-        }
-    }
-
-    /// Whether both rows are equal in all but scalars and labels.
-    fn has_form_of(&self, other: &Row) -> bool
-        ensures { IsTrue result ↔ HaveOneForm self.now other.now }
-    {
-        self.level == other.level
-            && self.struct_ok == other.struct_ok
-            && self.list_ok == other.list_ok
-            && self.least == other.least
-            && self.most == other.most
-    }
-}
-
-/// Whether both are true.
-fn both(left: bool, right: bool) -> bool
-    ensures { result ≡ (left && right) }
-{
-    left && right
-}
-
-/// The smaller of two greatest lengths, where there is one.
-fn smaller(left: Option<u32>, right: Option<u32>) -> Option<u32>
-    ensures { (n : ℕ) → RefusesLength result n ↔ (RefusesLength left n ⊎ RefusesLength right n) }
+/// Whether both allow the same labels.
+fn same_labels(left: Option<&[Text]>, right: Option<&[Text]>) -> bool
+    ensures { IsTrue result ↔ (option_map (λ labels. labels.now) left.entry
+        ≡ option_map (λ labels. labels.now) right.entry) }
 {
     match (left, right) {
-        (None, most) | (most, None) => most,
-        (Some(left), Some(right)) => Some(left.min(right)),
+        (None, None) => true,
+        (Some(left), Some(right)) => are_same(left, right),
+        _ => false,
     }
 }

@@ -1,17 +1,48 @@
 ghost use Rattle.std.specs.Prelude.{◌↔◌, IsTrue};
 ghost use Rattle.cue_row.specs.Row.{IsMetRow, IsRow};
+ghost use Rattle.cue_row.specs.Kept.{small_parts, IsSmall};
 ghost use Rattle.cue_row.specs.Steps.{step_of};
-ghost use Rattle.cue_row.specs.declared.row.Row.{Row as RowValue};
+ghost use Rattle.cue_row.specs.declared.parts.RowParts.{RowParts as RowValue};
 ghost use Rattle.cue_row.specs.ValidRow.{IsValidRow, UsualFits, LabelsFit, LengthsFit, AreLengths};
 ghost use Rattle.cue_row.specs.ValidRow.{IsWord, AreWords, HasWords, IsWordStep};
 
-use crate::{Row, RowKind, Step};
+use crate::row::Form;
+use crate::small::Small;
+use crate::{Level, Row, RowKind, RowParts, Step};
 use cue_lattice::{LENGTH_LIMIT, Narrow, Text, WORD_LIMIT};
 
 impl Row {
     /// Whether the row may stand in a valid table, as far as it alone decides. This takes no
     /// memory.
     pub fn is_valid(&self) -> bool
+        ensures { IsTrue result ↔ IsValidRow self.now }
+    {
+        match &self.form {
+            Form::Small(level, small) => small.is_valid(*level),
+            Form::Whole(parts) => parts.is_valid(),
+        }
+    }
+}
+
+impl Small {
+    /// Whether it may stand in a valid table at this level.
+    fn is_valid(&self, level: Level) -> bool
+        requires { IsSmall self.now }
+        ensures { IsTrue result ↔ IsValidRow (small_parts level self.now) }
+    {
+        match self {
+            Small::Anything => !level.same(Level::Optional),
+            Small::Text(text) => is_word(text),
+            Small::Struct => true,
+            Small::Few(_) => true,
+            Small::Integers(_) => true,
+        }
+    }
+}
+
+impl RowParts {
+    /// Whether they may stand in a valid table.
+    fn is_valid(&self) -> bool
         ensures { IsTrue result ↔ IsValidRow self.now }
     {
         let Some(kind) = self.kind() else {

@@ -1,7 +1,7 @@
 -- What is met of two valid tables is valid.
 use Rattle.std.proofs.Common.{◌≡◌, ◌↔◌, ◌⊎◌, ◌≤◌, ℕ, inl, inr, ⊎_elim, [], ◌∷◌, ◌++◌, append_assoc, Option, Some, None, refl, sym, ap, subst, ◌∙◌, arith}
 use Rattle.cue_lattice.specs.Path.{Step, label, index, Path}
-use Rattle.cue_row.specs.declared.row.Row.{Row}
+use Rattle.cue_row.specs.declared.parts.RowParts.{RowParts as Row}
 use Rattle.cue_row.specs.declared.level.Level.TheVariants.{Optional}
 use Rattle.cue_row.specs.Row.{Refuses, IsRow}
 use Rattle.cue_row.specs.RowLaws.{same_rows}

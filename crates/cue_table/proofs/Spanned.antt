@@ -1,7 +1,7 @@
 -- Branches that are kept as one, in walks.
 use Rattle.std.proofs.Common.{◌≡◌, ◌↔◌, ◌+◌, ◌≤◌, ℕ, zero, suc, List, [], ◌∷◌, max, Some, None, refl, sym, ap, subst, ◌∙◌, arith}
 use Rattle.cue_lattice.specs.Path.{index}
-use Rattle.cue_row.specs.declared.row.Row.{Row}
+use Rattle.cue_row.specs.declared.parts.RowParts.{RowParts as Row}
 use Rattle.cue_row.specs.Steps.{step_of}
 use Rattle.cue_row.specs.declared.step.Step.{Step}
 use Rattle.cue_row.specs.declared.step.Step.TheVariants.{Label, Index}

@@ -3,7 +3,7 @@ use Rattle.std.specs.Option.{is_some}
 use Rattle.std.proofs.Common.{◌≡◌, ◌↔◌, false, ◌<◌, ◌≤◌, [], ◌∷◌, Option, Some, None, refl, sym, ap, subst, inl, ⊎_elim, arith}
 use Rattle.cue_lattice.specs.Path.{index, Path}
 use Rattle.cue_row.specs.ValidRow.{IsValidRow}
-use Rattle.cue_row.specs.declared.row.Row.{Row}
+use Rattle.cue_row.specs.declared.parts.RowParts.{RowParts as Row}
 use Rattle.cue_table.specs.Tree.{Tree, node, Children, none, child, Rest, no_rest, onward, row_of, below, rest_of, rest_tree, fixed_of, empty, row_at, children_of}
 use Rattle.cue_table.specs.Size.{tree_size, children_size}
 use Rattle.cue_table.specs.Valid.{further, IsOpenStruct, IsValidTable}

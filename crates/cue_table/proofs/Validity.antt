@@ -9,7 +9,7 @@ use Rattle.cue_lattice.specs.Limits.{step_limit}
 use Rattle.cue_lattice.specs.Path.{Step, label, index, step_cmp, Path}
 use Rattle.cue_row.specs.Row.{Refuses, IsRow}
 use Rattle.cue_row.specs.ValidRow.{IsWordStep, IsValidRow}
-use Rattle.cue_row.specs.declared.row.Row.{Row}
+use Rattle.cue_row.specs.declared.parts.RowParts.{RowParts as Row}
 use Rattle.cue_row.specs.declared.level.Level.TheVariants.{Optional}
 use Rattle.cue_table.specs.Tree.{Tree, node, Children, none, child, Rest, no_rest, onward, row_of, empty, if_equal, find, find_with, branch_at, row_at, fixed_with}
 use Rattle.cue_table.specs.Depth.{tree_depth}

@@ -7,7 +7,7 @@ use Rattle.cue_row.specs.Steps.{IsWithinDepth}
 use Rattle.cue_row.specs.Row.{Refuses, IsRow}
 use Rattle.cue_row.specs.Kinds.{IsKind}
 use Rattle.cue_row.specs.ValidRow.{IsWordStep, IsValidRow}
-use Rattle.cue_row.specs.declared.row.Row.{Row}
+use Rattle.cue_row.specs.declared.parts.RowParts.{RowParts as Row}
 use Rattle.cue_row.specs.declared.kind.RowKind.TheVariants as kinds
 use Rattle.cue_row.specs.declared.level.Level.TheVariants.{Optional}
 use Rattle.cue_table.specs.Tree.{Tree, empty, row_at, branch_at}

@@ -7,7 +7,6 @@ ghost use Rattle.cue_table.specs.Meet.{chain};
 ghost use Rattle.cue_table.specs.RowList.{last_cmp};
 ghost use Rattle.cue_table.specs.Tree.{node, none, child, no_rest, onward};
 
-use crate::boxed::Boxed;
 use crate::child::Child;
 use crate::node::{Node, Onward};
 use cue_lattice::{Memory, Narrow};
@@ -21,7 +20,7 @@ pub(crate) fn single<R: Narrow>(alloc: Global, steps: &[Step], row: R) -> Result
 {
     match steps {
         [] => Ok(Node {
-            row: Some(Boxed::new(alloc, row)?),
+            row: Some(row),
             children: Vec::new(alloc),
             rest: None,
         }),

@@ -5,7 +5,6 @@ ghost use Rattle.cue_table.specs.RowList.{AppendsKept};
 ghost use Rattle.cue_table.specs.Slots.{rows_of};
 ghost use Rattle.cue_table.specs.Tree.{Tree};
 
-use crate::boxed::Boxed;
 use crate::formed::is_formed;
 use crate::hang::{Hung, hang};
 use crate::node::Node;
@@ -74,13 +73,12 @@ impl<R: Narrow> Draft<R> {
             return Ok(true);
         }
         row.known();
-        let row = Boxed::new(self.alloc, row)?;
         match hang(self.alloc, &mut self.root, place.slots(), row)? {
             Hung::Behind => Ok(true),
             Hung::Within => Ok(false),
             Hung::Apart(row) => {
                 let place = place.copy(self.alloc)?;
-                self.others.push((place, row.into_row()))?;
+                self.others.push((place, row))?;
                 Ok(true)
             }
         }

@@ -11,7 +11,6 @@ ghost use Rattle.cue_table.specs.Inner.Drafts.{alone, against_step, Hangs};
 ghost use Rattle.cue_table.specs.Inner.Loose.{IsLoose};
 
 use crate::Slot;
-use crate::boxed::Boxed;
 use crate::child::Child;
 use crate::node::{Node, Onward};
 use cue_lattice::{Memory, Narrow};
@@ -31,11 +30,7 @@ pub(crate) enum Hung<R> {
 }
 
 /// One row alone, at its place.
-pub(crate) fn alone<R: Narrow>(
-    alloc: Global,
-    slots: &[Slot],
-    row: Boxed<R>,
-) -> Result<Node<R>, Memory>
+pub(crate) fn alone<R: Narrow>(alloc: Global, slots: &[Slot], row: R) -> Result<Node<R>, Memory>
     ensures { IfOk result (λ node. node ≡ alone (map slot_of slots.now) row) }
 {
     match slots {
@@ -101,8 +96,8 @@ pub(crate) fn hang<R: Narrow>(
     alloc: Global,
     node: &mut Node<R>,
     slots: &[Slot],
-    row: Boxed<R>,
-) -> Result<Hung<Boxed<R>>, Memory>
+    row: R,
+) -> Result<Hung<R>, Memory>
     requires form { IsLoose (IsKept R.refuses R.is_value) node.old }
     requires row { IsKept R.refuses R.is_value row }
     ensures form { IsLoose (IsKept R.refuses R.is_value) node.new }
@@ -145,8 +140,8 @@ fn hang_below<R: Narrow>(
     alloc: Global,
     child: &mut Child<R>,
     beyond: &[Slot],
-    row: Boxed<R>,
-) -> Result<Hung<Boxed<R>>, Memory>
+    row: R,
+) -> Result<Hung<R>, Memory>
     requires form { IsLoose (IsKept R.refuses R.is_value) child.old.node }
     requires row { IsKept R.refuses R.is_value row }
     ensures form { IsLoose (IsKept R.refuses R.is_value) child.new.node }
@@ -172,8 +167,8 @@ fn push_step<R: Narrow>(
     node: &mut Node<R>,
     step: &Step,
     beyond: &[Slot],
-    row: Boxed<R>,
-) -> Result<Hung<Boxed<R>>, Memory>
+    row: R,
+) -> Result<Hung<R>, Memory>
     requires form { IsLoose (IsKept R.refuses R.is_value) node.old }
     requires row { IsKept R.refuses R.is_value row }
     requires last { against_step (step_of step.now) node.old ≡ Less }
@@ -196,8 +191,8 @@ fn put_rest<R: Narrow>(
     node: &mut Node<R>,
     number: u64,
     beyond: &[Slot],
-    row: Boxed<R>,
-) -> Result<Hung<Boxed<R>>, Memory>
+    row: R,
+) -> Result<Hung<R>, Memory>
     requires form { IsLoose (IsKept R.refuses R.is_value) node.old }
     requires row { IsKept R.refuses R.is_value row }
     requires none { rest_of node.old ≡ no_rest }

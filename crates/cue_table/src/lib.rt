@@ -1,7 +1,6 @@
 //! A table as a tree: what is known at each path of a configuration, and the readers of it.
 #![tactic(auto)]
 
-mod boxed;
 mod branch;
 mod chain;
 mod changes;

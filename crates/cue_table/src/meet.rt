@@ -11,7 +11,6 @@ ghost use Rattle.cue_table.specs.Inner.Changes.{or_old};
 ghost use Rattle.cue_table.specs.Inner.Parts.{or_row};
 ghost use Rattle.cue_table.specs.Inner.View.{branches};
 
-use crate::boxed::Boxed;
 use crate::changes::changes;
 use crate::child::Child;
 use crate::fill::carry_out;
@@ -214,8 +213,8 @@ fn below_met<R: Narrow>(
 /// Unifies another row into that of a place, where it stands. After want of memory it is as it was.
 pub(crate) fn narrow_row<R: Narrow>(
     alloc: Global,
-    left: &mut Option<Boxed<R>>,
-    right: Option<Boxed<R>>,
+    left: &mut Option<R>,
+    right: Option<R>,
 ) -> Result<(), Memory>
     requires left { IsRow (IsKept R.refuses R.is_value) left.old }
     requires right { IsRow (IsKept R.refuses R.is_value) right }
@@ -229,7 +228,9 @@ pub(crate) fn narrow_row<R: Narrow>(
         return Ok(());
     };
     if let Some(old) = left {
-        return old.narrow(alloc, row);
+        old.narrow(alloc, row)?;
+        old.known();
+        return Ok(());
     }
     *left = Some(row);
     Ok(())
@@ -238,9 +239,9 @@ pub(crate) fn narrow_row<R: Narrow>(
 /// The row that will stand at a place, unless it stays as it is.
 pub(crate) fn row_met<R: Narrow>(
     alloc: Global,
-    left: &Option<Boxed<R>>,
-    right: Option<Boxed<R>>,
-) -> Result<Option<Boxed<R>>, Memory>
+    left: &Option<R>,
+    right: Option<R>,
+) -> Result<Option<R>, Memory>
     requires left { IsRow (IsKept R.refuses R.is_value) left.now }
     requires right { IsRow (IsKept R.refuses R.is_value) right }
     ensures form { IfOk result (λ row. IsRow (IsKept R.refuses R.is_value) (or_row row left.now)) }
@@ -251,11 +252,11 @@ pub(crate) fn row_met<R: Narrow>(
     match (left, right) {
         (None, row) => Ok(row),
         (Some(_), None) => Ok(None),
-        (Some(old), Some(row)) => match old.row().narrowed_by(alloc, row.into_row())? {
+        (Some(old), Some(row)) => match old.narrowed_by(alloc, row)? {
             Narrowed::Unchanged => Ok(None),
             Narrowed::To(met) => {
                 met.known();
-                Ok(Some(Boxed::new(alloc, met)?))
+                Ok(Some(met))
             }
         },
     }
@@ -264,9 +265,9 @@ pub(crate) fn row_met<R: Narrow>(
 /// The new row, if there is one, and else a copy of the old one.
 pub(crate) fn row_or<R: Narrow>(
     alloc: Global,
-    new: Option<Boxed<R>>,
-    old: &Option<Boxed<R>>,
-) -> Result<Option<Boxed<R>>, Memory>
+    new: Option<R>,
+    old: &Option<R>,
+) -> Result<Option<R>, Memory>
     ensures { IfOk result (λ row. row ≡ or_row new old.now) }
 {
     match new {

@@ -9,7 +9,6 @@ ghost use Rattle.cue_table.specs.Inner.Cursors.{spans_left};
 ghost use Rattle.cue_table.specs.Inner.View.{branches, last_of, rest_in, run_branches, runs_in};
 ghost use Rattle.cue_table.specs.Inner.Place.{IsGap, IsPlace};
 
-use crate::boxed::Boxed;
 use crate::child::Child;
 use crate::cursor::Cursor;
 use crate::runs::{find_element, find_run};
@@ -23,7 +22,7 @@ use std::marker::Model;
 #[cycle(node)]
 pub struct Node<R: Narrow> {
     /// What is known at the place itself, unless that is nothing.
-    pub(crate) row: Option<Boxed<R>>,
+    pub(crate) row: Option<R>,
     /// The branches below, each at its step, in the order of the steps.
     pub(crate) children: Vec<Child<R>>,
     /// How a list goes on behind these branches, where something is known of its further elements.
@@ -98,10 +97,7 @@ impl<R: Narrow> Node<R> {
     pub(crate) fn row(&self) -> Option<&R>
         ensures { option_map (λ row. row.now) result ≡ row_of self.now }
     {
-        match &self.row {
-            None => None,
-            Some(row) => Some(row.row()),
-        }
+        self.row.as_ref()
     }
 
     /// The branch one step below: an element from the index of the rest on is the rest.
@@ -202,15 +198,12 @@ impl<R: Narrow> Run<R> {
     }
 }
 
-pub(crate) fn copy_row<R: Narrow>(
-    alloc: Global,
-    row: &Option<Boxed<R>>,
-) -> Result<Option<Boxed<R>>, Memory>
+pub(crate) fn copy_row<R: Narrow>(alloc: Global, row: &Option<R>) -> Result<Option<R>, Memory>
     ensures { IfOk result (λ copied. copied ≡ row.now) }
 {
     match row {
         None => Ok(None),
-        Some(row) => Ok(Some(Boxed::new(alloc, row.row().copy(alloc)?)?)),
+        Some(row) => Ok(Some(row.copy(alloc)?)),
     }
 }
 

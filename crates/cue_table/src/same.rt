@@ -5,7 +5,6 @@ ghost use Rattle.cue_table.specs.Inner.Cursors.{spans_left};
 ghost use Rattle.cue_table.specs.Inner.View.{rest_in};
 
 use crate::Span;
-use crate::boxed::Boxed;
 use crate::cursor::Cursor;
 use crate::node::{Node, Onward};
 use cue_lattice::Narrow;
@@ -22,12 +21,12 @@ impl<R: Narrow> Node<R> {
     }
 }
 
-fn same_row<R: Narrow>(left: &Option<Boxed<R>>, right: &Option<Boxed<R>>) -> bool
+fn same_row<R: Narrow>(left: &Option<R>, right: &Option<R>) -> bool
     ensures { IsTrue result ↔ (left.now ≡ right.now) }
 {
     match (left, right) {
         (None, None) => true,
-        (Some(a), Some(b)) => a.row().same(b.row()),
+        (Some(a), Some(b)) => a.same(b),
         _ => false,
     }
 }

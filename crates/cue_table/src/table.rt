@@ -12,7 +12,6 @@ ghost use Rattle.cue_table.specs.Meet.{IsAdded, IsMet, IsRestAdded};
 ghost use Rattle.cue_table.specs.RowList.{last_cmp};
 
 use crate::Branch;
-use crate::boxed::Boxed;
 use crate::chain::{hung_along, last_against, one_branch, rest_alone, single};
 use crate::child::Child;
 use crate::meet::{meet_into, narrow_row};
@@ -155,7 +154,6 @@ impl<R: Narrow> Table<R> {
             return Ok(());
         }
         row.known();
-        let row = Boxed::new(self.alloc, row)?;
         narrow_row(self.alloc, &mut root.row, Some(row))
     }
 
@@ -202,7 +200,7 @@ impl<R: Narrow> Table<R> {
         ensures row { result ≡ row_of self.old }
         ensures others { self.new ≡ node None (below self.old) (rest_of self.old) }
     {
-        Some(self.root.row.take()?.into_row())
+        self.root.row.take()
     }
 
     /// Whether the step stands behind those of all branches at the root, and behind no rest.

@@ -2,7 +2,7 @@
 ghost use Rattle.std.specs.Prelude.{◌≡◌, ◌↔◌, ◌⊎◌, IsTrue};
 ghost use Rattle.cue_row.specs.Kinds.{IsKind};
 ghost use Rattle.cue_row.specs.Row.{IsRow, Refuses};
-ghost use Rattle.cue_row.specs.declared.row.Row.{Row as RowValue};
+ghost use Rattle.cue_row.specs.declared.parts.RowParts.{RowParts as RowValue};
 ghost use Rattle.cue_row.specs.declared.kind.RowKind.TheVariants.{Nothing};
 ghost use Rattle.cue_row.specs.declared.level.Level.TheVariants.{Optional};
 ghost use Rattle.cue_table.specs.Tree.{Tree, row_of, rest_of, below, none, no_rest};
@@ -39,7 +39,7 @@ pub fn valid_tables_meet()
 fn is_root(row: &Row) -> bool
     ensures { IsTrue result ↔ (IsOpenStruct row.now × (row.now.level ≡ Optional)) }
 {
-    if row.labels.listed().is_some() || !row.level.same(Level::Optional) {
+    if row.labels().is_some() || !row.level().same(Level::Optional) {
         return false;
     }
     match row.kind() {
@@ -73,7 +73,7 @@ fn is_sound(branch: &Branch<Row>) -> bool
     if !row.is_valid() {
         return false;
     }
-    if branch.fixed() > u64::from(row.least) {
+    if branch.fixed() > u64::from(row.least()) {
         return false;
     }
     for (span, below) in branch.spans() {
@@ -127,7 +127,7 @@ fn may_stand(parent: &Row, step: StepRef, row: &Row) -> bool
 fn may_be_element(parent: &Row, row: &Row) -> bool
     ensures { IsTrue result ↔ MayBeElement parent.now row.now }
 {
-    row.level.same(Level::Optional) && is_kind(parent, RowKind::List)
+    row.level().same(Level::Optional) && is_kind(parent, RowKind::List)
 }
 
 /// Whether a row is of this kind, or lets nothing stand.

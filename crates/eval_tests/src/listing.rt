@@ -10,7 +10,7 @@ use std::test::Fail;
 
 /// The level of a row, where it is not optional.
 fn level_of(row: &Row) -> &'static str {
-    match row.level {
+    match row.level() {
         Optional => "",
         Required => " required",
         Given => " given",
@@ -47,18 +47,18 @@ fn push_labels(out: &mut String, labels: &[Text]) -> Result<(), Memory> {
 
 /// The least length of a list, and the greatest where there is one.
 fn lengths_of(alloc: Global, row: &Row) -> Result<String, Memory> {
-    match row.most {
-        Some(most) => Ok(format!(in alloc; ", {} to {most}", row.least)?),
-        None => Ok(format!(in alloc; ", {} or more", row.least)?),
+    match row.most() {
+        Some(most) => Ok(format!(in alloc; ", {} to {most}", row.least())?),
+        None => Ok(format!(in alloc; ", {} or more", row.least())?),
     }
 }
 
 /// Writes what a row says of labels and lengths, where it says anything.
 fn push_row(alloc: Global, out: &mut String, row: &Row) -> Result<(), Memory> {
-    if let Some(labels) = row.labels.listed() {
+    if let Some(labels) = row.labels() {
         push_labels(out, labels)?;
     }
-    if row.least > 0 || row.most.is_some() {
+    if row.least() > 0 || row.most().is_some() {
         out.push_str(lengths_of(alloc, row)?.as_str())?;
     }
     out.push('\n')?;

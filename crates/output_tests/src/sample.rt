@@ -1,6 +1,6 @@
 //! Tables for the tests of reports and printed text, told by words.
 use cue_lattice::{Memory, Narrow, STEP_LIMIT, Text};
-use cue_row::{Labels, Level, Path, Row, Step};
+use cue_row::{Labels, Level, Path, Row, RowParts, Step};
 use cue_scalars::ScalarSet;
 use cue_sets::{IntSet, TextSet};
 use cue_table::Table;
@@ -250,7 +250,7 @@ fn is_list(place: Place) -> bool {
 
 /// The row of a place.
 fn row(alloc: Global, level: Level, place: Place) -> Made<Row> {
-    Ok(Row {
+    let parts = RowParts {
         level,
         value: value(alloc, place)?,
         usual: usual(alloc, place)?,
@@ -259,7 +259,8 @@ fn row(alloc: Global, level: Level, place: Place) -> Made<Row> {
         labels: labels(alloc, place)?,
         least: least(place),
         most: most(place),
-    })
+    };
+    Row::from_parts(alloc, parts)
 }
 
 /// Adds a row to a table.

@@ -43,33 +43,17 @@ fn between(alloc: Global, first: i64, last: i64) -> Result<ScalarSet, Memory> {
 /// The row of a field that is one of these integers, from the first to the last, of which some are
 /// usual.
 fn integers(alloc: Global, value: (i64, i64), usual: (i64, i64)) -> Result<Row, Memory> {
-    Ok(Row {
-        level: Level::Given,
-        value: between(alloc, value.0, value.1)?,
-        usual: between(alloc, usual.0, usual.1)?,
-        struct_ok: false,
-        list_ok: false,
-        labels: Labels::all(alloc)?,
-        least: 0,
-        most: None,
-    })
+    let value = between(alloc, value.0, value.1)?;
+    let usual = between(alloc, usual.0, usual.1)?;
+    Row::of_scalars(alloc, Level::Given, value, usual)
 }
 
-/// The row of a place where no scalar may stand.
-fn compound(alloc: Global, level: Level, struct_ok: bool, list_ok: bool) -> Result<Row, Memory> {
-    Ok(Row {
-        level,
-        value: ScalarSet::empty(alloc)?,
-        usual: ScalarSet::empty(alloc)?,
-        struct_ok,
-        list_ok,
-        labels: Labels::all(alloc)?,
-        least: 0,
-        most: None,
-    })
+/// A struct in which all labels may stand.
+fn open_struct(alloc: Global, level: Level) -> Result<Row, Memory> {
+    Row::of_struct(alloc, level, Labels::all(alloc)?)
 }
 
-/// An open struct in which only these one-letter labels may stand.
+/// A struct in which only these one-letter labels may stand.
 fn closed(alloc: Global, letters: &str) -> Result<Row, Memory> {
     let mut labels = Vec::new(alloc);
     for letter in letters.chars() {
@@ -77,19 +61,15 @@ fn closed(alloc: Global, letters: &str) -> Result<Row, Memory> {
         label.push(letter)?;
         labels.push(Text::new(alloc, label)?)?;
     }
-    let mut row = compound(alloc, Level::Given, true, false)?;
-    if let Some(labels) = Labels::listing(labels) {
-        row.labels = labels;
+    match Labels::listing(labels) {
+        Some(labels) => Row::of_struct(alloc, Level::Given, labels),
+        None => open_struct(alloc, Level::Given),
     }
-    Ok(row)
 }
 
 /// A list of this least and greatest length.
 fn list(alloc: Global, least: u32, most: Option<u32>) -> Result<Row, Memory> {
-    let mut row = compound(alloc, Level::Given, false, true)?;
-    row.least = least;
-    row.most = most;
-    Ok(row)
+    Row::of_list(alloc, Level::Given, least, most)
 }
 
 /// A row by its name.
@@ -99,10 +79,10 @@ fn row(alloc: Global, name: &str) -> Result<Row, Memory> {
         "two" => integers(alloc, (2, 2), (2, 2)),
         "small" => integers(alloc, (0, 9), (0, 9)),
         "usual" => integers(alloc, (0, 9), (1, 1)),
-        "struct" => compound(alloc, Level::Given, true, false),
-        "optional" => compound(alloc, Level::Optional, true, false),
-        "required" => compound(alloc, Level::Required, true, false),
-        "nothing" => compound(alloc, Level::Given, false, false),
+        "struct" => open_struct(alloc, Level::Given),
+        "optional" => open_struct(alloc, Level::Optional),
+        "required" => open_struct(alloc, Level::Required),
+        "nothing" => Row::of_nothing(alloc, Level::Given, Labels::all(alloc)?, 0, None),
         "closed" => closed(alloc, "ab"),
         "narrow" => closed(alloc, "bc"),
         "list" => list(alloc, 2, None),

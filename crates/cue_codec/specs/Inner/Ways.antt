@@ -3,7 +3,7 @@ use Rattle.std.specs.Prelude.{ℕ, ◌+◌, ◌≤◌, List, ◌++◌, map, Opti
 use Rattle.std.specs.List.{flat_map}
 use Rattle.std.specs.Option.{option_map, option_to_list}
 use Rattle.cue_lattice.specs.Limits.{step_limit}
-use Rattle.cue_row.specs.declared.row.Row.{Row}
+use Rattle.cue_row.specs.declared.parts.RowParts.{RowParts as Row}
 use Rattle.cue_table.specs.StepsOfCode.{step_at}
 use Rattle.cue_table.specs.Tree.{Tree, Children, below, rest_of, rest_tree, children_of}
 use Rattle.cue_table.specs.Depth.{tree_depth}

@@ -1,6 +1,6 @@
 use Rattle.std.proofs.Common.{refl, inr}
 use Rattle.std.proofs.lemmas.Result.{err_from_is_err_and}
-use Rattle.cue_codec.proofs.Codes.{refused_so, same_ok}
+use Rattle.cue_codec.proofs.Codes.{refused_so}
 use Rattle.cue_codec.proofs.RowParts.{left_out_first, left_out_second, left_out_found}
 use Rattle.cue_codec.proofs.rows.nothing_at.Goals as goal
 
@@ -16,7 +16,7 @@ returns-in_default-clause-refused c =
 pub returns-clause-ok : goal.returns-clause-ok
 returns-clause-ok c = record {
   item = (c.in_ok-labels.labels, (c.in-Some.least, c.in-Some.most, c.in-Some.fixed));
-  says = same_ok c.unwrap-row.result _ c.of_nothing.result c.unwrap-row.ensures c.of_nothing.ensures;
+  says = c.in-Ok.ensures;
   fixed_is = refl;
   begins = left_out_found c.args.version c.args.bytes.now c.in_ok-labels.middle.now c.in-Some.rest.now c.in_ok-labels.labels (c.in-Some.least, c.in-Some.most, c.in-Some.fixed) c.in_ok-labels.ensures.ok c.in-Some.ensures.some;
 }

@@ -4,7 +4,7 @@ use Rattle.cue_codec.specs.Parts.{labels_bytes, lengths_bytes}
 use Rattle.cue_codec.specs.Reading.{BeginsNone, IsRefused, AreWideLengths}
 use Rattle.cue_codec.specs.StateRow.{AreStateLabels}
 use Rattle.cue_codec.specs.RowBytes.{scalar, struct, list, nothing, scalars_bytes, left_out_bytes, parts_bytes, AreScalars, AreLeftOut, IsStateParts, Reads}
-use Rattle.cue_codec.proofs.Codes.{refused_so, same_ok}
+use Rattle.cue_codec.proofs.Codes.{refused_so}
 use Rattle.cue_codec.proofs.RowParts.{parts_empty, parts_tag, parts_scalar, parts_struct, parts_list, parts_nothing, free_found, scalar_found, struct_found, list_found, nothing_found}
 use Rattle.cue_codec.proofs.rows.parts_at.Goals as goal
 
@@ -13,8 +13,7 @@ returns-in_default-clause-refused c = inr (refl, parts_empty c.args.version c.ar
 
 pub returns-in-0-clause-ok : goal.returns-in-0-clause-ok
 returns-in-0-clause-ok c =
-    free_found c.args.version c.args.bytes.now c.in-Some.rest.now c.in-Some.tag.now c.args.level c.unwrap-row.result 0 c.in-Some.ensures.cases.0 c.in-0.is
-    (same_ok c.unwrap-row.result _ c.of_anything.result c.unwrap-row.ensures c.of_anything.ensures) refl
+    free_found c.args.version c.args.bytes.now c.in-Some.rest.now c.in-Some.tag.now c.args.level c.of_anything.result 0 c.in-Some.ensures.cases.0 c.in-0.is c.of_anything.ensures refl
 
 pub returns-in-5-to-255-clause-refused : goal.returns-in-5-to-255-clause-refused
 returns-in-5-to-255-clause-refused c =

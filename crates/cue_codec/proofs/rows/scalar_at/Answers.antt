@@ -1,6 +1,7 @@
-use Rattle.std.proofs.Common.{refl, inr, sym, ◌∙◌}
+use Rattle.std.proofs.Common.{refl, inr, sym, ap, ◌∙◌}
 use Rattle.std.proofs.lemmas.Result.{err_from_is_err_and}
-use Rattle.cue_codec.proofs.Codes.{refused_so, same_ok}
+use Rattle.cue_codec.specs.RowBytes.{is_empty_set}
+use Rattle.cue_codec.proofs.Codes.{refused_so}
 use Rattle.cue_codec.proofs.RowParts.{scalars_first, scalars_none, scalars_second, scalars_found}
 use Rattle.cue_codec.proofs.rows.scalar_at.Goals as goal
 
@@ -11,7 +12,7 @@ returns-in_err-value-clause-refused c =
 
 pub returns-then-is_empty-clause-refused : goal.returns-then-is_empty-clause-refused
 returns-then-is_empty-clause-refused c =
-    inr (refl, scalars_none c.args.bytes.now c.in_ok-value.middle.now c.in_ok-value.value c.in_ok-value.ensures.ok (sym c.is_empty.ensures ∙ c.if-is_empty.true))
+    inr (refl, scalars_none c.args.bytes.now c.in_ok-value.middle.now c.in_ok-value.value c.in_ok-value.ensures.ok (ap is_empty_set (sym c.of.ensures) ∙ sym c.is_empty.ensures ∙ c.if-is_empty.true))
 
 pub returns-in_err-usual-clause-refused : goal.returns-in_err-usual-clause-refused
 returns-in_err-usual-clause-refused c =
@@ -21,7 +22,15 @@ returns-in_err-usual-clause-refused c =
 pub returns-clause-ok : goal.returns-clause-ok
 returns-clause-ok c = record {
   item = (c.in_ok-value.value, c.in_ok-usual.usual);
-  says = same_ok c.unwrap-row.result _ c.of_scalars.result c.unwrap-row.ensures c.of_scalars.ensures;
+  says = c.in-Ok-of_scalars.ensures;
   fixed_is = refl;
-  begins = scalars_found c.args.bytes.now c.in_ok-value.middle.now c.in_ok-usual.rest.now c.in_ok-value.value c.in_ok-usual.usual c.in_ok-value.ensures.ok (sym c.is_empty.ensures ∙ c.if-is_empty.false) c.in_ok-usual.ensures.ok;
+  begins = scalars_found c.args.bytes.now c.in_ok-value.middle.now c.in_ok-usual.rest.now c.in_ok-value.value c.in_ok-usual.usual c.in_ok-value.ensures.ok (ap is_empty_set (sym c.of.ensures) ∙ sym c.is_empty.ensures ∙ c.if-is_empty.false) c.in_ok-usual.ensures.ok;
+}
+
+pub returns-in-Some-after_again-clause-ok : goal.returns-in-Some-after_again-clause-ok
+returns-in-Some-after_again-clause-ok c = record {
+  item = (c.in_ok-value.value, c.in_ok-value.value);
+  says = c.in-Ok-of_all_usual.ensures;
+  fixed_is = refl;
+  begins = scalars_found c.args.bytes.now c.in_ok-value.middle.now c.in-Some-after_again.rest.now c.in_ok-value.value c.in_ok-value.value c.in_ok-value.ensures.ok (ap is_empty_set (sym c.of.ensures) ∙ sym c.is_empty.ensures ∙ c.if-is_empty.false) (c.in-Some-after_again.ensures c.in_ok-value.value c.in_ok-value.ensures.ok);
 }

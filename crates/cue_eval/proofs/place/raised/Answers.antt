@@ -1,7 +1,16 @@
-use Rattle.std.proofs.Common.{◌∙◌, max, ap}
+use Rattle.std.proofs.Common.{◌↔◌, ◌⊎◌, max, ap, sym, subst, ◌∙◌}
 use Rattle.cue_row.specs.Levels.{level_of}
+use Rattle.cue_row.specs.Row.{RowRefuses}
+use Rattle.cue_row.specs.declared.level.Level.{Level}
+use Rattle.cue_row.specs.declared.parts.RowParts.{RowParts as Row}
+use Rattle.cue_eval.specs.Places.{MarkRefuses}
 use Rattle.cue_eval.proofs.PlaceRows.{raised_refuses}
 use Rattle.cue_eval.proofs.place.raised.Goals as goal
 
 pub returns : goal.returns
-returns c = raised_refuses c.args.row c.greater-level.result c.args.mark (c.greater-level.ensures ∙ ap (max (level_of c.args.row.level)) c.level_of.ensures)
+returns c question =
+    let row = c.args.row in
+    let mark = c.args.mark in
+    let own = ap (λ (l : Level). max (level_of l) (level_of c.level_of.result)) c.level.ensures in
+    let level = c.greater-level.ensures ∙ own ∙ ap (max (level_of row.level)) c.level_of.ensures in
+    subst (λ (r : Row). RowRefuses r question ↔ (RowRefuses row question ⊎ MarkRefuses mark question)) (sym c.at_level.ensures) (raised_refuses row c.greater-level.result mark level question)

@@ -1,5 +1,14 @@
+use Rattle.std.proofs.Common.{◌↔◌, ◌⊎◌, sym, subst}
+use Rattle.std.proofs.lemmas.Result.{IfOk-weaker}
+use Rattle.cue_row.specs.Row.{RowRefuses}
+use Rattle.cue_row.specs.declared.parts.RowParts.{RowParts as Row}
+use Rattle.cue_eval.specs.Gathered.{LabelsRefuse}
+use Rattle.cue_eval.specs.Places.{StructRefuses}
 use Rattle.cue_eval.proofs.PlaceRows.{struct_refuses}
 use Rattle.cue_eval.proofs.place.struct_row.Goals as goal
 
 pub returns : goal.returns
-returns c = struct_refuses c.in_ok-empty.field-0 c.in_ok-empty-2.field-0 c.args.labels c.in_ok-empty.ensures c.in_ok-empty-2.ensures
+returns c =
+    IfOk-weaker c.of_struct.result _ _
+    (λ row is question. subst (λ (r : Row). RowRefuses r question ↔ (StructRefuses question ⊎ LabelsRefuse c.args.labels question)) (sym is) (struct_refuses c.args.labels question))
+    c.of_struct.ensures

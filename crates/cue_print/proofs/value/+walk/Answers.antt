@@ -9,8 +9,9 @@ use Rattle.cue_row.specs.Quoted.{quoted}
 use Rattle.cue_table.specs.Tree.{below, rest_of, row_of, step_into}
 use Rattle.cue_table.specs.Walks.{found_smaller}
 use Rattle.cue_print.specs.Expressions.{top}
-use Rattle.cue_print.specs.Printed.{level_at, value_of, inside, fields_below, element_below, element_at, rest_value}
-use Rattle.cue_print.specs.Spelled.{joined, mark_text, value_text, field_texts}
+use Rattle.cue_print.specs.Printed.{elements, level_at, value_of, inside, fields_below, element_below, element_at, rest_value}
+use Rattle.cue_print.specs.Spelled.{joined, mark_text, value_text, element_texts, field_texts}
+use Rattle.cue_print.specs.Writing.{ending_text, longest_text}
 use Rattle.cue_print.specs.Terms.{terms_of}
 use Rattle.cue_print.proofs.Fields.{fields_of, fields_are, left_text, next_left, all_left, none_left_of}
 use Rattle.cue_print.proofs.Found.{field_for, element_for, declared_into, element_into, no_rest_told, rest_told}
@@ -120,7 +121,11 @@ push_list-returns t c =
     let row = c.args.row.now in
     on_ok c.push_longest.result
     (λ e. list_written row.least row.most (element_at (rest_of c.args.branch.now) (element_below (below c.args.branch.now))) (rest_value (rest_of c.args.branch.now)) c.is_exact-is_exact.result _ _ _ _ _ _
-    c.is_exact-is_exact.ensures c.in_ok-push_str.ensures.bytes c.in_ok-push_elements.ensures c.in_ok-push_ending.ensures c.in_ok-push_str-2.ensures.bytes e)
+    c.is_exact-is_exact.ensures c.in_ok-push_str.ensures.bytes
+    (c.in_ok-push_elements.ensures ∙ ap (λ n. string_bytes c.push_str.new.self ++ joined (codes ", ") (element_texts (elements n (element_at (rest_of c.args.branch.now) (element_below (below c.args.branch.now)))))) c.least.ensures)
+    (c.in_ok-push_ending.ensures ∙ ap (λ n. string_bytes c.push_elements.new.out ++ ending_text n c.is_exact-is_exact.result (rest_value (rest_of c.args.branch.now))) c.least-2.ensures)
+    c.in_ok-push_str-2.ensures.bytes
+    (e ∙ ap (λ m. string_bytes c.push_str-2.new.self ++ longest_text m c.is_exact-is_exact.result) c.most.ensures))
     c.push_longest.ensures
 
 pub push_nothing-returns : goal.push_nothing-returns
@@ -177,37 +182,37 @@ pub push_value-returns-in_default : goal.push_value-returns-in_default
 push_value-returns-in_default t c =
     c.in_ok-push_str.ensures.bytes ∙ ap (λ t. string_bytes c.args.out.now ++ t) (top_text ∙ ap value_text (no_row c.args.branch.now (sym c.row.ensures.row ∙ ap (option_map (λ row. row.now)) c.in_default.is)))
 
-pub push_value-returns-then-is_empty : goal.push_value-returns-then-is_empty
-push_value-returns-then-is_empty t c =
+pub push_value-returns-then-has_no_scalar : goal.push_value-returns-then-has_no_scalar
+push_value-returns-then-has_no_scalar t c =
     let row = c.in-Some.row.now in
-    let none = no_terms row.value c.known.ensures (c.is_empty.ensures.0 c.if-is_empty.true) in
+    let none = no_terms row.value c.known.ensures.value (c.has_no_scalar.ensures.0 c.if-has_no_scalar.true) in
     on_ok c.push_nothing.result
     (λ e. e ∙ ap (λ v. string_bytes c.args.out.now ++ value_text v)
-    (without_terms (terms_of row.value) row _ _ _ none ∙ by_kind c.args.branch.now row false false c.in-Some.ensures.row c.in-false-false.is-0 c.in-false-false.is-1))
+    (without_terms (terms_of row.value) row _ _ _ none ∙ by_kind c.args.branch.now row false false c.in-Some.ensures.row (sym c.in-false-false.ensures) (sym c.in-false-false.ensures')))
     c.push_nothing.ensures
 
 pub push_value-returns-in_ok-push_str-in-true-true : goal.push_value-returns-in_ok-push_str-in-true-true
 push_value-returns-in_ok-push_str-in-true-true t c =
     c.in_ok-push_str-in-true-true.ensures.bytes
-    ∙ ap (λ t. string_bytes c.args.out.now ++ t) (top_text ∙ ap value_text (by_kind c.args.branch.now c.in-Some.row.now true true c.in-Some.ensures.row c.in-true-true.is-0 c.in-true-true.is-1))
+    ∙ ap (λ t. string_bytes c.args.out.now ++ t) (top_text ∙ ap value_text (by_kind c.args.branch.now c.in-Some.row.now true true c.in-Some.ensures.row (sym c.in-true-true.ensures) (sym c.in-true-true.ensures')))
 
 pub push_value-returns-in-true-false : goal.push_value-returns-in-true-false
 push_value-returns-in-true-false t c =
     on_ok c.push_struct.result
-    (λ e. e ∙ ap (λ v. string_bytes c.args.out.now ++ value_text v) (by_kind c.args.branch.now c.in-Some.row.now true false c.in-Some.ensures.row c.in-true-false.is-0 c.in-true-false.is-1))
+    (λ e. e ∙ ap (λ v. string_bytes c.args.out.now ++ value_text v) (by_kind c.args.branch.now c.in-Some.row.now true false c.in-Some.ensures.row (sym c.in-true-false.ensures) (sym c.in-true-false.ensures')))
     c.push_struct.ensures
 
 pub push_value-returns-in-false-true : goal.push_value-returns-in-false-true
 push_value-returns-in-false-true t c =
     on_ok c.push_list.result
-    (λ e. e ∙ ap (λ v. string_bytes c.args.out.now ++ value_text v) (by_kind c.args.branch.now c.in-Some.row.now false true c.in-Some.ensures.row c.in-false-true.is-0 c.in-false-true.is-1))
+    (λ e. e ∙ ap (λ v. string_bytes c.args.out.now ++ value_text v) (by_kind c.args.branch.now c.in-Some.row.now false true c.in-Some.ensures.row (sym c.in-false-true.ensures) (sym c.in-false-true.ensures')))
     c.push_list.ensures
 
-pub push_value-returns-else-is_empty : goal.push_value-returns-else-is_empty
-push_value-returns-else-is_empty t c =
+pub push_value-returns-else-has_no_scalar : goal.push_value-returns-else-has_no_scalar
+push_value-returns-else-has_no_scalar t c =
     let row = c.in-Some.row.now in
-    let some : terms_of row.value ≡ [] → ⊥ = λ e. false≢true (sym c.if-is_empty.false ∙ c.is_empty.ensures.1 (no_members row.value e)) in
+    let some : terms_of row.value ≡ [] → ⊥ = λ e. false≢true (sym c.if-has_no_scalar.false ∙ c.has_no_scalar.ensures.1 (no_members row.value e)) in
     on_ok c.push_scalar.result
     (λ e. e ∙ ap (λ v. string_bytes c.args.out.now ++ value_text v)
-    (by_terms (terms_of row.value) row _ _ _ some ∙ by_kind c.args.branch.now row false false c.in-Some.ensures.row c.in-false-false.is-0 c.in-false-false.is-1))
+    (by_terms (terms_of row.value) row _ _ _ some ∙ by_kind c.args.branch.now row false false c.in-Some.ensures.row (sym c.in-false-false.ensures) (sym c.in-false-false.ensures')))
     c.push_scalar.ensures

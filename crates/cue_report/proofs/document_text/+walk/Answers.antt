@@ -23,21 +23,21 @@ write_document-returns-then-is_free t c = (
   (free_null c.args.branch.now (Some c.in-Some.row.now) (sym c.in-Some.ensures.row) (c.is_free.ensures.0 c.if-is_free.true), refl),
 )
 
-pub write_document-returns-then-row : goal.write_document-returns-then-row
-write_document-returns-then-row t c =
+pub write_document-returns-then-struct_ok : goal.write_document-returns-then-struct_ok
+write_document-returns-then-struct_ok t c =
     on_ok c.write_members.result
-    (adds_object c.args.branch.now c.in-Some.row.now c.args.out.now c.write_members.new.out (sym c.in-Some.ensures.row) c.if-row.true
+    (adds_object c.args.branch.now c.in-Some.row.now c.args.out.now c.write_members.new.out (sym c.in-Some.ensures.row) (sym c.struct_ok.ensures ∙ c.if-struct_ok.true)
     (λ free. false≢true (sym c.if-is_free.false ∙ c.is_free.ensures.1 free))) c.write_members.ensures
 
-pub write_document-returns-then-row-2 : goal.write_document-returns-then-row-2
-write_document-returns-then-row-2 t c =
+pub write_document-returns-then-list_ok : goal.write_document-returns-then-list_ok
+write_document-returns-then-list_ok t c =
     on_ok c.write_elements.result
-    (adds_array c.args.branch.now c.in-Some.row.now c.args.out.now c.write_elements.new.out (sym c.in-Some.ensures.row) c.if-row.false c.if-row-2.true) c.write_elements.ensures
+    (adds_array c.args.branch.now c.in-Some.row.now c.args.out.now c.write_elements.new.out (sym c.in-Some.ensures.row) (sym c.struct_ok.ensures ∙ c.if-struct_ok.false) (sym c.list_ok.ensures ∙ c.if-list_ok.true)) c.write_elements.ensures
 
 pub write_document-returns : goal.write_document-returns
 write_document-returns t c =
     on_ok c.write_scalar.result
-    (adds_scalar c.args.branch.now c.in-Some.row.now c.args.out.now c.write_scalar.new.out (sym c.in-Some.ensures.row) c.if-row.false c.if-row-2.false)
+    (adds_scalar c.args.branch.now c.in-Some.row.now c.args.out.now c.write_scalar.new.out (sym c.in-Some.ensures.row) (sym c.struct_ok.ensures ∙ c.if-struct_ok.false) (sym c.list_ok.ensures ∙ c.if-list_ok.false))
     (c.write_scalar.ensures (row_is c.args.branch.now c.in-Some.row.now (sym c.in-Some.ensures.row) c.row.ensures.form))
 
 pub write_elements-loop-number-init : goal.write_elements-loop-number-init

@@ -19,19 +19,19 @@ pub document_of-returns-then-is_free-clause-document : goal.document_of-returns-
 document_of-returns-then-is_free-clause-document t c =
     free_place c.args.branch.now (Some c.in-Some.row.now) Null (sym c.in-Some.ensures.row) refl (c.is_free.ensures.0 c.if-is_free.true)
 
-pub document_of-returns-then-row-clause-document : goal.document_of-returns-then-row-clause-document
-document_of-returns-then-row-clause-document t c =
-    struct_shape c.args.branch.now c.in-Some.row.now c.in_ok-members.members (sym c.in-Some.ensures.row) c.if-row.true
+pub document_of-returns-then-struct_ok-clause-document : goal.document_of-returns-then-struct_ok-clause-document
+document_of-returns-then-struct_ok-clause-document t c =
+    struct_shape c.args.branch.now c.in-Some.row.now c.in_ok-members.members (sym c.in-Some.ensures.row) (sym c.struct_ok.ensures ∙ c.if-struct_ok.true)
     (λ free. false≢true (sym c.if-is_free.false ∙ c.is_free.ensures.1 free)) c.in_ok-members.ensures.keys c.in_ok-members.ensures.members
 
-pub document_of-returns-then-row-2-clause-document : goal.document_of-returns-then-row-2-clause-document
-document_of-returns-then-row-2-clause-document t c =
-    list_shape c.args.branch.now c.in-Some.row.now c.in_ok-elements.elements (sym c.in-Some.ensures.row) c.if-row.false c.if-row-2.true
+pub document_of-returns-then-list_ok-clause-document : goal.document_of-returns-then-list_ok-clause-document
+document_of-returns-then-list_ok-clause-document t c =
+    list_shape c.args.branch.now c.in-Some.row.now c.in_ok-elements.elements (sym c.in-Some.ensures.row) (sym c.struct_ok.ensures ∙ c.if-struct_ok.false) (sym c.list_ok.ensures ∙ c.if-list_ok.true)
     c.in_ok-elements.ensures.least c.in_ok-elements.ensures.elements
 
 pub document_of-returns-clause-document : goal.document_of-returns-clause-document
 document_of-returns-clause-document t c =
-    only_scalars c.args.branch.now c.in-Some.row.now (view c.in_ok-value.value) (sym c.in-Some.ensures.row) c.if-row.false c.if-row-2.false
+    only_scalars c.args.branch.now c.in-Some.row.now (view c.in_ok-value.value) (sym c.in-Some.ensures.row) (sym c.struct_ok.ensures ∙ c.if-struct_ok.false) (sym c.list_ok.ensures ∙ c.if-list_ok.false)
     (c.in_ok-value.ensures.picked (row_is c.args.branch.now c.in-Some.row.now (sym c.in-Some.ensures.row) c.row.ensures.form))
 
 pub elements_of-document_of-requires : goal.elements_of-document_of-requires

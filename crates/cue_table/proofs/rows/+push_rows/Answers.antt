@@ -1,11 +1,25 @@
-use Rattle.std.proofs.Common.{◌∷◌, ◌++◌, length, [], sym, ap, ◌∙◌, arith}
+use Rattle.std.proofs.Common.{◌∷◌, ◌++◌, length, [], refl, sym, ap, ◌∙◌, arith}
 use Rattle.cue_table.specs.Slots.{at}
-use Rattle.std.proofs.lemmas.List.{length-append}
+use Rattle.std.proofs.lemmas.List.{length-append, map-append}
 use Rattle.cue_row.specs.Steps.{step_of}
 use Rattle.cue_table.specs.StepsOfCode.{step_at}
 use Rattle.cue_table.proofs.Listing.{left_size, left_depth, below_size, below_depth}
-use Rattle.cue_table.proofs.ListingRows.{rows_more, rows_end, rows_last, rows_none}
+use Rattle.cue_table.proofs.ListingRows.{rows_begin, rows_begin_below, rows_more, rows_end, rows_last, rows_none}
 use Rattle.cue_table.proofs.rows.+push_rows.Goals as goal
+use Rattle.cue_table.proofs.rows.+push_rows.Goals.{in-Some+in_ok-copy+in_ok-push, in_default}
+
+pub loop-step-init : goal.loop-step-init
+loop-step-init g t c = record {
+  rows = rw (c.into_iter-step-iterator.ensures.into_iter_gives, c.children-step-items.ensures.list)
+      (elim c.match-row.branch [
+        | in-Some+in_ok-copy+in_ok-push w ↦
+            rows_begin c.args.place.now c.args.branch.now w.in-Some.row.now _ _ (sym w.in-Some.ensures.row)
+            (rw (w.rows-is, w.in_ok-push.ensures.items, map-append, w.in_ok-copy.ensures) refl)
+        | in_default w ↦ rw w.rows-is (rows_begin_below c.args.place.now c.args.branch.now _ (sym w.in_default.ensures.row))
+      ]);
+  smaller = rw (c.into_iter-step-iterator.ensures.into_iter_gives, c.children-step-items.ensures.list) (omega arith);
+  deep = rw (c.into_iter-step-iterator.ensures.into_iter_gives, c.children-step-items.ensures.list) (omega arith);
+}
 
 pub then-requires : goal.then-requires
 then-requires g t c =

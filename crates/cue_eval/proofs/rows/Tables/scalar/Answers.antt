@@ -1,7 +1,16 @@
+use Rattle.std.proofs.Common.{◌≡◌, ◌↔◌, ap, sym, subst, ◌∙◌, arith, w64, to_z, of_z}
+use Rattle.std.proofs.lemmas.Int.{ints}
+use Rattle.cue_lattice.specs.Question.{Question}
+use Rattle.cue_row.specs.Row.{RowRefuses}
+use Rattle.cue_scalars.specs.Pairs.{Pair}
 use Rattle.cue_syntax.specs.Syntax.{expression}
-use Rattle.cue_scope.specs.Meaning.{meaning}
+use Rattle.cue_scope.specs.Meaning.{meaning, meant}
+use Rattle.cue_eval.specs.Pairs.{pair, plain}
+use Rattle.cue_eval.specs.Places.{ScalarRefuses}
 use Rattle.cue_eval.specs.Ready.{all_definitions}
-use Rattle.cue_eval.proofs.Leaves.{leaf_scalar, leaf_result}
+use Rattle.cue_eval.specs.Sets.{integer_alone, text_alone}
+use Rattle.cue_eval.proofs.Gathering.{row_alone}
+use Rattle.cue_eval.proofs.Leaves.{leaf_scalar, leaf_result, scalar_result}
 use Rattle.cue_eval.proofs.rows.Tables.scalar.Goals as goal
 
 pub pair-requires : goal.pair-requires
@@ -12,7 +21,31 @@ pair-requires c =
       used = c.requires.ready.used.pairs;
     }
 
-pub returns-clause-answers : goal.returns-clause-answers
-returns-clause-answers c =
+pub returns-in-Integer-clause-answers : goal.returns-in-Integer-clause-answers
+returns-in-Integer-clause-answers c =
     let ds = all_definitions c.args.self.now in
-    leaf_result c.scalar_table.result ds (meaning ds) (expression c.args.expression.now) c.in_ok-valued.valued c.requires.scalar c.in_ok-valued.ensures c.scalar_table.ensures.answers
+    let e = expression c.args.expression.now in
+    let meant_pair = pair (meant ds (meaning ds) e) in
+    let row = c.integer_row.result in
+    let n = c.integer_of.result in
+    let number : to_z w64 (of_z w64 n) ≡ n = omega (arith, ints, c.integer_of.type_inv) in
+    let is : plain (integer_alone (to_z w64 (of_z w64 n))) ≡ meant_pair =
+    ap (λ n. plain (integer_alone n)) (number ∙ c.integer_of.ensures) ∙ ap (λ x. pair (meant ds (meaning ds) (expression x))) (sym c.in-Integer.is) in
+    let refused = subst (λ (p : Pair). (question : Question) → RowRefuses row question ↔ ScalarRefuses p question) is c.integer_row.ensures in
+    scalar_result c.table_of.result ds (meaning ds) e c.requires.scalar (row_alone c.table_of.result row (ScalarRefuses meant_pair) c.table_of.ensures.answers refused)
+
+pub returns-in_ok-to_text-in-Text-clause-answers : goal.returns-in_ok-to_text-in-Text-clause-answers
+returns-in_ok-to_text-in-Text-clause-answers c =
+    let ds = all_definitions c.args.self.now in
+    let e = expression c.args.expression.now in
+    let meant_pair = pair (meant ds (meaning ds) e) in
+    let row = c.text_row.result in
+    let is : plain (text_alone c.in_ok-to_text-in-Text.field-0) ≡ meant_pair =
+    ap (λ t. plain (text_alone t)) c.in_ok-to_text-in-Text.ensures.bytes ∙ ap (λ x. pair (meant ds (meaning ds) (expression x))) (sym c.in-Text.is) in
+    let refused = subst (λ (p : Pair). (question : Question) → RowRefuses row question ↔ ScalarRefuses p question) is c.text_row.ensures in
+    scalar_result c.table_of-in-Text.result ds (meaning ds) e c.requires.scalar (row_alone c.table_of-in-Text.result row (ScalarRefuses meant_pair) c.table_of-in-Text.ensures.answers refused)
+
+pub returns-in_ok-pair-in_default-clause-answers : goal.returns-in_ok-pair-in_default-clause-answers
+returns-in_ok-pair-in_default-clause-answers c =
+    let ds = all_definitions c.args.self.now in
+    leaf_result c.scalar_table.result ds (meaning ds) (expression c.args.expression.now) c.in_ok-pair-in_default.field-0 c.requires.scalar c.in_ok-pair-in_default.ensures c.scalar_table.ensures.answers

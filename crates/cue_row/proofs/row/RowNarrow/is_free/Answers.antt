@@ -1,22 +1,23 @@
+use Rattle.std.proofs.Common.{sym, ap, ◌∙◌, subst}
 use Rattle.std.proofs.lemmas.Bool.{false≢true}
-use Rattle.cue_row.specs.declared.question.Question.TheVariants as questions
-use Rattle.cue_row.proofs.Free.{free_row, forms_of_free}
+use Rattle.cue_row.specs.declared.question.Question.{Question}
+use Rattle.cue_row.specs.Kept.{parts_of}
+use Rattle.cue_row.specs.Row.{Refuses}
+use Rattle.cue_row.proofs.SmallRows.{small_is_free}
 use Rattle.cue_row.proofs.row.RowNarrow.is_free.Goals as goal
 
-pub returns-then-not-allows_all_forms : goal.returns-then-not-allows_all_forms
-returns-then-not-allows_all_forms c =
-    (λ e. absurd (false≢true e), λ free. let t = c.allows_all_forms.ensures.1 (forms_of_free c.args.self.now free) in cc (t, c.if-not-allows_all_forms.true))
+pub returns-then-same : goal.returns-then-same
+returns-then-same c =
+    let row_is = ap parts_of (sym c.in-Small.is) ∙ c.self.view_is in
+    let when = small_is_free c.in-Small.level c.in-Small.small in (
+      λ e. subst (λ row. (question : Question) → ¬ Refuses row question) row_is (when.0 (c.same.ensures.0 c.if-same.true, c.is_anything.ensures.0 e)),
+      λ free. c.is_anything.ensures.1 (when.1 (subst (λ row. (question : Question) → ¬ Refuses row question) (sym row_is) free)).1,
+    )
 
-pub returns-then-not-is_free : goal.returns-then-not-is_free
-returns-then-not-is_free c =
-    (λ e. absurd (false≢true e), λ free. let t = c.is_free.ensures.1 (λ x. free (questions.MayBe x)) in cc (t, c.if-not-is_free.true))
-
-pub returns-then-not-is_free-2 : goal.returns-then-not-is_free-2
-returns-then-not-is_free-2 c =
-    (λ e. absurd (false≢true e), λ free. let t = c.is_free-2.ensures.1 (λ x. free (questions.Usual x)) in cc (t, c.if-not-is_free-2.true))
-
-pub returns : goal.returns
-returns c = (
-  λ e. free_row c.args.self.now (c.allows_all_forms.ensures.0 c.if-not-allows_all_forms.false) (c.is_free.ensures.0 c.if-not-is_free.false) (c.is_free-2.ensures.0 c.if-not-is_free-2.false) (c.is_free-3.ensures.0 e),
-  λ free. c.is_free-3.ensures.1 (λ l. free (questions.Allows l)),
-)
+pub returns-else-same : goal.returns-else-same
+returns-else-same c =
+    let row_is = ap parts_of (sym c.in-Small.is) ∙ c.self.view_is in
+    let when = small_is_free c.in-Small.level c.in-Small.small in (
+      λ e. absurd (false≢true (sym c.if-same.false ∙ e)),
+      λ free. c.same.ensures.1 (when.1 (subst (λ row. (question : Question) → ¬ Refuses row question) (sym row_is) free)).0,
+    )

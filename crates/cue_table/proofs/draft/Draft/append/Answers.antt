@@ -34,9 +34,9 @@ invariant_of-self-in-Apart g c =
     let others = c.self.inside.others.items in
     let root = c.self.inside.root in
     let none : others ≡ [] = sym c.deref.ensures.value ∙ no_rows c.deref.result.now c.in_default.ensures.item.3 in
-    let hung : Hangs root (map slot_of c.slots.result.now) c.in_ok-row.row c.hang.new.node (Apart c.in-Apart.row) =
-    subst (Hangs root (map slot_of c.slots.result.now) c.in_ok-row.row c.hang.new.node) c.in-Apart.is c.in_ok-hang.ensures.hangs in
+    let hung : Hangs root (map slot_of c.slots.result.now) c.args.row c.hang.new.node (Apart c.in-Apart.row) =
+    subst (Hangs root (map slot_of c.slots.result.now) c.args.row c.hang.new.node) c.in-Apart.is c.in_ok-hang.ensures.hangs in
     let apart : IsApart root c.args.place.now = subst (IsApart root) c.slots.ensures.list hung.2 in
     let draft = draft_apart P root others c.args.place.now c.in-Apart.row c.self.invariant none apart in
-    let items = c.in_ok-push-in-Apart.ensures.items ∙ (λ i. others ++ (c.in_ok-place-in-Apart.ensures i, c.into_row.ensures i) ∷ []) in
+    let items = c.in_ok-push-in-Apart.ensures.items ∙ (λ i. others ++ (c.in_ok-place-in-Apart.ensures i, c.in-Apart.row) ∷ []) in
     subst (λ t. IsDraft P t c.push-in-Apart.new.self.items) (sym hung.0) (subst (IsDraft P root) (sym items) draft)

@@ -3,8 +3,6 @@ use Rattle.std.proofs.lemmas.Result.{on_ok_weaker}
 use Rattle.cue_lattice.specs.Limits.{step_limit}
 use Rattle.cue_table.specs.Form.{IsKept, IsTree}
 use Rattle.cue_table.specs.Depth.{tree_depth}
-use Rattle.cue_table.specs.Meet.{IsUnion}
-use Rattle.cue_table.specs.Refuses.{RowRefuses}
 use Rattle.cue_table.specs.Tree.{node}
 use Rattle.cue_table.specs.Inner.View.{below_in, branches, rest_in}
 use Rattle.cue_table.proofs.Hanging.{added_row}
@@ -15,8 +13,7 @@ narrow_row-requires-clause-left g c = (subst (IsTree (IsKept g.R.Narrow.refuses 
 
 pub narrow_row-requires-clause-right : goal.narrow_row-requires-clause-right
 narrow_row-requires-clause-right g c =
-    let kept : IsKept g.R.Narrow.refuses g.R.Narrow.is_value c.args.row = (c.known.ensures, λ free. let no = c.if-refuses_nothing.ensures.1 free in cc) in
-    subst (IsKept g.R.Narrow.refuses g.R.Narrow.is_value) (sym c.in_ok-row.ensures) kept
+    (c.known.ensures, λ free. let no = c.if-refuses_nothing.ensures.1 free in cc)
 
 pub invariant_of-self-2 : goal.invariant_of-self-2
 invariant_of-self-2 g c =
@@ -30,5 +27,5 @@ pub returns-clause-ok : goal.returns-clause-ok
 returns-clause-ok g c =
     let r = g.R.Narrow.refuses in
     on_ok_weaker c.narrow_row.result
-    (λ met. added_row r c.root.inside.row c.narrow_row.new.left c.args.row (below_in (branches c.root.inside.children.items) c.root.inside.rest) (rest_in c.root.inside.rest) c.args.self.now (c.root.view_is ∙ c.self.view_is)
-    (subst (λ row. IsUnion (RowRefuses r c.root.inside.row) (r row) (RowRefuses r c.narrow_row.new.left)) c.in_ok-row.ensures met)) c.narrow_row.ensures.ok
+    (added_row r c.root.inside.row c.narrow_row.new.left c.args.row (below_in (branches c.root.inside.children.items) c.root.inside.rest) (rest_in c.root.inside.rest) c.args.self.now (c.root.view_is ∙ c.self.view_is))
+    c.narrow_row.ensures.ok

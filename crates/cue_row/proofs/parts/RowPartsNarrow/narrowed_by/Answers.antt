@@ -2,7 +2,7 @@ use Rattle.cue_scalars.specs.Scalars.{RefusesScalar}
 use Rattle.cue_scalars.proofs.Narrowed.{after-refuses}
 use Rattle.cue_row.specs.LabelSets.{RefusesLabel}
 use Rattle.cue_row.proofs.MetRows.{met_rows}
-use Rattle.cue_row.proofs.row.RowNarrow.narrowed_by.Goals as goal
+use Rattle.cue_row.proofs.parts.RowPartsNarrow.narrowed_by.Goals as goal
 
 pub returns : goal.returns
 returns c =

@@ -1,0 +1,12 @@
+use Rattle.std.proofs.Common.{sym, ap, ◌∙◌, subst}
+use Rattle.cue_row.specs.Kept.{parts_of}
+use Rattle.cue_row.specs.Kinds.{IsEmptySet}
+use Rattle.cue_row.proofs.row.Row.has_no_scalar.Goals as goal
+
+pub returns-in-Small : goal.returns-in-Small
+returns-in-Small c =
+    let row_is = ap parts_of (sym c.in-Small.is) ∙ c.self.view_is in
+    let level = c.in-Small.field-0 in (
+      λ e. subst (λ row. IsEmptySet row.value) row_is ((c.has_no_scalar.ensures level).0 e),
+      λ h. (c.has_no_scalar.ensures level).1 (subst (λ row. IsEmptySet row.value) (sym row_is) h),
+    )

@@ -1,0 +1,76 @@
+-- How a row is kept: what a `Row` is read as, and what each has.
+use Rattle.std.specs.Prelude.{◌≡◌, max, false, ℕ, ℤ, List, [], ◌∷◌, None}
+use Rattle.cue_scalars.specs.declared.scalar_set.ScalarSet.{ScalarSet}
+use Rattle.cue_sets.specs.Pieces.{IsCanonical}
+use Rattle.cue_row.specs.declared.level.Level.{Level}
+use Rattle.cue_row.specs.declared.parts.RowParts.{RowParts}
+use Rattle.cue_row.specs.declared.row.Form.{Form}
+use Rattle.cue_row.specs.declared.row.Form.TheVariants as forms
+use Rattle.cue_row.specs.declared.small.Few.{Few}
+use Rattle.cue_row.specs.declared.small.Small.{Small}
+use Rattle.cue_row.specs.declared.small.Small.TheVariants as small
+use Rattle.cue_row.specs.Levels.{level_of}
+use Rattle.cue_row.specs.Row.{IsMetRow}
+use Rattle.cue_row.specs.Made.{free_row, struct_row, lone_row}
+
+-- some of null, false and true, with all texts or none
+abbrev pub few_set : Few → ScalarSet
+few_set few = record {
+  null = few.null;
+  no = few.no;
+  yes = few.yes;
+  ints = [];
+  texts = (few.texts, []);
+}
+
+-- the integers of one piece
+abbrev pub integers_set : ℤ × ℤ → ScalarSet
+integers_set piece = record {
+  null = false;
+  no = false;
+  yes = false;
+  ints = piece ∷ [];
+  texts = (false, []);
+}
+
+-- one text
+abbrev pub text_set : List ℕ → ScalarSet
+text_set text = record {
+  null = false;
+  no = false;
+  yes = false;
+  ints = [];
+  texts = (false, text ∷ []);
+}
+
+-- the parts of a small row of this level
+abbrev pub small_parts : Level → Small → RowParts
+small_parts level small.Anything = free_row level
+small_parts level small.Struct = struct_row level None
+small_parts level (small.Few few) = lone_row level (few_set few)
+small_parts level (small.Integers piece) = lone_row level (integers_set piece)
+small_parts level (small.Text text) = lone_row level (text_set text)
+
+-- the parts of a row
+abbrev pub parts_of : Form → RowParts
+parts_of (forms.Small level small) = small_parts level small
+parts_of (forms.Whole parts) = parts.value
+
+-- a piece has a number
+abbrev pub IsSmall : Small → Type 0
+IsSmall small.Anything = Unit {0}
+IsSmall small.Struct = Unit {0}
+IsSmall (small.Few few) = Unit {0}
+IsSmall (small.Integers piece) = IsCanonical (piece ∷ [])
+IsSmall (small.Text text) = Unit {0}
+
+abbrev pub IsKept : Form → Type 0
+IsKept (forms.Small level small) = IsSmall small
+IsKept (forms.Whole parts) = Unit {0}
+
+-- The third is the unification of the two others: at places of any levels it refuses what one of
+-- the two refuses, and its level is the greater one.
+abbrev pub IsMetSmall : Small → Small → Small → Type 0
+IsMetSmall left right met =
+    (a b c : Level) → level_of c ≡ max (level_of a) (level_of b)
+    → IsMetRow (small_parts a left) (small_parts b right) (small_parts c met)
