@@ -12,6 +12,7 @@ mod looped;
 mod pushing;
 mod reply;
 mod serving;
+mod sockets;
 mod told;
 mod turns;
 

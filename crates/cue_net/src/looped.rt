@@ -12,6 +12,7 @@ ghost use Rattle.cue_net.specs.Talks.{Talk, IsTalk};
 use crate::carrying::{Serving, bring_back, serve_so_many};
 use crate::halt::Halt;
 use crate::pushing::{all_fit, client_of};
+use crate::sockets::send_at_once;
 use crate::told::told_by;
 use crate::turns::write_some;
 use crate::{MAX_TURNS, PIECE};
@@ -46,6 +47,8 @@ where
         Ok(ends) => ends,
         Err(halt) => return Err(halt),
     };
+    send_at_once(&near);
+    send_at_once(&far);
     let mut client = End {
         source: Reader::new(&near),
         sink: Writer::new(&near),

@@ -9,6 +9,7 @@ ghost use Rattle.cue_net.specs.Talks.{Talk, IsTalk, IsAnswerOf};
 ghost use Rattle.cue_net.specs.Turns.{IsWriteHalt};
 
 use crate::halt::Halt;
+use crate::sockets::send_at_once;
 use crate::told::told_by;
 use crate::turns::{read_some, write_some};
 use crate::{FRAME_LIMIT, MAX_TURNS, PIECE};
@@ -41,6 +42,7 @@ where
     let Ok(stream) = TcpStream::connect(rt, (Ipv4Addr::LOCALHOST, port)) else {
         return Err(Halt::Device);
     };
+    send_at_once(&stream);
     let mut source = Reader::new(&stream);
     let mut sink = Writer::new(&stream);
     push(rt.alloc(), &mut source, &mut sink, inputs, MAX_TURNS)

@@ -4,6 +4,7 @@ ghost use Rattle.cue_net.specs.Printed.{IsPrintedExport, IsServedExport, ServesS
 
 use crate::MAX_TURNS;
 use crate::halt::Halt;
+use crate::sockets::send_at_once;
 use cue_answer::{Answer, Question, answer_to, printed};
 use cue_device::{Reader, Writer};
 use cue_replica::{Kind, Memory, Replica};
@@ -69,6 +70,7 @@ fn serve_one(alloc: Global, stream: &TcpStream, site: &mut Replica) -> Result<()
     ensures served { ServesSome site.old site.new }
     ensures halt { IfErr result IsMemory }
 {
+    send_at_once(stream);
     let mut source = Reader::new(stream);
     let mut sink = Writer::new(stream);
     match serve(alloc, &mut source, &mut sink, site, MAX_TURNS) {
