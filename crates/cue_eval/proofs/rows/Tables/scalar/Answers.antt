@@ -4,6 +4,7 @@ use Rattle.cue_lattice.specs.Question.{Question}
 use Rattle.cue_row.specs.Row.{RowRefuses}
 use Rattle.cue_scalars.specs.Pairs.{Pair}
 use Rattle.cue_syntax.specs.Syntax.{expression}
+use Rattle.cue_syntax.proofs.Views.{view-Integer, view-Text}
 use Rattle.cue_scope.specs.Meaning.{meaning, meant}
 use Rattle.cue_eval.specs.Pairs.{pair, plain}
 use Rattle.cue_eval.specs.Places.{ScalarRefuses}
@@ -30,7 +31,7 @@ returns-in-Integer-clause-answers c =
     let n = c.integer_of.result in
     let number : to_z w64 (of_z w64 n) ≡ n = omega (arith, ints, c.integer_of.type_inv) in
     let is : plain (integer_alone (to_z w64 (of_z w64 n))) ≡ meant_pair =
-    ap (λ n. plain (integer_alone n)) (number ∙ c.integer_of.ensures) ∙ ap (λ x. pair (meant ds (meaning ds) (expression x))) (sym c.in-Integer.is) in
+    ap (λ n. plain (integer_alone n)) (number ∙ c.integer_of.ensures) ∙ ap (λ x. pair (meant ds (meaning ds) x)) (sym (ap expression c.in-Integer.is ∙ view-Integer c.in-Integer.written)) in
     let refused = subst (λ (p : Pair). (question : Question) → RowRefuses row question ↔ ScalarRefuses p question) is c.integer_row.ensures in
     scalar_result c.table_of.result ds (meaning ds) e c.requires.scalar (row_alone c.table_of.result row (ScalarRefuses meant_pair) c.table_of.ensures.answers refused)
 
@@ -41,7 +42,7 @@ returns-in_ok-to_text-in-Text-clause-answers c =
     let meant_pair = pair (meant ds (meaning ds) e) in
     let row = c.text_row.result in
     let is : plain (text_alone c.in_ok-to_text-in-Text.field-0) ≡ meant_pair =
-    ap (λ t. plain (text_alone t)) c.in_ok-to_text-in-Text.ensures.bytes ∙ ap (λ x. pair (meant ds (meaning ds) (expression x))) (sym c.in-Text.is) in
+    ap (λ t. plain (text_alone t)) c.in_ok-to_text-in-Text.ensures.bytes ∙ ap (λ x. pair (meant ds (meaning ds) x)) (sym (ap expression c.in-Text.is ∙ view-Text c.in-Text.text)) in
     let refused = subst (λ (p : Pair). (question : Question) → RowRefuses row question ↔ ScalarRefuses p question) is c.text_row.ensures in
     scalar_result c.table_of-in-Text.result ds (meaning ds) e c.requires.scalar (row_alone c.table_of-in-Text.result row (ScalarRefuses meant_pair) c.table_of-in-Text.ensures.answers refused)
 
