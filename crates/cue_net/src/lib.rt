@@ -6,13 +6,13 @@
 #![tactic(auto)]
 
 mod carrying;
+mod connection;
 mod halt;
 mod laws;
 mod looped;
 mod pushing;
 mod reply;
 mod serving;
-mod sockets;
 mod told;
 mod turns;
 

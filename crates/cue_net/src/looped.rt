@@ -10,9 +10,9 @@ ghost use Rattle.cue_net.specs.Sockets.{IsTalkAnswer};
 ghost use Rattle.cue_net.specs.Talks.{Talk, IsTalk};
 
 use crate::carrying::{Serving, bring_back, serve_so_many};
+use crate::connection::send_at_once;
 use crate::halt::Halt;
 use crate::pushing::{all_fit, client_of};
-use crate::sockets::send_at_once;
 use crate::told::told_by;
 use crate::turns::write_some;
 use crate::{MAX_TURNS, PIECE};

@@ -8,8 +8,8 @@ ghost use Rattle.cue_net.specs.Sockets.{IsTalkAnswer};
 ghost use Rattle.cue_net.specs.Talks.{Talk, IsTalk, IsAnswerOf};
 ghost use Rattle.cue_net.specs.Turns.{IsWriteHalt};
 
+use crate::connection::send_at_once;
 use crate::halt::Halt;
-use crate::sockets::send_at_once;
 use crate::told::told_by;
 use crate::turns::{read_some, write_some};
 use crate::{FRAME_LIMIT, MAX_TURNS, PIECE};

@@ -3,8 +3,8 @@ ghost use Rattle.cue_net.specs.Halts.{IsMemory, IsDeviceOrMemory};
 ghost use Rattle.cue_net.specs.Printed.{IsPrintedExport, IsServedExport, ServesSome};
 
 use crate::MAX_TURNS;
+use crate::connection::send_at_once;
 use crate::halt::Halt;
-use crate::sockets::send_at_once;
 use cue_answer::{Answer, Question, answer_to, printed};
 use cue_device::{Reader, Writer};
 use cue_replica::{Kind, Memory, Replica};
