@@ -6,6 +6,8 @@
 #[cfg(test)]
 mod devices;
 #[cfg(test)]
+mod ports;
+#[cfg(test)]
 mod pushes;
 #[cfg(test)]
 mod serves;

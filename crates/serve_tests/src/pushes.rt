@@ -29,12 +29,13 @@ fn pushed(alloc: Global, texts: &[&str], replies: &[u8], most: usize) -> Result<
 
 /// What was answered.
 #[derive(Drop)]
-struct Told {
-    answer: Result<Answer, Halt>,
+pub struct Told {
+    pub answer: Result<Answer, Halt>,
 }
 
 impl Told {
-    fn prints(&self, bytes: &[u8], status: Status) -> bool {
+    /// Whether just these bytes are printed, with this status.
+    pub fn prints(&self, bytes: &[u8], status: Status) -> bool {
         match &self.answer {
             Ok(answer) => answer.bytes.as_slice() == bytes && answer.status == status,
             Err(_) => false,
@@ -49,7 +50,8 @@ impl Told {
     }
 }
 
-fn texts_of(alloc: Global, texts: &[&str]) -> Result<Vec<Request>, Fail> {
+/// These texts as requests.
+pub fn texts_of(alloc: Global, texts: &[&str]) -> Result<Vec<Request>, Fail> {
     let mut inputs = Vec::new(alloc);
     for text in texts {
         inputs.push(Request::Text(String::from_str(alloc, text)?))?;

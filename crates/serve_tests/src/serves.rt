@@ -1,7 +1,7 @@
 //! Three requests and their replies through `serve`.
 
 use crate::devices::{Input, Output};
-use cue_device::{Bytes, Reader, Writer};
+use cue_device::{Bytes, Reader, Sink, Writer};
 use cue_replica::{Kind, Replica};
 use cue_wire::{Ended, serve};
 use std::alloc::Global;
@@ -152,6 +152,15 @@ fn in_memory(rt: HostRuntime) {
     let ended = serve(rt.alloc(), &mut source, &mut sink, &mut site, 3);
     assert_eq!(rt; ended, BETWEEN);
     assert_eq!(rt; sink.into_inner().as_slice(), REPLIES.as_slice());
+}
+
+#[test]
+fn a_flush_is_a_call(rt: HostRuntime) {
+    let mut sink = Writer::new(Vec::new(rt.alloc()));
+    assert!(rt; matches!(sink.write(b"ab"), Ok(2)));
+    assert!(rt; sink.flush().is_ok());
+    assert_eq!(rt; sink.calls(), 2);
+    assert_eq!(rt; sink.into_inner().as_slice(), b"ab".as_slice());
 }
 
 #[test]

@@ -8,7 +8,7 @@ use std::net::{Ipv4Addr, Net, Shutdown, SocketAddr, TcpListener, TcpStream};
 use std::test::Fail;
 
 /// A connection that has sent these bytes, and sends no more.
-fn sent<H>(rt: &H, address: SocketAddr, bytes: &[u8]) -> io::Result<TcpStream>
+pub fn sent<H>(rt: &H, address: SocketAddr, bytes: &[u8]) -> io::Result<TcpStream>
 where
     H: AllocGlobal + Net<Listener = TcpListener, Stream = TcpStream>,
 {
@@ -19,16 +19,17 @@ where
 }
 
 /// All that comes back.
-fn heard<H: AllocGlobal>(rt: &H, stream: &TcpStream) -> io::Result<Vec<u8>> {
+pub fn heard<H: AllocGlobal>(rt: &H, stream: &TcpStream) -> io::Result<Vec<u8>> {
     let mut all = Vec::new(rt.alloc());
     (&*stream).read_to_end(&mut all)?;
     Ok(all)
 }
 
 /// A text that is sent in a frame.
-const TEXT: [u8; 10] = *b"\0\0\0\x06\x01a: 1\n";
+pub const TEXT: [u8; 10] = *b"\0\0\0\x06\x01a: 1\n";
 
-const ACCEPTED: [u8; 5] = *b"\0\0\0\x01\0";
+/// The reply to a text that is accepted.
+pub const ACCEPTED: [u8; 5] = *b"\0\0\0\x01\0";
 
 #[test]
 fn five_connections(rt: HostRuntime) -> Result<(), Fail> {
