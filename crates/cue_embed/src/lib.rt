@@ -9,6 +9,8 @@
 
 mod outcome;
 mod site;
+#[cfg(test)]
+mod tests;
 
 ghost use Rattle.cue_embed.specs.Calls.{IsNew, IsSubmitted, IsMerged, IsTold};
 ghost use Rattle.cue_answer.specs.declared.question.Question.TheVariants as questions;
