@@ -2,6 +2,7 @@
 use super::states::ONE;
 use super::{Run, answers, ran, writes};
 use crate::disk::{Disk, Entry, Out};
+use cue_program::Shelf;
 use std::alloc::Global;
 use std::cell::{Cell, RefCell};
 use std::test::Fail;
@@ -192,6 +193,14 @@ fn a_merge_that_fails_spares_the_file(rt: HostRuntime) -> Result<(), Fail> {
     assert!(rt; spares_a_file(alloc, 6, b"sync\nremove out.part\n")?);
     assert!(rt; spares_a_file(alloc, 7, b"move out.part\nremove out.part\n")?);
     Ok(())
+}
+
+#[test]
+fn a_file_beside_is_taken_away(rt: HostRuntime) {
+    let pages = blank_pages(rt.alloc());
+    let mut disk = disk(rt.alloc(), FILES, &pages);
+    assert!(rt; disk.remove("out.part").is_ok());
+    assert!(rt; has(&pages.log, b"remove out.part\n"));
 }
 
 /// Nothing is written where it is not known what lies at the name, or where it leads to.

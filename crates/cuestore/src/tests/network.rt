@@ -1,9 +1,11 @@
 //! Sites over a network: ports and counts, both ends in this process, and what can't be sent.
-use super::answers;
-use super::files::ran_over;
+use super::files::{blank_pages, disk, ran_over};
+use super::pieces::Slow;
 use super::states::ONE;
+use super::{acted, answers, owned};
 use crate::command::number_in;
 use crate::disk::Entry;
+use cue_program::{Request, requests_for};
 use std::alloc::Global;
 use std::test::Fail;
 
@@ -53,12 +55,56 @@ fn the_first_refusal_of_the_site_is_told(mut rt: HostRuntime) -> Result<(), Fail
     Ok(())
 }
 
-/// A text, one that is no UTF-8, and one that fails to be read.
+/// Whether a run of `loop` on this input, which comes three bytes a read, prints this.
+fn loops_slowly(rt: &mut HostRuntime, input: &[u8], out: &[u8]) -> Result<bool, Fail> {
+    let words = owned(rt.alloc(), &["loop"])?;
+    let mut input = Slow {
+        rest: input,
+        most: 3,
+    };
+    Ok(acted(rt, &words, &mut input).is(0, out, b""))
+}
+
+#[test]
+fn what_is_to_be_sent_comes_in_pieces(mut rt: HostRuntime) -> Result<(), Fail> {
+    let both = b"{\"a\":1,\"b\":2}\n";
+    assert!(rt; loops_slowly(&mut rt, b"a: 1\n---\nb: 2\n", both)?);
+    assert!(rt; loops_slowly(&mut rt, ONE, b"{\"a\":1}\n")?);
+    Ok(())
+}
+
+/// A text, a state, a text that is no UTF-8, and one that fails to be read.
 const FILES: &[(&str, Entry)] = &[
     ("a", Entry::Bytes(b"a: 1\n")),
+    ("state", Entry::Bytes(ONE)),
     ("wild", Entry::Bytes(b"a: \xFF")),
     ("cut", Entry::Cut(b"a: 1\n")),
 ];
+
+/// Whether a text and a state that are named become requests that hand them in.
+fn sends_what_is_named(alloc: Global) -> bool {
+    let pages = blank_pages(alloc);
+    let mut input = b"z: 9\n".as_slice();
+    match requests_for(&disk(alloc, FILES, &pages), &["a", "state"], &mut input) {
+        Ok(requests) => are_of_a_and_state(&requests),
+        Err(_) => false,
+    }
+}
+
+/// Whether these are the requests of the files `a` and `state`, whole.
+fn are_of_a_and_state(requests: &[Request]) -> bool {
+    match requests {
+        [Request::Text(text), Request::State(bytes)] => {
+            text.as_str() == "a: 1\n" && bytes.as_slice() == ONE
+        }
+        _ => false,
+    }
+}
+
+#[test]
+fn files_that_are_named_are_sent(rt: HostRuntime) {
+    assert!(rt; sends_what_is_named(rt.alloc()));
+}
 
 /// Whether a run on these words ends with this status and prints this, where there are files and no
 /// network.

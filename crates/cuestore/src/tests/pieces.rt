@@ -11,9 +11,9 @@ use std::test::Fail;
 
 /// A reader that gives so many bytes a read.
 #[derive(Drop)]
-struct Slow<'a> {
-    rest: &'a [u8],
-    most: usize,
+pub struct Slow<'a> {
+    pub rest: &'a [u8],
+    pub most: usize,
 }
 
 impl<'a> Read for Slow<'a> {
