@@ -4,7 +4,7 @@ use Rattle.std.specs.Str.{bytes_eq}
 use Rattle.std.proofs.lemmas.Slice.Eq.{bytes_eq-Decides}
 use Rattle.std.proofs.lemmas.Bool.{both_ways}
 use Rattle.cue_program.specs.Files.{Holdings, IsElsewhereSame, IsPut, IsSameTree, IsUnharmed, Turns}
-use Rattle.cue_program.specs.inner.Drafts.{HasMoved, IsBeside, IsFound, IsKept, IsNewAt, IsPutAt, IsTouchedAt, IsWritten, Stays}
+use Rattle.cue_program.specs.inner.Drafts.{HasMoved, IsBegunAt, IsBeside, IsFound, IsKept, IsNewAt, IsPutAt, IsTouchedAt, IsWritten, Stays}
 use Rattle.cue_program.specs.declared.shelf.Form.{Form}
 use Rattle.cue_program.specs.declared.shelf.Form.TheVariants as forms
 
@@ -46,17 +46,19 @@ stays_on x y z h k = record {
   others = λ place other. k.others place other ∙ h.others place other;
 }
 
-pub kept_none : (x : Holdings) → IsKept x x
-kept_none x = (tree_none x, λ place bytes is. is)
-
 stays_at : (x y : Holdings) (place : List ℕ) → Stays x y → y.bytes_at place ≡ x.bytes_at place
 stays_at x y place h = h.others place (λ no. no)
 
-pub stays_kept : (x y : Holdings) → Stays x y → IsKept x y
-stays_kept x y h = (h.tree, λ place bytes is. stays_at x y place h ∙ is)
+pub stays_kept : (place : List ℕ) (x y : Holdings) → Stays x y → IsKept place x y
+stays_kept place x y h = record { tree = h.tree; files = λ p bytes is. stays_at x y p h ∙ is; own = stays_at x y place h }
 
-pub stays_then_kept : (x y z : Holdings) → Stays x y → IsKept y z → IsKept x z
-stays_then_kept x y z h k = (tree_on x y z h.tree k.0, λ place bytes is. k.1 place bytes (stays_at x y place h ∙ is))
+-- a file was begun at another place, after turns that changed nothing
+pub stays_then_begun : (place draft : List ℕ) (x y z : Holdings) → draft ≢ place → Stays x y → IsBegunAt draft y z → IsKept place x z
+stays_then_begun place draft x y z other h k = record {
+  tree = tree_on x y z h.tree k.0.tree;
+  files = λ p bytes is. k.1 p bytes (stays_at x y p h ∙ is);
+  own = k.0.others place (λ e. other (sym e)) ∙ stays_at x y place h;
+}
 
 -- a draft after turns that changed nothing
 pub stays_then_beside :
@@ -101,13 +103,15 @@ absent x p draft bytes none some is =
 
 -- the draft was made, and taken away or not
 pub kept_by_draft :
-    (place draft bytes : List ℕ) (x y z v : Holdings) → IsBeside place draft bytes x y → Stays y z → IsTouchedAt draft z v → IsKept x v
-kept_by_draft place draft bytes x y z v h k l = (
-  tree_on x z v (tree_on x y z h.1.touched.tree k.tree) l.tree,
-  λ p bytes is.
-      let other = absent x p draft bytes h.1.free is in
-      l.others p other ∙ (stays_at y z p k ∙ (h.1.touched.others p other ∙ is)),
-)
+    (place draft bytes : List ℕ) (x y z v : Holdings) → IsBeside place draft bytes x y → Stays y z → IsTouchedAt draft z v → IsKept place x v
+kept_by_draft place draft bytes x y z v h k l = record {
+  tree = tree_on x z v (tree_on x y z h.1.touched.tree k.tree) l.tree;
+  files = λ p bytes is. elsewhere p (absent x p draft bytes h.1.free is) ∙ is;
+  own = elsewhere place (λ e. h.0 (sym e));
+}
+  where
+    elsewhere : (p : List ℕ) → p ≢ draft → v.bytes_at p ≡ x.bytes_at p
+    elsewhere p other = l.others p other ∙ (stays_at y z p k ∙ h.1.touched.others p other)
 
 -- bytes that lie at the place that a name leads to lie under the name
 pub put_under : (name place bytes : List ℕ) (x y : Holdings) → place ≡ x.place_of name → IsPutAt place bytes x y → IsPut name bytes x y
@@ -116,14 +120,17 @@ put_under name place bytes x y is h = record {
   same = subst (λ (q : List ℕ). IsElsewhereSame (λ p. p ≡ q) x y) is h.0;
 }
 
--- where all files were kept, none was harmed
-pub kept_unharmed : (name : List ℕ) (x y : Holdings) → IsKept x y → IsUnharmed name x y
-kept_unharmed name x y h = record { files = λ plain. h.1; others = λ place bytes other is. h.1 place bytes is }
+-- where all files were kept, and what lies at the place that a name leads to, none was harmed
+pub kept_unharmed : (name place : List ℕ) (x y : Holdings) → place ≡ x.place_of name → IsKept place x y → IsUnharmed name x y
+kept_unharmed name place x y is h = record {
+  own = λ plain. subst (λ (p : List ℕ). y.bytes_at p ≡ x.bytes_at p) is h.own;
+  others = λ p bytes other at. h.files p bytes at;
+}
 
 -- where something special was written, no file was harmed
 pub special_unharmed : (name place : List ℕ) (x y : Holdings) → place ≡ x.place_of name → true ≡ x.is_special place → IsTouchedAt place x y → IsUnharmed name x y
 special_unharmed name place x y is special h = record {
-  files = λ plain.
+  own = λ plain.
       let bad : true ≡ false = special ∙ (ap x.is_special is ∙ plain) in
       cc;
   others = λ p bytes other at. h.others p (λ e. other (e ∙ is)) ∙ at;
@@ -140,14 +147,13 @@ known_stays_none a = turns_none Stays a stays_none
 pub known_stays_on : (a b c : Option Holdings) → Turns Stays a b → Turns Stays b c → Turns Stays a c
 known_stays_on a b c h k = turns_on Stays Stays Stays a b c h k stays_on
 
-pub known_kept : (a b : Option Holdings) → Turns Stays a b → Turns IsKept a b
-known_kept a b h = turns_weaker Stays IsKept a b h stays_kept
+pub known_kept : (place : List ℕ) (a b : Option Holdings) → Turns Stays a b → Turns (IsKept place) a b
+known_kept place a b h = turns_weaker Stays (IsKept place) a b h (stays_kept place)
 
-pub known_kept_none : (a : Option Holdings) → Turns IsKept a a
-known_kept_none a = turns_none IsKept a kept_none
-
-pub known_kept_on : (a b c : Option Holdings) → Turns Stays a b → Turns IsKept b c → Turns IsKept a c
-known_kept_on a b c h k = turns_on Stays IsKept IsKept a b c h k stays_then_kept
+pub known_begun :
+    (place draft : List ℕ) (a b c : Option Holdings) → length place < length draft → Turns Stays a b → Turns (IsBegunAt draft) b c → Turns (IsKept place) a c
+known_begun place draft a b c longer h k =
+    turns_on Stays (IsBegunAt draft) (IsKept place) a b c h k (λ x y z p q. stays_then_begun place draft x y z (longer_differs place draft longer) p q)
 
 pub known_beside :
     (place draft bytes : List ℕ) (a b c : Option Holdings) → length place < length draft → Turns Stays a b → Turns (IsNewAt draft bytes) b c
@@ -164,11 +170,11 @@ known_put place draft bytes a b c h k =
 
 pub known_kept_by_draft :
     (place draft bytes : List ℕ) (a b c d : Option Holdings) → Turns (IsBeside place draft bytes) a b → Turns Stays b c → Turns (IsTouchedAt draft) c d
-    → Turns IsKept a d
+    → Turns (IsKept place) a d
 known_kept_by_draft place draft bytes a b c d h k l =
     let front = turns_on (IsBeside place draft bytes) Stays (λ x z. (y : Holdings) × IsBeside place draft bytes x y × Stays y z) a b c h k
     (λ x y z p q. (y, p, q)) in
-    turns_on (λ x z. (y : Holdings) × IsBeside place draft bytes x y × Stays y z) (IsTouchedAt draft) IsKept a c d front l
+    turns_on (λ x z. (y : Holdings) × IsBeside place draft bytes x y × Stays y z) (IsTouchedAt draft) (IsKept place) a c d front l
     (λ x z v p q. kept_by_draft place draft bytes x p.0 z v p.1 p.2 q)
 
 -- by what was found under a name
@@ -178,8 +184,11 @@ known_put_under name place bytes form None b f h = tt
 known_put_under name place bytes form (Some x) None f h = absurd h
 known_put_under name place bytes form (Some x) (Some y) f h = put_under name place bytes x y f.0 h
 
-pub known_unharmed : (name : List ℕ) (a b : Option Holdings) → Turns IsKept a b → Turns (IsUnharmed name) a b
-known_unharmed name a b h = turns_weaker IsKept (IsUnharmed name) a b h (kept_unharmed name)
+pub known_unharmed :
+    (name place : List ℕ) (form : Form) (a b : Option Holdings) → IsFound name place form a → Turns (IsKept place) a b → Turns (IsUnharmed name) a b
+known_unharmed name place form None b f h = tt
+known_unharmed name place form (Some x) None f h = absurd h
+known_unharmed name place form (Some x) (Some y) f h = kept_unharmed name place x y f.0 h
 
 pub known_special :
     (name place : List ℕ) (a b : Option Holdings) → IsFound name place forms.Special a → Turns (IsTouchedAt place) a b → Turns (IsUnharmed name) a b

@@ -49,19 +49,15 @@ pub record IsElsewhereSame (places : List ℕ → Type 0) (old new : Holdings) :
   pub tree : IsSameTree old new
   pub others : (place : List ℕ) → (places place → ⊥) → new.bytes_at place ≡ old.bytes_at place
 
--- a file that lay anywhere still lies there, with its bytes
-abbrev pub KeepsFiles : Holdings → Holdings → Type 0
-KeepsFiles old new =
-    (place bytes : List ℕ) → old.bytes_at place ≡ Some bytes → new.bytes_at place ≡ Some bytes
-
 -- The bytes lie under the name, and all other files as before.
 pub record IsPut (name bytes : List ℕ) (old new : Holdings) : Type 0 where
   pub put : new.bytes_at (old.place_of name) ≡ Some bytes
   pub same : IsElsewhereSame (λ place. place ≡ old.place_of name) old new
 
--- No file was harmed: where the name is that of a file, or of nothing, all files are as before, and
--- where it is that of something special, all others.
+-- No file was harmed: where the name is that of a file, or of nothing, the same lies there as
+-- before, and so does each other file; where it is that of something special, each other file.
 pub record IsUnharmed (name : List ℕ) (old new : Holdings) : Type 0 where
-  pub files : old.is_special (old.place_of name) ≡ false → KeepsFiles old new
+  pub own : old.is_special (old.place_of name) ≡ false
+      → new.bytes_at (old.place_of name) ≡ old.bytes_at (old.place_of name)
   pub others : (place bytes : List ℕ) → place ≢ old.place_of name
       → old.bytes_at place ≡ Some bytes → new.bytes_at place ≡ Some bytes

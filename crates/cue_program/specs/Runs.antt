@@ -33,9 +33,10 @@ abbrev pub IsMergeOn : List ℕ → Inputs → Option Holdings → Option Holdin
 IsMergeOn name inputs old new =
     (table : Table) × Holds inputs table × Turns (IsPut name (language.written table)) old new
 
--- What ends a merge: what ends a run; or the file could not be written, where all inputs were
--- taken. No file was harmed.
+-- What ends a merge: what ends a run, and then nothing was written; or all inputs were taken, and
+-- the file could not be written or memory ran out, and then no file was harmed.
 abbrev pub IsMergeStopOn : List ℕ → Inputs → Option Holdings → Option Holdings → Stop → Type 0
 IsMergeStopOn name inputs old new stop =
-    (IsStopOn inputs stop ⊎ ((table : Table) × Holds inputs table × IsDevice stop))
-    × Turns (IsUnharmed name) old new
+    (IsStopOn inputs stop × (new ≡ old))
+    ⊎ ((table : Table) × Holds inputs table × (IsDevice stop ⊎ IsMemory stop)
+    × Turns (IsUnharmed name) old new)

@@ -18,7 +18,7 @@ const MOST_DRAFTS: usize = 16;
 ///
 /// # Errors
 ///
-/// `Device` and `Memory`. A file that lay there is unharmed then.
+/// `Device` and `Memory`. What lay there, a file or nothing, lies there then.
 pub fn put<S: Shelf>(shelf: &mut S, alloc: Global, name: &str, site: &Replica) -> Result<(), Stop>
     ensures put { OnOk result (Turns (IsPut name.now (language.written site.now))
         (S.held shelf.old) (S.held shelf.new)) }
@@ -48,7 +48,8 @@ fn replace<S: Shelf>(
 ) -> Result<(), Stop>
     ensures put { OnOk result (Turns (IsPutAt place.now (language.written site.now))
         (S.held shelf.old) (S.held shelf.new)) }
-    ensures kept { OnErr result (Turns IsKept (S.held shelf.old) (S.held shelf.new)) }
+    ensures kept { OnErr result (Turns (IsKept place.now)
+        (S.held shelf.old) (S.held shelf.new)) }
     ensures fault { IfErr result (λ stop. IsDevice stop ⊎ IsMemory stop) }
 {
     let draft = match draft_beside(shelf, alloc, place, like, site) {
@@ -77,7 +78,8 @@ fn draft_beside<S: Shelf>(
     ensures made { IfOk result (λ draft.
         Turns (IsBeside place.now (string_bytes draft) (language.written site.now))
         (S.held shelf.old) (S.held shelf.new)) }
-    ensures kept { OnErr result (Turns IsKept (S.held shelf.old) (S.held shelf.new)) }
+    ensures kept { OnErr result (Turns (IsKept place.now)
+        (S.held shelf.old) (S.held shelf.new)) }
     ensures fault { IfErr result (λ stop. IsDevice stop ⊎ IsMemory stop) }
 {
     let mut beside = String::from_str(alloc, place)?;

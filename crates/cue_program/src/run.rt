@@ -47,7 +47,8 @@ pub fn answer_for<H: AllocGlobal + Shelf, R: Read>(
 ///
 /// # Errors
 ///
-/// As `site_for`. A file that lay under the name is unharmed then.
+/// As `site_for`, and then nothing was written; or `Device` and `Memory` behind the last input, and
+/// then what lay under the name, a file or nothing, lies there as before.
 pub fn merge_into<H: AllocGlobal + Shelf, R: Read>(
     rt: &mut H,
     name: &str,

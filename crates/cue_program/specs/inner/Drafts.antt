@@ -1,7 +1,7 @@
 -- What single calls do to what lies where.
 use Rattle.std.specs.Prelude.{◌≡◌, ◌≢◌, ◌⊎◌, ℕ, List, Option, Some, None, Bool, true, false, Result}
 use Rattle.std.specs.Prelude.{Ok, Err}
-use Rattle.cue_program.specs.Files.{Holdings, IsElsewhereSame, IsSameTree, KeepsFiles, Knows}
+use Rattle.cue_program.specs.Files.{Holdings, IsElsewhereSame, IsSameTree, Knows}
 use Rattle.cue_program.specs.declared.shelf.Form.{Form}
 use Rattle.cue_program.specs.declared.shelf.Form.TheVariants as forms
 
@@ -24,9 +24,20 @@ Stays = IsElsewhereSame (λ place. ⊥)
 abbrev pub IsTouchedAt : List ℕ → Holdings → Holdings → Type 0
 IsTouchedAt place = IsElsewhereSame (λ other. other ≡ place)
 
--- every file lies where it lay
-abbrev pub IsKept : Holdings → Holdings → Type 0
-IsKept old new = IsSameTree old new × KeepsFiles old new
+-- a file that lay anywhere still lies there, with its bytes
+abbrev pub KeepsFiles : Holdings → Holdings → Type 0
+KeepsFiles old new =
+    (place bytes : List ℕ) → old.bytes_at place ≡ Some bytes → new.bytes_at place ≡ Some bytes
+
+-- At the place lies what lay there, be it nothing, and every file lies where it lay.
+pub record IsKept (place : List ℕ) (old new : Holdings) : Type 0 where
+  pub tree : IsSameTree old new
+  pub files : KeepsFiles old new
+  pub own : new.bytes_at place ≡ old.bytes_at place
+
+-- a file may lie at the place where none lay, and nothing else changed
+abbrev pub IsBegunAt : List ℕ → Holdings → Holdings → Type 0
+IsBegunAt place old new = IsTouchedAt place old new × KeepsFiles old new
 
 -- nothing lay at the place, and now a file with these bytes does
 pub record IsNewAt (place bytes : List ℕ) (old new : Holdings) : Type 0 where
@@ -38,7 +49,7 @@ pub record IsNewAt (place bytes : List ℕ) (old new : Holdings) : Type 0 where
 abbrev pub IsDrafted : {E : Type 0} → List ℕ → List ℕ → Result Bool E → Holdings → Holdings → Type 0
 IsDrafted place bytes (Ok true) old new = IsNewAt place bytes old new
 IsDrafted place bytes (Ok false) old new = Stays old new
-IsDrafted place bytes (Err fault) old new = IsKept old new
+IsDrafted place bytes (Err fault) old new = IsBegunAt place old new
 
 -- a new file with these bytes lies beside the place
 abbrev pub IsBeside : List ℕ → List ℕ → List ℕ → Holdings → Holdings → Type 0

@@ -3,14 +3,14 @@ use Rattle.std.proofs.lemmas.List.{length-append}
 use Rattle.std.proofs.lemmas.Result.{err_from_is_err_and}
 use Rattle.cue_replica.specs.Language.{language}
 use Rattle.cue_program.specs.Files.{Turns}
-use Rattle.cue_program.specs.inner.Drafts.{IsDrafted, IsNewAt}
+use Rattle.cue_program.specs.inner.Drafts.{IsBegunAt, IsDrafted, IsNewAt}
 use Rattle.cue_program.specs.declared.stop.Stop.{Stop}
-use Rattle.cue_program.proofs.Drafts.{known_beside, known_kept, known_kept_on, known_stays_on}
+use Rattle.cue_program.proofs.Drafts.{known_begun, known_beside, known_kept, known_stays_on}
 use Rattle.cue_program.proofs.put.draft_beside.Goals as goal
 
 pub returns-in_err-push_str-clause-kept : goal.returns-in_err-push_str-clause-kept
 returns-in_err-push_str-clause-kept g c =
-    let kept = known_kept (g.S.Shelf.held c.args.shelf.now) (g.S.Shelf.held c.loop.shelf) c.loop.invariant.stays in
+    let kept = known_kept c.args.place.now (g.S.Shelf.held c.args.shelf.now) (g.S.Shelf.held c.loop.shelf) c.loop.invariant.stays in
     let p = err_from_is_err_and c.from_residual-in_err-push_str.result c.from_residual-in_err-push_str.ensures.1 in
     rw p.1 kept
 
@@ -25,7 +25,10 @@ returns-in-Ok-true-clause-made g c =
 
 pub returns-in-Err-clause-kept : goal.returns-in-Err-clause-kept
 returns-in-Err-clause-kept g c =
-    known_kept_on (g.S.Shelf.held c.args.shelf.now) (g.S.Shelf.held c.loop.shelf) (g.S.Shelf.held c.draft.new.self) c.loop.invariant.stays c.in-Err.ensures.drafted
+    let longer : length c.args.place.now < length (string_bytes c.push_str.new.self) =
+    omega (arith, c.loop.invariant.longer, ap length c.in_ok-push_str.ensures.bytes, length-append (string_bytes c.loop.beside) (46 ∷ 112 ∷ 97 ∷ 114 ∷ 116 ∷ [])) in
+    known_begun c.args.place.now (string_bytes c.push_str.new.self) (g.S.Shelf.held c.args.shelf.now) (g.S.Shelf.held c.loop.shelf) (g.S.Shelf.held c.draft.new.self) longer c.loop.invariant.stays
+    (subst (λ (t : List ℕ). Turns (IsBegunAt t) (g.S.Shelf.held c.loop.shelf) (g.S.Shelf.held c.draft.new.self)) c.as_str.ensures.value c.in-Err.ensures.drafted)
 
 pub loop-preserved : goal.loop-preserved
 loop-preserved g c = record {
@@ -35,4 +38,4 @@ loop-preserved g c = record {
 }
 
 pub returns-clause-kept : goal.returns-clause-kept
-returns-clause-kept g c = known_kept (g.S.Shelf.held c.args.shelf.now) (g.S.Shelf.held c.loop.shelf) c.loop.invariant.stays
+returns-clause-kept g c = known_kept c.args.place.now (g.S.Shelf.held c.args.shelf.now) (g.S.Shelf.held c.loop.shelf) c.loop.invariant.stays

@@ -1,7 +1,7 @@
 use Rattle.std.proofs.Common.{List, ℕ, string_bytes, subst}
 use Rattle.cue_replica.specs.Language.{language}
 use Rattle.cue_program.specs.Files.{Turns}
-use Rattle.cue_program.specs.inner.Drafts.{IsFound, IsPutAt, IsTouchedAt}
+use Rattle.cue_program.specs.inner.Drafts.{IsFound, IsKept, IsPutAt, IsTouchedAt}
 use Rattle.cue_program.specs.declared.shelf.Form.{Form}
 use Rattle.cue_program.proofs.Files.{ok_more, err_more}
 use Rattle.cue_program.proofs.Drafts.{known_put_under, known_unharmed, known_special, overwritten, not_overwritten}
@@ -24,12 +24,16 @@ returns-clause-put g c =
 pub returns-in-File-clause-unharmed : goal.returns-in-File-clause-unharmed
 returns-in-File-clause-unharmed g c =
     err_more c.replace.result c.replace.ensures.kept
-    (λ h. known_unharmed c.args.name.now (g.S.Shelf.held c.args.shelf.now) (g.S.Shelf.held c.replace.new.shelf) h)
+    (λ h. known_unharmed c.args.name.now (string_bytes c.in-Ok.found.0) c.in-Ok.found.1
+    (g.S.Shelf.held c.args.shelf.now) (g.S.Shelf.held c.replace.new.shelf) c.in-Ok.ensures.found
+    (subst (λ (t : List ℕ). Turns (IsKept t) (g.S.Shelf.held c.args.shelf.now) (g.S.Shelf.held c.replace.new.shelf)) c.as_str-place.ensures.value h))
 
 pub returns-clause-unharmed : goal.returns-clause-unharmed
 returns-clause-unharmed g c =
     err_more c.replace-in-Nothing.result c.replace-in-Nothing.ensures.kept
-    (λ h. known_unharmed c.args.name.now (g.S.Shelf.held c.args.shelf.now) (g.S.Shelf.held c.replace-in-Nothing.new.shelf) h)
+    (λ h. known_unharmed c.args.name.now (string_bytes c.in-Ok.found.0) c.in-Ok.found.1
+    (g.S.Shelf.held c.args.shelf.now) (g.S.Shelf.held c.replace-in-Nothing.new.shelf) c.in-Ok.ensures.found
+    (subst (λ (t : List ℕ). Turns (IsKept t) (g.S.Shelf.held c.args.shelf.now) (g.S.Shelf.held c.replace-in-Nothing.new.shelf)) c.as_str-place.ensures.value h))
 
 pub returns-in-Special-clause-put : goal.returns-in-Special-clause-put
 returns-in-Special-clause-put g c =
