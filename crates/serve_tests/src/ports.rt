@@ -5,21 +5,20 @@ use crate::sockets::{ACCEPTED, TEXT, heard, sent};
 use cue_answer::Status;
 use cue_net::{push_for, serve_for};
 use std::alloc::Global;
-use std::cell::Cell;
 use std::io;
 use std::io::{ErrorKind, Write};
-use std::net::{Ipv4Addr, Net, SocketAddr, TcpListener, TcpStream};
+use std::net::{Ipv4Addr, Net, Shutdown, SocketAddr, TcpListener, TcpStream};
 use std::test::Fail;
 
-/// A runtime that hands out these two at port 80 of this computer, each once, and nothing else.
+/// A runtime that has these two at port 80 of this computer, and nothing elsewhere.
 #[derive(Drop)]
-struct Prepared {
+struct Prepared<'a> {
     alloc: Global,
-    listener: Cell<Option<TcpListener>>,
-    stream: Cell<Option<TcpStream>>,
+    listener: &'a TcpListener,
+    stream: &'a TcpStream,
 }
 
-impl Alloc for Prepared {
+impl Alloc for Prepared<'_> {
     type A = Global;
 
     fn alloc(&self) -> Global {
@@ -27,28 +26,27 @@ impl Alloc for Prepared {
     }
 }
 
-/// What was made before, where it is still there and this is its address.
-fn handed_out<T>(made: &Cell<Option<T>>, address: SocketAddr) -> io::Result<T> {
+/// Whether this is the port at which something stands.
+fn at_port(address: SocketAddr) -> io::Result<()> {
     if address != SocketAddr::from((Ipv4Addr::LOCALHOST, 80)) {
         return Err(io::Error::from(ErrorKind::AddrNotAvailable));
     }
-    match made.replace(None) {
-        Some(made) => Ok(made),
-        None => Err(io::Error::from(ErrorKind::AddrInUse)),
-    }
+    Ok(())
 }
 
-impl Net for Prepared {
+impl Net for Prepared<'_> {
     type Stream = TcpStream;
 
     type Listener = TcpListener;
 
     fn bind(&self, address: SocketAddr) -> io::Result<TcpListener> {
-        handed_out(&self.listener, address)
+        at_port(address)?;
+        self.listener.try_clone()
     }
 
     fn connect(&self, address: SocketAddr) -> io::Result<TcpStream> {
-        handed_out(&self.stream, address)
+        at_port(address)?;
+        self.stream.try_clone()
     }
 }
 
@@ -58,8 +56,8 @@ fn a_connection_at_a_port_is_served(rt: HostRuntime) -> Result<(), Fail> {
     let stream = sent(&rt, listener.local_addr()?, &TEXT)?;
     let port = Prepared {
         alloc: rt.alloc(),
-        listener: Cell::new(Some(listener)),
-        stream: Cell::new(None),
+        listener: &listener,
+        stream: &stream,
     };
     let answer = serve_for(&port, 80, 1);
     assert!(rt; Told { answer }.prints(b"{\"a\":1}\n", Status::Done));
@@ -74,29 +72,21 @@ fn a_port_that_the_system_picks(rt: HostRuntime) {
     assert!(rt; Told { answer }.prints(line, Status::Incomplete));
 }
 
-/// Both ends of a new connection.
-fn both_ends<H>(rt: &H) -> io::Result<(TcpStream, TcpStream)>
-where
-    H: AllocGlobal + Net<Listener = TcpListener, Stream = TcpStream>,
-{
-    let listener = TcpListener::bind(rt, (Ipv4Addr::LOCALHOST, 0))?;
-    let near = TcpStream::connect(rt, listener.local_addr()?)?;
-    let (far, _) = listener.accept()?;
-    Ok((near, far))
-}
-
 /// The replies stand in the connection before the requests do: nobody waits for them.
 #[test]
 fn an_input_is_pushed_to_a_port(rt: HostRuntime) -> Result<(), Fail> {
-    let (near, far) = both_ends(&rt)?;
+    let listener = TcpListener::bind(&rt, (Ipv4Addr::LOCALHOST, 0))?;
+    let near = TcpStream::connect(&rt, listener.local_addr()?)?;
+    let (far, _) = listener.accept()?;
     (&far).write_all(b"\0\0\0\x01\0\0\0\0\x09\0\0{\"a\":1}")?;
     let port = Prepared {
         alloc: rt.alloc(),
-        listener: Cell::new(None),
-        stream: Cell::new(Some(near)),
+        listener: &listener,
+        stream: &near,
     };
     let answer = push_for(&port, 80, &texts_of(rt.alloc(), &["a: 1\n"])?);
     assert!(rt; Told { answer }.prints(b"{\"a\":1}\n", Status::Done));
+    near.shutdown(Shutdown::Write)?;
     let requests = b"\0\0\0\x06\x01a: 1\n\0\0\0\x01\x04";
     assert_eq!(rt; heard(&rt, &far)?.as_slice(), requests.as_slice());
     Ok(())
