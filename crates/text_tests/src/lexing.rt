@@ -347,6 +347,14 @@ fn is_copied(alloc: Global, word: Option<Word>, text: &str) -> Made<bool> {
     }
 }
 
+/// The word as it stands.
+fn displayed(alloc: Global, word: Option<Word>) -> Made<String> {
+    match word {
+        Some(word) => Ok(format!(in alloc; "{word}")?),
+        None => Ok(String::new(alloc)),
+    }
+}
+
 /// Whether the first word comes after the second.
 fn is_after(first: Option<Word>, second: Option<Word>) -> bool {
     match (first, second) {
@@ -365,6 +373,7 @@ fn words(rt: HostRuntime) -> Result<(), Fail> {
     assert!(rt; has_text(shared(word("é")), "é"));
     assert!(rt; has_bytes(word("é"), &[0xC3, 0xA9]));
     assert!(rt; is_copied(rt.alloc(), word("é"), "é")?);
+    assert!(rt; is_text(displayed(rt.alloc(), word("é")), "é")?);
     assert!(rt; is_after(word("é"), word("z")));
     assert!(rt; are_same(word("é"), word("é")) == Some(true));
     assert!(rt; are_same(word("é"), word("e")) == Some(false));
