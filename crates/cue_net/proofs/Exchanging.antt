@@ -1,17 +1,17 @@
 -- Requests that are carried from one end to the other, and their replies back.
-use Rattle.std.proofs.Common.{◌≡◌, ℕ, ◌<◌, List, [], ◌++◌, length, refl, ap, sym, ◌∙◌, arith, append_assoc, append-nil, inl, inr, ⊎_elim, Option, Result, Ok, Err, length-append}
+use Rattle.std.proofs.Common.{◌≡◌, ◌⊎◌, ℕ, ◌+◌, ◌<◌, ◌≤◌, List, [], ◌++◌, length, refl, ap, sym, ◌∙◌, arith, append_assoc, append-nil, inl, inr, ⊎_elim, Option, Result, Ok, Err, length-append}
 use Rattle.std.proofs.KnownBytes.{Appends-nil, Appends-kept, Consumes-nil}
 use Rattle.std.specs.Io.KnownBytes.{Appends, Consumes, Keeps}
 use Rattle.cue_replica.specs.Language.{Table}
 use Rattle.cue_wire.specs.Clients.{Exchange}
 use Rattle.cue_wire.specs.Sessions.{Standing}
 use Rattle.cue_net.specs.declared.halt.Halt.{Halt}
-use Rattle.cue_net.specs.Halts.{IsMemory}
-use Rattle.cue_net.specs.Turns.{IsWriteHalt}
+use Rattle.cue_net.specs.Halts.{IsDevice, IsMemory}
+use Rattle.cue_net.specs.Inner.Turns.{IsWriteHalt}
 use Rattle.cue_net.specs.Talks.{Talk}
 use Rattle.cue_net.specs.Inner.Hearing.{Hears}
-use Rattle.cue_net.specs.Inner.Looping.{IsCarryHalt, Brought, ServesOnto, Faults, Exchanged, ExchangesAt}
-use Rattle.cue_net.proofs.Asking.{no_talk, talks_nothing, joined, talks_more}
+use Rattle.cue_net.specs.Inner.Looping.{bytes_of, IsCarryHalt, Brought, ServesOnto, Faults, Exchanged, ExchangesAt}
+use Rattle.cue_net.proofs.Asking.{no_talk, talks_nothing, joined, talks_more, moves_on}
 use Rattle.cue_net.proofs.Hearing.{hears_nothing, hears_more, balks_later}
 use Rattle.cue_net.proofs.Looping.{serves_nothing, serves_more, faults_later}
 
@@ -24,7 +24,7 @@ shifted old new before after start out sent unsent piece had nil is none serves 
     (x.0, x.1, x.2, record { bodies = x.3.bodies; replies = x.3.replies; frames = x.3.frames; tables = x.3.tables; added = ap (λ zs. had ++ zs) all })
 
 pub ex_nothing : (old : Exchange) (session : Standing) (site : Table) (given to_come taken gave coming took : Option (List ℕ)) (left failed : ℕ)
-    → Exchanged (Ok tt) [] old old session session site site given given to_come to_come taken taken gave gave coming coming took took left failed failed
+    → Exchanged (Ok tt) [] old old session session site site given given to_come to_come taken taken gave gave coming coming took took left left failed failed
 ex_nothing old session site given to_come taken gave coming took left failed = record {
   near = no_talk;
   far = no_talk;
@@ -32,11 +32,12 @@ ex_nothing old session site given to_come taken gave coming took left failed = r
   near_passes = talks_nothing given to_come taken;
   far_passes = talks_nothing gave coming took;
   front = refl;
+  moves = omega arith;
   ends = (refl, refl, refl, hears_nothing old, serves_nothing session site []);
 }
 
 pub ex_none : (halt : Halt) (frames : List ℕ) (old : Exchange) (session : Standing) (site : Table) (given to_come taken gave coming took : Option (List ℕ)) (left failed : ℕ)
-    → IsMemory halt → Exchanged (Err halt) frames old old session session site site given given to_come to_come taken taken gave gave coming coming took took left failed failed
+    → IsMemory halt → Exchanged (Err halt) frames old old session session site site given given to_come to_come taken taken gave gave coming coming took took left left failed failed
 ex_none halt frames old session site given to_come taken gave coming took left failed memory = record {
   near = no_talk;
   far = no_talk;
@@ -44,6 +45,7 @@ ex_none halt frames old session site given to_come taken gave coming took left f
   near_passes = talks_nothing given to_come taken;
   far_passes = talks_nothing gave coming took;
   front = refl;
+  moves = inr (omega arith);
   ends = inr (inl memory);
 }
 
@@ -68,15 +70,19 @@ ends_then (Err halt) unsent near far near' far' old mid new s0 s1 s2 t0 t1 t2 to
           (λ faults. inr (faults_later s0 s1 t0 t1 [] far.sent far.heard far'.heard serves faults)) d)) b)) a)) device.1,
     )) others)) e
 
+sums : (near near' far far' : Talk) → bytes_of near far + bytes_of near' far' ≤ bytes_of (joined near near') (joined far far')
+sums near near' far far' =
+    omega (arith, length-append near.sent near'.sent, length-append near.heard near'.heard, length-append far.sent far'.sent, length-append far.heard far'.heard)
+
 -- one exchange after the other
 pub ex_then : {u : Unit {0}} {result : Result (Unit {0}) Halt} {one two : List ℕ} {old mid new : Exchange} {s0 s1 s2 : Standing} {t0 t1 t2 : Table}
     {given given' given'' to_come to_come' to_come'' taken taken' taken'' gave gave' gave'' coming coming' coming'' took took' took'' : Option (List ℕ)}
-    {left left' failed failed' failed'' : ℕ} → failed' ≡ failed
-    → Exchanged (Ok u) one old mid s0 s1 t0 t1 given given' to_come to_come' taken taken' gave gave' coming coming' took took' left failed failed'
-    → Exchanged result two mid new s1 s2 t1 t2 given' given'' to_come' to_come'' taken' taken'' gave' gave'' coming' coming'' took' took'' left' failed' failed''
-    → Exchanged result (one ++ two) old new s0 s2 t0 t2 given given'' to_come to_come'' taken taken'' gave gave'' coming coming'' took took'' left' failed failed''
+    {start left left' failed failed' failed'' : ℕ} → failed' ≡ failed
+    → Exchanged (Ok u) one old mid s0 s1 t0 t1 given given' to_come to_come' taken taken' gave gave' coming coming' took took' start left failed failed'
+    → Exchanged result two mid new s1 s2 t1 t2 given' given'' to_come' to_come'' taken' taken'' gave' gave'' coming' coming'' took' took'' left left' failed' failed''
+    → Exchanged result (one ++ two) old new s0 s2 t0 t2 given given'' to_come to_come'' taken taken'' gave gave'' coming coming'' took took'' start left' failed failed''
 ex_then {u} {result} {one} {two} {old} {mid} {new} {s0} {s1} {s2} {t0} {t1} {t2} {given} {given'} {given''} {to_come} {to_come'} {to_come''} {taken} {taken'} {taken''}
-    {gave} {gave'} {gave''} {coming} {coming'} {coming''} {took} {took'} {took''} {left} {left'} {failed} {failed'} {failed''} sound a b = record {
+    {gave} {gave'} {gave''} {coming} {coming'} {coming''} {took} {took'} {took''} {start} {left} {left'} {failed} {failed'} {failed''} sound a b = record {
       near = joined a.near b.near;
       far = joined a.far b.far;
       unsent = b.unsent;
@@ -84,15 +90,17 @@ ex_then {u} {result} {one} {two} {old} {mid} {new} {s0} {s1} {s2} {t0} {t1} {t2}
       far_passes = talks_more a.far b.far gave gave' gave'' coming coming' coming'' took took' took'' a.far_passes b.far_passes;
       front = ap (λ zs. zs ++ two) (a.front ∙ ap (λ zs. a.near.sent ++ zs) a.ends.0 ∙ append-nil a.near.sent)
           ∙ ap (λ zs. a.near.sent ++ zs) b.front ∙ sym (append_assoc a.near.sent b.near.sent b.unsent);
+      moves = moves_on result start left left' (bytes_of a.near a.far) (bytes_of b.near b.far) (bytes_of (joined a.near b.near) (joined a.far b.far))
+          (sums a.near b.near a.far b.far) a.moves b.moves;
       ends = ends_then result b.unsent a.near a.far b.near b.far old mid new s0 s1 s2 t0 t1 t2 to_come'' coming'' left' failed failed' failed'' sound
           a.ends.1 a.ends.2 a.ends.3 a.ends.4 b.ends;
     }
 
 -- what stops while a part is exchanged
 pub ex_part : {halt : Halt} {frames : List ℕ} {old new : Exchange} {s0 s1 : Standing} {t0 t1 : Table}
-    {given given' to_come to_come' taken taken' gave gave' coming coming' took took' : Option (List ℕ)} {left failed failed' : ℕ} → (more : List ℕ)
-    → Exchanged (Err halt) frames old new s0 s1 t0 t1 given given' to_come to_come' taken taken' gave gave' coming coming' took took' left failed failed'
-    → Exchanged (Err halt) (frames ++ more) old new s0 s1 t0 t1 given given' to_come to_come' taken taken' gave gave' coming coming' took took' left failed failed'
+    {given given' to_come to_come' taken taken' gave gave' coming coming' took took' : Option (List ℕ)} {start left failed failed' : ℕ} → (more : List ℕ)
+    → Exchanged (Err halt) frames old new s0 s1 t0 t1 given given' to_come to_come' taken taken' gave gave' coming coming' took took' start left failed failed'
+    → Exchanged (Err halt) (frames ++ more) old new s0 s1 t0 t1 given given' to_come to_come' taken taken' gave gave' coming coming' took took' start left failed failed'
 ex_part {halt} {frames} more a = record {
   near = a.near;
   far = a.far;
@@ -100,13 +108,14 @@ ex_part {halt} {frames} more a = record {
   near_passes = a.near_passes;
   far_passes = a.far_passes;
   front = ap (λ zs. zs ++ more) a.front ∙ append_assoc a.near.sent a.unsent more;
+  moves = a.moves;
   ends = a.ends;
 }
 
 pub ex_is : {result : Result (Unit {0}) Halt} {frames frames' : List ℕ} {old new : Exchange} {s0 s1 : Standing} {t0 t1 : Table}
-    {given given' to_come to_come' taken taken' gave gave' coming coming' took took' : Option (List ℕ)} {left failed failed' : ℕ} → frames' ≡ frames
-    → Exchanged result frames old new s0 s1 t0 t1 given given' to_come to_come' taken taken' gave gave' coming coming' took took' left failed failed'
-    → Exchanged result frames' old new s0 s1 t0 t1 given given' to_come to_come' taken taken' gave gave' coming coming' took took' left failed failed'
+    {given given' to_come to_come' taken taken' gave gave' coming coming' took took' : Option (List ℕ)} {start left failed failed' : ℕ} → frames' ≡ frames
+    → Exchanged result frames old new s0 s1 t0 t1 given given' to_come to_come' taken taken' gave gave' coming coming' took took' start left failed failed'
+    → Exchanged result frames' old new s0 s1 t0 t1 given given' to_come to_come' taken taken' gave gave' coming coming' took took' start left failed failed'
 ex_is is a = record {
   near = a.near;
   far = a.far;
@@ -114,22 +123,24 @@ ex_is is a = record {
   near_passes = a.near_passes;
   far_passes = a.far_passes;
   front = is ∙ a.front;
+  moves = a.moves;
   ends = a.ends;
 }
 
 -- a piece is written, served, and its replies are heard
 pub piece_exchanged : (piece : List ℕ) (n : ℕ) (old new : Exchange) (s0 s1 : Standing) (t0 t1 : Table) (start out bytes read : List ℕ)
-    (given given' to_come to_come' taken taken' gave gave' coming coming' took took' : Option (List ℕ)) (left failed failed' failures failures' : ℕ)
-    → length piece ≡ n → start ≡ [] → bytes ≡ out → Appends taken taken' piece → Appends gave gave' read → Consumes coming coming' read
-    → (length read ≡ n) × ServesOnto s0 s1 t0 t1 start out read → Brought (Ok tt) bytes old new given given' to_come to_come' took took' left failed failed'
-    → Exchanged (Ok tt) piece old new s0 s1 t0 t1 given given' to_come to_come' taken taken' gave gave' coming coming' took took' left failures failures'
-piece_exchanged piece n old new s0 s1 t0 t1 start out bytes read given given' to_come to_come' taken taken' gave gave' coming coming' took took' left failed failed' failures failures' long nil same wrote gives takes r b = record {
+    (given given' to_come to_come' taken taken' gave gave' coming coming' took took' : Option (List ℕ)) (turns left left' failed failed' failures failures' : ℕ)
+    → length piece ≡ n → turns ≤ left + (n + n) → start ≡ [] → bytes ≡ out → Appends taken taken' piece → Appends gave gave' read → Consumes coming coming' read
+    → (length read ≡ n) × ServesOnto s0 s1 t0 t1 start out read → Brought (Ok tt) bytes old new given given' to_come to_come' took took' left left' failed failed'
+    → Exchanged (Ok tt) piece old new s0 s1 t0 t1 given given' to_come to_come' taken taken' gave gave' coming coming' took took' turns left' failures failures'
+piece_exchanged piece n old new s0 s1 t0 t1 start out bytes read given given' to_come to_come' taken taken' gave gave' coming coming' took took' turns left left' failed failed' failures failures' long moved nil same wrote gives takes r b = record {
   near = record { sent = piece; heard = b.talk.heard };
   far = record { sent = b.talk.sent; heard = read };
   unsent = [];
   near_passes = record { gave = b.passes.gave; took = b.passes.took; wrote = wrote };
   far_passes = record { gave = gives; took = takes; wrote = b.passes.wrote };
   front = sym (append-nil piece);
+  moves = omega (arith, long, moved, r.0, b.moves);
   ends = (
     refl,
     omega (arith, r.0, long),
@@ -141,45 +152,48 @@ piece_exchanged piece n old new s0 s1 t0 t1 start out bytes read given given' to
 
 -- it is not written
 pub piece_unwritten : (halt : Halt) (frames : List ℕ) (old : Exchange) (s0 : Standing) (t0 : Table) (given to_come taken taken' gave coming took : Option (List ℕ))
-    (left failed failed' failures failures' : ℕ) → (failed < failed' → failures < failures') → Keeps taken taken' → IsWriteHalt halt left failed failed'
-    → Exchanged (Err halt) frames old old s0 s0 t0 t0 given given to_come to_come taken taken' gave gave coming coming took took left failures failures'
-piece_unwritten halt frames old s0 t0 given to_come taken taken' gave coming took left failed failed' failures failures' more kept why = record {
+    (start left failed failed' failures failures' : ℕ) → (failed < failed' → failures < failures') → Keeps taken taken' → IsDevice halt ⊎ (left ≡ start) → IsWriteHalt halt left failed failed'
+    → Exchanged (Err halt) frames old old s0 s0 t0 t0 given given to_come to_come taken taken' gave gave coming coming took took start left failures failures'
+piece_unwritten halt frames old s0 t0 given to_come taken taken' gave coming took start left failed failed' failures failures' more kept idle why = record {
   near = no_talk;
   far = no_talk;
   unsent = frames;
   near_passes = record { gave = Appends-nil given; took = Consumes-nil to_come; wrote = Appends-kept taken taken taken' [] (Appends-nil taken) kept };
   far_passes = talks_nothing gave coming took;
   front = refl;
+  moves = ⊎_elim inl (λ same. inr (omega (arith, same))) idle;
   ends = ⊎_elim (λ used. inl (used.0, used.1)) (λ device. inr (inr (device.0, inl (more device.1)))) why;
 }
 
 -- it is not served
 pub piece_unserved : (halt : Halt) (piece read : List ℕ) (old : Exchange) (s0 s1 : Standing) (t0 t1 : Table) (given to_come taken taken' gave gave' coming coming' took : Option (List ℕ))
-    (left failed failed' failures failures' : ℕ) → (failed < failed' → failures < failures') → Appends taken taken' piece → Appends gave gave' read → Consumes coming coming' read
+    (start left failed failed' failures failures' : ℕ) → (failed < failed' → failures < failures') → IsDevice halt ⊎ (start ≤ left + (length piece + length read)) → Appends taken taken' piece → Appends gave gave' read → Consumes coming coming' read
     → IsCarryHalt halt left coming' failed failed' (Faults s0 read)
-    → Exchanged (Err halt) piece old old s0 s1 t0 t1 given given to_come to_come taken taken' gave gave' coming coming' took took left failures failures'
-piece_unserved halt piece read old s0 s1 t0 t1 given to_come taken taken' gave gave' coming coming' took left failed failed' failures failures' more wrote gives takes why = record {
+    → Exchanged (Err halt) piece old old s0 s1 t0 t1 given given to_come to_come taken taken' gave gave' coming coming' took took start left failures failures'
+piece_unserved halt piece read old s0 s1 t0 t1 given to_come taken taken' gave gave' coming coming' took start left failed failed' failures failures' more moved wrote gives takes why = record {
   near = record { sent = piece; heard = [] };
   far = record { sent = []; heard = read };
   unsent = [];
   near_passes = record { gave = Appends-nil given; took = Consumes-nil to_come; wrote = wrote };
   far_passes = record { gave = gives; took = takes; wrote = Appends-nil took };
   front = sym (append-nil piece);
+  moves = ⊎_elim inl (λ some. inr (omega (arith, some))) moved;
   ends = ⊎_elim inl (λ others. inr (⊎_elim inl (λ device. inr (device.0, ⊎_elim (λ broke. inl (more broke)) (λ a. inr (inr (⊎_elim inl (λ faults. inr (inr faults)) a))) device.1)) others)) why;
 }
 
 -- the replies are not heard
 pub piece_unheard : (halt : Halt) (piece out read : List ℕ) (old new : Exchange) (s0 s1 : Standing) (t0 t1 : Table)
-    (given given' to_come to_come' taken taken' gave gave' coming coming' took took' : Option (List ℕ)) (left failed failed' failures failures' : ℕ)
-    → (failed < failed' → failures < failures') → Appends taken taken' piece → Appends gave gave' read → Consumes coming coming' read
-    → Brought (Err halt) out old new given given' to_come to_come' took took' left failed failed'
-    → Exchanged (Err halt) piece old new s0 s1 t0 t1 given given' to_come to_come' taken taken' gave gave' coming coming' took took' left failures failures'
-piece_unheard halt piece out read old new s0 s1 t0 t1 given given' to_come to_come' taken taken' gave gave' coming coming' took took' left failed failed' failures failures' more wrote gives takes b = record {
+    (given given' to_come to_come' taken taken' gave gave' coming coming' took took' : Option (List ℕ)) (start left left' failed failed' failures failures' : ℕ)
+    → (failed < failed' → failures < failures') → start ≤ left + (length piece + length read) → Appends taken taken' piece → Appends gave gave' read → Consumes coming coming' read
+    → Brought (Err halt) out old new given given' to_come to_come' took took' left left' failed failed'
+    → Exchanged (Err halt) piece old new s0 s1 t0 t1 given given' to_come to_come' taken taken' gave gave' coming coming' took took' start left' failures failures'
+piece_unheard halt piece out read old new s0 s1 t0 t1 given given' to_come to_come' taken taken' gave gave' coming coming' took took' start left left' failed failed' failures failures' more moved wrote gives takes b = record {
   near = record { sent = piece; heard = b.talk.heard };
   far = record { sent = b.talk.sent; heard = read };
   unsent = [];
   near_passes = record { gave = b.passes.gave; took = b.passes.took; wrote = wrote };
   far_passes = record { gave = gives; took = takes; wrote = b.passes.wrote };
   front = sym (append-nil piece);
+  moves = ⊎_elim inl (λ some. inr (omega (arith, moved, some))) b.moves;
   ends = ⊎_elim inl (λ others. inr (⊎_elim inl (λ device. inr (device.0, ⊎_elim (λ broke. inl (more broke)) (λ a. inr (⊎_elim inl (λ balks. inr (inr (inl balks))) a)) device.1)) others)) b.ends;
 }

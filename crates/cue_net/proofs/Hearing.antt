@@ -4,8 +4,8 @@ use Rattle.std.proofs.lemmas.List.{length-map}
 use Rattle.cue_wire.specs.Clients.{Exchange, HasTaken, all_items}
 use Rattle.cue_wire.specs.Frames.{HasFault}
 use Rattle.cue_net.specs.declared.halt.Halt.{Halt}
-use Rattle.cue_net.specs.Halts.{IsDevice, IsMemory}
-use Rattle.cue_net.specs.Turns.{IsReadHalt}
+use Rattle.cue_net.specs.Halts.{IsDevice, IsMemory, IsTurnsUsed}
+use Rattle.cue_net.specs.Inner.Turns.{IsReadHalt}
 use Rattle.cue_net.specs.Inner.Hearing.{Hears, Balks, IsHearHalt}
 
 pub hears_nothing : (old : Exchange) → Hears old old []
@@ -17,17 +17,22 @@ hears_more old mid new p q one two stream taken = subst (HasTaken new) (append_a
 pub balks_later : (old mid : Exchange) (p q : List ℕ) → Hears old mid p → Balks mid q → Balks old (p ++ q)
 balks_later old mid p q one two stream taken = subst HasFault (append_assoc stream p q) (two (stream ++ p) (one stream taken))
 
+-- where turns are used, no device failed
+pub in_turns : (halt : Halt) (P : Type 0) {Q : Type 0} → (P → Q) → IsTurnsUsed halt → IsDevice halt ⊎ P → Q
+in_turns halt P next used (inl device) = absurd cc
+in_turns halt P next used (inr moved) = next moved
+
 -- a read that has no bytes ends hearing
 pub stops_reading : (halt : Halt) (old new : Exchange) (piece : List ℕ) (count left failed failed' failed'' : ℕ) (to_come : Option (List ℕ))
     → Hears old new piece → length new.replies < count → failed' ≡ failed → IsReadHalt halt left to_come failed' failed''
-    → IsHearHalt halt old new piece count to_come left failed failed''
+    → IsHearHalt halt [] old new piece count to_come left failed failed''
 stops_reading halt old new piece count left failed failed' failed'' to_come hears few sound why =
-    ⊎_elim (λ used. inl (used.0, used.1)) (λ device. inr (inr (device.0, ⊎_elim (λ broke. inl (omega (arith, sound, broke))) (λ ended. inr (inl (ended.0, hears, few))) device.1))) why
+    ⊎_elim (λ used. inl (used.0, used.1, inr (hears, few))) (λ device. inr (inr (device.0, ⊎_elim (λ broke. inl (omega (arith, sound, broke))) (λ ended. inr (inl (ended.0, (hears, few)))) device.1))) why
 
 -- so does a piece that the client refuses
 pub stops_taking : (halt : Halt) (old mid new : Exchange) (p q : List ℕ) (count left failed failed' : ℕ) (to_come : Option (List ℕ))
     → Hears old mid p → IsMemory halt ⊎ (IsDevice halt × Balks mid q)
-    → IsHearHalt halt old new (p ++ q) count to_come left failed failed'
+    → IsHearHalt halt [] old new (p ++ q) count to_come left failed failed'
 stops_taking halt old mid new p q count left failed failed' to_come hears why =
     inr (⊎_elim inl (λ device. inr (device.0, inr (inr (balks_later old mid p q hears device.1)))) why)
 

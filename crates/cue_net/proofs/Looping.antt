@@ -7,7 +7,7 @@ use Rattle.cue_wire.proofs.Readings.{are_readings}
 use Rattle.cue_wire.proofs.Streams.{served_none}
 use Rattle.cue_net.specs.declared.halt.Halt.{Halt}
 use Rattle.cue_net.specs.Halts.{IsDevice, IsMemory}
-use Rattle.cue_net.specs.Turns.{IsReadHalt}
+use Rattle.cue_net.specs.Inner.Turns.{IsReadHalt}
 use Rattle.cue_net.specs.Inner.Looping.{IsCarryHalt, ServesOnto, Faults}
 
 served_onto : (read kept piece rest : List ℕ) (before between after : Table) (old mid new : List ℕ)

@@ -23,33 +23,33 @@ parts_more all front rest n is =
 
 -- the inputs so far are pushed
 pub record Pushed (inputs rest : List requests.Request) (asked : ℕ) (old new : Exchange) (given given' to_come to_come' taken taken' : Option (List ℕ))
-    (left failed failed' : ℕ) : Type 0 where
+    (start left failed failed' : ℕ) : Type 0 where
   pub front : List requests.Request
   pub parts : inputs ≡ front ++ rest
   pub counted : asked ≡ length front
-  pub asks : Asked (Ok tt) (flat_map request_frame front) old new asked given given' to_come to_come' taken taken' left failed failed'
+  pub asks : Asked (Ok tt) (flat_map request_frame front) old new asked given given' to_come to_come' taken taken' start left failed failed'
 
 pub pushed_more : (u : Unit {0}) (inputs rest : List requests.Request) (asked n : ℕ) (old mid new : Exchange) (given given' given'' to_come to_come' to_come'' taken taken' taken'' : Option (List ℕ))
-    (left left' failed failed' failed'' : ℕ) → n ≤ length rest → failed' ≡ failed
-    → Pushed inputs rest asked old mid given given' to_come to_come' taken taken' left failed failed'
-    → Asked (Ok u) (flat_map request_frame (take n rest)) mid new (asked + n) given' given'' to_come' to_come'' taken' taken'' left' failed' failed''
-    → Pushed inputs (take (length rest - n) (drop n rest)) (asked + n) old new given given'' to_come to_come'' taken taken'' left' failed failed''
-pushed_more u inputs rest asked n old mid new given given' given'' to_come to_come' to_come'' taken taken' taken'' left left' failed failed' failed'' within sound p next = record {
+    (start left left' failed failed' failed'' : ℕ) → n ≤ length rest → failed' ≡ failed
+    → Pushed inputs rest asked old mid given given' to_come to_come' taken taken' start left failed failed'
+    → Asked (Ok u) (flat_map request_frame (take n rest)) mid new (asked + n) given' given'' to_come' to_come'' taken' taken'' left left' failed' failed''
+    → Pushed inputs (take (length rest - n) (drop n rest)) (asked + n) old new given given'' to_come to_come'' taken taken'' start left' failed failed''
+pushed_more u inputs rest asked n old mid new given given' given'' to_come to_come' to_come'' taken taken' taken'' start left left' failed failed' failed'' within sound p next = record {
   front = p.front ++ take n rest;
   parts = parts_more inputs p.front rest n p.parts;
   counted = omega (arith, p.counted, length-append p.front (take n rest), length-take-le n rest within);
-  asks = subst (λ fs. Asked (Ok tt) fs old new (asked + n) given given'' to_come to_come'' taken taken'' left' failed failed'') (sym (flat_map-append request_frame p.front (take n rest)))
+  asks = subst (λ fs. Asked (Ok tt) fs old new (asked + n) given given'' to_come to_come'' taken taken'' start left' failed failed'') (sym (flat_map-append request_frame p.front (take n rest)))
       (asks_more tt (Ok u) (frames p.front) (frames (take n rest)) old mid new asked (asked + n) given given' given'' to_come to_come' to_come'' taken taken' taken''
-      left left' failed failed' failed'' sound p.asks next);
+      start left left' failed failed' failed'' sound p.asks next);
 }
 
 -- a group is not pushed
 pub pushed_part : (halt : Halt) (inputs rest : List requests.Request) (asked n : ℕ) (old mid new : Exchange) (given given' given'' to_come to_come' to_come'' taken taken' taken'' : Option (List ℕ))
-    (left left' failed failed' failed'' : ℕ) → n ≤ length rest → failed' ≡ failed
-    → Pushed inputs rest asked old mid given given' to_come to_come' taken taken' left failed failed'
-    → Asked (Err halt) (flat_map request_frame (take n rest)) mid new (asked + n) given' given'' to_come' to_come'' taken' taken'' left' failed' failed''
-    → Asked (Err halt) (flat_map request_frame inputs) old new (length inputs) given given'' to_come to_come'' taken taken'' left' failed failed''
-pushed_part halt inputs rest asked n old mid new given given' given'' to_come to_come' to_come'' taken taken' taken'' left left' failed failed' failed'' within sound p next =
+    (start left left' failed failed' failed'' : ℕ) → n ≤ length rest → failed' ≡ failed
+    → Pushed inputs rest asked old mid given given' to_come to_come' taken taken' start left failed failed'
+    → Asked (Err halt) (flat_map request_frame (take n rest)) mid new (asked + n) given' given'' to_come' to_come'' taken' taken'' left left' failed' failed''
+    → Asked (Err halt) (flat_map request_frame inputs) old new (length inputs) given given'' to_come to_come'' taken taken'' start left' failed failed''
+pushed_part halt inputs rest asked n old mid new given given' given'' to_come to_come' to_come'' taken taken' taken'' start left left' failed failed' failed'' within sound p next =
     let group = take n rest in
     let behind = take (length rest - n) (drop n rest) in
     let all : inputs ≡ (p.front ++ group) ++ behind = parts_more inputs p.front rest n p.parts in
@@ -57,19 +57,19 @@ pushed_part halt inputs rest asked n old mid new given given' given'' to_come to
     ap frames all ∙ flat_map-append request_frame (p.front ++ group) behind ∙ ap (λ zs. zs ++ frames behind) (flat_map-append request_frame p.front group) in
     let few : asked + n ≤ length inputs =
     omega (arith, p.counted, ap length p.parts, length-append p.front rest) in
-    subst (λ fs. Asked (Err halt) fs old new (length inputs) given given'' to_come to_come'' taken taken'' left' failed failed'') (sym fs)
-    (asks_part halt (frames p.front ++ frames group) (frames behind) old new (asked + n) (length inputs) given given'' to_come to_come'' taken taken'' left' failed failed'' few
+    subst (λ fs. Asked (Err halt) fs old new (length inputs) given given'' to_come to_come'' taken taken'' start left' failed failed'') (sym fs)
+    (asks_part halt (frames p.front ++ frames group) (frames behind) old new (asked + n) (length inputs) given given'' to_come to_come'' taken taken'' start left' failed failed'' few
     (asks_more tt (Err halt) (frames p.front) (frames group) old mid new asked (asked + n) given given' given'' to_come to_come' to_come'' taken taken' taken''
-    left left' failed failed' failed'' sound p.asks next))
+    start left left' failed failed' failed'' sound p.asks next))
 
 -- all inputs are pushed
-pub pushed_all : (inputs rest : List requests.Request) (asked : ℕ) (old new : Exchange) (given given' to_come to_come' taken taken' : Option (List ℕ)) (left failed failed' : ℕ)
-    → rest ≡ [] → Pushed inputs rest asked old new given given' to_come to_come' taken taken' left failed failed'
-    → Asked (Ok tt) (flat_map request_frame inputs) old new (length inputs) given given' to_come to_come' taken taken' left failed failed'
-pushed_all inputs rest asked old new given given' to_come to_come' taken taken' left failed failed' none p =
+pub pushed_all : (inputs rest : List requests.Request) (asked : ℕ) (old new : Exchange) (given given' to_come to_come' taken taken' : Option (List ℕ)) (start left failed failed' : ℕ)
+    → rest ≡ [] → Pushed inputs rest asked old new given given' to_come to_come' taken taken' start left failed failed'
+    → Asked (Ok tt) (flat_map request_frame inputs) old new (length inputs) given given' to_come to_come' taken taken' start left failed failed'
+pushed_all inputs rest asked old new given given' to_come to_come' taken taken' start left failed failed' none p =
     let all : inputs ≡ p.front = p.parts ∙ ap (λ rs. p.front ++ rs) none ∙ append-nil p.front in
-    subst (λ n. Asked (Ok tt) (flat_map request_frame inputs) old new n given given' to_come to_come' taken taken' left failed failed') (p.counted ∙ ap length (sym all))
-    (subst (λ rs. Asked (Ok tt) (flat_map request_frame rs) old new asked given given' to_come to_come' taken taken' left failed failed') (sym all) p.asks)
+    subst (λ n. Asked (Ok tt) (flat_map request_frame inputs) old new n given given' to_come to_come' taken taken' start left failed failed') (p.counted ∙ ap length (sym all))
+    (subst (λ rs. Asked (Ok tt) (flat_map request_frame rs) old new asked given given' to_come to_come' taken taken' start left failed failed') (sym all) p.asks)
 
 -- what is left can be sent too
 pub fits_behind : (rest : List requests.Request) (n : ℕ) → All IsSendable rest → All IsSendable (take (length rest - n) (drop n rest))
@@ -83,21 +83,21 @@ asks_both inputs = ap (λ zs. frames inputs ++ zs) (append-nil (request_frame as
 
 -- the inputs are not all pushed
 pub stops_first : (halt : Halt) (inputs : List requests.Request) (old new : Exchange) (given given' to_come to_come' taken taken' : Option (List ℕ))
-    (left failed failed' allowed calls : ℕ) → HasTaken old [] → (left ≡ 0 → calls ≡ allowed)
-    → Asked (Err halt) (flat_map request_frame inputs) old new (length inputs) given given' to_come to_come' taken taken' left failed failed'
-    → (talk : Talk) × IsTalk talk given given' to_come to_come' taken taken' × IsAnswerOf (Err halt) inputs talk to_come' allowed calls failed failed'
-stops_first halt inputs old new given given' to_come to_come' taken taken' left failed failed' allowed calls none used asked =
-    cut halt inputs old new (length inputs + 1) given given' to_come to_come' taken taken' left failed failed' allowed calls none (omega arith) used
-    (subst (λ fs. Asked (Err halt) fs old new (length inputs + 1) given given' to_come to_come' taken taken' left failed failed') (asks_both inputs)
-    (asks_part halt (frames inputs) (frames question) old new (length inputs) (length inputs + 1) given given' to_come to_come' taken taken' left failed failed' (omega arith) asked))
+    (start left failed failed' calls calls' : ℕ) → HasTaken old [] → (left ≡ 0 → calls' ≡ calls + start)
+    → Asked (Err halt) (flat_map request_frame inputs) old new (length inputs) given given' to_come to_come' taken taken' start left failed failed'
+    → (talk : Talk) × IsTalk talk given given' to_come to_come' taken taken' × IsAnswerOf (Err halt) inputs talk to_come' start calls calls' failed failed'
+stops_first halt inputs old new given given' to_come to_come' taken taken' start left failed failed' calls calls' none used asked =
+    cut halt inputs old new (length inputs + 1) given given' to_come to_come' taken taken' start left failed failed' calls calls' none (omega arith) used
+    (subst (λ fs. Asked (Err halt) fs old new (length inputs + 1) given given' to_come to_come' taken taken' start left failed failed') (asks_both inputs)
+    (asks_part halt (frames inputs) (frames question) old new (length inputs) (length inputs + 1) given given' to_come to_come' taken taken' start left failed failed' (omega arith) asked))
 
 -- the question is asked too, or not
 pub asks_on : (u : Unit {0}) (result : Result (Unit {0}) Halt) (inputs : List requests.Request) (old mid new : Exchange) (given given' given'' to_come to_come' to_come'' taken taken' taken'' : Option (List ℕ))
-    (left left' failed failed' failed'' : ℕ) → failed' ≡ failed
-    → Asked (Ok u) (flat_map request_frame inputs) old mid (length inputs) given given' to_come to_come' taken taken' left failed failed'
-    → Asked result (flat_map request_frame question) mid new (length inputs + 1) given' given'' to_come' to_come'' taken' taken'' left' failed' failed''
-    → Asked result (asking inputs) old new (length inputs + 1) given given'' to_come to_come'' taken taken'' left' failed failed''
-asks_on u result inputs old mid new given given' given'' to_come to_come' to_come'' taken taken' taken'' left left' failed failed' failed'' sound first second =
-    subst (λ fs. Asked result fs old new (length inputs + 1) given given'' to_come to_come'' taken taken'' left' failed failed'') (asks_both inputs)
+    (start left left' failed failed' failed'' : ℕ) → failed' ≡ failed
+    → Asked (Ok u) (flat_map request_frame inputs) old mid (length inputs) given given' to_come to_come' taken taken' start left failed failed'
+    → Asked result (flat_map request_frame question) mid new (length inputs + 1) given' given'' to_come' to_come'' taken' taken'' left left' failed' failed''
+    → Asked result (asking inputs) old new (length inputs + 1) given given'' to_come to_come'' taken taken'' start left' failed failed''
+asks_on u result inputs old mid new given given' given'' to_come to_come' to_come'' taken taken' taken'' start left left' failed failed' failed'' sound first second =
+    subst (λ fs. Asked result fs old new (length inputs + 1) given given'' to_come to_come'' taken taken'' start left' failed failed'') (asks_both inputs)
     (asks_more u result (frames inputs) (frames question) old mid new (length inputs) (length inputs + 1) given given' given'' to_come to_come' to_come'' taken taken' taken''
-    left left' failed failed' failed'' sound first second)
+    start left left' failed failed' failed'' sound first second)

@@ -1,5 +1,5 @@
 -- What is answered where both ends are here.
-use Rattle.std.proofs.Common.{◌≡◌, ◌≢◌, ◌⊎◌, ℕ, ◌+◌, List, [], ◌∷◌, ◌++◌, length, All, refl, ap, sym, ◌∙◌, subst, arith, append-nil, inl, inr, ⊎_elim, Option, Result, Ok, Err, IsErrOf, Vec, Global}
+use Rattle.std.proofs.Common.{◌≡◌, ◌≢◌, ◌⊎◌, ℕ, ◌+◌, ◌≤◌, List, [], ◌∷◌, ◌++◌, length, All, refl, ap, sym, ◌∙◌, subst, arith, append-nil, inl, inr, ⊎_elim, Option, Result, Ok, Err, IsErrOf, Vec, Global}
 use Rattle.cue_lattice.specs.declared.refusal.Kind.TheVariants as kinds
 use Rattle.cue_answer.specs.declared.told.Answer.{Answer}
 use Rattle.cue_replica.specs.Language.{Table, opening}
@@ -13,21 +13,21 @@ use Rattle.cue_net.specs.Halts.{IsMemory}
 use Rattle.cue_net.specs.Talks.{Talk, IsTalk, asking}
 use Rattle.cue_net.specs.Told.{AreTold}
 use Rattle.cue_net.specs.Loops.{IsBroken, IsAnswerBetween}
-use Rattle.cue_net.specs.Inner.Looping.{Exchanged}
+use Rattle.cue_net.specs.Inner.Looping.{Exchanged, bytes_of}
 use Rattle.cue_net.proofs.Asking.{no_talk, talks_nothing}
-use Rattle.cue_net.proofs.Hearing.{long_as}
+use Rattle.cue_net.proofs.Hearing.{in_turns, long_as}
 
 -- both ends' talks, and what is answered of them
 abbrev pub Between : (result : Result Answer Halt) (inputs : List requests.Request)
-    (given given' to_come to_come' taken taken' gave gave' coming coming' took took' : Option (List ℕ)) (allowed calls failed failed' : ℕ) → Type 0
-Between result inputs given given' to_come to_come' taken taken' gave gave' coming coming' took took' allowed calls failed failed' =
+    (given given' to_come to_come' taken taken' gave gave' coming coming' took took' : Option (List ℕ)) (turns calls calls' failed failed' : ℕ) → Type 0
+Between result inputs given given' to_come to_come' taken taken' gave gave' coming coming' took took' turns calls calls' failed failed' =
     (here there : Talk) × IsTalk here given given' to_come to_come' taken taken' × IsTalk there gave gave' coming coming' took took'
-    × IsAnswerBetween result inputs here there to_come' coming' allowed calls failed failed'
+    × IsAnswerBetween result inputs here there to_come' coming' turns calls calls' failed failed'
 
 -- an input that no frame can hold
-pub long_between : (inputs : List requests.Request) (given to_come taken gave coming took : Option (List ℕ)) (allowed calls failed : ℕ) → (All IsSendable inputs → ⊥)
-    → Between (Err (halts.Refused kinds.FrameTooLong)) inputs given given to_come to_come taken taken gave gave coming coming took took allowed calls failed failed
-long_between inputs given to_come taken gave coming took allowed calls failed unfit = (
+pub long_between : (inputs : List requests.Request) (given to_come taken gave coming took : Option (List ℕ)) (turns calls failed : ℕ) → (All IsSendable inputs → ⊥)
+    → Between (Err (halts.Refused kinds.FrameTooLong)) inputs given given to_come to_come taken taken gave gave coming coming took took turns calls calls failed failed
+long_between inputs given to_come taken gave coming took turns calls failed unfit = (
   no_talk,
   no_talk,
   talks_nothing given to_come taken,
@@ -36,20 +36,26 @@ long_between inputs given to_come taken gave coming took allowed calls failed un
 )
 
 -- want of memory before anything is written
-pub none_between : (halt : Halt) (inputs : List requests.Request) (given to_come taken gave coming took : Option (List ℕ)) (allowed calls failed : ℕ) → IsMemory halt
-    → Between (Err halt) inputs given given to_come to_come taken taken gave gave coming coming took took allowed calls failed failed
-none_between halt inputs given to_come taken gave coming took allowed calls failed memory =
+pub none_between : (halt : Halt) (inputs : List requests.Request) (given to_come taken gave coming took : Option (List ℕ)) (turns calls failed : ℕ) → IsMemory halt
+    → Between (Err halt) inputs given given to_come to_come taken taken gave gave coming coming took took turns calls calls failed failed
+none_between halt inputs given to_come taken gave coming took turns calls failed memory =
     (no_talk, no_talk, talks_nothing given to_come taken, talks_nothing gave coming took, inr (halt, asking inputs, refl, refl, inr (inr (inl memory))))
 
 -- an exchange that stops
 pub cut_between : (halt : Halt) (inputs : List requests.Request) (old new : Exchange) (s0 s1 : Standing) (t0 t1 : Table)
-    (given given' to_come to_come' taken taken' gave gave' coming coming' took took' : Option (List ℕ)) (left allowed calls failed failed' : ℕ)
-    → HasTaken old [] → s0 ≡ reading [] → (left ≡ 0 → calls ≡ allowed)
-    → Exchanged (Err halt) (asking inputs) old new s0 s1 t0 t1 given given' to_come to_come' taken taken' gave gave' coming coming' took took' left failed failed'
-    → Between (Err halt) inputs given given' to_come to_come' taken taken' gave gave' coming coming' took took' allowed calls failed failed'
-cut_between halt inputs old new s0 s1 t0 t1 given given' to_come to_come' taken taken' gave gave' coming coming' took took' left allowed calls failed failed' none is used a =
-    let why : IsBroken halt inputs a.near a.far to_come' coming' allowed calls failed failed' =
-    ⊎_elim (λ turns. inr (inl (turns.0, used turns.1))) (λ o. inr (inr (⊎_elim inl (λ device. inr (
+    (given given' to_come to_come' taken taken' gave gave' coming coming' took took' : Option (List ℕ)) (start left calls calls' failed failed' : ℕ)
+    → HasTaken old [] → s0 ≡ reading [] → (left ≡ 0 → calls' ≡ calls + start)
+    → Exchanged (Err halt) (asking inputs) old new s0 s1 t0 t1 given given' to_come to_come' taken taken' gave gave' coming coming' took took' start left failed failed'
+    → Between (Err halt) inputs given given' to_come to_come' taken taken' gave gave' coming coming' took took' start calls calls' failed failed'
+cut_between halt inputs old new s0 s1 t0 t1 given given' to_come to_come' taken taken' gave gave' coming coming' took took' start left calls calls' failed failed' none is used a =
+    let why : IsBroken halt inputs a.near a.far to_come' coming' start calls calls' failed failed' =
+    ⊎_elim (λ turns. inr (inl (
+      turns.0,
+      (
+        used turns.1,
+        in_turns halt (start ≤ left + bytes_of a.near a.far) (λ moved. omega (arith, moved, turns.1)) turns.0 a.moves,
+      ),
+    ))) (λ o. inr (inr (⊎_elim inl (λ device. inr (
       device.0,
       ⊎_elim inl (λ x. inr (⊎_elim inl (λ y. inr (⊎_elim inl
           (λ z. inr (⊎_elim (λ balks. inl (balks [] none)) (λ faults. inr (inl (faults [] is (inl (omega arith))))) z)) y)) x)) device.1,
@@ -58,14 +64,14 @@ cut_between halt inputs old new s0 s1 t0 t1 given given' to_come to_come' taken 
 
 -- an exchange to the end, and what the replies tell
 pub answered_between : (u : Unit {0}) (result : Result Answer Halt) (inputs : List requests.Request) (old new : Exchange) (s0 s1 : Standing) (t0 t1 : Table) (vectors : List (Vec ℕ Global))
-    (given given' to_come to_come' taken taken' gave gave' coming coming' took took' : Option (List ℕ)) (left allowed calls failed failed' : ℕ)
+    (given given' to_come to_come' taken taken' gave gave' coming coming' took took' : Option (List ℕ)) (start left calls calls' failed failed' : ℕ)
     → All IsSendable inputs → HasTaken old [] → s0 ≡ reading [] → t0 ≡ opening
-    → Exchanged (Ok u) (asking inputs) old new s0 s1 t0 t1 given given' to_come to_come' taken taken' gave gave' coming coming' took took' left failed failed'
+    → Exchanged (Ok u) (asking inputs) old new s0 s1 t0 t1 given given' to_come to_come' taken taken' gave gave' coming coming' took took' start left failed failed'
     → all_items vectors ≡ new.replies
     → ((to_inputs : List (List ℕ)) × (last : List ℕ) × (all_items vectors ≡ to_inputs ++ last ∷ []) × (length to_inputs ≡ length inputs) × AreTold to_inputs last result)
     ⊎ ((length vectors ≢ length inputs + 1) × IsErrOf result halts.Device)
-    → Between result inputs given given' to_come to_come' taken taken' gave gave' coming coming' took took' allowed calls failed failed'
-answered_between u result inputs old new s0 s1 t0 t1 vectors given given' to_come to_come' taken taken' gave gave' coming coming' took took' left allowed calls failed failed' fits none is new_site a are told =
+    → Between result inputs given given' to_come to_come' taken taken' gave gave' coming coming' took took' start calls calls' failed failed'
+answered_between u result inputs old new s0 s1 t0 t1 vectors given given' to_come to_come' taken taken' gave gave' coming coming' took took' start left calls calls' failed failed' fits none is new_site a are told =
     let sent : asking inputs ≡ a.near.sent = a.front ∙ ap (λ zs. a.near.sent ++ zs) a.ends.0 ∙ append-nil a.near.sent in
     let all = a.ends.3 [] none in
     let sv = a.ends.4 [] is (inl (omega arith)) in (

@@ -9,37 +9,43 @@ use Rattle.cue_lattice.specs.declared.refusal.Kind.TheVariants as kinds
 use Rattle.cue_net.specs.declared.halt.Halt.{Halt}
 use Rattle.cue_net.specs.declared.halt.Halt.TheVariants as halts
 use Rattle.cue_net.specs.Halts.{IsMemory, IsTooLong}
-use Rattle.cue_net.specs.Talks.{Talk, IsTalk, asking, IsCut, IsAnswerOf}
+use Rattle.cue_net.specs.Talks.{Talk, IsTalk, asking, AreTooFew, IsCut, IsAnswerOf}
 use Rattle.cue_net.specs.Told.{AreTold}
-use Rattle.cue_net.specs.Inner.Hearing.{Asked}
+use Rattle.cue_net.specs.Inner.Hearing.{Lacks, Asked}
 use Rattle.cue_net.proofs.Asking.{no_talk, talks_nothing}
-use Rattle.cue_net.proofs.Hearing.{long_as}
+use Rattle.cue_net.proofs.Hearing.{in_turns, long_as}
 
 -- a talk that stops before all replies are there
 pub cut : (halt : Halt) (inputs : List requests.Request) (old new : Exchange) (count : ℕ) (given given' to_come to_come' taken taken' : Option (List ℕ))
-    (left failed failed' allowed calls : ℕ) → HasTaken old [] → count ≤ length inputs + 1 → (left ≡ 0 → calls ≡ allowed)
-    → Asked (Err halt) (asking inputs) old new count given given' to_come to_come' taken taken' left failed failed'
-    → (talk : Talk) × IsTalk talk given given' to_come to_come' taken taken' × IsAnswerOf (Err halt) inputs talk to_come' allowed calls failed failed'
-cut halt inputs old new count given given' to_come to_come' taken taken' left failed failed' allowed calls new_taken fewer used asked =
-    let why : IsCut halt inputs asked.talk to_come' allowed calls failed failed' =
-    ⊎_elim (λ turns. inr (inl (turns.0, used turns.1))) (λ others. inr (inr (⊎_elim inl (λ device. inr (
+    (start left failed failed' calls calls' : ℕ) → HasTaken old [] → count ≤ length inputs + 1 → (left ≡ 0 → calls' ≡ calls + start)
+    → Asked (Err halt) (asking inputs) old new count given given' to_come to_come' taken taken' start left failed failed'
+    → (talk : Talk) × IsTalk talk given given' to_come to_come' taken taken' × IsAnswerOf (Err halt) inputs talk to_come' start calls calls' failed failed'
+cut halt inputs old new count given given' to_come to_come' taken taken' start left failed failed' calls calls' new_taken fewer used asked =
+    let few : Lacks old new asked.talk.heard count → AreTooFew inputs asked.talk.heard = λ lacks.
+    let all = lacks.0 [] new_taken in (new.replies, new.rest, all.frames, all.unfinished, omega (arith, fewer, lacks.1)) in
+    let why : IsCut halt inputs asked.talk asked.unsent to_come' start calls calls' failed failed' =
+    ⊎_elim (λ turns. inr (inl (
+      turns.0,
+      record {
+        called = used turns.1;
+        moved = in_turns halt (start ≤ left + (length asked.talk.sent + length asked.talk.heard)) (λ moved. omega (arith, moved, turns.1)) turns.0 asked.moves;
+        more = ⊎_elim inl (λ lacks. inr (few lacks)) turns.2;
+      },
+    ))) (λ others. inr (inr (⊎_elim inl (λ device. inr (
       device.0,
-      ⊎_elim inl (λ rest. inr (⊎_elim (λ ended.
-          let all = ended.1 [] new_taken in
-          inl (ended.0, (new.replies, new.rest, all.frames, all.unfinished, omega (arith, fewer, ended.2))))
-          (λ balks. inr (inl (balks [] new_taken))) rest)) device.1,
+      ⊎_elim inl (λ rest. inr (⊎_elim (λ ended. inl (ended.0, few ended.1)) (λ balks. inr (inl (balks [] new_taken))) rest)) device.1,
     )) others))) asked.ends in
     (asked.talk, asked.passes, inr (halt, asked.unsent, refl, asked.front, why))
 
 -- a talk in which all replies are there, and what they tell
 pub answered : (u : Unit {0}) (result : Result Answer Halt) (inputs : List requests.Request) (old new : Exchange) (vectors : List (Vec ℕ Global))
-    (given given' to_come to_come' taken taken' : Option (List ℕ)) (left failed failed' allowed calls : ℕ) → All IsSendable inputs → HasTaken old []
-    → Asked (Ok u) (asking inputs) old new (length inputs + 1) given given' to_come to_come' taken taken' left failed failed'
+    (given given' to_come to_come' taken taken' : Option (List ℕ)) (start left failed failed' calls calls' : ℕ) → All IsSendable inputs → HasTaken old []
+    → Asked (Ok u) (asking inputs) old new (length inputs + 1) given given' to_come to_come' taken taken' start left failed failed'
     → all_items vectors ≡ new.replies
     → ((to_inputs : List (List ℕ)) × (last : List ℕ) × (all_items vectors ≡ to_inputs ++ last ∷ []) × (length to_inputs ≡ length inputs) × AreTold to_inputs last result)
     ⊎ ((length vectors ≢ length inputs + 1) × IsErrOf result halts.Device)
-    → (talk : Talk) × IsTalk talk given given' to_come to_come' taken taken' × IsAnswerOf result inputs talk to_come' allowed calls failed failed'
-answered u result inputs old new vectors given given' to_come to_come' taken taken' left failed failed' allowed calls fits new_taken asked are told =
+    → (talk : Talk) × IsTalk talk given given' to_come to_come' taken taken' × IsAnswerOf result inputs talk to_come' start calls calls' failed failed'
+answered u result inputs old new vectors given given' to_come to_come' taken taken' start left failed failed' calls calls' fits new_taken asked are told =
     let sent : asking inputs ≡ asked.talk.sent = asked.front ∙ ap (λ zs. asked.talk.sent ++ zs) asked.all ∙ append-nil asked.talk.sent in
     let all = asked.ends.0 [] new_taken in (
       asked.talk,
@@ -74,14 +80,14 @@ answered u result inputs old new vectors given given' to_come to_come' taken tak
     )
 
 -- an input that no frame can hold
-pub too_long : (inputs : List requests.Request) (given to_come taken : Option (List ℕ)) (failed allowed calls : ℕ) → (All IsSendable inputs → ⊥)
-    → (talk : Talk) × IsTalk talk given given to_come to_come taken taken × IsAnswerOf (Err (halts.Refused kinds.FrameTooLong)) inputs talk to_come allowed calls failed failed
-too_long inputs given to_come taken failed allowed calls unfit =
+pub too_long : (inputs : List requests.Request) (given to_come taken : Option (List ℕ)) (failed turns calls : ℕ) → (All IsSendable inputs → ⊥)
+    → (talk : Talk) × IsTalk talk given given to_come to_come taken taken × IsAnswerOf (Err (halts.Refused kinds.FrameTooLong)) inputs talk to_come turns calls calls failed failed
+too_long inputs given to_come taken failed turns calls unfit =
     (no_talk, talks_nothing given to_come taken, inr (halts.Refused kinds.FrameTooLong, asking inputs, refl, refl, inl (refl, unfit, refl, refl)))
 
 -- a client that cannot be made
-pub no_client : (halt : Halt) (inputs : List requests.Request) (given to_come taken : Option (List ℕ)) (failed allowed calls : ℕ)
+pub no_client : (halt : Halt) (inputs : List requests.Request) (given to_come taken : Option (List ℕ)) (failed turns calls : ℕ)
     → IsMemory halt ⊎ (IsTooLong halt × (All IsSendable [] → ⊥))
-    → (talk : Talk) × IsTalk talk given given to_come to_come taken taken × IsAnswerOf (Err halt) inputs talk to_come allowed calls failed failed
-no_client halt inputs given to_come taken failed allowed calls why =
+    → (talk : Talk) × IsTalk talk given given to_come to_come taken taken × IsAnswerOf (Err halt) inputs talk to_come turns calls calls failed failed
+no_client halt inputs given to_come taken failed turns calls why =
     (no_talk, talks_nothing given to_come taken, inr (halt, asking inputs, refl, refl, ⊎_elim (λ memory. inr (inr (inl memory))) (λ long. absurd (long.1 (All-nil IsSendable))) why))

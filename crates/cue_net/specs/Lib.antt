@@ -8,4 +8,3 @@ pub mod Sockets
 pub mod Talks
 pub mod Told
 pub mod Truth
-pub mod Turns

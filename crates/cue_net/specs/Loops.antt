@@ -1,5 +1,5 @@
 -- What passes between a client and a site, both of whose ends are here.
-use Rattle.std.specs.Prelude.{◌≡◌, ◌≢◌, ◌⊎◌, ◌<◌, ℕ, ◌+◌, List, [], ◌++◌, length, All, Option, Result, Err}
+use Rattle.std.specs.Prelude.{◌≡◌, ◌≢◌, ◌⊎◌, ◌<◌, ◌≤◌, ℕ, ◌+◌, List, [], ◌++◌, length, All, Option, Result, Err}
 use Rattle.std.specs.Io.KnownBytes.{IsAtEnd}
 use Rattle.cue_answer.specs.declared.told.Answer.{Answer}
 use Rattle.cue_replica.specs.Language.{Table, opening}
@@ -27,23 +27,29 @@ AreOtherReplies inputs heard =
     (replies : List (List ℕ)) × (rest : List ℕ) × AreFrames heard replies rest
     × (length replies ≢ length inputs + 1)
 
+-- All turns are used, in as many calls, each of which moved a byte at least.
+abbrev pub AreUsedUpBetween : Talk → Talk → ℕ → ℕ → ℕ → Type 0
+AreUsedUpBetween near far turns calls calls' =
+    (calls' ≡ calls + turns)
+    × (turns ≤ length near.sent + length near.heard + length far.sent + length far.heard)
+
 -- Why the ends have no answer. Nothing is written where a frame can't hold an input. What an end
 -- reads may be none of what the other writes.
 abbrev pub IsBroken : Halt → List requests.Request → Talk → Talk → Option (List ℕ) → Option (List ℕ)
-    → ℕ → ℕ → ℕ → ℕ → Type 0
-IsBroken halt inputs near far near_to_come far_to_come allowed calls failed failed' =
+    → ℕ → ℕ → ℕ → ℕ → ℕ → Type 0
+IsBroken halt inputs near far near_to_come far_to_come turns calls calls' failed failed' =
     (IsTooLong halt × (All IsSendable inputs → ⊥) × (near.sent ≡ []) × (far.heard ≡ []))
-    ⊎ (IsTurnsUsed halt × (calls ≡ allowed))
+    ⊎ (IsTurnsUsed halt × AreUsedUpBetween near far turns calls calls')
     ⊎ IsMemory halt
     ⊎ (IsDevice halt × ((failed < failed') ⊎ IsAtEnd near_to_come ⊎ IsAtEnd far_to_come
     ⊎ HasFault near.heard ⊎ HasFault far.heard ⊎ AreOtherReplies inputs near.heard))
 
 -- What is answered: what the replies tell of which all were served; or why not.
 abbrev pub IsAnswerBetween : Result Answer Halt → List requests.Request → Talk → Talk
-    → Option (List ℕ) → Option (List ℕ) → ℕ → ℕ → ℕ → ℕ → Type 0
-IsAnswerBetween result inputs near far near_to_come far_to_come allowed calls failed failed' =
+    → Option (List ℕ) → Option (List ℕ) → ℕ → ℕ → ℕ → ℕ → ℕ → Type 0
+IsAnswerBetween result inputs near far near_to_come far_to_come turns calls calls' failed failed' =
     (AreServed near far × ((replies : List (List ℕ)) × (last : List ℕ)
     × AreReplies inputs near replies last × AreTold replies last result))
     ⊎ ((halt : Halt) × (unsent : List ℕ) × (result ≡ Err halt)
     × (asking inputs ≡ near.sent ++ unsent)
-    × IsBroken halt inputs near far near_to_come far_to_come allowed calls failed failed')
+    × IsBroken halt inputs near far near_to_come far_to_come turns calls calls' failed failed')

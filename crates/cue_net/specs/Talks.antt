@@ -1,5 +1,5 @@
 -- What passes on a connection between a client and a site.
-use Rattle.std.specs.Prelude.{◌≡◌, ◌⊎◌, ◌<◌, ◌≤◌, ℕ, ◌+◌, List, [], ◌∷◌, ◌++◌, length, All, flat_map}
+use Rattle.std.specs.Prelude.{◌≡◌, ◌≢◌, ◌⊎◌, ◌<◌, ◌≤◌, ℕ, ◌+◌, List, [], ◌∷◌, ◌++◌, length, All, flat_map}
 use Rattle.std.specs.Prelude.{Option, Result, Err}
 use Rattle.std.specs.Io.KnownBytes.{Appends, Consumes, IsAtEnd}
 use Rattle.cue_answer.specs.declared.told.Answer.{Answer}
@@ -46,28 +46,37 @@ AreNoReplies inputs heard =
     ⊎ ((replies : List (List ℕ)) × (rest : List ℕ) × AreFrames heard replies rest
     × (length inputs + 1 < length replies))
 
--- The replies end before the last.
-abbrev pub EndEarly : List requests.Request → List ℕ → Option (List ℕ) → Type 0
-EndEarly inputs heard to_come =
-    IsAtEnd to_come × ((replies : List (List ℕ)) × (rest : List ℕ) × AreFrames heard replies rest
-    × IsUnfinished rest × (length replies ≤ length inputs))
+-- What was heard ends before the last reply.
+abbrev pub AreTooFew : List requests.Request → List ℕ → Type 0
+AreTooFew inputs heard =
+    (replies : List (List ℕ)) × (rest : List ℕ) × AreFrames heard replies rest
+    × IsUnfinished rest × (length replies ≤ length inputs)
+
+-- All turns are used, in as many calls, each of which moved a byte at least; and something is still
+-- to be sent or heard.
+pub record AreUsedUp (inputs : List requests.Request) (talk : Talk) (unsent : List ℕ)
+    (turns calls calls' : ℕ) : Type 0 where
+  pub called : calls' ≡ calls + turns
+  pub moved : turns ≤ length talk.sent + length talk.heard
+  pub more : (unsent ≢ []) ⊎ AreTooFew inputs talk.heard
 
 -- Why a talk ends without all replies. Nothing is written where a frame can't hold an input.
-abbrev pub IsCut : Halt → List requests.Request → Talk → Option (List ℕ) → ℕ → ℕ → ℕ → ℕ → Type 0
-IsCut halt inputs talk to_come allowed calls failed failed' =
+abbrev pub IsCut : Halt → List requests.Request → Talk → List ℕ → Option (List ℕ)
+    → ℕ → ℕ → ℕ → ℕ → ℕ → Type 0
+IsCut halt inputs talk unsent to_come turns calls calls' failed failed' =
     (IsTooLong halt × (All IsSendable inputs → ⊥) × (talk.sent ≡ []) × (talk.heard ≡ []))
-    ⊎ (IsTurnsUsed halt × (calls ≡ allowed))
+    ⊎ (IsTurnsUsed halt × AreUsedUp inputs talk unsent turns calls calls')
     ⊎ IsMemory halt
-    ⊎ (IsDevice halt × ((failed < failed') ⊎ EndEarly inputs talk.heard to_come
+    ⊎ (IsDevice halt × ((failed < failed') ⊎ (IsAtEnd to_come × AreTooFew inputs talk.heard)
     ⊎ AreNoReplies inputs talk.heard))
 
 -- What is answered of a talk: what the replies tell; or why it was cut, where the front of the
 -- requests' frames was sent.
 abbrev pub IsAnswerOf : Result Answer Halt → List requests.Request → Talk → Option (List ℕ)
-    → ℕ → ℕ → ℕ → ℕ → Type 0
-IsAnswerOf result inputs talk to_come allowed calls failed failed' =
+    → ℕ → ℕ → ℕ → ℕ → ℕ → Type 0
+IsAnswerOf result inputs talk to_come turns calls calls' failed failed' =
     ((replies : List (List ℕ)) × (last : List ℕ) × AreReplies inputs talk replies last
     × AreTold replies last result)
     ⊎ ((halt : Halt) × (unsent : List ℕ) × (result ≡ Err halt)
     × (asking inputs ≡ talk.sent ++ unsent)
-    × IsCut halt inputs talk to_come allowed calls failed failed')
+    × IsCut halt inputs talk unsent to_come turns calls calls' failed failed')

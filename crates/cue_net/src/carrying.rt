@@ -3,6 +3,7 @@ ghost use Rattle.std.specs.Io.KnownBytes.{Appends, Consumes};
 ghost use Rattle.cue_net.specs.Halts.{IsDevice, IsMemory};
 ghost use Rattle.cue_net.specs.Inner.Hearing.{Hears, Balks};
 ghost use Rattle.cue_net.specs.Inner.Looping.{IsCarryHalt, ServesOnto, Faults, Brought};
+ghost use Rattle.cue_net.specs.Inner.Turns.{Moves};
 
 use crate::PIECE;
 use crate::halt::Halt;
@@ -33,7 +34,8 @@ pub fn serve_so_many<S: Source>(
         × OnOk result ((length read ≡ count) × ServesOnto serving.old.session serving.new.session
         serving.old.site serving.new.site serving.old.out.items serving.new.out.items read)
         × IfErr result (λ halt. IsCarryHalt halt left.new (S.to_come source.new)
-        (S.failed source.old) (S.failed source.new) (Faults serving.old.session read)) }
+        (S.failed source.old) (S.failed source.new) (Faults serving.old.session read))
+        × Moves result left.old left.new (length read) }
     ensures turns { S.called source.new + left.new ≡ S.called source.old + left.old }
     ensures fewer { left.new ≤ left.old }
     ensures sound { OnOk result (S.failed source.new ≡ S.failed source.old) }
@@ -86,7 +88,7 @@ pub fn bring_back<S: Source, K: Sink>(
     requires writes { K.called sink.old + left.old ≤ 2 ^ 64 - 1 }
     ensures brought { Brought result bytes.now hearing.old hearing.new (S.given source.old)
         (S.given source.new) (S.to_come source.old) (S.to_come source.new)
-        (K.taken sink.old) (K.taken sink.new) left.new
+        (K.taken sink.old) (K.taken sink.new) left.old left.new
         (S.failed source.old + K.failed sink.old) (S.failed source.new + K.failed sink.new) }
     ensures turns { S.called source.new + K.called sink.new + left.new
         ≡ S.called source.old + K.called sink.old + left.old }
@@ -123,7 +125,8 @@ fn hear_so_many<S: Source>(
         × Consumes (S.to_come source.old) (S.to_come source.new) read
         × OnOk result ((length read ≡ count) × Hears hearing.old hearing.new read)
         × IfErr result (λ halt. IsCarryHalt halt left.new (S.to_come source.new)
-        (S.failed source.old) (S.failed source.new) (Balks hearing.old read)) }
+        (S.failed source.old) (S.failed source.new) (Balks hearing.old read))
+        × Moves result left.old left.new (length read) }
     ensures turns { S.called source.new + left.new ≡ S.called source.old + left.old }
     ensures fewer { left.new ≤ left.old }
     ensures sound { OnOk result (S.failed source.new ≡ S.failed source.old) }

@@ -1,6 +1,4 @@
-use cue_device::Fault;
 use cue_replica::{Kind, Memory, Refusal};
-use std::alloc::{AllocError, AllocFailed};
 
 /// What ends a word over a network before it has an answer.
 #[derive(Clone, Copy, Debug, PartialEq, Eq)]
@@ -16,42 +14,12 @@ pub enum Halt {
     RefusedInput(Refusal, usize),
 }
 
-impl From<Fault> for Halt {
-    ghost use Rattle.cue_net.specs.Halts.{IsDevice};
-
-    ghost from_gives = { λ _ halt. IsDevice halt };
-
-    fn from(_fault: Fault) -> Halt {
-        Halt::Device
-    }
-}
-
 impl From<Memory> for Halt {
     ghost use Rattle.cue_net.specs.Halts.{IsMemory};
 
     ghost from_gives = { λ _ halt. IsMemory halt };
 
     fn from(_memory: Memory) -> Halt {
-        Halt::Refused(Kind::Memory)
-    }
-}
-
-impl From<AllocError> for Halt {
-    ghost use Rattle.cue_net.specs.Halts.{IsMemory};
-
-    ghost from_gives = { λ _ halt. IsMemory halt };
-
-    fn from(_error: AllocError) -> Halt {
-        Halt::Refused(Kind::Memory)
-    }
-}
-
-impl<T: Drop> From<AllocFailed<T>> for Halt {
-    ghost use Rattle.cue_net.specs.Halts.{IsMemory};
-
-    ghost from_gives = { λ _ halt. IsMemory halt };
-
-    fn from(_error: AllocFailed<T>) -> Halt {
         Halt::Refused(Kind::Memory)
     }
 }

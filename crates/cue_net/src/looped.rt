@@ -106,9 +106,9 @@ pub fn converse<S: Source, K: Sink>(
         (S.to_come far.old.source) (S.to_come far.new.source)
         (K.taken far.old.sink) (K.taken far.new.sink)
         × IsAnswerBetween result inputs.now here there
-        (S.to_come near.new.source) (S.to_come far.new.source)
+        (S.to_come near.new.source) (S.to_come far.new.source) turns
         (S.called near.old.source + K.called near.old.sink + S.called far.old.source
-        + K.called far.old.sink + turns)
+        + K.called far.old.sink)
         (S.called near.new.source + K.called near.new.sink + S.called far.new.source
         + K.called far.new.sink)
         (S.failed near.old.source + K.failed near.old.sink + S.failed far.old.source
@@ -200,7 +200,7 @@ fn exchange<S: Source, K: Sink>(
         (K.taken near.old.sink) (K.taken near.new.sink)
         (S.given far.old.source) (S.given far.new.source)
         (S.to_come far.old.source) (S.to_come far.new.source)
-        (K.taken far.old.sink) (K.taken far.new.sink) left.new
+        (K.taken far.old.sink) (K.taken far.new.sink) left.old left.new
         (S.failed near.old.source + K.failed near.old.sink + S.failed far.old.source
         + K.failed far.old.sink)
         (S.failed near.new.source + K.failed near.new.sink + S.failed far.new.source

@@ -1,4 +1,4 @@
-ghost use Rattle.std.specs.Prelude.{◌≡◌, ◌⊎◌, ◌↔◌, ◌+◌, ◌-◌, ◌^◌, ◌≤◌, ◌++◌, ℕ, List, [], length};
+ghost use Rattle.std.specs.Prelude.{◌≡◌, ◌≢◌, ◌⊎◌, ◌↔◌, ◌+◌, ◌-◌, ◌^◌, ◌≤◌, ◌++◌, ℕ, List, [], length};
 ghost use Rattle.std.specs.Prelude.{flat_map, All, IsTrue, IfOk, IfErr, OnOk};
 ghost use Rattle.std.specs.Io.KnownBytes.{Appends};
 ghost use Rattle.cue_wire.specs.Clients.{request_frame, IsSendable, HasTaken};
@@ -6,7 +6,7 @@ ghost use Rattle.cue_net.specs.Halts.{IsDevice, IsMemory, IsTooLong};
 ghost use Rattle.cue_net.specs.Inner.Hearing.{Asked, Heard, Hears, Balks};
 ghost use Rattle.cue_net.specs.Sockets.{IsTalkAnswer};
 ghost use Rattle.cue_net.specs.Talks.{Talk, IsTalk, IsAnswerOf};
-ghost use Rattle.cue_net.specs.Turns.{IsWriteHalt};
+ghost use Rattle.cue_net.specs.Inner.Turns.{IsWriteHalt, Moves};
 
 use crate::connection::send_at_once;
 use crate::halt::Halt;
@@ -64,9 +64,8 @@ pub fn push<S: Source, K: Sink>(
     requires writes { K.called sink.old + turns ≤ 2 ^ 64 - 1 }
     ensures answer { (talk : Talk) × IsTalk talk (S.given source.old) (S.given source.new)
         (S.to_come source.old) (S.to_come source.new) (K.taken sink.old) (K.taken sink.new)
-        × IsAnswerOf result inputs.now talk (S.to_come source.new)
-        (S.called source.old + K.called sink.old + turns)
-        (S.called source.new + K.called sink.new)
+        × IsAnswerOf result inputs.now talk (S.to_come source.new) turns
+        (S.called source.old + K.called sink.old) (S.called source.new + K.called sink.new)
         (S.failed source.old + K.failed sink.old) (S.failed source.new + K.failed sink.new) }
     ensures turns { S.called source.new + K.called sink.new
         ≤ S.called source.old + K.called sink.old + turns }
@@ -115,7 +114,7 @@ fn push_inputs<S: Source, K: Sink>(
     ensures asked { Asked result (flat_map request_frame inputs.now) hearing.old hearing.new
         (length inputs.now) (S.given source.old) (S.given source.new)
         (S.to_come source.old) (S.to_come source.new) (K.taken sink.old) (K.taken sink.new)
-        left.new (S.failed source.old + K.failed sink.old)
+        left.old left.new (S.failed source.old + K.failed sink.old)
         (S.failed source.new + K.failed sink.new) }
     ensures turns { S.called source.new + K.called sink.new + left.new
         ≡ S.called source.old + K.called sink.old + left.old }
@@ -178,7 +177,7 @@ fn ask<S: Source, K: Sink>(
     ensures asked { Asked result (flat_map request_frame requests.now) hearing.old hearing.new
         count (S.given source.old) (S.given source.new)
         (S.to_come source.old) (S.to_come source.new) (K.taken sink.old) (K.taken sink.new)
-        left.new (S.failed source.old + K.failed sink.old)
+        left.old left.new (S.failed source.old + K.failed sink.old)
         (S.failed source.new + K.failed sink.new) }
     ensures turns { S.called source.new + K.called sink.new + left.new
         ≡ S.called source.old + K.called sink.old + left.old }
@@ -216,7 +215,8 @@ pub fn client_of(alloc: Global, requests: &[Request]) -> Result<Client, Halt>
 fn send<K: Sink>(sink: &mut K, bytes: &[u8], left: &mut u64) -> Result<(), Halt>
     requires { K.called sink.old + left.old ≤ 2 ^ 64 - 1 }
     ensures sent { (front back : List ℕ) × (bytes.now ≡ front ++ back)
-        × Appends (K.taken sink.old) (K.taken sink.new) front × OnOk result (back ≡ []) }
+        × Appends (K.taken sink.old) (K.taken sink.new) front × OnOk result (back ≡ [])
+        × IfErr result (λ _. back ≢ []) × Moves result left.old left.new (length front) }
     ensures turns { K.called sink.new + left.new ≡ K.called sink.old + left.old }
     ensures fewer { left.new ≤ left.old }
     ensures sound { OnOk result (K.failed sink.new ≡ K.failed sink.old) }
@@ -242,7 +242,7 @@ fn receive<S: Source>(
 ) -> Result<(), Halt>
     requires { S.called source.old + left.old ≤ 2 ^ 64 - 1 }
     ensures heard { Heard result hearing.old hearing.new count (S.given source.old)
-        (S.given source.new) (S.to_come source.old) (S.to_come source.new) left.new
+        (S.given source.new) (S.to_come source.old) (S.to_come source.new) left.old left.new
         (S.failed source.old) (S.failed source.new) }
     ensures turns { S.called source.new + left.new ≡ S.called source.old + left.old }
     ensures fewer { left.new ≤ left.old }

@@ -1,6 +1,7 @@
-ghost use Rattle.std.specs.Prelude.{◌≡◌, ◌+◌, ◌-◌, ◌^◌, ◌≤◌, ◌<◌, OnOk, IfOk, IfErr, length, drop};
+ghost use Rattle.std.specs.Prelude.{◌≡◌, ◌⊎◌, ◌+◌, ◌-◌, ◌^◌, ◌≤◌, ◌<◌, OnOk, IfOk, IfErr, length, drop};
 ghost use Rattle.std.specs.Io.KnownBytes.{WriteAppends, ReadConsumes};
-ghost use Rattle.cue_net.specs.Turns.{IsReadHalt, IsWriteHalt};
+ghost use Rattle.cue_net.specs.Halts.{IsDevice};
+ghost use Rattle.cue_net.specs.Inner.Turns.{IsReadHalt, IsWriteHalt};
 
 use crate::halt::Halt;
 use cue_device::{Fault, Sink, Source};
@@ -19,8 +20,9 @@ pub fn read_some<S: Source>(source: &mut S, into: &mut [u8], left: &mut u64) -> 
     ensures gives { WriteAppends (S.given source.old) (S.given source.new) result into.new }
     ensures takes { ReadConsumes (S.to_come source.old) (S.to_come source.new) result into.new }
     ensures turns { S.called source.new + left.new ≡ S.called source.old + left.old }
-    ensures turn { OnOk result (left.new < left.old) }
+    ensures turn { OnOk result (left.old ≡ left.new + 1) }
     ensures fewer { left.new ≤ left.old }
+    ensures idle { IfErr result (λ halt. IsDevice halt ⊎ (left.new ≡ left.old)) }
     ensures sound { OnOk result (S.failed source.new ≡ S.failed source.old) }
     ensures halt { IfErr result (λ halt. IsReadHalt halt left.new (S.to_come source.new)
         (S.failed source.old) (S.failed source.new)) }
@@ -47,8 +49,9 @@ pub fn write_some<K: Sink>(sink: &mut K, bytes: &[u8], left: &mut u64) -> Result
     ensures some { IfOk result (λ n. 0 < length bytes.now → 0 < n) }
     ensures takes { WriteAppends (K.taken sink.old) (K.taken sink.new) result bytes.now }
     ensures turns { K.called sink.new + left.new ≡ K.called sink.old + left.old }
-    ensures turn { OnOk result (left.new < left.old) }
+    ensures turn { OnOk result (left.old ≡ left.new + 1) }
     ensures fewer { left.new ≤ left.old }
+    ensures idle { IfErr result (λ halt. IsDevice halt ⊎ (left.new ≡ left.old)) }
     ensures sound { OnOk result (K.failed sink.new ≡ K.failed sink.old) }
     ensures halt { IfErr result (λ halt. IsWriteHalt halt left.new
         (K.failed sink.old) (K.failed sink.new)) }

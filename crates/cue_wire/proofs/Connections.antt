@@ -1,5 +1,5 @@
 -- What a connection has served so far, and how it goes on.
-use Rattle.std.proofs.Common.{◌≡◌, ℕ, ◌-◌, List, ◌++◌, length, take, drop, ap, sym, ◌∙◌, arith, append_assoc, length-drop, take-append-drop, subst, inl, inr, ⊎_elim, Option, Result, Ok, Err, [], ◌∷◌, ◌<◌, ◌⊎◌, false, is_err, OnOk, IfErr, length-append, append-nil, flat_map, refl, Bool, IsTrue, ◌↔◌, IsErrAnd}
+use Rattle.std.proofs.Common.{◌≡◌, ◌≤◌, ◌+◌, ℕ, zero, suc, ◌-◌, List, ◌++◌, length, take, drop, length-take, ap, sym, ◌∙◌, arith, append_assoc, length-drop, take-append-drop, subst, inl, inr, ⊎_elim, Option, Result, Ok, Err, [], ◌∷◌, ◌<◌, ◌⊎◌, false, is_err, OnOk, IfErr, length-append, append-nil, flat_map, refl, Bool, IsTrue, ◌↔◌, IsErrAnd}
 use Rattle.std.proofs.lemmas.List.{take_all, take-append-le}
 use Rattle.std.proofs.lemmas.Grind.{flat_map-append}
 use Rattle.std.proofs.lemmas.List.Elements.{All-append, All-nil}
@@ -8,22 +8,33 @@ use Rattle.std.specs.Io.KnownBytes.{Appends, Consumes, Keeps}
 use Rattle.cue_lattice.specs.declared.refusal.Kind.{Kind}
 use Rattle.cue_lattice.specs.declared.refusal.Kind.TheVariants as kinds
 use Rattle.std.specs.Int.{w32, from_be_bytes}
-use Rattle.cue_wire.specs.declared.connection.Ended.{Ended}
 use Rattle.cue_replica.specs.Language.{Table}
 use Rattle.cue_wire.specs.Serving.{ServesAll}
 use Rattle.cue_wire.specs.Sessions.{Standing, reading, ended, Served, standing_after}
-use Rattle.cue_wire.specs.Connections.{IsWriteFault, IsFault, IsStop, Replied, RepliesAt, IsPartServed, GoesOn, Passage, PassesBy, EndsAt}
+use Rattle.cue_wire.specs.Connections.{IsFault, IsStop, Passage, PassesBy, EndsAt}
+use Rattle.cue_wire.specs.Inner.Parts.{IsWriteFault, Moves, Replied, RepliesAt, IsPartServed, GoesOn}
 use Rattle.cue_wire.specs.Frames.{framed, frame_limit, named_length, IsBody, IsUnfinished, NamesTooMany, StopsAt}
 
 -- the front of what was left is written too
-pub written_more : (bytes front rest : List ℕ) (n : ℕ) (a b c : Option (List ℕ)) → bytes ≡ front ++ rest → Appends a b front → Appends b c (take n rest)
-    → (x : List ℕ) × (bytes ≡ x ++ take (length rest - n) (drop n rest)) × Appends a c x
-written_more bytes front rest n a b c is before more =
+pub written_more : (bytes front rest : List ℕ) (n left left' : ℕ) (a b c : Option (List ℕ)) → bytes ≡ front ++ rest → Appends a b front → Appends b c (take n rest)
+    → 0 < n → n ≤ length rest → left ≤ left' + 1 + length front
+    → (x : List ℕ) × (bytes ≡ x ++ take (length rest - n) (drop n rest)) × Appends a c x × (left ≤ left' + length x)
+written_more bytes front rest n left left' a b c is before more some within moved =
     let all = take_all (length rest - n) (drop n rest) (omega (arith, length-drop n rest)) in (
       front ++ take n rest,
       is ∙ ap (λ zs. front ++ zs) (sym (take-append-drop n rest)) ∙ sym (append_assoc front (take n rest) (drop n rest)) ∙ ap (λ zs. (front ++ take n rest) ++ zs) (sym all),
       Appends-trans a b c front (take n rest) before more,
+      omega (arith, some, within, moved, length-append front (take n rest), length-take n rest),
     )
+
+-- a write of some bytes has taken some
+pub some_bytes : (rest : List ℕ) (n : ℕ) → 0 < length rest → (n ≡ 0 → rest ≡ []) → 0 < n
+some_bytes rest zero some none = omega (arith, some, ap length (none refl))
+some_bytes rest (suc n) some none = omega arith
+
+-- what was read has some bytes
+pub some_read : (n : ℕ) (into : List ℕ) → n ≤ length into → (n ≡ 0 → ⊥) → 0 < length (take n into)
+some_read n into within some = omega (arith, length-take n into, within, some)
 
 -- frames that are served behind others
 serves_all : (bodies more : List (List ℕ)) (before between after : Table) (replies others : List ℕ)
@@ -60,23 +71,24 @@ served_on read kept piece rest before between after written more one two = recor
 -- ---- a piece in parts
 
 -- before the first part
-pub nothing_served : (kept : List ℕ) (session : Standing) (table : Table) (taken : Option (List ℕ)) → session ≡ reading kept → IsUnfinished kept
-    → IsPartServed kept session table table [] taken taken
+pub nothing_served : (kept : List ℕ) (session : Standing) (table : Table) (taken : Option (List ℕ)) (left : ℕ) → session ≡ reading kept → IsUnfinished kept
+    → IsPartServed kept session table table [] taken taken left left
 unfolding ServesAll
-nothing_served kept session table taken is unfinished = record {
+nothing_served kept session table taken left is unfinished = record {
   rest = kept;
   written = [];
   keeps = is;
   unfinished = unfinished;
   served = record { bodies = []; replies = []; frames = record { whole = refl; short = All-nil IsBody }; tables = (refl, refl); added = refl };
   wrote = Appends-nil taken;
+  moves = omega arith;
 }
 
 -- what the session serves with the next part, behind what was served
-fed_on : (stream part rest : List ℕ) (session : Standing) (before now after : Table) (pending out : List ℕ) (taken taken' : Option (List ℕ))
-    → (p : IsPartServed stream session before now pending taken taken') → Served (p.rest ++ part) rest now after pending out
+fed_on : (stream part rest : List ℕ) (session : Standing) (before now after : Table) (pending out : List ℕ) (taken taken' : Option (List ℕ)) (start left : ℕ)
+    → (p : IsPartServed stream session before now pending taken taken' start left) → Served (p.rest ++ part) rest now after pending out
     → Served (stream ++ part) rest before after [] (p.written ++ out)
-fed_on stream part rest session before now after pending out taken taken' p s =
+fed_on stream part rest session before now after pending out taken taken' start left p s =
     subst (Served (stream ++ part) rest before after []) (append_assoc p.written pending s.replies ∙ ap (λ zs. p.written ++ zs) (sym s.added))
     (served_on stream p.rest part rest before now after (p.written ++ pending) s.replies p.served
     (record { bodies = s.bodies; replies = s.replies; frames = s.frames; tables = s.tables; added = refl }))
@@ -88,26 +100,27 @@ IsFed fed stream session before after old new =
 
 -- the replies wait
 held_back : (fed : Result (Unit {0}) Kind) (u : Unit {0}) (stream part : List ℕ) (session session' : Standing) (before now after : Table) (pending out : List ℕ)
-    (taken taken' : Option (List ℕ)) → fed ≡ Ok u
-    → (p : IsPartServed stream session before now pending taken taken') → IsFed fed (p.rest ++ part) session' now after pending out
-    → IsPartServed (stream ++ part) session' before after out taken taken'
-held_back fed u stream part session session' before now after pending out taken taken' ok p f = record {
+    (taken taken' : Option (List ℕ)) (start left : ℕ) → fed ≡ Ok u
+    → (p : IsPartServed stream session before now pending taken taken' start left) → IsFed fed (p.rest ++ part) session' now after pending out
+    → IsPartServed (stream ++ part) session' before after out taken taken' start left
+held_back fed u stream part session session' before now after pending out taken taken' start left ok p f = record {
   rest = f.0;
   written = p.written;
   keeps = subst (λ e. session' ≡ standing_after e f.0) ok f.2;
   unfinished = subst (λ e. StopsAt e f.0) ok f.1;
-  served = fed_on stream part f.0 session before now after pending out taken taken' p f.3;
+  served = fed_on stream part f.0 session before now after pending out taken taken' start left p f.3;
   wrote = p.wrote;
+  moves = p.moves;
 }
 
 -- where the session goes on, serving does
 pub goes_on : (fed : Result (Unit {0}) Kind) (stream part : List ℕ) (session session' : Standing) (before now after : Table) (pending out : List ℕ)
-    (taken taken' : Option (List ℕ)) (left failed failed' : ℕ) → is_err fed ≡ false
-    → (p : IsPartServed stream session before now pending taken taken') → IsFed fed (p.rest ++ part) session' now after pending out
-    → GoesOn fed (stream ++ part) session' before after out taken taken' left failed failed'
-goes_on (Ok u) stream part session session' before now after pending out taken taken' left failed failed' went p f =
-    held_back (Ok u) u stream part session session' before now after pending out taken taken' refl p f
-goes_on (Err kind) stream part session session' before now after pending out taken taken' left failed failed' went p f = cc
+    (taken taken' : Option (List ℕ)) (start left failed failed' : ℕ) → is_err fed ≡ false
+    → (p : IsPartServed stream session before now pending taken taken' start left) → IsFed fed (p.rest ++ part) session' now after pending out
+    → GoesOn fed (stream ++ part) session' before after out taken taken' start left failed failed'
+goes_on (Ok u) stream part session session' before now after pending out taken taken' start left failed failed' went p f =
+    held_back (Ok u) u stream part session session' before now after pending out taken taken' start left refl p f
+goes_on (Err kind) stream part session session' before now after pending out taken taken' start left failed failed' went p f = cc
 
 -- a front of the replies is written, and the rest of them is not
 put_out : (stream rest : List ℕ) (before after : Table) (written out front back : List ℕ) → out ≡ front ++ back
@@ -116,24 +129,32 @@ put_out stream rest before after written out front back is s =
     subst (Served stream rest before after []) (ap (λ zs. written ++ zs) is ∙ sym (append_assoc written front back)) s
 
 -- what was written of some replies, and what was not
-abbrev pub IsWritten : List ℕ → Option (List ℕ) → Option (List ℕ) → Type 0
-IsWritten out taken taken' = (front back : List ℕ) × (out ≡ front ++ back) × Appends taken taken' front
+abbrev pub IsWritten : List ℕ → Option (List ℕ) → Option (List ℕ) → ℕ → ℕ → ℕ → ℕ → Type 0
+IsWritten out taken taken' left left' failed failed' =
+    (front back : List ℕ) × (out ≡ front ++ back) × Appends taken taken' front × Moves left left' failed failed' front
 
-abbrev pub IsWrittenOut : List ℕ → Option (List ℕ) → Option (List ℕ) → Type 0
-IsWrittenOut out taken taken' = (front back : List ℕ) × (out ≡ front ++ back) × Appends taken taken' front × (back ≡ [])
+abbrev pub IsWrittenOut : List ℕ → Option (List ℕ) → Option (List ℕ) → ℕ → ℕ → ℕ → ℕ → Type 0
+IsWrittenOut out taken taken' left left' failed failed' =
+    (front back : List ℕ) × (out ≡ front ++ back) × Appends taken taken' front × (back ≡ []) × Moves left left' failed failed' front
+
+-- what moves behind what has moved
+moves_on : (start left left' failed failed' : ℕ) (written front : List ℕ) → start ≤ left + length written → Moves left left' failed failed' front
+    → Moves start left' failed failed' (written ++ front)
+moves_on start left left' failed failed' written front before more = omega (arith, before, more, length-append written front)
 
 -- writing them stops
 pub cut_short : (fed : Result (Unit {0}) Kind) (kind : Kind) (stream part : List ℕ) (session session' : Standing) (before now after : Table) (pending out : List ℕ)
-    (taken taken' taken'' : Option (List ℕ)) (left failed failed' : ℕ)
-    → (p : IsPartServed stream session before now pending taken taken') → IsFed fed (p.rest ++ part) session' now after pending out
-    → IsWritten out taken' taken'' → IsWriteFault kind left failed failed'
-    → Replied (Err kind) (stream ++ part) session' before after taken taken'' left failed failed'
-cut_short fed kind stream part session session' before now after pending out taken taken' taken'' left failed failed' p f w why = record {
+    (taken taken' taken'' : Option (List ℕ)) (start left left' failed failed' : ℕ)
+    → (p : IsPartServed stream session before now pending taken taken' start left) → IsFed fed (p.rest ++ part) session' now after pending out
+    → IsWritten out taken' taken'' left left' failed failed' → IsWriteFault kind left' failed failed'
+    → Replied (Err kind) (stream ++ part) session' before after taken taken'' start left' failed failed'
+cut_short fed kind stream part session session' before now after pending out taken taken' taken'' start left left' failed failed' p f w why = record {
   rest = f.0;
   written = p.written ++ w.0;
   unwritten = w.1;
-  served = put_out (stream ++ part) f.0 before after p.written out w.0 w.1 w.2 (fed_on stream part f.0 session before now after pending out taken taken' p f.3);
+  served = put_out (stream ++ part) f.0 before after p.written out w.0 w.1 w.2 (fed_on stream part f.0 session before now after pending out taken taken' start left p f.3);
   wrote = Appends-trans taken taken' taken'' p.written w.0 p.wrote w.3;
+  moves = moves_on start left left' failed failed' p.written w.0 p.moves w.4;
   ends = inr (inr why);
 }
 
@@ -142,26 +163,28 @@ fault_of kind rest back Stops stops nil = ⊎_elim (λ memory. inr (inl (memory,
 
 -- all replies are written, and serving goes on or stops as the session does
 pub written_off : (fed : Result (Unit {0}) Kind) (stream part : List ℕ) (session session' : Standing) (before now after : Table) (pending out none : List ℕ)
-    (taken taken' taken'' : Option (List ℕ)) (left failed failed' : ℕ) → none ≡ []
-    → (p : IsPartServed stream session before now pending taken taken') → IsFed fed (p.rest ++ part) session' now after pending out
-    → IsWrittenOut out taken' taken''
-    → GoesOn fed (stream ++ part) session' before after none taken taken'' left failed failed'
-written_off (Ok u) stream part session session' before now after pending out none taken taken' taken'' left failed failed' nil p f w = record {
+    (taken taken' taken'' : Option (List ℕ)) (start left left' failed failed' : ℕ) → none ≡ [] → failed' ≡ failed
+    → (p : IsPartServed stream session before now pending taken taken' start left) → IsFed fed (p.rest ++ part) session' now after pending out
+    → IsWrittenOut out taken' taken'' left left' failed failed'
+    → GoesOn fed (stream ++ part) session' before after none taken taken'' start left' failed failed'
+written_off (Ok u) stream part session session' before now after pending out none taken taken' taken'' start left left' failed failed' nil sound p f w = record {
   rest = f.0;
   written = p.written ++ w.0;
   keeps = f.2;
   unfinished = f.1;
   served = subst (λ zs. Served (stream ++ part) f.0 before after [] ((p.written ++ w.0) ++ zs)) (w.4 ∙ sym nil)
-      (put_out (stream ++ part) f.0 before after p.written out w.0 w.1 w.2 (fed_on stream part f.0 session before now after pending out taken taken' p f.3));
+      (put_out (stream ++ part) f.0 before after p.written out w.0 w.1 w.2 (fed_on stream part f.0 session before now after pending out taken taken' start left p f.3));
   wrote = Appends-trans taken taken' taken'' p.written w.0 p.wrote w.3;
+  moves = omega (arith, sound, moves_on start left left' failed failed' p.written w.0 p.moves w.5);
 }
-written_off (Err kind) stream part session session' before now after pending out none taken taken' taken'' left failed failed' nil p f w = record {
+written_off (Err kind) stream part session session' before now after pending out none taken taken' taken'' start left left' failed failed' nil sound p f w = record {
   rest = f.0;
   written = p.written ++ w.0;
   unwritten = w.1;
-  served = put_out (stream ++ part) f.0 before after p.written out w.0 w.1 w.2 (fed_on stream part f.0 session before now after pending out taken taken' p f.3);
+  served = put_out (stream ++ part) f.0 before after p.written out w.0 w.1 w.2 (fed_on stream part f.0 session before now after pending out taken taken' start left p f.3);
   wrote = Appends-trans taken taken' taken'' p.written w.0 p.wrote w.3;
-  ends = fault_of kind f.0 w.1 (IsWriteFault kind left failed failed') f.1 w.4;
+  moves = moves_on start left left' failed failed' p.written w.0 p.moves w.5;
+  ends = fault_of kind f.0 w.1 (IsWriteFault kind left' failed failed') f.1 w.4;
 }
 
 -- a length that no frame has stays one
@@ -176,10 +199,10 @@ stop_behind : (kind : Kind) (rest more unwritten : List ℕ) (Stops : Type 0) �
 stop_behind kind rest more unwritten Stops stop = ⊎_elim (λ long. inl (long.0, names_too_many rest more long.1, long.2)) inr stop
 
 -- serving stops before what comes behind
-pub stops_before : (kind : Kind) (stream more whole : List ℕ) (session : Standing) (before after : Table) (taken taken' : Option (List ℕ)) (left failed failed' : ℕ)
-    → whole ≡ stream ++ more → Replied (Err kind) stream session before after taken taken' left failed failed'
-    → Replied (Err kind) whole session before after taken taken' left failed failed'
-stops_before kind stream more whole session before after taken taken' left failed failed' is r = record {
+pub stops_before : (kind : Kind) (stream more whole : List ℕ) (session : Standing) (before after : Table) (taken taken' : Option (List ℕ)) (start left failed failed' : ℕ)
+    → whole ≡ stream ++ more → Replied (Err kind) stream session before after taken taken' start left failed failed'
+    → Replied (Err kind) whole session before after taken taken' start left failed failed'
+stops_before kind stream more whole session before after taken taken' start left failed failed' is r = record {
   rest = r.rest ++ more;
   written = r.written;
   unwritten = r.unwritten;
@@ -194,46 +217,50 @@ stops_before kind stream more whole session before after taken taken' left faile
     added = r.served.added;
   };
   wrote = r.wrote;
+  moves = r.moves;
   ends = stop_behind kind r.rest more r.unwritten (IsWriteFault kind left failed failed') r.ends;
 }
 
 -- all of a piece is served, and all replies are written
 all_written : (u : Unit {0}) (stream : List ℕ) (session : Standing) (before after : Table) (pending : List ℕ) (taken taken' taken'' : Option (List ℕ))
-    (left failed failed' : ℕ) → (p : IsPartServed stream session before after pending taken taken') → IsWrittenOut pending taken' taken''
-    → Replied (Ok u) stream session before after taken taken'' left failed failed'
-all_written u stream session before after pending taken taken' taken'' left failed failed' p w = record {
+    (start left left' failed failed' : ℕ) → (p : IsPartServed stream session before after pending taken taken' start left)
+    → IsWrittenOut pending taken' taken'' left left' failed failed'
+    → Replied (Ok u) stream session before after taken taken'' start left' failed failed'
+all_written u stream session before after pending taken taken' taken'' start left left' failed failed' p w = record {
   rest = p.rest;
   written = p.written ++ w.0;
   unwritten = w.1;
   served = put_out stream p.rest before after p.written pending w.0 w.1 w.2 p.served;
   wrote = Appends-trans taken taken' taken'' p.written w.0 p.wrote w.3;
+  moves = moves_on start left left' failed failed' p.written w.0 p.moves w.5;
   ends = (p.keeps, p.unfinished, w.4);
 }
 
 -- or writing them stops
 some_written : (kind : Kind) (stream : List ℕ) (session : Standing) (before after : Table) (pending : List ℕ) (taken taken' taken'' : Option (List ℕ))
-    (left failed failed' : ℕ) → (p : IsPartServed stream session before after pending taken taken') → IsWritten pending taken' taken''
-    → IsWriteFault kind left failed failed'
-    → Replied (Err kind) stream session before after taken taken'' left failed failed'
-some_written kind stream session before after pending taken taken' taken'' left failed failed' p w why = record {
+    (start left left' failed failed' : ℕ) → (p : IsPartServed stream session before after pending taken taken' start left)
+    → IsWritten pending taken' taken'' left left' failed failed' → IsWriteFault kind left' failed failed'
+    → Replied (Err kind) stream session before after taken taken'' start left' failed failed'
+some_written kind stream session before after pending taken taken' taken'' start left left' failed failed' p w why = record {
   rest = p.rest;
   written = p.written ++ w.0;
   unwritten = w.1;
   served = put_out stream p.rest before after p.written pending w.0 w.1 w.2 p.served;
   wrote = Appends-trans taken taken' taken'' p.written w.0 p.wrote w.3;
+  moves = moves_on start left left' failed failed' p.written w.0 p.moves w.4;
   ends = inr (inr why);
 }
 
 -- the pending replies are written, or some of them
 pub ends_with : (result : Result (Unit {0}) Kind) (stream : List ℕ) (session : Standing) (before after : Table) (pending : List ℕ) (taken taken' taken'' : Option (List ℕ))
-    (left failed failed' : ℕ) → (p : IsPartServed stream session before after pending taken taken')
-    → (front back : List ℕ) × (pending ≡ front ++ back) × Appends taken' taken'' front × OnOk result (back ≡ [])
-    → IfErr result (λ kind. IsWriteFault kind left failed failed')
-    → Replied result stream session before after taken taken'' left failed failed'
-ends_with (Ok u) stream session before after pending taken taken' taken'' left failed failed' p w why =
-    all_written u stream session before after pending taken taken' taken'' left failed failed' p w
-ends_with (Err kind) stream session before after pending taken taken' taken'' left failed failed' p w why =
-    some_written kind stream session before after pending taken taken' taken'' left failed failed' p (w.0, w.1, w.2, w.3) why
+    (start left left' failed failed' : ℕ) → (p : IsPartServed stream session before after pending taken taken' start left)
+    → (front back : List ℕ) × (pending ≡ front ++ back) × Appends taken' taken'' front × OnOk result (back ≡ []) × Moves left left' failed failed' front
+    → IfErr result (λ kind. IsWriteFault kind left' failed failed')
+    → Replied result stream session before after taken taken'' start left' failed failed'
+ends_with (Ok u) stream session before after pending taken taken' taken'' start left left' failed failed' p w why =
+    all_written u stream session before after pending taken taken' taken'' start left left' failed failed' p w
+ends_with (Err kind) stream session before after pending taken taken' taken'' start left left' failed failed' p w why =
+    some_written kind stream session before after pending taken taken' taken'' start left left' failed failed' p (w.0, w.1, w.2, w.3, w.5) why
 
 -- the next part is taken off what is left
 pub split_stream : (whole stream rest part behind : List ℕ) (n : ℕ) → whole ≡ stream ++ rest → part ≡ take n rest → behind ≡ drop n rest → whole ≡ (stream ++ part) ++ behind
@@ -242,7 +269,7 @@ split_stream whole stream rest part behind n is front back =
     ∙ sym (append_assoc stream part behind)
 
 -- all replies to what was read so far are written, and the session keeps what comes behind
-pub record SoFar (before now : Table) (session : Standing) (given given' to_come to_come' taken taken' : Option (List ℕ)) : Type 0 where
+pub record SoFar (before now : Table) (session : Standing) (given given' to_come to_come' taken taken' : Option (List ℕ)) (turns left : ℕ) : Type 0 where
   pub read : List ℕ
   pub kept : List ℕ
   pub written : List ℕ
@@ -252,11 +279,12 @@ pub record SoFar (before now : Table) (session : Standing) (given given' to_come
   pub gave : Appends given given' read
   pub took : Consumes to_come to_come' read
   pub wrote : Appends taken taken' written
+  pub moves : turns ≤ left + length read + length written
 
-pub begun : (table : Table) (session : Standing) (given to_come taken : Option (List ℕ)) → session ≡ reading []
-    → SoFar table table session given given to_come to_come taken taken
+pub begun : (table : Table) (session : Standing) (given to_come taken : Option (List ℕ)) (turns : ℕ) → session ≡ reading []
+    → SoFar table table session given given to_come to_come taken taken turns turns
 unfolding ServesAll
-begun table session given to_come taken is = record {
+begun table session given to_come taken turns is = record {
   read = [];
   kept = [];
   written = [];
@@ -266,17 +294,18 @@ begun table session given to_come taken is = record {
   gave = Appends-nil given;
   took = Consumes-nil to_come;
   wrote = Appends-nil taken;
+  moves = omega arith;
 }
 
 -- one piece was read, and the replies to it are written
 pub went_on : (before now after : Table) (session session' : Standing) (given given' given'' to_come to_come' to_come'' taken taken' taken'' : Option (List ℕ))
-    (result : Result (Unit {0}) Kind) (u : Unit {0}) (piece : List ℕ) (left failed failed' : ℕ)
-    → (s : SoFar before now session given given' to_come to_come' taken taken')
-    → Appends given' given'' piece → Consumes to_come' to_come'' piece → result ≡ Ok u
-    → Replied result (s.kept ++ piece) session' now after taken' taken'' left failed failed'
-    → SoFar before after session' given given'' to_come to_come'' taken taken''
-went_on before now after session session' given given' given'' to_come to_come' to_come'' taken taken' taken'' result u piece left failed failed' s gave took ok r =
-    let ends = subst (λ e. RepliesAt e r.rest r.unwritten session' left failed failed') ok r.ends in
+    (result : Result (Unit {0}) Kind) (u : Unit {0}) (piece : List ℕ) (turns left start left' failed failed' : ℕ)
+    → (s : SoFar before now session given given' to_come to_come' taken taken' turns left)
+    → Appends given' given'' piece → Consumes to_come' to_come'' piece → result ≡ Ok u → 0 < length piece → left ≡ start + 1 → failed' ≡ failed
+    → Replied result (s.kept ++ piece) session' now after taken' taken'' start left' failed failed'
+    → SoFar before after session' given given'' to_come to_come'' taken taken'' turns left'
+went_on before now after session session' given given' given'' to_come to_come' to_come'' taken taken' taken'' result u piece turns left start left' failed failed' s gave took ok some turn sound r =
+    let ends = subst (λ e. RepliesAt e r.rest r.unwritten session' left' failed failed') ok r.ends in
     record {
       read = s.read ++ piece;
       kept = r.rest;
@@ -288,25 +317,26 @@ went_on before now after session session' given given' given'' to_come to_come' 
       gave = Appends-trans given given' given'' s.read piece s.gave gave;
       took = Consumes-trans to_come to_come' to_come'' s.read piece s.took took;
       wrote = Appends-trans taken taken' taken'' s.written r.written s.wrote r.wrote;
+      moves = omega (arith, s.moves, r.moves, some, turn, sound, length-append s.read piece, length-append s.written r.written);
     }
 
-stop_for : (kind : Kind) (rest unwritten : List ℕ) (left failed failed' allowed calls failures failures' : ℕ)
-    → (left ≡ 0 → calls ≡ allowed) → (failed < failed' → failures < failures')
-    → IsStop kind rest unwritten (IsWriteFault kind left failed failed') → IsStop kind rest unwritten (IsFault kind allowed calls failures failures')
-stop_for kind rest unwritten left failed failed' allowed calls failures failures' used broke =
-    ⊎_elim inl (λ others. inr (⊎_elim inl (λ fault. inr (⊎_elim (λ turns. inl (turns.0, used turns.1)) (λ device. inr (device.0, broke device.1)) fault)) others))
+stop_for : (kind : Kind) (rest unwritten : List ℕ) (left failed failed' turns moved calls calls' failures failures' : ℕ)
+    → (left ≡ 0 → failed' ≡ failed → (calls' ≡ calls + turns) × (turns ≤ moved)) → (failed < failed' → failures < failures')
+    → IsStop kind rest unwritten (IsWriteFault kind left failed failed') → IsStop kind rest unwritten (IsFault kind turns moved calls calls' failures failures')
+stop_for kind rest unwritten left failed failed' turns moved calls calls' failures failures' used broke =
+    ⊎_elim inl (λ others. inr (⊎_elim inl (λ fault. inr (⊎_elim (λ out. let all = used out.1 out.2 in inl (out.0, all.0, all.1)) (λ device. inr (device.0, broke device.1)) fault)) others))
 
 -- one piece was read, and then serving stopped
 pub stopped : (before now after : Table) (session session' : Standing) (given given' given'' to_come to_come' to_come'' taken taken' taken'' : Option (List ℕ))
-    (result : Result (Unit {0}) Kind) (kind : Kind) (piece : List ℕ) (left failed failed' allowed calls failures failures' : ℕ)
-    → (s : SoFar before now session given given' to_come to_come' taken taken')
-    → Appends given' given'' piece → Consumes to_come' to_come'' piece → result ≡ Err kind
-    → Replied result (s.kept ++ piece) session' now after taken' taken'' left failed failed'
-    → (left ≡ 0 → calls ≡ allowed) → (failed < failed' → failures < failures')
+    (result : Result (Unit {0}) Kind) (kind : Kind) (piece : List ℕ) (turns left start left' failed failed' calls calls' failures failures' : ℕ)
+    → (s : SoFar before now session given given' to_come to_come' taken taken' turns left)
+    → Appends given' given'' piece → Consumes to_come' to_come'' piece → result ≡ Err kind → 0 < length piece → left ≡ start + 1
+    → Replied result (s.kept ++ piece) session' now after taken' taken'' start left' failed failed'
+    → (left' ≡ 0 → calls' ≡ calls + turns) → (failed < failed' → failures < failures')
     → (passage : Passage before after) × PassesBy passage given given'' to_come to_come'' taken taken''
-    × EndsAt (Err kind) passage to_come'' allowed calls failures failures'
-stopped before now after session session' given given' given'' to_come to_come' to_come'' taken taken' taken'' result kind piece left failed failed' allowed calls failures failures' s gave took err r used broke =
-    let ends = subst (λ e. RepliesAt e r.rest r.unwritten session' left failed failed') err r.ends in (
+    × EndsAt (Err kind) passage to_come'' turns calls calls' failures failures'
+stopped before now after session session' given given' given'' to_come to_come' to_come'' taken taken' taken'' result kind piece turns left start left' failed failed' calls calls' failures failures' s gave took err some turn r used broke =
+    let ends = subst (λ e. RepliesAt e r.rest r.unwritten session' left' failed failed') err r.ends in (
       record {
         read = s.read ++ piece;
         rest = r.rest;
@@ -320,14 +350,16 @@ stopped before now after session session' given given' given'' to_come to_come' 
         Consumes-trans to_come to_come' to_come'' s.read piece s.took took,
         Appends-trans taken taken' taken'' s.written r.written s.wrote r.wrote,
       ),
-      stop_for kind r.rest r.unwritten left failed failed' allowed calls failures failures' used broke ends,
+      stop_for kind r.rest r.unwritten left' failed failed' turns (length (s.read ++ piece) + length (s.written ++ r.written)) calls calls' failures failures'
+          (λ none sound. (used none, omega (arith, none, sound, s.moves, r.moves, some, turn, length-append s.read piece, length-append s.written r.written)))
+          broke ends,
     )
 
 -- a read that gave nothing
 pub none_read : (before now : Table) (session : Standing) (given given' given'' to_come to_come' to_come'' taken taken' : Option (List ℕ)) (piece : List ℕ)
-    → (s : SoFar before now session given given' to_come to_come' taken taken') → piece ≡ [] → Appends given' given'' piece → Consumes to_come' to_come'' piece
-    → SoFar before now session given given'' to_come to_come'' taken taken'
-none_read before now session given given' given'' to_come to_come' to_come'' taken taken' piece s nil gave took =
+    (turns left : ℕ) → (s : SoFar before now session given given' to_come to_come' taken taken' turns left) → piece ≡ [] → Appends given' given'' piece → Consumes to_come' to_come'' piece
+    → SoFar before now session given given'' to_come to_come'' taken taken' turns left
+none_read before now session given given' given'' to_come to_come' to_come'' taken taken' piece turns left s nil gave took =
     let same = ap (λ zs. s.read ++ zs) nil ∙ append-nil s.read in
     record {
       read = s.read;
@@ -339,13 +371,14 @@ none_read before now session given given' given'' to_come to_come' to_come'' tak
       gave = subst (Appends given given'') same (Appends-trans given given' given'' s.read piece s.gave gave);
       took = subst (Consumes to_come to_come'') same (Consumes-trans to_come to_come' to_come'' s.read piece s.took took);
       wrote = s.wrote;
+      moves = s.moves;
     }
 
 -- a read that failed
 pub failed_read : (before now : Table) (session : Standing) (given given' given'' to_come to_come' to_come'' taken taken' : Option (List ℕ))
-    → (s : SoFar before now session given given' to_come to_come' taken taken') → Keeps given' given'' → Keeps to_come' to_come''
-    → SoFar before now session given given'' to_come to_come'' taken taken'
-failed_read before now session given given' given'' to_come to_come' to_come'' taken taken' s gave took = record {
+    (turns left : ℕ) → (s : SoFar before now session given given' to_come to_come' taken taken' turns left) → Keeps given' given'' → Keeps to_come' to_come''
+    → SoFar before now session given given'' to_come to_come'' taken taken' turns left
+failed_read before now session given given' given'' to_come to_come' to_come'' taken taken' turns left s gave took = record {
   read = s.read;
   kept = s.kept;
   written = s.written;
@@ -355,13 +388,16 @@ failed_read before now session given given' given'' to_come to_come' to_come'' t
   gave = Appends-kept given given' given'' s.read s.gave gave;
   took = Consumes-kept to_come to_come' to_come'' s.read s.took took;
   wrote = s.wrote;
+  moves = s.moves;
 }
 
 -- serving ends where all replies are written
 pub halted : (before now : Table) (session : Standing) (given given' to_come to_come' taken taken' : Option (List ℕ))
-    → (s : SoFar before now session given given' to_come to_come' taken taken') (Ends : List ℕ → List ℕ → Type 0) → Ends s.kept []
-    → (passage : Passage before now) × PassesBy passage given given' to_come to_come' taken taken' × Ends passage.rest passage.unwritten
-halted before now session given given' to_come to_come' taken taken' s Ends ends = (
+    (turns left : ℕ) → (s : SoFar before now session given given' to_come to_come' taken taken' turns left)
+    (Ends : List ℕ → List ℕ → ℕ → Type 0) → Ends s.kept [] (length s.read + length s.written)
+    → (passage : Passage before now) × PassesBy passage given given' to_come to_come' taken taken'
+    × Ends passage.rest passage.unwritten (length passage.read + length passage.written)
+halted before now session given given' to_come to_come' taken taken' turns left s Ends ends = (
   record {
     read = s.read;
     rest = s.kept;

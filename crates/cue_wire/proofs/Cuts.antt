@@ -1,5 +1,5 @@
 -- Where a frame is whole, the codec cuts it off.
-use Rattle.std.proofs.Common.{◌≡◌, ℕ, ◌+◌, ◌-◌, ◌^◌, ◌<◌, ◌≤◌, List, [], ◌∷◌, ◌++◌, length, take, drop, Option, Some, None, Ok, IfSome, IfNone, sym, ap, ◌∙◌, subst, arith, pos, length-drop, append-nil, append_assoc, get_or, inl, inr}
+use Rattle.std.proofs.Common.{◌≡◌, ℕ, ◌+◌, ◌^◌, ◌<◌, ◌≤◌, List, [], ◌∷◌, ◌++◌, length, take, drop, Option, Some, None, Ok, IfSome, IfNone, sym, ap, ◌∙◌, subst, arith, pos, length-drop, append-nil, append_assoc, get_or, inl, inr}
 use Rattle.std.proofs.lemmas.List.{length-take-le, take-append-drop, get_or-take, get_or_past}
 use Rattle.std.proofs.lemmas.Bool.{cases_lt}
 use Rattle.std.proofs.lemmas.Bool.Decides.{nat_tests}

@@ -1,7 +1,9 @@
 -- Frames that are served, as events of a world.
-use Rattle.std.proofs.Common.{◌≡◌, ◌⊎◌, ◌<◌, ◌^◌, ℕ, zero, suc, List, [], ◌∷◌, ◌++◌, length, Some, All, refl, sym, ap, ◌∙◌, subst, inl, inr, ⊎_elim, arith}
+use Rattle.std.proofs.Common.{◌≡◌, ◌≢◌, ◌⊎◌, ◌<◌, ◌^◌, ℕ, zero, suc, List, [], ◌∷◌, ◌++◌, length, Some, All, refl, sym, ap, ◌∙◌, subst, inl, inr, ⊎_elim, arith}
 use Rattle.std.specs.Prelude.{slice_get, slice_set}
-use Rattle.std.proofs.lemmas.Bool.{cases_lt}
+use Rattle.std.specs.Str.{bytes_eq}
+use Rattle.std.proofs.lemmas.Bool.{cases_lt, cases_Bool, false≢true}
+use Rattle.std.proofs.lemmas.Slice.Eq.{bytes_eq-Decides}
 use Rattle.std.proofs.lemmas.List.Elements.{All-head, All-tail}
 use Rattle.cue_lattice.specs.Question.{Refusals, SameAnswers}
 use Rattle.cue_lattice.specs.World as world
@@ -122,10 +124,10 @@ takes : IsSound Table language → (tables : List Table) (messages : List (List 
     → IsWorld tables messages sets → slice_get tables site ≡ Some before → length bytes < 2 ^ 64 → IsHanded (Takes bytes) before after reply
     → IsHandedOver site bytes messages events → ComesTo sets events (slice_set tables site after) messages
 takes sound tables messages sets site before after bytes reply events w found held handed (inl is) =
-    subst (λ es. ComesTo sets es (slice_set tables site after) messages) (sym is) (takes_foreign tables messages sets site before after bytes reply w found handed)
-takes sound tables messages sets site before after bytes reply events w found held handed (inr is) =
     subst (λ es. ComesTo sets es (slice_set tables site after) messages) (sym is.2)
     (takes_message sound tables messages sets site is.0 before after bytes reply w found is.1 held handed)
+takes sound tables messages sets site before after bytes reply events w found held handed (inr is) =
+    subst (λ es. ComesTo sets es (slice_set tables site after) messages) (sym is.1) (takes_foreign tables messages sets site before after bytes reply w found handed)
 
 -- a state is asked for
 sends : (tables : List Table) (messages messages' : List (List ℕ)) (sets : Sets) (site : ℕ) (before after : Table) (events : List world.Event)
@@ -212,11 +214,32 @@ all_frames sound site (body ∷ bodies) before after replies messages events mes
     (then sets now later (slice_set tables site between) (slice_set tables site after) middle messages' here
     (subst (λ ts. ComesTo (reach sets now here.0) later ts messages') (set_again tables site between after) next))
 
+-- bytes that are of no message behind the first, and not of that
+not_sent : (bytes message : List ℕ) (messages : List (List ℕ)) → (message ≡ bytes → ⊥) → ((number : ℕ) → slice_get messages number ≢ Some bytes)
+    → (number : ℕ) → slice_get (message ∷ messages) number ≢ Some bytes
+not_sent bytes message messages other none zero = λ e. other cc
+not_sent bytes message messages other none (suc number) = none number
+
+-- bytes are those of a message, or of none
+message_or_not : (bytes : List ℕ) (messages : List (List ℕ))
+    → ((number : ℕ) × (slice_get messages number ≡ Some bytes)) ⊎ ((number : ℕ) → slice_get messages number ≢ Some bytes)
+message_or_not bytes [] = inr (λ number e. cc)
+message_or_not bytes (message ∷ messages) = elim (cases_Bool (bytes_eq message bytes)) [
+  | inl e ↦ inl (0, ap (λ (b : List ℕ). Some b) ((bytes_eq-Decides message bytes).0 e))
+  | inr e ↦ elim (message_or_not bytes messages) [
+    | inl sent ↦ inl (suc sent.0, sent.1)
+    | inr none ↦ inr (not_sent bytes message messages (λ same. false≢true (sym e ∙ (bytes_eq-Decides message bytes).1 same)) none)
+  ]
+]
+
 -- each frame is events, whatever messages there are
 some_events : (site : ℕ) (request : Request) (table : Table) (messages : List (List ℕ))
     → (events : List world.Event) × (messages' : List (List ℕ)) × AreEventsOf site request table messages events messages'
 some_events site (text t) table messages = (world.submit site t ∷ [], messages, (refl, refl))
-some_events site (state bytes) table messages = (world.foreign site bytes ∷ [], messages, (inl refl, refl))
+some_events site (state bytes) table messages = elim (message_or_not bytes messages) [
+  | inl sent ↦ (world.deliver site sent.0 ∷ [], messages, (inl (sent.0, sent.1, refl), refl))
+  | inr none ↦ (world.foreign site bytes ∷ [], messages, (inr (none, refl), refl))
+]
 some_events site (ask questions.State) table messages = elim (cases_lt (length (language.written table)) frame_limit) [
   | inl short ↦ (world.send site ∷ [], messages ++ language.written table ∷ [], inl (short, refl, refl))
   | inr long ↦ ([], messages, inr (long, refl, refl))

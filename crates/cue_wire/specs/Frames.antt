@@ -26,6 +26,12 @@ IsUnfinished bytes =
     (length bytes < 4)
     ⊎ ((named_length bytes ≤ frame_limit) × (length bytes < 4 + named_length bytes))
 
+-- So many bytes more end the length at the front, or where it is known the frame.
+abbrev pub Lacks : List ℕ → ℕ → Type 0
+Lacks bytes count =
+    ((length bytes < 4) × (length bytes + count ≡ 4))
+    ⊎ ((4 ≤ length bytes) × (length bytes + count ≡ 4 + named_length bytes))
+
 -- The bytes begin with a length that no frame has.
 abbrev pub NamesTooMany : List ℕ → Type 0
 NamesTooMany bytes = (4 ≤ length bytes) × (frame_limit < named_length bytes)

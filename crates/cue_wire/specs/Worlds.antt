@@ -1,5 +1,5 @@
 -- What the frames of a session are in a world of sites: the events there.
-use Rattle.std.specs.Prelude.{◌≡◌, ◌⊎◌, ◌<◌, ◌≤◌, ℕ, List, [], ◌∷◌, ◌++◌, length, Some, All}
+use Rattle.std.specs.Prelude.{◌≡◌, ◌≢◌, ◌⊎◌, ◌<◌, ◌≤◌, ℕ, List, [], ◌∷◌, ◌++◌, length, Some, All}
 use Rattle.std.specs.Prelude.{slice_get, slice_set}
 use Rattle.cue_lattice.specs.Refusal.{refusal_at}
 use Rattle.cue_lattice.specs.declared.refusal.Kind.TheVariants as kinds
@@ -17,12 +17,13 @@ pub record IsWorld (tables : List Table) (messages : List (List ℕ)) (sets : Se
   pub sites : AllAlong (IsUnified language) tables sets.sites
   pub sent : AllAlong (IsMessageOf language) messages sets.messages
 
--- state bytes come from outside, or they are a message
+-- state bytes are a message, or come from outside where no message has them
 abbrev pub IsHandedOver : ℕ → List ℕ → List (List ℕ) → List Event → Type 0
 IsHandedOver site bytes messages events =
-    (events ≡ foreign site bytes ∷ [])
-    ⊎ ((number : ℕ) × (slice_get messages number ≡ Some bytes)
+    ((number : ℕ) × (slice_get messages number ≡ Some bytes)
     × (events ≡ deliver site number ∷ []))
+    ⊎ (((number : ℕ) → slice_get messages number ≢ Some bytes)
+    × (events ≡ foreign site bytes ∷ []))
 
 -- a state is sent, and is the next message, where a reply can hold it
 abbrev pub IsSent : ℕ → List ℕ → List (List ℕ) → List Event → List (List ℕ) → Type 0

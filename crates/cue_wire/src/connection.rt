@@ -1,9 +1,9 @@
 ghost use Rattle.std.specs.Prelude.{◌≡◌, ◌-◌, ◌+◌, ◌^◌, ◌≤◌, ◌++◌, List, ℕ, [], Option, OnOk, IfErr};
 ghost use Rattle.std.specs.Io.KnownBytes.{Appends};
 ghost use Rattle.cue_replica.specs.Language.{Table};
-ghost use Rattle.cue_wire.specs.Connections.{Passage, PassesBy, EndsAt, Replied, IsWriteFault};
-ghost use Rattle.cue_wire.specs.Connections.{IsPartServed, GoesOn};
+ghost use Rattle.cue_wire.specs.Connections.{Passage, PassesBy, EndsAt};
 ghost use Rattle.cue_wire.specs.Frames.{IsUnfinished};
+ghost use Rattle.cue_wire.specs.Inner.Parts.{Replied, IsWriteFault, IsPartServed, GoesOn, Moves};
 ghost use Rattle.cue_wire.specs.Sessions.{reading};
 
 use crate::session::Session;
@@ -48,9 +48,8 @@ pub fn serve<S: Source, K: Sink>(
     ensures passage { (passage : Passage site.old site.new)
         × PassesBy passage (S.given source.old) (S.given source.new)
         (S.to_come source.old) (S.to_come source.new) (K.taken sink.old) (K.taken sink.new)
-        × EndsAt result passage (S.to_come source.new)
-        (S.called source.old + K.called sink.old + turns)
-        (S.called source.new + K.called sink.new)
+        × EndsAt result passage (S.to_come source.new) turns
+        (S.called source.old + K.called sink.old) (S.called source.new + K.called sink.new)
         (S.failed source.old + K.failed sink.old) (S.failed source.new + K.failed sink.new) }
     ensures reads { S.called source.old ≤ S.called source.new }
     ensures writes { K.called sink.old ≤ K.called sink.new }
@@ -97,7 +96,8 @@ fn serve_piece<K: Sink>(
     requires { K.called sink.old + left.old ≤ 2 ^ 64 - 1 }
     ensures served { (kept : List ℕ) → session.old ≡ reading kept → IsUnfinished kept
         → Replied result (kept ++ piece.now) session.new site.old site.new
-        (K.taken sink.old) (K.taken sink.new) left.new (K.failed sink.old) (K.failed sink.new) }
+        (K.taken sink.old) (K.taken sink.new) left.old left.new
+        (K.failed sink.old) (K.failed sink.new) }
     ensures turns { K.called sink.new + left.new ≡ K.called sink.old + left.old }
     ensures fewer { left.new ≤ left.old }
     ensures sound { OnOk result (K.failed sink.new ≡ K.failed sink.old) }
@@ -122,10 +122,11 @@ fn serve_part<K: Sink>(
     left: &mut u64,
 ) -> Result<(), Kind>
     requires { K.called sink.old + left.old ≤ 2 ^ 64 - 1 }
-    ensures served { (stream : List ℕ) (start : Table) (taken : Option (List ℕ))
+    ensures served { (stream : List ℕ) (start : Table) (taken : Option (List ℕ)) (turns : ℕ)
         → IsPartServed stream session.old start site.old out.old.items taken (K.taken sink.old)
+        turns left.old
         → GoesOn result (stream ++ part.now) session.new start site.new out.new.items
-        taken (K.taken sink.new) left.new (K.failed sink.old) (K.failed sink.new) }
+        taken (K.taken sink.new) turns left.new (K.failed sink.old) (K.failed sink.new) }
     ensures turns { K.called sink.new + left.new ≡ K.called sink.old + left.old }
     ensures fewer { left.new ≤ left.old }
     ensures sound { OnOk result (K.failed sink.new ≡ K.failed sink.old) }
@@ -142,7 +143,8 @@ fn serve_part<K: Sink>(
 fn write_all<K: Sink>(sink: &mut K, bytes: &[u8], left: &mut u64) -> Result<(), Kind>
     requires { K.called sink.old + left.old ≤ 2 ^ 64 - 1 }
     ensures written { (front back : List ℕ) × (bytes.now ≡ front ++ back)
-        × Appends (K.taken sink.old) (K.taken sink.new) front × OnOk result (back ≡ []) }
+        × Appends (K.taken sink.old) (K.taken sink.new) front × OnOk result (back ≡ [])
+        × Moves left.old left.new (K.failed sink.old) (K.failed sink.new) front }
     ensures turns { K.called sink.new + left.new ≡ K.called sink.old + left.old }
     ensures fewer { left.new ≤ left.old }
     ensures sound { OnOk result (K.failed sink.new ≡ K.failed sink.old) }

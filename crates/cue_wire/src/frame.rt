@@ -4,7 +4,7 @@ ghost use Rattle.std.specs.Int.{w32, to_be_bytes};
 ghost use Rattle.tokio_util.specs.Codec.LengthField.{default_layout};
 ghost use Rattle.tokio_util.specs.Codec.LengthDelimited.{codec_layout, IsAtHead};
 ghost use Rattle.cue_wire.specs.Frames.{framed, frame_limit, named_length, IsBody};
-ghost use Rattle.cue_wire.specs.Frames.{IsUnfinished, NamesTooMany};
+ghost use Rattle.cue_wire.specs.Frames.{IsUnfinished, NamesTooMany, Lacks};
 ghost use Rattle.cue_wire.specs.Inner.Pieces.{IsWhole};
 
 use bytes::BytesMut;
@@ -28,7 +28,8 @@ pub fn length_at(bytes: &[u8]) -> Option<usize>
 /// How many bytes the stream lacks until the length of the frame at its front is known, or until
 /// that frame is whole; at least 1.
 pub fn missing(bytes: &[u8]) -> usize
-    ensures { 1 ≤ result }
+    ensures some { 1 ≤ result }
+    ensures exact { IsUnfinished bytes.now → Lacks bytes.now result }
 {
     let whole = length_at(bytes).map_or(4, |len| len.saturating_add(4));
     whole.saturating_sub(bytes.len()).max(1)

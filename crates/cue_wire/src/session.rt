@@ -1,5 +1,5 @@
 ghost use Rattle.std.specs.Prelude.{◌≡◌, ◌↔◌, ◌≤◌, ◌++◌, ℕ, List, [], IsTrue, IsErrOf, IfOk, OnOk};
-ghost use Rattle.cue_wire.specs.Frames.{StopsAt};
+ghost use Rattle.cue_wire.specs.Frames.{StopsAt, IsUnfinished, Lacks};
 ghost use Rattle.cue_wire.specs.Sessions.{reading, ended, IsReading, Served, standing_after};
 
 use crate::answer::answer;
@@ -62,7 +62,9 @@ impl Session {
     /// How many bytes end the frame that the stream stands in, or tell its length; at least 1. A
     /// piece of at most so many holds the end of at most one frame.
     pub fn missing(&self) -> usize
-        ensures { 1 ≤ result }
+        ensures some { 1 ≤ result }
+        ensures exact { (rest : List ℕ) → self.now ≡ reading rest → IsUnfinished rest
+            → Lacks rest result }
     {
         missing(self.unread.as_slice())
     }

@@ -1,11 +1,13 @@
 -- What the functions that send requests and hear replies promise one another.
-use Rattle.std.specs.Prelude.{◌≡◌, ◌⊎◌, ◌<◌, ◌≤◌, ℕ, List, [], ◌++◌, length, Option, Result, Ok, Err}
+use Rattle.std.specs.Prelude.{◌≡◌, ◌≢◌, ◌⊎◌, ◌<◌, ◌≤◌, ℕ, List, [], ◌++◌, ◌+◌, length}
+use Rattle.std.specs.Prelude.{Option, Result, Ok, Err}
 use Rattle.std.specs.Io.KnownBytes.{Appends, Consumes, IsAtEnd}
 use Rattle.cue_wire.specs.Clients.{Exchange, HasTaken}
 use Rattle.cue_wire.specs.Frames.{HasFault}
 use Rattle.cue_net.specs.declared.halt.Halt.{Halt}
 use Rattle.cue_net.specs.Halts.{IsDevice, IsMemory, IsTurnsUsed}
 use Rattle.cue_net.specs.Talks.{Talk, IsTalk}
+use Rattle.cue_net.specs.Inner.Turns.{Moves}
 
 -- the client takes this piece
 abbrev pub Hears : Exchange → Exchange → List ℕ → Type 0
@@ -15,31 +17,36 @@ Hears old new piece = (stream : List ℕ) → HasTaken old stream → HasTaken n
 abbrev pub Balks : Exchange → List ℕ → Type 0
 Balks old piece = (stream : List ℕ) → HasTaken old stream → HasFault (stream ++ piece)
 
+-- so many replies are not there yet
+abbrev pub Lacks : Exchange → Exchange → List ℕ → ℕ → Type 0
+Lacks old new piece count = Hears old new piece × (length new.replies < count)
+
 -- why so many replies are not heard
-abbrev pub IsHearHalt : Halt → Exchange → Exchange → List ℕ → ℕ → Option (List ℕ) → ℕ → ℕ → ℕ
-    → Type 0
-IsHearHalt halt old new piece count to_come left failed failed' =
-    (IsTurnsUsed halt × (left ≡ 0))
+abbrev pub IsHearHalt : Halt → List ℕ → Exchange → Exchange → List ℕ → ℕ → Option (List ℕ)
+    → ℕ → ℕ → ℕ → Type 0
+IsHearHalt halt unsent old new piece count to_come left failed failed' =
+    (IsTurnsUsed halt × (left ≡ 0) × ((unsent ≢ []) ⊎ Lacks old new piece count))
     ⊎ IsMemory halt
-    ⊎ (IsDevice halt × ((failed < failed')
-    ⊎ (IsAtEnd to_come × Hears old new piece × (length new.replies < count))
+    ⊎ (IsDevice halt × ((failed < failed') ⊎ (IsAtEnd to_come × Lacks old new piece count)
     ⊎ Balks old piece))
 
 -- so many replies are there, or not
-abbrev pub HearsAt : Result (Unit {0}) Halt → Exchange → Exchange → List ℕ → ℕ → Option (List ℕ)
-    → ℕ → ℕ → ℕ → Type 0
-HearsAt (Ok u) old new piece count to_come left failed failed' =
+abbrev pub HearsAt : Result (Unit {0}) Halt → List ℕ → Exchange → Exchange → List ℕ → ℕ
+    → Option (List ℕ) → ℕ → ℕ → ℕ → Type 0
+HearsAt (Ok u) unsent old new piece count to_come left failed failed' =
     Hears old new piece × (count ≤ length new.replies)
-HearsAt (Err halt) old new piece count to_come left failed failed' =
-    IsHearHalt halt old new piece count to_come left failed failed'
+HearsAt (Err halt) unsent old new piece count to_come left failed failed' =
+    IsHearHalt halt unsent old new piece count to_come left failed failed'
 
 -- what was heard, and how hearing ends
 pub record Heard (result : Result (Unit {0}) Halt) (old new : Exchange) (count : ℕ)
-    (given given' to_come to_come' : Option (List ℕ)) (left failed failed' : ℕ) : Type 0 where
+    (given given' to_come to_come' : Option (List ℕ)) (left left' failed failed' : ℕ)
+    : Type 0 where
   pub piece : List ℕ
   pub gave : Appends given given' piece
   pub took : Consumes to_come to_come' piece
-  pub ends : HearsAt result old new piece count to_come' left failed failed'
+  pub moves : Moves result left left' (length piece)
+  pub ends : HearsAt result [] old new piece count to_come' left' failed failed'
 
 -- nothing is left to be sent
 abbrev pub AllSent : Result (Unit {0}) Halt → List ℕ → Type 0
@@ -49,10 +56,11 @@ AllSent (Err halt) unsent = Unit {0}
 -- what asking adds to a talk: these frames, or the front of them, are sent, and replies are heard
 pub record Asked (result : Result (Unit {0}) Halt) (frames : List ℕ) (old new : Exchange)
     (count : ℕ) (given given' to_come to_come' taken taken' : Option (List ℕ))
-    (left failed failed' : ℕ) : Type 0 where
+    (left left' failed failed' : ℕ) : Type 0 where
   pub talk : Talk
   pub unsent : List ℕ
   pub passes : IsTalk talk given given' to_come to_come' taken taken'
   pub front : frames ≡ talk.sent ++ unsent
   pub all : AllSent result unsent
-  pub ends : HearsAt result old new talk.heard count to_come' left failed failed'
+  pub moves : Moves result left left' (length talk.sent + length talk.heard)
+  pub ends : HearsAt result unsent old new talk.heard count to_come' left' failed failed'

@@ -1,5 +1,6 @@
 -- What the functions that carry bytes between two ends promise one another.
-use Rattle.std.specs.Prelude.{◌≡◌, ◌⊎◌, ◌<◌, ℕ, List, [], ◌++◌, length, Option, Result, Ok, Err}
+use Rattle.std.specs.Prelude.{◌≡◌, ◌⊎◌, ◌<◌, ℕ, ◌+◌, List, [], ◌++◌, length}
+use Rattle.std.specs.Prelude.{Option, Result, Ok, Err}
 use Rattle.std.specs.Io.KnownBytes.{IsAtEnd}
 use Rattle.cue_replica.specs.Language.{Table}
 use Rattle.cue_wire.specs.Clients.{Exchange}
@@ -8,6 +9,7 @@ use Rattle.cue_wire.specs.Sessions.{Standing, reading, Served}
 use Rattle.cue_net.specs.declared.halt.Halt.{Halt}
 use Rattle.cue_net.specs.Halts.{IsDevice, IsMemory, IsTurnsUsed}
 use Rattle.cue_net.specs.Talks.{Talk, IsTalk}
+use Rattle.cue_net.specs.Inner.Turns.{Moves}
 use Rattle.cue_net.specs.Inner.Hearing.{Hears, Balks}
 
 -- Why bytes are not carried: no turn is left, memory ran out, a device failed, the end was found,
@@ -39,13 +41,14 @@ BringsAt (Err halt) unsent talk old new to_come left failed failed' =
 -- The front of these bytes was written at one end, and bytes were read at the other and handed to
 -- the client.
 pub record Brought (result : Result (Unit {0}) Halt) (bytes : List ℕ) (old new : Exchange)
-    (given given' to_come to_come' taken taken' : Option (List ℕ)) (left failed failed' : ℕ)
+    (given given' to_come to_come' taken taken' : Option (List ℕ)) (left left' failed failed' : ℕ)
     : Type 0 where
   pub talk : Talk
   pub unsent : List ℕ
   pub passes : IsTalk talk given given' to_come to_come' taken taken'
   pub front : bytes ≡ talk.sent ++ unsent
-  pub ends : BringsAt result unsent talk old new to_come' left failed failed'
+  pub moves : Moves result left left' (length talk.sent + length talk.heard)
+  pub ends : BringsAt result unsent talk old new to_come' left' failed failed'
 
 -- how an exchange of requests and replies ends
 abbrev pub ExchangesAt : Result (Unit {0}) Halt → List ℕ → Talk → Talk → Exchange → Exchange
@@ -60,11 +63,15 @@ ExchangesAt (Err halt) unsent near far old new session session' before after nea
     ⊎ (IsDevice halt × ((failed < failed') ⊎ IsAtEnd near_to_come ⊎ IsAtEnd far_to_come
     ⊎ Balks old near.heard ⊎ Faults session far.heard))
 
+-- how many bytes were written and read at both ends
+abbrev pub bytes_of : Talk → Talk → ℕ
+bytes_of near far = length near.sent + length near.heard + length far.sent + length far.heard
+
 -- The front of these frames was sent at the near end and served at the far one.
 pub record Exchanged (result : Result (Unit {0}) Halt) (frames : List ℕ) (old new : Exchange)
     (session session' : Standing) (before after : Table)
     (given given' to_come to_come' taken taken' : Option (List ℕ))
-    (gave gave' coming coming' took took' : Option (List ℕ)) (left failed failed' : ℕ)
+    (gave gave' coming coming' took took' : Option (List ℕ)) (left left' failed failed' : ℕ)
     : Type 0 where
   pub near : Talk
   pub far : Talk
@@ -72,5 +79,6 @@ pub record Exchanged (result : Result (Unit {0}) Halt) (frames : List ℕ) (old 
   pub near_passes : IsTalk near given given' to_come to_come' taken taken'
   pub far_passes : IsTalk far gave gave' coming coming' took took'
   pub front : frames ≡ near.sent ++ unsent
+  pub moves : Moves result left left' (bytes_of near far)
   pub ends : ExchangesAt result unsent near far old new session session' before after to_come'
-      coming' left failed failed'
+      coming' left' failed failed'

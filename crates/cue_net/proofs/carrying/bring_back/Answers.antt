@@ -1,4 +1,4 @@
-use Rattle.std.proofs.Common.{◌≡◌, ◌+◌, ◌≤◌, [], length, refl, arith}
+use Rattle.std.proofs.Common.{◌≡◌, ◌+◌, ◌<◌, ◌≤◌, [], length, refl, inl, inr, ⊎_elim, arith}
 use Rattle.std.proofs.lemmas.Grind.{common_steps}
 use Rattle.std.proofs.lemmas.List.{length-take}
 use Rattle.cue_net.proofs.Bringing.{front_taken, brings_nothing, brings_more, brings_all, brings_stopped, brings_cut}
@@ -6,7 +6,7 @@ use Rattle.cue_net.proofs.carrying.bring_back.Goals as goal
 
 pub loop-rest-init : goal.loop-rest-init
 loop-rest-init g c = record {
-  brings = brings_nothing c.args.bytes.now c.args.hearing.now (g.S.Source.given c.args.source.now) (g.S.Source.to_come c.args.source.now) (g.K.Sink.taken c.args.sink.now);
+  brings = brings_nothing c.args.bytes.now c.args.hearing.now (g.S.Source.given c.args.source.now) (g.S.Source.to_come c.args.source.now) (g.K.Sink.taken c.args.sink.now) c.args.left.now;
   turns = refl;
   reads = omega arith;
   writes = omega arith;
@@ -26,10 +26,12 @@ loop-rest-preserved g c =
     let h = c.in-Ok-hear_so_many.ensures.read in
     let few : most ≤ length rest = omega (arith, c.min-most.ensures) in
     let within : n ≤ length rest = omega (arith, c.in-Ok.ensures.bound, length-take most rest) in
+    let some : 0 < length rest = grind (arith, c.is_empty.ensures, c.loop-rest-test.true) in
     record {
       brings = brings_more c.args.bytes.now rest n c.args.hearing.now s.hearing new.hearing
           (source.given c.args.source.now) (source.given s.source) (source.given new.source) (source.to_come c.args.source.now) (source.to_come s.source) (source.to_come new.source)
-          (sink.taken c.args.sink.now) (sink.taken s.sink) (sink.taken w) h.0 within s.invariant.brings
+          (sink.taken c.args.sink.now) (sink.taken s.sink) (sink.taken w) h.0 c.args.left.now s.left new.left within
+          (omega (arith, c.in-Ok.ensures.turn, c.in-Ok.ensures.some, some, c.min-most.ensures, length-take most rest, h.3.0, h.5)) s.invariant.brings
           (front_taken (sink.taken s.sink) (sink.taken w) rest n most c.in-Ok.ensures.bound few c.in-Ok.ensures.takes) h.1 h.2 h.3.0 h.3.1;
       turns = omega (arith, s.invariant.turns, c.in-Ok.ensures.turns, c.in-Ok-hear_so_many.ensures.turns);
       reads = omega (arith, s.invariant.reads, c.in-Ok-hear_so_many.ensures.turns, c.in-Ok-hear_so_many.ensures.fewer);
@@ -45,9 +47,9 @@ returns-in-Err-clause-brought g c =
     let w = c.write_some.new in
     brings_stopped c.in-Err.halt c.args.bytes.now s.rest.now c.args.hearing.now s.hearing
     (source.given c.args.source.now) (source.given s.source) (source.to_come c.args.source.now) (source.to_come s.source)
-    (sink.taken c.args.sink.now) (sink.taken s.sink) (sink.taken w.sink) w.left (sink.failed s.sink) (sink.failed w.sink)
+    (sink.taken c.args.sink.now) (sink.taken s.sink) (sink.taken w.sink) c.args.left.now s.left w.left (sink.failed s.sink) (sink.failed w.sink)
     (source.failed c.args.source.now + sink.failed c.args.sink.now) (source.failed s.source + sink.failed w.sink)
-    (λ more. omega (arith, more, s.invariant.sound)) s.invariant.brings c.in-Err.ensures.takes c.in-Err.ensures.halt
+    (λ more. omega (arith, more, s.invariant.sound)) s.invariant.brings c.in-Err.ensures.takes c.in-Err.ensures.idle c.in-Err.ensures.halt
 
 pub returns-in-Err-hear_so_many-clause-brought : goal.returns-in-Err-hear_so_many-clause-brought
 returns-in-Err-hear_so_many-clause-brought g c =
@@ -61,11 +63,14 @@ returns-in-Err-hear_so_many-clause-brought g c =
     let new = c.hear_so_many.new in
     let h = c.in-Err-hear_so_many.ensures.read in
     let few : most ≤ length rest = omega (arith, c.min-most.ensures) in
+    let within : n ≤ length rest = omega (arith, c.in-Ok.ensures.bound, length-take most rest) in
+    let some : 0 < length rest = grind (arith, c.is_empty.ensures, c.loop-rest-test.true) in
     brings_cut c.in-Err-hear_so_many.halt c.args.bytes.now rest n c.args.hearing.now s.hearing new.hearing
     (source.given c.args.source.now) (source.given s.source) (source.given new.source) (source.to_come c.args.source.now) (source.to_come s.source) (source.to_come new.source)
-    (sink.taken c.args.sink.now) (sink.taken s.sink) (sink.taken w) h.0 new.left (source.failed s.source) (source.failed new.source)
+    (sink.taken c.args.sink.now) (sink.taken s.sink) (sink.taken w) h.0 c.args.left.now s.left new.left (source.failed s.source) (source.failed new.source)
     (source.failed c.args.source.now + sink.failed c.args.sink.now) (source.failed new.source + sink.failed w)
-    (λ more. omega (arith, more, s.invariant.sound, c.in-Ok.ensures.sound)) s.invariant.brings
+    (λ more. omega (arith, more, s.invariant.sound, c.in-Ok.ensures.sound)) within
+    (⊎_elim inl (λ moved. inr (omega (arith, moved, c.in-Ok.ensures.turn, c.in-Ok.ensures.some, some, c.min-most.ensures, length-take most rest))) h.5) s.invariant.brings
     (front_taken (sink.taken s.sink) (sink.taken w) rest n most c.in-Ok.ensures.bound few c.in-Ok.ensures.takes) h.1 h.2 h.4
 
 pub returns-clause-brought : goal.returns-clause-brought
@@ -76,5 +81,5 @@ returns-clause-brought g c =
     let none : s.rest.now ≡ [] = grind (arith, common_steps) in
     brings_all c.args.bytes.now s.rest.now c.args.hearing.now s.hearing
     (source.given c.args.source.now) (source.given s.source) (source.to_come c.args.source.now) (source.to_come s.source)
-    (sink.taken c.args.sink.now) (sink.taken s.sink) s.left
+    (sink.taken c.args.sink.now) (sink.taken s.sink) c.args.left.now s.left
     (source.failed c.args.source.now + sink.failed c.args.sink.now) (source.failed s.source + sink.failed s.sink) none s.invariant.brings

@@ -1,4 +1,4 @@
-use Rattle.std.proofs.Common.{◌++◌, take, ◌∙◌, arith, length-append}
+use Rattle.std.proofs.Common.{◌++◌, take, inr, ◌∙◌, arith, length-append}
 use Rattle.std.proofs.KnownBytes.{Appends-trans, Consumes-trans}
 use Rattle.std.proofs.lemmas.List.{length-take-le, length-take}
 use Rattle.cue_net.specs.Inner.Hearing.{Balks}
@@ -19,6 +19,7 @@ returns-in-Err-hear-clause-read g c =
       tt,
       takes_nothing c.in-Err-hear.halt c.read_some.new.left (source.failed c.args.source.now) (source.failed new) (source.to_come new)
           (Balks s.hearing piece) (Balks c.args.hearing.now (h.0 ++ piece)) (balks_later c.args.hearing.now s.hearing h.0 piece h.4) c.in-Err-hear.ensures.err,
+      inr (omega (arith, s.invariant.moves, c.in-Ok.ensures.turn, c.in-Ok.ensures.bound, h.3, length-append h.0 piece, length-take-le c.in-Ok.some c.read_some.new.into c.in-Ok.ensures.bound.1)),
     )
 
 pub loop-got-preserved : goal.loop-got-preserved
@@ -38,6 +39,7 @@ loop-got-preserved g c =
         omega (arith, length-append h.0 piece, length-take-le r.some into r.ensures.bound.1, h.3),
         hears_more c.args.hearing.now s.hearing c.hear.new.hearing h.0 piece h.4 c.in-Ok-hear.ensures.ok,
       );
+      moves = omega (arith, s.invariant.moves, r.ensures.turn, r.ensures.bound);
       within = omega (arith, r.ensures.bound.1, r.ensures.room, length-take c.min-most.result s.piece, c.min-most.ensures, c.loop-got-test.true);
       turns = omega (arith, s.invariant.turns, r.ensures.turns);
       fewer = omega (arith, s.invariant.fewer, r.ensures.fewer);

@@ -10,6 +10,7 @@ invariant-loop-got g l = record {
       × Consumes (g.S.Source.to_come l.fn.source) (g.S.Source.to_come l.source) read
       × (length read ≡ l.got) × Hears l.fn.hearing l.hearing read;
   within : l.got ≤ l.count;
+  moves : l.fn.left ≤ l.left + l.got;
   turns : g.S.Source.called l.source + l.left ≡ g.S.Source.called l.fn.source + l.fn.left;
   fewer : l.left ≤ l.fn.left;
   sound : g.S.Source.failed l.source ≡ g.S.Source.failed l.fn.source;

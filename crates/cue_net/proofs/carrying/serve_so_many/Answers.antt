@@ -1,4 +1,4 @@
-use Rattle.std.proofs.Common.{◌++◌, [], take, refl, ◌∙◌, arith, length-append}
+use Rattle.std.proofs.Common.{◌++◌, [], take, refl, inr, ◌∙◌, arith, length-append}
 use Rattle.std.proofs.KnownBytes.{Appends-nil, Appends-trans, Consumes-nil, Consumes-trans}
 use Rattle.std.proofs.lemmas.List.{length-take-le, length-take}
 use Rattle.cue_net.specs.Inner.Looping.{Faults}
@@ -17,6 +17,7 @@ loop-got-init g c =
         serves_nothing at.session at.site at.out.items,
       );
       within = omega arith;
+      moves = omega arith;
       turns = refl;
       fewer = omega arith;
       sound = refl;
@@ -37,6 +38,7 @@ returns-in-Err-serve_piece-clause-read g c =
       takes_nothing c.in-Err-serve_piece.halt c.read_some.new.left (source.failed c.args.source.now) (source.failed new) (source.to_come new)
           (Faults s.serving.session piece) (Faults at.session (h.0 ++ piece))
           (faults_later at.session s.serving.session at.site s.serving.site at.out.items s.serving.out.items h.0 piece h.4) c.in-Err-serve_piece.ensures.err,
+      inr (omega (arith, s.invariant.moves, c.in-Ok.ensures.turn, c.in-Ok.ensures.bound, h.3, length-append h.0 piece, length-take-le c.in-Ok.some c.read_some.new.into c.in-Ok.ensures.bound.1)),
     )
 
 pub loop-got-preserved : goal.loop-got-preserved
@@ -58,6 +60,7 @@ loop-got-preserved g c =
         omega (arith, length-append h.0 piece, length-take-le r.some into r.ensures.bound.1, h.3),
         serves_more at.session s.serving.session on.session at.site s.serving.site on.site at.out.items s.serving.out.items on.out.items h.0 piece h.4 c.in-Ok-serve_piece.ensures.ok,
       );
+      moves = omega (arith, s.invariant.moves, r.ensures.turn, r.ensures.bound);
       within = omega (arith, r.ensures.bound.1, r.ensures.room, length-take c.min-most.result s.piece, c.min-most.ensures, c.loop-got-test.true);
       turns = omega (arith, s.invariant.turns, r.ensures.turns);
       fewer = omega (arith, s.invariant.fewer, r.ensures.fewer);

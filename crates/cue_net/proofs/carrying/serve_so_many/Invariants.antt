@@ -11,6 +11,7 @@ invariant-loop-got g l = record {
       × (length read ≡ l.got)
       × ServesOnto l.fn.serving.session l.serving.session l.fn.serving.site l.serving.site l.fn.serving.out.items l.serving.out.items read;
   within : l.got ≤ l.count;
+  moves : l.fn.left ≤ l.left + l.got;
   turns : g.S.Source.called l.source + l.left ≡ g.S.Source.called l.fn.source + l.fn.left;
   fewer : l.left ≤ l.fn.left;
   sound : g.S.Source.failed l.source ≡ g.S.Source.failed l.fn.source;

@@ -15,7 +15,7 @@ returns-then-not-all_fit-clause-answer g c =
     let far = c.args.far.now in
     let calls = source.called near.source + sink.called near.sink + source.called far.source + sink.called far.sink in
     long_between c.args.inputs.now (source.given near.source) (source.to_come near.source) (sink.taken near.sink)
-    (source.given far.source) (source.to_come far.source) (sink.taken far.sink) (calls + c.args.turns) calls
+    (source.given far.source) (source.to_come far.source) (sink.taken far.sink) c.args.turns calls
     (source.failed near.source + sink.failed near.sink + source.failed far.source + sink.failed far.sink)
     (λ all. absurd (false≢true (sym c.if-not-all_fit.true ∙ c.all_fit.ensures.1 all)))
 
@@ -27,7 +27,7 @@ returns-in-Err-clause-answer g c =
     let far = c.args.far.now in
     let calls = source.called near.source + sink.called near.sink + source.called far.source + sink.called far.sink in
     none_between c.in-Err.halt c.args.inputs.now (source.given near.source) (source.to_come near.source) (sink.taken near.sink)
-    (source.given far.source) (source.to_come far.source) (sink.taken far.sink) (calls + c.args.turns) calls
+    (source.given far.source) (source.to_come far.source) (sink.taken far.sink) c.args.turns calls
     (source.failed near.source + sink.failed near.sink + source.failed far.source + sink.failed far.sink)
     (⊎_elim (λ memory. memory) (λ long. absurd (long.1 (All-nil IsSendable))) c.in-Err.ensures.err)
 
@@ -39,7 +39,7 @@ returns-in-Err-new_site-clause-answer g c =
     let far = c.args.far.now in
     let calls = source.called near.source + sink.called near.sink + source.called far.source + sink.called far.sink in
     none_between c.in-Err-new_site.halt c.args.inputs.now (source.given near.source) (source.to_come near.source) (sink.taken near.sink)
-    (source.given far.source) (source.to_come far.source) (sink.taken far.sink) (calls + c.args.turns) calls
+    (source.given far.source) (source.to_come far.source) (sink.taken far.sink) c.args.turns calls
     (source.failed near.source + sink.failed near.sink + source.failed far.source + sink.failed far.sink) c.in-Err-new_site.ensures.err
 
 pub returns-in-Err-exchange-clause-answer : goal.returns-in-Err-exchange-clause-answer
@@ -54,7 +54,7 @@ returns-in-Err-exchange-clause-answer g c =
     cut_between c.in-Err-exchange.halt c.args.inputs.now c.in-Ok.client new.hearing at.session new.serving.session at.site new.serving.site
     (source.given near.source) (source.given new.near.source) (source.to_come near.source) (source.to_come new.near.source) (sink.taken near.sink) (sink.taken new.near.sink)
     (source.given far.source) (source.given new.far.source) (source.to_come far.source) (source.to_come new.far.source) (sink.taken far.sink) (sink.taken new.far.sink)
-    new.left (calls + c.args.turns) (source.called new.near.source + sink.called new.near.sink + source.called new.far.source + sink.called new.far.sink)
+    c.args.turns new.left calls (source.called new.near.source + sink.called new.near.sink + source.called new.far.source + sink.called new.far.sink)
     (source.failed near.source + sink.failed near.sink + source.failed far.source + sink.failed far.sink)
     (source.failed new.near.source + sink.failed new.near.sink + source.failed new.far.source + sink.failed new.far.sink)
     c.in-Ok.ensures.taken c.in-Ok-new_site.ensures.session (λ none. omega (arith, none, c.in-Err-exchange.ensures.turns))
@@ -72,7 +72,7 @@ returns-in-Err-exchange-2-clause-answer g c =
     cut_between c.in-Err-exchange-2.halt c.args.inputs.now c.in-Ok.client new.hearing at.session new.serving.session at.site new.serving.site
     (source.given near.source) (source.given new.near.source) (source.to_come near.source) (source.to_come new.near.source) (sink.taken near.sink) (sink.taken new.near.sink)
     (source.given far.source) (source.given new.far.source) (source.to_come far.source) (source.to_come new.far.source) (sink.taken far.sink) (sink.taken new.far.sink)
-    new.left (calls + c.args.turns) (source.called new.near.source + sink.called new.near.sink + source.called new.far.source + sink.called new.far.sink)
+    c.args.turns new.left calls (source.called new.near.source + sink.called new.near.sink + source.called new.far.source + sink.called new.far.sink)
     (source.failed near.source + sink.failed near.sink + source.failed far.source + sink.failed far.sink)
     (source.failed new.near.source + sink.failed new.near.sink + source.failed new.far.source + sink.failed new.far.sink)
     c.in-Ok.ensures.taken c.in-Ok-new_site.ensures.session (λ none. omega (arith, none, c.in-Ok-exchange.ensures.turns, c.in-Err-exchange-2.ensures.turns))
@@ -90,7 +90,7 @@ returns-clause-answer g c =
     answered_between tt c.told_by.result c.args.inputs.now c.in-Ok.client new.hearing at.session new.serving.session at.site new.serving.site c.replies.result.now
     (source.given near.source) (source.given new.near.source) (source.to_come near.source) (source.to_come new.near.source) (sink.taken near.sink) (sink.taken new.near.sink)
     (source.given far.source) (source.given new.far.source) (source.to_come far.source) (source.to_come new.far.source) (sink.taken far.sink) (sink.taken new.far.sink)
-    new.left (calls + c.args.turns) (source.called new.near.source + sink.called new.near.sink + source.called new.far.source + sink.called new.far.sink)
+    c.args.turns new.left calls (source.called new.near.source + sink.called new.near.sink + source.called new.far.source + sink.called new.far.sink)
     (source.failed near.source + sink.failed near.sink + source.failed far.source + sink.failed far.sink)
     (source.failed new.near.source + sink.failed new.near.sink + source.failed new.far.source + sink.failed new.far.sink)
     (c.all_fit.ensures.0 c.if-not-all_fit.false) c.in-Ok.ensures.taken c.in-Ok-new_site.ensures.session c.in-Ok-new_site.ensures.site

@@ -1,4 +1,4 @@
-use Rattle.std.proofs.Common.{◌≡◌, ◌+◌, ◌-◌, ◌≤◌, ◌++◌, [], length, take, drop, flat_map, refl, ap, sym, ◌∙◌, arith, ⊎_elim, append-nil}
+use Rattle.std.proofs.Common.{◌≡◌, ◌+◌, ◌-◌, ◌<◌, ◌≤◌, ◌++◌, [], length, take, drop, flat_map, refl, ap, sym, ◌∙◌, arith, inl, inr, ⊎_elim, append-nil}
 use Rattle.std.proofs.lemmas.Grind.{common_steps}
 use Rattle.std.proofs.lemmas.List.{length-take, length-take-le}
 use Rattle.cue_wire.specs.Clients.{request_frame}
@@ -45,6 +45,7 @@ loop-rest-preserved g c =
     let q = c.in-Ok-serve_so_many.ensures.read in
     let few : most ≤ length rest = omega (arith, c.min-most.ensures) in
     let within : n ≤ length rest = omega (arith, c.in-Ok-write_some.ensures.bound, length-take most rest) in
+    let some : 0 < length rest = grind (arith, c.is_empty.ensures, c.loop-rest-test.true) in
     let failed = source.failed s.near.source + sink.failed s.near.sink + source.failed s.far.source + sink.failed s.far.sink in
     let failed' = source.failed b.source + sink.failed w + source.failed sv.source + sink.failed b.sink in
     record {
@@ -55,8 +56,9 @@ loop-rest-preserved g c =
             c.clear.new.self.items sv.serving.out.items c.deref.result.now q.0
             (source.given s.near.source) (source.given b.source) (source.to_come s.near.source) (source.to_come b.source) (sink.taken s.near.sink) (sink.taken w)
             (source.given s.far.source) (source.given sv.source) (source.to_come s.far.source) (source.to_come sv.source) (sink.taken s.far.sink) (sink.taken b.sink)
-            b.left (source.failed s.near.source + sink.failed s.far.sink) (source.failed b.source + sink.failed b.sink) failed failed'
-            (length-take-le n rest within) c.clear.ensures.items c.deref.ensures.value
+            s.left sv.left b.left (source.failed s.near.source + sink.failed s.far.sink) (source.failed b.source + sink.failed b.sink) failed failed'
+            (length-take-le n rest within)
+            (omega (arith, c.in-Ok-write_some.ensures.turn, c.in-Ok-write_some.ensures.some, some, c.min-most.ensures, length-take most rest, q.3.0, q.5)) c.clear.ensures.items c.deref.ensures.value
             (front_taken (sink.taken s.near.sink) (sink.taken w) rest n most c.in-Ok-write_some.ensures.bound few c.in-Ok-write_some.ensures.takes)
             q.1 q.2 q.3 c.in-Ok-bring_back.ensures.brought),
       );
@@ -89,10 +91,10 @@ returns-in-Err-write_some-clause-exchanged g c =
     let w = c.write_some.new in
     ex_is e.1 (ex_then s.invariant.sound e.2 (piece_unwritten c.in-Err-write_some.halt s.rest.now s.hearing s.serving.session s.serving.site
     (source.given s.near.source) (source.to_come s.near.source) (sink.taken s.near.sink) (sink.taken w.sink)
-    (source.given s.far.source) (source.to_come s.far.source) (sink.taken s.far.sink) w.left (sink.failed s.near.sink) (sink.failed w.sink)
+    (source.given s.far.source) (source.to_come s.far.source) (sink.taken s.far.sink) s.left w.left (sink.failed s.near.sink) (sink.failed w.sink)
     (source.failed s.near.source + sink.failed s.near.sink + source.failed s.far.source + sink.failed s.far.sink)
     (source.failed s.near.source + sink.failed w.sink + source.failed s.far.source + sink.failed s.far.sink)
-    (λ more. omega (arith, more)) c.in-Err-write_some.ensures.takes c.in-Err-write_some.ensures.halt))
+    (λ more. omega (arith, more)) c.in-Err-write_some.ensures.takes c.in-Err-write_some.ensures.idle c.in-Err-write_some.ensures.halt))
 
 pub returns-in-Err-serve_so_many-clause-exchanged : goal.returns-in-Err-serve_so_many-clause-exchanged
 returns-in-Err-serve_so_many-clause-exchanged g c =
@@ -108,14 +110,26 @@ returns-in-Err-serve_so_many-clause-exchanged g c =
     let sv = c.serve_so_many.new in
     let q = c.in-Err-serve_so_many.ensures.read in
     let few : most ≤ length rest = omega (arith, c.min-most.ensures) in
+    let within : n ≤ length rest = omega (arith, c.in-Ok-write_some.ensures.bound, length-take most rest) in
+    let some : 0 < length rest = grind (arith, c.is_empty.ensures, c.loop-rest-test.true) in
     ex_is (parts_more (flat_map request_frame c.args.requests.now) e.0 rest n e.1) (ex_part (take (length rest - n) (drop n rest))
     (ex_then s.invariant.sound e.2 (piece_unserved c.in-Err-serve_so_many.halt piece q.0 s.hearing s.serving.session sv.serving.session s.serving.site sv.serving.site
     (source.given s.near.source) (source.to_come s.near.source) (sink.taken s.near.sink) (sink.taken w)
     (source.given s.far.source) (source.given sv.source) (source.to_come s.far.source) (source.to_come sv.source) (sink.taken s.far.sink)
-    sv.left (source.failed s.far.source) (source.failed sv.source)
+    s.left sv.left (source.failed s.far.source) (source.failed sv.source)
     (source.failed s.near.source + sink.failed s.near.sink + source.failed s.far.source + sink.failed s.far.sink)
     (source.failed s.near.source + sink.failed w + source.failed sv.source + sink.failed s.far.sink)
     (λ more. omega (arith, more, c.in-Ok-write_some.ensures.sound))
+    (⊎_elim inl (λ moved. inr (omega (
+      arith,
+      moved,
+      c.in-Ok-write_some.ensures.turn,
+      c.in-Ok-write_some.ensures.some,
+      some,
+      c.min-most.ensures,
+      length-take most rest,
+      length-take-le n rest within,
+    ))) q.5)
     (front_taken (sink.taken s.near.sink) (sink.taken w) rest n most c.in-Ok-write_some.ensures.bound few c.in-Ok-write_some.ensures.takes)
     q.1 q.2 q.4)))
 
@@ -134,15 +148,18 @@ returns-in-Err-bring_back-clause-exchanged g c =
     let b = c.bring_back.new in
     let q = c.in-Ok-serve_so_many.ensures.read in
     let few : most ≤ length rest = omega (arith, c.min-most.ensures) in
+    let within : n ≤ length rest = omega (arith, c.in-Ok-write_some.ensures.bound, length-take most rest) in
+    let some : 0 < length rest = grind (arith, c.is_empty.ensures, c.loop-rest-test.true) in
     ex_is (parts_more (flat_map request_frame c.args.requests.now) e.0 rest n e.1) (ex_part (take (length rest - n) (drop n rest))
     (ex_then s.invariant.sound e.2 (piece_unheard c.in-Err-bring_back.halt piece c.deref.result.now q.0 s.hearing b.hearing
     s.serving.session sv.serving.session s.serving.site sv.serving.site
     (source.given s.near.source) (source.given b.source) (source.to_come s.near.source) (source.to_come b.source) (sink.taken s.near.sink) (sink.taken w)
     (source.given s.far.source) (source.given sv.source) (source.to_come s.far.source) (source.to_come sv.source) (sink.taken s.far.sink) (sink.taken b.sink)
-    b.left (source.failed s.near.source + sink.failed s.far.sink) (source.failed b.source + sink.failed b.sink)
+    s.left sv.left b.left (source.failed s.near.source + sink.failed s.far.sink) (source.failed b.source + sink.failed b.sink)
     (source.failed s.near.source + sink.failed s.near.sink + source.failed s.far.source + sink.failed s.far.sink)
     (source.failed b.source + sink.failed w + source.failed sv.source + sink.failed b.sink)
     (λ more. omega (arith, more, c.in-Ok-write_some.ensures.sound, c.in-Ok-serve_so_many.ensures.sound))
+    (omega (arith, c.in-Ok-write_some.ensures.turn, c.in-Ok-write_some.ensures.some, some, c.min-most.ensures, length-take most rest, q.3.0, q.5, length-take-le n rest within))
     (front_taken (sink.taken s.near.sink) (sink.taken w) rest n most c.in-Ok-write_some.ensures.bound few c.in-Ok-write_some.ensures.takes)
     q.1 q.2 c.in-Err-bring_back.ensures.brought)))
 

@@ -11,7 +11,7 @@ invariant-loop-rest g l = record {
       (g.S.Source.given l.fn.near.source) (g.S.Source.given l.near.source) (g.S.Source.to_come l.fn.near.source) (g.S.Source.to_come l.near.source)
       (g.K.Sink.taken l.fn.near.sink) (g.K.Sink.taken l.near.sink)
       (g.S.Source.given l.fn.far.source) (g.S.Source.given l.far.source) (g.S.Source.to_come l.fn.far.source) (g.S.Source.to_come l.far.source)
-      (g.K.Sink.taken l.fn.far.sink) (g.K.Sink.taken l.far.sink) l.left
+      (g.K.Sink.taken l.fn.far.sink) (g.K.Sink.taken l.far.sink) l.fn.left l.left
       (g.S.Source.failed l.fn.near.source + g.K.Sink.failed l.fn.near.sink + g.S.Source.failed l.fn.far.source + g.K.Sink.failed l.fn.far.sink)
       (g.S.Source.failed l.near.source + g.K.Sink.failed l.near.sink + g.S.Source.failed l.far.source + g.K.Sink.failed l.far.sink);
   turns : g.S.Source.called l.near.source + g.K.Sink.called l.near.sink + g.S.Source.called l.far.source + g.K.Sink.called l.far.sink + l.left

@@ -16,9 +16,9 @@ returns-in-Err-send-clause-asked g c =
     let sink = g.K.Sink in
     let w = c.in-Err-send.ensures.sent in
     asks_unsent c.in-Err-send.halt (flat_map request_frame c.args.requests.now) c.args.hearing.now c.args.count (source.given c.args.source.now) (source.to_come c.args.source.now)
-    (sink.taken c.args.sink.now) (sink.taken c.send.new.sink) c.send.new.left (sink.failed c.args.sink.now) (sink.failed c.send.new.sink)
+    (sink.taken c.args.sink.now) (sink.taken c.send.new.sink) c.args.left.now c.send.new.left (sink.failed c.args.sink.now) (sink.failed c.send.new.sink)
     (source.failed c.args.source.now + sink.failed c.args.sink.now) (source.failed c.args.source.now + sink.failed c.send.new.sink)
-    (λ more. omega (arith, more)) (w.0, w.1, sym (c.outgoing.ensures ∙ c.in-Ok.ensures.outgoing) ∙ w.2, w.3) c.in-Err-send.ensures.halt
+    (λ more. omega (arith, more)) (w.0, w.1, sym (c.outgoing.ensures ∙ c.in-Ok.ensures.outgoing) ∙ w.2, w.3, w.5, w.6) c.in-Err-send.ensures.halt
 
 pub returns-clause-asked : goal.returns-clause-asked
 returns-clause-asked g c =
@@ -28,9 +28,9 @@ returns-clause-asked g c =
     let new = c.receive.new.source in
     asks_all c.receive.result (flat_map request_frame c.args.requests.now) c.args.hearing.now c.receive.new.hearing c.args.count
     (source.given c.args.source.now) (source.given new) (source.to_come c.args.source.now) (source.to_come new) (sink.taken c.args.sink.now) (sink.taken c.send.new.sink)
-    c.receive.new.left (source.failed c.args.source.now) (source.failed new)
+    c.args.left.now c.send.new.left c.receive.new.left (source.failed c.args.source.now) (source.failed new)
     (source.failed c.args.source.now + sink.failed c.args.sink.now) (source.failed new + sink.failed c.send.new.sink)
-    (λ more. omega (arith, more, c.in-Ok-send.ensures.sound)) (w.0, w.1, sym (c.outgoing.ensures ∙ c.in-Ok.ensures.outgoing) ∙ w.2, w.3, w.4) c.receive.ensures.heard
+    (λ more. omega (arith, more, c.in-Ok-send.ensures.sound)) (w.0, w.1, sym (c.outgoing.ensures ∙ c.in-Ok.ensures.outgoing) ∙ w.2, w.3, w.4, w.6) c.receive.ensures.heard
 
 pub returns-clause-sound : goal.returns-clause-sound
 returns-clause-sound g c =

@@ -10,7 +10,7 @@ returns-then-not-all_fit-clause-answer g c =
     let sink = g.K.Sink in
     let calls = source.called c.args.source.now + sink.called c.args.sink.now in
     too_long c.args.inputs.now (source.given c.args.source.now) (source.to_come c.args.source.now) (sink.taken c.args.sink.now)
-    (source.failed c.args.source.now + sink.failed c.args.sink.now) (calls + c.args.turns) calls
+    (source.failed c.args.source.now + sink.failed c.args.sink.now) c.args.turns calls
     (λ all. absurd (false≢true (sym c.if-not-all_fit.true ∙ c.all_fit.ensures.1 all)))
 
 pub returns-in-Err-clause-answer : goal.returns-in-Err-clause-answer
@@ -19,7 +19,7 @@ returns-in-Err-clause-answer g c =
     let sink = g.K.Sink in
     let calls = source.called c.args.source.now + sink.called c.args.sink.now in
     no_client c.in-Err.halt c.args.inputs.now (source.given c.args.source.now) (source.to_come c.args.source.now) (sink.taken c.args.sink.now)
-    (source.failed c.args.source.now + sink.failed c.args.sink.now) (calls + c.args.turns) calls c.in-Err.ensures.err
+    (source.failed c.args.source.now + sink.failed c.args.sink.now) c.args.turns calls c.in-Err.ensures.err
 
 pub returns-in-Err-push_inputs-clause-answer : goal.returns-in-Err-push_inputs-clause-answer
 returns-in-Err-push_inputs-clause-answer g c =
@@ -29,8 +29,8 @@ returns-in-Err-push_inputs-clause-answer g c =
     let calls = source.called c.args.source.now + sink.called c.args.sink.now in
     stops_first c.in-Err-push_inputs.halt c.args.inputs.now c.in-Ok.client new.hearing
     (source.given c.args.source.now) (source.given new.source) (source.to_come c.args.source.now) (source.to_come new.source) (sink.taken c.args.sink.now) (sink.taken new.sink)
-    new.left (source.failed c.args.source.now + sink.failed c.args.sink.now) (source.failed new.source + sink.failed new.sink)
-    (calls + c.args.turns) (source.called new.source + sink.called new.sink) c.in-Ok.ensures.taken
+    c.args.turns new.left (source.failed c.args.source.now + sink.failed c.args.sink.now) (source.failed new.source + sink.failed new.sink)
+    calls (source.called new.source + sink.called new.sink) c.in-Ok.ensures.taken
     (λ none. omega (arith, none, c.in-Err-push_inputs.ensures.turns)) c.in-Err-push_inputs.ensures.asked
 
 pub returns-in-Err-ask-clause-answer : goal.returns-in-Err-ask-clause-answer
@@ -44,11 +44,11 @@ returns-in-Err-ask-clause-answer g c =
     let failed' = source.failed new.source + sink.failed new.sink in
     cut c.in-Err-ask.halt c.args.inputs.now c.in-Ok.client new.hearing (length c.args.inputs.now + 1)
     (source.given c.args.source.now) (source.given new.source) (source.to_come c.args.source.now) (source.to_come new.source) (sink.taken c.args.sink.now) (sink.taken new.sink)
-    new.left failed failed' (calls + c.args.turns) (source.called new.source + sink.called new.sink) c.in-Ok.ensures.taken (omega arith)
+    c.args.turns new.left failed failed' calls (source.called new.source + sink.called new.sink) c.in-Ok.ensures.taken (omega arith)
     (λ none. omega (arith, none, c.in-Ok-push_inputs.ensures.turns, c.in-Err-ask.ensures.turns))
     (asks_on tt (Err c.in-Err-ask.halt) c.args.inputs.now c.in-Ok.client mid.hearing new.hearing
     (source.given c.args.source.now) (source.given mid.source) (source.given new.source) (source.to_come c.args.source.now) (source.to_come mid.source) (source.to_come new.source)
-    (sink.taken c.args.sink.now) (sink.taken mid.sink) (sink.taken new.sink) mid.left new.left
+    (sink.taken c.args.sink.now) (sink.taken mid.sink) (sink.taken new.sink) c.args.turns mid.left new.left
     failed (source.failed mid.source + sink.failed mid.sink) failed' c.in-Ok-push_inputs.ensures.sound c.in-Ok-push_inputs.ensures.asked c.in-Err-ask.ensures.asked)
 
 pub returns-clause-answer : goal.returns-clause-answer
@@ -62,9 +62,9 @@ returns-clause-answer g c =
     let failed' = source.failed new.source + sink.failed new.sink in
     answered tt c.told_by.result c.args.inputs.now c.in-Ok.client new.hearing c.replies.result.now
     (source.given c.args.source.now) (source.given new.source) (source.to_come c.args.source.now) (source.to_come new.source) (sink.taken c.args.sink.now) (sink.taken new.sink)
-    new.left failed failed' (calls + c.args.turns) (source.called new.source + sink.called new.sink) (c.all_fit.ensures.0 c.if-not-all_fit.false) c.in-Ok.ensures.taken
+    c.args.turns new.left failed failed' calls (source.called new.source + sink.called new.sink) (c.all_fit.ensures.0 c.if-not-all_fit.false) c.in-Ok.ensures.taken
     (asks_on tt (Ok tt) c.args.inputs.now c.in-Ok.client mid.hearing new.hearing
     (source.given c.args.source.now) (source.given mid.source) (source.given new.source) (source.to_come c.args.source.now) (source.to_come mid.source) (source.to_come new.source)
-    (sink.taken c.args.sink.now) (sink.taken mid.sink) (sink.taken new.sink) mid.left new.left
+    (sink.taken c.args.sink.now) (sink.taken mid.sink) (sink.taken new.sink) c.args.turns mid.left new.left
     failed (source.failed mid.source + sink.failed mid.sink) failed' c.in-Ok-push_inputs.ensures.sound c.in-Ok-push_inputs.ensures.asked c.in-Ok-ask.ensures.asked)
     c.replies.ensures c.told_by.ensures

@@ -38,7 +38,7 @@ loop-rest-preserved g c =
     record {
       pushed = pushed_more tt c.args.inputs.now s.rest.now s.asked c.min-most.result c.args.hearing.now s.hearing new.hearing
           (source.given c.args.source.now) (source.given s.source) (source.given new.source) (source.to_come c.args.source.now) (source.to_come s.source) (source.to_come new.source)
-          (sink.taken c.args.sink.now) (sink.taken s.sink) (sink.taken new.sink) s.left new.left
+          (sink.taken c.args.sink.now) (sink.taken s.sink) (sink.taken new.sink) c.args.left.now s.left new.left
           (source.failed c.args.source.now + sink.failed c.args.sink.now) (source.failed s.source + sink.failed s.sink) (source.failed new.source + sink.failed new.sink)
           within s.invariant.sound s.invariant.pushed c.in-Ok.ensures.asked;
       fits = fits_behind s.rest.now c.min-most.result s.invariant.fits;
@@ -57,7 +57,7 @@ returns-in-Err-clause-asked g c =
     let within : c.min-most.result ≤ length s.rest.now = omega arith in
     pushed_part c.in-Err.halt c.args.inputs.now s.rest.now s.asked c.min-most.result c.args.hearing.now s.hearing new.hearing
     (source.given c.args.source.now) (source.given s.source) (source.given new.source) (source.to_come c.args.source.now) (source.to_come s.source) (source.to_come new.source)
-    (sink.taken c.args.sink.now) (sink.taken s.sink) (sink.taken new.sink) s.left new.left
+    (sink.taken c.args.sink.now) (sink.taken s.sink) (sink.taken new.sink) c.args.left.now s.left new.left
     (source.failed c.args.source.now + sink.failed c.args.sink.now) (source.failed s.source + sink.failed s.sink) (source.failed new.source + sink.failed new.sink)
     within s.invariant.sound s.invariant.pushed c.in-Err.ensures.asked
 
@@ -69,4 +69,4 @@ returns-clause-asked g c =
     let none : s.rest.now ≡ [] = grind (arith, common_steps) in
     pushed_all c.args.inputs.now s.rest.now s.asked c.args.hearing.now s.hearing
     (source.given c.args.source.now) (source.given s.source) (source.to_come c.args.source.now) (source.to_come s.source) (sink.taken c.args.sink.now) (sink.taken s.sink)
-    s.left (source.failed c.args.source.now + sink.failed c.args.sink.now) (source.failed s.source + sink.failed s.sink) none s.invariant.pushed
+    c.args.left.now s.left (source.failed c.args.source.now + sink.failed c.args.sink.now) (source.failed s.source + sink.failed s.sink) none s.invariant.pushed

@@ -7,7 +7,7 @@ use Rattle.cue_net.proofs.pushing.push_inputs.Given as goal
 abbrev pub invariant-loop-rest : goal.invariant-loop-rest
 invariant-loop-rest g l = record {
   pushed : Pushed l.fn.inputs l.rest l.asked l.fn.hearing l.hearing (g.S.Source.given l.fn.source) (g.S.Source.given l.source)
-      (g.S.Source.to_come l.fn.source) (g.S.Source.to_come l.source) (g.K.Sink.taken l.fn.sink) (g.K.Sink.taken l.sink) l.left
+      (g.S.Source.to_come l.fn.source) (g.S.Source.to_come l.source) (g.K.Sink.taken l.fn.sink) (g.K.Sink.taken l.sink) l.fn.left l.left
       (g.S.Source.failed l.fn.source + g.K.Sink.failed l.fn.sink) (g.S.Source.failed l.source + g.K.Sink.failed l.sink);
   fits : All IsSendable l.rest;
   turns : g.S.Source.called l.source + g.K.Sink.called l.sink + l.left ≡ g.S.Source.called l.fn.source + g.K.Sink.called l.fn.sink + l.fn.left;

@@ -1,11 +1,12 @@
-use Rattle.std.proofs.Common.{◌<◌, ◌++◌, [], length, take, refl, ◌∙◌, arith}
+use Rattle.std.proofs.Common.{◌<◌, ◌++◌, [], length, length-append, take, refl, inl, inr, ⊎_elim, ◌∙◌, arith}
+use Rattle.std.proofs.lemmas.List.{length-take-le}
 use Rattle.std.proofs.KnownBytes.{Appends-nil, Appends-trans, Appends-kept, Consumes-nil, Consumes-trans, Consumes-kept}
 use Rattle.cue_net.proofs.Hearing.{hears_nothing, hears_more, stops_reading, stops_taking, long_as}
 use Rattle.cue_net.proofs.pushing.receive.Goals as goal
 
 pub loop-piece-init : goal.loop-piece-init
 loop-piece-init g c = record {
-  heard = ([], Appends-nil (g.S.Source.given c.args.source.now), Consumes-nil (g.S.Source.to_come c.args.source.now), hears_nothing c.args.hearing.now);
+  heard = ([], Appends-nil (g.S.Source.given c.args.source.now), Consumes-nil (g.S.Source.to_come c.args.source.now), hears_nothing c.args.hearing.now, omega arith);
   turns = refl;
   fewer = omega arith;
   sound = refl;
@@ -25,6 +26,7 @@ loop-piece-preserved g c =
         Appends-trans (source.given c.args.source.now) (source.given s.source) (source.given c.read_some.new.source) h.0 piece h.1 r.ensures.gives,
         Consumes-trans (source.to_come c.args.source.now) (source.to_come s.source) (source.to_come c.read_some.new.source) h.0 piece h.2 r.ensures.takes.0,
         hears_more c.args.hearing.now s.hearing c.hear.new.hearing h.0 piece h.3 c.in-Ok-hear.ensures.ok,
+        omega (arith, h.4, r.ensures.turn, r.ensures.bound, length-append h.0 piece, length-take-le r.got c.read_some.new.into r.ensures.bound.1),
       );
       turns = omega (arith, s.invariant.turns, r.ensures.turns);
       fewer = omega (arith, s.invariant.fewer, r.ensures.fewer);
@@ -43,6 +45,7 @@ returns-in-Err-clause-heard g c =
       piece = h.0;
       gave = Appends-kept (source.given c.args.source.now) (source.given s.source) (source.given new) h.0 h.1 c.in-Err.ensures.gives;
       took = Consumes-kept (source.to_come c.args.source.now) (source.to_come s.source) (source.to_come new) h.0 h.2 c.in-Err.ensures.takes;
+      moves = ⊎_elim inl (λ same. inr (omega (arith, same, h.4))) c.in-Err.ensures.idle;
       ends = stops_reading c.in-Err.halt c.args.hearing.now s.hearing h.0 c.args.count c.read_some.new.left (source.failed c.args.source.now) (source.failed s.source) (source.failed new)
           (source.to_come new) h.3 few s.invariant.sound c.in-Err.ensures.halt;
     }
@@ -59,6 +62,7 @@ returns-in-Err-hear-clause-heard g c =
       piece = h.0 ++ piece;
       gave = Appends-trans (source.given c.args.source.now) (source.given s.source) (source.given new) h.0 piece h.1 r.ensures.gives;
       took = Consumes-trans (source.to_come c.args.source.now) (source.to_come s.source) (source.to_come new) h.0 piece h.2 r.ensures.takes.0;
+      moves = inr (omega (arith, h.4, r.ensures.turn, r.ensures.bound, length-append h.0 piece, length-take-le r.got c.read_some.new.into r.ensures.bound.1));
       ends = stops_taking c.in-Err-hear.halt c.args.hearing.now s.hearing c.hear.new.hearing h.0 piece c.args.count c.read_some.new.left (source.failed c.args.source.now) (source.failed new)
           (source.to_come new) h.3 c.in-Err-hear.ensures.err;
     }
@@ -71,5 +75,6 @@ returns-clause-heard g c =
       piece = h.0;
       gave = h.1;
       took = h.2;
+      moves = h.4;
       ends = (h.3, omega (arith, long_as c.replies.result.now s.hearing.replies c.replies.ensures, c.loop-piece-test.false));
     }

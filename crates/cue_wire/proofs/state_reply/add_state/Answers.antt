@@ -1,4 +1,4 @@
-use Rattle.std.proofs.Common.{◌+◌, [], ◌∷◌, ◌++◌, length}
+use Rattle.std.proofs.Common.{◌+◌, [], ◌∷◌, ◌++◌}
 use Rattle.std.proofs.lemmas.Result.{on_err_weaker}
 use Rattle.std.specs.Int.{w32, to_be_bytes}
 use Rattle.cue_wire.proofs.Exchanges.{extends_through}

@@ -1,8 +1,13 @@
--- Why a read or a write has no bytes.
-use Rattle.std.specs.Prelude.{◌≡◌, ◌⊎◌, ◌<◌, ℕ, List, Option}
+-- What turns are used for, and why a read or a write has no bytes.
+use Rattle.std.specs.Prelude.{◌≡◌, ◌⊎◌, ◌<◌, ◌≤◌, ℕ, ◌+◌, List, Option, Result, Ok, Err}
 use Rattle.std.specs.Io.KnownBytes.{IsAtEnd}
 use Rattle.cue_net.specs.declared.halt.Halt.{Halt}
 use Rattle.cue_net.specs.Halts.{IsDevice, IsTurnsUsed}
+
+-- Each turn that was used moved one of so many bytes at least, but where a device failed.
+abbrev pub Moves : {T : Type 0} → Result T Halt → ℕ → ℕ → ℕ → Type 0
+Moves (Ok value) left left' count = left ≤ left' + count
+Moves (Err halt) left left' count = IsDevice halt ⊎ (left ≤ left' + count)
 
 -- No turn is left, and nothing was called; or the device failed.
 abbrev pub IsWriteHalt : Halt → ℕ → ℕ → ℕ → Type 0
