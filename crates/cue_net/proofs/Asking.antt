@@ -1,5 +1,5 @@
 -- Asking for one thing after the other.
-use Rattle.std.proofs.Common.{◌≡◌, ◌≢◌, ◌⊎◌, ℕ, ◌+◌, ◌<◌, ◌≤◌, length, length-append, ◌∷◌, List, [], ◌++◌, refl, ap, sym, ◌∙◌, arith, append_assoc, append-nil, inl, inr, ⊎_elim, Option, Result, Ok, Err, OnOk}
+use Rattle.std.proofs.Common.{◌≡◌, ◌≢◌, ◌⊎◌, ℕ, ◌+◌, ◌<◌, ◌≤◌, length, length-append, ◌∷◌, List, [], ◌++◌, refl, ap, sym, ◌∙◌, arith, append_assoc, append-nil, inl, inr, ⊎_elim, Option, Result, Ok, Err, IsErrAnd, OnOk}
 use Rattle.std.proofs.KnownBytes.{Appends-nil, Appends-trans, Consumes-nil, Consumes-trans}
 use Rattle.std.specs.Io.KnownBytes.{Appends}
 use Rattle.cue_wire.specs.Clients.{Exchange}
@@ -8,6 +8,7 @@ use Rattle.cue_net.specs.Halts.{IsDevice, IsMemory}
 use Rattle.cue_net.specs.Inner.Turns.{IsWriteHalt, Moves}
 use Rattle.cue_net.specs.Talks.{Talk, IsTalk}
 use Rattle.cue_net.specs.Inner.Hearing.{Hears, Lacks, IsHearHalt, HearsAt, Heard, AllSent, Asked}
+use Rattle.cue_wire.proofs.Connections.{handed_on}
 use Rattle.cue_net.proofs.Hearing.{hears_nothing, hears_more, balks_later}
 
 abbrev pub no_talk : Talk
@@ -162,3 +163,10 @@ asks_all result frames old new count given given' to_come to_come' taken taken' 
 pub on_ok : {T E : Type 0} (r : Result T E) (P Q : Type 0) → (P → Q) → OnOk r P → OnOk r Q
 on_ok (Ok x) P Q f p = f p
 on_ok (Err e) P Q f p = tt
+
+-- asking that stops, handed on
+pub asked_on : {result : Result (Unit {0}) Halt} {halt : Halt} {frames : List ℕ} {old new : Exchange} {count : ℕ} {given given' to_come to_come' taken taken' : Option (List ℕ)}
+    {left left' failed failed' : ℕ} → IsErrAnd result (λ e. e ≡ halt) → Asked (Err halt) frames old new count given given' to_come to_come' taken taken' left left' failed failed'
+    → Asked result frames old new count given given' to_come to_come' taken taken' left left' failed failed'
+asked_on {result} {halt} {frames} {old} {new} {count} {given} {given'} {to_come} {to_come'} {taken} {taken'} {left} {left'} {failed} {failed'} is asked =
+    handed_on (λ r. Asked r frames old new count given given' to_come to_come' taken taken' left left' failed failed') result halt is asked

@@ -1,5 +1,5 @@
 -- Bytes that are written at one end and read at the other.
-use Rattle.std.proofs.Common.{◌≡◌, ◌⊎◌, ℕ, ◌+◌, ◌-◌, ◌<◌, ◌≤◌, List, [], ◌++◌, length, take, drop, refl, ap, sym, ◌∙◌, subst, arith, append_assoc, inl, inr, ⊎_elim, Option, Ok, Err, length-append, length-drop, take-append-drop}
+use Rattle.std.proofs.Common.{◌≡◌, ◌⊎◌, ℕ, ◌+◌, ◌-◌, ◌<◌, ◌≤◌, List, [], ◌++◌, length, take, drop, refl, ap, sym, ◌∙◌, subst, arith, append_assoc, inl, inr, ⊎_elim, Option, Result, Ok, Err, IsErrAnd, length-append, length-drop, take-append-drop}
 use Rattle.std.proofs.KnownBytes.{Appends-kept}
 use Rattle.std.proofs.lemmas.List.{take_all, take-take, length-take-le}
 use Rattle.std.specs.Io.KnownBytes.{Appends, Consumes, Keeps}
@@ -10,6 +10,7 @@ use Rattle.cue_net.specs.Inner.Turns.{IsWriteHalt}
 use Rattle.cue_net.specs.Talks.{Talk, IsTalk}
 use Rattle.cue_net.specs.Inner.Hearing.{Hears, Balks}
 use Rattle.cue_net.specs.Inner.Looping.{IsCarryHalt, Brought}
+use Rattle.cue_wire.proofs.Connections.{handed_on}
 use Rattle.cue_net.proofs.Asking.{no_talk, talks_nothing, joined, talks_more}
 use Rattle.cue_net.proofs.Hearing.{hears_nothing, hears_more, balks_later}
 
@@ -100,3 +101,10 @@ brings_cut halt bytes rest n old mid new given given' given'' to_come to_come' t
   moves = ⊎_elim inl (λ some. inr (omega (arith, b.moves, some, length-append b.talk.heard read, length-append b.talk.sent (take n rest), length-take-le n rest within))) moved;
   ends = ⊎_elim inl (λ others. inr (⊎_elim inl (λ device. inr (device.0, ⊎_elim (λ broke. inl (more broke)) (λ rest. inr (⊎_elim inl (λ balks. inr (balks_later old mid b.talk.heard read b.hears balks)) rest)) device.1)) others)) why;
 }
+
+-- carrying that stops, handed on
+pub brought_on : {result : Result (Unit {0}) Halt} {halt : Halt} {bytes : List ℕ} {old new : Exchange} {given given' to_come to_come' taken taken' : Option (List ℕ)}
+    {left left' failed failed' : ℕ} → IsErrAnd result (λ e. e ≡ halt) → Brought (Err halt) bytes old new given given' to_come to_come' taken taken' left left' failed failed'
+    → Brought result bytes old new given given' to_come to_come' taken taken' left left' failed failed'
+brought_on {result} {halt} {bytes} {old} {new} {given} {given'} {to_come} {to_come'} {taken} {taken'} {left} {left'} {failed} {failed'} is brought =
+    handed_on (λ r. Brought r bytes old new given given' to_come to_come' taken taken' left left' failed failed') result halt is brought

@@ -1,5 +1,5 @@
 -- Requests that are carried from one end to the other, and their replies back.
-use Rattle.std.proofs.Common.{◌≡◌, ◌⊎◌, ℕ, ◌+◌, ◌<◌, ◌≤◌, List, [], ◌++◌, length, refl, ap, sym, ◌∙◌, arith, append_assoc, append-nil, inl, inr, ⊎_elim, Option, Result, Ok, Err, length-append}
+use Rattle.std.proofs.Common.{◌≡◌, ◌⊎◌, ℕ, ◌+◌, ◌<◌, ◌≤◌, List, [], ◌++◌, length, refl, ap, sym, ◌∙◌, arith, append_assoc, append-nil, inl, inr, ⊎_elim, Option, Result, Ok, Err, IsErrAnd, length-append}
 use Rattle.std.proofs.KnownBytes.{Appends-nil, Appends-kept, Consumes-nil}
 use Rattle.std.specs.Io.KnownBytes.{Appends, Consumes, Keeps}
 use Rattle.cue_replica.specs.Language.{Table}
@@ -11,6 +11,7 @@ use Rattle.cue_net.specs.Inner.Turns.{IsWriteHalt}
 use Rattle.cue_net.specs.Talks.{Talk}
 use Rattle.cue_net.specs.Inner.Hearing.{Hears}
 use Rattle.cue_net.specs.Inner.Looping.{bytes_of, IsCarryHalt, Brought, ServesOnto, Faults, Exchanged, ExchangesAt}
+use Rattle.cue_wire.proofs.Connections.{handed_on}
 use Rattle.cue_net.proofs.Asking.{no_talk, talks_nothing, joined, talks_more, moves_on}
 use Rattle.cue_net.proofs.Hearing.{hears_nothing, hears_more, balks_later}
 use Rattle.cue_net.proofs.Looping.{serves_nothing, serves_more, faults_later}
@@ -126,6 +127,16 @@ ex_is is a = record {
   moves = a.moves;
   ends = a.ends;
 }
+
+-- an exchange that stops, handed on
+pub ex_on : {result : Result (Unit {0}) Halt} {halt : Halt} {frames : List ℕ} {old new : Exchange} {s0 s1 : Standing} {t0 t1 : Table}
+    {given given' to_come to_come' taken taken' gave gave' coming coming' took took' : Option (List ℕ)} {start left failed failed' : ℕ} → IsErrAnd result (λ e. e ≡ halt)
+    → Exchanged (Err halt) frames old new s0 s1 t0 t1 given given' to_come to_come' taken taken' gave gave' coming coming' took took' start left failed failed'
+    → Exchanged result frames old new s0 s1 t0 t1 given given' to_come to_come' taken taken' gave gave' coming coming' took took' start left failed failed'
+ex_on {result} {halt} {frames} {old} {new} {s0} {s1} {t0} {t1} {given} {given'} {to_come} {to_come'} {taken} {taken'} {gave} {gave'} {coming} {coming'} {took} {took'}
+    {start} {left} {failed} {failed'} is exchanged =
+    handed_on (λ r. Exchanged r frames old new s0 s1 t0 t1 given given' to_come to_come' taken taken' gave gave' coming coming' took took' start left failed failed')
+    result halt is exchanged
 
 -- a piece is written, served, and its replies are heard
 pub piece_exchanged : (piece : List ℕ) (n : ℕ) (old new : Exchange) (s0 s1 : Standing) (t0 t1 : Table) (start out bytes read : List ℕ)

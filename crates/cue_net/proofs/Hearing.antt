@@ -1,12 +1,13 @@
 -- What a client hears piece by piece, and what asking adds to a talk.
-use Rattle.std.proofs.Common.{◌≡◌, ◌⊎◌, ℕ, ◌<◌, List, [], ◌++◌, length, ap, sym, ◌∙◌, subst, arith, append_assoc, append-nil, inl, inr, ⊎_elim, Option, Vec, Global}
+use Rattle.std.proofs.Common.{◌≡◌, ◌⊎◌, ℕ, ◌<◌, List, [], ◌++◌, length, ap, sym, ◌∙◌, subst, arith, append_assoc, append-nil, inl, inr, ⊎_elim, Option, Result, Err, IsErrAnd, Vec, Global}
 use Rattle.std.proofs.lemmas.List.{length-map}
 use Rattle.cue_wire.specs.Clients.{Exchange, HasTaken, all_items}
 use Rattle.cue_wire.specs.Frames.{HasFault}
 use Rattle.cue_net.specs.declared.halt.Halt.{Halt}
 use Rattle.cue_net.specs.Halts.{IsDevice, IsMemory, IsTurnsUsed}
 use Rattle.cue_net.specs.Inner.Turns.{IsReadHalt}
-use Rattle.cue_net.specs.Inner.Hearing.{Hears, Balks, IsHearHalt}
+use Rattle.cue_net.specs.Inner.Hearing.{Hears, Balks, IsHearHalt, Heard}
+use Rattle.cue_wire.proofs.Connections.{handed_on}
 
 pub hears_nothing : (old : Exchange) → Hears old old []
 hears_nothing old stream taken = subst (HasTaken old) (sym (append-nil stream)) taken
@@ -38,3 +39,10 @@ stops_taking halt old mid new p q count left failed failed' to_come hears why =
 
 pub long_as : (vectors : List (Vec ℕ Global)) (replies : List (List ℕ)) → all_items vectors ≡ replies → length vectors ≡ length replies
 long_as vectors replies are = sym (length-map vectors (λ (v : Vec ℕ Global). v.items)) ∙ ap length are
+
+-- hearing that stops, handed on
+pub heard_on : {result : Result (Unit {0}) Halt} {halt : Halt} {old new : Exchange} {count : ℕ} {given given' to_come to_come' : Option (List ℕ)} {left left' failed failed' : ℕ}
+    → IsErrAnd result (λ e. e ≡ halt) → Heard (Err halt) old new count given given' to_come to_come' left left' failed failed'
+    → Heard result old new count given given' to_come to_come' left left' failed failed'
+heard_on {result} {halt} {old} {new} {count} {given} {given'} {to_come} {to_come'} {left} {left'} {failed} {failed'} is heard =
+    handed_on (λ r. Heard r old new count given given' to_come to_come' left left' failed failed') result halt is heard

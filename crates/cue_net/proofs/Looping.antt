@@ -1,5 +1,5 @@
 -- What a session and a client make of pieces that are carried to them.
-use Rattle.std.proofs.Common.{◌≡◌, ◌⊎◌, ℕ, List, [], ◌++◌, ap, sym, ◌∙◌, subst, arith, append_assoc, append-nil, inl, inr, ⊎_elim, Option}
+use Rattle.std.proofs.Common.{◌≡◌, ◌⊎◌, ℕ, List, [], ◌++◌, ap, sym, ◌∙◌, subst, arith, append_assoc, append-nil, inl, inr, ⊎_elim, ◌≤◌, ◌+◌, Option, Result, IsErrAnd, OnOk}
 use Rattle.cue_replica.specs.Language.{Table}
 use Rattle.cue_wire.specs.Frames.{HasFault}
 use Rattle.cue_wire.specs.Sessions.{Standing, Served}
@@ -7,7 +7,8 @@ use Rattle.cue_wire.proofs.Readings.{are_readings}
 use Rattle.cue_wire.proofs.Streams.{served_none}
 use Rattle.cue_net.specs.declared.halt.Halt.{Halt}
 use Rattle.cue_net.specs.Halts.{IsDevice, IsMemory}
-use Rattle.cue_net.specs.Inner.Turns.{IsReadHalt}
+use Rattle.cue_net.specs.Inner.Turns.{IsReadHalt, Moves}
+use Rattle.cue_wire.proofs.Connections.{handed_on}
 use Rattle.cue_net.specs.Inner.Looping.{IsCarryHalt, ServesOnto, Faults}
 
 served_onto : (read kept piece rest : List ℕ) (before between after : Table) (old mid new : List ℕ)
@@ -55,3 +56,11 @@ pub takes_nothing : (halt : Halt) (left failed failed' : ℕ) (to_come : Option 
     → (Balk → Balk') → IsMemory halt ⊎ (IsDevice halt × Balk) → IsCarryHalt halt left to_come failed failed' Balk'
 takes_nothing halt left failed failed' to_come Balk Balk' later why =
     inr (⊎_elim inl (λ device. inr (device.0, inr (inr (later device.1)))) why)
+
+-- what holds of a halt, handed on
+pub none_ok : (result : Result (Unit {0}) Halt) (halt : Halt) (P : Type 0) → IsErrAnd result (λ e. e ≡ halt) → OnOk result P
+none_ok result halt P is = handed_on (λ r. OnOk r P) result halt is tt
+
+pub moved_on : (result : Result (Unit {0}) Halt) (halt : Halt) (left left' count : ℕ) → IsErrAnd result (λ e. e ≡ halt) → IsDevice halt ⊎ (left ≤ left' + count)
+    → Moves result left left' count
+moved_on result halt left left' count is moved = handed_on (λ r. Moves r left left' count) result halt is moved

@@ -1,5 +1,5 @@
 -- What is answered where both ends are here.
-use Rattle.std.proofs.Common.{◌≡◌, ◌≢◌, ◌⊎◌, ℕ, ◌+◌, ◌≤◌, List, [], ◌∷◌, ◌++◌, length, All, refl, ap, sym, ◌∙◌, subst, arith, append-nil, inl, inr, ⊎_elim, Option, Result, Ok, Err, IsErrOf, Vec, Global}
+use Rattle.std.proofs.Common.{◌≡◌, ◌≢◌, ◌⊎◌, ℕ, ◌+◌, ◌≤◌, List, [], ◌∷◌, ◌++◌, length, All, refl, ap, sym, ◌∙◌, subst, arith, append-nil, inl, inr, ⊎_elim, Option, Result, Ok, Err, IsErrOf, IsErrAnd, Vec, Global}
 use Rattle.cue_lattice.specs.declared.refusal.Kind.TheVariants as kinds
 use Rattle.cue_answer.specs.declared.told.Answer.{Answer}
 use Rattle.cue_replica.specs.Language.{Table, opening}
@@ -14,6 +14,7 @@ use Rattle.cue_net.specs.Talks.{Talk, IsTalk, asking}
 use Rattle.cue_net.specs.Told.{AreTold}
 use Rattle.cue_net.specs.Loops.{IsBroken, IsAnswerBetween}
 use Rattle.cue_net.specs.Inner.Looping.{Exchanged, bytes_of}
+use Rattle.cue_wire.proofs.Connections.{handed_on}
 use Rattle.cue_net.proofs.Asking.{no_talk, talks_nothing}
 use Rattle.cue_net.proofs.Hearing.{in_turns, long_as}
 
@@ -61,6 +62,15 @@ cut_between halt inputs old new s0 s1 t0 t1 given given' to_come to_come' taken 
           (λ z. inr (⊎_elim (λ balks. inl (balks [] none)) (λ faults. inr (inl (faults [] is (inl (omega arith))))) z)) y)) x)) device.1,
     )) o))) a.ends in
     (a.near, a.far, a.near_passes, a.far_passes, inr (halt, a.unsent, refl, a.front, why))
+
+-- what is answered of an exchange that stops, handed on
+pub between_on : (result : Result Answer Halt) (halt : Halt) (inputs : List requests.Request)
+    (given given' to_come to_come' taken taken' gave gave' coming coming' took took' : Option (List ℕ)) (turns calls calls' failed failed' : ℕ)
+    → IsErrAnd result (λ e. e ≡ halt)
+    → Between (Err halt) inputs given given' to_come to_come' taken taken' gave gave' coming coming' took took' turns calls calls' failed failed'
+    → Between result inputs given given' to_come to_come' taken taken' gave gave' coming coming' took took' turns calls calls' failed failed'
+between_on result halt inputs given given' to_come to_come' taken taken' gave gave' coming coming' took took' turns calls calls' failed failed' is between =
+    handed_on (λ r. Between r inputs given given' to_come to_come' taken taken' gave gave' coming coming' took took' turns calls calls' failed failed') result halt is between
 
 -- an exchange to the end, and what the replies tell
 pub answered_between : (u : Unit {0}) (result : Result Answer Halt) (inputs : List requests.Request) (old new : Exchange) (s0 s1 : Standing) (t0 t1 : Table) (vectors : List (Vec ℕ Global))

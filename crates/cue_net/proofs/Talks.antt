@@ -1,5 +1,5 @@
 -- What is answered of a talk.
-use Rattle.std.proofs.Common.{◌≡◌, ◌≢◌, ◌⊎◌, ℕ, ◌+◌, ◌≤◌, List, [], ◌∷◌, ◌++◌, length, All, refl, ap, sym, ◌∙◌, subst, arith, append-nil, inl, inr, ⊎_elim, Option, Result, Ok, Err, IsErrOf, Vec, Global}
+use Rattle.std.proofs.Common.{◌≡◌, ◌≢◌, ◌⊎◌, ℕ, ◌+◌, ◌≤◌, List, [], ◌∷◌, ◌++◌, length, All, refl, ap, sym, ◌∙◌, subst, arith, append-nil, inl, inr, ⊎_elim, Option, Result, Ok, Err, IsErrOf, IsErrAnd, Vec, Global}
 use Rattle.std.proofs.lemmas.List.Elements.{All-nil}
 use Rattle.cue_answer.specs.declared.told.Answer.{Answer}
 use Rattle.cue_wire.specs.Clients.{Exchange, HasTaken, all_items, IsSendable}
@@ -12,6 +12,7 @@ use Rattle.cue_net.specs.Halts.{IsMemory, IsTooLong}
 use Rattle.cue_net.specs.Talks.{Talk, IsTalk, asking, AreTooFew, IsCut, IsAnswerOf}
 use Rattle.cue_net.specs.Told.{AreTold}
 use Rattle.cue_net.specs.Inner.Hearing.{Lacks, Asked}
+use Rattle.cue_wire.proofs.Connections.{handed_on}
 use Rattle.cue_net.proofs.Asking.{no_talk, talks_nothing}
 use Rattle.cue_net.proofs.Hearing.{in_turns, long_as}
 
@@ -91,3 +92,11 @@ pub no_client : (halt : Halt) (inputs : List requests.Request) (given to_come ta
     → (talk : Talk) × IsTalk talk given given to_come to_come taken taken × IsAnswerOf (Err halt) inputs talk to_come turns calls calls failed failed
 no_client halt inputs given to_come taken failed turns calls why =
     (no_talk, talks_nothing given to_come taken, inr (halt, asking inputs, refl, refl, ⊎_elim (λ memory. inr (inr (inl memory))) (λ long. absurd (long.1 (All-nil IsSendable))) why))
+
+-- what is answered of a talk that stops, handed on
+pub cut_on : (result : Result Answer Halt) (halt : Halt) (inputs : List requests.Request) (given given' to_come to_come' taken taken' : Option (List ℕ))
+    (turns calls calls' failed failed' : ℕ) → IsErrAnd result (λ e. e ≡ halt)
+    → (talk : Talk) × IsTalk talk given given' to_come to_come' taken taken' × IsAnswerOf (Err halt) inputs talk to_come' turns calls calls' failed failed'
+    → (talk : Talk) × IsTalk talk given given' to_come to_come' taken taken' × IsAnswerOf result inputs talk to_come' turns calls calls' failed failed'
+cut_on result halt inputs given given' to_come to_come' taken taken' turns calls calls' failed failed' is talked =
+    (talked.0, talked.1, handed_on (λ r. IsAnswerOf r inputs talked.0 to_come' turns calls calls' failed failed') result halt is talked.2)

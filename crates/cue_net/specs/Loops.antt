@@ -1,5 +1,6 @@
 -- What passes between a client and a site, both of whose ends are here.
-use Rattle.std.specs.Prelude.{◌≡◌, ◌≢◌, ◌⊎◌, ◌<◌, ◌≤◌, ℕ, ◌+◌, List, [], ◌++◌, length, All, Option, Result, Err}
+use Rattle.std.specs.Prelude.{◌≡◌, ◌≢◌, ◌⊎◌, ◌<◌, ◌≤◌, ℕ, ◌+◌}
+use Rattle.std.specs.Prelude.{List, [], ◌++◌, length, All, Option, Result, Err}
 use Rattle.std.specs.Io.KnownBytes.{IsAtEnd}
 use Rattle.cue_answer.specs.declared.told.Answer.{Answer}
 use Rattle.cue_replica.specs.Language.{Table, opening}

@@ -45,14 +45,8 @@ pub fn serve_so_many<S: Source>(
     while got < count {
         let most = (count - got).min(PIECE);
         let room = &mut piece[..most];
-        let some = match read_some(source, room, left) {
-            Ok(some) => some,
-            Err(halt) => return Err(halt),
-        };
-        match serve_piece(serving, &room[..some]) {
-            Ok(()) => {}
-            Err(halt) => return Err(halt),
-        }
+        let some = read_some(source, room, left)?;
+        serve_piece(serving, &room[..some])?;
         got += some;
     }
     Ok(())
@@ -100,14 +94,8 @@ pub fn bring_back<S: Source, K: Sink>(
     let mut rest = bytes;
     while !rest.is_empty() {
         let most = rest.len().min(PIECE);
-        let count = match write_some(sink, &rest[..most], left) {
-            Ok(count) => count,
-            Err(halt) => return Err(halt),
-        };
-        match hear_so_many(source, hearing, count, left) {
-            Ok(()) => {}
-            Err(halt) => return Err(halt),
-        }
+        let count = write_some(sink, &rest[..most], left)?;
+        hear_so_many(source, hearing, count, left)?;
         rest = &rest[count..];
     }
     Ok(())
@@ -136,14 +124,8 @@ fn hear_so_many<S: Source>(
     while got < count {
         let most = (count - got).min(PIECE);
         let room = &mut piece[..most];
-        let some = match read_some(source, room, left) {
-            Ok(some) => some,
-            Err(halt) => return Err(halt),
-        };
-        match hear(hearing, &room[..some]) {
-            Ok(()) => {}
-            Err(halt) => return Err(halt),
-        }
+        let some = read_some(source, room, left)?;
+        hear(hearing, &room[..some])?;
         got += some;
     }
     Ok(())

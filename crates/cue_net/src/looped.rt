@@ -123,16 +123,10 @@ pub fn converse<S: Source, K: Sink>(
     if !all_fit(inputs) {
         return Err(Halt::Refused(Kind::FrameTooLong));
     }
-    let mut hearing = match client_of(alloc, &[]) {
-        Ok(client) => client,
-        Err(halt) => return Err(halt),
-    };
-    let mut serving = match new_site(alloc) {
-        Ok(serving) => serving,
-        Err(halt) => return Err(halt),
-    };
+    let mut hearing = client_of(alloc, &[])?;
+    let mut serving = new_site(alloc)?;
     let mut left = turns;
-    match exchange(
+    exchange(
         alloc,
         near,
         far,
@@ -140,12 +134,9 @@ pub fn converse<S: Source, K: Sink>(
         &mut hearing,
         &mut serving,
         &mut left,
-    ) {
-        Ok(()) => {}
-        Err(halt) => return Err(halt),
-    }
+    )?;
     let question = [Request::AskExport];
-    match exchange(
+    exchange(
         alloc,
         near,
         far,
@@ -153,10 +144,7 @@ pub fn converse<S: Source, K: Sink>(
         &mut hearing,
         &mut serving,
         &mut left,
-    ) {
-        Ok(()) => {}
-        Err(halt) => return Err(halt),
-    }
+    )?;
     told_by(alloc, hearing.replies(), inputs.len())
 }
 
@@ -166,10 +154,7 @@ fn new_site(alloc: Global) -> Result<Serving, Halt>
     ensures session { IfOk result (λ serving. serving.session ≡ reading []) }
     ensures err { IfErr result IsMemory }
 {
-    let session = match Session::new(alloc) {
-        Ok(session) => session,
-        Err(memory) => return Err(Halt::from(memory)),
-    };
+    let session = Session::new(alloc)?;
     Ok(Serving {
         site: Replica::new(alloc),
         session,
@@ -218,26 +203,14 @@ fn exchange<S: Source, K: Sink>(
         ≡ S.failed near.old.source + K.failed near.old.sink
         + S.failed far.old.source + K.failed far.old.sink) }
 {
-    let asking = match client_of(alloc, requests) {
-        Ok(client) => client,
-        Err(halt) => return Err(halt),
-    };
+    let asking = client_of(alloc, requests)?;
     let mut rest = asking.outgoing();
     while !rest.is_empty() {
         let most = rest.len().min(PIECE);
-        let count = match write_some(&mut near.sink, &rest[..most], left) {
-            Ok(count) => count,
-            Err(halt) => return Err(halt),
-        };
+        let count = write_some(&mut near.sink, &rest[..most], left)?;
         serving.out.clear();
-        match serve_so_many(&mut far.source, serving, count, left) {
-            Ok(()) => {}
-            Err(halt) => return Err(halt),
-        }
-        match bring_back(&mut far.sink, &mut near.source, &serving.out, hearing, left) {
-            Ok(()) => {}
-            Err(halt) => return Err(halt),
-        }
+        serve_so_many(&mut far.source, serving, count, left)?;
+        bring_back(&mut far.sink, &mut near.source, &serving.out, hearing, left)?;
         rest = &rest[count..];
     }
     Ok(())

@@ -73,18 +73,12 @@ pub fn push<S: Source, K: Sink>(
     if !all_fit(inputs) {
         return Err(Halt::Refused(Kind::FrameTooLong));
     }
-    let mut hearing = match client_of(alloc, &[]) {
-        Ok(client) => client,
-        Err(halt) => return Err(halt),
-    };
+    let mut hearing = client_of(alloc, &[])?;
     let mut left = turns;
-    match push_inputs(alloc, source, sink, inputs, &mut hearing, &mut left) {
-        Ok(()) => {}
-        Err(halt) => return Err(halt),
-    }
+    push_inputs(alloc, source, sink, inputs, &mut hearing, &mut left)?;
     let count = inputs.len() + 1;
     let question = [Request::AskExport];
-    match ask(
+    ask(
         alloc,
         source,
         sink,
@@ -92,10 +86,7 @@ pub fn push<S: Source, K: Sink>(
         &mut hearing,
         count,
         &mut left,
-    ) {
-        Ok(()) => {}
-        Err(halt) => return Err(halt),
-    }
+    )?;
     told_by(alloc, hearing.replies(), inputs.len())
 }
 
@@ -129,10 +120,7 @@ fn push_inputs<S: Source, K: Sink>(
         let most = rest.len().min(GROUP);
         let group = &rest[..most];
         asked += most;
-        match ask(alloc, source, sink, group, hearing, asked, left) {
-            Ok(()) => {}
-            Err(halt) => return Err(halt),
-        }
+        ask(alloc, source, sink, group, hearing, asked, left)?;
         rest = &rest[most..];
     }
     Ok(())
@@ -186,14 +174,8 @@ fn ask<S: Source, K: Sink>(
     ensures sound { OnOk result (S.failed source.new + K.failed sink.new
         ≡ S.failed source.old + K.failed sink.old) }
 {
-    let asking = match client_of(alloc, requests) {
-        Ok(client) => client,
-        Err(halt) => return Err(halt),
-    };
-    match send(sink, asking.outgoing(), left) {
-        Ok(()) => {}
-        Err(halt) => return Err(halt),
-    }
+    let asking = client_of(alloc, requests)?;
+    send(sink, asking.outgoing(), left)?;
     receive(source, hearing, count, left)
 }
 
@@ -250,14 +232,8 @@ fn receive<S: Source>(
 {
     let mut piece = [0u8; PIECE];
     while hearing.replies().len() < count {
-        let got = match read_some(source, &mut piece, left) {
-            Ok(got) => got,
-            Err(halt) => return Err(halt),
-        };
-        match hear(hearing, &piece[..got]) {
-            Ok(()) => {}
-            Err(halt) => return Err(halt),
-        }
+        let got = read_some(source, &mut piece, left)?;
+        hear(hearing, &piece[..got])?;
     }
     Ok(())
 }

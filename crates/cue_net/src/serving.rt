@@ -46,10 +46,7 @@ pub fn serve_from(alloc: Global, listener: &TcpListener, count: u16) -> Result<A
         let Ok((stream, _)) = listener.accept() else {
             return Err(Halt::Device);
         };
-        match serve_one(alloc, &stream, &mut site) {
-            Ok(()) => {}
-            Err(halt) => return Err(halt),
-        }
+        serve_one(alloc, &stream, &mut site)?;
     }
     match exported(alloc, &site) {
         Ok(answer) => Ok(answer),

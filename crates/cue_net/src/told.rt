@@ -77,10 +77,7 @@ fn first_refusal(replies: &[Vec<u8>]) -> Result<Option<(Refusal, usize)>, Fault>
     let mut number = 0usize;
     for reply in replies {
         number += 1;
-        let found = match refusal_in(reply) {
-            Ok(found) => found,
-            Err(Fault) => return Err(Fault),
-        };
+        let found = refusal_in(reply)?;
         first = first_of(first, found, number);
     }
     Ok(first)

@@ -41,10 +41,7 @@ pub fn read_all<S: Source, K: Kept>(
     ensures fault { IfErr result (IsReadFault (S.called input.old) (S.failed input.old)
         (S.called input.new) (S.failed input.new)) }
 {
-    let count = match read_piece(input, piece) {
-        Ok(count) => count,
-        Err(stop) => return Err(stop),
-    };
+    let count = read_piece(input, piece)?;
     let mut kept = K::begin(alloc, &piece[..count])?;
     if count == 0 {
         return Ok(kept);
@@ -66,10 +63,7 @@ fn read_rest<S: Source, K: Kept>(input: &mut S, piece: &mut [u8], kept: &mut K) 
         (S.called input.new) (S.failed input.new)) }
 {
     for _ in 1..MAX_READS {
-        let count = match read_piece(input, piece) {
-            Ok(count) => count,
-            Err(stop) => return Err(stop),
-        };
+        let count = read_piece(input, piece)?;
         if count == 0 {
             return Ok(());
         }

@@ -26,10 +26,7 @@ pub fn put<S: Shelf>(shelf: &mut S, alloc: Global, name: &str, site: &Replica) -
         (S.held shelf.old) (S.held shelf.new)) }
     ensures fault { IfErr result (λ stop. IsDevice stop ⊎ IsMemory stop) }
 {
-    let (place, form) = match shelf.find(alloc, name) {
-        Ok(found) => found,
-        Err(stop) => return Err(stop),
-    };
+    let (place, form) = shelf.find(alloc, name)?;
     let place = place.as_str();
     match form {
         Form::Special => shelf.overwrite(alloc, place, site),
@@ -52,10 +49,7 @@ fn replace<S: Shelf>(
         (S.held shelf.old) (S.held shelf.new)) }
     ensures fault { IfErr result (λ stop. IsDevice stop ⊎ IsMemory stop) }
 {
-    let draft = match draft_beside(shelf, alloc, place, like, site) {
-        Ok(draft) => draft,
-        Err(stop) => return Err(stop),
-    };
+    let draft = draft_beside(shelf, alloc, place, like, site)?;
     match shelf.rename(draft.as_str(), place) {
         Ok(()) => Ok(()),
         Err(_) => {

@@ -57,14 +57,9 @@ fn requests_of_files<H: AllocGlobal + Shelf>(rt: &H, names: &[&str]) -> Result<V
     let mut piece = room(rt.alloc())?;
     for name in names {
         let number = requests.len().saturating_add(1);
-        let file: Enough = match read_file(rt, name, &mut piece) {
-            Ok(file) => file,
-            Err(stop) => return Err(stop),
-        };
-        match request_of_file(rt.alloc(), file.bytes, number) {
-            Ok(request) => requests.push(request)?,
-            Err(stop) => return Err(stop),
-        }
+        let file: Enough = read_file(rt, name, &mut piece)?;
+        let request = request_of_file(rt.alloc(), file.bytes, number)?;
+        requests.push(request)?;
     }
     Ok(requests)
 }
@@ -93,10 +88,8 @@ fn requests_of_texts(alloc: Global, bytes: &[u8]) -> Result<Vec<Request>, Stop>
     while let Some(bytes) = rest {
         let number = requests.len().saturating_add(1);
         let (part, after) = first_part(bytes);
-        match request_of_text(alloc, part, number) {
-            Ok(request) => requests.push(request)?,
-            Err(stop) => return Err(stop),
-        }
+        let request = request_of_text(alloc, part, number)?;
+        requests.push(request)?;
         rest = after;
     }
     Ok(requests)

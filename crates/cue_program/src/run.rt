@@ -34,10 +34,7 @@ pub fn answer_for<H: AllocGlobal + Shelf, R: Read>(
     ensures stop { IfErr result (IsStopOn
         (inputs_of (H.held rt.now) (texts files.now) (R.remaining input.old))) }
 {
-    let site = match site_for(rt, files, input) {
-        Ok(site) => site,
-        Err(stop) => return Err(stop),
-    };
+    let site = site_for(rt, files, input)?;
     let told = answer_to(rt.alloc(), question, &site)?;
     Ok(printed(question, told)?)
 }
@@ -62,10 +59,7 @@ pub fn merge_into<H: AllocGlobal + Shelf, R: Read>(
         (inputs_of (H.held rt.old) (texts files.now) (R.remaining input.old))
         (H.held rt.old) (H.held rt.new)) }
 {
-    let site = match site_for(&*rt, files, input) {
-        Ok(site) => site,
-        Err(stop) => return Err(stop),
-    };
+    let site = site_for(&*rt, files, input)?;
     let alloc = rt.alloc();
     put(rt, alloc, name, &site)
 }
@@ -116,14 +110,8 @@ fn site_of_files<H: AllocGlobal + Shelf>(rt: &H, names: &[&str]) -> Result<Repli
     let mut number = 0;
     for name in names {
         number += 1;
-        let file = match read_file(rt, name, &mut piece) {
-            Ok(file) => file,
-            Err(stop) => return Err(stop),
-        };
-        match take_file(&mut site, file, number) {
-            Ok(()) => {}
-            Err(stop) => return Err(stop),
-        }
+        let file = read_file(rt, name, &mut piece)?;
+        take_file(&mut site, file, number)?;
     }
     Ok(site)
 }

@@ -112,10 +112,7 @@ impl Taken {
     {
         let mut rest = piece;
         while let Some((end, after)) = line_end(rest) {
-            match self.end_line(end) {
-                Ok(()) => {}
-                Err(stop) => return Err(stop),
-            }
+            self.end_line(end)?;
             rest = after;
         }
         self.line.extend_from_slice(rest)?;
@@ -147,10 +144,7 @@ impl Taken {
             → self.old.line.items ≡ codes "---\n" → IfErr result (IsStopWithin bytes) }
     {
         self.number = self.number.saturating_add(1);
-        match self.gathered.take(&self.part, self.number) {
-            Ok(()) => {}
-            Err(stop) => return Err(stop),
-        }
+        self.gathered.take(&self.part, self.number)?;
         self.part.clear();
         self.line.clear();
         Ok(())

@@ -63,10 +63,7 @@ fn tell_rest<W: Write>(
         if count == 0 {
             return Ok(());
         }
-        match write(out, &piece[..count]) {
-            Ok(()) => {}
-            Err(stop) => return Err(stop),
-        }
+        write(out, &piece[..count])?;
     }
 }
 

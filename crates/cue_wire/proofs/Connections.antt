@@ -419,7 +419,10 @@ unfolding rest_in
 between session kept whole keeps is =
     (λ yes. ap rest_in (sym keeps ∙ is.0 yes), λ nil. is.1 (keeps ∙ ap reading nil))
 
--- a fault that is handed on
-pub handed_on : {T : Type 0} (P : Result T Kind → Type 0) (r : Result T Kind) (kind : Kind) → IsErrAnd r (λ e. e ≡ kind) → P (Err kind) → P r
-handed_on P (Ok whole) kind is p = absurd is
-handed_on P (Err e) kind is p = subst (λ k. P (Err k)) (sym is) p
+-- what holds of a fault, where `?` hands it on
+pub handed_on : {T E : Type 0} (P : Result T E → Type 0) (r : Result T E) (fault : E) → IsErrAnd r (λ e. e ≡ fault) → P (Err fault) → P r
+handed_on P (Ok whole) fault is p = absurd is
+handed_on P (Err e) fault is p = subst (λ k. P (Err k)) (sym is) p
+
+pub err_on : {T E : Type 0} (r : Result T E) (fault : E) (P : E → Type 0) → IsErrAnd r (λ e. e ≡ fault) → P fault → IfErr r P
+err_on r fault P is p = handed_on (λ r. IfErr r P) r fault is p

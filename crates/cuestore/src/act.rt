@@ -110,10 +110,7 @@ where
       input = R.remaining input.old;
     })) }
 {
-    let command = match command_of(rt.alloc(), words) {
-        Ok(command) => command,
-        Err(fault) => return Err(fault),
-    };
+    let command = command_of(rt.alloc(), words)?;
     match &command {
         Command::Ask {
             question: Question::State,

@@ -97,10 +97,7 @@ pub fn command_of<'w>(alloc: Global, words: &'w [String]) -> Result<Command<'w>,
     let Some((name, others)) = words.split_first() else {
         return Err(Fault::Usage);
     };
-    let files = match arguments_of(alloc, others) {
-        Ok(files) => files,
-        Err(fault) => return Err(fault),
-    };
+    let files = arguments_of(alloc, others)?;
     match named(name.as_str(), files) {
         Some(command) => Ok(command),
         None => Err(Fault::Usage),
@@ -210,10 +207,7 @@ fn arguments_of<'w>(alloc: Global, words: &'w [String]) -> Result<Vec<&'w str>, 
     let mut files = Vec::with_capacity(alloc, words.len())?;
     let mut ended = false;
     for word in words {
-        match add(&mut files, ended, word.as_str()) {
-            Ok(after) => ended = after,
-            Err(fault) => return Err(fault),
-        }
+        ended = add(&mut files, ended, word.as_str())?;
     }
     Ok(files)
 }

@@ -37,10 +37,7 @@ where
       input = R.remaining input.old;
     })) }
 {
-    let requests = match requests_for(rt, files, input) {
-        Ok(requests) => requests,
-        Err(stop) => return Err(stop),
-    };
+    let requests = requests_for(rt, files, input)?;
     ended(push_for(rt, port, &requests))
 }
 
@@ -60,10 +57,7 @@ where
       input = R.remaining input.old;
     })) }
 {
-    let requests = match requests_for(rt, files, input) {
-        Ok(requests) => requests,
-        Err(stop) => return Err(stop),
-    };
+    let requests = requests_for(rt, files, input)?;
     ended(loop_for(rt, &requests))
 }
 

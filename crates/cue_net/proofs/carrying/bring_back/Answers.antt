@@ -1,7 +1,7 @@
 use Rattle.std.proofs.Common.{◌≡◌, ◌+◌, ◌<◌, ◌≤◌, [], length, refl, inl, inr, ⊎_elim, arith}
 use Rattle.std.proofs.lemmas.Grind.{common_steps}
 use Rattle.std.proofs.lemmas.List.{length-take}
-use Rattle.cue_net.proofs.Bringing.{front_taken, brings_nothing, brings_more, brings_all, brings_stopped, brings_cut}
+use Rattle.cue_net.proofs.Bringing.{front_taken, brought_on, brings_nothing, brings_more, brings_all, brings_stopped, brings_cut}
 use Rattle.cue_net.proofs.carrying.bring_back.Goals as goal
 
 pub loop-rest-init : goal.loop-rest-init
@@ -20,58 +20,58 @@ loop-rest-preserved g c =
     let s = c.loop-rest in
     let rest = s.rest.now in
     let most = c.min-most.result in
-    let n = c.in-Ok.count in
+    let n = c.in_ok-count.count in
     let w = c.write_some.new.sink in
     let new = c.hear_so_many.new in
-    let h = c.in-Ok-hear_so_many.ensures.read in
+    let h = c.in_ok-hear_so_many.ensures.read in
     let few : most ≤ length rest = omega (arith, c.min-most.ensures) in
-    let within : n ≤ length rest = omega (arith, c.in-Ok.ensures.bound, length-take most rest) in
+    let within : n ≤ length rest = omega (arith, c.in_ok-count.ensures.bound, length-take most rest) in
     let some : 0 < length rest = grind (arith, c.is_empty.ensures, c.loop-rest-test.true) in
     record {
       brings = brings_more c.args.bytes.now rest n c.args.hearing.now s.hearing new.hearing
           (source.given c.args.source.now) (source.given s.source) (source.given new.source) (source.to_come c.args.source.now) (source.to_come s.source) (source.to_come new.source)
           (sink.taken c.args.sink.now) (sink.taken s.sink) (sink.taken w) h.0 c.args.left.now s.left new.left within
-          (omega (arith, c.in-Ok.ensures.turn, c.in-Ok.ensures.some, some, c.min-most.ensures, length-take most rest, h.3.0, h.5)) s.invariant.brings
-          (front_taken (sink.taken s.sink) (sink.taken w) rest n most c.in-Ok.ensures.bound few c.in-Ok.ensures.takes) h.1 h.2 h.3.0 h.3.1;
-      turns = omega (arith, s.invariant.turns, c.in-Ok.ensures.turns, c.in-Ok-hear_so_many.ensures.turns);
-      reads = omega (arith, s.invariant.reads, c.in-Ok-hear_so_many.ensures.turns, c.in-Ok-hear_so_many.ensures.fewer);
-      writes = omega (arith, s.invariant.writes, c.in-Ok.ensures.turns, c.in-Ok.ensures.fewer);
-      sound = omega (arith, s.invariant.sound, c.in-Ok.ensures.sound, c.in-Ok-hear_so_many.ensures.sound);
+          (omega (arith, c.in_ok-count.ensures.turn, c.in_ok-count.ensures.some, some, c.min-most.ensures, length-take most rest, h.3.0, h.5)) s.invariant.brings
+          (front_taken (sink.taken s.sink) (sink.taken w) rest n most c.in_ok-count.ensures.bound few c.in_ok-count.ensures.takes) h.1 h.2 h.3.0 h.3.1;
+      turns = omega (arith, s.invariant.turns, c.in_ok-count.ensures.turns, c.in_ok-hear_so_many.ensures.turns);
+      reads = omega (arith, s.invariant.reads, c.in_ok-hear_so_many.ensures.turns, c.in_ok-hear_so_many.ensures.fewer);
+      writes = omega (arith, s.invariant.writes, c.in_ok-count.ensures.turns, c.in_ok-count.ensures.fewer);
+      sound = omega (arith, s.invariant.sound, c.in_ok-count.ensures.sound, c.in_ok-hear_so_many.ensures.sound);
     }
 
-pub returns-in-Err-clause-brought : goal.returns-in-Err-clause-brought
-returns-in-Err-clause-brought g c =
+pub returns-in_err-count-clause-brought : goal.returns-in_err-count-clause-brought
+returns-in_err-count-clause-brought g c =
     let source = g.S.Source in
     let sink = g.K.Sink in
     let s = c.loop-rest in
     let w = c.write_some.new in
-    brings_stopped c.in-Err.halt c.args.bytes.now s.rest.now c.args.hearing.now s.hearing
+    brought_on c.from_residual.ensures.1 (brings_stopped c.in_err-count.field-0.0 c.args.bytes.now s.rest.now c.args.hearing.now s.hearing
     (source.given c.args.source.now) (source.given s.source) (source.to_come c.args.source.now) (source.to_come s.source)
     (sink.taken c.args.sink.now) (sink.taken s.sink) (sink.taken w.sink) c.args.left.now s.left w.left (sink.failed s.sink) (sink.failed w.sink)
     (source.failed c.args.source.now + sink.failed c.args.sink.now) (source.failed s.source + sink.failed w.sink)
-    (λ more. omega (arith, more, s.invariant.sound)) s.invariant.brings c.in-Err.ensures.takes c.in-Err.ensures.idle c.in-Err.ensures.halt
+    (λ more. omega (arith, more, s.invariant.sound)) s.invariant.brings c.in_err-count.ensures.takes c.in_err-count.ensures.idle c.in_err-count.ensures.halt)
 
-pub returns-in-Err-hear_so_many-clause-brought : goal.returns-in-Err-hear_so_many-clause-brought
-returns-in-Err-hear_so_many-clause-brought g c =
+pub returns-in_err-hear_so_many-clause-brought : goal.returns-in_err-hear_so_many-clause-brought
+returns-in_err-hear_so_many-clause-brought g c =
     let source = g.S.Source in
     let sink = g.K.Sink in
     let s = c.loop-rest in
     let rest = s.rest.now in
     let most = c.min-most.result in
-    let n = c.in-Ok.count in
+    let n = c.in_ok-count.count in
     let w = c.write_some.new.sink in
     let new = c.hear_so_many.new in
-    let h = c.in-Err-hear_so_many.ensures.read in
+    let h = c.in_err-hear_so_many.ensures.read in
     let few : most ≤ length rest = omega (arith, c.min-most.ensures) in
-    let within : n ≤ length rest = omega (arith, c.in-Ok.ensures.bound, length-take most rest) in
+    let within : n ≤ length rest = omega (arith, c.in_ok-count.ensures.bound, length-take most rest) in
     let some : 0 < length rest = grind (arith, c.is_empty.ensures, c.loop-rest-test.true) in
-    brings_cut c.in-Err-hear_so_many.halt c.args.bytes.now rest n c.args.hearing.now s.hearing new.hearing
+    brought_on c.from_residual-in_err-hear_so_many.ensures.1 (brings_cut c.in_err-hear_so_many.field-0.0 c.args.bytes.now rest n c.args.hearing.now s.hearing new.hearing
     (source.given c.args.source.now) (source.given s.source) (source.given new.source) (source.to_come c.args.source.now) (source.to_come s.source) (source.to_come new.source)
     (sink.taken c.args.sink.now) (sink.taken s.sink) (sink.taken w) h.0 c.args.left.now s.left new.left (source.failed s.source) (source.failed new.source)
     (source.failed c.args.source.now + sink.failed c.args.sink.now) (source.failed new.source + sink.failed w)
-    (λ more. omega (arith, more, s.invariant.sound, c.in-Ok.ensures.sound)) within
-    (⊎_elim inl (λ moved. inr (omega (arith, moved, c.in-Ok.ensures.turn, c.in-Ok.ensures.some, some, c.min-most.ensures, length-take most rest))) h.5) s.invariant.brings
-    (front_taken (sink.taken s.sink) (sink.taken w) rest n most c.in-Ok.ensures.bound few c.in-Ok.ensures.takes) h.1 h.2 h.4
+    (λ more. omega (arith, more, s.invariant.sound, c.in_ok-count.ensures.sound)) within
+    (⊎_elim inl (λ moved. inr (omega (arith, moved, c.in_ok-count.ensures.turn, c.in_ok-count.ensures.some, some, c.min-most.ensures, length-take most rest))) h.5) s.invariant.brings
+    (front_taken (sink.taken s.sink) (sink.taken w) rest n most c.in_ok-count.ensures.bound few c.in_ok-count.ensures.takes) h.1 h.2 h.4)
 
 pub returns-clause-brought : goal.returns-clause-brought
 returns-clause-brought g c =

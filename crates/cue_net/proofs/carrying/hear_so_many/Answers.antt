@@ -1,25 +1,26 @@
-use Rattle.std.proofs.Common.{◌++◌, take, inr, ◌∙◌, arith, length-append}
+use Rattle.std.proofs.Common.{◌++◌, length, take, inr, ◌∙◌, arith, length-append}
 use Rattle.std.proofs.KnownBytes.{Appends-trans, Consumes-trans}
 use Rattle.std.proofs.lemmas.List.{length-take-le, length-take}
 use Rattle.cue_net.specs.Inner.Hearing.{Balks}
 use Rattle.cue_net.proofs.Hearing.{hears_more, balks_later}
-use Rattle.cue_net.proofs.Looping.{takes_nothing}
+use Rattle.cue_net.proofs.Looping.{takes_nothing, none_ok, moved_on}
+use Rattle.cue_wire.proofs.Connections.{err_on}
 use Rattle.cue_net.proofs.carrying.hear_so_many.Goals as goal
 
-pub returns-in-Err-hear-clause-read : goal.returns-in-Err-hear-clause-read
-returns-in-Err-hear-clause-read g c =
+pub returns-in_err-hear-clause-read : goal.returns-in_err-hear-clause-read
+returns-in_err-hear-clause-read g c =
     let source = g.S.Source in
     let s = c.loop-got in
     let h = s.invariant.heard in
     let new = c.read_some.new.source in
-    let piece = take c.in-Ok.some c.read_some.new.into in (
+    let piece = take c.in_ok-some.some c.read_some.new.into in (
       h.0 ++ piece,
-      Appends-trans (source.given c.args.source.now) (source.given s.source) (source.given new) h.0 piece h.1 c.in-Ok.ensures.gives,
-      Consumes-trans (source.to_come c.args.source.now) (source.to_come s.source) (source.to_come new) h.0 piece h.2 c.in-Ok.ensures.takes.0,
-      tt,
-      takes_nothing c.in-Err-hear.halt c.read_some.new.left (source.failed c.args.source.now) (source.failed new) (source.to_come new)
-          (Balks s.hearing piece) (Balks c.args.hearing.now (h.0 ++ piece)) (balks_later c.args.hearing.now s.hearing h.0 piece h.4) c.in-Err-hear.ensures.err,
-      inr (omega (arith, s.invariant.moves, c.in-Ok.ensures.turn, c.in-Ok.ensures.bound, h.3, length-append h.0 piece, length-take-le c.in-Ok.some c.read_some.new.into c.in-Ok.ensures.bound.1)),
+      Appends-trans (source.given c.args.source.now) (source.given s.source) (source.given new) h.0 piece h.1 c.in_ok-some.ensures.gives,
+      Consumes-trans (source.to_come c.args.source.now) (source.to_come s.source) (source.to_come new) h.0 piece h.2 c.in_ok-some.ensures.takes.0,
+      none_ok c.from_residual-in_err-hear.result c.in_err-hear.field-0.0 _ c.from_residual-in_err-hear.ensures.1,
+      err_on c.from_residual-in_err-hear.result c.in_err-hear.field-0.0 _ c.from_residual-in_err-hear.ensures.1 (takes_nothing c.in_err-hear.field-0.0 c.read_some.new.left (source.failed c.args.source.now) (source.failed new) (source.to_come new)
+          (Balks s.hearing piece) (Balks c.args.hearing.now (h.0 ++ piece)) (balks_later c.args.hearing.now s.hearing h.0 piece h.4) c.in_err-hear.ensures.err),
+      moved_on c.from_residual-in_err-hear.result c.in_err-hear.field-0.0 c.args.left.now c.read_some.new.left (length (h.0 ++ piece)) c.from_residual-in_err-hear.ensures.1 (inr (omega (arith, s.invariant.moves, c.in_ok-some.ensures.turn, c.in_ok-some.ensures.bound, h.3, length-append h.0 piece, length-take-le c.in_ok-some.some c.read_some.new.into c.in_ok-some.ensures.bound.1))),
     )
 
 pub loop-got-preserved : goal.loop-got-preserved
@@ -27,7 +28,7 @@ loop-got-preserved g c =
     let source = g.S.Source in
     let s = c.loop-got in
     let h = s.invariant.heard in
-    let r = c.in-Ok in
+    let r = c.in_ok-some in
     let new = c.read_some.new.source in
     let into = c.read_some.new.into in
     let piece = take r.some into in
@@ -37,7 +38,7 @@ loop-got-preserved g c =
         Appends-trans (source.given c.args.source.now) (source.given s.source) (source.given new) h.0 piece h.1 r.ensures.gives,
         Consumes-trans (source.to_come c.args.source.now) (source.to_come s.source) (source.to_come new) h.0 piece h.2 r.ensures.takes.0,
         omega (arith, length-append h.0 piece, length-take-le r.some into r.ensures.bound.1, h.3),
-        hears_more c.args.hearing.now s.hearing c.hear.new.hearing h.0 piece h.4 c.in-Ok-hear.ensures.ok,
+        hears_more c.args.hearing.now s.hearing c.hear.new.hearing h.0 piece h.4 c.in_ok-hear.ensures.ok,
       );
       moves = omega (arith, s.invariant.moves, r.ensures.turn, r.ensures.bound);
       within = omega (arith, r.ensures.bound.1, r.ensures.room, length-take c.min-most.result s.piece, c.min-most.ensures, c.loop-got-test.true);

@@ -1,8 +1,9 @@
-use Rattle.std.proofs.Common.{◌++◌, [], take, refl, inr, ◌∙◌, arith, length-append}
+use Rattle.std.proofs.Common.{◌++◌, length, [], take, refl, inr, ◌∙◌, arith, length-append}
 use Rattle.std.proofs.KnownBytes.{Appends-nil, Appends-trans, Consumes-nil, Consumes-trans}
 use Rattle.std.proofs.lemmas.List.{length-take-le, length-take}
 use Rattle.cue_net.specs.Inner.Looping.{Faults}
-use Rattle.cue_net.proofs.Looping.{serves_nothing, serves_more, faults_later, takes_nothing}
+use Rattle.cue_net.proofs.Looping.{serves_nothing, serves_more, faults_later, takes_nothing, none_ok, moved_on}
+use Rattle.cue_wire.proofs.Connections.{err_on}
 use Rattle.cue_net.proofs.carrying.serve_so_many.Goals as goal
 
 pub loop-got-init : goal.loop-got-init
@@ -23,22 +24,22 @@ loop-got-init g c =
       sound = refl;
     }
 
-pub returns-in-Err-serve_piece-clause-read : goal.returns-in-Err-serve_piece-clause-read
-returns-in-Err-serve_piece-clause-read g c =
+pub returns-in_err-serve_piece-clause-read : goal.returns-in_err-serve_piece-clause-read
+returns-in_err-serve_piece-clause-read g c =
     let source = g.S.Source in
     let s = c.loop-got in
     let h = s.invariant.served in
     let at = c.args.serving.now in
     let new = c.read_some.new.source in
-    let piece = take c.in-Ok.some c.read_some.new.into in (
+    let piece = take c.in_ok-some.some c.read_some.new.into in (
       h.0 ++ piece,
-      Appends-trans (source.given c.args.source.now) (source.given s.source) (source.given new) h.0 piece h.1 c.in-Ok.ensures.gives,
-      Consumes-trans (source.to_come c.args.source.now) (source.to_come s.source) (source.to_come new) h.0 piece h.2 c.in-Ok.ensures.takes.0,
-      tt,
-      takes_nothing c.in-Err-serve_piece.halt c.read_some.new.left (source.failed c.args.source.now) (source.failed new) (source.to_come new)
+      Appends-trans (source.given c.args.source.now) (source.given s.source) (source.given new) h.0 piece h.1 c.in_ok-some.ensures.gives,
+      Consumes-trans (source.to_come c.args.source.now) (source.to_come s.source) (source.to_come new) h.0 piece h.2 c.in_ok-some.ensures.takes.0,
+      none_ok c.from_residual-in_err-serve_piece.result c.in_err-serve_piece.field-0.0 _ c.from_residual-in_err-serve_piece.ensures.1,
+      err_on c.from_residual-in_err-serve_piece.result c.in_err-serve_piece.field-0.0 _ c.from_residual-in_err-serve_piece.ensures.1 (takes_nothing c.in_err-serve_piece.field-0.0 c.read_some.new.left (source.failed c.args.source.now) (source.failed new) (source.to_come new)
           (Faults s.serving.session piece) (Faults at.session (h.0 ++ piece))
-          (faults_later at.session s.serving.session at.site s.serving.site at.out.items s.serving.out.items h.0 piece h.4) c.in-Err-serve_piece.ensures.err,
-      inr (omega (arith, s.invariant.moves, c.in-Ok.ensures.turn, c.in-Ok.ensures.bound, h.3, length-append h.0 piece, length-take-le c.in-Ok.some c.read_some.new.into c.in-Ok.ensures.bound.1)),
+          (faults_later at.session s.serving.session at.site s.serving.site at.out.items s.serving.out.items h.0 piece h.4) c.in_err-serve_piece.ensures.err),
+      moved_on c.from_residual-in_err-serve_piece.result c.in_err-serve_piece.field-0.0 c.args.left.now c.read_some.new.left (length (h.0 ++ piece)) c.from_residual-in_err-serve_piece.ensures.1 (inr (omega (arith, s.invariant.moves, c.in_ok-some.ensures.turn, c.in_ok-some.ensures.bound, h.3, length-append h.0 piece, length-take-le c.in_ok-some.some c.read_some.new.into c.in_ok-some.ensures.bound.1))),
     )
 
 pub loop-got-preserved : goal.loop-got-preserved
@@ -48,7 +49,7 @@ loop-got-preserved g c =
     let h = s.invariant.served in
     let at = c.args.serving.now in
     let on = c.serve_piece.new.serving in
-    let r = c.in-Ok in
+    let r = c.in_ok-some in
     let new = c.read_some.new.source in
     let into = c.read_some.new.into in
     let piece = take r.some into in
@@ -58,7 +59,7 @@ loop-got-preserved g c =
         Appends-trans (source.given c.args.source.now) (source.given s.source) (source.given new) h.0 piece h.1 r.ensures.gives,
         Consumes-trans (source.to_come c.args.source.now) (source.to_come s.source) (source.to_come new) h.0 piece h.2 r.ensures.takes.0,
         omega (arith, length-append h.0 piece, length-take-le r.some into r.ensures.bound.1, h.3),
-        serves_more at.session s.serving.session on.session at.site s.serving.site on.site at.out.items s.serving.out.items on.out.items h.0 piece h.4 c.in-Ok-serve_piece.ensures.ok,
+        serves_more at.session s.serving.session on.session at.site s.serving.site on.site at.out.items s.serving.out.items on.out.items h.0 piece h.4 c.in_ok-serve_piece.ensures.ok,
       );
       moves = omega (arith, s.invariant.moves, r.ensures.turn, r.ensures.bound);
       within = omega (arith, r.ensures.bound.1, r.ensures.room, length-take c.min-most.result s.piece, c.min-most.ensures, c.loop-got-test.true);

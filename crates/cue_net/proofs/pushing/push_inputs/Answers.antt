@@ -2,7 +2,7 @@ use Rattle.std.proofs.Common.{◌≡◌, ◌+◌, ◌≤◌, ◌∙◌, [], leng
 use Rattle.std.proofs.lemmas.Grind.{common_steps}
 use Rattle.std.proofs.lemmas.List.Elements.{All-take}
 use Rattle.cue_wire.specs.Clients.{IsSendable}
-use Rattle.cue_net.proofs.Asking.{asks_nothing}
+use Rattle.cue_net.proofs.Asking.{asked_on, asks_nothing}
 use Rattle.cue_net.proofs.Pushes.{pushed_more, pushed_part, pushed_all, fits_behind}
 use Rattle.cue_net.proofs.pushing.push_inputs.Goals as goal
 
@@ -40,26 +40,26 @@ loop-rest-preserved g c =
           (source.given c.args.source.now) (source.given s.source) (source.given new.source) (source.to_come c.args.source.now) (source.to_come s.source) (source.to_come new.source)
           (sink.taken c.args.sink.now) (sink.taken s.sink) (sink.taken new.sink) c.args.left.now s.left new.left
           (source.failed c.args.source.now + sink.failed c.args.sink.now) (source.failed s.source + sink.failed s.sink) (source.failed new.source + sink.failed new.sink)
-          within s.invariant.sound s.invariant.pushed c.in-Ok.ensures.asked;
+          within s.invariant.sound s.invariant.pushed c.in_ok-ask.ensures.asked;
       fits = fits_behind s.rest.now c.min-most.result s.invariant.fits;
-      turns = omega (arith, s.invariant.turns, c.in-Ok.ensures.turns);
-      reads = omega (arith, s.invariant.reads, c.in-Ok.ensures.reads);
-      writes = omega (arith, s.invariant.writes, c.in-Ok.ensures.writes);
-      sound = c.in-Ok.ensures.sound ∙ s.invariant.sound;
+      turns = omega (arith, s.invariant.turns, c.in_ok-ask.ensures.turns);
+      reads = omega (arith, s.invariant.reads, c.in_ok-ask.ensures.reads);
+      writes = omega (arith, s.invariant.writes, c.in_ok-ask.ensures.writes);
+      sound = c.in_ok-ask.ensures.sound ∙ s.invariant.sound;
     }
 
-pub returns-in-Err-clause-asked : goal.returns-in-Err-clause-asked
-returns-in-Err-clause-asked g c =
+pub returns-in_err-ask-clause-asked : goal.returns-in_err-ask-clause-asked
+returns-in_err-ask-clause-asked g c =
     let source = g.S.Source in
     let sink = g.K.Sink in
     let s = c.loop-rest in
     let new = c.ask.new in
     let within : c.min-most.result ≤ length s.rest.now = omega arith in
-    pushed_part c.in-Err.halt c.args.inputs.now s.rest.now s.asked c.min-most.result c.args.hearing.now s.hearing new.hearing
+    asked_on c.from_residual.ensures.1 (pushed_part c.in_err-ask.field-0.0 c.args.inputs.now s.rest.now s.asked c.min-most.result c.args.hearing.now s.hearing new.hearing
     (source.given c.args.source.now) (source.given s.source) (source.given new.source) (source.to_come c.args.source.now) (source.to_come s.source) (source.to_come new.source)
     (sink.taken c.args.sink.now) (sink.taken s.sink) (sink.taken new.sink) c.args.left.now s.left new.left
     (source.failed c.args.source.now + sink.failed c.args.sink.now) (source.failed s.source + sink.failed s.sink) (source.failed new.source + sink.failed new.sink)
-    within s.invariant.sound s.invariant.pushed c.in-Err.ensures.asked
+    within s.invariant.sound s.invariant.pushed c.in_err-ask.ensures.asked)
 
 pub returns-clause-asked : goal.returns-clause-asked
 returns-clause-asked g c =

@@ -17,8 +17,8 @@ loop-reply-preserved c =
     let all : all_items (take (i + 1) replies) ≡ before ++ bytes ∷ [] =
     ap all_items more ∙ map-append (λ (v : Vec ℕ Global). v.items) (take i replies) (reply ∷ []) ∙ ap (λ b. before ++ b ∷ []) (sym c.deref.ensures.value) in
     record {
-      found = subst (λ f. IsFound (all_items (take (i + 1) replies)) f) (sym c.first_of-first.ensures) (subst (λ rs. IsFound rs (first_of c.loop-reply.first c.in-Ok.found (c.loop-reply.number + 1))) (sym all)
-          (found_more before bytes c.loop-reply.first c.in-Ok.found (c.loop-reply.number + 1) c.loop-reply.invariant.found c.in-Ok.ensures.says
+      found = subst (λ f. IsFound (all_items (take (i + 1) replies)) f) (sym c.first_of-first.ensures) (subst (λ rs. IsFound rs (first_of c.loop-reply.first c.in_ok-found.found (c.loop-reply.number + 1))) (sym all)
+          (found_more before bytes c.loop-reply.first c.in_ok-found.found (c.loop-reply.number + 1) c.loop-reply.invariant.found c.in_ok-found.ensures.says
           (omega (arith, c.loop-reply.invariant.counted, length-map (take i replies) (λ (v : Vec ℕ Global). v.items), length-take-le i replies (omega (arith, c.loop-reply-test.true))))));
       counted = omega (arith, c.loop-reply.invariant.counted);
     }

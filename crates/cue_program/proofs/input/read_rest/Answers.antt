@@ -7,12 +7,12 @@ loop-preserved g c =
     let to_come = g.S.Source.to_come in
     let next : c.loop.counter + 1 - 1 ≡ (c.loop.counter - 1) + 1 = omega (arith, c.loop.auto.counter) in
     record {
-      room = c.in-Ok.ensures.room ∙ c.loop.invariant.room;
+      room = c.in_ok-count.ensures.room ∙ c.loop.invariant.room;
       read = goes_further g.K.Kept.keeps (to_come c.args.input.now) (to_come c.loop.input) (to_come c.read_piece.new.input)
-          c.args.kept.now c.loop.kept c.go_on.new.self (c.loop.counter - 1) (c.loop.counter + 1 - 1) c.in-Ok.count
-          c.read_piece.new.piece c.loop.invariant.read c.in-Ok.ensures.read.0
-          (c.in-Ok.ensures.room ∙ (c.loop.invariant.room ∙ c.requires.room)) next
+          c.args.kept.now c.loop.kept c.go_on.new.self (c.loop.counter - 1) (c.loop.counter + 1 - 1) c.in_ok-count.count
+          c.read_piece.new.piece c.loop.invariant.read c.in_ok-count.ensures.read.0
+          (c.in_ok-count.ensures.room ∙ (c.loop.invariant.room ∙ c.requires.room)) next
           (λ front some is. c.in_ok-go_on.ensures front some is);
-      calls = omega (arith, c.in-Ok.ensures.counted, c.loop.invariant.calls);
-      failures = c.in-Ok.ensures.failures ∙ c.loop.invariant.failures;
+      calls = omega (arith, c.in_ok-count.ensures.counted, c.loop.invariant.calls);
+      failures = c.in_ok-count.ensures.failures ∙ c.loop.invariant.failures;
     }

@@ -1,5 +1,6 @@
 use Rattle.std.proofs.Common.{◌++◌, ◌∷◌, ℕ, List, Option, rules, sym, subst, ap, inr, ⊎_elim, ◌+◌, ◌-◌, ◌^◌, min, map, take, drop, ◌∙◌, arith, []}
 use Rattle.cue_wire.specs.declared.request.Request as requests
+use Rattle.cue_wire.proofs.Connections.{err_on}
 use Rattle.cue_program.specs.Files.{known_at, texts}
 use Rattle.cue_program.specs.Inputs.{files}
 use Rattle.cue_program.specs.Requests.{AreRequests, CanBeSent, IsPieceFault, IsUnsentOn}
@@ -14,43 +15,43 @@ loop-name-init g c = record {
   room = search rules;
 }
 
-pub returns-in-Err-clause-stop : goal.returns-in-Err-clause-stop
-returns-in-Err-clause-stop g c =
+pub returns-in_err-file-clause-stop : goal.returns-in_err-file-clause-stop
+returns-in_err-file-clause-stop g c =
     let K = known_at (g.H.Shelf.held c.args.rt.now) in
     let names = c.args.names.now in
     let i = c.loop-name.name-index in
-    subst (λ (ks : List (Option (List ℕ))). IsUnsentOn (files ks) c.in-Err.stop)
+    err_on c.from_residual-in_err-file.result c.in_err-file.field-0.0 _ c.from_residual-in_err-file.ensures.1 (subst (λ (ks : List (Option (List ℕ))). IsUnsentOn (files ks) c.in_err-file.field-0.0)
     (sym (split_known K names i (some_name names (omega (arith, c.loop-name-test.true))) c.loop-name-test.true))
-    (files_sent_unread (map K (texts (take i names))) (map K (texts (drop (i + 1) names))) _ c.loop-name.requests.items c.in-Err.stop
-    c.loop-name.invariant.sent c.in-Err.ensures.fault)
+    (files_sent_unread (map K (texts (take i names))) (map K (texts (drop (i + 1) names))) _ c.loop-name.requests.items c.in_err-file.field-0.0
+    c.loop-name.invariant.sent c.in_err-file.ensures.fault))
 
-pub returns-in-Err-request_of_file-clause-stop : goal.returns-in-Err-request_of_file-clause-stop
-returns-in-Err-request_of_file-clause-stop g c =
+pub returns-in_err-request-clause-stop : goal.returns-in_err-request-clause-stop
+returns-in_err-request-clause-stop g c =
     let K = known_at (g.H.Shelf.held c.args.rt.now) in
     let names = c.args.names.now in
     let i = c.loop-name.name-index in
-    ⊎_elim
+    err_on c.from_residual-in_err-request.result c.in_err-request.field-0.0 _ c.from_residual-in_err-request.ensures.1 (⊎_elim
     (λ fault.
-    let whole = refused_is_all IsPieceFault _ c.in-Ok.file.bytes.items c.saturating_add-number.result c.in-Err-request_of_file.stop long_fault c.in-Ok.ensures.all fault in
-    subst (λ (ks : List (Option (List ℕ))). IsUnsentOn (files ks) c.in-Err-request_of_file.stop)
+    let whole = refused_is_all IsPieceFault _ c.in_ok-file.file.bytes.items c.saturating_add-number.result c.in_err-request.field-0.0 long_fault c.in_ok-file.ensures.all fault in
+    subst (λ (ks : List (Option (List ℕ))). IsUnsentOn (files ks) c.in_err-request.field-0.0)
     (sym (split_known K names i _ c.loop-name-test.true))
     (files_unsent (map K (texts (take i names))) (map K (texts (drop (i + 1) names))) _ c.loop-name.requests.items c.saturating_add-number.result
-    whole.0 c.in-Err-request_of_file.stop c.loop-name.invariant.sent whole.1
+    whole.0 c.in_err-request.field-0.0 c.loop-name.invariant.sent whole.1
     (c.saturating_add-number.ensures ∙ ap (λ n. min (n + 1) (2 ^ 64 - 1)) (c.len.ensures ∙ c.loop-name.requests.ok.0)) whole.2))
     (λ memory. inr (inr memory))
-    c.in-Err-request_of_file.ensures.stop
+    c.in_err-request.ensures.stop)
 
 pub loop-name-preserved : goal.loop-name-preserved
 loop-name-preserved g c =
     let K = known_at (g.H.Shelf.held c.args.rt.now) in
     let names = c.args.names.now in
     let i = c.loop-name.name-index in
-    let sent = c.in-Ok-request_of_file.ensures.request in
+    let sent = c.in_ok-request.ensures.request in
     record {
-      sent = subst (λ (rs : List requests.Request). AreRequests (files (map K (texts (take (i + 1) names)))) rs) (sym c.in_ok-push-in-Ok-request_of_file.ensures.items)
-          (subst (λ (ks : List (Option (List ℕ))). AreRequests (files ks) (c.loop-name.requests.items ++ c.in-Ok-request_of_file.request ∷ []))
+      sent = subst (λ (rs : List requests.Request). AreRequests (files (map K (texts (take (i + 1) names)))) rs) (sym c.in_ok-push.ensures.items)
+          (subst (λ (ks : List (Option (List ℕ))). AreRequests (files ks) (c.loop-name.requests.items ++ c.in_ok-request.request ∷ []))
           (sym (take_known K names i _ c.loop-name-test.true))
-          (files_sent_more (map K (texts (take i names))) _ c.in-Ok.file.bytes.items c.loop-name.requests.items c.in-Ok-request_of_file.request
-          c.loop-name.invariant.sent (fine_is_all CanBeSent _ c.in-Ok.file.bytes.items long_is_unsent c.in-Ok.ensures.all sent.0 sent.1 sent.2) sent));
+          (files_sent_more (map K (texts (take i names))) _ c.in_ok-file.file.bytes.items c.loop-name.requests.items c.in_ok-request.request
+          c.loop-name.invariant.sent (fine_is_all CanBeSent _ c.in_ok-file.file.bytes.items long_is_unsent c.in_ok-file.ensures.all sent.0 sent.1 sent.2) sent));
       room = search rules;
     }

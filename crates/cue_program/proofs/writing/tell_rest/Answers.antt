@@ -14,5 +14,5 @@ pieces-preserved g c =
       told = told_more (contents c.args.out.now) (contents c.pieces.out) (contents c.write.new.out) c.args.state.now c.pieces.state c.fill.new.self count
           c.pieces.invariant.told filled.rest
           (subst (λ (t : List ℕ). Appends (contents c.pieces.out) (contents c.write.new.out) t)
-          (filled_front c.pieces.state c.pieces.piece c.fill.new.room count less filled.written) c.in-Ok.ensures.written);
+          (filled_front c.pieces.state c.pieces.piece c.fill.new.room count less filled.written) c.in_ok-write.ensures.written);
     }

@@ -1,20 +1,21 @@
 use Rattle.std.proofs.Common.{◌++◌, inr, refl}
 use Rattle.std.proofs.lemmas.Result.{IfErr-weaker}
+use Rattle.cue_wire.proofs.Connections.{err_on}
 use Rattle.cue_program.specs.inner.Taking.{IsRefusedWithin, IsStopWithin}
 use Rattle.cue_program.proofs.Takings.{line_plain, rest_read, stop_more, taken_where_short, up_to_more}
 use Rattle.cue_program.proofs.taking.Taken.take.Goals as goal
 
-pub returns-in-Err-clause-stop : goal.returns-in-Err-clause-stop
-returns-in-Err-clause-stop c front h =
+pub returns-in_err-end_line-clause-stop : goal.returns-in_err-end_line-clause-stop
+returns-in_err-end_line-clause-stop c front h =
     let read = c.loop-end.invariant front h in
-    stop_more c.loop-end.self front c.args.piece.now c.loop-end.rest.now c.in-Some.end.now c.in-Some.after.now c.in-Err.stop read
-    c.in-Some.ensures.whole (c.in-Err.ensures.stop (front ++ read.0) read.2)
+    err_on c.from_residual.result c.in_err-end_line.field-0.0 _ c.from_residual.ensures.1 (stop_more c.loop-end.self front c.args.piece.now c.loop-end.rest.now c.in-Some.end.now c.in-Some.after.now c.in_err-end_line.field-0.0 read
+    c.in-Some.ensures.whole (c.in_err-end_line.ensures.stop (front ++ read.0) read.2))
 
 pub loop-end-preserved : goal.loop-end-preserved
 loop-end-preserved c front h =
     let read = c.loop-end.invariant front h in
     up_to_more c.loop-end.self c.end_line.new.self front c.args.piece.now c.loop-end.rest.now c.in-Some.end.now c.in-Some.after.now read
-    c.in-Some.ensures.whole (c.in-Ok.ensures.taken (front ++ read.0) read.2)
+    c.in-Some.ensures.whole (c.in_ok-end_line.ensures.taken (front ++ read.0) read.2)
 
 pub returns-clause-taken : goal.returns-clause-taken
 returns-clause-taken c front h =
