@@ -10,7 +10,8 @@ use Rattle.cue_net.specs.Halts.{IsDevice, IsMemory}
 use Rattle.cue_net.specs.Inner.Turns.{IsWriteHalt}
 use Rattle.cue_net.specs.Talks.{Talk}
 use Rattle.cue_net.specs.Inner.Hearing.{Hears}
-use Rattle.cue_net.specs.Inner.Looping.{bytes_of, IsCarryHalt, Brought, ServesOnto, Faults, Exchanged, ExchangesAt}
+use Rattle.cue_net.specs.Loops.{bytes_of}
+use Rattle.cue_net.specs.Inner.Looping.{IsCarryHalt, Brought, ServesOnto, Faults, Exchanged, ExchangesAt}
 use Rattle.cue_wire.proofs.Connections.{handed_on}
 use Rattle.cue_net.proofs.Asking.{no_talk, talks_nothing, joined, talks_more, moves_on}
 use Rattle.cue_net.proofs.Hearing.{hears_nothing, hears_more, balks_later}

@@ -12,8 +12,8 @@ use Rattle.cue_net.specs.declared.halt.Halt.TheVariants as halts
 use Rattle.cue_net.specs.Halts.{IsMemory}
 use Rattle.cue_net.specs.Talks.{Talk, IsTalk, asking}
 use Rattle.cue_net.specs.Told.{AreTold}
-use Rattle.cue_net.specs.Loops.{IsBroken, IsAnswerBetween}
-use Rattle.cue_net.specs.Inner.Looping.{Exchanged, bytes_of}
+use Rattle.cue_net.specs.Loops.{bytes_of, IsBroken, IsAnswerBetween}
+use Rattle.cue_net.specs.Inner.Looping.{Exchanged}
 use Rattle.cue_wire.proofs.Connections.{handed_on}
 use Rattle.cue_net.proofs.Asking.{no_talk, talks_nothing}
 use Rattle.cue_net.proofs.Hearing.{in_turns, long_as}

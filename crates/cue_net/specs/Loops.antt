@@ -28,11 +28,14 @@ AreOtherReplies inputs heard =
     (replies : List (List ℕ)) × (rest : List ℕ) × AreFrames heard replies rest
     × (length replies ≢ length inputs + 1)
 
--- All turns are used, in as many calls, each of which moved a byte at least.
+-- how many bytes were written and read at both ends
+abbrev pub bytes_of : Talk → Talk → ℕ
+bytes_of near far = length near.sent + length near.heard + length far.sent + length far.heard
+
+-- All turns are used, in as many calls, by which at least as many bytes passed.
 abbrev pub AreUsedUpBetween : Talk → Talk → ℕ → ℕ → ℕ → Type 0
 AreUsedUpBetween near far turns calls calls' =
-    (calls' ≡ calls + turns)
-    × (turns ≤ length near.sent + length near.heard + length far.sent + length far.heard)
+    (calls' ≡ calls + turns) × (turns ≤ bytes_of near far)
 
 -- Why the ends have no answer. Nothing is written where a frame can't hold an input. What an end
 -- reads may be none of what the other writes.

@@ -53,8 +53,8 @@ AreTooFew inputs heard =
     (replies : List (List ℕ)) × (rest : List ℕ) × AreFrames heard replies rest
     × IsUnfinished rest × (length replies ≤ length inputs)
 
--- All turns are used, in as many calls, each of which moved a byte at least; and something is still
--- to be sent or heard.
+-- All turns are used, in as many calls, by which at least as many bytes passed; and something is
+-- still to be sent or heard.
 pub record AreUsedUp (inputs : List requests.Request) (talk : Talk) (unsent : List ℕ)
     (turns calls calls' : ℕ) : Type 0 where
   pub called : calls' ≡ calls + turns

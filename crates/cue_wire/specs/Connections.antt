@@ -35,7 +35,7 @@ IsStop kind rest unwritten Stops =
     ⊎ ((kind ≡ kinds.Memory) × (unwritten ≡ []))
     ⊎ Stops
 
--- The turns are used, in as many calls, each of which moved a byte at least; or a device failed.
+-- The turns are used, in as many calls, by which at least as many bytes passed; or a device failed.
 abbrev pub IsFault : Kind → ℕ → ℕ → ℕ → ℕ → ℕ → ℕ → Type 0
 IsFault kind turns moved calls calls' failed failed' =
     ((kind ≡ kinds.TurnsUsed) × (calls' ≡ calls + turns) × (turns ≤ moved))

@@ -8,6 +8,7 @@ use Rattle.cue_wire.specs.Frames.{IsUnfinished, HasFault}
 use Rattle.cue_wire.specs.Sessions.{Standing, reading, Served}
 use Rattle.cue_net.specs.declared.halt.Halt.{Halt}
 use Rattle.cue_net.specs.Halts.{IsDevice, IsMemory, IsTurnsUsed}
+use Rattle.cue_net.specs.Loops.{bytes_of}
 use Rattle.cue_net.specs.Talks.{Talk, IsTalk}
 use Rattle.cue_net.specs.Inner.Turns.{Moves}
 use Rattle.cue_net.specs.Inner.Hearing.{Hears, Balks}
@@ -62,10 +63,6 @@ ExchangesAt (Err halt) unsent near far old new session session' before after nea
     (IsTurnsUsed halt × (left ≡ 0)) ⊎ IsMemory halt
     ⊎ (IsDevice halt × ((failed < failed') ⊎ IsAtEnd near_to_come ⊎ IsAtEnd far_to_come
     ⊎ Balks old near.heard ⊎ Faults session far.heard))
-
--- how many bytes were written and read at both ends
-abbrev pub bytes_of : Talk → Talk → ℕ
-bytes_of near far = length near.sent + length near.heard + length far.sent + length far.heard
 
 -- The front of these frames was sent at the near end and served at the far one.
 pub record Exchanged (result : Result (Unit {0}) Halt) (frames : List ℕ) (old new : Exchange)

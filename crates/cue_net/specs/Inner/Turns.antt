@@ -4,7 +4,7 @@ use Rattle.std.specs.Io.KnownBytes.{IsAtEnd}
 use Rattle.cue_net.specs.declared.halt.Halt.{Halt}
 use Rattle.cue_net.specs.Halts.{IsDevice, IsTurnsUsed}
 
--- Each turn that was used moved one of so many bytes at least, but where a device failed.
+-- No more turns were used than so many, but where a device failed.
 abbrev pub Moves : {T : Type 0} → Result T Halt → ℕ → ℕ → ℕ → Type 0
 Moves (Ok value) left left' count = left ≤ left' + count
 Moves (Err halt) left left' count = IsDevice halt ⊎ (left ≤ left' + count)

@@ -9,7 +9,7 @@ use Rattle.cue_wire.specs.Connections.{IsStop}
 use Rattle.cue_wire.specs.Frames.{IsUnfinished}
 use Rattle.cue_wire.specs.Sessions.{Standing, reading, Served}
 
--- Each turn that was used moved a byte of these at least, or the device failed.
+-- No more turns were used than these bytes are and than calls failed, both together.
 abbrev pub Moves : ℕ → ℕ → ℕ → ℕ → List ℕ → Type 0
 Moves left left' failed failed' bytes = left + failed ≤ left' + failed' + length bytes
 
