@@ -1,8 +1,9 @@
 -- What closing refuses, and what the conjuncts declare.
-use Rattle.std.proofs.Common.{◌≡◌, ◌↔◌, ℕ, zero, suc, Bool, true, false, cond, List, [], ◌∷◌, ◌++◌, refl, sym, ap, ◌∙◌, subst, append_assoc, append-nil}
+use Rattle.std.proofs.Common.{◌≡◌, ◌↔◌, ◌⊎◌, ⊎_elim, inl, inr, ◌||◌, ℕ, zero, suc, Bool, true, false, cond, List, [], ◌∷◌, ◌++◌, refl, sym, ap, ◌∙◌, subst, append_assoc, append-nil}
 use Rattle.std.specs.List.{list_any}
 use Rattle.std.specs.Str.{bytes_eq}
-use Rattle.std.proofs.lemmas.Bool.{true_from_ne_false, false≢true}
+use Rattle.std.proofs.lemmas.Bool.{cases_Bool, true_from_ne_false, false≢true}
+use Rattle.std.proofs.lemmas.Slice.Eq.{bytes_eq-Decides}
 use Rattle.cue_lattice.specs.Path.{Path, label, index}
 use Rattle.cue_lattice.specs.Question.{Refusals, Question}
 use Rattle.cue_lattice.specs.Document as documents
@@ -11,9 +12,21 @@ use Rattle.cue_lattice.specs.Meets.{Meets, ItemsMeet, MembersMeet}
 use Rattle.cue_lattice.proofs.Meeting.{less}
 use Rattle.cue_scope.specs.Core as cores
 use Rattle.cue_scope.specs.Core.{Core, null, truth, integer, text, named, top, bottom, bound, other_integer, other_text, conjunction, disjunction, struct, close, list, closed, Cores, no_cores, core, Elements, ends, goes_on, each, element}
-use Rattle.cue_eval.specs.Literals.{declares, with_fields, with_elements, literals, literals_of_parts, literals_of_field, literals_of_element, LeaveOut}
+use Rattle.cue_eval.specs.Literals.{declares, has_dots, with_fields, with_elements, literals, literals_of_parts, literals_of_field, literals_of_element, LeaveOut}
 use Rattle.cue_eval.specs.Places.{ClosingRefuses}
-use Rattle.cue_documents.specs.Conjuncts.{Part, fields, elements, conjuncts, conjuncts_of, declared, written, field_parts, item_parts, structs, Declares, Within, ItemsWithin, MembersWithin}
+use Rattle.cue_documents.specs.Conjuncts.{Part, fields, elements, conjuncts, conjuncts_of, declared, written, field_parts, item_parts, structs, IsDeclaredIn, HasDots, OneIs, Declares, Within, ItemsWithin, MembersWithin}
+
+either : (a b : Bool) → a || b ≡ true → (a ≡ true) ⊎ (b ≡ true)
+either true b e = inl refl
+either false b e = inr e
+
+or_left : (a b : Bool) → a ≡ true → a || b ≡ true
+or_left true b e = refl
+or_left false b e = absurd (false≢true e)
+
+or_right : (a b : Bool) → b ≡ true → a || b ≡ true
+or_right true b e = refl
+or_right false b e = e
 
 -- what the parts write at a path
 abbrev pub lits : List Part → Path → List cores.Members
@@ -85,11 +98,45 @@ at_item (elements cs ∷ parts) i path = ap (λ zs. zs ++ lits parts (index i �
 clash : (b : Bool) → b ≡ true → b ≡ false → ⊥
 clash b e f = false≢true (sym f ∙ e)
 
+-- a test of struct literals decides what is said of them
+abbrev Decides : (cores.Members → Bool) → (cores.Members → Type 0) → Type 0
+Decides test P = (ms : cores.Members) → (test ms ≡ true → P ms) × (P ms → test ms ≡ true)
+
+decides_dots : Decides has_dots HasDots
+decides_dots cores.no_members = (λ e. false≢true e, λ h. absurd h)
+decides_dots (cores.member k mark c ms) = decides_dots ms
+decides_dots (cores.dots ms) = (λ e. tt, λ h. refl)
+
+decides_declared : (l : List ℕ) → Decides (declares l) (IsDeclaredIn l)
+decides_declared l cores.no_members = (λ e. false≢true e, λ h. absurd h)
+decides_declared l (cores.member k mark c ms) = (
+  λ e. ⊎_elim (λ same. inl ((bytes_eq-Decides k l).0 same)) (λ more. inr ((decides_declared l ms).0 more)) (either (bytes_eq k l) (declares l ms) e),
+  λ h. ⊎_elim (λ same. or_left (bytes_eq k l) (declares l ms) ((bytes_eq-Decides k l).1 same)) (λ more. or_right (bytes_eq k l) (declares l ms) ((decides_declared l ms).1 more)) h,
+)
+decides_declared l (cores.dots ms) = decides_declared l ms
+
+one_is : (test : cores.Members → Bool) (P : cores.Members → Type 0) → Decides test P → (w : List cores.Members) → list_any test w ≡ true → OneIs P w
+one_is test P d [] e = false≢true e
+one_is test P d (ms ∷ w) e = ⊎_elim (λ here. inl ((d ms).0 here)) (λ more. inr (one_is test P d w more)) (either (test ms) (list_any test w) e)
+
+one_passes : (test : cores.Members → Bool) (P : cores.Members → Type 0) → Decides test P → (w : List cores.Members) → OneIs P w → list_any test w ≡ true
+one_passes test P d [] h = absurd h
+one_passes test P d (ms ∷ w) h = ⊎_elim (λ here. or_left (test ms) (list_any test w) ((d ms).1 here)) (λ more. or_right (test ms) (list_any test w) (one_passes test P d w more)) h
+
 pub declares_them : (w : List cores.Members) (l : List ℕ) → ¬ LeaveOut w l → Declares w l
-declares_them w l h = λ some dotless. true_from_ne_false (list_any (declares l) w) (λ none. h (record { some = some; without_dots = dotless; undeclared = none }))
+declares_them [] l h = tt
+declares_them (ms ∷ w) l h = elim (cases_Bool (list_any (declares l) (ms ∷ w))) [
+  | inl is ↦ inl (one_is (declares l) (IsDeclaredIn l) (decides_declared l) (ms ∷ w) is)
+  | inr none ↦ inr (one_is has_dots HasDots decides_dots (ms ∷ w)
+      (true_from_ne_false (list_any has_dots (ms ∷ w)) (λ dotless. h (record { some = λ e. cc; without_dots = dotless; undeclared = none }))))
+]
 
 pub leaves_none_out : (w : List cores.Members) (l : List ℕ) → Declares w l → ¬ LeaveOut w l
-leaves_none_out w l h = λ out. clash (list_any (declares l) w) (h out.some out.without_dots) out.undeclared
+leaves_none_out [] l h = λ out. out.some refl
+leaves_none_out (ms ∷ w) l h = λ out. ⊎_elim
+    (λ is. clash (list_any (declares l) (ms ∷ w)) (one_passes (declares l) (IsDeclaredIn l) (decides_declared l) (ms ∷ w) is) out.undeclared)
+    (λ is. clash (list_any has_dots (ms ∷ w)) (one_passes has_dots HasDots decides_dots (ms ∷ w) is) out.without_dots)
+    h
 
 -- what the literals leave out, where they are closed
 abbrev pub Closing : (Path → List cores.Members) → Refusals

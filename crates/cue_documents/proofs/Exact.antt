@@ -1,5 +1,5 @@
 -- An expression admits exactly the documents that meet what it refuses.
-use Rattle.std.proofs.Common.{◌≡◌, ◌↔◌, ◌<◌, ◌⊎◌, inl, inr, ⊎_elim, ℕ, Bool, true, false, List, [], ◌∷◌, refl, sym, ◌∙◌, subst, arith}
+use Rattle.std.proofs.Common.{◌≡◌, ◌↔◌, ◌<◌, ◌≤◌, ◌+◌, ◌⊎◌, inl, inr, ⊎_elim, ℕ, Bool, true, false, List, [], ◌∷◌, refl, sym, ◌∙◌, subst, arith}
 use Rattle.std.specs.Str.{bytes_eq}
 use Rattle.std.proofs.lemmas.Slice.Eq.{bytes_eq-Decides}
 use Rattle.std.proofs.lemmas.Bool.{cases_Bool, true_from_ne_false, false≢true}
@@ -17,7 +17,7 @@ use Rattle.cue_eval.specs.Pairs.{pair}
 use Rattle.cue_eval.specs.Literals.{literals}
 use Rattle.cue_eval.specs.Places.{Here, ScalarRefuses, MarkRefuses, ClosingRefuses, IsAboveLength, level_of_mark}
 use Rattle.cue_eval.specs.Refuses.{Refuses, PartsRefuse, FieldRefuses, ElementRefuses, LiteralRefuses, count, is_open}
-use Rattle.cue_documents.specs.Admits.{Wanted, EachAt, EachItem, IsScalarIn, IsLength, AllDeclared, Admits, AllAdmit, FieldsAdmit, ElementsAdmit, IsExactOnDocuments}
+use Rattle.cue_documents.specs.Admits.{Wanted, EachAt, EachItem, IsScalarIn, AllDeclared, Admits, AllAdmit, FieldsAdmit, ElementsAdmit, IsExactOnDocuments}
 use Rattle.cue_documents.proofs.Closings.{Closing, closed_is_within, declares_them, leaves_none_out}
 
 -- ---- scalars
@@ -86,6 +86,34 @@ split f g (label l ∷ path) question = (λ h. h, λ h. h)
 split f g (index i ∷ path) question = (λ h. absurd h, λ h. ⊎_elim (λ e. e) (λ e. e) h)
 
 -- ---- lengths
+
+-- the length of a list that is written with so many elements, and goes on or not
+abbrev IsLength : ℕ → Bool → ℕ → Type 0
+IsLength count true n = count ≤ n
+IsLength count false n = n ≡ count
+
+-- with one element and one item more, or less
+one_more : (n k : ℕ) (goes_on : Bool) → IsLength n goes_on k → IsLength (n + 1) goes_on (k + 1)
+one_more n k true is = omega (arith, is)
+one_more n k false is = omega (arith, is)
+
+one_less : (n k : ℕ) (goes_on : Bool) → IsLength (n + 1) goes_on (k + 1) → IsLength n goes_on k
+one_less n k true is = omega (arith, is)
+one_less n k false is = omega (arith, is)
+
+none_wanted : (n : ℕ) (goes_on : Bool) → IsLength (n + 1) goes_on 0 → ⊥
+none_wanted n true is = omega (arith, is)
+none_wanted n false is = omega (arith, is)
+
+-- a list that is admitted has its length
+length_is : (es : Elements) (items : documents.Items) → ElementsAdmit es items → IsLength (count es) (is_open es) (length_of items)
+length_is ends documents.no_items h = refl
+length_is ends (documents.item d items) h = absurd h
+length_is goes_on items h = omega arith
+length_is (each c) items h = omega arith
+length_is (element c es) documents.no_items h = absurd h
+length_is (element c es) (documents.item d items) h = one_more (count es) (length_of items) (is_open es) (length_is es items h.1)
+
 is_length : (n : ℕ) (goes_on : Bool) (k : ℕ) → (k < n → ⊥) → (IsAboveLength n goes_on k → ⊥) → IsLength n goes_on k
 is_length n true k low high = omega (arith, low)
 is_length n false k low high = omega (arith, low, high)
@@ -170,7 +198,9 @@ mutual
   meets (close ms) (documents.map others) is h =
       both (LiteralRefuses (FieldRefuses ms)) (Here (ClosingRefuses (ms ∷ []))) (documents.map others) (fields_meet ms others is h.0) (λ g. g, λ l g. absurd g, none_left_out ms others h.1)
   meets (list es) (documents.scalar x) is h = absurd h
-  meets (list es) (documents.list items) is h = (λ g. g, not_short (count es) (is_open es) (length_of items) h.0, not_long (count es) (is_open es) (length_of items) h.0, elements_meet es items is h.1)
+  meets (list es) (documents.list items) is h =
+      let fits = length_is es items h in
+      (λ g. g, not_short (count es) (is_open es) (length_of items) fits, not_long (count es) (is_open es) (length_of items) fits, elements_meet es items is h)
   meets (list es) (documents.map others) is h = absurd h
   meets (closed c) d is h = both (Refuses c) (Closing (literals c)) d (meets c d is h.0) ((closed_is_within c d).1 h.1)
 
@@ -184,10 +214,11 @@ mutual
   fields_meet (dots ms) others is h = fields_meet ms others is h
 
   elements_meet : (es : Elements) (items : documents.Items) → AreItems items → ElementsAdmit es items → ItemsMeet (ElementRefuses es) items
-  elements_meet ends items is h = items_unasked items
+  elements_meet ends documents.no_items is h = tt
+  elements_meet ends (documents.item d items) is h = absurd h
   elements_meet goes_on items is h = items_unasked items
   elements_meet (each c) items is h = each_item (Admits c) (Refuses c) (λ d one a. meets c d one a) items is h
-  elements_meet (element c es) documents.no_items is h = tt
+  elements_meet (element c es) documents.no_items is h = absurd h
   elements_meet (element c es) (documents.item d items) is h = (meets c d is.0 h.0, elements_meet es items is.1 h.1)
 
 mutual
@@ -214,7 +245,7 @@ mutual
     all_declared ms others (second (LiteralRefuses (FieldRefuses ms)) (Here (ClosingRefuses (ms ∷ []))) (documents.map others) m).2,
   )
   admits (list es) (documents.scalar x) is m = absurd (m is.0)
-  admits (list es) (documents.list items) is m = (is_length (count es) (is_open es) (length_of items) m.1 m.2, elements_admit es items is m.3)
+  admits (list es) (documents.list items) is m = elements_admit es items is (is_length (count es) (is_open es) (length_of items) m.1 m.2) m.3
   admits (list es) (documents.map others) is m = absurd (m.0 tt)
   admits (closed c) d is m = (admits c d is (first (Refuses c) (Closing (literals c)) d m), (closed_is_within c d).0 (second (Refuses c) (Closing (literals c)) d m))
 
@@ -231,12 +262,13 @@ mutual
   )
   fields_admit (dots ms) others is m = fields_admit ms others is m
 
-  elements_admit : (es : Elements) (items : documents.Items) → AreItems items → ItemsMeet (ElementRefuses es) items → ElementsAdmit es items
-  elements_admit ends items is m = tt
-  elements_admit goes_on items is m = tt
-  elements_admit (each c) items is m = each_of_items (Admits c) (Refuses c) (λ d one a. admits c d one a) items is m
-  elements_admit (element c es) documents.no_items is m = tt
-  elements_admit (element c es) (documents.item d items) is m = (admits c d is.0 m.0, elements_admit es items is.1 m.1)
+  elements_admit : (es : Elements) (items : documents.Items) → AreItems items → IsLength (count es) (is_open es) (length_of items) → ItemsMeet (ElementRefuses es) items → ElementsAdmit es items
+  elements_admit ends documents.no_items is fits m = tt
+  elements_admit ends (documents.item d items) is fits m = absurd (omega (arith, fits))
+  elements_admit goes_on items is fits m = tt
+  elements_admit (each c) items is fits m = each_of_items (Admits c) (Refuses c) (λ d one a. admits c d one a) items is m
+  elements_admit (element c es) documents.no_items is fits m = absurd (none_wanted (count es) (is_open es) fits)
+  elements_admit (element c es) (documents.item d items) is fits m = (admits c d is.0 m.0, elements_admit es items is.1 (one_less (count es) (length_of items) (is_open es) fits) m.1)
 
 pub exact : IsExactOnDocuments
 exact c d is = (meets c d is, admits c d is)

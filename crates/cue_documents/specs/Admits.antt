@@ -1,8 +1,8 @@
 -- Which documents an expression admits: by cases on the expression and the document, without paths
--- and questions.
-use Rattle.std.specs.Prelude.{◌≡◌, ◌≤◌, ◌↔◌, ℕ, Bool, true, false, List, [], ◌∷◌}
+-- and questions. Of what is said of refusals only the pairs of scalars are used here.
+use Rattle.std.specs.Prelude.{◌≡◌, ◌↔◌, ℕ, true, List, [], ◌∷◌}
 use Rattle.cue_lattice.specs.Document as documents
-use Rattle.cue_lattice.specs.Document.{Document, IsDocument, length_of, Has}
+use Rattle.cue_lattice.specs.Document.{Document, IsDocument, Has}
 use Rattle.cue_lattice.specs.Meets.{Meets}
 use Rattle.cue_scalars.specs.Pairs.{Scalars}
 use Rattle.cue_syntax.specs.declared.tree.Mark.{Mark}
@@ -13,7 +13,7 @@ use Rattle.cue_scope.specs.Core.{no_cores, core, Elements, ends, goes_on, each, 
 use Rattle.cue_scope.specs.Core.{no_members, member, dots}
 use Rattle.cue_scope.specs.Meaning.{meant_text}
 use Rattle.cue_eval.specs.Pairs.{pair}
-use Rattle.cue_eval.specs.Refuses.{Refuses, count, is_open}
+use Rattle.cue_eval.specs.Refuses.{Refuses}
 use Rattle.cue_documents.specs.Conjuncts.{conjuncts, Declares, Within}
 
 -- a scalar of the set
@@ -33,11 +33,6 @@ abbrev pub IsListOf : (documents.Items → Type 0) → Document → Type 0
 IsListOf P (documents.scalar x) = ⊥
 IsListOf P (documents.list items) = P items
 IsListOf P (documents.map _) = ⊥
-
--- the length of a list that is written with so many elements, and with `...` or not
-abbrev pub IsLength : ℕ → Bool → ℕ → Type 0
-IsLength count true n = count ≤ n
-IsLength count false n = n ≡ count
 
 -- a field that is declared without `?` is there
 abbrev pub Wanted : Mark → Type 0 → Type 0
@@ -65,9 +60,7 @@ abbrev mutual
   Admits top d = Unit {0}
   Admits (conjunction cs) d = AllAdmit cs d
   Admits (struct ms) d = IsMapOf (FieldsAdmit ms) d
-  Admits (list es) d =
-      IsListOf
-      (λ items. IsLength (count es) (is_open es) (length_of items) × ElementsAdmit es items) d
+  Admits (list es) d = IsListOf (ElementsAdmit es) d
   -- `close` closes its own place alone
   Admits (close ms) d = IsMapOf (λ members. FieldsAdmit ms members × AllDeclared ms members) d
   -- a definition is closed wherever its body writes a struct
@@ -87,13 +80,14 @@ abbrev mutual
       Wanted mark (Has l members) × EachAt (Admits c) l members × FieldsAdmit ms members
   FieldsAdmit (dots ms) members = FieldsAdmit ms members
 
-  -- each element that is written admits what stands there, and what is written of each further one
-  -- admits all that stand behind them
+  -- for each element that is written an item stands, which it admits; behind the last none stands
+  -- where the list ends, any where it goes on, and such as are written of each further one
   pub ElementsAdmit : Elements → documents.Items → Type 0
-  ElementsAdmit ends items = Unit {0}
+  ElementsAdmit ends documents.no_items = Unit {0}
+  ElementsAdmit ends (documents.item d items) = ⊥
   ElementsAdmit goes_on items = Unit {0}
   ElementsAdmit (each c) items = EachItem (Admits c) items
-  ElementsAdmit (element c es) documents.no_items = Unit {0}
+  ElementsAdmit (element c es) documents.no_items = ⊥
   ElementsAdmit (element c es) (documents.item d items) = Admits c d × ElementsAdmit es items
 
 -- a text admits what the struct of its regular declarations admits

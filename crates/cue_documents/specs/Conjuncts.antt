@@ -1,15 +1,13 @@
 -- What the parts of an expression write at each place, and which labels they declare there
 -- together. A definition's body is closed by it: it admits no document with a label that its parts
 -- don't declare.
-use Rattle.std.specs.Prelude.{◌≡◌, ◌≢◌, ℕ, zero, suc, true, false, cond, List, [], ◌∷◌, ◌++◌}
-use Rattle.std.specs.List.{list_any}
+use Rattle.std.specs.Prelude.{◌≡◌, ◌⊎◌, ℕ, zero, suc, cond, List, [], ◌∷◌, ◌++◌}
 use Rattle.std.specs.Str.{bytes_eq}
 use Rattle.cue_lattice.specs.Document as documents
 use Rattle.cue_lattice.specs.Document.{Document}
 use Rattle.cue_scope.specs.Core.{Core, conjunction, struct, close, list, closed, Cores, no_cores}
 use Rattle.cue_scope.specs.Core.{core, Elements, ends, goes_on, each, element, Members}
 use Rattle.cue_scope.specs.Core.{no_members, member, dots}
-use Rattle.cue_eval.specs.Literals.{declares, has_dots}
 
 -- a struct literal with its declarations, or a list literal with its elements
 pub data Part : Type 0 where
@@ -63,10 +61,27 @@ structs [] = []
 structs (fields ms ∷ parts) = ms ∷ structs parts
 structs (elements es ∷ parts) = structs parts
 
--- where there are struct literals, and none wrote a `...`, they declare the label together
+-- one of the declarations of a struct literal is of this label, whatever its mark
+abbrev pub IsDeclaredIn : List ℕ → Members → Type 0
+IsDeclaredIn l no_members = ⊥
+IsDeclaredIn l (member k mark c ms) = (k ≡ l) ⊎ IsDeclaredIn l ms
+IsDeclaredIn l (dots ms) = IsDeclaredIn l ms
+
+-- a struct literal wrote a `...` somewhere among its declarations
+abbrev pub HasDots : Members → Type 0
+HasDots no_members = ⊥
+HasDots (member k mark c ms) = HasDots ms
+HasDots (dots ms) = Unit {0}
+
+-- one of these struct literals is so
+abbrev pub OneIs : (Members → Type 0) → List Members → Type 0
+OneIs P [] = ⊥
+OneIs P (ms ∷ literals) = P ms ⊎ OneIs P literals
+
+-- where struct literals stand, one of them declares the label, or one wrote a `...`
 abbrev pub Declares : List Members → List ℕ → Type 0
-Declares literals l =
-    literals ≢ [] → list_any has_dots literals ≡ false → list_any (declares l) literals ≡ true
+Declares [] l = Unit {0}
+Declares (ms ∷ literals) l = OneIs (IsDeclaredIn l) (ms ∷ literals) ⊎ OneIs HasDots (ms ∷ literals)
 
 -- at each place of a document the parts there declare the labels
 abbrev mutual

@@ -1,16 +1,18 @@
 ghost use Rattle.std.specs.Prelude.{codes};
-ghost use Rattle.cue_lattice.specs.World.{IsSound};
+ghost use Rattle.cue_lattice.specs.World.{IsExactOnDocuments, IsSound};
 ghost use Rattle.cue_replica.specs.Language.{Table, language};
 ghost use Rattle.cue_replica.specs.PrintedAgain.{GivesTheSiteAgain};
 ghost use Rattle.cue_replica.specs.Reading.{AreReadInPieces};
 
 /// What every language of the store must keep to holds of the one that this crate takes: a legal
 /// text and the bytes of a state have no fault, so that they are never refused but for memory;
-/// sites read what they write; and a valid table is told by its answers.
+/// sites read what they write; and a valid table is told by its answers. And it is exact against
+/// documents: a text or a state admits exactly the documents that meet what it refuses.
 ///
-/// It computes nothing: it states a law.
+/// It computes nothing: it states laws.
 pub fn sound_language()
-    ensures { IsSound Table language }
+    ensures sound { IsSound Table language }
+    ensures documents { IsExactOnDocuments Table language }
 {}
 
 /// The language is not empty: `a: 1` is one of its texts.

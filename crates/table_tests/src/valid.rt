@@ -2,7 +2,9 @@
 use crate::both::tree;
 use crate::sample::rows;
 use cue_lattice::Memory;
+use cue_row::Row;
 use std::alloc::Global;
+use std::mem::size_of;
 use std::test::Fail;
 
 /// Whether the table of these rows is valid.
@@ -46,4 +48,9 @@ fn tells_tables_that_are_not_valid(rt: HostRuntime) -> Result<(), Fail> {
         assert!(rt; !is_valid(rt.alloc(), text)?, "{text}");
     }
     Ok(())
+}
+
+#[test]
+fn a_row_has_40_bytes(rt: HostRuntime) {
+    assert_eq!(rt; size_of::<Row>(), 40);
 }
