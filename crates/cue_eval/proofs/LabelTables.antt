@@ -1,7 +1,6 @@
 -- The labels that closing leaves out, as tables.
 use Rattle.std.proofs.Common.{◌≡◌, ◌↔◌, ◌⊎◌, inl, inr, ⊎_elim, ℕ, ◌+◌, ◌≤◌, ◌<◌, Bool, true, false, nat_lt, if◌then◌else◌, max, List, [], ◌∷◌, ◌++◌, All, length, Option, Some, None, refl, sym, ap, subst, ◌∙◌, arith}
-use Rattle.std.specs.Option.{is_some, option_and_then, option_map_or}
-use Rattle.std.proofs.lemmas.Bool.{cases_lt}
+use Rattle.std.specs.Option.{is_some, option_and_then}
 use Rattle.std.proofs.lemmas.List.Elements.{All-push, All-nil}
 use Rattle.cue_lattice.proofs.OneOf.{one_of-push}
 use Rattle.std.specs.declared.cmp.Ordering.{Ordering}
@@ -21,16 +20,15 @@ use Rattle.cue_row.specs.Steps.{step_of}
 use Rattle.cue_sets.specs.Texts.{is_text_member}
 use Rattle.cue_table.specs.Depth.{tree_depth, children_depth}
 use Rattle.cue_table.specs.Form.{IsTable}
-use Rattle.cue_table.specs.Many.{IsOfBranches}
-use Rattle.cue_table.specs.Meet.{IsAdded, IsRestAdded}
+use Rattle.cue_table.specs.Meet.{IsAdded}
 use Rattle.cue_table.specs.Refuses.{TableRefuses}
-use Rattle.cue_table.specs.Tree.{Tree, node, Children, none, child, no_rest, onward, row_of, row_at, branch_at, step_into, below, rest_of, rest_tree, find, if_equal, fixed_of, children_of}
-use Rattle.cue_table.proofs.Branches.{find_rest, find_fixed}
+use Rattle.cue_table.specs.Tree.{Tree, node, Children, none, child, no_rest, onward, row_of, row_at, branch_at, step_into, below, rest_of, rest_tree, find, if_equal, fixed_of, labels_of}
+use Rattle.cue_table.proofs.Branches.{find_rest}
 use Rattle.cue_table.proofs.Depth.{refusals_depth, row_depth}
 use Rattle.cue_table.proofs.Finding.{found_here}
 use Rattle.cue_table.proofs.Exact.{none_within, within_last}
 use Rattle.cue_table.proofs.Order.{equal_steps}
-use Rattle.cue_eval.specs.Adding.{OnlyLabels, LeftOut, Adds, AddsHere, AddsAt, row_below, step_below, IsStepInto, IsAlikeFrom, IsFrom, IsAmong, AreOwnSteps, AreAddedAt, FurtherAdds}
+use Rattle.cue_eval.specs.Adding.{OnlyLabels, LeftOut, Adds, AddsHere, AddsAt, row_below, step_below, IsStepInto, IsAmong, AreAddedAt, IsAllBelow}
 use Rattle.cue_eval.specs.declared.left_out.Place.{Place}
 use Rattle.cue_eval.specs.declared.declared.Declared.{Declared}
 
@@ -72,10 +70,10 @@ module _ {R : Type 0} where
   row_below_further (Some tree) step path = row_further tree step path
 
 -- what closing adds below places that may be there
-abbrev AddsBelow : Option (Tree Declared) → Option (Tree Declared) → Option (Tree Row) → Path → Question → Type 0
+abbrev pub AddsBelow : Option (Tree Declared) → Option (Tree Declared) → Option (Tree Row) → Path → Question → Type 0
 AddsBelow own dots rows path question = Adds (row_below own path) (row_below dots path) (row_below rows path) question
 
-same_adds : (a b : Option Declared) (c d : Option Declared) (e f : Option Row) → a ≡ b → c ≡ d → e ≡ f → (question : Question) → Adds a c e question ↔ Adds b d f question
+pub same_adds : (a b : Option Declared) (c d : Option Declared) (e f : Option Row) → a ≡ b → c ≡ d → e ≡ f → (question : Question) → Adds a c e question ↔ Adds b d f question
 same_adds a b c d e f p q r question =
     let all : Adds a c e question ≡ Adds b d f question = λ i. Adds (p i) (q i) (r i) question in
     (λ h. subst (λ t. t) all h, λ h. subst (λ t. t) (sym all) h)
@@ -110,52 +108,27 @@ pub alike_into : {R : Type 0} (tree : Tree R) (i : ℕ) → fixed_of tree ≤ i 
 alike_into (node row children no_rest) i h = none_within i i children (within_last i children h) (omega arith)
 alike_into (node row children (onward n tree)) i h = find_rest n tree children i h
 
-pub alike_below : {R : Type 0} (branch : Option (Tree R)) (i j : ℕ) → option_map_or fixed_of branch 0 ≤ i → option_map_or fixed_of branch 0 ≤ j → step_below branch (index i) ≡ step_below branch (index j)
-alike_below None i j h k = refl
-alike_below (Some tree) i j h k = alike_into tree i h ∙ sym (alike_into tree j k)
-
-pub alike_from : (place : Place) (n : ℕ) → fixed_of place.own ≤ n → option_map_or fixed_of place.dots 0 ≤ n → option_map_or fixed_of place.rows 0 ≤ n → IsAlikeFrom place n
-alike_from place n h k l i j path question a b adds =
-    let one = adds_further place (index i) path question in
-    let other = adds_further place (index j) path question in
-    let own : step_into place.own (index i) ≡ step_into place.own (index j) = alike_into place.own i (omega arith) ∙ sym (alike_into place.own j (omega arith)) in
-    let same = same_adds _ _ _ _ _ _ (ap (λ t. row_below t path) own) (ap (λ t. row_below t path) (alike_below place.dots i j (omega arith) (omega arith)))
-    (ap (λ t. row_below t path) (alike_below place.rows i j (omega arith) (omega arith))) question in
-    other.1 (same.0 (one.0 adds))
-
--- where the body writes no further elements, nothing is added to them
-pub none_from : (place : Place) (n : ℕ) → fixed_of place.own ≤ n → rest_tree (rest_of place.own) ≡ None → IsAlikeFrom place n
-none_from place n h free i j path question a b adds = absurd (adds_nowhere place (index i) (alike_into place.own i (omega arith) ∙ free) path question adds)
-
 pub none_if : {X : Type 0} (o : Option X) → is_some o ≡ false → o ≡ None
 none_if None e = refl
 none_if (Some x) e = cc
 
--- ---- the steps of branches
-abbrev pub IsStepOf : Children Declared → paths.Step → Type 0
-IsStepOf children step = OneOf (λ item. item.0 ≡ step) (children_of children)
+-- ---- the labels of branches
+abbrev pub IsLabelOf : List (List ℕ × Tree Declared) → paths.Step → Type 0
+IsLabelOf labels step = OneOf (λ item. label item.0 ≡ step) labels
 
-pub found_step : (step : paths.Step) (children : Children Declared) (branch : Tree Declared) → find step children ≡ Some branch → IsStepOf children step
-found_step step none branch e = cc
-found_step step (child next tree children) branch e = by (paths.step_cmp step next) refl e (λ f. found_step step children branch f) where
-  by : (o : Ordering) → paths.step_cmp step next ≡ o → if_equal o tree (find step children) ≡ Some branch → (find step children ≡ Some branch → IsStepOf children step) → IsStepOf (child next tree children) step
+found_label : (text : List ℕ) (children : Children Declared) (branch : Tree Declared) → find (label text) children ≡ Some branch → IsLabelOf (labels_of children) (label text)
+found_label text none branch e = cc
+found_label text (child (label l) tree children) branch e = by (paths.step_cmp (label text) (label l)) refl e (λ f. found_label text children branch f) where
+  by : (o : Ordering) → paths.step_cmp (label text) (label l) ≡ o → if_equal o tree (find (label text) children) ≡ Some branch → (find (label text) children ≡ Some branch → IsLabelOf (labels_of children) (label text)) → IsLabelOf (labels_of (child (label l) tree children)) (label text)
   by Less c f more = inr (more f)
   by Greater c f more = inr (more f)
-  by Equal c f more = inl (sym (equal_steps step next c))
+  by Equal c f more = inl (sym (equal_steps (label text) (label l) c))
+found_label text (child (index i) tree children) branch e = found_label text children branch e
 
--- each step at which a branch stands is that of a branch of its own, or of an element of the rest
-pub own_step : (own : Tree Declared) (n : ℕ) (steps : List Step) → ((step : paths.Step) → IsStepOf (below own) step → IsAmong steps step)
-    → ((i : ℕ) → fixed_of own ≤ i → i < n → IsAmong steps (index i)) → AreOwnSteps own n steps
-own_step (node row children no_rest) n steps children_there more step branch e = inl (children_there step (found_step step children branch e))
-own_step (node row children (onward m tree)) n steps children_there more (label l) branch e = inl (children_there (label l) (found_step (label l) children branch e))
-own_step (node row children (onward m tree)) n steps children_there more (index i) branch e =
-    elim (cases_lt i m) [
-      | inl low ↦ inl (children_there (index i) (found_step (index i) children branch (sym (find_fixed m tree children i low) ∙ e)))
-      | inr high ↦ elim (cases_lt i n) [
-        | inl near ↦ inl (more i high near)
-        | inr far ↦ inr far
-      ]
-    ]
+-- each label at which a branch stands is that of a branch of its own
+pub own_label : (own : Tree Declared) (text : List ℕ) (branch : Tree Declared) → step_into own (label text) ≡ Some branch → IsLabelOf (labels_of (below own)) (label text)
+own_label (node row children no_rest) text branch e = found_label text children branch e
+own_label (node row children (onward n tree)) text branch e = found_label text children branch e
 
 -- ---- the table of what is added
 own_row : (at : Option Declared) (dots : Option Declared) (row : Option Row) (question : Question) → Adds at dots row question → (here : Declared) × (at ≡ Some here)
@@ -186,62 +159,21 @@ into_depth (label text) (node row children (onward n other)) branch e = let h = 
 into_depth (index i) (node row children (onward n other)) branch e =
     depth_else (nat_lt i n) (find (index i) children) other branch (max (children_depth children) (tree_depth other + 1)) (λ f. let h = found_depth (index i) children branch f in omega arith) (omega arith) e
 
--- what is added in further elements, as a table of one of them
-pub further_added : (place : Place) (n : ℕ) (below : Place) (sets further all : Tree Row) → IsStepInto place (index n) below
-    → ((path : Path) (question : program.Question) → TableRefuses Refuses further path question ↔ AddsAt below path (question_of question)) → IsRestAdded Refuses sets [] n further all
-    → (path : Path) (question : program.Question) → TableRefuses Refuses all path question ↔ (TableRefuses Refuses sets path question ⊎ FurtherAdds place n path (question_of question))
-further_added place n below sets further all into same added path question =
-    let a = added path question in (
-      λ h. ⊎_elim (λ g. inl g) (λ g. inr (g.0, g.1, g.2, g.3, (adds_into place (index n) below into g.1 (question_of question)).0 ((same g.1 question).0 g.4))) (a.0 h),
-      λ h. a.1 (⊎_elim (λ g. inl g) (λ g. inr (g.0, g.1, g.2, g.3, (same g.1 question).1 ((adds_into place (index n) below into g.1 (question_of question)).1 g.4))) h),
-    )
-
-pub none_further : (place : Place) (n : ℕ) (sets : Tree Row) → step_into place.own (index n) ≡ None
-    → (path : Path) (question : program.Question) → TableRefuses Refuses sets path question ↔ (TableRefuses Refuses sets path question ⊎ FurtherAdds place n path (question_of question))
-none_further place n sets free path question = (λ h. inl h, λ h. ⊎_elim (λ g. g) (λ g. absurd (adds_nowhere place (index n) free g.1 (question_of question) g.4)) h)
-
--- what is added below the steps, in further elements and at the place is all that is added
-pub all_added : (place : Place) (n : ℕ) (steps : List Step) (branches : List (Step × Tree Row)) (below sets all : Tree Row)
-    → IsAlikeFrom place n → AreOwnSteps place.own n steps → AreAddedAt place steps branches → IsOfBranches Refuses branches below
-    → ((path : Path) (question : program.Question) → TableRefuses Refuses sets path question ↔ (TableRefuses Refuses below path question ⊎ FurtherAdds place n path (question_of question)))
+-- what is added below and at the place is all that is added
+pub all_added : (place : Place) (sets all : Tree Row) → IsAllBelow place sets
     → ((path : Path) (question : program.Question) → TableRefuses Refuses all path question ↔ (TableRefuses Refuses sets path question ⊎ ((path ≡ []) × AddsHere place (question_of question))))
     → (path : Path) (question : program.Question) → TableRefuses Refuses all path question ↔ AddsAt place path (question_of question)
-all_added place n steps branches below sets all alike own given of further here [] question =
-    let h = here [] question in
-    let f = further [] question in (
-      λ r. ⊎_elim (λ g. ⊎_elim (λ k. absurd (of.root question k)) (λ k. let no : ⊥ = cc (k.2) in absurd no) (f.0 g)) (λ g. g.1) (h.0 r),
+all_added place sets all is here [] question =
+    let h = here [] question in (
+      λ r. ⊎_elim (λ g. absurd (is.root question g)) (λ g. g.1) (h.0 r),
       λ a. h.1 (inr (refl, a)),
     )
-all_added place n steps branches below sets all alike own given of further here (step ∷ path) question = (to, from) where
-  h : TableRefuses Refuses all (step ∷ path) question ↔ (TableRefuses Refuses sets (step ∷ path) question ⊎ ((step ∷ path ≡ []) × AddsHere place (question_of question)))
-  h = here (step ∷ path) question
-
-  f : TableRefuses Refuses sets (step ∷ path) question ↔ (TableRefuses Refuses below (step ∷ path) question ⊎ FurtherAdds place n (step ∷ path) (question_of question))
-  f = further (step ∷ path) question
-
-  same_place : (i : ℕ) (rest : Path) → step ∷ path ≡ index i ∷ rest → (step ≡ index i) × (path ≡ rest)
-  same_place i rest e = (cc, cc)
-
-  of_further : FurtherAdds place n (step ∷ path) (question_of question) → AddsAt place (step ∷ path) (question_of question)
-  of_further (i, rest, at, least, adds) = subst (λ p. AddsAt place p (question_of question)) (sym at) (alike n i rest (question_of question) (omega arith) least adds)
-
-  to : TableRefuses Refuses all (step ∷ path) question → AddsAt place (step ∷ path) (question_of question)
-  to r = ⊎_elim
-      (λ g. ⊎_elim (λ k. ((given.refused step path question).0 ((of.below step path question).0 k)).1) of_further (f.0 g))
-      (λ g. let no : ⊥ = cc (g.0) in absurd no) (h.0 r)
-
-  in_further : (at : paths.Step) → step ≡ at → IsFrom n at → AddsAt place (step ∷ path) (question_of question) → FurtherAdds place n (step ∷ path) (question_of question)
-  in_further (label l) e far adds = absurd far
-  in_further (index i) e far adds =
-      let here_too : AddsAt place (index i ∷ path) (question_of question) = subst (λ s. AddsAt place (s ∷ path) (question_of question)) e adds in
-      (i, path, ap (λ s. s ∷ path) e, far, alike i n path (question_of question) far (omega arith) here_too)
-
-  from : AddsAt place (step ∷ path) (question_of question) → TableRefuses Refuses all (step ∷ path) question
-  from adds =
-      let branch = adds_branch place step path (question_of question) adds in
-      h.1 (inl (f.1 (⊎_elim
-      (λ among. inl ((of.below step path question).1 ((given.refused step path question).1 (among, adds))))
-      (λ far. inr (in_further step refl far adds)) (own step branch.0 branch.1))))
+all_added place sets all is here (step ∷ path) question =
+    let h = here (step ∷ path) question in
+    let b = is.below step path question in (
+      λ r. ⊎_elim b.0 (λ g. let no : ⊥ = cc (g.0) in absurd no) (h.0 r),
+      λ a. h.1 (inl (b.1 a)),
+    )
 
 -- ---- the loop over steps
 pub record Adding (place : Place) (branches : List (Step × Tree Row)) (all left : List Step) : Type 0 where
@@ -306,12 +238,13 @@ among_old steps new step h = (one_of-push (λ one. step_of one ≡ step) steps n
 pub among_new : (steps : List Step) (new : Step) (step : paths.Step) → step_of new ≡ step → IsAmong (steps ++ new ∷ []) step
 among_new steps new step e = (one_of-push (λ one. step_of one ≡ step) steps new).1 (inr e)
 
--- the steps of branches, one after another
-pub next_step : (own left rest : Children Declared) (steps : List Step) (copy : Step) (here : paths.Step) (tree : Tree Declared) → ((step : paths.Step) → IsStepOf own step → IsAmong steps step ⊎ IsStepOf left step)
-    → children_of left ≡ (here, tree) ∷ children_of rest → step_of copy ≡ here → (step : paths.Step) → IsStepOf own step → IsAmong (steps ++ copy ∷ []) step ⊎ IsStepOf rest step
-next_step own left rest steps copy here tree w e same step h =
-    ⊎_elim (λ g. inl (among_old steps copy step g))
-    (λ g. ⊎_elim (λ f. inl (among_new steps copy step (same ∙ f))) (λ f. inr f) (subst (λ (xs : List (paths.Step × Tree Declared)). OneOf (λ item. item.0 ≡ step) xs) e g)) (w step h)
+-- the labels of branches, one after another
+pub next_label : (own left rest : List (List ℕ × Tree Declared)) (steps : List Step) (new : Step) (text : List ℕ) (tree : Tree Declared) → ((step : paths.Step) → IsLabelOf own step → IsAmong steps step ⊎ IsLabelOf left step)
+    → left ≡ (text, tree) ∷ rest → step_of new ≡ label text → (step : paths.Step) → IsLabelOf own step → IsAmong (steps ++ new ∷ []) step ⊎ IsLabelOf rest step
+next_label own left rest steps new text tree w e same step h =
+    ⊎_elim (λ g. inl (among_old steps new step g))
+    (λ g. ⊎_elim (λ f. inl (among_new steps new step (same ∙ f))) (λ f. inr f) (subst (λ xs. IsLabelOf xs step) e g)) (w step h)
 
-pub all_steps : (own left : Children Declared) (steps : List Step) → ((step : paths.Step) → IsStepOf own step → IsAmong steps step ⊎ IsStepOf left step) → children_of left ≡ [] → (step : paths.Step) → IsStepOf own step → IsAmong steps step
-all_steps own left steps w e step h = ⊎_elim (λ g. g) (λ g. absurd (subst (λ (xs : List (paths.Step × Tree Declared)). OneOf (λ item. item.0 ≡ step) xs) e g)) (w step h)
+pub no_index : (steps : List Step) (new : Step) (text : List ℕ) → step_of new ≡ label text → ((i : ℕ) → ¬ IsAmong steps (index i)) → (i : ℕ) → ¬ IsAmong (steps ++ new ∷ []) (index i)
+no_index steps new text same free i h =
+    ⊎_elim (λ g. free i g) (λ g. let no : label text ≡ index i = sym same ∙ g in cc (no)) ((one_of-push (λ one. step_of one ≡ index i) steps new).0 h)

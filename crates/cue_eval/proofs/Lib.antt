@@ -19,6 +19,8 @@ pub mod Own
 pub mod Adding
 pub mod EitherDoes
 pub mod LabelTables
+pub mod AddedBelow
+pub mod Bounds
 pub mod OwnLabels
 pub mod ClosedBodies
 pub mod TellingNames

@@ -1,5 +1,6 @@
 -- What closing adds, place by place.
-use Rattle.std.specs.Prelude.{◌≡◌, ◌↔◌, ◌⊎◌, ◌≤◌, ◌<◌, true, List, ◌∷◌, ℕ, Option, Some, None, All}
+use Rattle.std.specs.Prelude.{◌≡◌, ◌↔◌, ◌⊎◌, ◌+◌, ◌≤◌, ◌<◌, true, List, [], ◌∷◌, ℕ, Option, Some, None, All}
+use Rattle.std.specs.List.{Contains}
 use Rattle.std.specs.Option.{option_and_then}
 use Rattle.cue_lattice.specs.Limits.{step_limit}
 use Rattle.cue_lattice.specs.OneOf.{OneOf}
@@ -24,7 +25,9 @@ use Rattle.cue_syntax.specs.Syntax.{Expression}
 use Rattle.cue_table.specs.Depth.{tree_depth}
 use Rattle.cue_table.specs.Form.{IsTable}
 use Rattle.cue_table.specs.Refuses.{RowRefuses, TableRefuses}
+use Rattle.cue_table.specs.Spans.{Span, field, elements}
 use Rattle.cue_table.specs.Tree.{Tree, row_of, row_at, step_into}
+use Rattle.cue_eval.specs.declared.additions.Additions.{Additions}
 use Rattle.cue_eval.specs.declared.body.Closed.{Closed}
 use Rattle.cue_eval.specs.declared.left_out.Place.{Place}
 use Rattle.cue_eval.specs.declared.declared.Declared.{Declared}
@@ -89,18 +92,6 @@ pub record IsStepInto (place : Place) (step : paths.Step) (below : Place) : Type
   pub dots : below.dots ≡ step_below place.dots step
   pub rows : below.rows ≡ step_below place.rows step
 
--- from this index on closing adds the same in all elements
-abbrev pub IsAlikeFrom : Place → ℕ → Type 0
-IsAlikeFrom place n =
-    (i j : ℕ) (path : Path) (question : Question) → n ≤ i → n ≤ j
-    → AddsAt place (index i ∷ path) question → AddsAt place (index j ∷ path) question
-
--- in an element from this index on: what closing adds in the one at the index
-abbrev pub FurtherAdds : Place → ℕ → Path → Question → Type 0
-FurtherAdds place n path question =
-    (i : ℕ) × (rest : Path) × (path ≡ index i ∷ rest) × (n ≤ i)
-    × AddsAt place (index n ∷ rest) question
-
 -- an element from this index on
 abbrev pub IsFrom : ℕ → paths.Step → Type 0
 IsFrom n (label l) = ⊥
@@ -110,11 +101,11 @@ IsFrom n (index i) = n ≤ i
 abbrev pub IsAmong : List Step → paths.Step → Type 0
 IsAmong steps step = OneOf (λ one. step_of one ≡ step) steps
 
--- among these is each step at which a branch stands, but for elements from an index on
-abbrev pub AreOwnSteps : Tree Declared → ℕ → List Step → Type 0
-AreOwnSteps own n steps =
-    (step : paths.Step) (below : Tree Declared) → step_into own step ≡ Some below
-    → IsAmong steps step ⊎ IsFrom n step
+-- these are labels, and among them is each at which a branch stands
+pub record AreOwnLabels (own : Tree Declared) (steps : List Step) : Type 0 where
+  pub all : (text : List ℕ) (below : Tree Declared) → step_into own (label text) ≡ Some below
+      → IsAmong steps (label text)
+  pub labels : (i : ℕ) → ¬ IsAmong steps (index i)
 
 -- The branches refuse what closing adds below these steps, and can be hung in.
 pub record AreAddedAt (place : Place) (steps : List Step)
@@ -123,6 +114,90 @@ pub record AreAddedAt (place : Place) (steps : List Step)
       → OneOf (λ one. (step_of one.0 ≡ step) × TableRefuses Refuses one.1 path question) branches
       ↔ (IsAmong steps step × AddsAt place (step ∷ path) (question_of question))
   pub deep : All (λ one. tree_depth one.1 < step_limit) branches
+
+-- the branches refuse what closing adds below labels, and can be hung in
+abbrev pub AreFields : Place → List (Step × Tree Row) → Type 0
+AreFields place branches =
+    (steps : List Step) × AreOwnLabels place.own steps × AreAddedAt place steps branches
+
+-- The table refuses what closing adds below a place, and nothing there.
+pub record IsAllBelow (place : Place) (all : Tree Row) : Type 0 where
+  pub root : (question : program.Question) → ¬ TableRefuses Refuses all [] question
+  pub below : (step : paths.Step) (path : Path) (question : program.Question)
+      → TableRefuses Refuses all (step ∷ path) question
+      ↔ AddsAt place (step ∷ path) (question_of question)
+
+-- none of the bounds is behind the first index and up to the second
+abbrev pub NoneBetween : ℕ → ℕ → List ℕ → Type 0
+NoneBetween i j = All (λ bound. (bound ≤ i) ⊎ (j < bound))
+
+-- between bounds closing adds the same in all elements
+abbrev pub AreBounds : Place → List ℕ → Type 0
+AreBounds place bounds =
+    (i j : ℕ) → i ≤ j → NoneBetween i j bounds → (path : Path) (question : Question)
+    → AddsAt place (index i ∷ path) question ↔ AddsAt place (index j ∷ path) question
+
+-- between bounds all elements of a tree are alike
+abbrev pub AreBoundsOf : {R : Type 0} → Tree R → List ℕ → Type 0
+AreBoundsOf tree bounds =
+    (i j : ℕ) → i ≤ j → NoneBetween i j bounds
+    → step_into tree (index i) ≡ step_into tree (index j)
+
+abbrev pub AreBoundsBelow : {R : Type 0} → Option (Tree R) → List ℕ → Type 0
+AreBoundsBelow branch bounds =
+    (i j : ℕ) → i ≤ j → NoneBetween i j bounds
+    → step_below branch (index i) ≡ step_below branch (index j)
+
+-- the bounds have the first index of a span, and that behind its last one
+abbrev pub HasBoundsOf : Span → List ℕ → Type 0
+HasBoundsOf (field text) bounds = Unit
+HasBoundsOf (elements i more) bounds = Contains bounds i × Contains bounds (i + more + 1)
+
+-- the second list has all numbers of the first
+abbrev pub AreKept : List ℕ → List ℕ → Type 0
+AreKept old new = (n : ℕ) → Contains old n → Contains new n
+
+-- what is gathered below a step: in the elements from an index on, or below the step alone
+abbrev pub Gathers : Additions → paths.Step → Path → program.Question → Type 0
+Gathers additions step path question =
+    (TableRefuses Refuses additions.later (step ∷ path) question
+    ⊎ (IsFrom additions.from step × TableRefuses Refuses additions.each path question))
+    ⊎ OneOf (λ one. (step_of one.0 ≡ step) × TableRefuses Refuses one.1 path question)
+    additions.single.items
+
+-- the step is to a field or to an element from an index on
+abbrev pub IsReached : ℕ → paths.Step → Type 0
+IsReached n (label l) = Unit
+IsReached n (index i) = n ≤ i
+
+-- Below each step that is reached what closing adds is gathered, and elsewhere nothing is.
+pub record IsGathered (place : Place) (additions : Additions) : Type 0 where
+  pub root : (question : program.Question) → ¬ TableRefuses Refuses additions.later [] question
+  pub reached : (step : paths.Step) (path : Path) (question : program.Question)
+      → IsReached additions.from step
+      → Gathers additions step path question ↔ AddsAt place (step ∷ path) (question_of question)
+  pub others : (i : ℕ) (path : Path) (question : program.Question) → i < additions.from
+      → ¬ Gathers additions (index i) path question
+
+-- the tables can be hung in one step below another
+abbrev pub AreShallow : Additions → Type 0
+AreShallow additions =
+    (tree_depth additions.each < step_limit)
+    × All (λ one. tree_depth one.1 < step_limit) additions.single.items
+
+-- an element from an index on and before another
+abbrev pub IsWithin : ℕ → ℕ → paths.Step → Type 0
+IsWithin first end (label l) = ⊥
+IsWithin first end (index i) = (first ≤ i) × (i < end)
+
+-- to the branches one came at each element from an index on and before another
+abbrev pub AreWithElements : ℕ → ℕ → Tree Row → List (Step × Tree Row) → List (Step × Tree Row)
+    → Type 0
+AreWithElements first end sets old new =
+    (step : paths.Step) (path : Path) (question : program.Question)
+    → OneOf (λ one. (step_of one.0 ≡ step) × TableRefuses Refuses one.1 path question) new
+    ↔ (OneOf (λ one. (step_of one.0 ≡ step) × TableRefuses Refuses one.1 path question) old
+    ⊎ (IsWithin first end step × TableRefuses Refuses sets path question))
 
 -- of a body it is known what closing asks
 abbrev pub IsBodyKnown : Sight → List Label → Expression → Type 0

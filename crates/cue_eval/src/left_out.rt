@@ -1,9 +1,14 @@
 //! What closing the body of a definition adds, place by place.
-ghost use Rattle.std.specs.Prelude.{◌≡◌, ◌↔◌, ◌≤◌, ◌⊎◌, [], ℕ, List, None, IsTrue, IfOk, IfNone, IfSome};
+ghost use Rattle.std.specs.Prelude.{◌≡◌, ◌↔◌, ◌≤◌, ◌<◌, ◌⊎◌, [], ◌∷◌, ℕ, List, None, IsTrue};
+ghost use Rattle.std.specs.Prelude.{IfOk, IfNone, IfSome, OnOk};
 ghost use Rattle.std.specs.Prelude.{true, false};
-ghost use Rattle.std.specs.Option.{option_and_then, option_map_or};
+ghost use Rattle.std.specs.BinaryHeap.{IsHeap, heap_items};
+ghost use Rattle.std.specs.List.{Contains};
+ghost use Rattle.std.specs.Option.{option_and_then};
+ghost use Rattle.std.specs.Ordering.{nat_cmp};
 ghost use Rattle.cue_lattice.specs.Limits.{step_limit};
 ghost use Rattle.cue_lattice.specs.Path as paths;
+ghost use Rattle.cue_lattice.specs.Path.{index};
 ghost use Rattle.cue_row.specs.LabelSets.{RefusesLabel};
 ghost use Rattle.cue_row.specs.Questions.{question_of};
 ghost use Rattle.cue_row.specs.Row.{Refuses, IsRow};
@@ -13,19 +18,24 @@ ghost use Rattle.cue_sets.specs.Texts.{is_text_member};
 ghost use Rattle.cue_table.specs.Depth.{tree_depth};
 ghost use Rattle.cue_table.specs.Form.{IsTable};
 ghost use Rattle.cue_table.specs.Refuses.{TableRefuses, RowRefuses};
-ghost use Rattle.cue_table.specs.Tree.{step_into, fixed_of};
-ghost use Rattle.cue_eval.specs.Adding.{OnlyLabels, AllowsAll, AddsAt, AddsHere, IsAlikeFrom, FurtherAdds};
-ghost use Rattle.cue_eval.specs.Adding.{IsStepInto, IsAddedBy, AreOwnSteps, AreAddedAt};
+ghost use Rattle.cue_table.specs.StepsOfCode.{span_of};
+ghost use Rattle.cue_table.specs.Tree.{step_into};
+ghost use Rattle.cue_eval.specs.Adding.{OnlyLabels, AllowsAll, AddsAt, AddsHere, IsStepInto};
+ghost use Rattle.cue_eval.specs.Adding.{IsAddedBy, IsAllBelow, AreOwnLabels, AreAddedAt, AreFields};
+ghost use Rattle.cue_eval.specs.Adding.{AreBounds, AreBoundsBelow, AreBoundsOf, AreKept};
+ghost use Rattle.cue_eval.specs.Adding.{HasBoundsOf};
 ghost use Rattle.cue_eval.specs.Adding.{root_row};
 ghost use Rattle.cue_eval.specs.Telling.{Tells};
 ghost use Rattle.cue_eval.specs.declared.declared.Asked.TheVariants.{Stands};
 
+use crate::additions::Additions;
 use crate::declared::Declared;
-use cue_lattice::{Memory, Narrow};
+use cue_lattice::{Memory, Narrow, Text};
 use cue_row::{Labels, Row, RowParts, Step};
 use cue_sets::TextSet;
-use cue_table::{Branch, Table};
+use cue_table::{Branch, Span, Table};
 use std::alloc::Global;
+use std::collections::BinaryHeap;
 
 /// The label sets that closing a body adds, as a table. One is added at each path where a struct
 /// literal of the body itself stands, but where no literal has a `...` and no label is refused yet.
@@ -66,32 +76,53 @@ impl<'a> Place<'a> {
             TableRefuses Refuses sets path question
             ↔ AddsAt self.now path (question_of question)) }
     {
-        let Ok(alike) = u32::try_from(self.alike()) else {
-            // No list of a text is so long.
-            return Err(Memory);
-        };
-        let steps = self.own_steps(alloc, alike)?;
-        let below = Table::of_branches(alloc, self.branches(alloc, &steps)?)?;
-        let sets = self.and_further(alloc, below, alike)?;
+        let steps = self.own_labels(alloc)?;
+        let fields = self.fields(alloc, &steps)?;
+        let sets = self.and_elements(alloc, fields)?;
         self.and_here(alloc, sets)
     }
 
-    /// These, and those of the elements from this index on, which are all alike.
+    /// Those of the fields, and those of the elements, of which each stretch that is alike is gone
+    /// into once.
     #[cycle(sets)]
-    fn and_further(&self, alloc: Global, sets: Table<Row>, alike: u32) -> Result<Table<Row>, Memory>
-        requires { tree_depth self.now.own ≤ step_limit }
-        ensures { IfOk result (λ all. (path : paths.Path) (question : Questions) →
-            TableRefuses Refuses all path question ↔ (TableRefuses Refuses sets path question
-            ⊎ FurtherAdds self.now alike path (question_of question))) }
+    fn and_elements(
+        &self,
+        alloc: Global,
+        fields: Vec<(Step, Table<Row>)>,
+    ) -> Result<Table<Row>, Memory>
+        requires depth { tree_depth self.now.own ≤ step_limit }
+        requires fields { AreFields self.now fields.items }
+        ensures form { IfOk result (IsTable Refuses IsRow) }
+        ensures all { IfOk result (IsAllBelow self.now) }
     {
-        let element = Step::Index(alike);
-        match self.below(&element) {
-            None => Ok(sets),
+        let mut bounds = self.bounds(alloc)?;
+        let Some(last) = bounds.pop() else {
+            // The bounds have 0.
+            return Table::of_branches(alloc, fields);
+        };
+        let mut gathered = Additions::new(alloc, fields, last, self.element(alloc, last)?);
+        while let Some(first) = bounds.pop() {
+            if first < gathered.from() {
+                gathered.extend(alloc, first, self.element(alloc, first)?)?;
+            }
+        }
+        gathered.into_table(alloc)
+    }
+
+    /// Those of the element with an index.
+    #[cycle(sets)]
+    fn element(&self, alloc: Global, number: u32) -> Result<Table<Row>, Memory>
+        requires { tree_depth self.now.own ≤ step_limit }
+        ensures depth { IfOk result (λ sets. tree_depth sets < step_limit) }
+        ensures added { IfOk result (λ sets. (path : paths.Path) (question : Questions) →
+            TableRefuses Refuses sets path question
+            ↔ AddsAt self.now (index number ∷ path) (question_of question)) }
+    {
+        match self.below(&Step::Index(number)) {
+            None => Ok(Table::new(alloc)),
             Some(place) => {
-                let further = place.label_sets(alloc)?;
-                let mut all = sets;
-                all.meet_rest(alike, further)?;
-                Ok(all)
+                let sets = place.label_sets(alloc)?;
+                Ok(sets)
             }
         }
     }
@@ -115,7 +146,7 @@ impl<'a> Place<'a> {
 
     /// Those that are added below these steps.
     #[cycle(sets)]
-    fn branches(&self, alloc: Global, steps: &[Step]) -> Result<Vec<(Step, Table<Row>)>, Memory>
+    fn fields(&self, alloc: Global, steps: &[Step]) -> Result<Vec<(Step, Table<Row>)>, Memory>
         requires { tree_depth self.now.own ≤ step_limit }
         ensures { IfOk result (λ branches. AreAddedAt self.now steps.now branches.items) }
     {
@@ -128,30 +159,33 @@ impl<'a> Place<'a> {
         Ok(branches)
     }
 
-    /// From which index on all elements are alike.
-    fn alike(&self) -> u64
-        ensures { IsAlikeFrom self.now result }
-    {
-        let own = self.own.fixed();
-        if self.own.rest().is_none() {
-            return own;
-        }
-        own.max(fixed(&self.dots)).max(fixed(&self.rows))
-    }
-
-    /// The steps at which something stands of what the body writes itself, but for elements from
-    /// this index on, from which all are alike.
-    fn own_steps(&self, alloc: Global, alike: u32) -> Result<Vec<Step>, Memory>
-        ensures { IfOk result (λ steps. AreOwnSteps self.now.own alike steps.items) }
+    /// The labels at which something stands of what the body writes itself.
+    fn own_labels(&self, alloc: Global) -> Result<Vec<Step>, Memory>
+        ensures { IfOk result (λ steps. AreOwnLabels self.now.own steps.items) }
     {
         let mut steps = Vec::new(alloc);
-        for (step, _) in self.own.children() {
-            steps.push(step.to_step(alloc)?)?;
-        }
-        for index in self.own.fixed()..u64::from(alike) {
-            steps.push(Step::Index(index as u32))?;
+        for (label, _) in self.own.labels() {
+            steps.push(Step::Label(Text::from_str(alloc, label)?))?;
         }
         Ok(steps)
+    }
+
+    /// The indexes at which other elements begin, with 0: between two of them closing adds the same
+    /// in all elements, and so it does from the last one on.
+    fn bounds(&self, alloc: Global) -> Result<BinaryHeap<u32>, Memory>
+        ensures heap { IfOk result (λ bounds. IsHeap nat_cmp (heap_items bounds)) }
+        ensures first { IfOk result (λ bounds. Contains (heap_items bounds) 0) }
+        ensures alike { IfOk result (λ bounds. AreBounds self.now (heap_items bounds)) }
+    {
+        let mut bounds = BinaryHeap::new(alloc);
+        bounds.push(0)?;
+        if has_no_elements(&self.own) {
+            return Ok(bounds);
+        }
+        push_bounds(&mut bounds, &self.own)?;
+        push_bounds_below(&mut bounds, &self.dots)?;
+        push_bounds_below(&mut bounds, &self.rows)?;
+        Ok(bounds)
     }
 
     /// The place one step below, where the body's own struct literals stand there or below.
@@ -191,14 +225,73 @@ fn find<'a, R: Narrow>(branch: &Option<Branch<'a, R>>, step: &Step) -> Option<Br
     branch.as_ref()?.find(step)
 }
 
-/// From which index on all elements are alike.
-fn fixed<R: Narrow>(branch: &Option<Branch<R>>) -> u64
-    ensures { result ≡ option_map_or fixed_of branch.now 0 }
+/// Whether no element stands at a place.
+fn has_no_elements<R: Narrow>(branch: &Branch<R>) -> bool
+    ensures { IsTrue result → (i : ℕ) → step_into branch.now (index i) ≡ None }
+{
+    branch.rest().is_none() && branch.fixed() == 0
+}
+
+/// Puts in the indexes at which other elements of a branch begin, where there is one.
+fn push_bounds_below<R: Narrow>(
+    bounds: &mut BinaryHeap<u32>,
+    branch: &Option<Branch<R>>,
+) -> Result<(), Memory>
+    requires heap { IsHeap nat_cmp (heap_items bounds.old) }
+    ensures heap { OnOk result (IsHeap nat_cmp (heap_items bounds.new)) }
+    ensures kept { OnOk result (AreKept (heap_items bounds.old) (heap_items bounds.new)) }
+    ensures alike { OnOk result (AreBoundsBelow branch.now (heap_items bounds.new)) }
 {
     match branch {
-        None => 0,
-        Some(branch) => branch.fixed(),
+        None => Ok(()),
+        Some(branch) => push_bounds(bounds, branch),
     }
+}
+
+/// Puts in the indexes at which other elements of a branch begin.
+fn push_bounds<R: Narrow>(bounds: &mut BinaryHeap<u32>, branch: &Branch<R>) -> Result<(), Memory>
+    requires heap { IsHeap nat_cmp (heap_items bounds.old) }
+    ensures heap { OnOk result (IsHeap nat_cmp (heap_items bounds.new)) }
+    ensures kept { OnOk result (AreKept (heap_items bounds.old) (heap_items bounds.new)) }
+    ensures alike { OnOk result (AreBoundsOf branch.now (heap_items bounds.new)) }
+{
+    for (span, _) in branch.spans() {
+        push_span(bounds, span)?;
+    }
+    push_bound(bounds, branch.fixed())?;
+    Ok(())
+}
+
+/// Puts in the first index of a span, and that behind its last one.
+fn push_span(bounds: &mut BinaryHeap<u32>, span: Span) -> Result<(), Memory>
+    requires heap { IsHeap nat_cmp (heap_items bounds.old) }
+    ensures heap { OnOk result (IsHeap nat_cmp (heap_items bounds.new)) }
+    ensures kept { OnOk result (AreKept (heap_items bounds.old) (heap_items bounds.new)) }
+    ensures there { OnOk result (HasBoundsOf (span_of span.entry) (heap_items bounds.new)) }
+{
+    match span {
+        Span::Label(_) => Ok(()),
+        Span::Elements { first, more } => {
+            push_bound(bounds, u64::from(first))?;
+            push_bound(bounds, u64::from(first) + u64::from(more) + 1)?;
+            Ok(())
+        }
+    }
+}
+
+/// Puts in an index.
+fn push_bound(bounds: &mut BinaryHeap<u32>, index: u64) -> Result<(), Memory>
+    requires heap { IsHeap nat_cmp (heap_items bounds.old) }
+    ensures heap { OnOk result (IsHeap nat_cmp (heap_items bounds.new)) }
+    ensures kept { OnOk result (AreKept (heap_items bounds.old) (heap_items bounds.new)) }
+    ensures there { OnOk result (Contains (heap_items bounds.new) index) }
+{
+    let Ok(bound) = u32::try_from(index) else {
+        // No list of a text is so long.
+        return Err(Memory);
+    };
+    bounds.push(bound)?;
+    Ok(())
 }
 
 /// Whether a literal has a `...` at a place.

@@ -1,6 +1,7 @@
 //! Evaluation: what expressions and texts refuse at each place, and the scalars that a text writes.
 #![tactic(auto)]
 
+mod additions;
 mod body;
 mod declared;
 mod evaluation;

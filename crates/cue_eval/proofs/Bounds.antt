@@ -1,0 +1,191 @@
+-- The indexes at which other elements begin.
+use Rattle.std.proofs.Common.{◌≡◌, ◌↔◌, ◌⊎◌, inl, inr, ⊎_elim, ℕ, zero, suc, ◌+◌, ◌≤◌, ◌<◌, true, false, List, [], ◌∷◌, All, Option, Some, None, refl, sym, ap, subst, ◌∙◌, arith}
+use Rattle.std.specs.List.{Contains}
+use Rattle.std.specs.List.Sorted.{IsPermutation}
+use Rattle.std.specs.BinaryHeap.{IsUpperBound}
+use Rattle.std.specs.Ordering.{nat_cmp, is_lt}
+use Rattle.std.proofs.lemmas.Bool.{cases_lt}
+use Rattle.std.proofs.lemmas.List.Elements.{All-contains, All-contains_itself, Contains-append_right, All-weaker, All-cons, All-from_recursion}
+use Rattle.std.proofs.lemmas.List.Sorted.{All-permutation, IsPermutation-sym, Contains-permutation}
+use Rattle.cue_lattice.specs.Path as paths
+use Rattle.cue_lattice.specs.Path.{Path, index, label}
+use Rattle.cue_lattice.specs.Question.{Question}
+use Rattle.cue_row.specs.Questions.{question_of}
+use Rattle.cue_row.specs.Row.{Refuses}
+use Rattle.cue_row.specs.declared.question.Question as program
+use Rattle.cue_row.specs.declared.parts.RowParts.{RowParts as Row}
+use Rattle.cue_row.specs.declared.step.Step.{Step}
+use Rattle.cue_table.specs.Refuses.{TableRefuses}
+use Rattle.cue_table.specs.Spans.{Span, field, elements, alike, spanned, spread}
+use Rattle.cue_table.specs.Tree.{Tree, node, Children, none, child, no_rest, onward, below, find, find_with, step_into, fixed_of, empty}
+use Rattle.cue_table.proofs.Branches.{find_before, find_rest, find_fixed}
+use Rattle.cue_table.proofs.Joined.{alike_find, alike_past, less_number}
+use Rattle.cue_eval.specs.Adding.{AddsAt, row_below, IsReached, Gathers, IsGathered, AreFields, NoneBetween, AreBounds, AreBoundsOf, AreBoundsBelow, AreKept, HasBoundsOf}
+use Rattle.cue_eval.specs.declared.additions.Additions.{Additions}
+use Rattle.cue_eval.specs.declared.left_out.Place.{Place}
+use Rattle.cue_eval.proofs.AddedBelow.{Below, empty_refuses}
+use Rattle.cue_eval.proofs.LabelTables.{adds_further, adds_nowhere, adds_branch, same_adds}
+
+-- ---- numbers that are kept
+pub all_kept : (P : ℕ → Type 0) (old new : List ℕ) → AreKept old new → All P new → All P old
+all_kept P old new kept all = All-weaker (Contains old) P (λ n there. All-contains P new n all (kept n there)) old (All-contains_itself old)
+
+pub kept_itself : (bounds : List ℕ) → AreKept bounds bounds
+kept_itself bounds n there = there
+
+pub kept_on : (a b c : List ℕ) → AreKept a b → AreKept b c → AreKept a c
+kept_on a b c one two n there = two n (one n there)
+
+pub pushed_kept : (bound : ℕ) (old new : List ℕ) → IsPermutation (bound ∷ old) new → AreKept old new
+pushed_kept bound old new moved n there = Contains-permutation (bound ∷ old) new n moved (Contains-append_right (bound ∷ []) old n there)
+
+pub pushed_there : (bound : ℕ) (old new : List ℕ) → IsPermutation (bound ∷ old) new → Contains new bound
+pushed_there bound old new moved = Contains-permutation (bound ∷ old) new bound moved (0, omega arith, refl)
+
+-- ---- elements that stand next to one another
+module _ {R : Type 0} where
+  lower : (f i : ℕ) (tree : Tree R) (others : Children R) → i < f → find (index i) (child (index f) tree others) ≡ find (index i) others
+  lower f i tree others low = find_before (index i) (index f) tree others (less_number i f low)
+
+  alike_before : (f m i : ℕ) (tree : Tree R) (others : Children R) → i < f → find (index i) (alike f m tree others) ≡ find (index i) others
+  alike_before f zero i tree others low = lower f i tree others low
+  alike_before f (suc m) i tree others low = lower f i tree (alike (suc f) m tree others) low ∙ alike_before (suc f) m i tree others (omega (arith, low))
+
+  -- in a span, or beside it
+  pub alike_same : (f m i j : ℕ) (tree : Tree R) (others : Children R) → i ≤ j → (f ≤ i) ⊎ (j < f) → (f + m + 1 ≤ i) ⊎ (j < f + m + 1) → find (index i) others ≡ find (index j) others
+      → find (index i) (alike f m tree others) ≡ find (index j) (alike f m tree others)
+  alike_same f m i j tree others le (inr low) end same =
+      alike_before f m i tree others (omega (arith, le, low)) ∙ same ∙ sym (alike_before f m j tree others low)
+  alike_same f m i j tree others le (inl high) (inl past) same =
+      alike_past f m i tree others (omega (arith, past)) ∙ same ∙ sym (alike_past f m j tree others (omega (arith, past, le)))
+  alike_same f m i j tree others le (inl high) (inr near) same =
+      alike_find f m i tree others high (omega (arith, le, near)) ∙ sym (alike_find f m j tree others (omega (arith, le, high)) (omega (arith, near)))
+
+  rest_same : (n i j : ℕ) (tree : Tree R) (children : Children R) → i ≤ j → (n ≤ i) ⊎ (j < n) → find (index i) children ≡ find (index j) children
+      → find_with (onward n tree) (index i) children ≡ find_with (onward n tree) (index j) children
+  rest_same n i j tree children le (inl high) same = find_rest n tree children i high ∙ sym (find_rest n tree children j (omega (arith, high, le)))
+  rest_same n i j tree children le (inr low) same = find_fixed n tree children i (omega (arith, le, low)) ∙ same ∙ sym (find_fixed n tree children j low)
+
+  -- where the branches between two indexes are alike, so are the elements
+  pub into_same : (tree : Tree R) (i j : ℕ) → i ≤ j → (fixed_of tree ≤ i) ⊎ (j < fixed_of tree) → find (index i) (below tree) ≡ find (index j) (below tree) → step_into tree (index i) ≡ step_into tree (index j)
+  into_same (node row children no_rest) i j le end same = same
+  into_same (node row children (onward n tree)) i j le end same = rest_same n i j tree children le end same
+
+  -- the branches that are left tell of all
+  abbrev pub AreLeft : Children R → Children R → List ℕ → Type 0
+  AreLeft all left bounds = (i j : ℕ) → i ≤ j → NoneBetween i j bounds → find (index i) left ≡ find (index j) left → find (index i) all ≡ find (index j) all
+
+  pub left_all : (all : Children R) (left : List (Span × Tree R)) (bounds : List ℕ) → spread left ≡ all → AreLeft all (spread left) bounds
+  left_all all left bounds is i j le apart same = subst (λ cs. find (index i) cs ≡ find (index j) cs) is same
+
+  left_elements : (all : Children R) (f m : ℕ) (tree : Tree R) (left : Children R) (old new : List ℕ) → AreLeft all (alike f m tree left) old → AreKept old new → Contains new f → Contains new (f + m + 1) → AreLeft all left new
+  left_elements all f m tree left old new are kept first last i j le apart same =
+      are i j le (all_kept (λ bound. (bound ≤ i) ⊎ (j < bound)) old new kept apart)
+      (alike_same f m i j tree left le (All-contains (λ bound. (bound ≤ i) ⊎ (j < bound)) new f apart first) (All-contains (λ bound. (bound ≤ i) ⊎ (j < bound)) new (f + m + 1) apart last) same)
+
+  pub left_span : (all : Children R) (span : Span) (tree : Tree R) (left : Children R) (old new : List ℕ) → AreLeft all (spanned span tree left) old → AreKept old new → HasBoundsOf span new → AreLeft all left new
+  left_span all (field text) tree left old new are kept there i j le apart same = are i j le (all_kept (λ bound. (bound ≤ i) ⊎ (j < bound)) old new kept apart) same
+  left_span all (elements f m) tree left old new are kept there i j le apart same = left_elements all f m tree left old new are kept there.0 there.1 i j le apart same
+
+  pub all_left : (tree : Tree R) (old new : List ℕ) → AreLeft (below tree) none old → AreKept old new → Contains new (fixed_of tree) → AreBoundsOf tree new
+  all_left tree old new are kept last i j le apart =
+      into_same tree i j le (All-contains (λ bound. (bound ≤ i) ⊎ (j < bound)) new (fixed_of tree) apart last) (are i j le (all_kept (λ bound. (bound ≤ i) ⊎ (j < bound)) old new kept apart) refl)
+
+-- ---- what closing adds between bounds
+pub bounded : (place : Place) (bounds : List ℕ) → AreBoundsBelow (Some place.own) bounds → AreBoundsBelow place.dots bounds → AreBoundsBelow place.rows bounds → AreBounds place bounds
+bounded place bounds own dots rows i j le apart path question =
+    let one = adds_further place (index i) path question in
+    let other = adds_further place (index j) path question in
+    let same = same_adds _ _ _ _ _ _ (ap (λ t. row_below t path) (own i j le apart)) (ap (λ t. row_below t path) (dots i j le apart)) (ap (λ t. row_below t path) (rows i j le apart)) question in
+    (λ h. other.1 (same.0 (one.0 h)), λ h. one.1 (same.1 (other.0 h)))
+
+pub nowhere_bounded : (place : Place) (bounds : List ℕ) → ((i : ℕ) → step_into place.own (index i) ≡ None) → AreBounds place bounds
+nowhere_bounded place bounds free i j le apart path question =
+    (λ h. absurd (adds_nowhere place (index i) (free i) path question h), λ h. absurd (adds_nowhere place (index j) (free j) path question h))
+
+pub kept_below : {R : Type 0} (branch : Option (Tree R)) (old new : List ℕ) → AreKept old new → AreBoundsBelow branch old → AreBoundsBelow branch new
+kept_below branch old new kept are i j le apart = are i j le (all_kept (λ bound. (bound ≤ i) ⊎ (j < bound)) old new kept apart)
+
+-- ---- the way from bound to bound, the greatest first
+pub record IsUnderway (place : Place) (additions : Additions) (bounds : List ℕ) : Type 0 where
+  pub gathered : IsGathered place additions
+  pub alike : (i j : ℕ) → i ≤ j → j < additions.from → NoneBetween i j bounds → (path : Path) (question : Question)
+      → AddsAt place (index i ∷ path) question ↔ AddsAt place (index j ∷ path) question
+  pub end : All (λ bound. 0 < bound) bounds → additions.from ≡ 0
+
+-- the greatest bound is below none of the others
+below_greatest : (x : ℕ) (xs : List ℕ) → IsUpperBound nat_cmp x xs → All (λ y. y ≤ x) xs
+below_greatest x xs h = All-weaker (λ y. is_lt (nat_cmp x y) ≡ false) (λ y. y ≤ x) (λ y e. at y e) xs (All-from_recursion (λ y. is_lt (nat_cmp x y) ≡ false) xs h) where
+  at : (y : ℕ) → is_lt (nat_cmp x y) ≡ false → y ≤ x
+  at y e = ⊎_elim (λ (low : x < y). let is : is_lt (nat_cmp x y) ≡ true = ap is_lt (less_number x y low) in let no : true ≡ false = sym is ∙ e in cc (no)) (λ h. h) (cases_lt x y)
+
+back : (P : ℕ → Type 0) (all left : List ℕ) (x : ℕ) → IsPermutation all (x ∷ left) → P x → All P left → All P all
+back P all left x moved here others = All-permutation P (x ∷ left) all (IsPermutation-sym all (x ∷ left) moved) (All-cons P x left here others)
+
+-- from the greatest bound on all elements are alike
+pub underway : (place : Place) (additions : Additions) (fields : List (Step × Tree Row)) (all left : List ℕ) (last : ℕ) → AreFields place fields → additions.from ≡ last → additions.later ≡ empty → additions.single.items ≡ fields
+    → ((path : Path) (question : program.Question) → TableRefuses Refuses additions.each path question ↔ AddsAt place (index last ∷ path) (question_of question))
+    → AreBounds place all → Contains all 0 → IsPermutation all (last ∷ left) → IsUpperBound nat_cmp last left → IsUnderway place additions left
+underway place additions fields all left last are from later single says bounds there moved greatest = record {
+  gathered = record {
+    root = λ question h. empty_refuses [] question (subst (λ t. TableRefuses Refuses t [] question) later h);
+    reached = λ step path question far. at step path question (subst (λ n. IsReached n step) from far);
+    others = λ i path question low h. ⊎_elim
+        (⊎_elim (λ g. empty_refuses (index i ∷ path) question (subst (λ t. TableRefuses Refuses t (index i ∷ path) question) later g)) (λ g. let far : additions.from ≤ i = g.0 in absurd (omega (arith, far, low))))
+        (λ g. no_element i path question g) h;
+  };
+  alike = λ i j le low apart. bounds i j le (back (λ bound. (bound ≤ i) ⊎ (j < bound)) all left last moved (inr (subst (λ n. j < n) from low)) apart);
+  end = λ positive. elim (cases_lt 0 last) [
+    | inl more ↦ let no : 0 < 0 = All-contains (λ bound. 0 < bound) all 0 (back (λ bound. 0 < bound) all left last moved more positive) there in absurd (omega (arith, no))
+    | inr least ↦ omega (arith, from, least)
+  ];
+} where
+  no_element : (i : ℕ) (path : Path) (question : program.Question) → ¬ Below additions.single.items (index i) path question
+  no_element i path question h = are.1.labels i ((are.2.refused (index i) path question).0 (subst (λ xs. Below xs (index i) path question) single h)).0
+
+  last_alike : (i : ℕ) → last ≤ i → (path : Path) (question : Question) → AddsAt place (index last ∷ path) question ↔ AddsAt place (index i ∷ path) question
+  last_alike i far = bounds last i far (back (λ bound. (bound ≤ last) ⊎ (i < bound)) all left last moved (inl (omega arith)) (All-weaker (λ y. y ≤ last) (λ bound. (bound ≤ last) ⊎ (i < bound)) (λ y h. inl h) left (below_greatest last left greatest)))
+
+  at : (step : paths.Step) (path : Path) (question : program.Question) → IsReached last step → Gathers additions step path question ↔ AddsAt place (step ∷ path) (question_of question)
+  at (label text) path question far = (
+    ⊎_elim (⊎_elim (λ g. absurd (empty_refuses (label text ∷ path) question (subst (λ t. TableRefuses Refuses t (label text ∷ path) question) later g))) (λ g. absurd g.0))
+        (λ g. ((are.2.refused (label text) path question).0 (subst (λ xs. Below xs (label text) path question) single g)).1),
+    λ h. let branch = adds_branch place (label text) path (question_of question) h in
+        inr (subst (λ xs. Below xs (label text) path question) (sym single) ((are.2.refused (label text) path question).1 (are.1.all text branch.0 branch.1, h))),
+  )
+  at (index i) path question far =
+      let same = last_alike i far path (question_of question) in (
+        ⊎_elim (⊎_elim (λ g. absurd (empty_refuses (index i ∷ path) question (subst (λ t. TableRefuses Refuses t (index i ∷ path) question) later g))) (λ g. same.0 ((says path question).0 g.1)))
+            (λ g. absurd (no_element i path question g)),
+        λ h. inl (inr (omega (arith, from, far), (says path question).1 (same.1 h))),
+      )
+
+-- a stretch up to the last one: in all its elements the same is added
+pub stretch : (place : Place) (additions : Additions) (all left : List ℕ) (first : ℕ) (sets : Tree Row) → IsUnderway place additions all → IsPermutation all (first ∷ left) → IsUpperBound nat_cmp first left
+    → ((path : Path) (question : program.Question) → TableRefuses Refuses sets path question ↔ AddsAt place (index first ∷ path) (question_of question))
+    → (i : ℕ) (path : Path) (question : program.Question) → first ≤ i → i < additions.from → TableRefuses Refuses sets path question ↔ AddsAt place (index i ∷ path) (question_of question)
+stretch place additions all left first sets is moved greatest says i path question far low =
+    let apart = back (λ bound. (bound ≤ first) ⊎ (i < bound)) all left first moved (inl (omega arith)) (All-weaker (λ y. y ≤ first) (λ bound. (bound ≤ first) ⊎ (i < bound)) (λ y h. inl h) left (below_greatest first left greatest)) in
+    let same = is.alike first i far low apart path (question_of question) in
+    (λ h. same.0 ((says path question).0 h), λ h. (says path question).1 (same.1 h))
+
+pub underway_on : (place : Place) (old new : Additions) (all left : List ℕ) (first : ℕ) → IsUnderway place old all → IsPermutation all (first ∷ left) → first < old.from → new.from ≡ first → IsGathered place new → IsUnderway place new left
+underway_on place old new all left first is moved low from gathered = record {
+  gathered = gathered;
+  alike = λ i j le before apart. is.alike i j le (omega (arith, before, from, low)) (back (λ bound. (bound ≤ i) ⊎ (j < bound)) all left first moved (inr (subst (λ n. j < n) from before)) apart);
+  end = λ positive. elim (cases_lt 0 first) [
+    | inl more ↦ let no = is.end (back (λ bound. 0 < bound) all left first moved more positive) in absurd (omega (arith, no, low))
+    | inr least ↦ omega (arith, from, least)
+  ];
+}
+
+-- a bound that is told twice
+pub underway_again : (place : Place) (additions : Additions) (all left : List ℕ) (first : ℕ) → IsUnderway place additions all → IsPermutation all (first ∷ left) → additions.from ≤ first → IsUnderway place additions left
+underway_again place additions all left first is moved far = record {
+  gathered = is.gathered;
+  alike = λ i j le before apart. is.alike i j le before (back (λ bound. (bound ≤ i) ⊎ (j < bound)) all left first moved (inr (omega (arith, before, far))) apart);
+  end = λ positive. elim (cases_lt 0 first) [
+    | inl more ↦ is.end (back (λ bound. 0 < bound) all left first moved more positive)
+    | inr least ↦ omega (arith, far, least)
+  ];
+}

@@ -1,0 +1,32 @@
+use Rattle.std.proofs.Common.{Contains, subst}
+use Rattle.std.specs.BinaryHeap.{heap_items}
+use Rattle.cue_table.specs.Spans.{spread}
+use Rattle.cue_table.specs.StepsOfCode.{span_of}
+use Rattle.cue_table.specs.Tree.{below}
+use Rattle.cue_eval.proofs.Bounds.{AreLeft, left_span, all_left, kept_on}
+use Rattle.cue_eval.proofs.left_out.push_bounds.Goals as goal
+
+pub loop-span-preserved : goal.loop-span-preserved
+loop-span-preserved g c =
+    let loop = c.loop-span in
+    let all = below c.args.branch.now in
+    let old = heap_items loop.bounds in
+    let new = heap_items c.push_span.new.bounds in
+    let put = c.in_ok-push_span.ensures in (
+      put.heap,
+      kept_on (heap_items c.args.bounds.now) old new loop.invariant.1 put.kept,
+      left_span all (span_of c.in-Some.span) c.in-Some.field-0-1 (spread c.next.new.self) old new
+          (subst (λ xs. AreLeft all (spread xs) old) c.in-Some.ensures.steps loop.invariant.2) put.kept put.there,
+    )
+
+pub returns-clause-kept : goal.returns-clause-kept
+returns-clause-kept g c = kept_on (heap_items c.args.bounds.now) (heap_items c.loop-span.bounds) (heap_items c.push_bound.new.bounds) c.loop-span.invariant.1 c.in_ok-push_bound.ensures.kept
+
+pub returns-clause-alike : goal.returns-clause-alike
+returns-clause-alike g c =
+    let tree = c.args.branch.now in
+    let old = heap_items c.loop-span.bounds in
+    let new = heap_items c.push_bound.new.bounds in
+    let put = c.in_ok-push_bound.ensures in
+    all_left tree old new (subst (λ xs. AreLeft (below tree) (spread xs) old) c.in-None.ensures.steps.0 c.loop-span.invariant.2) put.kept
+    (subst (λ n. Contains new n) c.fixed.ensures.fixed put.there)
