@@ -24,3 +24,4 @@ pub mod Texts
 pub mod Trails
 pub mod Walk
 pub mod Writing
+pub mod Silent

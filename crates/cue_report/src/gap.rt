@@ -105,6 +105,7 @@ impl<'a> Search<'a> {
     }
 
     /// Looks for gaps at the elements of a place that each list has and that are its rest.
+    /// Where nothing is told of one, nothing is of those behind it.
     #[cycle(walk)]
     fn visit_rest<S: GapSink>(
         &mut self,
@@ -122,9 +123,13 @@ impl<'a> Search<'a> {
         let least = least_of(branch.row());
         let first = rest_from(branch, least);
         for number in first..least {
+            let before = sink.len();
             self.steps.push(StepRef::Index(number))?;
             self.visit(sink, &rest, false)?;
             self.steps.pop();
+            if sink.len() == before {
+                return Ok(());
+            }
         }
         Ok(())
     }

@@ -43,6 +43,10 @@ impl ConflictSink for Listed<Conflict> {
 
     ghost piece = { λ conflict. conflict ∷ [] };
 
+    fn len(&self) -> usize {
+        self.list.len()
+    }
+
     fn conflict(
         &mut self,
         steps: &[StepRef],
@@ -65,6 +69,10 @@ impl GapSink for Listed<Gap> {
     ghost told = { λ listed. listed.list.items };
 
     ghost piece = { λ gap. gap ∷ [] };
+
+    fn len(&self) -> usize {
+        self.list.len()
+    }
 
     fn gap(&mut self, steps: &[StepRef], missing: bool) -> Result<(), Memory> {
         let path = Place::new(copied(self.alloc, steps)?);

@@ -1,4 +1,4 @@
-ghost use Rattle.std.specs.Prelude.{◌≡◌, ◌++◌, ◌-◌, List, OnOk};
+ghost use Rattle.std.specs.Prelude.{◌≡◌, ◌<◌, ◌++◌, ◌-◌, List, length, OnOk};
 ghost use Rattle.cue_report.specs.GapSearch.{told_above, free_elements};
 ghost use Rattle.cue_report.specs.Trail.{shown_steps};
 ghost use Rattle.cue_report.specs.declared.conflict.Conflict.{Conflict as Conflicts};
@@ -16,6 +16,11 @@ pub(crate) trait ConflictSink {
     ghost told: { Self → List Self.Piece };
 
     ghost piece: { Conflicts → List Self.Piece };
+
+    /// How much was told so far. Of each conflict something is told.
+    fn len(&self) -> usize
+        ensures len { result ≡ length (told self.now) }
+        ensures some { (conflict : Conflicts) → 0 < length (piece conflict) };
 
     /// Tells of a conflict at the place to which these steps lead.
     fn conflict(
@@ -40,6 +45,11 @@ pub(crate) trait GapSink {
     ghost told: { Self → List Self.Piece };
 
     ghost piece: { Gaps → List Self.Piece };
+
+    /// How much was told so far. Of each gap something is told.
+    fn len(&self) -> usize
+        ensures len { result ≡ length (told self.now) }
+        ensures some { (gap : Gaps) → 0 < length (piece gap) };
 
     /// Tells of a gap at the place to which these steps lead.
     fn gap(&mut self, steps: &[StepRef], missing: bool) -> Result<(), Memory>

@@ -62,6 +62,10 @@ impl ConflictSink for Written {
 
     ghost piece = { conflict_line };
 
+    fn len(&self) -> usize {
+        self.text.len()
+    }
+
     fn conflict(
         &mut self,
         steps: &[StepRef],
@@ -81,6 +85,10 @@ impl GapSink for Written {
     ghost told = { λ written. string_bytes written.text };
 
     ghost piece = { gap_line };
+
+    fn len(&self) -> usize {
+        self.text.len()
+    }
 
     fn gap(&mut self, steps: &[StepRef], missing: bool) -> Result<(), Memory> {
         self.text.push_str("incomplete ")?;

@@ -1,10 +1,11 @@
-use Rattle.std.proofs.Common.{◌++◌, map, false, refl, ap, ◌∙◌, arith}
+use Rattle.std.proofs.Common.{◌≡◌, ◌+◌, ◌-◌, ◌++◌, map, length, false, refl, ap, ◌∙◌, arith}
 use Rattle.cue_table.specs.StepsOfCode.{step_at}
 use Rattle.cue_table.specs.declared.step_ref.StepRef.TheVariants.{Index}
 use Rattle.cue_table.specs.Tree.{row_of, below, rest_of}
 use Rattle.cue_table.specs.Size.{children_size}
-use Rattle.cue_report.specs.Search.{told_under, has_no_value, conflict_here, conflicts_in, conflicts_below, least_at}
+use Rattle.cue_report.specs.Search.{under, told_under, has_no_value, conflict_here, conflicts_in, conflicts_below, least_at}
 use Rattle.cue_report.proofs.Walk.{popped, pushed_on, walked_in, walked_past, inner_smaller, walked, walked_element, all_elements, rest_within, demand_is, refusal_is}
+use Rattle.cue_report.proofs.Silent.{silent, any_elements}
 use Rattle.cue_report.proofs.Writing.{on_ok}
 use Rattle.cue_report.proofs.conflict.Search.+walk.Goals as goal
 
@@ -83,3 +84,24 @@ visit_rest-returns-clause-found g t c =
     all_elements g.S.ConflictSink.piece tree c.in-Some.rest c.rest_from-first.result least loop.number (told c.args.sink.now) (told loop.sink) (map step_at c.args.self.now.steps.items)
     c.in-Some.ensures.rest (c.least_of-least.ensures ∙ ap least_at c.row.ensures.row) c.rest_from-first.ensures
     (let within = rest_within (rest_of tree) least in omega (arith, within, c.rest_from-first.ensures, loop.auto.number, loop.auto.number-end, c.loop-number-test.false)) loop.invariant.2
+
+pub visit_rest-returns-then-len-before-clause-found : goal.visit_rest-returns-then-len-before-clause-found
+visit_rest-returns-then-len-before-clause-found g t c =
+    let told = g.S.ConflictSink.told in
+    let piece = g.S.ConflictSink.piece in
+    let loop = c.loop-number in
+    let first = c.rest_from-first.result in
+    let least = c.least_of-least.result in
+    let steps = c.args.self.now.steps.items in
+    let pushed = c.push.new.self.items in
+    let found = conflicts_in false c.in-Some.rest in
+    let start = told c.args.sink.now in
+    let now = told loop.sink in
+    let after = told c.visit.new.sink in
+    let all = walked_element piece first loop.number found start now after (map step_at steps) (map step_at pushed)
+    loop.invariant.0 loop.invariant.2 (pushed_on loop.self.steps.items steps pushed (Index loop.number) c.in_ok-push.ensures.items loop.invariant.1) c.in_ok-visit.ensures.found in
+    let same : length after ≡ length now = omega (arith, c.if-len-before.true, c.len.ensures.len, c.len-before.ensures.len) in
+    let none = silent piece c.len.ensures.some (under (map step_at pushed)) found now after c.in_ok-visit.ensures.found same in
+    all_elements piece c.args.branch.now c.in-Some.rest first least least start after (map step_at steps)
+    c.in-Some.ensures.rest (c.least_of-least.ensures ∙ ap least_at c.row.ensures.row) c.rest_from-first.ensures refl
+    (all ∙ ap (λ xs. start ++ told_under piece (map step_at steps) xs) (any_elements first (loop.number + 1 - first) (least - first) found none))

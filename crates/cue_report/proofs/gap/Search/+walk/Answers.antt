@@ -1,4 +1,4 @@
-use Rattle.std.proofs.Common.{◌++◌, ◌-◌, map, refl, sym, ap, subst, ◌∙◌, arith}
+use Rattle.std.proofs.Common.{◌≡◌, ◌+◌, ◌++◌, ◌-◌, map, length, refl, sym, ap, subst, ◌∙◌, arith}
 use Rattle.cue_table.specs.StepsOfCode.{step_at}
 use Rattle.cue_table.specs.declared.step_ref.StepRef.TheVariants.{Index}
 use Rattle.cue_table.specs.Tree.{rest_of}
@@ -7,6 +7,7 @@ use Rattle.cue_report.specs.Search.{least_at}
 use Rattle.cue_report.proofs.GapRests.{none_among, element_added, all_among, nothing_onward, ended}
 use Rattle.cue_report.proofs.GapWalk.{IsOver, started, walked_in, walked_past}
 use Rattle.cue_report.proofs.Walk.{popped, pushed_on, inner_smaller, rest_within, is_ended, demand_is, refusal_is}
+use Rattle.cue_report.proofs.Silent.{any_among}
 use Rattle.cue_report.proofs.Writing.{on_ok}
 use Rattle.cue_report.proofs.gap.Search.+walk.Goals as goal
 
@@ -99,3 +100,24 @@ visit_rest-returns-clause-gaps g t c =
 pub visit_rest-returns-in_default-clause-gaps : goal.visit_rest-returns-in_default-clause-gaps
 visit_rest-returns-in_default-clause-gaps g t c =
     nothing_onward g.S.GapSink.piece c.args.branch.now (map step_at c.args.self.now.steps.items) (g.S.GapSink.told c.args.sink.now) (is_ended c.args.branch.now (sym c.in_default.ensures.rest))
+
+pub visit_rest-returns-then-len-before-clause-gaps : goal.visit_rest-returns-then-len-before-clause-gaps
+visit_rest-returns-then-len-before-clause-gaps g t c =
+    let told = g.S.GapSink.told in
+    let piece = g.S.GapSink.piece in
+    let loop = c.loop-number in
+    let first = c.rest_from-first.result in
+    let least = c.least_of-least.result in
+    let rest = c.in-Some.rest in
+    let steps = c.args.self.now.steps.items in
+    let pushed = c.push.new.self.items in
+    let start = told c.args.sink.now in
+    let now = told loop.sink in
+    let after = told c.visit.new.sink in
+    let here = c.in_ok-visit.ensures.gaps in
+    let all = element_added piece first loop.number rest (map step_at steps) (map step_at pushed) start now after
+    loop.invariant.0 loop.invariant.2 (pushed_on loop.self.steps.items steps pushed (Index loop.number) c.in_ok-push.ensures.items loop.invariant.1) here in
+    let same : length after ≡ length now = omega (arith, c.if-len-before.true, c.len.ensures.len, c.len-before.ensures.len) in
+    all_among piece c.args.branch.now rest first least least (map step_at steps) start after
+    c.in-Some.ensures.rest (c.least_of-least.ensures ∙ ap least_at c.row.ensures.row) c.rest_from-first.ensures refl
+    (any_among piece c.len.ensures.some first (loop.number + 1) least rest (map step_at steps) (map step_at pushed) start now after same here all)
