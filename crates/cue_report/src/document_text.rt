@@ -27,10 +27,9 @@ pub(crate) fn document_text(alloc: Global, table: &Table<Row>) -> Result<String,
 {
     let mut out = Writer::new(Vec::new(alloc));
     write_document(alloc, &mut out, &table.root())?;
-    match String::from_utf8(out.into_inner()) {
-        Ok(text) => Ok(text),
-        Err(_) => Err(Memory),
-    }
+    // What the writer holds is a text.
+    let text = String::from_utf8(out.into_inner()).unwrap();
+    Ok(text)
 }
 
 /// Writes the document of a place and all below it. Where only scalars may stand, but none is left,
