@@ -4,6 +4,7 @@ use crate::listing::assert_rows;
 use crate::texts::unified;
 use crate::values::assert_printed;
 use cue_lattice::Memory;
+use cue_report::{conflict_lines, gap_lines};
 use cue_row::Row;
 use cue_table::Table;
 use std::alloc::Global;
@@ -197,4 +198,49 @@ fn they_are_printed_behind_the_dots(rt: HostRuntime) -> Result<(), Fail> {
         "l: [...int] & [1, 2]",
         "\"l\": [1, 2, ...int] & [_, _]\n",
     )
+}
+
+/// A list of so many elements that may be anything, and then 1.
+fn long_list(alloc: Global, count: usize) -> Result<String, Memory> {
+    let mut text = String::from_str(alloc, "[")?;
+    for _ in 0..count {
+        text.push_str("_, ")?;
+    }
+    text.push_str("1]")?;
+    Ok(text)
+}
+
+/// A definition of lists within lists, of which each has so many elements that are alike and one
+/// that is not.
+fn lists_in_lists(alloc: Global, count: usize) -> Result<String, Memory> {
+    let list = long_list(alloc, count)?;
+    let list = list.as_str();
+    let text = format!(in alloc;
+        "#A: {list} & [...{list}] & [...[...{list}]] & [...[...[...{{a: 1}}]]]\nx?: #A"
+    )?;
+    Ok(text)
+}
+
+#[test]
+fn elements_that_are_alike_are_closed_once(rt: HostRuntime) -> Result<(), Fail> {
+    let text = lists_in_lists(rt.alloc(), 1000)?;
+    assert_exported(&rt, &[text.as_str()], "{}")
+}
+
+/// The lines of the conflicts and gaps of texts, which are legal.
+fn reported(alloc: Global, texts: &[&str]) -> Result<String, Memory> {
+    let table = table(alloc, texts)?;
+    let text = conflict_lines(alloc, String::new(alloc), &table)?;
+    gap_lines(alloc, text, &table)
+}
+
+#[test]
+fn elements_of_which_nothing_is_told_are_looked_at_once(rt: HostRuntime) -> Result<(), Fail> {
+    let text = concat!(
+        "#A: [_, _, _, _, _, _, _, _, _]\n",
+        "l: [...[...[...[...[...[...[...[...[...[...1] & #A] & #A] & #A] & #A] & #A] & #A] & #A] & #A] & #A] & #A"
+    );
+    let lines = reported(rt.alloc(), &[text])?;
+    assert_eq!(rt; lines.as_str(), "");
+    Ok(())
 }
