@@ -1,12 +1,6 @@
 """Reads fragments loosely, for the scripts in bin/: their tokens, with forms of CUE that the store leaves out among them,
 and which declaration a place stands in. What is right and what is refused the program alone decides."""
-import os
 import re
-import subprocess
-import sys
-
-BIN = os.path.dirname(os.path.dirname(os.path.realpath(__file__)))
-CUESTORE = os.environ.get("CUESTORE", f"{BIN}/cuestore")
 
 # A token's kind and form; the first that fits is taken.
 TOKENS = [(kind, re.compile(form, re.DOTALL)) for kind, form in [
@@ -18,6 +12,7 @@ TOKENS = [(kind, re.compile(form, re.DOTALL)) for kind, form in [
     ("number", r"\.?[0-9](?:[eE][+-]|[\w.])*"),
     ("bottom", r"_\|_"),
     ("name", r"(?:_#|#)?(?:[^\W\d]|\$)[\w$]*"),
+    ("other", r"`[^`\n]*`?"),
     ("mark", r"\.\.\.|<=|>=|!=|=~|!~|==|&&|\|\||[{}\[\]():,?!|&*+<>=./@%;-]"),
     ("other", r"."),
 ]]
@@ -73,9 +68,13 @@ class Declaration:
         self.end = self.end_of()
 
     def end_of(self):
+        """The token that ends the declaration. A `for` has commas of its own before its braces."""
         depth, i = 0, self.first
         while i < len(self.tokens):
             token = self.tokens[i]
+            if depth == 0 and token.kind == "name" and token.text == "for":
+                i = self.before_braces(i)
+                continue
             if token.kind == "mark" and token.text in OPEN:
                 depth += 1
             elif token.kind == "mark" and token.text in CLOSE:
@@ -84,6 +83,13 @@ class Declaration:
                 depth -= 1
             elif depth == 0 and is_comma(token) and i >= self.at:
                 return i
+            i += 1
+        return i
+
+    def before_braces(self, i):
+        """The first brace behind a `for`, or the line's end or the end, where there is none."""
+        i += 1
+        while i < len(self.tokens) and self.tokens[i].text not in ("{", ""):
             i += 1
         return i
 
@@ -104,15 +110,3 @@ class Declaration:
         """The token at the place, or so many further on; an empty one outside the text."""
         i = self.at + step
         return self.tokens[i] if 0 <= i < len(self.tokens) else Token("end", "", 0)
-
-
-def run(words, data=None):
-    """The program on these words: its exit status, standard output and standard error, as bytes."""
-    done = subprocess.run([CUESTORE, *words], input=data, stdin=None if data is not None else subprocess.DEVNULL,
-                          stdout=subprocess.PIPE, stderr=subprocess.PIPE, check=False)
-    return done.returncode, done.stdout, done.stderr
-
-
-def stop(name, message, status=1):
-    print(f"{name}: {message}", file=sys.stderr)
-    sys.exit(status)

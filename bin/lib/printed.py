@@ -1,7 +1,8 @@
 """Reads the printed text of a table (`cuestore print`) into what is said at each place."""
 import re
 
-from fragments import run, stop, tokens_of
+from fragments import tokens_of
+from program import run, stop
 
 MARKS = {":": "", "?:": "?", "!:": "!"}
 STEP = re.compile(r'"(?:\\.|[^"\\])*"|\[\d+\.\.\]|[^.]+')

@@ -1,0 +1,184 @@
+"""Finds the declarations of fragments that say something at a path, with their lines: also those in the bodies of the
+definitions that are used there, and those of the rest of a list."""
+from fragments import CLOSE, OPEN, is_comma, tokens_of
+from printed import Printed, step_of, steps_of
+from program import run
+
+MOST_VISITS = 20000  # of declarations, since definitions that use definitions may be long
+MOST_SHOWN = 90  # characters of what is said
+
+
+class Saying:
+    """What a declaration says: its input, line and column from 1, and its text; a state's has no line."""
+
+    def __init__(self, name, row, column, text):
+        self.name, self.row, self.column, self.text = name, row, column, text
+
+    def __str__(self):
+        place = f"{self.name}:{self.row}:{self.column}" if self.row else self.name
+        return f"{place}: {self.text}"
+
+    def as_json(self):
+        return {"file": self.name, "line": self.row, "column": self.column, "text": self.text}
+
+
+class Fragment:
+    """The tokens of a fragment, and where its definitions stand."""
+
+    def __init__(self, name, text):
+        self.name, self.text, self.tokens = name, text, tokens_of(text)
+        self.visits = 0
+        self.definitions = {}
+        for first, value, end in self.declarations(0, len(self.tokens)):
+            if self.tokens[first].text.startswith("#"):
+                self.definitions.setdefault(self.tokens[first].text, (first, value, end))
+
+    def declarations(self, at, end):
+        """The first token, the first of the value and the end of each field between two tokens."""
+        while at < end:
+            stop = self.end_of(at, end)
+            if at < stop:
+                value = self.value_of(at, stop)
+                if value:
+                    yield at, value, stop
+            at = stop + 1
+
+    def end_of(self, at, end):
+        """The comma that ends what begins here, or the end."""
+        while at < end and not is_comma(self.tokens[at]):
+            at = self.behind(at)
+        return min(at, end)
+
+    def behind(self, at):
+        """The token behind this one, and behind all that its bracket holds."""
+        depth = 0
+        while at < len(self.tokens):
+            token = self.tokens[at]
+            if token.kind == "mark":
+                depth += (token.text in OPEN) - (token.text in CLOSE)
+            at += 1
+            if depth <= 0:
+                break
+        return at
+
+    def value_of(self, at, end):
+        """The first token behind the label that stands here; none, where no label does."""
+        value = at + 1
+        while value < end and self.tokens[value].text in ("?", "!"):
+            value += 1
+        is_label = self.tokens[at].kind in ("name", "string") and value < end and self.tokens[value].text == ":"
+        return value + 1 if is_label else None
+
+    def saying(self, first, end):
+        start = self.tokens[first].start
+        text = self.text[start:self.tokens[end - 1].end]
+        line = text.split("\n")[0].rstrip()
+        shown = line if line == text and len(line) <= MOST_SHOWN else f"{line[:MOST_SHOWN]} .."
+        return Saying(self.name, self.text.count("\n", 0, start) + 1, start - self.text.rfind("\n", 0, start), shown)
+
+    def find(self, steps):
+        """What the declarations say at the path of these steps, which is not the root."""
+        self.visits = 0
+        return list(self.in_struct(0, len(self.tokens), steps))
+
+    def in_struct(self, at, end, steps):
+        for first, value, stop in self.declarations(at, end):
+            label = self.tokens[first].text
+            if label.startswith("#"):
+                continue
+            self.visits += 1
+            if self.visits > MOST_VISITS:
+                return
+            if step_of(label if label.startswith('"') else f'"{label}"') == steps[0]:
+                yield from self.at_field(first, value, stop, steps[1:])
+
+    def at_field(self, first, value, stop, steps):
+        if not steps:
+            yield self.saying(first, stop)
+        yield from self.in_value(value, stop, steps)
+
+    def in_value(self, at, stop, steps):
+        """What a value says below it; of no steps, the definitions that it uses."""
+        if self.value_of(at, stop) and steps:
+            yield from self.in_struct(at, stop, steps)
+            return
+        while at < stop:
+            token, behind = self.tokens[at], self.behind(at)
+            if token.kind == "name" and token.text in self.definitions:
+                self.visits += 1
+                if self.visits > MOST_VISITS:
+                    return
+                yield from self.at_field(*self.definitions[token.text], steps)
+            elif token.text == "(":
+                yield from self.in_value(at + 1, behind - 1, steps)
+            elif token.text == "{" and steps:
+                yield from self.in_struct(at + 1, behind - 1, steps)
+            elif token.text == "[" and steps:
+                yield from self.in_list(at + 1, behind - 1, steps)
+            at = behind
+
+    def in_list(self, at, end, steps):
+        count = 0
+        while at < end:
+            stop = self.end_of(at, end)
+            if self.tokens[at].text == "...":
+                if at + 1 < stop and steps[0].isdecimal() and int(steps[0]) >= count:
+                    yield from self.at_field(at, at + 1, stop, steps[1:])
+            elif at < stop:
+                if steps[0] == str(count):
+                    yield from self.at_field(at, at, stop, steps[1:])
+                count += 1
+            at = stop + 1
+
+
+def is_state(data):
+    return data[:1] == b"\xfe"
+
+
+def state_says(name, path):
+    """What a state says at a path."""
+    status, out, _ = run(["print", "--", name])
+    place = Printed(out.decode()).root if status == 0 else None
+    for step in steps_of(path):
+        place = place and place.at(step)
+    return [Saying(name, None, None, f"{place.said[1]} (a state)")] if place and place.said else []
+
+
+def sayings_at(path, inputs):
+    """What these inputs, by names and bytes, say at a path."""
+    found = []
+    for name, data in inputs:
+        if is_state(data):
+            found += state_says(name, path)
+        elif steps_of(path):
+            found += Fragment(name, data.decode("utf-8", "replace")).find(steps_of(path))
+    return found
+
+
+def closers_of(path, inputs):
+    """The nearest uses of a definition or of `close` above a path: what closes the struct there."""
+    above = steps_of(path)[:-1]
+    while above:
+        found = [said for said in sayings_at(".".join(above), inputs) if "close" in said.text or "#" in said.text]
+        if found:
+            return found
+        above.pop()
+    return []
+
+
+def causes_of(line, inputs):
+    """What the inputs say at the path of a line of a report, and of what doesn't allow its label."""
+    path = path_of(line)
+    return sayings_at(path, inputs) + (closers_of(path, inputs) if "label not allowed" in line else [])
+
+
+def path_of(line):
+    """The path of a line of a report: what stands between its first word and why."""
+    for why in ("no value, label not allowed", "label not allowed", "no value", "missing", "not a single value"):
+        if line.endswith(f" {why}"):
+            return line.split(" ", 1)[1][:-len(why) - 1]
+    return ""
+
+
+def why_of(line):
+    return line[len(line.split(" ", 1)[0]) + 1 + len(path_of(line)) + 1:]
