@@ -14,6 +14,12 @@
 #include <stddef.h>
 #include <stdint.h>
 
+/* The version of this header; that of the library is cuestore_version(). */
+#define CUESTORE_VERSION "0.1.0"
+#define CUESTORE_VERSION_MAJOR 0
+#define CUESTORE_VERSION_MINOR 1
+#define CUESTORE_VERSION_PATCH 0
+
 #ifdef __cplusplus
 extern "C" {
 #endif
@@ -25,6 +31,7 @@ typedef struct {
     uint8_t status;  /* one of the statuses below */
     uint8_t refusal; /* the number of the refusal, below; 0 where there is none */
     uint8_t input;   /* which input is refused, from 1; 0 where none is, also where memory ran out for the answer */
+    uint8_t later[5]; /* room for later fields; what stands in it has no meaning yet */
 } cuestore_outcome;
 
 /* Statuses. */
@@ -54,7 +61,7 @@ enum {
     CUESTORE_TOO_LARGE = 14,
     CUESTORE_TOO_DEEP = 15,
     CUESTORE_NOT_SCALAR = 16,
-    CUESTORE_VERSION = 17,
+    CUESTORE_VERSION_UNKNOWN = 17, /* Version: a state of a version that the library doesn't know */
     CUESTORE_NOT_STATE = 18,
     CUESTORE_MEMORY = 24
 };
@@ -78,6 +85,12 @@ cuestore_outcome cuestore_report(const uint8_t *state, size_t state_length, uint
 
 /* All that is known, as one text. */
 cuestore_outcome cuestore_print(const uint8_t *state, size_t state_length, uint8_t *out, size_t room);
+
+/* The name of a refusal, such as "BadNumber", by its number; "" of a number that none has. It stays where it is. */
+const char *cuestore_refusal_name(uint8_t refusal);
+
+/* The version of the library, such as "0.1.0". It stays where it is. */
+const char *cuestore_version(void);
 
 #ifdef __cplusplus
 }

@@ -13,13 +13,14 @@ _cuestore_path() {
 }
 _cuestore_carry() {
   case $COMP_CWORD in
-    1) mapfile -t COMPREPLY < <(compgen -W 'push pull' -- "${COMP_WORDS[1]}") ;;
-    2) mapfile -t COMPREPLY < <(compgen -W 'folder: git: etcd: redis: blob:' -- "${COMP_WORDS[2]}") ;;
+    1) mapfile -t COMPREPLY < <(compgen -W 'push pull sync' -- "${COMP_WORDS[1]}") ;;
+    2) mapfile -t COMPREPLY < <(compgen -W 'folder: git: etcd: redis: rediss: blob:' -- "${COMP_WORDS[2]}") ;;
     *) mapfile -t COMPREPLY < <(compgen -f -X '!*.state' -- "${COMP_WORDS[COMP_CWORD]}") ;;
   esac
 }
 shopt -s extglob
 complete -o filenames -F _cuestore cuestore cuestore-explain
+complete -f -o plusdirs cuestore-add
 complete -o filenames -F _cuestore_path cuestore-why cuestore-at
 complete -f -X '!*.@(cue|state)' -o plusdirs cuestore-diff
 complete -o filenames -o nospace -F _cuestore_carry carry

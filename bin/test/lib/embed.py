@@ -1,10 +1,12 @@
 """embed.py TOP: tries the module of embed/ in the repository TOP."""
 import copy
+import ctypes
 import doctest
 import json
 import pickle
 import re
 import sys
+import time
 from concurrent.futures import ThreadPoolExecutor
 from itertools import islice
 
@@ -30,8 +32,14 @@ def test_names():
         named.update(zip(range(ends[0], ends[-1] + 1), names.split(", ")))
     assert cuestore.NAMES == {number: named[number] for number in cuestore.NAMES}, named
     refusals = re.findall(r"CUESTORE_(\w+) = (\d+)", text_of("embed/cuestore.h").split("/* Refusals.")[1])
-    assert {int(number): name.replace("_", "").lower() for name, number in refusals} == {
+    assert {int(number): name.replace("_", "").lower().replace("versionunknown", "version") for name, number in refusals} == {
         number: name.lower() for number, name in cuestore.NAMES.items()}
+    name_of = cuestore._library.cuestore_refusal_name
+    name_of.restype = ctypes.c_char_p
+    assert [name_of(number).decode() for number in range(256)] == [cuestore.NAMES.get(number, "") for number in range(256)]
+    assert Refused(99, 0, 1).name == "Refusal99"
+    version = text_of("VERSION").strip()
+    assert cuestore.__version__ == version and f'#define CUESTORE_VERSION "{version}"' in text_of("embed/cuestore.h")
 
 
 def answers(inputs):
@@ -108,7 +116,41 @@ def test_values():
         pass
 
 
-assert doctest.testmod(cuestore) == (0, 5)
-for test in (test_names, test_lists, test_refusals, test_values):
+def raises(kind, call, *inputs):
+    try:
+        call(*inputs)
+    except kind:
+        return True
+    return False
+
+
+def test_types():
+    """What is no text and no state is a TypeError: a number is not so many zeros."""
+    site = Replica()
+    for call in (site.submit, site.merge, Replica, lambda other: site | other, lambda text: site.submit_all([text])):
+        for data in (5, None, 1.5, ["a: 1"], {"a": 1}):
+            assert data is None and call is Replica or raises(TypeError, call, data), (call, data)
+    assert raises(TypeError, site.submit_all, "a: 1")
+    assert site | bytes(site) == site and site.submit(bytearray(b"a: 1")) == site.submit("a: 1")
+
+
+def test_batch():
+    """Many texts at once are as many one after the other, and faster."""
+    texts = [f"#S: {{port!: uint16, host?: string}}\ns{k}: #S\ns{k}: port: {k}\n" for k in range(2000)]
+    began = time.monotonic()
+    site = Replica().submit_all(texts)
+    batch = time.monotonic() - began
+    assert len(site.export()) == 2000
+    one, began = Replica(), time.monotonic()
+    for text in texts[:200]:
+        one = one.submit(text)
+    assert one == Replica().submit_all(texts[:200]) == Replica().submit_all(texts[100:200]).submit_all(texts[:101])
+    assert Replica().submit_all([]) == Replica()
+    assert refused(one.submit_all, ["a: 1", "b: 0443"]) == ("BadNumber", 3, 3)
+    print(f"ok 2,000 texts at once, in {batch:.2f} seconds")
+
+
+assert doctest.testmod(cuestore) == (0, 6)
+for test in (test_names, test_lists, test_refusals, test_values, test_types, test_batch):
     test()
 print(f"ok {LISTS} lists of inputs by four threads, the names of the refusals, refused inputs, and values")
