@@ -1,5 +1,5 @@
 #!/usr/bin/env python3
-"""Writes the table of instructions beside another program (docs/TESTING.md), and draws it (docs/speed.svg).
+"""Writes the table of instructions beside another program (bench/RESULTS.md), and draws it (docs/speed.svg).
 
 usage: bench/speed.py COUNTS MEMORY [PICTURE]
 

@@ -1,9 +1,9 @@
 # What the scripts in bash share. They set `script`, their own path with links followed, and read this file; an
 # installation may have all files of bin/ and bin/lib/ in one folder.
-here=$(dirname "$script")
+here=${script%/*}
 lib=$here/lib
 [ -d "$lib" ] || lib=$here
-name=$(basename "$script")
+name=${script##*/}
 
 say() { echo "$name: $*" >&2; }
 

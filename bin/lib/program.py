@@ -2,6 +2,7 @@
 all files of bin/ and bin/lib/ in one folder."""
 import os
 import shutil
+import signal
 import subprocess
 import sys
 
@@ -32,9 +33,15 @@ def version():
     return "unknown"
 
 
+def end_with_reader():
+    """Ends the script where nobody reads any more what it prints, as `head` does. Not for one that has sockets."""
+    signal.signal(signal.SIGPIPE, signal.SIG_DFL)
+
+
 def answer_help(doc, words):
     """Answers --help by the script's text, and --version, and ends."""
     if words[:1] in (["-h"], ["--help"]):
+        end_with_reader()
         print(doc.strip())
         sys.exit(0)
     if words[:1] == ["--version"]:
