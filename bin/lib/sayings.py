@@ -1,5 +1,7 @@
 """Finds the declarations of fragments that say something at a path, with their lines: also those in the bodies of the
 definitions that are used there, and those of the rest of a list."""
+import functools
+
 from fragments import CLOSE, OPEN, is_comma, tokens_of
 from printed import Printed, step_of, steps_of
 from program import run
@@ -135,10 +137,16 @@ def is_state(data):
     return data[:1] == b"\xfe"
 
 
+@functools.lru_cache(maxsize=64)
+def printed_state(name):
+    """The place of the root of a state; none, where it can't be read."""
+    status, out, _ = run(["print", "--", name])
+    return Printed(out.decode()).root if status == 0 else None
+
+
 def state_says(name, path):
     """What a state says at a path."""
-    status, out, _ = run(["print", "--", name])
-    place = Printed(out.decode()).root if status == 0 else None
+    place = printed_state(name)
     for step in steps_of(path):
         place = place and place.at(step)
     return [Saying(name, None, None, f"{place.said[1]} (a state)")] if place and place.said else []
