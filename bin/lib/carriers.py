@@ -376,15 +376,15 @@ class Redis(Keys):
             user = [os.environ["REDISCLI_USER"]] if os.environ.get("REDISCLI_USER") else []
             self.ask("AUTH", *user, os.environ["REDISCLI_AUTH"])
 
-    def reply(self):
-        line = self.stream.readline()
-        if not line.endswith(b"\r\n"):
+    def reply(self, level=0):
+        line = self.stream.readline(65536)
+        if not line.endswith(b"\r\n") or level > 2:
             raise ValueError("the connection ended")
         kind, rest = line[:1], line[1:-2]
         if kind == b"-":
             raise Fault(f"redis: {rest.decode(errors='replace')}", 4)
         if kind == b"*":
-            return [self.reply() for _ in range(int(rest))]
+            return [self.reply(level + 1) for _ in range(int(rest))]
         if kind == b"$" and int(rest) >= 0:
             if int(rest) > self.most:
                 del self.stream  # what comes is not read: the next command connects again

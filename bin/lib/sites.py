@@ -4,11 +4,14 @@ import fcntl
 import filecmp
 import os
 import re
+import signal
 import subprocess
 import tempfile
 
-from program import CUESTORE, run
+from program import CUESTORE
 
+SECONDS = 300  # for a run of the program
+MOST_LINES = 1000  # of conflicts that are looked at: what a state says may have far more than it has bytes
 REFUSED = re.compile(rb"refused (\d+ \w+)(?: at (\d+) in (\d+))?\n\Z")
 
 
@@ -32,17 +35,29 @@ def locked(state):
         raise Fault(f"{state} can't be written: {error.strerror}", 4) from error
 
 
-def written(words, path):
-    """Runs the program with its output to a file: its status and its faults."""
-    with open(path, "wb") as out:
-        done = subprocess.run([CUESTORE, *words], stdin=subprocess.DEVNULL, stdout=out, stderr=subprocess.PIPE, check=False)
-    if done.returncode not in (0, 1, 2, 3):
-        raise Fault(done.stderr.decode(errors="replace").strip() or f"{CUESTORE} ended with {done.returncode}", done.returncode)
-    return done.returncode, done.stderr
+def written(inputs, path):
+    """Writes the state of inputs to a file: none; or what the program says in its place, as the match of a refusal."""
+    with open(path, "wb") as out, subprocess.Popen([CUESTORE, "state", "--", *inputs], stdin=subprocess.DEVNULL, stdout=out,
+                                                   stderr=subprocess.PIPE, start_new_session=True) as process:
+        try:
+            faults = process.communicate(timeout=SECONDS)[1].decode(errors="replace").strip()
+        except subprocess.TimeoutExpired:
+            os.killpg(process.pid, signal.SIGKILL)
+            return REFUSED.match(b"refused 24 Memory\n")  # it takes more than anybody has
+    if process.returncode not in (0, 1):
+        raise Fault(faults or f"{CUESTORE} ended with {process.returncode}", max(process.returncode, 4))
+    if process.returncode == 0:
+        return None
+    with open(path, "rb") as file:
+        file.seek(max(0, os.path.getsize(path) - 200))  # bytes of a state may stand before it, where memory ran out late
+        refused = REFUSED.search(file.read())
+    if not refused:
+        raise Fault(faults or f"{CUESTORE} gave no answer", 1)
+    return refused
 
 
-def check(state):
-    """Whether there is a site's file, which is a whole state; a fault, where it is something else."""
+def is_there(state):
+    """Whether there is a site's file, which begins as a state; a fault, where it does not."""
     try:
         with open(state, "rb") as file:
             mark = file.read(1)
@@ -52,17 +67,40 @@ def check(state):
         raise Fault(f"{state} can't be read: {error.strerror}", 4) from error
     if mark != b"\xfe":
         raise Fault(f"{state} is no state" + (", but maybe a fragment: cuestore-add SITE.state FILE" if mark else ": it is empty"), 1)
-    status, out, faults = run(["report", "--", state])
-    if status == 1:
-        raise Fault(f"{state}, the file of this site itself, is no whole state ({out.decode().strip()}): remove it, and make "
-                    "it anew from the site's fragments or by a pull", 1)
-    if status not in (0, 2, 3):
-        raise Fault(faults.decode(errors="replace").strip(), status)
     return True
 
 
+def check(state):
+    """Raises a fault, where the site's file is not there, or is no whole state."""
+    if not is_there(state):
+        raise Fault(f"{state} is not there: cuestore-add makes it of fragments", 1)
+    with tempfile.NamedTemporaryFile() as scratch:
+        refused = written([state], scratch.name)
+    if refused:
+        raise own_fault(state, refused)
+
+
+def own_fault(state, refused):
+    return Fault(f"{state}, the file of this site itself, is no whole state ({said(refused)}): remove it, and make it anew from "
+                 "the site's fragments or by a pull", 1)
+
+
+def said(refused):
+    return refused[0].decode().strip()
+
+
 def conflicts_of(state):
-    return {line for line in run(["report", "--", state])[1].decode().split("\n") if line.startswith("conflict ")}
+    """The conflicts of a state, as lines: the first ones, where there are very many."""
+    found = set()
+    with subprocess.Popen([CUESTORE, "report", "--", state], stdin=subprocess.DEVNULL, stdout=subprocess.PIPE,
+                          stderr=subprocess.DEVNULL) as process:
+        for line in process.stdout:
+            # Conflicts come first.
+            if not line.startswith(b"conflict ") or len(found) == MOST_LINES:
+                process.kill()
+                break
+            found.add(line.decode().rstrip("\n"))
+    return found
 
 
 class Merged:
@@ -78,25 +116,27 @@ def merge_into(state, inputs):
     where nothing is new the file is left as it is."""
     merged, inputs = Merged(), list(inputs)
     with locked(state), contextlib.ExitStack() as stack:
-        known = [state] if check(state) else []
+        known = [state] if is_there(state) else []
         target = os.path.realpath(state)
         fresh = stack.enter_context(beside(target))
-        while inputs:
-            status, _ = written(["state", "--", *known, *(path for _, path in inputs)], fresh)
-            if status == 0:
-                break
-            with open(fresh, "rb") as file:
-                refused = REFUSED.match(file.read(200))
-            at = int(refused[3]) - len(known) - 1 if refused and refused[3] else -1
-            if at < 0:
-                raise Fault(f"{state} was not written: {refused[0].decode().strip() if refused else 'no answer'}", 1)
-            merged.refused.append((inputs.pop(at)[0], refused[0].decode().strip().rsplit(" in ", 1)[0]))
+        while inputs and (refused := written([*known, *(path for _, path in inputs)], fresh)):
+            at = int(refused[3]) - len(known) - 1 if refused[3] else first_refused(known, inputs, fresh)
+            if at == -1:
+                raise own_fault(state, refused)
+            if at is None:
+                raise Fault(f"{state} was not written: {said(refused)}", 1)
+            merged.refused.append((inputs.pop(at)[0], said(refused).rsplit(" in ", 1)[0]))
         merged.names = [name for name, _ in inputs]
         merged.is_new = bool(inputs) and not (known and filecmp.cmp(fresh, target, shallow=False))
         if merged.is_new:
             merged.conflicts = sorted(conflicts_of(fresh) - (conflicts_of(state) if known else set()))
             put_in_place(fresh, target)
     return merged
+
+
+def first_refused(known, inputs, fresh):
+    """The first input that is refused also alone, where a refusal is of no single one, as want of memory is."""
+    return next((at for at, (_, path) in enumerate(inputs) if len(inputs) > 1 and written([*known, path], fresh)), None)
 
 
 @contextlib.contextmanager
