@@ -141,8 +141,8 @@ class Folder(Carrier):
 
     def put(self, name, path):
         """Writes beside the entry and renames, so that nobody sees half of it, and a link there is replaced."""
-        for folder in {self.at, self.place()}:
-            os.makedirs(folder, exist_ok=True) if folder != self.at else exists_or_made(folder)
+        for folder in (self.at, self.place()):
+            make(folder)
         handle, fresh = tempfile.mkstemp(prefix=".carry.", dir=self.place())
         try:
             with os.fdopen(handle, "wb") as target, open(path, "rb") as source:
@@ -156,8 +156,8 @@ class Folder(Carrier):
             raise
 
 
-def exists_or_made(folder):
-    """Makes a folder, but none above it: what is not mounted is not written to."""
+def make(folder):
+    """Makes a folder where it is not there, but none above it: what is not mounted is not written to."""
     with contextlib.suppress(FileExistsError):
         os.mkdir(folder)
 
