@@ -15,15 +15,20 @@ def under(rests, value):
     return "[..." * rests + value + "]" * rests
 
 
-def far_out(depth, count=9):
+def far_out(depth, count=9, last=lambda level, below: under(below, f"{{b{level}?: 1}}")):
     """Lists at each depth of nested rests, whose last element differs from the others."""
-    last = [under(level, "[" + "_, " * count + under(depth - level - 1, "{a: 1}") + "]") for level in range(depth)]
-    return " & ".join([*last, under(depth, "{a: 1}")])
+    lists = [under(level, "[" + "_, " * count + last(level, depth - level - 1) + "]") for level in range(depth)]
+    return " & ".join([*lists, under(depth, "{a: 1}")])
 
 
 def elements_far_out(k):
     """Nested rests with an element far out, in a definition that an optional field uses."""
-    return f"#A: {far_out(min(k, 40))}\nx?: #A\n" if k <= 40 else f"#A: {far_out(8, k)}\nx?: #A\n"
+    return f"#A: {far_out(k) if k <= 16 else far_out(7, k)}\nx?: #A\n"
+
+
+def elements_that_clash(k):
+    """The same with elements that are no lists, and clash with the rests."""
+    return f"#A: {far_out(min(k, 12), 9, lambda level, below: '{b: 1}')}\nx?: #A\n"
 
 
 def definitions_over_them(k):
@@ -103,8 +108,8 @@ def grown(k):
     return "l: " + " & ".join(lists) + "\n"
 
 
-FAMILIES = [elements_far_out, definitions_over_them, rests_that_tell_nothing, disjunctions, holes, closed_chains,
-            closed_side_by_side, long_paths, doubled, defaults, default_terms, long_texts, long_labels, long_lists, grown]
+FAMILIES = [elements_far_out, elements_that_clash, definitions_over_them, rests_that_tell_nothing, disjunctions, holes,
+            closed_chains, closed_side_by_side, long_paths, doubled, defaults, default_terms, long_texts, long_labels, long_lists, grown]
 # Of these the table itself is large, and can't be kept in less: want of memory, told soon, is an answer too.
 LARGE = {grown}
 
