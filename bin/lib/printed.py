@@ -21,6 +21,8 @@ class Place:
         """The place at a step below this one; nothing, where nothing is said of it."""
         if step in self.inner:
             return self.inner[step]
+        if f'"{step}"' in self.inner:  # a shell has taken the quotes away
+            return self.inner[f'"{step}"']
         return self.rest if self.goes_on and (step.isdecimal() or step == rest_step(self.count)) else None
 
     def steps(self, *others):
