@@ -276,7 +276,7 @@ class Git(Carrier):
         env = {**os.environ, "GIT_INDEX_FILE": index}
         if not self.git("config", "user.email", empty=(1,)) and "GIT_AUTHOR_EMAIL" not in env:
             for role in ("AUTHOR", "COMMITTER"):
-                env |= {f"GIT_{role}_NAME": name, f"GIT_{role}_EMAIL": f"{name}@{socket.gethostname()}"}
+                env.update({f"GIT_{role}_NAME": name, f"GIT_{role}_EMAIL": f"{name}@{socket.gethostname()}"})
         if tip:
             self.git("read-tree", tip, env=env)
         self.git("update-index", "--add", "--replace", "--cacheinfo", f"100644,{key},{where}", env=env)

@@ -146,7 +146,7 @@ class Cost:
                 process.kill()
             _, status, used = os.wait4(process.pid, 0)
             timer.cancel()
-            process.returncode = os.waitstatus_to_exitcode(status)
+            process.returncode = -os.WTERMSIG(status) if os.WIFSIGNALED(status) else os.WEXITSTATUS(status)
             process.stdout.close()
         self.status, self.seconds, self.memory = process.returncode, used.ru_utime + used.ru_stime, used.ru_maxrss << 10
 
