@@ -51,8 +51,11 @@ def answer_help(doc, words):
 
 def run(words, data=None):
     """The program on these words: its exit status, standard output and standard error, as bytes."""
-    done = subprocess.run([CUESTORE, *words], input=data, stdin=None if data is not None else subprocess.DEVNULL,
-                          stdout=subprocess.PIPE, stderr=subprocess.PIPE, check=False)
+    try:
+        done = subprocess.run([CUESTORE, *words], input=data, stdin=None if data is not None else subprocess.DEVNULL,
+                              stdout=subprocess.PIPE, stderr=subprocess.PIPE, check=False)
+    except OSError as error:
+        stop(os.path.basename(sys.argv[0]), f"the program {CUESTORE} can't be run: {error.strerror}", 5)
     return done.returncode, done.stdout, done.stderr
 
 

@@ -35,10 +35,17 @@ def locked(state):
         raise Fault(f"{state} can't be written: {error.strerror}", 4) from error
 
 
+def started(words, **streams):
+    """A process of the program, with no input, in a session of its own."""
+    try:
+        return subprocess.Popen([CUESTORE, *words], stdin=subprocess.DEVNULL, start_new_session=True, **streams)
+    except OSError as error:
+        raise Fault(f"the program {CUESTORE} can't be run: {error.strerror}", 5) from error
+
+
 def written(inputs, path):
     """Writes the state of inputs to a file: none; or what the program says in its place, as the match of a refusal."""
-    with open(path, "wb") as out, subprocess.Popen([CUESTORE, "state", "--", *inputs], stdin=subprocess.DEVNULL, stdout=out,
-                                                   stderr=subprocess.PIPE, start_new_session=True) as process:
+    with open(path, "wb") as out, started(["state", "--", *inputs], stdout=out, stderr=subprocess.PIPE) as process:
         try:
             faults = process.communicate(timeout=SECONDS)[1].decode(errors="replace").strip()
         except subprocess.TimeoutExpired:
@@ -92,12 +99,11 @@ def said(refused):
 def conflicts_of(state):
     """The conflicts of a state, as lines: the first ones, where there are very many."""
     found = set()
-    with subprocess.Popen([CUESTORE, "report", "--", state], stdin=subprocess.DEVNULL, stdout=subprocess.PIPE,
-                          stderr=subprocess.DEVNULL) as process:
+    with started(["report", "--", state], stdout=subprocess.PIPE, stderr=subprocess.DEVNULL) as process:
         for line in process.stdout:
             # Conflicts come first.
             if not line.startswith(b"conflict ") or len(found) == MOST_LINES:
-                process.kill()
+                os.killpg(process.pid, signal.SIGKILL)
                 break
             found.add(line.decode().rstrip("\n"))
     return found
