@@ -90,7 +90,7 @@ pub brings_cut : (halt : Halt) (bytes rest : List ℕ) (n : ℕ) (old mid new : 
     (start left left' failed failed' failures failures' : ℕ) → (failed < failed' → failures < failures') → n ≤ length rest → IsDevice halt ⊎ (left ≤ left' + (n + length read))
     → Bringing bytes rest old mid given given' to_come to_come' taken taken' start left
     → Appends taken' taken'' (take n rest) → Appends given' given'' read → Consumes to_come' to_come'' read
-    → IsCarryHalt halt left' to_come'' failed failed' (Balks mid read)
+    → IsCarryHalt halt left' to_come'' (length read < n) failed failed' (Balks mid read)
     → Brought (Err halt) bytes old new given given'' to_come to_come'' taken taken'' start left' failures failures'
 brings_cut halt bytes rest n old mid new given given' given'' to_come to_come' to_come'' taken taken' taken'' read start left left' failed failed' failures failures' more within moved b wrote gave took why = record {
   talk = joined b.talk (record { sent = take n rest; heard = read });
@@ -99,7 +99,12 @@ brings_cut halt bytes rest n old mid new given given' given'' to_come to_come' t
       (record { gave = gave; took = took; wrote = wrote });
   front = parts_more bytes b.talk.sent rest n b.parts;
   moves = ⊎_elim inl (λ some. inr (omega (arith, b.moves, some, length-append b.talk.heard read, length-append b.talk.sent (take n rest), length-take-le n rest within))) moved;
-  ends = ⊎_elim inl (λ others. inr (⊎_elim inl (λ device. inr (device.0, ⊎_elim (λ broke. inl (more broke)) (λ rest. inr (⊎_elim inl (λ balks. inr (balks_later old mid b.talk.heard read b.hears balks)) rest)) device.1)) others)) why;
+  ends = ⊎_elim inl (λ others. inr (⊎_elim inl (λ device. inr (
+    device.0,
+    ⊎_elim (λ broke. inl (more broke)) (λ a. inr (⊎_elim
+        (λ ended. inl (ended.0, omega (arith, b.same, ended.1, length-append b.talk.heard read, length-append b.talk.sent (take n rest), length-take-le n rest within)))
+        (λ balks. inr (balks_later old mid b.talk.heard read b.hears balks)) a)) device.1,
+  )) others)) why;
 }
 
 -- carrying that stops, handed on

@@ -67,7 +67,9 @@ ends_then (Ok u) unsent near far near' far' old mid new s0 s1 s2 t0 t1 t2 to_com
 ends_then (Err halt) unsent near far near' far' old mid new s0 s1 s2 t0 t1 t2 to_come coming left failed failed' failed'' sound there back hears serves e =
     ⊎_elim inl (λ others. inr (⊎_elim inl (λ device. inr (
       device.0,
-      ⊎_elim (λ broke. inl (omega (arith, sound, broke))) (λ a. inr (⊎_elim inl (λ b. inr (⊎_elim inl (λ d. inr (⊎_elim
+      ⊎_elim (λ broke. inl (omega (arith, sound, broke))) (λ a. inr (⊎_elim
+          (λ ended. inl (ended.0, omega (arith, back, ended.1, length-append near.heard near'.heard, length-append far.sent far'.sent))) (λ b. inr (⊎_elim
+          (λ ended. inl (ended.0, omega (arith, there, ended.1, length-append far.heard far'.heard, length-append near.sent near'.sent))) (λ d. inr (⊎_elim
           (λ balks. inl (balks_later old mid near.heard near'.heard hears balks))
           (λ faults. inr (faults_later s0 s1 t0 t1 [] far.sent far.heard far'.heard serves faults)) d)) b)) a)) device.1,
     )) others)) e
@@ -178,11 +180,11 @@ piece_unwritten halt frames old s0 t0 given to_come taken taken' gave coming too
 }
 
 -- it is not served
-pub piece_unserved : (halt : Halt) (piece read : List ℕ) (old : Exchange) (s0 s1 : Standing) (t0 t1 : Table) (given to_come taken taken' gave gave' coming coming' took : Option (List ℕ))
+pub piece_unserved : (halt : Halt) (piece read : List ℕ) (n : ℕ) (old : Exchange) (s0 s1 : Standing) (t0 t1 : Table) (given to_come taken taken' gave gave' coming coming' took : Option (List ℕ))
     (start left failed failed' failures failures' : ℕ) → (failed < failed' → failures < failures') → IsDevice halt ⊎ (start ≤ left + (length piece + length read)) → Appends taken taken' piece → Appends gave gave' read → Consumes coming coming' read
-    → IsCarryHalt halt left coming' failed failed' (Faults s0 read)
+    → length piece ≡ n → IsCarryHalt halt left coming' (length read < n) failed failed' (Faults s0 read)
     → Exchanged (Err halt) piece old old s0 s1 t0 t1 given given to_come to_come taken taken' gave gave' coming coming' took took start left failures failures'
-piece_unserved halt piece read old s0 s1 t0 t1 given to_come taken taken' gave gave' coming coming' took start left failed failed' failures failures' more moved wrote gives takes why = record {
+piece_unserved halt piece read n old s0 s1 t0 t1 given to_come taken taken' gave gave' coming coming' took start left failed failed' failures failures' more moved wrote gives takes long why = record {
   near = record { sent = piece; heard = [] };
   far = record { sent = []; heard = read };
   unsent = [];
@@ -190,7 +192,7 @@ piece_unserved halt piece read old s0 s1 t0 t1 given to_come taken taken' gave g
   far_passes = record { gave = gives; took = takes; wrote = Appends-nil took };
   front = sym (append-nil piece);
   moves = ⊎_elim inl (λ some. inr (omega (arith, some))) moved;
-  ends = ⊎_elim inl (λ others. inr (⊎_elim inl (λ device. inr (device.0, ⊎_elim (λ broke. inl (more broke)) (λ a. inr (inr (⊎_elim inl (λ faults. inr (inr faults)) a))) device.1)) others)) why;
+  ends = ⊎_elim inl (λ others. inr (⊎_elim inl (λ device. inr (device.0, ⊎_elim (λ broke. inl (more broke)) (λ a. inr (inr (⊎_elim (λ ended. inl (ended.0, omega (arith, ended.1, long))) (λ faults. inr (inr faults)) a))) device.1)) others)) why;
 }
 
 -- the replies are not heard

@@ -16,7 +16,8 @@ found_more replies reply None None number was says counted = All-push (λ r. r �
 found_more replies reply None (Some why) number was says counted = record {
   before = replies;
   after = [];
-  replies_are = ap (λ r. replies ++ r ∷ []) says;
+  replies_are = ap (λ r. replies ++ r ∷ []) says.0;
+  told = says.1;
   accepted = was;
   counted = counted;
 }
@@ -24,6 +25,7 @@ found_more replies reply (Some first) found number was says counted = record {
   before = was.before;
   after = was.after ++ reply ∷ [];
   replies_are = ap (λ rs. rs ++ reply ∷ []) was.replies_are ∙ append_assoc was.before (refusal first.0 ∷ was.after) (reply ∷ []);
+  told = was.told;
   accepted = was.accepted;
   counted = was.counted;
 }

@@ -1,5 +1,6 @@
 pub mod Asking
 pub mod Bringing
+pub mod Calls
 pub mod Exchanging
 pub mod Findings
 pub mod Hearing
@@ -7,6 +8,5 @@ pub mod Looping
 pub mod Passages
 pub mod Pushes
 pub mod Rounds
-pub mod Sockets
 pub mod Talks
 pub mod Truth

@@ -46,15 +46,15 @@ faults_later old mid before between out out' p q one two kept is unfinished =
     (a.3.bodies ++ f.0, f.1, are_readings.pieces (kept ++ p) q a.3.bodies f.0 a.0 f.1 a.3.frames f.2, f.3)
 
 -- a read that has no bytes ends carrying
-pub reads_nothing : (halt : Halt) (left failed failed' failed'' : ℕ) (to_come : Option (List ℕ)) (Balk : Type 0)
-    → failed' ≡ failed → IsReadHalt halt left to_come failed' failed'' → IsCarryHalt halt left to_come failed failed'' Balk
-reads_nothing halt left failed failed' failed'' to_come Balk sound why =
-    ⊎_elim (λ used. inl (used.0, used.1)) (λ device. inr (inr (device.0, ⊎_elim (λ broke. inl (omega (arith, sound, broke))) (λ ended. inr (inl ended.0)) device.1))) why
+pub reads_nothing : (halt : Halt) (left failed failed' failed'' : ℕ) (to_come : Option (List ℕ)) (Few Balk : Type 0)
+    → failed' ≡ failed → Few → IsReadHalt halt left to_come failed' failed'' → IsCarryHalt halt left to_come Few failed failed'' Balk
+reads_nothing halt left failed failed' failed'' to_come Few Balk sound few why =
+    ⊎_elim (λ used. inl (used.0, used.1)) (λ device. inr (inr (device.0, ⊎_elim (λ broke. inl (omega (arith, sound, broke))) (λ ended. inr (inl (ended.0, few))) device.1))) why
 
 -- so does a piece that is not taken
-pub takes_nothing : (halt : Halt) (left failed failed' : ℕ) (to_come : Option (List ℕ)) (Balk Balk' : Type 0)
-    → (Balk → Balk') → IsMemory halt ⊎ (IsDevice halt × Balk) → IsCarryHalt halt left to_come failed failed' Balk'
-takes_nothing halt left failed failed' to_come Balk Balk' later why =
+pub takes_nothing : (halt : Halt) (left failed failed' : ℕ) (to_come : Option (List ℕ)) (Few Balk Balk' : Type 0)
+    → (Balk → Balk') → IsMemory halt ⊎ (IsDevice halt × Balk) → IsCarryHalt halt left to_come Few failed failed' Balk'
+takes_nothing halt left failed failed' to_come Few Balk Balk' later why =
     inr (⊎_elim inl (λ device. inr (device.0, inr (inr (later device.1)))) why)
 
 -- what holds of a halt, handed on

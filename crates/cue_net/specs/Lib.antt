@@ -1,5 +1,6 @@
 -- What the words over a network answer.
 pub mod Inner
+pub mod Doors
 pub mod Halts
 pub mod Loops
 pub mod Printed

@@ -37,15 +37,18 @@ abbrev pub AreUsedUpBetween : Talk → Talk → ℕ → ℕ → ℕ → Type 0
 AreUsedUpBetween near far turns calls calls' =
     (calls' ≡ calls + turns) × (turns ≤ bytes_of near far)
 
--- Why the ends have no answer. Nothing is written where a frame can't hold an input. What an end
--- reads may be none of what the other writes.
+-- Why the ends have no answer. Nothing is written where a frame can't hold an input. An end of what
+-- is read is a cause where fewer bytes came than were written at the other end. What an end reads may
+-- be none of what the other writes.
 abbrev pub IsBroken : Halt → List requests.Request → Talk → Talk → Option (List ℕ) → Option (List ℕ)
     → ℕ → ℕ → ℕ → ℕ → ℕ → Type 0
 IsBroken halt inputs near far near_to_come far_to_come turns calls calls' failed failed' =
     (IsTooLong halt × (All IsSendable inputs → ⊥) × (near.sent ≡ []) × (far.heard ≡ []))
     ⊎ (IsTurnsUsed halt × AreUsedUpBetween near far turns calls calls')
     ⊎ IsMemory halt
-    ⊎ (IsDevice halt × ((failed < failed') ⊎ IsAtEnd near_to_come ⊎ IsAtEnd far_to_come
+    ⊎ (IsDevice halt × ((failed < failed')
+    ⊎ (IsAtEnd near_to_come × (length near.heard < length far.sent))
+    ⊎ (IsAtEnd far_to_come × (length far.heard < length near.sent))
     ⊎ HasFault near.heard ⊎ HasFault far.heard ⊎ AreOtherReplies inputs near.heard))
 
 -- What is answered: what the replies tell of which all were served; or why not.

@@ -1,7 +1,9 @@
 -- What the body of a reply's frame says.
-use Rattle.std.specs.Prelude.{◌≡◌, ◌≢◌, ℕ, List, [], ◌∷◌, Option, Some, None, IsUtf8}
+use Rattle.std.specs.Prelude.{◌≡◌, ◌≢◌, ◌⊎◌, ℕ, List, [], ◌∷◌, Option, Some, None, IsUtf8}
 use Rattle.std.specs.Int.{w64, to_be_bytes}
 use Rattle.cue_lattice.specs.Refusal.{number_of, refusal_at}
+use Rattle.cue_lattice.specs.declared.refusal.Kind.{Kind}
+use Rattle.cue_lattice.specs.declared.refusal.Kind.TheVariants as kinds
 use Rattle.cue_lattice.specs.declared.refusal.Refusal.{Refusal}
 use Rattle.cue_answer.specs.declared.question.Status.{Status}
 use Rattle.cue_answer.specs.Answers.{code_of}
@@ -18,24 +20,34 @@ acceptance told = 0 ∷ told
 abbrev pub refusal : Refusal → List ℕ
 refusal why = number_of why.kind ∷ to_be_bytes w64 why.place
 
+-- no site refuses a frame so: these end a connection, or are told of a reader
+abbrev pub IsUntold : Kind → Type 0
+IsUntold kind =
+    (kind ≡ kinds.FrameTooLong) ⊎ (kind ≡ kinds.TurnsUsed) ⊎ (kind ≡ kinds.Device)
+    ⊎ (kind ≡ kinds.Memory) ⊎ (kind ≡ kinds.Failed)
+
+-- the reply refuses its request so
+abbrev pub Refuses : List ℕ → Refusal → Type 0
+Refuses reply why = (reply ≡ refusal why) × (IsUntold why.kind → ⊥)
+
 abbrev pub Says : List ℕ → Verdict → Type 0
 Says reply (verdicts.Accepted told) = reply ≡ acceptance told.now
-Says reply (verdicts.Refused why) = reply ≡ refusal why
+Says reply (verdicts.Refused why) = Refuses reply why
 
 -- no site replies so
 pub record IsNoReply (reply : List ℕ) : Type 0 where
   pub accepted : (told : List ℕ) → reply ≢ acceptance told
-  pub refused : (why : Refusal) → reply ≢ refusal why
+  pub refused : (why : Refusal) → Refuses reply why → ⊥
 
 -- the reply to an input: why it is refused, where it is
 abbrev pub SaysOfInput : List ℕ → Option Refusal → Type 0
 SaysOfInput reply None = reply ≡ acceptance []
-SaysOfInput reply (Some why) = reply ≡ refusal why
+SaysOfInput reply (Some why) = Refuses reply why
 
 -- no site replies so to an input
 pub record IsNoInputReply (reply : List ℕ) : Type 0 where
   pub accepted : reply ≢ acceptance []
-  pub refused : (why : Refusal) → reply ≢ refusal why
+  pub refused : (why : Refusal) → Refuses reply why → ⊥
 
 -- the reply that tells an export with this status: the status, and the JSON or the lines
 pub record TellsExport (reply : List ℕ) (status : Status) (text : List ℕ) : Type 0 where
@@ -45,9 +57,9 @@ pub record TellsExport (reply : List ℕ) (status : Status) (text : List ℕ) : 
 -- the reply to the question for the export
 abbrev pub SaysOfExport : List ℕ → Export → Type 0
 SaysOfExport reply (exports.Told status text) = TellsExport reply status text.now
-SaysOfExport reply (exports.Refused kind) = (place : ℕ) × (reply ≡ refusal (refusal_at kind place))
+SaysOfExport reply (exports.Refused kind) = (place : ℕ) × Refuses reply (refusal_at kind place)
 
 -- no site replies so to that question
 pub record IsNoExportReply (reply : List ℕ) : Type 0 where
   pub told : (status : Status) (text : List ℕ) → TellsExport reply status text → ⊥
-  pub refused : (why : Refusal) → reply ≢ refusal why
+  pub refused : (why : Refusal) → Refuses reply why → ⊥

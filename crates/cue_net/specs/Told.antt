@@ -10,7 +10,8 @@ use Rattle.cue_answer.specs.Answers.{Says, line_end}
 use Rattle.cue_net.specs.declared.halt.Halt.{Halt}
 use Rattle.cue_net.specs.declared.halt.Halt.TheVariants as halts
 use Rattle.cue_net.specs.Halts.{IsMemory}
-use Rattle.cue_net.specs.Replies.{acceptance, refusal, TellsExport, IsNoInputReply, IsNoExportReply}
+use Rattle.cue_net.specs.Replies.{acceptance, refusal, Refuses, IsUntold, TellsExport}
+use Rattle.cue_net.specs.Replies.{IsNoInputReply, IsNoExportReply}
 
 -- each input is accepted
 abbrev pub AllAccept : List (List ℕ) → Type 0
@@ -21,6 +22,7 @@ pub record IsFirstRefusal (replies : List (List ℕ)) (why : Refusal) (number : 
   pub before : List (List ℕ)
   pub after : List (List ℕ)
   pub replies_are : replies ≡ before ++ refusal why ∷ after
+  pub told : IsUntold why.kind → ⊥
   pub accepted : AllAccept before
   pub counted : number ≡ length before + 1
 
@@ -46,6 +48,6 @@ AreTold replies last (Ok answer) =
     × IsPrinted answer status text)
 AreTold replies last (Err (halts.RefusedInput why number)) = IsFirstRefusal replies why number
 AreTold replies last (Err (halts.RefusedExport kind)) =
-    AllAccept replies × ((place : ℕ) × (last ≡ refusal (refusal_at kind place)))
+    AllAccept replies × ((place : ℕ) × Refuses last (refusal_at kind place))
 AreTold replies last (Err halts.Device) = Any IsNoInputReply replies ⊎ IsNoExportReply last
 AreTold replies last (Err (halts.Refused kind)) = IsMemory (halts.Refused kind)

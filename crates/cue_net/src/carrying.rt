@@ -1,4 +1,4 @@
-ghost use Rattle.std.specs.Prelude.{◌≡◌, ◌⊎◌, ◌+◌, ◌-◌, ◌^◌, ◌≤◌, ◌++◌, ℕ, List, length, OnOk, IfErr};
+ghost use Rattle.std.specs.Prelude.{◌≡◌, ◌⊎◌, ◌+◌, ◌-◌, ◌^◌, ◌<◌, ◌≤◌, ◌++◌, ℕ, List, length, OnOk, IfErr};
 ghost use Rattle.std.specs.Io.KnownBytes.{Appends, Consumes};
 ghost use Rattle.cue_net.specs.Halts.{IsDevice, IsMemory};
 ghost use Rattle.cue_net.specs.Inner.Hearing.{Hears, Balks};
@@ -34,7 +34,8 @@ pub fn serve_so_many<S: Source>(
         × OnOk result ((length read ≡ count) × ServesOnto serving.old.session serving.new.session
         serving.old.site serving.new.site serving.old.out.items serving.new.out.items read)
         × IfErr result (λ halt. IsCarryHalt halt left.new (S.to_come source.new)
-        (S.failed source.old) (S.failed source.new) (Faults serving.old.session read))
+        (length read < count) (S.failed source.old) (S.failed source.new)
+        (Faults serving.old.session read))
         × Moves result left.old left.new (length read) }
     ensures turns { S.called source.new + left.new ≡ S.called source.old + left.old }
     ensures fewer { left.new ≤ left.old }
@@ -113,7 +114,8 @@ fn hear_so_many<S: Source>(
         × Consumes (S.to_come source.old) (S.to_come source.new) read
         × OnOk result ((length read ≡ count) × Hears hearing.old hearing.new read)
         × IfErr result (λ halt. IsCarryHalt halt left.new (S.to_come source.new)
-        (S.failed source.old) (S.failed source.new) (Balks hearing.old read))
+        (length read < count) (S.failed source.old) (S.failed source.new)
+        (Balks hearing.old read))
         × Moves result left.old left.new (length read) }
     ensures turns { S.called source.new + left.new ≡ S.called source.old + left.old }
     ensures fewer { left.new ≤ left.old }

@@ -1,3 +1,4 @@
+use cue_device::Fault;
 use cue_replica::{Kind, Memory, Refusal};
 
 /// What ends a word over a network before it has an answer.
@@ -21,5 +22,15 @@ impl From<Memory> for Halt {
 
     fn from(_memory: Memory) -> Halt {
         Halt::Refused(Kind::Memory)
+    }
+}
+
+impl From<Fault> for Halt {
+    ghost use Rattle.cue_net.specs.Halts.{IsDevice};
+
+    ghost from_gives = { λ _ halt. IsDevice halt };
+
+    fn from(_fault: Fault) -> Halt {
+        Halt::Device
     }
 }

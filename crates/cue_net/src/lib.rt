@@ -1,18 +1,19 @@
 //! The program's words over a network: it serves connections one after the other, pushes requests
 //! to a site that another process serves, or does both in one process, in turns.
 //!
-//! All is said over devices that count their calls, and only what opens a connection names sockets.
-//! Connections are those of 127.0.0.1 alone.
+//! All is said over any network of doors and connections, whose devices count their calls; one module
+//! alone names sockets. Connections are those of 127.0.0.1 alone.
 #![tactic(auto)]
 
 mod carrying;
-mod connection;
 mod halt;
 mod laws;
 mod looped;
+mod network;
 mod pushing;
 mod reply;
 mod serving;
+mod sockets;
 mod told;
 mod turns;
 
@@ -21,10 +22,12 @@ pub use cue_replica::{Kind, Refusal};
 pub use cue_wire::Request;
 pub use halt::Halt;
 pub use laws::answers_are_true;
-pub use looped::{End, converse, loop_for};
+pub use looped::{converse, loop_for};
+pub use network::{End, Network};
 pub use pushing::{push, push_for};
 pub use reply::{Export, Verdict, export_in, kind_of, read_reply, refusal_in};
 pub use serving::{serve_for, serve_from};
+pub use sockets::Port;
 pub use told::told_by;
 
 /// The most reads and writes of one connection, those of both ends together where both are here.

@@ -3,35 +3,27 @@ ghost use Rattle.std.specs.Prelude.{IfOk, IfErr};
 ghost use Rattle.cue_replica.specs.Language.{opening};
 ghost use Rattle.cue_wire.specs.Clients.{request_frame, IsSendable};
 ghost use Rattle.cue_wire.specs.Sessions.{reading};
-ghost use Rattle.cue_net.specs.Halts.{IsDevice, IsMemory};
+ghost use Rattle.cue_net.specs.Doors.{ConversesOver, IsLooping};
+ghost use Rattle.cue_net.specs.Halts.{IsMemory};
 ghost use Rattle.cue_net.specs.Inner.Looping.{Exchanged};
 ghost use Rattle.cue_net.specs.Loops.{IsAnswerBetween};
 ghost use Rattle.cue_net.specs.Sockets.{IsTalkAnswer};
 ghost use Rattle.cue_net.specs.Talks.{Talk, IsTalk};
 
 use crate::carrying::{Serving, bring_back, serve_so_many};
-use crate::connection::send_at_once;
 use crate::halt::Halt;
+use crate::network::{End, Network};
 use crate::pushing::{all_fit, client_of};
 use crate::told::told_by;
 use crate::turns::write_some;
 use crate::{MAX_TURNS, PIECE};
 use cue_answer::Answer;
-use cue_device::{Reader, Sink, Source, Writer};
+use cue_device::{Sink, Source};
 use cue_replica::{Kind, Replica};
 use cue_wire::{Client, Request, Session};
 use std::alloc::Global;
-use std::net::{Ipv4Addr, Net, TcpListener, TcpStream};
 
-/// One end of a connection: where its bytes are read, and where they are written.
-#[derive(Drop)]
-pub struct End<S, K> {
-    pub source: S,
-    pub sink: K,
-}
-
-/// Does as `push_for` with both ends in this process, over a port of 127.0.0.1 that the system
-/// picks, in turns: the client's end writes at most 4,096 bytes, the site's end reads them and
+/// Does as `push_for` with both ends in this process, over a new connection between them, in turns: the client's end writes at most 4,096 bytes, the site's end reads them and
 /// writes its whole answer, and the client's end reads that. There are at most 100,000 reads and
 /// writes, those of both ends together.
 ///
@@ -40,45 +32,17 @@ pub struct End<S, K> {
 /// As `push_for`.
 pub fn loop_for<H>(rt: &H, inputs: &[Request]) -> Result<Answer, Halt>
 where
-    H: AllocGlobal + Net<Listener = TcpListener, Stream = TcpStream>,
-    ensures { IsTalkAnswer inputs.now result }
+    H: AllocGlobal + Network,
+    ensures looped { IsLooping (H.joins rt.now) (ConversesOver H.Input.given H.Input.to_come
+        H.Output.taken H.Input.called H.Output.called H.Input.failed H.Output.failed inputs.now
+        result) (H.fails rt.now) inputs.now result }
+    ensures answer { IsTalkAnswer inputs.now result }
 {
-    let (near, far) = match both_ends(rt) {
-        Ok(ends) => ends,
-        Err(halt) => return Err(halt),
-    };
-    send_at_once(&near);
-    send_at_once(&far);
-    let mut client = End {
-        source: Reader::new(&near),
-        sink: Writer::new(&near),
-    };
-    let mut server = End {
-        source: Reader::new(&far),
-        sink: Writer::new(&far),
-    };
-    converse(rt.alloc(), &mut client, &mut server, inputs, MAX_TURNS)
-}
-
-/// Both ends of a new connection.
-fn both_ends<H>(rt: &H) -> Result<(TcpStream, TcpStream), Halt>
-where
-    H: AllocGlobal + Net<Listener = TcpListener, Stream = TcpStream>,
-    ensures { IfErr result IsDevice }
-{
-    let Ok(listener) = TcpListener::bind(rt, (Ipv4Addr::LOCALHOST, 0)) else {
-        return Err(Halt::Device);
-    };
-    let Ok(address) = listener.local_addr() else {
-        return Err(Halt::Device);
-    };
-    let Ok(near) = TcpStream::connect(rt, address) else {
-        return Err(Halt::Device);
-    };
-    match listener.accept() {
-        Ok((far, _)) => Ok((near, far)),
-        Err(_) => Err(Halt::Device),
+    if !all_fit(inputs) {
+        return Err(Halt::Refused(Kind::FrameTooLong));
     }
+    let (mut near, mut far) = rt.join()?;
+    converse(rt.alloc(), &mut near, &mut far, inputs, MAX_TURNS)
 }
 
 /// Does as `push_for` from the near end, with a new site at the far end, in so many turns, those of

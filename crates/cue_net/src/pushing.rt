@@ -2,23 +2,23 @@ ghost use Rattle.std.specs.Prelude.{◌≡◌, ◌≢◌, ◌⊎◌, ◌↔◌, 
 ghost use Rattle.std.specs.Prelude.{flat_map, All, IsTrue, IfOk, IfErr, OnOk};
 ghost use Rattle.std.specs.Io.KnownBytes.{Appends};
 ghost use Rattle.cue_wire.specs.Clients.{request_frame, IsSendable, HasTaken};
+ghost use Rattle.cue_net.specs.Doors.{IsPushing, TalksOver};
 ghost use Rattle.cue_net.specs.Halts.{IsDevice, IsMemory, IsTooLong};
 ghost use Rattle.cue_net.specs.Inner.Hearing.{Asked, Heard, Hears, Balks};
 ghost use Rattle.cue_net.specs.Sockets.{IsTalkAnswer};
 ghost use Rattle.cue_net.specs.Talks.{Talk, IsTalk, IsAnswerOf};
 ghost use Rattle.cue_net.specs.Inner.Turns.{IsWriteHalt, Moves};
 
-use crate::connection::send_at_once;
 use crate::halt::Halt;
+use crate::network::Network;
 use crate::told::told_by;
 use crate::turns::{read_some, write_some};
 use crate::{FRAME_LIMIT, MAX_TURNS, PIECE};
 use cue_answer::Answer;
-use cue_device::{Reader, Sink, Source, Writer};
+use cue_device::{Sink, Source};
 use cue_replica::Kind;
 use cue_wire::{Client, Request};
 use std::alloc::Global;
-use std::net::{Ipv4Addr, Net, TcpListener, TcpStream};
 
 /// How many requests are sent before their replies are read. These replies are short, so that a
 /// site never waits for room to write them while it is still sent requests.
@@ -26,26 +26,33 @@ const GROUP: usize = 256;
 
 /// Sends these inputs, in order, to the site that a process serves on this port of 127.0.0.1, asks
 /// it for its export, and answers that as it is printed. There are at most 100,000 reads and
-/// writes.
+/// writes, and one that waits for the site for longer than 60 seconds fails.
 ///
 /// # Errors
 ///
 /// `RefusedInput` for the first input that the site refuses, after all others were sent too;
 /// `RefusedExport` where it refuses to tell its export; `FrameTooLong` where a frame can't hold an
-/// input, before any is sent; `TurnsUsed` and `Memory`; `Device`, also where the replies end early
+/// input, before it connects; `TurnsUsed` and `Memory`; `Device`, also where the replies end early
 /// or are none of a site.
 pub fn push_for<H>(rt: &H, port: u16, inputs: &[Request]) -> Result<Answer, Halt>
 where
-    H: AllocGlobal + Net<Listener = TcpListener, Stream = TcpStream>,
-    ensures { IsTalkAnswer inputs.now result }
+    H: AllocGlobal + Network,
+    ensures pushed { IsPushing (H.reaches rt.now port) (TalksOver H.Input.given H.Input.to_come
+        H.Output.taken H.Input.called H.Output.called H.Input.failed H.Output.failed inputs.now
+        result) (H.fails rt.now) inputs.now result }
+    ensures answer { IsTalkAnswer inputs.now result }
 {
-    let Ok(stream) = TcpStream::connect(rt, (Ipv4Addr::LOCALHOST, port)) else {
-        return Err(Halt::Device);
-    };
-    send_at_once(&stream);
-    let mut source = Reader::new(&stream);
-    let mut sink = Writer::new(&stream);
-    push(rt.alloc(), &mut source, &mut sink, inputs, MAX_TURNS)
+    if !all_fit(inputs) {
+        return Err(Halt::Refused(Kind::FrameTooLong));
+    }
+    let mut end = rt.connect(port)?;
+    push(
+        rt.alloc(),
+        &mut end.source,
+        &mut end.sink,
+        inputs,
+        MAX_TURNS,
+    )
 }
 
 /// Does as `push_for` over any connection, with so many turns, each a read or a write.

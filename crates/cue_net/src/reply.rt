@@ -3,7 +3,7 @@ ghost use Rattle.std.specs.Prelude.{length};
 ghost use Rattle.std.specs.Int.{w64, to_be_bytes};
 ghost use Rattle.cue_lattice.specs.Refusal.{number_of};
 ghost use Rattle.cue_answer.specs.Answers.{code_of};
-ghost use Rattle.cue_net.specs.Replies.{Says, SaysOfInput, SaysOfExport};
+ghost use Rattle.cue_net.specs.Replies.{IsUntold, Says, SaysOfInput, SaysOfExport};
 ghost use Rattle.cue_net.specs.Replies.{IsNoReply, IsNoInputReply, IsNoExportReply};
 
 use cue_answer::Status;
@@ -57,11 +57,11 @@ fn place_in(bytes: &[u8]) -> Option<u64>
     Some(u64::from_be_bytes(*place))
 }
 
-/// The kind of this number, where one has it. A reply doesn't say the form of what the language
-/// leaves out.
+/// The kind of this number, where a site refuses a frame so. A reply doesn't say the form of what the
+/// language leaves out.
 pub fn kind_of(number: u8) -> Option<Kind>
-    ensures some { IfSome result (λ kind. number_of kind ≡ number) }
-    ensures none { IfNone result ((kind : Kind) → number_of kind ≢ number) }
+    ensures some { IfSome result (λ kind. (number_of kind ≡ number) × (IsUntold kind → ⊥)) }
+    ensures none { IfNone result ((kind : Kind) → number_of kind ≡ number → IsUntold kind) }
 {
     Some(match number {
         1 => Kind::TooLong,
@@ -82,13 +82,8 @@ pub fn kind_of(number: u8) -> Option<Kind>
         16 => Kind::NotScalar,
         17 => Kind::Version,
         18 => Kind::NotState,
-        19 => Kind::FrameTooLong,
         20 => Kind::BadRequest,
-        21 => Kind::TurnsUsed,
-        22 => Kind::Device,
         23 => Kind::ReplyTooLong,
-        24 => Kind::Memory,
-        25 => Kind::Failed,
         _ => return None,
     })
 }

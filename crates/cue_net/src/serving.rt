@@ -1,57 +1,58 @@
-ghost use Rattle.std.specs.Prelude.{IfOk, IfErr};
-ghost use Rattle.cue_net.specs.Halts.{IsMemory, IsDeviceOrMemory};
-ghost use Rattle.cue_net.specs.Printed.{IsPrintedExport, IsServedExport, ServesSome};
+ghost use Rattle.std.specs.Prelude.{◌≡◌, IfOk, IfErr};
+ghost use Rattle.cue_net.specs.Doors.{IsServing, IsServingAt, ServesOver};
+ghost use Rattle.cue_net.specs.Halts.{IsDeviceOrMemory};
+ghost use Rattle.cue_net.specs.Printed.{IsPrintedExport, IsServedExport};
 
 use crate::MAX_TURNS;
-use crate::connection::send_at_once;
 use crate::halt::Halt;
+use crate::network::{End, Network};
 use cue_answer::{Answer, Question, answer_to, printed};
-use cue_device::{Reader, Writer};
-use cue_replica::{Kind, Memory, Replica};
+use cue_device::{Sink, Source};
+use cue_replica::{Memory, Replica};
 use cue_wire::serve;
 use std::alloc::Global;
-use std::net::{Ipv4Addr, Net, TcpListener, TcpStream};
 
-/// Listens on this port of 127.0.0.1, and serves as `serve_from`.
+/// Opens a door at this port of 127.0.0.1, and serves there as `serve_from`. A read or a write waits
+/// for its peer for 60 seconds at most.
 ///
 /// # Errors
 ///
-/// `Device` where it can't listen, and as `serve_from`.
+/// `Device` where the port can't be had, and as `serve_from`.
 pub fn serve_for<H>(rt: &H, port: u16, count: u16) -> Result<Answer, Halt>
 where
-    H: AllocGlobal + Net<Listener = TcpListener, Stream = TcpStream>,
+    H: AllocGlobal + Network,
+    ensures served { IsServingAt (H.opens rt.now port) (H.lets_in rt.now)
+        (ServesOver H.Input.given H.Input.to_come H.Output.taken H.Input.called H.Output.called
+        H.Input.failed H.Output.failed) (H.fails rt.now) count result }
     ensures export { IfOk result IsServedExport }
     ensures halt { IfErr result IsDeviceOrMemory }
 {
-    let Ok(listener) = TcpListener::bind(rt, (Ipv4Addr::LOCALHOST, port)) else {
-        return Err(Halt::Device);
-    };
-    serve_from(rt.alloc(), &listener, count)
+    let mut door = rt.open(port)?;
+    serve_from(rt, &mut door, count)
 }
 
-/// Serves so many connections, one after the other, from one new site, and answers its export, as
-/// it is printed. A connection has at most 100,000 turns, each a read or a write. One that ends for
-/// a frame that is too long, for its turns or for a device that fails is closed, and the next is
-/// served.
+/// Serves so many connections through this door, one after the other, from one new site, and answers
+/// its export, as it is printed. A connection has at most 100,000 turns, each a read or a write. One
+/// that ends for a frame that is too long, for its turns, for a device that fails or for want of
+/// memory is closed, and the next is served.
 ///
 /// # Errors
 ///
-/// `Device` where it can't accept a connection, and `Memory`.
-pub fn serve_from(alloc: Global, listener: &TcpListener, count: u16) -> Result<Answer, Halt>
-    ensures export { IfOk result IsServedExport }
-    ensures halt { IfErr result IsDeviceOrMemory }
+/// `Device` where it can't accept a connection, and `Memory` where it has none for the export.
+pub fn serve_from<H>(rt: &H, door: &mut H::Door, count: u16) -> Result<Answer, Halt>
+where
+    H: AllocGlobal + Network,
+    ensures { IsServing (H.lets_in rt.now) (ServesOver H.Input.given H.Input.to_come H.Output.taken
+        H.Input.called H.Output.called H.Input.failed H.Output.failed) (H.fails rt.now)
+        count door.old door.new result }
 {
-    let mut site = Replica::new(alloc);
-    for _ in 0..count {
-        let Ok((stream, _)) = listener.accept() else {
-            return Err(Halt::Device);
-        };
-        serve_one(alloc, &stream, &mut site)?;
+    let mut site = Replica::new(rt.alloc());
+    for _served in 0..count {
+        let mut end = rt.accept(door)?;
+        serve_one(rt.alloc(), &mut end, &mut site);
     }
-    match exported(alloc, &site) {
-        Ok(answer) => Ok(answer),
-        Err(memory) => Err(Halt::from(memory)),
-    }
+    let answer = exported(rt.alloc(), &site)?;
+    Ok(answer)
 }
 
 /// The export of a site, as it is printed.
@@ -62,16 +63,11 @@ fn exported(alloc: Global, site: &Replica) -> Result<Answer, Memory>
     printed(Question::Export, told)
 }
 
-/// Serves one connection to its end.
-fn serve_one(alloc: Global, stream: &TcpStream, site: &mut Replica) -> Result<(), Halt>
-    ensures served { ServesSome site.old site.new }
-    ensures halt { IfErr result IsMemory }
+/// Serves one connection to its end, whatever that is: what ends one connection ends no other.
+fn serve_one<S: Source, K: Sink>(alloc: Global, end: &mut End<S, K>, site: &mut Replica)
+    requires { (S.called end.old.source ≡ 0) × (K.called end.old.sink ≡ 0) }
+    ensures { ServesOver S.given S.to_come K.taken S.called K.called S.failed K.failed
+        end.old.source end.old.sink end.new.source end.new.sink site.old site.new }
 {
-    send_at_once(stream);
-    let mut source = Reader::new(stream);
-    let mut sink = Writer::new(stream);
-    match serve(alloc, &mut source, &mut sink, site, MAX_TURNS) {
-        Err(Kind::Memory) => Err(Halt::Refused(Kind::Memory)),
-        _ => Ok(()),
-    }
+    let _ended = serve(alloc, &mut end.source, &mut end.sink, site, MAX_TURNS);
 }

@@ -269,7 +269,7 @@ split_stream whole stream rest part behind n is front back =
     ∙ sym (append_assoc stream part behind)
 
 -- all replies to what was read so far are written, and the session keeps what comes behind
-pub record SoFar (before now : Table) (session : Standing) (given given' to_come to_come' taken taken' : Option (List ℕ)) (turns left : ℕ) : Type 0 where
+pub record SoFar (before now : Table) (session : Standing) (given given' to_come to_come' taken taken' : Option (List ℕ)) (reads reads' writes writes' : ℕ) : Type 0 where
   pub read : List ℕ
   pub kept : List ℕ
   pub written : List ℕ
@@ -279,12 +279,13 @@ pub record SoFar (before now : Table) (session : Standing) (given given' to_come
   pub gave : Appends given given' read
   pub took : Consumes to_come to_come' read
   pub wrote : Appends taken taken' written
-  pub moves : turns ≤ left + length read + length written
+  pub pulled : reads' ≤ reads + length read
+  pub pushed : writes' ≤ writes + length written
 
-pub begun : (table : Table) (session : Standing) (given to_come taken : Option (List ℕ)) (turns : ℕ) → session ≡ reading []
-    → SoFar table table session given given to_come to_come taken taken turns turns
+pub begun : (table : Table) (session : Standing) (given to_come taken : Option (List ℕ)) (reads writes : ℕ) → session ≡ reading []
+    → SoFar table table session given given to_come to_come taken taken reads reads writes writes
 unfolding ServesAll
-begun table session given to_come taken turns is = record {
+begun table session given to_come taken reads writes is = record {
   read = [];
   kept = [];
   written = [];
@@ -294,17 +295,18 @@ begun table session given to_come taken turns is = record {
   gave = Appends-nil given;
   took = Consumes-nil to_come;
   wrote = Appends-nil taken;
-  moves = omega arith;
+  pulled = omega arith;
+  pushed = omega arith;
 }
 
 -- one piece was read, and the replies to it are written
 pub went_on : (before now after : Table) (session session' : Standing) (given given' given'' to_come to_come' to_come'' taken taken' taken'' : Option (List ℕ))
-    (result : Result (Unit {0}) Kind) (u : Unit {0}) (piece : List ℕ) (turns left start left' failed failed' : ℕ)
-    → (s : SoFar before now session given given' to_come to_come' taken taken' turns left)
-    → Appends given' given'' piece → Consumes to_come' to_come'' piece → result ≡ Ok u → 0 < length piece → left ≡ start + 1 → failed' ≡ failed
+    (result : Result (Unit {0}) Kind) (u : Unit {0}) (piece : List ℕ) (reads reads' reads'' writes writes' writes'' start left' failed failed' : ℕ)
+    → (s : SoFar before now session given given' to_come to_come' taken taken' reads reads' writes writes')
+    → Appends given' given'' piece → Consumes to_come' to_come'' piece → result ≡ Ok u → 0 < length piece → reads'' ≡ reads' + 1 → writes'' + left' ≡ writes' + start → failed' ≡ failed
     → Replied result (s.kept ++ piece) session' now after taken' taken'' start left' failed failed'
-    → SoFar before after session' given given'' to_come to_come'' taken taken'' turns left'
-went_on before now after session session' given given' given'' to_come to_come' to_come'' taken taken' taken'' result u piece turns left start left' failed failed' s gave took ok some turn sound r =
+    → SoFar before after session' given given'' to_come to_come'' taken taken'' reads reads'' writes writes''
+went_on before now after session session' given given' given'' to_come to_come' to_come'' taken taken' taken'' result u piece reads reads' reads'' writes writes' writes'' start left' failed failed' s gave took ok some pull push sound r =
     let ends = subst (λ e. RepliesAt e r.rest r.unwritten session' left' failed failed') ok r.ends in
     record {
       read = s.read ++ piece;
@@ -317,25 +319,27 @@ went_on before now after session session' given given' given'' to_come to_come' 
       gave = Appends-trans given given' given'' s.read piece s.gave gave;
       took = Consumes-trans to_come to_come' to_come'' s.read piece s.took took;
       wrote = Appends-trans taken taken' taken'' s.written r.written s.wrote r.wrote;
-      moves = omega (arith, s.moves, r.moves, some, turn, sound, length-append s.read piece, length-append s.written r.written);
+      pulled = omega (arith, s.pulled, some, pull, length-append s.read piece);
+      pushed = omega (arith, s.pushed, r.moves, push, sound, length-append s.written r.written);
     }
 
-stop_for : (kind : Kind) (rest unwritten : List ℕ) (left failed failed' turns moved calls calls' failures failures' : ℕ)
-    → (left ≡ 0 → failed' ≡ failed → (calls' ≡ calls + turns) × (turns ≤ moved)) → (failed < failed' → failures < failures')
-    → IsStop kind rest unwritten (IsWriteFault kind left failed failed') → IsStop kind rest unwritten (IsFault kind turns moved calls calls' failures failures')
-stop_for kind rest unwritten left failed failed' turns moved calls calls' failures failures' used broke =
-    ⊎_elim inl (λ others. inr (⊎_elim inl (λ fault. inr (⊎_elim (λ out. let all = used out.1 out.2 in inl (out.0, all.0, all.1)) (λ device. inr (device.0, broke device.1)) fault)) others))
+stop_for : (kind : Kind) (rest unwritten read written : List ℕ) (left failed failed' turns reads reads' writes writes' failures failures' : ℕ)
+    → (left ≡ 0 → failed' ≡ failed → (reads' + writes' ≡ reads + writes + turns) × (reads' ≤ reads + length read) × (writes' ≤ writes + length written))
+    → (failed < failed' → failures < failures') → IsStop kind rest unwritten (IsWriteFault kind left failed failed')
+    → IsStop kind rest unwritten (IsFault kind read written turns reads reads' writes writes' failures failures')
+stop_for kind rest unwritten read written left failed failed' turns reads reads' writes writes' failures failures' used broke =
+    ⊎_elim inl (λ others. inr (⊎_elim inl (λ fault. inr (⊎_elim (λ out. let all = used out.1 out.2 in inl (out.0, all.0, all.1, all.2)) (λ device. inr (device.0, broke device.1)) fault)) others))
 
 -- one piece was read, and then serving stopped
 pub stopped : (before now after : Table) (session session' : Standing) (given given' given'' to_come to_come' to_come'' taken taken' taken'' : Option (List ℕ))
-    (result : Result (Unit {0}) Kind) (kind : Kind) (piece : List ℕ) (turns left start left' failed failed' calls calls' failures failures' : ℕ)
-    → (s : SoFar before now session given given' to_come to_come' taken taken' turns left)
-    → Appends given' given'' piece → Consumes to_come' to_come'' piece → result ≡ Err kind → 0 < length piece → left ≡ start + 1
+    (result : Result (Unit {0}) Kind) (kind : Kind) (piece : List ℕ) (turns reads reads' reads'' writes writes' writes'' start left' failed failed' failures failures' : ℕ)
+    → (s : SoFar before now session given given' to_come to_come' taken taken' reads reads' writes writes')
+    → Appends given' given'' piece → Consumes to_come' to_come'' piece → result ≡ Err kind → 0 < length piece → reads'' ≡ reads' + 1 → writes'' + left' ≡ writes' + start
     → Replied result (s.kept ++ piece) session' now after taken' taken'' start left' failed failed'
-    → (left' ≡ 0 → calls' ≡ calls + turns) → (failed < failed' → failures < failures')
+    → (left' ≡ 0 → reads'' + writes'' ≡ reads + writes + turns) → (failed < failed' → failures < failures')
     → (passage : Passage before after) × PassesBy passage given given'' to_come to_come'' taken taken''
-    × EndsAt (Err kind) passage to_come'' turns calls calls' failures failures'
-stopped before now after session session' given given' given'' to_come to_come' to_come'' taken taken' taken'' result kind piece turns left start left' failed failed' calls calls' failures failures' s gave took err some turn r used broke =
+    × EndsAt (Err kind) passage to_come'' turns reads reads'' writes writes'' failures failures'
+stopped before now after session session' given given' given'' to_come to_come' to_come'' taken taken' taken'' result kind piece turns reads reads' reads'' writes writes' writes'' start left' failed failed' failures failures' s gave took err some pull push r used broke =
     let ends = subst (λ e. RepliesAt e r.rest r.unwritten session' left' failed failed') err r.ends in (
       record {
         read = s.read ++ piece;
@@ -350,16 +354,23 @@ stopped before now after session session' given given' given'' to_come to_come' 
         Consumes-trans to_come to_come' to_come'' s.read piece s.took took,
         Appends-trans taken taken' taken'' s.written r.written s.wrote r.wrote,
       ),
-      stop_for kind r.rest r.unwritten left' failed failed' turns (length (s.read ++ piece) + length (s.written ++ r.written)) calls calls' failures failures'
-          (λ none sound. (used none, omega (arith, none, sound, s.moves, r.moves, some, turn, length-append s.read piece, length-append s.written r.written)))
-          broke ends,
+      (
+        stop_for kind r.rest r.unwritten (s.read ++ piece) (s.written ++ r.written) left' failed failed' turns reads reads'' writes writes'' failures failures'
+            (λ none sound. (
+              used none,
+              omega (arith, s.pulled, some, pull, length-append s.read piece),
+              omega (arith, sound, s.pushed, r.moves, push, length-append s.written r.written),
+            ))
+            broke ends,
+        λ memory nil. omega (arith, some, ap length nil, length-append s.read piece),
+      ),
     )
 
 -- a read that gave nothing
 pub none_read : (before now : Table) (session : Standing) (given given' given'' to_come to_come' to_come'' taken taken' : Option (List ℕ)) (piece : List ℕ)
-    (turns left : ℕ) → (s : SoFar before now session given given' to_come to_come' taken taken' turns left) → piece ≡ [] → Appends given' given'' piece → Consumes to_come' to_come'' piece
-    → SoFar before now session given given'' to_come to_come'' taken taken' turns left
-none_read before now session given given' given'' to_come to_come' to_come'' taken taken' piece turns left s nil gave took =
+    (reads reads' writes writes' : ℕ) → (s : SoFar before now session given given' to_come to_come' taken taken' reads reads' writes writes') → piece ≡ [] → Appends given' given'' piece → Consumes to_come' to_come'' piece
+    → SoFar before now session given given'' to_come to_come'' taken taken' 0 0 0 0
+none_read before now session given given' given'' to_come to_come' to_come'' taken taken' piece reads reads' writes writes' s nil gave took =
     let same = ap (λ zs. s.read ++ zs) nil ∙ append-nil s.read in
     record {
       read = s.read;
@@ -371,14 +382,15 @@ none_read before now session given given' given'' to_come to_come' to_come'' tak
       gave = subst (Appends given given'') same (Appends-trans given given' given'' s.read piece s.gave gave);
       took = subst (Consumes to_come to_come'') same (Consumes-trans to_come to_come' to_come'' s.read piece s.took took);
       wrote = s.wrote;
-      moves = s.moves;
+      pulled = omega arith;
+      pushed = omega arith;
     }
 
 -- a read that failed
 pub failed_read : (before now : Table) (session : Standing) (given given' given'' to_come to_come' to_come'' taken taken' : Option (List ℕ))
-    (turns left : ℕ) → (s : SoFar before now session given given' to_come to_come' taken taken' turns left) → Keeps given' given'' → Keeps to_come' to_come''
-    → SoFar before now session given given'' to_come to_come'' taken taken' turns left
-failed_read before now session given given' given'' to_come to_come' to_come'' taken taken' turns left s gave took = record {
+    (reads reads' writes writes' : ℕ) → (s : SoFar before now session given given' to_come to_come' taken taken' reads reads' writes writes') → Keeps given' given'' → Keeps to_come' to_come''
+    → SoFar before now session given given'' to_come to_come'' taken taken' reads reads' writes writes'
+failed_read before now session given given' given'' to_come to_come' to_come'' taken taken' reads reads' writes writes' s gave took = record {
   read = s.read;
   kept = s.kept;
   written = s.written;
@@ -388,16 +400,17 @@ failed_read before now session given given' given'' to_come to_come' to_come'' t
   gave = Appends-kept given given' given'' s.read s.gave gave;
   took = Consumes-kept to_come to_come' to_come'' s.read s.took took;
   wrote = s.wrote;
-  moves = s.moves;
+  pulled = s.pulled;
+  pushed = s.pushed;
 }
 
 -- serving ends where all replies are written
 pub halted : (before now : Table) (session : Standing) (given given' to_come to_come' taken taken' : Option (List ℕ))
-    (turns left : ℕ) → (s : SoFar before now session given given' to_come to_come' taken taken' turns left)
-    (Ends : List ℕ → List ℕ → ℕ → Type 0) → Ends s.kept [] (length s.read + length s.written)
+    (reads reads' writes writes' : ℕ) → (s : SoFar before now session given given' to_come to_come' taken taken' reads reads' writes writes')
+    (Ends : List ℕ → List ℕ → List ℕ → List ℕ → Type 0) → Ends s.kept [] s.read s.written
     → (passage : Passage before now) × PassesBy passage given given' to_come to_come' taken taken'
-    × Ends passage.rest passage.unwritten (length passage.read + length passage.written)
-halted before now session given given' to_come to_come' taken taken' turns left s Ends ends = (
+    × Ends passage.rest passage.unwritten passage.read passage.written
+halted before now session given given' to_come to_come' taken taken' reads reads' writes writes' s Ends ends = (
   record {
     read = s.read;
     rest = s.kept;

@@ -1,5 +1,5 @@
 -- What happens on a connection while it is served.
-use Rattle.std.specs.Prelude.{◌≡◌, ◌↔◌, ◌⊎◌, ◌<◌, ◌≤◌, ◌+◌, ℕ, List, [], ◌++◌, length}
+use Rattle.std.specs.Prelude.{◌≡◌, ◌≢◌, ◌↔◌, ◌⊎◌, ◌<◌, ◌≤◌, ◌+◌, ℕ, List, [], ◌++◌, length}
 use Rattle.std.specs.Prelude.{Option, Result, Ok, Err, IsTrue}
 use Rattle.std.specs.Io.KnownBytes.{Appends, Consumes, IsAtEnd}
 use Rattle.cue_lattice.specs.declared.refusal.Kind.{Kind}
@@ -35,19 +35,23 @@ IsStop kind rest unwritten Stops =
     ⊎ ((kind ≡ kinds.Memory) × (unwritten ≡ []))
     ⊎ Stops
 
--- The turns are used, in as many calls, by which at least as many bytes passed; or a device failed.
-abbrev pub IsFault : Kind → ℕ → ℕ → ℕ → ℕ → ℕ → ℕ → Type 0
-IsFault kind turns moved calls calls' failed failed' =
-    ((kind ≡ kinds.TurnsUsed) × (calls' ≡ calls + turns) × (turns ≤ moved))
+-- The turns are used, in as many calls, with at least as many bytes read as there were reads and
+-- written as there were writes; or a device failed.
+abbrev pub IsFault : Kind → List ℕ → List ℕ → ℕ → ℕ → ℕ → ℕ → ℕ → ℕ → ℕ → Type 0
+IsFault kind read written turns reads reads' writes writes' failed failed' =
+    ((kind ≡ kinds.TurnsUsed) × (reads' + writes' ≡ reads + writes + turns)
+    × (reads' ≤ reads + length read) × (writes' ≤ writes + length written))
     ⊎ ((kind ≡ kinds.Device) × (failed < failed'))
 
 -- How serving ends: at the end of the input, where all that was read is served but a frame that
--- isn't whole, and all replies are written; or before.
+-- isn't whole, and all replies are written; or before, and then memory ran out only where bytes were
+-- read.
 abbrev pub EndsAt : {before after : Table} → Result Ended Kind → Passage before after
-    → Option (List ℕ) → ℕ → ℕ → ℕ → ℕ → ℕ → Type 0
-EndsAt (Ok ended) passage to_come turns calls calls' failed failed' =
+    → Option (List ℕ) → ℕ → ℕ → ℕ → ℕ → ℕ → ℕ → ℕ → Type 0
+EndsAt (Ok ended) passage to_come turns reads reads' writes writes' failed failed' =
     IsAtEnd to_come × IsUnfinished passage.rest × (passage.unwritten ≡ [])
     × (IsTrue ended.whole ↔ passage.rest ≡ []) × (failed' ≡ failed)
-EndsAt (Err kind) passage to_come turns calls calls' failed failed' =
-    IsStop kind passage.rest passage.unwritten
-    (IsFault kind turns (length passage.read + length passage.written) calls calls' failed failed')
+EndsAt (Err kind) passage to_come turns reads reads' writes writes' failed failed' =
+    IsStop kind passage.rest passage.unwritten (IsFault kind passage.read passage.written turns
+    reads reads' writes writes' failed failed')
+    × (kind ≡ kinds.Memory → passage.read ≢ [])

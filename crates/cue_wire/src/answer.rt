@@ -1,7 +1,7 @@
 //! What a frame's body does to a site, and its reply.
 
 ghost use Rattle.std.specs.Prelude.{◌≡◌, ◌≢◌, ◌++◌, ◌+◌, ◌≤◌, [], List, ℕ, vec_len};
-ghost use Rattle.std.specs.Prelude.{vec_capacity, OnOk, OnErr, IfErr, IsErr};
+ghost use Rattle.std.specs.Prelude.{vec_capacity, OnOk, OnErr, IfErr, IsErrAnd};
 ghost use Rattle.cue_lattice.specs.Refusal.{memory};
 ghost use Rattle.cue_wire.specs.Serving.{accepting, refusing, IsAnswered, Serves};
 
@@ -43,12 +43,17 @@ pub fn answer(
 }
 
 /// The reply to what a site was handed, where there is room for it.
+///
+/// # Errors
+///
+/// `Memory`, only where the site wanted it.
 fn reply_to(out: &mut Vec<u8>, taken: Result<(), Refusal>) -> Result<(), Memory>
     requires room { vec_len out.old + SHORT_REPLY ≤ vec_capacity out.old }
     ensures accepted { OnOk result (OnOk taken (out.new.items ≡ out.old.items ++ accepting [])) }
     ensures refused { OnOk result (IfErr taken (λ why.
         (why ≢ memory) × (out.new.items ≡ out.old.items ++ refusing why))) }
-    ensures err { OnErr result (IsErr taken × (out.new.items ≡ out.old.items)) }
+    ensures err { OnErr result (IsErrAnd taken (λ why. why.kind ≡ Kind.Memory)
+        × (out.new.items ≡ out.old.items)) }
 {
     match taken {
         Ok(()) => accept(out, &[], &[]),

@@ -49,16 +49,14 @@ pub fn serve<S: Source, K: Sink>(
         × PassesBy passage (S.given source.old) (S.given source.new)
         (S.to_come source.old) (S.to_come source.new) (K.taken sink.old) (K.taken sink.new)
         × EndsAt result passage (S.to_come source.new) turns
-        (S.called source.old + K.called sink.old) (S.called source.new + K.called sink.new)
+        (S.called source.old) (S.called source.new) (K.called sink.old) (K.called sink.new)
         (S.failed source.old + K.failed sink.old) (S.failed source.new + K.failed sink.new) }
     ensures reads { S.called source.old ≤ S.called source.new }
     ensures writes { K.called sink.old ≤ K.called sink.new }
     ensures turns { S.called source.new + K.called sink.new
         ≤ S.called source.old + K.called sink.old + turns }
 {
-    let Ok(mut session) = Session::new(alloc) else {
-        return Err(Kind::Memory);
-    };
+    let mut session = Session::begun(alloc);
     let mut out = Vec::new(alloc);
     let mut piece = [0u8; PIECE];
     let mut left = turns;

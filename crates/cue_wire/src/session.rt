@@ -38,11 +38,18 @@ impl Session {
     pub fn new(alloc: Global) -> Result<Session, Memory>
         ensures { IfOk result (λ session. session ≡ reading []) }
     {
-        Ok(Session {
+        Ok(Session::begun(alloc))
+    }
+
+    /// A session that was fed nothing, and has wanted no memory yet.
+    pub(crate) fn begun(alloc: Global) -> Session
+        ensures { result ≡ reading [] }
+    {
+        Session {
             unread: BytesMut::new(alloc),
             alloc,
             ended: false,
-        })
+        }
     }
 
     /// Whether the session reads on: no `feed` has answered `FrameTooLong` or `Memory`.

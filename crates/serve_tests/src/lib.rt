@@ -13,3 +13,5 @@ mod pushes;
 mod serves;
 #[cfg(test)]
 mod sockets;
+#[cfg(test)]
+mod wires;

@@ -3,7 +3,9 @@
 use crate::pushes::{Told, texts_of};
 use crate::sockets::{ACCEPTED, TEXT, heard, sent};
 use cue_answer::Status;
-use cue_net::{push_for, serve_for};
+use cue_net::{Halt, push_for, serve_for};
+use cue_replica::Kind;
+use cue_wire::Request;
 use std::alloc::Global;
 use std::io;
 use std::io::{ErrorKind, Write};
@@ -89,5 +91,24 @@ fn an_input_is_pushed_to_a_port(rt: HostRuntime) -> Result<(), Fail> {
     near.shutdown(Shutdown::Write)?;
     let requests = b"\0\0\0\x06\x01a: 1\n\0\0\0\x01\x04";
     assert_eq!(rt; heard(&rt, &far)?.as_slice(), requests.as_slice());
+    Ok(())
+}
+
+/// Nothing stands at port 81, and an input that no frame can hold is refused before that is found.
+#[test]
+fn sizes_are_looked_at_before_the_port(rt: HostRuntime) -> Result<(), Fail> {
+    let listener = TcpListener::bind(&rt, (Ipv4Addr::LOCALHOST, 0))?;
+    let stream = TcpStream::connect(&rt, listener.local_addr()?)?;
+    let port = Prepared {
+        alloc: rt.alloc(),
+        listener: &listener,
+        stream: &stream,
+    };
+    let mut inputs = texts_of(rt.alloc(), &["a: 1\n"])?;
+    let nobody = push_for(&port, 81, &inputs);
+    assert!(rt; Told { answer: nobody }.halts(Halt::Device));
+    inputs.push(Request::State(Vec::from_elem(rt.alloc(), 0u8, 16_777_216)?))?;
+    let refused = push_for(&port, 81, &inputs);
+    assert!(rt; Told { answer: refused }.halts(Halt::Refused(Kind::FrameTooLong)));
     Ok(())
 }

@@ -1,11 +1,17 @@
 //! Several connections over sockets of this process, served one after the other.
 
 use cue_answer::Status;
-use cue_net::serve_from;
+use cue_net::{Port, serve_from};
 use std::io;
 use std::io::{Read, Write};
 use std::net::{Ipv4Addr, Net, Shutdown, SocketAddr, TcpListener, TcpStream};
 use std::test::Fail;
+use std::time::Duration;
+
+/// How long a turn waits for its peer.
+fn patience() -> Duration {
+    Duration::from_secs(60)
+}
 
 /// A connection that has sent these bytes, and sends no more.
 pub fn sent<H>(rt: &H, address: SocketAddr, bytes: &[u8]) -> io::Result<TcpStream>
@@ -40,7 +46,7 @@ fn five_connections(rt: HostRuntime) -> Result<(), Fail> {
     let silent = sent(&rt, address, b"")?;
     let no_frame = sent(&rt, address, b"\x01\0\0\x01 and more")?;
     let last = sent(&rt, address, b"\0\0\0\x06\x01c: 2\n\0\0\0\0")?;
-    let answer = match serve_from(rt.alloc(), &listener, 5) {
+    let answer = match serve_from(&rt, &mut Port::new(listener, patience()), 5) {
         Ok(answer) => answer,
         Err(_) => return Ok(assert!(rt; false)),
     };
@@ -64,7 +70,7 @@ fn a_peer_that_is_gone(rt: HostRuntime) -> Result<(), Fail> {
         (&stream).write_all(&TEXT)?;
     }
     let last = sent(&rt, address, &TEXT)?;
-    match serve_from(rt.alloc(), &listener, 3) {
+    match serve_from(&rt, &mut Port::new(listener, patience()), 3) {
         Ok(answer) => assert_eq!(rt; answer.bytes.as_slice(), b"{\"a\":1}\n".as_slice()),
         Err(_) => assert!(rt; false),
     }
@@ -75,9 +81,36 @@ fn a_peer_that_is_gone(rt: HostRuntime) -> Result<(), Fail> {
 #[test]
 fn no_connection(rt: HostRuntime) -> Result<(), Fail> {
     let listener = TcpListener::bind(&rt, (Ipv4Addr::LOCALHOST, 0))?;
-    match serve_from(rt.alloc(), &listener, 0) {
+    match serve_from(&rt, &mut Port::new(listener, patience()), 0) {
         Ok(answer) => assert_eq!(rt; answer.status, Status::Incomplete),
         Err(_) => assert!(rt; false),
     }
+    Ok(())
+}
+
+/// One says nothing, and one stops in the middle of a frame: each holds the others up for as long as
+/// a turn may wait, and what was acknowledged stands.
+#[test]
+fn peers_that_wait_hold_nobody_up(rt: HostRuntime) -> Result<(), Fail> {
+    let listener = TcpListener::bind(&rt, (Ipv4Addr::LOCALHOST, 0))?;
+    let address = listener.local_addr()?;
+    let first = sent(&rt, address, &TEXT)?;
+    let silent = TcpStream::connect(&rt, address)?;
+    let half = TcpStream::connect(&rt, address)?;
+    (&half).write_all(b"\0\0\0\x06\x01b: 2\n\0\0\0\x06\x01")?;
+    let last = sent(&rt, address, b"\0\0\0\x06\x01c: 3\n")?;
+    match serve_from(&rt, &mut Port::new(listener, Duration::from_millis(50)), 4) {
+        Ok(answer) => {
+            assert_eq!(rt;
+                answer.bytes.as_slice(),
+                b"{\"a\":1,\"b\":2,\"c\":3}\n".as_slice()
+            );
+        }
+        Err(_) => assert!(rt; false),
+    }
+    for stream in [&first, &half, &last] {
+        assert_eq!(rt; heard(&rt, stream)?.as_slice(), ACCEPTED.as_slice());
+    }
+    assert!(rt; heard(&rt, &silent)?.is_empty());
     Ok(())
 }

@@ -13,12 +13,12 @@ use Rattle.cue_net.specs.Talks.{Talk, IsTalk}
 use Rattle.cue_net.specs.Inner.Turns.{Moves}
 use Rattle.cue_net.specs.Inner.Hearing.{Hears, Balks}
 
--- Why bytes are not carried: no turn is left, memory ran out, a device failed, the end was found,
--- or what was read is nothing that the reader takes.
-abbrev pub IsCarryHalt : Halt → ℕ → Option (List ℕ) → ℕ → ℕ → Type 0 → Type 0
-IsCarryHalt halt left to_come failed failed' Balk =
+-- Why bytes are not carried: no turn is left, memory ran out, a device failed, the end was found
+-- with too few of them, or what was read is nothing that the reader takes.
+abbrev pub IsCarryHalt : Halt → ℕ → Option (List ℕ) → Type 0 → ℕ → ℕ → Type 0 → Type 0
+IsCarryHalt halt left to_come Few failed failed' Balk =
     (IsTurnsUsed halt × (left ≡ 0)) ⊎ IsMemory halt
-    ⊎ (IsDevice halt × ((failed < failed') ⊎ IsAtEnd to_come ⊎ Balk))
+    ⊎ (IsDevice halt × ((failed < failed') ⊎ (IsAtEnd to_come × Few) ⊎ Balk))
 
 -- the session takes what was read and serves what is whole with it, and adds the replies
 abbrev pub ServesOnto : Standing → Standing → Table → Table → List ℕ → List ℕ → List ℕ → Type 0
@@ -37,7 +37,8 @@ abbrev pub BringsAt : Result (Unit {0}) Halt → List ℕ → Talk → Exchange 
 BringsAt (Ok u) unsent talk old new to_come left failed failed' =
     (unsent ≡ []) × (length talk.heard ≡ length talk.sent) × Hears old new talk.heard
 BringsAt (Err halt) unsent talk old new to_come left failed failed' =
-    IsCarryHalt halt left to_come failed failed' (Balks old talk.heard)
+    IsCarryHalt halt left to_come (length talk.heard < length talk.sent) failed failed'
+    (Balks old talk.heard)
 
 -- The front of these bytes was written at one end, and bytes were read at the other and handed to
 -- the client.
@@ -61,7 +62,9 @@ ExchangesAt (Ok u) unsent near far old new session session' before after near_to
 ExchangesAt (Err halt) unsent near far old new session session' before after near_to_come
     far_to_come left failed failed' =
     (IsTurnsUsed halt × (left ≡ 0)) ⊎ IsMemory halt
-    ⊎ (IsDevice halt × ((failed < failed') ⊎ IsAtEnd near_to_come ⊎ IsAtEnd far_to_come
+    ⊎ (IsDevice halt × ((failed < failed')
+    ⊎ (IsAtEnd near_to_come × (length near.heard < length far.sent))
+    ⊎ (IsAtEnd far_to_come × (length far.heard < length near.sent))
     ⊎ Balks old near.heard ⊎ Faults session far.heard))
 
 -- The front of these frames was sent at the near end and served at the far one.

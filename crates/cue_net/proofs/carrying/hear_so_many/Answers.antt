@@ -1,4 +1,4 @@
-use Rattle.std.proofs.Common.{◌++◌, length, take, inr, ◌∙◌, arith, length-append}
+use Rattle.std.proofs.Common.{◌++◌, ◌<◌, length, take, inr, ◌∙◌, arith, length-append}
 use Rattle.std.proofs.KnownBytes.{Appends-trans, Consumes-trans}
 use Rattle.std.proofs.lemmas.List.{length-take-le, length-take}
 use Rattle.cue_net.specs.Inner.Hearing.{Balks}
@@ -19,7 +19,7 @@ returns-in_err-hear-clause-read g c =
       Consumes-trans (source.to_come c.args.source.now) (source.to_come s.source) (source.to_come new) h.0 piece h.2 c.in_ok-some.ensures.takes.0,
       none_ok c.from_residual-in_err-hear.result c.in_err-hear.field-0.0 _ c.from_residual-in_err-hear.ensures.1,
       err_on c.from_residual-in_err-hear.result c.in_err-hear.field-0.0 _ c.from_residual-in_err-hear.ensures.1 (takes_nothing c.in_err-hear.field-0.0 c.read_some.new.left (source.failed c.args.source.now) (source.failed new) (source.to_come new)
-          (Balks s.hearing piece) (Balks c.args.hearing.now (h.0 ++ piece)) (balks_later c.args.hearing.now s.hearing h.0 piece h.4) c.in_err-hear.ensures.err),
+          (length (h.0 ++ piece) < c.args.count) (Balks s.hearing piece) (Balks c.args.hearing.now (h.0 ++ piece)) (balks_later c.args.hearing.now s.hearing h.0 piece h.4) c.in_err-hear.ensures.err),
       moved_on c.from_residual-in_err-hear.result c.in_err-hear.field-0.0 c.args.left.now c.read_some.new.left (length (h.0 ++ piece)) c.from_residual-in_err-hear.ensures.1 (inr (omega (arith, s.invariant.moves, c.in_ok-some.ensures.turn, c.in_ok-some.ensures.bound, h.3, length-append h.0 piece, length-take-le c.in_ok-some.some c.read_some.new.into c.in_ok-some.ensures.bound.1))),
     )
 

@@ -1,4 +1,4 @@
-use Rattle.std.proofs.Common.{◌++◌, length, [], take, refl, inr, ◌∙◌, arith, length-append}
+use Rattle.std.proofs.Common.{◌++◌, ◌<◌, length, [], take, refl, inr, ◌∙◌, arith, length-append}
 use Rattle.std.proofs.KnownBytes.{Appends-nil, Appends-trans, Consumes-nil, Consumes-trans}
 use Rattle.std.proofs.lemmas.List.{length-take-le, length-take}
 use Rattle.cue_net.specs.Inner.Looping.{Faults}
@@ -37,7 +37,7 @@ returns-in_err-serve_piece-clause-read g c =
       Consumes-trans (source.to_come c.args.source.now) (source.to_come s.source) (source.to_come new) h.0 piece h.2 c.in_ok-some.ensures.takes.0,
       none_ok c.from_residual-in_err-serve_piece.result c.in_err-serve_piece.field-0.0 _ c.from_residual-in_err-serve_piece.ensures.1,
       err_on c.from_residual-in_err-serve_piece.result c.in_err-serve_piece.field-0.0 _ c.from_residual-in_err-serve_piece.ensures.1 (takes_nothing c.in_err-serve_piece.field-0.0 c.read_some.new.left (source.failed c.args.source.now) (source.failed new) (source.to_come new)
-          (Faults s.serving.session piece) (Faults at.session (h.0 ++ piece))
+          (length (h.0 ++ piece) < c.args.count) (Faults s.serving.session piece) (Faults at.session (h.0 ++ piece))
           (faults_later at.session s.serving.session at.site s.serving.site at.out.items s.serving.out.items h.0 piece h.4) c.in_err-serve_piece.ensures.err),
       moved_on c.from_residual-in_err-serve_piece.result c.in_err-serve_piece.field-0.0 c.args.left.now c.read_some.new.left (length (h.0 ++ piece)) c.from_residual-in_err-serve_piece.ensures.1 (inr (omega (arith, s.invariant.moves, c.in_ok-some.ensures.turn, c.in_ok-some.ensures.bound, h.3, length-append h.0 piece, length-take-le c.in_ok-some.some c.read_some.new.into c.in_ok-some.ensures.bound.1))),
     )

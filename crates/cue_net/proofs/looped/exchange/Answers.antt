@@ -113,7 +113,7 @@ returns-in_err-serve_so_many-clause-exchanged g c =
     let within : n ≤ length rest = omega (arith, c.in_ok-count.ensures.bound, length-take most rest) in
     let some : 0 < length rest = grind (arith, c.is_empty.ensures, c.loop-rest-test.true) in
     ex_on c.from_residual-in_err-serve_so_many.ensures.1 (ex_is (parts_more (flat_map request_frame c.args.requests.now) e.0 rest n e.1) (ex_part (take (length rest - n) (drop n rest))
-    (ex_then s.invariant.sound e.2 (piece_unserved c.in_err-serve_so_many.field-0.0 piece q.0 s.hearing s.serving.session sv.serving.session s.serving.site sv.serving.site
+    (ex_then s.invariant.sound e.2 (piece_unserved c.in_err-serve_so_many.field-0.0 piece q.0 n s.hearing s.serving.session sv.serving.session s.serving.site sv.serving.site
     (source.given s.near.source) (source.to_come s.near.source) (sink.taken s.near.sink) (sink.taken w)
     (source.given s.far.source) (source.given sv.source) (source.to_come s.far.source) (source.to_come sv.source) (sink.taken s.far.sink)
     s.left sv.left (source.failed s.far.source) (source.failed sv.source)
@@ -131,7 +131,7 @@ returns-in_err-serve_so_many-clause-exchanged g c =
       length-take-le n rest within,
     ))) q.5)
     (front_taken (sink.taken s.near.sink) (sink.taken w) rest n most c.in_ok-count.ensures.bound few c.in_ok-count.ensures.takes)
-    q.1 q.2 q.4))))
+    q.1 q.2 (length-take-le n rest within) q.4))))
 
 pub returns-in_err-bring_back-clause-exchanged : goal.returns-in_err-bring_back-clause-exchanged
 returns-in_err-bring_back-clause-exchanged g c =

@@ -1,19 +1,47 @@
-use Rattle.std.proofs.Common.{⊎_elim, inl, inr}
-use Rattle.cue_net.proofs.Sockets.{of_device}
+use Rattle.std.proofs.Common.{◌+◌, ◌∙◌, inl, inr, refl, sym}
+use Rattle.std.proofs.lemmas.Bool.{false≢true}
+use Rattle.cue_net.proofs.Calls.{of_long, of_both}
 use Rattle.cue_net.proofs.looped.loop_for.Goals as goal
 
-pub returns : goal.returns
-returns g c =
-    ⊎_elim (λ told. inl (told.1.0, told.1.1, told.1.2.count, told.1.3))
-    (λ cut. inr (
-      cut.0,
-      cut.2,
-      ⊎_elim
-          (λ long. inl (long.0, long.1))
-          (λ short. ⊎_elim (λ turns. inr (inl turns.0)) (λ more. ⊎_elim (λ memory. inr (inr (inl memory))) (λ device. inr (inr (inr device.0))) more) short)
-          cut.4,
-    ))
-    c.converse.ensures.answer.4
+pub returns-then-not-all_fit-clause-looped : goal.returns-then-not-all_fit-clause-looped
+returns-then-not-all_fit-clause-looped g c =
+    inl (inl (refl, λ all. absurd (false≢true (sym c.if-not-all_fit.true ∙ c.all_fit.ensures.1 all))))
 
-pub returns-in-Err : goal.returns-in-Err
-returns-in-Err g c = of_device c.args.inputs.now c.in-Err.halt c.in-Err.ensures
+pub returns-then-not-all_fit-clause-answer : goal.returns-then-not-all_fit-clause-answer
+returns-then-not-all_fit-clause-answer g c =
+    of_long c.args.inputs.now (λ all. absurd (false≢true (sym c.if-not-all_fit.true ∙ c.all_fit.ensures.1 all)))
+
+pub returns-clause-looped : goal.returns-clause-looped
+returns-clause-looped g c =
+    let near = c.in_ok-near.near in
+    let far = c.in_ok-near.far in
+    let left = c.converse.new in
+    inr (
+      c.all_fit.ensures.0 c.if-not-all_fit.false,
+      (
+        near.source,
+        left.near.source,
+        far.source,
+        left.far.source,
+        near.sink,
+        left.near.sink,
+        far.sink,
+        left.far.sink,
+        c.in_ok-near.ensures.joined,
+        c.converse.ensures.answer,
+      ),
+    )
+
+pub returns-clause-answer : goal.returns-clause-answer
+returns-clause-answer g c =
+    let source = g.H.Input.Source in
+    let sink = g.H.Output.Sink in
+    let near = c.in_ok-near.near in
+    let far = c.in_ok-near.far in
+    let left = c.converse.new in
+    let answer = c.converse.ensures.answer in
+    of_both c.args.inputs.now c.converse.result answer.0 answer.1 (source.to_come left.near.source) (source.to_come left.far.source) 100000
+    (source.called near.source + sink.called near.sink + source.called far.source + sink.called far.sink)
+    (source.called left.near.source + sink.called left.near.sink + source.called left.far.source + sink.called left.far.sink)
+    (source.failed near.source + sink.failed near.sink + source.failed far.source + sink.failed far.sink)
+    (source.failed left.near.source + sink.failed left.near.sink + source.failed left.far.source + sink.failed left.far.sink) answer.4

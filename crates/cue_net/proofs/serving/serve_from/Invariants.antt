@@ -1,7 +1,13 @@
 use Rattle.cue_replica.specs.Language.{opening}
-use Rattle.cue_net.specs.Printed.{ServesSome}
+use Rattle.cue_net.specs.Doors.{ServedInTurn, ServesOver}
 use Rattle.cue_net.proofs.serving.serve_from.Given as goal
 
--- the site has served some frames
-abbrev pub invariant-loop : goal.invariant-loop
-invariant-loop l = record { served : ServesSome opening l.site }
+-- so many connections were served
+abbrev pub invariant-loop-served : goal.invariant-loop-served
+invariant-loop-served g l =
+    let source = g.H.Input.Source in
+    let sink = g.H.Output.Sink in
+    record {
+      served : ServedInTurn (g.H.Network.lets_in l.rt) (ServesOver source.given source.to_come sink.taken source.called sink.called source.failed sink.failed)
+          l._served l.fn.door l.door opening l.site;
+    }

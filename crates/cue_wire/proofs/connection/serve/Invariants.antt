@@ -6,7 +6,8 @@ use Rattle.cue_wire.proofs.connection.serve.Given as goal
 abbrev pub invariant-loop-left : goal.invariant-loop-left
 invariant-loop-left g l = record {
   so_far : SoFar l.fn.site l.site l.session (g.S.Source.given l.fn.source) (g.S.Source.given l.source)
-      (g.S.Source.to_come l.fn.source) (g.S.Source.to_come l.source) (g.K.Sink.taken l.fn.sink) (g.K.Sink.taken l.sink) l.fn.turns l.left;
+      (g.S.Source.to_come l.fn.source) (g.S.Source.to_come l.source) (g.K.Sink.taken l.fn.sink) (g.K.Sink.taken l.sink)
+      (g.S.Source.called l.fn.source) (g.S.Source.called l.source) (g.K.Sink.called l.fn.sink) (g.K.Sink.called l.sink);
   turns : g.S.Source.called l.source + g.K.Sink.called l.sink + l.left ≡ g.S.Source.called l.fn.source + g.K.Sink.called l.fn.sink + l.fn.turns;
   reads : g.S.Source.called l.fn.source ≤ g.S.Source.called l.source;
   writes : g.K.Sink.called l.fn.sink ≤ g.K.Sink.called l.sink;
