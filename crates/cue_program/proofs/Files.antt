@@ -91,7 +91,7 @@ files_refused front back next number old bytes stop h all counted most fault =
 -- the first file that can't be read after those that are fine
 pub files_unread :
     (IsFine : Piece → Type 0) (front back : List (Option (List ℕ))) (next : Option (List ℕ)) (pieces : List Piece) (stop : Stop)
-    → AllAlong Gives front pieces → AllByRecursion IsFine pieces → IsUnreadable stop → IsFirstUnread IsFine (files (front ++ next ∷ back)) stop
+    → AllAlong Gives front pieces → AllByRecursion IsFine pieces → IsUnreadable next stop → IsFirstUnread IsFine (files (front ++ next ∷ back)) stop
 files_unread IsFine front back next pieces stop give fine fault = (front, back, next, pieces, refl, give, fine, fault)
 
 -- the names so far with one more

@@ -1,16 +1,19 @@
 -- Inputs that are read piece by piece.
-use Rattle.std.proofs.Common.{◌≡◌, ◌≢◌, ℕ, ◌+◌, ◌-◌, ◌*◌, ◌^◌, ◌<◌, ◌≤◌, List, [], ◌∷◌, ◌++◌, length, take, drop, Option, Some, None, arith, refl, sym, ap, ◌∙◌, subst}
+use Rattle.std.proofs.Common.{◌≡◌, ◌≢◌, ℕ, ◌+◌, ◌-◌, ◌*◌, ◌^◌, ◌<◌, ◌≤◌, List, [], ◌∷◌, ◌++◌, length, take, drop, Option, Some, None, IfSome, arith, true, inl, refl, sym, ap, ◌∙◌, subst}
 use Rattle.std.specs.Prelude.{slice_get}
-use Rattle.std.specs.Io.KnownBytes.{Appends, Consumes, IsAtEnd}
+use Rattle.std.specs.Io.KnownBytes.{Appends, Consumes, IsAtEnd, Keeps}
 use Rattle.std.proofs.lemmas.List.{append_assoc, append-nil, length-append, length-take, take-append-drop}
 use Rattle.std.proofs.Math.Seq.{take-append_seam}
 use Rattle.cue_codec.specs.Pieces.{Intake, IsIntake, IsTakenIn}
 use Rattle.cue_replica.proofs.Reading.{are_read_in_pieces}
 use Rattle.cue_program.specs.Files.{AreAll}
-use Rattle.cue_program.specs.Stops.{piece_size, read_limit}
-use Rattle.cue_program.specs.Runs.{HasBegun}
+use Rattle.cue_program.specs.Stops.{IsLong, piece_size, read_limit}
+use Rattle.cue_program.specs.Outlets.{Adds, Breaks, HasBegun, IsUntold, Passage, passed}
+use Rattle.cue_program.specs.Stops.{IsDevice}
+use Rattle.cue_program.specs.declared.outlet.Outlet.{Outlet}
+use Rattle.cue_program.specs.declared.stop.Stop.{Stop}
 use Rattle.cue_program.specs.inner.Reading.{IsAllRead, IsRestRead}
-use Rattle.cue_program.proofs.Devices.{appends_more, consumed_all, consumes_more, consumes_none}
+use Rattle.cue_program.proofs.Devices.{appends_keeps, appends_more, consumed_all, consumes_more, consumes_none}
 
 -- what is put behind some bytes leaves the first of them first
 first_stays : (front piece : List ℕ) → 0 < length front → slice_get (front ++ piece) 0 ≡ slice_get front 0
@@ -35,11 +38,11 @@ abbrev pub Goes : {K : Type 0} → (K → List ℕ → Type 0) → Option (List 
 Goes IsKept a b old new count =
     (done : List ℕ) × Consumes a b done
     × ((front : List ℕ) → 0 < length front → IsKept old front → IsKept new (front ++ done))
-    × (length done ≤ count * piece_size)
+    × (length done ≤ count * piece_size) × (count ≤ length done)
 
 pub goes_none : {K : Type 0} (IsKept : K → List ℕ → Type 0) (a : Option (List ℕ)) (old : K) → Goes IsKept a a old old 0
 goes_none IsKept a old =
-    ([], consumes_none a, (λ front some kept. subst (IsKept old) (sym (append-nil front)) kept), omega arith)
+    ([], consumes_none a, (λ front some kept. subst (IsKept old) (sym (append-nil front)) kept), omega arith, omega arith)
 
 longer : (done bytes : List ℕ) (count : ℕ) → length done ≤ count * piece_size → length bytes ≤ piece_size → length (done ++ bytes) ≤ (count + 1) * piece_size
 longer done bytes count h k = omega (arith, h, k, length-append done bytes)
@@ -50,23 +53,39 @@ some_append (b ∷ front) bytes some = omega arith
 
 pub goes_more :
     {K : Type 0} (IsKept : K → List ℕ → Type 0) (a b c : Option (List ℕ)) (old mid new : K) (count : ℕ) (bytes : List ℕ)
-    → Goes IsKept a b old mid count → Consumes b c bytes → length bytes ≤ piece_size
+    → Goes IsKept a b old mid count → Consumes b c bytes → length bytes ≤ piece_size → 0 < length bytes
     → ((front : List ℕ) → 0 < length front → IsKept mid front → IsKept new (front ++ bytes)) → Goes IsKept a c old new (count + 1)
-goes_more IsKept a b c old mid new count bytes h read small kept = (
+goes_more IsKept a b c old mid new count bytes h read small some_bytes kept = (
   h.0 ++ bytes,
   consumes_more a b c h.0 bytes h.1 read,
   (λ front some is. subst (IsKept new) (append_assoc front h.0 bytes) (kept (front ++ h.0) (some_append front h.0 some) (h.2 front some is))),
   longer h.0 bytes count h.3 small,
+  omega (arith, h.4, some_bytes, length-append h.0 bytes),
 )
 
 -- a piece that is the front of a room
 pub goes_further :
     {K : Type 0} (IsKept : K → List ℕ → Type 0) (a b c : Option (List ℕ)) (old mid new : K) (count after n : ℕ) (room : List ℕ)
-    → Goes IsKept a b old mid count → Consumes b c (take n room) → length room ≡ piece_size → after ≡ count + 1
+    → Goes IsKept a b old mid count → Consumes b c (take n room) → length room ≡ piece_size → 0 < n → n ≤ length room → after ≡ count + 1
     → ((front : List ℕ) → 0 < length front → IsKept mid front → IsKept new (front ++ take n room)) → Goes IsKept a c old new after
-goes_further IsKept a b c old mid new count after n room h read size next kept =
+goes_further IsKept a b c old mid new count after n room h read size some within next kept =
     subst (λ k. Goes IsKept a c old new k) (sym next)
-    (goes_more IsKept a b c old mid new count (take n room) h read (omega (arith, length-take n room, size)) kept)
+    (goes_more IsKept a b c old mid new count (take n room) h read (omega (arith, length-take n room, size)) (omega (arith, length-take n room, some, within)) kept)
+
+-- a device of which so many bytes were read had as many
+pub goes_long : {K : Type 0} (IsKept : K → List ℕ → Type 0) (a b : Option (List ℕ)) (old new : K) (count : ℕ) → Goes IsKept a b old new count → read_limit ≤ count + 1 → IfSome a (λ rest. read_limit ≤ length rest + 1)
+goes_long IsKept a b old new count h most = long a b h.0 h.1 (omega (arith, h.4, most))
+  where
+    long : (a b : Option (List ℕ)) (done : List ℕ) → Consumes a b done → read_limit ≤ length done + 1 → IfSome a (λ rest. read_limit ≤ length rest + 1)
+    long None b done read most = tt
+    long (Some x) None done read most = absurd read
+    long (Some x) (Some y) done read most = omega (arith, most, ap (λ (l : List ℕ). length l) read, length-append done y)
+
+-- and one that had given a byte before
+pub long_of_rest : (a b : Option (List ℕ)) (front : List ℕ) → Consumes a b front → 0 < length front → IfSome b (λ rest. read_limit ≤ length rest + 1) → IsLong a
+long_of_rest None b front read some rest = tt
+long_of_rest (Some x) None front read some rest = absurd read
+long_of_rest (Some x) (Some y) front read some rest = omega (arith, some, rest, ap (λ (l : List ℕ). length l) read, length-append front y)
 
 nothing : (n : ℕ) (bytes : List ℕ) → n ≡ 0 → take n bytes ≡ []
 nothing n bytes is = subst (λ k. take k bytes ≡ []) (sym is) refl
@@ -132,5 +151,26 @@ filled_front left room after count less is =
     ∙ subst (λ k. take k (take count left ++ drop count room) ≡ take count left) long (take-append_seam (take count left) (drop count room))
 
 -- a part of what was left
-pub told_some : (a b : Option (List ℕ)) (all left : List ℕ) → ((done : List ℕ) × (all ≡ done ++ left) × Appends a b done) → HasBegun a b all
-told_some a b all left h = (h.0, left, h.1, h.2)
+pub told_some : (p : Passage) (all left : List ℕ) → ((done : List ℕ) × (all ≡ done ++ left) × Appends p.before p.after done) → HasBegun p all
+told_some p all left h = (h.0, left, h.1, h.2)
+
+-- bytes that were all handed on, and could not be got out
+pub untold_at_flush :
+    {W : Type 0} (contents : W → Option (List ℕ)) (old mid new : Outlet W) (bytes : List ℕ) (stop : Stop) → Adds (passed contents old mid) bytes
+    → Keeps (contents mid.inner) (contents new.inner) → new.failed ≡ true → IsDevice stop → IsUntold (passed contents old new) bytes stop
+untold_at_flush contents old mid new bytes stop told kept failed device =
+    inl (device, ((bytes, [], sym (append-nil bytes), appends_keeps (contents old.inner) (contents mid.inner) (contents new.inner) bytes told kept), failed))
+
+-- a piece of what was left could not be handed on
+pub untold_at_piece :
+    {W : Type 0} (contents : W → Option (List ℕ)) (old mid new : Outlet W) (all left piece : List ℕ) (count : ℕ) (stop : Stop)
+    → ((done : List ℕ) × (all ≡ done ++ left) × Appends (contents old.inner) (contents mid.inner) done)
+    → Breaks (passed contents mid new) (take count piece) → take count piece ≡ take count left → IsDevice stop → IsUntold (passed contents old new) all stop
+untold_at_piece contents old mid new all left piece count stop h broken same device =
+    let front = broken.0.0 in
+    let back = broken.0.1 in
+    let behind = drop count left in
+    let parts : left ≡ (front ++ back) ++ behind = sym (take-append-drop count left) ∙ ap (λ t. t ++ behind) (sym same ∙ broken.0.2) in
+    let whole : all ≡ (h.0 ++ front) ++ (back ++ behind) =
+    h.1 ∙ ap (λ t. h.0 ++ t) (parts ∙ append_assoc front back behind) ∙ sym (append_assoc h.0 front (back ++ behind)) in
+    inl (device, ((h.0 ++ front, back ++ behind, whole, appends_more (contents old.inner) (contents mid.inner) (contents new.inner) h.0 front h.2 broken.0.3), broken.1))

@@ -1,5 +1,5 @@
 -- The inputs that requests hand in so far.
-use Rattle.std.proofs.Common.{◌≡◌, ◌≢◌, ◌⊎◌, Result, Ok, Err, IfOk, IfErr, OnOk, ℕ, suc, ◌+◌, ◌-◌, ◌^◌, min, List, [], ◌∷◌, ◌++◌, Option, Some, None, map, length, refl, sym, ap, ◌∙◌, subst, inl, inr}
+use Rattle.std.proofs.Common.{◌≡◌, ◌≢◌, ◌⊎◌, Result, Ok, Err, IfOk, IfErr, OnOk, ℕ, suc, ◌+◌, ◌-◌, ◌^◌, ◌≤◌, min, List, [], ◌∷◌, ◌++◌, Option, Some, None, map, length, refl, sym, ap, ◌∙◌, subst, inl, inr}
 use Rattle.std.specs.Prelude.{slice_get}
 use Rattle.std.specs.List.{AllByRecursion}
 use Rattle.std.proofs.lemmas.List.{map_push}
@@ -12,7 +12,7 @@ use Rattle.cue_program.specs.Files.{AreAll}
 use Rattle.cue_program.specs.Inputs.{AreStreamPieces, Gives, IsByteFault, IsText, files, stream}
 use Rattle.cue_program.specs.Parts.{IsFirstPart}
 use Rattle.cue_program.specs.Requests.{AreRequests, CanBeSent, IsPieceFault, IsUnsentOn, request_for}
-use Rattle.cue_program.specs.Stops.{IsMemory, IsUnreadable}
+use Rattle.cue_program.specs.Stops.{IsLong, IsMemory, IsUnreadable, read_limit}
 use Rattle.cue_program.specs.declared.stop.Stop.{Stop}
 use Rattle.cue_program.specs.inner.Sending.{AreTextRequests, IsFileRequest, IsFileUnsent, IsNoText, IsPartUnsent}
 use Rattle.cue_program.specs.inner.Texts.{AreFirstParts}
@@ -95,10 +95,17 @@ pub sent_of_known :
     → AreRequests (stream known) asked
 sent_of_known known bytes asked all h = (h.0, (bytes, all, subst (λ (b : List ℕ). AreStreamPieces b h.0) h.1.1 h.1.2), h.2, h.3)
 
+-- an input that is too long to be read is so where less is known of it
+long_of_known : (known : Option (List ℕ)) (bytes : List ℕ) → AreAll known bytes → IsLong (Some bytes) → IsLong known
+long_of_known None bytes all long = tt
+long_of_known (Some x) bytes all long = subst (λ (b : List ℕ). read_limit ≤ length b) all long
+
 pub unsent_of_known :
     (known : Option (List ℕ)) (bytes : List ℕ) (stop : Stop) → AreAll known bytes → IsUnsentOn (stream (Some bytes)) stop → IsUnsentOn (stream known) stop
 unsent_of_known known bytes stop all (inl h) = inl (refused_of_known CanBeSent IsPieceFault known bytes stop all h)
-unsent_of_known known bytes stop all (inr (inl unread)) = inr (inl unread)
+unsent_of_known known bytes stop all (inr (inl (inl device))) = inr (inl (inl device))
+unsent_of_known known bytes stop all (inr (inl (inr (inl (turns, long))))) = inr (inl (inr (inl (turns, long_of_known known bytes all long))))
+unsent_of_known known bytes stop all (inr (inl (inr (inr memory)))) = inr (inl (inr (inr memory)))
 unsent_of_known known bytes stop all (inr (inr memory)) = inr (inr memory)
 
 -- files
@@ -124,7 +131,7 @@ files_unsent front back next asked number bytes stop h all is fault =
 
 pub files_sent_unread :
     (front back : List (Option (List ℕ))) (next : Option (List ℕ)) (asked : List requests.Request) (stop : Stop)
-    → AreRequests (files front) asked → IsUnreadable stop → IsUnsentOn (files (front ++ next ∷ back)) stop
+    → AreRequests (files front) asked → IsUnreadable next stop → IsUnsentOn (files (front ++ next ∷ back)) stop
 files_sent_unread front back next asked stop h fault = inr (inl (files_unread CanBeSent front back next h.0 stop h.1 h.2 fault))
 
 -- a file that is one text

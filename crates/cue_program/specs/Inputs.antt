@@ -128,8 +128,8 @@ abbrev pub IsFirstUnread : (Piece → Type 0) → Inputs → Stop → Type 0
 IsFirstUnread IsFine (files known) stop =
     (front back : List (Option (List ℕ))) × (next : Option (List ℕ)) × (pieces : List Piece)
     × (known ≡ front ++ next ∷ back) × AllAlong Gives front pieces
-    × AllByRecursion IsFine pieces × IsUnreadable stop
-IsFirstUnread IsFine (stream known) stop = IsUnreadable stop
+    × AllByRecursion IsFine pieces × IsUnreadable next stop
+IsFirstUnread IsFine (stream known) stop = IsUnreadable known stop
 
 -- the first input that a site refuses, and the first that can't be read behind inputs that it
 -- accepts

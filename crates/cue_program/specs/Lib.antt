@@ -1,5 +1,6 @@
 pub mod Files
 pub mod Inputs
+pub mod Outlets
 pub mod Parts
 pub mod Requests
 pub mod Runs

@@ -1,6 +1,5 @@
 -- What a run makes of its inputs.
 use Rattle.std.specs.Prelude.{◌≡◌, ◌⊎◌, ℕ, List, ◌++◌, Option}
-use Rattle.std.specs.Io.KnownBytes.{Appends}
 use Rattle.cue_answer.specs.Answers.{Says, Tells, line_end}
 use Rattle.cue_answer.specs.declared.Answer.{Answer}
 use Rattle.cue_answer.specs.declared.Question.{Question}
@@ -16,11 +15,6 @@ IsAnswerOn question inputs shown =
     (table : Table) × Holds inputs table
     × ((told : Answer) × Tells question table told
     × Says shown (told.bytes.items ++ line_end question told.status) told.status)
-
--- some bytes in front of these were added to what a writer holds
-abbrev pub HasBegun : Option (List ℕ) → Option (List ℕ) → List ℕ → Type 0
-HasBegun before after bytes =
-    (front back : List ℕ) × (bytes ≡ front ++ back) × Appends before after front
 
 -- What ends a run before all inputs were taken: the first that is refused, or can't be read; or
 -- memory ran out.

@@ -1,5 +1,5 @@
 -- What ends a run before it has an answer.
-use Rattle.std.specs.Prelude.{◌≡◌, ◌⊎◌, ℕ, ◌+◌, ◌<◌}
+use Rattle.std.specs.Prelude.{◌≡◌, ◌⊎◌, ℕ, ◌+◌, ◌<◌, ◌≤◌, List, Option, IfSome, length}
 use Rattle.cue_replica.specs.declared.Kind.TheVariants as kinds
 use Rattle.cue_replica.specs.declared.Refusal.{Refusal}
 use Rattle.cue_program.specs.declared.stop.Stop.{Stop}
@@ -21,10 +21,6 @@ IsTurnsUsed stop = stop ≡ stops.Refused kinds.TurnsUsed
 abbrev pub IsRefusedAs : Refusal → ℕ → Stop → Type 0
 IsRefusedAs why input stop = stop ≡ stops.RefusedInput why input
 
--- why an input could not be read: a device failed, it wanted too many reads, or memory ran out
-abbrev pub IsUnreadable : Stop → Type 0
-IsUnreadable stop = IsDevice stop ⊎ IsTurnsUsed stop ⊎ IsMemory stop
-
 -- how many reads one input may take, with the one that finds its end
 abbrev pub read_limit : ℕ
 read_limit = 65536
@@ -33,10 +29,20 @@ read_limit = 65536
 abbrev pub piece_size : ℕ
 piece_size = 65536
 
--- Why a device could not be read to its end, by its counts of calls and of failures before and
--- after: it failed; or all calls that an input may take were made; or memory ran out.
-abbrev pub IsReadFault : ℕ → ℕ → ℕ → ℕ → Stop → Type 0
-IsReadFault calls failures calls' failures' stop =
+-- an input is too long to be read, where it is known: each read that is not the last gives a byte
+abbrev pub IsLong : Option (List ℕ) → Type 0
+IsLong known = IfSome known (λ all. read_limit ≤ length all)
+
+-- Why an input could not be read of which these bytes are known: a device failed, it wanted too many
+-- reads, or memory ran out.
+abbrev pub IsUnreadable : Option (List ℕ) → Stop → Type 0
+IsUnreadable known stop = IsDevice stop ⊎ (IsTurnsUsed stop × IsLong known) ⊎ IsMemory stop
+
+-- Why a device could not be read to its end that had these bytes, by its counts of calls and of
+-- failures before and after: it failed; or all calls that an input may take were made, and none came
+-- to its end; or memory ran out.
+abbrev pub IsReadFault : Option (List ℕ) → ℕ → ℕ → ℕ → ℕ → Stop → Type 0
+IsReadFault known calls failures calls' failures' stop =
     (IsDevice stop × (failures < failures'))
-    ⊎ (IsTurnsUsed stop × (calls' ≡ calls + read_limit))
+    ⊎ (IsTurnsUsed stop × (calls' ≡ calls + read_limit) × IsLong known)
     ⊎ IsMemory stop

@@ -1,6 +1,7 @@
 ghost use Rattle.std.specs.Prelude.{◌⊎◌, IfErr};
 ghost use Rattle.cue_program.specs.Stops.{IsDevice, IsMemory};
 
+use crate::outlet::Outlet;
 use crate::shelf::{Form, Shelf};
 use crate::stop::Stop;
 use crate::writing::tell_state;
@@ -61,7 +62,7 @@ impl<H: Files> Shelf for H {
 
     fn overwrite(&mut self, alloc: Global, place: &str, site: &Replica) -> Result<(), Stop> {
         match OpenOptions::new().write(true).open(&*self, place) {
-            Ok(mut file) => tell_state(alloc, site, &mut file),
+            Ok(file) => tell_state(alloc, site, &mut Outlet::new(file)),
             Err(_) => Err(Stop::Device),
         }
     }
@@ -117,7 +118,7 @@ fn fill<H: Files>(
     ensures { IfErr result (λ stop. IsDevice stop ⊎ IsMemory stop) }
 {
     done(set_mode(rt, file, like))?;
-    match tell_state(alloc, site, file) {
+    match tell_state(alloc, site, &mut Outlet::new(&mut *file)) {
         Ok(()) => Ok(done(file.sync_all())?),
         Err(stop) => Err(stop),
     }

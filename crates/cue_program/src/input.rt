@@ -38,7 +38,7 @@ pub fn read_all<S: Source, K: Kept>(
     requires calls { S.called input.old + read_limit < 2 ^ 64 }
     ensures room { length piece.new ≡ length piece.old }
     ensures all { IfOk result (λ kept. IsAllRead (K.keeps kept) (S.to_come input.old)) }
-    ensures fault { IfErr result (IsReadFault (S.called input.old) (S.failed input.old)
+    ensures fault { IfErr result (IsReadFault (S.to_come input.old) (S.called input.old) (S.failed input.old)
         (S.called input.new) (S.failed input.new)) }
 {
     let count = read_piece(input, piece)?;
@@ -59,7 +59,7 @@ fn read_rest<S: Source, K: Kept>(input: &mut S, piece: &mut [u8], kept: &mut K) 
     ensures room { length piece.new ≡ length piece.old }
     ensures rest { (front : List ℕ) → 0 < length front → K.keeps kept.old front
         → OnOk result (IsRestRead (K.keeps kept.new) front (S.to_come input.old)) }
-    ensures fault { IfErr result (IsRestFault (S.called input.old) (S.failed input.old)
+    ensures fault { IfErr result (IsRestFault (S.to_come input.old) (S.called input.old) (S.failed input.old)
         (S.called input.new) (S.failed input.new)) }
 {
     for _ in 1..MAX_READS {

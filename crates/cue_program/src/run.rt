@@ -93,7 +93,7 @@ pub fn site_for<H: AllocGlobal + Shelf, R: Read>(
 /// What is kept of a reader that is read to its end.
 pub fn read_input<R: Read, K: Kept>(alloc: Global, input: &mut R) -> Result<K, Stop>
     ensures all { IfOk result (λ kept. IsAllRead (K.keeps kept) (R.remaining input.old)) }
-    ensures fault { IfErr result IsUnreadable }
+    ensures fault { IfErr result (IsUnreadable (R.remaining input.old)) }
 {
     let mut piece = room(alloc)?;
     read_all(alloc, &mut Reader::new(input), &mut piece)
@@ -125,7 +125,7 @@ pub fn read_file<H: AllocGlobal + Shelf, K: Kept>(
     requires { length piece.old ≡ piece_size }
     ensures all { IfOk result (λ kept. IsAllRead (K.keeps kept)
         (known_at (H.held rt.now) name.now)) }
-    ensures fault { IfErr result IsUnreadable }
+    ensures fault { IfErr result (IsUnreadable (known_at (H.held rt.now) name.now)) }
     ensures room { length piece.new ≡ length piece.old }
 {
     let file = match rt.open(name) {

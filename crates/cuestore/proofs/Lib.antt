@@ -1,4 +1,10 @@
-pub mod Arguments
+pub mod Found
+pub mod Leaves
+pub mod Looks
+pub mod Machines
+pub mod Meaning
 pub mod Networks
 pub mod Numbers
 pub mod Replies
+pub mod Tops
+pub mod Walking

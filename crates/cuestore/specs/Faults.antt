@@ -1,8 +1,8 @@
 -- What is told of a run that has no answer, and how it ends.
-use Rattle.std.specs.Prelude.{Bool, true, false, ◌≡◌, ◌⊎◌, ◌++◌, ◌∷◌, [], ℕ, List, Option, codes, decimal}
+use Rattle.std.specs.Prelude.{Bool, true, false, ◌≡◌, ◌⊎◌, ◌++◌, [], ℕ, List, codes, decimal}
 use Rattle.std.specs.Prelude.{unwrap_or}
-use Rattle.std.specs.Io.KnownBytes.{Appends, Keeps}
 use Rattle.cue_replica.specs.Accepted.{number_of, name_at}
+use Rattle.cue_program.specs.Outlets.{Adds, Breaks, IsSaid, IsUntouched, Passage}
 use Rattle.cue_program.specs.declared.Kind.{Kind}
 use Rattle.cue_program.specs.declared.Kind.TheVariants as kinds
 use Rattle.cue_program.specs.declared.Stop.{Stop}
@@ -18,14 +18,18 @@ name_of kind = unwrap_or (name_at (number_of kind)) []
 abbrev pub kind_text : Kind → List ℕ
 kind_text kind = codes "refused " ++ decimal (number_of kind) ++ codes " " ++ name_of kind
 
--- A fault as text: of a refusal the number and the name of its kind, and of an input's also the
+-- A stop as text: of a refusal the number and the name of its kind, and of an input's also the
 -- place in it, and which input it is.
+abbrev pub stop_text : Stop → List ℕ
+stop_text stops.Device = codes "device fault"
+stop_text (stops.Refused kind) = kind_text kind
+stop_text (stops.RefusedInput why input) =
+    kind_text why.kind ++ codes " at " ++ decimal why.place ++ codes " in " ++ decimal input
+
+-- a fault as text
 abbrev pub fault_text : Fault → List ℕ
 fault_text faults.Usage = codes "usage fault"
-fault_text (faults.Stopped stops.Device) = codes "device fault"
-fault_text (faults.Stopped (stops.Refused kind)) = kind_text kind
-fault_text (faults.Stopped (stops.RefusedInput why input)) =
-    kind_text why.kind ++ codes " at " ++ decimal why.place ++ codes " in " ++ decimal input
+fault_text (faults.Stopped stop) = stop_text stop
 
 -- and its line
 abbrev pub line_of : Fault → List ℕ
@@ -53,14 +57,22 @@ status_of (faults.Stopped stops.Device) = 4
 status_of (faults.Stopped (stops.Refused kind)) = 1
 status_of (faults.Stopped (stops.RefusedInput why input)) = 1
 
--- How a run ends that was stopped by a fault, by what the output has before and after. A usage
--- fault and a failed device leave the output as it is. The line of a refusal is added to it, or
--- can't be written, which is a fault of a device; where there is no memory for the line, that is
--- told in its place.
-abbrev pub IsTold : Fault → ℕ → Option (List ℕ) → Option (List ℕ) → Type 0
-IsTold fault status before after =
-    ((is_refusal fault ≡ false) × (status ≡ status_of fault) × Keeps before after)
-    ⊎ ((is_refusal fault ≡ true) × (status ≡ 1) × Appends before after (line_of fault))
-    ⊎ ((is_refusal fault ≡ true) × (status ≡ 4))
-    ⊎ ((is_refusal fault ≡ true) × (status ≡ 1)
-    × Appends before after (codes "refused 24 Memory\n"))
+-- a fault is told where faults go: a line was added, or some of it in front and a call failed
+abbrev pub IsComplaint : Passage → Type 0
+IsComplaint faults = (text : List ℕ) × IsSaid faults (text ++ codes "\n")
+
+-- A refusal is told by this line, which is added to the output, and faults are left as they are; or
+-- it is not, since a call of the output failed, and that is told where faults go.
+abbrev pub IsRefused : List ℕ → ℕ → Passage → Passage → Type 0
+IsRefused line status out faults =
+    ((status ≡ 1) × Adds out line × IsUntouched faults)
+    ⊎ ((status ≡ 4) × Breaks out line × IsComplaint faults)
+
+-- How a run ends that was stopped by a fault, by what became of the output and of where faults go: a
+-- refusal is told by its line. A usage fault and a failed device leave the output as it is, and are
+-- told where faults go.
+abbrev pub IsTold : Fault → ℕ → Passage → Passage → Type 0
+IsTold fault status out faults =
+    ((is_refusal fault ≡ true) × IsRefused (line_of fault) status out faults)
+    ⊎ ((is_refusal fault ≡ false) × (status ≡ status_of fault) × IsUntouched out
+    × IsComplaint faults)

@@ -1,6 +1,5 @@
 -- Whole runs of the program, on devices whose bytes are known or not.
 use Rattle.std.specs.Prelude.{◌≡◌, ◌⊎◌, ℕ, List, [], ◌++◌, Option, Some, None, Ok, codes}
-use Rattle.std.specs.Io.KnownBytes.{Appends}
 use Rattle.cue_answer.specs.Answers.{Says, code_of}
 use Rattle.cue_replica.specs.Language.{Table, language}
 use Rattle.cue_net.specs.Halts.{IsDeviceOrMemory}
@@ -11,10 +10,11 @@ use Rattle.cue_program.specs.declared.Status.TheVariants as statuses
 use Rattle.cue_program.specs.declared.Stop.{Stop}
 use Rattle.cue_program.specs.Files.{Holdings}
 use Rattle.cue_program.specs.Inputs.{Holds, inputs_of}
+use Rattle.cue_program.specs.Outlets.{Adds, Breaks, IsUntouched, Passage}
 use Rattle.cue_program.specs.Runs.{IsAnswerOn, IsMergeOn, IsMergeStopOn, IsStopOn}
 use Rattle.cuestore.specs.declared.fault.Fault.{Fault}
 use Rattle.cuestore.specs.declared.fault.Fault.TheVariants as faults
-use Rattle.cuestore.specs.Faults.{IsMemory, IsTold}
+use Rattle.cuestore.specs.Faults.{IsComplaint, IsMemory, IsTold}
 use Rattle.cuestore.specs.Networks.{IsEndedBy, IsTalkOn, IsTalkStopOn}
 use Rattle.cuestore.specs.Words.{Asked, asking, merging, serving, pushing, looping, asked}
 
@@ -71,24 +71,24 @@ IsFaultOfWords words around fault =
     ⊎ ((what : Asked) × (asked words ≡ Some what)
     × ((stop : Stop) × IsStopTo what around stop × (fault ≡ faults.Stopped stop)))
 
--- the run ends with an answer to the words: its bytes were added to the output, and the status is
--- the answer's
-abbrev pub IsAnswered :
-    List (List ℕ) → Around → Option (List ℕ) → Option (List ℕ) → ℕ → Type 0
-IsAnswered words around before after status =
+-- the run ends with an answer to the words: its bytes were added to the output, the status is the
+-- answer's, and where faults go nothing was added
+abbrev pub IsAnswered : List (List ℕ) → Around → Passage → Passage → ℕ → Type 0
+IsAnswered words around out faults status =
     (answer : Answer) × IsAnswerToWords words around answer × (status ≡ code_of answer.status)
-    × Appends before after answer.bytes.items
+    × Adds out answer.bytes.items × IsUntouched faults
 
 -- the run ends with a fault of the words, which is told
-abbrev pub IsStopped :
-    List (List ℕ) → Around → Option (List ℕ) → Option (List ℕ) → ℕ → Type 0
-IsStopped words around before after status =
-    (fault : Fault) × IsFaultOfWords words around fault × IsTold fault status before after
+abbrev pub IsStopped : List (List ℕ) → Around → Passage → Passage → ℕ → Type 0
+IsStopped words around out faults status =
+    (fault : Fault) × IsFaultOfWords words around fault × IsTold fault status out faults
 
--- an answer to the words could not be written
-abbrev pub IsUnwritten : List (List ℕ) → Around → ℕ → Type 0
-IsUnwritten words around status =
+-- an answer to the words could not be written: some of it in front was, then a call of the output
+-- failed, and that is told where faults go
+abbrev pub IsUnwritten : List (List ℕ) → Around → Passage → Passage → ℕ → Type 0
+IsUnwritten words around out faults status =
     (answer : Answer) × IsAnswerToWords words around answer × (status ≡ 4)
+    × Breaks out answer.bytes.items × IsComplaint faults
 
 -- the words ask for the state of inputs, all of which a site has taken that holds this table; no
 -- file changed
@@ -98,27 +98,34 @@ IsStateOfWords words around table =
     × Holds (inputs_of around.before files around.input) table
     × (around.after ≡ around.before)
 
+-- these bytes, or some of them in front and then the line that tells that memory ran out
+abbrev pub IsCutBy : List ℕ → List ℕ → Type 0
+IsCutBy bytes said =
+    (front back : List ℕ) × (bytes ≡ front ++ back)
+    × (said ≡ front ++ codes "refused 24 Memory\n")
+
 -- How a run ends that writes these state bytes while it makes them: they were all added to the
 -- output; or those in front, which were made before memory ran out, and then the line that tells
--- it; or they could not be written.
-abbrev pub IsStateTold : List ℕ → Option (List ℕ) → Option (List ℕ) → ℕ → Type 0
-IsStateTold bytes before after status =
-    ((status ≡ 0) × Appends before after bytes)
-    ⊎ ((status ≡ 1) × ((front back : List ℕ) × (bytes ≡ front ++ back)
-    × Appends before after (front ++ codes "refused 24 Memory\n")))
-    ⊎ (status ≡ 4)
+-- it; or some of that in front, and then a call of the output failed, which is told where faults go.
+abbrev pub IsStateTold : List ℕ → Passage → Passage → ℕ → Type 0
+IsStateTold bytes out faults status =
+    ((status ≡ 0) × Adds out bytes × IsUntouched faults)
+    ⊎ ((status ≡ 1) × ((said : List ℕ) × IsCutBy bytes said × Adds out said)
+    × IsUntouched faults)
+    ⊎ ((status ≡ 4)
+    × ((said : List ℕ) × ((said ≡ bytes) ⊎ IsCutBy bytes said) × Breaks out said)
+    × IsComplaint faults)
 
 -- the run writes the state that the words ask for
-abbrev pub IsStateWritten :
-    List (List ℕ) → Around → Option (List ℕ) → Option (List ℕ) → ℕ → Type 0
-IsStateWritten words around before after status =
+abbrev pub IsStateWritten : List (List ℕ) → Around → Passage → Passage → ℕ → Type 0
+IsStateWritten words around out faults status =
     (table : Table) × IsStateOfWords words around table
-    × IsStateTold (language.written table) before after status
+    × IsStateTold (language.written table) out faults status
 
--- How a run on these words ends, by what the output has before and after.
-abbrev pub IsRun : List (List ℕ) → Around → Option (List ℕ) → Option (List ℕ) → ℕ → Type 0
-IsRun words around before after status =
-    IsAnswered words around before after status
-    ⊎ IsStopped words around before after status
-    ⊎ IsUnwritten words around status
-    ⊎ IsStateWritten words around before after status
+-- How a run on these words ends, by what became of the output and of where faults go.
+abbrev pub IsRun : List (List ℕ) → Around → Passage → Passage → ℕ → Type 0
+IsRun words around out faults status =
+    IsAnswered words around out faults status
+    ⊎ IsStopped words around out faults status
+    ⊎ IsUnwritten words around out faults status
+    ⊎ IsStateWritten words around out faults status

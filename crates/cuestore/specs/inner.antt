@@ -1,3 +1,5 @@
 -- What private clauses alone cite.
+pub mod Apps
+pub mod Lines
 pub mod Replies
-pub mod Scanning
+pub mod Rows

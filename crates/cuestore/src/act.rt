@@ -1,21 +1,23 @@
-ghost use Rattle.std.specs.Prelude.{◌≡◌, ◌⊎◌, IfOk, IfErr, List, ℕ, map, string_bytes};
-ghost use Rattle.cuestore.specs.Faults.{IsMemory, IsTold};
+ghost use Rattle.std.specs.Prelude.{◌≡◌, ◌⊎◌, ◌++◌, IfOk, IfErr, List, ℕ, codes, map, string_bytes};
+ghost use Rattle.cuestore.specs.Faults.{IsComplaint, IsMemory, IsRefused, IsTold, stop_text};
 ghost use Rattle.cuestore.specs.Runs.{Around, IsAnswerTo, IsFaultOfWords, IsRun};
 ghost use Rattle.cuestore.specs.Runs.{IsStopTo};
 ghost use Rattle.cuestore.specs.inner.Replies.{IsReplyTold, IsReplyToWords};
 ghost use Rattle.cuestore.specs.Words.{asked_by, merging};
 ghost use Rattle.cue_program.specs.Files.{texts};
-ghost use Rattle.std.specs.Io.KnownBytes.{Appends};
+ghost use Rattle.cue_program.specs.Outlets.{passed};
 
 use crate::command::{Command, command_of, given_words};
-use crate::fault::Fault;
+use crate::fault::{Fault, LINE, text_of};
 use crate::network::{looped, pushed, served};
+use arrayvec::ArrayString;
 use cue_program::{
-    Answer, Question, Replica, Shelf, Status, Stop, answer_for, merge_into, site_for, tell,
+    Answer, Outlet, Question, Replica, Shelf, Status, Stop, answer_for, merge_into, site_for,
     tell_state,
 };
 use std::alloc::Global;
 use std::env::Env;
+use std::fmt::Write as _;
 use std::io::{Read, Write};
 use std::net::{Net, TcpListener, TcpStream};
 
@@ -43,8 +45,8 @@ pub fn act<H, R: Read, W: Write, F: Write>(
     rt: &mut H,
     words: &[String],
     input: &mut R,
-    out: &mut W,
-    faults: &mut F,
+    out: &mut Outlet<W>,
+    faults: &mut Outlet<F>,
 ) -> u8
 where
     H: AllocGlobal + Shelf + Net<Listener = TcpListener, Stream = TcpStream>,
@@ -53,11 +55,11 @@ where
       after = H.held rt.new;
       input = R.remaining input.old;
     })
-        (W.contents out.old) (W.contents out.new) result }
+        (passed W.contents out.old out.new) (passed F.contents faults.old faults.new) result }
 {
     match reply_to(rt, words, input) {
         Ok(reply) => show(rt.alloc(), &reply, out, faults),
-        Err(fault) => report(rt.alloc(), &fault, out, faults),
+        Err(fault) => report(&fault, out, faults),
     }
 }
 
@@ -66,8 +68,8 @@ where
 pub fn run<H, R: Read, W: Write, F: Write>(
     rt: &mut H,
     input: &mut R,
-    out: &mut W,
-    faults: &mut F,
+    out: &mut Outlet<W>,
+    faults: &mut Outlet<F>,
 ) -> u8
 where
     H: AllocGlobal + Env + Shelf + Net<Listener = TcpListener, Stream = TcpStream>,
@@ -76,13 +78,15 @@ where
       after = H.held rt.new;
       input = R.remaining input.old;
     })
-        (W.contents out.old) (W.contents out.new) result)
+        (passed W.contents out.old out.new) (passed F.contents faults.old faults.new) result)
         ⊎ ((fault : Fault) × ((fault ≡ Fault.Usage) ⊎ IsMemory fault)
-        × IsTold fault result (W.contents out.old) (W.contents out.new)) }
+        × IsTold fault result
+        (passed W.contents out.old out.new) (passed F.contents faults.old faults.new)
+        × (H.held rt.new ≡ H.held rt.old)) }
 {
     match given_words(&*rt) {
         Ok(words) => act(rt, &words, input, out, faults),
-        Err(fault) => report(rt.alloc(), &fault, out, faults),
+        Err(fault) => report(&fault, out, faults),
     }
 }
 
@@ -127,17 +131,23 @@ where
 }
 
 /// Writes what is printed, and answers the exit status.
-fn show<W: Write, F: Write>(alloc: Global, reply: &Reply, out: &mut W, faults: &mut F) -> u8
-    ensures { IsReplyTold reply.now (W.contents out.old) (W.contents out.new) result }
+fn show<W: Write, F: Write>(
+    alloc: Global,
+    reply: &Reply,
+    out: &mut Outlet<W>,
+    faults: &mut Outlet<F>,
+) -> u8
+    ensures { IsReplyTold reply.now (passed W.contents out.old out.new)
+        (passed F.contents faults.old faults.new) result }
 {
     match reply {
-        Reply::Answer(answer) => match tell(out, &answer.bytes) {
+        Reply::Answer(answer) => match out.tell(&answer.bytes) {
             Ok(()) => answer.status.code(),
-            Err(stop) => report(alloc, &Fault::Stopped(stop), out, faults),
+            Err(_) => report(&Fault::Stopped(Stop::Device), out, faults),
         },
         Reply::State(site) => match tell_state(alloc, site, out) {
             Ok(()) => Status::Done.code(),
-            Err(stop) => report(alloc, &Fault::Stopped(stop), out, faults),
+            Err(stop) => report(&Fault::Stopped(stop), out, faults),
         },
     }
 }
@@ -194,30 +204,44 @@ fn merged<H: AllocGlobal + Shelf, R: Read>(
 }
 
 /// Writes the line of what ended the run, and answers the exit status.
-pub fn report<W: Write, F: Write>(alloc: Global, fault: &Fault, out: &mut W, faults: &mut F) -> u8
-    ensures { IsTold fault.now result (W.contents out.old) (W.contents out.new) }
+pub fn report<W: Write, F: Write>(fault: &Fault, out: &mut Outlet<W>, faults: &mut Outlet<F>) -> u8
+    ensures { IsTold fault.now result (passed W.contents out.old out.new)
+        (passed F.contents faults.old faults.new) }
 {
-    if !fault.is_answer() {
-        // Where nothing can be told, the status still is.
-        let _ = tell(faults, fault.word());
-        return fault.status();
-    }
-    match format!(in alloc; "{fault}\n") {
-        Ok(line) => refuse(line.as_str(), out, faults),
-        Err(_) => refuse("refused 24 Memory\n", out, faults),
+    match fault {
+        Fault::Usage | Fault::Stopped(Stop::Device) => {
+            complain(fault, faults);
+            fault.status()
+        }
+        Fault::Stopped(stop) => refuse(stop, out, faults),
     }
 }
 
 /// Writes the line of a refusal.
-fn refuse<W: Write, F: Write>(line: &str, out: &mut W, faults: &mut F) -> u8
-    ensures { ((result ≡ 1) × Appends (W.contents out.old) (W.contents out.new) line.now)
-        ⊎ (result ≡ 4) }
+fn refuse<W: Write, F: Write>(stop: &Stop, out: &mut Outlet<W>, faults: &mut Outlet<F>) -> u8
+    ensures { IsRefused (stop_text stop.now ++ codes "\n") result
+        (passed W.contents out.old out.new) (passed F.contents faults.old faults.new) }
 {
-    match tell(out, line.as_bytes()) {
+    let mut line = text_of(stop);
+    line.push_str("\n");
+    match out.tell(line.as_str().as_bytes()) {
         Ok(()) => 1,
         Err(_) => {
-            let _ = tell(faults, b"device fault\n");
+            complain(&Fault::Stopped(Stop::Device), faults);
             4
         }
     }
+}
+
+/// Tells of a fault where faults go, in one piece. Where nothing can be told, the status still is.
+fn complain<F: Write>(fault: &Fault, faults: &mut Outlet<F>)
+    ensures { IsComplaint (passed F.contents faults.old faults.new) }
+{
+    let mut line = ArrayString::<LINE>::new();
+    // No text of a fault fills the line.
+    if write!(line, "{fault}").is_err() || line.is_full() {
+        line.clear();
+    }
+    line.push_str("\n");
+    let _ = faults.tell(line.as_str().as_bytes());
 }

@@ -1,18 +1,23 @@
-ghost use Rattle.std.specs.Prelude.{◌≡◌, ◌≢◌, ◌⊎◌, IfOk, IfErr, IfSome, None, Some};
-ghost use Rattle.std.specs.Prelude.{drop, map, string_bytes};
+ghost use Rattle.std.specs.Prelude.{◌≡◌, ◌≢◌, ◌⊎◌, IfOk, IfErr, None, Some, map};
+ghost use Rattle.std.specs.Prelude.{drop, option_and_then, string_bytes};
 ghost use Rattle.std.specs.Char.{is_ascii_digit};
 ghost use Rattle.std.specs.List.{list_all};
 ghost use Rattle.std.specs.Option.{option_map};
 ghost use Rattle.std.specs.IoError.{error_kind};
 ghost use Rattle.std.specs.Vec.Iter.{into_iter_items};
 ghost use Rattle.std.specs.declared.io.ErrorKind.TheVariants.{OutOfMemory};
+ghost use Rattle.clap.specs.Matches.{found_of};
+ghost use Rattle.clap.specs.Simple.{subcommand_rows_of};
+ghost use Rattle.clap.specs.Walk.{first_of, rows_of};
 ghost use Rattle.cue_program.specs.Files.{texts};
 ghost use Rattle.cuestore.specs.Faults.{IsMemory};
-ghost use Rattle.cuestore.specs.Words.{arguments, asked, asked_by, asking, is_option, meant};
-ghost use Rattle.cuestore.specs.Words.{merged, number_in, pushed, served, served_on};
-ghost use Rattle.cuestore.specs.inner.Scanning.{Goes, IsNone};
+ghost use Rattle.cuestore.specs.Words.{asked, asked_by, asking, looping, number_in};
+ghost use Rattle.cuestore.specs.inner.Rows.{files_in, meaning, merge_in, push_in, serve_in};
 
+use crate::app::store;
 use crate::fault::Fault;
+use clap::ArgMatches;
+use clap::error::ErrorKind;
 use cue_program::{Memory, Question, Stop};
 use std::alloc::{AllocError, Global};
 use std::env::{Args, Env};
@@ -94,85 +99,153 @@ pub fn command_of<'w>(alloc: Global, words: &'w [String]) -> Result<Command<'w>,
         ((fault ≡ Fault.Usage) × (asked (map string_bytes words.now) ≡ None))
         ⊎ IsMemory fault) }
 {
-    let Some((name, others)) = words.split_first() else {
-        return Err(Fault::Usage);
-    };
-    let files = arguments_of(alloc, others)?;
-    match named(name.as_str(), files) {
-        Some(command) => Ok(command),
-        None => Err(Fault::Usage),
+    let matches = matches_of(alloc, words)?;
+    let command = read(alloc, &matches)?;
+    command.ok_or(Fault::Usage)
+}
+
+/// What `clap` finds in the words.
+fn matches_of<'w>(alloc: Global, words: &'w [String]) -> Result<ArgMatches<'w>, Fault>
+    ensures found { IfOk result (λ matches. asked (map string_bytes words.now)
+        ≡ option_and_then (λ p. meaning p.0 p.1) (subcommand_rows_of matches)) }
+    ensures fault { IfErr result (λ fault.
+        ((fault ≡ Fault.Usage) × (asked (map string_bytes words.now) ≡ None))
+        ⊎ IsMemory fault) }
+{
+    let store = store(alloc)?;
+    match store.try_get_matches_from(words) {
+        Ok(matches) => Ok(matches),
+        Err(error) => Err(refused(error.kind())),
     }
 }
 
-/// The command of this name, with these arguments.
-fn named<'w>(name: &str, files: Vec<&'w str>) -> Option<Command<'w>>
-    ensures { option_map asked_by result ≡ meant name.now (texts files.entry.items) }
+/// What is told of words that `clap` refuses.
+fn refused(kind: ErrorKind) -> Fault
+    ensures memory { kind ≡ ErrorKind.OutOfMemory → IsMemory result }
+    ensures fault { (result ≡ Fault.Usage) ⊎ IsMemory result }
+    ensures usage { result ≡ Fault.Usage → (kind ≡ ErrorKind.OutOfMemory → ⊥) }
 {
-    if name == "export" {
-        Some(ask(Question::Export, files))
-    } else if name == "print" {
-        Some(ask(Question::Print, files))
-    } else if name == "report" {
-        Some(ask(Question::Report, files))
-    } else if name == "state" {
-        Some(ask(Question::State, files))
-    } else if name == "merge" {
-        merge(files)
-    } else if name == "serve" {
-        serve(&files)
-    } else if name == "push" {
-        push(files)
-    } else if name == "loop" {
-        Some(Command::Loop { files })
-    } else {
-        None
+    match kind {
+        ErrorKind::OutOfMemory => Fault::Stopped(Stop::from(Memory)),
+        _ => Fault::Usage,
     }
 }
 
-fn ask<'w>(question: Question, files: Vec<&'w str>) -> Command<'w>
-    ensures { asked_by result ≡ asking question (texts files.entry.items) }
+/// The command that was found, where its numbers are in their ranges.
+fn read<'w>(alloc: Global, matches: &ArgMatches<'w>) -> Result<Option<Command<'w>>, AllocError>
+    ensures { IfOk result (λ command. option_map asked_by command
+        ≡ option_and_then (λ p. meaning p.0 p.1) (subcommand_rows_of matches.now)) }
 {
-    Command::Ask { question, files }
-}
-
-/// A merge to the first of these files, of the others.
-fn merge<'w>(mut files: Vec<&'w str>) -> Option<Command<'w>>
-    ensures { option_map asked_by result ≡ merged (texts files.entry.items) }
-{
-    if files.is_empty() {
-        return None;
-    }
-    let out = files.remove(0);
-    Some(Command::Merge { out, files })
-}
-
-/// Serving on the first of these, as a port, so many connections as the second says.
-fn serve<'w>(arguments: &[&'w str]) -> Option<Command<'w>>
-    ensures { option_map asked_by result ≡ served (texts arguments.now) }
-{
-    match arguments {
-        [port, count] => serve_on(port, count),
-        _ => None,
+    match matches.subcommand() {
+        Some((name, found)) => named(alloc, name, found),
+        None => Ok(None),
     }
 }
 
-fn serve_on<'w>(port: &str, count: &str) -> Option<Command<'w>>
-    ensures { option_map asked_by result ≡ served_on port.now count.now }
+/// The command of this name, with what was found of its arguments.
+fn named<'w>(
+    alloc: Global,
+    name: &str,
+    found: &ArgMatches<'w>,
+) -> Result<Option<Command<'w>>, AllocError>
+    ensures { IfOk result (λ command.
+        option_map asked_by command ≡ meaning name.now (rows_of (found_of found.now))) }
 {
-    let port = number_in(port, MAX_PORT)?;
-    let count = number_in(count, MAX_COUNT)?;
+    match name {
+        "export" => ask(alloc, Question::Export, found),
+        "print" => ask(alloc, Question::Print, found),
+        "report" => ask(alloc, Question::Report, found),
+        "state" => ask(alloc, Question::State, found),
+        "merge" => merge(alloc, found),
+        "serve" => Ok(serve(found)),
+        "push" => push(alloc, found),
+        "loop" => both(alloc, found),
+        _ => Ok(None),
+    }
+}
+
+fn ask<'w>(
+    alloc: Global,
+    question: Question,
+    found: &ArgMatches<'w>,
+) -> Result<Option<Command<'w>>, AllocError>
+    ensures { IfOk result (λ command. option_map asked_by command
+        ≡ Some (asking question (files_in (rows_of (found_of found.now))))) }
+{
+    let files = files(alloc, found)?;
+    Ok(Some(Command::Ask { question, files }))
+}
+
+fn both<'w>(alloc: Global, found: &ArgMatches<'w>) -> Result<Option<Command<'w>>, AllocError>
+    ensures { IfOk result (λ command. option_map asked_by command
+        ≡ Some (looping (files_in (rows_of (found_of found.now))))) }
+{
+    let files = files(alloc, found)?;
+    Ok(Some(Command::Loop { files }))
+}
+
+fn merge<'w>(alloc: Global, found: &ArgMatches<'w>) -> Result<Option<Command<'w>>, AllocError>
+    ensures { IfOk result (λ command.
+        option_map asked_by command ≡ merge_in (rows_of (found_of found.now))) }
+{
+    let files = files(alloc, found)?;
+    match text(found, "OUT") {
+        Some(out) => Ok(Some(Command::Merge { out, files })),
+        None => Ok(None),
+    }
+}
+
+fn push<'w>(alloc: Global, found: &ArgMatches<'w>) -> Result<Option<Command<'w>>, AllocError>
+    ensures { IfOk result (λ command.
+        option_map asked_by command ≡ push_in (rows_of (found_of found.now))) }
+{
+    let files = files(alloc, found)?;
+    match number(found, "PORT", MAX_PORT) {
+        Some(port) => Ok(Some(Command::Push { port, files })),
+        None => Ok(None),
+    }
+}
+
+fn serve<'w>(found: &ArgMatches<'w>) -> Option<Command<'w>>
+    ensures { option_map asked_by result ≡ serve_in (rows_of (found_of found.now)) }
+{
+    let port = number(found, "PORT", MAX_PORT)?;
+    let count = number(found, "COUNT", MAX_COUNT)?;
     Some(Command::Serve { port, count })
 }
 
-/// A push to the first of these, as a port, of the others.
-fn push<'w>(mut files: Vec<&'w str>) -> Option<Command<'w>>
-    ensures { option_map asked_by result ≡ pushed (texts files.entry.items) }
+/// The inputs that are named.
+fn files<'w>(alloc: Global, found: &ArgMatches<'w>) -> Result<Vec<&'w str>, AllocError>
+    ensures { IfOk result (λ files.
+        texts files.items ≡ files_in (rows_of (found_of found.now))) }
 {
-    if files.is_empty() {
-        return None;
+    match found.get_strs("FILE") {
+        Some(files) => listed(alloc, files),
+        None => Ok(Vec::new(alloc)),
     }
-    let port = number_in(files.remove(0), MAX_PORT)?;
-    Some(Command::Push { port, files })
+}
+
+/// The words, in a list of their own.
+fn listed<'w>(alloc: Global, words: &[&'w str]) -> Result<Vec<&'w str>, AllocError>
+    ensures { IfOk result (λ list. list.items ≡ words.now) }
+{
+    words.iter().copied().collect(alloc)
+}
+
+/// The argument of this id.
+fn text<'w>(found: &ArgMatches<'w>, id: &str) -> Option<&'w str>
+    ensures { option_map (λ s. s.now) result
+        ≡ first_of id.now (rows_of (found_of found.now)) }
+{
+    found.get_str(id)
+}
+
+/// The argument of this id, where it is a number in its range.
+fn number<'w>(found: &ArgMatches<'w>, id: &str, most: u16) -> Option<u16>
+    ensures { result ≡ option_and_then (number_in most)
+        (first_of id.now (rows_of (found_of found.now))) }
+{
+    number_in(text(found, id)?, most)
 }
 
 /// The number that a word of ASCII digits says, where it is from 1 to the greatest one.
@@ -193,48 +266,4 @@ fn is_digits(word: &str) -> bool
     ensures { result ≡ list_all is_ascii_digit word.now }
 {
     word.as_bytes().iter().all(|byte| byte.is_ascii_digit())
-}
-
-/// The arguments among the words after a command's name.
-#[tactic(auto, using(crate::proofs::Arguments::resumed_none))]
-fn arguments_of<'w>(alloc: Global, words: &'w [String]) -> Result<Vec<&'w str>, Fault>
-    ensures arguments { IfOk result (λ files.
-        Some (texts files.items) ≡ arguments (map string_bytes words.now)) }
-    ensures fault { IfErr result (λ fault.
-        ((fault ≡ Fault.Usage) × (arguments (map string_bytes words.now) ≡ None))
-        ⊎ IsMemory fault) }
-{
-    let mut files = Vec::with_capacity(alloc, words.len())?;
-    let mut ended = false;
-    for word in words {
-        ended = add(&mut files, ended, word.as_str())?;
-    }
-    Ok(files)
-}
-
-/// Adds a word to the arguments, where it is one, and says whether a `--` has stood before what
-/// follows, by whether one has stood before it.
-fn add<'w>(files: &mut Vec<&'w str>, ended: bool, word: &'w str) -> Result<bool, Fault>
-    ensures goes { IfOk result (λ after. Goes ended after word.now
-        (texts files.old.items) (texts files.new.items)) }
-    ensures fault { IfErr result (λ fault.
-        ((fault ≡ Fault.Usage) × IsNone ended word.now (texts files.old.items))
-        ⊎ IsMemory fault) }
-{
-    if !ended && word == "--" {
-        return Ok(true);
-    }
-    if !ended && is_option(word) {
-        return Err(Fault::Usage);
-    }
-    files.push(word)?;
-    Ok(ended)
-}
-
-/// Whether the word begins with `-` and has more characters.
-fn is_option(word: &str) -> bool
-    ensures { result ≡ is_option word.now }
-{
-    let bytes = word.as_bytes();
-    bytes.len() > 1 && bytes[0] == b'-'
 }

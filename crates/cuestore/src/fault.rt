@@ -1,36 +1,26 @@
-ghost use Rattle.std.specs.Prelude.{◌≡◌};
-ghost use Rattle.cuestore.specs.Faults.{is_refusal, status_of};
+ghost use Rattle.std.specs.Prelude.{◌≡◌, ◌++◌, ◌+◌, ◌<◌, ◌≤◌, [], decimal};
+ghost use Rattle.arrayvec.specs.ArrayString.{array_string_len};
+ghost use Rattle.cuestore.specs.Faults.{kind_text, status_of, stop_text};
+ghost use Rattle.cuestore.specs.inner.Lines.{digit_limit, kind_limit, line_limit};
 
+use arrayvec::ArrayString;
 use cue_program::{Kind, Memory, Stop};
+use itoa::Buffer;
 use std::alloc::{AllocError, AllocFailed};
-use std::error::Error;
-use std::fmt;
+use thiserror::Error;
 
 /// What ends a run before it has an answer.
-#[derive(Clone, Copy, Debug, PartialEq, Eq)]
+#[derive(Clone, Copy, Debug, PartialEq, Eq, Error)]
 pub enum Fault {
     /// The words ask for nothing that the program does.
+    #[error("usage fault")]
     Usage,
     /// What was asked for came to an end.
+    #[error("{}", text_of(.0))]
     Stopped(Stop),
 }
 
 impl Fault {
-    /// Whether it is told where answers go, and not where faults do.
-    pub fn is_answer(&self) -> bool
-        ensures { result ≡ is_refusal self.now }
-    {
-        !matches!(self, Fault::Usage | Fault::Stopped(Stop::Device))
-    }
-
-    /// What is told where faults go.
-    pub fn word(&self) -> &'static [u8] {
-        match self {
-            Fault::Usage => b"usage fault\n",
-            _ => b"device fault\n",
-        }
-    }
-
     /// The exit status of a run that was stopped by it.
     pub fn status(&self) -> u8
         ensures { result ≡ status_of self.now }
@@ -42,49 +32,50 @@ impl Fault {
     }
 }
 
-/// What is told of each refusal: the number and the name of its kind.
-#[derive(Clone, Copy)]
-struct Refused {
-    kind: Kind,
-}
+/// What stopped a run is told in fewer bytes.
+pub const LINE: usize = 128;
 
-impl fmt::Display for Refused {
-    ghost use Rattle.std.specs.Prelude.{Some};
-    ghost use Rattle.cuestore.specs.Faults.{kind_text};
-
-    ghost output = { λ refused. Some (kind_text refused.kind) };
-
-    fn fmt<W: fmt::Write>(&self, f: &mut fmt::Formatter<W>) -> fmt::Result {
-        let number = self.kind.number();
-        let name = self.kind.name();
-        write!(f, "refused {number} {name}")
-    }
-}
-
-impl fmt::Display for Fault {
-    ghost use Rattle.std.specs.Prelude.{Some};
-    ghost use Rattle.cuestore.specs.Faults.{fault_text};
-
-    ghost output = { λ fault. Some (fault_text fault) };
-
-    fn fmt<W: fmt::Write>(&self, f: &mut fmt::Formatter<W>) -> fmt::Result {
-        match self {
-            Fault::Usage => f.write_str("usage fault"),
-            Fault::Stopped(Stop::Device) => f.write_str("device fault"),
-            Fault::Stopped(Stop::Refused(kind)) => {
-                let refused = Refused { kind: *kind };
-                write!(f, "{refused}")
-            }
-            Fault::Stopped(Stop::RefusedInput(why, input)) => {
-                let refused = Refused { kind: why.kind };
-                let place = why.place;
-                write!(f, "{refused} at {place} in {input}")
-            }
+/// What is told of what stopped a run: of a refusal the number and the name of its kind, and of an
+/// input's also the place in it, and which input it is. It takes no memory.
+pub fn text_of(stop: &Stop) -> ArrayString<LINE>
+    ensures text { result.bytes ≡ stop_text stop.now }
+    ensures short { array_string_len result < line_limit }
+{
+    let mut text = ArrayString::new();
+    match stop {
+        Stop::Device => text.push_str("device fault"),
+        Stop::Refused(kind) => push_kind(&mut text, *kind),
+        Stop::RefusedInput(why, input) => {
+            push_kind(&mut text, why.kind);
+            text.push_str(" at ");
+            push_number(&mut text, why.place as u64);
+            text.push_str(" in ");
+            push_number(&mut text, *input as u64);
         }
     }
+    text
 }
 
-impl Error for Fault {}
+/// Adds what is told of each refusal: the number and the name of its kind.
+fn push_kind(text: &mut ArrayString<LINE>, kind: Kind)
+    requires { text.old.bytes ≡ [] }
+    ensures text { text.new.bytes ≡ kind_text kind }
+    ensures short { array_string_len text.new ≤ kind_limit }
+{
+    text.push_str("refused ");
+    push_number(text, u64::from(kind.number()));
+    text.push_str(" ");
+    text.push_str(kind.name());
+}
+
+/// Adds a number in decimal digits.
+fn push_number(text: &mut ArrayString<LINE>, number: u64)
+    requires { array_string_len text.old + digit_limit ≤ line_limit }
+    ensures text { text.new.bytes ≡ text.old.bytes ++ decimal number }
+    ensures short { array_string_len text.new ≤ array_string_len text.old + digit_limit }
+{
+    text.push_str(Buffer::new().format(number));
+}
 
 impl From<Stop> for Fault {
     ghost use Rattle.cuestore.specs.Faults.{IsOf};

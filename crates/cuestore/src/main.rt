@@ -2,6 +2,7 @@
 #![tactic(auto)]
 
 mod act;
+mod app;
 mod command;
 #[cfg(test)]
 mod disk;
@@ -11,11 +12,12 @@ mod network;
 mod tests;
 
 use act::run;
+use cue_program::Outlet;
 use std::process::ExitCode;
 
 fn main(mut rt: HostRuntime) -> ExitCode {
     let mut input = rt.stdin();
-    let mut out = rt.stdout();
-    let mut faults = rt.stderr();
+    let mut out = Outlet::new(rt.stdout());
+    let mut faults = Outlet::new(rt.stderr());
     ExitCode::from(run(&mut rt, &mut input, &mut out, &mut faults))
 }

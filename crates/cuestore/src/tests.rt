@@ -3,6 +3,7 @@
 mod defaults;
 mod devices;
 mod files;
+mod help;
 mod lists;
 mod long_files;
 mod network;
@@ -16,7 +17,7 @@ mod texts;
 mod words;
 
 use crate::act::act;
-use cue_program::Shelf;
+use cue_program::{Outlet, Shelf};
 use std::alloc::Global;
 use std::io::Read;
 use std::net::{Net, TcpListener, TcpStream};
@@ -31,6 +32,15 @@ struct Run {
 }
 
 impl Run {
+    /// One that ended with this status, and wrote this.
+    fn of(status: u8, out: Outlet<Vec<u8>>, faults: Outlet<Vec<u8>>) -> Run {
+        Run {
+            status,
+            out: out.into_inner(),
+            faults: faults.into_inner(),
+        }
+    }
+
     /// Whether it ended with this status, and wrote just this.
     fn is(&self, status: u8, out: &[u8], faults: &[u8]) -> bool {
         self.status == status && self.out.as_slice() == out && self.faults.as_slice() == faults
@@ -52,14 +62,10 @@ fn acted<H, R: Read>(rt: &mut H, words: &[String], input: &mut R) -> Run
 where
     H: AllocGlobal + Shelf + Net<Listener = TcpListener, Stream = TcpStream>,
 {
-    let mut out = Vec::new(rt.alloc());
-    let mut faults = Vec::new(rt.alloc());
+    let mut out = Outlet::new(Vec::new(rt.alloc()));
+    let mut faults = Outlet::new(Vec::new(rt.alloc()));
     let status = act(rt, words, input, &mut out, &mut faults);
-    Run {
-        status,
-        out,
-        faults,
-    }
+    Run::of(status, out, faults)
 }
 
 fn ran<H>(rt: &mut H, words: &[&str], mut input: &[u8]) -> Result<Run, Fail>

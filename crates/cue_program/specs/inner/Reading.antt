@@ -1,5 +1,5 @@
 -- Reading from a device whose bytes are known or not.
-use Rattle.std.specs.Prelude.{◌≡◌, ◌⊎◌, ◌<◌, ◌≤◌, ◌+◌, ◌-◌, ◌*◌, ℕ, List, ◌++◌, Option, length}
+use Rattle.std.specs.Prelude.{◌≡◌, ◌⊎◌, ◌<◌, ◌≤◌, ◌+◌, ◌-◌, ◌*◌, ℕ, List, ◌++◌, Option, IfSome, length}
 use Rattle.cue_program.specs.Files.{AreAll}
 use Rattle.cue_program.specs.Stops.{piece_size, read_limit, IsDevice, IsMemory, IsTurnsUsed}
 use Rattle.cue_program.specs.declared.stop.Stop.{Stop}
@@ -17,8 +17,9 @@ IsRestRead IsKept front known =
     × (length rest ≤ (read_limit - 1) * piece_size)
 
 -- why the rest of an input could not be read of which one read was made
-abbrev pub IsRestFault : ℕ → ℕ → ℕ → ℕ → Stop → Type 0
-IsRestFault calls failures calls' failures' stop =
+abbrev pub IsRestFault : Option (List ℕ) → ℕ → ℕ → ℕ → ℕ → Stop → Type 0
+IsRestFault known calls failures calls' failures' stop =
     (IsDevice stop × (failures < failures'))
-    ⊎ (IsTurnsUsed stop × (calls' + 1 ≡ calls + read_limit))
+    ⊎ (IsTurnsUsed stop × (calls' + 1 ≡ calls + read_limit)
+    × IfSome known (λ rest. read_limit ≤ length rest + 1))
     ⊎ IsMemory stop

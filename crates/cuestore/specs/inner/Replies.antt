@@ -1,8 +1,9 @@
 -- What is printed of a run that was not stopped.
-use Rattle.std.specs.Prelude.{◌≡◌, ◌⊎◌, ℕ, List, Option}
-use Rattle.std.specs.Io.KnownBytes.{Appends}
+use Rattle.std.specs.Prelude.{◌≡◌, ◌⊎◌, ℕ, List}
 use Rattle.cue_answer.specs.Answers.{code_of}
 use Rattle.cue_replica.specs.Language.{language}
+use Rattle.cue_program.specs.Outlets.{Adds, Breaks, IsUntouched, Passage}
+use Rattle.cuestore.specs.Faults.{IsComplaint}
 use Rattle.cuestore.specs.Runs.{Around, IsAnswerToWords, IsStateOfWords, IsStateTold}
 use Rattle.cuestore.specs.declared.act.Reply.{Reply}
 use Rattle.cuestore.specs.declared.act.Reply.TheVariants as replies
@@ -13,8 +14,9 @@ IsReplyToWords words around (replies.Answer answer) = IsAnswerToWords words arou
 IsReplyToWords words around (replies.State table) = IsStateOfWords words around table
 
 -- how a run ends that prints it
-abbrev pub IsReplyTold : Reply → Option (List ℕ) → Option (List ℕ) → ℕ → Type 0
-IsReplyTold (replies.Answer answer) before after status =
-    ((status ≡ code_of answer.status) × Appends before after answer.bytes.items) ⊎ (status ≡ 4)
-IsReplyTold (replies.State table) before after status =
-    IsStateTold (language.written table) before after status
+abbrev pub IsReplyTold : Reply → Passage → Passage → ℕ → Type 0
+IsReplyTold (replies.Answer answer) out faults status =
+    ((status ≡ code_of answer.status) × Adds out answer.bytes.items × IsUntouched faults)
+    ⊎ ((status ≡ 4) × Breaks out answer.bytes.items × IsComplaint faults)
+IsReplyTold (replies.State table) out faults status =
+    IsStateTold (language.written table) out faults status

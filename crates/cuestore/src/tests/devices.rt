@@ -1,7 +1,7 @@
 //! Readers and writers that fail, and how often one is read.
 use super::{acted, owned};
 use crate::act::act;
-use cue_program::Shelf;
+use cue_program::{Outlet, Shelf};
 use std::io;
 use std::io::{ErrorKind, Read, Write};
 use std::net::{Net, TcpListener, TcpStream};
@@ -69,7 +69,13 @@ where
     H: AllocGlobal + Shelf + Net<Listener = TcpListener, Stream = TcpStream>,
 {
     let words = owned(rt.alloc(), &["export"])?;
-    Ok(act(rt, &words, input, out, faults))
+    Ok(act(
+        rt,
+        &words,
+        input,
+        &mut Outlet::new(out),
+        &mut Outlet::new(faults),
+    ))
 }
 
 /// Whether an export from this reader to this writer tells that a device failed.

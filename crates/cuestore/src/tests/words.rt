@@ -4,7 +4,7 @@ use super::{Run, answers, owned};
 use crate::act::{report, run};
 use crate::command::{given_words, unread};
 use crate::disk::Disk;
-use cue_program::Shelf;
+use cue_program::{Outlet, Shelf};
 use std::alloc::Global;
 use std::io;
 use std::io::ErrorKind;
@@ -104,14 +104,10 @@ fn the_words_are_those_after_the_name(rt: HostRuntime) -> Result<(), Fail> {
 
 /// What a process does with this input.
 fn done(process: &mut Disk, mut input: &[u8]) -> Run {
-    let mut out = Vec::new(process.alloc());
-    let mut faults = Vec::new(process.alloc());
+    let mut out = Outlet::new(Vec::new(process.alloc()));
+    let mut faults = Outlet::new(Vec::new(process.alloc()));
     let status = run(process, &mut input, &mut out, &mut faults);
-    Run {
-        status,
-        out,
-        faults,
-    }
+    Run::of(status, out, faults)
 }
 
 /// Whether a process that was given these words ends with this status, and writes this.
@@ -136,14 +132,10 @@ fn a_word_that_is_no_text_is_a_usage_fault(rt: HostRuntime) {
 /// What is told where words can't be read, for this reason.
 fn told(alloc: Global, kind: ErrorKind) -> Run {
     let fault = unread(&io::Error::from(kind));
-    let mut out = Vec::new(alloc);
-    let mut faults = Vec::new(alloc);
-    let status = report(alloc, &fault, &mut out, &mut faults);
-    Run {
-        status,
-        out,
-        faults,
-    }
+    let mut out = Outlet::new(Vec::new(alloc));
+    let mut faults = Outlet::new(Vec::new(alloc));
+    let status = report(&fault, &mut out, &mut faults);
+    Run::of(status, out, faults)
 }
 
 #[test]

@@ -4,7 +4,7 @@ use Rattle.cue_wire.proofs.Connections.{err_on}
 use Rattle.cue_program.specs.Files.{known_at, texts}
 use Rattle.cue_program.specs.Inputs.{files}
 use Rattle.cue_program.specs.Requests.{AreRequests, CanBeSent, IsPieceFault, IsUnsentOn}
-use Rattle.cue_program.proofs.Files.{some_name, take_known, split_known}
+use Rattle.cue_program.proofs.Files.{take_known, split_known}
 use Rattle.cue_program.proofs.Requests.{files_sent_none, files_sent_more, files_unsent, files_sent_unread}
 use Rattle.cue_program.proofs.Keeping.{fine_is_all, refused_is_all, long_fault, long_is_unsent}
 use Rattle.cue_program.proofs.request.requests_of_files.Goals as goal
@@ -21,7 +21,7 @@ returns-in_err-file-clause-stop g c =
     let names = c.args.names.now in
     let i = c.loop-name.name-index in
     err_on c.from_residual-in_err-file.result c.in_err-file.field-0.0 _ c.from_residual-in_err-file.ensures.1 (subst (λ (ks : List (Option (List ℕ))). IsUnsentOn (files ks) c.in_err-file.field-0.0)
-    (sym (split_known K names i (some_name names (omega (arith, c.loop-name-test.true))) c.loop-name-test.true))
+    (sym (split_known K names i _ c.loop-name-test.true))
     (files_sent_unread (map K (texts (take i names))) (map K (texts (drop (i + 1) names))) _ c.loop-name.requests.items c.in_err-file.field-0.0
     c.loop-name.invariant.sent c.in_err-file.ensures.fault))
 

@@ -3,7 +3,7 @@ use Rattle.cue_replica.specs.Accepted.{IsAcceptable}
 use Rattle.cue_wire.proofs.Connections.{err_on}
 use Rattle.cue_program.specs.Files.{known_at, texts}
 use Rattle.cue_program.specs.Inputs.{Holds, IsInputRefused, IsInputUnread, files}
-use Rattle.cue_program.proofs.Files.{some_name, files_none, files_more, files_refused, files_unread, take_known, split_known, length_known}
+use Rattle.cue_program.proofs.Files.{files_none, files_more, files_refused, files_unread, take_known, split_known, length_known}
 use Rattle.cue_program.proofs.Pieces.{held_in_memory}
 use Rattle.cue_program.proofs.run.site_of_files.Goals as goal
 
@@ -20,7 +20,7 @@ returns-in_err-file-clause-stop g c =
     let names = c.args.names.now in
     let i = c.loop-name.name-index in
     err_on c.from_residual-in_err-file.result c.in_err-file.field-0.0 _ c.from_residual-in_err-file.ensures.1 (inr (inl (subst (λ (ks : List (Option (List ℕ))). IsInputUnread (files ks) c.in_err-file.field-0.0)
-    (sym (split_known K names i (some_name names (omega (arith, c.loop-name-test.true))) c.loop-name-test.true))
+    (sym (split_known K names i _ c.loop-name-test.true))
     (files_unread IsAcceptable (map K (texts (take i names))) (map K (texts (drop (i + 1) names))) _ c.loop-name.invariant.holds.0 c.in_err-file.field-0.0
     c.loop-name.invariant.holds.1 c.loop-name.invariant.holds.2.0 c.in_err-file.ensures.fault))))
 

@@ -6,7 +6,7 @@ use Rattle.cue_program.proofs.writing.tell_rest.Given as goal
 abbrev pub invariant-pieces : goal.invariant-pieces
 invariant-pieces g l = record {
   room : 0 < length l.piece;
-  told : (done : List ℕ) × (l.fn.state ≡ done ++ l.state) × Appends (g.W.Write.contents l.fn.out) (g.W.Write.contents l.out) done;
+  told : (done : List ℕ) × (l.fn.state ≡ done ++ l.state) × Appends (g.W.Write.contents l.fn.out.inner) (g.W.Write.contents l.out.inner) done;
 }
 
 abbrev pub decreases-pieces : goal.decreases-pieces

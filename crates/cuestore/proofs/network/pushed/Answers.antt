@@ -7,4 +7,4 @@ pub returns-clause-stop : goal.returns-clause-stop
 returns-clause-stop g c =
     let held = g.H.Shelf.held c.args.rt.now in
     talk_stopped (inputs_of held (texts c.args.files.now) (g.R.Read.remaining c.args.input.now)) held c.in_ok-requests.requests.items
-    c.deref.result.now c.push_for.result c.ended.result c.deref.ensures.value c.in_ok-requests.ensures.requests c.push_for.ensures c.ended.ensures.stop
+    c.deref.result.now c.push_for.result c.ended.result c.deref.ensures.value c.in_ok-requests.ensures.requests c.push_for.ensures.answer c.ended.ensures.stop

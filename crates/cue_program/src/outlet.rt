@@ -1,0 +1,110 @@
+//! Streams that are written to.
+ghost use Rattle.std.specs.Prelude.{◌≡◌, ◌<◌, ◌≤◌, false, true, length, IfOk, OnOk, OnErr};
+ghost use Rattle.std.specs.Io.KnownBytes.{Keeps, WriteAppends};
+ghost use Rattle.cue_program.specs.Outlets.{Adds, Breaks, outlet_failed, outlet_inner, passed};
+
+use cue_device::Fault;
+use std::io::{ErrorKind, Write};
+
+/// A stream that bytes are written to. It keeps whether a call of it has failed.
+#[derive(Drop)]
+pub struct Outlet<W> {
+    inner: W,
+    failed: bool,
+}
+
+impl<W: Write> Outlet<W> {
+    /// A stream of which no call has failed.
+    pub fn new(inner: W) -> Outlet<W>
+        ensures inner { outlet_inner result ≡ inner }
+        ensures sound { outlet_failed result ≡ false }
+    {
+        Outlet {
+            inner,
+            failed: false,
+        }
+    }
+
+    /// What was written to.
+    pub fn into_inner(self) -> W
+        ensures { result ≡ outlet_inner self }
+    {
+        self.inner
+    }
+
+    /// Writes bytes, all of them, and gets them out.
+    ///
+    /// # Errors
+    ///
+    /// `Fault` where a call fails; then some bytes in front were written.
+    pub fn tell(&mut self, bytes: &[u8]) -> Result<(), Fault>
+        ensures told { OnOk result (Adds (passed W.contents self.old self.new) bytes.now) }
+        ensures broken { OnErr result (Breaks (passed W.contents self.old self.new) bytes.now) }
+    {
+        match self.hand_on(bytes) {
+            Ok(()) => self.flush(),
+            Err(fault) => Err(fault),
+        }
+    }
+
+    /// Hands bytes on, all of them, which need not get out yet.
+    ///
+    /// # Errors
+    ///
+    /// As `tell`.
+    pub fn hand_on(&mut self, bytes: &[u8]) -> Result<(), Fault>
+        ensures told { OnOk result (Adds (passed W.contents self.old self.new) bytes.now) }
+        ensures broken { OnErr result (Breaks (passed W.contents self.old self.new) bytes.now) }
+    {
+        let mut rest = bytes;
+        while !rest.is_empty() {
+            match self.write(rest) {
+                Ok(count) => rest = &rest[count..],
+                Err(fault) => return Err(fault),
+            }
+        }
+        Ok(())
+    }
+
+    /// Gets out what was handed on.
+    ///
+    /// # Errors
+    ///
+    /// `Fault` where the call fails.
+    pub fn flush(&mut self) -> Result<(), Fault>
+        ensures kept { Keeps (W.contents (outlet_inner self.old))
+            (W.contents (outlet_inner self.new)) }
+        ensures failed { OnErr result (outlet_failed self.new ≡ true) }
+    {
+        match self.inner.flush() {
+            Ok(()) => Ok(()),
+            Err(_) => {
+                self.failed = true;
+                Err(Fault)
+            }
+        }
+    }
+
+    /// Writes bytes from the front of a slice that has some, and answers how many. A call that a
+    /// signal interrupts is made again.
+    fn write(&mut self, bytes: &[u8]) -> Result<usize, Fault>
+        ensures bound { IfOk result (λ count. (0 < count) × (count ≤ length bytes.now)) }
+        ensures taken { WriteAppends (W.contents (outlet_inner self.old))
+            (W.contents (outlet_inner self.new)) result bytes.now }
+        ensures failed { OnErr result (outlet_failed self.new ≡ true) }
+    {
+        for _ in 0..u64::MAX {
+            match self.inner.write(bytes) {
+                Ok(0) => break,
+                Ok(count) => return Ok(count),
+                Err(error) => {
+                    if error.kind() != ErrorKind::Interrupted {
+                        break;
+                    }
+                }
+            }
+        }
+        self.failed = true;
+        Err(Fault)
+    }
+}
