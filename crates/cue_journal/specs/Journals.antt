@@ -1,0 +1,15 @@
+use Rattle.std.specs.Prelude.{Bool, ◌≡◌, ℕ, List, true}
+use Rattle.cue_journal.specs.declared.journal.Journal.{Journal}
+use Rattle.cue_journal.specs.Settled.{IsSettled}
+
+abbrev pub disk_of : {D : Type 0} → Journal D → D
+disk_of j = j.disk
+
+-- no commit of it has failed
+abbrev pub is_open : {D : Type 0} → Journal D → Bool
+is_open j = j.open
+
+-- it may be written to, and its file is as between two calls
+pub record IsReady {D : Type 0} (seen : D → List ℕ) (may_leave : D → List ℕ → Type 0) (j : Journal D) : Type 0 where
+  pub settled : IsSettled (seen j.disk) (may_leave j.disk) j.end
+  pub open_still : j.open ≡ true

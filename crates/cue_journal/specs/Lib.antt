@@ -1,0 +1,5 @@
+pub mod Batches
+pub mod Blocks
+pub mod Journals
+pub mod Pairs
+pub mod Settled

@@ -1,0 +1,40 @@
+-- Two journals: the entries are those of the spare one and then those of the one that grows.
+use Rattle.std.specs.Prelude.{Bool, ◌≡◌, ◌⊎◌, ◌++◌, ◌&&◌, ℕ, List}
+use Rattle.cue_journal.specs.Blocks.{recovered}
+use Rattle.cue_journal.specs.Journals.{disk_of, is_open, IsReady}
+use Rattle.cue_journal.specs.declared.journal.Journal.{Journal}
+use Rattle.cue_journal.specs.declared.pair.Pair.{Pair}
+
+abbrev pub growing_of : {D : Type 0} → Pair D → Journal D
+growing_of p = p.growing
+
+abbrev pub spare_of : {D : Type 0} → Pair D → Journal D
+spare_of p = p.spare
+
+-- no call has failed
+abbrev pub is_whole : {D : Type 0} → Pair D → Bool
+is_whole p = is_open p.growing && is_open p.spare
+
+-- the entries that the files have
+abbrev pub entries_of : {D : Type 0} → (D → List ℕ) → Pair D → List (List ℕ)
+entries_of seen p = recovered (seen (disk_of p.spare)) ++ recovered (seen (disk_of p.growing))
+
+-- both may be written to, and both files are as between two calls
+pub record IsPairReady {D : Type 0} (seen : D → List ℕ) (may_leave : D → List ℕ → Type 0) (p : Pair D) : Type 0 where
+  pub growing : IsReady seen may_leave p.growing
+  pub spare : IsReady seen may_leave p.spare
+
+-- a crash may leave these entries, whatever it makes of each file
+abbrev pub MayLeave : {D : Type 0} → (D → List ℕ → Type 0) → Pair D → List (List ℕ) → Type 0
+MayLeave may_leave p entries =
+    (first second : List ℕ) × may_leave (disk_of p.spare) first × may_leave (disk_of p.growing) second
+    × (entries ≡ recovered first ++ recovered second)
+
+-- the entries from before, with those of a batch or without
+abbrev pub IsCommitted : List (List ℕ) → List (List ℕ) → List (List ℕ) → Type 0
+IsCommitted entries more left = (left ≡ entries) ⊎ (left ≡ entries ++ more)
+
+-- what was in both, with a batch behind what is spare, and then with it in the place of the others
+abbrev pub IsCondensed : List (List ℕ) → List (List ℕ) → List (List ℕ) → List (List ℕ) → Type 0
+IsCondensed spare growing batch left =
+    (left ≡ spare ++ growing) ⊎ ((left ≡ (spare ++ batch) ++ growing) ⊎ (left ≡ spare ++ batch))

@@ -1,0 +1,10 @@
+//! A journal of pieces: whole batches of them reach the disk, or nothing of them counts.
+#![tactic(auto)]
+
+mod blocks;
+mod journal;
+mod pair;
+
+pub use blocks::{Batch, read_pieces};
+pub use journal::{Journal, recover};
+pub use pair::Pair;

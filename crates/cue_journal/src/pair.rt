@@ -1,0 +1,99 @@
+ghost use Rattle.std.specs.Prelude.{◌≡◌, ◌++◌, ℕ, List, [], true, false, IfOk, OnOk, OnErr};
+ghost use Rattle.cue_journal.specs.Blocks.{recovered};
+ghost use Rattle.cue_journal.specs.Settled.{IsBatch};
+ghost use Rattle.cue_journal.specs.Batches.{batch_bytes};
+
+use crate::blocks::Batch;
+use crate::journal::Journal;
+use sqlite_disk::Disk;
+use std::io;
+use std::io::ErrorKind;
+
+/// Two journals: one that grows, and a spare one that a snapshot of all entries goes to. The spare
+/// one then grows, and the other is the spare one, with no entry.
+#[derive(Drop)]
+pub struct Pair<D: Disk> {
+    growing: Journal<D>,
+    spare: Journal<D>,
+}
+
+impl<D: Disk> Pair<D> {
+    ghost use Rattle.cue_journal.specs.Journals.{IsReady, disk_of};
+    ghost use Rattle.cue_journal.specs.Pairs.{growing_of, spare_of, is_whole, entries_of};
+    ghost use Rattle.cue_journal.specs.Pairs.{IsPairReady, MayLeave, IsCommitted, IsCondensed};
+
+    /// Two journals that were recovered.
+    pub fn new(growing: Journal<D>, spare: Journal<D>) -> Pair<D>
+        ensures growing { growing_of result ≡ growing }
+        ensures spare { spare_of result ≡ spare }
+    {
+        Pair { growing, spare }
+    }
+
+    /// How many bytes the journal that grows has.
+    pub fn grown(&self) -> usize {
+        self.growing.len()
+    }
+
+    /// Adds the entries of a batch, all of them or none. At `Ok` each crash leaves them from then
+    /// on. The batch is empty afterwards.
+    ///
+    /// # Errors
+    ///
+    /// From then on each call fails.
+    pub fn commit(&mut self, batch: &mut Batch) -> io::Result<()>
+        ensures acknowledged { OnOk result (IsPairReady D.Disk.seen D.Disk.may_leave self.old
+            → IsBatch (batch_bytes batch.old)
+            → IsPairReady D.Disk.seen D.Disk.may_leave self.new
+            × (entries_of D.Disk.seen self.new
+            ≡ entries_of D.Disk.seen self.old ++ recovered (batch_bytes batch.old))) }
+
+        // A crash at this moment leaves the entries from before, with those of the batch or without.
+        ensures crash { IsPairReady D.Disk.seen D.Disk.may_leave self.old
+            → IsBatch (batch_bytes batch.old)
+            → (left : List (List ℕ)) → MayLeave D.Disk.may_leave self.new left
+            → IsCommitted (entries_of D.Disk.seen self.old) (recovered (batch_bytes batch.old))
+            left }
+        ensures whole { OnOk result ((is_whole self.old ≡ true) × (is_whole self.new ≡ true)) }
+        ensures broken { OnErr result (is_whole self.new ≡ false) }
+        ensures empty { batch_bytes batch.new ≡ [] }
+    {
+        if !self.spare.is_open() {
+            batch.clear();
+            return Err(ErrorKind::Other.into());
+        }
+        self.growing.commit(batch)
+    }
+
+    /// Puts the entries of a batch, which stand for all there are, in the place of those of the
+    /// journal that grows. The batch is empty afterwards.
+    ///
+    /// # Errors
+    ///
+    /// From then on each call fails.
+    pub fn condense(&mut self, batch: &mut Batch) -> io::Result<()>
+        ensures condensed { OnOk result (IsPairReady D.Disk.seen D.Disk.may_leave self.old
+            → IsBatch (batch_bytes batch.old)
+            → IsPairReady D.Disk.seen D.Disk.may_leave self.new
+            × (entries_of D.Disk.seen self.new
+            ≡ recovered (D.Disk.seen (disk_of (spare_of self.old)))
+            ++ recovered (batch_bytes batch.old))) }
+
+        // A crash at this moment leaves the entries from before, or the batch in the place of those
+        // of the journal that grew, or both.
+        ensures crash { IsPairReady D.Disk.seen D.Disk.may_leave self.old
+            → IsBatch (batch_bytes batch.old)
+            → (left : List (List ℕ)) → MayLeave D.Disk.may_leave self.new left
+            → IsCondensed (recovered (D.Disk.seen (disk_of (spare_of self.old))))
+            (recovered (D.Disk.seen (disk_of (growing_of self.old))))
+            (recovered (batch_bytes batch.old)) left }
+        ensures whole { OnOk result ((is_whole self.old ≡ true) × (is_whole self.new ≡ true)) }
+        ensures broken { OnErr result (is_whole self.new ≡ false) }
+        ensures empty { batch_bytes batch.new ≡ [] }
+    {
+        self.spare.commit(batch)?;
+        self.growing.clear()?;
+        std::mem::swap(&mut self.growing, &mut self.spare);
+        Ok(())
+    }
+}
