@@ -1,0 +1,14 @@
+//! Many HTTP connections on one thread: an event loop over `mio` that moves bytes between sockets
+//! and `http_server`'s connections, lets answers go in rounds, and asks other sites for their
+//! states now and then.
+#![tactic(auto)]
+
+mod asked;
+mod peer;
+mod peers;
+mod question;
+mod rounds;
+mod serving;
+
+pub use rounds::{Gathers, InRound, News};
+pub use serving::{Bounds, Source, serve};
