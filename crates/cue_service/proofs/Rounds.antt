@@ -1,0 +1,117 @@
+-- Calls, and rounds of them.
+use Rattle.std.proofs.Common.{◌≡◌, ◌≢◌, ◌⊎◌, ◌==◌, ℕ, List, [], ◌∷◌, ◌++◌, refl, sym, ap, ◌∙◌, subst, inl, inr, append_assoc, append-nil, true, false, Bool, codes, arith, if◌then◌else◌}
+use Rattle.std.proofs.lemmas.Bool.Decides.{nat_tests}
+use Rattle.std.specs.Str.{bytes_eq}
+use Rattle.http.specs.declared.request.Request.{Request}
+use Rattle.http.specs.Request.{body_of}
+use Rattle.http_server.specs.declared.response.Response.{Response}
+use Rattle.http_server.specs.Exchange.{Call, Chain}
+use Rattle.cue_lattice.specs.World.{Piece, text, state}
+use Rattle.cue_journal.specs.Pairs.{is_whole}
+use Rattle.cue_journal.specs.declared.pair.Pair.{Pair}
+use Rattle.cue_service.specs.declared.site.Site.{Site}
+use Rattle.cue_service.specs.declared.desk.Desk.{Desk}
+use Rattle.cue_service.specs.declared.route.Route.{Route}
+use Rattle.cue_service.specs.declared.route.Route.TheVariants.{Ask, Take, Health, Metrics, Page, OtherMethod, Unknown}
+use Rattle.cue_service.specs.declared.route.Hand.{Hand}
+use Rattle.cue_service.specs.declared.route.Hand.TheVariants as hands
+use Rattle.cue_service.specs.Requests.{IsRoute, handed, piece_in}
+use Rattle.cue_service.specs.Answering.{Answers, AnswersAs, IsAsked, IsSame, IsTaken, status_of}
+use Rattle.cue_service.specs.Sites.{AnswersAt, IsConsistent, Settles, Leaves}
+use Rattle.cue_service.specs.Promise.{acknowledged_by, acknowledged}
+use Rattle.cue_answer.specs.declared.question.Question.{Question}
+use Rattle.cue_answer.specs.declared.question.Question.TheVariants as questions
+use Rattle.cue_answer.specs.declared.question.Status.{Status}
+use Rattle.cue_answer.specs.declared.question.Status.TheVariants as statuses
+use Rattle.cue_service.proofs.Consistent.{same_consistent, taken_consistent}
+
+not_acknowledged : (request : Request (List ℕ)) (response : Response) → response.status ≢ 204 → acknowledged_by (request, response) ≡ []
+not_acknowledged request response other = grind (arith, nat_tests)
+
+is_acknowledged : (request : Request (List ℕ)) (response : Response) → response.status ≡ 204 → acknowledged_by (request, response) ≡ piece_in request ∷ []
+is_acknowledged request response is = ap (λ n. if n == 204 then piece_in request ∷ [] else []) is
+
+handed_in : (hand : Hand) (request : Request (List ℕ)) → IsRoute (Take hand) request → piece_in request ≡ handed hand (body_of request)
+handed_in hands.Text request route = ap (λ path. if bytes_eq path (codes "/state") then state (body_of request) else text (body_of request)) route.1
+handed_in hands.State request route = ap (λ path. if bytes_eq path (codes "/state") then state (body_of request) else text (body_of request)) route.1
+
+-- what is told has another status
+told_status : (question : Question) (status : Status) → status_of question status ≢ 204
+told_status questions.Export statuses.Done = omega arith
+told_status questions.Export statuses.Conflicts = omega arith
+told_status questions.Export statuses.Incomplete = omega arith
+told_status questions.Print status = omega arith
+told_status questions.Report status = omega arith
+told_status questions.State status = omega arith
+
+-- a call takes in the piece that it acknowledges, or changes nothing
+abbrev pub Moves : Desk → Request (List ℕ) → Response → Desk → Type 0
+Moves old request response new =
+    ((piece : Piece) × IsTaken piece old new × (acknowledged_by (request, response) ≡ piece ∷ []))
+    ⊎ (IsSame old new × (acknowledged_by (request, response) ≡ []))
+
+nothing : (old new : Desk) (request : Request (List ℕ)) (response : Response) (code : ℕ) → IsSame old new → response.status ≡ code → code ≢ 204 → Moves old request response new
+nothing old new request response code same is other = inr (same, not_acknowledged request response (λ e. other (sym is ∙ e)))
+
+asked : (question : Question) (old new : Desk) (request : Request (List ℕ)) (response : Response) → IsSame old new → IsAsked question old.board request response → Moves old request response new
+asked question old new request response same (inl known) = nothing old new request response 304 same known.0 (omega arith)
+asked question old new request response same (inr told) = nothing old new request response _ same told.2 (told_status question told.0.status)
+
+moves : (route : Route) (old new : Desk) (request : Request (List ℕ)) (response : Response) → IsRoute route request → AnswersAs route old request response new → Moves old request response new
+moves (Ask question) old new request response is a = asked question old new request response a.0 a.1
+moves (Take hand) old new request response is (inl taken) =
+    inl (handed hand (body_of request), taken.0, is_acknowledged request response taken.1 ∙ ap (λ (p : Piece). p ∷ []) (handed_in hand request is))
+moves (Take hand) old new request response is (inr refused) = inr (refused.0, not_acknowledged request response refused.1)
+moves Health old new request response is a = nothing old new request response 200 a.0 a.1 (omega arith)
+moves Metrics old new request response is a = nothing old new request response 200 a.0 a.1 (omega arith)
+moves Page old new request response is a = nothing old new request response 200 a.0 a.1 (omega arith)
+moves OtherMethod old new request response is a = nothing old new request response 405 a.0 a.1 (omega arith)
+moves Unknown old new request response is a = nothing old new request response 404 a.0 a.1 (omega arith)
+
+pub moved : (old new : Desk) (request : Request (List ℕ)) (response : Response) → Answers old request response new → Moves old request response new
+moved old new request response answers = by answers.2
+  where
+    by : AnswersAs answers.0 old request response new ⊎ (IsSame old new × (response.status ≡ 507)) → Moves old request response new
+    by (inl told) = moves answers.0 old new request response answers.1 told
+    by (inr wanting) = nothing old new request response 507 wanting.0 wanting.1 (omega arith)
+
+module _ {D : Type 0} (seen : D → List ℕ) (may_leave : D → List ℕ → Type 0) where
+  one_call : (old new : Site D) (request : Request (List ℕ)) (response : Response) (on_disk pieces : List Piece) → AnswersAt old request response new
+      → IsConsistent seen may_leave old on_disk pieces → IsConsistent seen may_leave new on_disk (pieces ++ acknowledged_by (request, response))
+  one_call old new request response on_disk pieces call before = by (moved old.desk new.desk request response call.answer)
+    where
+      P : List Piece → Type 0
+      P more = IsConsistent seen may_leave new on_disk (pieces ++ more)
+
+      by : Moves old.desk request response new.desk → P (acknowledged_by (request, response))
+      by (inl taken) = subst P (sym taken.2) (taken_consistent seen may_leave old new on_disk pieces taken.0 taken.1 call.files before)
+      by (inr same) = subst P (sym same.1) (subst (IsConsistent seen may_leave new on_disk) (sym (append-nil pieces)) (same_consistent seen may_leave old new on_disk pieces same.0 call.files before))
+
+  pub held : (old called : Site D) (calls : List Call) (on_disk pieces : List Piece) → IsConsistent seen may_leave old on_disk pieces → Chain AnswersAt old calls called
+      → IsConsistent seen may_leave called on_disk (pieces ++ acknowledged calls)
+  held old called [] on_disk pieces before same =
+      subst (λ (s : Site D). IsConsistent seen may_leave s on_disk (pieces ++ [])) (sym same) (subst (IsConsistent seen may_leave old on_disk) (sym (append-nil pieces)) before)
+  held old called (call ∷ calls) on_disk pieces before chain =
+      subst (IsConsistent seen may_leave called on_disk) (append_assoc pieces (acknowledged_by call) (acknowledged calls))
+      (held chain.0 called calls on_disk (pieces ++ acknowledged_by call) (one_call old chain.0 call.0 call.1 on_disk pieces chain.1 before) chain.2)
+
+  pub stands : (old called new : Site D) (calls : List Call) (on_disk pieces : List Piece) → IsConsistent seen may_leave old on_disk pieces → Chain AnswersAt old calls called
+      → Settles seen may_leave called true new → IsConsistent seen may_leave new (pieces ++ acknowledged calls) (pieces ++ acknowledged calls)
+  stands old called new calls on_disk pieces before chain settles = settles.consistent on_disk _ refl (held old called calls on_disk pieces before chain)
+
+  pub survives : (old called new : Site D) (calls : List Call) (verdict : Bool) (on_disk pieces : List Piece) → IsConsistent seen may_leave old on_disk pieces
+      → Chain AnswersAt old calls called → Settles seen may_leave called verdict new → Leaves seen may_leave new on_disk (pieces ++ acknowledged calls)
+  survives old called new calls verdict on_disk pieces before chain settles = settles.crash on_disk _ (held old called calls on_disk pieces before chain)
+
+  files_kept : (old called : Site D) (calls : List Call) → Chain AnswersAt old calls called → called.files ≡ old.files
+  files_kept old called [] same = ap (λ (s : Site D). s.files) same
+  files_kept old called (call ∷ calls) chain = files_kept chain.0 called calls chain.2 ∙ chain.1.files
+
+  pub once : (before after called new : Site D) (calls : List Call) (verdict : Bool) → Settles seen may_leave before false after → Chain AnswersAt after calls called
+      → Settles seen may_leave called verdict new → verdict ≡ false
+  once before after called new calls false failed chain settles = refl
+  once before after called new calls true failed chain settles =
+      absurd (not_both_ways (is_whole after.files) (failed.broken_after refl) (ap (λ (f : Pair D). is_whole f) (sym (files_kept after called calls chain)) ∙ settles.whole_before refl))
+    where
+      not_both_ways : (b : Bool) → b ≡ false → b ≡ true → ⊥
+      not_both_ways b broken whole = cc

@@ -1,0 +1,14 @@
+use Rattle.cue_service.proofs.Rounds.{held, stands, survives, once}
+use Rattle.cue_service.proofs.laws.a_round_keeps_its_promise.Goals as goal
+
+pub returns-clause-held : goal.returns-clause-held
+returns-clause-held g c = held g.D.Disk.seen g.D.Disk.may_leave
+
+pub returns-clause-stands : goal.returns-clause-stands
+returns-clause-stands g c = stands g.D.Disk.seen g.D.Disk.may_leave
+
+pub returns-clause-crash : goal.returns-clause-crash
+returns-clause-crash g c = survives g.D.Disk.seen g.D.Disk.may_leave
+
+pub returns-clause-once : goal.returns-clause-once
+returns-clause-once g c = once g.D.Disk.seen g.D.Disk.may_leave

@@ -1,0 +1,40 @@
+-- What a site promises of each round of calls.
+use Rattle.std.specs.Prelude.{◌==◌, ℕ, Bool, true, List, [], ◌∷◌, ◌++◌, if◌then◌else◌}
+use Rattle.cue_lattice.specs.World.{Piece}
+use Rattle.http_server.specs.Exchange.{Call, Chain}
+use Rattle.cue_service.specs.declared.site.Site.{Site}
+use Rattle.cue_service.specs.Requests.{piece_in}
+use Rattle.cue_service.specs.Sites.{AnswersAt, IsConsistent, Leaves, Settles}
+
+-- the piece of a call that was answered with 204
+abbrev pub acknowledged_by : Call → List Piece
+acknowledged_by call = if call.1.status == 204 then piece_in call.0 ∷ [] else []
+
+-- the pieces that calls acknowledged, in order
+abbrev pub acknowledged : List Call → List Piece
+acknowledged [] = []
+acknowledged (call ∷ calls) = acknowledged_by call ++ acknowledged calls
+
+module _ {D : Type 0} (seen : D → List ℕ) (may_leave : D → List ℕ → Type 0) where
+  -- after any calls the site has accepted just the pieces from before and those acknowledged
+  abbrev pub AreHeld : Type 0
+  AreHeld =
+      (old called : Site D) (calls : List Call) (on_disk pieces : List Piece)
+      → IsConsistent seen may_leave old on_disk pieces → Chain AnswersAt old calls called
+      → IsConsistent seen may_leave called on_disk (pieces ++ acknowledged calls)
+
+  -- where the round stands, all are on the disk
+  abbrev pub Stands : Type 0
+  Stands =
+      (old called new : Site D) (calls : List Call) (on_disk pieces : List Piece)
+      → IsConsistent seen may_leave old on_disk pieces → Chain AnswersAt old calls called
+      → Settles seen may_leave called true new
+      → IsConsistent seen may_leave new (pieces ++ acknowledged calls) (pieces ++ acknowledged calls)
+
+  -- a crash leaves what was on the disk before, or all
+  abbrev pub Survives : Type 0
+  Survives =
+      (old called new : Site D) (calls : List Call) (verdict : Bool) (on_disk pieces : List Piece)
+      → IsConsistent seen may_leave old on_disk pieces → Chain AnswersAt old calls called
+      → Settles seen may_leave called verdict new
+      → Leaves seen may_leave new on_disk (pieces ++ acknowledged calls)

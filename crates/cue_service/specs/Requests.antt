@@ -1,0 +1,55 @@
+-- What a request asks for.
+use Rattle.std.specs.Prelude.{◌≡◌, ◌⊎◌, ℕ, List, codes, Some, if◌then◌else◌}
+use Rattle.std.specs.Str.{bytes_eq}
+use Rattle.cue_lattice.specs.World.{Piece, text, state}
+use Rattle.cue_answer.specs.declared.question.Question.TheVariants as questions
+use Rattle.http.specs.declared.request.Request.{Request}
+use Rattle.http.specs.Request.{head_of, body_of}
+use Rattle.http_header.specs.FieldValue.{FieldValue}
+use Rattle.http_header.specs.HeaderMap.{get}
+use Rattle.http_uri.specs.Uri.{uri_path}
+use Rattle.cue_service.specs.declared.route.Route.{Route}
+use Rattle.cue_service.specs.declared.route.Route.TheVariants.{Ask, Take, Health, Metrics, Page, OtherMethod, Unknown}
+use Rattle.cue_service.specs.declared.route.Hand.{Hand}
+use Rattle.cue_service.specs.declared.route.Hand.TheVariants as hands
+
+abbrev pub path_of : Request (List ℕ) → List ℕ
+path_of request = uri_path (head_of request).uri
+
+-- the request asks for what is at a path
+abbrev pub Reads : List ℕ → Request (List ℕ) → Type 0
+Reads path request =
+    (((head_of request).method ≡ codes "GET") ⊎ ((head_of request).method ≡ codes "HEAD"))
+    × (path_of request ≡ path)
+
+-- it hands something to a path
+abbrev pub Writes : List ℕ → Request (List ℕ) → Type 0
+Writes path request = ((head_of request).method ≡ codes "POST") × (path_of request ≡ path)
+
+abbrev pub IsRoute : Route → Request (List ℕ) → Type 0
+IsRoute (Ask questions.Export) request = Reads (codes "/export") request
+IsRoute (Ask questions.Print) request = Reads (codes "/print") request
+IsRoute (Ask questions.Report) request = Reads (codes "/report") request
+IsRoute (Ask questions.State) request = Reads (codes "/state") request
+IsRoute (Take hands.Text) request = Writes (codes "/fragments") request
+IsRoute (Take hands.State) request = Writes (codes "/state") request
+IsRoute Health request = Reads (codes "/healthz") request
+IsRoute Metrics request = Reads (codes "/metrics") request
+IsRoute Page request = Reads (codes "/") request
+IsRoute OtherMethod request = Unit {0}
+IsRoute Unknown request = Unit {0}
+
+-- the piece that bytes are
+abbrev pub handed : Hand → List ℕ → Piece
+handed hands.Text bytes = text bytes
+handed hands.State bytes = state bytes
+
+-- the piece that a request hands in: a state at /state, and else a text
+abbrev pub piece_in : Request (List ℕ) → Piece
+piece_in request =
+    if bytes_eq (path_of request) (codes "/state") then state (body_of request) else text (body_of request)
+
+-- the first field of this name has this value
+abbrev pub HasField : List ℕ → List ℕ → Request (List ℕ) → Type 0
+HasField name value request =
+    (field : FieldValue) × (get (head_of request).headers name ≡ Some field) × (field.bytes ≡ value)

@@ -1,0 +1,45 @@
+ghost use Rattle.std.specs.Prelude.{◌≡◌, ℕ, List, [], ◌∷◌, ◌++◌, map, OnOk};
+ghost use Rattle.cue_lattice.specs.World.{Piece};
+ghost use Rattle.cue_replica.specs.Accepted.{IsOfPieces};
+ghost use Rattle.cue_service.specs.Entries.{piece_of, pieces_of};
+ghost use Rattle.cue_service.specs.Requests.{handed};
+
+use crate::desk::hand_over;
+use crate::route::Hand;
+use cue_lattice::Refusal;
+use cue_replica::Replica;
+
+/// Hands the entries of a journal to a site: those that begin with 0 are texts, all others states.
+///
+/// # Errors
+///
+/// Those of the site, of which only `Memory` comes where the entries are those of a journal.
+pub fn add_entries(board: &mut Replica, entries: &[Vec<u8>]) -> Result<(), Refusal>
+    ensures { OnOk result ((pieces : List Piece) → IsOfPieces board.old pieces
+        → IsOfPieces board.new (pieces ++ pieces_of (map (λ v. v.items) entries.now))) }
+{
+    for entry in entries {
+        add_entry(board, entry)?;
+    }
+    Ok(())
+}
+
+fn add_entry(board: &mut Replica, entry: &[u8]) -> Result<(), Refusal>
+    ensures { OnOk result ((pieces : List Piece) → IsOfPieces board.old pieces
+        → IsOfPieces board.new (pieces ++ piece_of entry.now ∷ [])) }
+{
+    match entry.split_first() {
+        Some((first, rest)) => hand_over(board, hand_of(*first), rest),
+        None => hand_over(board, Hand::Text, &[]),
+    }
+}
+
+/// What an entry is that begins with this byte.
+fn hand_of(first: u8) -> Hand
+    ensures { (rest : List ℕ) → handed result rest ≡ piece_of (first ∷ rest) }
+{
+    match first {
+        0 => Hand::Text,
+        1..=u8::MAX => Hand::State,
+    }
+}

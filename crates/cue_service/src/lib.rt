@@ -1,0 +1,19 @@
+//! A site behind HTTP: it answers requests of its table, has each piece that it accepts wait for
+//! the disk, and tells after each round whether what it answered stands.
+#![tactic(auto)]
+
+mod desk;
+mod entries;
+mod laws;
+mod page;
+mod route;
+mod site;
+mod standing;
+mod tag;
+
+pub use desk::{Desk, Token};
+pub use entries::add_entries;
+pub use laws::{a_round_keeps_its_promise, calls_are_events};
+pub use route::{Hand, Route};
+pub use site::Site;
+pub use standing::{SourceStanding, Standing};

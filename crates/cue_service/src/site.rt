@@ -1,0 +1,141 @@
+ghost use Rattle.std.specs.Prelude.{◌≡◌, ◌++◌, [], ℕ, List, map, true, false, IfOk};
+ghost use Rattle.cue_lattice.specs.World.{Piece};
+ghost use Rattle.cue_replica.specs.Accepted.{IsOfPieces};
+ghost use Rattle.cue_journal.specs.Batches.{batch_bytes};
+ghost use Rattle.cue_journal.specs.Pairs.{IsPairReady, entries_of, is_whole, MayLeave};
+ghost use Rattle.cue_service.specs.Entries.{pieces_of};
+ghost use Rattle.cue_service.specs.Answering.{IsSame};
+
+use crate::desk::{Desk, Token};
+use crate::standing::Standing;
+use bytes::Bytes;
+use cue_http::{Gathers, News};
+use cue_journal::Pair;
+use cue_replica::Replica;
+use http::Request;
+use http_server::{Response, Settle};
+use log::Log;
+use sqlite_disk::Disk;
+use std::alloc::{AllocError, Global};
+
+/// A journal shorter than this is not condensed, in bytes.
+const LEAST_JOURNAL: usize = 1024 * 1024;
+
+/// The first byte of an entry of state bytes.
+const STATE: u8 = 1;
+
+/// A site whose pieces are in two journals. What it answers stands once its round has settled.
+#[derive(Drop)]
+pub struct Site<D: Disk> {
+    desk: Desk,
+    files: Pair<D>,
+    /// How many bytes the last snapshot has.
+    snapshot: usize,
+}
+
+impl<D: Disk> Site<D> {
+    ghost use Rattle.cue_service.specs.Sites.{IsConsistent};
+    ghost use Rattle.cue_service.specs.Inner.Rounds.{IsCommittedBy, IsCondensedBy};
+
+    /// A site over journals that were recovered, with the table of their entries.
+    pub fn new(
+        alloc: Global,
+        files: Pair<D>,
+        board: Replica,
+        token: Option<Token>,
+        standing: Standing,
+    ) -> Site<D>
+        ensures consistent { IsPairReady D.Disk.seen D.Disk.may_leave files
+            → (pieces : List Piece) → IsOfPieces board pieces
+            → pieces ≡ pieces_of (entries_of D.Disk.seen files)
+            → IsConsistent D.Disk.seen D.Disk.may_leave result pieces pieces }
+    {
+        Site {
+            desk: Desk::new(alloc, board, token, standing),
+            files,
+            snapshot: 0,
+        }
+    }
+
+    /// Has what waits reach the disk. Answers whether it did.
+    fn commit(&mut self) -> bool
+        ensures { IsCommittedBy D.Disk.seen D.Disk.may_leave self.old result self.new }
+    {
+        let Site { desk, files, .. } = self;
+        files.commit(&mut desk.batch).is_ok()
+    }
+
+    /// Puts the state in the place of a journal that is long. Answers whether nothing failed.
+    fn condense(&mut self) -> bool
+        ensures { IsCondensedBy D.Disk.seen D.Disk.may_leave self.old result self.new }
+    {
+        let Site {
+            desk,
+            files,
+            snapshot,
+        } = self;
+        if files.grown() < LEAST_JOURNAL.max(*snapshot) {
+            return true;
+        }
+        let Ok(state) = desk.board.state(desk.alloc) else {
+            return true;
+        };
+        if desk.batch.push(STATE, &state).is_err() {
+            return true;
+        }
+        let size = state.len();
+        *snapshot = size;
+        desk.standing.condensed(size);
+        files.condense(&mut desk.batch).is_ok()
+    }
+}
+
+impl<D: Disk> Settle for Site<D> {
+    ghost use Rattle.cue_service.specs.Sites.{AnswersAt, Settles};
+
+    ghost answers = { AnswersAt };
+
+    ghost settles = { Settles D.Disk.seen D.Disk.may_leave };
+
+    fn call(
+        &mut self,
+        request: &Request<Bytes>,
+        response: &mut Response,
+    ) -> Result<(), AllocError> {
+        self.desk.answer(request, response);
+        Ok(())
+    }
+
+    fn settle(&mut self) -> bool {
+        if !self.commit() {
+            return false;
+        }
+        self.condense()
+    }
+}
+
+impl<D: Disk> Gathers for Site<D> {
+    ghost use Rattle.cue_service.specs.Sites.{GathersAt, IsUntouched};
+
+    /// Takes the state of another site, unless it brings nothing.
+    fn pulled(&mut self, bytes: &[u8]) -> bool
+        ensures { GathersAt bytes.now self.old self.new }
+    {
+        self.desk.gather(bytes)
+    }
+
+    /// Counts what happened.
+    fn hear(&mut self, news: News)
+        ensures { IsUntouched self.old self.new }
+    {
+        self.desk.standing.hear(news);
+        self.desk.standing.grown(self.files.grown());
+    }
+
+    /// Writes a line for each event since the last call.
+    fn report<L: Log>(&mut self, log: &L)
+        ensures { IsUntouched self.old self.new }
+    {
+        self.desk.standing.report(log);
+    }
+}
