@@ -1,0 +1,68 @@
+//! The program `cuestored`: a site that stays up, over HTTP, with each piece on the disk before it is
+//! acknowledged.
+#![tactic(auto)]
+
+mod files;
+mod stop;
+mod words;
+
+use crate::files::{open_site, token_in};
+use crate::words::{Words, command, words_of};
+use anyhow::Result;
+use clap::error::Error;
+use cue_http::serve;
+use log::sink::Console;
+use log::{Level, Logged, error, info};
+use mio::net::TcpListener;
+use std::env;
+use std::process::ExitCode;
+use stop::Stop;
+
+/// Serves until a round does not stand.
+fn run(rt: &HostRuntime, words: &Words) -> Result<()> {
+    let log = Logged::new(rt, Level::Info, Console(rt));
+    let listen = words.listen(rt)?;
+    let token = match words.token_file {
+        Some(path) => Some(token_in(rt, path)?),
+        None => None,
+    };
+    if token.is_none() && !listen.ip().is_loopback() {
+        return Err(Stop::OpenToAll.into());
+    }
+    let sources = words.sources(rt)?;
+    let site = open_site(rt, &log, words, token)?;
+    let listener = TcpListener::bind(rt, listen)?;
+    let address = listener.local_addr()?;
+    info!(log; "listening on http://{address}");
+    serve(rt, &log, listener, words.bounds(), &sources, site, u64::MAX)?;
+    Ok(())
+}
+
+/// Does what these words ask for, the name of the program in front, and answers the exit status.
+fn answer(rt: &HostRuntime, given: &[String]) -> Result<ExitCode> {
+    let command = command(rt.alloc())?;
+    let matches = match command.try_get_matches_from(given) {
+        Ok(matches) => matches,
+        Err(error) => {
+            error.print(rt)?;
+            return Ok(ExitCode::from(error.exit_code() as u8));
+        }
+    };
+    let words = words_of(rt.alloc(), &matches)?;
+    match run(rt, &words) {
+        Ok(()) => Ok(ExitCode::SUCCESS),
+        Err(stop) => {
+            let log = Logged::new(rt, Level::Info, Console(rt));
+            error!(log; "{stop}");
+            Ok(ExitCode::FAILURE)
+        }
+    }
+}
+
+fn main(rt: HostRuntime) -> Result<ExitCode> {
+    let mut given = Vec::new(rt.alloc());
+    for word in env::args(&rt)? {
+        given.push(word)?;
+    }
+    answer(&rt, &given)
+}
