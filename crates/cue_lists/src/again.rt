@@ -1,5 +1,6 @@
 use cue_replica::{Form, Kind, Memory, Refusal, Replica};
 use std::alloc::Global;
+use std::fmt;
 
 /// What comes of the printed text of a site, handed to a new one.
 #[derive(Clone, Copy, PartialEq, Eq)]
@@ -46,6 +47,18 @@ impl Readings {
             Reading::Empty => self.empty = self.empty.saturating_add(1),
             Reading::Wrong => self.wrong = self.wrong.saturating_add(1),
         }
+    }
+}
+
+impl fmt::Display for Readings {
+    fn fmt<W: fmt::Write>(&self, f: &mut fmt::Formatter<W>) -> fmt::Result {
+        write!(f, "printed texts: {} read again, ", self.equal)?;
+        write!(
+            f,
+            "{} over a limit, {} of empty sites, ",
+            self.over_limit, self.empty
+        )?;
+        write!(f, "{} wrong", self.wrong)
     }
 }
 

@@ -1,22 +1,26 @@
-//! Reads lists of inputs with what one new site must answer that has taken them, and tells where it
-//! answers otherwise. Each line is a JSON object: `inputs` is a list of texts and of states
-//! (`{"hex": ".."}`), which are handed on in order as files; `export`, `report`, `print` and
-//! `state` are each a list of the exit status and the output, that of a state in hexadecimal. The
-//! printed text of each site, also of one that refused an input, is handed to another site, which
-//! must then have equal state bytes. `cue_lists FILE` reads a file.
+//! Compares what one new site answers that has taken some inputs with what it must answer, and tells
+//! where it answers otherwise. `cue_lists FILE..` reads archives of cases (`.txtar`) and lists, of
+//! which each line is a case. The printed text of each site, also of one that refused an input, is
+//! handed to another site, which must then have equal state bytes.
 #![tactic(auto)]
 
 mod again;
+mod archive;
+mod counts;
 mod list;
+mod site;
 
-use again::{Reading, Readings, read_again};
+use again::{Reading, read_again};
 use anyhow::Context;
-use cue_program::{Question, Replica};
-use list::{agrees, answer, inputs_of, take_all};
+use archive::{Case, cases};
+use counts::Counts;
+use cue_program::{Question, Replica, Stop};
+use list::{agrees, inputs_of};
 use serde_json::Value;
+use site::{answer, document, take_all, written};
 use std::{env, fs};
 
-/// What is asked of each site, with its name in the lines.
+/// What is asked of each site, with its name in lists and archives.
 const QUESTIONS: [(Question, &str); 4] = [
     (Question::Export, "export"),
     (Question::Report, "report"),
@@ -24,44 +28,14 @@ const QUESTIONS: [(Question, &str); 4] = [
     (Question::State, "state"),
 ];
 
-/// How many lists ended in each way, how many answers were wrong, and how the printed texts were
-/// read.
-#[derive(Drop)]
-struct Counts {
-    exported: u64,
-    conflicting: u64,
-    incomplete: u64,
-    refused: u64,
-    wrong: u64,
-    readings: Readings,
-}
-
-impl Counts {
-    fn new() -> Counts {
-        Counts {
-            exported: 0,
-            conflicting: 0,
-            incomplete: 0,
-            refused: 0,
-            wrong: 0,
-            readings: Readings::new(),
-        }
-    }
-
-    /// Counts a list by how its export ended.
-    fn add(&mut self, status: u8) {
-        match status {
-            0 => self.exported = self.exported.saturating_add(1),
-            2 => self.conflicting = self.conflicting.saturating_add(1),
-            3 => self.incomplete = self.incomplete.saturating_add(1),
-            _ => self.refused = self.refused.saturating_add(1),
-        }
-    }
-}
-
 /// Asks a new site that was handed the inputs of a line, and tells which answers are others, and
 /// whether its printed text is read otherwise.
-fn compare(rt: &HostRuntime, number: usize, line: &str, counts: &mut Counts) -> anyhow::Result<()> {
+fn compare_line(
+    rt: &HostRuntime,
+    number: usize,
+    line: &str,
+    counts: &mut Counts,
+) -> anyhow::Result<()> {
     let alloc = rt.alloc();
     let list = Value::from_str(alloc, line)?;
     let inputs = inputs_of(alloc, &list)?;
@@ -72,46 +46,83 @@ fn compare(rt: &HostRuntime, number: usize, line: &str, counts: &mut Counts) -> 
         if question == Question::Export {
             counts.add(reply.status);
         }
-        if !agrees(alloc, &list, name, question, &reply)? {
+        let agrees = agrees(alloc, &list, name, question, &reply)?;
+        if !agrees {
             println!(rt; "line {number}: {name} is another")?;
-            counts.wrong = counts.wrong.saturating_add(1);
         }
+        counts.add_answer(agrees);
     }
-    compare_reading(rt, number, &site, &mut counts.readings)
+    compare_reading(rt, &site, counts)
 }
 
 /// Reads the printed text of a site again, and tells where that gives another state.
-fn compare_reading(
-    rt: &HostRuntime,
-    number: usize,
-    site: &Replica,
-    readings: &mut Readings,
-) -> anyhow::Result<()> {
+fn compare_reading(rt: &HostRuntime, site: &Replica, counts: &mut Counts) -> anyhow::Result<()> {
     let reading = read_again(rt.alloc(), site).ok().context("out of memory")?;
     if reading == Reading::Wrong {
-        println!(rt; "line {number}: the printed text is read otherwise")?;
+        println!(rt; "the printed text of the case before this one is read otherwise:")?;
     }
-    readings.add(reading);
+    counts.readings.add(reading);
+    Ok(())
+}
+
+/// Compares an answer with what the case has under its name, where it has one.
+fn compare_answer(
+    rt: &HostRuntime,
+    case: &Case,
+    name: &str,
+    found: &str,
+    counts: &mut Counts,
+) -> anyhow::Result<()> {
+    if let Some(wanted) = case.wanted(name) {
+        if found != wanted {
+            println!(rt; "{}: {name} is another:\n{found}", case.name)?;
+        }
+        counts.add_answer(found == wanted);
+    }
+    Ok(())
+}
+
+/// Asks a new site that was handed the inputs of a case, and tells which answers are others, and
+/// whether its printed text is read otherwise.
+fn compare_case(rt: &HostRuntime, case: &Case, counts: &mut Counts) -> anyhow::Result<()> {
+    let alloc = rt.alloc();
+    let mut site = Replica::new(alloc);
+    let came: Result<(), Stop> = take_all(alloc, &mut site, &case.inputs(alloc)?);
+    for (question, name) in QUESTIONS {
+        let reply = answer(alloc, question, &site, came)?;
+        if question == Question::Export {
+            counts.add(reply.status);
+        }
+        let found = written(alloc, question, &reply)?;
+        compare_answer(rt, case, name, found.as_str(), counts)?;
+    }
+    let document = document(alloc, &site)?;
+    compare_answer(rt, case, "document", document.as_str(), counts)?;
+    compare_reading(rt, &site, counts)
+}
+
+/// Compares the cases of a file, of a form that its name tells.
+fn compare_file(rt: &HostRuntime, path: &str, counts: &mut Counts) -> anyhow::Result<()> {
+    let all = fs::read_to_string(rt, path)?;
+    if path.ends_with(".txtar") {
+        for case in &cases(rt.alloc(), all.as_str())? {
+            compare_case(rt, case, counts)?;
+        }
+        return Ok(());
+    }
+    let mut number = 0usize;
+    for line in all.as_str().lines() {
+        number = number.saturating_add(1);
+        compare_line(rt, number, line, counts)?;
+    }
     Ok(())
 }
 
 fn main(rt: HostRuntime) -> anyhow::Result<()> {
-    let path = env::args(&rt)?.nth(1).context("usage: cue_lists FILE")?;
-    let all = fs::read_to_string(&rt, path.as_str())?;
-    let mut counts = Counts::new();
-    let mut number = 0usize;
-    for line in all.as_str().lines() {
-        number = number.saturating_add(1);
-        compare(&rt, number, line, &mut counts)?;
+    for path in env::args(&rt)?.skip(1) {
+        let mut counts = Counts::new();
+        compare_file(&rt, path.as_str(), &mut counts)?;
+        println!(rt; "{path}: {counts}")?;
     }
-    println!(rt;
-        "{number} lists: {} exported, {} in conflict, {} incomplete, {} refused; {} answers wrong",
-        counts.exported, counts.conflicting, counts.incomplete, counts.refused, counts.wrong
-    )?;
-    let readings = &counts.readings;
-    println!(rt;
-        "{number} printed texts: {} read again, {} over a limit, {} of empty sites, {} wrong",
-        readings.equal, readings.over_limit, readings.empty, readings.wrong
-    )?;
     Ok(())
 }

@@ -1,6 +1,6 @@
-//! Tests of sites, from texts to state bytes, exports, reports and printed texts, over one site and
-//! over several. They stand in a crate above `cue_replica`, so that it is not proved a second time
-//! with them.
+//! Tests of sites over state bytes, limits and several sites. They stand in a crate above
+//! `cue_replica`, so that it is not proved a second time with them. What one site answers to texts
+//! stands in the archives of `cue_lists`.
 #![tactic(auto)]
 
 #[cfg(test)]
@@ -8,15 +8,9 @@ mod alike;
 #[cfg(test)]
 mod bytes;
 #[cfg(test)]
-mod defaults;
-#[cfg(test)]
-mod documents;
-#[cfg(test)]
 mod events;
 #[cfg(test)]
 mod limits;
-#[cfg(test)]
-mod lists;
 #[cfg(test)]
 mod orders;
 #[cfg(test)]
@@ -26,12 +20,8 @@ mod refusals;
 #[cfg(test)]
 mod rests;
 #[cfg(test)]
-mod scalars;
-#[cfg(test)]
 mod sites;
 #[cfg(test)]
 mod states;
-#[cfg(test)]
-mod structs;
 #[cfg(test)]
 mod worlds;

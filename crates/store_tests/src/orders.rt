@@ -1,7 +1,7 @@
 //! Sites that take the same texts in different ways have equal state bytes, and tell the same.
 use crate::events::{after, all_happened, deliver, send, submit};
 use crate::sites::{
-    are_same, exports, hand, hand_all, has_state, new_site, printed, prints, site, state, taken,
+    are_same, exports, hand, hand_all, has_state, new_site, printed, site, state, taken,
 };
 use cue_replica::{Event, Memory, Refusal, Replica, World};
 use std::alloc::Global;
@@ -180,7 +180,7 @@ fn agree(alloc: Global, texts: &[&str]) -> Result<bool, Refusal> {
 
 /// Asserts that sites that have accepted these texts export this JSON, or these lines: whatever
 /// order the texts came in, and whichever site they were handed to first.
-pub fn assert_exports<H: AllocGlobal + Abort>(
+fn assert_exports<H: AllocGlobal + Abort>(
     rt: &H,
     texts: &[&str],
     export: &str,
@@ -190,25 +190,21 @@ pub fn assert_exports<H: AllocGlobal + Abort>(
     Ok(())
 }
 
-/// Asserts that sites that have accepted these texts are printed so, as [`assert_exports`] does.
-pub fn assert_prints<H: AllocGlobal + Abort>(
-    rt: &H,
-    texts: &[&str],
-    printed: &str,
-) -> Result<(), Fail> {
-    assert!(rt; prints(rt.alloc(), texts, printed)?);
-    assert!(rt; agree(rt.alloc(), texts)?);
-    Ok(())
+#[test]
+fn defaults_in_any_order(rt: HostRuntime) -> Result<(), Fail> {
+    let texts = ["x: *1|2\n", "x: 1|*2\n", "x: *1|2\n"];
+    assert_exports(&rt, &texts, "incomplete x not a single value\n")
 }
 
-/// Asserts that sites that have accepted these texts export this and are printed so, as
-/// [`assert_exports`] does.
-pub fn assert_tells<H: AllocGlobal + Abort>(
-    rt: &H,
-    texts: &[&str],
-    export: &str,
-    printed: &str,
-) -> Result<(), Fail> {
-    assert!(rt; prints(rt.alloc(), texts, printed)?);
-    assert_exports(rt, texts, export)
+#[test]
+fn rests_in_any_order(rt: HostRuntime) -> Result<(), Fail> {
+    let texts = ["l: [...>=0]\n", "l: [...<=9]\n", "l: [5, 12]\n"];
+    assert_exports(&rt, &texts, "conflict l.1 no value\n")
+}
+
+#[test]
+fn definitions_in_any_order(rt: HostRuntime) -> Result<(), Fail> {
+    let used = "#P: {a: int}\nl: [...#P]\n";
+    let texts = [used, "l: [{a: 1}, {a: 2, b: 3}]\n"];
+    assert_exports(&rt, &texts, "conflict l.1.b label not allowed\n")
 }

@@ -32,22 +32,6 @@ pub fn assert_refuses<H: AllocGlobal + Abort>(
 }
 
 #[test]
-fn characters_and_numbers(rt: HostRuntime) -> Result<(), Fail> {
-    assert_refuses(&rt, "a: =1\n", Kind::BadCharacter, 3)?;
-    assert_refuses(&rt, "a: 01\n", Kind::BadNumber, 3)?;
-    assert_refuses(&rt, "a: 1.5\n", Kind::BadNumber, 3)?;
-    assert_refuses(&rt, "9a: 1\n", Kind::BadNumber, 0)?;
-    assert_refuses(&rt, "a: 9223372036854775808\n", Kind::IntRange, 3)?;
-    assert_refuses(&rt, "a: -9223372036854775809\n", Kind::IntRange, 4)
-}
-
-#[test]
-fn strings(rt: HostRuntime) -> Result<(), Fail> {
-    assert_refuses(&rt, "a: \"x\n", Kind::BadString, 3)?;
-    assert_refuses(&rt, "a: \"\\q\"\n", Kind::BadString, 4)
-}
-
-#[test]
 fn texts_that_no_tree_spells(rt: HostRuntime) -> Result<(), Fail> {
     assert_refuses(&rt, "a: *1\n", Kind::Syntax, 5)?;
     assert_refuses(&rt, "a?\n: 1\n", Kind::Syntax, 2)?;
@@ -55,24 +39,4 @@ fn texts_that_no_tree_spells(rt: HostRuntime) -> Result<(), Fail> {
     assert_refuses(&rt, "a: --1\n", Kind::Syntax, 4)?;
     assert_refuses(&rt, "a: 1 2\n", Kind::Syntax, 5)?;
     assert_refuses(&rt, "a:", Kind::Syntax, 2)
-}
-
-#[test]
-fn forms_that_are_left_out(rt: HostRuntime) -> Result<(), Fail> {
-    let dynamic = Kind::LeftOut(Form::DynamicLabel);
-    assert_refuses(&rt, "[string]: int\n", dynamic, 0)?;
-    let embedding = Kind::LeftOut(Form::Embedding);
-    assert_refuses(&rt, "a\n", embedding, 0)?;
-    assert_refuses(&rt, "_\n", embedding, 0)?;
-    let ellipsis = Kind::LeftOut(Form::TypedEllipsis);
-    assert_refuses(&rt, "a: {...int}\n", ellipsis, 7)
-}
-
-#[test]
-fn names(rt: HostRuntime) -> Result<(), Fail> {
-    assert_refuses(&rt, "a: Int\n", Kind::UnknownName, 3)?;
-    assert_refuses(&rt, "int: 3\na: int\n", Kind::FieldReference, 10)?;
-    assert_refuses(&rt, "#A: foo\n#A: 1\n", Kind::Repeated, 8)?;
-    assert_refuses(&rt, "#A: #B\n#B: #A\n", Kind::Cycle, 0)?;
-    assert_refuses(&rt, "a: 1 | {b: 1}\n", Kind::NotScalar, 7)
 }

@@ -121,13 +121,6 @@ fn told(alloc: Global, conflicts: &[Conflict], gaps: &[Gap]) -> Result<String, M
     lines(alloc, conflicts, gaps)
 }
 
-/// The lines of the conflicts of a site, and then those of its gaps.
-fn reported(alloc: Global, site: &Replica) -> Result<String, Memory> {
-    let conflicts = conflicts(alloc, site)?;
-    let gaps = gaps(alloc, site)?;
-    told(alloc, &conflicts, &gaps)
-}
-
 /// What an export of a site comes to.
 fn export(alloc: Global, site: &Replica) -> Result<Export, Memory> {
     site.export(alloc)
@@ -153,30 +146,8 @@ pub fn exports(alloc: Global, texts: &[&str], wanted: &str) -> Result<bool, Refu
     Ok(gives(alloc, &site, wanted)?)
 }
 
-/// Whether a site that has accepted these texts is printed so.
-pub fn prints(alloc: Global, texts: &[&str], wanted: &str) -> Result<bool, Refusal> {
-    let site = site(alloc, texts)?;
-    Ok(is_printed(alloc, &site, wanted)?)
-}
-
 /// Whether a site that has accepted these texts has these state bytes.
 pub fn writes(alloc: Global, texts: &[&str], bytes: &[u8]) -> Result<bool, Refusal> {
     let site = site(alloc, texts)?;
     Ok(has_state(alloc, &site, bytes)?)
-}
-
-/// Whether the report of a site that has accepted these texts has these lines.
-fn reports(alloc: Global, texts: &[&str], wanted: &str) -> Result<bool, Refusal> {
-    let site = site(alloc, texts)?;
-    Ok(reported(alloc, &site)?.as_str() == wanted)
-}
-
-/// Asserts that [`reports`] holds of these texts.
-pub fn assert_reports<H: AllocGlobal + Abort>(
-    rt: &H,
-    texts: &[&str],
-    wanted: &str,
-) -> Result<(), Fail> {
-    assert!(rt; reports(rt.alloc(), texts, wanted)?);
-    Ok(())
 }
