@@ -146,6 +146,12 @@ pub fn exports(alloc: Global, texts: &[&str], wanted: &str) -> Result<bool, Refu
     Ok(gives(alloc, &site, wanted)?)
 }
 
+/// Whether a site that has accepted these texts is printed so.
+pub fn prints(alloc: Global, texts: &[&str], wanted: &str) -> Result<bool, Refusal> {
+    let site = site(alloc, texts)?;
+    Ok(is_printed(alloc, &site, wanted)?)
+}
+
 /// Whether a site that has accepted these texts has these state bytes.
 pub fn writes(alloc: Global, texts: &[&str], bytes: &[u8]) -> Result<bool, Refusal> {
     let site = site(alloc, texts)?;
