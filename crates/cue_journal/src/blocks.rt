@@ -1,4 +1,4 @@
-ghost use Rattle.std.specs.Prelude.{ℕ, List, ◌≡◌, ◌+◌, ◌-◌, ◌<◌, ◌≤◌, ◌^◌, ◌==◌, ◌++◌, [], ◌∷◌, length, take, drop, map, None, Some, MatchOption, IfOk, OnOk, OnErr};
+ghost use Rattle.std.specs.Prelude.{ℕ, List, ◌≡◌, ◌+◌, ◌-◌, ◌<◌, ◌≤◌, ◌^◌, ◌==◌, ◌↔◌, ◌++◌, [], ◌∷◌, length, take, drop, map, None, Some, MatchOption, IfOk, OnOk, OnErr, IsErrOf};
 ghost use Rattle.cue_journal.specs.Blocks.{next_piece, recovered, IsScanned};
 ghost use Rattle.cue_journal.specs.Settled.{IsBatch};
 
@@ -31,6 +31,14 @@ pub fn read_pieces(alloc: Global, bytes: &[u8]) -> Result<(Vec<Vec<u8>>, usize),
         rest = after;
     }
     Ok((pieces, bytes.len() - rest.len()))
+}
+
+/// Why an entry does not fit into a batch.
+#[derive(Clone, Copy, Debug, PartialEq, Eq)]
+pub enum Unfit {
+    /// The entry has 4 GiB or more.
+    TooLong,
+    OutOfMemory(AllocError),
 }
 
 /// Blocks that wait to be written.
@@ -67,18 +75,19 @@ impl Batch {
     ///
     /// # Errors
     ///
-    /// Want of memory, and so is an entry of 4 GiB refused. The batch is then as before.
-    pub fn push(&mut self, first: u8, rest: &[u8]) -> Result<(), AllocError>
+    /// `TooLong` for an entry of 4 GiB and no other, and `OutOfMemory`. The batch is then as before.
+    pub fn push(&mut self, first: u8, rest: &[u8]) -> Result<(), Unfit>
         ensures ok { OnOk result (IsBatch (batch_bytes self.old) → IsBatch (batch_bytes self.new)
             × (recovered (batch_bytes self.new)
             ≡ recovered (batch_bytes self.old) ++ (first ∷ rest.now) ∷ [])) }
         ensures fits { OnOk result (length rest.now < 2 ^ 32) }
+        ensures long { IsErrOf result Unfit.TooLong ↔ (2 ^ 32 ≤ length rest.now + 1) }
         ensures appends { OnOk result ((more : List ℕ)
             × (batch_bytes self.new ≡ batch_bytes self.old ++ more)) }
         ensures err { OnErr result (batch_bytes self.new ≡ batch_bytes self.old) }
     {
         if rest.len() >= u32::MAX as usize {
-            return Err(AllocError);
+            return Err(Unfit::TooLong);
         }
         let head = (rest.len() as u32 + 1).to_be_bytes();
         let old = self.bytes.len();
@@ -86,7 +95,7 @@ impl Batch {
             Ok(()) => Ok(()),
             Err(error) => {
                 self.bytes.truncate(old);
-                Err(error)
+                Err(Unfit::OutOfMemory(error))
             }
         }
     }

@@ -5,6 +5,6 @@ mod blocks;
 mod journal;
 mod pair;
 
-pub use blocks::{Batch, read_pieces};
+pub use blocks::{Batch, Unfit, read_pieces};
 pub use journal::{Journal, recover};
 pub use pair::Pair;
