@@ -9,6 +9,7 @@ mod peers;
 mod question;
 mod rounds;
 mod serving;
+mod wait;
 
 pub use rounds::{Gathers, InRound, News};
 pub use serving::{Bounds, Source, serve};

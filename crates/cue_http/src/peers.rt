@@ -1,9 +1,12 @@
 use crate::peer::Peer;
-use http_server::{Config, Connection, Service};
+use crate::rounds::{Gathers, InRound};
+use crate::serving::Bounds;
+use http_server::{Connection, Settle};
 use mio::net::{TcpListener, TcpStream};
 use mio::{Interest, Poll, Token};
-use std::alloc::Global;
+use std::alloc::{AllocError, Global};
 use std::hash::RandomState;
+use std::mem;
 use std::time::{Duration, Instant};
 
 /// The token of the listener.
@@ -12,48 +15,79 @@ pub(crate) const LISTENER: usize = 0;
 /// The most connections that are taken in one round.
 const MOST_NEW: usize = 64;
 
-/// The connections, each at the place that its token names.
+/// Those whose time is over are looked for so often, in milliseconds.
+const TICK: u64 = 250;
+
+/// Room for a connection.
+#[derive(Drop)]
+enum Place {
+    /// None is there. The next free place, where there is one.
+    Free(Option<usize>),
+    Taken(Peer),
+}
+
+/// The connections, each at the place that its token names. A round looks at those alone that have
+/// something to do.
 #[derive(Drop)]
 pub(crate) struct Peers {
     alloc: Global,
     keys: RandomState,
-    config: Config,
-    patience: Duration,
-    most: usize,
-    places: Vec<Option<Peer>>,
+    bounds: Bounds,
+    places: Vec<Place>,
+    free: Option<usize>,
+    /// The places that are looked at in this round, and those of the next.
+    listed: Vec<usize>,
+    next: Vec<usize>,
     open: usize,
+    /// So many of them wait for a change.
+    waiting: usize,
+    /// What the answers were when those that wait were last looked at.
+    edition: u64,
     turned_away: u64,
+    /// When those are looked for whose time is over.
+    tick: Instant,
 }
 
 impl Peers {
-    pub(crate) fn new(
-        alloc: Global,
-        keys: RandomState,
-        config: Config,
-        patience: Duration,
-        most: usize,
-    ) -> Peers {
+    pub(crate) fn new(alloc: Global, keys: RandomState, bounds: Bounds, now: Instant) -> Peers {
         Peers {
             alloc,
             keys,
-            config,
-            patience,
-            most,
+            bounds,
             places: Vec::new(alloc),
+            free: None,
+            listed: Vec::new(alloc),
+            next: Vec::new(alloc),
             open: 0,
+            waiting: 0,
+            edition: 0,
             turned_away: 0,
+            tick: now,
         }
     }
 
-    /// How many connections are open, and how many were turned away.
-    pub(crate) fn counts(&self) -> (usize, u64) {
-        (self.open, self.turned_away)
+    /// How many connections are open, how many of them wait for a change, and how many were turned
+    /// away.
+    pub(crate) fn counts(&self) -> (usize, usize, u64) {
+        (self.open, self.waiting, self.turned_away)
     }
 
+    /// Has the peer with this token looked at.
     pub(crate) fn wake(&mut self, token: usize) {
-        if token > 0 && token <= self.places.len() {
-            if let Some(peer) = &mut self.places[token - 1] {
+        if token > LISTENER {
+            let place = token - 1;
+            if let Some(Place::Taken(peer)) = self.places.get_mut(place) {
                 peer.wake();
+            }
+            self.list(place);
+        }
+    }
+
+    /// Has the peer at a place looked at.
+    fn list(&mut self, place: usize) {
+        if let Some(Place::Taken(peer)) = self.places.get_mut(place) {
+            if peer.list() && self.listed.push(place).is_err() {
+                peer.unlist();
             }
         }
     }
@@ -81,71 +115,151 @@ impl Peers {
         if poll.registry().register(&mut stream, token, both).is_err() {
             return;
         }
-        let until = now.checked_add(self.patience).unwrap_or(now);
-        let connection = Connection::new(self.alloc, self.keys, self.config);
-        let peer = Peer::new(stream, connection, until);
-        if place < self.places.len() {
-            self.places[place] = Some(peer);
+        let peer = Peer::new(stream, self.connection(), self.patience(now));
+        if let Some(room) = self.places.get_mut(place) {
+            if let Place::Free(next) = room {
+                self.free = *next;
+            }
+            *room = Place::Taken(peer);
             self.open = self.open.saturating_add(1);
+            self.list(place);
         }
+    }
+
+    fn connection(&self) -> Connection {
+        Connection::new(self.alloc, self.keys, self.bounds.config)
+    }
+
+    /// When a peer is cut off that does nothing from now on.
+    fn patience(&self, now: Instant) -> Instant {
+        now.checked_add(self.bounds.idle).unwrap_or(now)
     }
 
     fn free_place(&mut self) -> Option<usize> {
-        for place in 0..self.places.len() {
-            if self.places[place].is_none() {
-                return Some(place);
+        if self.free.is_none() && self.places.len() < self.bounds.most {
+            if self.make_place().is_err() {
+                return None;
             }
         }
+        self.free
+    }
+
+    /// Makes one more place, and room in both lists for each place that there is.
+    fn make_place(&mut self) -> Result<(), AllocError> {
+        self.listed.reserve(self.places.len().saturating_add(1))?;
+        self.next.reserve(self.places.len().saturating_add(1))?;
         let place = self.places.len();
-        if place >= self.most || self.places.push(None).is_err() {
-            return None;
+        self.places.push(Place::Free(None))?;
+        self.free = Some(place);
+        Ok(())
+    }
+
+    /// Looks for those whose time is over, now and then.
+    pub(crate) fn tire(&mut self, now: Instant) {
+        if now < self.tick {
+            return;
         }
-        Some(place)
+        self.tick = now.checked_add(Duration::from_millis(TICK)).unwrap_or(now);
+        let until = self.patience(now);
+        for place in 0..self.places.len() {
+            let tired = match self.places.get_mut(place) {
+                Some(Place::Taken(peer)) => {
+                    let waited = peer.waits();
+                    let tired = peer.tire(now, until);
+                    self.waiting = counted(self.waiting, waited, peer.waits());
+                    tired
+                }
+                _ => false,
+            };
+            if tired {
+                self.list(place);
+            }
+        }
     }
 
     /// Reads from those that are ready, and has the service answer.
-    pub(crate) fn receive<S: Service>(&mut self, service: &mut S) {
-        for place in &mut self.places {
-            if let Some(peer) = place {
+    pub(crate) fn receive<S: Settle + Gathers>(&mut self, service: &mut InRound<S>, now: Instant) {
+        for place in &self.listed {
+            if let Some(Place::Taken(peer)) = self.places.get_mut(*place) {
                 if peer.is_ready() {
+                    let waited = peer.waits();
                     peer.receive();
-                    peer.connection().advance(service);
+                    if !peer.waits() {
+                        peer.answer(service, now, self.waiting < self.bounds.waiting);
+                    }
+                    self.waiting = counted(self.waiting, waited, peer.waits());
                 }
+            }
+        }
+    }
+
+    /// Has those answered that wait for a change, where there is one.
+    pub(crate) fn tell<S: Settle + Gathers>(&mut self, service: &mut InRound<S>, now: Instant) {
+        if self.waiting == 0 {
+            return;
+        }
+        let edition = service.inner.edition();
+        if edition == self.edition {
+            return;
+        }
+        self.edition = edition;
+        let until = self.patience(now);
+        for place in 0..self.places.len() {
+            let fresh = self.connection();
+            let asked = match self.places.get_mut(place) {
+                Some(Place::Taken(peer)) => peer.ask_again(service, edition, fresh, until),
+                _ => false,
+            };
+            if asked {
+                self.waiting = self.waiting.saturating_sub(1);
+                self.list(place);
             }
         }
     }
 
     /// Sends the answers, which stand.
     pub(crate) fn send(&mut self, now: Instant) {
-        for place in &mut self.places {
-            if let Some(peer) = place {
+        let until = self.patience(now);
+        for place in &self.listed {
+            if let Some(Place::Taken(peer)) = self.places.get_mut(*place) {
                 if peer.wants_write() {
-                    peer.send(now, self.patience);
+                    peer.send(until);
                 }
             }
         }
     }
 
-    /// Closes those that are over. Answers whether one of the others is still ready.
-    pub(crate) fn close(&mut self, now: Instant) -> bool {
-        let mut ready = false;
-        for place in &mut self.places {
-            let over = match place {
-                Some(peer) => {
-                    if peer.is_over(now) {
-                        true
-                    } else {
-                        ready = ready || peer.is_ready();
-                        false
-                    }
-                }
-                None => false,
+    /// Closes those that are over. Answers whether one of the others can go on at once: it is looked
+    /// at in the next round too.
+    pub(crate) fn close(&mut self) -> bool {
+        self.next.clear();
+        for place in &self.listed {
+            let Some(room) = self.places.get_mut(*place) else {
+                continue;
             };
-            if over {
-                *place = None;
+            let Place::Taken(peer) = room else {
+                continue;
+            };
+            peer.unlist();
+            if peer.is_over() {
+                self.waiting = counted(self.waiting, peer.waits(), false);
+                *room = Place::Free(self.free);
+                self.free = Some(*place);
                 self.open = self.open.saturating_sub(1);
+            } else if peer.is_ready() && peer.list() && self.next.push(*place).is_err() {
+                peer.unlist();
             }
         }
-        ready
+        mem::swap(&mut self.listed, &mut self.next);
+        !self.listed.is_empty()
+    }
+}
+
+/// How many wait, where one did so or not, and does so or not.
+fn counted(waiting: usize, waited: bool, waits: bool) -> usize {
+    match (waited, waits) {
+        (false, true) => waiting.saturating_add(1),
+        (true, false) => waiting.saturating_sub(1),
+        _ => waiting,
     }
 }

@@ -2,18 +2,24 @@ ghost use Rattle.std.specs.Prelude.{◌≡◌, ℕ, Bool, List};
 ghost use Rattle.http.specs.declared.request.Request.{Request};
 ghost use Rattle.http_server.specs.declared.response.Response.{Response};
 
+use crate::wait::{Wait, asked_again};
 use bytes::Bytes;
 use http::Request;
 use http_server::{Response, Service, Settle};
 use log::Log;
-use std::alloc::AllocError;
+use std::alloc::{AllocError, Global};
 
 /// What the loop tells the site of, for what it answers of itself. Times are in seconds since the
 /// start.
 #[derive(Clone, Copy, Debug, PartialEq, Eq)]
 pub enum News {
-    /// So many connections are open now, and so many were turned away so far.
-    Connections { open: usize, turned_away: u64 },
+    /// So many connections are open now, so many of them wait for a change, and so many were turned
+    /// away so far.
+    Connections {
+        open: usize,
+        waiting: usize,
+        turned_away: u64,
+    },
     /// The time.
     Now(u64),
     /// The source with this number answered.
@@ -22,10 +28,17 @@ pub enum News {
     Failed(usize),
 }
 
-/// What takes the states of other sites.
+/// What takes the states of other sites, and tells when its answers are others.
 pub trait Gathers {
     /// Takes what a state brings, or nothing of it. Answers whether it was taken, or brought nothing.
     fn pulled(&mut self, bytes: &[u8]) -> bool;
+
+    /// How many seconds the one who asks waits for a change, where this response has nothing new for
+    /// it, and it is to be held back so long.
+    fn patience(&self, request: &Request<Bytes>, response: &Response) -> Option<u64>;
+
+    /// A number that is another one as soon as the answers are others.
+    fn edition(&mut self) -> u64;
 
     /// Hears what happened.
     fn hear(&mut self, news: News);
@@ -39,16 +52,53 @@ pub trait Gathers {
 #[derive(Drop)]
 pub struct InRound<S> {
     pub inner: S,
+    alloc: Global,
+    /// So many calls were made since the last `begin`.
+    calls: u64,
+    /// Whether the last of them may wait.
+    wait: Option<Wait>,
 }
 
-impl<S: Settle> Service for InRound<S> {
-    ghost answers = { λ old request response new. S.answers old.inner request response new.inner };
+impl<S> InRound<S> {
+    pub(crate) fn new(alloc: Global, inner: S) -> InRound<S> {
+        InRound {
+            inner,
+            alloc,
+            calls: 0,
+            wait: None,
+        }
+    }
+
+    /// Forgets the calls so far.
+    pub(crate) fn begin(&mut self) {
+        self.calls = 0;
+        self.wait = None;
+    }
+
+    /// How the request waits that was answered since, where it was the only one.
+    pub(crate) fn take_wait(&mut self) -> Option<Wait> {
+        if self.calls == 1 {
+            self.wait.take()
+        } else {
+            None
+        }
+    }
+}
+
+impl<S: Settle + Gathers> Service for InRound<S> {
+    ghost answers = { λ old request response new. S.Settle.answers old.inner request response new.inner };
 
     fn call(
         &mut self,
         request: &Request<Bytes>,
         response: &mut Response,
     ) -> Result<(), AllocError> {
-        self.inner.call(request, response)
+        self.inner.call(request, response)?;
+        self.calls = self.calls.saturating_add(1);
+        self.wait = match self.inner.patience(request, response) {
+            Some(seconds) => asked_again(self.alloc, request, seconds),
+            None => None,
+        };
+        Ok(())
     }
 }

@@ -27,6 +27,8 @@ pub struct Bounds {
     pub idle: Duration,
     /// The most connections. More are closed as they come.
     pub most: usize,
+    /// So many requests wait for a change at most. More are answered at once.
+    pub waiting: usize,
     /// Each source is asked for its state each so long.
     pub every: Duration,
 }
@@ -76,15 +78,9 @@ where
     let mut events = Events::with_capacity(alloc, MOST_EVENTS)?;
     let start = Instant::now(rt)?;
     let mut state = Loop {
-        peers: Peers::new(
-            alloc,
-            RandomState::new(rt)?,
-            bounds.config,
-            bounds.idle,
-            bounds.most,
-        ),
+        peers: Peers::new(alloc, RandomState::new(rt)?, bounds, start),
         asked: asked_of(alloc, sources, start, bounds.every)?,
-        service: InRound { inner: service },
+        service: InRound::new(alloc, service),
         bounds,
         waiting: true,
         busy: true,
@@ -154,17 +150,21 @@ impl<S: Settle + Gathers> Loop<S> {
             asked.begin(rt, poll, now, &self.bounds, &mut self.service.inner);
             asked.step(rt, now, &self.bounds, &mut self.service.inner);
         }
-        let (open, turned_away) = self.peers.counts();
-        self.service
-            .inner
-            .hear(News::Connections { open, turned_away });
-        self.peers.receive(&mut self.service);
+        let (open, waiting, turned_away) = self.peers.counts();
+        self.service.inner.hear(News::Connections {
+            open,
+            waiting,
+            turned_away,
+        });
+        self.peers.tire(now);
+        self.peers.receive(&mut self.service, now);
+        self.peers.tell(&mut self.service, now);
         // What does not stand must not be told, nor what follows it: a new start reads the files again.
         if !self.service.inner.settle() {
             return Err(ErrorKind::Other.into());
         }
         self.peers.send(now);
-        self.busy = self.peers.close(now) || self.waiting;
+        self.busy = self.peers.close() || self.waiting;
         Ok(())
     }
 }
