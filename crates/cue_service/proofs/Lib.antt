@@ -1,6 +1,8 @@
 pub mod Alike
 pub mod Condensing
 pub mod Consistent
+pub mod Digests
+pub mod Keeping
 pub mod Opening
 pub mod Rounds
 pub mod Routes

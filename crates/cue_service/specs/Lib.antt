@@ -1,6 +1,7 @@
 pub mod Answering
 pub mod Entries
 pub mod Inner
+pub mod Kept
 pub mod Promise
 pub mod Requests
 pub mod Sites

@@ -1,8 +1,6 @@
-ghost use Rattle.std.specs.Prelude.{◌≡◌, ◌≢◌, ◌⊎◌, [], ◌∷◌, ℕ, List, codes, true, false, IsTrue, IfOk, IfErr, IfSome, OnOk, OnErr};
-ghost use Rattle.cue_lattice.specs.World.{piece_refuses};
-ghost use Rattle.cue_replica.specs.Accepted.{IsAcceptable};
-ghost use Rattle.cue_replica.specs.Language.{language};
-ghost use Rattle.cue_replica.specs.Replica.{Adds};
+ghost use Rattle.std.specs.Prelude.{◌≡◌, ◌≢◌, ◌⊎◌, ◌<◌, ◌^◌, ◌++◌, [], ◌∷◌, ℕ, List, length, codes, true, false, IsTrue, IfOk, IfErr, IfSome, OnOk, OnErr};
+ghost use Rattle.cue_journal.specs.Blocks.{recovered};
+ghost use Rattle.cue_journal.specs.Settled.{IsBatch};
 ghost use Rattle.cue_journal.specs.Batches.{batch_bytes};
 ghost use Rattle.cue_service.specs.Entries.{entry_of};
 ghost use Rattle.http_server.specs.Response.{IsBlank};
@@ -10,19 +8,19 @@ ghost use Rattle.cue_service.specs.Requests.{IsRoute, HasField, handed};
 ghost use Rattle.cue_service.specs.Tags.{tag_of};
 ghost use Rattle.cue_service.specs.Answering.{Answers, AnswersAs, IsAsked, IsHanded, IsTaken, IsSame, Gathers, Brings, status_of};
 
+use crate::board::Board;
 use crate::page::page;
+use crate::refusal::{refusal_code, refusal_line};
 use crate::route::{Hand, Route, route_of};
 use crate::standing::Standing;
-use crate::tag::tag_text;
 use bytes::Bytes;
-use cue_answer::{Question, Status, answer_to};
-use cue_journal::Batch;
+use cue_answer::{Question, Status};
+use cue_journal::{Batch, Unfit};
 use cue_lattice::{Kind, Memory, Refusal};
 use cue_replica::Replica;
-use http::{HeaderName, HeaderValue, Request, StatusCode, header};
+use http::{HeaderValue, Request, StatusCode, header};
 use http_server::Response;
 use std::alloc::Global;
-use std::str;
 
 /// The word that a request has to bear that hands something in.
 #[derive(Drop)]
@@ -34,7 +32,7 @@ pub struct Token {
 #[derive(Drop)]
 pub struct Desk {
     pub(crate) alloc: Global,
-    pub(crate) board: Replica,
+    pub(crate) board: Board,
     pub(crate) batch: Batch,
     pub(crate) token: Option<Token>,
     pub(crate) standing: Standing,
@@ -50,10 +48,31 @@ fn mark(hand: Hand) -> u8
     }
 }
 
-fn whole(alloc: Global, text: String, kind: &[u8], response: &mut Response) -> Result<(), Memory>
+/// Has a piece wait for the disk.
+///
+/// # Errors
+///
+/// `TooLong` for one of 4 GiB, and `Memory`. Nothing changes.
+fn queue(batch: &mut Batch, hand: Hand, bytes: &[u8]) -> Result<(), Refusal>
+    ensures waits { OnOk result (IsBatch (batch_bytes batch.old) → IsBatch (batch_bytes batch.new)
+        × (recovered (batch_bytes batch.new)
+        ≡ recovered (batch_bytes batch.old) ++ entry_of (handed hand bytes.now) ∷ [])) }
+    ensures fits { OnOk result (length bytes.now < 2 ^ 32) }
+    ensures appends { OnOk result ((more : List ℕ)
+        × (batch_bytes batch.new ≡ batch_bytes batch.old ++ more)) }
+    ensures err { OnErr result (batch_bytes batch.new ≡ batch_bytes batch.old) }
+{
+    match batch.push(mark(hand), bytes) {
+        Ok(()) => Ok(()),
+        Err(Unfit::TooLong) => Err(Refusal::at(Kind::TooLong, 0)),
+        Err(Unfit::OutOfMemory(error)) => Err(Refusal::from(Memory::from(error))),
+    }
+}
+
+fn whole(text: String, kind: HeaderValue, response: &mut Response) -> Result<(), Memory>
     ensures { response.new.status ≡ response.old.status }
 {
-    add_field(alloc, header::CONTENT_TYPE, kind, response)?;
+    response.add_header(header::CONTENT_TYPE, kind)?;
     response.body.push(Bytes::from_string(text)?)?;
     Ok(())
 }
@@ -65,7 +84,7 @@ impl Desk {
     {
         Desk {
             alloc,
-            board,
+            board: Board::new(alloc, board),
             batch: Batch::new(alloc),
             token,
             standing,
@@ -97,16 +116,18 @@ impl Desk {
         ensures err { OnErr result (IsSame self.old self.new) }
     {
         match route {
-            Route::Ask(question) => tell(self.alloc, &self.board, question, request, response),
+            Route::Ask(question) => tell(&mut self.board, question, request, response),
             Route::Take(hand) => self.hand_in(hand, request, response),
             Route::Health => Ok(response.body.push(Bytes::from_static(b"up\n"))?),
             Route::Metrics => {
-                let text = self.standing.metrics(self.alloc, &self.board)?;
-                whole(self.alloc, text, b"text/plain; version=0.0.4", response)
+                let text = self.standing.metrics(self.alloc, &mut self.board)?;
+                let kind = HeaderValue::from_static("text/plain; version=0.0.4");
+                whole(text, kind, response)
             }
             Route::Page => {
-                let text = page(self.alloc, &self.board, &self.standing)?;
-                whole(self.alloc, text, b"text/html; charset=utf-8", response)
+                let text = page(self.alloc, &mut self.board, &self.standing)?;
+                let kind = HeaderValue::from_static("text/html; charset=utf-8");
+                whole(text, kind, response)
             }
             Route::OtherMethod => {
                 response.status = StatusCode::METHOD_NOT_ALLOWED;
@@ -141,7 +162,6 @@ impl Desk {
                 response.status = StatusCode::NO_CONTENT;
                 Ok(())
             }
-            Err(why) if why.kind == Kind::Memory => Err(Memory),
             Err(why) => {
                 self.standing.refuse(why.kind, why.place);
                 response.status = refusal_code(why.kind);
@@ -162,10 +182,8 @@ impl Desk {
         ensures err { OnErr result (IsSame self.old self.new) }
     {
         let waiting = self.batch.len();
-        if self.batch.push(mark(hand), bytes).is_err() {
-            return Err(Refusal::from(Memory));
-        }
-        match hand_over(&mut self.board, hand, bytes) {
+        queue(&mut self.batch, hand, bytes)?;
+        match self.board.accept(hand, bytes) {
             Ok(()) => Ok(()),
             Err(why) => {
                 self.batch.cut(waiting);
@@ -178,26 +196,34 @@ impl Desk {
     pub(crate) fn gather(&mut self, bytes: &[u8]) -> bool
         ensures { Gathers bytes.now self.old self.new }
     {
-        let waiting = self.batch.len();
-        if self.batch.push(mark(Hand::State), bytes).is_err() {
-            return false;
-        }
-        match grown(self.alloc, &self.board, bytes) {
-            Ok(Some(next)) => {
-                self.board = next;
+        match self.take_over(bytes) {
+            Ok(true) => {
                 self.standing.gathered();
                 true
             }
-            Ok(None) => {
-                self.batch.cut(waiting);
-                true
-            }
+            Ok(false) => true,
             Err(why) => {
-                self.batch.cut(waiting);
                 self.standing.refuse(why.kind, why.place);
                 false
             }
         }
+    }
+
+    /// Takes the state of another site. Answers whether it brings something.
+    ///
+    /// # Errors
+    ///
+    /// Those of the site. Nothing changes.
+    fn take_over(&mut self, bytes: &[u8]) -> Result<bool, Refusal>
+        ensures ok { IfOk result (λ brings. Gathers bytes.now self.old self.new) }
+        ensures err { OnErr result (IsSame self.old self.new) }
+    {
+        let Some(next) = grown(self.alloc, self.board.table(), bytes)? else {
+            return Ok(false);
+        };
+        queue(&mut self.batch, Hand::State, bytes)?;
+        self.board.replace(next);
+        Ok(true)
     }
 
     /// Whether the request bears the word, where one is wanted.
@@ -217,46 +243,26 @@ impl Desk {
 
 /// Answers a question, unless the one who asks has the table.
 fn tell(
-    alloc: Global,
-    site: &Replica,
+    board: &mut Board,
     question: Question,
     request: &Request<Bytes>,
     response: &mut Response,
 ) -> Result<(), Memory>
     requires { IsBlank response.old }
-    ensures { OnOk result (IsAsked question site.now request.now response.new) }
+    ensures asked { OnOk result (IsAsked question board.old request.now response.new) }
+    ensures same { board.new ≡ board.old }
 {
-    let tag = tag_text(alloc, &site.state(alloc)?)?;
-    add_field(alloc, header::ETAG, &tag, response)?;
-    if is_known(request, &tag) {
+    let tag = board.tag()?;
+    let known = is_known(request, tag.as_bytes());
+    response.add_header(header::ETAG, tag)?;
+    if known {
         response.status = StatusCode::NOT_MODIFIED;
         return Ok(());
     }
-    let answer = answer_to(alloc, question, site)?;
-    add_field(
-        alloc,
-        header::CONTENT_TYPE,
-        content_type(question, answer.status),
-        response,
-    )?;
-    response.status = status_code(question, answer.status);
-    response.body.push(Bytes::from_vec(answer.bytes)?)?;
-    Ok(())
-}
-
-fn add_field(
-    alloc: Global,
-    name: HeaderName,
-    value: &[u8],
-    response: &mut Response,
-) -> Result<(), Memory>
-    ensures status { response.new.status ≡ response.old.status }
-    ensures body { response.new.body ≡ response.old.body }
-{
-    let Ok(value) = HeaderValue::from_bytes(alloc, value) else {
-        return Err(Memory);
-    };
-    response.add_header(name, value)?;
+    let told = board.told(question)?;
+    response.add_header(header::CONTENT_TYPE, content_type(question, told.status))?;
+    response.status = status_code(question, told.status);
+    response.body.push(told.bytes)?;
     Ok(())
 }
 
@@ -284,23 +290,6 @@ fn same_bytes(a: &[u8], b: &[u8]) -> bool {
     same
 }
 
-/// Hands a piece to a site: bytes that are no text are refused where they begin not to be.
-pub(crate) fn hand_over(site: &mut Replica, hand: Hand, bytes: &[u8]) -> Result<(), Refusal>
-    ensures acceptable { OnOk result (IsAcceptable (handed hand bytes.now)) }
-    ensures adds { OnOk result (Adds site.old (piece_refuses language (handed hand bytes.now))
-        site.new) }
-    ensures valid { OnOk result (language.IsValid site.new) }
-    ensures err { OnErr result (site.new ≡ site.old) }
-{
-    match hand {
-        Hand::State => site.take(bytes),
-        Hand::Text => match str::from_utf8(bytes) {
-            Ok(text) => site.submit(text),
-            Err(error) => Err(Refusal::at(Kind::BadCharacter, error.valid_up_to())),
-        },
-    }
-}
-
 fn is_known(request: &Request<Bytes>, tag: &[u8]) -> bool
     ensures { IsTrue result → HasField (codes "if-none-match") tag.now request.now }
 {
@@ -320,56 +309,10 @@ fn status_code(question: Question, status: Status) -> StatusCode
     }
 }
 
-fn content_type(question: Question, status: Status) -> &'static [u8] {
+fn content_type(question: Question, status: Status) -> HeaderValue {
     match (question, status) {
-        (Question::Export, Status::Done) => b"application/json",
-        (Question::State, _) => b"application/octet-stream",
-        _ => b"text/plain; charset=utf-8",
+        (Question::Export, Status::Done) => HeaderValue::from_static("application/json"),
+        (Question::State, _) => HeaderValue::from_static("application/octet-stream"),
+        _ => HeaderValue::from_static("text/plain; charset=utf-8"),
     }
-}
-
-fn refusal_code(kind: Kind) -> StatusCode
-    ensures { result ≢ 204 }
-{
-    match kind {
-        Kind::TooLong => StatusCode::PAYLOAD_TOO_LARGE,
-        _ => StatusCode::UNPROCESSABLE_ENTITY,
-    }
-}
-
-/// A line that says why something is refused, and in a text the line and the column.
-fn refusal_line(alloc: Global, why: Refusal, bytes: &[u8]) -> Result<String, Memory> {
-    let (line, column) = position(bytes, why.place);
-    let number = why.kind.number();
-    let name = why.kind.name();
-    let place = why.place;
-    Ok(match why.kind {
-        Kind::Version | Kind::NotState => format!(in alloc; "refused {number} {name}\n")?,
-        Kind::LeftOut(form) => {
-            format!(in alloc;
-                "refused {number} {name} {form} at {place} (line {line}, column {column})\n"
-            )?
-        }
-        _ => format!(in alloc;
-            "refused {number} {name} at {place} (line {line}, column {column})\n"
-        )?,
-    })
-}
-
-/// The line and the column of a byte of a text, both from 1. The column counts bytes.
-fn position(bytes: &[u8], place: u64) -> (u64, u64) {
-    let mut line = 1u64;
-    let mut column = 1u64;
-    for (at, byte) in bytes.iter().enumerate() {
-        if at as u64 >= place {
-            return (line, column);
-        }
-        if *byte == b'\n' {
-            line = line.saturating_add(1);
-            column = 1;
-        } else {
-            column = column.saturating_add(1);
-        }
-    }
-    (line, column)
 }

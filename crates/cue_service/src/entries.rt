@@ -1,13 +1,15 @@
-ghost use Rattle.std.specs.Prelude.{◌≡◌, ℕ, List, [], ◌∷◌, ◌++◌, map, OnOk};
-ghost use Rattle.cue_lattice.specs.World.{Piece};
-ghost use Rattle.cue_replica.specs.Accepted.{IsOfPieces};
+ghost use Rattle.std.specs.Prelude.{◌≡◌, ℕ, List, [], ◌∷◌, ◌++◌, map, OnOk, OnErr};
+ghost use Rattle.cue_lattice.specs.World.{Piece, piece_refuses};
+ghost use Rattle.cue_replica.specs.Accepted.{IsAcceptable, IsOfPieces};
+ghost use Rattle.cue_replica.specs.Language.{language};
+ghost use Rattle.cue_replica.specs.Replica.{Adds};
 ghost use Rattle.cue_service.specs.Entries.{piece_of, pieces_of};
 ghost use Rattle.cue_service.specs.Requests.{handed};
 
-use crate::desk::hand_over;
 use crate::route::Hand;
-use cue_lattice::Refusal;
+use cue_lattice::{Kind, Refusal};
 use cue_replica::Replica;
+use std::str;
 
 /// Hands the entries of a journal to a site: those that begin with 0 are texts, all others states.
 ///
@@ -41,5 +43,22 @@ fn hand_of(first: u8) -> Hand
     match first {
         0 => Hand::Text,
         1..=u8::MAX => Hand::State,
+    }
+}
+
+/// Hands a piece to a site: bytes that are no text are refused where they begin not to be.
+pub(crate) fn hand_over(site: &mut Replica, hand: Hand, bytes: &[u8]) -> Result<(), Refusal>
+    ensures acceptable { OnOk result (IsAcceptable (handed hand bytes.now)) }
+    ensures adds { OnOk result (Adds site.old (piece_refuses language (handed hand bytes.now))
+        site.new) }
+    ensures valid { OnOk result (language.IsValid site.new) }
+    ensures err { OnErr result (site.new ≡ site.old) }
+{
+    match hand {
+        Hand::State => site.take(bytes),
+        Hand::Text => match str::from_utf8(bytes) {
+            Ok(text) => site.submit(text),
+            Err(error) => Err(Refusal::at(Kind::BadCharacter, error.valid_up_to())),
+        },
     }
 }

@@ -2,10 +2,14 @@
 //! the disk, and tells after each round whether what it answered stands.
 #![tactic(auto)]
 
+mod board;
 mod desk;
 mod entries;
+mod kept;
 mod laws;
+mod metrics;
 mod page;
+mod refusal;
 mod route;
 mod site;
 mod standing;

@@ -67,3 +67,13 @@ fn taken_at(path: &str) -> Route
         _ => Route::Unknown,
     }
 }
+
+/// The seconds that a query tells as `wait=SECONDS`.
+pub(crate) fn seconds_in(query: &str) -> Option<u64> {
+    for part in query.split('&') {
+        if let Some(seconds) = part.strip_prefix("wait=") {
+            return seconds.parse::<u64>().ok();
+        }
+    }
+    None
+}

@@ -7,12 +7,13 @@ ghost use Rattle.cue_service.specs.Entries.{pieces_of};
 ghost use Rattle.cue_service.specs.Answering.{IsSame};
 
 use crate::desk::{Desk, Token};
+use crate::route::seconds_in;
 use crate::standing::Standing;
 use bytes::Bytes;
 use cue_http::{Gathers, News};
 use cue_journal::Pair;
 use cue_replica::Replica;
-use http::Request;
+use http::{Request, StatusCode};
 use http_server::{Response, Settle};
 use log::Log;
 use sqlite_disk::Disk;
@@ -77,7 +78,7 @@ impl<D: Disk> Site<D> {
         if files.grown() < LEAST_JOURNAL.max(*snapshot) {
             return true;
         }
-        let Ok(state) = desk.board.state(desk.alloc) else {
+        let Ok(state) = desk.board.table().state(desk.alloc) else {
             return true;
         };
         if desk.batch.push(STATE, &state).is_err() {
@@ -122,6 +123,22 @@ impl<D: Disk> Gathers for Site<D> {
         ensures { GathersAt bytes.now self.old self.new }
     {
         self.desk.gather(bytes)
+    }
+
+    /// How many seconds the one waits who asks with `?wait=SECONDS` and has the table.
+    fn patience(&self, request: &Request<Bytes>, response: &Response) -> Option<u64> {
+        if response.status == StatusCode::NOT_MODIFIED {
+            seconds_in(request.uri().query()?)
+        } else {
+            None
+        }
+    }
+
+    /// The number goes with the tag of the table.
+    fn edition(&mut self) -> u64
+        ensures { IsUntouched self.old self.new }
+    {
+        self.desk.board.edition()
     }
 
     /// Counts what happened.

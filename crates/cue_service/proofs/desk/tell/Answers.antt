@@ -1,13 +1,19 @@
-use Rattle.std.proofs.Common.{ℕ, List, ◌++◌, ap, ◌∙◌, inr}
+use Rattle.std.proofs.Common.{ℕ, List, ◌++◌, ap, ◌∙◌, inr, sym, subst}
 use Rattle.bytes.specs.Filled.{Filled}
+use Rattle.cue_replica.specs.Language.{Table}
+use Rattle.cue_answer.specs.declared.question.Status.{Status}
+use Rattle.cue_service.specs.Answering.{status_of}
+use Rattle.cue_service.specs.Kept.{IsTold}
 use Rattle.cue_service.proofs.desk.tell.Goals as goal
 
-pub returns : goal.returns
-returns c = inr (
-  c.in_ok-answer.answer,
-  c.in_ok-answer.ensures.tells,
-  c.status_code-response.ensures,
-  c.in_ok-push.ensures
-      ∙ ap (λ (l : List ℕ). l ++ c.in_ok-from_vec.field-0) (ap (λ (b : Filled). b.items) (c.add_field-2.ensures.body ∙ c.add_field.ensures.body) ∙ c.requires.body)
-      ∙ c.in_ok-from_vec.ensures.ok,
-)
+pub returns-clause-asked : goal.returns-clause-asked
+returns-clause-asked c =
+    let told : IsTold c.args.question c.args.board.now c.in_ok-told.told = subst (λ (t : Table). IsTold c.args.question t c.in_ok-told.told) c.tag.ensures.same c.in_ok-told.ensures.told in
+    inr (
+      told.0,
+      told.1,
+      c.status_code-response.ensures ∙ ap (λ (s : Status). status_of c.args.question s) told.3,
+      c.in_ok-push.ensures
+          ∙ ap (λ (l : List ℕ). l ++ c.in_ok-told.told.bytes) (ap (λ (b : Filled). b.items) (c.add_header-2.ensures.body ∙ c.add_header.ensures.body) ∙ c.requires.body)
+          ∙ told.2,
+    )

@@ -1,5 +1,6 @@
-use Rattle.std.proofs.Common.{◌<◌, ◌^◌, length, sym, ◌∙◌, refl, arith}
+use Rattle.std.proofs.Common.{◌<◌, ◌^◌, length, sym, ap, ◌∙◌, refl, arith}
 use Rattle.cue_journal.specs.Batches.{batch_bytes}
+use Rattle.cue_replica.specs.Language.{language}
 use Rattle.cue_replica.proofs.Sound.{sound}
 use Rattle.cue_service.proofs.Condensing.{condensed_site, condensed_left}
 use Rattle.cue_service.proofs.Opening.{not_failed, took, refused}
@@ -11,7 +12,7 @@ returns g c =
     let bytes = c.deref.result.now in
     let short : length bytes < 2 ^ 32 = not_failed c.push.result fine c.push.ensures.fits in
     let added = not_failed c.push.result fine c.push.ensures.ok in
-    let written = c.deref.ensures.value ∙ c.in-Ok.ensures in
+    let written = c.deref.ensures.value ∙ c.in-Ok.ensures ∙ ap language.written c.table.ensures in
     record {
       consistent = λ pieces stands empty before.
           condensed_site g.D.Disk.seen g.D.Disk.may_leave sound c.args.self.now _ pieces bytes (batch_bytes c.push.new.self) before empty (omega (arith, short)) written added

@@ -4,7 +4,7 @@ use Rattle.cue_replica.specs.Language.{language}
 use Rattle.cue_replica.specs.Replica.{Adds}
 use Rattle.cue_service.specs.declared.route.Hand.{Hand}
 use Rattle.cue_service.specs.Requests.{handed}
-use Rattle.cue_service.proofs.desk.hand_over.Goals as goal
+use Rattle.cue_service.proofs.entries.hand_over.Goals as goal
 
 pub returns-in-State-clause-adds : goal.returns-in-State-clause-adds
 returns-in-State-clause-adds c = subst (λ (h : Hand). OnOk c.take.result (Adds c.args.site.now (piece_refuses language (handed h c.args.bytes.now)) c.take.new.self)) (sym c.in-State.is) c.take.ensures.ok

@@ -1,0 +1,21 @@
+use Rattle.std.proofs.Common.{◌≡◌, Option, Some, inl, sym, ap, ◌∙◌, subst, arith}
+use Rattle.std.specs.Prelude.{IfSome}
+use Rattle.cue_replica.specs.Language.{Table, language}
+use Rattle.cue_replica.specs.Replica.{Adds}
+use Rattle.cue_service.specs.Answering.{Brings}
+use Rattle.cue_service.proofs.desk.Desk.take_over.Goals as goal
+
+pub returns-clause-ok : goal.returns-clause-ok
+returns-clause-ok c =
+    let found : IfSome c.in_ok-next.field-0 (Brings c.args.bytes.now c.table.result.now) = c.in_ok-next.ensures in
+    let next : Brings c.args.bytes.now c.table.result.now c.in-Some.next = subst (λ o. IfSome o (Brings c.args.bytes.now c.table.result.now)) c.in-Some.is found in
+    let brings : Brings c.args.bytes.now c.args.self.now.board c.replace.new.self =
+    subst (λ (t : Table). Brings c.args.bytes.now c.args.self.now.board t) (sym c.replace.ensures)
+    (subst (λ (t : Table). Brings c.args.bytes.now t c.in-Some.next) c.table.ensures next) in
+    inl (record {
+      acceptable = brings.is_state;
+      fits = omega (arith, c.in_ok-queue.ensures.fits);
+      adds = brings.adds;
+      valid = brings.valid;
+      waits = c.in_ok-queue.ensures.waits;
+    })

@@ -1,0 +1,142 @@
+ghost use Rattle.std.specs.Prelude.{◌≡◌, ℕ, List, IfOk, OnOk, OnErr};
+ghost use Rattle.cue_lattice.specs.World.{piece_refuses};
+ghost use Rattle.cue_replica.specs.Accepted.{IsAcceptable};
+ghost use Rattle.cue_replica.specs.Language.{language};
+ghost use Rattle.cue_replica.specs.Replica.{Adds};
+ghost use Rattle.cue_service.specs.Requests.{handed};
+ghost use Rattle.cue_service.specs.Tags.{tag_of};
+
+use crate::entries::hand_over;
+use crate::kept::{Kept, Told};
+use crate::route::Hand;
+use crate::tag::tag_text;
+use bytes::Bytes;
+use cue_answer::{Question, answer_to};
+use cue_lattice::{Memory, Refusal};
+use cue_replica::Replica;
+use http::HeaderValue;
+use std::alloc::Global;
+use std::marker::Model;
+
+/// A table, with its tag and what was told of it since it changed last. Contracts see the table: so
+/// what is kept is told of the table that the board holds, and of no other.
+#[derive(Drop)]
+pub struct Board {
+    table: Replica,
+    kept: Kept,
+    alloc: Global,
+    /// Another number for each change of the tag that was looked for.
+    edition: u64,
+    /// The tag of that edition.
+    seen: Option<HeaderValue>,
+}
+
+impl Model for Board {
+    ghost use Rattle.std.specs.Coded.{codes};
+    ghost use Rattle.cue_table.specs.Code.{tree_code};
+    ghost use Rattle.cue_replica.specs.Language.{Table};
+
+    ghost Value = { Table };
+
+    ghost coded = { tree_code (Prim.hlevel codes) };
+
+    ghost view = { λ board. board.table };
+
+    ghost use Rattle.cue_service.specs.Kept.{AreKept};
+
+    ghost invariant = { λ board. AreKept board.table board.kept };
+}
+
+impl Board {
+    ghost use Rattle.cue_service.specs.Kept.{IsTold};
+
+    pub(crate) fn new(alloc: Global, table: Replica) -> Board
+        ensures { result ≡ table }
+    {
+        Board {
+            table,
+            kept: Kept::none(),
+            alloc,
+            edition: 0,
+            seen: None,
+        }
+    }
+
+    pub(crate) fn table(&self) -> &Replica
+        ensures { result.now ≡ self.now }
+    {
+        &self.table
+    }
+
+    /// What is told of the table. It is made where it was not asked for since the table changed.
+    pub(crate) fn told(&mut self, question: Question) -> Result<Told, Memory>
+        ensures told { IfOk result (IsTold question self.old) }
+        ensures same { self.new ≡ self.old }
+    {
+        if let Some(told) = self.kept.told(question) {
+            return told.share();
+        }
+        let told = Told::of(answer_to(self.alloc, question, &self.table)?)?;
+        let shared = told.share()?;
+        self.kept.keep(question, told);
+        Ok(shared)
+    }
+
+    /// The tag of the table.
+    pub(crate) fn tag(&mut self) -> Result<HeaderValue, Memory>
+        ensures tag { IfOk result (λ tag. tag.bytes ≡ tag_of self.old) }
+        ensures same { self.new ≡ self.old }
+    {
+        if let Some(tag) = &self.kept.tag {
+            return Ok(tag.clone()?);
+        }
+        let state = self.told(Question::State)?;
+        let tag = tag_text(self.alloc, state.bytes.as_slice())?;
+        let shared = tag.clone()?;
+        self.kept.keep_tag(tag);
+        Ok(shared)
+    }
+
+    /// A number that is another one as soon as the tag is. Where memory is wanting it stays.
+    pub(crate) fn edition(&mut self) -> u64
+        ensures same { self.new ≡ self.old }
+    {
+        if let Ok(tag) = self.tag() {
+            let known = match &self.seen {
+                Some(seen) => *seen == tag,
+                None => false,
+            };
+            if !known {
+                self.edition = self.edition.wrapping_add(1);
+                self.seen = Some(tag);
+            }
+        }
+        self.edition
+    }
+
+    /// Accepts a piece.
+    ///
+    /// # Errors
+    ///
+    /// Those of the table. Nothing changes.
+    pub(crate) fn accept(&mut self, hand: Hand, bytes: &[u8]) -> Result<(), Refusal>
+        ensures acceptable { OnOk result (IsAcceptable (handed hand bytes.now)) }
+        ensures adds { OnOk result (Adds self.old (piece_refuses language (handed hand bytes.now))
+            self.new) }
+        ensures valid { OnOk result (language.IsValid self.new) }
+        ensures err { OnErr result (self.new ≡ self.old) }
+    {
+        hand_over(&mut self.table, hand, bytes)?;
+        self.kept = Kept::none();
+        Ok(())
+    }
+
+    /// Puts another table in the place of this one.
+    pub(crate) fn replace(&mut self, table: Replica)
+        ensures { self.new ≡ table }
+    {
+        let kept = Kept::none();
+        self.table = table;
+        self.kept = kept;
+    }
+}
