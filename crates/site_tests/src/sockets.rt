@@ -1,0 +1,68 @@
+//! Connections that are served over sockets of this process: their requests have come before the
+//! rounds begin, and their answers are read after them.
+
+use crate::sites::new_site;
+use cue_http::{Bounds, Source, serve};
+use http_server::Config;
+use mio::net::TcpListener;
+use std::io;
+use std::io::{Read, Write};
+use std::net::{Ipv4Addr, Net, SocketAddr, TcpStream};
+use std::test::Fail;
+use std::time::Duration;
+
+/// So many rounds are served: each is over as soon as something came.
+const ROUNDS: u64 = 4;
+
+fn bounds() -> Bounds {
+    Bounds {
+        config: Config::default(),
+        idle: Duration::from_secs(10),
+        most: 10,
+        waiting: 10,
+        every: Duration::from_secs(1),
+    }
+}
+
+/// A connection that has sent these bytes.
+fn sent<H>(rt: &H, address: SocketAddr, bytes: &[u8]) -> io::Result<TcpStream>
+where
+    H: AllocGlobal + Net<Stream = TcpStream>,
+{
+    let stream = TcpStream::connect(rt, address)?;
+    (&stream).write_all(bytes)?;
+    Ok(stream)
+}
+
+/// Whether what comes back ends so.
+fn ends<H: AllocGlobal>(rt: &H, stream: &TcpStream, end: &[u8]) -> io::Result<bool> {
+    let mut all = Vec::new(rt.alloc());
+    (&*stream).read_to_end(&mut all)?;
+    Ok(all.ends_with(end))
+}
+
+const POST: &[u8] = b"POST /fragments HTTP/1.1\r\nHost: h\r\nContent-Length: 4\r\n\r\na: 1";
+
+const EXPORT: &[u8] = b"GET /export HTTP/1.1\r\nHost: h\r\nConnection: close\r\n\r\n";
+
+/// The tag of a site that has accepted nothing.
+const WAIT: &[u8] =
+    b"GET /export?wait=60 HTTP/1.1\r\nHost: h\r\nIf-None-Match: \"08907e040645bd31d994b012552f026e80489e1091d57e4c9a61d7df32c7cd90\"\r\nConnection: close\r\n\r\n";
+
+#[test]
+fn requests_are_answered(rt: HostRuntime) -> Result<(), Fail> {
+    let listener = TcpListener::bind(&rt, SocketAddr::from((Ipv4Addr::LOCALHOST, 0)))?;
+    let address = listener.local_addr()?;
+    let waiting = sent(&rt, address, WAIT)?;
+    let posting = sent(&rt, address, POST)?;
+    let asking = sent(&rt, address, EXPORT)?;
+    let site = new_site(rt.alloc(), None)?;
+    let nobody = Source {
+        at: SocketAddr::from((Ipv4Addr::LOCALHOST, 1)),
+    };
+    serve(&rt, &rt, listener, bounds(), &[nobody], site, ROUNDS)?;
+    assert!(rt; ends(&rt, &posting, b"204 No Content\r\n\r\n")?);
+    assert!(rt; ends(&rt, &asking, b"{\"a\":1}")?);
+    assert!(rt; ends(&rt, &waiting, b"{\"a\":1}")?);
+    Ok(())
+}
