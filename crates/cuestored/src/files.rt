@@ -1,3 +1,5 @@
+ghost use Rattle.std.specs.Prelude.{◌≤◌, ◌↔◌, IsTrue};
+
 use crate::stop::Stop;
 use crate::words::Words;
 use anyhow::Result;
@@ -56,6 +58,13 @@ fn board_of(alloc: Global, first: &[Vec<u8>], second: &[Vec<u8>]) -> Result<Repl
     Ok(board)
 }
 
+/// Whether the first of two journals grows, and the other is spare: the longer one does.
+fn grows(end: usize, other: usize) -> bool
+    ensures { IsTrue result ↔ (other ≤ end) }
+{
+    end >= other
+}
+
 /// The site that the folder keeps, or a new one.
 pub fn open_site<L: Log>(
     rt: &HostRuntime,
@@ -75,7 +84,7 @@ pub fn open_site<L: Log>(
     } = files;
     let one = recover_from(alloc, one)?;
     let other = recover_from(alloc, other)?;
-    let (growing, spare) = if one.end >= other.end {
+    let (growing, spare) = if grows(one.end, other.end) {
         (one, other)
     } else {
         (other, one)

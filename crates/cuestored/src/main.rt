@@ -2,6 +2,8 @@
 //! acknowledged.
 #![tactic(auto)]
 
+ghost use Rattle.std.specs.Prelude.{◌↔◌, ◌⊎◌, IsTrue};
+
 mod files;
 mod stop;
 mod words;
@@ -18,6 +20,14 @@ use std::env;
 use std::process::ExitCode;
 use stop::Stop;
 
+/// Whether it may listen: with a word anywhere, and else on a loopback address alone, since anybody
+/// who reaches it may write.
+fn may_listen(has_word: bool, is_loopback: bool) -> bool
+    ensures { IsTrue result ↔ (IsTrue has_word ⊎ IsTrue is_loopback) }
+{
+    has_word || is_loopback
+}
+
 /// Serves until a round does not stand.
 fn run(rt: &HostRuntime, words: &Words) -> Result<()> {
     let log = Logged::new(rt, Level::Info, Console(rt));
@@ -26,7 +36,7 @@ fn run(rt: &HostRuntime, words: &Words) -> Result<()> {
         Some(path) => Some(token_in(rt, path)?),
         None => None,
     };
-    if token.is_none() && !listen.ip().is_loopback() {
+    if !may_listen(token.is_some(), listen.ip().is_loopback()) {
         return Err(Stop::OpenToAll.into());
     }
     let sources = words.sources(rt)?;

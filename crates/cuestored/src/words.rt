@@ -1,3 +1,5 @@
+ghost use Rattle.std.specs.Prelude.{◌≡◌};
+
 use crate::stop::Stop;
 use anyhow::Result;
 use clap::{Arg, ArgAction, ArgMatches, Command, value_parser};
@@ -22,6 +24,7 @@ pub struct Words<'a> {
     pub token_file: Option<&'a str>,
     every: u64,
     most: u64,
+    waiting: u64,
     idle: u64,
 }
 
@@ -67,6 +70,16 @@ pub fn command<'a>(alloc: Global) -> Result<Command<'a>, AllocError> {
         .arg(
             value(
                 alloc,
+                "max-waiting",
+                "N",
+                "The most requests that wait for a change",
+            )
+            .value_parser(value_parser!(u64).range(0..1_000_000))
+            .default_value("500"),
+        )?
+        .arg(
+            value(
+                alloc,
                 "idle",
                 "SECONDS",
                 "A request is whole, and an answer taken, in this time",
@@ -90,6 +103,7 @@ pub fn words_of<'a>(alloc: Global, matches: &ArgMatches<'a>) -> Result<Words<'a>
         token_file: matches.get_str("token-file"),
         every: matches.get_one::<u64>("every").unwrap_or(2),
         most: matches.get_one::<u64>("max-connections").unwrap_or(1000),
+        waiting: matches.get_one::<u64>("max-waiting").unwrap_or(500),
         idle: matches.get_one::<u64>("idle").unwrap_or(60),
     })
 }
@@ -119,7 +133,12 @@ impl<'a> Words<'a> {
         Ok(sources)
     }
 
-    pub fn bounds(&self) -> Bounds {
+    pub fn bounds(&self) -> Bounds
+        ensures most { result.most ≡ self.now.most }
+        ensures waiting { result.waiting ≡ self.now.waiting }
+        ensures body { result.config.max_body_len ≡ MOST_BODY }
+        ensures pending { result.config.max_pending ≡ MOST_PENDING }
+    {
         let config = Config {
             max_body_len: MOST_BODY,
             max_pending: MOST_PENDING,
@@ -129,6 +148,7 @@ impl<'a> Words<'a> {
             config,
             idle: Duration::from_secs(self.idle),
             most: self.most as usize,
+            waiting: self.waiting as usize,
             every: Duration::from_secs(self.every),
         }
     }
