@@ -19,7 +19,7 @@ use log::Log;
 use sqlite_disk::Disk;
 use std::alloc::{AllocError, Global};
 
-/// A journal shorter than this is not condensed, in bytes.
+/// A journal that has fewer bytes behind the last snapshot is not condensed.
 const LEAST_JOURNAL: usize = 1024 * 1024;
 
 /// The first byte of an entry of state bytes.
@@ -30,7 +30,7 @@ const STATE: u8 = 1;
 pub struct Site<D: Disk> {
     desk: Desk,
     files: Pair<D>,
-    /// How many bytes the last snapshot has.
+    /// How many bytes the last snapshot has, with which the journal begins.
     snapshot: usize,
 }
 
@@ -66,7 +66,8 @@ impl<D: Disk> Site<D> {
         files.commit(&mut desk.batch).is_ok()
     }
 
-    /// Puts the state in the place of a journal that is long. Answers whether nothing failed.
+    /// Puts the state in the place of a journal that has become long since the last one: as long as
+    /// the last one itself. Answers whether nothing failed.
     fn condense(&mut self) -> bool
         ensures { IsCondensedBy D.Disk.seen D.Disk.may_leave self.old result self.new }
     {
@@ -75,7 +76,7 @@ impl<D: Disk> Site<D> {
             files,
             snapshot,
         } = self;
-        if files.grown() < LEAST_JOURNAL.max(*snapshot) {
+        if files.grown() < LEAST_JOURNAL.max(*snapshot).saturating_add(*snapshot) {
             return true;
         }
         let Ok(state) = desk.board.table().state(desk.alloc) else {
