@@ -1,6 +1,6 @@
 -- Streams that grow by a frame, and frames that are served one more.
-use Rattle.std.proofs.Common.{◌≡◌, ℕ, ◌<◌, List, [], ◌∷◌, ◌++◌, length, flat_map, ap, sym, ◌∙◌, subst, refl, arith, length-append, append_assoc, append-nil}
-use Rattle.std.proofs.lemmas.List.{flat_map_more}
+use Rattle.std.proofs.Common.{◌≡◌, ℕ, ◌<◌, ◌≤◌, ◌+◌, ◌-◌, drop, List, [], ◌∷◌, ◌++◌, length, flat_map, ap, sym, ◌∙◌, subst, refl, arith, length-append, append_assoc, append-nil}
+use Rattle.std.proofs.lemmas.List.{flat_map_more, drop_at}
 use Rattle.std.proofs.lemmas.List.Elements.{All-push, All-nil}
 use Rattle.cue_replica.specs.Language.{Table}
 use Rattle.cue_wire.specs.Frames.{framed, IsBody}
@@ -49,3 +49,11 @@ served_more stream rest body rest' before between after out old new served is fi
       tables = serves_more served.bodies body before between after served.replies one.0 served.tables one.1;
       added = one.2 ∙ ap (λ zs. zs ++ one.0) served.added ∙ append_assoc out served.replies one.0;
     }
+
+-- so many bytes are those of the frames that were served
+pub served_up : (stream rest : List ℕ) (before after : Table) (out new : List ℕ) (used : ℕ) → Served stream rest before after out new → used ≡ length stream - length rest
+    → (used ≤ length stream) × (drop used stream ≡ rest)
+served_up stream rest before after out new used served is =
+    let front = flat_map framed served.bodies in
+    let long : length stream ≡ length front + length rest = ap length served.frames.whole ∙ length-append front rest in
+    (omega (arith, is), ap (drop used) served.frames.whole ∙ drop_at front rest used (omega (arith, long, is)))

@@ -1,13 +1,17 @@
 //! What a frame's body does to a site, and its reply.
 
-ghost use Rattle.std.specs.Prelude.{◌≡◌, ◌≢◌, ◌++◌, ◌+◌, ◌≤◌, [], List, ℕ, vec_len};
-ghost use Rattle.std.specs.Prelude.{vec_capacity, OnOk, OnErr, IfErr, IsErrAnd};
+ghost use Rattle.std.specs.Prelude.{◌≡◌, ◌≢◌, ◌↔◌, ◌++◌, ◌+◌, ◌<◌, ◌≤◌, [], List, ℕ, length};
+ghost use Rattle.std.specs.Prelude.{vec_len, vec_capacity, OnOk, OnErr, IsOk, IfErr, IsErrAnd};
+ghost use Rattle.cue_codec.specs.Decoding.{IsOtherVersion};
+ghost use Rattle.cue_lattice.specs.Limits.{text_limit};
 ghost use Rattle.cue_lattice.specs.Refusal.{memory};
+ghost use Rattle.cue_wire.specs.Requests.{text, state, IsRequest, IsNoRequest};
 ghost use Rattle.cue_wire.specs.Serving.{accepting, refusing, IsAnswered, Serves};
 
 use crate::call::Call;
 use crate::reply::{SHORT_REPLY, accept, refuse};
 use crate::state_reply::tell_state;
+use crate::want::{want, want_of};
 use cue_answer::{Question, answer_to};
 use cue_replica::{Kind, Memory, Refusal, Replica};
 use std::alloc::Global;
@@ -17,28 +21,31 @@ use std::alloc::Global;
 /// # Errors
 ///
 /// `Memory`, and then the site is as before, and nothing is added.
-pub fn answer(
-    alloc: Global,
-    site: &mut Replica,
-    body: &[u8],
-    out: &mut Vec<u8>,
-) -> Result<(), Memory>
+pub fn answer(alloc: Global, site: &mut Replica, body: &[u8], out: &mut Vec<u8>) -> Result<(), Kind>
     ensures ok { OnOk result ((reply : List ℕ) × Serves body.now site.old site.new reply
         × (out.new.items ≡ out.old.items ++ reply)) }
+    ensures err { IfErr result (λ kind. kind ≡ Kind.Memory) }
     ensures site { OnErr result (site.new ≡ site.old) }
     ensures out { OnErr result (out.new.items ≡ out.old.items) }
+    // Where there is room for a short reply, one to bytes that want no memory is always added.
+    ensures version { (bytes : List ℕ) → IsRequest body.now (state bytes) → IsOtherVersion bytes
+        → vec_len out.old + SHORT_REPLY ≤ vec_capacity out.old → IsOk result }
+    ensures long { (t : List ℕ) → IsRequest body.now (text t) → text_limit < length t
+        → vec_len out.old + SHORT_REPLY ≤ vec_capacity out.old → IsOk result }
+    ensures none { IsNoRequest body.now
+        → vec_len out.old + SHORT_REPLY ≤ vec_capacity out.old → IsOk result }
 {
     match Call::of(body) {
-        None => refuse(out, Refusal::at(Kind::BadRequest, 0)),
+        None => told(refuse(out, Refusal::at(Kind::BadRequest, 0))),
         Some(Call::Text(text)) => {
-            out.try_reserve(SHORT_REPLY)?;
+            make_room(out)?;
             reply_to(out, site.submit(text))
         }
         Some(Call::State(bytes)) => {
-            out.try_reserve(SHORT_REPLY)?;
+            make_room(out)?;
             reply_to(out, site.take(bytes))
         }
-        Some(Call::Ask(question)) => tell(alloc, question, site, out),
+        Some(Call::Ask(question)) => told(tell(alloc, question, site, out)),
     }
 }
 
@@ -47,18 +54,43 @@ pub fn answer(
 /// # Errors
 ///
 /// `Memory`, only where the site wanted it.
-fn reply_to(out: &mut Vec<u8>, taken: Result<(), Refusal>) -> Result<(), Memory>
+fn reply_to(out: &mut Vec<u8>, taken: Result<(), Refusal>) -> Result<(), Kind>
     requires room { vec_len out.old + SHORT_REPLY ≤ vec_capacity out.old }
     ensures accepted { OnOk result (OnOk taken (out.new.items ≡ out.old.items ++ accepting [])) }
     ensures refused { OnOk result (IfErr taken (λ why.
         (why ≢ memory) × (out.new.items ≡ out.old.items ++ refusing why))) }
     ensures err { OnErr result (IsErrAnd taken (λ why. why.kind ≡ Kind.Memory)
         × (out.new.items ≡ out.old.items)) }
+    ensures kind { IfErr result (λ kind. kind ≡ Kind.Memory) }
 {
     match taken {
-        Ok(()) => accept(out, &[], &[]),
-        Err(why) if why.kind == Kind::Memory => Err(Memory),
-        Err(why) => refuse(out, why),
+        Ok(()) => told(accept(out, &[], &[])),
+        Err(why) if why.kind == Kind::Memory => Err(why.kind),
+        Err(why) => told(refuse(out, why)),
+    }
+}
+
+/// Makes room for a reply that says no more than whether something was accepted.
+fn make_room(out: &mut Vec<u8>) -> Result<(), Kind>
+    ensures room { OnOk result (vec_len out.new + SHORT_REPLY ≤ vec_capacity out.new) }
+    ensures items { out.new.items ≡ out.old.items }
+    ensures err { IfErr result (λ kind. kind ≡ Kind.Memory) }
+    ensures ok { vec_len out.old + SHORT_REPLY ≤ vec_capacity out.old → IsOk result }
+{
+    match out.try_reserve(SHORT_REPLY) {
+        Ok(()) => Ok(()),
+        Err(refused) => Err(want_of(refused)),
+    }
+}
+
+/// Whether a reply was added, or how it is told that memory ran out.
+fn told(added: Result<(), Memory>) -> Result<(), Kind>
+    ensures ok { IsOk result ↔ IsOk added }
+    ensures err { IfErr result (λ kind. kind ≡ Kind.Memory) }
+{
+    match added {
+        Ok(()) => Ok(()),
+        Err(memory) => Err(want(memory)),
     }
 }
 

@@ -7,6 +7,7 @@ ghost use Rattle.cue_wire.specs.Inner.Pieces.{Gains, Extends};
 
 use crate::Request;
 use crate::frame::{FRAME_LIMIT, cut_frame};
+use crate::want::{want, want_of};
 use bytes::BytesMut;
 use cue_replica::{Kind, Memory};
 use std::alloc::Global;
@@ -129,10 +130,10 @@ fn push_body(out: &mut Vec<u8>, first: u8, rest: &[u8]) -> Result<(), Kind>
     if rest.len() >= FRAME_LIMIT {
         return Err(Kind::FrameTooLong);
     }
-    let Ok(()) = write_body(out, first, rest) else {
-        return Err(Kind::Memory);
-    };
-    Ok(())
+    match write_body(out, first, rest) {
+        Ok(()) => Ok(()),
+        Err(memory) => Err(want(memory)),
+    }
 }
 
 fn write_body(out: &mut Vec<u8>, first: u8, rest: &[u8]) -> Result<(), Memory>
@@ -158,9 +159,9 @@ fn take_piece(
         × OnErr result (Extends unread.old.items unread.new.items)
         × Gains (unread.old.items ++ piece.now) rest replies.old.items replies.new.items }
 {
-    let Ok(()) = unread.extend_from_slice(piece) else {
-        return Err(Kind::Memory);
-    };
+    if let Err(error) = unread.extend_from_slice(piece) {
+        return Err(want_of(error));
+    }
     let used = read_frames(alloc, unread.as_slice(), replies)?;
     unread.advance(used);
     Ok(())
@@ -176,9 +177,9 @@ fn read_frames(alloc: Global, stream: &[u8], replies: &mut Vec<Vec<u8>>) -> Resu
     loop {
         match cut_frame(rest) {
             Ok(Some((body, behind))) => {
-                let Ok(()) = push_copy(alloc, replies, body) else {
-                    return Err(Kind::Memory);
-                };
+                if let Err(memory) = push_copy(alloc, replies, body) {
+                    return Err(want(memory));
+                }
                 rest = behind;
             }
             Ok(None) => return Ok(stream.len() - rest.len()),

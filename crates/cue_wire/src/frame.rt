@@ -101,6 +101,7 @@ pub fn next_frame(stream: &mut BytesMut) -> Result<Option<BytesMut>, Kind>
     match body_length(stream.as_slice()) {
         Ok(Some(_)) => match codec().decode(stream) {
             Ok(body) => Ok(body),
+            // The frame stands there whole, so that the codec fails for want of memory alone.
             Err(_) => Err(Kind::Memory),
         },
         Ok(None) => Ok(None),

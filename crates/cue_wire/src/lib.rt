@@ -16,6 +16,7 @@ mod reply;
 mod request;
 mod session;
 mod state_reply;
+mod want;
 
 pub use client::Client;
 pub use connection::{Ended, serve};

@@ -4,6 +4,7 @@ ghost use Rattle.cue_wire.specs.Sessions.{reading, ended, IsReading, Served, sta
 
 use crate::answer::answer;
 use crate::frame::{missing, next_frame};
+use crate::want::want_of;
 use bytes::BytesMut;
 use cue_replica::{Kind, Memory, Replica};
 use std::alloc::Global;
@@ -115,9 +116,9 @@ fn serve(
         × Served (unread.old.items ++ piece.now) rest site.old site.new
         out.old.items out.new.items }
 {
-    let Ok(()) = unread.extend_from_slice(piece) else {
-        return Err(Kind::Memory);
-    };
+    if let Err(error) = unread.extend_from_slice(piece) {
+        return Err(want_of(error));
+    }
     serve_frames(alloc, unread, site, out)
 }
 
@@ -133,10 +134,7 @@ fn serve_frames(
 {
     loop {
         match next_frame(unread) {
-            Ok(Some(body)) => match answer(alloc, site, body.as_slice(), out) {
-                Ok(()) => {}
-                Err(_) => return Err(Kind::Memory),
-            },
+            Ok(Some(body)) => answer(alloc, site, body.as_slice(), out)?,
             Ok(None) => return Ok(()),
             Err(kind) => return Err(kind),
         }

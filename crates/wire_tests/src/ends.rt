@@ -2,6 +2,7 @@
 //! are proved without what sessions and clients promise.
 use cue_wire::{Client, Kind, Memory, Replica, Request, Session};
 use std::alloc::Global;
+use std::test::Fail;
 
 /// What a stream came to.
 #[derive(Drop)]
@@ -15,12 +16,10 @@ pub struct Served {
 }
 
 /// A site that has accepted a text.
-pub fn site_of(alloc: Global, text: &str) -> Result<Replica, Memory> {
+pub fn site_of(alloc: Global, text: &str) -> Result<Replica, Fail> {
     let mut site = Replica::new(alloc);
-    match site.submit(text) {
-        Ok(()) => Ok(site),
-        Err(_) => Err(Memory),
-    }
+    site.submit(text)?;
+    Ok(site)
 }
 
 /// Feeds a site's new session a stream in pieces of so many bytes.
@@ -54,7 +53,7 @@ pub fn replies(
     stream: &[u8],
     size: usize,
     wanted: &[u8],
-) -> Result<bool, Memory> {
+) -> Result<bool, Fail> {
     let mut site = site_of(alloc, text)?;
     let served = serve(alloc, &mut site, stream, size)?;
     Ok(served.open && served.fault.is_none() && served.replies.as_slice() == wanted)
@@ -77,10 +76,8 @@ pub fn sends(alloc: Global, requests: &[Request], wanted: &[u8]) -> bool {
 
 /// The replies that a client reads out of a stream in pieces of so many bytes, each with a line
 /// break behind it, and the fault that it met.
-pub fn read(alloc: Global, stream: &[u8], size: usize) -> Result<(Vec<u8>, Option<Kind>), Memory> {
-    let Ok(mut client) = Client::new(alloc, &[]) else {
-        return Err(Memory);
-    };
+pub fn read(alloc: Global, stream: &[u8], size: usize) -> Result<(Vec<u8>, Option<Kind>), Fail> {
+    let mut client = Client::new(alloc, &[])?;
     let mut fault = None;
     for piece in stream.chunks(size.max(1)) {
         if let Err(kind) = client.feed(piece) {

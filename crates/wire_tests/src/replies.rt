@@ -1,6 +1,6 @@
 //! Requests and their replies.
 use crate::ends::{replies, serve, site_of};
-use cue_wire::{Memory, Replica};
+use cue_wire::Replica;
 use std::alloc::Global;
 use std::test::Fail;
 
@@ -32,7 +32,7 @@ fn replies_are_the_same_however_the_stream_is_cut(rt: HostRuntime) -> Result<(),
 }
 
 /// Whether a site with `a: 1` gives these replies to a stream.
-fn asks(alloc: Global, stream: &[u8], wanted: &[u8]) -> Result<bool, Memory> {
+fn asks(alloc: Global, stream: &[u8], wanted: &[u8]) -> Result<bool, Fail> {
     replies(alloc, "a: 1\n", stream, 3, wanted)
 }
 

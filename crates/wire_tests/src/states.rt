@@ -1,6 +1,6 @@
 //! Replies to the question for a state, short and long.
 use crate::ends::{serve, site_of};
-use cue_wire::{Memory, Replica};
+use cue_wire::Replica;
 use std::alloc::Global;
 use std::test::Fail;
 
@@ -11,7 +11,7 @@ const ASK: &[u8] = b"\0\0\0\x01\x03";
 const TOO_LONG: &[u8] = b"\0\0\0\x09\x17\0\0\0\0\0\0\0\0";
 
 /// The length of a body, and that something was accepted.
-fn head(alloc: Global, len: usize) -> Result<Vec<u8>, Memory> {
+fn head(alloc: Global, len: usize) -> Result<Vec<u8>, Fail> {
     let len = len.min(16_777_215) as u32 + 1;
     let mut bytes = Vec::from_slice(alloc, &len.to_be_bytes())?;
     bytes.push(0)?;
@@ -19,7 +19,7 @@ fn head(alloc: Global, len: usize) -> Result<Vec<u8>, Memory> {
 }
 
 /// What a site replies to two questions for its state.
-fn told_twice(alloc: Global, site: &mut Replica) -> Result<Vec<u8>, Memory> {
+fn told_twice(alloc: Global, site: &mut Replica) -> Result<Vec<u8>, Fail> {
     let mut stream = ASK.to_vec(alloc)?;
     stream.extend_from_slice(ASK)?;
     let served = serve(alloc, site, &stream, 10)?;
@@ -27,7 +27,7 @@ fn told_twice(alloc: Global, site: &mut Replica) -> Result<Vec<u8>, Memory> {
 }
 
 /// Whether a site that has accepted a text replies with its state, once for each question.
-fn tells_its_state(alloc: Global, text: &str) -> Result<bool, Memory> {
+fn tells_its_state(alloc: Global, text: &str) -> Result<bool, Fail> {
     let mut site = site_of(alloc, text)?;
     let bytes = site.state(alloc)?;
     let mut wanted = head(alloc, bytes.len())?;
@@ -38,14 +38,14 @@ fn tells_its_state(alloc: Global, text: &str) -> Result<bool, Memory> {
 }
 
 /// A text with one field whose name has so many characters.
-fn named(alloc: Global, len: usize) -> Result<String, Memory> {
+fn named(alloc: Global, len: usize) -> Result<String, Fail> {
     let mut text = "a".repeat(alloc, len)?;
     text.push_str(": 1\n")?;
     Ok(text)
 }
 
 /// Whether a site replies with its state, of so many bytes and of some more.
-fn tells_states_from(alloc: Global, len: usize) -> Result<bool, Memory> {
+fn tells_states_from(alloc: Global, len: usize) -> Result<bool, Fail> {
     for more in 0..6 {
         // All but the name has 91 bytes.
         let text = named(alloc, len.saturating_add(more).saturating_sub(91))?;
@@ -69,7 +69,7 @@ fn states_of_many_lengths_are_told(rt: HostRuntime) -> Result<(), Fail> {
 }
 
 /// A text so many times, and what follows.
-fn push_repeated(text: &mut String, part: &str, count: usize, then: &str) -> Result<(), Memory> {
+fn push_repeated(text: &mut String, part: &str, count: usize, then: &str) -> Result<(), Fail> {
     for _ in 0..count {
         text.push_str(part)?;
     }
@@ -80,7 +80,7 @@ fn push_repeated(text: &mut String, part: &str, count: usize, then: &str) -> Res
 /// A text with 33 fields below seven names of 64,768 characters each, and one field with a name of
 /// so many. Each row tells all names above it, so that a name of 1,120 characters makes the state
 /// the longest one that a reply can tell.
-fn nested(alloc: Global, last: usize) -> Result<String, Memory> {
+fn nested(alloc: Global, last: usize) -> Result<String, Fail> {
     let mut text = String::new(alloc);
     for _ in 0..7 {
         push_repeated(&mut text, "a", 64_768, ": ")?;
@@ -95,13 +95,13 @@ fn nested(alloc: Global, last: usize) -> Result<String, Memory> {
 }
 
 /// Whether a site that has accepted the text of the longest state replies with it.
-fn tells_the_longest(alloc: Global) -> Result<bool, Memory> {
+fn tells_the_longest(alloc: Global) -> Result<bool, Fail> {
     let text = nested(alloc, 1120)?;
     tells_its_state(alloc, text.as_str())
 }
 
 /// Whether one whose state has a byte more replies that the reply would be too long.
-fn tells_no_longer_one(alloc: Global) -> Result<bool, Memory> {
+fn tells_no_longer_one(alloc: Global) -> Result<bool, Fail> {
     let text = nested(alloc, 1121)?;
     let mut site = site_of(alloc, text.as_str())?;
     let replies = told_twice(alloc, &mut site)?;

@@ -10,5 +10,5 @@ loop-body-preserved c =
     record {
       served = served_more c.args.unread.now.items c.loop-body.unread.items c.in-Ok-Some.body.items c.next_frame.new.stream.items
           c.args.site.now c.loop-body.site c.answer.new.site c.args.out.now.items c.loop-body.out.items c.answer.new.out.items
-          c.loop-body.invariant.served whole.1 whole.0 (rw c.as_slice.ensures at c.in-Ok.ensures.ok);
+          c.loop-body.invariant.served whole.1 whole.0 (rw c.as_slice.ensures at c.in_ok-answer-in-Ok-Some.ensures.ok);
     }

@@ -1,0 +1,18 @@
+ghost use Rattle.std.specs.Prelude.{◌≡◌};
+
+use cue_replica::{Kind, Memory};
+use std::alloc::AllocError;
+
+/// How a want of memory is told.
+pub fn want(_memory: Memory) -> Kind
+    ensures { result ≡ Kind.Memory }
+{
+    Kind::Memory
+}
+
+/// How a growth that was refused is told.
+pub fn want_of(refused: AllocError) -> Kind
+    ensures { result ≡ Kind.Memory }
+{
+    want(Memory::from(refused))
+}
