@@ -51,7 +51,7 @@ fn told_of(alloc: Global, to_inputs: &[Vec<u8>], last: &[u8]) -> Result<Answer, 
         (None, Export::Refused(kind)) => Err(Halt::RefusedExport(kind)),
         (None, Export::Told(status, text)) => match shown(alloc, status, text) {
             Ok(answer) => Ok(answer),
-            Err(Memory) => Err(Halt::from(Memory)),
+            Err(memory) => Err(Halt::from(memory)),
         },
     }
 }

@@ -1,6 +1,7 @@
 pub mod Batches
+pub mod Calls
 pub mod Devices
-pub mod Drafts
+pub mod Effects
 pub mod Files
 pub mod Keeping
 pub mod Lines

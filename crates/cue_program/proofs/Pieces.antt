@@ -4,14 +4,17 @@ use Rattle.std.specs.Prelude.{slice_get}
 use Rattle.std.specs.Io.KnownBytes.{Appends, Consumes, IsAtEnd, Keeps}
 use Rattle.std.proofs.lemmas.List.{append_assoc, append-nil, length-append, length-take, take-append-drop}
 use Rattle.std.proofs.Math.Seq.{take-append_seam}
-use Rattle.cue_codec.specs.Pieces.{Intake, IsIntake, IsTakenIn}
+use Rattle.cue_codec.specs.Pieces as pieces
+use Rattle.cue_codec.specs.Pieces.{Intake, IsIntake, IsNotTakenIn, IsTakenIn}
 use Rattle.cue_replica.proofs.Reading.{are_read_in_pieces}
 use Rattle.cue_program.specs.Files.{AreAll}
 use Rattle.cue_program.specs.Stops.{IsLong, piece_size, read_limit}
 use Rattle.cue_program.specs.Outlets.{Adds, Breaks, HasBegun, IsUntold, Passage, passed}
-use Rattle.cue_program.specs.Stops.{IsDevice}
+use Rattle.cue_program.specs.Stops.{IsDevice, IsMemory}
 use Rattle.cue_program.specs.declared.outlet.Outlet.{Outlet}
 use Rattle.cue_program.specs.declared.stop.Stop.{Stop}
+use Rattle.cue_program.specs.declared.stop.Stop.TheVariants as stops
+use Rattle.cue_replica.specs.declared.Kind.{Kind}
 use Rattle.cue_program.specs.inner.Reading.{IsAllRead, IsRestRead}
 use Rattle.cue_program.proofs.Devices.{appends_keeps, appends_more, consumed_all, consumes_more, consumes_none}
 
@@ -174,3 +177,10 @@ untold_at_piece contents old mid new all left piece count stop h broken same dev
     let whole : all ≡ (h.0 ++ front) ++ (back ++ behind) =
     h.1 ∙ ap (λ t. h.0 ++ t) (parts ∙ append_assoc front back behind) ∙ sym (append_assoc h.0 front (back ++ behind)) in
     inl (device, ((h.0 ++ front, back ++ behind, whole, appends_more (contents old.inner) (contents mid.inner) (contents new.inner) h.0 front h.2 broken.0.3), broken.1))
+
+-- a reader that no memory was refused to fails for want of memory alone
+pub memory_alone : (bytes : List ℕ) (old new : Intake) (kind : Kind) → IsIntake bytes old → IsNotTakenIn old kind new → IsMemory (stops.Refused kind)
+memory_alone bytes (pieces.so_far front) new kind is not = ap (λ (k : Kind). stops.Refused k) not.0
+memory_alone bytes pieces.other_version new kind is not = absurd not
+memory_alone bytes pieces.no_state new kind is not = absurd not
+memory_alone bytes pieces.failed new kind is not = absurd is

@@ -6,6 +6,7 @@ use Rattle.std.proofs.lemmas.Bool.{false≢true}
 use Rattle.std.proofs.lemmas.List.{append_assoc, append-nil, length-append}
 use Rattle.cue_replica.specs.Accepted.{IsOfTexts, text_limit, refusal_at}
 use Rattle.cue_replica.specs.Language.{Table, language}
+use Rattle.cue_replica.specs.declared.Kind.{Kind}
 use Rattle.cue_replica.specs.declared.Kind.TheVariants as kinds
 use Rattle.cue_replica.specs.declared.Refusal.{Refusal}
 use Rattle.cue_program.specs.Inputs.{IsTextRefusal}
@@ -217,3 +218,27 @@ refusal_stops bytes why number (inl is) = absurd (no_memory is)
     no_memory : stops.RefusedInput why number ≡ stops.Refused kinds.Memory → ⊥
     no_memory is = cc
 refusal_stops bytes why number (inr refused) = refused
+
+-- what stops it beside a refused text is want of memory
+told_within : (bytes : List ℕ) (stop : Stop) → IsRefusedWithin bytes stop → (why : Refusal) × (number : ℕ) × (stop ≡ stops.RefusedInput why number)
+told_within bytes stop refused =
+    let told = refused [] in
+    (told.5.0, _, told.5.1)
+
+pub memory_within : (bytes : List ℕ) (kind : Kind) → IsStopWithin bytes (stops.Refused kind) → IsMemory (stops.Refused kind)
+memory_within bytes kind (inl is) = is
+memory_within bytes kind (inr refused) =
+    let told = told_within bytes (stops.Refused kind) refused in
+    absurd (other told.0 told.1 told.2)
+  where
+    other : (why : Refusal) (number : ℕ) → stops.Refused kind ≡ stops.RefusedInput why number → ⊥
+    other why number is = cc
+
+pub never_device : (bytes : List ℕ) → IsStopWithin bytes stops.Device → IsMemory stops.Device
+never_device bytes (inl is) = is
+never_device bytes (inr refused) =
+    let told = told_within bytes stops.Device refused in
+    absurd (other told.0 told.1 told.2)
+  where
+    other : (why : Refusal) (number : ℕ) → stops.Device ≡ stops.RefusedInput why number → ⊥
+    other why number is = cc

@@ -1,14 +1,15 @@
--- What lies where, as far as it is known: what is read of a name, and what becomes of the files when
--- bytes are put at a name.
+-- What lies where, and what is read of a name; and what becomes of the files when bytes are put at a
+-- name.
 use Rattle.std.specs.Prelude.{◌≡◌, ◌≢◌, ℕ, List, Option, Some, None, Bool, false}
 use Rattle.std.specs.Prelude.{IfSome, map}
 use Rattle.std.specs.Borrow.{Bor}
 
 -- A name leads to a place, which is another one where the name is a link's. At a place lies a
--- file with its bytes, or none; or something special, as a device or a pipe.
+-- file with its bytes and its mode, or none; or something special, as a device or a pipe.
 pub record Holdings : Type 0 where
   pub place_of : List ℕ → List ℕ
   pub bytes_at : List ℕ → Option (List ℕ)
+  pub mode_at : List ℕ → ℕ
   pub is_special : List ℕ → Bool
 
 -- the bytes under a name, where they are known
@@ -28,36 +29,35 @@ AreAll known bytes = IfSome known (λ all. bytes ≡ all)
 abbrev pub IsOpened : Option Holdings → List ℕ → Option (List ℕ) → Type 0
 IsOpened held name rest = IfSome (known_at held name) (λ all. rest ≡ Some all)
 
--- R holds of what is known before and after, where anything is
-abbrev pub Turns : (Holdings → Holdings → Type 0) → Option Holdings → Option Holdings → Type 0
-Turns R None new = Unit {0}
-Turns R (Some old) None = ⊥
-Turns R (Some old) (Some new) = R old new
-
--- R holds of what is known, where anything is
-abbrev pub Knows : (Holdings → Type 0) → Option Holdings → Type 0
-Knows R None = Unit {0}
-Knows R (Some held) = R held
-
 -- names lead where they did, and what is special stays so
 pub record IsSameTree (old new : Holdings) : Type 0 where
   pub places : (name : List ℕ) → new.place_of name ≡ old.place_of name
   pub special : (place : List ℕ) → new.is_special place ≡ old.is_special place
 
+-- at the place lies what lay there, be it nothing
+pub record IsSameAt (place : List ℕ) (old new : Holdings) : Type 0 where
+  pub bytes : new.bytes_at place ≡ old.bytes_at place
+  pub mode : (had : List ℕ) → old.bytes_at place ≡ Some had
+      → new.mode_at place ≡ old.mode_at place
+
 -- nothing changed but what lies at these places
 pub record IsElsewhereSame (places : List ℕ → Type 0) (old new : Holdings) : Type 0 where
   pub tree : IsSameTree old new
-  pub others : (place : List ℕ) → (places place → ⊥) → new.bytes_at place ≡ old.bytes_at place
+  pub others : (place : List ℕ) → (places place → ⊥) → IsSameAt place old new
 
--- The bytes lie under the name, and all other files as before.
+-- The bytes lie under the name, with the mode of the file that lay there, and all other files as
+-- before. What was written to something special is not told.
 pub record IsPut (name bytes : List ℕ) (old new : Holdings) : Type 0 where
-  pub put : new.bytes_at (old.place_of name) ≡ Some bytes
+  pub put : old.is_special (old.place_of name) ≡ false
+      → new.bytes_at (old.place_of name) ≡ Some bytes
+  pub mode : (had : List ℕ) → old.is_special (old.place_of name) ≡ false
+      → old.bytes_at (old.place_of name) ≡ Some had
+      → new.mode_at (old.place_of name) ≡ old.mode_at (old.place_of name)
   pub same : IsElsewhereSame (λ place. place ≡ old.place_of name) old new
 
 -- No file was harmed: where the name is that of a file, or of nothing, the same lies there as
 -- before, and so does each other file; where it is that of something special, each other file.
 pub record IsUnharmed (name : List ℕ) (old new : Holdings) : Type 0 where
-  pub own : old.is_special (old.place_of name) ≡ false
-      → new.bytes_at (old.place_of name) ≡ old.bytes_at (old.place_of name)
+  pub own : old.is_special (old.place_of name) ≡ false → IsSameAt (old.place_of name) old new
   pub others : (place bytes : List ℕ) → place ≢ old.place_of name
-      → old.bytes_at place ≡ Some bytes → new.bytes_at place ≡ Some bytes
+      → old.bytes_at place ≡ Some bytes → IsSameAt place old new

@@ -1,8 +1,11 @@
+pub mod Calls
+pub mod Effects
 pub mod Files
 pub mod Inputs
 pub mod Outlets
 pub mod Parts
 pub mod Requests
 pub mod Runs
+pub mod Stopped
 pub mod Stops
 pub mod inner

@@ -1,11 +1,12 @@
 -- What a run makes of its inputs.
-use Rattle.std.specs.Prelude.{◌≡◌, ◌⊎◌, ℕ, List, ◌++◌, Option}
+use Rattle.std.specs.Prelude.{◌≡◌, ◌⊎◌, ℕ, List, ◌++◌}
 use Rattle.cue_answer.specs.Answers.{Says, Tells, line_end}
 use Rattle.cue_answer.specs.declared.Answer.{Answer}
 use Rattle.cue_answer.specs.declared.Question.{Question}
 use Rattle.cue_replica.specs.Language.{Table, language}
-use Rattle.cue_program.specs.Files.{Holdings, IsPut, IsUnharmed, Turns}
+use Rattle.cue_program.specs.Calls.{Call, Puts}
 use Rattle.cue_program.specs.Inputs.{Inputs, Holds, IsInputRefused, IsInputUnread}
+use Rattle.cue_program.specs.Stopped.{StopsPutting}
 use Rattle.cue_program.specs.Stops.{IsDevice, IsMemory}
 use Rattle.cue_program.specs.declared.stop.Stop.{Stop}
 
@@ -21,16 +22,18 @@ IsAnswerOn question inputs shown =
 abbrev pub IsStopOn : Inputs → Stop → Type 0
 IsStopOn inputs stop = IsInputRefused inputs stop ⊎ IsInputUnread inputs stop ⊎ IsMemory stop
 
--- the state bytes of a site that has taken all inputs lie under the name, and all other files are
--- as before
-abbrev pub IsMergeOn : List ℕ → Inputs → Option Holdings → Option Holdings → Type 0
-IsMergeOn name inputs old new =
-    (table : Table) × Holds inputs table × Turns (IsPut name (language.written table)) old new
+-- the state bytes of a site that has taken all inputs were put under the name, by the calls that put
+-- them there and no others
+abbrev pub IsMergeOn : {S D M : Type 0} → (S → Call D M → S → Type 0) → List ℕ → Inputs
+    → S → S → Type 0
+IsMergeOn Makes name inputs old new =
+    (table : Table) × Holds inputs table × Puts Makes name (language.written table) old new
 
--- What ends a merge: what ends a run, and then nothing was written; or all inputs were taken, and
--- the file could not be written or memory ran out, and then no file was harmed.
-abbrev pub IsMergeStopOn : List ℕ → Inputs → Option Holdings → Option Holdings → Stop → Type 0
-IsMergeStopOn name inputs old new stop =
+-- What ends a merge: what ends a run, and then no file was asked for but those that were read; or
+-- all inputs were taken, and the bytes could not be put under the name or memory ran out.
+abbrev pub IsMergeStopOn : {S D M : Type 0} → (S → Call D M → S → Type 0) → List ℕ → Inputs
+    → S → S → Stop → Type 0
+IsMergeStopOn Makes name inputs old new stop =
     (IsStopOn inputs stop × (new ≡ old))
     ⊎ ((table : Table) × Holds inputs table × (IsDevice stop ⊎ IsMemory stop)
-    × Turns (IsUnharmed name) old new)
+    × StopsPutting Makes name old new)

@@ -46,3 +46,12 @@ IsReadFault known calls failures calls' failures' stop =
     (IsDevice stop × (failures < failures'))
     ⊎ (IsTurnsUsed stop × (calls' ≡ calls + read_limit) × IsLong known)
     ⊎ IsMemory stop
+
+-- Why a file could not be read: it could not be opened; or it was, and could not be read to its
+-- end, by what the file tells of its bytes, its calls and its failures.
+abbrev pub IsFileFault : {F : Type 0} → (F → Type 0) → Type 0 → (F → Option (List ℕ)) → (F → ℕ)
+    → (F → ℕ) → Stop → Type 0
+IsFileFault {F} IsOpened IsClosed to_come called failed stop =
+    (IsDevice stop × IsClosed)
+    ⊎ ((file file' : F) × IsOpened file × IsReadFault (to_come file) (called file) (failed file)
+    (called file') (failed file') stop)

@@ -1,5 +1,4 @@
 -- What private clauses alone cite.
-pub mod Drafts
 pub mod Gathered
 pub mod Reading
 pub mod Sending

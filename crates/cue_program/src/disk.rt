@@ -1,55 +1,78 @@
+//! The files of the system.
 ghost use Rattle.std.specs.Prelude.{◌⊎◌, IfErr};
 ghost use Rattle.cue_program.specs.Stops.{IsDevice, IsMemory};
 
 use crate::outlet::Outlet;
-use crate::shelf::{Form, Shelf};
+use crate::shelf::{Form, Shelf, Uncreated};
 use crate::stop::Stop;
-use crate::writing::tell_state;
-use cue_device::Fault;
-use cue_replica::{Memory, Replica};
+use cue_device::{Fault, Reader};
+use cue_replica::Kind;
 use std::alloc::Global;
-use std::fs::{File, OpenFile, OpenOptions};
+use std::fs::{File, Metadata, OpenFile, OpenOptions, Permissions};
 use std::io::ErrorKind;
 use std::rt::Files;
 use std::{fs, io};
 
-/// The files of the system.
+/// The files of the system. Of what its calls come to the toolchain tells nothing, so that these
+/// few lines are to be read.
 impl<H: Files> Shelf for H {
-    type Opened = H::File;
+    type Opened = Reader<H::File>;
 
-    fn open(&self, name: &str) -> Result<H::File, Fault> {
-        done(fs::open(self, name))
+    type Draft = H::File;
+
+    type Mode = Permissions;
+
+    ghost has_opened = { λ _ _ _. Unit {0} };
+
+    ghost could_not_open = { λ _ _. Unit {0} };
+
+    ghost makes = { λ _ _ _. Unit {0} };
+
+    fn open(&self, name: &str) -> Result<Reader<H::File>, Fault> {
+        Ok(Reader::new(done(fs::open(self, name))?))
     }
 
-    fn find(&self, alloc: Global, name: &str) -> Result<(String, Form), Stop> {
-        match fs::symlink_metadata(self, name) {
-            Ok(found) if found.is_symlink() => linked(self, alloc, name),
-            Ok(found) if found.is_file() => named(alloc, name, Form::File),
-            Ok(_) => named(alloc, name, Form::Special),
-            Err(error) if error.kind() == ErrorKind::NotFound => named(alloc, name, Form::Nothing),
-            Err(_) => Err(Stop::Device),
+    fn look_at(&mut self, name: &str) -> Result<Form, Fault> {
+        form_of(fs::symlink_metadata(&*self, name))
+    }
+
+    fn look_behind(&mut self, name: &str) -> Result<Form, Fault> {
+        form_of(fs::metadata(&*self, name))
+    }
+
+    fn follow(&mut self, alloc: Global, name: &str) -> Result<String, Stop> {
+        match self.canonicalize(alloc, name) {
+            Ok(place) => Ok(place.into_string()),
+            Err(error) => Err(unfollowed(&error)),
         }
     }
 
-    fn draft(
-        &mut self,
-        alloc: Global,
-        place: &str,
-        like: Option<&str>,
-        site: &Replica,
-    ) -> Result<bool, Stop> {
-        let mut file = match File::create_new(&*self, place) {
-            Ok(file) => file,
-            Err(error) if error.kind() == ErrorKind::AlreadyExists => return Ok(false),
-            Err(_) => return Err(Stop::Device),
-        };
-        match fill(&*self, alloc, &mut file, like, site) {
-            Ok(()) => Ok(true),
-            Err(stop) => {
-                let _ = fs::remove_file(&*self, place);
-                Err(stop)
-            }
+    fn create(&mut self, place: &str) -> Result<H::File, Uncreated> {
+        match File::create_new(&*self, place) {
+            Ok(file) => Ok(file),
+            Err(error) if error.kind() == ErrorKind::AlreadyExists => Err(Uncreated::Taken),
+            Err(_) => Err(Uncreated::Fault),
         }
+    }
+
+    fn open_to_write(&mut self, place: &str) -> Result<H::File, Fault> {
+        done(OpenOptions::new().write(true).open(&*self, place))
+    }
+
+    fn mode_of(&mut self, place: &str) -> Result<Permissions, Fault> {
+        Ok(done(fs::metadata(&*self, place))?.permissions())
+    }
+
+    fn set_mode(&mut self, file: &H::File, mode: Permissions) -> Result<(), Fault> {
+        done(file.set_permissions(mode))
+    }
+
+    fn write(&mut self, file: &mut H::File, bytes: &[u8]) -> Result<(), Fault> {
+        Outlet::new(file).tell(bytes)
+    }
+
+    fn sync(&mut self, file: &H::File) -> Result<(), Fault> {
+        done(file.sync_all())
     }
 
     fn rename(&mut self, from: &str, to: &str) -> Result<(), Fault> {
@@ -58,13 +81,6 @@ impl<H: Files> Shelf for H {
 
     fn remove(&mut self, place: &str) -> Result<(), Fault> {
         done(fs::remove_file(&*self, place))
-    }
-
-    fn overwrite(&mut self, alloc: Global, place: &str, site: &Replica) -> Result<(), Stop> {
-        match OpenOptions::new().write(true).open(&*self, place) {
-            Ok(file) => tell_state(alloc, site, &mut Outlet::new(file)),
-            Err(_) => Err(Stop::Device),
-        }
     }
 }
 
@@ -76,58 +92,23 @@ fn done<T>(came: io::Result<T>) -> Result<T, Fault> {
     }
 }
 
-/// The name itself, where this lies.
-fn named(alloc: Global, name: &str, form: Form) -> Result<(String, Form), Stop>
-    ensures { IfErr result (λ stop. IsDevice stop ⊎ IsMemory stop) }
-{
-    Ok((String::from_str(alloc, name)?, form))
-}
-
-/// Where a link of this name leads to: to a file's own place, and to anything else by its name. A
-/// link to nothing is special.
-fn linked<H: Files>(rt: &H, alloc: Global, name: &str) -> Result<(String, Form), Stop>
-    ensures { IfErr result (λ stop. IsDevice stop ⊎ IsMemory stop) }
-{
-    match fs::metadata(rt, name) {
-        Ok(found) if found.is_file() => Ok((place_of(rt, alloc, name)?, Form::File)),
-        Ok(_) => named(alloc, name, Form::Special),
-        Err(error) if error.kind() == ErrorKind::NotFound => named(alloc, name, Form::Special),
-        Err(_) => Err(Stop::Device),
+/// What stands where this was found.
+fn form_of(found: io::Result<Metadata>) -> Result<Form, Fault> {
+    match found {
+        Ok(found) if found.is_symlink() => Ok(Form::Link),
+        Ok(found) if found.is_file() => Ok(Form::File),
+        Ok(_) => Ok(Form::Special),
+        Err(error) if error.kind() == ErrorKind::NotFound => Ok(Form::Nothing),
+        Err(_) => Err(Fault),
     }
 }
 
-/// The place of the file that a link of this name leads to.
-fn place_of<H: Files>(rt: &H, alloc: Global, name: &str) -> Result<String, Stop>
-    ensures { IfErr result (λ stop. IsDevice stop ⊎ IsMemory stop) }
+/// Why a link can't be followed. `OutOfMemory` says that a growth was refused.
+fn unfollowed(error: &io::Error) -> Stop
+    ensures { IsDevice result ⊎ IsMemory result }
 {
-    match rt.canonicalize(alloc, name) {
-        Ok(place) => Ok(place.into_string()),
-        Err(error) if error.kind() == ErrorKind::OutOfMemory => Err(Stop::from(Memory)),
-        Err(_) => Err(Stop::Device),
-    }
-}
-
-/// Gives a new file its mode and the state bytes of a site, and has them reach the disk.
-fn fill<H: Files>(
-    rt: &H,
-    alloc: Global,
-    file: &mut H::File,
-    like: Option<&str>,
-    site: &Replica,
-) -> Result<(), Stop>
-    ensures { IfErr result (λ stop. IsDevice stop ⊎ IsMemory stop) }
-{
-    done(set_mode(rt, file, like))?;
-    match tell_state(alloc, site, &mut Outlet::new(&mut *file)) {
-        Ok(()) => Ok(done(file.sync_all())?),
-        Err(stop) => Err(stop),
-    }
-}
-
-/// Gives a new file the mode of the file that is named, where one is.
-fn set_mode<H: Files>(rt: &H, file: &mut H::File, like: Option<&str>) -> io::Result<()> {
-    match like {
-        Some(like) => file.set_permissions(fs::metadata(rt, like)?.permissions()),
-        None => Ok(()),
+    match error.kind() {
+        ErrorKind::OutOfMemory => Stop::Refused(Kind::Memory),
+        _ => Stop::Device,
     }
 }

@@ -59,8 +59,9 @@ fn read_rest<S: Source, K: Kept>(input: &mut S, piece: &mut [u8], kept: &mut K) 
     ensures room { length piece.new ≡ length piece.old }
     ensures rest { (front : List ℕ) → 0 < length front → K.keeps kept.old front
         → OnOk result (IsRestRead (K.keeps kept.new) front (S.to_come input.old)) }
-    ensures fault { IfErr result (IsRestFault (S.to_come input.old) (S.called input.old) (S.failed input.old)
-        (S.called input.new) (S.failed input.new)) }
+    ensures fault { (front : List ℕ) → 0 < length front → K.keeps kept.old front
+        → IfErr result (IsRestFault (S.to_come input.old) (S.called input.old)
+        (S.failed input.old) (S.called input.new) (S.failed input.new)) }
 {
     for _ in 1..MAX_READS {
         let count = read_piece(input, piece)?;

@@ -1,9 +1,11 @@
-ghost use Rattle.std.specs.Prelude.{◌≡◌, ◌<◌, ◌++◌, ℕ, List, length, IfOk, OnOk};
-ghost use Rattle.cue_codec.specs.Pieces.{IsTakenIn};
+ghost use Rattle.std.specs.Prelude.{◌≡◌, ◌<◌, ◌++◌, ℕ, List, length, IfOk, IfErr, OnOk};
+ghost use Rattle.cue_codec.specs.Pieces.{IsIntake, IsTakenIn};
 ghost use Rattle.cue_program.specs.Inputs.{IsEnoughOf};
+ghost use Rattle.cue_program.specs.Stops.{IsMemory};
 
 use crate::site::begins_a_state;
-use cue_replica::{Memory, StateReader, TEXT_LIMIT};
+use crate::stop::Stop;
+use cue_replica::{StateReader, TEXT_LIMIT};
 use std::alloc::Global;
 
 /// What is kept of an input while it is read.
@@ -12,24 +14,35 @@ pub trait Kept: Drop {
     ghost keeps: { Self → List ℕ → Type 0 };
 
     /// What is kept of an input whose first piece this is: an empty one where it has no bytes.
-    fn begin(alloc: Global, piece: &[u8]) -> Result<Self, Memory>
-        ensures { IfOk result (λ kept. keeps kept piece.now) };
+    ///
+    /// # Errors
+    ///
+    /// `Memory`.
+    fn begin(alloc: Global, piece: &[u8]) -> Result<Self, Stop>
+        ensures kept { IfOk result (λ kept. keeps kept piece.now) }
+        ensures fault { IfErr result IsMemory };
 
     /// Goes on with the piece that comes next.
-    fn go_on(&mut self, piece: &[u8]) -> Result<(), Memory>
-        ensures { (front : List ℕ) → 0 < length front → keeps self.old front
-            → OnOk result (keeps self.new (front ++ piece.now)) };
+    ///
+    /// # Errors
+    ///
+    /// `Memory`.
+    fn go_on(&mut self, piece: &[u8]) -> Result<(), Stop>
+        ensures kept { (front : List ℕ) → 0 < length front → keeps self.old front
+            → OnOk result (keeps self.new (front ++ piece.now)) }
+        ensures fault { (front : List ℕ) → 0 < length front → keeps self.old front
+            → IfErr result IsMemory };
 }
 
 /// All bytes.
 impl Kept for Vec<u8> {
     ghost keeps = { λ kept bytes. kept.items ≡ bytes };
 
-    fn begin(alloc: Global, piece: &[u8]) -> Result<Vec<u8>, Memory> {
+    fn begin(alloc: Global, piece: &[u8]) -> Result<Vec<u8>, Stop> {
         Ok(piece.to_vec(alloc)?)
     }
 
-    fn go_on(&mut self, piece: &[u8]) -> Result<(), Memory> {
+    fn go_on(&mut self, piece: &[u8]) -> Result<(), Stop> {
         Ok(self.extend_from_slice(piece)?)
     }
 }
@@ -44,13 +57,13 @@ pub struct Enough {
 impl Kept for Enough {
     ghost keeps = { λ kept bytes. IsEnoughOf bytes kept.bytes.items };
 
-    fn begin(alloc: Global, piece: &[u8]) -> Result<Enough, Memory> {
+    fn begin(alloc: Global, piece: &[u8]) -> Result<Enough, Stop> {
         let mut bytes = piece.to_vec(alloc)?;
         keep_enough(&mut bytes);
         Ok(Enough { bytes })
     }
 
-    fn go_on(&mut self, piece: &[u8]) -> Result<(), Memory> {
+    fn go_on(&mut self, piece: &[u8]) -> Result<(), Stop> {
         self.bytes.extend_from_slice(piece)?;
         keep_enough(&mut self.bytes);
         Ok(())
@@ -79,7 +92,7 @@ impl<K: Kept> Kept for Input<K> {
 
     ghost keeps = { λ input bytes. IsRead K.keeps input bytes };
 
-    fn begin(alloc: Global, piece: &[u8]) -> Result<Input<K>, Memory> {
+    fn begin(alloc: Global, piece: &[u8]) -> Result<Input<K>, Stop> {
         if !begins_a_state(piece) {
             return Ok(Input::Text(K::begin(alloc, piece)?));
         }
@@ -88,7 +101,7 @@ impl<K: Kept> Kept for Input<K> {
         Ok(Input::State(reader))
     }
 
-    fn go_on(&mut self, piece: &[u8]) -> Result<(), Memory> {
+    fn go_on(&mut self, piece: &[u8]) -> Result<(), Stop> {
         match self {
             Input::State(reader) => feed(reader, piece),
             Input::Text(kept) => kept.go_on(piece),
@@ -97,11 +110,12 @@ impl<K: Kept> Kept for Input<K> {
 }
 
 /// Hands a piece to a reader. One that no memory was refused to fails for want of memory alone.
-fn feed(reader: &mut StateReader, piece: &[u8]) -> Result<(), Memory>
-    ensures { OnOk result (IsTakenIn reader.old piece.now reader.new) }
+fn feed(reader: &mut StateReader, piece: &[u8]) -> Result<(), Stop>
+    ensures taken { OnOk result (IsTakenIn reader.old piece.now reader.new) }
+    ensures fault { (bytes : List ℕ) → IsIntake bytes reader.old → IfErr result IsMemory }
 {
     match reader.feed(piece) {
         Ok(()) => Ok(()),
-        Err(_) => Err(Memory),
+        Err(kind) => Err(Stop::Refused(kind)),
     }
 }

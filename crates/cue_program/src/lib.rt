@@ -5,9 +5,11 @@
 #![tactic(auto)]
 
 mod disk;
+mod draft;
 mod gathered;
 mod input;
 mod kept;
+mod law;
 mod outlet;
 mod parts;
 mod put;
@@ -15,6 +17,7 @@ mod request;
 mod run;
 mod shelf;
 mod site;
+mod state_file;
 mod stop;
 mod taking;
 mod writing;
@@ -24,11 +27,12 @@ pub use cue_device::Fault;
 pub use cue_replica::{Kind, Memory, Refusal, Replica, StateReader};
 pub use cue_wire::Request;
 pub use kept::{Enough, Input, Kept};
+pub use law::calls_put_the_bytes;
 pub use outlet::Outlet;
 pub use parts::first_part;
 pub use request::requests_for;
 pub use run::{answer_for, merge_into, site_for};
-pub use shelf::{Form, Shelf};
+pub use shelf::{Form, Shelf, Uncreated};
 pub use site::take_file;
 pub use stop::Stop;
 pub use writing::tell_state;

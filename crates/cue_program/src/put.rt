@@ -1,37 +1,75 @@
-ghost use Rattle.std.specs.Prelude.{◌≡◌, ◌⊎◌, IfOk, IfErr, OnOk, OnErr, string_bytes};
+ghost use Rattle.std.specs.Prelude.{◌⊎◌, OnOk, OnErr, IfErr};
 ghost use Rattle.cue_replica.specs.Language.{language};
-ghost use Rattle.cue_program.specs.Files.{IsPut, IsUnharmed, Turns};
-ghost use Rattle.cue_program.specs.inner.Drafts.{IsBeside, IsKept, IsPutAt};
+ghost use Rattle.cue_program.specs.Calls.{Puts, PutsAt, PutsBehind, Replaces, Overwrites};
+ghost use Rattle.cue_program.specs.Stopped.{StopsPutting, StopsAt, StopsBehind};
+ghost use Rattle.cue_program.specs.Stopped.{StopsReplacing, StopsOverwriting};
 ghost use Rattle.cue_program.specs.Stops.{IsDevice, IsMemory};
 
+use crate::draft::{create_beside, fill_and_move};
 use crate::shelf::{Form, Shelf};
+use crate::state_file::write_state;
 use crate::stop::Stop;
 use cue_replica::Replica;
 use std::alloc::Global;
 
-/// How many names are tried for the file that is written first.
-const MOST_DRAFTS: usize = 16;
-
 /// Puts the state bytes of a site at a name, so that at no moment less than a whole file stands
 /// there: they go to a new file beside it, reach the disk, and take its place in one step. The new
-/// file has the mode of the old one. Something special, as a device or a pipe, is written in place.
+/// file has the mode of the old one. What a link leads to is replaced, and not the link. Something
+/// special, as a device or a pipe, is written in place.
 ///
 /// # Errors
 ///
-/// `Device` and `Memory`. What lay there, a file or nothing, lies there then.
+/// `Device` and `Memory`. What lay there, a file or nothing, lies there then: only the new file was
+/// touched, and was taken away.
 pub fn put<S: Shelf>(shelf: &mut S, alloc: Global, name: &str, site: &Replica) -> Result<(), Stop>
-    ensures put { OnOk result (Turns (IsPut name.now (language.written site.now))
-        (S.held shelf.old) (S.held shelf.new)) }
-    ensures unharmed { OnErr result (Turns (IsUnharmed name.now)
-        (S.held shelf.old) (S.held shelf.new)) }
+    ensures put { OnOk result (Puts S.makes name.now (language.written site.now)
+        shelf.old shelf.new) }
+    ensures stopped { OnErr result (StopsPutting S.makes name.now shelf.old shelf.new) }
     ensures fault { IfErr result (λ stop. IsDevice stop ⊎ IsMemory stop) }
 {
-    let (place, form) = shelf.find(alloc, name)?;
-    let place = place.as_str();
-    match form {
-        Form::Special => shelf.overwrite(alloc, place, site),
-        Form::File => replace(shelf, alloc, place, Some(place), site),
-        Form::Nothing => replace(shelf, alloc, place, None, site),
+    match shelf.look_at(name) {
+        Ok(Form::Nothing) => replace(shelf, alloc, name, false, site),
+        Ok(Form::File) => replace(shelf, alloc, name, true, site),
+        Ok(Form::Link) => put_behind(shelf, alloc, name, site),
+        Ok(Form::Special) => overwrite(shelf, alloc, name, site),
+        Err(_) => Err(Stop::Device),
+    }
+}
+
+/// Puts the state bytes of a site behind the link of this name.
+fn put_behind<S: Shelf>(
+    shelf: &mut S,
+    alloc: Global,
+    name: &str,
+    site: &Replica,
+) -> Result<(), Stop>
+    ensures put { OnOk result (PutsAt S.makes name.now Form.Link (language.written site.now)
+        shelf.old shelf.new) }
+    ensures stopped { OnErr result (StopsAt S.makes name.now Form.Link shelf.old shelf.new) }
+    ensures fault { IfErr result (λ stop. IsDevice stop ⊎ IsMemory stop) }
+{
+    match shelf.look_behind(name) {
+        Ok(Form::File) => put_at_end(shelf, alloc, name, site),
+        Ok(_) => overwrite(shelf, alloc, name, site),
+        Err(_) => Err(Stop::Device),
+    }
+}
+
+/// Puts the state bytes of a site in the place of the file that a link leads to.
+fn put_at_end<S: Shelf>(
+    shelf: &mut S,
+    alloc: Global,
+    name: &str,
+    site: &Replica,
+) -> Result<(), Stop>
+    ensures put { OnOk result (PutsBehind S.makes name.now Form.File (language.written site.now)
+        shelf.old shelf.new) }
+    ensures stopped { OnErr result (StopsBehind S.makes name.now Form.File shelf.old shelf.new) }
+    ensures fault { IfErr result (λ stop. IsDevice stop ⊎ IsMemory stop) }
+{
+    match shelf.follow(alloc, name) {
+        Ok(place) => replace(shelf, alloc, place.as_str(), true, site),
+        Err(stop) => Err(stop),
     }
 }
 
@@ -40,50 +78,34 @@ fn replace<S: Shelf>(
     shelf: &mut S,
     alloc: Global,
     place: &str,
-    like: Option<&str>,
+    is_file: bool,
     site: &Replica,
 ) -> Result<(), Stop>
-    ensures put { OnOk result (Turns (IsPutAt place.now (language.written site.now))
-        (S.held shelf.old) (S.held shelf.new)) }
-    ensures kept { OnErr result (Turns (IsKept place.now)
-        (S.held shelf.old) (S.held shelf.new)) }
+    ensures put { OnOk result (Replaces S.makes place.now is_file (language.written site.now)
+        shelf.old shelf.new) }
+    ensures stopped { OnErr result (StopsReplacing S.makes place.now shelf.old shelf.new) }
     ensures fault { IfErr result (λ stop. IsDevice stop ⊎ IsMemory stop) }
 {
-    let draft = draft_beside(shelf, alloc, place, like, site)?;
-    match shelf.rename(draft.as_str(), place) {
+    let (draft, file) = create_beside(shelf, alloc, place)?;
+    match fill_and_move(shelf, alloc, file, draft.as_str(), place, is_file, site) {
         Ok(()) => Ok(()),
-        Err(_) => {
+        Err(stop) => {
             // Where the new file can't be taken away, it stays beside the old one.
             let _ = shelf.remove(draft.as_str());
-            Err(Stop::Device)
+            Err(stop)
         }
     }
 }
 
-/// Makes a new file with the state bytes of a site beside a place, and answers where: the place's
-/// name with `.part` behind it, more than once where such files lie there already.
-fn draft_beside<S: Shelf>(
-    shelf: &mut S,
-    alloc: Global,
-    place: &str,
-    like: Option<&str>,
-    site: &Replica,
-) -> Result<String, Stop>
-    ensures made { IfOk result (λ draft.
-        Turns (IsBeside place.now (string_bytes draft) (language.written site.now))
-        (S.held shelf.old) (S.held shelf.new)) }
-    ensures kept { OnErr result (Turns (IsKept place.now)
-        (S.held shelf.old) (S.held shelf.new)) }
+/// Writes the state bytes of a site to what stands under a name.
+fn overwrite<S: Shelf>(shelf: &mut S, alloc: Global, name: &str, site: &Replica) -> Result<(), Stop>
+    ensures put { OnOk result (Overwrites S.makes name.now (language.written site.now)
+        shelf.old shelf.new) }
+    ensures stopped { OnErr result (StopsOverwriting S.makes name.now shelf.old shelf.new) }
     ensures fault { IfErr result (λ stop. IsDevice stop ⊎ IsMemory stop) }
 {
-    let mut beside = String::from_str(alloc, place)?;
-    for _ in 0..MOST_DRAFTS {
-        beside.push_str(".part")?;
-        match shelf.draft(alloc, beside.as_str(), like, site) {
-            Ok(true) => return Ok(beside),
-            Ok(false) => {}
-            Err(stop) => return Err(stop),
-        }
+    match shelf.open_to_write(name) {
+        Ok(mut file) => write_state(shelf, alloc, &mut file, site),
+        Err(_) => Err(Stop::Device),
     }
-    Err(Stop::Device)
 }

@@ -1,4 +1,5 @@
 ghost use Rattle.std.specs.Prelude.{◌≡◌, length, map, IfOk, IfErr, OnOk};
+ghost use Rattle.cue_program.specs.Stops.{IsFileFault};
 ghost use Rattle.cue_program.specs.Files.{known_at, texts};
 ghost use Rattle.cue_program.specs.Inputs.{Holds, files, inputs_of};
 ghost use Rattle.cue_program.specs.Runs.{IsAnswerOn, IsMergeOn, IsMergeStopOn, IsStopOn};
@@ -45,19 +46,17 @@ pub fn answer_for<H: AllocGlobal + Shelf, R: Read>(
 /// # Errors
 ///
 /// As `site_for`, and then nothing was written; or `Device` and `Memory` behind the last input, and
-/// then what lay under the name, a file or nothing, lies there as before.
+/// then what lay under the name, a file or nothing, was not touched.
 pub fn merge_into<H: AllocGlobal + Shelf, R: Read>(
     rt: &mut H,
     name: &str,
     files: &[&str],
     input: &mut R,
 ) -> Result<(), Stop>
-    ensures merges { OnOk result (IsMergeOn name.now
-        (inputs_of (H.held rt.old) (texts files.now) (R.remaining input.old))
-        (H.held rt.old) (H.held rt.new)) }
-    ensures stop { IfErr result (IsMergeStopOn name.now
-        (inputs_of (H.held rt.old) (texts files.now) (R.remaining input.old))
-        (H.held rt.old) (H.held rt.new)) }
+    ensures merges { OnOk result (IsMergeOn H.makes name.now
+        (inputs_of (H.held rt.old) (texts files.now) (R.remaining input.old)) rt.old rt.new) }
+    ensures stop { IfErr result (IsMergeStopOn H.makes name.now
+        (inputs_of (H.held rt.old) (texts files.now) (R.remaining input.old)) rt.old rt.new) }
 {
     let site = site_for(&*rt, files, input)?;
     let alloc = rt.alloc();
@@ -125,12 +124,13 @@ pub fn read_file<H: AllocGlobal + Shelf, K: Kept>(
     requires { length piece.old ≡ piece_size }
     ensures all { IfOk result (λ kept. IsAllRead (K.keeps kept)
         (known_at (H.held rt.now) name.now)) }
-    ensures fault { IfErr result (IsUnreadable (known_at (H.held rt.now) name.now)) }
+    ensures unread { IfErr result (IsUnreadable (known_at (H.held rt.now) name.now)) }
+    // A device fault is told where it could not be opened, or a read of it failed; and turns are
+    // used only where it was opened, and as many reads were made.
+    ensures fault { IfErr result (IsFileFault (H.has_opened rt.now name.now)
+        (H.could_not_open rt.now name.now) H.Opened.to_come H.Opened.called H.Opened.failed) }
     ensures room { length piece.new ≡ length piece.old }
 {
-    let file = match rt.open(name) {
-        Ok(file) => file,
-        Err(_) => return Err(Stop::Device),
-    };
-    read_all(rt.alloc(), &mut Reader::new(file), piece)
+    let mut file = rt.open(name)?;
+    read_all(rt.alloc(), &mut file, piece)
 }

@@ -1,36 +1,56 @@
-ghost use Rattle.std.specs.Prelude.{◌⊎◌, Option, None, IfOk, IfErr, string_bytes};
-ghost use Rattle.cue_replica.specs.Language.{language};
-ghost use Rattle.cue_program.specs.Files.{Holdings, IsOpened, Turns};
-ghost use Rattle.cue_program.specs.inner.Drafts.{IsFound, IsDrafted, IsMoved, IsTouchedAt, IsWritten};
+ghost use Rattle.std.specs.Prelude.{◌≡◌, ◌⊎◌, ℕ, List, Option, None, IfOk, IfErr, IsErr, is_ok};
+ghost use Rattle.std.specs.Prelude.{string_bytes};
+ghost use Rattle.std.specs.Option.{option_map};
+ghost use Rattle.std.specs.Result.{result_ok};
+ghost use Rattle.cue_program.specs.Calls.{Call, looked_at, looked_behind, followed, created};
+ghost use Rattle.cue_program.specs.Calls.{opened, asked_mode, set_mode, wrote, synced, renamed};
+ghost use Rattle.cue_program.specs.Calls.{removed};
+ghost use Rattle.cue_program.specs.Files.{Holdings, IsOpened};
 ghost use Rattle.cue_program.specs.Stops.{IsDevice, IsMemory};
 
 use crate::stop::Stop;
-use cue_device::Fault;
-use cue_replica::Replica;
+use cue_device::{Fault, Source};
 use std::alloc::Global;
-use std::io::Read;
 
-/// What lies at a place.
+/// What stands under a name.
 #[derive(Clone, Copy, Debug, PartialEq, Eq)]
 pub enum Form {
     /// Nothing.
     Nothing,
     /// A regular file.
     File,
+    /// A link.
+    Link,
     /// Something else, as a device, a pipe or a directory.
     Special,
 }
 
-/// The files that a run reads and writes, by their names. Each call is one of the runtime's, or a
-/// few in a row.
+/// The files that a run reads and writes, by their names. Each call is one of the runtime's.
 ///
-/// Contracts see what lies where, as far as that is known.
+/// Contracts see which calls were made, in their order, and what they came to: `makes` says so of
+/// each, and nothing else does. So a clause that names it holds only of calls that were made, over
+/// the files of a system too, of which nothing else is known. Where a shelf knows what lies where,
+/// they see that too.
 pub trait Shelf {
     /// A file that was opened to be read.
-    type Opened: Read + Drop;
+    type Opened: Source + Drop;
+
+    /// A file that is written.
+    type Draft: Drop;
+
+    /// The mode of a file.
+    type Mode: Drop;
 
     // What lies where, where that is known.
     ghost held: { Self → Option Holdings } = { λ _. None };
+
+    // The file of this name was opened, and is this one; or it could not be.
+    ghost has_opened: { Self → List ℕ → Self.Opened → Type 0 };
+
+    ghost could_not_open: { Self → List ℕ → Type 0 };
+
+    // This call was made between two moments.
+    ghost makes: { Self → Call Self.Draft Self.Mode → Self → Type 0 };
 
     /// Opens the file of this name to be read, from its first byte on.
     ///
@@ -38,44 +58,93 @@ pub trait Shelf {
     ///
     /// `Fault` where it can't be opened.
     fn open(&self, name: &str) -> Result<Self::Opened, Fault>
-        ensures opened { IfOk result (λ file.
-            IsOpened (held self.now) name.now (Self.Opened.remaining file)) };
+        ensures opened { IfOk result (has_opened self.now name.now) }
+        ensures known { IfOk result (λ file.
+            IsOpened (held self.now) name.now (Self.Opened.to_come file)) }
+        ensures fresh { IfOk result (λ file. Self.Opened.called file ≡ 0) }
+        ensures fault { IsErr result → could_not_open self.now name.now };
 
-    /// The place that a name leads to, and what lies there.
+    /// What stands under a name, where a link is told as such.
+    ///
+    /// # Errors
+    ///
+    /// `Fault` where it can't be looked at.
+    fn look_at(&mut self, name: &str) -> Result<Form, Fault>
+        ensures { makes self.old (looked_at name.now (result_ok result)) self.new };
+
+    /// What a name leads to.
+    ///
+    /// # Errors
+    ///
+    /// As `look_at`.
+    fn look_behind(&mut self, name: &str) -> Result<Form, Fault>
+        ensures { makes self.old (looked_behind name.now (result_ok result)) self.new };
+
+    /// The place that a name leads to.
     ///
     /// # Errors
     ///
     /// `Device`, and `Memory`.
-    fn find(&self, alloc: Global, name: &str) -> Result<(String, Form), Stop>
-        ensures found { IfOk result (λ found.
-            IsFound name.now (string_bytes found.0) found.1 (held self.now)) }
+    fn follow(&mut self, alloc: Global, name: &str) -> Result<String, Stop>
+        ensures followed { makes self.old
+            (followed name.now (option_map string_bytes (result_ok result))) self.new }
         ensures fault { IfErr result (λ stop. IsDevice stop ⊎ IsMemory stop) };
 
-    /// Makes a new file at this place, with the mode of the file that is named, where one is, and
-    /// with the state bytes of this site, which reach the disk. They are made in pieces while they
-    /// are written. Answers false where anything lies there already.
+    /// Makes a new file at this place, open to be written.
     ///
     /// # Errors
     ///
-    /// `Device` and `Memory`, and then a new file may lie there, with a part of the bytes.
-    fn draft(
-        &mut self,
-        alloc: Global,
-        place: &str,
-        like: Option<&str>,
-        site: &Replica,
-    ) -> Result<bool, Stop>
-        ensures drafted { Turns (IsDrafted place.now (language.written site.now) result)
-            (held self.old) (held self.new) }
-        ensures fault { IfErr result (λ stop. IsDevice stop ⊎ IsMemory stop) };
+    /// `Taken` where anything stands there already, and `Fault`.
+    fn create(&mut self, place: &str) -> Result<Self::Draft, Uncreated>
+        ensures { makes self.old (created place.now (result_ok result)) self.new };
 
-    /// Moves a file to a place, in one step, in the place of a file that lies there.
+    /// Opens what stands at this place, to be written as it stands.
+    ///
+    /// # Errors
+    ///
+    /// `Fault` where it can't be opened.
+    fn open_to_write(&mut self, place: &str) -> Result<Self::Draft, Fault>
+        ensures { makes self.old (opened place.now (result_ok result)) self.new };
+
+    /// The mode of the file at this place.
+    ///
+    /// # Errors
+    ///
+    /// `Fault` where it can't be looked at.
+    fn mode_of(&mut self, place: &str) -> Result<Self::Mode, Fault>
+        ensures { makes self.old (asked_mode place.now (result_ok result)) self.new };
+
+    /// Gives a file this mode.
+    ///
+    /// # Errors
+    ///
+    /// `Fault`.
+    fn set_mode(&mut self, file: &Self::Draft, mode: Self::Mode) -> Result<(), Fault>
+        ensures { makes self.old (set_mode file.now mode (is_ok result)) self.new };
+
+    /// Writes these bytes to a file, behind those that were written before, all of them.
+    ///
+    /// # Errors
+    ///
+    /// `Fault`, and then some bytes in front may have been written.
+    fn write(&mut self, file: &mut Self::Draft, bytes: &[u8]) -> Result<(), Fault>
+        ensures { makes self.old (wrote file.old bytes.now file.new (is_ok result)) self.new };
+
+    /// Has what was written to a file reach the disk.
+    ///
+    /// # Errors
+    ///
+    /// `Fault`.
+    fn sync(&mut self, file: &Self::Draft) -> Result<(), Fault>
+        ensures { makes self.old (synced file.now (is_ok result)) self.new };
+
+    /// Moves the file at a place to another, in one step, in the place of a file that lies there.
     ///
     /// # Errors
     ///
     /// `Fault`, and then nothing changed.
     fn rename(&mut self, from: &str, to: &str) -> Result<(), Fault>
-        ensures moved { Turns (IsMoved from.now to.now result) (held self.old) (held self.new) };
+        ensures { makes self.old (renamed from.now to.now (is_ok result)) self.new };
 
     /// Takes the file at this place away.
     ///
@@ -83,16 +152,14 @@ pub trait Shelf {
     ///
     /// `Fault`.
     fn remove(&mut self, place: &str) -> Result<(), Fault>
-        ensures touched { Turns (IsTouchedAt place.now) (held self.old) (held self.new) };
+        ensures { makes self.old (removed place.now (is_ok result)) self.new };
+}
 
-    /// Writes the state bytes of this site to what lies at this place. They are made in pieces while
-    /// they are written.
-    ///
-    /// # Errors
-    ///
-    /// `Device` and `Memory`, and then a part of the bytes may have been written.
-    fn overwrite(&mut self, alloc: Global, place: &str, site: &Replica) -> Result<(), Stop>
-        ensures written { Turns (IsWritten place.now (language.written site.now) result)
-            (held self.old) (held self.new) }
-        ensures fault { IfErr result (λ stop. IsDevice stop ⊎ IsMemory stop) };
+/// Why no new file was made.
+#[derive(Clone, Copy, Debug, PartialEq, Eq)]
+pub enum Uncreated {
+    /// Something stands there already.
+    Taken,
+    /// The call failed.
+    Fault,
 }

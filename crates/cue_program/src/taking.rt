@@ -11,7 +11,7 @@ use crate::kept::Kept;
 use crate::parts::{is_separator, line_end};
 use crate::site::take_parts;
 use crate::stop::Stop;
-use cue_replica::{Kind, Memory, Refusal, Replica, TEXT_LIMIT};
+use cue_replica::{Kind, Refusal, Replica, TEXT_LIMIT};
 use std::alloc::Global;
 
 /// How many bytes a separating line has, at most.
@@ -28,7 +28,7 @@ pub struct Texts {
 impl Kept for Texts {
     ghost keeps = { λ texts bytes. AreTaken texts bytes };
 
-    fn begin(alloc: Global, piece: &[u8]) -> Result<Texts, Memory> {
+    fn begin(alloc: Global, piece: &[u8]) -> Result<Texts, Stop> {
         let mut texts = Texts {
             taken: Taken::new(alloc),
             refused: None,
@@ -37,16 +37,17 @@ impl Kept for Texts {
         Ok(texts)
     }
 
-    fn go_on(&mut self, piece: &[u8]) -> Result<(), Memory> {
+    fn go_on(&mut self, piece: &[u8]) -> Result<(), Stop> {
         self.take(piece)
     }
 }
 
 impl Texts {
     /// Goes on with the piece that comes next.
-    fn take(&mut self, piece: &[u8]) -> Result<(), Memory>
-        ensures { (front : List ℕ) → AreTaken self.old front
+    fn take(&mut self, piece: &[u8]) -> Result<(), Stop>
+        ensures taken { (front : List ℕ) → AreTaken self.old front
             → OnOk result (AreTaken self.new (front ++ piece.now)) }
+        ensures fault { (front : List ℕ) → AreTaken self.old front → IfErr result IsMemory }
     {
         if self.refused.is_some() {
             return Ok(());
@@ -57,7 +58,8 @@ impl Texts {
                 self.refused = Some(Stop::RefusedInput(why, number));
                 Ok(())
             }
-            Err(_) => Err(Memory),
+            Err(Stop::Refused(kind)) => Err(Stop::Refused(kind)),
+            Err(Stop::Device) => Err(Stop::Device),
         }
     }
 

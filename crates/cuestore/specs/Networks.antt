@@ -1,7 +1,11 @@
 -- What the words over a network come to.
-use Rattle.std.specs.Prelude.{◌≡◌, ◌⊎◌, List, Result, Err}
+use Rattle.std.specs.Prelude.{◌≡◌, ◌⊎◌, ℕ, List, Option, Result, Ok, Err}
 use Rattle.cue_net.specs.declared.halt.Halt.{Halt}
 use Rattle.cue_net.specs.declared.halt.Halt.TheVariants as halts
+use Rattle.cue_net.specs.Doors.{ConversesOver, IsLooping, IsPushing, IsServingAt, ServesOver}
+use Rattle.cue_net.specs.Doors.{TalksOver}
+use Rattle.cue_net.specs.Halts.{IsDeviceOrMemory}
+use Rattle.cue_net.specs.Printed.{IsServedExport}
 use Rattle.cue_net.specs.Sockets.{IsTalkAnswer}
 use Rattle.cue_wire.specs.declared.request.Request.{Request}
 use Rattle.cue_program.specs.declared.Answer.{Answer}
@@ -22,12 +26,43 @@ abbrev pub IsEndedBy : (Halt → Type 0) → Stop → Type 0
 IsEndedBy IsHalt stop = (halt : Halt) × IsHalt halt × (stop ≡ stop_by halt)
 
 -- all inputs were read and checked, and then sent to a site, which came to this
-abbrev pub IsTalkOn : Inputs → Result Answer Halt → Type 0
-IsTalkOn inputs result =
-    (requests : List Request) × AreRequests inputs requests × IsTalkAnswer requests result
+abbrev pub IsTalkOn : (List Request → Result Answer Halt → Type 0) → Inputs → Result Answer Halt
+    → Type 0
+IsTalkOn Talks inputs result =
+    (requests : List Request) × AreRequests inputs requests × Talks requests result
 
 -- Why nothing is printed of a site: an input can't be sent, and then none was; or the talk ended
 -- so.
-abbrev pub IsTalkStopOn : Inputs → Stop → Type 0
-IsTalkStopOn inputs stop =
-    IsUnsentOn inputs stop ⊎ IsEndedBy (λ halt. IsTalkOn inputs (Err halt)) stop
+abbrev pub IsTalkStopOn : (List Request → Result Answer Halt → Type 0) → Inputs → Stop → Type 0
+IsTalkStopOn Talks inputs stop =
+    IsUnsentOn inputs stop ⊎ IsEndedBy (λ halt. IsTalkOn Talks inputs (Err halt)) stop
+
+-- What serving came to: the export of a new site that has served some requests; or a device failed
+-- or memory ran out.
+abbrev pub IsServed : Result Answer Halt → Type 0
+IsServed (Ok answer) = IsServedExport answer
+IsServed (Err halt) = IsDeviceOrMemory halt
+
+-- What the calls of a network came to: those that served so many connections at a port, those that
+-- sent requests to a port, and those that sent them to a site within this process.
+pub record Reach : Type 1 where
+  pub Serves : (port count : ℕ) → Result Answer Halt → Type 0
+  pub Pushes : (port : ℕ) → List Request → Result Answer Halt → Type 0
+  pub Loops : List Request → Result Answer Halt → Type 0
+
+-- this is what they came to, by what a network and its connections tell
+abbrev pub reach : {Do I O : Type 0} → (ℕ → Do → Type 0) → (Do → Do → I → O → Type 0)
+    → (ℕ → I → O → Type 0) → (I → O → I → O → Type 0) → Type 0
+    → (I → Option (List ℕ)) → (I → Option (List ℕ)) → (O → Option (List ℕ))
+    → (I → ℕ) → (O → ℕ) → (I → ℕ) → (O → ℕ) → Reach
+reach opens lets_in reaches joins fails given to_come taken reads writes failed_reads
+    failed_writes = record {
+      Serves = λ port count result. IsServingAt (opens port) lets_in (ServesOver given to_come taken
+          reads writes failed_reads failed_writes) fails count result × IsServed result;
+      Pushes = λ port requests result. IsPushing (reaches port) (TalksOver given to_come taken
+          reads writes failed_reads failed_writes requests result) fails requests result
+          × IsTalkAnswer requests result;
+      Loops = λ requests result. IsLooping joins (ConversesOver given to_come taken
+          reads writes failed_reads failed_writes requests result) fails requests result
+          × IsTalkAnswer requests result;
+    }

@@ -1,102 +1,113 @@
 -- Whole runs of the program, on devices whose bytes are known or not.
-use Rattle.std.specs.Prelude.{◌≡◌, ◌⊎◌, ℕ, List, [], ◌++◌, Option, Some, None, Ok, codes}
+use Rattle.std.specs.Prelude.{◌≡◌, ◌⊎◌, ℕ, List, [], ◌++◌, Option, Some, None, Ok, Err, codes}
 use Rattle.cue_answer.specs.Answers.{Says, code_of}
 use Rattle.cue_replica.specs.Language.{Table, language}
-use Rattle.cue_net.specs.Halts.{IsDeviceOrMemory}
-use Rattle.cue_net.specs.Printed.{IsServedExport}
 use Rattle.cue_program.specs.declared.Answer.{Answer}
 use Rattle.cue_program.specs.declared.Question.TheVariants as questions
 use Rattle.cue_program.specs.declared.Status.TheVariants as statuses
 use Rattle.cue_program.specs.declared.Stop.{Stop}
+use Rattle.cue_program.specs.Calls.{Call}
 use Rattle.cue_program.specs.Files.{Holdings}
-use Rattle.cue_program.specs.Inputs.{Holds, inputs_of}
+use Rattle.cue_program.specs.Inputs.{Holds, Inputs, inputs_of}
 use Rattle.cue_program.specs.Outlets.{Adds, Breaks, IsUntouched, Passage}
 use Rattle.cue_program.specs.Runs.{IsAnswerOn, IsMergeOn, IsMergeStopOn, IsStopOn}
 use Rattle.cuestore.specs.declared.fault.Fault.{Fault}
 use Rattle.cuestore.specs.declared.fault.Fault.TheVariants as faults
 use Rattle.cuestore.specs.Faults.{IsComplaint, IsMemory, IsTold}
-use Rattle.cuestore.specs.Networks.{IsEndedBy, IsTalkOn, IsTalkStopOn}
+use Rattle.cuestore.specs.Networks.{IsEndedBy, IsTalkOn, IsTalkStopOn, Reach}
 use Rattle.cuestore.specs.Words.{Asked, asking, merging, serving, pushing, looping, asked}
 
--- What stands around a run: what lies where before it and after it, and what the reader had.
-pub record Around : Type 0 where
-  pub before : Option Holdings
-  pub after : Option Holdings
+-- What stands around a run: what lies where, as far as that is known, and what the reader had; and
+-- what its calls came to: that none was made but those that only read; that a merge put the state of
+-- inputs at a name, or was stopped; and what the calls of a network came to.
+pub record Around : Type 1 where
+  pub held : Option Holdings
   pub input : Option (List ℕ)
+  pub OnlyReads : Type 0
+  pub Merges : List ℕ → Inputs → Type 0
+  pub StopsMerging : List ℕ → Inputs → Stop → Type 0
+  pub network : Reach
+
+-- it stands around a run between two moments of its runtime
+abbrev pub around : {S D M : Type 0} → (S → Option Holdings) → (S → Call D M → S → Type 0)
+    → Reach → S → S → Option (List ℕ) → Around
+around held Makes network old new input = record {
+  held = held old;
+  input = input;
+  OnlyReads = new ≡ old;
+  Merges = λ name inputs. IsMergeOn Makes name inputs old new;
+  StopsMerging = λ name inputs stop. IsMergeStopOn Makes name inputs old new stop;
+  network = network;
+}
 
 -- The answer to what is asked for. Asking changes no file, and merging says nothing.
 abbrev pub IsAnswerTo : Asked → Around → Answer → Type 0
-IsAnswerTo (asking question files) around answer =
-    IsAnswerOn question (inputs_of around.before files around.input) answer
-    × (around.after ≡ around.before)
-IsAnswerTo (merging out files) around answer =
-    IsMergeOn out (inputs_of around.before files around.input) around.before around.after
-    × Says answer [] statuses.Done
-IsAnswerTo (serving port count) around answer =
-    IsServedExport answer × (around.after ≡ around.before)
-IsAnswerTo (pushing port files) around answer =
-    IsTalkOn (inputs_of around.before files around.input) (Ok answer)
-    × (around.after ≡ around.before)
-IsAnswerTo (looping files) around answer =
-    IsTalkOn (inputs_of around.before files around.input) (Ok answer)
-    × (around.after ≡ around.before)
+IsAnswerTo (asking question files) at answer =
+    IsAnswerOn question (inputs_of at.held files at.input) answer × at.OnlyReads
+IsAnswerTo (merging out files) at answer =
+    at.Merges out (inputs_of at.held files at.input) × Says answer [] statuses.Done
+IsAnswerTo (serving port count) at answer =
+    at.network.Serves port count (Ok answer) × at.OnlyReads
+IsAnswerTo (pushing port files) at answer =
+    IsTalkOn (at.network.Pushes port) (inputs_of at.held files at.input) (Ok answer)
+    × at.OnlyReads
+IsAnswerTo (looping files) at answer =
+    IsTalkOn at.network.Loops (inputs_of at.held files at.input) (Ok answer) × at.OnlyReads
 
 -- What stops what is asked for.
 abbrev pub IsStopTo : Asked → Around → Stop → Type 0
-IsStopTo (asking question files) around stop =
-    IsStopOn (inputs_of around.before files around.input) stop
-    × (around.after ≡ around.before)
-IsStopTo (merging out files) around stop =
-    IsMergeStopOn out (inputs_of around.before files around.input) around.before around.after stop
-IsStopTo (serving port count) around stop =
-    IsEndedBy IsDeviceOrMemory stop × (around.after ≡ around.before)
-IsStopTo (pushing port files) around stop =
-    IsTalkStopOn (inputs_of around.before files around.input) stop
-    × (around.after ≡ around.before)
-IsStopTo (looping files) around stop =
-    IsTalkStopOn (inputs_of around.before files around.input) stop
-    × (around.after ≡ around.before)
+IsStopTo (asking question files) at stop =
+    IsStopOn (inputs_of at.held files at.input) stop × at.OnlyReads
+IsStopTo (merging out files) at stop =
+    at.StopsMerging out (inputs_of at.held files at.input) stop
+IsStopTo (serving port count) at stop =
+    IsEndedBy (λ halt. at.network.Serves port count (Err halt)) stop × at.OnlyReads
+IsStopTo (pushing port files) at stop =
+    IsTalkStopOn (at.network.Pushes port) (inputs_of at.held files at.input) stop
+    × at.OnlyReads
+IsStopTo (looping files) at stop =
+    IsTalkStopOn at.network.Loops (inputs_of at.held files at.input) stop × at.OnlyReads
 
 -- the words ask for something, to which this is the answer
 abbrev pub IsAnswerToWords : List (List ℕ) → Around → Answer → Type 0
-IsAnswerToWords words around answer =
-    (what : Asked) × (asked words ≡ Some what) × IsAnswerTo what around answer
+IsAnswerToWords words at answer =
+    (what : Asked) × (asked words ≡ Some what) × IsAnswerTo what at answer
 
 -- why there is no answer to the words: they ask for nothing, or memory ran out before anything was
 -- read, or what they ask for was stopped
 abbrev pub IsFaultOfWords : List (List ℕ) → Around → Fault → Type 0
-IsFaultOfWords words around fault =
-    ((fault ≡ faults.Usage) × (asked words ≡ None) × (around.after ≡ around.before))
-    ⊎ (IsMemory fault × (around.after ≡ around.before))
+IsFaultOfWords words at fault =
+    ((fault ≡ faults.Usage) × (asked words ≡ None) × at.OnlyReads)
+    ⊎ (IsMemory fault × at.OnlyReads)
     ⊎ ((what : Asked) × (asked words ≡ Some what)
-    × ((stop : Stop) × IsStopTo what around stop × (fault ≡ faults.Stopped stop)))
+    × ((stop : Stop) × IsStopTo what at stop × (fault ≡ faults.Stopped stop)))
 
 -- the run ends with an answer to the words: its bytes were added to the output, the status is the
 -- answer's, and where faults go nothing was added
 abbrev pub IsAnswered : List (List ℕ) → Around → Passage → Passage → ℕ → Type 0
-IsAnswered words around out faults status =
-    (answer : Answer) × IsAnswerToWords words around answer × (status ≡ code_of answer.status)
+IsAnswered words at out faults status =
+    (answer : Answer) × IsAnswerToWords words at answer × (status ≡ code_of answer.status)
     × Adds out answer.bytes.items × IsUntouched faults
 
 -- the run ends with a fault of the words, which is told
 abbrev pub IsStopped : List (List ℕ) → Around → Passage → Passage → ℕ → Type 0
-IsStopped words around out faults status =
-    (fault : Fault) × IsFaultOfWords words around fault × IsTold fault status out faults
+IsStopped words at out faults status =
+    (fault : Fault) × IsFaultOfWords words at fault × IsTold fault status out faults
 
 -- an answer to the words could not be written: some of it in front was, then a call of the output
 -- failed, and that is told where faults go
 abbrev pub IsUnwritten : List (List ℕ) → Around → Passage → Passage → ℕ → Type 0
-IsUnwritten words around out faults status =
-    (answer : Answer) × IsAnswerToWords words around answer × (status ≡ 4)
+IsUnwritten words at out faults status =
+    (answer : Answer) × IsAnswerToWords words at answer × (status ≡ 4)
     × Breaks out answer.bytes.items × IsComplaint faults
 
 -- the words ask for the state of inputs, all of which a site has taken that holds this table; no
 -- file changed
 abbrev pub IsStateOfWords : List (List ℕ) → Around → Table → Type 0
-IsStateOfWords words around table =
+IsStateOfWords words at table =
     (files : List (List ℕ)) × (asked words ≡ Some (asking questions.State files))
-    × Holds (inputs_of around.before files around.input) table
-    × (around.after ≡ around.before)
+    × Holds (inputs_of at.held files at.input) table
+    × at.OnlyReads
 
 -- these bytes, or some of them in front and then the line that tells that memory ran out
 abbrev pub IsCutBy : List ℕ → List ℕ → Type 0
@@ -118,14 +129,14 @@ IsStateTold bytes out faults status =
 
 -- the run writes the state that the words ask for
 abbrev pub IsStateWritten : List (List ℕ) → Around → Passage → Passage → ℕ → Type 0
-IsStateWritten words around out faults status =
-    (table : Table) × IsStateOfWords words around table
+IsStateWritten words at out faults status =
+    (table : Table) × IsStateOfWords words at table
     × IsStateTold (language.written table) out faults status
 
 -- How a run on these words ends, by what became of the output and of where faults go.
 abbrev pub IsRun : List (List ℕ) → Around → Passage → Passage → ℕ → Type 0
-IsRun words around out faults status =
-    IsAnswered words around out faults status
-    ⊎ IsStopped words around out faults status
-    ⊎ IsUnwritten words around out faults status
-    ⊎ IsStateWritten words around out faults status
+IsRun words at out faults status =
+    IsAnswered words at out faults status
+    ⊎ IsStopped words at out faults status
+    ⊎ IsUnwritten words at out faults status
+    ⊎ IsStateWritten words at out faults status

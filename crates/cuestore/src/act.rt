@@ -1,7 +1,7 @@
 ghost use Rattle.std.specs.Prelude.{◌≡◌, ◌⊎◌, ◌++◌, IfOk, IfErr, List, ℕ, codes, map, string_bytes};
 ghost use Rattle.cuestore.specs.Faults.{IsComplaint, IsMemory, IsRefused, IsTold, stop_text};
-ghost use Rattle.cuestore.specs.Runs.{Around, IsAnswerTo, IsFaultOfWords, IsRun};
-ghost use Rattle.cuestore.specs.Runs.{IsStopTo};
+ghost use Rattle.cuestore.specs.Networks.{reach};
+ghost use Rattle.cuestore.specs.Runs.{around, IsAnswerTo, IsFaultOfWords, IsRun, IsStopTo};
 ghost use Rattle.cuestore.specs.inner.Replies.{IsReplyTold, IsReplyToWords};
 ghost use Rattle.cuestore.specs.Words.{asked_by, merging};
 ghost use Rattle.cue_program.specs.Files.{texts};
@@ -11,6 +11,7 @@ use crate::command::{Command, command_of, given_words};
 use crate::fault::{Fault, LINE, text_of};
 use crate::network::{looped, pushed, served};
 use arrayvec::ArrayString;
+use cue_net::Network;
 use cue_program::{
     Answer, Outlet, Question, Replica, Shelf, Status, Stop, answer_for, merge_into, site_for,
     tell_state,
@@ -19,7 +20,6 @@ use std::alloc::Global;
 use std::env::Env;
 use std::fmt::Write as _;
 use std::io::{Read, Write};
-use std::net::{Net, TcpListener, TcpStream};
 
 /// Runs the program on the words after its name, and answers the exit status: 0 done, 1 refused or
 /// a usage fault, 2 conflicts, 3 incomplete, 4 a device fault.
@@ -49,12 +49,12 @@ pub fn act<H, R: Read, W: Write, F: Write>(
     faults: &mut Outlet<F>,
 ) -> u8
 where
-    H: AllocGlobal + Shelf + Net<Listener = TcpListener, Stream = TcpStream>,
-    ensures { IsRun (map string_bytes words.now) (record {
-      before = H.held rt.old;
-      after = H.held rt.new;
-      input = R.remaining input.old;
-    })
+    H: AllocGlobal + Shelf + Network,
+    ensures { IsRun (map string_bytes words.now)
+        (around H.held H.makes (reach (H.opens rt.old) (H.lets_in rt.old) (H.reaches rt.old)
+        (H.joins rt.old) (H.fails rt.old) H.Input.given H.Input.to_come H.Output.taken
+        H.Input.called H.Output.called H.Input.failed H.Output.failed)
+        rt.old rt.new (R.remaining input.old))
         (passed W.contents out.old out.new) (passed F.contents faults.old faults.new) result }
 {
     match reply_to(rt, words, input) {
@@ -72,17 +72,17 @@ pub fn run<H, R: Read, W: Write, F: Write>(
     faults: &mut Outlet<F>,
 ) -> u8
 where
-    H: AllocGlobal + Env + Shelf + Net<Listener = TcpListener, Stream = TcpStream>,
-    ensures { ((words : List (List ℕ)) × IsRun words (record {
-      before = H.held rt.old;
-      after = H.held rt.new;
-      input = R.remaining input.old;
-    })
+    H: AllocGlobal + Env + Shelf + Network,
+    ensures { ((words : List (List ℕ)) × IsRun words
+        (around H.held H.makes (reach (H.opens rt.old) (H.lets_in rt.old) (H.reaches rt.old)
+        (H.joins rt.old) (H.fails rt.old) H.Input.given H.Input.to_come H.Output.taken
+        H.Input.called H.Output.called H.Input.failed H.Output.failed)
+        rt.old rt.new (R.remaining input.old))
         (passed W.contents out.old out.new) (passed F.contents faults.old faults.new) result)
         ⊎ ((fault : Fault) × ((fault ≡ Fault.Usage) ⊎ IsMemory fault)
         × IsTold fault result
         (passed W.contents out.old out.new) (passed F.contents faults.old faults.new)
-        × (H.held rt.new ≡ H.held rt.old)) }
+        × (rt.new ≡ rt.old)) }
 {
     match given_words(&*rt) {
         Ok(words) => act(rt, &words, input, out, faults),
@@ -102,17 +102,17 @@ enum Reply {
 /// What the command that the words ask for prints.
 fn reply_to<H, R: Read>(rt: &mut H, words: &[String], input: &mut R) -> Result<Reply, Fault>
 where
-    H: AllocGlobal + Shelf + Net<Listener = TcpListener, Stream = TcpStream>,
-    ensures reply { IfOk result (IsReplyToWords (map string_bytes words.now) (record {
-      before = H.held rt.old;
-      after = H.held rt.new;
-      input = R.remaining input.old;
-    })) }
-    ensures fault { IfErr result (IsFaultOfWords (map string_bytes words.now) (record {
-      before = H.held rt.old;
-      after = H.held rt.new;
-      input = R.remaining input.old;
-    })) }
+    H: AllocGlobal + Shelf + Network,
+    ensures reply { IfOk result (IsReplyToWords (map string_bytes words.now)
+        (around H.held H.makes (reach (H.opens rt.old) (H.lets_in rt.old) (H.reaches rt.old)
+        (H.joins rt.old) (H.fails rt.old) H.Input.given H.Input.to_come H.Output.taken
+        H.Input.called H.Output.called H.Input.failed H.Output.failed)
+        rt.old rt.new (R.remaining input.old))) }
+    ensures fault { IfErr result (IsFaultOfWords (map string_bytes words.now)
+        (around H.held H.makes (reach (H.opens rt.old) (H.lets_in rt.old) (H.reaches rt.old)
+        (H.joins rt.old) (H.fails rt.old) H.Input.given H.Input.to_come H.Output.taken
+        H.Input.called H.Output.called H.Input.failed H.Output.failed)
+        rt.old rt.new (R.remaining input.old))) }
 {
     let command = command_of(rt.alloc(), words)?;
     match &command {
@@ -155,17 +155,17 @@ fn show<W: Write, F: Write>(
 /// What is printed for a command.
 fn answer<H, R: Read>(rt: &mut H, command: &Command, input: &mut R) -> Result<Answer, Stop>
 where
-    H: AllocGlobal + Shelf + Net<Listener = TcpListener, Stream = TcpStream>,
-    ensures answer { IfOk result (IsAnswerTo (asked_by command.now) (record {
-      before = H.held rt.old;
-      after = H.held rt.new;
-      input = R.remaining input.old;
-    })) }
-    ensures stop { IfErr result (IsStopTo (asked_by command.now) (record {
-      before = H.held rt.old;
-      after = H.held rt.new;
-      input = R.remaining input.old;
-    })) }
+    H: AllocGlobal + Shelf + Network,
+    ensures answer { IfOk result (IsAnswerTo (asked_by command.now)
+        (around H.held H.makes (reach (H.opens rt.old) (H.lets_in rt.old) (H.reaches rt.old)
+        (H.joins rt.old) (H.fails rt.old) H.Input.given H.Input.to_come H.Output.taken
+        H.Input.called H.Output.called H.Input.failed H.Output.failed)
+        rt.old rt.new (R.remaining input.old))) }
+    ensures stop { IfErr result (IsStopTo (asked_by command.now)
+        (around H.held H.makes (reach (H.opens rt.old) (H.lets_in rt.old) (H.reaches rt.old)
+        (H.joins rt.old) (H.fails rt.old) H.Input.given H.Input.to_come H.Output.taken
+        H.Input.called H.Output.called H.Input.failed H.Output.failed)
+        rt.old rt.new (R.remaining input.old))) }
 {
     match command {
         Command::Ask { question, files } => answer_for(&*rt, *question, files, input),
@@ -177,22 +177,22 @@ where
 }
 
 /// Merges, and says nothing.
-fn merged<H: AllocGlobal + Shelf, R: Read>(
+fn merged<H: AllocGlobal + Shelf + Network, R: Read>(
     rt: &mut H,
     out: &str,
     files: &[&str],
     input: &mut R,
 ) -> Result<Answer, Stop>
-    ensures answer { IfOk result (IsAnswerTo (merging out.now (texts files.now)) (record {
-      before = H.held rt.old;
-      after = H.held rt.new;
-      input = R.remaining input.old;
-    })) }
-    ensures stop { IfErr result (IsStopTo (merging out.now (texts files.now)) (record {
-      before = H.held rt.old;
-      after = H.held rt.new;
-      input = R.remaining input.old;
-    })) }
+    ensures answer { IfOk result (IsAnswerTo (merging out.now (texts files.now))
+        (around H.held H.makes (reach (H.opens rt.old) (H.lets_in rt.old) (H.reaches rt.old)
+        (H.joins rt.old) (H.fails rt.old) H.Input.given H.Input.to_come H.Output.taken
+        H.Input.called H.Output.called H.Input.failed H.Output.failed)
+        rt.old rt.new (R.remaining input.old))) }
+    ensures stop { IfErr result (IsStopTo (merging out.now (texts files.now))
+        (around H.held H.makes (reach (H.opens rt.old) (H.lets_in rt.old) (H.reaches rt.old)
+        (H.joins rt.old) (H.fails rt.old) H.Input.given H.Input.to_come H.Output.taken
+        H.Input.called H.Output.called H.Input.failed H.Output.failed)
+        rt.old rt.new (R.remaining input.old))) }
 {
     match merge_into(rt, out, files, input) {
         Ok(()) => Ok(Answer {

@@ -18,7 +18,7 @@ use crate::app::store;
 use crate::fault::Fault;
 use clap::ArgMatches;
 use clap::error::ErrorKind;
-use cue_program::{Memory, Question, Stop};
+use cue_program::{Kind, Question, Stop};
 use std::alloc::{AllocError, Global};
 use std::env::{Args, Env};
 use std::{env, io};
@@ -82,7 +82,7 @@ pub fn unread(error: &io::Error) -> Fault
     ensures fault { (result ≡ Fault.Usage) ⊎ IsMemory result }
 {
     match error.kind() {
-        io::ErrorKind::OutOfMemory => Fault::Stopped(Stop::from(Memory)),
+        io::ErrorKind::OutOfMemory => Fault::Stopped(Stop::Refused(Kind::Memory)),
         _ => Fault::Usage,
     }
 }
@@ -126,7 +126,7 @@ fn refused(kind: ErrorKind) -> Fault
     ensures usage { result ≡ Fault.Usage → (kind ≡ ErrorKind.OutOfMemory → ⊥) }
 {
     match kind {
-        ErrorKind::OutOfMemory => Fault::Stopped(Stop::from(Memory)),
+        ErrorKind::OutOfMemory => Fault::Stopped(Stop::Refused(Kind::Memory)),
         _ => Fault::Usage,
     }
 }

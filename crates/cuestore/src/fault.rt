@@ -4,7 +4,7 @@ ghost use Rattle.cuestore.specs.Faults.{kind_text, status_of, stop_text};
 ghost use Rattle.cuestore.specs.inner.Lines.{digit_limit, kind_limit, line_limit};
 
 use arrayvec::ArrayString;
-use cue_program::{Kind, Memory, Stop};
+use cue_program::{Kind, Stop};
 use itoa::Buffer;
 use std::alloc::{AllocError, AllocFailed};
 use thiserror::Error;
@@ -92,8 +92,8 @@ impl From<AllocError> for Fault {
 
     ghost from_gives = { λ _ fault. IsMemory fault };
 
-    fn from(_error: AllocError) -> Fault {
-        Fault::Stopped(Stop::from(Memory))
+    fn from(error: AllocError) -> Fault {
+        Fault::Stopped(Stop::from(error))
     }
 }
 
@@ -102,7 +102,7 @@ impl<T: Drop> From<AllocFailed<T>> for Fault {
 
     ghost from_gives = { λ _ fault. IsMemory fault };
 
-    fn from(_error: AllocFailed<T>) -> Fault {
-        Fault::Stopped(Stop::from(Memory))
+    fn from(error: AllocFailed<T>) -> Fault {
+        Fault::Stopped(Stop::from(error))
     }
 }

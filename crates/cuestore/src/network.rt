@@ -1,23 +1,28 @@
 ghost use Rattle.std.specs.Prelude.{◌≡◌, ℕ, List, Option, IfOk, IfErr, Ok, Err};
 ghost use Rattle.cue_program.specs.Files.{texts};
-ghost use Rattle.cuestore.specs.Networks.{IsEndedBy, stop_by};
-ghost use Rattle.cuestore.specs.Runs.{Around, IsAnswerTo, IsStopTo};
+ghost use Rattle.cuestore.specs.Networks.{IsEndedBy, reach, stop_by};
+ghost use Rattle.cuestore.specs.Runs.{around, IsAnswerTo, IsStopTo};
 ghost use Rattle.cuestore.specs.Words.{looping, pushing, serving};
 
-use cue_net::{Halt, loop_for, push_for, serve_for};
+use cue_net::{Halt, Network, loop_for, push_for, serve_for};
 use cue_program::{Answer, Shelf, Stop, requests_for};
 use std::alloc::Global;
 use std::io::Read;
-use std::net::{Net, TcpListener, TcpStream};
 
 /// Serves connections, and answers the export of their site, as it is printed.
 pub fn served<H>(rt: &H, port: u16, count: u16) -> Result<Answer, Stop>
 where
-    H: AllocGlobal + Shelf + Net<Listener = TcpListener, Stream = TcpStream>,
+    H: AllocGlobal + Shelf + Network,
     ensures answer { (known : Option (List ℕ)) → IfOk result (IsAnswerTo (serving port count)
-        (record { before = H.held rt.now; after = H.held rt.now; input = known })) }
+        (around H.held H.makes (reach (H.opens rt.now) (H.lets_in rt.now) (H.reaches rt.now)
+        (H.joins rt.now) (H.fails rt.now) H.Input.given H.Input.to_come H.Output.taken
+        H.Input.called H.Output.called H.Input.failed H.Output.failed)
+        rt.now rt.now known)) }
     ensures stop { (known : Option (List ℕ)) → IfErr result (IsStopTo (serving port count)
-        (record { before = H.held rt.now; after = H.held rt.now; input = known })) }
+        (around H.held H.makes (reach (H.opens rt.now) (H.lets_in rt.now) (H.reaches rt.now)
+        (H.joins rt.now) (H.fails rt.now) H.Input.given H.Input.to_come H.Output.taken
+        H.Input.called H.Output.called H.Input.failed H.Output.failed)
+        rt.now rt.now known)) }
 {
     ended(serve_for(rt, port, count))
 }
@@ -25,17 +30,17 @@ where
 /// Sends the inputs to the site on a port, and answers its export, as it is printed.
 pub fn pushed<H, R: Read>(rt: &H, port: u16, files: &[&str], input: &mut R) -> Result<Answer, Stop>
 where
-    H: AllocGlobal + Shelf + Net<Listener = TcpListener, Stream = TcpStream>,
-    ensures answer { IfOk result (IsAnswerTo (pushing port (texts files.now)) (record {
-      before = H.held rt.now;
-      after = H.held rt.now;
-      input = R.remaining input.old;
-    })) }
-    ensures stop { IfErr result (IsStopTo (pushing port (texts files.now)) (record {
-      before = H.held rt.now;
-      after = H.held rt.now;
-      input = R.remaining input.old;
-    })) }
+    H: AllocGlobal + Shelf + Network,
+    ensures answer { IfOk result (IsAnswerTo (pushing port (texts files.now))
+        (around H.held H.makes (reach (H.opens rt.now) (H.lets_in rt.now) (H.reaches rt.now)
+        (H.joins rt.now) (H.fails rt.now) H.Input.given H.Input.to_come H.Output.taken
+        H.Input.called H.Output.called H.Input.failed H.Output.failed)
+        rt.now rt.now (R.remaining input.old))) }
+    ensures stop { IfErr result (IsStopTo (pushing port (texts files.now))
+        (around H.held H.makes (reach (H.opens rt.now) (H.lets_in rt.now) (H.reaches rt.now)
+        (H.joins rt.now) (H.fails rt.now) H.Input.given H.Input.to_come H.Output.taken
+        H.Input.called H.Output.called H.Input.failed H.Output.failed)
+        rt.now rt.now (R.remaining input.old))) }
 {
     let requests = requests_for(rt, files, input)?;
     ended(push_for(rt, port, &requests))
@@ -45,17 +50,17 @@ where
 /// export, as it is printed.
 pub fn looped<H, R: Read>(rt: &H, files: &[&str], input: &mut R) -> Result<Answer, Stop>
 where
-    H: AllocGlobal + Shelf + Net<Listener = TcpListener, Stream = TcpStream>,
-    ensures answer { IfOk result (IsAnswerTo (looping (texts files.now)) (record {
-      before = H.held rt.now;
-      after = H.held rt.now;
-      input = R.remaining input.old;
-    })) }
-    ensures stop { IfErr result (IsStopTo (looping (texts files.now)) (record {
-      before = H.held rt.now;
-      after = H.held rt.now;
-      input = R.remaining input.old;
-    })) }
+    H: AllocGlobal + Shelf + Network,
+    ensures answer { IfOk result (IsAnswerTo (looping (texts files.now))
+        (around H.held H.makes (reach (H.opens rt.now) (H.lets_in rt.now) (H.reaches rt.now)
+        (H.joins rt.now) (H.fails rt.now) H.Input.given H.Input.to_come H.Output.taken
+        H.Input.called H.Output.called H.Input.failed H.Output.failed)
+        rt.now rt.now (R.remaining input.old))) }
+    ensures stop { IfErr result (IsStopTo (looping (texts files.now))
+        (around H.held H.makes (reach (H.opens rt.now) (H.lets_in rt.now) (H.reaches rt.now)
+        (H.joins rt.now) (H.fails rt.now) H.Input.given H.Input.to_come H.Output.taken
+        H.Input.called H.Output.called H.Input.failed H.Output.failed)
+        rt.now rt.now (R.remaining input.old))) }
 {
     let requests = requests_for(rt, files, input)?;
     ended(loop_for(rt, &requests))

@@ -12,7 +12,7 @@ loop-preserved g c =
           c.args.kept.now c.loop.kept c.go_on.new.self (c.loop.counter - 1) (c.loop.counter + 1 - 1) c.in_ok-count.count
           c.read_piece.new.piece c.loop.invariant.read c.in_ok-count.ensures.read.0
           (c.in_ok-count.ensures.room ∙ (c.loop.invariant.room ∙ c.requires.room)) (search rules) c.in_ok-count.ensures.bound next
-          (λ front some is. c.in_ok-go_on.ensures front some is);
+          (λ front some is. c.in_ok-go_on.ensures.kept front some is);
       calls = omega (arith, c.in_ok-count.ensures.counted, c.loop.invariant.calls);
       failures = c.in_ok-count.ensures.failures ∙ c.loop.invariant.failures;
     }

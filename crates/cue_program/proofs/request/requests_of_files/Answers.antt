@@ -23,7 +23,7 @@ returns-in_err-file-clause-stop g c =
     err_on c.from_residual-in_err-file.result c.in_err-file.field-0.0 _ c.from_residual-in_err-file.ensures.1 (subst (λ (ks : List (Option (List ℕ))). IsUnsentOn (files ks) c.in_err-file.field-0.0)
     (sym (split_known K names i _ c.loop-name-test.true))
     (files_sent_unread (map K (texts (take i names))) (map K (texts (drop (i + 1) names))) _ c.loop-name.requests.items c.in_err-file.field-0.0
-    c.loop-name.invariant.sent c.in_err-file.ensures.fault))
+    c.loop-name.invariant.sent c.in_err-file.ensures.unread))
 
 pub returns-in_err-request-clause-stop : goal.returns-in_err-request-clause-stop
 returns-in_err-request-clause-stop g c =

@@ -12,5 +12,5 @@ returns-clause-merges g c =
 
 pub returns-clause-stop : goal.returns-clause-stop
 returns-clause-stop g c =
-    err_both c.put.result c.put.ensures.fault c.put.ensures.unharmed
-    (λ stop why unharmed. inr (c.in_ok-site.site, c.in_ok-site.ensures.holds, why, unharmed))
+    err_both c.put.result c.put.ensures.fault c.put.ensures.stopped
+    (λ stop why stopped. inr (c.in_ok-site.site, c.in_ok-site.ensures.holds, why, stopped))

@@ -22,7 +22,7 @@ returns-in_err-file-clause-stop g c =
     err_on c.from_residual-in_err-file.result c.in_err-file.field-0.0 _ c.from_residual-in_err-file.ensures.1 (inr (inl (subst (λ (ks : List (Option (List ℕ))). IsInputUnread (files ks) c.in_err-file.field-0.0)
     (sym (split_known K names i _ c.loop-name-test.true))
     (files_unread IsAcceptable (map K (texts (take i names))) (map K (texts (drop (i + 1) names))) _ c.loop-name.invariant.holds.0 c.in_err-file.field-0.0
-    c.loop-name.invariant.holds.1 c.loop-name.invariant.holds.2.0 c.in_err-file.ensures.fault))))
+    c.loop-name.invariant.holds.1 c.loop-name.invariant.holds.2.0 c.in_err-file.ensures.unread))))
 
 pub returns-in_err-take_file-clause-stop : goal.returns-in_err-take_file-clause-stop
 returns-in_err-take_file-clause-stop g c =

@@ -1,0 +1,100 @@
+//! New files that are to take the place of others.
+ghost use Rattle.std.specs.Prelude.{◌⊎◌, ℕ, IfOk, OnOk, OnErr, IfErr, string_bytes};
+ghost use Rattle.cue_replica.specs.Language.{language};
+ghost use Rattle.cue_program.specs.Calls.{Creates, Fills, FillsAndMoves, TakesMode, Tries};
+ghost use Rattle.cue_program.specs.Stopped.{OnlyTouches, StopsFilling};
+ghost use Rattle.cue_program.specs.Stops.{IsDevice, IsMemory};
+
+use crate::shelf::{Shelf, Uncreated};
+use crate::state_file::write_state;
+use crate::stop::Stop;
+use cue_device::Fault;
+use cue_replica::Replica;
+use std::alloc::Global;
+
+/// How many names are tried for the file that is written first.
+const MOST_DRAFTS: usize = 16;
+
+/// Makes a new file beside a place, and answers where: the place's name with `.part` behind it,
+/// more than once where such files lie there already.
+pub fn create_beside<S: Shelf>(
+    shelf: &mut S,
+    alloc: Global,
+    place: &str,
+) -> Result<(String, S::Draft), Stop>
+    ensures created { IfOk result (λ made.
+        Creates S.makes place.now (string_bytes made.0) made.1 shelf.old shelf.new) }
+    ensures tried { OnErr result ((n : ℕ) × Tries S.makes place.now n shelf.old shelf.new) }
+    ensures fault { IfErr result (λ stop. IsDevice stop ⊎ IsMemory stop) }
+{
+    let mut draft = String::from_str(alloc, place)?;
+    for _ in 0..MOST_DRAFTS {
+        draft.push_str(".part")?;
+        match shelf.create(draft.as_str()) {
+            Ok(file) => return Ok((draft, file)),
+            Err(Uncreated::Taken) => {}
+            Err(Uncreated::Fault) => return Err(Stop::Device),
+        }
+    }
+    Err(Stop::Device)
+}
+
+/// Fills a new file, and moves it to a place from where it was made.
+pub fn fill_and_move<S: Shelf>(
+    shelf: &mut S,
+    alloc: Global,
+    file: S::Draft,
+    draft: &str,
+    place: &str,
+    is_file: bool,
+    site: &Replica,
+) -> Result<(), Stop>
+    ensures moved { OnOk result (FillsAndMoves S.makes draft.now place.now is_file
+        (language.written site.now) file shelf.old shelf.new) }
+    ensures stopped { OnErr result
+        (StopsFilling S.makes draft.now place.now file shelf.old shelf.new) }
+    ensures fault { IfErr result (λ stop. IsDevice stop ⊎ IsMemory stop) }
+{
+    fill(shelf, alloc, file, place, is_file, site)?;
+    shelf.rename(draft, place)?;
+    Ok(())
+}
+
+/// Gives a new file the mode of the one that lies at a place, where one does, and the state bytes
+/// of a site, and has them reach the disk.
+fn fill<S: Shelf>(
+    shelf: &mut S,
+    alloc: Global,
+    mut file: S::Draft,
+    place: &str,
+    is_file: bool,
+    site: &Replica,
+) -> Result<(), Stop>
+    ensures filled { OnOk result (Fills S.makes place.now is_file (language.written site.now) file
+        shelf.old shelf.new) }
+    ensures touched { OnErr result (OnlyTouches S.makes place.now file shelf.old shelf.new) }
+    ensures fault { IfErr result (λ stop. IsDevice stop ⊎ IsMemory stop) }
+{
+    take_mode(shelf, &file, place, is_file)?;
+    write_state(shelf, alloc, &mut file, site)?;
+    shelf.sync(&file)?;
+    Ok(())
+}
+
+/// Gives a file the mode of the one that lies at a place, where one does.
+fn take_mode<S: Shelf>(
+    shelf: &mut S,
+    file: &S::Draft,
+    place: &str,
+    is_file: bool,
+) -> Result<(), Fault>
+    ensures taken { OnOk result
+        (TakesMode S.makes place.now is_file file.now shelf.old shelf.new) }
+    ensures touched { OnErr result (OnlyTouches S.makes place.now file.now shelf.old shelf.new) }
+{
+    if !is_file {
+        return Ok(());
+    }
+    let mode = shelf.mode_of(place)?;
+    shelf.set_mode(file, mode)
+}
