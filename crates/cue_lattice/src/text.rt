@@ -1,4 +1,4 @@
-ghost use Rattle.std.specs.Prelude.{◌≡◌, ℕ, List, IfOk, string_bytes, ◌↔◌, IsTrue};
+ghost use Rattle.std.specs.Prelude.{◌≡◌, ◌≤◌, ℕ, List, IfOk, IsOk, length, string_bytes, ◌↔◌, IsTrue};
 ghost use Rattle.std.specs.Ordering.{nat_cmp};
 ghost use Rattle.std.specs.Cmp.Lexicographic.{slice_cmp};
 
@@ -41,9 +41,10 @@ impl Model for Text {
 }
 
 impl Text {
-    /// The text of a string. A long string is taken over.
+    /// The text of a string. A long string is taken over. Up to 22 bytes take no memory.
     pub fn new(alloc: Global, string: String) -> Result<Text, Memory>
-        ensures { IfOk result (λ t. t ≡ string_bytes string) }
+        ensures text { IfOk result (λ t. t ≡ string_bytes string) }
+        ensures room { length (string_bytes string) ≤ 22 → IsOk result }
     {
         if string.len() <= ROOM {
             return Text::from_str(alloc, string.as_str());
@@ -55,7 +56,8 @@ impl Text {
 
     /// A copy of a string slice. Up to 22 bytes take no memory.
     pub fn from_str(alloc: Global, text: &str) -> Result<Text, Memory>
-        ensures { IfOk result (λ t. t ≡ text.now) }
+        ensures text { IfOk result (λ t. t ≡ text.now) }
+        ensures room { length text.now ≤ 22 → IsOk result }
     {
         let bytes = text.as_bytes();
         let len = bytes.len();
@@ -106,7 +108,8 @@ impl Text {
     /// The same text once more. This takes no memory, unless a long text has so many copies that
     /// they can't be counted.
     pub fn copy(&self, alloc: Global) -> Result<Text, Memory>
-        ensures { IfOk result (λ t. t ≡ self.now) }
+        ensures text { IfOk result (λ t. t ≡ self.now) }
+        ensures room { length self.now ≤ 22 → IsOk result }
     {
         match &self.kept {
             Kept::Short(len, room) => Ok(Text {
