@@ -21,6 +21,7 @@ pub mod Views
 pub mod RowsGrow
 pub mod PartsMakeTrees
 pub mod MovesAndStops
+pub mod OpensLevels
 pub mod RefusalsPassOn
 pub mod GoalsAtTokens
 pub mod MovesOverLiterals

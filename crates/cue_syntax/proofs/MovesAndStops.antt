@@ -1,7 +1,7 @@
 -- How moves and stops of the recogniser are put together.
-use Rattle.std.proofs.Common.{◌≡◌, ◌∙◌, ap, sym, subst, refl, ℕ, ◌+◌, ◌≤◌, ◌<◌, ◌⊎◌, inl, inr, true, false, List, [], ◌∷◌, ◌++◌, drop, append_assoc, arith, Some, None, Result, Ok, Err, IfOk, IfErr}
+use Rattle.std.proofs.Common.{◌≡◌, ◌∙◌, ap, sym, subst, refl, ℕ, ◌+◌, ◌≤◌, ◌⊎◌, inl, inr, true, false, List, [], ◌∷◌, ◌++◌, drop, append_assoc, arith, Some, None, Result, Ok, Err, IfOk, IfErr}
 use Rattle.std.specs.Prelude.{if◌then◌else◌, IsErrAnd}
-use Rattle.std.proofs.lemmas.Bool.{le-leb, lt-leb}
+use Rattle.std.proofs.lemmas.Bool.{le-leb}
 use Rattle.cue_lex.specs.declared.token.Token.{Token}
 use Rattle.cue_lex.specs.declared.token.TokenKind.{TokenKind}
 use Rattle.cue_syntax.specs.declared.stop.Why.{Why}
@@ -9,9 +9,9 @@ use Rattle.cue_syntax.specs.declared.stop.Why.TheVariants as reasons
 use Rattle.cue_syntax.specs.declared.stop.Stop.{Stop}
 use Rattle.cue_syntax.specs.Grammar.{Limit, unlimited, at_most, Within}
 use Rattle.cue_syntax.specs.Spelling.{Reads, Piece}
-use Rattle.cue_syntax.specs.Stops.{memory, at_hand}
-use Rattle.cue_syntax.specs.Viability.{Stands, StandsSign, IsMark}
-use Rattle.cue_syntax.specs.Recogniser.{Stack, depth, fits, step, is_over, stuck, stuck_behind, Closes, IsEnd, OpensAt, SticksBy, Stops, Refused, Moves, IsBrace}
+use Rattle.cue_syntax.specs.Stops.{IsMemory, at_hand}
+use Rattle.cue_syntax.specs.Viability.{Stands, StandsSign, IsKeywordName}
+use Rattle.cue_syntax.specs.Recogniser.{Stack, depth, fits, step, is_over, stuck, stuck_behind, Closes, IsEnd, Sticks, GoesOn, IsCallHere, StaysWithin, TakesOperand, FollowsMark, IsOperandHere, OpensItself, SticksBy, Stops, Refused, Moves}
 
 -- tokens are the last of themselves
 pub end_self : {a : List Token} → IsEnd a a
@@ -158,119 +158,127 @@ err_from P (Ok a) x is p = absurd is
 err_from P (Err e) x is p = subst P (sym is) p
 
 -- stops
--- goals stop where they halt
-pub stops_here : {n end : ℕ} {g : Stack} {a : List Token} {r : Stop} → r ≡ at_hand reasons.Syntax end a → Halts g a → Stops n end g a r
-stops_here {n = n} {end = end} {g = g} {a = a} is halts = subst (λ z. Stops n end g a z) (sym is) (record {
-  at = a;
-  inside = end_self;
-  left = refl;
-  by = halts_sticks g unlimited a halts;
-})
+-- what is stuck within more room after a move is so from its start
+pub sticks_behind : {n l : ℕ} {g h : Stack} {a b here : List Token} → n ≤ l → Moves n g a h b → Sticks (at_most l) h b here → Sticks (at_most l) g a here
+sticks_behind {n = n} {l = l} le m s = λ below closes. m.moves (at_most (depth below + l)) below (let e : depth below + n ≤ depth below + l = omega (arith, le) in e) ∙ s below closes
 
--- refused at a later symbol
-pub stops_there : {n end free : ℕ} {g h : Stack} {a b : List Token} {r : Stop} → r ≡ at_hand reasons.Syntax end b → Moves free g a h b → Halts h b → Stops n end g a r
-stops_there {n = n} {end = end} {g = g} {h = h} {a = a} {b = b} is m halts = subst (λ z. Stops n end g a z) (sym is) (record {
+-- where goals halt, the tokens leave the grammar within each room for the move there
+halts_within : {n l : ℕ} {g h : Stack} {a b : List Token} → n ≤ l → Moves n g a h b → Halts h b → Sticks (at_most l) g a b
+halts_within {l = l} {h = h} {b = b} le m halts = sticks_behind le m (λ below closes. halts_sticks h (at_most (depth below + l)) b halts below closes)
+
+halts_ever : {n : ℕ} {g h : Stack} {a b : List Token} → Moves n g a h b → Halts h b → Sticks unlimited g a b
+halts_ever {h = h} {b = b} m halts = λ below closes. m.moves unlimited below tt ∙ halts_sticks h unlimited b halts below closes
+
+-- refused at a later symbol, to which there is room
+pub stops_there : {n end free : ℕ} {g h : Stack} {a b : List Token} {r : Stop} → free ≤ n → r ≡ at_hand reasons.Syntax end b → Moves free g a h b → Halts h b → Stops n end g a r
+stops_there {n = n} {end = end} {g = g} {a = a} {b = b} le is m halts = subst (λ z. Stops n end g a z) (sym is) (record {
   at = b;
   inside = m.inside;
   left = refl;
-  by = λ below closes. m.moves unlimited below tt ∙ halts_sticks h unlimited b halts below closes;
+  by = (halts_ever m halts, inl (halts_within le m halts));
 })
 
-near_behind : {a b here at : List Token} → IsEnd a b → ((at ≡ here) × ¬ Stands IsMark here) ⊎ ((drop 1 at ≡ here) × Stands IsMark here) ⊎ IsBrace b here at
-    → ((at ≡ here) × ¬ Stands IsMark here) ⊎ ((drop 1 at ≡ here) × Stands IsMark here) ⊎ IsBrace a here at
-near_behind inside (inl e) = inl e
-near_behind inside (inr (inl e)) = inr (inl e)
-near_behind inside (inr (inr brace)) = inr (inr (record { name = brace.name; inside = end_then inside brace.inside; call = brace.call; behind = brace.behind; is = brace.is; brace = brace.brace }))
+-- goals stop where they halt
+pub stops_here : {n end : ℕ} {g : Stack} {a : List Token} {r : Stop} → r ≡ at_hand reasons.Syntax end a → Halts g a → Stops n end g a r
+stops_here is halts = stops_there {free = 0} (omega arith) is moves_none halts
 
-opens_after : {n : ℕ} {g h : Stack} {a b : List Token} (here : List Token) → Moves n g a h b → OpensAt n h b here → OpensAt n g a here
-opens_after {n = n} here m opens = record {
-  sticks = λ below closes. m.moves (at_most (depth below + n)) below (let e : depth below + n ≤ depth below + n = omega arith in e) ∙ opens.sticks below closes;
-  deeper = λ below. let d = opens.deeper below in record { next = d.next; token = d.token; tokens_behind = d.tokens_behind; is = d.is; goes_on = m.moves unlimited below tt ∙ d.goes_on };
-}
+-- refused at a symbol before which a level is owed
+pub stops_owing : {n end : ℕ} {g h : Stack} {a b : List Token} {r : Stop} (before : List Token) → r ≡ at_hand reasons.Syntax end b → Moves (1 + n) g a h b → Halts h b
+    → drop 1 before ≡ b → Sticks (at_most n) g a before → Stands IsKeywordName before ⊎ IsCallHere a before → Stops n end g a r
+stops_owing {n = n} {end = end} {g = g} {h = h} {a = a} {b = b} before is m halts next sticks why = subst (λ z. Stops n end g a z) (sym is) (record {
+  at = b;
+  inside = m.inside;
+  left = refl;
+  by = (halts_ever m halts, inr (record { before = before; next = next; sticks = sticks; goes_on = record { next = h; moves = m }; why = why }));
+})
 
-by_behind : {n : ℕ} {g h : Stack} {a b : List Token} (at : List Token) (kind : Why) → Moves n g a h b → SticksBy n h b kind at → SticksBy n g a kind at
-by_behind at reasons.Syntax m by = λ below closes. m.moves unlimited below tt ∙ by below closes
-by_behind at reasons.Nesting m by = record { here = by.here; opens = opens_after by.here m by.opens; near = near_behind m.inside by.near }
-by_behind at reasons.Memory m by = by
+-- what a move leads to
+pub goes_behind : {n l : ℕ} {g h : Stack} {a b rest : List Token} → n ≤ l → Moves n g a h b → GoesOn l h b rest → GoesOn l g a rest
+goes_behind le m s = record { next = s.next; moves = moves_then (moves_more le m) s.moves }
+
+call_behind : {a b here : List Token} → IsEnd a b → IsCallHere b here → IsCallHere a here
+call_behind inside s = record { name = s.name; inside = end_then inside s.inside; call = s.call; behind = s.behind }
+
+why_behind : {a b before : List Token} → IsEnd a b → Stands IsKeywordName before ⊎ IsCallHere b before → Stands IsKeywordName before ⊎ IsCallHere a before
+why_behind inside (inl e) = inl e
+why_behind inside (inr c) = inr (call_behind inside c)
+
+within_behind : {n : ℕ} {g h : Stack} {a b here : List Token} → Moves n g a h b → StaysWithin n h b here → StaysWithin n g a here
+within_behind m (inl s) = inl (sticks_behind (omega arith) m s)
+within_behind m (inr o) = inr (record { before = o.before; next = o.next; sticks = sticks_behind (omega arith) m o.sticks; goes_on = goes_behind (omega arith) m o.goes_on; why = why_behind m.inside o.why })
+
+-- Where an operand may begin after a move, a mark was read last, or none was and an operand may begin at the start.
+abbrev pub Leads : Stack → List Token → Stack → List Token → Type 0
+Leads g a h b = TakesOperand h → IsOperandHere g a b
+
+-- a mark that stands before a place in what is left stands before it in the tokens
+pub follows_behind : {a b here : List Token} → IsEnd a b → FollowsMark b here → FollowsMark a here
+follows_behind inside f = record { token = f.token; mark = f.mark; kind = f.kind; inside = end_then inside f.inside }
+
+operand_behind : {a b here : List Token} (g h : Stack) → IsEnd a b → Leads g a h b → IsOperandHere h b here → IsOperandHere g a here
+operand_behind {a = a} g h inside leads (inl e) = subst (λ z. IsOperandHere g a z) e.0 (leads e.1)
+operand_behind g h inside leads (inr f) = inr (follows_behind inside f)
+
+opens_after : {n : ℕ} {g h : Stack} {a b here : List Token} → Moves n g a h b → Leads g a h b → OpensItself n h b here → OpensItself n g a here
+opens_after m leads (inl e) = inl e
+opens_after {g = g} {h = h} m leads (inr (e, inl f)) = inr (e, inl (operand_behind g h m.inside leads f))
+opens_after m leads (inr (e, inr s)) = inr (e, inr (sticks_behind (omega arith) m s))
+
+by_behind : {n : ℕ} {g h : Stack} {a b : List Token} (at : List Token) (kind : Why) → Moves n g a h b → Leads g a h b → SticksBy n h b kind at → SticksBy n g a kind at
+by_behind at reasons.Syntax m leads by = (λ below closes. m.moves unlimited below tt ∙ by.0 below closes, within_behind m by.1)
+by_behind at reasons.Nesting m leads by =
+    record { here = by.here; within = within_behind m by.within; goes_on = goes_behind (omega arith) m by.goes_on; opens = opens_after m leads by.opens; near = by.near }
+by_behind at (reasons.Memory memory) m leads by = by
 
 -- a stop at what is left after a move is a stop from its start
-pub stops_behind : {n end : ℕ} {g h : Stack} {a b : List Token} {r : Stop} → Moves n g a h b → Stops n end h b r → Stops n end g a r
-stops_behind {r = r} m s = record { at = s.at; inside = end_then m.inside s.inside; left = s.left; by = by_behind s.at r.why m s.by }
+pub stops_behind : {n end : ℕ} {g h : Stack} {a b : List Token} {r : Stop} → Moves n g a h b → Leads g a h b → Stops n end h b r → Stops n end g a r
+stops_behind {r = r} m leads s = record { at = s.at; inside = end_then m.inside s.inside; left = s.left; by = by_behind s.at r.why m leads s.by }
 
-by_under : {n : ℕ} (left : ℕ) (g : Stack) (a at : List Token) (kind : Why) (under : Stack) → depth under + left ≡ n → ((below : Stack) → Closes below → Closes (under ++ below))
-    → SticksBy left g a kind at → SticksBy n (g ++ under) a kind at
-by_under left g a at reasons.Syntax under is close by =
-    λ below closes. subst (λ z. stuck unlimited z a ≡ Some at) (sym (append_assoc g under below)) (by (under ++ below) (close below closes))
-by_under {n = n} left g a at reasons.Nesting under is close by = record {
-  here = by.here;
-  opens = record {
-    sticks = λ below closes.
-        let e : depth (under ++ below) + left ≡ depth below + n = omega (arith, is, depth_append under below) in
-        subst (λ z. stuck (at_most (depth below + n)) z a ≡ Some by.here) (sym (append_assoc g under below))
-        (subst (λ z. stuck (at_most z) (g ++ (under ++ below)) a ≡ Some by.here) e (by.opens.sticks (under ++ below) (close below closes)));
-    deeper = λ below. let d = by.opens.deeper (under ++ below) in record {
-      next = d.next;
-      token = d.token;
-      tokens_behind = d.tokens_behind;
-      is = d.is;
-      goes_on = subst (λ z. stuck unlimited z a ≡ stuck unlimited d.next d.tokens_behind) (sym (append_assoc g under below)) d.goes_on;
-    };
-  };
-  near = by.near;
-}
-by_under left g a at reasons.Memory under is close by = by
+-- the same where further goals lie below
+abbrev Passes : Stack → Type 0
+Passes under = (below : Stack) → Closes below → Closes (under ++ below)
+
+sticks_ever_under : (g : Stack) (a here : List Token) (under : Stack) → Passes under → Sticks unlimited g a here → Sticks unlimited (g ++ under) a here
+sticks_ever_under g a here under close s =
+    λ below closes. subst (λ z. stuck unlimited z a ≡ Some here) (sym (append_assoc g under below)) (s (under ++ below) (close below closes))
+
+sticks_under : {n : ℕ} (left : ℕ) (g : Stack) (a here : List Token) (under : Stack) → depth under + left ≡ n → Passes under → Sticks (at_most left) g a here → Sticks (at_most n) (g ++ under) a here
+sticks_under {n = n} left g a here under is close s = λ below closes.
+    let e : depth (under ++ below) + left ≡ depth below + n = omega (arith, is, depth_append under below) in
+    subst (λ z. stuck (at_most (depth below + n)) z a ≡ Some here) (sym (append_assoc g under below))
+    (subst (λ z. stuck (at_most z) (g ++ (under ++ below)) a ≡ Some here) e (s (under ++ below) (close below closes)))
+
+goes_under : {n left : ℕ} {g : Stack} {a rest : List Token} (under : Stack) → depth under + left ≡ n → GoesOn left g a rest → GoesOn n (g ++ under) a rest
+goes_under under is s = record { next = s.next ++ under; moves = moves_under under is s.moves }
+
+within_under : {n left : ℕ} {g : Stack} {a here : List Token} (under : Stack) → depth under + left ≡ n → Passes under → StaysWithin left g a here → StaysWithin n (g ++ under) a here
+within_under {left = left} {g = g} {a = a} {here = here} under is close (inl s) = inl (sticks_under left g a here under is close s)
+within_under {left = left} {g = g} {a = a} under is close (inr o) = inr (record { before = o.before; next = o.next; sticks = sticks_under left g a o.before under is close o.sticks; goes_on = goes_under under (omega (arith, is)) o.goes_on; why = o.why })
+
+operand_under : {a here : List Token} (g under : Stack) → IsOperandHere g a here → IsOperandHere (g ++ under) a here
+operand_under [] under (inl e) = absurd e.1
+operand_under (goal ∷ g) under (inl e) = inl e
+operand_under g under (inr f) = inr f
+
+opens_under : {n : ℕ} (left : ℕ) (g : Stack) (a here : List Token) (under : Stack) → depth under + left ≡ n → Passes under → OpensItself left g a here → OpensItself n (g ++ under) a here
+opens_under left g a here under is close (inl e) = inl e
+opens_under left g a here under is close (inr (e, inl f)) = inr (e, inl (operand_under g under f))
+opens_under left g a here under is close (inr (e, inr s)) = inr (e, inr (sticks_under (1 + left) g a here under (omega (arith, is)) close s))
+
+by_under : {n : ℕ} (left : ℕ) (g : Stack) (a at : List Token) (kind : Why) (under : Stack) → depth under + left ≡ n → Passes under → SticksBy left g a kind at → SticksBy n (g ++ under) a kind at
+by_under left g a at reasons.Syntax under is close by = (sticks_ever_under g a at under close by.0, within_under under is close by.1)
+by_under left g a at reasons.Nesting under is close by =
+    record { here = by.here; within = within_under under is close by.within; goes_on = goes_under under (omega (arith, is)) by.goes_on; opens = opens_under left g a by.here under is close by.opens; near = by.near }
+by_under left g a at (reasons.Memory memory) under is close by = by
 
 -- goals stop in the same way where further goals lie below them
 pub stops_under : {n left end : ℕ} {g : Stack} {a : List Token} {r : Stop} (under : Stack) → depth under + left ≡ n → ((below : Stack) → Closes below → Closes (under ++ below))
     → Stops left end g a r → Stops n end (g ++ under) a r
 stops_under {left = left} {g = g} {a = a} {r = r} under is close s = record { at = s.at; inside = s.inside; left = s.left; by = by_under left g a s.at r.why under is close s.by }
 
--- a token that opens a level has no room
-by_nesting : {left : ℕ} {g : Stack} {a b : List Token} (next : Stack) (t : Token) → a ≡ t ∷ b
-    → ((below : Stack) → step (g ++ below) t.kind ≡ Some (next ++ below)) → left < depth next → OpensAt left g a a
-by_nesting {left = left} {g = g} {a = a} {b = b} next t is taken more = record {
-  sticks = λ below closes. subst (λ z. stuck (at_most (depth below + left)) (g ++ below) z ≡ Some z) (sym is)
-      (ap (λ z. stuck_behind (at_most (depth below + left)) z (t ∷ b) (λ h. stuck (at_most (depth below + left)) h b)) (taken below)
-      ∙ ap (λ z. if z then stuck (at_most (depth below + left)) (next ++ below) b else Some (t ∷ b))
-      (lt-leb (depth (next ++ below)) (depth below + left) (omega (arith, more, depth_append next below))));
-  deeper = λ below. record {
-    next = next ++ below;
-    token = t;
-    tokens_behind = b;
-    is = is;
-    goes_on = ap (stuck unlimited (g ++ below)) is ∙ step_taken unlimited (g ++ below) (next ++ below) t b (taken below) tt;
-  };
-}
-
--- goals stop for nesting at a token that opens a level with no room for it, and is no mark
-pub opens_none : {end left : ℕ} {g : Stack} {a b : List Token} {r : Stop} (next : Stack) (t : Token) → a ≡ t ∷ b → ¬ IsMark t.kind → r ≡ at_hand reasons.Nesting end a
-    → ((below : Stack) → step (g ++ below) t.kind ≡ Some (next ++ below)) → left < depth next → Stops left end g a r
-opens_none {end = end} {left = left} {g = g} {a = a} next t is other refused taken more = subst (λ z. Stops left end g a z) (sym refused)
-    (record { at = a; inside = end_self; left = refl; by = record { here = a; opens = by_nesting next t is taken more; near = inl (refl, subst (λ z. ¬ Stands IsMark z) (sym is) other) } })
-
--- a mark that opens a level has no room, and the label before it is refused
-pub opens_before : {end left : ℕ} {g h : Stack} {a b c : List Token} {r : Stop} (next : Stack) (t : Token) → r ≡ at_hand reasons.Nesting end a → drop 1 a ≡ b → Moves left g a h b
-    → b ≡ t ∷ c → IsMark t.kind → ((below : Stack) → step (h ++ below) t.kind ≡ Some (next ++ below)) → left < depth next → Stops left end g a r
-opens_before {end = end} {left = left} {g = g} {a = a} {b = b} next t refused second m is mark taken more = subst (λ z. Stops left end g a z) (sym refused) (record {
-  at = a;
-  inside = end_self;
-  left = refl;
-  by = record { here = b; opens = opens_after b m (by_nesting next t is taken more); near = inr (inl (second, subst (Stands IsMark) (sym is) mark)) };
-})
-
--- the same, where the refusal is of the brace after the parenthesis of a `close({`
-pub opens_behind : {end left : ℕ} {g h : Stack} {a b c : List Token} {r : Stop} (next : Stack) (t : Token) → Moves left g a h b → b ≡ t ∷ c → r ≡ at_hand reasons.Nesting end c → IsBrace a b c
-    → ((below : Stack) → step (h ++ below) t.kind ≡ Some (next ++ below)) → left < depth next → Stops left end g a r
-opens_behind {end = end} {left = left} {g = g} {a = a} {b = b} {c = c} next t m is refused brace taken more = subst (λ z. Stops left end g a z) (sym refused) (record {
-  at = c;
-  inside = end_then m.inside (end_next t is);
-  left = refl;
-  by = record { here = b; opens = opens_after b m (by_nesting next t is taken more); near = inr (inr brace) };
-})
-
 -- refusals
 -- want of memory is a refusal
-pub lacks_memory : {n end : ℕ} {g : Stack} {a : List Token} {r : Stop} → r ≡ memory → Refused n end g a r
+pub lacks_memory : {n end : ℕ} {g : Stack} {a : List Token} {r : Stop} → IsMemory r → Refused n end g a r
 lacks_memory is = record { why = inl is }
 
 -- a stop is a refusal
@@ -278,8 +286,8 @@ pub stopped : {n end : ℕ} {g : Stack} {a : List Token} {r : Stop} → Stops n 
 stopped s = record { why = inr s }
 
 -- what is refused after a move is refused from its start
-pub refused_behind : {n end : ℕ} {g h : Stack} {a b : List Token} {r : Stop} → Moves n g a h b → Refused n end h b r → Refused n end g a r
-refused_behind m s = elim (s.why) [ inl e ↦ record { why = inl e } | inr e ↦ record { why = inr (stops_behind m e) } ]
+pub refused_behind : {n end : ℕ} {g h : Stack} {a b : List Token} {r : Stop} → Moves n g a h b → Leads g a h b → Refused n end h b r → Refused n end g a r
+refused_behind m leads s = elim (s.why) [ inl e ↦ record { why = inl e } | inr e ↦ record { why = inr (stops_behind m leads e) } ]
 
 -- what goals refuse they refuse where further goals lie below them
 pub refused_under : {n left end : ℕ} {g : Stack} {a : List Token} {r : Stop} (under : Stack) → depth under + left ≡ n → ((below : Stack) → Closes below → Closes (under ++ below))
@@ -289,3 +297,7 @@ refused_under under is close s = elim (s.why) [ inl e ↦ record { why = inl e }
 -- another name of the same end
 pub refused_end : {n end other : ℕ} {g : Stack} {a : List Token} {r : Stop} → end ≡ other → Refused n end g a r → Refused n other g a r
 refused_end {n = n} {g = g} {a = a} {r = r} is s = subst (λ z. Refused n z g a r) is s
+
+-- where goals halt after a move, the tokens are refused from its start
+pub halted_behind : {n end other : ℕ} {g h : Stack} {a b : List Token} {r : Stop} → Moves n g a h b → other ≡ end → r ≡ at_hand reasons.Syntax other b → Halts h b → Refused n end g a r
+halted_behind m same is halts = refused_end same (stopped (stops_there (omega arith) is m halts))

@@ -13,10 +13,12 @@ use Rattle.cue_syntax.specs.declared.tree.LabelName.TheVariants as names
 use Rattle.cue_syntax.specs.declared.tree.Mark.{Mark}
 use Rattle.cue_syntax.specs.declared.tree.Mark.TheVariants as marks
 use Rattle.cue_syntax.specs.Spelling.{Reads, one, label_kind, spell_mark, spell_label}
-use Rattle.cue_syntax.specs.Stops.{memory, at_hand}
-use Rattle.cue_syntax.specs.Viability.{StandsSign, IsMark, IsLabelName, BeginsLabel, LacksColon, MissesColon}
-use Rattle.cue_syntax.specs.Recogniser.{Goal, Stack, depth, levels_of, step, is_keyword, Closes, Moves, Stops, Refused, chains, value, value_name, value_text, chained, mark, colon, entries, more_entries}
-use Rattle.cue_syntax.proofs.MovesAndStops.{takes, moves_then, moves_more, moves_under, Halts, halts_unless, stopped, stops_there, opens_none, opens_before, refused_behind, refused_under, refused_end, takes_first, takes_read, alike_moves, moves_none}
+use Rattle.cue_syntax.specs.Stops.{IsMemory, at_hand}
+use Rattle.cue_syntax.specs.Viability.{StandsSign, IsMark, IsLabelName, IsKeywordName, BeginsLabel, LacksColon, MissesColon}
+use Rattle.cue_syntax.specs.Recogniser.{Goal, Stack, depth, levels_of, step, is_keyword, Closes, Moves, Owes, IsOperandHere, Stops, Refused, chains, value, value_name, value_text, chained, mark, colon, entries, more_entries}
+use Rattle.cue_syntax.proofs.MovesAndStops.{end_self, takes, moves_then, moves_more, moves_under, Halts, halts_unless, sticks_behind, goes_behind, stopped, stops_there, refused_behind, refused_under, refused_end, takes_first, takes_read, alike_moves, moves_none}
+use Rattle.cue_syntax.proofs.MovesOverLiterals.{keyword_of}
+use Rattle.cue_syntax.proofs.OpensLevels.{sticks_level, mark_alone}
 
 colon_only : (g : Stack) (j : TokenKind) → (j ≡ (kinds.Mark points.Colon) → ⊥) → (below : Stack) → step ((colon ∷ g) ++ below) j ≡ None
 colon_only g (kinds.Mark points.Colon) other below = absurd (other refl)
@@ -150,33 +152,59 @@ name_kind (kinds.Name t) is = (names.Plain t, refl)
 name_kind (kinds.Text t) is = (names.Quoted t, refl)
 name_kind _ is = absurd is
 
-name_levels : (n : LabelName) → (levels_of (behind_name n) ≡ 0) ⊎ (levels_of (behind_name n) ≡ 1)
+name_levels : (n : LabelName) → (levels_of (behind_name n) ≡ 0) ⊎ (levels_of (behind_name n) ≡ 1) × IsKeywordName (label_kind n)
 name_levels (names.Plain t) = by (is_keyword t) refl
   where
-    by : (keyword : Bool) → is_keyword t ≡ keyword → (levels_of (value_name t) ≡ 0) ⊎ (levels_of (value_name t) ≡ 1)
-    by true is = inr (ap (λ z. if z then 1 else 0) is)
+    by : (keyword : Bool) → is_keyword t ≡ keyword → (levels_of (value_name t) ≡ 0) ⊎ (levels_of (value_name t) ≡ 1) × IsKeywordName (kinds.Name t)
+    by true is = inr (ap (λ z. if z then 1 else 0) is, keyword_of t is)
     by false is = inl (ap (λ z. if z then 1 else 0) is)
 name_levels (names.Quoted t) = inl refl
 
-mark_opens : (n : LabelName) (k : TokenKind) → IsMark k → (next : Stack) × ((below : Stack) → step (behind_name n ∷ below) k ≡ Some (next ++ below)) × (0 < depth next)
-mark_opens (names.Plain t) (kinds.Mark points.Colon) is = (value ∷ chained ∷ [], λ below. refl, omega arith)
-mark_opens (names.Plain t) (kinds.Mark points.Question) is = (colon ∷ value ∷ chained ∷ [], λ below. refl, omega arith)
-mark_opens (names.Plain t) (kinds.Mark points.Exclamation) is = (colon ∷ value ∷ chained ∷ [], λ below. refl, omega arith)
-mark_opens (names.Quoted t) (kinds.Mark points.Colon) is = (value ∷ chained ∷ [], λ below. refl, omega arith)
-mark_opens (names.Quoted t) (kinds.Mark points.Question) is = (colon ∷ value ∷ chained ∷ [], λ below. refl, omega arith)
-mark_opens (names.Quoted t) (kinds.Mark points.Exclamation) is = (colon ∷ value ∷ chained ∷ [], λ below. refl, omega arith)
+mark_opens : (n : LabelName) (k : TokenKind) → IsMark k → (next : Stack) × ((below : Stack) → step (behind_name n ∷ below) k ≡ Some (next ++ below)) × (0 < depth next) × (depth next ≤ 2)
+mark_opens (names.Plain t) (kinds.Mark points.Colon) is = (value ∷ chained ∷ [], λ below. refl, omega arith, omega arith)
+mark_opens (names.Plain t) (kinds.Mark points.Question) is = (colon ∷ value ∷ chained ∷ [], λ below. refl, omega arith, omega arith)
+mark_opens (names.Plain t) (kinds.Mark points.Exclamation) is = (colon ∷ value ∷ chained ∷ [], λ below. refl, omega arith, omega arith)
+mark_opens (names.Quoted t) (kinds.Mark points.Colon) is = (value ∷ chained ∷ [], λ below. refl, omega arith, omega arith)
+mark_opens (names.Quoted t) (kinds.Mark points.Question) is = (colon ∷ value ∷ chained ∷ [], λ below. refl, omega arith, omega arith)
+mark_opens (names.Quoted t) (kinds.Mark points.Exclamation) is = (colon ∷ value ∷ chained ∷ [], λ below. refl, omega arith, omega arith)
 mark_opens n _ is = absurd is
 
 opens_at : {end : ℕ} {r : Stop} (t u : Token) (ts : List Token) (n : LabelName) → t.kind ≡ label_kind n → IsMark u.kind → r ≡ at_hand reasons.Nesting end (t ∷ u ∷ ts)
-    → (levels_of (behind_name n) ≡ 0) ⊎ (levels_of (behind_name n) ≡ 1) → Stops 0 end (value ∷ []) (t ∷ u ∷ ts) r
-opens_at t u ts n kind sign is (inl level) =
-    let m = mark_opens n u.kind sign in
-    opens_before {h = behind_name n ∷ []} m.0 u is refl (takes t refl (λ below. ap (step (value ∷ below)) kind ∙ value_step n below) (omega (arith, level))) refl sign m.1 m.2
-opens_at t u ts n kind sign is (inr level) = opens_none (behind_name n ∷ []) t refl (λ m. no_mark n (subst IsMark kind m)) is (λ below. ap (step (value ∷ below)) kind ∙ value_step n below) (omega (arith, level))
+    → (levels_of (behind_name n) ≡ 0) ⊎ (levels_of (behind_name n) ≡ 1) × IsKeywordName (label_kind n) → Stops 0 end (value ∷ []) (t ∷ u ∷ ts) r
+opens_at {end = end} t u ts n kind sign is level = subst (λ z. Stops 0 end (value ∷ []) (t ∷ u ∷ ts) z) (sym is) (record {
+  at = t ∷ u ∷ ts;
+  inside = end_self;
+  left = refl;
+  by = record {
+    here = u ∷ ts;
+    within = elim level [ inl none ↦ inl (sticks_behind (omega arith) (name none) (sticks_level (behind_name n ∷ []) m.0 u m.1 m.2)) | inr one ↦ inr (owes one.0 one.1) ];
+    goes_on = goes_behind (omega arith) (named 2 (omega (arith, name_level n))) (record { next = m.0; moves = takes u refl m.1 (omega (arith, m.3)) });
+    opens = inl (mark_alone u.kind sign);
+    near = inr (refl, sign);
+  };
+})
   where
-    no_mark : (n : LabelName) → ¬ IsMark (label_kind n)
-    no_mark (names.Plain t) m = m
-    no_mark (names.Quoted t) m = m
+    m : (next : Stack) × ((below : Stack) → step (behind_name n ∷ below) u.kind ≡ Some (next ++ below)) × (0 < depth next) × (depth next ≤ 2)
+    m = mark_opens n u.kind sign
+
+    steps : (below : Stack) → step (value ∷ below) t.kind ≡ Some (behind_name n ∷ below)
+    steps below = ap (step (value ∷ below)) kind ∙ value_step n below
+
+    named : (room : ℕ) → levels_of (behind_name n) ≤ room → Moves room (value ∷ []) (t ∷ u ∷ ts) (behind_name n ∷ []) (u ∷ ts)
+    named room le = takes t refl steps (omega (arith, le))
+
+    name : levels_of (behind_name n) ≡ 0 → Moves 0 (value ∷ []) (t ∷ u ∷ ts) (behind_name n ∷ []) (u ∷ ts)
+    name none = named 0 (omega (arith, none))
+
+    -- a keyword opens its level before its mark does
+    owes : levels_of (behind_name n) ≡ 1 → IsKeywordName (label_kind n) → Owes 0 (value ∷ []) (t ∷ u ∷ ts) (u ∷ ts)
+    owes one keyword = record {
+      before = t ∷ u ∷ ts;
+      next = refl;
+      sticks = sticks_level (value ∷ []) (behind_name n ∷ []) t steps (omega (arith, one));
+      goes_on = record { next = behind_name n ∷ []; moves = named 1 (omega (arith, one)) };
+      why = inl (subst IsKeywordName (sym kind) keyword);
+    }
 
 opens_by : {end : ℕ} {r : Stop} (a : List Token) → BeginsLabel a → r ≡ at_hand reasons.Nesting end a → Stops 0 end (value ∷ []) a r
 opens_by [] begins is = absurd begins.0
@@ -198,33 +226,38 @@ marked_entry : (g : Stack) (k : TokenKind) → (k ≡ (kinds.Mark points.Questio
 marked_entry g k (inl e) below = ap (step ((mark ∷ g) ++ below)) e
 marked_entry g k (inr e) below = ap (step ((mark ∷ g) ++ below)) e
 
-value_misses : {n end : ℕ} {r : Stop} (a : List Token) → r ≡ at_hand reasons.Syntax end (drop 2 a) → LacksColon a → Stops n end (value ∷ []) a r
-value_misses [] is lacks = absurd lacks.0
-value_misses (t ∷ []) is lacks = absurd (elim lacks.1 [ inl e ↦ e | inr e ↦ e ])
-value_misses (t ∷ u ∷ ts) is lacks =
+value_misses : {n end : ℕ} {r : Stop} (a : List Token) → 1 ≤ n → r ≡ at_hand reasons.Syntax end (drop 2 a) → LacksColon a → Stops n end (value ∷ []) a r
+value_misses [] le is lacks = absurd lacks.0
+value_misses (t ∷ []) le is lacks = absurd (elim lacks.1 [ inl e ↦ e | inr e ↦ e ])
+value_misses (t ∷ u ∷ ts) le is lacks =
     let n = name_kind t.kind lacks.0 in
-    stops_there {free = 1} is (moves_then {h = behind_name n.0 ∷ []} (takes t refl (λ below. ap (step (value ∷ below)) n.1 ∙ value_step n.0 below) (omega (arith, name_level n.0)))
+    stops_there {free = 1} le is (moves_then {h = behind_name n.0 ∷ []} (takes t refl (λ below. ap (step (value ∷ below)) n.1 ∙ value_step n.0 below) (omega (arith, name_level n.0)))
     (takes {next = colon ∷ value ∷ chained ∷ []} u refl (λ below. marked_value n.0 u.kind lacks.1 below) (omega arith))) (colon_halts lacks.2)
 
 -- the goal of a value refuses a label whose mark has no colon after it
-pub misses_value : {n end : ℕ} {a : List Token} {r : Stop} → (r ≡ memory) ⊎ MissesColon end a r → Refused n end (value ∷ []) a r
-misses_value (inl e) = record { why = inl e }
-misses_value {a = a} (inr misses) = stopped (value_misses a misses.is misses.lacks)
+pub misses_value : {n end : ℕ} {a : List Token} {r : Stop} → 1 ≤ n → IsMemory r ⊎ MissesColon end a r → Refused n end (value ∷ []) a r
+misses_value le (inl e) = record { why = inl e }
+misses_value {a = a} le (inr misses) = stopped (value_misses a le misses.is misses.lacks)
 
-entry_misses : {n end : ℕ} {r : Stop} (top : Bool) (a : List Token) → r ≡ at_hand reasons.Syntax end (drop 2 a) → LacksColon a → Stops n end (entries top ∷ []) a r
-entry_misses top [] is lacks = absurd lacks.0
-entry_misses top (t ∷ []) is lacks = absurd (elim lacks.1 [ inl e ↦ e | inr e ↦ e ])
-entry_misses top (t ∷ u ∷ ts) is lacks =
+entry_misses : {n end : ℕ} {r : Stop} (top : Bool) (a : List Token) → depth (more_entries top ∷ []) ≤ n → r ≡ at_hand reasons.Syntax end (drop 2 a) → LacksColon a → Stops n end (entries top ∷ []) a r
+entry_misses top [] le is lacks = absurd lacks.0
+entry_misses top (t ∷ []) le is lacks = absurd (elim lacks.1 [ inl e ↦ e | inr e ↦ e ])
+entry_misses top (t ∷ u ∷ ts) le is lacks =
     let n = name_kind t.kind lacks.0 in
-    stops_there {free = depth (more_entries top ∷ [])} is (moves_then {h = mark ∷ value ∷ more_entries top ∷ []} (takes t refl (λ below. ap (step (entries top ∷ below)) n.1 ∙ entry_step top n.0 below) (omega arith))
+    stops_there {free = depth (more_entries top ∷ [])} le is (moves_then {h = mark ∷ value ∷ more_entries top ∷ []} (takes t refl (λ below. ap (step (entries top ∷ below)) n.1 ∙ entry_step top n.0 below) (omega arith))
     (takes {next = colon ∷ value ∷ more_entries top ∷ []} u refl (λ below. marked_entry (value ∷ more_entries top ∷ []) u.kind lacks.1 below) (omega arith))) (colon_halts lacks.2)
 
+-- declarations take as many levels between them as at their start
+pub same_level : (top : Bool) → levels_of (more_entries top) ≡ levels_of (entries top)
+same_level true = refl
+same_level false = refl
+
 -- the goal of declarations refuses a label whose mark has no colon after it
-pub misses_entry : {n end : ℕ} {a : List Token} {r : Stop} (top : Bool) → (r ≡ memory) ⊎ MissesColon end a r → Refused n end (entries top ∷ []) a r
-misses_entry top (inl e) = record { why = inl e }
-misses_entry {a = a} top (inr misses) = stopped (entry_misses top a misses.is misses.lacks)
+pub misses_entry : {end : ℕ} {a : List Token} {r : Stop} (room : ℕ) (top : Bool) → IsMemory r ⊎ MissesColon end a r → Refused (levels_of (entries top) + room) end (entries top ∷ []) a r
+misses_entry room top (inl e) = record { why = inl e }
+misses_entry {a = a} room top (inr misses) = stopped (entry_misses top a (omega (arith, same_level top)) misses.is misses.lacks)
 
 -- what is refused after the labels of a chain is refused from its start
 pub chain_refused : {room end other : ℕ} {a b : List Token} {r : Stop} (left : ℕ) (ls : List Label) → left + length ls ≡ room → other ≡ end → Moves room (value ∷ []) a (value ∷ chains ls) b
-    → Refused left other (value ∷ []) b r → Refused room end (value ∷ []) a r
-chain_refused left ls is same first inner = refused_behind first (refused_end same (refused_under (chains ls) (omega (arith, is, chains_depth ls)) (chains_close ls) inner))
+    → IsOperandHere (value ∷ []) a b → Refused left other (value ∷ []) b r → Refused room end (value ∷ []) a r
+chain_refused left ls is same first leads inner = refused_behind first (λ begins. leads) (refused_end same (refused_under (chains ls) (omega (arith, is, chains_depth ls)) (chains_close ls) inner))

@@ -1,5 +1,5 @@
 -- How the recogniser goes through expressions that hold no other.
-use Rattle.std.proofs.Common.{◌≡◌, ◌∙◌, ap, subst, refl, ℕ, inl, inr, Bool, true, false, List, [], ◌∷◌, codes, arith, Some, None}
+use Rattle.std.proofs.Common.{◌≡◌, ◌∙◌, ◌⊎◌, ap, sym, subst, refl, ℕ, inl, inr, Bool, true, false, List, [], ◌∷◌, codes, arith, Some, None}
 use Rattle.std.specs.Prelude.{if◌then◌else◌, ◌||◌}
 use Rattle.std.specs.Cmp.Lexicographic.{bytes_decides}
 use Rattle.cue_lex.specs.declared.token.Token.{Token}
@@ -46,6 +46,32 @@ keyword_no t other = or_six _ _ _ _ _ _
     (word_other (codes "if") t (λ e. other (inl (inr (inr (inl e)))))) (word_other (codes "import") t (λ e. other (inl (inr (inr (inr e))))))
     (word_other (codes "in") t (λ e. other (inr (inl e)))) (word_other (codes "package") t (λ e. other (inr (inr e))))
 
+word_is : (w t : List ℕ) (b : Bool) → is_word w t ≡ b → (t ≡ w) ⊎ (is_word w t ≡ false)
+word_is w t true is = inl ((bytes_decides t w).0 is)
+word_is w t false is = inr is
+
+-- what passes the test for keywords is one
+pub keyword_of : (t : List ℕ) → is_keyword t ≡ true → IsKeyword t
+keyword_of t is = elim (word_is (codes "let") t _ refl) [
+  | inl e ↦ inl (inl e)
+  | inr a ↦ elim (word_is (codes "for") t _ refl) [
+    | inl e ↦ inl (inr (inl e))
+    | inr b ↦ elim (word_is (codes "if") t _ refl) [
+      | inl e ↦ inl (inr (inr (inl e)))
+      | inr c ↦ elim (word_is (codes "import") t _ refl) [
+        | inl e ↦ inl (inr (inr (inr e)))
+        | inr d ↦ elim (word_is (codes "in") t _ refl) [
+          | inl e ↦ inr (inl e)
+          | inr f ↦ elim (word_is (codes "package") t _ refl) [
+            | inl e ↦ inr (inr e)
+            | inr g ↦ absurd (let wrong : false ≡ true = sym (or_six _ _ _ _ _ _ a b c d f g) ∙ is in cc)
+          ]
+        ]
+      ]
+    ]
+  ]
+]
+
 -- names
 -- the goal of an operand halts at a keyword
 pub keyword_halts : {a b : List Token} {n : List ℕ} (t : Token) → a ≡ t ∷ b → t.kind ≡ kinds.Name n → is_keyword n ≡ true → Halts (unary ∷ []) a
@@ -84,13 +110,13 @@ pub name_called : {room end : ℕ} {a b : List Token} {n : List ℕ} {r : Stop} 
     → StandsSign (kinds.Mark points.OpenParenthesis) b → r ≡ at_hand reasons.Syntax end b → Refused room end (unary ∷ []) a r
 name_called {b = b} {n = n} t is kind keyword other stands refused =
     let close : n ≡ codes "close" → ⊥ = λ e. subst (λ z. ¬ IsCallOfClose z) is other (kind ∙ ap kinds.Name e, stands) in
-    stopped (stops_there refused
+    stopped (stops_there (omega arith) refused
     (takes {n = 0} {next = []} t is (λ below. ap (step (unary ∷ below)) kind ∙ name_step n false (keyword_no n keyword) (word_other (codes "close") n close) below) (omega arith)) (record { at = paren_halts b stands }))
 
 -- a hidden name with a parenthesis after it is refused there as an operand
 pub hidden_called : {room end : ℕ} {a b : List Token} {n : List ℕ} {r : Stop} (t : Token) → a ≡ t ∷ b → t.kind ≡ kinds.Hidden n
     → StandsSign (kinds.Mark points.OpenParenthesis) b → r ≡ at_hand reasons.Syntax end b → Refused room end (unary ∷ []) a r
-hidden_called {b = b} t is kind stands refused = stopped (stops_there refused
+hidden_called {b = b} t is kind stands refused = stopped (stops_there (omega arith) refused
     (takes {n = 0} {next = []} t is (λ below. ap (step (unary ∷ below)) kind) (omega arith)) (record { at = paren_halts b stands }))
 
 -- bounds
@@ -132,4 +158,4 @@ no_text_none is n stands = subst (λ z. StandsSign (kinds.Text n) z) is stands
 -- Where an integer begins, what its sign and its digits refuse is refused.
 pub integer_refused : {n end : ℕ} {r : Stop} (a : List Token) → Stands BeginsInteger a → Refused n end (signed ∷ []) a r → Refused n end (unary ∷ []) a r
 integer_refused [] is m = absurd is
-integer_refused (t ∷ ts) is m = refused_behind (alike_at t refl (λ below. unary_signed t.kind is below)) m
+integer_refused (t ∷ ts) is m = refused_behind (alike_at t refl (λ below. unary_signed t.kind is below)) (λ none. absurd none) m

@@ -1,5 +1,5 @@
 -- How the recogniser goes through operands and terms: parentheses, structs, `close`, conjunctions and disjunctions.
-use Rattle.std.proofs.Common.{◌≡◌, ◌∙◌, ap, sym, subst, refl, ℕ, ◌+◌, ◌≤◌, ◌<◌, Bool, true, false, List, [], ◌∷◌, ◌++◌, drop, codes, arith, Some, None}
+use Rattle.std.proofs.Common.{◌≡◌, ◌∙◌, ap, sym, subst, refl, ℕ, zero, suc, ◌+◌, ◌≤◌, ◌<◌, inl, inr, Bool, true, false, List, [], ◌∷◌, ◌++◌, drop, codes, arith, Some, None}
 use Rattle.cue_lex.specs.declared.token.Token.{Token}
 use Rattle.cue_lex.specs.declared.token.TokenKind.{TokenKind}
 use Rattle.cue_lex.specs.declared.token.TokenKind.TheVariants as kinds
@@ -10,19 +10,19 @@ use Rattle.cue_syntax.specs.Spelling.{Reads, one, one_at, comma_if}
 use Rattle.cue_syntax.specs.Operands.{EndsOperand}
 use Rattle.cue_syntax.specs.Stops.{at_hand}
 use Rattle.cue_syntax.specs.Viability.{StandsSign, IsMark, IsCallOfClose}
-use Rattle.cue_syntax.specs.Recogniser.{Goal, Stack, depth, step, Closes, Moves, Stops, Refused, entries, more_parts, more_terms, bar, term, unary, expression, parenthesis, parenthesis_end, behind_close, closed}
-use Rattle.cue_syntax.proofs.MovesAndStops.{takes_read, moves_none, moves_then, moves_more, moves_under, alike_moves, Halts, HaltsAt, halts_unless, stopped, end_self, opens_none, opens_behind, refused_behind, refused_under, refused_end}
-
--- a sign that opens a level with no room
-no_room_at : {n end : ℕ} {g : Stack} {r : Stop} (a : List Token) (k : TokenKind) (next : Stack) → StandsSign k a → ¬ IsMark k → ((below : Stack) → step (g ++ below) k ≡ Some (next ++ below)) → 0 < depth next
-    → n ≡ 0 → r ≡ at_hand reasons.Nesting end a → Stops n end g a r
-no_room_at [] k next stands other taken more zero is = absurd stands
-no_room_at {g = g} (t ∷ ts) k next stands other taken more zero is = opens_none next t refl (λ m. other (subst IsMark stands m)) is (λ below. ap (step (g ++ below)) stands ∙ taken below) (omega (arith, zero, more))
+use Rattle.cue_syntax.specs.Recogniser.{Goal, Stack, depth, step, Closes, Moves, Owes, OpensAlone, OpensItself, Stops, Refused, entries, more_parts, more_terms, bar, term, unary, expression, parenthesis, parenthesis_end, behind_close, closed}
+use Rattle.cue_syntax.proofs.MovesAndStops.{takes_read, moves_none, moves_then, moves_more, moves_under, alike_moves, Halts, HaltsAt, halts_unless, sticks_behind, goes_behind, stops_there, stops_owing, stopped, end_self, refused_behind, refused_under, refused_end}
+use Rattle.cue_syntax.proofs.OpensLevels.{sticks_sign, goes_sign, sign_stands, sign_no, opens_sign, follows_mark}
+use Rattle.cue_syntax.proofs.TextsBeginSo.{read_stands}
 
 -- a sign that opens a level is refused where no level is left
-pub no_room : {n end : ℕ} {g : Stack} {a : List Token} {r : Stop} (k : TokenKind) (next : Stack) → StandsSign k a → ¬ IsMark k → ((below : Stack) → step (g ++ below) k ≡ Some (next ++ below)) → 0 < depth next
-    → n ≡ 0 → r ≡ at_hand reasons.Nesting end a → Refused n end g a r
-no_room {a = a} k next stands other taken more zero is = stopped (no_room_at a k next stands other taken more zero is)
+pub no_room : {n end : ℕ} {g : Stack} {a : List Token} {r : Stop} (k : TokenKind) (next : Stack) → StandsSign k a → ¬ IsMark k → ((below : Stack) → step (g ++ below) k ≡ Some (next ++ below)) → 0 < depth next → depth next ≤ 2
+    → OpensItself n g a a → n ≡ 0 → r ≡ at_hand reasons.Nesting end a → Refused n end g a r
+no_room k next stands other taken more few opens spent is = stopped (opens_sign k next stands other taken (omega (arith, more, spent)) (omega (arith, few)) opens is)
+
+-- a brace or a bracket opens a level by itself
+pub sign_alone : {a : List Token} (n : ℕ) (g : Stack) (k : TokenKind) → StandsSign k a → OpensAlone k → OpensItself n g a a
+sign_alone {a = a} n g k stands alone = inl (sign_stands OpensAlone a k stands alone)
 
 -- the end of a parenthesis
 -- what is to come, by whether a comma was read
@@ -75,7 +75,7 @@ parenthesis_opens is reads inner = moves_then {h = expression ∷ parenthesis �
 -- what is refused of the expression in a parenthesis is refused of the operand
 pub parenthesis_refused : {room left end other : ℕ} {a b : List Token} {r : Stop} → left + 1 ≡ room → other ≡ end → Reads a (one (kinds.Mark points.OpenParenthesis)) b → Refused left other (expression ∷ []) b r → Refused room end (unary ∷ []) a r
 parenthesis_refused is same reads inner =
-    refused_behind {h = expression ∷ parenthesis ∷ []} (takes_read reads (λ below. refl) (omega (arith, is))) (refused_end same (refused_under (parenthesis ∷ []) (omega (arith, is)) parenthesis_close inner))
+    refused_behind {h = expression ∷ parenthesis ∷ []} (takes_read reads (λ below. refl) (omega (arith, is))) (λ begins. inr (follows_mark points.OpenParenthesis reads)) (refused_end same (refused_under (parenthesis ∷ []) (omega (arith, is)) parenthesis_close inner))
 
 -- a struct
 -- the goal of an operand goes through a brace, and then through the declarations after it
@@ -86,7 +86,7 @@ struct_moves left is reads inner = moves_then {h = entries false ∷ []} (takes_
 pub struct_refused : {room end other : ℕ} {a b : List Token} {r : Stop} (left : ℕ) → left + 1 ≡ room → other ≡ end → Reads a (one (kinds.Mark points.OpenBrace)) b → Refused (1 + left) other (entries false ∷ []) b r → Refused room end (unary ∷ []) a r
 struct_refused {room = room} {end = end} {other = other} {b = b} {r = r} left is same reads inner =
     let e : 1 + left ≡ room = omega (arith, is) in
-    refused_behind {h = entries false ∷ []} (takes_read reads (λ below. refl) (omega (arith, is))) (refused_end same (subst (λ z. Refused z other (entries false ∷ []) b r) e inner))
+    refused_behind {h = entries false ∷ []} (takes_read reads (λ below. refl) (omega (arith, is))) (λ none. absurd none) (refused_end same (subst (λ z. Refused z other (entries false ∷ []) b r) e inner))
 
 -- `close`
 -- the goal of an operand goes through `close(`, where two levels are left
@@ -109,8 +109,11 @@ call_by (s ∷ a) (t ∷ b) c first second = ((first.follows.0, subst (λ z. Sta
 -- a call of `close` is refused where no level is left for its parenthesis
 pub call_no_room : {room end other from : ℕ} {a b : List Token} {r : Stop} → room ≡ 0 → other ≡ end → IsCallOfClose a → Reads a (one_at from (kinds.Name (codes "close"))) b → r ≡ at_hand reasons.Nesting other b
     → Refused room end (unary ∷ []) a r
-call_no_room zero same call first is =
-    refused_behind {h = behind_close ∷ []} (takes_read first (λ below. refl) (omega arith)) (refused_end same (no_room (kinds.Mark points.OpenParenthesis) (closed ∷ []) (call_paren call first) (λ m. m) (λ below. refl) (omega arith) zero is))
+call_no_room {b = b} spent same call first is =
+    let paren : StandsSign (kinds.Mark points.OpenParenthesis) b = call_paren call first in
+    refused_behind {h = behind_close ∷ []} (takes_read first (λ below. refl) (omega arith)) (λ none. absurd none) (refused_end same
+    (no_room (kinds.Mark points.OpenParenthesis) (closed ∷ []) paren (λ m. m) (λ below. refl) (omega arith) (omega arith)
+    (inr (paren, inr (sticks_sign (behind_close ∷ []) b (kinds.Mark points.OpenParenthesis) (closed ∷ []) paren (λ below. refl) (omega (arith, spent))))) spent is))
 
 closed_none : (k : TokenKind) → (k ≡ (kinds.Mark points.OpenBrace) → ⊥) → (below : Stack) → step (closed ∷ below) k ≡ None
 closed_none (kinds.Mark points.OpenBrace) other below = absurd (other refl)
@@ -120,21 +123,50 @@ closed_none _ other below = refl
 pub closed_halts : {a : List Token} → ¬ StandsSign (kinds.Mark points.OpenBrace) a → Halts (closed ∷ []) a
 closed_halts lacks = halts_unless (kinds.Mark points.OpenBrace) (λ below. refl) closed_none lacks
 
+-- after `close(` with one level left another one is owed
+call_owes : {room from : ℕ} {a b c : List Token} → room ≡ 1 → Reads a (one_at from (kinds.Name (codes "close"))) b → Reads b (one (kinds.Mark points.OpenParenthesis)) c → Owes room (unary ∷ []) a c
+call_owes {a = a} {b = b} {c = c} single first second =
+    let call = call_by a b c first second in
+    let paren = read_stands (kinds.Mark points.OpenParenthesis) b c second in record {
+      before = b;
+      next = read_drop second;
+      sticks = sticks_behind {n = 0} {g = unary ∷ []} {h = behind_close ∷ []} (omega arith) (takes_read first (λ below. refl) (omega arith)) (sticks_sign (behind_close ∷ []) b (kinds.Mark points.OpenParenthesis) (closed ∷ []) paren (λ below. refl) (omega (arith, single)));
+      goes_on = record { next = closed ∷ []; moves = call_opens (omega (arith, single)) first second };
+      why = inr (record { name = a; inside = end_self; call = call.0; behind = call.1 });
+    }
+  where
+    read_drop : {k : TokenKind} {b c : List Token} → Reads b (one k) c → drop 1 b ≡ c
+    read_drop {b = []} reads = absurd reads.follows
+    read_drop {b = t ∷ ts} reads = reads.follows.2
+
 -- `close({` is refused where no level is left for its brace
 pub brace_no_room : {room left end other from : ℕ} {a b c d : List Token} {r : Stop} → left + 1 ≡ room → left ≡ 0 → other ≡ end → Reads a (one_at from (kinds.Name (codes "close"))) b → Reads b (one (kinds.Mark points.OpenParenthesis)) c
     → Reads c (one (kinds.Mark points.OpenBrace)) d → r ≡ at_hand reasons.Nesting other c → Refused room end (unary ∷ []) a r
-brace_no_room is zero same first second third refused = refused_end same (stopped (at_paren is zero first second third refused))
-  where
-    at_paren : {room left end from : ℕ} {a b c d : List Token} {r : Stop} → left + 1 ≡ room → left ≡ 0 → Reads a (one_at from (kinds.Name (codes "close"))) b → Reads b (one (kinds.Mark points.OpenParenthesis)) c
-        → Reads c (one (kinds.Mark points.OpenBrace)) d → r ≡ at_hand reasons.Nesting end c → Stops room end (unary ∷ []) a r
-    at_paren {b = []} is zero first second third refused = absurd second.follows
-    at_paren {b = t ∷ []} {c = []} is zero first second third refused = absurd third.follows
-    at_paren {b = t ∷ []} {c = v ∷ vs} is zero first second third refused = absurd (let e : [] ≡ v ∷ vs = second.follows.2 in cc)
-    at_paren {b = t ∷ u ∷ ts} {c = []} is zero first second third refused = absurd third.follows
-    at_paren {a = a} {b = t ∷ u ∷ ts} {c = v ∷ vs} is zero first second third refused =
-        let call = call_by a (t ∷ u ∷ ts) (v ∷ vs) first second in
-        opens_behind {h = behind_close ∷ []} (closed ∷ []) t (takes_read first (λ below. refl) (omega arith)) (ap (λ z. t ∷ z) second.follows.2) refused
-        (record { name = a; inside = end_self; call = call.0; behind = call.1; is = sym second.follows.2; brace = third.follows.0 }) (λ below. ap (step (behind_close ∷ below)) second.follows.0) (omega (arith, is, zero))
+brace_no_room {room = room} {other = other} {a = a} {c = c} {d = d} is spent same first second third refused =
+    let brace : StandsSign (kinds.Mark points.OpenBrace) c = read_stands (kinds.Mark points.OpenBrace) c d third in
+    let opened : Moves (2 + room) (unary ∷ []) a (closed ∷ []) c = call_opens (omega arith) first second in
+    refused_end same (stopped (subst (λ z. Stops room other (unary ∷ []) a z) (sym refused) (record {
+      at = c;
+      inside = opened.inside;
+      left = refl;
+      by = record {
+        here = c;
+        within = inr (call_owes (omega (arith, is, spent)) first second);
+        goes_on = goes_behind (omega arith) opened (goes_sign {g = closed ∷ []} c (kinds.Mark points.OpenBrace) (entries false ∷ parenthesis ∷ []) brace (λ below. refl) (omega arith));
+        opens = inl (sign_stands OpensAlone c (kinds.Mark points.OpenBrace) brace tt);
+        near = inl (refl, sign_no IsMark c (kinds.Mark points.OpenBrace) brace (λ m. m));
+      };
+    })))
+
+-- `close(` is refused where no brace stands after it
+pub close_misses : {room end other from : ℕ} {a b c : List Token} {r : Stop} (left : ℕ) → left + 1 ≡ room → other ≡ end → Reads a (one_at from (kinds.Name (codes "close"))) b → Reads b (one (kinds.Mark points.OpenParenthesis)) c
+    → ¬ StandsSign (kinds.Mark points.OpenBrace) c → r ≡ at_hand reasons.Syntax other c → Refused room end (unary ∷ []) a r
+close_misses {room = room} zero is same first second lacks refused =
+    let single : room ≡ 1 = omega (arith, is) in
+    let o = call_owes single first second in
+    refused_end same (stopped (stops_owing o.before refused (call_opens (omega (arith, single)) first second) (closed_halts lacks) o.next o.sticks o.why))
+close_misses (suc left) is same first second lacks refused =
+    refused_end same (stopped (stops_there {free = 2} (omega (arith, is)) refused (call_opens (omega arith) first second) (closed_halts lacks)))
 
 -- the goal of an operand goes through `close({` to its declarations
 pub close_opens : {room left from : ℕ} {a b c d : List Token} (last : ℕ) → left + 1 ≡ room → last + 1 ≡ left → Reads a (one_at from (kinds.Name (codes "close"))) b → Reads b (one (kinds.Mark points.OpenParenthesis)) c
@@ -149,7 +181,7 @@ close_moves last is more first second third inner = moves_then (close_opens last
 -- what is refused of the declarations in `close({` is refused of the operand
 pub close_refused : {room left end other from : ℕ} {a b c d : List Token} {r : Stop} (last : ℕ) → left + 1 ≡ room → last + 1 ≡ left → other ≡ end → Reads a (one_at from (kinds.Name (codes "close"))) b → Reads b (one (kinds.Mark points.OpenParenthesis)) c
     → Reads c (one (kinds.Mark points.OpenBrace)) d → Refused (1 + last) other (entries false ∷ []) d r → Refused room end (unary ∷ []) a r
-close_refused last is more same first second third inner = refused_behind (close_opens last is more first second third) (refused_end same (refused_under (parenthesis ∷ []) (omega (arith, is, more)) parenthesis_close inner))
+close_refused last is more same first second third inner = refused_behind (close_opens last is more first second third) (λ none. absurd none) (refused_end same (refused_under (parenthesis ∷ []) (omega (arith, is, more)) parenthesis_close inner))
 
 -- terms
 not_star : (k : TokenKind) → (k ≡ (kinds.Mark points.Star) → ⊥) → (below : Stack) → step (term ∷ below) k ≡ step (unary ∷ more_parts ∷ below) k
@@ -285,7 +317,7 @@ first_level n false = omega arith
 pub first_refused : {n end : ℕ} {a : List Token} {r : Stop} → Refused n end (term ∷ []) a r → Refused n end (expression ∷ []) a r
 first_refused {n = n} {a = a} s =
     let f = first_here a in
-    refused_behind (first_opens f.0 f.1 f.2) (refused_under (behind_first f.0 ∷ []) (first_level n f.0) (first_closes f.0) s)
+    refused_behind (first_opens f.0 f.1 f.2) (λ begins. inl (refl, tt)) (refused_under (behind_first f.0 ∷ []) (first_level n f.0) (first_closes f.0) s)
 
 -- an operand or a bound that no mark joins to another one is an expression
 pub alone_moves : {n : ℕ} {a b : List Token} → ¬ StandsSign (kinds.Mark points.Star) a → EndsOperand b → Moves n (unary ∷ []) a [] b → Moves n (expression ∷ []) a [] b
@@ -293,4 +325,4 @@ alone_moves {a = a} lacks ends m = moves_then (first_at a lacks) (moves_then (te
 
 -- what is refused of a first operand or bound without a mark is refused of the expression
 pub alone_refused : {n end : ℕ} {a : List Token} {r : Stop} → ¬ StandsSign (kinds.Mark points.Star) a → Refused n end (unary ∷ []) a r → Refused n end (expression ∷ []) a r
-alone_refused lacks s = first_refused (refused_behind (unmarked_moves lacks) (part_refused s))
+alone_refused lacks s = first_refused (refused_behind (unmarked_moves lacks) (λ begins. inl (refl, tt)) (part_refused s))

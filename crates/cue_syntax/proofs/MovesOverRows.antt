@@ -11,9 +11,10 @@ use Rattle.cue_syntax.specs.declared.tree.Label.{Label}
 use Rattle.cue_syntax.specs.Spelling.{Reads, one, one_at, comma_if, spell_label}
 use Rattle.cue_syntax.specs.Stops.{at_hand}
 use Rattle.cue_syntax.specs.Viability.{Stands, StandsSign, IsMark, IsLabelName, IsKeywordName, BeginsLabel, BeginsDefinition, IsDefinition, EndsHere, can_begin, behind_begun}
-use Rattle.cue_syntax.specs.Recogniser.{Goal, Stack, levels_of, step, Closes, Moves, Refused, chains, row_goal, value, mark, colon, entries, more_entries, unary, expression, elements, more_elements, dots, bracket, bracket_end}
-use Rattle.cue_syntax.proofs.MovesAndStops.{takes, takes_read, moves_none, moves_then, moves_more, moves_under, alike_moves, Halts, HaltsAt, halts_at, stopped, stops_there, refused_behind, refused_under, refused_end}
-use Rattle.cue_syntax.proofs.MovesOverLabels.{label_entry, chains_depth, chains_close, chains_over, colon_halts}
+use Rattle.cue_syntax.specs.Recogniser.{Goal, Stack, levels_of, depth, step, Closes, Moves, IsOperandHere, Refused, chains, row_goal, value, mark, colon, entries, more_entries, unary, expression, elements, more_elements, dots, bracket, bracket_end}
+use Rattle.cue_syntax.proofs.MovesAndStops.{takes, takes_read, moves_none, moves_then, moves_more, moves_under, alike_moves, Halts, HaltsAt, halts_at, follows_behind, stopped, stops_there, refused_behind, refused_under, refused_end}
+use Rattle.cue_syntax.proofs.OpensLevels.{end_read, follows_mark, follows_label}
+use Rattle.cue_syntax.proofs.MovesOverLabels.{label_entry, same_level, chains_depth, chains_close, chains_over, colon_halts}
 use Rattle.cue_syntax.proofs.ValuesAreExpressions.{value_moves, value_refused}
 use Rattle.cue_syntax.proofs.MovesOverOperands.{no_comma}
 
@@ -65,7 +66,7 @@ refused_inside {room = room} {end = end} {g = g} {a = a} {r = r} left is inner =
 -- what is refused of the elements in brackets is refused of the operand
 pub list_refused : {room end other : ℕ} {a b : List Token} {r : Stop} (left : ℕ) → left + 1 ≡ room → other ≡ end → Reads a (one (kinds.Mark points.OpenBracket)) b → Refused (1 + left) other (elements ∷ []) b r → Refused room end (unary ∷ []) a r
 list_refused left is same reads inner =
-    refused_behind {h = elements ∷ []} (takes_read reads (λ below. refl) (omega (arith, is))) (refused_end same (refused_inside left is inner))
+    refused_behind {h = elements ∷ []} (takes_read reads (λ below. refl) (omega (arith, is))) (λ begins. inr (follows_mark points.OpenBracket reads)) (refused_end same (refused_inside left is inner))
 
 -- the goal after a row
 -- at the start and after a comma it is that of the row's items
@@ -101,7 +102,7 @@ element_moves {a = a} close more inner = moves_then (element_at a close more) (m
 -- what is refused of an element is refused of the elements
 pub element_refused : {room end : ℕ} {a : List Token} {r : Stop} → ¬ StandsSign (kinds.Mark points.CloseBracket) a → ¬ StandsSign (kinds.Mark points.Ellipsis) a → Refused room end (expression ∷ []) a r → Refused (1 + room) end (elements ∷ []) a r
 element_refused {a = a} close more inner =
-    refused_behind (element_at a close more) (refused_under (more_elements ∷ []) (omega arith) (λ below closes. record { call = refl; colon = refl; question = refl; exclamation = refl }) inner)
+    refused_behind (element_at a close more) (λ begins. inl (refl, tt)) (refused_under (more_elements ∷ []) (omega arith) (λ below closes. record { call = refl; colon = refl; question = refl; exclamation = refl }) inner)
 
 -- the goal of more elements goes through a comma to the next one
 pub element_next : {n : ℕ} {a b : List Token} (comma : Bool) → comma ≡ true → 1 ≤ n → Reads a (comma_if comma) b → Moves n (more_elements ∷ []) a (elements ∷ []) b
@@ -175,7 +176,7 @@ dots_moves {a = a} comma close inner = moves_then (dots_at a comma close) (moves
 pub dots_refused : {room end : ℕ} {a : List Token} {r : Stop} → ¬ StandsSign (kinds.Mark points.Comma) a → ¬ StandsSign (kinds.Mark points.CloseBracket) a → Refused room end (expression ∷ []) a r
     → Refused (1 + room) end (dots ∷ []) a r
 dots_refused {a = a} comma close inner =
-    refused_behind (dots_at a comma close) (refused_under (bracket ∷ []) (omega arith) (λ below closes. record { call = refl; colon = refl; question = refl; exclamation = refl }) inner)
+    refused_behind (dots_at a comma close) (λ begins. inl (refl, tt)) (refused_under (bracket ∷ []) (omega arith) (λ below closes. record { call = refl; colon = refl; question = refl; exclamation = refl }) inner)
 
 -- declarations
 -- the goal of more declarations goes through a comma to the next one
@@ -227,10 +228,6 @@ entry_ellipsis true le reads = takes_read reads (λ below. refl) (omega (arith, 
 entry_ellipsis false le reads = takes_read reads (λ below. refl) (omega (arith, le))
 
 -- a value after the labels of a chain
-same_level : (top : Bool) → levels_of (more_entries top) ≡ levels_of (entries top)
-same_level true = refl
-same_level false = refl
-
 more_entries_close : (top : Bool) (below : Stack) → Closes below → Closes (more_entries top ∷ below)
 more_entries_close true below closes = record { call = refl; colon = refl; question = refl; exclamation = refl }
 more_entries_close false below closes = record { call = refl; colon = refl; question = refl; exclamation = refl }
@@ -242,10 +239,10 @@ chain_value {d = d} left ls is first label keyword inner =
     moves_then first (moves_then (moves_under (chains ls) (omega (arith, is, chains_depth ls)) (value_moves label keyword inner)) (chains_over ls d))
 
 -- what is refused of the expression after labels is refused of the value
-pub chain_value_refused : {room end other : ℕ} {b c : List Token} {r : Stop} (left : ℕ) (ls : List Label) → left + length ls ≡ room → other ≡ end → Moves room (value ∷ []) b (value ∷ chains ls) c → ¬ BeginsLabel c → ¬ Stands IsKeywordName c
-    → Refused left other (expression ∷ []) c r → Refused room end (value ∷ []) b r
-chain_value_refused left ls is same first label keyword inner =
-    refused_behind first (refused_end same (refused_under (chains ls) (omega (arith, is, chains_depth ls)) (chains_close ls) (value_refused label keyword inner)))
+pub chain_value_refused : {room end other : ℕ} {b c : List Token} {r : Stop} (left : ℕ) (ls : List Label) → left + length ls ≡ room → other ≡ end → Moves room (value ∷ []) b (value ∷ chains ls) c
+    → IsOperandHere (value ∷ []) b c → ¬ BeginsLabel c → ¬ Stands IsKeywordName c → Refused left other (expression ∷ []) c r → Refused room end (value ∷ []) b r
+chain_value_refused left ls is same first leads label keyword inner =
+    refused_behind first (λ begins. leads) (refused_end same (refused_under (chains ls) (omega (arith, is, chains_depth ls)) (chains_close ls) (value_refused label keyword inner)))
 
 -- the goal of declarations goes through a label and its value
 pub field_moves : {room : ℕ} {a b d : List Token} (top : Bool) (l : Label) → Reads a (spell_label l) b → Moves room (value ∷ []) b [] d → Moves (levels_of (entries top) + room) (entries top ∷ []) a (more_entries top ∷ []) d
@@ -255,7 +252,7 @@ field_moves top l reads inner =
 -- what is refused of the value after a label is refused of the declarations
 pub field_refused : {room end other : ℕ} {a b : List Token} {r : Stop} (top : Bool) (l : Label) → Reads a (spell_label l) b → other ≡ end → Refused room other (value ∷ []) b r → Refused (levels_of (entries top) + room) end (entries top ∷ []) a r
 field_refused top l reads same inner =
-    refused_behind (label_entry top l (omega (arith, same_level top)) reads) (refused_end same (refused_under (more_entries top ∷ []) (omega (arith, same_level top)) (more_entries_close top) inner))
+    refused_behind (label_entry top l (omega (arith, same_level top)) reads) (λ begins. inr (follows_label l reads)) (refused_end same (refused_under (more_entries top ∷ []) (omega (arith, same_level top)) (more_entries_close top) inner))
 
 -- the goal of declarations of the top goes through a definition's name and its colon
 pub definition_opens : {n from : ℕ} {t : List ℕ} {a b c : List Token} → Reads a (one_at from (kinds.Definition t)) b → Reads b (one (kinds.Mark points.Colon)) c → Moves n (entries true ∷ []) a (value ∷ more_entries true ∷ []) c
@@ -268,18 +265,20 @@ definition_moves first second inner = moves_then (definition_opens first second)
 -- what is refused of a definition's value is refused of the declarations
 pub definition_refused : {room end other from : ℕ} {t : List ℕ} {a b c : List Token} {r : Stop} → Reads a (one_at from (kinds.Definition t)) b → Reads b (one (kinds.Mark points.Colon)) c → other ≡ end → Refused room other (value ∷ []) c r
     → Refused room end (entries true ∷ []) a r
-definition_refused first second same inner = refused_behind (definition_opens first second) (refused_end same (refused_under (more_entries true ∷ []) (omega arith) (more_entries_close true) inner))
+definition_refused first second same inner =
+    refused_behind (definition_opens first second) (λ begins. inr (follows_behind (end_read _ first) (follows_mark points.Colon second))) (refused_end same (refused_under (more_entries true ∷ []) (omega arith) (more_entries_close true) inner))
 
 -- where no declaration begins
 -- the goals come to a place and halt there
 record HaltsBehind (g : Stack) (a b : List Token) : Type 0 where
   pub next : Stack
   pub room : ℕ
+  pub few : room ≤ depth g
   pub moves : Moves room g a next b
   pub halts : Halts next b
 
 halts_here : {g : Stack} {a : List Token} → Halts g a → HaltsBehind g a a
-halts_here {g = g} halts = record { next = g; room = 0; moves = moves_none; halts = halts }
+halts_here {g = g} halts = record { next = g; room = 0; few = omega arith; moves = moves_none; halts = halts }
 
 mark_none : (g : Stack) (k : TokenKind) → ¬ IsMark k → (below : Stack) → step ((mark ∷ g) ++ below) k ≡ None
 mark_none g (kinds.Mark points.Colon) other below = absurd (other tt)
@@ -293,13 +292,13 @@ mark_at g (t ∷ ts) other = λ below closes. mark_none g t.kind other below
 
 no_entry : (top : Bool) (t : Token) (ts : List Token) (k : TokenKind) → t.kind ≡ k → (k ≡ (kinds.Mark points.Ellipsis) → ⊥) → ¬ (IsLabelName k × Stands IsMark ts) → (top ≡ true → ¬ (IsDefinition k × StandsSign (kinds.Mark points.Colon) ts))
     → (top ≡ false → k ≡ (kinds.Mark points.CloseBrace) → ⊥) → HaltsBehind (entries top ∷ []) (t ∷ ts) (if can_begin top k then ts else t ∷ ts)
-no_entry true t ts (kinds.Name n) is no_dots label other close = record { next = mark ∷ value ∷ more_entries true ∷ []; room = 0; moves = takes t refl (λ below. ap (step (entries true ∷ below)) is) (omega arith); halts = record { at = mark_at (value ∷ more_entries true ∷ []) ts (λ m. label (tt, m)) } }
-no_entry true t ts (kinds.Text n) is no_dots label other close = record { next = mark ∷ value ∷ more_entries true ∷ []; room = 0; moves = takes t refl (λ below. ap (step (entries true ∷ below)) is) (omega arith); halts = record { at = mark_at (value ∷ more_entries true ∷ []) ts (λ m. label (tt, m)) } }
-no_entry true t ts (kinds.Definition n) is no_dots label other close = record { next = colon ∷ value ∷ more_entries true ∷ []; room = 0; moves = takes t refl (λ below. ap (step (entries true ∷ below)) is) (omega arith); halts = colon_halts (λ m. other refl (tt, m)) }
+no_entry true t ts (kinds.Name n) is no_dots label other close = record { next = mark ∷ value ∷ more_entries true ∷ []; room = 0; few = omega arith; moves = takes t refl (λ below. ap (step (entries true ∷ below)) is) (omega arith); halts = record { at = mark_at (value ∷ more_entries true ∷ []) ts (λ m. label (tt, m)) } }
+no_entry true t ts (kinds.Text n) is no_dots label other close = record { next = mark ∷ value ∷ more_entries true ∷ []; room = 0; few = omega arith; moves = takes t refl (λ below. ap (step (entries true ∷ below)) is) (omega arith); halts = record { at = mark_at (value ∷ more_entries true ∷ []) ts (λ m. label (tt, m)) } }
+no_entry true t ts (kinds.Definition n) is no_dots label other close = record { next = colon ∷ value ∷ more_entries true ∷ []; room = 0; few = omega arith; moves = takes t refl (λ below. ap (step (entries true ∷ below)) is) (omega arith); halts = colon_halts (λ m. other refl (tt, m)) }
 no_entry true t ts (kinds.Mark points.Ellipsis) is no_dots label other close = absurd (no_dots refl)
 no_entry true t ts k is no_dots label other close = halts_here (halts_at t refl (λ below closes. ap (step (entries true ∷ below)) is))
-no_entry false t ts (kinds.Name n) is no_dots label other close = record { next = mark ∷ value ∷ more_entries false ∷ []; room = 1; moves = takes t refl (λ below. ap (step (entries false ∷ below)) is) (omega arith); halts = record { at = mark_at (value ∷ more_entries false ∷ []) ts (λ m. label (tt, m)) } }
-no_entry false t ts (kinds.Text n) is no_dots label other close = record { next = mark ∷ value ∷ more_entries false ∷ []; room = 1; moves = takes t refl (λ below. ap (step (entries false ∷ below)) is) (omega arith); halts = record { at = mark_at (value ∷ more_entries false ∷ []) ts (λ m. label (tt, m)) } }
+no_entry false t ts (kinds.Name n) is no_dots label other close = record { next = mark ∷ value ∷ more_entries false ∷ []; room = 1; few = omega arith; moves = takes t refl (λ below. ap (step (entries false ∷ below)) is) (omega arith); halts = record { at = mark_at (value ∷ more_entries false ∷ []) ts (λ m. label (tt, m)) } }
+no_entry false t ts (kinds.Text n) is no_dots label other close = record { next = mark ∷ value ∷ more_entries false ∷ []; room = 1; few = omega arith; moves = takes t refl (λ below. ap (step (entries false ∷ below)) is) (omega arith); halts = record { at = mark_at (value ∷ more_entries false ∷ []) ts (λ m. label (tt, m)) } }
 no_entry false t ts (kinds.Mark points.Ellipsis) is no_dots label other close = absurd (no_dots refl)
 no_entry false t ts (kinds.Mark points.CloseBrace) is no_dots label other close = absurd (close refl refl)
 no_entry false t ts k is no_dots label other close = halts_here (halts_at t refl (λ below closes. ap (step (entries false ∷ below)) is))
@@ -311,6 +310,6 @@ no_entry_at true (t ∷ ts) no_dots label other ends = no_entry true t ts t.kind
 no_entry_at false (t ∷ ts) no_dots label other ends = no_entry false t ts t.kind refl no_dots label other (λ e. ends)
 
 -- the goal of declarations refuses tokens with which none begins and where they don't end
-pub no_entry_refused : {n end : ℕ} {a : List Token} {r : Stop} (top : Bool) → ¬ StandsSign (kinds.Mark points.Ellipsis) a → ¬ BeginsLabel a → (top ≡ true → ¬ BeginsDefinition a) → ¬ EndsHere top a
-    → r ≡ at_hand reasons.Syntax end (behind_begun top a) → Refused n end (entries top ∷ []) a r
-no_entry_refused {a = a} top no_dots label other ends is = let w = no_entry_at top a no_dots label other ends in stopped (stops_there is w.moves w.halts)
+pub no_entry_refused : {end : ℕ} {a : List Token} {r : Stop} (room : ℕ) (top : Bool) → ¬ StandsSign (kinds.Mark points.Ellipsis) a → ¬ BeginsLabel a → (top ≡ true → ¬ BeginsDefinition a) → ¬ EndsHere top a
+    → r ≡ at_hand reasons.Syntax end (behind_begun top a) → Refused (levels_of (entries top) + room) end (entries top ∷ []) a r
+no_entry_refused {a = a} room top no_dots label other ends is = let w = no_entry_at top a no_dots label other ends in stopped (stops_there (omega (arith, w.few)) is w.moves w.halts)

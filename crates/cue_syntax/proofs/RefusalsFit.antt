@@ -1,6 +1,7 @@
 -- What a stop of the recogniser says of the grammar.
-use Rattle.std.proofs.Common.{◌≡◌, ◌∙◌, ap, sym, subst, refl, ℕ, suc, ◌+◌, ◌-◌, ◌<◌, ◌≤◌, ◌⊎◌, inl, inr, List, [], ◌∷◌, ◌++◌, length, drop, arith, Option, Some, None, length-append}
+use Rattle.std.proofs.Common.{◌≡◌, ◌∙◌, ap, sym, subst, refl, ℕ, zero, suc, ◌+◌, ◌-◌, ◌≤◌, ◌⊎◌, inl, inr, List, [], ◌∷◌, ◌++◌, length, drop, codes, arith, Option, Some, None, length-append}
 use Rattle.cue_lex.specs.declared.token.Token.{Token}
+use Rattle.cue_lex.specs.declared.token.TokenKind.{TokenKind}
 use Rattle.cue_lex.specs.declared.token.TokenKind.TheVariants as kinds
 use Rattle.cue_lex.specs.declared.punctuation.Punctuation.TheVariants as points
 use Rattle.cue_lattice.specs.declared.refusal.Kind.{Kind}
@@ -11,13 +12,13 @@ use Rattle.cue_syntax.specs.declared.stop.Why.{Why}
 use Rattle.cue_syntax.specs.declared.stop.Why.TheVariants as reasons
 use Rattle.cue_syntax.specs.declared.stop.Stop.{Stop}
 use Rattle.cue_syntax.specs.declared.tree.File.{File}
-use Rattle.cue_syntax.specs.Stops as stopped
+use Rattle.cue_syntax.specs.Stops.{IsWant, IsMemory}
 use Rattle.cue_syntax.specs.Files.{file_tree}
 use Rattle.cue_syntax.specs.Syntax.{FileTree}
-use Rattle.cue_syntax.specs.Grammar.{Limit, unlimited, at_most, IsFile}
-use Rattle.cue_syntax.specs.Viability.{Begins, Leaves, HasNoTree, Stands, StandsSign, IsMark, IsCallOfClose}
-use Rattle.cue_syntax.specs.Refusals.{IsBraceOfClose, NestsNear, LeavesAt, FitsAt, Fits, TellsAt, Tells}
-use Rattle.cue_syntax.specs.Recogniser.{Stack, depth, stuck, Closes, IsEnd, Sticks, OpensNear, SticksBy, Stops, Refused, IsBrace, text}
+use Rattle.cue_syntax.specs.Grammar.{Limit, unlimited, at_most, Within, IsFile}
+use Rattle.cue_syntax.specs.Viability.{Begins, Leaves, HasNoTree, Stands, StandsSign, IsMark, IsKeywordName, IsCallOfClose}
+use Rattle.cue_syntax.specs.Refusals.{IsCallBehind, OwesLevel, BeginsWithin, NestsAt, LeavesAt, FitsAt, Fits, TellsAt, Tells}
+use Rattle.cue_syntax.specs.Recogniser.{Stack, depth, stuck, Closes, IsEnd, Sticks, GoesOn, IsCallHere, Owes, StaysWithin, FollowsMark, OpensAlone, OpensItself, OpensNear, SticksBy, Stops, Refused, text}
 use Rattle.cue_syntax.proofs.NoTextWhereStuck.{stuck_inside, stuck_at_end, stuck_begins_none}
 use Rattle.cue_syntax.proofs.TakenBeginsAText.{begins, taken, fewer}
 use Rattle.cue_syntax.proofs.OneTree.{one_tree}
@@ -39,108 +40,208 @@ at_drop {at = at} inside = ap (drop (length inside.read)) inside.is ∙ drop_rea
 end_count : {tokens here : List Token} (end : IsEnd tokens here) → length end.read ≡ length tokens - length here
 end_count {here = here} end = omega (arith, ap length end.is, length-append end.read here)
 
-drop_end : {tokens here : List Token} (end : IsEnd tokens here) → drop (length tokens - length here) tokens ≡ here
-drop_end {tokens = tokens} {here = here} end = subst (λ n. drop n tokens ≡ here) (end_count end) (at_drop end)
+sticks_text : (levels : ℕ) (tokens here : List Token) → Sticks (at_most levels) (text ∷ []) tokens here → stuck (at_most levels) (text ∷ []) tokens ≡ Some here
+sticks_text levels tokens here s =
+    let level : depth [] + levels ≡ levels = omega arith in
+    subst (λ n. stuck (at_most n) (text ∷ []) tokens ≡ Some here) level (s [] nothing_closes)
 
 leaves_end : {tokens at : List Token} (inside : IsEnd tokens at) → Sticks unlimited (text ∷ []) tokens at → Leaves unlimited tokens (length inside.read)
 leaves_end {tokens = tokens} {at = at} inside sticks = subst (Leaves unlimited tokens) (sym (end_count inside)) (leaves_at unlimited tokens at (sticks [] nothing_closes))
 
--- with more levels the tokens go on
-deeper_by : (tokens behind : List Token) (next : Stack) (k : ℕ) → k + length behind ≡ length tokens → stuck unlimited (text ∷ []) tokens ≡ stuck unlimited next behind → (o : Option (List Token)) → stuck unlimited next behind ≡ o
-    → Begins unlimited k tokens
-deeper_by tokens behind next k count same None is = let t = taken unlimited tokens (same ∙ is) in record { whole = tokens; tree = t.0; alike = refl; is = t.1 }
-deeper_by tokens behind next k count same (Some here) is =
-    fewer unlimited k (length tokens - length here) tokens (begins unlimited tokens here (same ∙ is)) (omega (arith, count, stuck_inside unlimited next behind here is))
+-- within fewer levels the tokens leave the grammar there
+leaves_within : {levels : ℕ} {tokens at : List Token} (inside : IsEnd tokens at) → Sticks (at_most levels) (text ∷ []) tokens at → Leaves (at_most levels) tokens (length inside.read)
+leaves_within {levels = levels} {tokens = tokens} {at = at} inside sticks = subst (Leaves (at_most levels) tokens) (sym (end_count inside)) (leaves_at (at_most levels) tokens at (sticks_text levels tokens at sticks))
 
--- the name of a call, and then its parenthesis
-name_count : (name : List Token) → IsCallOfClose name → length name ≡ suc (length (drop 1 name))
-name_count [] call = absurd call.0
-name_count (t ∷ name) call = omega arith
+-- what goes on begins a text
+goes_by : (limit : Limit) (tokens behind : List Token) (next : Stack) (k : ℕ) → k + length behind ≡ length tokens → stuck limit (text ∷ []) tokens ≡ stuck limit next behind → (o : Option (List Token)) → stuck limit next behind ≡ o
+    → Begins limit k tokens
+goes_by limit tokens behind next k count same None is = let t = taken limit tokens (same ∙ is) in record { whole = tokens; tree = t.0; alike = refl; is = t.1 }
+goes_by limit tokens behind next k count same (Some here) is =
+    fewer limit k (length tokens - length here) tokens (begins limit tokens here (same ∙ is)) (omega (arith, count, stuck_inside limit next behind here is))
 
-name_paren : (name : List Token) → IsCallOfClose name → 0 < length (drop 1 name)
-name_paren [] call = absurd call.0
-name_paren (t ∷ []) call = absurd call.1
-name_paren (t ∷ u ∷ name) call = omega arith
+goes_begins : {room : ℕ} {tokens at : List Token} (limit : Limit) → GoesOn room (text ∷ []) tokens at → Within limit (depth [] + room) → Begins limit (length tokens - length at) tokens
+goes_begins {tokens = tokens} {at = at} limit goes within =
+    let inside = goes.moves.inside in
+    goes_by limit tokens at (goes.next ++ []) (length tokens - length at) (omega (arith, ap length inside.is, length-append inside.read at)) (goes.moves.moves limit [] within) (stuck limit (goes.next ++ []) at) refl
 
-length_rest : (a : List Token) → 0 < length a → length a ≡ suc (length (drop 1 a))
-length_rest [] some = absurd (omega (arith, some))
-length_rest (t ∷ a) some = omega arith
+-- a place and the one after its first token
+some_first : (P : TokenKind → Type 0) (a : List Token) → Stands P a → length a ≡ suc (length (drop 1 a))
+some_first P [] stands = absurd stands
+some_first P (t ∷ a) stands = omega arith
 
-brace_of_close : {tokens here at : List Token} (inside : IsEnd tokens at) → IsEnd tokens here → IsBrace tokens here at
-    → (length inside.read ≡ suc (length tokens - length here)) × IsBraceOfClose (length tokens - length here) tokens
-brace_of_close {tokens = tokens} {here = here} {at = at} inside end brace =
-    let some : 0 < length here = subst (λ z. 0 < length z) brace.behind (name_paren brace.name brace.call) in
-    let rest : length here ≡ suc (length at) = length_rest here some ∙ ap (λ z. suc (length z)) (sym brace.is) in
-    let name : length brace.name ≡ suc (length here) = name_count brace.name brace.call ∙ ap (λ z. suc (length z)) brace.behind in
-    let size : length brace.name ≤ length tokens = omega (arith, ap length brace.inside.is, length-append brace.inside.read brace.name) in
-    let count : suc (length tokens - length here) ≡ length tokens - length at = omega (arith, rest, name, size) in (
-      end_count inside ∙ sym count,
-      record {
-        from = length tokens - length brace.name;
-        next = omega (arith, name, size);
-        call = subst (λ z. IsCallOfClose z) (sym (drop_end brace.inside)) brace.call;
-        brace = subst (λ z. StandsSign (kinds.Mark points.OpenBrace) z) (sym (ap (λ n. drop n tokens) count ∙ drop_end inside)) brace.brace;
-      },
-    )
+next_count : {tokens before at : List Token} (first : IsEnd tokens before) (inside : IsEnd tokens at) → drop 1 before ≡ at → length before ≡ suc (length (drop 1 before)) → suc (length first.read) ≡ length inside.read
+next_count {before = before} {at = at} first inside same some = omega (arith, ap length same, some, ap length first.is, ap length inside.is, length-append first.read before, length-append inside.read at)
 
-same_count : {tokens : List Token} (at here : List Token) (inside : IsEnd tokens at) → at ≡ here → length inside.read ≡ length tokens - length here
-same_count at here inside same = omega (arith, ap length same, ap length inside.is, length-append inside.read at)
+-- the name and the parenthesis of a call
+call_first : (name : List Token) → IsCallOfClose name → (length name ≡ suc (length (drop 1 name))) × StandsSign (kinds.Mark points.OpenParenthesis) (drop 1 name)
+call_first [] call = absurd call.0
+call_first (t ∷ []) call = absurd call.1
+call_first (t ∷ u ∷ name) call = (omega arith, call.1)
 
-next_count : {tokens : List Token} (at here : List Token) (inside : IsEnd tokens at) → drop 1 at ≡ here → 0 < length here → suc (length inside.read) ≡ length tokens - length here
-next_count [] here inside same some = absurd (let e : [] ≡ here = same in omega (arith, some, ap length e))
-next_count (t ∷ at) here inside same some = let f : at ≡ here = same in omega (arith, ap length f, ap length inside.is, length-append inside.read (t ∷ at))
+call_begins : (name : List Token) → IsCallOfClose name → StandsSign (kinds.Name (codes "close")) name
+call_begins name call = call.0
 
-mark_some : (here : List Token) → Stands IsMark here → 0 < length here
-mark_some [] stands = absurd stands
-mark_some (t ∷ ts) stands = omega arith
+call_behind : {tokens before : List Token} (first : IsEnd tokens before) → IsCallHere tokens before → IsCallBehind (length first.read) tokens
+call_behind first call = record {
+  from = length call.inside.read;
+  next = next_count call.inside first call.behind (call_first call.name call.call).0;
+  call = subst IsCallOfClose (sym (at_drop call.inside)) call.call;
+}
 
-nests_near : {levels : ℕ} {tokens at : List Token} (inside : IsEnd tokens at) → OpensNear levels (text ∷ []) tokens at → NestsNear levels tokens (length inside.read)
-nests_near {levels = levels} {tokens = tokens} {at = at} inside by =
-    let level : depth [] + levels ≡ levels = omega arith in
-    let is : stuck (at_most levels) (text ∷ []) tokens ≡ Some by.here = subst (λ n. stuck (at_most n) (text ∷ []) tokens ≡ Some by.here) level (by.opens.sticks [] nothing_closes) in
-    let end = stuck_at_end (at_most levels) (text ∷ []) tokens by.here is in
-    let d = by.opens.deeper [] in
-    let here : by.here ≡ drop (length tokens - length by.here) tokens = sym (drop_end end) in
+why_some : (tokens before : List Token) → Stands IsKeywordName before ⊎ IsCallHere tokens before → length before ≡ suc (length (drop 1 before))
+why_some tokens before (inl keyword) = some_first IsKeywordName before keyword
+why_some tokens before (inr call) = some_first (λ k. k ≡ kinds.Mark points.OpenParenthesis) before (subst (StandsSign (kinds.Mark points.OpenParenthesis)) call.behind (call_first call.name call.call).1)
+
+why_behind : {tokens before : List Token} (first : IsEnd tokens before) → Stands IsKeywordName before ⊎ IsCallHere tokens before → Stands IsKeywordName (drop (length first.read) tokens) ⊎ IsCallBehind (length first.read) tokens
+why_behind first (inl keyword) = inl (subst (Stands IsKeywordName) (sym (at_drop first)) keyword)
+why_behind first (inr call) = inr (call_behind first call)
+
+owed_first : {levels : ℕ} {tokens at : List Token} (o : Owes levels (text ∷ []) tokens at) → IsEnd tokens o.before
+owed_first {levels = levels} {tokens = tokens} o = stuck_at_end (at_most levels) (text ∷ []) tokens o.before (sticks_text levels tokens o.before o.sticks)
+
+owed_count : {levels : ℕ} {tokens at : List Token} (inside : IsEnd tokens at) (o : Owes levels (text ∷ []) tokens at) → suc (length (owed_first o).read) ≡ length inside.read
+owed_count {tokens = tokens} inside o = next_count (owed_first o) inside o.next (why_some tokens o.before o.why)
+
+-- before a place no symbol opens a level too many
+begins_within : {levels : ℕ} {tokens at : List Token} (inside : IsEnd tokens at) → StaysWithin levels (text ∷ []) tokens at → BeginsWithin levels (length inside.read) tokens
+begins_within inside (inl sticks) = let l = leaves_within inside sticks in inl l.before
+begins_within {levels = levels} {tokens = tokens} {at = at} inside (inr o) =
+    let first = owed_first o in
+    let l = leaves_within first o.sticks in
+    let room : depth [] + (1 + levels) ≤ suc levels = omega arith in
+    inr (record {
+      earlier = length first.read;
+      next = owed_count inside o;
+      begins = l.before;
+      one_more = subst (λ n. Begins (at_most (suc levels)) n tokens) (sym (end_count inside)) (goes_begins (at_most (suc levels)) o.goes_on room);
+      why = why_behind first o.why;
+    })
+
+-- with the symbol at a place the tokens begin no text within the levels
+begins_none : {levels : ℕ} {tokens at : List Token} (inside : IsEnd tokens at) → StaysWithin levels (text ∷ []) tokens at → ¬ Begins (at_most levels) (suc (length inside.read)) tokens
+begins_none inside (inl sticks) = let l = leaves_within inside sticks in l.behind
+begins_none {levels = levels} {tokens = tokens} inside (inr o) = λ more.
+    let l = leaves_within (owed_first o) o.sticks in
+    l.behind (fewer (at_most levels) _ _ tokens more (omega (arith, owed_count inside o)))
+
+-- the symbol at a place is none that owes a level
+no_keyword : (k : TokenKind) → OpensAlone k ⊎ (k ≡ kinds.Mark points.OpenParenthesis) → ¬ IsKeywordName k
+no_keyword (kinds.Name n) (inl alone) keyword = alone
+no_keyword (kinds.Name n) (inr paren) keyword = let wrong : kinds.Name n ≡ kinds.Mark points.OpenParenthesis = paren in cc
+no_keyword _ opens keyword = keyword
+
+alone_no_paren : (k : TokenKind) → OpensAlone k → k ≡ kinds.Mark points.OpenParenthesis → ⊥
+alone_no_paren k alone paren = subst OpensAlone paren alone
+
+both_stand : (P Q : TokenKind → Type 0) (a : List Token) → ((k : TokenKind) → P k → Q k → ⊥) → Stands P a → Stands Q a → ⊥
+both_stand P Q [] never p q = p
+both_stand P Q (t ∷ a) never p q = never t.kind p q
+
+opens_no_keyword : {tokens at : List Token} (levels : ℕ) → OpensItself levels (text ∷ []) tokens at → ¬ Stands IsKeywordName at
+opens_no_keyword {at = at} levels (inl alone) keyword = both_stand OpensAlone IsKeywordName at (λ k p q. no_keyword k (inl p) q) alone keyword
+opens_no_keyword {at = at} levels (inr paren) keyword = both_stand (λ k. k ≡ kinds.Mark points.OpenParenthesis) IsKeywordName at (λ k p q. no_keyword k (inr p) q) paren.0 keyword
+
+drop_one : (n : ℕ) (a : List Token) → drop 1 (drop n a) ≡ drop (suc n) a
+drop_one zero a = refl
+drop_one (suc n) [] = refl
+drop_one (suc n) (t ∷ a) = drop_one n a
+
+call_paren : {tokens at : List Token} (inside : IsEnd tokens at) → IsCallBehind (length inside.read) tokens → StandsSign (kinds.Mark points.OpenParenthesis) at
+call_paren {tokens = tokens} inside call =
+    subst (StandsSign (kinds.Mark points.OpenParenthesis)) (drop_one call.from tokens ∙ ap (λ n. drop n tokens) call.next ∙ at_drop inside) (call_first (drop call.from tokens) call.call).1
+
+-- where a mark stands before a place, no name of a call does
+mark_no_call : {tokens at : List Token} (inside : IsEnd tokens at) → FollowsMark tokens at → ¬ IsCallBehind (length inside.read) tokens
+mark_no_call {tokens = tokens} {at = at} inside f call =
+    let count : suc (length f.inside.read) ≡ length inside.read = next_count f.inside inside refl (omega arith) in
+    let same : drop call.from tokens ≡ f.token ∷ at = ap (λ n. drop n tokens) (omega (arith, count, call.next)) ∙ at_drop f.inside in
+    let name : f.token.kind ≡ kinds.Name (codes "close") = subst (StandsSign (kinds.Name (codes "close"))) same (call_begins (drop call.from tokens) call.call) in
+    let wrong : kinds.Mark f.mark ≡ kinds.Name (codes "close") = sym f.kind ∙ name in
+    cc
+
+opens_no_call : {levels : ℕ} {tokens at : List Token} (inside : IsEnd tokens at) → OpensItself levels (text ∷ []) tokens at → Begins (at_most (suc levels)) (suc (length inside.read)) tokens → ¬ IsCallBehind (length inside.read) tokens
+opens_no_call {at = at} inside (inl alone) more call = both_stand OpensAlone (λ k. k ≡ kinds.Mark points.OpenParenthesis) at alone_no_paren alone (call_paren inside call)
+opens_no_call inside (inr (paren, inl (inl first))) more call = absurd first.1
+opens_no_call inside (inr (paren, inl (inr f))) more call = mark_no_call inside f call
+opens_no_call {levels = levels} {tokens = tokens} inside (inr (paren, inr sticks)) more call =
+    let same : suc levels ≡ 1 + levels = omega arith in
+    let l = leaves_within inside sticks in
+    l.behind (subst (λ n. Begins (at_most n) (suc (length inside.read)) tokens) same more)
+
+owes_none : {levels : ℕ} {tokens at : List Token} (inside : IsEnd tokens at) → OpensItself levels (text ∷ []) tokens at → ¬ OwesLevel levels (suc (length inside.read)) tokens
+owes_none {levels = levels} {tokens = tokens} inside opens o =
+    let same : o.earlier ≡ length inside.read = omega (arith, o.next) in
+    elim (o.why) [
+      | inl keyword ↦ opens_no_keyword levels opens (subst (Stands IsKeywordName) (ap (λ n. drop n tokens) same ∙ at_drop inside) keyword)
+      | inr call ↦ opens_no_call inside opens o.one_more (subst (λ n. IsCallBehind n tokens) same call)
+    ]
+
+-- the first symbol that opens a level too many
+opened_first : {levels : ℕ} {tokens at : List Token} (by : OpensNear levels (text ∷ []) tokens at) → length by.here ≡ suc (length (drop 1 by.here))
+opened_first by = elim (by.opens) [ inl alone ↦ some_first OpensAlone by.here alone | inr paren ↦ some_first (λ k. k ≡ kinds.Mark points.OpenParenthesis) by.here paren.0 ]
+
+within_end : {levels : ℕ} {tokens at : List Token} → StaysWithin levels (text ∷ []) tokens at → IsEnd tokens at
+within_end {levels = levels} {tokens = tokens} {at = at} (inl sticks) = stuck_at_end (at_most levels) (text ∷ []) tokens at (sticks_text levels tokens at sticks)
+within_end (inr o) = o.goes_on.moves.inside
+
+before_some : (a b : List Token) → drop 1 a ≡ b → length b ≡ suc (length (drop 1 b)) → length a ≡ suc (length (drop 1 a))
+before_some [] b same some = absurd (let e : [] ≡ b = same in omega (arith, some, ap length e))
+before_some (t ∷ a) b same some = omega arith
+
+nests_at : {levels : ℕ} {tokens at : List Token} (inside : IsEnd tokens at) → OpensNear levels (text ∷ []) tokens at → NestsAt levels tokens (length inside.read)
+nests_at {levels = levels} {tokens = tokens} {at = at} inside by =
+    let end = within_end by.within in
+    let some = opened_first by in
+    let rest = by.goes_on.moves.inside in
+    let count : suc (length end.read) ≡ length tokens - length (drop 1 by.here) = next_count end rest refl some ∙ end_count rest in
+    let here : by.here ≡ drop (length end.read) tokens = sym (at_drop end) in
     record {
-      k = length tokens - length by.here;
-      leaves = leaves_at (at_most levels) tokens by.here is;
-      deeper = deeper_by tokens d.tokens_behind d.next (suc (length tokens - length by.here)) (omega (arith, ap length d.is, ap length end.is, length-append end.read by.here)) d.goes_on (stuck unlimited d.next d.tokens_behind) refl;
-      near = elim by.near [
-        | inl e ↦ inl (same_count at by.here inside e.0, subst (λ z. ¬ Stands IsMark z) here e.1)
-        | inr (inl e) ↦ inr (inl (next_count at by.here inside e.0 (mark_some by.here e.1), subst (Stands IsMark) here e.1))
-        | inr (inr e) ↦ inr (inr (brace_of_close inside end e))
+      k = length end.read;
+      within = begins_within end by.within;
+      beyond = λ more. elim more [ inl b ↦ begins_none end by.within b | inr o ↦ owes_none end by.opens o ];
+      deeper = subst (λ n. Begins unlimited n tokens) (sym count) (goes_begins unlimited by.goes_on tt);
+      named = elim by.near [
+        | inl e ↦ inl (same_count at by.here inside e.0 ∙ sym (end_count end), subst (λ z. ¬ Stands IsMark z) here e.1)
+        | inr e ↦ inr (next_count inside end e.0 (before_some at by.here e.0 some), subst (Stands IsMark) here e.1)
       ];
     }
+  where
+    same_count : {tokens : List Token} (at here : List Token) (inside : IsEnd tokens at) → at ≡ here → length inside.read ≡ length tokens - length here
+    same_count at here inside same = omega (arith, ap length same, ap length inside.is, length-append inside.read at)
 
 -- what is told of a stop
-fits_kind : (levels : ℕ) (tokens : List Token) (kind : Kind) (j : ℕ) → LeavesAt tokens kind j → FitsAt levels tokens kind j
+fits_kind : (levels : ℕ) (tokens : List Token) (kind : Kind) (j : ℕ) → LeavesAt levels tokens kind j → FitsAt levels tokens kind j
 fits_kind levels tokens refusals.Nesting j leaves = absurd leaves.told
 fits_kind levels tokens _ j leaves = leaves
 
 told_fits : {levels end : ℕ} {tokens at : List Token} {r : Refusal} (inside : IsEnd tokens at) (why : Why) → SticksBy levels (text ∷ []) tokens why at → TellsAt end tokens (length inside.read) why r
     → (r ≡ memory) ⊎ Fits levels end tokens r
-told_fits inside reasons.Memory by told = absurd by
+told_fits inside (reasons.Memory lack) by told = absurd by
 told_fits {levels = levels} {end = end} {tokens = tokens} inside reasons.Nesting by told =
-    inr (subst (λ z. Fits levels end tokens z) (sym told) (record { j = length inside.read; place = refl; fits = nests_near inside by }))
+    inr (subst (λ z. Fits levels end tokens z) (sym told) (record { j = length inside.read; place = refl; fits = nests_at inside by }))
 told_fits {levels = levels} {tokens = tokens} {r = r} inside reasons.Syntax by told =
-    let leaves : LeavesAt tokens r.kind told.j = record { k = length inside.read; leaves = leaves_end inside by; named = told.named; told = told.kind } in
+    let leaves : LeavesAt levels tokens r.kind told.j = record { k = length inside.read; within = begins_within inside by.1; leaves = leaves_end inside by.0; named = told.named; told = told.kind } in
     inr (record { j = told.j; place = told.place; fits = fits_kind levels tokens r.kind told.j leaves })
 
 stop_fits : {levels end : ℕ} {tokens : List Token} {stop : Stop} {r : Refusal} → Stops levels end (text ∷ []) tokens stop → Tells end tokens stop r → (r ≡ memory) ⊎ Fits levels end tokens r
 stop_fits {end = end} {tokens = tokens} {stop = stop} {r = r} s told =
     told_fits s.inside stop.why s.by (subst (λ n. TellsAt end tokens n stop.why r) (ap (λ n. length tokens - n) s.left ∙ sym (end_count s.inside)) told)
 
-memory_told : (end : ℕ) (tokens : List Token) {stop : Stop} {r : Refusal} → stop ≡ stopped.memory → Tells end tokens stop r → r ≡ memory
-memory_told end tokens {r = r} is told = subst (λ z. Tells end tokens z r) is told
+want_told : (end : ℕ) (tokens : List Token) (k : ℕ) (why : Why) {r : Refusal} → IsWant why → TellsAt end tokens k why r → r ≡ memory
+want_told end tokens k (reasons.Memory lack) is told = told
+want_told end tokens k _ is told = absurd is
+
+memory_told : {r : Refusal} (end : ℕ) (tokens : List Token) (stop : Stop) → IsMemory stop → Tells end tokens stop r → r ≡ memory
+memory_told end tokens stop is told = want_told end tokens (length tokens - stop.left) stop.why is.0 told
 
 -- A stop of the parser is told as a refusal that fits.
 pub refused_fits : {levels end : ℕ} {tokens : List Token} {stop : Stop} {r : Refusal} → Refused levels end (text ∷ []) tokens stop → Tells end tokens stop r → (r ≡ memory) ⊎ Fits levels end tokens r
-refused_fits {end = end} {tokens = tokens} s told = elim (s.why) [ inl e ↦ inl (memory_told end tokens e told) | inr e ↦ stop_fits e told ]
+refused_fits {end = end} {tokens = tokens} {stop = stop} s told = elim (s.why) [ inl e ↦ inl (memory_told end tokens stop e told) | inr e ↦ stop_fits e told ]
 
 -- A stop leaves no more tokens than there are.
 pub refused_left : {levels end : ℕ} {goals : Stack} {tokens : List Token} {stop : Stop} → Refused levels end goals tokens stop → stop.left ≤ length tokens
 refused_left {tokens = tokens} s = elim (s.why) [
-  | inl e ↦ omega (arith, ap (λ z. z.left) e)
+  | inl e ↦ omega (arith, e.1)
   | inr e ↦ omega (arith, e.left, ap length e.inside.is, length-append e.inside.read e.at)
 ]
 
@@ -152,11 +253,11 @@ all_none : {levels : ℕ} {tokens : List Token} {k : ℕ} → Leaves unlimited t
 all_none leaves tree is = leaves_none leaves tree (record { reads = is.reads; clause = is.clause; right = is.right; ends = is.ends; levels = tt })
 
 stop_none : {levels : ℕ} {tokens at : List Token} (inside : IsEnd tokens at) (why : Why) → SticksBy levels (text ∷ []) tokens why at → HasNoTree (at_most levels) tokens
-stop_none inside reasons.Memory by = absurd by
-stop_none inside reasons.Syntax by = all_none (leaves_end inside by)
-stop_none inside reasons.Nesting by = let nests = nests_near inside by in leaves_none nests.leaves
+stop_none inside (reasons.Memory lack) by = absurd by
+stop_none inside reasons.Syntax by = all_none (leaves_end inside by.0)
+stop_none {tokens = tokens} inside reasons.Nesting by = λ tree is. let nests = nests_at inside by in nests.beyond (inl (record { whole = tokens; tree = tree; alike = refl; is = is }))
 
-refused_none : {levels end : ℕ} {tokens : List Token} {stop : Stop} → Refused levels end (text ∷ []) tokens stop → (stop ≡ stopped.memory) ⊎ HasNoTree (at_most levels) tokens
+refused_none : {levels end : ℕ} {tokens : List Token} {stop : Stop} → Refused levels end (text ∷ []) tokens stop → IsMemory stop ⊎ HasNoTree (at_most levels) tokens
 refused_none {stop = stop} s = elim (s.why) [ inl e ↦ inl e | inr e ↦ inr (stop_none e.inside stop.why e.by) ]
 
 -- A tree that the tokens have is the one answered.
@@ -165,4 +266,4 @@ tree_answered {levels = levels} {tokens = tokens} file found tree is = one_tree 
 
 -- Where the tokens have a tree, the parser stops for want of memory alone.
 pub tree_refused : {levels end : ℕ} {tokens : List Token} {stop : Stop} {r : Refusal} → Refused levels end (text ∷ []) tokens stop → Tells end tokens stop r → (tree : FileTree) → IsFile (at_most levels) tokens tree → r ≡ memory
-tree_refused {end = end} {tokens = tokens} s told tree is = elim (refused_none s) [ inl e ↦ memory_told end tokens e told | inr none ↦ absurd (none tree is) ]
+tree_refused {end = end} {tokens = tokens} {stop = stop} s told tree is = elim (refused_none s) [ inl e ↦ memory_told end tokens stop e told | inr none ↦ absurd (none tree is) ]

@@ -3,7 +3,7 @@ use Rattle.std.proofs.Common.{◌≡◌, ℕ, ◌+◌, Bool, List, [], ◌∷◌
 use Rattle.std.specs.Prelude.{IsErrAnd}
 use Rattle.cue_lex.specs.declared.token.Token.{Token}
 use Rattle.cue_syntax.specs.declared.stop.Stop.{Stop}
-use Rattle.cue_syntax.specs.Stops.{memory}
+use Rattle.cue_syntax.specs.Stops.{IsMemory}
 use Rattle.cue_syntax.specs.Recogniser.{Stack, Refused, entries, levels_of}
 use Rattle.cue_syntax.proofs.MovesAndStops.{err_from}
 
@@ -19,5 +19,5 @@ pub passed_on_each : {A : Type 0} {end : ℕ} {a : List Token} {stop : Stop} (ro
 passed_on_each {end = end} {a = a} {stop = stop} room r is refused = err_from (λ e. (top : Bool) → Refused (levels_of (entries top) + room) end (entries top ∷ []) a e) r stop is refused
 
 -- what would follow from want of memory follows of the stop that is passed on
-pub memory_passed_on : {A P : Type 0} {stop : Stop} (r : Result A Stop) → IsErrAnd r (λ e. e ≡ stop) → (stop ≡ memory → P) → IfErr r (λ e. e ≡ memory → P)
-memory_passed_on {P = P} {stop = stop} r is lacks = err_from (λ e. e ≡ memory → P) r stop is lacks
+pub memory_passed_on : {A P : Type 0} (stop : Stop) (r : Result A Stop) → IsErrAnd r (λ e. e ≡ stop) → (IsMemory stop → P) → IfErr r (λ e. IsMemory e → P)
+memory_passed_on {P = P} stop r is lacks = err_from (λ e. IsMemory e → P) r stop is lacks

@@ -1,12 +1,12 @@
 -- With which tokens a declaration begins that the parser goes on to read.
-use Rattle.std.proofs.Common.{◌≡◌, ◌⊎◌, ◌∙◌, ℕ, inl, inr, subst, sym, ap, Ok, Err, List, [], ◌∷◌}
+use Rattle.std.proofs.Common.{◌≡◌, ◌⊎◌, ℕ, inl, inr, subst, ap, Ok, Err, List, [], ◌∷◌}
 use Rattle.std.specs.Prelude.{Result, MatchResult, IsErr, IfErr}
 use Rattle.cue_lex.specs.declared.token.Token.{Token}
 use Rattle.cue_lex.specs.declared.token.TokenKind.{TokenKind}
 use Rattle.cue_syntax.specs.declared.stop.Stop.{Stop}
 use Rattle.cue_syntax.specs.declared.stop.Why.TheVariants as reasons
 use Rattle.cue_syntax.specs.Spelling.{Reads, one}
-use Rattle.cue_syntax.specs.Stops.{memory, at_hand}
+use Rattle.cue_syntax.specs.Stops.{IsWant, IsMemory, at_hand}
 use Rattle.cue_syntax.specs.Viability.{StandsSign}
 use Rattle.cue_syntax.specs.Begun.{BeginsEntry}
 
@@ -16,16 +16,13 @@ begun a b (inl e) is = subst BeginsEntry e is
 begun a b (inr is) other = is
 
 -- What holds whatever was answered.
-pub begins_always : {A : Type 0} (r : Result A Stop) (P : Type 0) → P → MatchResult r (λ x. P) (λ e. e ≡ memory → P)
+pub begins_always : {A : Type 0} (r : Result A Stop) (P : Type 0) → P → MatchResult r (λ x. P) (λ e. IsMemory e → P)
 begins_always (Ok x) P is = is
 begins_always (Err e) P is = λ m. is
 
 -- A stop at a token is no want of memory.
-pub no_memory : {P : Type 0} {stop : Stop} (end : ℕ) (tokens : List Token) → stop ≡ at_hand reasons.Syntax end tokens → stop ≡ memory → P
-no_memory end tokens is lacks = absurd (syntax_alone (sym (ap (λ s. s.why) is) ∙ ap (λ s. s.why) lacks))
-  where
-    syntax_alone : reasons.Syntax ≡ reasons.Memory → ⊥
-    syntax_alone e = cc
+pub no_memory : {P : Type 0} {stop : Stop} (end : ℕ) (tokens : List Token) → stop ≡ at_hand reasons.Syntax end tokens → IsMemory stop → P
+no_memory end tokens is lacks = absurd (subst IsWant (ap (λ s. s.why) is) lacks.0)
 
 -- A token that was read stands at hand.
 pub read_stands : (k : TokenKind) (a b : List Token) → Reads a (one k) b → StandsSign k a

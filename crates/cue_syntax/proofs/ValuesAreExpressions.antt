@@ -1,5 +1,5 @@
 -- A value that is no label is an expression.
-use Rattle.std.proofs.Common.{◌≡◌, ◌∙◌, ap, sym, refl, ℕ, Bool, true, false, List, [], ◌∷◌, drop, codes, arith, Some, None}
+use Rattle.std.proofs.Common.{◌≡◌, ◌∙◌, ap, sym, subst, refl, ℕ, zero, suc, inl, Bool, true, false, List, [], ◌∷◌, drop, codes, arith, Some, None}
 use Rattle.std.specs.Prelude.{if◌then◌else◌}
 use Rattle.cue_lex.specs.declared.token.Token.{Token}
 use Rattle.cue_lex.specs.declared.token.TokenKind.{TokenKind}
@@ -10,7 +10,8 @@ use Rattle.cue_syntax.specs.declared.stop.Stop.{Stop}
 use Rattle.cue_syntax.specs.Stops.{at_hand}
 use Rattle.cue_syntax.specs.Viability.{Stands, IsMark, IsLabelName, IsKeywordName, BeginsLabel, RefusesKeyword}
 use Rattle.cue_syntax.specs.Recogniser.{Stack, step, is_word, is_keyword, Moves, Stops, Refused, value, value_name, value_text, expression, behind_close, more_parts, more_terms}
-use Rattle.cue_syntax.proofs.MovesAndStops.{takes, moves_then, moves_meet, alike_moves, Alike, moves_more, HaltsAt, stopped, stops_there, refused_behind}
+use Rattle.cue_syntax.proofs.MovesAndStops.{takes, moves_then, moves_meet, alike_moves, Alike, moves_more, HaltsAt, stopped, stops_there, stops_owing, refused_behind}
+use Rattle.cue_syntax.proofs.OpensLevels.{sticks_level}
 use Rattle.cue_syntax.proofs.MovesOverLiterals.{keyword_is, keyword_no}
 
 -- after a name
@@ -87,18 +88,22 @@ value_moves {a = a} label keyword m = moves_then (moves_more (omega arith) (valu
 
 -- what is refused there of an expression is refused of a value
 pub value_refused : {n end : ℕ} {a : List Token} {r : Stop} → ¬ BeginsLabel a → ¬ Stands IsKeywordName a → Refused n end (expression ∷ []) a r → Refused n end (value ∷ []) a r
-value_refused {a = a} label keyword s = refused_behind (moves_more (omega arith) (value_is a label keyword)) s
+value_refused {a = a} label keyword s = refused_behind (moves_more (omega arith) (value_is a label keyword)) (λ begins. inl (refl, tt)) s
 
 -- the goal of a value halts after a keyword that is no label
-keyword_by : {n end : ℕ} {r : Stop} (t : Token) (b : List Token) (k : TokenKind) → t.kind ≡ k → ¬ (IsLabelName k × Stands IsMark b) → IsKeywordName k → r ≡ at_hand reasons.Syntax end b → Stops n end (value ∷ []) (t ∷ b) r
-keyword_by t b (kinds.Name n) kind label keyword is =
+keyword_by : {end : ℕ} {r : Stop} (n : ℕ) (t : Token) (b : List Token) (k : TokenKind) → t.kind ≡ k → ¬ (IsLabelName k × Stands IsMark b) → IsKeywordName k → r ≡ at_hand reasons.Syntax end b → Stops n end (value ∷ []) (t ∷ b) r
+keyword_by zero t b (kinds.Name n) kind label keyword is =
     let known = keyword_is n keyword in
-    stops_there is (takes {n = 1} {next = value_name n ∷ []} t refl (λ below. ap (step (value ∷ below)) kind) (rw known (omega arith))) (record { at = keyword_at n b (λ m. label (tt, m)) known })
-keyword_by t b _ kind label keyword is = absurd keyword
+    stops_owing (t ∷ b) is (takes {n = 1} {next = value_name n ∷ []} t refl (λ below. ap (step (value ∷ below)) kind) (rw known (omega arith))) (record { at = keyword_at n b (λ m. label (tt, m)) known })
+    refl (sticks_level (value ∷ []) (value_name n ∷ []) t (λ below. ap (step (value ∷ below)) kind) (rw known (omega arith))) (inl (subst IsKeywordName (sym kind) keyword))
+keyword_by (suc m) t b (kinds.Name n) kind label keyword is =
+    let known = keyword_is n keyword in
+    stops_there {free = 1} (omega arith) is (takes {n = 1} {next = value_name n ∷ []} t refl (λ below. ap (step (value ∷ below)) kind) (rw known (omega arith))) (record { at = keyword_at n b (λ m. label (tt, m)) known })
+keyword_by n t b _ kind label keyword is = absurd keyword
 
 keyword_stops : {n end : ℕ} {r : Stop} (a : List Token) → ¬ BeginsLabel a → Stands IsKeywordName a → r ≡ at_hand reasons.Syntax end (drop 1 a) → Stops n end (value ∷ []) a r
 keyword_stops [] label keyword is = absurd keyword
-keyword_stops (t ∷ ts) label keyword is = keyword_by t ts t.kind refl label keyword is
+keyword_stops {n = n} (t ∷ ts) label keyword is = keyword_by n t ts t.kind refl label keyword is
 
 pub keyword_refused : {n end : ℕ} {a : List Token} {r : Stop} → ¬ BeginsLabel a → RefusesKeyword end a r → Refused n end (value ∷ []) a r
 keyword_refused {a = a} label refuses = stopped (keyword_stops a label refuses.keyword refuses.is)

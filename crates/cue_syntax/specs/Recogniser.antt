@@ -5,11 +5,13 @@
 -- begins so; proofs/TakenBeginsAText: what it takes begins a text).
 use Rattle.std.specs.Prelude.{◌≡◌, ◌+◌, ◌⊎◌, drop, length, ℕ, Bool, true, false, List, [], ◌∷◌}
 use Rattle.std.specs.Prelude.{◌++◌, codes, Option, None, Some, nat_eq, nat_le, if◌then◌else◌, ◌||◌}
+use Rattle.std.specs.Prelude.{⊤}
 use Rattle.std.specs.Cmp.Lexicographic.{pointwise}
 use Rattle.std.specs.List.{starts_with}
 use Rattle.cue_lex.specs.declared.token.Token.{Token}
 use Rattle.cue_lex.specs.declared.token.TokenKind.{TokenKind}
 use Rattle.cue_lex.specs.declared.token.TokenKind.TheVariants as kinds
+use Rattle.cue_lex.specs.declared.punctuation.Punctuation.{Punctuation}
 use Rattle.cue_lex.specs.declared.punctuation.Punctuation.TheVariants as points
 use Rattle.cue_syntax.specs.declared.stop.Why.{Why}
 use Rattle.cue_syntax.specs.declared.stop.Why.TheVariants as reasons
@@ -17,9 +19,9 @@ use Rattle.cue_syntax.specs.declared.stop.Stop.{Stop}
 use Rattle.cue_syntax.specs.declared.tree.Label.{Label}
 use Rattle.cue_syntax.specs.declared.tree.Sign.{Sign}
 use Rattle.cue_syntax.specs.declared.tree.Sign.TheVariants as signs
-use Rattle.cue_syntax.specs.Stops.{memory}
+use Rattle.cue_syntax.specs.Stops.{IsMemory}
 use Rattle.cue_syntax.specs.Grammar.{Limit, unlimited, at_most, Within, greatest}
-use Rattle.cue_syntax.specs.Viability.{Stands, StandsSign, IsMark, IsCallOfClose}
+use Rattle.cue_syntax.specs.Viability.{Stands, StandsSign, IsMark, IsCallOfClose, IsKeywordName}
 
 -- what has still to come
 pub data Goal : Type 0 where
@@ -337,38 +339,94 @@ pub record IsEnd (tokens at : List Token) : Type 0 where
   pub read : List Token
   pub is : tokens ≡ read ++ at
 
--- whatever has to come after the goals, with more levels the tokens go on here
-pub record GoesOn (goals : Stack) (tokens here : List Token) (below : Stack) : Type 0 where
-  pub next : Stack
-  pub token : Token
-  pub tokens_behind : List Token
-  pub is : here ≡ token ∷ tokens_behind
-  pub goes_on : stuck unlimited (goals ++ below) tokens ≡ stuck unlimited next tokens_behind
+-- Up to b the goals have been read as far as the next ones, within so many levels.
+pub record Moves (room : ℕ) (goals : Stack) (a : List Token) (next : Stack)
+    (b : List Token) : Type 0 where
+  pub inside : IsEnd a b
+  pub moves : (limit : Limit) (below : Stack) → Within limit (depth below + room)
+      → stuck limit (goals ++ below) a ≡ stuck limit (next ++ below) b
 
--- a place after the `close` and the parenthesis of a `close({`, where that parenthesis is here
-pub record IsBrace (tokens here at : List Token) : Type 0 where
+-- within so many levels the tokens are read up to a place
+pub record GoesOn (room : ℕ) (goals : Stack) (tokens at : List Token) : Type 0 where
+  pub next : Stack
+  pub moves : Moves room goals tokens next at
+
+-- the parenthesis of a `close(` is here
+pub record IsCallHere (tokens here : List Token) : Type 0 where
   pub name : List Token
   pub inside : IsEnd tokens name
   pub call : IsCallOfClose name
   pub behind : drop 1 name ≡ here
-  pub is : at ≡ drop 1 here
-  pub brace : StandsSign (kinds.Mark points.OpenBrace) at
 
--- with so many levels the tokens leave the grammar here, with more they go on
-pub record OpensAt (room : ℕ) (goals : Stack) (tokens here : List Token) : Type 0 where
-  pub sticks : Sticks (at_most room) goals tokens here
-  pub deeper : (below : Stack) → GoesOn goals tokens here below
+-- The symbol before a place has no room, but is read with one level more, which only the symbol at
+-- the place can open.
+pub record Owes (room : ℕ) (goals : Stack) (tokens at : List Token) : Type 0 where
+  pub before : List Token
+  pub next : drop 1 before ≡ at
+  pub sticks : Sticks (at_most room) goals tokens before
+  pub goes_on : GoesOn (1 + room) goals tokens at
+  pub why : Stands IsKeywordName before ⊎ IsCallHere tokens before
 
--- They do so at a place, or at the mark after it, or at the parenthesis before it.
+-- before a place no symbol opens a level too many
+abbrev pub StaysWithin : ℕ → Stack → List Token → List Token → Type 0
+StaysWithin room goals tokens at =
+    Sticks (at_most room) goals tokens at ⊎ Owes room goals tokens at
+
+-- an expression can begin with the goal
+abbrev pub BeginsOperand : Goal → Type 0
+BeginsOperand value = ⊤
+BeginsOperand expression = ⊤
+BeginsOperand term = ⊤
+BeginsOperand unary = ⊤
+BeginsOperand elements = ⊤
+BeginsOperand dots = ⊤
+BeginsOperand _ = ⊥
+
+abbrev pub TakesOperand : Stack → Type 0
+TakesOperand [] = ⊥
+TakesOperand (goal ∷ goals) = BeginsOperand goal
+
+-- a mark, and no name, stands before a place
+pub record FollowsMark (tokens at : List Token) : Type 0 where
+  pub token : Token
+  pub mark : Punctuation
+  pub kind : token.kind ≡ kinds.Mark mark
+  pub inside : IsEnd tokens (token ∷ at)
+
+-- an operand begins at a place: the goals do so there, or a mark stands before it
+abbrev pub IsOperandHere : Stack → List Token → List Token → Type 0
+IsOperandHere goals tokens at = ((tokens ≡ at) × TakesOperand goals) ⊎ FollowsMark tokens at
+
+-- a brace, a bracket or the mark of a label
+abbrev pub OpensAlone : TokenKind → Type 0
+OpensAlone (kinds.Mark points.OpenBrace) = ⊤
+OpensAlone (kinds.Mark points.OpenBracket) = ⊤
+OpensAlone (kinds.Mark points.Colon) = ⊤
+OpensAlone (kinds.Mark points.Question) = ⊤
+OpensAlone (kinds.Mark points.Exclamation) = ⊤
+OpensAlone _ = ⊥
+
+-- The symbol opens the level itself, and a parenthesis is that of an operand, or one level more is
+-- too few for it.
+abbrev pub OpensItself : ℕ → Stack → List Token → List Token → Type 0
+OpensItself room goals tokens here =
+    Stands OpensAlone here
+    ⊎ (StandsSign (kinds.Mark points.OpenParenthesis) here
+    × (IsOperandHere goals tokens here ⊎ Sticks (at_most (1 + room)) goals tokens here))
+
+-- The first symbol that opens a level too many is here. A place names it, or the label before it,
+-- where it is a mark.
 pub record OpensNear (room : ℕ) (goals : Stack) (tokens at : List Token) : Type 0 where
   pub here : List Token
-  pub opens : OpensAt room goals tokens here
+  pub within : StaysWithin room goals tokens here
+  pub goes_on : GoesOn (2 + room) goals tokens (drop 1 here)
+  pub opens : OpensItself room goals tokens here
   pub near : ((at ≡ here) × ¬ Stands IsMark here) ⊎ ((drop 1 at ≡ here) × Stands IsMark here)
-      ⊎ IsBrace tokens here at
 
 abbrev pub SticksBy : ℕ → Stack → List Token → Why → List Token → Type 0
-SticksBy room goals tokens reasons.Memory at = ⊥
-SticksBy room goals tokens reasons.Syntax at = Sticks unlimited goals tokens at
+SticksBy room goals tokens (reasons.Memory memory) at = ⊥
+SticksBy room goals tokens reasons.Syntax at =
+    Sticks unlimited goals tokens at × StaysWithin room goals tokens at
 SticksBy room goals tokens reasons.Nesting at = OpensNear room goals tokens at
 
 -- Why and where the parser stops at tokens that the goals have to read.
@@ -380,11 +438,4 @@ pub record Stops (room end : ℕ) (goals : Stack) (tokens : List Token) (stop : 
 
 -- The parser stops for want of memory, or because the goals can't read the tokens.
 pub record Refused (room end : ℕ) (goals : Stack) (tokens : List Token) (stop : Stop) : Type 0 where
-  pub why : (stop ≡ memory) ⊎ Stops room end goals tokens stop
-
--- Up to b the goals have been read as far as the next ones, within so many levels.
-pub record Moves (room : ℕ) (goals : Stack) (a : List Token) (next : Stack)
-    (b : List Token) : Type 0 where
-  pub inside : IsEnd a b
-  pub moves : (limit : Limit) (below : Stack) → Within limit (depth below + room)
-      → stuck limit (goals ++ below) a ≡ stuck limit (next ++ below) b
+  pub why : IsMemory stop ⊎ Stops room end goals tokens stop

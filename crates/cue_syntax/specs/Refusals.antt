@@ -7,7 +7,6 @@ use Rattle.cue_lattice.specs.declared.refusal.Refusal.{Refusal}
 use Rattle.cue_lattice.specs.Refusal.{memory, refusal_at}
 use Rattle.cue_lex.specs.declared.token.Token.{Token}
 use Rattle.cue_lex.specs.declared.token.TokenKind.TheVariants as kinds
-use Rattle.cue_lex.specs.declared.punctuation.Punctuation.TheVariants as points
 use Rattle.cue_syntax.specs.declared.spot.Spot.TheVariants as spots
 use Rattle.cue_syntax.specs.declared.stop.Why.{Why}
 use Rattle.cue_syntax.specs.declared.stop.Why.TheVariants as reasons
@@ -18,23 +17,34 @@ use Rattle.cue_syntax.specs.Viability.{IsCallOfClose, IsKeywordName}
 use Rattle.cue_syntax.specs.Spots.{spot_of}
 use Rattle.cue_syntax.specs.Forms.{IsAt}
 
--- the symbols after k tokens are the parenthesis and the brace of a `close({`
-pub record IsBraceOfClose (k : ℕ) (tokens : List Token) : Type 0 where
+-- the symbol after so many tokens is the parenthesis of a `close(`
+pub record IsCallBehind (n : ℕ) (tokens : List Token) : Type 0 where
   pub from : ℕ
-  pub next : suc from ≡ k
+  pub next : suc from ≡ n
   pub call : IsCallOfClose (drop from tokens)
-  pub brace : StandsSign (kinds.Mark points.OpenBrace) (drop (suc k) tokens)
 
--- Some symbol opens a level too many, where trees of more levels go on: the one after k tokens. It
--- is named itself, unless it is the mark of a label, which is named before it, or the parenthesis of
--- a `close({`, where the brace may be named.
-pub record NestsNear (levels : ℕ) (tokens : List Token) (j : ℕ) : Type 0 where
+-- The last of n symbols opens no level too many, but only a symbol that does may follow: the mark of
+-- a label after a keyword as a value, or the brace of a `close({` after its parenthesis.
+pub record OwesLevel (levels n : ℕ) (tokens : List Token) : Type 0 where
+  pub earlier : ℕ
+  pub next : suc earlier ≡ n
+  pub begins : Begins (at_most levels) earlier tokens
+  pub one_more : Begins (at_most (suc levels)) n tokens
+  pub why : Stands IsKeywordName (drop earlier tokens) ⊎ IsCallBehind earlier tokens
+
+-- The first n symbols begin a text, as far as they open levels within so many.
+abbrev pub BeginsWithin : ℕ → ℕ → List Token → Type 0
+BeginsWithin levels n tokens = Begins (at_most levels) n tokens ⊎ OwesLevel levels n tokens
+
+-- The symbol after k tokens is the first that opens a level too many, and trees of more levels go
+-- on with it. It is named itself, unless it is the mark of a label, which is named before it.
+pub record NestsAt (levels : ℕ) (tokens : List Token) (j : ℕ) : Type 0 where
   pub k : ℕ
-  pub leaves : Leaves (at_most levels) tokens k
+  pub within : BeginsWithin levels k tokens
+  pub beyond : ¬ BeginsWithin levels (suc k) tokens
   pub deeper : Begins unlimited (suc k) tokens
-  pub near : ((j ≡ k) × ¬ Stands IsMark (drop k tokens))
+  pub named : ((j ≡ k) × ¬ Stands IsMark (drop k tokens))
       ⊎ ((suc j ≡ k) × Stands IsMark (drop k tokens))
-      ⊎ ((j ≡ suc k) × IsBraceOfClose k tokens)
 
 -- a first name `package` begins the clause of a package, where no mark makes it a label
 abbrev pub BeginsPackage : ℕ → List Token → Type 0
@@ -69,18 +79,19 @@ IsKindAfter j tokens refusals.Syntax = (form : Form) → ¬ StandsAfter j tokens
 IsKindAfter j tokens (refusals.LeftOut form) = StandsAfter j tokens form
 IsKindAfter j tokens _ = ⊥
 
--- The tokens leave the grammar of any number of levels, and this is said of the symbol after j of
--- them.
-pub record LeavesAt (tokens : List Token) (kind : Kind) (j : ℕ) : Type 0 where
+-- The tokens leave the grammar of any number of levels, before any symbol opens a level too many,
+-- and this is said of the symbol after j of them.
+pub record LeavesAt (levels : ℕ) (tokens : List Token) (kind : Kind) (j : ℕ) : Type 0 where
   pub k : ℕ
+  pub within : BeginsWithin levels k tokens
   pub leaves : Leaves unlimited tokens k
   pub named : IsNamed tokens k j
   pub told : IsKindAfter j tokens kind
 
 -- why the parser may refuse the tokens, at the symbol after j of them
 abbrev pub FitsAt : ℕ → List Token → Kind → ℕ → Type 0
-FitsAt levels tokens refusals.Nesting j = NestsNear levels tokens j
-FitsAt levels tokens kind j = LeavesAt tokens kind j
+FitsAt levels tokens refusals.Nesting j = NestsAt levels tokens j
+FitsAt levels tokens kind j = LeavesAt levels tokens kind j
 
 -- The refusal says why the tokens are no text within so many levels, and where.
 pub record Fits (levels end : ℕ) (tokens : List Token) (refusal : Refusal) : Type 0 where
@@ -97,7 +108,7 @@ pub record TellsOf (end : ℕ) (tokens : List Token) (k : ℕ) (refusal : Refusa
 
 -- what is told of a stop after k tokens
 abbrev pub TellsAt : ℕ → List Token → ℕ → Why → Refusal → Type 0
-TellsAt end tokens k reasons.Memory refusal = refusal ≡ memory
+TellsAt end tokens k (reasons.Memory m) refusal = refusal ≡ memory
 TellsAt end tokens k reasons.Nesting refusal =
     refusal ≡ refusal_at refusals.Nesting (place_of end (drop k tokens))
 TellsAt end tokens k reasons.Syntax refusal = TellsOf end tokens k refusal

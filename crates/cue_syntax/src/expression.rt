@@ -13,9 +13,10 @@ ghost use Rattle.cue_syntax.specs.Parsed.{IsFurther, IsOnward, ReadsExpression};
 ghost use Rattle.cue_syntax.specs.Parsed.{MovesBetween, Refuses};
 ghost use Rattle.std.specs.Prelude.{MatchResult};
 ghost use Rattle.cue_syntax.specs.Begun.{BeginsEntry};
-ghost use Rattle.cue_syntax.specs.Stops.{memory, at_hand};
+ghost use Rattle.cue_syntax.specs.Stops.{IsMemory, at_hand};
 
 use crate::cursor::{Cursor, Operand, Parsed};
+use crate::form;
 use crate::label::{begins_label, label, labels};
 use crate::literal::{literal, lone};
 use crate::memory::{boxed, fitted, push};
@@ -439,7 +440,7 @@ pub fn declarations<'a>(
         → EndsHere top r.1.rest.now) }
     ensures refused { IfErr result (Refuses (levels_of (goals.entries top) + room)
         (goals.entries top ∷ []) cursor.entry) }
-    ensures begins { IfErr result (λ r. r ≡ memory → BeginsEntry cursor.entry.rest.now) }
+    ensures begins { IfErr result (λ r. IsMemory r → BeginsEntry cursor.entry.rest.now) }
 {
     let mut items = Vec::new(alloc);
     let mut comma = false;
@@ -483,7 +484,7 @@ fn declaration<'a>(
     ensures refused { IfErr result (Refuses (levels_of (goals.entries top) + room)
         (goals.entries top ∷ []) cursor.entry) }
     ensures begins { MatchResult result (λ r. BeginsEntry cursor.entry.rest.now)
-        (λ r. r ≡ memory → BeginsEntry cursor.entry.rest.now) }
+        (λ r. IsMemory r → BeginsEntry cursor.entry.rest.now) }
 {
     if let Some(after) = cursor.skip(Punctuation::Ellipsis) {
         return Ok((Declaration::Ellipsis, after));
@@ -518,13 +519,7 @@ fn begins_definition(cursor: Cursor, top: bool) -> bool
     ensures begins { IsTrue result → BeginsDefinition cursor.entry.rest.now }
     ensures no { result ≡ false → top ≡ true → ¬ BeginsDefinition cursor.entry.rest.now }
 {
-    match cursor.next() {
-        Some((token, after)) => match &token.kind {
-            TokenKind::Definition(_) => top && after.stands(Punctuation::Colon),
-            _ => false,
-        },
-        None => false,
-    }
+    top && form::begins_definition(cursor)
 }
 
 /// A field with its chain of labels.

@@ -10,7 +10,7 @@ ghost use Rattle.cue_syntax.specs.Syntax.{FileTree};
 ghost use Rattle.cue_syntax.specs.Refusals.{Fits};
 ghost use Rattle.cue_syntax.specs.Viability.{Stands, IsMark};
 ghost use Rattle.cue_syntax.specs.Begun.{BeginsText};
-ghost use Rattle.cue_syntax.specs.Stops as stops;
+ghost use Rattle.cue_syntax.specs.Stops.{IsMemory};
 ghost use Rattle.cue_syntax.specs.Recogniser.{text, package_word, package_end};
 ghost use Rattle.cue_syntax.specs.Parsed.{MovesBetween, Refuses, RefusesAlways};
 ghost use Rattle.cue_syntax.specs.Recogniser.{entries};
@@ -50,7 +50,7 @@ fn file(alloc: Global, cursor: Cursor) -> Result<File, Stop>
     ensures spelled { IfOk result (λ file. IsFile (at_most level_limit) cursor.entry.rest.now
         (file_tree file)) }
     ensures refused { IfErr result (Refuses level_limit (text ∷ []) cursor.entry) }
-    ensures begins { IfErr result (λ r. r ≡ stops.memory → BeginsText cursor.entry.rest.now) }
+    ensures begins { IfErr result (λ r. IsMemory r → BeginsText cursor.entry.rest.now) }
 {
     let (package, rest) = package(cursor)?;
     if rest.is_at_end() {

@@ -12,7 +12,7 @@ use crate::cursor::Cursor;
 use crate::literal::{is_clause, is_keyword};
 use crate::spot::{Spot, find_spot};
 use crate::stop::{Stop, Why};
-use cue_lattice::{Form, Kind, Memory, Refusal};
+use cue_lattice::{Form, Kind, Refusal};
 use cue_lex::{Punctuation, Token, TokenKind};
 
 /// What is said of the place at which the parser stopped. `end` is the length of the text in bytes.
@@ -23,7 +23,7 @@ pub fn refusal<'t>(tokens: &'t [Token<'t>], end: usize, stop: Stop) -> Refusal
     let text = Cursor { rest: tokens, end };
     let read = tokens.len() - stop.left;
     match stop.why {
-        Why::Memory => Refusal::from(Memory),
+        Why::Memory(memory) => Refusal::from(memory),
         Why::Nesting => after(text, read).refuse(Kind::Nesting),
         Why::Syntax => leaving(text, read),
     }
@@ -266,7 +266,7 @@ fn begins_marked_definition(cursor: Cursor) -> bool
 }
 
 /// Whether a definition and a colon stand at hand.
-fn begins_definition(cursor: Cursor) -> bool
+pub fn begins_definition(cursor: Cursor) -> bool
     ensures { IsTrue result ↔ Stands IsDefinition cursor.entry.rest.now
         × NextSign (TokenKind.Mark Punctuation.Colon) cursor.entry.rest.now }
 {

@@ -1,6 +1,6 @@
 ghost use Rattle.std.specs.Prelude.{◌≡◌, ◌+◌, ◌⊎◌, ◌↔◌, ◌∷◌, [], IfOk, IfErr, IsTrue};
 ghost use Rattle.std.specs.Prelude.{length, flat_map};
-ghost use Rattle.cue_syntax.specs.Stops.{memory};
+ghost use Rattle.cue_syntax.specs.Stops.{IsMemory};
 ghost use Rattle.cue_syntax.specs.Spelling.{Reads, one, spell_label, spell_mark, label_kind};
 ghost use Rattle.cue_syntax.specs.Viability.{Stands, StandsSign, BeginsLabel, IsLabelName};
 ghost use Rattle.cue_syntax.specs.Viability.{IsKeywordName, RefusesKeyword, MissesColon};
@@ -62,7 +62,7 @@ pub fn label<'a>(cursor: Cursor<'a>) -> Parsed<'a, Label<'a>>
     ensures further { IfOk result (λ r. IsFurther cursor.entry r.1) }
     ensures spelled { IfOk result (λ r.
         Reads cursor.entry.rest.now (spell_label r.0) r.1.rest.now) }
-    ensures refused { IfErr result (λ r. (r ≡ memory)
+    ensures refused { IfErr result (λ r. IsMemory r
         ⊎ MissesColon cursor.entry.end cursor.entry.rest.now r) }
 {
     let (name, after) = label_name(cursor)?;
@@ -76,7 +76,7 @@ fn label_name<'a>(cursor: Cursor<'a>) -> Parsed<'a, LabelName<'a>>
     ensures onward { IfOk result (λ r. IsOnward cursor.entry r.1) }
     ensures spelled { IfOk result (λ r. Reads cursor.entry.rest.now (one (label_kind r.0))
         r.1.rest.now) }
-    ensures memory { IfErr result (λ r. r ≡ memory) }
+    ensures memory { IfErr result IsMemory }
 {
     let Some((token, after)) = cursor.next() else {
         return Err(cursor.syntax());

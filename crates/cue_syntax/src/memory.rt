@@ -1,5 +1,5 @@
 ghost use Rattle.std.specs.Prelude.{◌≡◌, ◌++◌, ◌∷◌, [], OnOk, IfOk, IfErr};
-ghost use Rattle.cue_syntax.specs.Stops.{memory};
+ghost use Rattle.cue_syntax.specs.Stops.{IsMemory};
 
 use crate::stop::Stop;
 use cue_lattice::Memory;
@@ -8,7 +8,7 @@ use std::alloc::Global;
 /// Puts a value at the end.
 pub fn push<T: Drop>(values: &mut Vec<T>, value: T) -> Result<(), Stop>
     ensures pushed { OnOk result (values.new.items ≡ values.old.items ++ value ∷ []) }
-    ensures memory { IfErr result (λ stop. stop ≡ memory) }
+    ensures memory { IfErr result IsMemory }
 {
     values.push(value).map_err(Memory::from)?;
     Ok(())
@@ -17,7 +17,7 @@ pub fn push<T: Drop>(values: &mut Vec<T>, value: T) -> Result<(), Stop>
 /// Puts a value into a box.
 pub fn boxed<T: Drop>(alloc: Global, value: T) -> Result<Box<T>, Stop>
     ensures boxed { IfOk result (λ b. b.value ≡ value) }
-    ensures memory { IfErr result (λ stop. stop ≡ memory) }
+    ensures memory { IfErr result IsMemory }
 {
     Ok(Box::new(alloc, value).map_err(Memory::from)?)
 }

@@ -1,12 +1,9 @@
-ghost use Rattle.std.specs.Prelude.{◌≡◌};
-ghost use Rattle.cue_syntax.specs.Stops.{memory};
-
 use cue_lattice::Memory;
 
 /// Why the parser stopped.
 #[derive(Clone, Copy)]
 pub enum Why {
-    Memory,
+    Memory(Memory),
     /// The tokens leave the grammar.
     Syntax,
     /// A token opens a level too many.
@@ -21,14 +18,13 @@ pub struct Stop {
 }
 
 impl From<Memory> for Stop {
-    ghost use Rattle.std.specs.Prelude.{◌≡◌};
-    ghost use Rattle.cue_syntax.specs.Stops.{memory};
+    ghost use Rattle.cue_syntax.specs.Stops.{IsMemory};
 
-    ghost from_gives = { λ _ stop. stop ≡ memory };
+    ghost from_gives = { λ _ stop. IsMemory stop };
 
-    fn from(_memory: Memory) -> Stop {
+    fn from(memory: Memory) -> Stop {
         Stop {
-            why: Why::Memory,
+            why: Why::Memory(memory),
             left: 0,
         }
     }

@@ -73,7 +73,7 @@ pub enum LabelName<'t> {
 }
 
 /// What stands between a label and its colon.
-#[derive(Clone, Copy, Debug, PartialEq, Eq, Hash)]
+#[derive(Clone, Copy, Debug, PartialEq, Eq)]
 pub enum Mark {
     /// Nothing: a regular field.
     Regular,
@@ -84,7 +84,7 @@ pub enum Mark {
 }
 
 /// The sign of an integer.
-#[derive(Clone, Copy, Debug, PartialEq, Eq, Hash)]
+#[derive(Clone, Copy, Debug, PartialEq, Eq)]
 pub enum Sign {
     /// No sign.
     Absent,
@@ -93,14 +93,14 @@ pub enum Sign {
 }
 
 /// An integer as it is written.
-#[derive(Clone, Copy, Debug, PartialEq, Eq, Hash)]
+#[derive(Clone, Copy, Debug, PartialEq, Eq)]
 pub struct Signed {
     pub sign: Sign,
     pub magnitude: u64,
 }
 
 /// The comparison of a bound.
-#[derive(Clone, Copy, Debug, PartialEq, Eq, Hash)]
+#[derive(Clone, Copy, Debug, PartialEq, Eq)]
 pub enum Comparison {
     /// `<`
     Less,

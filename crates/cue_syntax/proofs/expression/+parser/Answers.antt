@@ -15,10 +15,11 @@ use Rattle.cue_syntax.specs.Viability.{StandsSign, BeginsLabel, behind_begun}
 use Rattle.cue_syntax.specs.Begun.{BeginsEntry}
 use Rattle.cue_syntax.proofs.TextsBeginSo.{begun, begins_always, no_memory, read_stands}
 use Rattle.cue_syntax.specs.Recogniser as goals
-use Rattle.cue_syntax.proofs.MovesAndStops.{moves_then, moves_more, refused_behind, refused_end, if_ok, stopped, stops_here, stops_there}
+use Rattle.cue_syntax.proofs.MovesAndStops.{end_then, moves_then, moves_more, follows_behind, refused_behind, refused_end, halted_behind, if_ok}
+use Rattle.cue_syntax.proofs.OpensLevels.{follows_mark, follows_comma, labels_lead}
 use Rattle.cue_syntax.proofs.RefusalsPassOn.{passed_on, passed_on_each, memory_passed_on}
 use Rattle.cue_syntax.proofs.MovesOverLabels.{misses_entry}
-use Rattle.cue_syntax.proofs.MovesOverOperands.{no_room, inner_comma, inner_closes, inner_halts, parenthesis_opens, parenthesis_refused, struct_moves, struct_refused, call_opens, call_paren, call_no_room, closed_halts, brace_no_room, close_moves, close_refused, unmarked_moves, marked_moves, parts_end, parts_go, part_moves, part_refused, terms_end, terms_go, term_moves, term_refused, first_moves, first_go, first_end, first_halts, first_refused, alone_moves, alone_refused}
+use Rattle.cue_syntax.proofs.MovesOverOperands.{no_room, sign_alone, inner_comma, inner_closes, inner_halts, parenthesis_opens, parenthesis_refused, struct_moves, struct_refused, call_paren, call_no_room, brace_no_room, close_misses, close_moves, close_refused, unmarked_moves, marked_moves, parts_end, parts_go, part_moves, part_refused, terms_end, terms_go, term_moves, term_refused, first_moves, first_go, first_end, first_halts, first_refused, alone_moves, alone_refused}
 use Rattle.cue_syntax.proofs.MovesOverRows.{ellipsis_comma, ellipsis_closes, ellipsis_halts, list_opens, refused_inside, list_refused, dots_refused, row_ends, element_moves, element_refused, element_next, row_closes, row_halts, open_ellipsis, entry_next, braces_close, braces_halt, entry_ellipsis, chain_value, chain_value_refused, field_moves, field_refused, definition_moves, definition_refused, no_entry_refused}
 use Rattle.cue_syntax.proofs.expression.+parser.Goals as goal
 use Rattle.cue_syntax.proofs.expression.+parser.Goals.{list-then-row-via-then-row, list-then-row-via-else-row+then-is_empty, list-then-row+in_default, list-else-row+else-is_empty}
@@ -63,6 +64,7 @@ parts-parts-init t c =
           (parts_first c.args.first c.requires.spelled c.requires.unary c.in-Some.ensures.reads);
       end = c.in-Some.ensures.further.end ∙ c.requires.further.end;
       moves = moves_then (part_moves c.requires.moves) (parts_go c.in-Some.ensures.reads);
+      follows = follows_behind c.requires.moves.inside (follows_mark points.Ampersand c.in-Some.ensures.reads);
     }
 
 pub parts-parts-preserved : goal.parts-parts-preserved
@@ -75,6 +77,7 @@ parts-parts-preserved t c =
           c.in-Some-skip.ensures.reads);
       end = c.in-Some-skip.ensures.further.end ∙ c.in_ok-next.ensures.further.end ∙ c.parts.invariant.end;
       moves = moves_then c.parts.invariant.moves (moves_then (part_moves c.in_ok-next.ensures.moves) (parts_go c.in-Some-skip.ensures.reads));
+      follows = follows_behind (end_then c.parts.invariant.moves.inside c.in_ok-next.ensures.moves.inside) (follows_mark points.Ampersand c.in-Some-skip.ensures.reads);
     }
 
 pub parts-returns-in-None-clause-spelled : goal.parts-returns-in-None-clause-spelled
@@ -96,6 +99,7 @@ disjunction-terms-init t c =
           (terms_first c.args.first c.requires.spelled c.in-Some.ensures.reads);
       end = c.in-Some.ensures.further.end ∙ c.requires.further.end;
       moves = moves_then (first_moves c.args.first.marked c.requires.marked.0 c.requires.marked.1 c.requires.moves) (first_go c.args.first.marked c.in-Some.ensures.reads);
+      follows = follows_behind c.requires.moves.inside (follows_mark points.Bar c.in-Some.ensures.reads);
     }
 
 pub disjunction-terms-preserved : goal.disjunction-terms-preserved
@@ -107,6 +111,7 @@ disjunction-terms-preserved t c =
           (terms_more (terms_next c.terms.terms.items c.in_ok-next.next c.terms.invariant.terms c.in_ok-next.ensures.spelled) c.in-Some-skip.ensures.reads);
       end = c.in-Some-skip.ensures.further.end ∙ c.in_ok-next.ensures.further.end ∙ c.terms.invariant.end;
       moves = moves_then c.terms.invariant.moves (moves_then (term_moves c.in_ok-next.ensures.moves) (terms_go c.in-Some-skip.ensures.reads));
+      follows = follows_behind (end_then c.terms.invariant.moves.inside c.in_ok-next.ensures.moves.inside) (follows_mark points.Bar c.in-Some-skip.ensures.reads);
     }
 
 pub disjunction-returns-in-None-clause-spelled : goal.disjunction-returns-in-None-clause-spelled
@@ -166,6 +171,7 @@ elements-elements-preserved t c =
           let close : ¬ StandsSign (kinds.Mark points.CloseBracket) l.rest.rest.now = search rules in
           let dots : ¬ StandsSign (kinds.Mark points.Ellipsis) l.rest.rest.now = search rules in
           moves_then l.invariant.moves (moves_then (element_moves close dots c.in_ok-element.ensures.moves) (element_next c.trailing_comma.result.0 c.if-not-comma.false (omega arith) c.trailing_comma.ensures.reads));
+      leads = inr (follows_behind (end_then l.invariant.moves.inside c.in_ok-element.ensures.moves.inside) (follows_comma c.trailing_comma.result.0 c.if-not-comma.false c.trailing_comma.ensures.reads));
     }
 
 pub elements-returns-then-not-comma-clause-spelled : goal.elements-returns-then-not-comma-clause-spelled
@@ -218,7 +224,7 @@ pub conjunction-returns-in_err-first-clause-refused : goal.conjunction-returns-i
 conjunction-returns-in_err-first-clause-refused t c = passed_on c.from_residual.result c.from_residual.ensures.1 (part_refused c.in_err-first.ensures.refused)
 
 pub parts-returns-in_err-next-clause-refused : goal.parts-returns-in_err-next-clause-refused
-parts-returns-in_err-next-clause-refused t c = passed_on c.from_residual-in_err-next.result c.from_residual-in_err-next.ensures.1 (refused_behind c.parts.invariant.moves (refused_end c.parts.invariant.end (part_refused c.in_err-next.ensures.refused)))
+parts-returns-in_err-next-clause-refused t c = passed_on c.from_residual-in_err-next.result c.from_residual-in_err-next.ensures.1 (refused_behind c.parts.invariant.moves (λ begins. inr c.parts.invariant.follows) (refused_end c.parts.invariant.end (part_refused c.in_err-next.ensures.refused)))
 
 pub parts-returns-in-None-clause-moves : goal.parts-returns-in-None-clause-moves
 parts-returns-in-None-clause-moves t c =
@@ -250,12 +256,12 @@ joined-disjunction-requires t c =
     (omega (arith, c.decreases), (subst (λ z. IsTermOf c.args.room a z b) (sym (view-term _)) first, (c.in_ok-value.ensures.further, (moves_then (unmarked_moves c.requires.unmarked) c.in_ok-value.ensures.moves, (λ e. (let f : false ≡ true = e in cc), λ stands. absurd (c.requires.unmarked stands))))))
 
 pub joined-returns-in_err-value-clause-refused : goal.joined-returns-in_err-value-clause-refused
-joined-returns-in_err-value-clause-refused t c = passed_on c.from_residual.result c.from_residual.ensures.1 (first_refused (refused_behind (unmarked_moves c.requires.unmarked) c.in_err-value.ensures.refused))
+joined-returns-in_err-value-clause-refused t c = passed_on c.from_residual.result c.from_residual.ensures.1 (first_refused (refused_behind (unmarked_moves c.requires.unmarked) (λ begins. inl (refl, tt)) c.in_err-value.ensures.refused))
 
 pub disjunction-returns-then-first-clause-refused : goal.disjunction-returns-then-first-clause-refused
 disjunction-returns-then-first-clause-refused t c =
     let lacks : ¬ StandsSign (kinds.Mark points.Bar) c.args.rest.rest.now = search rules in
-    refused_behind (first_moves c.args.first.marked c.requires.marked.0 c.requires.marked.1 c.requires.moves) (refused_end c.requires.further.end (stopped (stops_here c.syntax.ensures (first_halts c.args.first.marked c.if-first.true lacks))))
+    halted_behind (first_moves c.args.first.marked c.requires.marked.0 c.requires.marked.1 c.requires.moves) c.requires.further.end c.syntax.ensures (first_halts c.args.first.marked c.if-first.true lacks)
 
 pub disjunction-returns-in_default-clause-moves : goal.disjunction-returns-in_default-clause-moves
 disjunction-returns-in_default-clause-moves t c =
@@ -263,7 +269,7 @@ disjunction-returns-in_default-clause-moves t c =
     moves_then (first_moves c.args.first.marked c.requires.marked.0 c.requires.marked.1 c.requires.moves) (first_end c.args.first.marked c.if-first.false lacks)
 
 pub disjunction-returns-in_err-next-clause-refused : goal.disjunction-returns-in_err-next-clause-refused
-disjunction-returns-in_err-next-clause-refused t c = passed_on c.from_residual-in_err-next.result c.from_residual-in_err-next.ensures.1 (refused_behind c.terms.invariant.moves (refused_end c.terms.invariant.end (term_refused c.in_err-next.ensures.refused)))
+disjunction-returns-in_err-next-clause-refused t c = passed_on c.from_residual-in_err-next.result c.from_residual-in_err-next.ensures.1 (refused_behind c.terms.invariant.moves (λ begins. inr c.terms.invariant.follows) (refused_end c.terms.invariant.end (term_refused c.in_err-next.ensures.refused)))
 
 pub disjunction-returns-in-None-clause-moves : goal.disjunction-returns-in-None-clause-moves
 disjunction-returns-in-None-clause-moves t c =
@@ -271,32 +277,32 @@ disjunction-returns-in-None-clause-moves t c =
     moves_then c.terms.invariant.moves (moves_then (term_moves c.in_ok-next.ensures.moves) (terms_end lacks))
 
 pub term-returns-in_err-value-in-Some-clause-refused : goal.term-returns-in_err-value-in-Some-clause-refused
-term-returns-in_err-value-in-Some-clause-refused t c = passed_on c.from_residual.result c.from_residual.ensures.1 (refused_behind (marked_moves c.in-Some.ensures.reads) (refused_end c.in-Some.ensures.further.end c.in_err-value-in-Some.ensures.refused))
+term-returns-in_err-value-in-Some-clause-refused t c = passed_on c.from_residual.result c.from_residual.ensures.1 (refused_behind (marked_moves c.in-Some.ensures.reads) (λ begins. inr (follows_mark points.Star c.in-Some.ensures.reads)) (refused_end c.in-Some.ensures.further.end c.in_err-value-in-Some.ensures.refused))
 
 pub term-returns-in_err-value-in-None-clause-refused : goal.term-returns-in_err-value-in-None-clause-refused
 term-returns-in_err-value-in-None-clause-refused t c =
     let lacks : ¬ StandsSign (kinds.Mark points.Star) c.args.cursor.rest.now = search rules in
-    passed_on c.from_residual-in_err-value-in-None.result c.from_residual-in_err-value-in-None.ensures.1 (refused_behind (unmarked_moves lacks) c.in_err-value-in-None.ensures.refused)
+    passed_on c.from_residual-in_err-value-in-None.result c.from_residual-in_err-value-in-None.ensures.1 (refused_behind (unmarked_moves lacks) (λ begins. inl (refl, tt)) c.in_err-value-in-None.ensures.refused)
 
 pub term-returns-in_ok-value-in-Some-clause-moves : goal.term-returns-in_ok-value-in-Some-clause-moves
 term-returns-in_ok-value-in-Some-clause-moves t c = moves_then (marked_moves c.in-Some.ensures.reads) c.in_ok-value-in-Some.ensures.moves
 
 pub parenthesis-returns-in_err-inside-clause-refused : goal.parenthesis-returns-in_err-inside-clause-refused
-parenthesis-returns-in_err-inside-clause-refused t c = passed_on c.from_residual.result c.from_residual.ensures.1 (no_room (kinds.Mark points.OpenParenthesis) (goals.expression ∷ goals.parenthesis ∷ []) c.requires (λ m. m) (λ below. refl) (omega arith) c.in_err-inside.ensures.none c.in_err-inside.ensures.refused)
+parenthesis-returns-in_err-inside-clause-refused t c = passed_on c.from_residual.result c.from_residual.ensures.1 (no_room (kinds.Mark points.OpenParenthesis) (goals.expression ∷ goals.parenthesis ∷ []) c.requires (λ m. m) (λ below. refl) (omega arith) (omega arith) (inr (c.requires, inl (inl (refl, tt)))) c.in_err-inside.ensures.none c.in_err-inside.ensures.refused)
 
 pub parenthesis-returns-in_err-inner-clause-refused : goal.parenthesis-returns-in_err-inner-clause-refused
 parenthesis-returns-in_err-inner-clause-refused t c = passed_on c.from_residual-in_err-inner.result c.from_residual-in_err-inner.ensures.1 (parenthesis_refused c.in_ok-inside.ensures.left c.in_ok-open.ensures.further.end c.in_ok-open.ensures.reads c.in_err-inner.ensures.refused)
 
 pub parenthesis-returns-in_err-rest-clause-refused : goal.parenthesis-returns-in_err-rest-clause-refused
 parenthesis-returns-in_err-rest-clause-refused t c = passed_on c.from_residual-in_err-rest.result c.from_residual-in_err-rest.ensures.1
-    (refused_behind (moves_then (parenthesis_opens c.in_ok-inside.ensures.left c.in_ok-open.ensures.reads c.in_ok-inner.ensures.moves) (inner_comma c.trailing_comma-comma.result.0 (omega (arith, c.in_ok-inside.ensures.left)) c.trailing_comma-comma.ensures.reads)) (refused_end (c.trailing_comma-comma.ensures.onward.end ∙ c.in_ok-inner.ensures.further.end ∙ c.in_ok-open.ensures.further.end)
-    (stopped (stops_here c.in_err-rest.ensures.refused (inner_halts c.trailing_comma-comma.result.0 c.trailing_comma-comma.ensures.reads c.trailing_comma-comma.ensures.missing c.in_err-rest.ensures.missing)))))
+    (halted_behind (moves_then (parenthesis_opens c.in_ok-inside.ensures.left c.in_ok-open.ensures.reads c.in_ok-inner.ensures.moves) (inner_comma c.trailing_comma-comma.result.0 (omega (arith, c.in_ok-inside.ensures.left)) c.trailing_comma-comma.ensures.reads)) (c.trailing_comma-comma.ensures.onward.end ∙ c.in_ok-inner.ensures.further.end ∙ c.in_ok-open.ensures.further.end)
+    c.in_err-rest.ensures.refused (inner_halts c.trailing_comma-comma.result.0 c.trailing_comma-comma.ensures.reads c.trailing_comma-comma.ensures.missing c.in_err-rest.ensures.missing))
 
 pub parenthesis-returns-clause-moves : goal.parenthesis-returns-clause-moves
 parenthesis-returns-clause-moves t c = moves_then (moves_then (parenthesis_opens c.in_ok-inside.ensures.left c.in_ok-open.ensures.reads c.in_ok-inner.ensures.moves) (inner_comma c.trailing_comma-comma.result.0 (omega (arith, c.in_ok-inside.ensures.left)) c.trailing_comma-comma.ensures.reads)) (inner_closes c.trailing_comma-comma.result.0 c.in_ok-rest.ensures.reads)
 
 pub structure-returns-in_err-inside-clause-refused : goal.structure-returns-in_err-inside-clause-refused
-structure-returns-in_err-inside-clause-refused t c = passed_on c.from_residual.result c.from_residual.ensures.1 (no_room (kinds.Mark points.OpenBrace) (goals.entries false ∷ []) c.requires (λ m. m) (λ below. refl) (omega arith) c.in_err-inside.ensures.none c.in_err-inside.ensures.refused)
+structure-returns-in_err-inside-clause-refused t c = passed_on c.from_residual.result c.from_residual.ensures.1 (no_room (kinds.Mark points.OpenBrace) (goals.entries false ∷ []) c.requires (λ m. m) (λ below. refl) (omega arith) (omega arith) (sign_alone c.args.room (goals.unary ∷ []) (kinds.Mark points.OpenBrace) c.requires tt) c.in_err-inside.ensures.none c.in_err-inside.ensures.refused)
 
 pub structure-returns-in_err-row-clause-refused : goal.structure-returns-in_err-row-clause-refused
 structure-returns-in_err-row-clause-refused t c = passed_on c.from_residual-in_err-row.result c.from_residual-in_err-row.ensures.1 (struct_refused c.in_ok-inside.inside c.in_ok-inside.ensures.left c.in_ok-open.ensures.further.end c.in_ok-open.ensures.reads c.in_err-row.ensures.refused)
@@ -308,7 +314,7 @@ pub close-returns-in_err-inside-clause-refused : goal.close-returns-in_err-insid
 close-returns-in_err-inside-clause-refused t c = passed_on c.from_residual-in_err-inside.result c.from_residual-in_err-inside.ensures.1 (call_no_room c.in_err-inside.ensures.none c.in_ok-from.ensures.further.end c.requires c.in_ok-from.ensures.reads c.in_err-inside.ensures.refused)
 
 pub close-returns-in_err-brace-clause-refused : goal.close-returns-in_err-brace-clause-refused
-close-returns-in_err-brace-clause-refused t c = passed_on c.from_residual-in_err-brace.result c.from_residual-in_err-brace.ensures.1 (refused_end (c.in_ok-open.ensures.further.end ∙ c.in_ok-from.ensures.further.end) (stopped (stops_there c.in_err-brace.ensures.refused (call_opens {n = 2} (omega arith) c.in_ok-from.ensures.reads c.in_ok-open.ensures.reads) (closed_halts c.in_err-brace.ensures.missing))))
+close-returns-in_err-brace-clause-refused t c = passed_on c.from_residual-in_err-brace.result c.from_residual-in_err-brace.ensures.1 (close_misses c.in_ok-inside.inside c.in_ok-inside.ensures.left (c.in_ok-open.ensures.further.end ∙ c.in_ok-from.ensures.further.end) c.in_ok-from.ensures.reads c.in_ok-open.ensures.reads c.in_err-brace.ensures.missing c.in_err-brace.ensures.refused)
 
 pub close-returns-in_err-last-clause-refused : goal.close-returns-in_err-last-clause-refused
 close-returns-in_err-last-clause-refused t c = passed_on c.from_residual-in_err-last.result c.from_residual-in_err-last.ensures.1 (brace_no_room c.in_ok-inside.ensures.left c.in_err-last.ensures.none (c.in_ok-open.ensures.further.end ∙ c.in_ok-from.ensures.further.end) c.in_ok-from.ensures.reads c.in_ok-open.ensures.reads c.in_ok-brace.ensures.reads c.in_err-last.ensures.refused)
@@ -318,22 +324,22 @@ close-returns-in_err-row-clause-refused t c = passed_on c.from_residual-in_err-r
 
 pub close-returns-in_err-rest-clause-refused : goal.close-returns-in_err-rest-clause-refused
 close-returns-in_err-rest-clause-refused t c = passed_on c.from_residual-in_err-rest.result c.from_residual-in_err-rest.ensures.1
-    (refused_behind (moves_then (close_moves c.in_ok-last.last c.in_ok-inside.ensures.left c.in_ok-last.ensures.left c.in_ok-from.ensures.reads c.in_ok-open.ensures.reads c.in_ok-brace.ensures.reads c.in_ok-row.ensures.moves) (inner_comma c.trailing_comma-comma.result.0 (omega (arith, c.in_ok-inside.ensures.left)) c.trailing_comma-comma.ensures.reads)) (refused_end (c.trailing_comma-comma.ensures.onward.end ∙ c.in_ok-row.ensures.onward.end ∙ (c.in_ok-brace.ensures.further.end ∙ c.in_ok-open.ensures.further.end ∙ c.in_ok-from.ensures.further.end))
-    (stopped (stops_here c.in_err-rest.ensures.refused (inner_halts c.trailing_comma-comma.result.0 c.trailing_comma-comma.ensures.reads c.trailing_comma-comma.ensures.missing c.in_err-rest.ensures.missing)))))
+    (halted_behind (moves_then (close_moves c.in_ok-last.last c.in_ok-inside.ensures.left c.in_ok-last.ensures.left c.in_ok-from.ensures.reads c.in_ok-open.ensures.reads c.in_ok-brace.ensures.reads c.in_ok-row.ensures.moves) (inner_comma c.trailing_comma-comma.result.0 (omega (arith, c.in_ok-inside.ensures.left)) c.trailing_comma-comma.ensures.reads)) (c.trailing_comma-comma.ensures.onward.end ∙ c.in_ok-row.ensures.onward.end ∙ (c.in_ok-brace.ensures.further.end ∙ c.in_ok-open.ensures.further.end ∙ c.in_ok-from.ensures.further.end))
+    c.in_err-rest.ensures.refused (inner_halts c.trailing_comma-comma.result.0 c.trailing_comma-comma.ensures.reads c.trailing_comma-comma.ensures.missing c.in_err-rest.ensures.missing))
 
 pub close-returns-clause-moves : goal.close-returns-clause-moves
 close-returns-clause-moves t c = moves_then (moves_then (close_moves c.in_ok-last.last c.in_ok-inside.ensures.left c.in_ok-last.ensures.left c.in_ok-from.ensures.reads c.in_ok-open.ensures.reads c.in_ok-brace.ensures.reads c.in_ok-row.ensures.moves) (inner_comma c.trailing_comma-comma.result.0 (omega (arith, c.in_ok-inside.ensures.left)) c.trailing_comma-comma.ensures.reads)) (inner_closes c.trailing_comma-comma.result.0 c.in_ok-rest.ensures.reads)
 
 pub braces-returns-in_err-rest-clause-refused : goal.braces-returns-in_err-rest-clause-refused
 braces-returns-in_err-rest-clause-refused t c = passed_on c.from_residual-in_err-rest.result c.from_residual-in_err-rest.ensures.1
-    (refused_behind c.in_ok-row.ensures.moves (refused_end c.in_ok-row.ensures.onward.end (stopped (stops_here c.in_err-rest.ensures.refused
-    (braces_halt c.in_ok-row.row.comma c.in_ok-row.row.items.items c.in_ok-row.ensures.last c.in_ok-row.ensures.open c.in_err-rest.ensures.missing)))))
+    (halted_behind c.in_ok-row.ensures.moves c.in_ok-row.ensures.onward.end c.in_err-rest.ensures.refused
+    (braces_halt c.in_ok-row.row.comma c.in_ok-row.row.items.items c.in_ok-row.ensures.last c.in_ok-row.ensures.open c.in_err-rest.ensures.missing))
 
 pub braces-returns-clause-moves : goal.braces-returns-clause-moves
 braces-returns-clause-moves t c = moves_then c.in_ok-row.ensures.moves (braces_close c.in_ok-row.row.comma c.in_ok-row.row.items.items c.in_ok-rest.ensures.reads)
 
 pub declarations-returns-in_err-item-clause-refused : goal.declarations-returns-in_err-item-clause-refused
-declarations-returns-in_err-item-clause-refused t c = passed_on c.from_residual.result c.from_residual.ensures.1 (refused_behind c.declarations.invariant.moves (refused_end c.declarations.invariant.end c.in_err-item.ensures.refused))
+declarations-returns-in_err-item-clause-refused t c = passed_on c.from_residual.result c.from_residual.ensures.1 (refused_behind c.declarations.invariant.moves (λ none. absurd none) (refused_end c.declarations.invariant.end c.in_err-item.ensures.refused))
 
 pub declarations-returns-then-not-comma-clause-moves : goal.declarations-returns-then-not-comma-clause-moves
 declarations-returns-then-not-comma-clause-moves t c =
@@ -346,7 +352,7 @@ pub elements-returns-in_err-element-clause-refused : goal.elements-returns-in_er
 elements-returns-in_err-element-clause-refused t c =
     let close : ¬ StandsSign (kinds.Mark points.CloseBracket) c.elements.rest.rest.now = search rules in
     let dots : ¬ StandsSign (kinds.Mark points.Ellipsis) c.elements.rest.rest.now = search rules in
-    passed_on c.from_residual.result c.from_residual.ensures.1 (refused_behind c.elements.invariant.moves (refused_end c.elements.invariant.end (element_refused close dots c.in_err-element.ensures.refused)))
+    passed_on c.from_residual.result c.from_residual.ensures.1 (refused_behind c.elements.invariant.moves (λ begins. c.elements.invariant.leads) (refused_end c.elements.invariant.end (element_refused close dots c.in_err-element.ensures.refused)))
 
 pub elements-returns-then-not-comma-clause-moves : goal.elements-returns-then-not-comma-clause-moves
 elements-returns-then-not-comma-clause-moves t c =
@@ -358,7 +364,7 @@ elements-returns-then-not-comma-clause-moves t c =
     (moves_then l.invariant.moves (element_moves close dots c.in_ok-element.ensures.moves))
 
 pub list-returns-in_err-inside-clause-refused : goal.list-returns-in_err-inside-clause-refused
-list-returns-in_err-inside-clause-refused t c = passed_on c.from_residual.result c.from_residual.ensures.1 (no_room (kinds.Mark points.OpenBracket) (goals.elements ∷ []) c.requires (λ m. m) (λ below. refl) (omega arith) c.in_err-inside.ensures.none c.in_err-inside.ensures.refused)
+list-returns-in_err-inside-clause-refused t c = passed_on c.from_residual.result c.from_residual.ensures.1 (no_room (kinds.Mark points.OpenBracket) (goals.elements ∷ []) c.requires (λ m. m) (λ below. refl) (omega arith) (omega arith) (sign_alone c.args.room (goals.unary ∷ []) (kinds.Mark points.OpenBracket) c.requires tt) c.in_err-inside.ensures.none c.in_err-inside.ensures.refused)
 
 pub list-returns-in_err-row-clause-refused : goal.list-returns-in_err-row-clause-refused
 list-returns-in_err-row-clause-refused t c = passed_on c.from_residual-in_err-row.result c.from_residual-in_err-row.ensures.1 (list_refused c.in_ok-inside.inside c.in_ok-inside.ensures.left c.in_ok-open.ensures.further.end c.in_ok-open.ensures.reads c.in_err-row.ensures.refused)
@@ -374,8 +380,8 @@ list-returns-in_err-rest-clause-refused t c =
           inr (nil_from_length items.items zero)
     ] in
     passed_on c.from_residual-in_err-rest.result c.from_residual-in_err-rest.ensures.1
-    (refused_behind (moves_then (moves_then (list_opens c.in_ok-inside.inside c.in_ok-inside.ensures.left c.in_ok-open.ensures.reads c.in_ok-row.ensures.moves) (moves_then (open_ellipsis c.in_ok-row.row.comma items.items (omega (arith, c.in_ok-inside.ensures.left)) which c.in-Some.ensures.reads) (moves_more (omega (arith, c.in_ok-inside.ensures.left)) c.in_ok-further.ensures.moves))) (ellipsis_comma c.trailing_comma-comma.result.0 (omega (arith, c.in_ok-inside.ensures.left)) c.trailing_comma-comma.ensures.reads)) (refused_end (c.trailing_comma-comma.ensures.onward.end ∙ c.in_ok-further.ensures.onward.end ∙ c.in-Some.ensures.further.end ∙ c.in_ok-row.ensures.onward.end ∙ c.in_ok-open.ensures.further.end)
-    (stopped (stops_here c.in_err-rest.ensures.refused (ellipsis_halts c.trailing_comma-comma.result.0 c.trailing_comma-comma.ensures.reads c.trailing_comma-comma.ensures.missing c.in_err-rest.ensures.missing)))))
+    (halted_behind (moves_then (moves_then (list_opens c.in_ok-inside.inside c.in_ok-inside.ensures.left c.in_ok-open.ensures.reads c.in_ok-row.ensures.moves) (moves_then (open_ellipsis c.in_ok-row.row.comma items.items (omega (arith, c.in_ok-inside.ensures.left)) which c.in-Some.ensures.reads) (moves_more (omega (arith, c.in_ok-inside.ensures.left)) c.in_ok-further.ensures.moves))) (ellipsis_comma c.trailing_comma-comma.result.0 (omega (arith, c.in_ok-inside.ensures.left)) c.trailing_comma-comma.ensures.reads)) (c.trailing_comma-comma.ensures.onward.end ∙ c.in_ok-further.ensures.onward.end ∙ c.in-Some.ensures.further.end ∙ c.in_ok-row.ensures.onward.end ∙ c.in_ok-open.ensures.further.end)
+    c.in_err-rest.ensures.refused (ellipsis_halts c.trailing_comma-comma.result.0 c.trailing_comma-comma.ensures.reads c.trailing_comma-comma.ensures.missing c.in_err-rest.ensures.missing))
 
 pub list-returns-in_err-further-clause-refused : goal.list-returns-in_err-further-clause-refused
 list-returns-in_err-further-clause-refused t c =
@@ -389,6 +395,7 @@ list-returns-in_err-further-clause-refused t c =
     ] in
     passed_on c.from_residual-in_err-further.result c.from_residual-in_err-further.ensures.1
     (refused_behind (moves_then (list_opens c.in_ok-inside.inside c.in_ok-inside.ensures.left c.in_ok-open.ensures.reads c.in_ok-row.ensures.moves) (open_ellipsis c.in_ok-row.row.comma items.items (omega (arith, c.in_ok-inside.ensures.left)) which c.in-Some.ensures.reads))
+    (λ begins. inr (follows_behind (list_opens c.in_ok-inside.inside c.in_ok-inside.ensures.left c.in_ok-open.ensures.reads c.in_ok-row.ensures.moves).inside (follows_mark points.Ellipsis c.in-Some.ensures.reads)))
     (refused_end (c.in-Some.ensures.further.end ∙ c.in_ok-row.ensures.onward.end ∙ c.in_ok-open.ensures.further.end) (refused_inside c.in_ok-inside.inside c.in_ok-inside.ensures.left c.in_err-further.ensures.refused)))
 
 pub list-returns-in-Some-clause-moves : goal.list-returns-in-Some-clause-moves
@@ -415,17 +422,17 @@ list-returns-in_err-rest-2-clause-refused t c =
       ]
     ] in
     passed_on c.from_residual-in_err-rest-2.result c.from_residual-in_err-rest-2.ensures.1
-    (refused_behind (list_opens c.in_ok-inside.inside c.in_ok-inside.ensures.left c.in_ok-open.ensures.reads c.in_ok-row.ensures.moves) (refused_end (c.in_ok-row.ensures.onward.end ∙ c.in_ok-open.ensures.further.end)
-    (stopped (stops_here c.in_err-rest-2.ensures.refused (row_halts c.in_ok-row.row.comma c.in_ok-row.row.items.items c.in_ok-row.ensures.last shut c.in_err-rest-2.ensures.missing)))))
+    (halted_behind (list_opens c.in_ok-inside.inside c.in_ok-inside.ensures.left c.in_ok-open.ensures.reads c.in_ok-row.ensures.moves) (c.in_ok-row.ensures.onward.end ∙ c.in_ok-open.ensures.further.end)
+    c.in_err-rest-2.ensures.refused (row_halts c.in_ok-row.row.comma c.in_ok-row.row.items.items c.in_ok-row.ensures.last shut c.in_err-rest-2.ensures.missing))
 
 pub list-returns-clause-moves : goal.list-returns-clause-moves
 list-returns-clause-moves t c = moves_then (list_opens c.in_ok-inside.inside c.in_ok-inside.ensures.left c.in_ok-open.ensures.reads c.in_ok-row.ensures.moves) (row_closes c.in_ok-row.row.comma c.in_ok-row.row.items.items c.in_ok-rest-2.ensures.reads)
 
 pub declarations-returns-in_err-item-clause-begins : goal.declarations-returns-in_err-item-clause-begins
-declarations-returns-in_err-item-clause-begins t c = memory_passed_on c.from_residual.result c.from_residual.ensures.1 (λ lacks. begun c.declarations.rest.rest.now c.args.cursor.rest.now c.declarations.invariant.begins (c.in_err-item.ensures.begins lacks))
+declarations-returns-in_err-item-clause-begins t c = memory_passed_on _ c.from_residual.result c.from_residual.ensures.1 (λ lacks. begun c.declarations.rest.rest.now c.args.cursor.rest.now c.declarations.invariant.begins (c.in_err-item.ensures.begins lacks))
 
 pub declarations-returns-in_err-push-clause-begins : goal.declarations-returns-in_err-push-clause-begins
-declarations-returns-in_err-push-clause-begins t c = memory_passed_on c.from_residual-in_err-push.result c.from_residual-in_err-push.ensures.1 (λ lacks. begun c.declarations.rest.rest.now c.args.cursor.rest.now c.declarations.invariant.begins c.in_ok-item.ensures.begins)
+declarations-returns-in_err-push-clause-begins t c = memory_passed_on _ c.from_residual-in_err-push.result c.from_residual-in_err-push.ensures.1 (λ lacks. begun c.declarations.rest.rest.now c.args.cursor.rest.now c.declarations.invariant.begins c.in_ok-item.ensures.begins)
 
 pub declaration-returns-in-Some-clause-begins : goal.declaration-returns-in-Some-clause-begins
 declaration-returns-in-Some-clause-begins t c = inl (read_stands _ _ _ c.in-Some.ensures.reads)
@@ -451,16 +458,16 @@ pub declaration-returns-clause-refused : goal.declaration-returns-clause-refused
 declaration-returns-clause-refused t c =
     let dots : ¬ StandsSign (kinds.Mark points.Ellipsis) c.args.cursor.rest.now = search rules in
     let label : ¬ BeginsLabel c.args.cursor.rest.now = search rules in
-    no_entry_refused c.args.top dots label (c.begins_definition.ensures.no c.if-begins_definition.false) c.requires c.no_declaration.ensures
+    no_entry_refused c.args.room c.args.top dots label (c.begins_definition.ensures.no c.if-begins_definition.false) c.requires c.no_declaration.ensures
 
 pub field-returns-in_err-label-clause-refused : goal.field-returns-in_err-label-clause-refused
-field-returns-in_err-label-clause-refused t c = passed_on_each c.args.room c.from_residual.result c.from_residual.ensures.1 (λ top. misses_entry top c.in_err-label.ensures.refused)
+field-returns-in_err-label-clause-refused t c = passed_on_each c.args.room c.from_residual.result c.from_residual.ensures.1 (λ top. misses_entry c.args.room top c.in_err-label.ensures.refused)
 
 pub field-returns-in_err-chain-clause-refused : goal.field-returns-in_err-chain-clause-refused
 field-returns-in_err-chain-clause-refused t c = passed_on_each c.args.room c.from_residual-in_err-chain.result c.from_residual-in_err-chain.ensures.1 (λ top. field_refused top c.in_ok-label.label c.in_ok-label.ensures.spelled c.in_ok-label.ensures.further.end c.in_err-chain.ensures.refused)
 
 pub field-returns-in_err-value-clause-refused : goal.field-returns-in_err-value-clause-refused
-field-returns-in_err-value-clause-refused t c = passed_on_each c.args.room c.from_residual-in_err-value.result c.from_residual-in_err-value.ensures.1 (λ top. field_refused top c.in_ok-label.label c.in_ok-label.ensures.spelled c.in_ok-label.ensures.further.end (chain_value_refused c.in_ok-chain.chain.room c.in_ok-chain.chain.labels.items c.in_ok-chain.ensures.levels c.in_ok-chain.ensures.onward.end c.in_ok-chain.ensures.moves c.in_ok-chain.ensures.whole c.in_ok-chain.ensures.other c.in_err-value.ensures.refused))
+field-returns-in_err-value-clause-refused t c = passed_on_each c.args.room c.from_residual-in_err-value.result c.from_residual-in_err-value.ensures.1 (λ top. field_refused top c.in_ok-label.label c.in_ok-label.ensures.spelled c.in_ok-label.ensures.further.end (chain_value_refused c.in_ok-chain.chain.room c.in_ok-chain.chain.labels.items c.in_ok-chain.ensures.levels c.in_ok-chain.ensures.onward.end c.in_ok-chain.ensures.moves (labels_lead c.in_ok-chain.chain.labels.items c.in_ok-chain.ensures.spelled) c.in_ok-chain.ensures.whole c.in_ok-chain.ensures.other c.in_err-value.ensures.refused))
 
 pub field-returns-clause-moves : goal.field-returns-clause-moves
 field-returns-clause-moves t c top = field_moves top c.in_ok-label.label c.in_ok-label.ensures.spelled (chain_value c.in_ok-chain.chain.room c.in_ok-chain.chain.labels.items c.in_ok-chain.ensures.levels c.in_ok-chain.ensures.moves c.in_ok-chain.ensures.whole c.in_ok-chain.ensures.other c.in_ok-value.ensures.moves)
@@ -473,7 +480,7 @@ definition-returns-in_err-chain-clause-refused t c =
 pub definition-returns-in_err-value-clause-refused : goal.definition-returns-in_err-value-clause-refused
 definition-returns-in_err-value-clause-refused t c =
     let kind : c.in-Some.token.now.kind ≡ kinds.Definition c.share-name.result = search rules in
-    passed_on c.from_residual-in_err-value.result c.from_residual-in_err-value.ensures.1 (definition_refused (reads_one_at c.in-Some.token.now c.in-Some.ensures.first kind) c.in_ok-after.ensures.reads (c.in_ok-after.ensures.further.end ∙ c.in-Some.ensures.end) (chain_value_refused c.in_ok-chain.chain.room c.in_ok-chain.chain.labels.items c.in_ok-chain.ensures.levels c.in_ok-chain.ensures.onward.end c.in_ok-chain.ensures.moves c.in_ok-chain.ensures.whole c.in_ok-chain.ensures.other c.in_err-value.ensures.refused))
+    passed_on c.from_residual-in_err-value.result c.from_residual-in_err-value.ensures.1 (definition_refused (reads_one_at c.in-Some.token.now c.in-Some.ensures.first kind) c.in_ok-after.ensures.reads (c.in_ok-after.ensures.further.end ∙ c.in-Some.ensures.end) (chain_value_refused c.in_ok-chain.chain.room c.in_ok-chain.chain.labels.items c.in_ok-chain.ensures.levels c.in_ok-chain.ensures.onward.end c.in_ok-chain.ensures.moves (labels_lead c.in_ok-chain.chain.labels.items c.in_ok-chain.ensures.spelled) c.in_ok-chain.ensures.whole c.in_ok-chain.ensures.other c.in_err-value.ensures.refused))
 
 pub definition-returns-clause-moves : goal.definition-returns-clause-moves
 definition-returns-clause-moves t c =

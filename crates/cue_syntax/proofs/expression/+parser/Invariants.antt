@@ -4,7 +4,7 @@ use Rattle.cue_syntax.specs.Grammar.{AreElements, AreEntries, AreNested}
 use Rattle.cue_syntax.specs.Syntax.{elements, entries}
 use Rattle.cue_syntax.specs.Begun.{BeginsEntry}
 use Rattle.cue_syntax.specs.Recogniser as goals
-use Rattle.cue_syntax.specs.Recogniser.{Moves, levels_of, expression, term, more_terms, unary, more_parts}
+use Rattle.cue_syntax.specs.Recogniser.{Moves, FollowsMark, IsOperandHere, levels_of, expression, term, more_terms, unary, more_parts}
 use Rattle.cue_syntax.proofs.PartsMakeTrees.{AreTerms, AreParts, Between}
 use Rattle.cue_syntax.proofs.expression.+parser.Given as goal
 
@@ -71,6 +71,7 @@ invariant-disjunction-terms l = record {
   terms : AreTerms l.room l.cursor.rest.now l.terms.items l.after.rest.now;
   end : l.after.end ≡ l.cursor.end;
   moves : Moves l.room (expression ∷ []) l.cursor.rest.now (term ∷ more_terms ∷ []) l.after.rest.now;
+  follows : FollowsMark l.cursor.rest.now l.after.rest.now;
 }
 
 abbrev pub decreases-disjunction-terms : goal.decreases-disjunction-terms
@@ -82,6 +83,7 @@ invariant-parts-parts l = record {
   parts : AreParts l.room l.cursor.rest.now l.parts.items l.after.rest.now;
   end : l.after.end ≡ l.cursor.end;
   moves : Moves l.room (unary ∷ more_parts ∷ []) l.cursor.rest.now (unary ∷ more_parts ∷ []) l.after.rest.now;
+  follows : FollowsMark l.cursor.rest.now l.after.rest.now;
 }
 
 abbrev pub decreases-parts-parts : goal.decreases-parts-parts
@@ -94,6 +96,7 @@ invariant-elements-elements l = record {
   between : Between l.comma l.items.items;
   end : l.rest.end ≡ l.cursor.end;
   moves : Moves (1 + l.room) (goals.elements ∷ []) l.cursor.rest.now (goals.elements ∷ []) l.rest.rest.now;
+  leads : IsOperandHere (goals.elements ∷ []) l.cursor.rest.now l.rest.rest.now;
 }
 
 abbrev pub decreases-elements-elements : goal.decreases-elements-elements

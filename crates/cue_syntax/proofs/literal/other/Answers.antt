@@ -22,7 +22,7 @@ returns-in_err-integer-clause-refused c =
     let m : Moves 0 (unary ∷ []) c.args.cursor.rest.now (signed ∷ []) c.in_ok-after.after.rest.now =
     moves_then (takes_read {next = signed_or_text ∷ []} c.in_ok-after.ensures.reads (λ below. refl) (omega arith)) (other_moves text) in
     err_from (λ r. (room : ℕ) → Refused room c.args.cursor.end (unary ∷ []) c.args.cursor.rest.now r) c.from_residual-in_err-integer.result _ c.from_residual-in_err-integer.ensures.1
-    (λ room. refused_behind (moves_more (omega arith) m) (refused_end c.in_ok-after.ensures.further.end (c.in_err-integer.ensures.refused room)))
+    (λ room. refused_behind (moves_more (omega arith) m) (λ none. absurd none) (refused_end c.in_ok-after.ensures.further.end (c.in_err-integer.ensures.refused room)))
 
 pub returns-clause-moves : goal.returns-clause-moves
 returns-clause-moves c =

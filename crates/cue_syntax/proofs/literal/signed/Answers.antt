@@ -11,7 +11,7 @@ returns-in-Minus-clause-moves c =
 
 pub returns-in-Minus-clause-refused : goal.returns-in-Minus-clause-refused
 returns-in-Minus-clause-refused c =
-    if_err c.magnitude.result (λ r m room. refused_behind (takes c.in-Some.token.now c.in-Some.ensures.first (λ below. ap (step (signed ∷ below)) c.in-Minus.ensures) (omega arith)) (refused_end c.in-Some.ensures.end (m room)))
+    if_err c.magnitude.result (λ r m room. refused_behind (takes c.in-Some.token.now c.in-Some.ensures.first (λ below. ap (step (signed ∷ below)) c.in-Minus.ensures) (omega arith)) (λ none. absurd none) (refused_end c.in-Some.ensures.end (m room)))
     c.magnitude.ensures.refused
 
 pub returns-in-Plus-clause-moves : goal.returns-in-Plus-clause-moves
@@ -21,7 +21,7 @@ returns-in-Plus-clause-moves c =
 
 pub returns-in-Plus-clause-refused : goal.returns-in-Plus-clause-refused
 returns-in-Plus-clause-refused c =
-    if_err c.magnitude-in-Plus.result (λ r m room. refused_behind (takes c.in-Some.token.now c.in-Some.ensures.first (λ below. ap (step (signed ∷ below)) c.in-Plus.ensures) (omega arith)) (refused_end c.in-Some.ensures.end (m room)))
+    if_err c.magnitude-in-Plus.result (λ r m room. refused_behind (takes c.in-Some.token.now c.in-Some.ensures.first (λ below. ap (step (signed ∷ below)) c.in-Plus.ensures) (omega arith)) (λ none. absurd none) (refused_end c.in-Some.ensures.end (m room)))
     c.magnitude-in-Plus.ensures.refused
 
 pub returns-in-Absent-clause-moves : goal.returns-in-Absent-clause-moves
@@ -31,5 +31,5 @@ returns-in-Absent-clause-moves c =
 
 pub returns-in-Absent-clause-refused : goal.returns-in-Absent-clause-refused
 returns-in-Absent-clause-refused c =
-    if_err c.magnitude-in-Absent.result (λ r m room. refused_behind (alike_at c.in-Some.token.now c.in-Some.ensures.first (λ below. signed_magnitude _ c.in-Absent.ensures.0 c.in-Absent.ensures.1 below)) (m room))
+    if_err c.magnitude-in-Absent.result (λ r m room. refused_behind (alike_at c.in-Some.token.now c.in-Some.ensures.first (λ below. signed_magnitude _ c.in-Absent.ensures.0 c.in-Absent.ensures.1 below)) (λ none. absurd none) (m room))
     c.magnitude-in-Absent.ensures.refused
