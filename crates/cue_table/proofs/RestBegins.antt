@@ -1,5 +1,5 @@
 -- Whether a rest begins where it does in the form of a table.
-use Rattle.std.proofs.Common.{◌≡◌, ◌↔◌, ◌<◌, ◌≤◌, ◌+◌, ◌++◌, ℕ, zero, suc, List, [], ◌∷◌, length, Option, Some, None, refl, sym, ap, subst, ◌∙◌, arith}
+use Rattle.std.proofs.Common.{◌≡◌, ◌↔◌, ◌<◌, ◌≤◌, ◌+◌, ◌^◌, ◌++◌, ℕ, zero, suc, List, [], ◌∷◌, length, Option, Some, None, refl, sym, ap, subst, ◌∙◌, arith}
 use Rattle.std.specs.Prelude.{Box, IsTrue, Bool, true, false, not}
 use Rattle.std.specs.Global.{Global}
 use Rattle.cue_lattice.specs.Path.{label, index}
@@ -132,11 +132,11 @@ module _ {R : Type 0} (P : R → Type 0) where
   -- or where its rest is
   pub formed_rest :
       {Q : Type 0} (a : Inside R Q) (tree : Tree R) (b : Box (Onward R Q) Global) → tree_of a ≡ tree → a.rest ≡ Some b → IsLoose P tree → AreBranches P (below tree)
-      → IsTree P tree ↔ (IsBehind b.value.from b.value.node (join (branches a.children.items) (run_branches b.value.runs.items)) × IsTree P b.value.node)
+      → IsTree P tree ↔ ((b.value.from ≤ 2 ^ 32) × IsBehind b.value.from b.value.node (join (branches a.children.items) (run_branches b.value.runs.items)) × IsTree P b.value.node)
   formed_rest a tree b e f =
-      let right : Type 0 = IsBehind b.value.from b.value.node (join (branches a.children.items) (run_branches b.value.runs.items)) × IsTree P b.value.node in
+      let right : Type 0 = (b.value.from ≤ 2 ^ 32) × IsBehind b.value.from b.value.node (join (branches a.children.items) (run_branches b.value.runs.items)) × IsTree P b.value.node in
       subst (λ t. IsLoose P t → AreBranches P (below t) → IsTree P t ↔ right) (sym (ap (whole a) f) ∙ e)
-      (λ h k. (λ w. ((w.2.0, w.2.1), w.2.3), λ w. (h.0, k, (w.0.0, w.0.1, h.2.0, w.1))))
+      (λ h k. (λ w. (w.2.4, (w.2.0, w.2.1), w.2.3), λ w. (h.0, k, (w.1.0, w.1.1, h.2.0, w.2, w.0))))
 
   -- the branches of a place with a rest rise
   pub rest_rise : {Q : Type 0} (a : Inside R Q) (tree : Tree R) (b : Box (Onward R Q) Global) → tree_of a ≡ tree → a.rest ≡ Some b → IsLoose P tree → Rise (join (branches a.children.items) (run_branches b.value.runs.items))

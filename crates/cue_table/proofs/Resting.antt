@@ -1,6 +1,6 @@
 -- One rest alone at the end of a path, and what it adds to a table.
 use Rattle.std.specs.Prelude.{OnOk}
-use Rattle.std.proofs.Common.{◌≡◌, ◌↔◌, ◌+◌, ◌≤◌, ℕ, zero, suc, length, [], ◌∷◌, ◌++◌, Some, None, Result, Ok, Err, refl, sym, subst, inl, inr, ⊎_elim, arith}
+use Rattle.std.proofs.Common.{◌≡◌, ◌↔◌, ◌+◌, ◌≤◌, ◌^◌, ℕ, zero, suc, length, [], ◌∷◌, ◌++◌, Some, None, Result, Ok, Err, refl, sym, subst, inl, inr, ⊎_elim, arith}
 use Rattle.std.proofs.lemmas.Bool.{cases_lt}
 use Rattle.cue_lattice.specs.Path.{label, index, step_cmp, Path}
 use Rattle.cue_table.specs.Tree.{Tree, node, none, child, no_rest, onward, taken, find_with}
@@ -25,8 +25,8 @@ module _ {R : Type 0} where
   differs_alone (suc i) tree = λ e. cc
 
   -- a rest alone is in form
-  pub alone_form : (P : R → Type 0) (n : ℕ) (tree : Tree R) → IsTaken tree → IsTree P tree → IsTree P (node None none (onward n tree))
-  alone_form P n tree t h = (tt, tt, (tt, differs_alone n tree, t, h))
+  pub alone_form : (P : R → Type 0) (n : ℕ) (tree : Tree R) → n ≤ 2 ^ 32 → IsTaken tree → IsTree P tree → IsTree P (node None none (onward n tree))
+  alone_form P n tree few t h = (tt, tt, (tt, differs_alone n tree, t, h, few))
 
   -- so is a tree at the end of a path
   pub along_form : (P : R → Type 0) (path : Path) (tree : Tree R) → IsTaken tree → IsTree P tree → IsTaken (along path tree) × IsTree P (along path tree)

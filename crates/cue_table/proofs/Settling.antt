@@ -1,5 +1,5 @@
 -- A rest that begins earlier, where the elements before it are as it is.
-use Rattle.std.proofs.Common.{◌≡◌, ◌+◌, ◌<◌, ◌≤◌, ℕ, zero, suc, if◌then◌else◌, List, [], ◌∷◌, ◌++◌, length, Option, Some, None, refl, sym, ap, subst, ◌∙◌, inl, inr, arith}
+use Rattle.std.proofs.Common.{◌≡◌, ◌+◌, ◌<◌, ◌≤◌, ◌^◌, ℕ, zero, suc, if◌then◌else◌, List, [], ◌∷◌, ◌++◌, length, Option, Some, None, refl, sym, ap, subst, ◌∙◌, inl, inr, arith}
 use Rattle.std.specs.Option.{MatchOption, option_to_list}
 use Rattle.std.proofs.lemmas.List.{length-append}
 use Rattle.std.proofs.lemmas.Bool.{cases_lt, lt-ltb, le-ltb}
@@ -86,10 +86,11 @@ module _ {R Q : Type 0} where
   -- What is left of the elements of a list whose rest begins at an index.
   pub record Settles (P : R → Type 0) (fixed : ℕ) (tree : Tree R) (old : Children R) (runs : List (Run R Q)) (at : ℕ) : Type 0 where
     pub elements : AreElements P at (run_branches runs)
+    pub few : at ≤ 2 ^ 32
     pub same : (i : ℕ) → found_to at (Some tree) (index i) (run_branches runs) ≡ found_to fixed (Some tree) (index i) old
 
-  pub settles_start : (P : R → Type 0) (fixed : ℕ) (tree : Tree R) (runs : List (Run R Q)) → AreElements P fixed (run_branches runs) → Settles P fixed tree (run_branches runs) runs fixed
-  settles_start P fixed tree runs h = record { elements = h; same = λ i. refl }
+  pub settles_start : (P : R → Type 0) (fixed : ℕ) (tree : Tree R) (runs : List (Run R Q)) → fixed ≤ 2 ^ 32 → AreElements P fixed (run_branches runs) → Settles P fixed tree (run_branches runs) runs fixed
+  settles_start P fixed tree runs few h = record { elements = h; few = few; same = λ i. refl }
 
   -- the last run goes, which is as the rest
   settles_less : (P : R → Type 0) (fixed : ℕ) (tree : Tree R) (old : Children R) (others : List (Run R Q)) (r : Run R Q) (at : ℕ) → Settles P fixed tree old (others ++ r ∷ []) at
@@ -104,6 +105,7 @@ module _ {R Q : Type 0} where
       let there : (i : ℕ) → find (index i) (run_branches (others ++ r ∷ [])) ≡ find (index i) (join a b) = λ i. ap (find (index i)) (one_more others r) in
       record {
         elements = record { form = (join_parts P a b form).0; within = low; indexes = from_front 0 a b indexes };
+        few = omega (arith, ends, s.few);
         same = λ i. elim (cases_lt i r.first) [
           | inl under ↦
               found_low r.first i (Some tree) a under
@@ -140,6 +142,6 @@ module _ {R Q : Type 0} where
     rest =
         subst (λ rs. IsRestOf P (run_branches rs) (onward made.from made.node)) (sym e)
         (subst (λ n. IsRestOf P (run_branches runs) (onward n made.node)) (sym f)
-        (subst (λ v. IsRestOf P (run_branches runs) (onward at v)) (sym g) (s.elements.within, differs at tree (run_branches runs) ends, t, h)));
+        (subst (λ v. IsRestOf P (run_branches runs) (onward at v)) (sym g) (s.elements.within, differs at tree (run_branches runs) ends, t, h, s.few)));
     same = λ i. (λ k. find_with (onward (f k) (g k)) (index i) (run_branches (e k))) ∙ s.same i;
   }

@@ -173,7 +173,7 @@ module _ {R : Type 0} where
   list_form P row fields elements n tree r f w e i k = (
     r,
     join_form P fields elements f e (before_from 0 fields elements w i),
-    (within_join n fields elements (within_more 0 n fields (omega arith) w) k.0, differs_behind n tree fields elements w k.1, k.2, k.3),
+    (within_join n fields elements (within_more 0 n fields (omega arith) w) k.0, differs_behind n tree fields elements w k.1, k.2, k.3, k.4),
   )
 
   elements_into : (n : ℕ) (tree : Tree R) (fields elements : Children R) (i : ℕ) → AreWithin 0 fields → find_with (onward n tree) (index i) (join fields elements) ≡ find_with (onward n tree) (index i) elements

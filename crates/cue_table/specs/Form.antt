@@ -1,6 +1,6 @@
 -- The one form that a table has for its answers: the steps of branches rise, no branch is empty, no
 -- row is free, and the rest of a list begins as early as it can.
-use Rattle.std.specs.Prelude.{◌≡◌, ◌≢◌, ◌<◌, ℕ, zero, suc, Option, Some, None}
+use Rattle.std.specs.Prelude.{◌≡◌, ◌≢◌, ◌<◌, ◌≤◌, ◌^◌, ℕ, zero, suc, Option, Some, None}
 use Rattle.std.specs.declared.cmp.Ordering.TheVariants.{Less}
 use Rattle.cue_lattice.specs.Path.{Step, label, index, step_cmp}
 use Rattle.cue_table.specs.Tree.{Tree, node, Children, none, child, Rest, no_rest, onward, find}
@@ -45,7 +45,8 @@ Differs zero rest children = Unit {0}
 Differs (suc i) rest children = find (index i) children ≢ Some rest
 
 -- P holds of each row, the steps of branches rise at each place, no branch is empty, and a rest
--- begins behind the elements of its own, the last of which differs from it
+-- begins behind the elements of its own, the last of which differs from it, and not behind the last
+-- index of 32 bits
 abbrev mutual
   pub IsTree : {R : Type 0} → (R → Type 0) → Tree R → Type 0
   IsTree P (node row children rest) =
@@ -59,7 +60,7 @@ abbrev mutual
   pub IsRestOf : {R : Type 0} → (R → Type 0) → Children R → Rest R → Type 0
   IsRestOf P children no_rest = Unit {0}
   IsRestOf P children (onward n tree) =
-      AreWithin n children × Differs n tree children × IsTaken tree × IsTree P tree
+      AreWithin n children × Differs n tree children × IsTaken tree × IsTree P tree × (n ≤ 2 ^ 32)
 
 -- a row that is kept: a value of its type that refuses something
 abbrev pub IsKept : {R Q : Type 0} → (R → Q → Type 0) → (R → Type 0) → R → Type 0

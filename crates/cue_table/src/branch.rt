@@ -1,4 +1,4 @@
-ghost use Rattle.std.specs.Prelude.{◌≡◌};
+ghost use Rattle.std.specs.Prelude.{◌≡◌, ◌≤◌, ◌^◌};
 ghost use Rattle.std.specs.Option.{option_map};
 ghost use Rattle.cue_table.specs.Tree.{row_of, below, rest_of, rest_tree, fixed_of, step_into};
 ghost use Rattle.cue_table.specs.Tree.{behind_last, labels_of, items_of};
@@ -119,6 +119,7 @@ impl<'a, R: Narrow> Branch<'a, R> {
     /// further elements, the one behind the last element that stands by itself.
     pub fn fixed(&self) -> u64
         ensures fixed { result ≡ fixed_of self.now }
+        ensures few { result ≤ 2 ^ 32 }
         ensures form { IsTable R.refuses R.is_value self.now }
     {
         let node = self.node;
@@ -132,7 +133,8 @@ impl<'a, R: Narrow> Branch<'a, R> {
 /// The index behind the last element among the branches.
 pub(crate) fn behind_last<R: Narrow>(children: &[Child<R>]) -> u64
     requires { AreBranches (IsKept R.refuses R.is_value) (branches children.now) }
-    ensures { result ≡ behind_last (branches children.now) }
+    ensures number { result ≡ behind_last (branches children.now) }
+    ensures few { result ≤ 2 ^ 32 }
 {
     let Some((last, _)) = children.split_last() else {
         return 0;

@@ -53,12 +53,12 @@ pub(crate) fn one_branch<R: Narrow>(
 /// A place with a rest alone.
 pub(crate) fn rest_alone<R: Narrow>(
     alloc: Global,
-    from: u32,
+    from: u64,
     below: Node<R>,
 ) -> Result<Node<R>, Memory>
     ensures { IfOk result (λ list. list ≡ node None none (onward from below)) }
 {
-    let rest = Box::new(alloc, Onward::alone(alloc, u64::from(from), below))?;
+    let rest = Box::new(alloc, Onward::alone(alloc, from, below))?;
     Ok(Node {
         row: None,
         children: Vec::new(alloc),

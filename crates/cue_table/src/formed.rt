@@ -7,11 +7,12 @@ ghost use Rattle.cue_table.specs.Inner.View.{branches, run_branches};
 ghost use Rattle.cue_table.specs.Tree.{behind_last};
 
 use crate::child::Child;
-use crate::node::{Node, Onward, Run};
+use crate::node::{INDEXES, Node, Onward, Run};
 use cue_lattice::Narrow;
 use cue_row::Step;
 
-/// Whether each rest begins behind the elements of its own, the last of which differs from it.
+/// Whether each rest begins behind the elements of its own, the last of which differs from it, and
+/// not behind the last index.
 pub(crate) fn is_formed<R: Narrow>(node: &Node<R>) -> bool
     requires { IsLoose (IsKept R.refuses R.is_value) node.now }
     ensures { IsTrue result ↔ IsTree (IsKept R.refuses R.is_value) node.now }
@@ -24,7 +25,12 @@ pub(crate) fn is_formed<R: Narrow>(node: &Node<R>) -> bool
     }
     match &node.rest {
         None => true,
-        Some(rest) => begins_right(&node.children, rest) && is_formed(&rest.node),
+        Some(rest) => {
+            if rest.from > INDEXES {
+                return false;
+            }
+            begins_right(&node.children, rest) && is_formed(&rest.node)
+        }
     }
 }
 

@@ -1,10 +1,11 @@
 //! Places met where one of both is a list with a rest.
-ghost use Rattle.std.specs.Prelude.{◌≡◌, ◌<◌, ◌^◌, IfOk};
+ghost use Rattle.std.specs.Prelude.{◌≡◌, ◌<◌, ◌^◌, IfOk, None};
 ghost use Rattle.std.specs.Option.{option_map};
 ghost use Rattle.cue_table.specs.Form.{IsKept, IsTable, Rise};
 ghost use Rattle.cue_table.specs.Meet.{IsMet};
 ghost use Rattle.cue_table.specs.Inner.Rests.{AreElementsMet, AreFields, AreMetRests, IsBranch};
 ghost use Rattle.cue_table.specs.Inner.View.{branches};
+ghost use Rattle.cue_table.specs.Tree.{no_rest, rest_of};
 
 use crate::child::Child;
 use crate::meet::{meet_below, node_met, node_or, row_met, row_or};
@@ -23,6 +24,7 @@ pub(crate) fn list_met<R: Narrow>(
 ) -> Result<Node<R>, Memory>
     requires left { IsTable R.refuses R.is_value left.now }
     requires right { IsTable R.refuses R.is_value right }
+    requires rest { ¬ ((rest_of left.now ≡ no_rest) × (rest_of right ≡ no_rest)) }
     ensures form { IfOk result (IsTable R.refuses R.is_value) }
     ensures refused { IfOk result (IsMet R.refuses left.now right) }
 {
@@ -45,7 +47,8 @@ pub(crate) fn list_met<R: Narrow>(
     })
 }
 
-/// The elements of two places met, each stretch that is alike in both once, and the rests.
+/// The elements of two places met, of which one has a rest: each stretch that is alike in both once,
+/// and the rests.
 #[cycle(meet)]
 fn elements_met<R: Narrow>(
     alloc: Global,
@@ -54,6 +57,7 @@ fn elements_met<R: Narrow>(
 ) -> Result<Onward<R>, Memory>
     requires left { IsTable R.refuses R.is_value left.now }
     requires right { IsTable R.refuses R.is_value right.now }
+    requires rest { ¬ ((rest_of left.now ≡ no_rest) × (rest_of right.now ≡ no_rest)) }
     ensures { IfOk result
         (AreElementsMet R.refuses (IsKept R.refuses R.is_value) left.now right.now) }
 {
@@ -61,9 +65,9 @@ fn elements_met<R: Narrow>(
     let mut runs = Vec::new(alloc);
     let mut at = 0;
     while at < fixed {
-        let first = index_of(at)?;
+        let first = index_of(at);
         let end = left.alike_to(first).min(right.alike_to(first)).min(fixed);
-        let last = index_of(end - 1)?;
+        let last = index_of(end - 1);
         let element = found_met(alloc, left.element(first), right.element(first))?;
         if let Some(node) = element {
             let more = last - first;
@@ -74,22 +78,20 @@ fn elements_met<R: Narrow>(
     match found_met(alloc, rest(left), rest(right))? {
         Some(node) => Ok(settled(runs, fixed, node)),
         // One of both has a rest.
-        None => Err(Memory),
+        None => unreachable!(),
     }
 }
 
-/// A number as an index: no step has a greater one than those of 32 bits.
-fn index_of(number: u64) -> Result<u32, Memory>
-    ensures same { IfOk result (λ index. index ≡ number) }
-    ensures word { IfOk result (λ index. index < 2 ^ 32) }
+/// A number as an index.
+fn index_of(number: u64) -> u32
+    requires { number < 2 ^ 32 }
+    ensures same { result ≡ number }
+    ensures word { result < 2 ^ 32 }
 {
-    match u32::try_from(number) {
-        Ok(index) => Ok(index),
-        Err(_) => Err(Memory),
-    }
+    number as u32
 }
 
-/// What two branches are together that may be there.
+/// What two branches are together that may be there: one, where one of both is there.
 #[cycle(meet)]
 fn found_met<R: Narrow>(
     alloc: Global,
@@ -101,6 +103,9 @@ fn found_met<R: Narrow>(
     ensures form { IfOk result (IsBranch (IsKept R.refuses R.is_value)) }
     ensures refused { IfOk result (AreMetRests R.refuses
         (option_map (λ node. node.now) left.entry) (option_map (λ node. node.now) right.entry)) }
+    ensures there { IfOk result (λ met. met ≡ None
+        → (option_map (λ node. node.now) left.entry ≡ None)
+        × (option_map (λ node. node.now) right.entry ≡ None)) }
 {
     match (left, right) {
         (None, None) => Ok(None),

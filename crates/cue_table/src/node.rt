@@ -17,6 +17,9 @@ use cue_row::Step;
 use std::alloc::Global;
 use std::marker::Model;
 
+/// How many indexes there are.
+pub(crate) const INDEXES: u64 = 1 << 32;
+
 /// A place of a table, with all that is known there and below. Contracts see it as a tree.
 #[derive(Drop)]
 #[cycle(node)]
@@ -35,7 +38,7 @@ pub struct Node<R: Narrow> {
 pub(crate) struct Onward<R: Narrow> {
     /// Elements behind those among the branches, in their order.
     pub(crate) runs: Vec<Run<R>>,
-    /// The first index from which on all elements are alike, at most 2^32.
+    /// The first index from which on all elements are alike, at most [`INDEXES`].
     pub(crate) from: u64,
     pub(crate) node: Node<R>,
 }

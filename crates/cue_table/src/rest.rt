@@ -1,5 +1,5 @@
 //! Lists with a rest: how they go on, and a rest that begins as early as it can.
-ghost use Rattle.std.specs.Prelude.{◌≡◌, ◌↔◌, IfSome, IfNone};
+ghost use Rattle.std.specs.Prelude.{◌≡◌, ◌↔◌, ◌≤◌, ◌^◌, IfSome, IfNone};
 ghost use Rattle.std.specs.Option.{option_map};
 ghost use Rattle.cue_table.specs.Form.{IsKept, IsTable, IsTaken};
 ghost use Rattle.cue_table.specs.Inner.Rests.{AreElements, IsLastRun, IsSettled, Repeats};
@@ -13,7 +13,8 @@ use cue_lattice::Narrow;
 /// From which index on all elements of a place are alike.
 pub(crate) fn fixed<R: Narrow>(node: &Node<R>) -> u64
     requires { IsTable R.refuses R.is_value node.now }
-    ensures { result ≡ fixed_of node.now }
+    ensures number { result ≡ fixed_of node.now }
+    ensures few { result ≤ 2 ^ 32 }
 {
     match &node.rest {
         None => behind_last(&node.children),
@@ -35,6 +36,7 @@ pub(crate) fn rest<R: Narrow>(node: &Node<R>) -> Option<&Node<R>>
 /// earlier where the last elements before it are as it is.
 pub(crate) fn settled<R: Narrow>(mut runs: Vec<Run<R>>, fixed: u64, node: Node<R>) -> Onward<R>
     requires elements { AreElements (IsKept R.refuses R.is_value) fixed (run_branches runs.items) }
+    requires few { fixed ≤ 2 ^ 32 }
     requires taken { IsTaken node }
     requires rest { IsTable R.refuses R.is_value node }
     ensures { IsSettled (IsKept R.refuses R.is_value) fixed (run_branches runs.items) node result }

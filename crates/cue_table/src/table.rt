@@ -1,4 +1,5 @@
-ghost use Rattle.std.specs.Prelude.{◌≡◌, ◌↔◌, ◌+◌, ◌<◌, ◌≤◌, [], None, length, IfOk, IsTrue, OnErr, OnOk};
+ghost use Rattle.std.specs.Prelude.{◌≡◌, ◌↔◌, ◌⊎◌, ◌+◌, ◌<◌, ◌≤◌, ◌^◌, [], None, length, IfOk};
+ghost use Rattle.std.specs.Prelude.{IsOk, IsTrue, OnErr, OnOk};
 ghost use Rattle.std.specs.Option.{option_map, option_and_then};
 ghost use Rattle.std.specs.declared.cmp.Ordering.TheVariants.{Less};
 ghost use Rattle.cue_lattice.specs.Limits.{step_limit};
@@ -115,14 +116,24 @@ impl<R: Narrow> Table<R> {
     }
 
     /// Unifies the other table into this one, which then refuses exactly what one of both did.
-    /// After want of memory it is as it was.
+    /// After want of memory it is as it was. Where one of both has no rows, the other one is kept or
+    /// moved, which takes no memory.
     pub fn meet_with(&mut self, other: Table<R>) -> Result<(), Memory>
         ensures form { IsTable R.refuses R.is_value self.new }
         ensures ok { OnOk result (IsMet R.refuses self.old other self.new) }
         ensures err { OnErr result (self.new ≡ self.old) }
+        ensures free { (self.old ≡ empty) ⊎ (other ≡ empty) → IsOk result }
     {
+        let alloc = self.alloc;
         let Table { alloc: _, root } = other;
-        meet_into(self.alloc, &mut self.root, root)?;
+        if root.taken().is_none() {
+            return Ok(());
+        }
+        if self.root.taken().is_none() {
+            self.root = root;
+            return Ok(());
+        }
+        meet_into(alloc, &mut self.root, root)?;
         Ok(())
     }
 
@@ -170,14 +181,15 @@ impl<R: Narrow> Table<R> {
         if rest.root.taken().is_none() {
             return Ok(());
         }
-        let list = rest_alone(alloc, from, rest.root.copy(alloc)?)?;
+        let list = rest_alone(alloc, u64::from(from), rest.root.copy(alloc)?)?;
         let root = hung_along(alloc, path.steps(), list)?;
         self.meet_with(Table { alloc, root })
     }
 
-    /// Unifies a table into each element of the root from an index on, and takes it over. After
-    /// want of memory the table is as it was.
-    pub fn meet_rest(&mut self, from: u32, rest: Table<R>) -> Result<(), Memory>
+    /// Unifies a table into each element of the root from an index on, which may be the one behind
+    /// the last of 32 bits, and takes it over. After want of memory the table is as it was.
+    pub fn meet_rest(&mut self, from: u64, rest: Table<R>) -> Result<(), Memory>
+        requires few { from ≤ 2 ^ 32 }
         requires depth { tree_depth rest < step_limit }
         ensures form { IsTable R.refuses R.is_value self.new }
         ensures ok { OnOk result (IsRestAdded R.refuses self.old [] from rest self.new) }

@@ -44,8 +44,8 @@ lists::elements_met-element-requires-in-loop-at g t c = tree_rises (IsKept g.R.N
 pub lists::elements_met-found_met-requires : goal.lists::elements_met-found_met-requires
 lists::elements_met-found_met-requires g t c κs within =
     let P = IsKept g.R.Narrow.refuses g.R.Narrow.is_value in
-    let deep = step_depth c.args.right.now (index c.in_ok-first.first) _ c.element-in-loop-at.ensures in
-    (omega (arith, c.decreases, deep), (within.0, (within.1, (step_branch P c.args.left.now (index c.in_ok-first.first) _ c.requires.left c.element.ensures, step_branch P c.args.right.now (index c.in_ok-first.first) _ c.requires.right c.element-in-loop-at.ensures))))
+    let deep = step_depth c.args.right.now (index c.index_of-first.result) _ c.element-in-loop-at.ensures in
+    (omega (arith, c.decreases, deep), (within.0, (within.1, (step_branch P c.args.left.now (index c.index_of-first.result) _ c.requires.left c.element.ensures, step_branch P c.args.right.now (index c.index_of-first.result) _ c.requires.right c.element-in-loop-at.ensures))))
 
 pub lists::elements_met-loop-at-preserved-in_ok-push : goal.lists::elements_met-loop-at-preserved-in_ok-push
 lists::elements_met-loop-at-preserved-in_ok-push g t c =
@@ -53,13 +53,13 @@ lists::elements_met-loop-at-preserved-in_ok-push g t c =
     let v = g.R.Narrow.is_value in
     let left = c.args.left.now in
     let right = c.args.right.now in
-    let first = c.in_ok-first.ensures.same in
+    let first = c.index_of-first.ensures.same in
     let alike =
     stretch r left right c.max-fixed.result c.loop-at.at c.alike_to.result c.alike_to-in-loop-at.result c.min-end.result c.in_ok-element.element _ _ c.loop-at-test.true
     (subst (λ n. AreAlike n c.alike_to.result (λ i. step_into left (index i))) first c.alike_to.ensures) (subst (λ n. AreAlike n c.alike_to-in-loop-at.result (λ i. step_into right (index i))) first c.alike_to-in-loop-at.ensures)
     (omega (arith, c.min-end.ensures, c.min.ensures)) (c.element.ensures ∙ ap (λ n. step_into left (index n)) first) (c.element-in-loop-at.ensures ∙ ap (λ n. step_into right (index n)) first) c.in_ok-element.ensures.refused in
     sweeps_run r v left right c.max-fixed.result c.loop-at.runs.items c.push.new.self.items _ c.loop-at.at c.min-end.result c.in_ok-element.element c.loop-at.invariant alike c.in_ok-element.ensures.form c.in-Some.is
-    c.in_ok-push.ensures.items first (omega (arith, first, c.in_ok-last.ensures.same)) (omega (arith, c.in_ok-last.ensures.same, c.in_ok-last.ensures.word))
+    c.in_ok-push.ensures.items first (omega (arith, first, c.index_of-last.ensures.same)) (omega (arith, c.index_of-last.ensures.same, c.index_of-last.ensures.word))
 
 pub lists::elements_met-loop-at-preserved : goal.lists::elements_met-loop-at-preserved
 lists::elements_met-loop-at-preserved g t c =
@@ -67,7 +67,7 @@ lists::elements_met-loop-at-preserved g t c =
     let v = g.R.Narrow.is_value in
     let left = c.args.left.now in
     let right = c.args.right.now in
-    let first = c.in_ok-first.ensures.same in
+    let first = c.index_of-first.ensures.same in
     let alike =
     stretch r left right c.max-fixed.result c.loop-at.at c.alike_to.result c.alike_to-in-loop-at.result c.min-end.result c.in_ok-element.element _ _ c.loop-at-test.true
     (subst (λ n. AreAlike n c.alike_to.result (λ i. step_into left (index i))) first c.alike_to.ensures) (subst (λ n. AreAlike n c.alike_to-in-loop-at.result (λ i. step_into right (index i))) first c.alike_to-in-loop-at.ensures)
@@ -80,11 +80,11 @@ lists::elements_met-found_met-requires-2 g t c κs within =
     let deep = rest_depth c.args.right.now _ c.rest-2.ensures in
     (omega (arith, c.decreases, deep), (within.0, (within.1, (rest_branch P c.args.left.now _ c.requires.left c.rest.ensures, rest_branch P c.args.right.now _ c.requires.right c.rest-2.ensures))))
 
-pub lists::elements_met-returns-in-Some-2 : goal.lists::elements_met-returns-in-Some-2
-lists::elements_met-returns-in-Some-2 g t c =
+pub lists::elements_met-returns : goal.lists::elements_met-returns
+lists::elements_met-returns g t c =
     let r = g.R.Narrow.refuses in
     sweeps_end r g.R.Narrow.is_value c.args.left.now c.args.right.now c.max-fixed.result c.loop-at.at c.loop-at.runs.items (option_map (λ node. node.now) c.rest.result) (option_map (λ node. node.now) c.rest-2.result) c.in-Some-2.node c.settled.result c.loop-at.invariant c.loop-at-test.false
-    c.requires.left c.requires.right (omega (arith, c.fixed.ensures, c.max-fixed.ensures)) (omega (arith, c.fixed-2.ensures, c.max-fixed.ensures)) c.rest.ensures c.rest-2.ensures
+    c.requires.left c.requires.right (omega (arith, c.fixed.ensures.number, c.max-fixed.ensures)) (omega (arith, c.fixed-2.ensures.number, c.max-fixed.ensures)) c.rest.ensures c.rest-2.ensures
     (subst (λ o. AreMetRests r (option_map (λ node. node.now) c.rest.result) (option_map (λ node. node.now) c.rest-2.result) o) c.in-Some-2.is c.in_ok-node.ensures.refused) c.settled.ensures
 
 -- ---- what changes in a list of branches

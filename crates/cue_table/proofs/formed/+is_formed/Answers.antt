@@ -1,4 +1,4 @@
-use Rattle.std.proofs.Common.{refl, sym, ap, subst, ◌∙◌, arith}
+use Rattle.std.proofs.Common.{◌≤◌, ◌^◌, refl, sym, ap, subst, ◌∙◌, arith}
 use Rattle.cue_table.specs.declared.node.Onward.{Onward}
 use Rattle.cue_table.specs.Form.{Rise, IsKept, IsTree}
 use Rattle.cue_table.specs.StepsOfCode.{span_of}
@@ -45,8 +45,8 @@ pub begins_right-requires : goal.begins_right-requires
 begins_right-requires g t c =
     let P = IsKept g.R.Narrow.refuses g.R.Narrow.is_value in
     let rises = rest_rise P c.node.inside c.args.node.now c.in-Some-rest.rest c.node.view_is c.in-Some-rest.is c.requires in
-    subst (λ cs. Rise (join (branches cs) (run_branches c.deref-in-Some-rest.result.now.runs.items))) (sym c.deref.ensures.value)
-    (subst (λ (o : Onward _ _). Rise (join (branches c.node.inside.children.items) (run_branches o.runs.items))) (sym c.deref-in-Some-rest.ensures) rises)
+    subst (λ cs. Rise (join (branches cs) (run_branches c.deref-in-Some-rest-2.result.now.runs.items))) (sym c.deref-in-Some-rest.ensures.value)
+    (subst (λ (o : Onward _ _). Rise (join (branches c.node.inside.children.items) (run_branches o.runs.items))) (sym c.deref-in-Some-rest-2.ensures) rises)
 
 pub is_formed-requires-then-begins_right : goal.is_formed-requires-then-begins_right
 is_formed-requires-then-begins_right g t c κs within =
@@ -66,9 +66,9 @@ returns-then-begins_right g t c =
     let P = IsKept g.R.Narrow.refuses g.R.Narrow.is_value in
     let whole = formed_rest P c.node.inside c.args.node.now c.in-Some-rest.rest c.node.view_is c.in-Some-rest.is c.requires (all_formed P (below c.args.node.now) (spans_left c.loop-below.left) c.in_default.ensures.none c.loop-below.invariant.same) in
     let own = c.node.inside.children.items in
-    let place = subst (λ (o : Onward _ _). IsBehind o.from o.node (join (branches own) (run_branches o.runs.items))) c.deref-in-Some-rest.ensures
-    (subst (λ cs. IsBehind c.deref-in-Some-rest.result.now.from c.deref-in-Some-rest.result.now.node (join (branches cs) (run_branches c.deref-in-Some-rest.result.now.runs.items))) c.deref.ensures.value
+    let place = subst (λ (o : Onward _ _). IsBehind o.from o.node (join (branches own) (run_branches o.runs.items))) c.deref-in-Some-rest-2.ensures
+    (subst (λ cs. IsBehind c.deref-in-Some-rest-2.result.now.from c.deref-in-Some-rest-2.result.now.node (join (branches cs) (run_branches c.deref-in-Some-rest-2.result.now.runs.items))) c.deref-in-Some-rest.ensures.value
     (c.begins_right.ensures.0 c.if-begins_right.true)) in (
-      λ yes. whole.1 (place, subst (λ (o : Onward _ _). IsTree P o.node) c.deref-then-begins_right.ensures (c.is_formed-then-begins_right.ensures.0 yes)),
-      λ h. let both = whole.0 h in c.is_formed-then-begins_right.ensures.1 (subst (λ (o : Onward _ _). IsTree P o.node) (sym c.deref-then-begins_right.ensures) both.1),
+      λ yes. whole.1 (subst (λ (o : Onward _ _). o.from ≤ 2 ^ 32) c.deref.ensures c.if-deref-gt-INDEXES.false, place, subst (λ (o : Onward _ _). IsTree P o.node) c.deref-then-begins_right.ensures (c.is_formed-then-begins_right.ensures.0 yes)),
+      λ h. let both = whole.0 h in c.is_formed-then-begins_right.ensures.1 (subst (λ (o : Onward _ _). IsTree P o.node) (sym c.deref-then-begins_right.ensures) both.2),
     )

@@ -1,4 +1,4 @@
-use Rattle.std.proofs.Common.{◌≡◌, ◌≤◌, None, refl, ap, arith}
+use Rattle.std.proofs.Common.{◌≡◌, ◌≤◌, ◌^◌, None, refl, ap, arith}
 use Rattle.cue_lattice.specs.Limits.{step_limit}
 use Rattle.cue_table.specs.Depth.{tree_depth}
 use Rattle.cue_table.specs.Form.{IsKept}
@@ -19,8 +19,9 @@ invariant_of-meet_with g c =
     let P = IsKept g.R.Narrow.refuses g.R.Narrow.is_value in
     let there = taken_form c.rest.inside.root (is_there (λ node. node.now) c.taken.result (taken c.rest.inside.root) c.is_none.result c.if-is_none.false c.is_none.ensures c.taken.ensures) in
     let list = node None none (onward c.args.from c.rest.inside.root) in
-    let is : c.in_ok-root.root ≡ along c.args.path.now list = rw (c.in_ok-root.ensures, c.in_ok-list.ensures, c.in_ok-copy.ensures, c.steps.ensures.list) refl in
-    let form = along_form P c.args.path.now list tt (alone_form P c.args.from c.rest.inside.root there c.rest.invariant.0) in
+    let few : c.args.from ≤ 2 ^ 32 = omega (arith, c.ranges.from.fits) in
+    let is : c.in_ok-root.root ≡ along c.args.path.now list = rw (c.in_ok-root.ensures, c.in_ok-list.ensures, c.from.ensures, c.in_ok-copy.ensures, c.steps.ensures.list) refl in
+    let form = along_form P c.args.path.now list tt (alone_form P c.args.from c.rest.inside.root few there c.rest.invariant.0) in
     let deep = along_depth c.args.path.now list in
     let same = ap tree_depth c.rest.view_is in
     let low : tree_depth (along c.args.path.now list) ≤ step_limit = omega (arith, deep, same, c.requires.depth) in
@@ -28,5 +29,5 @@ invariant_of-meet_with g c =
 
 pub returns-clause-ok : goal.returns-clause-ok
 returns-clause-ok g c =
-    let is : c.in_ok-root.root ≡ along c.args.path.now (node None none (onward c.args.from c.args.rest.now)) = rw (c.in_ok-root.ensures, c.in_ok-list.ensures, c.in_ok-copy.ensures, c.steps.ensures.list, c.rest.view_is) refl in
+    let is : c.in_ok-root.root ≡ along c.args.path.now (node None none (onward c.args.from c.args.rest.now)) = rw (c.in_ok-root.ensures, c.in_ok-list.ensures, c.from.ensures, c.in_ok-copy.ensures, c.steps.ensures.list, c.rest.view_is) refl in
     rest_added_ok g.R.Narrow.refuses c.meet_with.result c.args.self.now c.meet_with.new.self c.in_ok-root.root c.args.path.now c.args.from c.args.rest.now is c.meet_with.ensures.ok

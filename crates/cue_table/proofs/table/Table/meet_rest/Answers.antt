@@ -29,7 +29,7 @@ pub invariant_of-meet_with : goal.invariant_of-meet_with
 invariant_of-meet_with g c =
     let P = IsKept g.R.Narrow.refuses g.R.Narrow.is_value in
     let there = taken_form c.rest.inside.root (is_there (λ node. node.now) c.taken.result (taken c.rest.inside.root) c.is_none.result c.if-is_none.false c.is_none.ensures c.taken.ensures) in
-    let form = alone_form P c.args.from c.rest.inside.root there c.rest.invariant.0 in
+    let form = alone_form P c.args.from c.rest.inside.root c.requires.few there c.rest.invariant.0 in
     let same = ap tree_depth c.rest.view_is in
     let low : tree_depth (node None none (onward c.args.from c.rest.inside.root)) ≤ step_limit = omega (arith, same, c.requires.depth) in
     rw c.in_ok-root.ensures (form, low)
