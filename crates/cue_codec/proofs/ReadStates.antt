@@ -10,7 +10,7 @@ use Rattle.cue_lattice.specs.declared.refusal.Kind.{Kind}
 use Rattle.cue_lattice.specs.declared.refusal.Kind.TheVariants as kinds
 use Rattle.cue_row.specs.declared.parts.RowParts.{RowParts as Row}
 use Rattle.cue_row.specs.Row.{Refuses, IsRow}
-use Rattle.cue_table.specs.Tree.{Tree}
+use Rattle.cue_table.specs.Tree.{Tree, empty}
 use Rattle.cue_table.specs.Slots.{Place, rows_of}
 use Rattle.cue_table.specs.Form.{IsKept, IsTable}
 use Rattle.cue_table.specs.RowList.{AppendsKept}
@@ -293,6 +293,22 @@ valid_read version bytes rest count tree e lt fits h has =
     let few : length these < 2 ^ 64 = omega (arith, fits, ap length e, length-append mark (byte ∷ (to_be_bytes w64 count ++ rest)), length-append (to_be_bytes w64 count) rest, sizes, length-append (to_be_bytes w64 (length rows)) these, wide64.len (length rows), wide64.len count) in
     let split = one_number w64 (2 ^ 64) wide64 (length rows) count these rest (omega (arith, few, rows_few version rows)) lt same in
     record { form = h.form; rows = valid_rows version tree h is.0 few; places = valid_places version tree h is.0 unknown; counted = split.0; parts = sym split.1 }
+
+-- the bytes of the table without rows have none behind the head
+pub opening_rows :
+    (version other : Version) (bytes rest : List ℕ) (count : ℕ) → bytes ≡ mark ++ (version_byte version ∷ (to_be_bytes w64 count ++ rest)) → count < 2 ^ 64 → bytes ≡ table_bytes_in other empty
+    → (count ≡ 0) × (rest ≡ [])
+opening_rows version other bytes rest count e lt is =
+    let same = tails (version_byte version) (version_byte other) (to_be_bytes w64 count ++ rest) (to_be_bytes w64 0 ++ [])
+    (same_after bytes (version_byte version ∷ (to_be_bytes w64 count ++ rest)) (version_byte other ∷ (to_be_bytes w64 0 ++ [])) e (is ∙ parts_of_state other [])) in
+    one_number w64 (2 ^ 64) wide64 count 0 rest [] lt (omega arith) same
+
+pub opening_begins : (version : Version) (bytes : List ℕ) → bytes ≡ table_bytes_in version empty → BeginsAsState bytes
+opening_begins version bytes is = (version, 0, [], is ∙ parts_of_state version [])
+
+-- where none is behind the head, the bytes are those of that table
+pub opening_bytes : (version : Version) (bytes rest : List ℕ) (count : ℕ) → bytes ≡ mark ++ (version_byte version ∷ (to_be_bytes w64 count ++ rest)) → (count ≡ 0) × (rest ≡ []) → IsTableBytes bytes empty
+opening_bytes version bytes rest count e none = (version, tt, parts_of_state version [] ∙ (λ i. mark ++ (version_byte version ∷ (to_be_bytes w64 (sym none.0 i) ++ sym none.1 i))) ∙ sym e)
 
 -- refusals of the head are refusals
 pub undecoded_head : (bytes : List ℕ) (kind : Kind) → IsRejected bytes kind → IsUndecoded bytes kind

@@ -1,5 +1,5 @@
 -- The bytes of the rows of a branch, written by a walk.
-use Rattle.std.proofs.Common.{◌≡◌, ℕ, ◌+◌, ◌*◌, ◌^◌, ◌<◌, zero, suc, List, [], ◌∷◌, ◌++◌, append_assoc, length, map, min, Option, Some, None, refl, sym, ap, subst, ◌∙◌, arith}
+use Rattle.std.proofs.Common.{◌≡◌, ℕ, ◌+◌, ◌*◌, ◌^◌, ◌<◌, ◌≤◌, zero, suc, List, [], ◌∷◌, ◌++◌, append_assoc, length, map, Option, Some, None, refl, sym, ap, subst, ◌∙◌, arith}
 use Rattle.std.specs.List.{flat_map, AllByRecursion}
 use Rattle.std.proofs.lemmas.List.{append-nil, length-append, length-map}
 use Rattle.std.proofs.lemmas.List.Concat.{flat_map-append, flat_map-cons}
@@ -52,16 +52,14 @@ count_more span tree rest left more e =
 pub no_branch : (rest : List (Span × Tree Row)) → rest ≡ [] → children_of (spread rest) ≡ []
 no_branch rest e = ap (λ spans. children_of (spread spans)) e
 
--- a product is as far as 64 bits tell what it is of a number that is told so far
-pub times_most : (count n most : ℕ) → min (count * min n most) most ≡ min (count * n) most
-times_most zero n most = omega arith
-times_most (suc count) n most = omega (arith, plus_most n (count * min n most) (count * n) most (times_most count n most))
+-- the branches that a span stands for have no fewer rows than one of them
+pub rows_least : (span : Span) (n : ℕ) → n ≤ branch_count span * n
+rows_least (field text) n = omega arith
+rows_least (elements first more) n = some_times more n
   where
-    plus_most : (n a b most : ℕ) → min a most ≡ min b most → min (min n most + a) most ≡ min (n + b) most
-    plus_most n a b most e = omega (arith, e)
-
-pub count_rest : (tree branch : Tree Row) → rest_tree (rest_of tree) ≡ Some branch → length (entries_onward written (rest_of tree)) ≡ length (entries_of written branch)
-count_rest tree branch e = ap length (entries_rest written tree branch e) ∙ length-map (entries_of written branch) (behind to_rest)
+    some_times : (more n : ℕ) → n ≤ (more + 1) * n
+    some_times zero n = omega arith
+    some_times (suc more) n = let fewer = some_times more n in omega (arith, fewer)
 
 -- ---- their bytes
 

@@ -1,5 +1,5 @@
 -- The state bytes of a table, written by a walk over its branches.
-use Rattle.std.proofs.Common.{◌≡◌, ℕ, ◌+◌, ◌-◌, ◌^◌, ◌<◌, ◌≤◌, true, List, [], ◌∷◌, ◌++◌, length, min, Option, Some, None, refl, sym, ap, subst, ◌∙◌, arith}
+use Rattle.std.proofs.Common.{◌≡◌, ℕ, ◌+◌, ◌≤◌, true, List, [], ◌∷◌, ◌++◌, length, Option, Some, None, refl, sym, ap, subst, ◌∙◌, arith}
 use Rattle.std.specs.Prelude.{is_some}
 use Rattle.std.specs.Int.{w64, to_be_bytes}
 use Rattle.std.specs.List.{flat_map}
@@ -61,11 +61,10 @@ state_parts rows = parts_of_state written rows
 
 -- the head and the rows are the state, where 64 bits tell how many rows there are
 pub state_begun :
-    (tree : Tree Row) (count : ℕ) → count ≡ min (length (entries_of written tree)) (2 ^ 64 - 1) → count < 2 ^ 64 - 1
+    (tree : Tree Row) (count : ℕ) → count ≡ length (entries_of written tree)
     → (mark ++ (2 ∷ to_be_bytes w64 count)) ++ flat_map (row_bytes_from written 0 []) (entries_of written tree) ≡ table_bytes tree
-state_begun tree count counted few =
+state_begun tree count same =
     let rows = rows_from_root (entries_of written tree) in
-    let same : count ≡ length (entries_of written tree) = omega (arith, counted, few) in
     ap (λ t. mark ++ (2 ∷ (to_be_bytes w64 count ++ t))) rows ∙ ap (λ n. mark ++ (2 ∷ (to_be_bytes w64 n ++ flat_map (row_bytes written) (entries_of written tree)))) same ∙ sym (state_parts (entries_of written tree))
 
 -- a valid table has no path that is too long

@@ -1,7 +1,8 @@
 //! The branches of a table: how many come together, how many rows they have, and the row of a place
 //! as bytes.
 
-ghost use Rattle.std.specs.Prelude.{◌≡◌, [], ◌-◌, ◌^◌, ◌<◌, ◌≤◌, ◌++◌, length, min, OnErr, OnOk};
+ghost use Rattle.std.specs.Prelude.{◌≡◌, [], ◌+◌, ◌*◌, ◌^◌, ◌<◌, ◌≤◌, ◌++◌, length};
+ghost use Rattle.std.specs.Prelude.{IfErr, IfOk, OnErr, OnOk};
 ghost use Rattle.cue_row.specs.Begun.{StillBegins};
 ghost use Rattle.cue_table.specs.Inner.ValidWalk.{IsSound};
 ghost use Rattle.cue_table.specs.StepsOfCode.{span_of};
@@ -26,21 +27,49 @@ pub fn branch_count(span: Span) -> u64
     }
 }
 
-/// How many rows a branch has, as far as 64 bits tell. What is kept as one is counted once.
-pub fn row_count(branch: &Branch<Row>) -> u64
-    ensures { result ≡ min (length (entries_of written branch.now)) (2 ^ 64 - 1) }
+/// The sum of two counts of rows. This takes no memory: an error says that it is beyond any.
+fn plus(count: u64, more: u64) -> Result<u64, Memory>
+    ensures count { IfOk result (λ sum. sum ≡ count + more) }
+    ensures beyond { IfErr result (λ memory. 2 ^ 64 ≤ count + more) }
+{
+    match count.checked_add(more) {
+        Some(sum) => Ok(sum),
+        None => Err(Memory::beyond(count, more)),
+    }
+}
+
+/// So many times a count of rows. This takes no memory: an error says that it is beyond any.
+fn times(count: u64, each: u64) -> Result<u64, Memory>
+    ensures count { IfOk result (λ product. product ≡ count * each) }
+    ensures beyond { IfErr result (λ memory. 2 ^ 64 ≤ count * each) }
+{
+    match count.checked_mul(each) {
+        Some(product) => Ok(product),
+        None => Err(Memory::beyond(u64::MAX, each)),
+    }
+}
+
+/// How many rows a branch has. What is kept as one is counted once. This takes no memory: an error
+/// says that there are more rows than 64 bits tell, and than any memory holds.
+pub fn row_count(branch: &Branch<Row>) -> Result<u64, Memory>
+    ensures count { IfOk result (λ count. count ≡ length (entries_of written branch.now)) }
+    ensures beyond { IfErr result (λ memory. 2 ^ 64 ≤ length (entries_of written branch.now)) }
 {
     let mut count = match branch.row() {
         None => 0,
         Some(_) => 1,
     };
     for (span, below) in branch.spans() {
-        let rows = u64::saturating_mul(branch_count(span), row_count(&below));
-        count = u64::saturating_add(count, rows);
+        let each = row_count(&below)?;
+        let rows = times(branch_count(span), each)?;
+        count = plus(count, rows)?;
     }
     match branch.rest() {
-        None => count,
-        Some(rest) => u64::saturating_add(count, row_count(&rest)),
+        None => Ok(count),
+        Some(rest) => {
+            let more = row_count(&rest)?;
+            plus(count, more)
+        }
     }
 }
 

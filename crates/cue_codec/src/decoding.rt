@@ -1,9 +1,12 @@
 //! State bytes as tables.
 
-ghost use Rattle.std.specs.Prelude.{◌≡◌, ◌<◌, ◌^◌, ◌∷◌, ◌++◌, ℕ, List, IfOk, IfErr, IfSome, IfNone};
+ghost use Rattle.std.specs.Prelude.{◌≡◌, ◌↔◌, ◌<◌, ◌^◌, [], ◌∷◌, ◌++◌, ℕ, List, IfOk, IfErr, IsOk, IfSome};
+ghost use Rattle.std.specs.Prelude.{IfNone, IsTrue};
 ghost use Rattle.std.specs.Int.{w64, to_be_bytes};
 ghost use Rattle.cue_table.specs.Valid.{IsValidTable};
-ghost use Rattle.cue_codec.specs.State.{mark, IsTableBytes};
+ghost use Rattle.cue_codec.specs.State.{mark, table_bytes_in, IsTableBytes};
+ghost use Rattle.cue_codec.specs.declared.version.Version.{Version as Versions};
+ghost use Rattle.cue_table.specs.Tree.{empty};
 ghost use Rattle.cue_codec.specs.Decoding.{BeginsAsState, IsUndecoded, IsRejected};
 ghost use Rattle.cue_codec.specs.Version.{version_byte};
 
@@ -61,16 +64,28 @@ pub fn head_at(bytes: &[u8]) -> Result<(Version, u64, &[u8]), Kind>
     Ok((version, count, rest))
 }
 
+/// Whether so many rows of these bytes are none.
+fn are_none(count: u64, bytes: &[u8]) -> bool
+    ensures { IsTrue result ↔ ((count ≡ 0) × (bytes.now ≡ [])) }
+{
+    count == 0 && bytes.is_empty()
+}
+
 /// The valid table whose state bytes these are, in whichever version. They are refused as `Version`
 /// exactly where they begin with the mark and a version that is not known; else as `NotState` where
 /// no valid table has them, and as `Memory` where memory ran out, which it does only where mark,
-/// version and count stand. Room is made only for what was read, never for what a count claims.
+/// version and count stand. Room is made only for what was read, never for what a count claims: the
+/// state without rows takes no memory.
 pub fn decode(alloc: Global, bytes: &[u8]) -> Result<Table<Row>, Kind>
     ensures valid { IfOk result IsValidTable }
     ensures bytes { IfOk result (IsTableBytes bytes.now) }
     ensures refused { IfErr result (IsUndecoded bytes.now) }
+    ensures opening { (version : Versions) → bytes.now ≡ table_bytes_in version empty → IsOk result }
 {
     let (version, count, rest) = head_at(bytes)?;
+    if are_none(count, rest) {
+        return Ok(Table::new(alloc));
+    }
     let table = Drafting::new(alloc, version, count).finish(rest)?;
     if !table.is_valid() {
         return Err(Kind::NotState);

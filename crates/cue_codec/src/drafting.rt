@@ -1,6 +1,7 @@
 //! Rows read one after another, of which a table is made.
 
 ghost use Rattle.std.specs.Prelude.{◌≡◌, ◌<◌, ◌↔◌, ◌++◌, [], ℕ, List, IsTrue, IfOk, IfErr, OnErr};
+ghost use Rattle.cue_lattice.specs.declared.refusal.Kind.TheVariants.{Memory as OutOfMemory};
 ghost use Rattle.cue_codec.specs.Decoding.{AreReadRows, NoRows};
 ghost use Rattle.cue_codec.specs.Inner.Drafting.{BeginsNoRows};
 ghost use Rattle.cue_codec.specs.Inner.Pieces.{HasNext, IsAdded, IsFront};
@@ -10,7 +11,7 @@ ghost use Rattle.cue_codec.specs.Reading.{IsRefused};
 use crate::row_reader::RowReader;
 use crate::telling::tells;
 use crate::version::Version;
-use cue_lattice::{Kind, Memory};
+use cue_lattice::Kind;
 use cue_row::Row;
 use cue_table::{Draft, Place, Table};
 use std::alloc::Global;
@@ -75,6 +76,13 @@ impl Drafting {
         self.version
     }
 
+    /// Whether all rows are none.
+    pub fn is_none(&self) -> bool
+        ensures { IsTrue result ↔ (self.now.count ≡ 0) }
+    {
+        self.count == 0
+    }
+
     /// Whether no row is missing. No rows are these with bytes behind them.
     pub fn is_full(&self) -> bool
         ensures full { IsTrue result ↔ (self.now.left ≡ 0) }
@@ -119,17 +127,18 @@ impl Drafting {
 
     /// Adds the row whose bytes these are, and says whether there is one: there is none where no
     /// rows begin so. All is left as it is then, and after want of memory.
-    pub fn add(&mut self, row: &[u8]) -> Result<bool, Memory>
+    pub fn add(&mut self, row: &[u8]) -> Result<bool, Kind>
         requires whole { IsWholeRow self.old.version row.now }
         requires missing { 0 < self.old.left }
         ensures ok { IfOk result (IsAdded self.old row.now self.new) }
+        ensures memory { IfErr result (λ kind. kind ≡ OutOfMemory) }
         ensures err { OnErr result (self.new ≡ self.old) }
     {
         let mut reader = RowReader::new(row);
         match self.next(&mut reader) {
             Ok(is_added) => Ok(is_added),
             Err(kind) => match kind {
-                Kind::Memory => Err(Memory),
+                Kind::Memory => Err(Kind::Memory),
                 _ => Ok(false),
             },
         }
@@ -138,16 +147,17 @@ impl Drafting {
     /// Adds the row whose bytes stand in front, and says how many these are; there are none where
     /// no whole row stands there. There is no number where no rows begin so. All is left as it is
     /// where none is added, and after want of memory.
-    pub fn add_front(&mut self, bytes: &[u8]) -> Result<Option<usize>, Memory>
+    pub fn add_front(&mut self, bytes: &[u8]) -> Result<Option<usize>, Kind>
         requires { 0 < self.old.left }
         ensures ok { IfOk result (IsFront self.old bytes.now self.new) }
+        ensures memory { IfErr result (λ kind. kind ≡ OutOfMemory) }
         ensures err { OnErr result (self.new ≡ self.old) }
     {
         let mut reader = RowReader::new(bytes);
         match self.next(&mut reader) {
             Ok(_) => Ok(Some(bytes.len() - reader.len())),
             Err(kind) => match kind {
-                Kind::Memory => Err(Memory),
+                Kind::Memory => Err(Kind::Memory),
                 _ => Ok(None),
             },
         }

@@ -1,10 +1,12 @@
 //! Tables as state bytes.
 
-ghost use Rattle.std.specs.Prelude.{◌≡◌, ◌++◌, ◌∷◌, ◌^◌, ◌-◌, [], length, min, IfOk, OnOk};
+ghost use Rattle.std.specs.Prelude.{◌≡◌, ◌<◌, ◌++◌, ◌∷◌, ◌^◌, [], length, IfOk, OnOk};
 ghost use Rattle.std.specs.Int.{w64, to_be_bytes};
 ghost use Rattle.cue_table.specs.Valid.{IsValidTable};
 ghost use Rattle.cue_codec.specs.Inner.Walks.{walk_bytes, IsWalk};
+ghost use Rattle.cue_codec.specs.Entry.{entries_of};
 ghost use Rattle.cue_codec.specs.State.{mark, table_bytes};
+ghost use Rattle.cue_codec.specs.Version.{written};
 
 use crate::branches::row_count;
 use crate::row_walk::Walk;
@@ -31,18 +33,16 @@ fn put_head(out: &mut Vec<u8>, count: u64) -> Result<(), Memory>
 
 /// Begins the state bytes of a valid table, in the version that is written: those before its rows
 /// and those of the row at the root, and the walk that writes the others. An error says that
-/// memory ran out, as it does before there are more rows than 64 bits tell.
+/// memory ran out. A table of more rows than 64 bits tell, which no memory holds, is not begun.
 pub fn begin<'a>(alloc: Global, table: &'a Table<Row>) -> Result<(Vec<u8>, Walk<'a>), Memory>
     requires { IsValidTable table.now }
+    ensures few { IfOk result (λ begun. length (entries_of written table.now) < 2 ^ 64) }
     ensures walk { IfOk result (λ begun. IsWalk begun.1) }
     ensures bytes { IfOk result (λ begun. begun.0.items ++ walk_bytes begun.1
         ≡ table_bytes table.now) }
 {
     let root = table.root();
-    let count = row_count(&root);
-    if count == u64::MAX {
-        return Err(Memory);
-    }
+    let count = row_count(&root)?;
     let mut out = Vec::new(alloc);
     put_head(&mut out, count)?;
     if root.row().is_none() {

@@ -1,6 +1,8 @@
 //! Rows read from bytes that come in pieces.
 
-ghost use Rattle.std.specs.Prelude.{◌≡◌, ◌<◌, ◌≤◌, ◌+◌, ◌^◌, ◌++◌, [], length, take, IfOk, IfErr};
+ghost use Rattle.std.specs.Prelude.{◌≡◌, ◌↔◌, ◌<◌, ◌≤◌, ◌+◌, ◌^◌, ◌++◌, [], length, take, IfOk, IfErr};
+ghost use Rattle.std.specs.Prelude.{IsOk, IsTrue};
+ghost use Rattle.cue_lattice.specs.declared.refusal.Kind.TheVariants.{Memory as OutOfMemory};
 ghost use Rattle.cue_codec.specs.Decoding.{AreReadRows, NoRows};
 ghost use Rattle.cue_codec.specs.Inner.Drafting.{IsFed};
 ghost use Rattle.cue_codec.specs.Inner.Pieces.{IsTaken};
@@ -40,6 +42,15 @@ impl Model for RowPieces {
     ghost invariant = { λ p. ArePieces p.rows p.scan p.unfinished.items p.taken };
 }
 
+/// That a state of so many bytes and so many more is longer than any memory.
+fn beyond(taken: u64, more: u64) -> Kind
+    requires { 2 ^ 64 ≤ taken + more }
+    ensures { result ≡ OutOfMemory }
+{
+    let _memory = Memory::beyond(taken, more);
+    Kind::Memory
+}
+
 impl RowPieces {
     /// None of so many rows. This takes no memory.
     pub fn new(alloc: Global, version: Version, count: u64) -> RowPieces
@@ -53,19 +64,29 @@ impl RowPieces {
         }
     }
 
+    /// Whether all rows are none, and no byte was taken in behind the head.
+    pub fn is_none(&self) -> bool
+        ensures { IsTrue result ↔ ((self.now.count ≡ 0) × (self.now.bytes ≡ [])) }
+    {
+        self.rows.is_none() && self.taken == 13
+    }
+
     /// As [`RowPieces::take`], where a row is missing and the bytes are scanned.
-    fn scan_on(&mut self, bytes: &[u8]) -> Result<Option<usize>, Memory>
+    fn scan_on(&mut self, bytes: &[u8]) -> Result<Option<usize>, Kind>
         requires some { 0 < length bytes.now }
         requires missing { 0 < self.old.left }
-        ensures { IfOk result (IsTaken self.old bytes.now self.new) }
+        ensures taken { IfOk result (IsTaken self.old bytes.now self.new) }
+        ensures memory { IfErr result (λ kind. kind ≡ OutOfMemory) }
     {
         let mut scan = self.scan;
         let len = scan.scan(self.rows.version(), bytes);
         let (front, _) = bytes.split_at(len);
         let Some(taken) = self.taken.checked_add(len as u64) else {
-            return Err(Memory);
+            return Err(beyond(self.taken, len as u64));
         };
-        self.unfinished.extend_from_slice(front)?;
+        let Ok(()) = self.unfinished.extend_from_slice(front) else {
+            return Err(Kind::Memory);
+        };
         self.scan = scan;
         self.taken = taken;
         if !scan.is_at_end() {
@@ -82,9 +103,10 @@ impl RowPieces {
     /// Takes in bytes that come next, of which there are some, as far as one row goes, and says how
     /// many these are. There is no number where no rows begin so. A row whose bytes all stand here
     /// is read from them, and only one that is cut is scanned and kept.
-    fn take(&mut self, bytes: &[u8]) -> Result<Option<usize>, Memory>
+    fn take(&mut self, bytes: &[u8]) -> Result<Option<usize>, Kind>
         requires { 0 < length bytes.now }
-        ensures { IfOk result (IsTaken self.old bytes.now self.new) }
+        ensures taken { IfOk result (IsTaken self.old bytes.now self.new) }
+        ensures memory { IfErr result (λ kind. kind ≡ OutOfMemory) }
     {
         if self.rows.is_full() {
             return Ok(None);
@@ -93,7 +115,7 @@ impl RowPieces {
             return self.scan_on(bytes);
         }
         let Some(_) = self.taken.checked_add(bytes.len() as u64) else {
-            return Err(Memory);
+            return Err(beyond(self.taken, bytes.len() as u64));
         };
         let Some(len) = self.rows.add_front(bytes)? else {
             return Ok(None);
@@ -105,9 +127,12 @@ impl RowPieces {
         Ok(Some(len))
     }
 
-    /// Takes in a piece. There is nothing where no rows begin so.
-    pub fn feed(self, piece: &[u8]) -> Result<Option<RowPieces>, Memory>
-        ensures { IfOk result (IsFed self piece.now) }
+    /// Takes in a piece. There is nothing where no rows begin so, and an error says that memory ran
+    /// out.
+    pub fn feed(self, piece: &[u8]) -> Result<Option<RowPieces>, Kind>
+        ensures fed { IfOk result (IsFed self piece.now) }
+        ensures none { piece.now ≡ [] → IsOk result }
+        ensures memory { IfErr result (λ kind. kind ≡ OutOfMemory) }
     {
         let mut pieces = self;
         let mut rest = piece;

@@ -1,13 +1,18 @@
 //! State bytes read in pieces.
 
-ghost use Rattle.std.specs.Prelude.{◌≡◌, ◌<◌, ◌^◌, ◌++◌, [], length, take, IfOk, IfErr, OnOk};
+ghost use Rattle.std.specs.Prelude.{◌≡◌, ◌+◌, ◌<◌, ◌≤◌, ◌^◌, ◌++◌, ℕ, List, [], length, take, IfOk, IfErr};
+ghost use Rattle.std.specs.Prelude.{IsOk, OnOk};
 ghost use Rattle.cue_codec.specs.Pieces.{so_far, IsTakenIn, IsNotTakenIn, IsReadTable, IsUnread};
 ghost use Rattle.cue_codec.specs.Pieces.{failed};
+ghost use Rattle.cue_codec.specs.State.{table_bytes_in};
+ghost use Rattle.cue_codec.specs.declared.version.Version.{Version as Versions};
+ghost use Rattle.cue_table.specs.Tree.{empty};
+ghost use Rattle.cue_lattice.specs.declared.refusal.Kind.TheVariants.{Memory as OutOfMemory};
 ghost use Rattle.cue_table.specs.Valid.{IsValidTable};
 
 use crate::decoding::{decode, head_at};
 use crate::row_pieces::RowPieces;
-use cue_lattice::{Kind, Memory};
+use cue_lattice::Kind;
 use cue_row::Row;
 use cue_table::Table;
 use std::alloc::Global;
@@ -57,9 +62,11 @@ impl Taken {
     ghost use Rattle.cue_codec.specs.Inner.Intakes.{with_head, intake_of, IsSound, HasTaken};
 
     /// Rows, with bytes that come next.
-    fn more_rows(rows: RowPieces, piece: &[u8]) -> Result<Taken, Memory>
+    fn more_rows(rows: RowPieces, piece: &[u8]) -> Result<Taken, Kind>
         requires { rows.count < 2 ^ 64 }
-        ensures { IfOk result
+        ensures none { piece.now ≡ [] → IsOk result }
+        ensures memory { IfErr result (λ kind. kind ≡ OutOfMemory) }
+        ensures taken { IfOk result
             (HasTaken (with_head rows.version rows.count (rows.bytes ++ piece.now))) }
     {
         match rows.feed(piece)? {
@@ -69,9 +76,11 @@ impl Taken {
     }
 
     /// A whole head, with bytes that come next.
-    fn whole_head(alloc: Global, head: [u8; HEAD_LEN], piece: &[u8]) -> Result<Taken, Memory>
+    fn whole_head(alloc: Global, head: [u8; HEAD_LEN], piece: &[u8]) -> Result<Taken, Kind>
         requires { length head ≡ 13 }
-        ensures { IfOk result (HasTaken (head ++ piece.now)) }
+        ensures none { piece.now ≡ [] → IsOk result }
+        ensures memory { IfErr result (λ kind. kind ≡ OutOfMemory) }
+        ensures taken { IfOk result (HasTaken (head ++ piece.now)) }
     {
         match head_at(&head) {
             Ok((version, count, _)) => {
@@ -90,10 +99,12 @@ impl Taken {
         head: [u8; HEAD_LEN],
         len: usize,
         piece: &[u8],
-    ) -> Result<Taken, Memory>
+    ) -> Result<Taken, Kind>
         requires room { length head ≡ 13 }
         requires short { len < 13 }
-        ensures { IfOk result (HasTaken (take len head ++ piece.now)) }
+        ensures head { len + length piece.now ≤ 13 → IsOk result }
+        ensures memory { IfErr result (λ kind. kind ≡ OutOfMemory) }
+        ensures taken { IfOk result (HasTaken (take len head ++ piece.now)) }
     {
         let mut head = head;
         let count = piece.len().min(HEAD_LEN - len);
@@ -112,17 +123,15 @@ impl Taken {
         ensures ok { IfOk result
             (λ new. IsTakenIn (intake_of self) piece.now (intake_of new)) }
         ensures err { IfErr result (λ kind. IsNotTakenIn (intake_of self) kind failed) }
+        ensures head { (bytes : List ℕ) → intake_of self ≡ so_far bytes
+            → length bytes + length piece.now ≤ 13 → IsOk result }
     {
-        let fed = match self {
+        match self {
             Taken::Head(head, len) => Taken::more_head(alloc, head, len, piece),
             Taken::Rows(rows) => Taken::more_rows(rows, piece),
-            Taken::OtherVersion => return Ok(Taken::OtherVersion),
-            Taken::NoState => return Ok(Taken::NoState),
-            Taken::Failed => return Err(Kind::Failed),
-        };
-        match fed {
-            Ok(taken) => Ok(taken),
-            Err(_) => Err(Kind::Memory),
+            Taken::OtherVersion => Ok(Taken::OtherVersion),
+            Taken::NoState => Ok(Taken::NoState),
+            Taken::Failed => Err(Kind::Failed),
         }
     }
 }
@@ -139,7 +148,7 @@ impl StateReader {
     }
 
     /// Takes in the bytes that come next. A fault that stands whatever follows is told by `finish`;
-    /// from then on nothing is kept, and pieces are dropped.
+    /// from then on nothing is kept, and pieces are dropped. The head takes no memory.
     ///
     /// # Errors
     ///
@@ -147,13 +156,16 @@ impl StateReader {
     pub fn feed(&mut self, piece: &[u8]) -> Result<(), Kind>
         ensures ok { OnOk result (IsTakenIn self.old piece.now self.new) }
         ensures err { IfErr result (λ kind. IsNotTakenIn self.old kind self.new) }
+        ensures head { (bytes : List ℕ) → self.old ≡ so_far bytes
+            → length bytes + length piece.now ≤ 13 → IsOk result }
     {
         let taken = mem::replace(&mut self.taken, Taken::Failed);
         self.taken = taken.more(self.alloc, piece)?;
         Ok(())
     }
 
-    /// The valid table whose state bytes were taken in, in whichever version.
+    /// The valid table whose state bytes were taken in, in whichever version. The state without rows
+    /// takes no memory.
     ///
     /// # Errors
     ///
@@ -162,11 +174,16 @@ impl StateReader {
         ensures valid { IfOk result IsValidTable }
         ensures bytes { IfOk result (IsReadTable self) }
         ensures refused { IfErr result (IsUnread self) }
+        ensures opening { (version : Versions) → self ≡ so_far (table_bytes_in version empty)
+            → IsOk result }
     {
         let StateReader { alloc, taken } = self;
         match taken {
             Taken::Head(head, len) => decode(alloc, &head[..len]),
             Taken::Rows(rows) => {
+                if rows.is_none() {
+                    return Ok(Table::new(alloc));
+                }
                 let table = rows.finish()?;
                 if !table.is_valid() {
                     return Err(Kind::NotState);

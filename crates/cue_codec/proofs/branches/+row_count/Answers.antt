@@ -1,5 +1,5 @@
-use Rattle.std.proofs.Common.{◌*◌, ◌-◌, ◌^◌, length, min, sym, ap, ◌∙◌, arith}
-use Rattle.cue_table.specs.Spans.{spread}
+use Rattle.std.specs.Prelude.{IfErr}
+use Rattle.std.proofs.Common.{◌≡◌, ◌≤◌, ◌*◌, ◌^◌, Result, Ok, Err, length, ap, ◌∙◌, arith}
 use Rattle.cue_table.specs.StepsOfCode.{span_of}
 use Rattle.cue_table.specs.Tree.{rest_of}
 use Rattle.cue_table.proofs.Listing.{below_size}
@@ -7,9 +7,13 @@ use Rattle.cue_table.proofs.Spanned.{left_size}
 use Rattle.cue_codec.specs.Entry.{entries_of, entries_onward}
 use Rattle.cue_codec.specs.Inner.Spans.{branch_count}
 use Rattle.cue_codec.specs.Version.{written}
-use Rattle.cue_codec.proofs.Entries.{entries_end, entries_no_rest}
-use Rattle.cue_codec.proofs.WrittenRows.{count_more, count_rest, no_branch, times_most}
+use Rattle.cue_codec.proofs.WrittenRows.{count_more, rows_least}
 use Rattle.cue_codec.proofs.branches.+row_count.Goals as goal
+
+-- what is so is so where there is an error
+if_so : {X E : Type 0} (r : Result X E) (P : Type 0) → P → IfErr r (λ e. P)
+if_so (Ok x) P h = tt
+if_so (Err e) P h = h
 
 pub row_count-requires : goal.row_count-requires
 row_count-requires t c =
@@ -22,20 +26,29 @@ loop-span-preserved t c =
     let span = span_of c.in-Some-2.span in
     let size = left_size span c.in-Some-2.below c.loop-span.span-iterator c.next.new.self c.in-Some-2.ensures.steps in
     let more = count_more span c.in-Some-2.below c.loop-span.span-iterator c.next.new.self (entries_onward written (rest_of c.args.branch.now)) c.in-Some-2.ensures.steps in
-    let rows = c.saturating_mul-rows.ensures
-    ∙ ap (λ n. min (n * c.row_count.result) (2 ^ 64 - 1)) c.branch_count.ensures
-    ∙ ap (λ n. min (branch_count span * n) (2 ^ 64 - 1)) c.row_count.ensures
-    ∙ times_most (branch_count span) (length (entries_of written c.in-Some-2.below)) (2 ^ 64 - 1) in
-    record { counted = omega (arith, more, rows, c.loop-span.invariant.counted); fits = omega arith; smaller = omega arith }
+    let rows : c.in_ok-rows.rows ≡ branch_count span * length (entries_of written c.in-Some-2.below) = c.in_ok-rows.ensures.count ∙ ap (λ n. n * c.in_ok-each.each) c.branch_count.ensures ∙ ap (λ n. branch_count span * n) c.in_ok-each.ensures.count in
+    record { counted = omega (arith, more, rows, c.in_ok-count.ensures.count, c.loop-span.invariant.counted); smaller = omega arith }
 
-pub returns-in-None-rest : goal.returns-in-None-rest
-returns-in-None-rest t c =
-    let end = ap length (entries_end written (spread c.loop-span.span-iterator) (entries_onward written (rest_of c.args.branch.now)) (no_branch c.loop-span.span-iterator c.in-None-2.ensures.steps.0)) in
-    let none = ap length (entries_no_rest written c.args.branch.now (sym c.in-None-rest.ensures.rest)) in
-    omega (arith, end, none, c.loop-span.invariant.counted, c.loop-span.invariant.fits)
+pub returns-in_err-each-clause-beyond : goal.returns-in_err-each-clause-beyond
+returns-in_err-each-clause-beyond t c =
+    let span = span_of c.in-Some-2.span in
+    let more = count_more span c.in-Some-2.below c.loop-span.span-iterator c.next.new.self (entries_onward written (rest_of c.args.branch.now)) c.in-Some-2.ensures.steps in
+    let least = rows_least span (length (entries_of written c.in-Some-2.below)) in
+    let many : 2 ^ 64 ≤ length (entries_of written c.args.branch.now) = omega (arith, more, least, c.in_err-each.ensures.beyond, c.loop-span.invariant.counted) in
+    if_so _ (2 ^ 64 ≤ length (entries_of written c.args.branch.now)) many
 
-pub returns-in-Some-rest : goal.returns-in-Some-rest
-returns-in-Some-rest t c =
-    let end = ap length (entries_end written (spread c.loop-span.span-iterator) (entries_onward written (rest_of c.args.branch.now)) (no_branch c.loop-span.span-iterator c.in-None-2.ensures.steps.0)) in
-    let more = count_rest c.args.branch.now c.in-Some-rest.rest (sym c.in-Some-rest.ensures.rest) in
-    omega (arith, end, more, c.loop-span.invariant.counted, c.loop-span.invariant.fits, c.row_count-in-Some-rest.ensures, c.saturating_add.ensures)
+pub returns-in_err-rows-clause-beyond : goal.returns-in_err-rows-clause-beyond
+returns-in_err-rows-clause-beyond t c =
+    let span = span_of c.in-Some-2.span in
+    let more = count_more span c.in-Some-2.below c.loop-span.span-iterator c.next.new.self (entries_onward written (rest_of c.args.branch.now)) c.in-Some-2.ensures.steps in
+    let rows = ap (λ n. n * c.in_ok-each.each) c.branch_count.ensures ∙ ap (λ n. branch_count span * n) c.in_ok-each.ensures.count in
+    let many : 2 ^ 64 ≤ length (entries_of written c.args.branch.now) = omega (arith, more, rows, c.in_err-rows.ensures.beyond, c.loop-span.invariant.counted) in
+    if_so _ (2 ^ 64 ≤ length (entries_of written c.args.branch.now)) many
+
+pub returns-in_err-count-clause-beyond : goal.returns-in_err-count-clause-beyond
+returns-in_err-count-clause-beyond t c =
+    let span = span_of c.in-Some-2.span in
+    let more = count_more span c.in-Some-2.below c.loop-span.span-iterator c.next.new.self (entries_onward written (rest_of c.args.branch.now)) c.in-Some-2.ensures.steps in
+    let rows : c.in_ok-rows.rows ≡ branch_count span * length (entries_of written c.in-Some-2.below) = c.in_ok-rows.ensures.count ∙ ap (λ n. n * c.in_ok-each.each) c.branch_count.ensures ∙ ap (λ n. branch_count span * n) c.in_ok-each.ensures.count in
+    let many : 2 ^ 64 ≤ length (entries_of written c.args.branch.now) = omega (arith, more, rows, c.in_err-count.ensures.beyond, c.loop-span.invariant.counted) in
+    if_so _ (2 ^ 64 ≤ length (entries_of written c.args.branch.now)) many

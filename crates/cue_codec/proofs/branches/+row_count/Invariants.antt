@@ -1,4 +1,4 @@
-use Rattle.std.proofs.Common.{◌≡◌, ◌+◌, ◌-◌, ◌^◌, ◌≤◌, ◌++◌, length, min}
+use Rattle.std.proofs.Common.{◌≡◌, ◌+◌, ◌≤◌, ◌++◌, length}
 use Rattle.cue_table.specs.Spans.{spread}
 use Rattle.cue_table.specs.Tree.{below, rest_of}
 use Rattle.cue_table.specs.Size.{tree_size, children_size}
@@ -12,7 +12,6 @@ decreases-row_count l = tree_size l.branch.now
 -- what was counted and what is left are all
 abbrev pub invariant-loop-span : goal.invariant-loop-span
 invariant-loop-span l = record {
-  counted : min (l.count + length (entries_below written (spread l.span-iterator) ++ entries_onward written (rest_of l.branch))) (2 ^ 64 - 1) ≡ min (length (entries_of written l.branch)) (2 ^ 64 - 1);
-  fits : l.count ≤ 2 ^ 64 - 1;
+  counted : l.count + length (entries_below written (spread l.span-iterator) ++ entries_onward written (rest_of l.branch)) ≡ length (entries_of written l.branch);
   smaller : children_size (spread l.span-iterator) ≤ children_size (below l.branch);
 }

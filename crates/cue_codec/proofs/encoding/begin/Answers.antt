@@ -1,4 +1,4 @@
-use Rattle.std.proofs.Common.{◌≡◌, not, ◌^◌, ◌-◌, ◌<◌, min, ◌∷◌, [], ◌++◌, sym, ap, ◌∙◌, length, arith}
+use Rattle.std.proofs.Common.{◌≡◌, not, ◌∷◌, [], ◌++◌, sym, ap, ◌∙◌, length}
 use Rattle.std.specs.Int.{w64, to_be_bytes}
 use Rattle.std.specs.List.{flat_map}
 use Rattle.std.proofs.lemmas.Bool.{false≢true}
@@ -12,15 +12,14 @@ use Rattle.cue_codec.proofs.encoding.begin.Goals as goal
 pub returns-then-is_none-clause-bytes : goal.returns-then-is_none-clause-bytes
 returns-then-is_none-clause-bytes c =
     let tree = c.args.table.now in
-    let count = c.row_count-count.result in
+    let count = c.in_ok-count.count in
     let head = mark ++ (2 ∷ to_be_bytes w64 count) in
-    let counted : count ≡ min (length (entries_of written tree)) (2 ^ 64 - 1) = c.row_count-count.ensures ∙ ap (λ t. min (length (entries_of written t)) (2 ^ 64 - 1)) c.root-root.ensures.branch in
-    let few : count < 2 ^ 64 - 1 = omega (arith, counted, c.if-count.false) in
+    let counted : count ≡ length (entries_of written tree) = c.in_ok-count.ensures.count ∙ ap (λ t. length (entries_of written t)) c.root-root.ensures.branch in
     let none = empty_root (λ row. row.now) c.row.result tree c.root-root.result c.root-root.ensures.branch c.row.ensures.row (λ some. false≢true (sym (c.is_none.ensures ∙ ap not c.if-is_none.true) ∙ some)) c.requires in
     (λ i. c.in_ok-put_head.ensures i ++ c.new.ensures.bytes i)
     ∙ ap (λ t. (t ++ head) ++ []) c.new-out.ensures.items
     ∙ ap (λ rows. head ++ flat_map (row_bytes_from written 0 []) rows) (sym none)
-    ∙ state_begun tree count counted few
+    ∙ state_begun tree count counted
 
 pub begin-requires-clause-sound : goal.begin-requires-clause-sound
 begin-requires-clause-sound c = sound_root (λ row. row.now) c.row.result c.args.table.now c.root-root.result c.root-root.ensures.branch c.row.ensures.row (c.is_none.ensures ∙ ap not c.if-is_none.false) c.requires
@@ -28,11 +27,10 @@ begin-requires-clause-sound c = sound_root (λ row. row.now) c.row.result c.args
 pub returns-clause-bytes : goal.returns-clause-bytes
 returns-clause-bytes c =
     let tree = c.args.table.now in
-    let count = c.row_count-count.result in
+    let count = c.in_ok-count.count in
     let head = mark ++ (2 ∷ to_be_bytes w64 count) in
-    let counted : count ≡ min (length (entries_of written tree)) (2 ^ 64 - 1) = c.row_count-count.ensures ∙ ap (λ t. min (length (entries_of written t)) (2 ^ 64 - 1)) c.root-root.ensures.branch in
-    let few : count < 2 ^ 64 - 1 = omega (arith, counted, c.if-count.false) in
+    let counted : count ≡ length (entries_of written tree) = c.in_ok-count.ensures.count ∙ ap (λ t. length (entries_of written t)) c.root-root.ensures.branch in
     c.in_ok-walk.ensures.bytes
     ∙ (λ i. c.in_ok-put_head.ensures i ++ flat_map (row_bytes_from written 0 []) (entries_of written (c.root-root.ensures.branch i)))
     ∙ ap (λ t. (t ++ head) ++ flat_map (row_bytes_from written 0 []) (entries_of written tree)) c.new-out.ensures.items
-    ∙ state_begun tree count counted few
+    ∙ state_begun tree count counted

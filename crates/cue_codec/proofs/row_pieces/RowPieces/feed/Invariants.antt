@@ -1,4 +1,4 @@
-use Rattle.std.proofs.Common.{◌≡◌, ◌++◌, length}
+use Rattle.std.proofs.Common.{◌≡◌, ◌≤◌, ◌++◌, length}
 use Rattle.cue_codec.proofs.row_pieces.RowPieces.feed.Given as goal
 
 -- the bytes that were taken in and those that are left are all
@@ -7,6 +7,7 @@ invariant-loop-rest l = record {
   version : l.pieces.version ≡ l.fn.self.version;
   count : l.pieces.count ≡ l.fn.self.count;
   bytes : l.pieces.bytes ++ l.rest ≡ l.fn.self.bytes ++ l.fn.piece;
+  fewer : length l.rest ≤ length l.fn.piece;
 }
 
 abbrev pub decreases-loop-rest : goal.decreases-loop-rest

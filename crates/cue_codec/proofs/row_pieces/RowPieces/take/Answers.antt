@@ -5,8 +5,8 @@ use Rattle.cue_codec.specs.Inner.Pieces.{IsFront, IsTaken}
 use Rattle.cue_codec.proofs.RowPieces.{with_bytes, pieces_front, front_taken, front_refused}
 use Rattle.cue_codec.proofs.row_pieces.RowPieces.take.Goals as goal
 
-pub returns-in_default-2 : goal.returns-in_default-2
-returns-in_default-2 c =
+pub returns-in_default-2-clause-taken : goal.returns-in_default-2-clause-taken
+returns-in_default-2-clause-taken c =
     let i = c.self.inside in
     let items = i.unfinished.items in
     let bytes = c.args.bytes.now in
@@ -24,8 +24,8 @@ invariant_of-self-2 c =
     let front : IsFront i.rows bytes c.add_front.new.self (Some len) = subst (IsFront i.rows bytes c.add_front.new.self) c.in-Some-2.is c.in_ok-len.ensures.ok in
     pieces_front i.rows c.add_front.new.self items bytes len none i.scan i.taken _ c.self.invariant front (omega arith)
 
-pub returns : goal.returns
-returns c =
+pub returns-clause-taken : goal.returns-clause-taken
+returns-clause-taken c =
     let i = c.self.inside in
     let items = i.unfinished.items in
     let bytes = c.args.bytes.now in

@@ -1,12 +1,19 @@
-use Rattle.std.proofs.Common.{refl, sym, ap, subst, ◌∙◌}
+use Rattle.std.proofs.Common.{◌≡◌, List, ℕ, refl, sym, ap, subst, ◌∙◌}
 use Rattle.std.proofs.lemmas.Bool.{false≢true}
 use Rattle.std.proofs.lemmas.Result.{err_from_is_err_and}
 use Rattle.cue_lattice.specs.declared.refusal.Kind.TheVariants as kinds
 use Rattle.cue_codec.specs.Inner.Intakes.{with_head, intake_of, IsSound}
-use Rattle.cue_codec.specs.Pieces.{Intake, IsReadTable, IsUnread}
+use Rattle.cue_codec.specs.Pieces.{Intake, so_far, IsReadTable, IsUnread}
+use Rattle.cue_codec.specs.State.{table_bytes_in, IsTableBytes}
+use Rattle.cue_table.specs.Tree.{empty}
+use Rattle.cue_table.specs.Valid.{IsValidTable}
+use Rattle.cue_table.proofs.ValidWalks.{empty_valid}
 use Rattle.cue_codec.proofs.Fed.{head_fits}
-use Rattle.cue_codec.proofs.ReadStates.{undecoded_rows, undecoded_table, decoded_bytes}
+use Rattle.cue_codec.proofs.ReadStates.{undecoded_rows, undecoded_table, decoded_bytes, opening_bytes, opening_rows}
 use Rattle.cue_codec.proofs.state_reader.StateReader.finish.Goals as goal
+
+taken_bytes : (a b : List ℕ) → so_far a ≡ so_far b → a ≡ b
+taken_bytes a b e = cc
 
 pub returns-in_err-table-in-Rows-clause-refused : goal.returns-in_err-table-in-Rows-clause-refused
 returns-in_err-table-in-Rows-clause-refused c =
@@ -33,3 +40,30 @@ returns-else-not-is_valid-clause-bytes c =
     let is = ap intake_of (sym c.in-Rows.is) ∙ c.self.view_is in
     subst (λ (v : Intake). IsReadTable v c.in_ok-table-in-Rows.table) is
     (decoded_bytes r.version (with_head r.version r.count r.bytes) r.bytes r.count c.in_ok-table-in-Rows.table refl c.in_ok-table-in-Rows.ensures.ok)
+
+-- ---- the state without rows
+pub returns-then-is_none-clause-valid : goal.returns-then-is_none-clause-valid
+returns-then-is_none-clause-valid c = subst IsValidTable (sym c.new.ensures) empty_valid
+
+pub returns-then-is_none-clause-bytes : goal.returns-then-is_none-clause-bytes
+returns-then-is_none-clause-bytes c =
+    let r = c.in-Rows.rows in
+    let is = ap intake_of (sym c.in-Rows.is) ∙ c.self.view_is in
+    subst (λ (v : Intake). IsReadTable v c.new.result) is
+    (subst (IsTableBytes (with_head r.version r.count r.bytes)) (sym c.new.ensures) (opening_bytes r.version (with_head r.version r.count r.bytes) r.bytes r.count refl (c.is_none.ensures.0 c.if-is_none.true)))
+
+pub returns-in_err-table-in-Rows-clause-opening : goal.returns-in_err-table-in-Rows-clause-opening
+returns-in_err-table-in-Rows-clause-opening c = λ version own.
+    let r = c.in-Rows.rows in
+    let is = ap intake_of (sym c.in-Rows.is) ∙ c.self.view_is in
+    let small = subst IsSound c.in-Rows.is c.self.invariant in
+    let bytes = taken_bytes (with_head r.version r.count r.bytes) (table_bytes_in version empty) (is ∙ own) in
+    absurd (false≢true (sym c.if-is_none.false ∙ c.is_none.ensures.1 (opening_rows r.version version (with_head r.version r.count r.bytes) r.bytes r.count refl small bytes)))
+
+pub returns-then-not-is_valid-clause-opening : goal.returns-then-not-is_valid-clause-opening
+returns-then-not-is_valid-clause-opening c = λ version own.
+    let r = c.in-Rows.rows in
+    let is = ap intake_of (sym c.in-Rows.is) ∙ c.self.view_is in
+    let small = subst IsSound c.in-Rows.is c.self.invariant in
+    let bytes = taken_bytes (with_head r.version r.count r.bytes) (table_bytes_in version empty) (is ∙ own) in
+    absurd (false≢true (sym c.if-is_none.false ∙ c.is_none.ensures.1 (opening_rows r.version version (with_head r.version r.count r.bytes) r.bytes r.count refl small bytes)))
