@@ -1,5 +1,5 @@
 -- The indexes at which other elements begin.
-use Rattle.std.proofs.Common.{◌≡◌, ◌↔◌, ◌⊎◌, inl, inr, ⊎_elim, ℕ, zero, suc, ◌+◌, ◌≤◌, ◌<◌, true, false, List, [], ◌∷◌, All, Option, Some, None, refl, sym, ap, subst, ◌∙◌, arith}
+use Rattle.std.proofs.Common.{◌≡◌, ◌↔◌, ◌⊎◌, inl, inr, ⊎_elim, ℕ, zero, suc, ◌+◌, ◌≤◌, ◌<◌, ◌^◌, true, false, List, [], ◌∷◌, All, Option, Some, None, refl, sym, ap, subst, ◌∙◌, arith}
 use Rattle.std.specs.List.{Contains}
 use Rattle.std.specs.List.Sorted.{IsPermutation}
 use Rattle.std.specs.BinaryHeap.{IsUpperBound}
@@ -15,12 +15,14 @@ use Rattle.cue_row.specs.Row.{Refuses}
 use Rattle.cue_row.specs.declared.question.Question as program
 use Rattle.cue_row.specs.declared.parts.RowParts.{RowParts as Row}
 use Rattle.cue_row.specs.declared.step.Step.{Step}
+use Rattle.cue_table.specs.Form.{IsTree, AreWithin}
 use Rattle.cue_table.specs.Refuses.{TableRefuses}
 use Rattle.cue_table.specs.Spans.{Span, field, elements, alike, spanned, spread}
-use Rattle.cue_table.specs.Tree.{Tree, node, Children, none, child, no_rest, onward, below, find, find_with, step_into, fixed_of, empty}
+use Rattle.cue_table.specs.Tree.{Tree, node, Children, none, child, no_rest, onward, below, behind_last, find, find_with, step_into, fixed_of, empty}
 use Rattle.cue_table.proofs.Branches.{find_before, find_rest, find_fixed}
+use Rattle.cue_table.proofs.Exact.{within_last}
 use Rattle.cue_table.proofs.Joined.{alike_find, alike_past, less_number}
-use Rattle.cue_eval.specs.Adding.{AddsAt, row_below, IsReached, Gathers, IsGathered, AreFields, NoneBetween, AreBounds, AreBoundsOf, AreBoundsBelow, AreKept, HasBoundsOf}
+use Rattle.cue_eval.specs.Adding.{AddsAt, row_below, IsReached, Gathers, IsGathered, AreFields, NoneBetween, AreBounds, AreBoundsOf, AreBoundsBelow, AreFew, AreKept, HasBoundsOf, IsSpanWithin}
 use Rattle.cue_eval.specs.declared.additions.Additions.{Additions}
 use Rattle.cue_eval.specs.declared.left_out.Place.{Place}
 use Rattle.cue_eval.proofs.AddedBelow.{Below, empty_refuses}
@@ -41,6 +43,35 @@ pushed_kept bound old new moved n there = Contains-permutation (bound ∷ old) n
 
 pub pushed_there : (bound : ℕ) (old new : List ℕ) → IsPermutation (bound ∷ old) new → Contains new bound
 pushed_there bound old new moved = Contains-permutation (bound ∷ old) new bound moved (0, omega arith, refl)
+
+-- ---- numbers that are at most 2 ^ 32
+pub pushed_few : (bound : ℕ) (old new : List ℕ) → bound ≤ 2 ^ 32 → AreFew old → IsPermutation (bound ∷ old) new → AreFew new
+pushed_few bound old new few all moved = All-permutation (λ b. b ≤ 2 ^ 32) (bound ∷ old) new moved (All-cons (λ b. b ≤ 2 ^ 32) bound old few all)
+
+pub popped_few : (bound : ℕ) (old left : List ℕ) → AreFew old → IsPermutation old (bound ∷ left) → (bound ≤ 2 ^ 32) × AreFew left
+popped_few bound old left all moved =
+    let both = All-permutation (λ b. b ≤ 2 ^ 32) old (bound ∷ left) moved all in
+    (All-contains (λ b. b ≤ 2 ^ 32) (bound ∷ left) bound both (0, omega arith, refl), all_kept (λ b. b ≤ 2 ^ 32) left (bound ∷ left) (λ n there. Contains-append_right (bound ∷ []) left n there) both)
+
+-- ---- where the elements of a tree stand
+module _ {R : Type 0} where
+  alike_ends : (n i m : ℕ) (tree : Tree R) (others : Children R) → AreWithin n (alike i m tree others) → (i + m < n) × AreWithin n others
+  alike_ends n i zero tree others h = (omega (arith, h.0), h.1)
+  alike_ends n i (suc m) tree others h = let more = alike_ends n (suc i) m tree others h.1 in (omega (arith, more.0), more.1)
+
+  -- a span and what is behind it stand where both do
+  pub span_within : (n : ℕ) (span : Span) (tree : Tree R) (left : Children R) → AreWithin n (spanned span tree left) → IsSpanWithin n span × AreWithin n left
+  span_within n (field text) tree left h = (tt, h)
+  span_within n (elements i more) tree left h = alike_ends n i more tree left h
+
+  -- the elements of a tree in form stand before those that are all alike
+  pub own_within : (P : R → Type 0) (tree : Tree R) → IsTree P tree → AreWithin (fixed_of tree) (below tree)
+  own_within P (node row children no_rest) h = within_last (behind_last children) children (omega arith)
+  own_within P (node row children (onward n tree)) h = h.2.0
+
+pub span_before : (n m : ℕ) (span : Span) → n ≤ m → IsSpanWithin n span → IsSpanWithin m span
+span_before n m (field text) le h = tt
+span_before n m (elements i more) le h = omega (arith, le, h)
 
 -- ---- elements that stand next to one another
 module _ {R : Type 0} where

@@ -1,5 +1,5 @@
 -- What closing adds, place by place.
-use Rattle.std.specs.Prelude.{◌≡◌, ◌↔◌, ◌⊎◌, ◌+◌, ◌≤◌, ◌<◌, true, List, [], ◌∷◌, ℕ, Option, Some, None, All}
+use Rattle.std.specs.Prelude.{◌≡◌, ◌↔◌, ◌⊎◌, ◌+◌, ◌≤◌, ◌<◌, ◌^◌, true, List, [], ◌∷◌, ℕ, Option, Some, None, All}
 use Rattle.std.specs.List.{Contains}
 use Rattle.std.specs.Option.{option_and_then}
 use Rattle.cue_lattice.specs.Limits.{step_limit}
@@ -148,6 +148,15 @@ AreBoundsBelow branch bounds =
     (i j : ℕ) → i ≤ j → NoneBetween i j bounds
     → step_below branch (index i) ≡ step_below branch (index j)
 
+-- the bounds are indexes of 32 bits, or the one behind the last of these
+abbrev pub AreFew : List ℕ → Type 0
+AreFew = All (λ bound. bound ≤ 2 ^ 32)
+
+-- the elements of a span stand below an index
+abbrev pub IsSpanWithin : ℕ → Span → Type 0
+IsSpanWithin n (field text) = Unit
+IsSpanWithin n (elements i more) = i + more < n
+
 -- the bounds have the first index of a span, and that behind its last one
 abbrev pub HasBoundsOf : Span → List ℕ → Type 0
 HasBoundsOf (field text) bounds = Unit
@@ -179,11 +188,13 @@ pub record IsGathered (place : Place) (additions : Additions) : Type 0 where
   pub others : (i : ℕ) (path : Path) (question : program.Question) → i < additions.from
       → ¬ Gathers additions (index i) path question
 
--- the tables can be hung in one step below another
+-- the tables can be hung in: one step below another, and from an index on that is at most the one
+-- behind the last of 32 bits
 abbrev pub AreShallow : Additions → Type 0
 AreShallow additions =
     (tree_depth additions.each < step_limit)
     × All (λ one. tree_depth one.1 < step_limit) additions.single.items
+    × (additions.from ≤ 2 ^ 32)
 
 -- an element from an index on and before another
 abbrev pub IsWithin : ℕ → ℕ → paths.Step → Type 0

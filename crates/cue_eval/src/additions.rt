@@ -1,5 +1,5 @@
 //! What closing adds below a place, gathered step by step.
-ghost use Rattle.std.specs.Prelude.{◌≡◌, ◌↔◌, ◌≤◌, ◌<◌, ◌∷◌, ℕ, All, IfOk, IsTrue, OnOk};
+ghost use Rattle.std.specs.Prelude.{◌≡◌, ◌↔◌, ◌≤◌, ◌<◌, ◌^◌, ◌∷◌, ℕ, All, IfOk, IsTrue, OnOk};
 ghost use Rattle.cue_lattice.specs.Limits.{step_limit};
 ghost use Rattle.cue_lattice.specs.Path as paths;
 ghost use Rattle.cue_lattice.specs.Path.{index};
@@ -25,8 +25,8 @@ use std::mem;
 /// from an index on.
 #[derive(Drop)]
 pub(crate) struct Additions {
-    /// The first element that is gathered.
-    from: u32,
+    /// The first element that is gathered: at most 2^32, behind the last index.
+    from: u64,
     /// What is added in each element from there on.
     each: Table<Row>,
     /// What is added beside it, in all elements from later indexes on.
@@ -40,9 +40,10 @@ impl Additions {
     pub(crate) fn new(
         alloc: Global,
         fields: Vec<(Step, Table<Row>)>,
-        from: u32,
+        from: u64,
         each: Table<Row>,
     ) -> Additions
+        requires few { from ≤ 2 ^ 32 }
         requires fields { All (λ one. tree_depth one.1 < step_limit) fields.items }
         requires each { tree_depth each < step_limit }
         ensures shallow { AreShallow result }
@@ -60,7 +61,7 @@ impl Additions {
     }
 
     /// The first element that is gathered.
-    pub(crate) fn from(&self) -> u32
+    pub(crate) fn from(&self) -> u64
         ensures { result ≡ self.now.from }
     {
         self.from
@@ -71,7 +72,7 @@ impl Additions {
     pub(crate) fn extend(
         &mut self,
         alloc: Global,
-        first: u32,
+        first: u64,
         sets: Table<Row>,
     ) -> Result<(), Memory>
         requires first { first < self.old.from }
@@ -116,7 +117,7 @@ impl Additions {
     }
 
     /// Keeps a table with each element from an index on that is before those gathered.
-    fn push_single(&mut self, alloc: Global, first: u32, sets: Table<Row>) -> Result<(), Memory>
+    fn push_single(&mut self, alloc: Global, first: u64, sets: Table<Row>) -> Result<(), Memory>
         requires first { first < self.old.from }
         requires sets { tree_depth sets < step_limit }
         requires shallow { AreShallow self.old }
@@ -128,9 +129,10 @@ impl Additions {
     {
         let end = self.from;
         for index in first + 1..end {
-            self.single.push((Step::Index(index), sets.copy(alloc)?))?;
+            self.single
+                .push((Step::Index(index as u32), sets.copy(alloc)?))?;
         }
-        self.single.push((Step::Index(first), sets))?;
+        self.single.push((Step::Index(first as u32), sets))?;
         Ok(())
     }
 

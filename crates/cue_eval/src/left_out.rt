@@ -1,6 +1,6 @@
 //! What closing the body of a definition adds, place by place.
-ghost use Rattle.std.specs.Prelude.{◌≡◌, ◌↔◌, ◌≤◌, ◌<◌, ◌⊎◌, [], ◌∷◌, ℕ, List, None, IsTrue};
-ghost use Rattle.std.specs.Prelude.{IfOk, IfNone, IfSome, OnOk};
+ghost use Rattle.std.specs.Prelude.{◌≡◌, ◌↔◌, ◌≤◌, ◌<◌, ◌^◌, ◌⊎◌, [], ◌∷◌, ℕ, List};
+ghost use Rattle.std.specs.Prelude.{None, IsTrue, IfOk, IfNone, IfSome, OnOk};
 ghost use Rattle.std.specs.Prelude.{true, false};
 ghost use Rattle.std.specs.BinaryHeap.{IsHeap, heap_items};
 ghost use Rattle.std.specs.List.{Contains};
@@ -22,9 +22,8 @@ ghost use Rattle.cue_table.specs.StepsOfCode.{span_of};
 ghost use Rattle.cue_table.specs.Tree.{step_into};
 ghost use Rattle.cue_eval.specs.Adding.{OnlyLabels, AllowsAll, AddsAt, AddsHere, IsStepInto};
 ghost use Rattle.cue_eval.specs.Adding.{IsAddedBy, IsAllBelow, AreOwnLabels, AreAddedAt, AreFields};
-ghost use Rattle.cue_eval.specs.Adding.{AreBounds, AreBoundsBelow, AreBoundsOf, AreKept};
-ghost use Rattle.cue_eval.specs.Adding.{HasBoundsOf};
-ghost use Rattle.cue_eval.specs.Adding.{root_row};
+ghost use Rattle.cue_eval.specs.Adding.{AreBounds, AreBoundsBelow, AreBoundsOf, AreFew, AreKept};
+ghost use Rattle.cue_eval.specs.Adding.{HasBoundsOf, IsSpanWithin, root_row, step_below};
 ghost use Rattle.cue_eval.specs.Telling.{Tells};
 ghost use Rattle.cue_eval.specs.declared.declared.Asked.TheVariants.{Stands};
 
@@ -111,14 +110,14 @@ impl<'a> Place<'a> {
 
     /// Those of the element with an index.
     #[cycle(sets)]
-    fn element(&self, alloc: Global, number: u32) -> Result<Table<Row>, Memory>
+    fn element(&self, alloc: Global, number: u64) -> Result<Table<Row>, Memory>
         requires { tree_depth self.now.own ≤ step_limit }
         ensures depth { IfOk result (λ sets. tree_depth sets < step_limit) }
         ensures added { IfOk result (λ sets. (path : paths.Path) (question : Questions) →
             TableRefuses Refuses sets path question
             ↔ AddsAt self.now (index number ∷ path) (question_of question)) }
     {
-        match self.below(&Step::Index(number)) {
+        match self.item(number) {
             None => Ok(Table::new(alloc)),
             Some(place) => {
                 let sets = place.label_sets(alloc)?;
@@ -172,9 +171,10 @@ impl<'a> Place<'a> {
 
     /// The indexes at which other elements begin, with 0: between two of them closing adds the same
     /// in all elements, and so it does from the last one on.
-    fn bounds(&self, alloc: Global) -> Result<BinaryHeap<u32>, Memory>
+    fn bounds(&self, alloc: Global) -> Result<BinaryHeap<u64>, Memory>
         ensures heap { IfOk result (λ bounds. IsHeap nat_cmp (heap_items bounds)) }
         ensures first { IfOk result (λ bounds. Contains (heap_items bounds) 0) }
+        ensures few { IfOk result (λ bounds. AreFew (heap_items bounds)) }
         ensures alike { IfOk result (λ bounds. AreBounds self.now (heap_items bounds)) }
     {
         let mut bounds = BinaryHeap::new(alloc);
@@ -197,6 +197,18 @@ impl<'a> Place<'a> {
             own: self.own.find(step)?,
             dots: find(&self.dots, step),
             rows: find(&self.rows, step),
+        })
+    }
+
+    /// The place of an element, where the body's own struct literals stand there or below.
+    fn item(&self, number: u64) -> Option<Place<'a>>
+        ensures some { IfSome result (IsStepInto self.now (index number)) }
+        ensures none { IfNone result (step_into self.now.own (index number) ≡ None) }
+    {
+        Some(Place {
+            own: item(&self.own, number)?,
+            dots: find_item(&self.dots, number),
+            rows: find_item(&self.rows, number),
         })
     }
 
@@ -225,6 +237,25 @@ fn find<'a, R: Narrow>(branch: &Option<Branch<'a, R>>, step: &Step) -> Option<Br
     branch.as_ref()?.find(step)
 }
 
+/// The branch of an element, where there is one.
+fn find_item<'a, R: Narrow>(branch: &Option<Branch<'a, R>>, number: u64) -> Option<Branch<'a, R>>
+    ensures { result ≡ step_below branch.now (index number) }
+{
+    item(branch.as_ref()?, number)
+}
+
+/// The branch of an element: from an index on that of the rest, and before it one of its own.
+#[tactic(auto, using(crate::proofs::LabelTables::alike_into))]
+fn item<'a, R: Narrow>(branch: &Branch<'a, R>, number: u64) -> Option<Branch<'a, R>>
+    ensures { result ≡ step_into branch.now (index number) }
+{
+    if number < branch.fixed() {
+        branch.find(&Step::Index(number as u32))
+    } else {
+        branch.rest()
+    }
+}
+
 /// Whether no element stands at a place.
 fn has_no_elements<R: Narrow>(branch: &Branch<R>) -> bool
     ensures { IsTrue result → (i : ℕ) → step_into branch.now (index i) ≡ None }
@@ -234,11 +265,13 @@ fn has_no_elements<R: Narrow>(branch: &Branch<R>) -> bool
 
 /// Puts in the indexes at which other elements of a branch begin, where there is one.
 fn push_bounds_below<R: Narrow>(
-    bounds: &mut BinaryHeap<u32>,
+    bounds: &mut BinaryHeap<u64>,
     branch: &Option<Branch<R>>,
 ) -> Result<(), Memory>
     requires heap { IsHeap nat_cmp (heap_items bounds.old) }
+    requires few { AreFew (heap_items bounds.old) }
     ensures heap { OnOk result (IsHeap nat_cmp (heap_items bounds.new)) }
+    ensures few { OnOk result (AreFew (heap_items bounds.new)) }
     ensures kept { OnOk result (AreKept (heap_items bounds.old) (heap_items bounds.new)) }
     ensures alike { OnOk result (AreBoundsBelow branch.now (heap_items bounds.new)) }
 {
@@ -249,23 +282,29 @@ fn push_bounds_below<R: Narrow>(
 }
 
 /// Puts in the indexes at which other elements of a branch begin.
-fn push_bounds<R: Narrow>(bounds: &mut BinaryHeap<u32>, branch: &Branch<R>) -> Result<(), Memory>
+fn push_bounds<R: Narrow>(bounds: &mut BinaryHeap<u64>, branch: &Branch<R>) -> Result<(), Memory>
     requires heap { IsHeap nat_cmp (heap_items bounds.old) }
+    requires few { AreFew (heap_items bounds.old) }
     ensures heap { OnOk result (IsHeap nat_cmp (heap_items bounds.new)) }
+    ensures few { OnOk result (AreFew (heap_items bounds.new)) }
     ensures kept { OnOk result (AreKept (heap_items bounds.old) (heap_items bounds.new)) }
     ensures alike { OnOk result (AreBoundsOf branch.now (heap_items bounds.new)) }
 {
+    let fixed = branch.fixed();
     for (span, _) in branch.spans() {
         push_span(bounds, span)?;
     }
-    push_bound(bounds, branch.fixed())?;
+    push_bound(bounds, fixed)?;
     Ok(())
 }
 
 /// Puts in the first index of a span, and that behind its last one.
-fn push_span(bounds: &mut BinaryHeap<u32>, span: Span) -> Result<(), Memory>
+fn push_span(bounds: &mut BinaryHeap<u64>, span: Span) -> Result<(), Memory>
     requires heap { IsHeap nat_cmp (heap_items bounds.old) }
+    requires few { AreFew (heap_items bounds.old) }
+    requires within { IsSpanWithin (2 ^ 32) (span_of span) }
     ensures heap { OnOk result (IsHeap nat_cmp (heap_items bounds.new)) }
+    ensures few { OnOk result (AreFew (heap_items bounds.new)) }
     ensures kept { OnOk result (AreKept (heap_items bounds.old) (heap_items bounds.new)) }
     ensures there { OnOk result (HasBoundsOf (span_of span.entry) (heap_items bounds.new)) }
 {
@@ -279,18 +318,17 @@ fn push_span(bounds: &mut BinaryHeap<u32>, span: Span) -> Result<(), Memory>
     }
 }
 
-/// Puts in an index.
-fn push_bound(bounds: &mut BinaryHeap<u32>, index: u64) -> Result<(), Memory>
+/// Puts in an index, or the one behind the last.
+fn push_bound(bounds: &mut BinaryHeap<u64>, index: u64) -> Result<(), Memory>
     requires heap { IsHeap nat_cmp (heap_items bounds.old) }
+    requires few { AreFew (heap_items bounds.old) }
+    requires index { index ≤ 2 ^ 32 }
     ensures heap { OnOk result (IsHeap nat_cmp (heap_items bounds.new)) }
+    ensures few { OnOk result (AreFew (heap_items bounds.new)) }
     ensures kept { OnOk result (AreKept (heap_items bounds.old) (heap_items bounds.new)) }
     ensures there { OnOk result (Contains (heap_items bounds.new) index) }
 {
-    let Ok(bound) = u32::try_from(index) else {
-        // No list of a text is so long.
-        return Err(Memory);
-    };
-    bounds.push(bound)?;
+    bounds.push(index)?;
     Ok(())
 }
 

@@ -297,7 +297,7 @@ impl<'a, 'f, 't> Tables<'a, 'f, 't> {
             Rest::Each(each) => {
                 let further = self.rows(each)?;
                 let mut all = list;
-                all.meet_rest(count as u32, further)?;
+                all.meet_rest(count as u64, further)?;
                 Ok(all)
             }
         }

@@ -130,7 +130,7 @@ impl<'a, 'f, 't> Sight<'a, 'f, 't> {
             Rest::Each(each) => {
                 let further = self.expression(whose, each)?;
                 let mut all = list;
-                all.meet_rest(count as u32, further)?;
+                all.meet_rest(count as u64, further)?;
                 Ok(all)
             }
         }

@@ -97,7 +97,7 @@ push_inside-loop-i-preserved t c =
     let l = c.index-labels-i.result in
     let rest = inside (drop (i + 1) labels) fields in
     let left : drop i labels ≡ l ∷ drop (i + 1) labels = drop_more labels i l c.loop-i-test.true ∙ ap (λ x. x ∷ drop (i + 1) labels) (sym c.index-labels-i.is) in
-    let found = declared_into c.args.branch.now l rest ∙ ap (λ f. field_for l f rest) (ap (λ x. step_into c.args.branch.now (label x)) (sym c.in_ok-copy.ensures) ∙ sym c.find.ensures.branch) in
+    let found = declared_into c.args.branch.now l rest ∙ ap (λ f. field_for l f rest) (ap (λ x. step_into c.args.branch.now (label x)) (sym c.in_ok-copy.ensures.text) ∙ sym c.find.ensures.branch) in
     let before = ap (λ ls. string_bytes c.loop-i.out ++ left_text (nat_eq i 0) (inside ls fields)) (sym left) ∙ c.loop-i.invariant in
     later (λ b. string_bytes c.match-find.out ++ left_text b rest) i
     (elim c.match-find.branch [

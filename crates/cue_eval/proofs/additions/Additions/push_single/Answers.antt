@@ -15,7 +15,7 @@ loop-index-preserved c =
     let loop = c.loop-index in
     let copy = c.in_ok-copy.ensures in
     rw c.in_ok-push.ensures.items (
-      (loop.invariant.0.0, All-push (λ (one : Step × Tree Row). tree_depth one.1 < step_limit) loop.self.single.items (Index loop.index, c.in_ok-copy.field-0) loop.invariant.0.1 (rw copy c.requires.sets)),
+      (loop.invariant.0.0, All-push (λ (one : Step × Tree Row). tree_depth one.1 < step_limit) loop.self.single.items (Index loop.index, c.in_ok-copy.field-0) loop.invariant.0.1 (rw copy c.requires.sets), loop.invariant.0.2),
       omega (arith, loop.invariant.1),
       loop.invariant.2,
       loop.invariant.3,

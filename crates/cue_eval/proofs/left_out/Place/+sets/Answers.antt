@@ -8,7 +8,7 @@ use Rattle.cue_row.specs.Steps.{step_of}
 use Rattle.cue_table.specs.Refuses.{TableRefuses}
 use Rattle.std.specs.BinaryHeap.{heap_items}
 use Rattle.cue_eval.proofs.AddedBelow.{empty_refuses}
-use Rattle.cue_eval.proofs.Bounds.{underway, underway_on, underway_again, stretch}
+use Rattle.cue_eval.proofs.Bounds.{popped_few, underway, underway_on, underway_again, stretch}
 use Rattle.cue_table.specs.Walks.{found_smaller}
 use Rattle.cue_scope.proofs.Walking.{at_hand}
 use Rattle.cue_eval.proofs.LabelTables.{Adding, adds_into, adds_nowhere, all_added, into_depth, added_depth, adding_all, adding_past, adding_more}
@@ -62,12 +62,15 @@ element-returns-in-None-clause-added t c path question = (
   λ h. absurd (adds_nowhere c.args.self.now (index c.args.number) c.in-None.ensures.none path (question_of question) h),
 )
 
-pub element-returns-clause-depth : goal.element-returns-clause-depth
-element-returns-clause-depth t c =
+pub element-returns-in_ok-sets-in-Some-clause-depth : goal.element-returns-in_ok-sets-in-Some-clause-depth
+element-returns-in_ok-sets-in-Some-clause-depth t c =
     let into = c.in-Some.ensures.some in
     let flat = into_depth (index c.args.number) c.args.self.now.own c.in-Some.place.own into.own in
     let shallow = added_depth c.in-Some.place c.in_ok-sets-in-Some.sets c.in_ok-sets-in-Some.ensures.form c.in_ok-sets-in-Some.ensures.added in
     omega (arith, c.requires, flat, shallow)
+
+pub and_elements-new-gathered-requires-clause-few : goal.and_elements-new-gathered-requires-clause-few
+and_elements-new-gathered-requires-clause-few t c = (popped_few c.in-Some.last (heap_items c.in_ok-bounds.bounds) (heap_items c.pop.new.self) c.in_ok-bounds.ensures.few c.in-Some.ensures.permutation).0
 
 pub and_elements-loop-first-init : goal.and_elements-loop-first-init
 and_elements-loop-first-init t c =
@@ -78,6 +81,7 @@ and_elements-loop-first-init t c =
           (rw made.each c.in_ok-element.ensures.added) c.in_ok-bounds.ensures.alike c.in_ok-bounds.ensures.first popped.permutation (popped.below_top heap),
       (popped.heap_order heap).0,
       made.shallow,
+      (popped_few c.in-Some.last (heap_items c.in_ok-bounds.bounds) (heap_items c.pop.new.self) c.in_ok-bounds.ensures.few popped.permutation).1,
     )
 
 pub and_elements-loop-first-preserved-in_ok-extend : goal.and_elements-loop-first-preserved-in_ok-extend
@@ -94,6 +98,7 @@ and_elements-loop-first-preserved-in_ok-extend t c =
       underway_on place loop.gathered c.extend.new.self all left first loop.invariant.0 popped.permutation (omega (arith, c.if-first-from.true, c.from.ensures)) more.from (more.gathered place loop.invariant.0.gathered says),
       (popped.heap_order heap).0,
       more.shallow,
+      (popped_few first all left loop.invariant.3 popped.permutation).1,
     )
 
 pub and_elements-loop-first-preserved : goal.and_elements-loop-first-preserved
@@ -103,10 +108,11 @@ and_elements-loop-first-preserved t c =
       underway_again c.args.self.now loop.gathered (heap_items loop.bounds) (heap_items c.pop-in-loop-first.new.self) c.in-Some-pop.first loop.invariant.0 popped.permutation (omega (arith, c.if-first-from.false, c.from.ensures)),
       (popped.heap_order loop.invariant.1).0,
       loop.invariant.2,
+      (popped_few c.in-Some-pop.first (heap_items loop.bounds) (heap_items c.pop-in-loop-first.new.self) loop.invariant.3 popped.permutation).1,
     )
 
-pub element-returns-clause-added : goal.element-returns-clause-added
-element-returns-clause-added t c path question =
+pub element-returns-in_ok-sets-in-Some-clause-added : goal.element-returns-in_ok-sets-in-Some-clause-added
+element-returns-in_ok-sets-in-Some-clause-added t c path question =
     let says = c.in_ok-sets-in-Some.ensures.added path question in
     let into = adds_into c.args.self.now (index c.args.number) c.in-Some.place c.in-Some.ensures.some path (question_of question) in
     (λ h. into.0 (says.0 h), λ h. says.1 (into.1 h))

@@ -2,7 +2,7 @@ use Rattle.std.proofs.Common.{◌+◌, ◌*◌, drop}
 use Rattle.std.specs.BinaryHeap.{IsHeap, heap_items, heap_len}
 use Rattle.std.specs.Ordering.{nat_cmp}
 use Rattle.cue_table.specs.Size.{tree_size}
-use Rattle.cue_eval.specs.Adding.{AreShallow}
+use Rattle.cue_eval.specs.Adding.{AreFew, AreShallow}
 use Rattle.cue_eval.proofs.Bounds.{IsUnderway}
 use Rattle.cue_eval.proofs.LabelTables.{Adding}
 use Rattle.cue_eval.proofs.left_out.Place.+sets.Given as goal
@@ -23,7 +23,7 @@ abbrev pub invariant-fields-loop-step : goal.invariant-fields-loop-step
 invariant-fields-loop-step l = Adding l.self l.branches.items l.steps (drop l.step-index l.steps)
 
 abbrev pub invariant-and_elements-loop-first : goal.invariant-and_elements-loop-first
-invariant-and_elements-loop-first l = IsUnderway l.self l.gathered (heap_items l.bounds) × IsHeap nat_cmp (heap_items l.bounds) × AreShallow l.gathered
+invariant-and_elements-loop-first l = IsUnderway l.self l.gathered (heap_items l.bounds) × IsHeap nat_cmp (heap_items l.bounds) × AreShallow l.gathered × AreFew (heap_items l.bounds)
 
 abbrev pub decreases-and_elements-loop-first : goal.decreases-and_elements-loop-first
 decreases-and_elements-loop-first l = heap_len l.bounds

@@ -8,7 +8,7 @@ use Rattle.cue_eval.proofs.left_out.Place.own_labels.Goals as goal
 pub loop-label-preserved : goal.loop-label-preserved
 loop-label-preserved c =
     let loop = c.loop-label in
-    let same = ap label c.in_ok-from_str.ensures in
+    let same = ap label c.in_ok-from_str.ensures.text in
     rw c.in_ok-push.ensures.items (
       next_label (labels_of (below c.args.self.now.own)) loop.label-iterator c.next.new.self loop.steps.items (Label c.in_ok-from_str.field-0) c.in-Some.label.now c.in-Some.field-0-1 loop.invariant.0 c.in-Some.ensures.steps same,
       no_index loop.steps.items (Label c.in_ok-from_str.field-0) c.in-Some.label.now same loop.invariant.1,

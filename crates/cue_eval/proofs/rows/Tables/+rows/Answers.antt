@@ -221,8 +221,8 @@ list-returns-clause-answers t c =
     (λ table same. elements_table (parts_of known.pairs (tree.elements c.args.elements.now)) c.args.goes_on given table (length c.args.elements.now) counted same
     (elements_listed known given c.args.elements.now _ c.loop-element.invariant end)) c.list_of.ensures.answers
 
-pub and_each-meet_rest-requires : goal.and_each-meet_rest-requires
-and_each-meet_rest-requires t c =
+pub and_each-meet_rest-requires-clause-depth : goal.and_each-meet_rest-requires-clause-depth
+and_each-meet_rest-requires-clause-depth t c =
     let ready = subst (λ rest. IsReadyRest c.args.self.now rest) (ap tree.rest_tree c.in-Each.is ∙ view-Each c.in-Each.each) c.requires.ready in
     let deep = ready.depth in
     let shallow = within_depth (core_of c.args.self.now.pairs (tree.expression c.in-Each.each.value)) c.in_ok-further-in-Each.further c.in_ok-further-in-Each.ensures.form

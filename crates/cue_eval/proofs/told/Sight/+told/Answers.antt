@@ -210,8 +210,8 @@ expression-returns-in_ok-list-in-List t c =
     (IfOk-weaker c.and_each.result _ (IsTold c.args.whose (list (followed_by es (mean_rest self (tree.rest_tree c.in-List.rest)))))
     (λ all further. list_told self c.args.whose es (mean_rest self (tree.rest_tree c.in-List.rest)) c.len.result c.in_ok-list-in-List.list all counted told further) c.and_each.ensures)
 
-pub and_each-meet_rest-requires : goal.and_each-meet_rest-requires
-and_each-meet_rest-requires t c =
+pub and_each-meet_rest-requires-clause-depth : goal.and_each-meet_rest-requires-clause-depth
+and_each-meet_rest-requires-clause-depth t c =
     let known = subst (λ rest. IsRestKnown c.args.self.now rest) (ap tree.rest_tree c.in-Each.is ∙ view-Each c.in-Each.each) c.requires.known in
     let flat = known.flat in
     let deep = told_flat c.args.whose (means c.args.self.now (tree.expression c.in-Each.each.value)) c.in_ok-further-in-Each.further
