@@ -1,5 +1,6 @@
 -- State bytes that are read in pieces.
-use Rattle.std.proofs.Common.{◌≡◌, ◌<◌, ◌^◌, ℕ, List, [], ◌∷◌, ◌++◌, length, Result, Ok, Err, IfOk, IfErr, refl, ap, sym, ◌∙◌, subst, inl, inr, ap₂, lit<, append_assoc, append-nil}
+use Rattle.std.proofs.Common.{◌≡◌, ◌<◌, ◌^◌, ℕ, List, [], ◌∷◌, ◌++◌, length, Result, Ok, Err, IfOk, IfErr, is_ok, true, refl, ap, sym, ◌∙◌, subst, inl, inr, ap₂, lit<, append_assoc, append-nil}
+use Rattle.std.proofs.lemmas.Bool.{false≢true}
 use Rattle.std.specs.Int.{w64, to_be_bytes}
 use Rattle.cue_lattice.specs.declared.refusal.Kind.{Kind}
 use Rattle.cue_lattice.specs.declared.refusal.Refusal.{Refusal}
@@ -10,6 +11,7 @@ use Rattle.cue_table.proofs.ValidWalks.{empty_valid}
 use Rattle.cue_codec.specs.Decoding.{IsOtherVersion, IsNoState, IsUndecoded, IsRejected}
 use Rattle.cue_codec.specs.Pieces.{Intake, so_far, other_version, no_state, failed, BeginsNoState, IsIntake, IsTakenIn, IsReadTable, IsUnread}
 use Rattle.cue_codec.specs.State.{mark, table_bytes, IsTableBytes}
+use Rattle.cue_codec.proofs.ReadStates.{one_table}
 use Rattle.cue_codec.proofs.WrittenStates.{state_parts}
 use Rattle.cue_replica.specs.Inner.Reads.{Reads}
 use Rattle.cue_replica.specs.Language.{Table}
@@ -23,6 +25,13 @@ pub read_at_once :
     → IfErr read (IsUndecoded bytes) → Reads bytes read
 read_at_once bytes (Ok table) valid spelled refused = record { valid = valid; spelled = spelled }
 read_at_once bytes (Err kind) valid spelled refused = refused
+
+-- the bytes of the opening table, where they are read, are read as that table
+pub reads_opening :
+    (bytes : List ℕ) (read : Result Table Kind) → length bytes < 2 ^ 64 → Reads bytes read → is_ok read ≡ true
+    → IsTableBytes bytes empty → read ≡ Ok empty
+reads_opening bytes (Ok table) held reads ok is = ap Ok (one_table table empty bytes reads.valid empty_valid held reads.spelled is)
+reads_opening bytes (Err kind) held reads ok is = absurd (false≢true ok)
 
 -- bytes with which no state begins are those of none
 begun_none : (bytes : List ℕ) → length bytes < 2 ^ 64 → BeginsNoState bytes → IsNoState bytes

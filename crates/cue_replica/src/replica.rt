@@ -1,9 +1,10 @@
 ghost use Rattle.std.specs.Prelude.{◌≡◌, ◌<◌, ◌⊎◌, ◌↔◌, ◌^◌, ℕ, List, [], false, length};
 ghost use Rattle.std.specs.Prelude.{string_bytes, IsTrue};
-ghost use Rattle.std.specs.Prelude.{IfOk, IfErr, IfSome, IfNone, OnOk, OnErr, IsErrOf};
+ghost use Rattle.std.specs.Prelude.{IfOk, IfErr, IfSome, IfNone, Ok, IsOk, OnOk, OnErr, IsErrOf};
 ghost use Rattle.cue_lattice.specs.Limits.{text_limit};
 ghost use Rattle.cue_lattice.specs.Refusal.{memory, refusal_at};
 ghost use Rattle.cue_codec.specs.Decoding.{IsOtherVersion};
+ghost use Rattle.cue_codec.specs.State.{IsTableBytes};
 ghost use Rattle.cue_lex.specs.Tokens.{too_long};
 ghost use Rattle.serde_json.specs.View.{view};
 ghost use Rattle.serde_json.specs.Written.{has_float};
@@ -107,6 +108,8 @@ impl Replica {
             ⊎ language.IsStateFault bytes.now why) }
         // `Version` exactly where the bytes are of another version: for these no memory is wanted.
         ensures version { IsOtherVersion bytes.now → IsErrOf result (refusal_at Kind.Version 0) }
+        // The state of a site that has accepted nothing wants none either.
+        ensures opening { IsTableBytes bytes.now opening → IsOk result }
         ensures err { OnErr result (self.new ≡ self.old) }
         ensures valid { language.IsValid self.new }
     {
@@ -149,6 +152,8 @@ impl Replica {
     /// `Memory`, and then this site is as before.
     pub fn unify(&mut self, other: Replica) -> Result<(), Memory>
         ensures ok { OnOk result (Adds self.old (language.table_refuses other) self.new) }
+        // Where one of both has accepted nothing, no memory is wanted.
+        ensures opening { (self.old ≡ opening) ⊎ (other ≡ opening) → IsOk result }
         ensures err { OnErr result (self.new ≡ self.old) }
         ensures valid { language.IsValid self.new }
     {
@@ -174,6 +179,7 @@ impl Replica {
         ensures version { (bytes : List ℕ) → Reads bytes read → IsOtherVersion bytes
             → IsErrOf result (refusal_at Kind.Version 0) }
         ensures none { IfErr read (λ kind. IsErrOf result (refusal_at kind 0)) }
+        ensures opening { read ≡ Ok opening → IsOk result }
         ensures err { OnErr result (self.new ≡ self.old) }
         ensures valid { language.IsValid self.new }
     {

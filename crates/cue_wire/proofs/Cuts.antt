@@ -1,9 +1,12 @@
 -- Where a frame is whole, the codec cuts it off.
-use Rattle.std.proofs.Common.{◌≡◌, ℕ, ◌+◌, ◌^◌, ◌<◌, ◌≤◌, List, [], ◌∷◌, ◌++◌, length, take, drop, Option, Some, None, Ok, IfSome, IfNone, sym, ap, ◌∙◌, subst, arith, pos, length-drop, append-nil, append_assoc, get_or, inl, inr}
+use Rattle.std.proofs.Common.{◌≡◌, ℕ, ◌+◌, ◌^◌, ◌<◌, ◌≤◌, List, [], ◌∷◌, ◌++◌, length, take, drop, Option, Some, None, Ok, Err, IfSome, IfNone, sym, ap, ◌∙◌, subst, arith, pos, length-drop, append-nil, append_assoc, get_or, inl, inr}
 use Rattle.std.proofs.lemmas.List.{length-take-le, take-append-drop, get_or-take, get_or_past}
 use Rattle.std.proofs.lemmas.Bool.{cases_lt}
 use Rattle.std.proofs.lemmas.Bool.Decides.{nat_tests}
 use Rattle.std.specs.Int.{w32, to_be_bytes}
+use Rattle.std.specs.IoError.{error_kind}
+use Rattle.std.specs.declared.io.Error.{Error}
+use Rattle.std.specs.declared.io.ErrorKind.TheVariants.{OutOfMemory}
 use Rattle.bytes.specs.Filled.{Filled}
 use Rattle.tokio_util.specs.declared.codec.length_delimited.LengthDelimitedCodec.{LengthDelimitedCodec}
 use Rattle.tokio_util.specs.Codec.Next.{Decodes, partial}
@@ -70,6 +73,11 @@ pub taken : (c : LengthDelimitedCodec) (xs : List ℕ) (n : ℕ) (o : Option Fil
 taken c xs n o t ys layout head w h =
     let a = answers_whole c xs _ _ o t ys (cut_whole c xs layout head w.head (omega (arith, w.named, w.short)) (omega (arith, w.named, w.there))) h in
     (taken_of xs n o ys w.spelled w.short (length-take-le (named_length xs) (drop 4 xs) (omega (arith, length-drop 4 xs, w.named, w.there)) ∙ sym w.named) a.0, a.1)
+
+-- and where it fails, memory is wanting
+pub fails_for_room : (c : LengthDelimitedCodec) (xs : List ℕ) (n : ℕ) (e : Error) (t : LengthDelimitedCodec) (ys : List ℕ) → codec_layout c ≡ our_layout → IsAtHead c → IsWhole xs n → Decodes gives_frames c xs (Err e) t ys → error_kind e ≡ OutOfMemory
+fails_for_room c xs n e t ys layout head w h =
+    (subst (λ v. Answers c xs v (Err e) t ys) (cut_whole c xs layout head w.head (omega (arith, w.named, w.short)) (omega (arith, w.named, w.there))) h).0
 
 -- the two parts of a stream with a whole frame at its front
 pub cut_in_two : (xs : List ℕ) (n : ℕ) → IsWhole xs n → IsBody (take n (drop 4 xs)) × (xs ≡ framed (take n (drop 4 xs)) ++ drop n (drop 4 xs))

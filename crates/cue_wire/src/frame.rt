@@ -9,6 +9,7 @@ ghost use Rattle.cue_wire.specs.Inner.Pieces.{IsWhole};
 
 use bytes::BytesMut;
 use cue_replica::Kind;
+use std::io::ErrorKind;
 use tokio_util::codec::{Decoder, LengthDelimitedCodec};
 
 /// The most bytes that a frame has after its length.
@@ -101,8 +102,9 @@ pub fn next_frame(stream: &mut BytesMut) -> Result<Option<BytesMut>, Kind>
     match body_length(stream.as_slice()) {
         Ok(Some(_)) => match codec().decode(stream) {
             Ok(body) => Ok(body),
+            Err(error) if error.kind() == ErrorKind::OutOfMemory => Err(Kind::Memory),
             // The frame stands there whole, so that the codec fails for want of memory alone.
-            Err(_) => Err(Kind::Memory),
+            Err(_) => unreachable!(),
         },
         Ok(None) => Ok(None),
         Err(kind) => Err(kind),

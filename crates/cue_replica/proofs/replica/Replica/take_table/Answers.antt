@@ -1,7 +1,10 @@
-use Rattle.std.proofs.Common.{◌≡◌, ◌⊎◌, inl, refl, sym, ap, ◌∙◌, subst, Err, IfOk}
+use Rattle.std.proofs.Common.{◌≡◌, ◌⊎◌, inl, refl, sym, ap, ◌∙◌, subst, Result, Ok, Err, IfOk, is_ok, inr}
+use Rattle.std.proofs.lemmas.Bool.{false≢true}
 use Rattle.std.proofs.lemmas.Result.{err_from_is_err_and}
 use Rattle.cue_lattice.specs.Refusal.{memory, refusal_at}
+use Rattle.cue_lattice.specs.declared.refusal.Kind.{Kind}
 use Rattle.cue_lattice.specs.declared.refusal.Refusal.{Refusal}
+use Rattle.cue_table.specs.Tree.{empty}
 use Rattle.cue_table.specs.Valid.{IsValidTable}
 use Rattle.cue_table.proofs.MetTables.{met_tables}
 use Rattle.cue_codec.specs.Decoding.{IsUndecoded}
@@ -57,3 +60,15 @@ pub returns-in-Err-clause-version : goal.returns-in-Err-clause-version
 returns-in-Err-clause-version c bytes reads other =
     let is : IsUndecoded bytes c.in-Err.kind = subst (Reads bytes) c.in-Err.is reads in
     ap (λ (why : Refusal). Err why) (c.at.ensures ∙ ap (λ kind. refusal_at kind 0) (decoder_version bytes c.in-Err.kind is other))
+
+-- the table that was read
+abbrev table_in : Result Table Kind → Table
+table_in (Ok table) = table
+table_in (Err kind) = empty
+
+pub returns-in_err-meet_with-in-Ok-clause-opening : goal.returns-in_err-meet_with-in-Ok-clause-opening
+returns-in_err-meet_with-in-Ok-clause-opening c is =
+    absurd (false≢true (c.in_err-meet_with-in-Ok.ensures.free (inr (ap table_in (sym c.in-Ok.is ∙ is)))))
+
+pub returns-in-Err-clause-opening : goal.returns-in-Err-clause-opening
+returns-in-Err-clause-opening c is = absurd (false≢true (ap is_ok (sym c.in-Err.is ∙ is)))

@@ -1,4 +1,5 @@
-use Rattle.std.proofs.Common.{subst}
+use Rattle.std.proofs.Common.{◌≡◌, ◌⊎◌, ◌∙◌, inl, inr, ⊎_elim, sym, subst}
+use Rattle.std.proofs.lemmas.Bool.{false≢true}
 use Rattle.cue_table.proofs.MetTables.{met_tables}
 use Rattle.cue_replica.specs.Language.{Table, language}
 use Rattle.cue_replica.specs.Replica.{Adds}
@@ -21,3 +22,7 @@ pub returns-clause-valid : goal.returns-clause-valid
 returns-clause-valid c =
     met_tables c.self.inside.table c.other.inside.table c.meet_with.new.self c.in_ok-meet_with.ensures.form c.in_ok-meet_with.ensures.ok
     c.self.invariant c.other.invariant
+
+pub returns-in_err-meet_with-clause-opening : goal.returns-in_err-meet_with-clause-opening
+returns-in_err-meet_with-clause-opening c none =
+    absurd (false≢true (c.in_err-meet_with.ensures.free (⊎_elim (λ mine. inl (c.self.view_is ∙ mine)) (λ theirs. inr (c.other.view_is ∙ theirs)) none)))
