@@ -1,17 +1,7 @@
 //! The program `cuestore`: what operators run on the configuration store.
 #![tactic(auto)]
 
-mod act;
-mod app;
-mod command;
-#[cfg(test)]
-mod disk;
-mod fault;
-mod network;
-#[cfg(test)]
-mod tests;
-
-use act::run;
+use cue_command::run;
 use cue_program::Outlet;
 use std::process::ExitCode;
 

@@ -1,17 +1,15 @@
-ghost use Rattle.std.specs.Prelude.{◌≤◌, ◌↔◌, IsTrue};
-
-use crate::stop::Stop;
-use crate::words::Words;
 use anyhow::Result;
 use cue_journal::{Journal, Pair, recover};
 use cue_replica::Replica;
 use cue_service::{Site, SourceStanding, Standing, Token, add_entries};
+use cue_settings::{Stop, Words, grows};
 use log::{Log, info};
 use sqlite_disk::{Disk, Files};
 use sqlite_std_file::{FileFrom, Unknown, open};
 use std::alloc::Global;
 use std::fs;
 use std::io::Read;
+use std::random::RandomSource;
 
 /// The files that a site is kept in, of which the longer journal grows.
 type File = FileFrom<Unknown>;
@@ -58,13 +56,6 @@ fn board_of(alloc: Global, first: &[Vec<u8>], second: &[Vec<u8>]) -> Result<Repl
     Ok(board)
 }
 
-/// Whether the first of two journals grows, and the other is spare: the longer one does.
-fn grows(end: usize, other: usize) -> bool
-    ensures { IsTrue result ↔ (other ≤ end) }
-{
-    end >= other
-}
-
 /// The site that the folder keeps, or a new one.
 pub fn open_site<L: Log>(
     rt: &HostRuntime,
@@ -95,7 +86,15 @@ pub fn open_site<L: Log>(
         Journal::new(growing.disk, growing.end),
         Journal::new(spare.disk, spare.end),
     );
-    Ok(Site::new(alloc, files, board, token, standing(alloc, words)?))
+    let standing = standing(alloc, words)?;
+    Ok(Site::new(alloc, files, board, token, standing, run_number(rt)?))
+}
+
+/// A number for this run, which no other has that began at another moment.
+fn run_number(rt: &HostRuntime) -> Result<u64> {
+    let mut bytes = [0u8; 8];
+    rt.fill_bytes(&mut bytes)?;
+    Ok(u64::from_be_bytes(bytes))
 }
 
 fn standing(alloc: Global, words: &Words) -> Result<Standing> {

@@ -2,31 +2,18 @@
 //! acknowledged.
 #![tactic(auto)]
 
-ghost use Rattle.std.specs.Prelude.{◌↔◌, ◌⊎◌, IsTrue};
-
 mod files;
-mod stop;
-mod words;
 
 use crate::files::{open_site, token_in};
-use crate::words::{Words, command, words_of};
 use anyhow::Result;
 use clap::error::Error;
 use cue_http::serve;
+use cue_settings::{Stop, Words, command, may_listen, words_of};
 use log::sink::Console;
 use log::{Level, Logged, error, info};
 use mio::net::TcpListener;
 use std::env;
 use std::process::ExitCode;
-use stop::Stop;
-
-/// Whether it may listen: with a word anywhere, and else on a loopback address alone, since anybody
-/// who reaches it may write.
-fn may_listen(has_word: bool, is_loopback: bool) -> bool
-    ensures { IsTrue result ↔ (IsTrue has_word ⊎ IsTrue is_loopback) }
-{
-    has_word || is_loopback
-}
 
 /// Serves until a round does not stand.
 fn run(rt: &HostRuntime, words: &Words) -> Result<()> {

@@ -1,0 +1,83 @@
+-- How a run ends that prints something.
+use Rattle.std.proofs.Common.{◌≡◌, ◌⊎◌, ⊎_elim, inl, inr, ℕ, List, ◌++◌, Option, Bool, true, false, refl, ap, sym, ◌∙◌, subst}
+use Rattle.std.specs.Prelude.{codes}
+use Rattle.std.specs.Fmt.{digits}
+use Rattle.std.proofs.lemmas.List.{append_assoc}
+use Rattle.cue_program.specs.Outlets.{Adds, Breaks, HasBegun, IsUntold, IsUntouched, Passage, passed}
+use Rattle.cue_program.specs.Stops.{IsDevice, IsMemory}
+use Rattle.cue_program.specs.declared.Outlet.{Outlet}
+use Rattle.cue_program.specs.declared.Stop.{Stop}
+use Rattle.cue_program.specs.declared.Stop.TheVariants as stops
+use Rattle.cue_program.specs.declared.Kind.TheVariants as kinds
+use Rattle.cue_program.proofs.Devices.{appends_keeps, appends_more}
+use Rattle.cue_command.specs.Faults.{IsComplaint, IsRefused, IsTold, line_of}
+use Rattle.cue_command.specs.Runs.{Around, IsRun, IsStateTold}
+use Rattle.cue_command.specs.inner.Replies.{IsReplyTold, IsReplyToWords}
+use Rattle.cue_command.specs.declared.acting.Reply.{Reply}
+use Rattle.cue_command.specs.declared.acting.Reply.TheVariants as replies
+use Rattle.cue_command.specs.declared.fault.Fault.TheVariants as faults
+
+-- the line that tells want of memory
+memory_line : line_of (faults.Stopped (stops.Refused kinds.Memory)) ≡ codes "refused 24 Memory\n"
+unfolding digits
+memory_line = refl
+
+no_refusal : (t : Bool) → t ≡ false → t ≡ true → ⊥
+no_refusal t h k = cc
+
+-- what is told of a device that failed
+module _ (stop : Stop) (status : ℕ) (out complaints : Passage) where
+  pub device_told : IsDevice stop → IsTold (faults.Stopped stop) status out complaints → (status ≡ 4) × IsUntouched out × IsComplaint complaints
+  device_told is told = go (subst (λ (s : Stop). IsTold (faults.Stopped s) status out complaints) is told)
+    where
+      go : IsTold (faults.Stopped stops.Device) status out complaints → (status ≡ 4) × IsUntouched out × IsComplaint complaints
+      go (inl h) = absurd (no_refusal false refl h.0)
+      go (inr h) = (h.1, h.2, h.3)
+
+  -- and of want of memory
+  memory_told : IsMemory stop → IsTold (faults.Stopped stop) status out complaints → IsRefused (codes "refused 24 Memory\n") status out complaints
+  memory_told is told = go (subst (λ (s : Stop). IsTold (faults.Stopped s) status out complaints) is told)
+    where
+      go : IsTold (faults.Stopped (stops.Refused kinds.Memory)) status out complaints → IsRefused (codes "refused 24 Memory\n") status out complaints
+      go (inl h) = subst (λ (line : List ℕ). IsRefused line status out complaints) memory_line h.1
+      go (inr h) = absurd (no_refusal true h.0 refl)
+
+module _ {W : Type 0} (contents : W → Option (List ℕ)) (old mid new : Outlet W) where
+  -- a stream that broke and was then left alone
+  pub breaks_kept : (bytes : List ℕ) → Breaks (passed contents old mid) bytes → IsUntouched (passed contents mid new) → Breaks (passed contents old new) bytes
+  breaks_kept bytes h k =
+      ((h.0.0, h.0.1, h.0.2, appends_keeps (contents old.inner) (contents mid.inner) (contents new.inner) h.0.0 h.0.3 k.0), k.1 ∙ h.1)
+
+  -- a line behind some bytes
+  adds_more : (front line : List ℕ) → Adds (passed contents old mid) front → Adds (passed contents mid new) line → Adds (passed contents old new) (front ++ line)
+  adds_more front line h k = appends_more (contents old.inner) (contents mid.inner) (contents new.inner) front line h k
+
+  -- a part of a line behind some bytes
+  breaks_more : (front line : List ℕ) → Adds (passed contents old mid) front → Breaks (passed contents mid new) line → Breaks (passed contents old new) (front ++ line)
+  breaks_more front line h k =
+      ((front ++ k.0.0, k.0.1, ap (λ t. front ++ t) k.0.2 ∙ sym (append_assoc front k.0.0 k.0.1), adds_more front k.0.0 h k.0.3), k.1)
+
+  -- a state that could not be written whole
+  pub state_not_told :
+      (bytes : List ℕ) (stop : Stop) (status : ℕ) (complaints : Passage) → IsUntold (passed contents old mid) bytes stop
+      → IsTold (faults.Stopped stop) status (passed contents mid new) complaints → IsStateTold bytes (passed contents old new) complaints status
+  state_not_told bytes stop status complaints why told =
+      ⊎_elim
+      (λ device. let h = device_told stop status (passed contents mid new) complaints device.0 told in
+      inr (inr (h.0, (bytes, inl refl, breaks_kept bytes device.1 h.1), h.2)))
+      (λ memory. behind memory.1 (memory_told stop status (passed contents mid new) complaints memory.0 told))
+      why
+    where
+      behind : HasBegun (passed contents old mid) bytes → IsRefused (codes "refused 24 Memory\n") status (passed contents mid new) complaints → IsStateTold bytes (passed contents old new) complaints status
+      behind begun (inl h) =
+          inr (inl (h.0, (begun.0 ++ codes "refused 24 Memory\n", (begun.0, begun.1, begun.2, refl), adds_more begun.0 (codes "refused 24 Memory\n") begun.3 h.1), h.2))
+      behind begun (inr h) =
+          inr (inr (h.0, (begun.0 ++ codes "refused 24 Memory\n", inr (begun.0, begun.1, begun.2, refl), breaks_more begun.0 (codes "refused 24 Memory\n") begun.3 h.1), h.2))
+
+-- a run that prints what its words ask for
+pub run_of_reply :
+    (words : List (List ℕ)) (around : Around) (out complaints : Passage) (status : ℕ) (reply : Reply) → IsReplyToWords words around reply
+    → IsReplyTold reply out complaints status → IsRun words around out complaints status
+run_of_reply words around out complaints status (replies.Answer answer) is (inl told) = inl (answer, is, told.0, told.1, told.2)
+run_of_reply words around out complaints status (replies.Answer answer) is (inr failed) = inr (inr (inl (answer, is, failed.0, failed.1, failed.2)))
+run_of_reply words around out complaints status (replies.State table) is told = inr (inr (inr (table, is, told)))

@@ -1,0 +1,27 @@
+use Rattle.cue_program.specs.Files.{texts}
+use Rattle.cue_program.specs.Inputs.{inputs_of}
+use Rattle.cue_command.specs.Networks.{Reach, reach}
+use Rattle.cue_command.proofs.Networks.{talk_answered, talk_stopped}
+use Rattle.cue_command.proofs.network.looped.Goals as goal
+
+pub returns-clause-answer : goal.returns-clause-answer
+returns-clause-answer g c =
+    let rt = c.args.rt.now in
+    let n = g.H.Network in
+    let source = g.H.Input.Source in
+    let sink = g.H.Output.Sink in
+    let reached : Reach = reach (n.opens rt) (n.lets_in rt) (n.reaches rt) (n.joins rt) (n.fails rt) source.given source.to_come sink.taken
+    source.called sink.called source.failed sink.failed in
+    talk_answered rt reached.Loops (inputs_of (g.H.Shelf.held rt) (texts c.args.files.now) (g.R.Read.remaining c.args.input.now)) c.in_ok-requests.requests.items
+    c.deref.result.now c.loop_for.result c.ended.result c.deref.ensures.value c.in_ok-requests.ensures.requests (c.loop_for.ensures.looped, c.loop_for.ensures.answer) c.ended.ensures.answer
+
+pub returns-clause-stop : goal.returns-clause-stop
+returns-clause-stop g c =
+    let rt = c.args.rt.now in
+    let n = g.H.Network in
+    let source = g.H.Input.Source in
+    let sink = g.H.Output.Sink in
+    let reached : Reach = reach (n.opens rt) (n.lets_in rt) (n.reaches rt) (n.joins rt) (n.fails rt) source.given source.to_come sink.taken
+    source.called sink.called source.failed sink.failed in
+    talk_stopped rt reached.Loops (inputs_of (g.H.Shelf.held rt) (texts c.args.files.now) (g.R.Read.remaining c.args.input.now)) c.in_ok-requests.requests.items
+    c.deref.result.now c.loop_for.result c.ended.result c.deref.ensures.value c.in_ok-requests.ensures.requests (c.loop_for.ensures.looped, c.loop_for.ensures.answer) c.ended.ensures.stop

@@ -1,0 +1,142 @@
+-- Whole runs of the program, on devices whose bytes are known or not.
+use Rattle.std.specs.Prelude.{◌≡◌, ◌⊎◌, ℕ, List, [], ◌++◌, Option, Some, None, Ok, Err, codes}
+use Rattle.cue_answer.specs.Answers.{Says, code_of}
+use Rattle.cue_replica.specs.Language.{Table, language}
+use Rattle.cue_program.specs.declared.Answer.{Answer}
+use Rattle.cue_program.specs.declared.Question.TheVariants as questions
+use Rattle.cue_program.specs.declared.Status.TheVariants as statuses
+use Rattle.cue_program.specs.declared.Stop.{Stop}
+use Rattle.cue_program.specs.Calls.{Call}
+use Rattle.cue_program.specs.Files.{Holdings}
+use Rattle.cue_program.specs.Inputs.{Holds, Inputs, inputs_of}
+use Rattle.cue_program.specs.Outlets.{Adds, Breaks, IsUntouched, Passage}
+use Rattle.cue_program.specs.Runs.{IsAnswerOn, IsMergeOn, IsMergeStopOn, IsStopOn}
+use Rattle.cue_command.specs.declared.fault.Fault.{Fault}
+use Rattle.cue_command.specs.declared.fault.Fault.TheVariants as faults
+use Rattle.cue_command.specs.Faults.{IsComplaint, IsMemory, IsTold}
+use Rattle.cue_command.specs.Networks.{IsEndedBy, IsTalkOn, IsTalkStopOn, Reach}
+use Rattle.cue_command.specs.Words.{Asked, asking, merging, serving, pushing, looping, asked}
+
+-- What stands around a run: what lies where, as far as that is known, and what the reader had; and
+-- what its calls came to: that none was made but those that only read; that a merge put the state of
+-- inputs at a name, or was stopped; and what the calls of a network came to.
+pub record Around : Type 1 where
+  pub held : Option Holdings
+  pub input : Option (List ℕ)
+  pub OnlyReads : Type 0
+  pub Merges : List ℕ → Inputs → Type 0
+  pub StopsMerging : List ℕ → Inputs → Stop → Type 0
+  pub network : Reach
+
+-- it stands around a run between two moments of its runtime
+abbrev pub around : {S D M : Type 0} → (S → Option Holdings) → (S → Call D M → S → Type 0)
+    → Reach → S → S → Option (List ℕ) → Around
+around held Makes network old new input = record {
+  held = held old;
+  input = input;
+  OnlyReads = new ≡ old;
+  Merges = λ name inputs. IsMergeOn Makes name inputs old new;
+  StopsMerging = λ name inputs stop. IsMergeStopOn Makes name inputs old new stop;
+  network = network;
+}
+
+-- The answer to what is asked for. Asking changes no file, and merging says nothing.
+abbrev pub IsAnswerTo : Asked → Around → Answer → Type 0
+IsAnswerTo (asking question files) at answer =
+    IsAnswerOn question (inputs_of at.held files at.input) answer × at.OnlyReads
+IsAnswerTo (merging out files) at answer =
+    at.Merges out (inputs_of at.held files at.input) × Says answer [] statuses.Done
+IsAnswerTo (serving port count) at answer =
+    at.network.Serves port count (Ok answer) × at.OnlyReads
+IsAnswerTo (pushing port files) at answer =
+    IsTalkOn (at.network.Pushes port) (inputs_of at.held files at.input) (Ok answer)
+    × at.OnlyReads
+IsAnswerTo (looping files) at answer =
+    IsTalkOn at.network.Loops (inputs_of at.held files at.input) (Ok answer) × at.OnlyReads
+
+-- What stops what is asked for.
+abbrev pub IsStopTo : Asked → Around → Stop → Type 0
+IsStopTo (asking question files) at stop =
+    IsStopOn (inputs_of at.held files at.input) stop × at.OnlyReads
+IsStopTo (merging out files) at stop =
+    at.StopsMerging out (inputs_of at.held files at.input) stop
+IsStopTo (serving port count) at stop =
+    IsEndedBy (λ halt. at.network.Serves port count (Err halt)) stop × at.OnlyReads
+IsStopTo (pushing port files) at stop =
+    IsTalkStopOn (at.network.Pushes port) (inputs_of at.held files at.input) stop
+    × at.OnlyReads
+IsStopTo (looping files) at stop =
+    IsTalkStopOn at.network.Loops (inputs_of at.held files at.input) stop × at.OnlyReads
+
+-- the words ask for something, to which this is the answer
+abbrev pub IsAnswerToWords : List (List ℕ) → Around → Answer → Type 0
+IsAnswerToWords words at answer =
+    (what : Asked) × (asked words ≡ Some what) × IsAnswerTo what at answer
+
+-- why there is no answer to the words: they ask for nothing, or memory ran out before anything was
+-- read, or what they ask for was stopped
+abbrev pub IsFaultOfWords : List (List ℕ) → Around → Fault → Type 0
+IsFaultOfWords words at fault =
+    ((fault ≡ faults.Usage) × (asked words ≡ None) × at.OnlyReads)
+    ⊎ (IsMemory fault × at.OnlyReads)
+    ⊎ ((what : Asked) × (asked words ≡ Some what)
+    × ((stop : Stop) × IsStopTo what at stop × (fault ≡ faults.Stopped stop)))
+
+-- the run ends with an answer to the words: its bytes were added to the output, the status is the
+-- answer's, and where faults go nothing was added
+abbrev pub IsAnswered : List (List ℕ) → Around → Passage → Passage → ℕ → Type 0
+IsAnswered words at out faults status =
+    (answer : Answer) × IsAnswerToWords words at answer × (status ≡ code_of answer.status)
+    × Adds out answer.bytes.items × IsUntouched faults
+
+-- the run ends with a fault of the words, which is told
+abbrev pub IsStopped : List (List ℕ) → Around → Passage → Passage → ℕ → Type 0
+IsStopped words at out faults status =
+    (fault : Fault) × IsFaultOfWords words at fault × IsTold fault status out faults
+
+-- an answer to the words could not be written: some of it in front was, then a call of the output
+-- failed, and that is told where faults go
+abbrev pub IsUnwritten : List (List ℕ) → Around → Passage → Passage → ℕ → Type 0
+IsUnwritten words at out faults status =
+    (answer : Answer) × IsAnswerToWords words at answer × (status ≡ 4)
+    × Breaks out answer.bytes.items × IsComplaint faults
+
+-- the words ask for the state of inputs, all of which a site has taken that holds this table; no
+-- file changed
+abbrev pub IsStateOfWords : List (List ℕ) → Around → Table → Type 0
+IsStateOfWords words at table =
+    (files : List (List ℕ)) × (asked words ≡ Some (asking questions.State files))
+    × Holds (inputs_of at.held files at.input) table
+    × at.OnlyReads
+
+-- these bytes, or some of them in front and then the line that tells that memory ran out
+abbrev pub IsCutBy : List ℕ → List ℕ → Type 0
+IsCutBy bytes said =
+    (front back : List ℕ) × (bytes ≡ front ++ back)
+    × (said ≡ front ++ codes "refused 24 Memory\n")
+
+-- How a run ends that writes these state bytes while it makes them: they were all added to the
+-- output; or those in front, which were made before memory ran out, and then the line that tells
+-- it; or some of that in front, and then a call of the output failed, which is told where faults go.
+abbrev pub IsStateTold : List ℕ → Passage → Passage → ℕ → Type 0
+IsStateTold bytes out faults status =
+    ((status ≡ 0) × Adds out bytes × IsUntouched faults)
+    ⊎ ((status ≡ 1) × ((said : List ℕ) × IsCutBy bytes said × Adds out said)
+    × IsUntouched faults)
+    ⊎ ((status ≡ 4)
+    × ((said : List ℕ) × ((said ≡ bytes) ⊎ IsCutBy bytes said) × Breaks out said)
+    × IsComplaint faults)
+
+-- the run writes the state that the words ask for
+abbrev pub IsStateWritten : List (List ℕ) → Around → Passage → Passage → ℕ → Type 0
+IsStateWritten words at out faults status =
+    (table : Table) × IsStateOfWords words at table
+    × IsStateTold (language.written table) out faults status
+
+-- How a run on these words ends, by what became of the output and of where faults go.
+abbrev pub IsRun : List (List ℕ) → Around → Passage → Passage → ℕ → Type 0
+IsRun words at out faults status =
+    IsAnswered words at out faults status
+    ⊎ IsStopped words at out faults status
+    ⊎ IsUnwritten words at out faults status
+    ⊎ IsStateWritten words at out faults status

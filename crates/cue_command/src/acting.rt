@@ -1,0 +1,247 @@
+ghost use Rattle.std.specs.Prelude.{◌≡◌, ◌⊎◌, ◌++◌, IfOk, IfErr, List, ℕ, codes, map, string_bytes};
+ghost use Rattle.cue_command.specs.Faults.{IsComplaint, IsMemory, IsRefused, IsTold, stop_text};
+ghost use Rattle.cue_command.specs.Networks.{reach};
+ghost use Rattle.cue_command.specs.Runs.{around, IsAnswerTo, IsFaultOfWords, IsRun, IsStopTo};
+ghost use Rattle.cue_command.specs.inner.Replies.{IsReplyTold, IsReplyToWords};
+ghost use Rattle.cue_command.specs.Words.{asked_by, merging};
+ghost use Rattle.cue_program.specs.Files.{texts};
+ghost use Rattle.cue_program.specs.Outlets.{passed};
+
+use crate::command::{Command, command_of, given_words};
+use crate::fault::{Fault, LINE, text_of};
+use crate::network::{looped, pushed, served};
+use arrayvec::ArrayString;
+use cue_net::Network;
+use cue_program::{
+    Answer, Outlet, Question, Replica, Shelf, Status, Stop, answer_for, merge_into, site_for,
+    tell_state,
+};
+use std::alloc::Global;
+use std::env::Env;
+use std::fmt::Write as _;
+use std::io::{Read, Write};
+
+/// Runs the program on the words after its name, and answers the exit status: 0 done, 1 refused or
+/// a usage fault, 2 conflicts, 3 incomplete, 4 a device fault.
+///
+/// Each command hands inputs to one new site: the files that it names, of which those that begin
+/// with the byte FE (hexadecimal) are states and all others texts; or, where it names none, what
+/// `input` has: one state, or texts, which are split at lines that are exactly `---`. `export`
+/// writes to `out` the JSON and a line break, or the conflict lines, or the incomplete lines;
+/// `print` the canonical text; `report` the conflict lines and then the incomplete lines; `state`
+/// the state bytes. `merge` puts the state bytes at the name that stands first. The first refused
+/// input ends the run with the line `refused NUMBER NAME at PLACE in K`, which goes to `out` too.
+/// `usage fault` and `device fault` go to `faults`.
+///
+/// State bytes are read, and made while they are written, in pieces of 65,536 bytes. Where memory
+/// runs out while `state` writes them, the line `refused 24 Memory` stands behind those that were
+/// written.
+///
+/// `serve` listens on a port of 127.0.0.1, serves so many connections from one new site, one after
+/// the other, and then prints as `export` does. `push` sends the inputs to the site that is served
+/// on a port, and prints its export; `loop` does both in this process. Their inputs are all read
+/// and checked before any is sent; after one that the site refuses the others are still sent.
+pub fn act<H, R: Read, W: Write, F: Write>(
+    rt: &mut H,
+    words: &[String],
+    input: &mut R,
+    out: &mut Outlet<W>,
+    faults: &mut Outlet<F>,
+) -> u8
+where
+    H: AllocGlobal + Shelf + Network,
+    ensures { IsRun (map string_bytes words.now)
+        (around H.held H.makes (reach (H.opens rt.old) (H.lets_in rt.old) (H.reaches rt.old)
+        (H.joins rt.old) (H.fails rt.old) H.Input.given H.Input.to_come H.Output.taken
+        H.Input.called H.Output.called H.Input.failed H.Output.failed)
+        rt.old rt.new (R.remaining input.old))
+        (passed W.contents out.old out.new) (passed F.contents faults.old faults.new) result }
+{
+    match reply_to(rt, words, input) {
+        Ok(reply) => show(rt.alloc(), &reply, out, faults),
+        Err(fault) => report(&fault, out, faults),
+    }
+}
+
+/// Runs the program on the words that the process was given, as `act` does. Words that can't be
+/// read are a usage fault, or there is no memory for them.
+pub fn run<H, R: Read, W: Write, F: Write>(
+    rt: &mut H,
+    input: &mut R,
+    out: &mut Outlet<W>,
+    faults: &mut Outlet<F>,
+) -> u8
+where
+    H: AllocGlobal + Env + Shelf + Network,
+    ensures { ((words : List (List ℕ)) × IsRun words
+        (around H.held H.makes (reach (H.opens rt.old) (H.lets_in rt.old) (H.reaches rt.old)
+        (H.joins rt.old) (H.fails rt.old) H.Input.given H.Input.to_come H.Output.taken
+        H.Input.called H.Output.called H.Input.failed H.Output.failed)
+        rt.old rt.new (R.remaining input.old))
+        (passed W.contents out.old out.new) (passed F.contents faults.old faults.new) result)
+        ⊎ ((fault : Fault) × ((fault ≡ Fault.Usage) ⊎ IsMemory fault)
+        × IsTold fault result
+        (passed W.contents out.old out.new) (passed F.contents faults.old faults.new)
+        × (rt.new ≡ rt.old)) }
+{
+    match given_words(&*rt) {
+        Ok(words) => act(rt, &words, input, out, faults),
+        Err(fault) => report(&fault, out, faults),
+    }
+}
+
+/// What is printed of a run that was not stopped.
+#[derive(Drop)]
+enum Reply {
+    /// An answer, whole.
+    Answer(Answer),
+    /// The state bytes of this site, which are made while they are written.
+    State(Replica),
+}
+
+/// What the command that the words ask for prints.
+fn reply_to<H, R: Read>(rt: &mut H, words: &[String], input: &mut R) -> Result<Reply, Fault>
+where
+    H: AllocGlobal + Shelf + Network,
+    ensures reply { IfOk result (IsReplyToWords (map string_bytes words.now)
+        (around H.held H.makes (reach (H.opens rt.old) (H.lets_in rt.old) (H.reaches rt.old)
+        (H.joins rt.old) (H.fails rt.old) H.Input.given H.Input.to_come H.Output.taken
+        H.Input.called H.Output.called H.Input.failed H.Output.failed)
+        rt.old rt.new (R.remaining input.old))) }
+    ensures fault { IfErr result (IsFaultOfWords (map string_bytes words.now)
+        (around H.held H.makes (reach (H.opens rt.old) (H.lets_in rt.old) (H.reaches rt.old)
+        (H.joins rt.old) (H.fails rt.old) H.Input.given H.Input.to_come H.Output.taken
+        H.Input.called H.Output.called H.Input.failed H.Output.failed)
+        rt.old rt.new (R.remaining input.old))) }
+{
+    let command = command_of(rt.alloc(), words)?;
+    match &command {
+        Command::Ask {
+            question: Question::State,
+            files,
+        } => match site_for(&*rt, files, input) {
+            Ok(site) => Ok(Reply::State(site)),
+            Err(stop) => Err(Fault::Stopped(stop)),
+        },
+        _ => match answer(rt, &command, input) {
+            Ok(answer) => Ok(Reply::Answer(answer)),
+            Err(stop) => Err(Fault::Stopped(stop)),
+        },
+    }
+}
+
+/// Writes what is printed, and answers the exit status.
+fn show<W: Write, F: Write>(
+    alloc: Global,
+    reply: &Reply,
+    out: &mut Outlet<W>,
+    faults: &mut Outlet<F>,
+) -> u8
+    ensures { IsReplyTold reply.now (passed W.contents out.old out.new)
+        (passed F.contents faults.old faults.new) result }
+{
+    match reply {
+        Reply::Answer(answer) => match out.tell(&answer.bytes) {
+            Ok(()) => answer.status.code(),
+            Err(_) => report(&Fault::Stopped(Stop::Device), out, faults),
+        },
+        Reply::State(site) => match tell_state(alloc, site, out) {
+            Ok(()) => Status::Done.code(),
+            Err(stop) => report(&Fault::Stopped(stop), out, faults),
+        },
+    }
+}
+
+/// What is printed for a command.
+fn answer<H, R: Read>(rt: &mut H, command: &Command, input: &mut R) -> Result<Answer, Stop>
+where
+    H: AllocGlobal + Shelf + Network,
+    ensures answer { IfOk result (IsAnswerTo (asked_by command.now)
+        (around H.held H.makes (reach (H.opens rt.old) (H.lets_in rt.old) (H.reaches rt.old)
+        (H.joins rt.old) (H.fails rt.old) H.Input.given H.Input.to_come H.Output.taken
+        H.Input.called H.Output.called H.Input.failed H.Output.failed)
+        rt.old rt.new (R.remaining input.old))) }
+    ensures stop { IfErr result (IsStopTo (asked_by command.now)
+        (around H.held H.makes (reach (H.opens rt.old) (H.lets_in rt.old) (H.reaches rt.old)
+        (H.joins rt.old) (H.fails rt.old) H.Input.given H.Input.to_come H.Output.taken
+        H.Input.called H.Output.called H.Input.failed H.Output.failed)
+        rt.old rt.new (R.remaining input.old))) }
+{
+    match command {
+        Command::Ask { question, files } => answer_for(&*rt, *question, files, input),
+        Command::Merge { out, files } => merged(rt, out, files, input),
+        Command::Serve { port, count } => served(&*rt, *port, *count),
+        Command::Push { port, files } => pushed(&*rt, *port, files, input),
+        Command::Loop { files } => looped(&*rt, files, input),
+    }
+}
+
+/// Merges, and says nothing.
+fn merged<H: AllocGlobal + Shelf + Network, R: Read>(
+    rt: &mut H,
+    out: &str,
+    files: &[&str],
+    input: &mut R,
+) -> Result<Answer, Stop>
+    ensures answer { IfOk result (IsAnswerTo (merging out.now (texts files.now))
+        (around H.held H.makes (reach (H.opens rt.old) (H.lets_in rt.old) (H.reaches rt.old)
+        (H.joins rt.old) (H.fails rt.old) H.Input.given H.Input.to_come H.Output.taken
+        H.Input.called H.Output.called H.Input.failed H.Output.failed)
+        rt.old rt.new (R.remaining input.old))) }
+    ensures stop { IfErr result (IsStopTo (merging out.now (texts files.now))
+        (around H.held H.makes (reach (H.opens rt.old) (H.lets_in rt.old) (H.reaches rt.old)
+        (H.joins rt.old) (H.fails rt.old) H.Input.given H.Input.to_come H.Output.taken
+        H.Input.called H.Output.called H.Input.failed H.Output.failed)
+        rt.old rt.new (R.remaining input.old))) }
+{
+    match merge_into(rt, out, files, input) {
+        Ok(()) => Ok(Answer {
+            bytes: Vec::new(rt.alloc()),
+            status: Status::Done,
+        }),
+        Err(stop) => Err(stop),
+    }
+}
+
+/// Writes the line of what ended the run, and answers the exit status.
+pub fn report<W: Write, F: Write>(fault: &Fault, out: &mut Outlet<W>, faults: &mut Outlet<F>) -> u8
+    ensures { IsTold fault.now result (passed W.contents out.old out.new)
+        (passed F.contents faults.old faults.new) }
+{
+    match fault {
+        Fault::Usage | Fault::Stopped(Stop::Device) => {
+            complain(fault, faults);
+            fault.status()
+        }
+        Fault::Stopped(stop) => refuse(stop, out, faults),
+    }
+}
+
+/// Writes the line of a refusal.
+fn refuse<W: Write, F: Write>(stop: &Stop, out: &mut Outlet<W>, faults: &mut Outlet<F>) -> u8
+    ensures { IsRefused (stop_text stop.now ++ codes "\n") result
+        (passed W.contents out.old out.new) (passed F.contents faults.old faults.new) }
+{
+    let mut line = text_of(stop);
+    line.push_str("\n");
+    match out.tell(line.as_str().as_bytes()) {
+        Ok(()) => 1,
+        Err(_) => {
+            complain(&Fault::Stopped(Stop::Device), faults);
+            4
+        }
+    }
+}
+
+/// Tells of a fault where faults go, in one piece. Where nothing can be told, the status still is.
+fn complain<F: Write>(fault: &Fault, faults: &mut Outlet<F>)
+    ensures { IsComplaint (passed F.contents faults.old faults.new) }
+{
+    let mut line = ArrayString::<LINE>::new();
+    // No text of a fault fills the line.
+    if write!(line, "{fault}").is_err() || line.is_full() {
+        line.clear();
+    }
+    line.push_str("\n");
+    let _ = faults.tell(line.as_str().as_bytes());
+}

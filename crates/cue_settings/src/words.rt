@@ -1,0 +1,162 @@
+ghost use Rattle.std.specs.Prelude.{◌≡◌};
+
+use crate::stop::Stop;
+use anyhow::Result;
+use clap::{Arg, ArgAction, ArgMatches, Command, value_parser};
+use cue_http::{Bounds, Source};
+use http_server::Config;
+use std::alloc::{AllocError, Global};
+use std::net::{SocketAddr, ToSocketAddrs};
+use std::time::Duration;
+
+/// No body is longer, in bytes.
+const MOST_BODY: usize = 64 * 1024 * 1024;
+
+/// So many bytes wait to be sent before no more requests of a connection are read.
+const MOST_PENDING: usize = 256 * 1024;
+
+/// What the program was asked for.
+#[derive(Drop)]
+pub struct Words<'a> {
+    pub data: &'a str,
+    pub listen: &'a str,
+    pub peers: Vec<&'a str>,
+    pub token_file: Option<&'a str>,
+    /// A peer is asked each so many seconds.
+    pub every: u64,
+    /// So many connections at most.
+    pub most: u64,
+    /// So many requests wait for a change at most.
+    pub waiting: u64,
+    /// A request is whole, and an answer taken, in so many seconds.
+    pub idle: u64,
+}
+
+fn value<'a>(alloc: Global, name: &'a str, shown: &'a str, help: &'a str) -> Arg<'a> {
+    Arg::new(alloc, name)
+        .long(name)
+        .value_name(shown)
+        .action(ArgAction::Set)
+        .help(help)
+}
+
+/// The words of `cuestored`, as `clap` is told of them.
+pub fn command<'a>(alloc: Global) -> Result<Command<'a>, AllocError> {
+    Command::new(alloc, "cuestored")
+        .version("0.1.0")
+        .about("A site of the configuration store that stays up, over HTTP")
+        .arg(value(alloc, "data", "DIR", "The folder of the journal").required(true))?
+        .arg(value(alloc, "listen", "ADDRESS:PORT", "Where to listen").default_value(
+            "127.0.0.1:8420",
+        ))?
+        .arg(value(
+            alloc,
+            "peer",
+            "URL",
+            "A site whose state is taken, http://HOST:PORT; again for more",
+        )
+        .action(ArgAction::Append))?
+        .arg(
+            value(alloc, "every", "SECONDS", "How often a peer is asked")
+                .value_parser(value_parser!(u64).range(1..86_400))
+                .default_value("2"),
+        )?
+        .arg(value(
+            alloc,
+            "token-file",
+            "FILE",
+            "The word that each POST has to bear",
+        ))?
+        .arg(
+            value(alloc, "max-connections", "N", "The most connections")
+                .value_parser(value_parser!(u64).range(1..1_000_000))
+                .default_value("1000"),
+        )?
+        .arg(
+            value(
+                alloc,
+                "max-waiting",
+                "N",
+                "The most requests that wait for a change",
+            )
+            .value_parser(value_parser!(u64).range(0..1_000_000))
+            .default_value("500"),
+        )?
+        .arg(
+            value(
+                alloc,
+                "idle",
+                "SECONDS",
+                "A request is whole, and an answer taken, in this time",
+            )
+            .value_parser(value_parser!(u64).range(1..86_400))
+            .default_value("60"),
+        )
+}
+
+/// What was found of them.
+pub fn words_of<'a>(alloc: Global, matches: &ArgMatches<'a>) -> Result<Words<'a>> {
+    let mut peers = Vec::new(alloc);
+    if let Some(given) = matches.get_strs("peer") {
+        for peer in given {
+            peers.push(*peer)?;
+        }
+    }
+    Ok(Words {
+        data: matches.get_str("data").unwrap_or("."),
+        listen: matches.get_str("listen").unwrap_or("127.0.0.1:8420"),
+        peers,
+        token_file: matches.get_str("token-file"),
+        every: matches.get_one::<u64>("every").unwrap_or(2),
+        most: matches.get_one::<u64>("max-connections").unwrap_or(1000),
+        waiting: matches.get_one::<u64>("max-waiting").unwrap_or(500),
+        idle: matches.get_one::<u64>("idle").unwrap_or(60),
+    })
+}
+
+impl<'a> Words<'a> {
+    /// The address to listen on.
+    pub fn listen(&self, rt: &HostRuntime) -> Result<SocketAddr> {
+        match self.listen.to_socket_addrs(rt)?.next() {
+            Some(address) => Ok(address),
+            None => Err(Stop::Listen.into()),
+        }
+    }
+
+    /// The addresses of the peers.
+    pub fn sources(&self, rt: &HostRuntime) -> Result<Vec<Source>> {
+        let mut sources = Vec::new(rt.alloc());
+        for peer in &self.peers {
+            let Some(host) = peer.strip_prefix("http://") else {
+                return Err(Stop::Peer.into());
+            };
+            let host = host.strip_suffix("/").unwrap_or(host);
+            match host.to_socket_addrs(rt)?.next() {
+                Some(at) => sources.push(Source { at })?,
+                None => return Err(Stop::Peer.into()),
+            }
+        }
+        Ok(sources)
+    }
+
+    /// What one process takes on.
+    pub fn bounds(&self) -> Bounds
+        ensures most { result.most ≡ self.now.most }
+        ensures waiting { result.waiting ≡ self.now.waiting }
+        ensures body { result.config.max_body_len ≡ MOST_BODY }
+        ensures pending { result.config.max_pending ≡ MOST_PENDING }
+    {
+        let config = Config {
+            max_body_len: MOST_BODY,
+            max_pending: MOST_PENDING,
+            ..Config::default()
+        };
+        Bounds {
+            config,
+            idle: Duration::from_secs(self.idle),
+            most: self.most as usize,
+            waiting: self.waiting as usize,
+            every: Duration::from_secs(self.every),
+        }
+    }
+}

@@ -1,7 +1,0 @@
-use Rattle.std.proofs.Common.{◌∙◌}
-use Rattle.clap.specs.Matches.{found_of}
-use Rattle.cuestore.proofs.Found.{first_by_rows}
-use Rattle.cuestore.proofs.command.text.Goals as goal
-
-pub returns : goal.returns
-returns c = c.get_str.ensures ∙ first_by_rows (found_of c.args.found.now) c.args.id.now
