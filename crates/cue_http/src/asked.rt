@@ -1,4 +1,4 @@
-use crate::question::{Answer, Course, Question};
+use crate::question::{Answer, Course, Question, Wanted};
 use crate::rounds::{Gathers, News};
 use crate::serving::Bounds;
 use mio::Poll;
@@ -10,15 +10,26 @@ use std::time::{Duration, Instant};
 /// A source that fails is asked again after so many seconds at most.
 const MOST_PAUSE: u64 = 60;
 
-/// A source that is asked for its state now and then, and the tag of the state that was taken last.
+/// A source that is asked now and then: for the pieces that it accepted since, or for its state.
 #[derive(Drop)]
 pub(crate) struct Asked {
     number: usize,
     at: SocketAddr,
+    /// The tag of the state that was taken last.
     tag: Vec<u8>,
+    /// The place up to which its pieces were taken. Where there is none it is asked for its state.
+    cursor: Vec<u8>,
     next: Instant,
     pause: Duration,
     question: Option<Question>,
+}
+
+/// What came of a question.
+enum Outcome {
+    Taken,
+    /// The pieces that were asked for are not to be had: the state has to be asked for.
+    Gone,
+    Failed,
 }
 
 /// The token of the connection to the source with this number.
@@ -38,6 +49,7 @@ impl Asked {
             number,
             at,
             tag: Vec::new(alloc),
+            cursor: Vec::new(alloc),
             next,
             pause,
             question: None,
@@ -61,7 +73,12 @@ impl Asked {
         }
         let until = now.checked_add(bounds.idle).unwrap_or(now);
         let token = token_of(self.number);
-        match Question::begin(rt, rt.alloc(), poll, token, self.at, &self.tag, until) {
+        let wanted = if self.cursor.is_empty() {
+            Wanted::State(&self.tag)
+        } else {
+            Wanted::Pieces(&self.cursor)
+        };
+        match Question::begin(rt, rt.alloc(), poll, token, self.at, wanted, until) {
             Ok(question) => self.question = Some(question),
             Err(_) => self.failed(rt, now, service),
         }
@@ -78,30 +95,49 @@ impl Asked {
     where
         H: AllocGlobal + Net + RandomSource,
     {
-        let Some(question) = &mut self.question else {
+        let Some(mut question) = self.question.take() else {
             return;
         };
         question.step(now);
         if question.course() == Course::Waiting {
+            self.question = Some(question);
             return;
         }
-        let mut tag = Vec::new(rt.alloc());
-        let taken = match question.answer() {
-            Answer::State { bytes, tag: known } => {
-                service.pulled(bytes) && tag.extend_from_slice(known).is_ok()
+        match self.take(&question, service) {
+            Outcome::Taken => {
+                self.pause = bounds.every;
+                self.next = later(now, drawn(rt, bounds.every));
+                service.hear(News::Answered(self.number));
             }
-            Answer::Same => tag.extend_from_slice(&self.tag).is_ok(),
-            Answer::None => false,
-        };
-        self.question = None;
-        if taken {
-            self.tag = tag;
-            self.pause = bounds.every;
-            self.next = later(now, drawn(rt, bounds.every));
-            service.hear(News::Answered(self.number));
-        } else {
-            self.failed(rt, now, service);
+            Outcome::Gone => {
+                self.cursor.clear();
+                self.next = now;
+            }
+            Outcome::Failed => self.failed(rt, now, service),
         }
+    }
+
+    /// Takes what an answer brings.
+    fn take<S: Gathers>(&mut self, question: &Question, service: &mut S) -> Outcome {
+        match question.answer() {
+            Answer::State { bytes, tag } => {
+                if !service.pulled(bytes) {
+                    return Outcome::Failed;
+                }
+                remember(&mut self.tag, tag);
+            }
+            Answer::Same => {}
+            Answer::Pieces(bytes) => {
+                if !service.pulled_pieces(bytes) {
+                    self.cursor.clear();
+                    return Outcome::Failed;
+                }
+            }
+            Answer::Gone => return Outcome::Gone,
+            Answer::None => return Outcome::Failed,
+        }
+        remember(&mut self.cursor, question.cursor());
+        Outcome::Taken
     }
 
     /// One that fails is asked less often.
@@ -112,6 +148,15 @@ impl Asked {
             .saturating_mul(2)
             .min(Duration::from_secs(MOST_PAUSE));
         service.hear(News::Failed(self.number));
+    }
+}
+
+/// Remembers these bytes, or none where memory is wanting: then the question asks for more than it
+/// had to.
+fn remember(place: &mut Vec<u8>, bytes: &[u8]) {
+    place.clear();
+    if place.extend_from_slice(bytes).is_err() {
+        place.clear();
     }
 }
 

@@ -1,6 +1,6 @@
 //! Many HTTP connections on one thread: an event loop over `mio` that moves bytes between sockets
-//! and `http_server`'s connections, lets answers go in rounds, and asks other sites for their
-//! states now and then.
+//! and `http_server`'s connections, lets answers go in rounds, and asks other sites now and
+//! then for what they accepted.
 #![tactic(auto)]
 
 mod asked;

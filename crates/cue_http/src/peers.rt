@@ -137,21 +137,20 @@ impl Peers {
 
     fn free_place(&mut self) -> Option<usize> {
         if self.free.is_none() && self.places.len() < self.bounds.most {
-            if self.make_place().is_err() {
-                return None;
-            }
+            self.make_place();
         }
         self.free
     }
 
-    /// Makes one more place, and room in both lists for each place that there is.
-    fn make_place(&mut self) -> Result<(), AllocError> {
-        self.listed.reserve(self.places.len().saturating_add(1))?;
-        self.next.reserve(self.places.len().saturating_add(1))?;
+    /// Makes one more place, and room in both lists for each place that there is, where there is
+    /// memory.
+    fn make_place(&mut self) {
         let place = self.places.len();
-        self.places.push(Place::Free(None))?;
-        self.free = Some(place);
-        Ok(())
+        let count = place.saturating_add(1);
+        let has_room = reserve(&mut self.listed, &mut self.next, count).is_ok();
+        if has_room && add(&mut self.places, Place::Free(None)).is_ok() {
+            self.free = Some(place);
+        }
     }
 
     /// Looks for those whose time is over, now and then.
@@ -253,6 +252,18 @@ impl Peers {
         mem::swap(&mut self.listed, &mut self.next);
         !self.listed.is_empty()
     }
+}
+
+/// Adds an item at the end. Of items of any type, so that a proof of a caller does not open them.
+pub(crate) fn add<T: Drop>(list: &mut Vec<T>, item: T) -> Result<(), AllocError> {
+    list.push(item)?;
+    Ok(())
+}
+
+/// Makes room for so many in both lists.
+fn reserve(one: &mut Vec<usize>, other: &mut Vec<usize>, count: usize) -> Result<(), AllocError> {
+    one.reserve(count)?;
+    other.reserve(count)
 }
 
 /// How many wait, where one did so or not, and does so or not.

@@ -22,7 +22,18 @@ const PIECE: usize = 16 * 1024;
 pub(crate) enum Course {
     Waiting,
     Answered,
+    /// What came is no answer, or longer than any.
+    Unfit,
     Failed,
+}
+
+/// What a source is asked for.
+#[derive(Clone, Copy, Debug, PartialEq, Eq)]
+pub(crate) enum Wanted<'a> {
+    /// Its state, unless it is the one with this tag.
+    State(&'a [u8]),
+    /// The pieces that it accepted behind this place.
+    Pieces(&'a [u8]),
 }
 
 /// What a source answered.
@@ -31,14 +42,20 @@ pub(crate) enum Answer<'a> {
     State { bytes: &'a [u8], tag: &'a [u8] },
     /// Its state is the one that was asked about.
     Same,
+    /// The pieces that were asked for.
+    Pieces(&'a [u8]),
+    /// It doesn't have these pieces, or its answer for them can't be used.
+    Gone,
     /// Nothing that can be used.
     None,
 }
 
-/// A question to a source for its state, and what came of the answer so far.
+/// A question to a source, and what came of the answer so far.
 #[derive(Drop)]
 pub(crate) struct Question {
     stream: TcpStream,
+    /// It asks for pieces, and else for the state.
+    for_pieces: bool,
     client: Client,
     question: Vec<u8>,
     sent: usize,
@@ -46,31 +63,54 @@ pub(crate) struct Question {
     input: Vec<u8>,
     body: Vec<u8>,
     tag: Vec<u8>,
+    cursor: Vec<u8>,
     code: u16,
     course: Course,
     until: Instant,
 }
 
-fn ask(alloc: Global, client: &mut Client, known: &[u8]) -> Result<Vec<u8>, AllocError> {
+/// The target of a question.
+fn target(alloc: Global, wanted: Wanted<'_>) -> Result<Vec<u8>, AllocError> {
+    match wanted {
+        Wanted::State(_) => Vec::from_slice(alloc, b"/state"),
+        Wanted::Pieces(cursor) => {
+            let mut target = Vec::from_slice(alloc, b"/pieces?after=")?;
+            target.extend_from_slice(cursor)?;
+            Ok(target)
+        }
+    }
+}
+
+/// The tag that a question names, as that of the state that is had.
+fn known(wanted: Wanted<'_>) -> Option<&[u8]> {
+    match wanted {
+        Wanted::State(tag) if !tag.is_empty() => Some(tag),
+        _ => None,
+    }
+}
+
+fn ask(alloc: Global, client: &mut Client, wanted: Wanted<'_>) -> Result<Vec<u8>, AllocError> {
     let mut question = Vec::new(alloc);
     let host = Header {
         name: b"host",
         value: b"site",
     };
-    let none_match = Header {
-        name: b"if-none-match",
-        value: known,
-    };
-    let written = if known.is_empty() {
-        client.write_request(&mut question, b"GET", b"/state", &[host], BodySize::Empty)
-    } else {
-        client.write_request(
-            &mut question,
-            b"GET",
-            b"/state",
-            &[host, none_match],
-            BodySize::Empty,
-        )
+    let target = target(alloc, wanted)?;
+    let written = match known(wanted) {
+        None => client.write_request(&mut question, b"GET", &target, &[host], BodySize::Empty),
+        Some(tag) => {
+            let none_match = Header {
+                name: b"if-none-match",
+                value: tag,
+            };
+            client.write_request(
+                &mut question,
+                b"GET",
+                &target,
+                &[host, none_match],
+                BodySize::Empty,
+            )
+        }
     };
     if written.is_err() || client.write_end(&mut question, &[]).is_err() {
         return Err(AllocError);
@@ -78,19 +118,27 @@ fn ask(alloc: Global, client: &mut Client, known: &[u8]) -> Result<Vec<u8>, Allo
     Ok(question)
 }
 
+/// Whether a socket that answers so can be asked again later; else its error.
+fn waits(error: io::Error) -> io::Result<()> {
+    match error.kind() {
+        ErrorKind::WouldBlock | ErrorKind::NotConnected => Ok(()),
+        _ => Err(error),
+    }
+}
+
 impl Question {
-    /// Begins to ask a source for its state, unless it is still the one with this tag.
+    /// Begins to ask a source.
     pub(crate) fn begin(
         net: &impl Net,
         alloc: Global,
         poll: &Poll,
         token: usize,
         source: SocketAddr,
-        known: &[u8],
+        wanted: Wanted<'_>,
         until: Instant,
     ) -> io::Result<Question> {
         let mut client = Client::new(Limits::default());
-        let question = ask(alloc, &mut client, known)?;
+        let question = ask(alloc, &mut client, wanted)?;
         let mut stream = TcpStream::connect(net, source)?;
         poll.registry().register(
             &mut stream,
@@ -99,6 +147,7 @@ impl Question {
         )?;
         Ok(Question {
             stream,
+            for_pieces: matches!(wanted, Wanted::Pieces(_)),
             client,
             question,
             sent: 0,
@@ -106,6 +155,7 @@ impl Question {
             input: Vec::new(alloc),
             body: Vec::new(alloc),
             tag: Vec::new(alloc),
+            cursor: Vec::new(alloc),
             code: 0,
             course: Course::Waiting,
             until,
@@ -118,14 +168,22 @@ impl Question {
 
     /// What the whole answer says.
     pub(crate) fn answer(&self) -> Answer<'_> {
-        match (self.course, self.code) {
-            (Course::Answered, 200) => Answer::State {
+        match (self.for_pieces, self.course, self.code) {
+            (false, Course::Answered, 200) => Answer::State {
                 bytes: &self.body,
                 tag: &self.tag,
             },
-            (Course::Answered, 304) => Answer::Same,
+            (false, Course::Answered, 304) => Answer::Same,
+            (true, Course::Answered, 200) => Answer::Pieces(&self.body),
+            (true, Course::Answered | Course::Unfit, _) => Answer::Gone,
             _ => Answer::None,
         }
+    }
+
+    /// The place behind all pieces that the source had accepted as it answered; none where it named
+    /// none.
+    pub(crate) fn cursor(&self) -> &[u8] {
+        &self.cursor
     }
 
     /// Goes on as far as the socket lets it.
@@ -133,21 +191,28 @@ impl Question {
         if self.course != Course::Waiting {
             return;
         }
-        if self.until <= now || self.send().is_err() || self.receive().is_err() {
+        if self.until <= now || self.send().is_err() {
             self.course = Course::Failed;
+            return;
+        }
+        match self.receive() {
+            Ok(()) => {}
+            Err(error) if error.kind() == ErrorKind::InvalidData => self.course = Course::Unfit,
+            Err(_) => self.course = Course::Failed,
         }
     }
 
     fn send(&mut self) -> io::Result<()> {
         for _ in 0..MOST_STEPS {
-            if self.sent >= self.question.len() {
+            let Some(rest) = self.question.get(self.sent..) else {
+                return Ok(());
+            };
+            if rest.is_empty() {
                 return Ok(());
             }
-            match self.stream.write(&self.question[self.sent..]) {
-                Ok(count) => self.sent += count,
-                Err(error) if error.kind() == ErrorKind::WouldBlock => return Ok(()),
-                Err(error) if error.kind() == ErrorKind::NotConnected => return Ok(()),
-                Err(error) => return Err(error),
+            match self.stream.write(rest) {
+                Ok(count) => self.sent = self.sent.saturating_add(count),
+                Err(error) => return waits(error),
             }
         }
         Ok(())
@@ -164,9 +229,7 @@ impl Question {
                     }
                     self.read_answer()?;
                 }
-                Err(error) if error.kind() == ErrorKind::WouldBlock => return Ok(()),
-                Err(error) if error.kind() == ErrorKind::NotConnected => return Ok(()),
-                Err(error) => return Err(error),
+                Err(error) => return waits(error),
             }
             if self.course != Course::Waiting {
                 return Ok(());
@@ -199,7 +262,8 @@ impl Question {
             match progress.event {
                 Event::Head(head) => {
                     self.code = head.code;
-                    note_tag(&mut self.tag, rest, &spans)?;
+                    note(&mut self.tag, b"etag", rest, &spans)?;
+                    note(&mut self.cursor, b"cuestore-pieces", rest, &spans)?;
                 }
                 Event::Data(span) => {
                     let Some(piece) = rest.get(span.start..span.end) else {
@@ -227,16 +291,26 @@ impl Question {
     }
 }
 
-/// Notes the tag among the fields of a head.
-fn note_tag(tag: &mut Vec<u8>, head: &[u8], spans: &[HeaderSpan]) -> Result<(), AllocError> {
-    for span in spans {
-        if let Some(name) = head.get(span.name.start..span.name.end) {
-            if name == b"etag".as_slice() {
-                tag.clear();
-                if let Some(value) = head.get(span.value.start..span.value.end) {
-                    tag.extend_from_slice(value)?;
-                }
-            }
+/// The value of a field of a head, where it has this name, in lower case.
+fn value_of<'a>(head: &'a [u8], field: &HeaderSpan, wanted: &[u8]) -> Option<&'a [u8]> {
+    let name = head.get(field.name.start..field.name.end)?;
+    if !name.eq_ignore_ascii_case(wanted) {
+        return None;
+    }
+    head.get(field.value.start..field.value.end)
+}
+
+/// Notes the value of the last field of this name, in lower case, among those of a head.
+fn note(
+    value: &mut Vec<u8>,
+    wanted: &[u8],
+    head: &[u8],
+    fields: &[HeaderSpan],
+) -> Result<(), AllocError> {
+    for field in fields {
+        if let Some(found) = value_of(head, field, wanted) {
+            value.clear();
+            value.extend_from_slice(found)?;
         }
     }
     Ok(())

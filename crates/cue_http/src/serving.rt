@@ -1,5 +1,5 @@
 use crate::asked::{Asked, token_of};
-use crate::peers::{LISTENER, Peers};
+use crate::peers::{LISTENER, Peers, add};
 use crate::rounds::{Gathers, InRound, News};
 use http_server::{Config, Settle};
 use log::Log;
@@ -110,7 +110,7 @@ fn asked_of(
 ) -> io::Result<Vec<Asked>> {
     let mut asked = Vec::new(alloc);
     for (number, source) in sources.iter().enumerate() {
-        asked.push(Asked::new(alloc, number, source.at, now, every))?;
+        add(&mut asked, Asked::new(alloc, number, source.at, now, every))?;
     }
     Ok(asked)
 }

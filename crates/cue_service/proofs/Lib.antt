@@ -1,8 +1,11 @@
 pub mod Alike
+pub mod Asking
 pub mod Condensing
 pub mod Consistent
 pub mod Digests
+pub mod Gathered
 pub mod Keeping
+pub mod Listing
 pub mod Opening
 pub mod Rounds
 pub mod Routes

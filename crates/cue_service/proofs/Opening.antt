@@ -37,3 +37,8 @@ took (Err e) failed p = absurd cc
 pub refused : {X E P : Type 0} (r : Result X E) → is_ok r ≡ false → OnErr r P → P
 refused (Ok x) fine p = absurd cc
 refused (Err e) failed p = p
+
+-- what follows of that
+pub on_ok : {X E A B : Type 0} (r : Result X E) → (A → B) → OnOk r A → OnOk r B
+on_ok (Ok x) f a = f a
+on_ok (Err e) f a = tt

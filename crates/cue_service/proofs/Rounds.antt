@@ -12,13 +12,14 @@ use Rattle.cue_journal.specs.declared.pair.Pair.{Pair}
 use Rattle.cue_service.specs.declared.site.Site.{Site}
 use Rattle.cue_service.specs.declared.desk.Desk.{Desk}
 use Rattle.cue_service.specs.declared.route.Route.{Route}
-use Rattle.cue_service.specs.declared.route.Route.TheVariants.{Ask, Take, Health, Metrics, Page, OtherMethod, Unknown}
+use Rattle.cue_service.specs.declared.route.Route.TheVariants.{Ask, Pieces, Take, Health, Metrics, Page, OtherMethod, Unknown}
 use Rattle.cue_service.specs.declared.route.Hand.{Hand}
 use Rattle.cue_service.specs.declared.route.Hand.TheVariants as hands
 use Rattle.cue_service.specs.Requests.{IsRoute, handed, piece_in}
-use Rattle.cue_service.specs.Answering.{Answers, AnswersAs, IsAsked, IsSame, IsTaken, status_of}
+use Rattle.cue_service.specs.Answering.{Answers, AnswersAs, IsAsked, IsSame, IsTaken, GathersPieces, status_of}
+use Rattle.cue_service.specs.Listing.{AreListed, IsToldPieces}
 use Rattle.cue_service.specs.Sites.{AnswersAt, IsConsistent, Settles, Leaves}
-use Rattle.cue_service.specs.Promise.{acknowledged_by, acknowledged}
+use Rattle.cue_service.specs.Promise.{acknowledged_by, acknowledged, AreSomeOf}
 use Rattle.cue_answer.specs.declared.question.Question.{Question}
 use Rattle.cue_answer.specs.declared.question.Question.TheVariants as questions
 use Rattle.cue_answer.specs.declared.question.Status.{Status}
@@ -57,8 +58,14 @@ asked : (question : Question) (old new : Desk) (request : Request (List ℕ)) (r
 asked question old new request response same (inl known) = nothing old new request response 304 same known.0 (omega arith)
 asked question old new request response same (inr told) = nothing old new request response _ same told.2 (told_status question told.0.status)
 
+told_pieces : (old new : Desk) (request : Request (List ℕ)) (response : Response) → IsSame old new → IsToldPieces old.pieces request response → Moves old request response new
+told_pieces old new request response same (inl told) = nothing old new request response 200 same told.status (omega arith)
+told_pieces old new request response same (inr (inl gone)) = nothing old new request response 410 same gone.status (omega arith)
+told_pieces old new request response same (inr (inr none)) = nothing old new request response 400 same none.status (omega arith)
+
 moves : (route : Route) (old new : Desk) (request : Request (List ℕ)) (response : Response) → IsRoute route request → AnswersAs route old request response new → Moves old request response new
 moves (Ask question) old new request response is a = asked question old new request response a.0 a.1
+moves Pieces old new request response is a = told_pieces old new request response a.0 a.1
 moves (Take hand) old new request response is (inl taken) =
     inl (handed hand (body_of request), taken.0, is_acknowledged request response taken.1 ∙ ap (λ (p : Piece). p ∷ []) (handed_in hand request is))
 moves (Take hand) old new request response is (inr refused) = inr (refused.0, not_acknowledged request response refused.1)
@@ -74,6 +81,25 @@ moved old new request response answers = by answers.2
     by : AnswersAs answers.0 old request response new ⊎ (IsSame old new × (response.status ≡ 507)) → Moves old request response new
     by (inl told) = moves answers.0 old new request response answers.1 told
     by (inr wanting) = nothing old new request response 507 wanting.0 wanting.1 (omega arith)
+
+one_listed : (old new : Desk) (request : Request (List ℕ)) (response : Response) (accepted : List Piece) → Answers old request response new
+    → AreListed accepted old.pieces → AreListed (accepted ++ acknowledged_by (request, response)) new.pieces
+one_listed old new request response accepted answers before = by (moved old new request response answers)
+  where
+    P : List Piece → Type 0
+    P more = AreListed (accepted ++ more) new.pieces
+
+    by : Moves old request response new → P (acknowledged_by (request, response))
+    by (inl taken) = subst P (sym taken.2) (taken.1.listed accepted before)
+    by (inr same) = subst P (sym same.1) (subst (λ (l : List Piece). AreListed l new.pieces) (sym (append-nil accepted)) (subst (AreListed accepted) (sym same.0.pieces) before))
+
+pub listed_still : {D : Type 0} (old called : Site D) (calls : List Call) (accepted : List Piece) → AreListed accepted old.desk.pieces → Chain AnswersAt old calls called
+    → AreListed (accepted ++ acknowledged calls) called.desk.pieces
+listed_still {D} old called [] accepted before same =
+    subst (λ (s : Site D). AreListed (accepted ++ []) s.desk.pieces) (sym same) (subst (λ (l : List Piece). AreListed l old.desk.pieces) (sym (append-nil accepted)) before)
+listed_still old called (call ∷ calls) accepted before chain =
+    subst (λ (l : List Piece). AreListed l called.desk.pieces) (append_assoc accepted (acknowledged_by call) (acknowledged calls))
+    (listed_still chain.0 called calls (accepted ++ acknowledged_by call) (one_listed old.desk chain.0.desk call.0 call.1 accepted chain.1.answer before) chain.2)
 
 module _ {D : Type 0} (seen : D → List ℕ) (may_leave : D → List ℕ → Type 0) where
   one_call : (old new : Site D) (request : Request (List ℕ)) (response : Response) (on_disk pieces : List Piece) → AnswersAt old request response new
@@ -94,6 +120,33 @@ module _ {D : Type 0} (seen : D → List ℕ) (may_leave : D → List ℕ → Ty
   held old called (call ∷ calls) on_disk pieces before chain =
       subst (IsConsistent seen may_leave called on_disk) (append_assoc pieces (acknowledged_by call) (acknowledged calls))
       (held chain.0 called calls on_disk (pieces ++ acknowledged_by call) (one_call old chain.0 call.0 call.1 on_disk pieces chain.1 before) chain.2)
+
+  -- what is taken of pieces that come
+  pub gathered : (pulled : List Piece) (old new : Site D) (on_disk pieces accepted : List Piece) → GathersPieces pulled old.desk new.desk → new.files ≡ old.files
+      → IsConsistent seen may_leave old on_disk pieces → AreListed accepted old.desk.pieces
+      → (taken : List Piece) × AreSomeOf taken pulled × IsConsistent seen may_leave new on_disk (pieces ++ taken) × AreListed (accepted ++ taken) new.desk.pieces
+  gathered [] old new on_disk pieces accepted same files before listed = (
+    [],
+    refl,
+    subst (IsConsistent seen may_leave new on_disk) (sym (append-nil pieces)) (same_consistent seen may_leave old new on_disk pieces same files before),
+    subst (λ (l : List Piece). AreListed l new.desk.pieces) (sym (append-nil accepted)) (subst (AreListed accepted) (sym same.pieces) listed),
+  )
+  gathered (piece ∷ pulled) old new on_disk pieces accepted gathers files before listed =
+      let mid : Site D = record { desk = gathers.0; files = old.files; snapshot = old.snapshot } in
+      elim gathers.1 [
+        | inl taken ↦
+            let rest = gathered pulled mid new on_disk (pieces ++ piece ∷ []) (accepted ++ piece ∷ []) gathers.2 files
+            (taken_consistent seen may_leave old mid on_disk pieces piece taken refl before) (taken.listed accepted listed) in (
+              piece ∷ rest.0,
+              inl (rest.0, refl, rest.1),
+              subst (IsConsistent seen may_leave new on_disk) (append_assoc pieces (piece ∷ []) rest.0) rest.2,
+              subst (λ (l : List Piece). AreListed l new.desk.pieces) (append_assoc accepted (piece ∷ []) rest.0) rest.3,
+            )
+        | inr same ↦
+            let rest = gathered pulled mid new on_disk pieces accepted gathers.2 files
+            (same_consistent seen may_leave old mid on_disk pieces same refl before) (subst (AreListed accepted) (sym same.pieces) listed) in
+            (rest.0, inr rest.1, rest.2, rest.3)
+      ]
 
   pub stands : (old called new : Site D) (calls : List Call) (on_disk pieces : List Piece) → IsConsistent seen may_leave old on_disk pieces → Chain AnswersAt old calls called
       → Settles seen may_leave called true new → IsConsistent seen may_leave new (pieces ++ acknowledged calls) (pieces ++ acknowledged calls)

@@ -4,7 +4,7 @@ use Rattle.http.specs.declared.request.Request.{Request}
 use Rattle.http.specs.Request.{head_of}
 use Rattle.cue_answer.specs.declared.question.Question.TheVariants as questions
 use Rattle.cue_service.specs.declared.route.Route.{Route}
-use Rattle.cue_service.specs.declared.route.Route.TheVariants.{Ask, Take, Health, Metrics, Page, OtherMethod, Unknown}
+use Rattle.cue_service.specs.declared.route.Route.TheVariants.{Ask, Pieces, Take, Health, Metrics, Page, OtherMethod, Unknown}
 use Rattle.cue_service.specs.declared.route.Hand.TheVariants as hands
 use Rattle.cue_service.specs.Requests.{IsRoute, path_of}
 use Rattle.cue_service.specs.Inner.Routes.{IsReadAt, IsWrittenAt}
@@ -14,6 +14,7 @@ reads (Ask questions.Export) request at method = (method, at)
 reads (Ask questions.Print) request at method = (method, at)
 reads (Ask questions.Report) request at method = (method, at)
 reads (Ask questions.State) request at method = (method, at)
+reads Pieces request at method = (method, at)
 reads (Take hand) request at method = absurd at
 reads Health request at method = (method, at)
 reads Metrics request at method = (method, at)
@@ -23,6 +24,7 @@ reads Unknown request at method = tt
 
 pub writes : (route : Route) (request : Request (List ℕ)) → IsWrittenAt route (path_of request) → (head_of request).method ≡ codes "POST" → IsRoute route request
 writes (Ask question) request at method = absurd at
+writes Pieces request at method = absurd at
 writes (Take hands.Text) request at method = (method, at)
 writes (Take hands.State) request at method = (method, at)
 writes Health request at method = absurd at

@@ -20,13 +20,13 @@ use Rattle.http_server.specs.Exchange.{Call}
 use Rattle.cue_service.specs.declared.desk.Desk.{Desk}
 use Rattle.cue_service.specs.declared.site.Site.{Site}
 use Rattle.cue_service.specs.declared.route.Route.{Route}
-use Rattle.cue_service.specs.declared.route.Route.TheVariants.{Ask, Take, Health, Metrics, Page, OtherMethod, Unknown}
+use Rattle.cue_service.specs.declared.route.Route.TheVariants.{Ask, Pieces, Take, Health, Metrics, Page, OtherMethod, Unknown}
 use Rattle.cue_service.specs.declared.route.Hand.{Hand}
 use Rattle.cue_service.specs.declared.route.Hand.TheVariants as hands
 use Rattle.cue_service.specs.Requests.{IsRoute, path_of}
-use Rattle.cue_service.specs.Answering.{Answers, AnswersAs, IsAsked, IsSame, IsTaken}
+use Rattle.cue_service.specs.Answering.{Answers, AnswersAs, IsAsked, IsSame, IsTaken, GathersPieces}
 use Rattle.cue_service.specs.Promise.{acknowledged_by}
-use Rattle.cue_service.specs.Worlds.{IsWorld, IsStateAnswer, AreEventsOf, ComesTo, TookOver, AreCallsEvents, AreGathersEvents}
+use Rattle.cue_service.specs.Worlds.{IsWorld, IsStateAnswer, AreEventsOf, ComesTo, TookOver, IsPieceIn, TookPieces, AreCallsEvents, AreGathersEvents, AreGatheredPiecesEvents}
 use Rattle.cue_service.proofs.Rounds.{Moves, moved}
 
 -- a site accepts pieces
@@ -239,6 +239,7 @@ asked_quiet questions.State old new request response route (inr told) = inl ((ro
 
 quiet : (route : Route) (old new : Desk) (request : Request (List ℕ)) (response : Response) → IsRoute route request → AnswersAs route old request response new → is_quiet old request response
 quiet (Ask question) old new request response is a = asked_quiet question old new request response is a.1
+quiet Pieces old new request response is a = inr (other_path (codes "/pieces") request response is.1 (other_at 1 _ _ (omega arith)))
 quiet (Take hand) old new request response is a = inr (posted hand is)
   where
     method : (hand : Hand) → IsRoute (Take hand) request → (head_of request).method ≡ codes "POST"
@@ -310,3 +311,48 @@ are_gathers_events sound number old new bytes messages tables sets gathers found
     by : IsTaken (state bytes) old.desk new.desk ⊎ IsSame old.desk new.desk → (new.desk.board ≡ old.desk.board) ⊎ TookOver number bytes messages tables sets new.desk.board
     by (inl taken) = inr (takes_state sound tables messages sets number old.desk.board new.desk.board bytes w found taken.fits taken.acceptable taken.adds taken.valid)
     by (inr same) = inl same.table
+
+-- one piece of another site is taken
+record TookPiece (site : ℕ) (piece : Piece) (messages : List (List ℕ)) (tables : List Table) (sets : Sets) (after : Table) : Type 0 where
+  events : List world.Event
+  are : IsPieceIn site piece messages events
+  comes : ComesTo sets events (slice_set tables site after) messages
+
+took_piece : IsSound Table language → (tables : List Table) (messages : List (List ℕ)) (sets : Sets) (site : ℕ) (old new : Desk) (piece : Piece)
+    → IsWorld tables messages sets → slice_get tables site ≡ Some old.board → IsTaken piece old new → TookPiece site piece messages tables sets new.board
+took_piece sound tables messages sets site old new (text t) w found taken = record {
+  events = world.submit site t ∷ [];
+  are = refl;
+  comes = takes_text tables messages sets site old.board new.board t w found taken.acceptable taken.adds taken.valid;
+}
+took_piece sound tables messages sets site old new (state bytes) w found taken =
+    let done = takes_state sound tables messages sets site old.board new.board bytes w found taken.fits taken.acceptable taken.adds taken.valid in
+    record { events = done.events; are = done.are; comes = done.comes }
+
+-- pieces of another site are taken, one after the other
+took_pieces : IsSound Table language → (pieces : List Piece) (site : ℕ) (old new : Desk) (messages : List (List ℕ)) (tables : List Table) (sets : Sets)
+    → GathersPieces pieces old new → slice_get tables site ≡ Some old.board → IsWorld tables messages sets
+    → TookPieces site pieces messages tables sets new.board
+took_pieces sound [] site old new messages tables sets same found w = record {
+  events = [];
+  are = refl;
+  comes = nothing tables messages messages sets site old.board new.board [] w found same.table refl refl;
+}
+took_pieces sound (piece ∷ pieces) site old new messages tables sets gathers found w = elim gathers.1 [
+  | inl taken ↦
+      let between = gathers.0.board in
+      let first = took_piece sound tables messages sets site old gathers.0 piece w found taken in
+      let rest = took_pieces sound pieces site gathers.0 new messages (slice_set tables site between) (reach sets first.events first.comes.0) gathers.2 (get_again tables site old.board between found) first.comes.2 in
+      record {
+        events = first.events ++ rest.events;
+        are = inr (first.events, rest.events, first.are, rest.are, refl);
+        comes = then sets first.events rest.events (slice_set tables site between) (slice_set tables site new.board) messages messages first.comes
+            (subst (λ ts. ComesTo (reach sets first.events first.comes.0) rest.events ts messages) (set_again tables site between new.board) rest.comes);
+      }
+  | inr same ↦
+      let rest = took_pieces sound pieces site gathers.0 new messages tables sets gathers.2 (found ∙ ap (λ (t : Table). Some t) (sym same.table)) w in
+      record { events = rest.events; are = inl rest.are; comes = rest.comes }
+]
+
+pub are_pieces_events : {D : Type 0} → IsSound Table language → AreGatheredPiecesEvents D
+are_pieces_events sound number old new pieces messages tables sets gathers found w = took_pieces sound pieces number old.desk new.desk messages tables sets gathers.gathers found w

@@ -19,8 +19,9 @@ use Rattle.cue_journal.specs.Batches.{batch_bytes}
 use Rattle.cue_service.specs.declared.desk.Desk.{Desk}
 use Rattle.cue_service.specs.declared.route.Hand.{Hand}
 use Rattle.cue_service.specs.declared.route.Route.{Route}
-use Rattle.cue_service.specs.declared.route.Route.TheVariants.{Ask, Take, Health, Metrics, Page, OtherMethod, Unknown}
+use Rattle.cue_service.specs.declared.route.Route.TheVariants.{Ask, Pieces, Take, Health, Metrics, Page, OtherMethod, Unknown}
 use Rattle.cue_service.specs.Entries.{entry_of}
+use Rattle.cue_service.specs.Listing.{AreListed, IsNamed, IsToldPieces}
 use Rattle.cue_service.specs.Requests.{IsRoute, HasField, handed}
 use Rattle.cue_service.specs.Tags.{tag_of}
 
@@ -34,12 +35,13 @@ pub record Brings (bytes : List ℕ) (old new : Table) : Type 0 where
 pub record IsSame (old new : Desk) : Type 0 where
   pub table : new.board ≡ old.board
   pub waits : batch_bytes new.batch ≡ batch_bytes old.batch
+  pub pieces : new.pieces ≡ old.pieces
 
 abbrev pub bytes_in : Piece → List ℕ
 bytes_in (text bytes) = bytes
 bytes_in (state bytes) = bytes
 
--- the table takes in a piece, which waits behind the others
+-- the table takes in a piece, which waits behind the others, and is the last that was accepted
 pub record IsTaken (piece : Piece) (old new : Desk) : Type 0 where
   pub acceptable : IsAcceptable piece
   pub fits : length (bytes_in piece) < 2 ^ 64
@@ -47,6 +49,9 @@ pub record IsTaken (piece : Piece) (old new : Desk) : Type 0 where
   pub valid : language.IsValid new.board
   pub waits : IsBatch (batch_bytes old.batch) → IsBatch (batch_bytes new.batch)
       × (recovered (batch_bytes new.batch) ≡ recovered (batch_bytes old.batch) ++ entry_of piece ∷ [])
+  pub same_run : new.pieces.run ≡ old.pieces.run
+  pub listed : (accepted : List Piece) → AreListed accepted old.pieces
+      → AreListed (accepted ++ piece ∷ []) new.pieces
 
 -- the number that goes with what is told
 abbrev pub status_of : Question → Status → ℕ
@@ -70,7 +75,8 @@ IsHanded hand old request response new =
 
 abbrev pub AnswersAs : Route → Desk → Request (List ℕ) → Response → Desk → Type 0
 AnswersAs (Ask question) old request response new =
-    IsSame old new × IsAsked question old.board request response
+    IsSame old new × IsAsked question old.board request response × IsNamed question old.pieces response
+AnswersAs Pieces old request response new = IsSame old new × IsToldPieces old.pieces request response
 AnswersAs (Take hand) old request response new = IsHanded hand old request response new
 AnswersAs Health old request response new = IsSame old new × (response.status ≡ 200)
 AnswersAs Metrics old request response new = IsSame old new × (response.status ≡ 200)
@@ -84,6 +90,16 @@ Answers old request response new =
     (route : Route) × IsRoute route request
     × (AnswersAs route old request response new ⊎ (IsSame old new × (response.status ≡ 507)))
 
--- the state of another site is taken, or nothing changes
+-- a piece of another site is taken, or nothing changes
+abbrev pub GathersPiece : Piece → Desk → Desk → Type 0
+GathersPiece piece old new = IsTaken piece old new ⊎ IsSame old new
+
+-- so is its state
 abbrev pub Gathers : List ℕ → Desk → Desk → Type 0
-Gathers bytes old new = IsTaken (state bytes) old new ⊎ IsSame old new
+Gathers bytes old new = GathersPiece (state bytes) old new
+
+-- so are pieces of it, one after the other
+abbrev pub GathersPieces : List Piece → Desk → Desk → Type 0
+GathersPieces [] old new = IsSame old new
+GathersPieces (piece ∷ pieces) old new =
+    (next : Desk) × GathersPiece piece old next × GathersPieces pieces next new

@@ -2,6 +2,7 @@ pub mod Answering
 pub mod Entries
 pub mod Inner
 pub mod Kept
+pub mod Listing
 pub mod Promise
 pub mod Requests
 pub mod Sites

@@ -1,5 +1,5 @@
 -- What a request asks for.
-use Rattle.std.specs.Prelude.{◌≡◌, ◌⊎◌, ℕ, List, codes, Some, if◌then◌else◌}
+use Rattle.std.specs.Prelude.{◌≡◌, ◌⊎◌, ◌++◌, ℕ, List, codes, Option, Some, if◌then◌else◌}
 use Rattle.std.specs.Str.{bytes_eq}
 use Rattle.cue_lattice.specs.World.{Piece, text, state}
 use Rattle.cue_answer.specs.declared.question.Question.TheVariants as questions
@@ -7,9 +7,9 @@ use Rattle.http.specs.declared.request.Request.{Request}
 use Rattle.http.specs.Request.{head_of, body_of}
 use Rattle.http_header.specs.FieldValue.{FieldValue}
 use Rattle.http_header.specs.HeaderMap.{get}
-use Rattle.http_uri.specs.Uri.{uri_path}
+use Rattle.http_uri.specs.Uri.{uri_path, uri_query}
 use Rattle.cue_service.specs.declared.route.Route.{Route}
-use Rattle.cue_service.specs.declared.route.Route.TheVariants.{Ask, Take, Health, Metrics, Page, OtherMethod, Unknown}
+use Rattle.cue_service.specs.declared.route.Route.TheVariants.{Ask, Pieces, Take, Health, Metrics, Page, OtherMethod, Unknown}
 use Rattle.cue_service.specs.declared.route.Hand.{Hand}
 use Rattle.cue_service.specs.declared.route.Hand.TheVariants as hands
 
@@ -31,6 +31,7 @@ IsRoute (Ask questions.Export) request = Reads (codes "/export") request
 IsRoute (Ask questions.Print) request = Reads (codes "/print") request
 IsRoute (Ask questions.Report) request = Reads (codes "/report") request
 IsRoute (Ask questions.State) request = Reads (codes "/state") request
+IsRoute Pieces request = Reads (codes "/pieces") request
 IsRoute (Take hands.Text) request = Writes (codes "/fragments") request
 IsRoute (Take hands.State) request = Writes (codes "/state") request
 IsRoute Health request = Reads (codes "/healthz") request
@@ -48,6 +49,14 @@ handed hands.State bytes = state bytes
 abbrev pub piece_in : Request (List ℕ) → Piece
 piece_in request =
     if bytes_eq (path_of request) (codes "/state") then state (body_of request) else text (body_of request)
+
+-- what stands behind the question mark of a request
+abbrev pub query_of : Request (List ℕ) → Option (List ℕ)
+query_of request = uri_query (head_of request).uri
+
+-- the request asks for what is behind this
+abbrev pub AsksBehind : List ℕ → Request (List ℕ) → Type 0
+AsksBehind place request = query_of request ≡ Some (codes "after=" ++ place)
 
 -- the first field of this name has this value
 abbrev pub HasField : List ℕ → List ℕ → Request (List ℕ) → Type 0

@@ -9,7 +9,7 @@ use Rattle.cue_journal.specs.Settled.{IsBatch}
 use Rattle.cue_journal.specs.Batches.{batch_bytes}
 use Rattle.cue_journal.specs.Pairs.{IsPairReady, MayLeave, entries_of, is_whole}
 use Rattle.cue_service.specs.declared.site.Site.{Site}
-use Rattle.cue_service.specs.Answering.{Answers, Gathers, IsSame}
+use Rattle.cue_service.specs.Answering.{Answers, Gathers, GathersPieces, IsSame}
 use Rattle.cue_service.specs.Entries.{StandFor}
 
 -- the answer to a request, of the table that the site holds then
@@ -20,6 +20,11 @@ pub record AnswersAt {D : Type 0} (old : Site D) (request : Request (List ℕ)) 
 -- the state of another site comes
 pub record GathersAt {D : Type 0} (bytes : List ℕ) (old new : Site D) : Type 0 where
   pub gathers : Gathers bytes old.desk new.desk
+  pub files : new.files ≡ old.files
+
+-- pieces of another site come
+pub record GathersPiecesAt {D : Type 0} (pieces : List Piece) (old new : Site D) : Type 0 where
+  pub gathers : GathersPieces pieces old.desk new.desk
   pub files : new.files ≡ old.files
 
 -- only counts change
@@ -49,6 +54,7 @@ module _ {D : Type 0} (seen : D → List ℕ) (may_leave : D → List ℕ → Ty
     pub consistent : (on_disk pieces : List Piece) → stands ≡ true → IsConsistent old on_disk pieces
         → IsConsistent new pieces pieces
     pub crash : (on_disk pieces : List Piece) → IsConsistent old on_disk pieces → Leaves new on_disk pieces
+    pub listed : new.desk.pieces ≡ old.desk.pieces
     -- once one does not stand, none does
     pub whole_before : stands ≡ true → is_whole old.files ≡ true
     pub broken_after : stands ≡ false → is_whole new.files ≡ false

@@ -8,7 +8,7 @@ use Rattle.http_server.specs.Exchange.{Call, Chain}
 use Rattle.cue_service.specs.declared.site.Site.{Site}
 use Rattle.cue_service.specs.Promise.{acknowledged_by}
 use Rattle.cue_service.specs.Requests.{Reads}
-use Rattle.cue_service.specs.Sites.{AnswersAt, GathersAt}
+use Rattle.cue_service.specs.Sites.{AnswersAt, GathersAt, GathersPiecesAt}
 
 -- Each site of a world holds what its set of pieces makes it, and each message has the bytes that its
 -- set makes.
@@ -63,6 +63,20 @@ pub record Happened (site : ℕ) (calls : List Call) (messages : List (List ℕ)
   pub are : AreAllEventsOf site calls messages events messages'
   pub comes : ComesTo sets events (slice_set tables site after) messages'
 
+-- some of these pieces are handed in
+abbrev pub AreTakenEvents : ℕ → List Piece → List (List ℕ) → List Event → Type 0
+AreTakenEvents site [] messages events = events ≡ []
+AreTakenEvents site (piece ∷ pieces) messages events =
+    AreTakenEvents site pieces messages events
+    ⊎ ((now later : List Event) × IsPieceIn site piece messages now
+    × AreTakenEvents site pieces messages later × (events ≡ now ++ later))
+
+-- with such events a world has this table at its site
+pub record TookPieces (site : ℕ) (pieces : List Piece) (messages : List (List ℕ)) (tables : List Table) (sets : Sets) (after : Table) : Type 0 where
+  pub events : List Event
+  pub are : AreTakenEvents site pieces messages events
+  pub comes : ComesTo sets events (slice_set tables site after) messages
+
 -- the same of state bytes that are handed over
 pub record TookOver (site : ℕ) (bytes : List ℕ) (messages : List (List ℕ)) (tables : List Table) (sets : Sets) (after : Table) : Type 0 where
   pub events : List Event
@@ -82,3 +96,10 @@ AreGathersEvents D =
     (number : ℕ) (old new : Site D) (bytes : List ℕ) (messages : List (List ℕ)) (tables : List Table) (sets : Sets)
     → GathersAt bytes old new → slice_get tables number ≡ Some old.desk.board → IsWorld tables messages sets
     → (new.desk.board ≡ old.desk.board) ⊎ TookOver number bytes messages tables sets new.desk.board
+
+-- So is what it takes of the pieces that another site accepted.
+abbrev pub AreGatheredPiecesEvents : (D : Type 0) → Type 0
+AreGatheredPiecesEvents D =
+    (number : ℕ) (old new : Site D) (pieces : List Piece) (messages : List (List ℕ)) (tables : List Table) (sets : Sets)
+    → GathersPiecesAt pieces old new → slice_get tables number ≡ Some old.desk.board → IsWorld tables messages sets
+    → TookPieces number pieces messages tables sets new.desk.board

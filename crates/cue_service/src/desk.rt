@@ -3,12 +3,14 @@ ghost use Rattle.cue_journal.specs.Blocks.{recovered};
 ghost use Rattle.cue_journal.specs.Settled.{IsBatch};
 ghost use Rattle.cue_journal.specs.Batches.{batch_bytes};
 ghost use Rattle.cue_service.specs.Entries.{entry_of};
+ghost use Rattle.cue_service.specs.Listing.{with_entry};
 ghost use Rattle.http_server.specs.Response.{IsBlank};
 ghost use Rattle.cue_service.specs.Requests.{IsRoute, HasField, handed};
 ghost use Rattle.cue_service.specs.Tags.{tag_of};
 ghost use Rattle.cue_service.specs.Answering.{Answers, AnswersAs, IsAsked, IsHanded, IsTaken, IsSame, Gathers, Brings, status_of};
 
 use crate::board::Board;
+use crate::listed::{name_with_state, tell_pieces};
 use crate::page::page;
 use crate::refusal::{refusal_code, refusal_line};
 use crate::route::{Hand, Route, route_of};
@@ -17,6 +19,7 @@ use bytes::Bytes;
 use cue_answer::{Question, Status};
 use cue_journal::{Batch, Unfit};
 use cue_lattice::{Kind, Memory, Refusal};
+use cue_pieces::Pieces;
 use cue_replica::Replica;
 use http::{HeaderValue, Request, StatusCode, header};
 use http_server::Response;
@@ -28,12 +31,14 @@ pub struct Token {
     pub bytes: Vec<u8>,
 }
 
-/// A site's table, the entries that wait to reach the disk, and who may write.
+/// A site's table, the entries that wait to reach the disk, the pieces that it accepted since its
+/// start, and who may write.
 #[derive(Drop)]
 pub struct Desk {
     pub(crate) alloc: Global,
     pub(crate) board: Board,
     pub(crate) batch: Batch,
+    pub(crate) pieces: Pieces,
     pub(crate) token: Option<Token>,
     pub(crate) standing: Standing,
 }
@@ -48,25 +53,34 @@ fn mark(hand: Hand) -> u8
     }
 }
 
-/// Has a piece wait for the disk.
+/// Has a piece wait for the disk, and lists it.
 ///
 /// # Errors
 ///
 /// `TooLong` for one of 4 GiB, and `Memory`. Nothing changes.
-fn queue(batch: &mut Batch, hand: Hand, bytes: &[u8]) -> Result<(), Refusal>
+fn queue(batch: &mut Batch, pieces: &mut Pieces, hand: Hand, bytes: &[u8]) -> Result<(), Refusal>
     ensures waits { OnOk result (IsBatch (batch_bytes batch.old) → IsBatch (batch_bytes batch.new)
         × (recovered (batch_bytes batch.new)
         ≡ recovered (batch_bytes batch.old) ++ entry_of (handed hand bytes.now) ∷ [])) }
     ensures fits { OnOk result (length bytes.now < 2 ^ 32) }
     ensures appends { OnOk result ((more : List ℕ)
         × (batch_bytes batch.new ≡ batch_bytes batch.old ++ more)) }
+    ensures listed { OnOk result (pieces.new ≡ with_entry pieces.old
+        (entry_of (handed hand bytes.now))) }
     ensures err { OnErr result (batch_bytes batch.new ≡ batch_bytes batch.old) }
+    ensures unlisted { OnErr result (pieces.new ≡ pieces.old) }
 {
+    let waiting = batch.len();
     match batch.push(mark(hand), bytes) {
-        Ok(()) => Ok(()),
-        Err(Unfit::TooLong) => Err(Refusal::at(Kind::TooLong, 0)),
-        Err(Unfit::OutOfMemory(error)) => Err(Refusal::from(Memory::from(error))),
+        Ok(()) => {}
+        Err(Unfit::TooLong) => return Err(Refusal::at(Kind::TooLong, 0)),
+        Err(Unfit::OutOfMemory(error)) => return Err(Refusal::from(Memory::from(error))),
     }
+    if let Err(error) = pieces.add(mark(hand), bytes) {
+        batch.cut(waiting);
+        return Err(Refusal::from(Memory::from(error)));
+    }
+    Ok(())
 }
 
 fn whole(text: String, kind: HeaderValue, response: &mut Response) -> Result<(), Memory>
@@ -78,14 +92,23 @@ fn whole(text: String, kind: HeaderValue, response: &mut Response) -> Result<(),
 }
 
 impl Desk {
-    pub fn new(alloc: Global, board: Replica, token: Option<Token>, standing: Standing) -> Desk
+    /// One that accepted nothing in this run, whose number no other run has.
+    pub fn new(
+        alloc: Global,
+        board: Replica,
+        token: Option<Token>,
+        standing: Standing,
+        run: u64,
+    ) -> Desk
         ensures board { result.board ≡ board }
+        ensures pieces { result.pieces ≡ record { run = run; given_up = 0; kept = [] } }
         ensures empty { batch_bytes result.batch ≡ [] }
     {
         Desk {
             alloc,
             board: Board::new(alloc, board),
             batch: Batch::new(alloc),
+            pieces: Pieces::new(alloc, run),
             token,
             standing,
         }
@@ -116,7 +139,15 @@ impl Desk {
         ensures err { OnErr result (IsSame self.old self.new) }
     {
         match route {
-            Route::Ask(question) => tell(&mut self.board, question, request, response),
+            Route::Ask(question) => {
+                tell(&mut self.board, question, request, response)?;
+                name_with_state(self.alloc, question, &self.pieces, response)
+            }
+            Route::Pieces => {
+                tell_pieces(self.alloc, &self.pieces, request, response)?;
+                self.standing.told_pieces(response.status);
+                Ok(())
+            }
             Route::Take(hand) => self.hand_in(hand, request, response),
             Route::Health => Ok(response.body.push(Bytes::from_static(b"up\n"))?),
             Route::Metrics => {
@@ -177,16 +208,20 @@ impl Desk {
     /// # Errors
     ///
     /// Those of the site. Nothing changes.
-    fn accept(&mut self, hand: Hand, bytes: &[u8]) -> Result<(), Refusal>
+    pub(crate) fn accept(&mut self, hand: Hand, bytes: &[u8]) -> Result<(), Refusal>
         ensures ok { OnOk result (IsTaken (handed hand bytes.now) self.old self.new) }
         ensures err { OnErr result (IsSame self.old self.new) }
     {
         let waiting = self.batch.len();
-        queue(&mut self.batch, hand, bytes)?;
+        queue(&mut self.batch, &mut self.pieces, hand, bytes)?;
         match self.board.accept(hand, bytes) {
-            Ok(()) => Ok(()),
+            Ok(()) => {
+                self.pieces.trim();
+                Ok(())
+            }
             Err(why) => {
                 self.batch.cut(waiting);
+                self.pieces.take_back();
                 Err(why)
             }
         }
@@ -214,15 +249,16 @@ impl Desk {
     /// # Errors
     ///
     /// Those of the site. Nothing changes.
-    fn take_over(&mut self, bytes: &[u8]) -> Result<bool, Refusal>
+    pub(crate) fn take_over(&mut self, bytes: &[u8]) -> Result<bool, Refusal>
         ensures ok { IfOk result (λ brings. Gathers bytes.now self.old self.new) }
         ensures err { OnErr result (IsSame self.old self.new) }
     {
         let Some(next) = grown(self.alloc, self.board.table(), bytes)? else {
             return Ok(false);
         };
-        queue(&mut self.batch, Hand::State, bytes)?;
+        queue(&mut self.batch, &mut self.pieces, Hand::State, bytes)?;
         self.board.replace(next);
+        self.pieces.trim();
         Ok(true)
     }
 

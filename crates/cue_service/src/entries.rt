@@ -37,7 +37,7 @@ fn add_entry(board: &mut Replica, entry: &[u8]) -> Result<(), Refusal>
 }
 
 /// What an entry is that begins with this byte.
-fn hand_of(first: u8) -> Hand
+pub(crate) fn hand_of(first: u8) -> Hand
     ensures { (rest : List ℕ) → handed result rest ≡ piece_of (first ∷ rest) }
 {
     match first {

@@ -5,8 +5,10 @@
 mod board;
 mod desk;
 mod entries;
+mod gathering;
 mod kept;
 mod laws;
+mod listed;
 mod metrics;
 mod page;
 mod refusal;

@@ -109,9 +109,31 @@ impl Standing {
         )?;
         counter(
             text,
+            "cuestored_pieces_gathered_total",
+            "Pieces of other sites that were accepted.",
+            self.gathered_pieces,
+        )?;
+        self.add_questions(text)?;
+        counter(
+            text,
             "cuestored_snapshots_total",
             "Snapshots written.",
             self.snapshots,
+        )
+    }
+
+    fn add_questions(&self, text: &mut String) -> Result<(), Memory> {
+        counter(
+            text,
+            "cuestored_pieces_answers_total",
+            "Questions for pieces that were answered with them.",
+            self.told_pieces,
+        )?;
+        counter(
+            text,
+            "cuestored_pieces_gone_total",
+            "Questions for pieces of which not all are kept.",
+            self.gone_pieces,
         )
     }
 

@@ -17,6 +17,8 @@ pub enum Hand {
 pub enum Route {
     /// A question about the table.
     Ask(Question),
+    /// The pieces that were accepted behind a place.
+    Pieces,
     /// To accept the body.
     Take(Hand),
     /// Whether the process is alive.
@@ -51,6 +53,7 @@ fn asked_at(path: &str) -> Route
         "/print" => Route::Ask(Question::Print),
         "/report" => Route::Ask(Question::Report),
         "/state" => Route::Ask(Question::State),
+        "/pieces" => Route::Pieces,
         "/healthz" => Route::Health,
         "/metrics" => Route::Metrics,
         "/" => Route::Page,

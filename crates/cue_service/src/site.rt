@@ -1,7 +1,8 @@
-ghost use Rattle.std.specs.Prelude.{◌≡◌, ◌++◌, [], ℕ, List, map, true, false, IfOk};
+ghost use Rattle.std.specs.Prelude.{◌≡◌, ◌++◌, [], ℕ, List, map, true, false, IfOk, IfSome};
 ghost use Rattle.cue_lattice.specs.World.{Piece};
 ghost use Rattle.cue_replica.specs.Accepted.{IsOfPieces};
 ghost use Rattle.cue_journal.specs.Batches.{batch_bytes};
+ghost use Rattle.cue_journal.specs.Blocks.{recovered};
 ghost use Rattle.cue_journal.specs.Pairs.{IsPairReady, entries_of, is_whole, MayLeave};
 ghost use Rattle.cue_service.specs.Entries.{pieces_of};
 ghost use Rattle.cue_service.specs.Answering.{IsSame};
@@ -38,13 +39,15 @@ impl<D: Disk> Site<D> {
     ghost use Rattle.cue_service.specs.Sites.{IsConsistent};
     ghost use Rattle.cue_service.specs.Inner.Rounds.{IsCommittedBy, IsCondensedBy};
 
-    /// A site over journals that were recovered, with the table of their entries.
+    /// A site over journals that were recovered, with the table of their entries, and a number that no
+    /// other run has.
     pub fn new(
         alloc: Global,
         files: Pair<D>,
         board: Replica,
         token: Option<Token>,
         standing: Standing,
+        run: u64,
     ) -> Site<D>
         ensures consistent { IsPairReady D.Disk.seen D.Disk.may_leave files
             → (pieces : List Piece) → IsOfPieces board pieces
@@ -52,7 +55,7 @@ impl<D: Disk> Site<D> {
             → IsConsistent D.Disk.seen D.Disk.may_leave result pieces pieces }
     {
         Site {
-            desk: Desk::new(alloc, board, token, standing),
+            desk: Desk::new(alloc, board, token, standing, run),
             files,
             snapshot: 0,
         }
@@ -117,7 +120,7 @@ impl<D: Disk> Settle for Site<D> {
 }
 
 impl<D: Disk> Gathers for Site<D> {
-    ghost use Rattle.cue_service.specs.Sites.{GathersAt, IsUntouched};
+    ghost use Rattle.cue_service.specs.Sites.{GathersAt, GathersPiecesAt, IsUntouched};
 
     /// Takes the state of another site, unless it brings nothing.
     fn pulled(&mut self, bytes: &[u8]) -> bool
@@ -126,8 +129,18 @@ impl<D: Disk> Gathers for Site<D> {
         self.desk.gather(bytes)
     }
 
+    /// Takes pieces that another site accepted, in its order.
+    fn pulled_pieces(&mut self, bytes: &[u8]) -> bool
+        ensures { GathersPiecesAt (pieces_of (recovered bytes.now)) self.old self.new }
+    {
+        self.desk.gather_pieces(bytes)
+    }
+
     /// How many seconds the one waits who asks with `?wait=SECONDS` and has the table.
-    fn patience(&self, request: &Request<Bytes>, response: &Response) -> Option<u64> {
+    fn patience(&self, request: &Request<Bytes>, response: &Response) -> Option<u64>
+        // Only an answer that nothing is new waits.
+        ensures { IfSome result (λ _. response.now.status ≡ 304) }
+    {
         if response.status == StatusCode::NOT_MODIFIED {
             seconds_in(request.uri().query()?)
         } else {

@@ -1,5 +1,6 @@
 use cue_http::News;
 use cue_lattice::Kind;
+use http::StatusCode;
 use log::{Log, info, warn};
 use std::alloc::Global;
 
@@ -51,6 +52,11 @@ pub struct Standing {
     pub(crate) turned_away: u64,
     pub(crate) taken: u64,
     pub(crate) gathered: u64,
+    /// Pieces of other sites that were accepted.
+    pub(crate) gathered_pieces: u64,
+    /// Questions for pieces that were answered with them, and that were not, since not all are kept.
+    pub(crate) told_pieces: u64,
+    pub(crate) gone_pieces: u64,
     pub(crate) refused: [u64; MOST_KIND + 1],
     pub(crate) snapshots: u64,
     pub(crate) journal: usize,
@@ -67,6 +73,9 @@ impl Standing {
             turned_away: 0,
             taken: 0,
             gathered: 0,
+            gathered_pieces: 0,
+            told_pieces: 0,
+            gone_pieces: 0,
             refused: [0; MOST_KIND + 1],
             snapshots: 0,
             journal: 0,
@@ -86,6 +95,18 @@ impl Standing {
 
     pub(crate) fn gathered(&mut self) {
         self.gathered = self.gathered.saturating_add(1);
+    }
+
+    pub(crate) fn gathered_piece(&mut self) {
+        self.gathered_pieces = self.gathered_pieces.saturating_add(1);
+    }
+
+    pub(crate) fn told_pieces(&mut self, status: StatusCode) {
+        match status {
+            StatusCode::OK => self.told_pieces = self.told_pieces.saturating_add(1),
+            StatusCode::GONE => self.gone_pieces = self.gone_pieces.saturating_add(1),
+            _ => {}
+        }
     }
 
     pub(crate) fn refuse(&mut self, kind: Kind, place: u64) {

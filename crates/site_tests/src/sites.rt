@@ -1,15 +1,18 @@
 //! Sites over disks in memory, asked by requests that are made here.
 
-use bytes::Bytes;
+use bytes::{Buf, Bytes};
 use cue_http::{Gathers, News};
 use cue_journal::{Journal, Pair, Unfit};
 use cue_replica::Replica;
 use cue_service::{Desk, Site, SourceStanding, Standing, Token, add_entries};
-use http::{Request, StatusCode};
+use http::Request;
 use http_server::{Response, Settle};
 use sqlite_disk::Memory;
 use std::alloc::Global;
 use std::test::Fail;
+
+/// The number of the run of each site.
+const RUN: u64 = 7;
 
 /// A site that has accepted nothing, with one peer.
 pub fn new_site(alloc: Global, word: Option<Token>) -> Result<Site<Memory>, Fail> {
@@ -20,72 +23,112 @@ pub fn new_site(alloc: Global, word: Option<Token>) -> Result<Site<Memory>, Fail
         Journal::new(Memory::new(alloc), 0),
     );
     let standing = Standing::new(alloc, sources);
-    Ok(Site::new(alloc, files, Replica::new(alloc), word, standing))
+    Ok(Site::new(alloc, files, Replica::new(alloc), word, standing, RUN))
 }
 
-/// The response of a site to a request.
-fn told(
-    alloc: Global,
-    site: &mut Site<Memory>,
-    method: &str,
-    path: &str,
-    body: &'static [u8],
-) -> Result<Response, Fail> {
+/// A method and a path, a body, and the status and the first bytes of the answer.
+type Row = (&'static str, &'static [u8], u16, &'static [u8]);
+
+/// Whether a site answers a request so.
+fn answers(alloc: Global, site: &mut Site<Memory>, row: &Row) -> Result<bool, Fail> {
+    let (asked, body, status, begin) = *row;
+    let (method, path) = asked.split_once(' ').unwrap_or((asked, ""));
     let request = Request::builder(alloc)
         .method(method)
         .uri(path)
         .body(Bytes::from_static(body))?;
     let mut response = Response::new(alloc);
     site.call(&request, &mut response)?;
-    Ok(response)
+    Ok(response.status.as_u16() == status && response.body.chunk().starts_with(begin))
 }
+
+/// Whether a site answers each request so, and stands after them.
+fn answers_all(alloc: Global, site: &mut Site<Memory>, rows: &[Row]) -> Result<bool, Fail> {
+    for row in rows {
+        if !answers(alloc, site, row)? {
+            return Ok(false);
+        }
+    }
+    Ok(site.settle())
+}
+
+/// Whether a new site, where this word is wanted, answers so.
+fn new_answers(alloc: Global, word: Option<Token>, rows: &[Row]) -> Result<bool, Fail> {
+    let mut site = new_site(alloc, word)?;
+    answers_all(alloc, &mut site, rows)
+}
+
+/// What a site answers that takes a piece, refuses one, and takes one that contradicts the first.
+const TOLD: &[Row] = &[
+    ("POST /fragments", b"port: 443", 204, b""),
+    (
+        "POST /fragments",
+        b"port: [}",
+        422,
+        b"refused 7 Syntax at 7",
+    ),
+    ("GET /export", b"", 200, b"{\"port\":443}"),
+    ("GET /report", b"", 200, b""),
+    ("GET /print", b"", 200, b"\"port\": 443\n"),
+    ("GET /state", b"", 200, b"\xFECUE\x02"),
+    ("GET /healthz", b"", 200, b"up\n"),
+    ("GET /metrics", b"", 200, b"# HELP"),
+    ("GET /", b"", 200, b"<!doctype html>"),
+    ("POST /fragments", b"port: 80", 204, b""),
+    ("GET /export", b"", 409, b"conflict port no value\n"),
+];
 
 #[test]
 fn pieces_are_taken_and_told(rt: HostRuntime) -> Result<(), Fail> {
-    let mut site = new_site(rt.alloc(), None)?;
-    let taken = told(rt.alloc(), &mut site, "POST", "/fragments", b"port: 443")?;
-    assert_eq!(rt; taken.status, StatusCode::NO_CONTENT);
-    let refused = told(rt.alloc(), &mut site, "POST", "/fragments", b"port: [}")?;
-    assert_eq!(rt; refused.status, StatusCode::UNPROCESSABLE_ENTITY);
-    assert!(rt; site.settle());
-    for path in [
-        "/export", "/report", "/print", "/state", "/metrics", "/", "/healthz",
-    ] {
-        let response = told(rt.alloc(), &mut site, "GET", path, b"")?;
-        assert_eq!(rt; response.status, StatusCode::OK);
-    }
-    let conflict = told(rt.alloc(), &mut site, "POST", "/fragments", b"port: 80")?;
-    assert_eq!(rt; conflict.status, StatusCode::NO_CONTENT);
-    let export = told(rt.alloc(), &mut site, "GET", "/export", b"")?;
-    assert_eq!(rt; export.status, StatusCode::CONFLICT);
-    assert_eq!(rt; export.body.len(), 23);
+    assert!(rt; new_answers(rt.alloc(), None, TOLD)?);
     Ok(())
 }
 
 #[test]
 fn a_word_is_wanted(rt: HostRuntime) -> Result<(), Fail> {
-    let bytes = Vec::from_slice(rt.alloc(), b"sesame")?;
-    let mut site = new_site(rt.alloc(), Some(Token { bytes }))?;
-    let refused = told(rt.alloc(), &mut site, "POST", "/fragments", b"a: 1")?;
-    assert_eq!(rt; refused.status, StatusCode::UNAUTHORIZED);
+    let word = Token {
+        bytes: Vec::from_slice(rt.alloc(), b"sesame")?,
+    };
+    let refused: &[Row] = &[("POST /fragments", b"a: 1", 401, b"")];
+    assert!(rt; new_answers(rt.alloc(), Some(word), refused)?);
     Ok(())
 }
 
-#[test]
-fn states_are_gathered(rt: HostRuntime) -> Result<(), Fail> {
-    let mut one = Replica::new(rt.alloc());
-    assert!(rt; one.submit("a: 1").is_ok());
-    let state = one.state(rt.alloc())?;
-    let mut site = new_site(rt.alloc(), None)?;
+/// The state of a site that has taken a text.
+fn state_of(alloc: Global, text: &str) -> Result<Vec<u8>, Fail> {
+    let mut site = Replica::new(alloc);
+    let _ = site.submit(text);
+    Ok(site.state(alloc)?)
+}
+
+/// The piece `b: 2`, as it is told to peers.
+const BLOCK: &[u8] = b"\x01\0\0\0\x05\0b: 2";
+
+/// What a site answers of a state and a piece that it has gathered.
+const GATHERED: &[Row] = &[
+    ("GET /pieces?after=7-1", b"", 200, BLOCK),
+    ("GET /pieces?after=8-1", b"", 410, b""),
+];
+
+/// Whether a site takes what a peer tells, and nothing else, and then hears of the time and of its
+/// peers.
+fn gathers(site: &mut Site<Memory>, state: &[u8]) -> bool {
     let before = site.edition();
-    assert!(rt; site.pulled(&state));
-    assert!(rt; site.edition() != before);
-    assert!(rt; !site.pulled(b"no state"));
-    site.hear(News::Now(7));
-    site.hear(News::Answered(0));
-    site.hear(News::Failed(0));
+    let taken = site.pulled(state) && site.edition() != before && !site.pulled(b"no state");
+    let pieces = site.pulled_pieces(BLOCK) && !site.pulled_pieces(b"no pieces");
+    for news in [News::Now(7), News::Answered(0), News::Failed(0)] {
+        site.hear(news);
+    }
+    taken && pieces
+}
+
+#[test]
+fn states_and_pieces_are_gathered(rt: HostRuntime) -> Result<(), Fail> {
+    let state = state_of(rt.alloc(), "a: 1")?;
+    let mut site = new_site(rt.alloc(), None)?;
+    assert!(rt; gathers(&mut site, &state));
     site.report(&rt);
-    assert!(rt; site.settle());
+    assert!(rt; answers_all(rt.alloc(), &mut site, GATHERED)?);
     Ok(())
 }
 
@@ -100,6 +143,7 @@ fn entries_are_taken_in(rt: HostRuntime) -> Result<(), Fail> {
         board,
         None,
         Standing::new(rt.alloc(), Vec::new(rt.alloc())),
+        RUN,
     );
     drop(desk);
     Ok(())

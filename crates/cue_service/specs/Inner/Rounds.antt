@@ -16,6 +16,7 @@ module _ {D : Type 0} (seen : D → List ℕ) (may_leave : D → List ℕ → Ty
     pub whole_before : stands ≡ true → is_whole old.files ≡ true
     pub broken_after : stands ≡ false → is_whole new.files ≡ false
     pub empty : batch_bytes new.desk.batch ≡ []
+    pub listed : new.desk.pieces ≡ old.desk.pieces
 
   -- the state takes the place of a long journal
   pub record IsCondensedBy (old : Site D) (stands : Bool) (new : Site D) : Type 0 where
@@ -24,3 +25,4 @@ module _ {D : Type 0} (seen : D → List ℕ) (may_leave : D → List ℕ → Ty
     pub crash : (pieces : List Piece) → batch_bytes old.desk.batch ≡ [] → IsConsistent seen may_leave old pieces pieces
         → (left : List (List ℕ)) → MayLeave may_leave new.files left → StandFor left pieces
     pub broken_after : stands ≡ false → is_whole new.files ≡ false
+    pub listed : new.desk.pieces ≡ old.desk.pieces

@@ -2,7 +2,7 @@
 use Rattle.std.specs.Prelude.{◌≡◌, ℕ, List, codes}
 use Rattle.cue_answer.specs.declared.question.Question.TheVariants as questions
 use Rattle.cue_service.specs.declared.route.Route.{Route}
-use Rattle.cue_service.specs.declared.route.Route.TheVariants.{Ask, Take, Health, Metrics, Page, OtherMethod, Unknown}
+use Rattle.cue_service.specs.declared.route.Route.TheVariants.{Ask, Pieces, Take, Health, Metrics, Page, OtherMethod, Unknown}
 use Rattle.cue_service.specs.declared.route.Hand.TheVariants as hands
 
 abbrev pub IsReadAt : Route → List ℕ → Type 0
@@ -10,6 +10,7 @@ IsReadAt (Ask questions.Export) path = path ≡ codes "/export"
 IsReadAt (Ask questions.Print) path = path ≡ codes "/print"
 IsReadAt (Ask questions.Report) path = path ≡ codes "/report"
 IsReadAt (Ask questions.State) path = path ≡ codes "/state"
+IsReadAt Pieces path = path ≡ codes "/pieces"
 IsReadAt (Take hand) path = ⊥
 IsReadAt Health path = path ≡ codes "/healthz"
 IsReadAt Metrics path = path ≡ codes "/metrics"
@@ -19,6 +20,7 @@ IsReadAt Unknown path = Unit {0}
 
 abbrev pub IsWrittenAt : Route → List ℕ → Type 0
 IsWrittenAt (Ask question) path = ⊥
+IsWrittenAt Pieces path = ⊥
 IsWrittenAt (Take hands.Text) path = path ≡ codes "/fragments"
 IsWrittenAt (Take hands.State) path = path ≡ codes "/state"
 IsWrittenAt Health path = ⊥

@@ -1,4 +1,4 @@
-use Rattle.cue_service.proofs.Rounds.{held, stands, survives, once}
+use Rattle.cue_service.proofs.Rounds.{held, listed_still, gathered, stands, survives, once}
 use Rattle.cue_service.proofs.laws.a_round_keeps_its_promise.Goals as goal
 
 pub returns-clause-held : goal.returns-clause-held
@@ -12,3 +12,10 @@ returns-clause-crash g c = survives g.D.Disk.seen g.D.Disk.may_leave
 
 pub returns-clause-once : goal.returns-clause-once
 returns-clause-once g c = once g.D.Disk.seen g.D.Disk.may_leave
+
+pub returns-clause-listed : goal.returns-clause-listed
+returns-clause-listed g c = listed_still
+
+pub returns-clause-gathered : goal.returns-clause-gathered
+returns-clause-gathered g c = λ old new pulled on_disk pieces accepted before listed gathers.
+    gathered g.D.Disk.seen g.D.Disk.may_leave pulled old new on_disk pieces accepted gathers.gathers gathers.files before listed

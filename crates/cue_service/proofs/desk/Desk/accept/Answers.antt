@@ -2,7 +2,9 @@ use Rattle.std.proofs.Common.{◌<◌, ◌^◌, ℕ, List, length, ap, arith, re
 use Rattle.cue_service.specs.declared.route.Hand.{Hand}
 use Rattle.cue_service.specs.declared.route.Hand.TheVariants as hands
 use Rattle.cue_service.specs.Answering.{bytes_in}
+use Rattle.cue_service.specs.Entries.{entry_of}
 use Rattle.cue_service.specs.Requests.{handed}
+use Rattle.cue_service.proofs.Listing.{listed_more, same_run_more}
 use Rattle.cue_service.proofs.desk.Desk.accept.Goals as goal
 
 same_bytes : (hand : Hand) (bytes : List ℕ) → bytes_in (handed hand bytes) ≡ bytes
@@ -16,4 +18,6 @@ returns-in-Ok-clause-ok c = record {
   adds = c.in-Ok.ensures.adds;
   valid = c.in-Ok.ensures.valid;
   waits = c.in_ok-queue.ensures.waits;
+  same_run = same_run_more c.args.self.now.pieces c.queue.new.pieces c.trim.new.self (entry_of (handed c.args.hand c.args.bytes.now)) c.in_ok-queue.ensures.listed c.trim.ensures.gives_up;
+  listed = listed_more c.args.self.now.pieces c.queue.new.pieces c.trim.new.self (handed c.args.hand c.args.bytes.now) c.in_ok-queue.ensures.listed c.trim.ensures.gives_up;
 }

@@ -2,6 +2,9 @@ use Rattle.std.proofs.Common.{◌≡◌, Option, Some, inl, sym, ap, ◌∙◌, 
 use Rattle.std.specs.Prelude.{IfSome}
 use Rattle.cue_replica.specs.Language.{Table, language}
 use Rattle.cue_replica.specs.Replica.{Adds}
+use Rattle.cue_lattice.specs.World.{state}
+use Rattle.cue_service.specs.Entries.{entry_of}
+use Rattle.cue_service.proofs.Listing.{listed_more, same_run_more}
 use Rattle.cue_service.specs.Answering.{Brings}
 use Rattle.cue_service.proofs.desk.Desk.take_over.Goals as goal
 
@@ -18,4 +21,6 @@ returns-clause-ok c =
       adds = brings.adds;
       valid = brings.valid;
       waits = c.in_ok-queue.ensures.waits;
+      same_run = same_run_more c.args.self.now.pieces c.queue.new.pieces c.trim.new.self (entry_of (state c.args.bytes.now)) c.in_ok-queue.ensures.listed c.trim.ensures.gives_up;
+      listed = listed_more c.args.self.now.pieces c.queue.new.pieces c.trim.new.self (state c.args.bytes.now) c.in_ok-queue.ensures.listed c.trim.ensures.gives_up;
     })

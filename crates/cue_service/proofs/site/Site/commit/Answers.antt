@@ -11,5 +11,6 @@ returns g c = record {
   crash = λ on_disk pieces before left may. commit_leaves g.D.Disk.seen g.D.Disk.may_leave c.args.self.now on_disk pieces left before (c.commit.ensures.crash before.ready before.batch left may);
   whole_before = λ stands. (took c.commit.result (sym c.is_ok.ensures.value ∙ stands) c.commit.ensures.whole).0;
   broken_after = λ fails. refused c.commit.result (sym c.is_ok.ensures.value ∙ fails) c.commit.ensures.broken;
+  listed = refl;
   empty = c.commit.ensures.empty;
 }

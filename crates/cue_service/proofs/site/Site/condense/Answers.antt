@@ -20,5 +20,6 @@ returns g c =
       crash = λ pieces empty before left may.
           condensed_left g.D.Disk.seen g.D.Disk.may_leave sound c.args.self.now pieces bytes (batch_bytes c.push.new.self) before empty (omega (arith, short)) written added left
           (λ ready batch. c.condense.ensures.crash ready batch left may);
+      listed = refl;
       broken_after = λ fails. refused c.condense.result (sym c.is_ok.ensures.value ∙ fails) c.condense.ensures.broken;
     }

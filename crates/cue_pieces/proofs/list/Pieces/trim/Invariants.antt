@@ -1,0 +1,12 @@
+use Rattle.std.proofs.Common.{length}
+use Rattle.cue_pieces.specs.Inner.{AreSound}
+use Rattle.cue_pieces.specs.Listed.{GivesUpBeyond}
+use Rattle.cue_pieces.proofs.list.Pieces.trim.Given as goal
+
+abbrev pub invariant-loop-self : goal.invariant-loop-self
+invariant-loop-self l =
+    GivesUpBeyond 16777216 l.fn.self (record { run = l.self-inside.run; given_up = l.self-inside.given_up; kept = l.self-inside.kept.items })
+    × AreSound l.self-inside.given_up l.self-inside.size l.self-inside.kept.items
+
+abbrev pub decreases-loop-self : goal.decreases-loop-self
+decreases-loop-self l = length l.self-inside.kept.items

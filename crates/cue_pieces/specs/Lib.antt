@@ -1,0 +1,4 @@
+pub mod Cursors
+pub mod Inner
+pub mod Listed
+pub mod Lists

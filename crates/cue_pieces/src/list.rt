@@ -1,0 +1,191 @@
+ghost use Rattle.std.specs.Prelude.{◌≡◌, ◌+◌, ◌-◌, ◌≤◌, ◌++◌, ◌∷◌, [], ◌↔◌, ◌==◌, ℕ, List, length, drop, IfOk, IfSome, IfNone, OnOk, OnErr, IsTrue};
+ghost use Rattle.cue_journal.specs.Blocks.{recovered, block, Fits};
+ghost use Rattle.cue_pieces.specs.Listed.{Listed, next_of, Keeps, behind_of, GivesUp, GivesUpBeyond};
+ghost use Rattle.cue_pieces.specs.Lists.{blocks, total};
+
+use crate::cursor::Cursor;
+use bytes::Bytes;
+use std::alloc::{AllocError, Global};
+use std::collections::{BTreeSet, VecDeque};
+use std::marker::Model;
+
+/// So many bytes of pieces are kept at most.
+pub const MOST_BYTES: usize = 16 * 1024 * 1024;
+
+/// No piece is as long, in bytes.
+const LONGEST: usize = u32::MAX as usize;
+
+/// The pieces that a site accepted since its start, each as an entry of its journals. The oldest are
+/// given up.
+#[derive(Drop)]
+pub struct Pieces {
+    alloc: Global,
+    run: u64,
+    /// So many of the oldest are given up.
+    given_up: u64,
+    kept: VecDeque<Bytes>,
+    /// Those that are kept, to look them up.
+    known: BTreeSet<Bytes>,
+    /// How many bytes those that are kept have.
+    size: usize,
+}
+
+impl Model for Pieces {
+    ghost use Rattle.cue_pieces.specs.Listed.{Listed};
+
+    ghost Value = { Listed };
+
+    ghost use Rattle.cue_pieces.specs.Inner.{AreSound};
+
+    ghost view = { λ p. record { run = p.run; given_up = p.given_up; kept = p.kept.items } };
+
+    ghost invariant = { λ p. AreSound p.given_up p.size p.kept.items };
+}
+
+/// The entry that begins with this byte.
+fn entry_of(alloc: Global, first: u8, rest: &[u8]) -> Result<Bytes, AllocError>
+    ensures { IfOk result (λ entry. entry ≡ first ∷ rest.now) }
+{
+    let mut entry = Vec::new(alloc);
+    entry.push(first)?;
+    entry.extend_from_slice(rest)?;
+    Ok(Bytes::from_vec(entry)?)
+}
+
+/// Adds the block of an entry.
+fn add_block(body: &mut Vec<u8>, entry: &[u8]) -> Result<(), AllocError>
+    requires { Fits entry.now }
+    ensures { OnOk result (body.new.items ≡ body.old.items ++ block entry.now) }
+{
+    let size = (entry.len() as u32).to_be_bytes();
+    body.push(1)?;
+    body.extend_from_slice(&size)?;
+    body.extend_from_slice(entry)
+}
+
+impl Pieces {
+    /// No piece was accepted in this run.
+    pub fn new(alloc: Global, run: u64) -> Pieces
+        ensures { result ≡ record { run = run; given_up = 0; kept = [] } }
+    {
+        Pieces {
+            alloc,
+            run,
+            given_up: 0,
+            kept: VecDeque::new(alloc),
+            known: BTreeSet::new(alloc),
+            size: 0,
+        }
+    }
+
+    /// The place behind all.
+    pub fn cursor(&self) -> Cursor
+        ensures run { result.run ≡ self.now.run }
+        ensures count { result.count ≡ next_of self.now }
+    {
+        Cursor {
+            run: self.run,
+            count: self.given_up + self.kept.len() as u64,
+        }
+    }
+
+    /// Whether none was given up.
+    pub fn is_whole(&self) -> bool
+        ensures { IsTrue result ↔ (self.now.given_up ≡ 0) }
+    {
+        self.given_up == 0
+    }
+
+    /// Whether an entry is among those that are kept.
+    pub fn knows(&self, entry: &[u8]) -> Result<bool, AllocError> {
+        let entry = Bytes::from_vec(Vec::from_slice(self.alloc, entry)?)?;
+        Ok(self.known.contains(&entry))
+    }
+
+    /// Adds a piece: an entry that begins with this byte.
+    ///
+    /// # Errors
+    ///
+    /// Where memory is wanting, or a further number, or for an entry of 4 GiB. Nothing changes.
+    pub fn add(&mut self, first: u8, rest: &[u8]) -> Result<(), AllocError>
+        ensures ok { OnOk result
+            (self.new ≡ record self.old { kept = self.old.kept ++ (first ∷ rest.now) ∷ [] }) }
+        ensures err { OnErr result (self.new ≡ self.old) }
+    {
+        if rest.len() >= LONGEST || self.given_up >= u64::MAX - self.kept.len() as u64 {
+            return Err(AllocError);
+        }
+        let Some(size) = self.size.checked_add(rest.len() + 1) else {
+            return Err(AllocError);
+        };
+        let entry = entry_of(self.alloc, first, rest)?;
+        let shared = entry.clone()?;
+        self.kept.push_back(entry)?;
+        self.size = size;
+        let _unknown = self.known.insert(shared);
+        Ok(())
+    }
+
+    /// Takes the last piece back, which was added and is not accepted.
+    pub fn take_back(&mut self)
+        ensures { (entries : List (List ℕ)) (last : List ℕ) → self.old.kept ≡ entries ++ last ∷ []
+            → self.new ≡ record self.old { kept = entries } }
+    {
+        if let Some(last) = self.kept.pop_back() {
+            self.size -= last.len();
+            self.known.remove(&last);
+        }
+    }
+
+    /// Gives up the oldest as long as there are too many bytes.
+    pub fn trim(&mut self)
+        ensures gives_up { GivesUp self.old self.new }
+        ensures needed { GivesUpBeyond MOST_BYTES self.old self.new }
+        ensures bound { total self.new.kept ≤ MOST_BYTES }
+    {
+        while self.size > MOST_BYTES {
+            let Some(oldest) = self.kept.pop_front() else {
+                return;
+            };
+            self.size -= oldest.len();
+            self.given_up += 1;
+            self.known.remove(&oldest);
+        }
+    }
+
+    /// Where the pieces behind a cursor begin among those that are kept.
+    fn place_of(&self, cursor: Cursor) -> Option<usize>
+        ensures some { IfSome result (λ place. Keeps self.now cursor.run cursor.count
+            × (place ≡ cursor.count - self.now.given_up)) }
+        ensures none { IfNone result (¬ Keeps self.now cursor.run cursor.count) }
+    {
+        if cursor.run != self.run || cursor.count < self.given_up {
+            return None;
+        }
+        let place = cursor.count - self.given_up;
+        if place > self.kept.len() as u64 {
+            return None;
+        }
+        Some(place as usize)
+    }
+
+    /// The blocks of all pieces behind a cursor, as those of a journal; none where not all of them
+    /// are kept, or it is of another run.
+    pub fn behind(&self, cursor: Cursor) -> Result<Option<Vec<u8>>, AllocError>
+        ensures some { IfOk result (λ found. IfSome found (λ body. Keeps self.now cursor.run cursor.count
+            × (body.items ≡ blocks (behind_of self.now cursor.count))
+            × (recovered body.items ≡ behind_of self.now cursor.count))) }
+        ensures none { IfOk result (λ found. IfNone found (¬ Keeps self.now cursor.run cursor.count)) }
+    {
+        let Some(place) = self.place_of(cursor) else {
+            return Ok(None);
+        };
+        let mut body = Vec::new(self.alloc);
+        for at in place..self.kept.len() {
+            if let Some(entry) = self.kept.get(at) {
+                add_block(&mut body, entry.as_slice())?;
+            }
+        }
+        Ok(Some(body))
+    }
+}

@@ -1,0 +1,83 @@
+ghost use Rattle.std.specs.Prelude.{◌≡◌, ◌≢◌, ◌<◌, ◌^◌, ◌++◌, [], ◌∷◌, ℕ, List, codes, IfSome, IfNone, OnOk};
+ghost use Rattle.cue_pieces.specs.Cursors.{IsCursor, cursor_text};
+ghost use Rattle.cue_pieces.specs.Listed.{next_of};
+ghost use Rattle.http_server.specs.Response.{IsBlank, fields_of};
+ghost use Rattle.cue_service.specs.Requests.{AsksBehind};
+ghost use Rattle.cue_service.specs.Listing.{IsNamed, IsToldPieces};
+
+use bytes::Bytes;
+use cue_answer::Question;
+use cue_lattice::Memory;
+use cue_pieces::{Cursor, Pieces};
+use http::{HeaderName, HeaderValue, Request, StatusCode, header};
+use http_server::Response;
+use std::alloc::Global;
+
+/// Names in a response the place behind all pieces that were accepted.
+fn name_cursor(alloc: Global, pieces: &Pieces, response: &mut Response) -> Result<(), Memory>
+    ensures named { OnOk result (fields_of response.new ≡ fields_of response.old
+        ++ (codes "cuestore-pieces", cursor_text pieces.now.run (next_of pieces.now)) ∷ []) }
+    ensures status { response.new.status ≡ response.old.status }
+    ensures body { response.new.body ≡ response.old.body }
+{
+    let text = pieces.cursor().text(alloc)?;
+    let value = HeaderValue::from_known_valid(Bytes::from_string(text)?);
+    Ok(response.add_header(HeaderName::from_static("cuestore-pieces"), value)?)
+}
+
+/// Names that place in a response that tells the state.
+pub(crate) fn name_with_state(
+    alloc: Global,
+    question: Question,
+    pieces: &Pieces,
+    response: &mut Response,
+) -> Result<(), Memory>
+    ensures named { OnOk result (IsNamed question pieces.now response.new) }
+    ensures status { response.new.status ≡ response.old.status }
+    ensures body { response.new.body ≡ response.old.body }
+{
+    match question {
+        Question::State => name_cursor(alloc, pieces, response),
+        Question::Export => Ok(()),
+        Question::Print => Ok(()),
+        Question::Report => Ok(()),
+    }
+}
+
+/// The place behind which a request asks for pieces.
+fn cursor_in(request: &Request<Bytes>) -> Option<Cursor>
+    ensures some { IfSome result (λ cursor. (text : List ℕ) × AsksBehind text request.now
+        × IsCursor text cursor.run cursor.count) }
+    ensures none { IfNone result ((run count : ℕ) → run < 2 ^ 64 → count < 2 ^ 64
+        → ¬ AsksBehind (cursor_text run count) request.now) }
+{
+    let query = request.uri().query()?;
+    Cursor::read(query.strip_prefix("after=")?)
+}
+
+/// Answers with the pieces that were accepted behind the place that a request names.
+pub(crate) fn tell_pieces(
+    alloc: Global,
+    pieces: &Pieces,
+    request: &Request<Bytes>,
+    response: &mut Response,
+) -> Result<(), Memory>
+    requires { IsBlank response.old }
+    ensures { OnOk result (IsToldPieces pieces.now request.now response.new) }
+{
+    let Some(cursor) = cursor_in(request) else {
+        response.status = StatusCode::BAD_REQUEST;
+        return Ok(());
+    };
+    let body = match pieces.behind(cursor)? {
+        Some(body) => body,
+        None => {
+            response.status = StatusCode::GONE;
+            return Ok(());
+        }
+    };
+    let kind = HeaderValue::from_static("application/octet-stream");
+    response.add_header(header::CONTENT_TYPE, kind)?;
+    response.body.push(Bytes::from_vec(body)?)?;
+    name_cursor(alloc, pieces, response)
+}
