@@ -1,6 +1,6 @@
 //! Reads lines of a text as a JSON string, a tab and the answer that the text must get, and tells
 //! where the lexer and the parser answer otherwise. An answer is `ok`, or the refusal's number and
-//! place, and after a 9 its form. `cue_vectors FILE` reads a file, `cue_vectors` reads standard
+//! place, and after a 9 its form. `cue_vectors FILE..` reads files, `cue_vectors` reads standard
 //! input. `cue_vectors lex FILE` and `cue_vectors parse FILE` take the whole file as one text and
 //! tell the least time of some runs, in microseconds; `parse` also walks the tree and tells how
 //! many expressions it has.
@@ -101,21 +101,30 @@ fn compare(rt: &HostRuntime, lines: &str) -> anyhow::Result<()> {
     Ok(())
 }
 
-fn main(rt: HostRuntime) -> anyhow::Result<()> {
-    let mut words = env::args(&rt)?;
-    let _program = words.next();
-    let first = words.next();
-    if let (Some(what), Some(path)) = (&first, words.next()) {
-        let text = fs::read_to_string(&rt, path.as_str())?;
-        return match what.as_str() {
-            "lex" => time_lexer(&rt, text.as_str()),
-            "parse" => time_parser(&rt, text.as_str()),
-            _ => Err(anyhow!("usage: cue_vectors [FILE], or cue_vectors lex|parse FILE")),
-        };
+/// Takes the whole file as one text, and tells its time.
+fn time(rt: &HostRuntime, what: &str, path: &str) -> anyhow::Result<()> {
+    let text = fs::read_to_string(rt, path)?;
+    if what == "lex" {
+        return time_lexer(rt, text.as_str());
     }
-    let all = match first {
-        Some(path) => fs::read_to_string(&rt, path.as_str())?,
-        None => io::read_to_string(rt.alloc(), rt.stdin())?,
-    };
-    compare(&rt, all.as_str())
+    time_parser(rt, text.as_str())
+}
+
+fn main(rt: HostRuntime) -> anyhow::Result<()> {
+    let mut words = Vec::new(rt.alloc());
+    for word in env::args(&rt)?.skip(1) {
+        words.push(word)?;
+    }
+    if let [what, path] = words.as_slice() {
+        if matches!(what.as_str(), "lex" | "parse") {
+            return time(&rt, what.as_str(), path.as_str());
+        }
+    }
+    if words.is_empty() {
+        return compare(&rt, io::read_to_string(rt.alloc(), rt.stdin())?.as_str());
+    }
+    for path in &words {
+        compare(&rt, fs::read_to_string(&rt, path.as_str())?.as_str())?;
+    }
+    Ok(())
 }

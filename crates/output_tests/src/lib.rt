@@ -9,6 +9,4 @@ mod prints;
 #[cfg(test)]
 mod reports;
 #[cfg(test)]
-mod rests;
-#[cfg(test)]
 mod sample;

@@ -3,8 +3,6 @@
 #![tactic(auto)]
 
 #[cfg(test)]
-mod changes;
-#[cfg(test)]
 mod made;
 #[cfg(test)]
 mod scalars;

@@ -1,4 +1,4 @@
-//! Questions to values that a call has made where memory was there.
+//! What is asked of values of any type that may be unified.
 use cue_lattice::{Memory, Narrow, Pair, meet_all};
 use std::alloc::Global;
 
@@ -6,50 +6,76 @@ use std::alloc::Global;
 /// test holds no value that is dropped on its ways out.
 pub type Made<T> = Result<T, Memory>;
 
+/// Whether the value that was made is this one.
+pub fn is_same<N: Narrow>(value: Made<N>, expected: &N) -> Made<bool> {
+    Ok(value?.same(expected))
+}
+
 /// Whether both are one value.
-pub fn are_same<N: Narrow>(left: Made<N>, right: Made<N>) -> Made<bool> {
-    Ok(left?.same(&right?))
-}
-
-/// Whether the value refuses nothing.
-pub fn is_free<N: Narrow>(value: Made<N>) -> Made<bool> {
-    Ok(value?.is_free())
-}
-
-/// Whether a copy of the value is the same.
-pub fn is_same_as_its_copy<N: Narrow>(alloc: Global, value: Made<N>) -> Made<bool> {
-    let value = value?;
-    value.known();
-    let copied = value.copy(alloc)?;
-    Ok(value.same(&copied))
-}
-
-/// The unification.
-pub fn met<N: Narrow>(alloc: Global, left: Made<N>, right: Made<N>) -> Made<N> {
-    left?.meet(alloc, &right?)
+pub fn are_same<N: Narrow>(value: Made<N>, expected: Made<N>) -> Made<bool> {
+    is_same(value, &expected?)
 }
 
 /// What the value becomes when it takes the other one over.
-pub fn narrowed<N: Narrow>(alloc: Global, value: Made<N>, other: Made<N>) -> Made<N> {
-    let value = value?;
-    value.narrowed_by(alloc, other?)?.or_copy(alloc, &value)
+fn narrowed<N: Narrow>(alloc: Global, value: &N, other: &N) -> Made<N> {
+    let narrowed = value.narrowed_by(alloc, other.copy(alloc)?)?;
+    narrowed.or_copy(alloc, value)
 }
 
 /// Whether the value stays as it is when it takes the other one over.
-pub fn is_kept<N: Narrow>(alloc: Global, value: Made<N>, other: Made<N>) -> Made<bool> {
-    Ok(value?.narrowed_by(alloc, other?)?.is_unchanged())
+fn is_kept<N: Narrow>(alloc: Global, value: &N, other: &N) -> Made<bool> {
+    Ok(value.narrowed_by(alloc, other.copy(alloc)?)?.is_unchanged())
 }
 
-/// The value into which the other one is unified where it stands.
-pub fn changed<N: Narrow>(alloc: Global, value: Made<N>, other: Made<N>) -> Made<N> {
-    let mut value = value?;
-    value.narrow(alloc, other?)?;
-    Ok(value)
+/// A copy of the value, into which the other one is unified where it stands.
+fn changed<N: Narrow>(alloc: Global, value: &N, other: &N) -> Made<N> {
+    let mut changed = value.copy(alloc)?;
+    changed.narrow(alloc, other.copy(alloc)?)?;
+    Ok(changed)
 }
 
-/// The unification of a list.
-pub fn meet_of_all<N: Narrow>(alloc: Global, values: Made<Vec<N>>) -> Made<N> {
-    meet_all(alloc, values?.as_slice())
+/// The unification of a list of the two.
+fn met_in_a_list<N: Narrow>(alloc: Global, first: Made<N>, last: Made<N>) -> Made<N> {
+    let mut values = Vec::new(alloc);
+    values.push(first?)?;
+    values.push(last?)?;
+    meet_all(alloc, values.as_slice())
+}
+
+/// Whether a free value refuses nothing.
+fn is_freely_made<N: Narrow>(value: Made<N>) -> Made<bool> {
+    Ok(value?.is_free())
+}
+
+/// Whether each call that unifies the first two makes the third, which is not free and stays as it
+/// is when it takes the second one over.
+fn each_makes<N: Narrow>(alloc: Global, left: &N, right: &N, met: &N) -> Made<bool> {
+    met.known();
+    Ok(
+        !met.is_free()
+            && is_freely_made(N::free(alloc))?
+            && is_same(left.meet(alloc, right), met)?
+            && is_same(narrowed(alloc, left, right), met)?
+            && is_same(changed(alloc, left, right), met)?
+            && is_same(
+                met_in_a_list(alloc, left.copy(alloc), right.copy(alloc)),
+                met,
+            )?
+            && is_kept(alloc, met, right)?
+            && is_same(narrowed(alloc, met, right), met)?,
+    )
+}
+
+/// The same of values that are made.
+pub fn unify_to<N: Narrow>(
+    alloc: Global,
+    left: Made<N>,
+    right: Made<N>,
+    met: Made<N>,
+) -> Made<bool> {
+    let left = left?;
+    let right = right?;
+    each_makes(alloc, &left, &right, &met?)
 }
 
 /// Two values side by side.
@@ -58,16 +84,4 @@ pub fn pair<A: Narrow, B: Narrow>(left: Made<A>, right: Made<B>) -> Made<Pair<A,
         left: left?,
         right: right?,
     })
-}
-
-/// The list with one more at its end.
-pub fn pushed<T: Drop>(list: Made<Vec<T>>, last: Made<T>) -> Made<Vec<T>> {
-    let mut list = list?;
-    list.push(last?)?;
-    Ok(list)
-}
-
-/// A list of two.
-pub fn two<T: Drop>(alloc: Global, first: Made<T>, second: Made<T>) -> Made<Vec<T>> {
-    pushed(pushed(Ok(Vec::new(alloc)), first), second)
 }

@@ -1,59 +1,67 @@
 //! Texts, and the words of refusals.
+use crate::made::Made;
 use cue_lattice::{Form, Kind, Memory, Refusal, TEXT_LIMIT, Text};
+use std::alloc::Global;
 use std::cmp::Ordering;
 use std::mem::size_of;
 use std::test::Fail;
 
-#[test]
-fn a_text_and_its_string(rt: HostRuntime) -> Result<(), Fail> {
-    let alloc = rt.alloc();
-    let text = Text::from_str(alloc, "é")?;
-    assert_eq!(rt; text.as_str(), "é");
-    assert_eq!(rt; text.as_bytes(), b"\xC3\xA9".as_slice());
-    let told = format!(in alloc; "{text}")?;
-    assert_eq!(rt; told.as_str(), "é");
-    let string = text.into_string(alloc)?;
-    assert_eq!(rt; string.as_str(), "é");
-    Ok(())
+/// A text, the longest that is kept in itself, and one that copies share.
+const TEXTS: [&str; 3] = ["é", "twenty-two bytes long.", "twenty-three bytes long"];
+
+/// Whether the string that was made is this one.
+fn is_string(string: Made<String>, expected: &str) -> Made<bool> {
+    Ok(string?.as_str() == expected)
 }
 
-#[test]
-fn a_copy_of_a_text(rt: HostRuntime) -> Result<(), Fail> {
-    let alloc = rt.alloc();
-    let text = Text::new(alloc, String::from_str(alloc, "ab")?)?;
+/// Whether a text and a copy of it have these bytes.
+fn are_same(text: &Text, copied: &Text, expected: &str) -> bool {
+    copied.same(text)
+        && copied.compare(text) == Ordering::Equal
+        && copied.as_bytes() == expected.as_bytes()
+        && text.as_str() == expected
+}
+
+/// Whether a text and a copy of it have these bytes, and give a string of them back.
+fn is_kept(alloc: Global, text: Made<Text>, expected: &str) -> Made<bool> {
+    let text = text?;
     let copied = text.copy(alloc)?;
-    assert!(rt; copied.same(&text));
-    assert_eq!(rt; copied.as_str(), "ab");
-    Ok(())
+    let is_so = are_same(&text, &copied, expected);
+    let is_copied = is_string(copied.into_string(alloc), expected)?;
+    Ok(is_string(text.into_string(alloc), expected)? && is_copied && is_so)
+}
+
+/// The text of a string.
+fn taken_over(alloc: Global, text: &str) -> Made<Text> {
+    Text::new(alloc, String::from_str(alloc, text)?)
 }
 
 #[test]
-fn texts_as_long_as_the_room_and_longer(rt: HostRuntime) -> Result<(), Fail> {
+fn texts_keep_their_bytes(rt: HostRuntime) -> Result<(), Fail> {
     let alloc = rt.alloc();
     assert_eq!(rt; size_of::<Text>(), 24);
-    let kept = Text::from_str(alloc, "twenty-two bytes long.")?;
-    assert_eq!(rt; kept.as_str(), "twenty-two bytes long.");
-    let shared = Text::from_str(alloc, "twenty-three bytes long")?;
-    let copied = shared.copy(alloc)?;
-    assert!(rt; copied.same(&shared));
-    assert_eq!(rt; kept.compare(&shared), Ordering::Greater);
-    let string = shared.into_string(alloc)?;
-    assert_eq!(rt; string.as_str(), "twenty-three bytes long");
-    assert_eq!(rt;
-        copied.into_string(alloc)?.as_str(),
-        "twenty-three bytes long"
-    );
+    for text in TEXTS {
+        assert!(rt;
+            is_kept(alloc, Text::from_str(alloc, text), text)?,
+            "{text}"
+        );
+        assert!(rt; is_kept(alloc, taken_over(alloc, text), text)?, "{text}");
+    }
     Ok(())
 }
 
+/// What is printed of a text, a form and want of memory.
+fn printed(alloc: Global, text: Made<Text>) -> Made<String> {
+    let text = text?;
+    let memory = Memory::beyond(1, u64::MAX);
+    Ok(format!(in alloc; "{text} {text:?} {} {memory}", Form::TypedRest)?)
+}
+
 #[test]
-fn the_order_of_texts(rt: HostRuntime) -> Result<(), Fail> {
+fn printed_words(rt: HostRuntime) -> Result<(), Fail> {
     let alloc = rt.alloc();
-    let short = Text::new(alloc, String::from_str(alloc, "a")?)?;
-    let long = Text::from_str(alloc, "ab")?;
-    assert_eq!(rt; short.compare(&long), Ordering::Less);
-    assert_eq!(rt; long.compare(&short), Ordering::Greater);
-    assert!(rt; !short.same(&long));
+    let told = printed(alloc, Text::from_str(alloc, "é"));
+    assert!(rt; is_string(told, "é \"é\" TypedRest out of memory")?);
     Ok(())
 }
 
@@ -62,19 +70,8 @@ fn numbers_and_names(rt: HostRuntime) {
     assert_eq!(rt; Kind::LeftOut(Form::Call).number(), 9);
     assert_eq!(rt; Kind::LeftOut(Form::Clause).name(), "LeftOut");
     assert_eq!(rt; Kind::name_of(25), Some("Failed"));
-    assert_eq!(rt; Kind::name_of(0), None);
     let long = Refusal::at(Kind::TooLong, TEXT_LIMIT);
-    assert_eq!(rt; long.kind, Kind::TooLong);
-    assert_eq!(rt; long.place, 1_048_576);
-    let refusal = Refusal::from(Memory);
-    assert_eq!(rt; refusal.kind, Kind::Memory);
-    assert_eq!(rt; refusal.place, 0);
-}
-
-#[test]
-fn printed_words(rt: HostRuntime) -> Result<(), Fail> {
-    let alloc = rt.alloc();
-    let told = format!(in alloc; "{} {}", Form::TypedRest, Memory)?;
-    assert_eq!(rt; told.as_str(), "TypedRest out of memory");
-    Ok(())
+    assert!(rt; long.kind == Kind::TooLong && long.place == 1_048_576);
+    let refusal = Refusal::from(Memory::beyond(u64::MAX, 1));
+    assert!(rt; refusal.kind == Kind::Memory && refusal.place == 0);
 }

@@ -1,6 +1,9 @@
 //! Lists of many elements that are alike: they are kept once, so what is done to them costs what is
 //! written, and not what it says.
-use crate::sites::{hand, pass, state_size, taken};
+use crate::sites::Input::{State, Text};
+use crate::sites::{Input, site, state_size};
+use cue_replica::Refusal;
+use std::alloc::Global;
 use std::test::Fail;
 
 /// A list at `l` of 65,536 elements at least, the last of which is 5.
@@ -52,21 +55,23 @@ const LAST_BEGINS: &[u8] = &[
     0, 0, 0, 0, 0, 0, 0, 0, 0,
 ];
 
-#[test]
-fn elements_that_are_alike(rt: HostRuntime) -> Result<(), Fail> {
-    let mut site = taken(rt.alloc(), LAST)?;
-    hand(&mut site, "l: [...int]\n")?;
-    // 65,535 rows of 80 bytes, and those of the root, of the list, of the last element and of the rest
-    assert!(rt; state_size(&site) == 5_242_989);
-    Ok(())
+/// How many bytes the state of a site has that has accepted these inputs.
+fn size_of(alloc: Global, inputs: &[Input]) -> Result<u64, Refusal> {
+    let site = site(alloc, inputs)?;
+    Ok(state_size(&site))
 }
 
+/// A list of 65,535 rows of 80 bytes, and those of the root, of the list, of the last element and
+/// of the rest; and 65,537 lists, each with 65,537 rows below it.
 #[test]
-fn lists_of_such_lists(rt: HostRuntime) -> Result<(), Fail> {
-    let mut site = taken(rt.alloc(), EACH_LAST)?;
-    pass(&mut site, LAST_BEGINS)?;
-    hand(&mut site, "l: [...[...int]]\n")?;
-    // 65,537 lists, each with 65,537 rows below it
-    assert!(rt; state_size(&site) == 365_084_213_375);
+fn elements_that_are_alike(rt: HostRuntime) -> Result<(), Fail> {
+    let last = [State(LAST), Text("l: [...int]\n")];
+    assert_eq!(rt; size_of(rt.alloc(), &last)?, 5_242_989);
+    let each = [
+        State(EACH_LAST),
+        State(LAST_BEGINS),
+        Text("l: [...[...int]]\n"),
+    ];
+    assert_eq!(rt; size_of(rt.alloc(), &each)?, 365_084_213_375);
     Ok(())
 }

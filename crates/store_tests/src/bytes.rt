@@ -16,19 +16,6 @@ pub const ONE: &[u8] = &[
     0, 0, 0, 0, 0, 0, 0, 0, 0,
 ];
 
-/// The state of `port: 443`.
-pub const PORT: &[u8] = &[
-    0xFE, 0x43, 0x55, 0x45, 2, 0, 0, 0, 0, 0, 0, 0, 2, // two rows
-    0, 0, 2, 0, // the root
-    1, 0, 0, 4, 0x70, 0x6F, 0x72, 0x74, 2, 1, // a scalar at the label port
-    0, 0, 0, 0, 0, 0, 0, 0, 1, // a set of one piece
-    0, 0, 0, 0, 0, 0, 1, 0xBB, 0, 0, 0, 0, 0, 0, 1, 0xBB, // from 443 to 443
-    0, 0, 0, 0, 0, 0, 0, 0, 0, // no text
-    0, 0, 0, 0, 0, 0, 0, 0, 1, // the usual set is the same
-    0, 0, 0, 0, 0, 0, 1, 0xBB, 0, 0, 0, 0, 0, 0, 1, 0xBB, //
-    0, 0, 0, 0, 0, 0, 0, 0, 0,
-];
-
 /// The state of `a: 1` and `a: 2`.
 pub const CLASH: &[u8] = &[
     0xFE, 0x43, 0x55, 0x45, 2, 0, 0, 0, 0, 0, 0, 0, 2, // two rows

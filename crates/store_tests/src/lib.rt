@@ -8,17 +8,9 @@ mod alike;
 #[cfg(test)]
 mod bytes;
 #[cfg(test)]
-mod events;
-#[cfg(test)]
 mod limits;
 #[cfg(test)]
-mod orders;
-#[cfg(test)]
 mod pieces;
-#[cfg(test)]
-mod refusals;
-#[cfg(test)]
-mod rests;
 #[cfg(test)]
 mod sites;
 #[cfg(test)]

@@ -6,7 +6,7 @@ use crate::states::{
     part, port,
 };
 use cue_codec::{Row, StateReader, decode};
-use cue_lattice::{Kind, Memory};
+use cue_lattice::Kind;
 use cue_table::Table;
 use std::alloc::Global;
 use std::test::Fail;
@@ -63,7 +63,7 @@ fn reads(alloc: Global, bytes: &[u8]) -> Result<bool, Kind> {
 fn reads_made(alloc: Global, state: Made<Vec<u8>>) -> Result<bool, Kind> {
     match state {
         Ok(bytes) => reads(alloc, &bytes),
-        Err(Memory) => Err(Kind::Memory),
+        Err(_) => Err(Kind::Memory),
     }
 }
 
@@ -98,7 +98,7 @@ fn faults_are_told_wherever_they_are_cut(rt: HostRuntime) -> Result<(), Fail> {
 fn reads_altered(alloc: Global, at: usize, byte: u8) -> Result<bool, Kind> {
     match other(alloc, at, byte) {
         Ok(bytes) => is_decoded(alloc, &bytes, in_pieces(alloc, &bytes, 3)),
-        Err(Memory) => Err(Kind::Memory),
+        Err(_) => Err(Kind::Memory),
     }
 }
 
@@ -131,7 +131,7 @@ fn reads_long(alloc: Global, len: usize) -> Result<bool, Kind>
             Ok(table) => Ok(decode(alloc, &bytes)?.same(&table)),
             Err(kind) => Err(kind),
         },
-        Err(Memory) => Err(Kind::Memory),
+        Err(_) => Err(Kind::Memory),
     }
 }
 

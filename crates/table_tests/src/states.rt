@@ -74,7 +74,7 @@ fn rewritten(alloc: Global, bytes: &[u8]) -> Result<Vec<u8>, Kind> {
     let table = decode(alloc, bytes)?;
     match encode(alloc, &table) {
         Ok(written) => Ok(written),
-        Err(Memory) => Err(Kind::Memory),
+        Err(_) => Err(Kind::Memory),
     }
 }
 
@@ -115,7 +115,7 @@ fn is_exact(alloc: Global, bytes: &[u8]) -> Result<bool, Kind> {
 pub fn keeps(alloc: Global, state: Made<Vec<u8>>) -> Result<bool, Kind> {
     match state {
         Ok(bytes) => is_kept(alloc, &bytes),
-        Err(Memory) => Err(Kind::Memory),
+        Err(_) => Err(Kind::Memory),
     }
 }
 
@@ -128,7 +128,7 @@ pub fn refuses(alloc: Global, state: Made<Vec<u8>>) -> Made<bool> {
 fn tells(alloc: Global, state: Made<Vec<u8>>) -> Result<bool, Kind> {
     match state {
         Ok(bytes) => is_exact(alloc, &bytes),
-        Err(Memory) => Err(Kind::Memory),
+        Err(_) => Err(Kind::Memory),
     }
 }
 

@@ -3,7 +3,6 @@ use crate::foreign::nested;
 use crate::rests::integers;
 use crate::states::{Made, copied, empty, integer};
 use cue_codec::{Kind, StateWriter, Table, decode, encode};
-use cue_lattice::Memory;
 use cue_row::Row;
 use std::alloc::Global;
 use std::test::Fail;
@@ -29,7 +28,7 @@ fn room(alloc: Global, size: usize) -> Made<Vec<u8>> {
 fn next_piece(writer: &mut StateWriter<'_>, room: &mut [u8]) -> Made<usize> {
     match writer.fill(room) {
         Ok(count) => Ok(count),
-        Err(Memory) => writer.fill(room),
+        Err(_) => writer.fill(room),
     }
 }
 
@@ -61,7 +60,7 @@ fn fills_all(alloc: Global, bytes: &[u8]) -> Result<bool, Kind> {
         match fills(alloc, &table, *size) {
             Ok(true) => {}
             Ok(false) => return Ok(false),
-            Err(Memory) => return Err(Kind::Memory),
+            Err(_) => return Err(Kind::Memory),
         }
     }
     Ok(true)
@@ -71,7 +70,7 @@ fn fills_all(alloc: Global, bytes: &[u8]) -> Result<bool, Kind> {
 fn fills_made(alloc: Global, state: Made<Vec<u8>>) -> Result<bool, Kind> {
     match state {
         Ok(bytes) => fills_all(alloc, &bytes),
-        Err(Memory) => Err(Kind::Memory),
+        Err(_) => Err(Kind::Memory),
     }
 }
 
@@ -105,7 +104,7 @@ fn keeps_all_of(alloc: Global, bytes: &[u8]) -> Result<bool, Kind> {
     let table = decode(alloc, bytes)?;
     match keeps_all(alloc, &table) {
         Ok(kept) => Ok(kept),
-        Err(Memory) => Err(Kind::Memory),
+        Err(_) => Err(Kind::Memory),
     }
 }
 

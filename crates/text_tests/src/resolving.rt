@@ -33,7 +33,7 @@ pub fn size(alloc: Global, text: &str) -> Result<u64, Refusal> {
 }
 
 /// Asserts of which size the text is.
-pub fn sized(rt: &impl Abort, alloc: Global, text: &str, wanted: u64) {
+fn sized(rt: &impl Abort, alloc: Global, text: &str, wanted: u64) {
     assert_eq!(rt; size(alloc, text), Ok(wanted), "{text}");
 }
 
@@ -46,13 +46,6 @@ fn refused(rt: &impl Abort, alloc: Global, text: &str, kind: Kind, place: u64) {
 pub fn each_sized(rt: &impl Abort, alloc: Global, texts: &[(&str, u64)]) {
     for (text, wanted) in texts {
         sized(rt, alloc, text, *wanted);
-    }
-}
-
-/// Asserts that each text is refused for this reason, and at which place.
-pub fn each_refused(rt: &impl Abort, alloc: Global, kind: Kind, texts: &[(&str, u64)]) {
-    for (text, place) in texts {
-        refused(rt, alloc, text, kind, *place);
     }
 }
 
