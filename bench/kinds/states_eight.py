@@ -3,4 +3,4 @@ SIZE = 10000
 
 
 def work(n, rng, make):
-    return ["merge", make.out, *(make.state(f"s{i}.state", [make.fields(f"s{i}", make.names(rng, n))]) for i in range(8))]
+    return ["merge", make.out, *(make.state(f"s{i}.state", make.names(rng, n)) for i in range(8))]

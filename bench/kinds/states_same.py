@@ -3,5 +3,5 @@ SIZE = 40000
 
 
 def work(n, rng, make):
-    state = make.state("one.state", [make.fields("one", make.names(rng, n))])
+    state = make.state("one.state", make.names(rng, n))
     return ["merge", make.out, state, state]

@@ -4,4 +4,4 @@ SIZE = 40000
 
 def work(n, rng, make):
     names = sorted(make.names(rng, 2 * n))
-    return ["merge", make.out, *(make.state(f"s{i}.state", [make.fields(f"s{i}", names[i::2])]) for i in range(2))]
+    return ["merge", make.out, *(make.state(f"s{i}.state", names[i::2]) for i in range(2))]
