@@ -5,15 +5,17 @@ use Rattle.std.specs.Option.{option_to_list}
 use Rattle.cue_row.specs.Steps.{step_of}
 use Rattle.cue_table.specs.Tree.{none, child}
 use Rattle.cue_table.specs.Depth.{tree_depth, children_depth}
-use Rattle.cue_table.specs.Form.{AreBranches, IsKept, IsTable}
+use Rattle.cue_table.specs.Form.{AreBranches, IsBelowAll, IsKept, IsTable}
 use Rattle.cue_table.specs.Meet.{IsMerge, IsMet}
-use Rattle.cue_table.specs.Inner.Changes.{Fit, IsChange, behind, behind_found, merged}
+use Rattle.cue_table.specs.Inner.Changes.{Fit, IsChange, IsFound, behind, behind_found, merged}
 use Rattle.cue_table.specs.Inner.Child.{Child}
 use Rattle.cue_table.specs.Inner.Join.{join}
-use Rattle.cue_table.specs.Inner.Place.{IsPlace, IsGap}
+use Rattle.cue_table.specs.Inner.Place.{AreBefore, ArePassed, IsPlace, IsGap}
 use Rattle.cue_table.specs.Inner.Parts.{front, past}
 use Rattle.cue_table.specs.Inner.View.{branches}
 use Rattle.cue_table.specs.declared.changes.Change.{Change}
+use Rattle.cue_table.specs.declared.changes.Found.{Found}
+use Rattle.cue_table.specs.declared.changes.Found.TheVariants.{Same, New}
 use Rattle.cue_table.proofs.Merging.{merge_stay, merge_insert, merge_alter, merge_same}
 use Rattle.cue_table.proofs.Nodes.{form_from}
 use Rattle.cue_table.proofs.Owned.{past_at, past_drop}
@@ -113,10 +115,11 @@ module _ {R Q : Type 0} (refuses : R → Q → Type 0) (is_value : R → Type 0)
       subst (λ x. IsMerge refuses Kept (branches left) (child (step_of c.step) c.node none) (branches x)) (set_at at left e place.in_range)
       (change.union none [] k (merge_stay refuses Kept (branches (drop 1 (drop at left))) (form_from Kept (drop at left) 1 (form_from Kept left at h))))
 
-  -- Whatever makes the union of what is left of both lists makes that of the lists, behind the changes so far.
-  pub record GoesOn (left right rest others : List (Child R)) (changes : List (Change R Q)) : Type 0 where
+  -- Whatever makes the union of what is left of both lists makes that of the lists, behind the changes so far; and the first branches of the rest, so many as are past, stand before the next of the others.
+  pub record GoesOn (left right rest others : List (Child R)) (past : ℕ) (changes : List (Change R Q)) : Type 0 where
     pub rest_form : AreBranches Kept (branches rest)
     pub others_form : AreBranches Kept (branches others)
+    pub ahead : (c : Child R) (later : List (Child R)) → others ≡ c ∷ later → AreBefore past (step_of c.step) (branches rest)
     pub smaller : children_depth (branches others) ≤ children_depth (branches right)
     pub fit : (tail : List (Change R Q)) → Fit tail rest → Fit (changes ++ tail) left
     pub union : (tail : List (Change R Q)) → IsMerge refuses Kept (branches rest) (branches others) (branches (merged tail rest))
@@ -124,33 +127,41 @@ module _ {R Q : Type 0} (refuses : R → Q → Type 0) (is_value : R → Type 0)
 
   pub goes_start :
       (left right others : List (Child R)) (changes : List (Change R Q)) → AreBranches Kept (branches left) → AreBranches Kept (branches right) → others ≡ right → changes ≡ []
-      → GoesOn left right left others changes
+      → GoesOn left right left others 0 changes
   goes_start left right others changes h k e f =
-      subst (λ xs. GoesOn left right left xs changes) (sym e)
-      (subst (GoesOn left right left right) (sym f) (record { rest_form = h; others_form = k; smaller = omega arith; fit = λ tail m. m; union = λ tail m. m }))
+      subst (λ xs. GoesOn left right left xs 0 changes) (sym e)
+      (subst (GoesOn left right left right 0) (sym f) (record { rest_form = h; others_form = k; ahead = λ c later e. tt; smaller = omega arith; fit = λ tail m. m; union = λ tail m. m }))
 
   behind_form : (found : Option (Change R Q)) (rest : List (Child R)) → AreBranches Kept (branches rest) → AreBranches Kept (branches (behind_found found rest))
   behind_form None rest h = h
   behind_form (Some change) rest h = let n = change.kept in form_from Kept (drop n rest) _ (form_from Kept rest n h)
 
   -- the first of the other branches as the code has it
-  pub first_form : (left right rest all others : List (Child R)) (changes : List (Change R Q)) (c : Child R) → GoesOn left right rest all changes → all ≡ c ∷ others → IsTable refuses is_value c.node
-  first_form left right rest all others changes c g e = let h : AreBranches Kept (branches (c ∷ others)) = subst (λ xs. AreBranches Kept (branches xs)) e g.others_form in h.2
+  pub first_form : (left right rest all others : List (Child R)) (past : ℕ) (changes : List (Change R Q)) (c : Child R) → GoesOn left right rest all past changes → all ≡ c ∷ others → IsTable refuses is_value c.node
+  first_form left right rest all others past changes c g e = let h : AreBranches Kept (branches (c ∷ others)) = subst (λ xs. AreBranches Kept (branches xs)) e g.others_form in h.2
 
-  pub first_smaller : (left right rest all others : List (Child R)) (changes : List (Change R Q)) (c : Child R) → GoesOn left right rest all changes → all ≡ c ∷ others → tree_depth c.node < children_depth (branches right)
-  first_smaller left right rest all others changes c g e =
+  pub first_smaller : (left right rest all others : List (Child R)) (past : ℕ) (changes : List (Change R Q)) (c : Child R) → GoesOn left right rest all past changes → all ≡ c ∷ others → tree_depth c.node < children_depth (branches right)
+  first_smaller left right rest all others past changes c g e =
       let h : children_depth (branches (c ∷ others)) ≤ children_depth (branches right) = subst (λ xs. children_depth (branches xs) ≤ children_depth (branches right)) e g.smaller in
       omega arith
 
+  -- the next of the others stands behind this one
+  next_ahead : (rest others later : List (Child R)) (c d : Child R) (past : ℕ) → AreBranches Kept (branches (c ∷ others)) → ArePassed past (step_of c.step) (branches rest) → others ≡ d ∷ later → AreBefore past (step_of d.step) (branches rest)
+  next_ahead rest others later c d past k passed e =
+      let all : IsBelowAll (step_of c.step) (branches (d ∷ later)) = subst (λ xs. IsBelowAll (step_of c.step) (branches xs)) e k.0 in
+      passed (step_of d.step) all.0
+
   goes_more :
-      (left right rest others : List (Child R)) (changes : List (Change R Q)) (c : Child R) (found : Option (Change R Q)) → GoesOn left right rest (c ∷ others) changes
-      → IsChange refuses Kept rest c found → GoesOn left right (behind_found found rest) others (changes ++ option_to_list found)
-  goes_more left right rest others changes c found g change =
+      (left right rest all others : List (Child R)) (past after : ℕ) (changes : List (Change R Q)) (c : Child R) (found : Option (Change R Q)) → GoesOn left right rest all past changes → all ≡ c ∷ others
+      → IsChange refuses Kept rest c found → ArePassed after (step_of c.step) (branches (behind_found found rest)) → GoesOn left right (behind_found found rest) others after (changes ++ option_to_list found)
+  goes_more left right rest all others past after changes c found begun e change passed =
+      let g : GoesOn left right rest (c ∷ others) past changes = subst (λ xs. GoesOn left right rest xs past changes) e begun in
       let k = g.others_form in
       let small = g.smaller in
       record {
         rest_form = behind_form found rest g.rest_form;
         others_form = k.3;
+        ahead = λ d later f. next_ahead (behind_found found rest) others later c d after k passed f;
         smaller = omega arith;
         fit = λ tail f. rw append_assoc (g.fit (option_to_list found ++ tail) (change.fit tail f));
         union = λ tail m. rw append_assoc (g.union (option_to_list found ++ tail) (change.union (branches others) tail k m));
@@ -158,28 +169,28 @@ module _ {R Q : Type 0} (refuses : R → Q → Type 0) (is_value : R → Type 0)
 
   -- one branch more that changes something
   pub goes_on :
-      (left right rest all others after : List (Child R)) (changes more : List (Change R Q)) (c : Child R) (change : Change R Q) (found : Option (Change R Q)) → GoesOn left right rest all changes → all ≡ c ∷ others
-      → IsChange refuses Kept rest c found → found ≡ Some change → after ≡ behind change rest → more ≡ changes ++ change ∷ [] → GoesOn left right after others more
-  goes_on left right rest all others after changes more c change found g e h is f n =
-      let here = goes_more left right rest others changes c (Some change) (subst (λ xs. GoesOn left right rest xs changes) e g) (subst (IsChange refuses Kept rest c) is h) in
-      subst (λ xs. GoesOn left right xs others more) (sym f) (subst (GoesOn left right (behind change rest) others) (sym n) here)
+      (left right rest all others after : List (Child R)) (past : ℕ) (changes more : List (Change R Q)) (c : Child R) (change : Change R Q) (found : Found R Q) → GoesOn left right rest all past changes → all ≡ c ∷ others
+      → IsFound refuses Kept rest c found → found ≡ New change → after ≡ behind change rest → more ≡ changes ++ change ∷ [] → GoesOn left right after others 0 more
+  goes_on left right rest all others after past changes more c change found g e h is f n =
+      let here = goes_more left right rest all others past 0 changes c (Some change) g e (subst (IsFound refuses Kept rest c) is h) (λ later less. tt) in
+      subst (λ xs. GoesOn left right xs others 0 more) (sym f) (subst (GoesOn left right (behind change rest) others 0) (sym n) here)
 
   -- and one more that changes nothing
   pub goes_past :
-      (left right rest all others : List (Child R)) (changes : List (Change R Q)) (c : Child R) (found : Option (Change R Q)) → GoesOn left right rest all changes → all ≡ c ∷ others
-      → IsChange refuses Kept rest c found → found ≡ None → GoesOn left right rest others changes
-  goes_past left right rest all others changes c found g e h is =
-      subst (GoesOn left right rest others) (append_none changes)
-      (goes_more left right rest others changes c None (subst (λ xs. GoesOn left right rest xs changes) e g) (subst (IsChange refuses Kept rest c) is h))
+      (left right rest all others : List (Child R)) (past count : ℕ) (changes : List (Change R Q)) (c : Child R) (found : Found R Q) → GoesOn left right rest all past changes → all ≡ c ∷ others
+      → IsFound refuses Kept rest c found → found ≡ Same count → GoesOn left right rest others count changes
+  goes_past left right rest all others past count changes c found g e h is =
+      let same : IsFound refuses Kept rest c (Same count) = subst (IsFound refuses Kept rest c) is h in
+      subst (GoesOn left right rest others count) (append_none changes) (goes_more left right rest all others past count changes c None g e same.0 same.1)
 
   -- no branch is left
   pub goes_end :
-      (left right rest others : List (Child R)) (changes : List (Change R Q)) → GoesOn left right rest others changes → length others ≡ 0
+      (left right rest others : List (Child R)) (past : ℕ) (changes : List (Change R Q)) → GoesOn left right rest others past changes → length others ≡ 0
       → Fit changes left × IsMerge refuses Kept (branches left) (branches right) (branches (merged changes left))
-  goes_end left right rest [] changes g n =
+  goes_end left right rest [] past changes g n =
       subst (λ xs. Fit xs left × IsMerge refuses Kept (branches left) (branches right) (branches (merged xs left))) (append_none changes)
       (g.fit [] tt, g.union [] (merge_stay refuses Kept (branches rest) g.rest_form))
-  goes_end left right rest (c ∷ others) changes g n = absurd (omega arith)
+  goes_end left right rest (c ∷ others) past changes g n = absurd (omega arith)
 
 -- the branch at a place is in form
 pub at_form : {R Q : Type 0} (refuses : R → Q → Type 0) (is_value : R → Type 0) (cs : List (Child R)) (at : ℕ) (d : Child R) → AreBranches (IsKept refuses is_value) (branches cs) → at < length cs → d ≡ get_or cs at d → IsTable refuses is_value d.node

@@ -1,5 +1,5 @@
--- A branch that is looked for among the first ones of a list.
-use Rattle.std.proofs.Common.{◌≡◌, ◌≢◌, ℕ, zero, suc, ◌-◌, ◌<◌, List, [], ◌∷◌, length, take, length-take, get_or, Result, Ok, Err, None, refl, sym, subst, ap, ◌∙◌, arith, ⊎_elim}
+-- A branch that is looked for among the first ones of a list, or behind them.
+use Rattle.std.proofs.Common.{◌≡◌, ◌≢◌, ℕ, zero, suc, ◌-◌, ◌<◌, ◌≤◌, ◌+◌, List, [], ◌∷◌, length, take, drop, length-take, get_or, Result, Ok, Err, None, refl, sym, subst, ap, ◌∙◌, arith, ⊎_elim}
 use Rattle.std.specs.Result.{MatchResult}
 use Rattle.std.specs.declared.cmp.Ordering.TheVariants.{Less}
 use Rattle.std.proofs.lemmas.Bool.{cases_lt}
@@ -9,11 +9,12 @@ use Rattle.cue_table.specs.Tree.{Children, none, child, find}
 use Rattle.cue_table.specs.Form.{IsBelowAll, Rise}
 use Rattle.cue_table.specs.Inner.Child.{Child}
 use Rattle.cue_table.specs.Inner.Near.{Reaches}
-use Rattle.cue_table.specs.Inner.Place.{AreBefore, IsPlace, IsGap}
+use Rattle.cue_table.specs.Inner.Place.{AreBefore, ArePassed, IsPlace, IsGap}
 use Rattle.cue_table.specs.Inner.Parts.{past}
 use Rattle.cue_table.specs.Inner.View.{branches}
 use Rattle.cue_table.proofs.Branches.{below_all, find_below, find_past}
 use Rattle.cue_table.proofs.Finding.{find_at, reverse_cmp}
+use Rattle.cue_table.proofs.Order.{step_total}
 
 take_whole : {X : Type 0} (n : ℕ) (xs : List X) → n ≡ length xs → take n xs ≡ xs
 take_whole zero [] e = refl
@@ -43,6 +44,11 @@ module _ {R : Type 0} where
   rise_take zero cs h = tt
   rise_take (suc n) [] h = tt
   rise_take (suc n) (c ∷ cs) h = (below_take (step_of c.step) n cs h.0, rise_take n cs h.1)
+
+  pub rise_drop : (n : ℕ) (cs : List (Child R)) → Rise (branches cs) → Rise (branches (drop n cs))
+  rise_drop zero cs h = h
+  rise_drop (suc n) [] h = tt
+  rise_drop (suc n) (c ∷ cs) h = rise_drop n cs h.1
 
   before_take : (step : Step) (k n : ℕ) (cs : List (Child R)) → AreBefore k step (branches (take n cs)) → AreBefore k step (branches cs)
   before_take step zero n cs h = tt
@@ -102,3 +108,49 @@ module _ {R : Type 0} where
   near_found cs step n (Err at) a reaches found =
       ⊎_elim (λ e. subst (λ xs. IsGap xs step at) (take_whole n cs e) found)
       (λ e. gap_in cs step n at (first cs n e.1) a e.0 e.1 (e.2 (first cs n e.1)) found) reaches
+
+  -- what is found behind branches that stand before the step is found among all
+  pub place_behind : (n : ℕ) (cs : List (Child R)) (step : Step) (at : ℕ) → AreBefore n step (branches cs) → IsPlace (drop n cs) step at → IsPlace cs step (n + at)
+  place_behind zero cs step at b place = let same : at ≡ 0 + at = omega arith in subst (IsPlace cs step) same place
+  place_behind (suc n) [] step at b place = absurd b
+  place_behind (suc n) (c ∷ cs) step at b found =
+      let place = place_behind n cs step at b.1 found in
+      let bound = place.in_range in
+      let same : suc (n + at) ≡ suc n + at = omega arith in
+      subst (IsPlace (c ∷ cs) step) same
+      (record {
+        in_range = omega (arith, bound);
+        is_there = λ d. find_past step (step_of c.step) c.node (branches cs) (reverse_cmp (step_of c.step) step Less b.0) ∙ place.is_there d;
+        at_step = place.at_step;
+        before = (b.0, place.before);
+      })
+
+  pub gap_behind : (n : ℕ) (cs : List (Child R)) (step : Step) (at : ℕ) → AreBefore n step (branches cs) → IsGap (drop n cs) step at → IsGap cs step (n + at)
+  gap_behind zero cs step at b gap = let same : at ≡ 0 + at = omega arith in subst (IsGap cs step) same gap
+  gap_behind (suc n) [] step at b gap = absurd b
+  gap_behind (suc n) (c ∷ cs) step at b found =
+      let gap = gap_behind n cs step at b.1 found in
+      let bound = gap.in_range in
+      let same : suc (n + at) ≡ suc n + at = omega arith in
+      subst (IsGap (c ∷ cs) step) same
+      (record {
+        in_range = omega (arith, bound);
+        absent = find_past step (step_of c.step) c.node (branches cs) (reverse_cmp (step_of c.step) step Less b.0) ∙ gap.absent;
+        before = (b.0, gap.before);
+        after = gap.after;
+      })
+
+  -- so many branches are there
+  pub before_length : (n : ℕ) (cs : List (Child R)) (step : Step) → AreBefore n step (branches cs) → n ≤ length cs
+  before_length zero cs step b = omega arith
+  before_length (suc n) [] step b = absurd b
+  before_length (suc n) (c ∷ cs) step b = let rest = before_length n cs step b.1 in omega (arith, rest)
+
+  -- what stands up to a branch is before each later step
+  pub passed : (cs : List (Child R)) (step : Step) (at : ℕ) → IsPlace cs step at → ArePassed (suc at) step (branches cs)
+  passed cs step at place later less = up_to cs at place.before place.in_range place.at_step
+    where
+      up_to : (cs : List (Child R)) (at : ℕ) → AreBefore at step (branches cs) → at < length cs → ((d : Child R) → step_of (get_or cs at d).step ≡ step) → AreBefore (suc at) later (branches cs)
+      up_to [] at b l e = absurd (omega arith)
+      up_to (c ∷ cs) zero b l e = (subst (λ s. step_cmp s later ≡ Less) (sym (e c)) less, tt)
+      up_to (c ∷ cs) (suc at) b l e = (step_total.trans (step_of c.step) step later b.0 less, up_to cs at b.1 (omega (arith, l)) e)

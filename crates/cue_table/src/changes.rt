@@ -1,14 +1,16 @@
 //! What changes in a list of branches that takes others over. It is made before the list changes,
 //! so that the change itself only moves branches.
 ghost use Rattle.std.specs.Prelude.{◌≡◌, ◌≤◌, ◌<◌, ◌+◌, length, slice_index_or, IfOk};
+ghost use Rattle.cue_row.specs.Steps.{step_of};
 ghost use Rattle.cue_table.specs.Form.{AreBranches, IsKept, IsTable};
 ghost use Rattle.cue_table.specs.Meet.{IsMerge};
-ghost use Rattle.cue_table.specs.Inner.Changes.{Fit, IsChange, behind, merged, over};
+ghost use Rattle.cue_table.specs.Inner.Changes.{Fit, IsFound, behind, merged, over};
+ghost use Rattle.cue_table.specs.Inner.Place.{AreBefore};
 ghost use Rattle.cue_table.specs.Inner.View.{branches};
 
 use crate::child::Child;
 use crate::meet::child_met;
-use crate::near::place_near;
+use crate::near::place_from;
 use cue_lattice::{Memory, Narrow};
 use std::alloc::Global;
 
@@ -19,6 +21,15 @@ pub(crate) struct Change<R: Narrow> {
     /// Whether it stands in place of the next branch.
     pub(crate) replaces: bool,
     pub(crate) child: Child<R>,
+}
+
+/// What another branch does to a list.
+#[derive(Drop)]
+enum Found<R: Narrow> {
+    /// Nothing. So many branches of the list stand at its step or before it.
+    Same(usize),
+    /// It makes this change.
+    New(Change<R>),
 }
 
 /// What changes in a list of branches that takes others over. What they add nothing to stays.
@@ -36,30 +47,39 @@ pub(crate) fn changes<R: Narrow>(
 {
     let mut changes = Vec::with_capacity(alloc, right.len())?;
     let mut rest = left;
+    // So many branches of the rest stand before all others that are left.
+    let mut past = 0;
     let mut others = right.into_iter();
     while let Some(other) = others.next() {
-        if let Some(change) = changed_by(alloc, rest, other)? {
-            rest = behind(rest, &change);
-            changes.push(change)?;
+        match changed_by(alloc, rest, past, other)? {
+            Found::Same(count) => past = count,
+            Found::New(change) => {
+                rest = behind(rest, &change);
+                past = 0;
+                changes.push(change)?;
+            }
         }
     }
     Ok(changes)
 }
 
-/// What another branch changes in a list.
+/// What another branch does to a list, of which the first branches, as many as `past` says, stand
+/// before it.
 #[cycle(meet)]
 fn changed_by<R: Narrow>(
     alloc: Global,
     left: &[Child<R>],
+    past: usize,
     other: Child<R>,
-) -> Result<Option<Change<R>>, Memory>
+) -> Result<Found<R>, Memory>
     requires left { AreBranches (IsKept R.refuses R.is_value) (branches left.now) }
     requires right { IsTable R.refuses R.is_value other.node }
+    requires past { AreBefore past (step_of other.step) (branches left.now) }
     ensures { IfOk result
-        (IsChange R.refuses (IsKept R.refuses R.is_value) left.now other) }
+        (IsFound R.refuses (IsKept R.refuses R.is_value) left.now other) }
 {
-    match place_near(left, other.step()) {
-        Err(kept) => Ok(Some(Change {
+    match place_from(left, past, other.step()) {
+        Err(kept) => Ok(Found::New(Change {
             kept,
             replaces: false,
             child: other,
@@ -67,9 +87,9 @@ fn changed_by<R: Narrow>(
         Ok(kept) => {
             let other = other.into_node(alloc)?;
             let Some(child) = child_met(alloc, branch_at(left, kept), other)? else {
-                return Ok(None);
+                return Ok(Found::Same(kept + 1));
             };
-            Ok(Some(Change {
+            Ok(Found::New(Change {
                 kept,
                 replaces: true,
                 child,

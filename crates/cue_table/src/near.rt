@@ -1,9 +1,9 @@
-//! Where a branch is among others, searched for from the front on.
+//! Where a branch is among others, searched for from the front on, or from behind the first ones.
 ghost use Rattle.std.specs.Prelude.{MatchResult};
 ghost use Rattle.cue_row.specs.Steps.{step_of};
 ghost use Rattle.cue_table.specs.Form.{Rise};
 ghost use Rattle.cue_table.specs.Inner.Near.{Reaches};
-ghost use Rattle.cue_table.specs.Inner.Place.{IsGap, IsPlace};
+ghost use Rattle.cue_table.specs.Inner.Place.{AreBefore, IsGap, IsPlace};
 ghost use Rattle.cue_table.specs.Inner.View.{branches};
 
 use crate::child::Child;
@@ -12,8 +12,27 @@ use cue_lattice::Narrow;
 use cue_row::Step;
 use std::cmp::Ordering;
 
+/// As `place` where the first branches, as many as `past` says, stand before the step, with few
+/// comparisons where the branch is near behind them.
+pub(crate) fn place_from<R: Narrow>(
+    children: &[Child<R>],
+    past: usize,
+    step: &Step,
+) -> Result<usize, usize>
+    requires rise { Rise (branches children.now) }
+    requires past { AreBefore past (step_of step.now) (branches children.now) }
+    ensures { MatchResult result (IsPlace children.now (step_of step.now))
+        (IsGap children.now (step_of step.now)) }
+{
+    let (_, later) = children.split_at(past);
+    match place_near(later, step) {
+        Ok(at) => Ok(past + at),
+        Err(at) => Err(past + at),
+    }
+}
+
 /// As `place`, with few comparisons where the branch is near the front.
-pub(crate) fn place_near<R: Narrow>(children: &[Child<R>], step: &Step) -> Result<usize, usize>
+fn place_near<R: Narrow>(children: &[Child<R>], step: &Step) -> Result<usize, usize>
     requires { Rise (branches children.now) }
     ensures { MatchResult result (IsPlace children.now (step_of step.now))
         (IsGap children.now (step_of step.now)) }

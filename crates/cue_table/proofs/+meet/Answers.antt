@@ -1,4 +1,4 @@
-use Rattle.std.proofs.Common.{arith, take, refl, ap, subst, sym, ◌∙◌, ◌≡◌, [], Some}
+use Rattle.std.proofs.Common.{add-one, arith, take, refl, ap, subst, sym, ◌∙◌, ◌≡◌, [], Some}
 use Rattle.std.proofs.lemmas.List.{nil_from_length}
 use Rattle.std.proofs.lemmas.Result.{on_ok_weaker}
 use Rattle.std.specs.Option.{option_map}
@@ -11,17 +11,18 @@ use Rattle.cue_table.specs.Meet.{IsMerge, IsMet, IsUnion}
 use Rattle.cue_table.specs.Refuses.{RowRefuses}
 use Rattle.cue_table.specs.Tree.{find, node, no_rest, rest_of, step_into}
 use Rattle.cue_table.specs.Inner.Alike.{AreAlike}
-use Rattle.cue_table.specs.Inner.Changes.{IsChange, or_old}
+use Rattle.cue_table.specs.Inner.Changes.{IsChange, IsFound, or_old}
 use Rattle.cue_table.specs.Inner.Place.{IsPlace, IsGap}
 use Rattle.cue_table.specs.Inner.Parts.{or_row}
 use Rattle.cue_table.specs.Inner.Rests.{AreElementsMet, AreMetRests, IsBranch}
 use Rattle.cue_table.specs.Inner.View.{branches, rest_in, run_branches}
 use Rattle.cue_table.proofs.Aligning.{merged_within, no_rest_there}
-use Rattle.cue_table.proofs.Changing.{adds, alters, at_form, goes_end, goes_on, goes_past, met_at, put_in, stays}
+use Rattle.cue_table.proofs.Changing.{adds, alters, at_form, first_form, first_smaller, goes_end, goes_on, goes_past, met_at, put_in, stays}
 use Rattle.cue_table.proofs.Fields.{fields_depth, form_take}
 use Rattle.cue_table.proofs.Finding.{branches_rise, tree_rises}
 use Rattle.cue_table.proofs.Merging.{merge_stay, met_taken}
 use Rattle.cue_table.proofs.MetBranches.{met_nodes, met_still, none_is}
+use Rattle.cue_table.proofs.Nearing.{passed}
 use Rattle.cue_table.proofs.Nodes.{branches_form}
 use Rattle.cue_table.proofs.Owned.{own_only}
 use Rattle.cue_table.proofs.Sweeping.{list_form, list_met, rest_branch, rest_depth, step_branch, step_depth, stretch, sweeps_end, sweeps_gap, sweeps_run}
@@ -88,8 +89,8 @@ lists::elements_met-returns g t c =
     (subst (λ o. AreMetRests r (option_map (λ node. node.now) c.rest.result) (option_map (λ node. node.now) c.rest-2.result) o) c.in-Some-2.is c.in_ok-node.ensures.refused) c.settled.ensures
 
 -- ---- what changes in a list of branches
-pub changes::changed_by-place_near-requires : goal.changes::changed_by-place_near-requires
-changes::changed_by-place_near-requires g t c = branches_rise (IsKept g.R.Narrow.refuses g.R.Narrow.is_value) (branches c.args.left.now) c.requires.left
+pub changes::changed_by-place_from-requires-clause-rise : goal.changes::changed_by-place_from-requires-clause-rise
+changes::changed_by-place_from-requires-clause-rise g t c = branches_rise (IsKept g.R.Narrow.refuses g.R.Narrow.is_value) (branches c.args.left.now) c.requires.left
 
 pub changes::changed_by-child_met-requires : goal.changes::changed_by-child_met-requires
 changes::changed_by-child_met-requires g t c κs within =
@@ -103,10 +104,12 @@ pub changes::changed_by-returns-in_default : goal.changes::changed_by-returns-in
 changes::changed_by-returns-in_default g t c =
     let r = g.R.Narrow.refuses in
     let place : IsPlace c.args.left.now (step_of c.args.other.step) c.in-Ok.kept = subst (λ s. IsPlace c.args.left.now (step_of s) c.in-Ok.kept) c.step.ensures c.in-Ok.ensures in
-    let d = c.branch_at.result.now in
-    stays r g.R.Narrow.is_value c.args.left.now c.args.other d c.in-Ok.kept place c.branch_at.ensures
-    (subst (λ n. IsMet r d.node n d.node) c.in_ok-other-in-Ok.ensures
-    (subst (λ met. IsMet r d.node c.in_ok-other-in-Ok.other (or_old met d).node) c.in_default.is c.in_ok-child-in-Ok.ensures.refused))
+    let d = c.branch_at.result.now in (
+      stays r g.R.Narrow.is_value c.args.left.now c.args.other d c.in-Ok.kept place c.branch_at.ensures
+          (subst (λ n. IsMet r d.node n d.node) c.in_ok-other-in-Ok.ensures
+          (subst (λ met. IsMet r d.node c.in_ok-other-in-Ok.other (or_old met d).node) c.in_default.is c.in_ok-child-in-Ok.ensures.refused)),
+      rw add-one (passed c.args.left.now (step_of c.args.other.step) c.in-Ok.kept place),
+    )
 
 pub changes::changed_by-returns-in-Err : goal.changes::changed_by-returns-in-Err
 changes::changed_by-returns-in-Err g t c =
@@ -125,30 +128,45 @@ changes::changed_by-returns-in-Some g t c =
     (subst (λ n. IsMet r d.node n e.node) c.in_ok-other-in-Ok.ensures
     (subst (λ met. IsMet r d.node c.in_ok-other-in-Ok.other (or_old met d).node) c.in-Some.is c.in_ok-child-in-Ok.ensures.refused))
 
+pub changes::changes-changed_by-requires : goal.changes::changes-changed_by-requires
+changes::changes-changed_by-requires g t c κs within =
+    let r = g.R.Narrow.refuses in
+    let v = g.R.Narrow.is_value in
+    let left = c.args.left.now in
+    let right = c.args.right.items in
+    let rest = c.loop-other.rest.now in
+    let all = into_iter_items c.loop-other.others in
+    let others = into_iter_items c.next.new.self in
+    let begun = c.loop-other.invariant in
+    let first = c.in-Some.ensures.items in
+    let deep = first_smaller r v left right rest all others c.loop-other.past c.loop-other.changes.items c.in-Some.other begun first in
+    let form = first_form r v left right rest all others c.loop-other.past c.loop-other.changes.items c.in-Some.other begun first in
+    (omega (arith, c.decreases, deep), (within.0, (within.1, (begun.rest_form, (form, begun.ahead c.in-Some.other others first)))))
+
 pub changes::changes-behind-rest-requires : goal.changes::changes-behind-rest-requires
 changes::changes-behind-rest-requires g t c =
     let r = g.R.Narrow.refuses in
-    let change : IsChange r (IsKept r g.R.Narrow.is_value) c.loop-other.rest.now c.in-Some.other (Some c.in-Some-2.change) =
-    subst (IsChange r (IsKept r g.R.Narrow.is_value) c.loop-other.rest.now c.in-Some.other) c.in-Some-2.is c.in_ok-change.ensures in
+    let change : IsChange r (IsKept r g.R.Narrow.is_value) c.loop-other.rest.now c.in-Some.other (Some c.in-New.change) =
+    subst (IsFound r (IsKept r g.R.Narrow.is_value) c.loop-other.rest.now c.in-Some.other) c.in-New.is c.in_ok-count.ensures in
     (change.fit [] tt).0
-
-pub changes::changes-loop-other-preserved-in-Continue-branch-4 : goal.changes::changes-loop-other-preserved-in-Continue-branch-4
-changes::changes-loop-other-preserved-in-Continue-branch-4 g t c =
-    goes_on g.R.Narrow.refuses g.R.Narrow.is_value c.args.left.now c.args.right.items c.loop-other.rest.now (into_iter_items c.loop-other.others) (into_iter_items c.next.new.self) c.behind-rest.result.now c.loop-other.changes.items c.push.new.self.items c.in-Some.other c.in-Some-2.change c.in_ok-change.field-0
-    c.loop-other.invariant c.in-Some.ensures.items c.in_ok-change.ensures c.in-Some-2.is c.behind-rest.ensures c.in_ok-push.ensures.items
 
 pub changes::changes-loop-other-preserved : goal.changes::changes-loop-other-preserved
 changes::changes-loop-other-preserved g t c =
-    goes_past g.R.Narrow.refuses g.R.Narrow.is_value c.args.left.now c.args.right.items c.loop-other.rest.now (into_iter_items c.loop-other.others) (into_iter_items c.next.new.self) c.loop-other.changes.items c.in-Some.other c.in_ok-change.field-0
-    c.loop-other.invariant c.in-Some.ensures.items c.in_ok-change.ensures c.in_default-2.is
+    goes_on g.R.Narrow.refuses g.R.Narrow.is_value c.args.left.now c.args.right.items c.loop-other.rest.now (into_iter_items c.loop-other.others) (into_iter_items c.next.new.self) c.behind-rest.result.now c.loop-other.past c.loop-other.changes.items c.push.new.self.items c.in-Some.other c.in-New.change c.in_ok-count.field-0
+    c.loop-other.invariant c.in-Some.ensures.items c.in_ok-count.ensures c.in-New.is c.behind-rest.ensures c.in_ok-push-in-New.ensures.items
+
+pub changes::changes-loop-other-preserved-in-Same : goal.changes::changes-loop-other-preserved-in-Same
+changes::changes-loop-other-preserved-in-Same g t c =
+    goes_past g.R.Narrow.refuses g.R.Narrow.is_value c.args.left.now c.args.right.items c.loop-other.rest.now (into_iter_items c.loop-other.others) (into_iter_items c.next.new.self) c.loop-other.past c.in-Same.count c.loop-other.changes.items c.in-Some.other c.in_ok-count.field-0
+    c.loop-other.invariant c.in-Some.ensures.items c.in_ok-count.ensures c.in-Same.is
 
 pub changes::changes-returns-clause-fit : goal.changes::changes-returns-clause-fit
 changes::changes-returns-clause-fit g t c =
-    (goes_end g.R.Narrow.refuses g.R.Narrow.is_value c.args.left.now c.args.right.items c.loop-other.rest.now (into_iter_items c.loop-other.others) c.loop-other.changes.items c.loop-other.invariant (sym c.loop-other.others.rest.ok.0 ∙ c.in_default.ensures.cases.0)).0
+    (goes_end g.R.Narrow.refuses g.R.Narrow.is_value c.args.left.now c.args.right.items c.loop-other.rest.now (into_iter_items c.loop-other.others) c.loop-other.past c.loop-other.changes.items c.loop-other.invariant (sym c.loop-other.others.rest.ok.0 ∙ c.in_default.ensures.cases.0)).0
 
 pub changes::changes-returns-clause-union : goal.changes::changes-returns-clause-union
 changes::changes-returns-clause-union g t c =
-    (goes_end g.R.Narrow.refuses g.R.Narrow.is_value c.args.left.now c.args.right.items c.loop-other.rest.now (into_iter_items c.loop-other.others) c.loop-other.changes.items c.loop-other.invariant (sym c.loop-other.others.rest.ok.0 ∙ c.in_default.ensures.cases.0)).1
+    (goes_end g.R.Narrow.refuses g.R.Narrow.is_value c.args.left.now c.args.right.items c.loop-other.rest.now (into_iter_items c.loop-other.others) c.loop-other.past c.loop-other.changes.items c.loop-other.invariant (sym c.loop-other.others.rest.ok.0 ∙ c.in_default.ensures.cases.0)).1
 
 -- ---- two branches that may be there
 pub lists::whole_met-returns-clause-form : goal.lists::whole_met-returns-clause-form

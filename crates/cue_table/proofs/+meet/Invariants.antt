@@ -51,7 +51,7 @@ decreases-lists::found_met g l = 8 * found_depth (option_map (λ node. node.now)
 
 abbrev pub invariant-changes::changes-loop-other : goal.invariant-changes::changes-loop-other
 invariant-changes::changes-loop-other g l =
-    GoesOn g.R.Narrow.refuses g.R.Narrow.is_value l.left l.fn.right.items l.rest (into_iter_items l.others) l.changes.items
+    GoesOn g.R.Narrow.refuses g.R.Narrow.is_value l.left l.fn.right.items l.rest (into_iter_items l.others) l.past l.changes.items
 
 abbrev pub decreases-changes::changes-loop-other : goal.decreases-changes::changes-loop-other
 decreases-changes::changes-loop-other g l = into_iter_len l.others

@@ -7,8 +7,11 @@ use Rattle.cue_table.specs.Form.{AreBranches}
 use Rattle.cue_table.specs.Meet.{IsMerge}
 use Rattle.cue_table.specs.Tree.{Children, child}
 use Rattle.cue_table.specs.Inner.Child.{Child}
+use Rattle.cue_table.specs.Inner.Place.{ArePassed}
 use Rattle.cue_table.specs.Inner.View.{branches}
 use Rattle.cue_table.specs.declared.changes.Change.{Change}
+use Rattle.cue_table.specs.declared.changes.Found.{Found}
+use Rattle.cue_table.specs.declared.changes.Found.TheVariants.{Same, New}
 
 -- what is new, where it is there, and else what was before
 abbrev pub or_old : {X : Type 0} → Option X → X → X
@@ -62,3 +65,10 @@ pub record IsChange {R Q : Type 0} (refuses : R → Q → Type 0) (P : R → Typ
       (branches (merged tail (behind_found found left)))
       → IsMerge refuses P (branches left) (child (step_of other.step) other.node others)
       (branches (merged (option_to_list found ++ tail) left))
+
+-- the branch changes nothing, and so many stand at its step or before it; or it makes this change
+abbrev pub IsFound : {R Q : Type 0} → (R → Q → Type 0) → (R → Type 0)
+    → List (Child R) → Child R → Found R Q → Type 0
+IsFound refuses P left other (Same past) =
+    IsChange refuses P left other None × ArePassed past (step_of other.step) (branches left)
+IsFound refuses P left other (New change) = IsChange refuses P left other (Some change)

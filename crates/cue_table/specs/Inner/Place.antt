@@ -17,6 +17,11 @@ AreBefore (suc n) step none = ⊥
 AreBefore (suc n) step (child next tree children) =
     (step_cmp next step ≡ Less) × AreBefore n step children
 
+-- the first n branches stand before each step behind this one
+abbrev pub ArePassed : {R : Type 0} → ℕ → paths.Step → Children R → Type 0
+ArePassed n step children =
+    (later : paths.Step) → step_cmp step later ≡ Less → AreBefore n later children
+
 -- the branch at the step stands at this place of the list
 pub record IsPlace {R : Type 0} (children : List (Child R)) (step : paths.Step)
     (at : ℕ) : Type 0 where
