@@ -136,19 +136,18 @@ row_form (node (Some row) children rest) h = h.0.0
 pub found_first : (step : paths.Step) (tree : Tree Row) (children : Children Row) → find step (child step tree children) ≡ Some tree
 found_first step tree children = ap (λ o. if_equal o tree (find step children)) (same_step step)
 
+-- a step below all branches is below that of each
+pub below_found : (next step : paths.Step) (tree : Tree Row) (children : Children Row) → IsBelowAll next children → find step children ≡ Some tree → step_cmp next step ≡ Less
+below_found next step tree none b f = cc
+below_found next step tree (child s t cs) b f = take (step_cmp step s) refl f (λ g. below_found next step tree cs b.1 g) where
+  take : (o : Ordering) → step_cmp step s ≡ o → if_equal o t (find step cs) ≡ Some tree → (find step cs ≡ Some tree → step_cmp next step ≡ Less) → step_cmp next step ≡ Less
+  take Less e g k = k g
+  take Equal e g k = subst (λ x. step_cmp next x ≡ Less) (sym (equal_steps step s e)) b.0
+  take Greater e g k = k g
+
 -- a branch further on is found too
 pub found_later : (next step : paths.Step) (here tree : Tree Row) (children : Children Row) → IsBelowAll next children → find step children ≡ Some tree → find step (child next here children) ≡ Some tree
-found_later next step here tree children b f =
-    ap (λ o. if_equal o here (find step children)) (reverse_cmp next step Less (before children b f)) ∙ f
-  where
-    take : (o : Ordering) (cs : Children Row) (s : paths.Step) (t : Tree Row) → step_cmp step s ≡ o → step_cmp next s ≡ Less → (find step cs ≡ Some tree → step_cmp next step ≡ Less) → if_equal o t (find step cs) ≡ Some tree → step_cmp next step ≡ Less
-    take Less cs s t e b k f = k f
-    take Equal cs s t e b k f = subst (λ x. step_cmp next x ≡ Less) (sym (equal_steps step s e)) b
-    take Greater cs s t e b k f = k f
-
-    before : (cs : Children Row) → IsBelowAll next cs → find step cs ≡ Some tree → step_cmp next step ≡ Less
-    before none b f = cc
-    before (child s t cs) b f = take (step_cmp step s) cs s t refl b.0 (before cs b.1) f
+found_later next step here tree children b f = ap (λ o. if_equal o here (find step children)) (reverse_cmp next step Less (below_found next step tree children b f)) ∙ f
 
 -- which branches of a tree these are
 abbrev pub AreAmong : Tree Row → Children Row → Type 0

@@ -161,21 +161,26 @@ from_here not_allowed tree D xs h n = record {
   rising = h.rising;
 }
 
--- these are the gaps up to other steps too, where the same of them are demanded
-pub moved :
-    (not_allowed : Bool) (tree : Tree Row) (D E : paths.Step → Type 0) (xs : List Gap) → UpTo not_allowed tree D xs → ((s : paths.Step) → D s → E s)
-    → ((s : paths.Step) → IsStepDemanded (Told tree) [] s → E s → D s) → UpTo not_allowed tree E xs
-moved not_allowed tree D E xs h kept covered = record {
-  sound = all_from (λ gap. IsGapIn not_allowed tree gap × IsIn D gap.path) (λ gap. IsGapIn not_allowed tree gap × IsIn E gap.path) xs
-      (λ gap k. (k.0, still gap.path k.1)) h.sound;
-  complete = λ x k. h.complete x (
-    k.0,
-    ⊎_elim
-        (λ e. subst (IsIn D) (sym e) tt)
-        (λ (s, path, e). subst (IsIn D) (sym e) (covered s (step_demanded not_allowed tree x s path e k.0) (subst (IsIn E) e k.1)))
-        (path_cases x.path),
-  );
-  rising = h.rising;
+-- with others behind them these are the gaps up to further steps
+pub extended_by :
+    (not_allowed : Bool) (tree : Tree Row) (D E : paths.Step → Type 0) (P : Gap → Type 0) (xs ys : List Gap) → UpTo not_allowed tree D xs → Lists place_of P ys → ((s : paths.Step) → D s → E s)
+    → ((gap : Gap) → P gap → IsGapIn not_allowed tree gap × IsIn E gap.path)
+    → ((gap : Gap) (s : paths.Step) (path : Path) → gap.path ≡ s ∷ path → IsGapIn not_allowed tree gap → E s → D s ⊎ P gap)
+    → ((p : Path) (gap : Gap) → IsIn D p → P gap → path_cmp p gap.path ≡ Less) → UpTo not_allowed tree E (xs ++ ys)
+extended_by not_allowed tree D E P xs ys h k kept sound cover order = record {
+  sound = all_append (λ gap. IsGapIn not_allowed tree gap × IsIn E gap.path) xs ys
+      (all_from (λ gap. IsGapIn not_allowed tree gap × IsIn D gap.path) (λ gap. IsGapIn not_allowed tree gap × IsIn E gap.path) xs (λ gap g. (g.0, still gap.path g.1)) h.sound)
+      (all_from P (λ gap. IsGapIn not_allowed tree gap × IsIn E gap.path) ys sound k.sound);
+  complete = λ x g. ⊎_elim
+      (λ e. one_left (λ y. y ≡ x) xs ys (h.complete x (g.0, subst (IsIn D) (sym e) tt)))
+      (λ (s, path, e). ⊎_elim
+      (λ d. one_left (λ y. y ≡ x) xs ys (h.complete x (g.0, subst (IsIn D) (sym e) d)))
+      (λ p. one_right (λ y. y ≡ x) xs ys (k.complete x p))
+      (cover x s path e g.0 (subst (IsIn E) e g.1)))
+      (path_cases x.path);
+  rising = rising_append place_of xs ys h.rising k.rising
+      (all_from (λ gap. IsGapIn not_allowed tree gap × IsIn D gap.path) (λ x. AllByRecursion (λ y. path_cmp (place_of x) (place_of y) ≡ Less) ys) xs
+      (λ x g. all_from P (λ y. path_cmp (place_of x) (place_of y) ≡ Less) ys (λ y p. order x.path y g.1 p) k.sound) h.sound);
 } where
   still : (path : Path) → IsIn D path → IsIn E path
   still [] h = tt

@@ -10,9 +10,10 @@ use Rattle.cue_lattice.specs.OneOf.{OneOf}
 use Rattle.cue_lattice.specs.Path as paths
 use Rattle.cue_lattice.specs.Path.{label, index, step_cmp, Path, path_cmp}
 use Rattle.cue_row.specs.declared.parts.RowParts.{RowParts as Row}
+use Rattle.cue_table.specs.Spans.{Span, spread}
 use Rattle.cue_table.specs.StepsOfCode.{step_at}
 use Rattle.cue_table.specs.declared.step_ref.StepRef.{StepRef}
-use Rattle.cue_table.specs.Tree.{Tree, node, Children, none, Rest, no_rest, onward, row_of, rest_of, rest_tree, children_of}
+use Rattle.cue_table.specs.Tree.{Tree, node, none, Rest, no_rest, onward, row_of, rest_of, rest_tree}
 use Rattle.cue_report.specs.GapSearch.{IsGapIn, IsGapAmong, IsGapOnward, Adds, above, told_above, free_elements}
 use Rattle.cue_report.specs.Listing.{Lists}
 use Rattle.cue_report.specs.Search.{least_at, rest_from}
@@ -24,7 +25,6 @@ use Rattle.cue_report.proofs.GapWalk.{IsOver, IsDone, freed, more_found, above_f
 use Rattle.cue_report.proofs.Order.{all_append, all_map, all_from, one_left, one_right, one_map, rising_append, rising_lifted}
 use Rattle.cue_report.proofs.Rests.{at_rest}
 use Rattle.cue_report.proofs.Rows.{longer_is, index_allowed, is_below, is_long}
-use Rattle.cue_report.proofs.Walk.{none_left}
 
 -- ---- element by element
 -- a path at an element before a number is before the paths at that
@@ -90,7 +90,7 @@ element_added piece first number tree path pushed start now after l h p adds =
     }
 
 -- the same, told otherwise
-same_added :
+pub same_added :
     {X : Type 0} (piece : Gap → List X) (P Q : Gap → Type 0) (path : Path) (start after : List X) → ((gap : Gap) → P gap → Q gap) → ((gap : Gap) → Q gap → P gap)
     → Adds piece P path start after → Adds piece Q path start after
 same_added piece P Q path start after f g h = record {
@@ -99,17 +99,27 @@ same_added piece P Q path start after f g h = record {
   is = h.is;
 }
 
+-- elements that are as many
+pub same_elements :
+    {X : Type 0} (piece : Gap → List X) (first number end : ℕ) (tree : Tree Row) (path : Path) (start after : List X) → number - first ≡ end - first
+    → Adds piece (IsGapAmong first number tree) path start after → Adds piece (IsGapAmong first end tree) path start after
+same_elements piece first number end tree path start after e h =
+    same_added piece (IsGapAmong first number tree) (IsGapAmong first end tree) path start after
+    (λ gap k. record { number = k.number; within = (k.within.0, omega (arith, k.within, e)); path = k.path; is = k.is; inner = k.inner })
+    (λ gap k. record { number = k.number; within = (k.within.0, omega (arith, k.within, e)); path = k.path; is = k.is; inner = k.inner })
+    h
+
 -- all were looked at
 pub all_among :
-    {X : Type 0} (piece : Gap → List X) (tree rest : Tree Row) (first least last : ℕ) (path : Path) (start after : List X) → Some rest ≡ rest_tree (rest_of tree)
-    → least ≡ least_at (row_of tree) → first ≡ rest_from (rest_of tree) least → last ≡ least
-    → Adds piece (IsGapAmong first last rest) path start after → Adds piece (IsGapOnward (least_at (row_of tree)) (rest_of tree)) path start after
-all_among piece (node row children no_rest) rest first least last path start after r m f l h = cc
-all_among piece (node row children (onward n inner)) rest first least last path start after r m f l h =
+    {X : Type 0} (piece : Gap → List X) (tree rest : Tree Row) (first least : ℕ) (path : Path) (start after : List X) → Some rest ≡ rest_tree (rest_of tree)
+    → least ≡ least_at (row_of tree) → first ≡ rest_from (rest_of tree) least
+    → Adds piece (IsGapAmong first least rest) path start after → Adds piece (IsGapOnward (least_at (row_of tree)) (rest_of tree)) path start after
+all_among piece (node row children no_rest) rest first least path start after r m f h = cc
+all_among piece (node row children (onward n inner)) rest first least path start after r m f h =
     let same : rest ≡ inner = cc in
-    same_added piece (IsGapAmong first last rest) (IsGapAmong n (least_at row) inner) path start after
-    (λ gap k. record { number = k.number; within = (omega (arith, k.within, f, l, m), omega (arith, k.within, l, m)); path = k.path; is = k.is; inner = subst (λ t. IsGapIn false t (record gap { path = k.path })) same k.inner })
-    (λ gap k. record { number = k.number; within = (omega (arith, k.within, f, l, m), omega (arith, k.within, l, m)); path = k.path; is = k.is; inner = subst (λ t. IsGapIn false t (record gap { path = k.path })) (sym same) k.inner })
+    same_added piece (IsGapAmong first least rest) (IsGapAmong n (least_at row) inner) path start after
+    (λ gap k. record { number = k.number; within = (omega (arith, k.within, f, m), omega (arith, k.within, m)); path = k.path; is = k.is; inner = subst (λ t. IsGapIn false t (record gap { path = k.path })) same k.inner })
+    (λ gap k. record { number = k.number; within = (omega (arith, k.within, f, m), omega (arith, k.within, m)); path = k.path; is = k.is; inner = subst (λ t. IsGapIn false t (record gap { path = k.path })) (sym same) k.inner })
     h
 
 -- nothing is looked at where there is no rest
@@ -161,14 +171,14 @@ onward_behind (onward n inner) least p gap d h = subst (λ q. path_cmp p q ≡ L
 
 -- all branches, the free elements behind them and the rest were looked at
 pub ended :
-    {X : Type 0} (piece : Gap → List X) (not_allowed : Bool) (tree : Tree Row) (rest : Children Row) (next least end : ℕ) (start now middle after : List X) (steps held : List StepRef)
-    → IsOver piece not_allowed tree rest next start now steps held → children_of rest ≡ [] → least ≡ least_at (row_of tree) → end ≡ rest_from (rest_of tree) least
+    {X : Type 0} (piece : Gap → List X) (not_allowed : Bool) (tree : Tree Row) (rest : List (Span × Tree Row)) (next least end : ℕ) (start now middle after : List X) (steps held : List StepRef)
+    → IsOver piece not_allowed tree (spread rest) next start now steps held → rest ≡ [] → least ≡ least_at (row_of tree) → end ≡ rest_from (rest_of tree) least
     → middle ≡ now ++ told_above piece (map step_at held) (free_elements next (end - next))
     → Adds piece (IsGapOnward (least_at (row_of tree)) (rest_of tree)) (map step_at held) middle after → Adds piece (IsGapIn not_allowed tree) (map step_at steps) start after
 ended {X = X} piece not_allowed tree rest next least end start now middle after steps held w c m e a adds =
     let last : ℕ = rest_from (rest_of tree) (least_at (row_of tree)) in
     let is : end ≡ last = e ∙ ap (rest_from (rest_of tree)) m in
-    let over : IsOver piece not_allowed tree none next start now steps held = subst (λ cs. IsOver piece not_allowed tree cs next start now steps held) (none_left rest c) w in
+    let over : IsOver piece not_allowed tree none next start now steps held = subst (λ spans. IsOver piece not_allowed tree (spread spans) next start now steps held) c w in
     let to : next + (end - next) ≡ last = omega (arith, is, over.within) in
     let free : middle ≡ now ++ told_above piece (map step_at steps) (free_elements next (end - next)) = a ∙ ap (λ s. now ++ told_above piece (map step_at s) (free_elements next (end - next))) w.same in
     let all : IsOver piece not_allowed tree none last start middle steps held =

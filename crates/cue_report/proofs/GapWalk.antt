@@ -1,36 +1,39 @@
 -- The walk of a search for gaps over the branches of a place, and over the elements that have none.
-use Rattle.std.proofs.Common.{◌≡◌, ◌⊎◌, inl, inr, ⊎_elim, ℕ, zero, suc, ◌+◌, ◌-◌, ◌<◌, ◌≤◌, Bool, true, false, List, [], ◌∷◌, ◌++◌, map, Option, None, Some, refl, sym, ap, subst, ◌∙◌, arith, append_assoc}
-use Rattle.std.proofs.lemmas.Bool.{false≢true}
+use Rattle.std.proofs.Common.{◌≡◌, ◌⊎◌, inl, inr, ⊎_elim, ℕ, zero, suc, ◌+◌, ◌-◌, ◌<◌, ◌≤◌, min, nat_lt, if◌then◌else◌, Bool, true, false, List, [], ◌∷◌, ◌++◌, map, Option, None, Some, refl, sym, ap, subst, ◌∙◌, arith, append_assoc}
+use Rattle.std.proofs.lemmas.Bool.{false≢true, cases_lt}
+use Rattle.std.proofs.lemmas.Bool.Decides.{nat_tests}
 use Rattle.std.proofs.Math.Nat.{eq-or-lt_of_le}
 use Rattle.std.proofs.lemmas.Cmp.{nat_list_cmp_total, nat_cmp_total}
 use Rattle.std.specs.Cmp.{nat_cmp_is}
 use Rattle.std.specs.List.{flat_map}
-use Rattle.std.proofs.lemmas.List.{append-nil, map-append, map_push}
+use Rattle.std.specs.Ordering.{ordering_then}
+use Rattle.std.proofs.lemmas.List.{append-nil, map-append}
 use Rattle.std.proofs.lemmas.List.Concat.{flat_map-append}
-use Rattle.std.specs.declared.cmp.Ordering.{Ordering}
-use Rattle.std.specs.declared.cmp.Ordering.TheVariants.{Less, Equal, Greater}
+use Rattle.std.specs.declared.cmp.Ordering.TheVariants.{Less}
 use Rattle.cue_lattice.specs.Path as paths
-use Rattle.cue_lattice.specs.Path.{label, index, step_cmp, Path}
+use Rattle.cue_lattice.specs.Path.{label, index, step_cmp, Path, path_cmp}
 use Rattle.cue_row.specs.declared.parts.RowParts.{RowParts as Row}
 use Rattle.cue_row.specs.Row.{Refuses, IsRow}
 use Rattle.cue_table.specs.StepsOfCode.{step_at}
 use Rattle.cue_table.specs.declared.step_ref.StepRef.{StepRef}
 use Rattle.cue_table.specs.Form.{AreBranches, IsBelowAll, IsKept, IsTable}
-use Rattle.cue_table.specs.Tree.{Tree, Children, none, child, empty, row_of, below, rest_of, find, step_into, if_equal, children_of}
+use Rattle.cue_table.specs.Spans.{Span, field, elements, alike, spanned, spread}
+use Rattle.cue_table.specs.Tree.{Tree, Children, none, child, empty, row_of, below, rest_of, find, step_into, if_equal}
 use Rattle.cue_table.specs.Size.{children_size}
-use Rattle.cue_table.specs.Walks.{first_child}
+use Rattle.cue_table.proofs.Spanned.{left_size}
 use Rattle.cue_report.specs.Answers.{IsStepDemanded}
-use Rattle.cue_report.specs.GapSearch.{IsGapIn, IsGapHere, Adds, above, told_above, free_at, free_elements, free_before, next_after}
+use Rattle.cue_report.specs.GapSearch.{IsGapIn, IsGapHere, IsGapBelow, Adds, above, told_above, free_at, free_elements, free_before, next_after}
 use Rattle.cue_report.specs.Listing.{Lists}
 use Rattle.cue_report.specs.Search.{is_demanded, is_refused, least_at, rest_from}
 use Rattle.cue_report.specs.declared.gap.Gap.{Gap}
-use Rattle.cue_report.proofs.Order.{same_step, equal_steps}
+use Rattle.cue_report.proofs.Order.{same_step}
 use Rattle.cue_report.proofs.Rests.{own, at_label, at_fixed, own_before, before_end, up_to_end, branches}
 use Rattle.cue_report.proofs.Rows.{longer_is, is_below, is_long}
 use Rattle.cue_report.proofs.Descent.{Told, seen, seen_empty, first_demanded}
 use Rattle.cue_report.proofs.Open.{free_gap}
-use Rattle.cue_report.proofs.Found.{found_first, found_later, found_cases}
-use Rattle.cue_report.proofs.FoundGaps.{place_of, UpTo, extended, from_here, moved, one_here, here_only}
+use Rattle.cue_report.proofs.Found.{found_first, found_cases, below_found}
+use Rattle.cue_report.proofs.FoundGaps.{place_of, UpTo, IsIn, step_demanded, gap_up, gap_down, extended, extended_by, from_here, one_here, here_only}
+use Rattle.cue_report.proofs.SpanSteps.{last_below, alike_at, alike_is, only_branch, span_own, span_either, span_later, span_rise, span_below}
 
 -- ---- steps and branches
 -- a step below all branches is none of them
@@ -51,15 +54,6 @@ trans (index l) (index m) (label n) h g = cc
 below_further : (low step : paths.Step) (children : Children Row) → step_cmp low step ≡ Less → IsBelowAll step children → IsBelowAll low children
 below_further low step none h b = tt
 below_further low step (child next tree children) h b = (trans low step next h b.0, below_further low step children h b.1)
-
--- a branch is the first one or one behind it
-which : (s step : paths.Step) (tree inner : Tree Row) (rest : Children Row) → find s (child step tree rest) ≡ Some inner → (s ≡ step) ⊎ (find s rest ≡ Some inner)
-which s step tree inner rest f = cases (step_cmp s step) refl f
-  where
-    cases : (o : Ordering) → step_cmp s step ≡ o → if_equal o tree (find s rest) ≡ Some inner → (s ≡ step) ⊎ (find s rest ≡ Some inner)
-    cases Less e f = inr f
-    cases Equal e f = inl (equal_steps s step e)
-    cases Greater e f = inr f
 
 less_index : (m n : ℕ) → m < n → step_cmp (index m) (index n) ≡ Less
 less_index m n h = sym (nat_cmp_is m n Less h)
@@ -253,121 +247,175 @@ reached piece not_allowed tree inner rest next number start now after steps held
     no_later : number < next → ⊥
     no_later l = let other = (w.behind number l).0 in let same = same_step (index number) in cc
 
--- ---- a branch is looked at, or passed over
+-- ---- branches that are kept as one are looked at, or passed over
+-- a label before the others is before all, or that of one of them
 label_covered :
-    {X : Type 0} (piece : Gap → List X) (not_allowed : Bool) (tree inner : Tree Row) (step : paths.Step) (rest : Children Row) (next : ℕ) (start now : List X) (steps held : List StepRef)
-    → IsOver piece not_allowed tree (child step inner rest) next start now steps held → (text : List ℕ) → IsStepDemanded (Told tree) [] (label text) → IsBelowAll (label text) rest
-    → IsBelowAll (label text) (child step inner rest) ⊎ (label text ≡ step)
-label_covered piece not_allowed tree inner step rest next start now steps held w text d b =
+    {X : Type 0} (piece : Gap → List X) (not_allowed : Bool) (tree inner : Tree Row) (span : Span) (rest : Children Row) (next : ℕ) (start now : List X) (steps held : List StepRef)
+    → IsOver piece not_allowed tree (spanned span inner rest) next start now steps held → (text : List ℕ) → IsStepDemanded (Told tree) [] (label text) → IsBelowAll (label text) rest
+    → IsBelowAll (label text) (spanned span inner rest) ⊎ ((t : Tree Row) × (find (label text) (spanned span inner none) ≡ Some t))
+label_covered piece not_allowed tree inner span rest next start now steps held w text d b =
     let found = demanded_label tree text d in
     ⊎_elim (λ h. inl h)
-    (λ g. ⊎_elim (λ e. inr e) (λ k. absurd (not_found (label text) rest found.0 b k)) (which (label text) step inner found.0 rest g)) (w.left (label text) found.0 d found.1)
+    (λ g. ⊎_elim (λ f. inr (found.0, f)) (λ k. absurd (not_found (label text) rest found.0 b k)) (span_either (label text) span inner found.0 rest g)) (w.left (label text) found.0 d found.1)
 
 module _
-    {X : Type 0} (piece : Gap → List X) (not_allowed : Bool) (tree inner : Tree Row) (step : paths.Step) (rest : Children Row) (next later : ℕ) (start now after : List X)
-    (steps held pushed popped : List StepRef) (x : StepRef) (w : IsOver piece not_allowed tree (child step inner rest) next start now steps held)
-    (asked : is_demanded (row_of tree) step (row_of inner) ≡ true) (is : step_at x ≡ step) (p : pushed ≡ held ++ x ∷ []) (back : popped ≡ held)
-    (adds : Adds piece (IsGapIn (is_refused (row_of tree) step) inner) (map step_at pushed) now after)
-    (more : next ≤ later) (within : later ≤ rest_from (rest_of tree) (least_at (row_of tree))) (new : IsDone rest later step) (behind : (n : ℕ) → n < later → IsBelowAll (index n) rest)
-    (covered : (s : paths.Step) → IsStepDemanded (Told tree) [] s → IsDone rest later s → IsDone (child step inner rest) next s ⊎ (s ≡ step)) where
-  kept : (s : paths.Step) → IsDone (child step inner rest) next s → IsDone rest later s
-  kept (label text) h = h.1
+    {X : Type 0} (piece : Gap → List X) (not_allowed : Bool) (tree inner : Tree Row) (span : Span) (left : List (Span × Tree Row)) (next later : ℕ) (start now after : List X)
+    (steps held popped : List StepRef) (w : IsOver piece not_allowed tree (spanned span inner (spread left)) next start now steps held) (back : popped ≡ held)
+    (adds : Adds piece (IsGapBelow (row_of tree) (spanned span inner none)) (map step_at held) now after)
+    (more : next ≤ later) (within : later ≤ rest_from (rest_of tree) (least_at (row_of tree))) (behind : (n : ℕ) → n < later → IsBelowAll (index n) (spread left))
+    (new : (s : paths.Step) (t : Tree Row) → is_demanded (row_of tree) s (row_of t) ≡ true → find s (spanned span inner none) ≡ Some t → IsDone (spread left) later s)
+    (covered : (n : ℕ) → n < later → (n < next) ⊎ ((t : Tree Row) × (find (index n) (spanned span inner none) ≡ Some t))) where
+  kept : (s : paths.Step) → IsDone (spanned span inner (spread left)) next s → IsDone (spread left) later s
+  kept (label text) h = span_below (label text) span inner (spread left) h
   kept (index n) h = let low : n < next = h in omega arith
 
-  before : (s : paths.Step) → IsDone (child step inner rest) next s → step_cmp s step ≡ Less
-  before (label text) h = h.0
-  before (index n) h = (w.behind n h).0
+  stands : (s : paths.Step) (t : Tree Row) → find s (spanned span inner none) ≡ Some t → step_into tree s ≡ Some t
+  stands s t f = own tree t s w.table (w.among s t (span_own s span inner t (spread left) f))
 
-  trail : map step_at pushed ≡ map step_at steps ++ step ∷ []
-  trail = ap (map step_at) p ∙ map_push step_at held x ∙ ap (λ z. map step_at held ++ z ∷ []) is ∙ ap (λ zs. map step_at zs ++ step ∷ []) w.same
+  up : (gap : Gap) → IsGapBelow (row_of tree) (spanned span inner none) gap → IsGapIn not_allowed tree gap × IsIn (IsDone (spread left) later) gap.path
+  up gap h = (
+    subst (λ p. IsGapIn not_allowed tree (record gap { path = p })) (sym h.is)
+        (gap_up not_allowed tree h.tree h.step (record gap { path = h.path }) (seen tree h.tree h.step (stands h.step h.tree h.found)) h.demanded h.inner),
+    subst (IsIn (IsDone (spread left) later)) (sym h.is) (new h.step h.tree h.demanded h.found),
+  )
 
-  inside : after ≡ now ++ told_above piece (map step_at steps) (map (above (step ∷ [])) adds.found)
-  inside = adds.is ∙ ap (λ q. now ++ told_above piece q adds.found) trail ∙ ap (λ xs. now ++ flat_map piece xs) (above_further (map step_at steps) step adds.found)
+  asked : (s : paths.Step) (t : Tree Row) → find s (spanned span inner none) ≡ Some t → IsStepDemanded (Told tree) [] s → is_demanded (row_of tree) s (row_of t) ≡ true
+  asked s t f d = (first_demanded tree t s (seen tree t s (stands s t f))).1 d
 
-  pub looked_in : IsOver piece not_allowed tree rest later start after steps popped
-  looked_in = record {
+  down :
+      (gap : Gap) (s : paths.Step) (path : Path) → gap.path ≡ s ∷ path → IsGapIn not_allowed tree gap → (t : Tree Row) → find s (spanned span inner none) ≡ Some t
+      → IsGapBelow (row_of tree) (spanned span inner none) gap
+  down gap s path e h t f = record {
+    step = s;
+    tree = t;
+    path = path;
+    is = e;
+    found = f;
+    demanded = asked s t f (step_demanded not_allowed tree gap s path e h);
+    inner = gap_down not_allowed tree t s gap path e (seen tree t s (stands s t f)) h;
+  }
+
+  either : (s : paths.Step) → IsStepDemanded (Told tree) [] s → IsDone (spread left) later s → IsDone (spanned span inner (spread left)) next s ⊎ ((t : Tree Row) × (find s (spanned span inner none) ≡ Some t))
+  either (label text) d h = label_covered piece not_allowed tree inner span (spread left) next start now steps held w text d h
+  either (index n) d h = covered n h
+
+  cover :
+      (gap : Gap) (s : paths.Step) (path : Path) → gap.path ≡ s ∷ path → IsGapIn not_allowed tree gap → IsDone (spread left) later s
+      → IsDone (spanned span inner (spread left)) next s ⊎ IsGapBelow (row_of tree) (spanned span inner none) gap
+  cover gap s path e h d = ⊎_elim (λ k. inl k) (λ (t, f). inr (down gap s path e h t f)) (either s (step_demanded not_allowed tree gap s path e h) d)
+
+  before : (s step : paths.Step) (t : Tree Row) → IsDone (spanned span inner (spread left)) next s → find step (spanned span inner none) ≡ Some t → step_cmp s step ≡ Less
+  before (label text) step t h f = below_found (label text) step t (spanned span inner (spread left)) h (span_own step span inner t (spread left) f)
+  before (index n) step t h f = below_found (index n) step t (spanned span inner (spread left)) (w.behind n h) (span_own step span inner t (spread left) f)
+
+  in_order : (p : Path) (gap : Gap) → IsIn (IsDone (spanned span inner (spread left)) next) p → IsGapBelow (row_of tree) (spanned span inner none) gap → path_cmp p gap.path ≡ Less
+  in_order p gap d h = subst (λ q. path_cmp p q ≡ Less) (sym h.is) (by p d) where
+    by : (q : Path) → IsIn (IsDone (spanned span inner (spread left)) next) q → path_cmp q (h.step ∷ h.path) ≡ Less
+    by [] d = refl
+    by (s ∷ q) d = ap (λ o. ordering_then o (path_cmp q h.path)) (before s h.step h.tree d h.found)
+
+  looked_at : IsOver piece not_allowed tree (spread left) later start after steps popped
+  looked_at = record {
     same = back ∙ w.same;
     table = w.table;
     within = within;
-    small = let size = w.small in omega arith;
-    rise = w.rise.3;
-    among = λ s t f. w.among s t (found_later step s inner t rest w.rise.0 f);
-    left = λ s t d f. ⊎_elim (λ h. inl (kept s h))
-        (λ g. ⊎_elim (λ e. inl (subst (IsDone rest later) (sym e) new)) (λ k. inr k) (which s step inner t rest g)) (w.left s t d f);
+    small = let size = left_size span inner ((span, inner) ∷ left) left refl in omega (arith, w.small, size);
+    rise = span_rise span inner (spread left) w.rise;
+    among = λ s t f. w.among s t (span_later s span inner t (spread left) w.rise f);
+    left = λ s t d f. ⊎_elim (λ h. inl (kept s h)) (λ g. ⊎_elim (λ k. inl (new s t (asked s t k d) k)) (λ k. inr k) (span_either s span inner t (spread left) g)) (w.left s t d f);
     behind = behind;
-    found = w.found ++ map (above (step ∷ [])) adds.found;
-    lists = extended not_allowed tree inner step (IsDone (child step inner rest) next) (IsDone rest later) w.found adds.found
-        (seen tree inner step (own tree inner step w.table (w.among step inner (found_first step inner rest)))) asked adds.lists w.lists before kept new covered;
-    is = more_found piece start now after w.found (map (above (step ∷ [])) adds.found) (map step_at steps) w.is inside;
+    found = w.found ++ adds.found;
+    lists = extended_by not_allowed tree (IsDone (spanned span inner (spread left)) next) (IsDone (spread left) later) (IsGapBelow (row_of tree) (spanned span inner none))
+        w.found adds.found w.lists adds.lists kept up cover in_order;
+    is = more_found piece start now after w.found adds.found (map step_at steps) w.is (adds.is ∙ ap (λ s. now ++ told_above piece (map step_at s) adds.found) w.same);
   }
 
--- the next branch is looked at, and the free elements before it
-pub walked_in :
-    {X : Type 0} (piece : Gap → List X) (not_allowed : Bool) (tree inner : Tree Row) (step : paths.Step) (rest rest' : Children Row) (next later : ℕ) (start now free after : List X)
-    (steps held pushed popped : List StepRef) (x : StepRef) → IsOver piece not_allowed tree rest next start now steps held
-    → children_of rest ≡ (step, inner) ∷ children_of rest' → is_demanded (row_of tree) step (row_of inner) ≡ true
-    → later ≡ next_after next step → free ≡ now ++ told_above piece (map step_at steps) (free_before next step)
-    → step_at x ≡ step → pushed ≡ held ++ x ∷ [] → popped ≡ held
-    → Adds piece (IsGapIn (is_refused (row_of tree) step) inner) (map step_at pushed) free after → IsOver piece not_allowed tree rest' later start after steps popped
-walked_in piece not_allowed tree inner (label text) rest rest' next later start now free after steps held pushed popped x w c asked l f is p back adds =
-    let here : IsOver piece not_allowed tree (child (label text) inner rest') next start now steps held =
-    subst (λ cs. IsOver piece not_allowed tree cs next start now steps held) (first_child rest rest' (label text) inner c) w in
+-- of elements that are alike the first one is reached
+run_reached :
+    {X : Type 0} (piece : Gap → List X) (not_allowed : Bool) (tree inner : Tree Row) (more : ℕ) (rest : Children Row) (next number : ℕ) (start now after : List X) (steps held : List StepRef)
+    → IsOver piece not_allowed tree (alike number more inner rest) next start now steps held → number < least_at (row_of tree)
+    → after ≡ now ++ told_above piece (map step_at steps) (free_elements next (number - next))
+    → IsOver piece not_allowed tree (alike number more inner rest) number start after steps held
+run_reached piece not_allowed tree inner zero rest next number start now after steps held w d a = reached piece not_allowed tree inner rest next number start now after steps held w d a
+run_reached piece not_allowed tree inner (suc more) rest next number start now after steps held w d a =
+    reached piece not_allowed tree inner (alike (suc number) more inner rest) next number start now after steps held w d a
+
+-- elements of their own are before the rest
+run_within :
+    {X : Type 0} (piece : Gap → List X) (not_allowed : Bool) (tree inner : Tree Row) (first more : ℕ) (rest : Children Row) (next number : ℕ) (start now : List X) (steps held : List StepRef)
+    → IsOver piece not_allowed tree (alike first more inner rest) next start now steps held → first ≤ number → number ≤ first + more → number < least_at (row_of tree)
+    → number < rest_from (rest_of tree) (least_at (row_of tree))
+run_within piece not_allowed tree inner first more rest next number start now steps held w l m d =
+    up_to_end (rest_of tree) (least_at (row_of tree)) number d (own_before tree inner number w.table (w.among (index number) inner (alike_at first more number inner rest l m)))
+
+nat_lt_is : (m n : ℕ) → m < n → nat_lt m n ≡ true
+nat_lt_is m n h = grind (arith, nat_tests)
+
+nat_lt_not : (m n : ℕ) → n ≤ m → nat_lt m n ≡ false
+nat_lt_not m n h = grind (arith, nat_tests)
+
+-- the next branches that are kept as one were looked at, and the free elements before them
+span_walked :
+    {X : Type 0} (piece : Gap → List X) (not_allowed : Bool) (tree inner : Tree Row) (span : Span) (left : List (Span × Tree Row)) (next later : ℕ) (start now free after : List X)
+    (steps held popped : List StepRef) → IsOver piece not_allowed tree (spanned span inner (spread left)) next start now steps held
+    → later ≡ next_after next (least_at (row_of tree)) span → free ≡ now ++ told_above piece (map step_at steps) (free_before next (least_at (row_of tree)) span) → popped ≡ held
+    → Adds piece (IsGapBelow (row_of tree) (spanned span inner none)) (map step_at held) free after → IsOver piece not_allowed tree (spread left) later start after steps popped
+span_walked piece not_allowed tree inner (field text) left next later start now free after steps held popped w l f back adds =
     let none_free : free ≡ now = f ∙ append-nil now in
-    subst (λ k. IsOver piece not_allowed tree rest' k start after steps popped) (sym l)
-    (looked_in piece not_allowed tree inner (label text) rest' next next start now after steps held pushed popped x here asked is p back
-    (subst (λ xs. Adds piece (IsGapIn (is_refused (row_of tree) (label text)) inner) (map step_at pushed) xs after) none_free adds)
-    (omega arith) here.within here.rise.0 (λ n h. (here.behind n h).1) (covered here))
+    subst (λ k. IsOver piece not_allowed tree (spread left) k start after steps popped) (sym l)
+    (looked_at piece not_allowed tree inner (field text) left next next start now after steps held popped w back
+    (subst (λ xs. Adds piece (IsGapBelow (row_of tree) (spanned (field text) inner none)) (map step_at held) xs after) none_free adds)
+    (omega arith) w.within (λ n h. (w.behind n h).1) new (λ n h. inl h))
   where
-    covered : IsOver piece not_allowed tree (child (label text) inner rest') next start now steps held → (s : paths.Step) → IsStepDemanded (Told tree) [] s → IsDone rest' next s → IsDone (child (label text) inner rest') next s ⊎ (s ≡ label text)
-    covered here (label other) d h = label_covered piece not_allowed tree inner (label text) rest' next start now steps held here other d h
-    covered here (index n) d h = inl h
-walked_in piece not_allowed tree inner (index number) rest rest' next later start now free after steps held pushed popped x w c asked l f is p back adds =
-    let split : IsOver piece not_allowed tree (child (index number) inner rest') next start now steps held =
-    subst (λ cs. IsOver piece not_allowed tree cs next start now steps held) (first_child rest rest' (index number) inner c) w in
-    let here : IsOver piece not_allowed tree (child (index number) inner rest') number start free steps held =
-    reached piece not_allowed tree inner rest' next number start now free steps held split (is_below (row_of tree) number asked) f in
-    subst (λ k. IsOver piece not_allowed tree rest' k start after steps popped) (sym l)
-    (looked_in piece not_allowed tree inner (index number) rest' number (number + 1) start free after steps held pushed popped x here asked is p back adds
-    (omega arith) (omega (arith, own_end piece not_allowed tree inner rest' number number start free steps held here (is_below (row_of tree) number asked))) (omega arith) (behind here) covered)
-  where
-    behind : IsOver piece not_allowed tree (child (index number) inner rest') number start free steps held → (n : ℕ) → n < number + 1 → IsBelowAll (index n) rest'
-    behind here n h = ⊎_elim (λ b. (here.behind n b).1) (λ e. subst (λ m. IsBelowAll (index m) rest') (sym e) here.rise.0) (up_to n number h)
+    new : (s : paths.Step) (t : Tree Row) → is_demanded (row_of tree) s (row_of t) ≡ true → find s (child (label text) inner none) ≡ Some t → IsDone (spread left) next s
+    new s t d g = subst (IsDone (spread left) next) (sym (only_branch s (label text) inner t g).0) w.rise.0
+span_walked piece not_allowed tree inner (elements first more) left next later start now free after steps held popped w l f back adds = elim (cases_lt first (least_at (row_of tree))) [
+  | inl low ↦ demanded low
+  | inr high ↦ passed high
+] where
+  behind : (n : ℕ) → n ≤ first + more → IsBelowAll (index n) (spread left)
+  behind n h = ⊎_elim
+      (λ e. subst (λ k. IsBelowAll (index k) (spread left)) (sym e) (last_below first more inner (spread left) w.rise))
+      (λ k. below_further (index n) (index (first + more)) (spread left) (less_index n (first + more) k) (last_below first more inner (spread left) w.rise))
+      (eq-or-lt_of_le {n = n} {m = first + more} h)
 
-    covered : (s : paths.Step) → IsStepDemanded (Told tree) [] s → IsDone rest' (number + 1) s → IsDone (child (index number) inner rest') number s ⊎ (s ≡ index number)
-    covered (label other) d h = inl (refl, h)
-    covered (index n) d h = ⊎_elim (λ b. inl b) (λ e. inr (ap index e)) (up_to n number h)
+  demanded : first < least_at (row_of tree) → IsOver piece not_allowed tree (spread left) later start after steps popped
+  demanded low =
+      let is : nat_lt first (least_at (row_of tree)) ≡ true = nat_lt_is first (least_at (row_of tree)) low in
+      let last : later ≡ min (least_at (row_of tree)) (first + more + 1) = l ∙ ap (λ b. if b then min (least_at (row_of tree)) (first + more + 1) else next) is in
+      let told : free ≡ now ++ told_above piece (map step_at steps) (free_elements next (first - next)) =
+      f ∙ ap (λ b. now ++ told_above piece (map step_at steps) (if b then free_elements next (first - next) else [])) is in
+      let here : IsOver piece not_allowed tree (alike first more inner (spread left)) first start free steps held =
+      run_reached piece not_allowed tree inner more (spread left) next first start now free steps held w low told in
+      looked_at piece not_allowed tree inner (elements first more) left first later start free after steps held popped here back adds
+      (omega arith) (let own_end = run_within piece not_allowed tree inner first more (spread left) first (later - 1) start free steps held here (omega arith) (omega arith) (omega arith) in omega (arith, own_end, last, low))
+      (λ n h. behind n (omega (arith, last, h)))
+      (λ s t d g. let at = alike_is s first more inner t g in
+      subst (IsDone (spread left) later) (sym at.is) (let long = is_below (row_of tree) at.number (subst (λ u. is_demanded (row_of tree) u (row_of t) ≡ true) at.is d) in omega (arith, last, long, at.most)))
+      (λ n h. elim (cases_lt n first) [
+        | inl k ↦ inl k
+        | inr k ↦ inr (inner, alike_at first more n inner none k (omega (arith, last, h)))
+      ])
 
--- or it is passed over
-pub walked_past :
-    {X : Type 0} (piece : Gap → List X) (not_allowed : Bool) (tree inner : Tree Row) (step : paths.Step) (rest rest' : Children Row) (next : ℕ) (start now : List X) (steps held : List StepRef)
-    → IsOver piece not_allowed tree rest next start now steps held → children_of rest ≡ (step, inner) ∷ children_of rest' → is_demanded (row_of tree) step (row_of inner) ≡ false
-    → IsOver piece not_allowed tree rest' next start now steps held
-walked_past piece not_allowed tree inner step rest rest' next start now steps held w c unasked =
-    past (subst (λ cs. IsOver piece not_allowed tree cs next start now steps held) (first_child rest rest' step inner c) w)
-  where
-    past : IsOver piece not_allowed tree (child step inner rest') next start now steps held → IsOver piece not_allowed tree rest' next start now steps held
-    past here = record {
-      same = here.same;
-      table = here.table;
-      within = here.within;
-      small = let size = here.small in omega arith;
-      rise = here.rise.3;
-      among = λ s t f. here.among s t (found_later step s inner t rest' here.rise.0 f);
-      left = λ s t d f. ⊎_elim (λ h. inl (kept s h)) (λ g. ⊎_elim (λ e. absurd (not_asked s e d)) (λ k. inr k) (which s step inner t rest' g)) (here.left s t d f);
-      behind = λ n h. (here.behind n h).1;
-      found = here.found;
-      lists = moved not_allowed tree (IsDone (child step inner rest') next) (IsDone rest' next) here.found here.lists kept covered;
-      is = here.is;
-    } where
-      kept : (s : paths.Step) → IsDone (child step inner rest') next s → IsDone rest' next s
-      kept (label text) h = h.1
-      kept (index n) h = h
+  passed : least_at (row_of tree) ≤ first → IsOver piece not_allowed tree (spread left) later start after steps popped
+  passed high =
+      let is : nat_lt first (least_at (row_of tree)) ≡ false = nat_lt_not first (least_at (row_of tree)) high in
+      let last : later ≡ next = l ∙ ap (λ b. if b then min (least_at (row_of tree)) (first + more + 1) else next) is in
+      let none_free : free ≡ now = f ∙ ap (λ b. now ++ told_above piece (map step_at steps) (if b then free_elements next (first - next) else [])) is ∙ append-nil now in
+      subst (λ k. IsOver piece not_allowed tree (spread left) k start after steps popped) (sym last)
+      (looked_at piece not_allowed tree inner (elements first more) left next next start now after steps held popped w back
+      (subst (λ xs. Adds piece (IsGapBelow (row_of tree) (alike first more inner none)) (map step_at held) xs after) none_free adds)
+      (omega arith) w.within (λ n h. span_below (index n) (elements first more) inner (spread left) (w.behind n h))
+      (λ s t d g. let at = alike_is s first more inner t g in
+      absurd (let long = is_below (row_of tree) at.number (subst (λ u. is_demanded (row_of tree) u (row_of t) ≡ true) at.is d) in let no : ⊥ = omega (arith, high, long, at.least) in no))
+      (λ n h. inl h))
 
-      not_asked : (s : paths.Step) → s ≡ step → IsStepDemanded (Told tree) [] s → ⊥
-      not_asked s e d = false≢true (sym unasked
-          ∙ (first_demanded tree inner step (seen tree inner step (own tree inner step here.table (here.among step inner (found_first step inner rest'))))).1 (subst (IsStepDemanded (Told tree) []) e d))
-
-      covered : (s : paths.Step) → IsStepDemanded (Told tree) [] s → IsDone rest' next s → IsDone (child step inner rest') next s
-      covered (label text) d h = ⊎_elim (λ b. b) (λ e. absurd (not_asked (label text) e d))
-          (label_covered piece not_allowed tree inner step rest' next start now steps held here text d h)
-      covered (index n) d h = h
+pub walked_span :
+    {X : Type 0} (piece : Gap → List X) (not_allowed : Bool) (tree inner : Tree Row) (span : Span) (rest left : List (Span × Tree Row)) (next least later : ℕ) (start now free after : List X)
+    (steps held popped : List StepRef) → IsOver piece not_allowed tree (spread rest) next start now steps held → rest ≡ (span, inner) ∷ left → least ≡ least_at (row_of tree)
+    → later ≡ next_after next least span → free ≡ now ++ told_above piece (map step_at steps) (free_before next least span) → popped ≡ held
+    → Adds piece (IsGapBelow (row_of tree) (spanned span inner none)) (map step_at held) free after → IsOver piece not_allowed tree (spread left) later start after steps popped
+walked_span piece not_allowed tree inner span rest left next least later start now free after steps held popped w e m l f back adds =
+    span_walked piece not_allowed tree inner span left next later start now free after steps held popped
+    (subst (λ spans. IsOver piece not_allowed tree (spread spans) next start now steps held) e w)
+    (l ∙ ap (λ k. next_after next k span) m) (f ∙ ap (λ k. now ++ told_above piece (map step_at steps) (free_before next k span)) m) back adds

@@ -10,6 +10,7 @@ pub mod Exact
 pub mod Found
 pub mod FoundGaps
 pub mod GapRests
+pub mod GapRuns
 pub mod GapWalk
 pub mod OneList
 pub mod OneReport
@@ -17,8 +18,10 @@ pub mod Open
 pub mod Order
 pub mod Rests
 pub mod Rows
+pub mod Runs
 pub mod Same
 pub mod Settled
+pub mod SpanSteps
 pub mod TextOf
 pub mod Texts
 pub mod Trails

@@ -1,5 +1,5 @@
 -- What the row at a place says of the questions there.
-use Rattle.std.proofs.Common.{◌≡◌, ◌↔◌, ◌⊎◌, inl, inr, ⊎_elim, ℕ, ◌<◌, Bool, true, false, not, ◌&&◌, ◌||◌, List, [], nat_lt, Option, None, Some, refl, sym, ap, ◌∙◌, arith}
+use Rattle.std.proofs.Common.{◌≡◌, ◌↔◌, ◌⊎◌, inl, inr, ⊎_elim, ℕ, ◌<◌, ◌≤◌, Bool, true, false, not, ◌&&◌, ◌||◌, List, [], nat_lt, Option, None, Some, refl, sym, ap, ◌∙◌, arith}
 use Rattle.std.specs.Bool.{IsTrue}
 use Rattle.std.proofs.lemmas.Bool.{false≢true}
 use Rattle.std.proofs.lemmas.Bool.Decides.{nat_tests}
@@ -104,3 +104,7 @@ is_below (Some row) n h = let l : nat_lt n row.least ≡ true = h in grind (arit
 pub is_long : (row : Option Row) (n : ℕ) → n < least_at row → is_longer row n ≡ true
 is_long None n h = let l : n < 0 = h in let no : ⊥ = omega arith in absurd no
 is_long (Some row) n h = let l : n < row.least = h in grind (arith, nat_tests)
+
+pub not_long : (row : Option Row) (n : ℕ) → least_at row ≤ n → is_longer row n ≡ false
+not_long None n h = refl
+not_long (Some row) n h = let l : row.least ≤ n = h in grind (arith, nat_tests)

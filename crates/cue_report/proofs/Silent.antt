@@ -1,15 +1,14 @@
 -- Elements of which nothing is told.
-use Rattle.std.proofs.Common.{◌≡◌, ◌↔◌, ℕ, zero, suc, ◌+◌, ◌<◌, false, List, [], ◌∷◌, ◌++◌, length, map, refl, sym, ap, subst, ◌∙◌, arith, length-append}
-use Rattle.std.specs.List.{flat_map, AllByRecursion}
+use Rattle.std.proofs.Common.{◌≡◌, ℕ, zero, suc, ◌+◌, ◌<◌, false, List, [], ◌∷◌, ◌++◌, length, map, refl, sym, ap, subst, ◌∙◌, arith, length-append}
+use Rattle.std.specs.List.{flat_map}
 use Rattle.cue_lattice.specs.OneOf.{OneOf}
 use Rattle.cue_lattice.specs.Path.{Path}
 use Rattle.cue_row.specs.declared.parts.RowParts.{RowParts as Row}
 use Rattle.cue_table.specs.Tree.{Tree}
-use Rattle.cue_report.specs.GapSearch.{IsGapIn, IsGapAmong, Adds, above, told_above}
-use Rattle.cue_report.specs.Search.{under, told_under, each_index}
+use Rattle.cue_report.specs.GapSearch.{IsGapIn, IsGapAmong, Adds, above}
+use Rattle.cue_report.specs.Search.{each_index}
 use Rattle.cue_report.specs.declared.conflict.Conflict.{Conflict}
 use Rattle.cue_report.specs.declared.gap.Gap.{Gap}
-use Rattle.cue_report.proofs.FoundGaps.{place_of}
 use Rattle.cue_report.proofs.Order.{all_from}
 
 module _ {X Y : Type 0} (piece : Y → List X) (some : (y : Y) → 0 < length (piece y)) where

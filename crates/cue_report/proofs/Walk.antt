@@ -9,11 +9,14 @@ use Rattle.cue_lattice.specs.Path.{label, index, Path}
 use Rattle.cue_row.specs.declared.parts.RowParts.{RowParts as Row}
 use Rattle.cue_table.specs.StepsOfCode.{step_at}
 use Rattle.cue_table.specs.declared.step_ref.StepRef.{StepRef}
-use Rattle.cue_table.specs.Tree.{Tree, node, Children, none, child, Rest, no_rest, onward, row_of, below, rest_of, rest_tree, fixed_of, children_of}
+use Rattle.cue_table.specs.Spans.{Span, spanned, spread}
+use Rattle.cue_table.specs.Tree.{Tree, node, Children, none, child, no_rest, onward, row_of, below, rest_of, rest_tree, fixed_of, children_of}
 use Rattle.cue_table.specs.Size.{tree_size, children_size}
 use Rattle.cue_table.specs.Walks.{first_child}
+use Rattle.cue_table.proofs.Spanned.{left_size}
 use Rattle.cue_report.specs.declared.conflict.Conflict.{Conflict}
 use Rattle.cue_report.specs.Search.{under, told_under, only_if, has_no_value, conflict_here, has_level, is_demanded, is_refused, conflicts_in, conflicts_below, conflicts_onward, each_index, least_at, rest_from}
+use Rattle.cue_report.proofs.Runs.{span_first}
 
 -- what is seen from a place is seen from the place above
 pub under_further : (path : Path) (step : paths.Step) (xs : List Conflict) → map (under (path ++ step ∷ [])) xs ≡ map (under path) (map (under (step ∷ [])) xs)
@@ -47,47 +50,51 @@ rearranged piece before after tail found new path b t =
     ap (λ xs. xs ++ told_under piece path new) t ∙ append_assoc after (told_under piece path found) (told_under piece path new)
     ∙ ap (λ xs. after ++ xs) (sym (told_append piece path found new)) ∙ sym b
 
--- the next branch is looked at
-pub walked_in :
-    {X : Type 0} (piece : Conflict → List X) (row : Option Row) (all rest rest' : Children Row) (step : paths.Step) (tree : Tree Row) (before after after' : List X) (steps now pushed now' : List StepRef) (x : StepRef)
-    → IsWalking piece row all rest before after steps now → children_of rest ≡ (step, tree) ∷ children_of rest' → is_demanded row step (row_of tree) ≡ true
-    → step_at x ≡ step → pushed ≡ now ++ x ∷ []
-    → after' ≡ after ++ told_under piece (map step_at pushed) (conflicts_in (is_refused row step) tree) → now' ≡ now
-    → IsWalking piece row all rest' before after' steps now'
-walked_in piece row all rest rest' step tree before after after' steps now pushed now' x w c d s p a n =
-    let split : rest ≡ child step tree rest' = first_child rest rest' step tree c in
-    let inner : List Conflict = conflicts_in (is_refused row step) tree in
+-- the path one step further
+pub pushed_on : (held steps pushed : List StepRef) (x : StepRef) → pushed ≡ held ++ x ∷ [] → held ≡ steps → map step_at pushed ≡ map step_at steps ++ step_at x ∷ []
+pushed_on held steps pushed x p h = ap (map step_at) p ∙ map_push step_at held x ∙ ap (λ zs. map step_at zs ++ step_at x ∷ []) h
+
+-- the next branches that are kept as one were looked at
+pub walked_span :
+    {X : Type 0} (piece : Conflict → List X) (row : Option Row) (all : Children Row) (rest left : List (Span × Tree Row)) (span : Span) (tree : Tree Row) (before after after' : List X) (steps now now' : List StepRef)
+    → IsWalking piece row all (spread rest) before after steps now → rest ≡ (span, tree) ∷ left
+    → after' ≡ after ++ told_under piece (map step_at now) (conflicts_below row (spanned span tree none)) → now' ≡ now
+    → IsWalking piece row all (spread left) before after' steps now'
+walked_span piece row all rest left span tree before after after' steps now now' w e a n =
     let path : Path = map step_at steps in
-    let trail : map step_at pushed ≡ path ++ step ∷ [] =
-    ap (map step_at) p ∙ map_push step_at now x ∙ ap (λ z. map step_at now ++ z ∷ []) s ∙ ap (λ zs. map step_at zs ++ step ∷ []) w.same in
-    let found : before ++ told_under piece path (conflicts_below row all) ≡ after ++ told_under piece path (map (under (step ∷ [])) inner ++ conflicts_below row rest') =
-    sym w.found ∙ ap (λ cs. after ++ told_under piece path (conflicts_below row cs)) split
-    ∙ ap (λ b. after ++ told_under piece path (only_if b (map (under (step ∷ [])) inner) ++ conflicts_below row rest')) d in
-    let tail : after' ≡ after ++ told_under piece path (map (under (step ∷ [])) inner) =
-    a ∙ ap (λ q. after ++ told_under piece q inner) trail ∙ ap (λ xs. after ++ flat_map piece xs) (under_further path step inner) in
+    let these : List Conflict = conflicts_below row (spanned span tree none) in
+    let split : conflicts_below row (spread rest) ≡ these ++ conflicts_below row (spread left) =
+    ap (λ spans. conflicts_below row (spread spans)) e ∙ span_first row span tree (spread left) in
+    let found : before ++ told_under piece path (conflicts_below row all) ≡ after ++ told_under piece path (these ++ conflicts_below row (spread left)) =
+    sym w.found ∙ ap (λ xs. after ++ told_under piece path xs) split in
+    let tail : after' ≡ after ++ told_under piece path these = a ∙ ap (λ held. after ++ told_under piece (map step_at held) these) w.same in
     record {
       same = n ∙ w.same;
-      found = rearranged piece _ after after' (map (under (step ∷ [])) inner) (conflicts_below row rest') path found tail;
-      small = let size : children_size rest ≡ tree_size tree + children_size rest' = ap children_size split in omega (arith, w.small);
+      found = rearranged piece _ after after' these (conflicts_below row (spread left)) path found tail;
+      small = let size = left_size span tree rest left e in omega (arith, w.small, size);
     }
 
--- or passed over
-pub walked_past :
-    {X : Type 0} (piece : Conflict → List X) (row : Option Row) (all rest rest' : Children Row) (step : paths.Step) (tree : Tree Row) (before after : List X) (steps now : List StepRef)
-    → IsWalking piece row all rest before after steps now → children_of rest ≡ (step, tree) ∷ children_of rest' → is_demanded row step (row_of tree) ≡ false
-    → IsWalking piece row all rest' before after steps now
-walked_past piece row all rest rest' step tree before after steps now w c d =
-    let split : rest ≡ child step tree rest' = first_child rest rest' step tree c in
+-- a field was looked at
+pub field_walked :
+    {X : Type 0} (piece : Conflict → List X) (row : Option Row) (step : paths.Step) (tree : Tree Row) (now after : List X) (steps pushed : List StepRef) (x : StepRef)
+    → is_demanded row step (row_of tree) ≡ true → step_at x ≡ step → pushed ≡ steps ++ x ∷ []
+    → after ≡ now ++ told_under piece (map step_at pushed) (conflicts_in (is_refused row step) tree)
+    → after ≡ now ++ told_under piece (map step_at steps) (conflicts_below row (child step tree none))
+field_walked piece row step tree now after steps pushed x d s p a =
     let path : Path = map step_at steps in
-    record {
-      same = w.same;
-      found = sym (ap (λ cs. after ++ told_under piece path (conflicts_below row cs)) split
-          ∙ ap (λ b. after ++ told_under piece path (only_if b (map (under (step ∷ [])) (conflicts_in (is_refused row step) tree)) ++ conflicts_below row rest')) d)
-          ∙ w.found;
-      small = let size : children_size rest ≡ tree_size tree + children_size rest' = ap children_size split in omega (arith, w.small);
-    }
+    let inner : List Conflict = conflicts_in (is_refused row step) tree in
+    let lifted : List Conflict = map (under (step ∷ [])) inner in
+    a ∙ ap (λ q. now ++ told_under piece q inner) (pushed_on steps steps pushed x p refl ∙ ap (λ z. path ++ z ∷ []) s)
+    ∙ ap (λ xs. now ++ flat_map piece xs) (under_further path step inner) ∙ ap (λ xs. now ++ told_under piece path xs) (sym (append-nil lifted))
+    ∙ ap (λ b. now ++ told_under piece path (only_if b lifted ++ [])) (sym d)
 
 -- each branch that is looked at is smaller than the place
+pub span_smaller :
+    (tree : Tree Row) (rest left : List (Span × Tree Row)) (span : Span) (inner : Tree Row) → children_size (spread rest) ≤ children_size (below tree)
+    → rest ≡ (span, inner) ∷ left → tree_size inner < tree_size tree
+span_smaller (node row children others) rest left span inner s e = let size = left_size span inner rest left e in omega (arith, s, size)
+
+-- and so is each branch
 pub inner_smaller :
     (tree : Tree Row) (rest rest' : Children Row) (step : paths.Step) (inner : Tree Row) → children_size rest ≤ children_size (below tree)
     → children_of rest ≡ (step, inner) ∷ children_of rest' → tree_size inner < tree_size tree
@@ -101,8 +108,8 @@ none_left (child step tree rest) e = cc
 
 -- all branches were looked at, and the rest
 pub walked :
-    {X : Type 0} (piece : Conflict → List X) (tree : Tree Row) (rest : Children Row) (not_allowed : Bool) (start before middle after : List X) (steps now : List StepRef)
-    → IsWalking piece (row_of tree) (below tree) rest before middle steps now → children_of rest ≡ []
+    {X : Type 0} (piece : Conflict → List X) (tree : Tree Row) (rest : List (Span × Tree Row)) (not_allowed : Bool) (start before middle after : List X) (steps now : List StepRef)
+    → IsWalking piece (row_of tree) (below tree) (spread rest) before middle steps now → rest ≡ []
     → before ≡ start ++ told_under piece (map step_at steps) (conflict_here (has_no_value (row_of tree)) not_allowed)
     → after ≡ middle ++ told_under piece (map step_at now) (conflicts_onward (row_of tree) (rest_of tree))
     → after ≡ start ++ told_under piece (map step_at steps) (conflicts_in not_allowed tree)
@@ -111,7 +118,7 @@ walked {X = X} piece (node row children others) rest not_allowed start before mi
     let here : List Conflict = conflict_here (has_no_value row) not_allowed in
     let below_it : List Conflict = conflicts_below row children in
     let further : List Conflict = conflicts_onward row others in
-    let all : middle ≡ before ++ told below_it = sym (append-nil middle) ∙ ap (λ cs. middle ++ told (conflicts_below row cs)) (sym (none_left rest e)) ∙ w.found in
+    let all : middle ≡ before ++ told below_it = sym (append-nil middle) ∙ ap (λ spans. middle ++ told (conflicts_below row (spread spans))) (sym e) ∙ w.found in
     a ∙ ap (λ held. middle ++ told_under piece (map step_at held) further) w.same ∙ ap (λ xs. xs ++ told further) (all ∙ ap (λ xs. xs ++ told below_it) b)
     ∙ append_assoc (start ++ told here) (told below_it) (told further) ∙ append_assoc start (told here) (told below_it ++ told further)
     ∙ ap (λ xs. start ++ (told here ++ xs)) (sym (told_append piece (map step_at steps) below_it further))
@@ -145,14 +152,6 @@ from_least n least found = elim (cases_lt least n) [
   | inr h ↦ let a : min n least ≡ n = omega (arith, h) in ap (λ k. each_index k (least - k) found) a
 ]
 
-pub rest_within : (rest : Rest Row) (least : ℕ) → rest_from rest least ≤ least
-rest_within no_rest least = omega arith
-rest_within (onward n tree) least = omega arith
-
--- the path one step further
-pub pushed_on : (held steps pushed : List StepRef) (x : StepRef) → pushed ≡ held ++ x ∷ [] → held ≡ steps → map step_at pushed ≡ map step_at steps ++ step_at x ∷ []
-pushed_on held steps pushed x p h = ap (map step_at) p ∙ map_push step_at held x ∙ ap (λ zs. map step_at zs ++ step_at x ∷ []) h
-
 -- the rest is smaller than the place
 pub rest_smaller : (tree rest : Tree Row) → Some rest ≡ rest_tree (rest_of tree) → tree_size rest < tree_size tree
 rest_smaller (node row children no_rest) rest e = cc
@@ -171,15 +170,15 @@ is_ended (node row children (onward n inner)) e = cc
 
 -- all elements that are the rest were looked at
 pub all_elements :
-    {X : Type 0} (piece : Conflict → List X) (tree rest : Tree Row) (first least last : ℕ) (start after : List X) (path : Path) → Some rest ≡ rest_tree (rest_of tree)
-    → least ≡ least_at (row_of tree) → first ≡ rest_from (rest_of tree) least → last - first ≡ least - first
-    → after ≡ start ++ told_under piece path (each_index first (last - first) (conflicts_in false rest))
+    {X : Type 0} (piece : Conflict → List X) (tree rest : Tree Row) (first least : ℕ) (start after : List X) (path : Path) → Some rest ≡ rest_tree (rest_of tree)
+    → least ≡ least_at (row_of tree) → first ≡ rest_from (rest_of tree) least
+    → after ≡ start ++ told_under piece path (each_index first (least - first) (conflicts_in false rest))
     → after ≡ start ++ told_under piece path (conflicts_onward (row_of tree) (rest_of tree))
-all_elements piece (node row children no_rest) rest first least last start after path r m f l a = cc
-all_elements {X = X} piece (node row children (onward n inner)) rest first least last start after path r m f l a =
+all_elements piece (node row children no_rest) rest first least start after path r m f a = cc
+all_elements {X = X} piece (node row children (onward n inner)) rest first least start after path r m f a =
     let same : rest ≡ inner = cc in
     let told : List Conflict → List X = λ xs. start ++ told_under piece path xs in
-    a ∙ ap (λ k. told (each_index first k (conflicts_in false rest))) l ∙ ap (λ t. told (each_index first (least - first) (conflicts_in false t))) same
+    a ∙ ap (λ t. told (each_index first (least - first) (conflicts_in false t))) same
     ∙ ap (λ k. told (each_index k (least - k) (conflicts_in false inner))) f ∙ ap told (from_least n least (conflicts_in false inner))
     ∙ ap (λ k. told (each_index n (k - n) (conflicts_in false inner))) m
 
@@ -190,6 +189,3 @@ demand_is above above' row row' step found wanted f a r w = sym (ap (λ q. is_de
 -- so of a label, which asks nothing of the row above
 pub label_demand_is : (above row row' : Option Row) (step : paths.Step) (name : List ℕ) (found wanted : Bool) → step ≡ label name → found ≡ has_level row → row ≡ row' → found ≡ wanted → is_demanded above step row' ≡ wanted
 label_demand_is above row row' step name found wanted s f r w = ap (λ q. is_demanded above q row') s ∙ sym (ap has_level r) ∙ sym f ∙ w
-
-pub refusal_is : (above above' : Option Row) (step : paths.Step) (found : Bool) → found ≡ is_refused above step → above ≡ above' → found ≡ is_refused above' step
-refusal_is above above' step found f a = f ∙ ap (λ q. is_refused q step) a

@@ -1,17 +1,19 @@
 -- How the gaps of a table are found, place by place.
-use Rattle.std.specs.Prelude.{◌≡◌, ◌↔◌, ◌⊎◌, ℕ, zero, suc, ◌+◌, ◌-◌, ◌≤◌, ◌<◌, Bool, false, List, [], ◌∷◌}
-use Rattle.std.specs.Prelude.{◌++◌, map, Option, IsTrue}
+use Rattle.std.specs.Prelude.{◌≡◌, ◌↔◌, ◌⊎◌, ℕ, zero, suc, ◌+◌, ◌-◌, ◌≤◌, ◌<◌, min, nat_lt, if◌then◌else◌}
+use Rattle.std.specs.Prelude.{Bool, true, false, List, [], ◌∷◌, ◌++◌, map, Option, Some, IsTrue}
 use Rattle.std.specs.List.{flat_map}
 use Rattle.cue_lattice.specs.Path as paths
-use Rattle.cue_lattice.specs.Path.{label, index, Path}
+use Rattle.cue_lattice.specs.Path.{index, Path}
 use Rattle.cue_lattice.specs.Question.{Refusals}
 use Rattle.cue_row.specs.declared.parts.RowParts.{RowParts as Row}
 use Rattle.cue_row.specs.Row as rows
 use Rattle.cue_table.specs.Refuses.{RowRefuses, TableRefuses}
-use Rattle.cue_table.specs.Tree.{Tree, Rest, no_rest, onward, row_at}
+use Rattle.cue_table.specs.Spans.{Span, field, elements}
+use Rattle.cue_table.specs.Tree.{Tree, Children, Rest, no_rest, onward, row_of, row_at, find}
 use Rattle.cue_report.specs.Answers.{IsDemanded, HasNoValue, IsNotAllowed}
 use Rattle.cue_report.specs.Gaps.{IsMissing, IsFree, HasNoChoice}
 use Rattle.cue_report.specs.Listing.{Lists}
+use Rattle.cue_report.specs.Search.{is_demanded, is_refused}
 use Rattle.cue_report.specs.declared.gap.Gap.{Gap}
 
 -- what is refused at the place of a row, whatever its path
@@ -44,6 +46,16 @@ pub record IsGapHere (not_allowed : Bool) (row : Option Row) (gap : Gap) : Type 
   pub here : gap.path ≡ []
   pub allowed : not_allowed ≡ false
   pub lacking : IsGapAt row gap.missing
+
+-- a gap at or below one of these branches of a place with this row, if the step to it is demanded
+pub record IsGapBelow (row : Option Row) (children : Children Row) (gap : Gap) : Type 0 where
+  pub step : paths.Step
+  pub tree : Tree Row
+  pub path : Path
+  pub is : gap.path ≡ step ∷ path
+  pub found : find step children ≡ Some tree
+  pub demanded : is_demanded row step (row_of tree) ≡ true
+  pub inner : IsGapIn (is_refused row step) tree (record gap { path = path })
 
 -- a gap at or below an element from the first on, before the end, each of which is this tree
 pub record IsGapAmong (first end : ℕ) (tree : Tree Row) (gap : Gap) : Type 0 where
@@ -84,12 +96,15 @@ free_elements first zero = []
 free_elements first (suc count) =
     free_elements first count ++ free_at (index (first + count) ∷ []) ∷ []
 
--- the free elements from the next on that are before the step
-abbrev pub free_before : ℕ → paths.Step → List Gap
-free_before next (label text) = []
-free_before next (index n) = free_elements next (n - next)
+-- the free elements from the next on that are before a span, where so many elements are demanded
+-- and one of the span is
+abbrev pub free_before : ℕ → ℕ → Span → List Gap
+free_before next least (field text) = []
+free_before next least (elements first more) =
+    if nat_lt first least then free_elements next (first - next) else []
 
--- the first element that is not looked at, after the step was
-abbrev pub next_after : ℕ → paths.Step → ℕ
-next_after next (label text) = next
-next_after next (index n) = n + 1
+-- the first element that is not looked at, after the demanded ones of the span were
+abbrev pub next_after : ℕ → ℕ → Span → ℕ
+next_after next least (field text) = next
+next_after next least (elements first more) =
+    if nat_lt first least then min least (first + more + 1) else next

@@ -1,24 +1,28 @@
-ghost use Rattle.std.specs.Prelude.{◌≡◌, ◌↔◌, ◌++◌, [], IfOk, IfSome, OnOk, string_bytes};
+ghost use Rattle.std.specs.Prelude.{◌≡◌, ◌↔◌, ◌++◌, ◌-◌, false, [], IfOk, IfSome, OnOk};
+ghost use Rattle.std.specs.Prelude.{string_bytes};
 ghost use Rattle.std.specs.Option.{option_map};
 ghost use Rattle.cue_row.specs.Row.{IsRow, RowRefuses};
 ghost use Rattle.cue_table.specs.Refuses.{TableRefuses};
-ghost use Rattle.cue_table.specs.Tree.{row_of, rest_of};
+ghost use Rattle.cue_table.specs.Spans.{spanned};
+ghost use Rattle.cue_table.specs.StepsOfCode.{span_of};
+ghost use Rattle.cue_table.specs.Tree.{none, row_of, rest_of};
 ghost use Rattle.cue_table.specs.Valid.{IsValidTable};
 ghost use Rattle.cue_report.specs.Documents.{SomeMeets};
 ghost use Rattle.cue_report.specs.Lines.{AddsConflictLines};
 ghost use Rattle.cue_report.specs.Listing.{AreConflicts};
 ghost use Rattle.cue_report.specs.Search.{has_no_value, conflict_here, conflicts_in};
-ghost use Rattle.cue_report.specs.Search.{conflicts_onward, told_under};
+ghost use Rattle.cue_report.specs.Search.{conflicts_below, conflicts_onward, each_index};
+ghost use Rattle.cue_report.specs.Search.{told_under};
 ghost use Rattle.cue_report.specs.Trail.{shown_steps};
 
 use crate::Place;
-use crate::demand::{is_demanded, is_refused, lacks_value, least_of, rest_from};
+use crate::demand::{demanded_end, is_demanded, is_refused, lacks_value, least_of, rest_from};
 use crate::listed::Listed;
 use crate::sink::ConflictSink;
 use crate::written::Written;
 use cue_lattice::Memory;
 use cue_row::Row;
-use cue_table::{Branch, StepRef, Table};
+use cue_table::{Branch, Span, StepRef, Table};
 use std::alloc::Global;
 
 /// A place where nothing may stand, or whose label is not allowed, or both.
@@ -92,18 +96,45 @@ impl<'a> Search<'a> {
     {
         let row = branch.row();
         self.look_at(sink, row, not_allowed)?;
-        for (step, child) in branch.children() {
-            if is_demanded(row, step, child.row()) {
-                self.steps.push(step)?;
-                self.visit(sink, &child, is_refused(row, step))?;
-                self.steps.pop();
-            }
+        for (span, child) in branch.spans() {
+            self.visit_span(sink, row, span, &child)?;
         }
         self.visit_rest(sink, branch)
     }
 
+    /// Looks for conflicts at the branches of a place that are kept as one.
+    #[cycle(walk)]
+    fn visit_span<S: ConflictSink>(
+        &mut self,
+        sink: &mut S,
+        above: Option<&Row>,
+        span: Span<'a>,
+        child: &Branch<'a, Row>,
+    ) -> Result<(), Memory>
+        ensures steps { OnOk result (self.new.steps.items ≡ self.old.steps.items) }
+        ensures found { OnOk result (S.told sink.new ≡ S.told sink.old
+            ++ told_under S.piece (shown_steps self.old.steps.items)
+            (conflicts_below (option_map (λ row. row.now) above.entry)
+            (spanned (span_of span.entry) child.now none))) }
+    {
+        match span {
+            Span::Label(label) => {
+                let step = StepRef::Label(label);
+                if is_demanded(above, step, child.row()) {
+                    self.steps.push(step)?;
+                    self.visit(sink, child, is_refused(above, step))?;
+                    self.steps.pop();
+                }
+                Ok(())
+            }
+            Span::Elements { first, more } => {
+                let end = demanded_end(least_of(above), first, more);
+                self.visit_run(sink, first, end, child)
+            }
+        }
+    }
+
     /// Looks for conflicts at the elements of a place that each list has and that are its rest.
-    /// Where nothing is told of one, nothing is of those behind it.
     #[cycle(walk)]
     fn visit_rest<S: ConflictSink>(
         &mut self,
@@ -119,11 +150,28 @@ impl<'a> Search<'a> {
             return Ok(());
         };
         let least = least_of(branch.row());
-        let first = rest_from(branch, least);
-        for number in first..least {
+        self.visit_run(sink, rest_from(branch, least), least, &rest)
+    }
+
+    /// Looks for conflicts at the elements of a place from the first on, before the end, which are
+    /// alike. Where nothing is told of one, nothing is of those behind it.
+    #[cycle(walk)]
+    fn visit_run<S: ConflictSink>(
+        &mut self,
+        sink: &mut S,
+        first: u32,
+        end: u32,
+        element: &Branch<'a, Row>,
+    ) -> Result<(), Memory>
+        ensures steps { OnOk result (self.new.steps.items ≡ self.old.steps.items) }
+        ensures found { OnOk result (S.told sink.new ≡ S.told sink.old
+            ++ told_under S.piece (shown_steps self.old.steps.items)
+            (each_index first (end - first) (conflicts_in false element.now))) }
+    {
+        for number in first..end {
             let before = sink.len();
             self.steps.push(StepRef::Index(number))?;
-            self.visit(sink, &rest, false)?;
+            self.visit(sink, element, false)?;
             self.steps.pop();
             if sink.len() == before {
                 return Ok(());

@@ -1,4 +1,4 @@
-ghost use Rattle.std.specs.Prelude.{◌≡◌};
+ghost use Rattle.std.specs.Prelude.{◌≡◌, ◌+◌, min};
 ghost use Rattle.std.specs.Option.{option_map};
 ghost use Rattle.cue_row.specs.Row.{IsRow};
 ghost use Rattle.cue_table.specs.StepsOfCode.{step_at};
@@ -64,6 +64,15 @@ pub(crate) fn least_of(row: Option<&Row>) -> u32
         None => 0,
         Some(row) => row.least(),
     }
+}
+
+/// Before which index those of an element and so many behind it end that are demanded, where so many
+/// elements of the list are.
+pub(crate) fn demanded_end(least: u32, first: u32, more: u32) -> u32
+    ensures { result ≡ min least (first + more + 1) }
+{
+    let last = first.saturating_add(more);
+    if last < least { last + 1 } else { least }
 }
 
 /// From which of the elements that each list has on they are the rest of the list at a place: how

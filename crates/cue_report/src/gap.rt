@@ -1,27 +1,27 @@
-ghost use Rattle.std.specs.Prelude.{◌≡◌, ◌↔◌, ◌++◌, ◌-◌, ◌<◌, ℕ, Bool, false, Some, []};
+ghost use Rattle.std.specs.Prelude.{◌≡◌, ◌↔◌, ◌++◌, ◌-◌, Bool, false, Some, []};
 ghost use Rattle.std.specs.Prelude.{IfOk, IfSome, IfNone, IsTrue, OnOk, string_bytes};
 ghost use Rattle.std.specs.Option.{option_map};
-ghost use Rattle.cue_lattice.specs.Path.{index};
 ghost use Rattle.cue_row.specs.Row.{IsRow, RowRefuses};
 ghost use Rattle.cue_table.specs.Refuses.{TableRefuses};
-ghost use Rattle.cue_table.specs.StepsOfCode.{step_at};
-ghost use Rattle.cue_table.specs.Tree.{row_of, rest_of};
+ghost use Rattle.cue_table.specs.Spans.{spanned};
+ghost use Rattle.cue_table.specs.StepsOfCode.{span_of};
+ghost use Rattle.cue_table.specs.Tree.{none, row_of, rest_of};
 ghost use Rattle.cue_report.specs.GapSearch.{IsGapAt, IsOpenAt, IsGapHere, IsGapIn, Adds};
-ghost use Rattle.cue_report.specs.GapSearch.{free_before, free_elements, next_after};
-ghost use Rattle.cue_report.specs.GapSearch.{told_above, IsGapOnward};
+ghost use Rattle.cue_report.specs.GapSearch.{IsGapBelow, IsGapAmong, IsGapOnward};
+ghost use Rattle.cue_report.specs.GapSearch.{free_before, free_elements, next_after, told_above};
 ghost use Rattle.cue_report.specs.Gaps.{AreGaps};
 ghost use Rattle.cue_report.specs.Lines.{AddsGapLines};
 ghost use Rattle.cue_report.specs.Search.{lacks_value, least_at};
 ghost use Rattle.cue_report.specs.Trail.{shown_steps};
 
-use crate::demand::{is_demanded, is_refused, least_of, rest_from};
+use crate::demand::{demanded_end, is_demanded, is_refused, least_of, rest_from};
 use crate::listed::Listed;
 use crate::sink::GapSink;
 use crate::written::Written;
 use crate::{Place, demand};
 use cue_lattice::{Memory, Narrow};
 use cue_row::{Level, Row};
-use cue_table::{Branch, StepRef, Table};
+use cue_table::{Branch, Span, StepRef, Table};
 use std::alloc::Global;
 
 /// A place for which more has to be said before anything can be exported.
@@ -92,20 +92,47 @@ impl<'a> Search<'a> {
         let least = least_of(row);
         // The first element that is not looked at.
         let mut next = 0;
-        for (step, child) in branch.children() {
-            if is_demanded(row, step, child.row()) {
-                next = self.reach(sink, next, step)?;
-                self.steps.push(step)?;
-                self.visit(sink, &child, is_refused(row, step))?;
-                self.steps.pop();
-            }
+        for (span, child) in branch.spans() {
+            next = self.reach(sink, next, least, span)?;
+            self.visit_span(sink, row, span, &child)?;
         }
         sink.free_elements(&self.steps, next, rest_from(branch, least))?;
         self.visit_rest(sink, branch)
     }
 
+    /// Looks for gaps at the branches of a place that are kept as one.
+    #[cycle(walk)]
+    fn visit_span<S: GapSink>(
+        &mut self,
+        sink: &mut S,
+        above: Option<&Row>,
+        span: Span<'a>,
+        child: &Branch<'a, Row>,
+    ) -> Result<(), Memory>
+        ensures steps { OnOk result (self.new.steps.items ≡ self.old.steps.items) }
+        ensures gaps { OnOk result (Adds S.piece
+            (IsGapBelow (option_map (λ row. row.now) above.entry)
+            (spanned (span_of span.entry) child.now none))
+            (shown_steps self.old.steps.items) (S.told sink.old) (S.told sink.new)) }
+    {
+        match span {
+            Span::Label(label) => {
+                let step = StepRef::Label(label);
+                if is_demanded(above, step, child.row()) {
+                    self.steps.push(step)?;
+                    self.visit(sink, child, is_refused(above, step))?;
+                    self.steps.pop();
+                }
+                Ok(())
+            }
+            Span::Elements { first, more } => {
+                let end = demanded_end(least_of(above), first, more);
+                self.visit_run(sink, first, end, child)
+            }
+        }
+    }
+
     /// Looks for gaps at the elements of a place that each list has and that are its rest.
-    /// Where nothing is told of one, nothing is of those behind it.
     #[cycle(walk)]
     fn visit_rest<S: GapSink>(
         &mut self,
@@ -121,11 +148,27 @@ impl<'a> Search<'a> {
             return Ok(());
         };
         let least = least_of(branch.row());
-        let first = rest_from(branch, least);
-        for number in first..least {
+        self.visit_run(sink, rest_from(branch, least), least, &rest)
+    }
+
+    /// Looks for gaps at the elements of a place from the first on, before the end, which are
+    /// alike. Where nothing is told of one, nothing is of those behind it.
+    #[cycle(walk)]
+    fn visit_run<S: GapSink>(
+        &mut self,
+        sink: &mut S,
+        first: u32,
+        end: u32,
+        element: &Branch<'a, Row>,
+    ) -> Result<(), Memory>
+        ensures steps { OnOk result (self.new.steps.items ≡ self.old.steps.items) }
+        ensures gaps { OnOk result (Adds S.piece (IsGapAmong first end element.now)
+            (shown_steps self.old.steps.items) (S.told sink.old) (S.told sink.new)) }
+    {
+        for number in first..end {
             let before = sink.len();
             self.steps.push(StepRef::Index(number))?;
-            self.visit(sink, &rest, false)?;
+            self.visit(sink, element, false)?;
             self.steps.pop();
             if sink.len() == before {
                 return Ok(());
@@ -155,20 +198,29 @@ impl<'a> Search<'a> {
         Ok(())
     }
 
-    /// Tells the elements of the place at hand from the next on that are before this step: they
-    /// are free. Tells the first one behind the step.
-    fn reach<S: GapSink>(&self, sink: &mut S, next: u32, step: StepRef) -> Result<u32, Memory>
-        requires { (n : ℕ) → step_at step ≡ index n → n < 4294967295 }
+    /// Tells the elements of the place at hand from the next on that are before this span, if so
+    /// many elements are demanded and one of the span is: they are free. Tells the first one behind
+    /// the demanded elements of the span.
+    fn reach<S: GapSink>(
+        &self,
+        sink: &mut S,
+        next: u32,
+        least: u32,
+        span: Span,
+    ) -> Result<u32, Memory>
         ensures gaps { OnOk result (S.told sink.new ≡ S.told sink.old
             ++ told_above S.piece (shown_steps self.now.steps.items)
-            (free_before next (step_at step.entry))) }
-        ensures next { IfOk result (λ found. found ≡ next_after next (step_at step.entry)) }
+            (free_before next least (span_of span.entry))) }
+        ensures next { IfOk result (λ found. found ≡ next_after next least (span_of span.entry)) }
     {
-        match step {
-            StepRef::Label(_) => Ok(next),
-            StepRef::Index(number) => {
-                sink.free_elements(&self.steps, next, number)?;
-                Ok(number + 1)
+        match span {
+            Span::Label(_) => Ok(next),
+            Span::Elements { first, more } => {
+                if first >= least {
+                    return Ok(next);
+                }
+                sink.free_elements(&self.steps, next, first)?;
+                Ok(demanded_end(least, first, more))
             }
         }
     }

@@ -1,4 +1,5 @@
-use Rattle.std.proofs.Common.{◌≡◌, ◌++◌, ◌+◌, ◌-◌, ◌≤◌, map, false}
+use Rattle.std.proofs.Common.{◌≡◌, ◌++◌, ◌+◌, ◌*◌, ◌-◌, ◌≤◌, map, false}
+use Rattle.cue_table.specs.Spans.{spread}
 use Rattle.cue_table.specs.StepsOfCode.{step_at}
 use Rattle.cue_table.specs.Size.{tree_size}
 use Rattle.cue_table.specs.Tree.{row_of, below}
@@ -7,18 +8,24 @@ use Rattle.cue_report.proofs.Walk.{IsWalking}
 use Rattle.cue_report.proofs.conflict.Search.+walk.Given as goal
 
 abbrev pub decreases-visit : goal.decreases-visit
-decreases-visit g l = tree_size l.branch.now + tree_size l.branch.now + 1
+decreases-visit g l = 3 * tree_size l.branch.now + 1
+
+abbrev pub decreases-visit_span : goal.decreases-visit_span
+decreases-visit_span g l = 3 * tree_size l.child.now + 3
 
 abbrev pub decreases-visit_rest : goal.decreases-visit_rest
-decreases-visit_rest g l = tree_size l.branch.now + tree_size l.branch.now
+decreases-visit_rest g l = 3 * tree_size l.branch.now
 
-abbrev pub invariant-visit-loop-step : goal.invariant-visit-loop-step
-invariant-visit-loop-step g l =
-    let told = g.S.ConflictSink.told in
-    IsWalking g.S.ConflictSink.piece (row_of l.branch) (below l.branch) l.step-iterator (told l.initial.sink) (told l.sink) l.initial.self.steps.items l.self.steps.items
+abbrev pub decreases-visit_run : goal.decreases-visit_run
+decreases-visit_run g l = 3 * tree_size l.element.now + 2
 
-abbrev pub invariant-visit_rest-loop-number : goal.invariant-visit_rest-loop-number
-invariant-visit_rest-loop-number g l =
+abbrev pub invariant-visit-loop-span : goal.invariant-visit-loop-span
+invariant-visit-loop-span g l =
     let told = g.S.ConflictSink.told in
-    (l.first ≤ l.number) × (l.self.steps.items ≡ l.fn.self.steps.items)
-    × (told l.sink ≡ told l.fn.sink ++ told_under g.S.ConflictSink.piece (map step_at l.fn.self.steps.items) (each_index l.first (l.number - l.first) (conflicts_in false l.rest)))
+    IsWalking g.S.ConflictSink.piece (row_of l.branch) (below l.branch) (spread l.span-iterator) (told l.initial.sink) (told l.sink) l.initial.self.steps.items l.self.steps.items
+
+abbrev pub invariant-visit_run-loop-number : goal.invariant-visit_run-loop-number
+invariant-visit_run-loop-number g l =
+    let told = g.S.ConflictSink.told in
+    (l.first ≤ l.number) × (l.number - l.first ≤ l.end - l.first) × (l.self.steps.items ≡ l.fn.self.steps.items)
+    × (told l.sink ≡ told l.fn.sink ++ told_under g.S.ConflictSink.piece (map step_at l.fn.self.steps.items) (each_index l.first (l.number - l.first) (conflicts_in false l.element)))
