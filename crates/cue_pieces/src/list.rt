@@ -1,4 +1,5 @@
 ghost use Rattle.std.specs.Prelude.{◌≡◌, ◌+◌, ◌-◌, ◌≤◌, ◌++◌, ◌∷◌, [], ◌↔◌, ◌==◌, ℕ, List, length, drop, IfOk, IfSome, IfNone, OnOk, OnErr, IsTrue};
+ghost use Rattle.std.specs.List.{Contains};
 ghost use Rattle.cue_journal.specs.Blocks.{recovered, block, Fits};
 ghost use Rattle.cue_pieces.specs.Listed.{Listed, next_of, Keeps, behind_of, GivesUp, GivesUpBeyond};
 ghost use Rattle.cue_pieces.specs.Lists.{blocks, total};
@@ -6,7 +7,7 @@ ghost use Rattle.cue_pieces.specs.Lists.{blocks, total};
 use crate::cursor::Cursor;
 use bytes::Bytes;
 use std::alloc::{AllocError, Global};
-use std::collections::{BTreeSet, VecDeque};
+use std::collections::{BTreeMap, VecDeque};
 use std::marker::Model;
 
 /// So many bytes of pieces are kept at most.
@@ -24,8 +25,8 @@ pub struct Pieces {
     /// So many of the oldest are given up.
     given_up: u64,
     kept: VecDeque<Bytes>,
-    /// Those that are kept, to look them up.
-    known: BTreeSet<Bytes>,
+    /// The numbers of those that are kept, to look them up.
+    known: BTreeMap<Bytes, u64>,
     /// How many bytes those that are kept have.
     size: usize,
 }
@@ -73,7 +74,7 @@ impl Pieces {
             run,
             given_up: 0,
             kept: VecDeque::new(alloc),
-            known: BTreeSet::new(alloc),
+            known: BTreeMap::new(alloc),
             size: 0,
         }
     }
@@ -96,10 +97,33 @@ impl Pieces {
         self.given_up == 0
     }
 
-    /// Whether an entry is among those that are kept.
-    pub fn knows(&self, entry: &[u8]) -> Result<bool, AllocError> {
-        let entry = Bytes::from_vec(Vec::from_slice(self.alloc, entry)?)?;
-        Ok(self.known.contains(&entry))
+    /// Whether an entry is found among those that are kept. One that stands there more than once is
+    /// not found any more when the first of them is given up.
+    pub fn knows(&self, entry: &[u8]) -> Result<bool, AllocError>
+        ensures { IfOk result (λ known. IsTrue known → Contains self.now.kept entry.now) }
+    {
+        let key = Bytes::from_vec(Vec::from_slice(self.alloc, entry)?)?;
+        let Some(number) = self.known.get(&key) else {
+            return Ok(false);
+        };
+        Ok(self.is_at(*number, entry))
+    }
+
+    /// Whether the piece with this number is kept, and is this entry.
+    fn is_at(&self, number: u64, entry: &[u8]) -> bool
+        ensures { IsTrue result → Contains self.now.kept entry.now }
+    {
+        if number < self.given_up {
+            return false;
+        }
+        let place = number - self.given_up;
+        if place >= self.kept.len() as u64 {
+            return false;
+        }
+        match self.kept.get(place as usize) {
+            Some(kept) => kept.as_slice() == entry,
+            None => false,
+        }
     }
 
     /// Adds a piece: an entry that begins with this byte.
@@ -120,9 +144,10 @@ impl Pieces {
         };
         let entry = entry_of(self.alloc, first, rest)?;
         let shared = entry.clone()?;
+        let number = self.given_up + self.kept.len() as u64;
         self.kept.push_back(entry)?;
         self.size = size;
-        let _unknown = self.known.insert(shared);
+        let _before = self.known.insert(shared, number);
         Ok(())
     }
 

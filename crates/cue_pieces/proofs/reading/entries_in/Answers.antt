@@ -1,4 +1,4 @@
-use Rattle.std.proofs.Common.{◌≡◌, ℕ, List, take, map, sym, subst, arith}
+use Rattle.std.proofs.Common.{◌≡◌, ℕ, List, take, sym, subst, arith}
 use Rattle.std.proofs.lemmas.List.{take_all}
 use Rattle.cue_journal.specs.Blocks.{recovered, StandsFor}
 use Rattle.cue_pieces.proofs.Written.{read_whole}

@@ -1,8 +1,6 @@
-use Rattle.std.proofs.Common.{◌≡◌, ℕ, List, ◌∷◌, ◌++◌, Option, Some, None, sym, ap, ◌∙◌, subst, arith}
+use Rattle.std.proofs.Common.{Some, None, sym, ◌∙◌, arith}
 use Rattle.std.specs.Fmt.{decimal}
 use Rattle.std.proofs.lemmas.Str.Pattern.{split_parts, split_after}
-use Rattle.cue_pieces.specs.Cursors.{cursor_text, IsCursor}
-use Rattle.cue_pieces.specs.declared.cursor.Cursor.{Cursor}
 use Rattle.cue_pieces.proofs.Telling.{tells, no_dash_in, has_dash, read_as, not_none, same_cursor}
 use Rattle.cue_pieces.proofs.cursor.Cursor.read.Goals as goal
 

@@ -1,4 +1,4 @@
-use Rattle.std.proofs.Common.{◌+◌, ◌∷◌, ◌++◌, [], ℕ, List, length, ap, ◌∙◌, arith}
+use Rattle.std.proofs.Common.{◌∷◌, ◌++◌, [], ℕ, List, ap, ◌∙◌, arith}
 use Rattle.cue_pieces.proofs.Sound.{sound_more}
 use Rattle.cue_pieces.proofs.list.Pieces.add.Goals as goal
 

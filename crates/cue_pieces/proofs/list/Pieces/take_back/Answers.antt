@@ -1,4 +1,4 @@
-use Rattle.std.proofs.Common.{arith, ◌∙◌}
+use Rattle.std.proofs.Common.{arith}
 use Rattle.cue_pieces.proofs.Sound.{last_size, sound_without_last}
 use Rattle.cue_pieces.proofs.list.Pieces.take_back.Goals as goal
 
