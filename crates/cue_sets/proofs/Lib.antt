@@ -3,6 +3,7 @@ pub mod Apart
 pub mod Beside
 pub mod Following
 pub mod Inside
+pub mod Joined
 pub mod Merged
 pub mod Neighbours
 pub mod OnePiece

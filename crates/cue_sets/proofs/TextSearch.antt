@@ -46,7 +46,8 @@ at_or_below x [] k d b l = absurd (omega arith)
 at_or_below x (y ∷ texts) zero d b l = b.0
 at_or_below x (y ∷ texts) (suc k) d b l = at_or_below x texts k d b.1 (omega arith)
 
-places_ascend : (texts : List (List ℕ)) (text : List ℕ) → IsAscending texts → IsNonDecreasingBy (place text) texts
+-- the places of texts in an ascending list ascend
+pub places_ascend : (texts : List (List ℕ)) (text : List ℕ) → IsAscending texts → IsNonDecreasingBy (place text) texts
 places_ascend [] text a i j d h l = absurd (omega arith)
 places_ascend (x ∷ texts) text a zero zero d h l = omega arith
 places_ascend (x ∷ texts) text a zero (suc j) d h l = first_place x text (get_or texts j d) (at_or_below x texts j d a.0 (omega arith)) (text_cmp x text) refl

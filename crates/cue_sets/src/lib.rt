@@ -6,6 +6,7 @@
 
 mod combination;
 mod int_set;
+mod joining;
 mod kept;
 mod leaving;
 mod moving;

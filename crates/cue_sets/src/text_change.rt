@@ -1,4 +1,5 @@
 use crate::TextSet;
+use cue_lattice::Text;
 
 /// What becomes of a set of texts into which another one is unified. It is found out before the set
 /// changes, so that the change itself takes no memory.
@@ -10,4 +11,7 @@ pub enum TextChange {
     Become(TextSet),
     /// Of the texts that are listed, those stay that this set has.
     Keep(TextSet),
+    /// The set, which has all texts but some, lacks these too. All that it lacks then fit into the
+    /// room, which is empty.
+    Lack { texts: Vec<Text>, room: Vec<Text> },
 }

@@ -2,12 +2,13 @@ ghost use Rattle.std.specs.Prelude.{◌≡◌, ◌↔◌, ℕ, Bool, List, [], �
 ghost use Rattle.std.specs.Prelude.{IfOk, IfSome, IfNone, Ok, IsTrue};
 ghost use Rattle.cue_sets.specs.Combination.{keeps};
 ghost use Rattle.cue_sets.specs.Changes.{IsChanged, Unifies};
-ghost use Rattle.cue_sets.specs.declared.text_change.TextChange.TheVariants.{Keep};
+ghost use Rattle.cue_sets.specs.declared.text_change.TextChange.TheVariants.{Keep, Lack};
 ghost use Rattle.cue_sets.specs.Texts.{is_listed, is_text_member, IsAscending, IsFirstText};
 ghost use Rattle.cue_sets.specs.Texts.{IsOnlyText};
 
 use crate::TextChange;
 use crate::combination::Combination;
+use crate::joining::{move_to_room, put_each};
 use crate::leaving::remove_each;
 use crate::moving::{merge_beside, merge_moved};
 use crate::texts::{
@@ -19,6 +20,9 @@ use std::marker::Model;
 
 /// How many texts are searched for or taken out of a list one by one, however long that is.
 const FEW: usize = 8;
+
+/// How many texts are put into a list one by one, where that is long.
+const FEW_MORE: usize = 32;
 
 /// A set of texts: a finite one, or all texts but finitely many.
 ///
@@ -206,8 +210,9 @@ impl TextSet {
         each_is_listed(texts, others, !other.all_but)
     }
 
-    /// What becomes of this set where the other one is unified into it. Where one of the two lists
-    /// few texts and the other many, this takes no memory.
+    /// What becomes of this set where the other one is unified into it. Where one of the two is
+    /// finite, and one lists few texts and the other many, this takes no memory. Where both are all
+    /// texts but some, and this one lists many and the other few, it copies no text.
     pub fn change_by(&self, alloc: Global, mut other: TextSet) -> Result<TextChange, Memory>
         ensures { IfOk result (λ change. Unifies change self.now other) }
     {
@@ -217,6 +222,9 @@ impl TextSet {
         }
         if !self.all_but && self.is_kept_soon(&other) {
             return Ok(TextChange::Keep(other));
+        }
+        if self.all_but && other.all_but && other.is_soon_put_into(self) {
+            return self.lacking(alloc, other);
         }
         match self.narrowed_by(alloc, other)? {
             Narrowed::Unchanged => Ok(TextChange::Stay),
@@ -232,6 +240,7 @@ impl TextSet {
             TextChange::Stay => {}
             TextChange::Become(set) => *self = set,
             TextChange::Keep(set) => self.keep(&set),
+            TextChange::Lack { texts, room } => self.lack(texts, room),
         }
     }
 
@@ -250,6 +259,42 @@ impl TextSet {
             return;
         }
         self.texts.retain(|text| other.contains(text.as_str()));
+    }
+
+    /// Whether it takes few steps to put the listed texts among those of the other set.
+    fn is_soon_put_into(&self, other: &TextSet) -> bool {
+        let count = self.texts.len();
+        count <= FEW_MORE && count < other.texts.len() / 16
+    }
+
+    /// What becomes of this set where it lacks the texts too that the other lacks. The room is twice
+    /// what it takes, so that a set to which this happens again and again is moved but seldom.
+    fn lacking(&self, alloc: Global, other: TextSet) -> Result<TextChange, Memory>
+        requires this { self.now.0 ≡ true }
+        requires other { other.0 ≡ true }
+        ensures { IfOk result (λ change. Unifies change self.now other) }
+    {
+        if self.is_within(&other) {
+            return Ok(TextChange::Stay);
+        }
+        let count = self.texts.len() + other.texts.len();
+        let room = Vec::with_capacity(alloc, count.saturating_mul(2))?;
+        Ok(TextChange::Lack {
+            texts: other.texts,
+            room,
+        })
+    }
+
+    /// Lacks these texts too, where there is room for all.
+    fn lack(&mut self, texts: Vec<Text>, room: Vec<Text>)
+        ensures { IsChanged (Lack texts room) self.old self.new }
+    {
+        let count = self.texts.len() + texts.len();
+        if !self.all_but || !room.is_empty() || room.capacity() < count {
+            return;
+        }
+        move_to_room(&mut self.texts, room, texts.len());
+        put_each(&mut self.texts, texts);
     }
 
     fn combined(&self, alloc: Global, how: Combination, other: &TextSet) -> Result<TextSet, Memory>

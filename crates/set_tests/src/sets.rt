@@ -111,9 +111,9 @@ fn sets_of_texts(rt: HostRuntime) -> Result<(), Fail> {
     Ok(())
 }
 
-/// Two sets of texts and what both have: many that lose few, many that lose many, few of many, and
-/// all but more.
-const UNIFIED: [(Texts, Texts, Texts); 4] = [
+/// Two sets of texts and what both have: many that lose few, many that lose many, few of many, all
+/// but more, and all but many and a few more.
+const UNIFIED: [(Texts, Texts, Texts); 5] = [
     (
         (false, "a b c d e f g h i j"),
         (true, "b d y"),
@@ -129,6 +129,17 @@ const UNIFIED: [(Texts, Texts, Texts); 4] = [
         (true, "a b c d e f g h i"),
         (true, "h i j k l m n o p"),
         (true, "a b c d e f g h i j k l m n o p"),
+    ),
+    (
+        (
+            true,
+            "0 1 2 3 4 5 6 7 8 9 A B C D E F G H I J K L M N O P Q R S T U V W X Y Z b c d e f g h i j k l m",
+        ),
+        (true, "B a"),
+        (
+            true,
+            "0 1 2 3 4 5 6 7 8 9 A B C D E F G H I J K L M N O P Q R S T U V W X Y Z a b c d e f g h i j k l m",
+        ),
     ),
 ];
 
