@@ -1,5 +1,5 @@
 -- Calls of files, one behind the other.
-use Rattle.std.proofs.Common.{◌≡◌, ◌≤◌, ◌+◌, ℕ, zero, suc, arith, List, [], ◌++◌, length, take, drop, Some, None, Bool, true, false, Result, Ok, Err, OnOk, OnErr, is_ok, codes, refl, sym, ap, subst, ◌∙◌, inl, inr}
+use Rattle.std.proofs.Common.{◌≡◌, ◌+◌, ℕ, zero, suc, arith, List, [], ◌++◌, take, drop, Some, None, Bool, true, false, Result, Ok, Err, OnOk, OnErr, is_ok, codes, refl, sym, ap, subst, ◌∙◌, inl, inr}
 use Rattle.std.proofs.lemmas.List.{append_assoc, take-append-drop}
 use Rattle.cue_program.specs.Calls.{Call, created, asked_mode, set_mode, wrote, synced, beside, Fills, TakesMode, Tries, Writes, WritesIn}
 use Rattle.cue_program.specs.Stopped.{OnlyTouches, Touches, TouchesIn}

@@ -1,11 +1,11 @@
 -- What calls in a row do to what lies where.
-use Rattle.std.proofs.Common.{◌≡◌, ◌≢◌, ◌⊎◌, ⊎_elim, inl, inr, ℕ, zero, suc, ◌+◌, ◌≤◌, ◌<◌, Bool, true, false, Some, None, Option, List, [], ◌++◌, length, codes, arith, refl, sym, ap, subst, ◌∙◌, length-append, append-nil}
+use Rattle.std.proofs.Common.{◌≡◌, ◌≢◌, ◌⊎◌, ⊎_elim, inl, inr, ℕ, zero, suc, ◌≤◌, Bool, true, false, Some, None, List, [], ◌++◌, length, codes, arith, refl, sym, ap, subst, ◌∙◌, length-append, append-nil}
 use Rattle.std.proofs.lemmas.List.{append_assoc}
 use Rattle.std.specs.Str.{bytes_eq}
 use Rattle.std.proofs.lemmas.Slice.Eq.{bytes_eq-Decides}
 use Rattle.std.proofs.lemmas.Bool.{both_ways}
-use Rattle.cue_program.specs.Calls.{Call, beside, Creates, Fills, Overwrites, PutsAt, PutsBehind, Replaces, TakesMode, Tries, Writes, WritesIn, opened, created, looked_at, looked_behind, followed, asked_mode, set_mode, wrote, synced, renamed, removed}
-use Rattle.cue_program.specs.Effects.{ArePut, DoesAsTold, HasMode, HasMoved, IsLonger, IsNewAt, IsTouchedAt, Stays, is_special_behind}
+use Rattle.cue_program.specs.Calls.{Call, beside, Creates, Fills, Overwrites, PutsAt, PutsBehind, Replaces, TakesMode, Tries, WritesIn, opened, created, looked_at, looked_behind, followed, asked_mode, set_mode, wrote, synced, renamed, removed}
+use Rattle.cue_program.specs.Effects.{ArePut, DoesAsTold, HasMoved, IsLonger, IsTouchedAt, Stays, is_special_behind}
 use Rattle.cue_program.specs.Files.{Holdings, IsElsewhereSame, IsPut, IsSameAt, IsSameTree, IsUnharmed}
 use Rattle.cue_program.specs.Stopped.{StopsAt, StopsBehind, StopsFilling, StopsOverwriting, StopsPutting, StopsReplacing, Touches, TouchesIn}
 use Rattle.cue_program.specs.declared.shelf.Form.{Form}

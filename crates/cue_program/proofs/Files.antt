@@ -3,16 +3,18 @@ use Rattle.std.proofs.Common.{◌≡◌, ℕ, suc, ◌+◌, ◌-◌, ◌^◌, �
 use Rattle.std.specs.List.{AllByRecursion}
 use Rattle.std.proofs.lemmas.List.{append_assoc, length-take, map-append, map_push, take_more, take-append-drop, drop_more}
 use Rattle.cue_lattice.specs.World.{Piece, text, piece_refuses, AllAlong}
-use Rattle.cue_replica.specs.Language.{Table, language, opening}
+use Rattle.cue_replica.specs.Language.{Table, language}
 use Rattle.cue_replica.specs.Replica.{Adds}
 use Rattle.cue_replica.specs.Accepted.{IsAcceptable}
 use Rattle.cue_replica.specs.declared.Refusal.{Refusal}
-use Rattle.cue_replica.proofs.Accepted.{of_no_piece, of_one_piece_more}
 use Rattle.cue_replica.proofs.Along.{along_push, length-along}
+use Rattle.cue_program.specs.declared.gathered.Gathered.{Gathered}
 use Rattle.cue_program.specs.declared.stop.Stop.{Stop}
+use Rattle.cue_program.specs.inner.Gathered.{IsGathered}
+use Rattle.cue_program.proofs.Batches.{all_acceptable}
 use Rattle.std.specs.Prelude.{get_or}
 use Rattle.cue_program.specs.Files.{AreAll, texts}
-use Rattle.cue_program.specs.Inputs.{Gives, Holds, IsFilePiece, IsFirstRefused, IsFirstUnread, IsInputRefused, IsPieceRefusal, files}
+use Rattle.cue_program.specs.Inputs.{Gives, IsFilePiece, IsFirstRefused, IsFirstUnread, IsInputRefused, IsPieceRefusal, files}
 use Rattle.cue_program.specs.Stops.{IsRefusedAs, IsUnreadable}
 
 -- the site has accepted the piece of these bytes
@@ -43,19 +45,29 @@ pub both_ok : {T E P Q R : Type 0} (r : Result T E) → OnOk r P → OnOk r Q �
 both_ok (Ok x) h k f = f h k
 both_ok (Err e) h k f = tt
 
--- an empty site has taken no files
-pub files_none : Holds (files []) opening
-files_none = ([], tt, of_no_piece)
+-- the pieces of these files were taken
+pub record HasTakenFiles (gathered : Gathered) (known : List (Option (List ℕ))) : Type 0 where
+  pub pieces : List Piece
+  pub given : AllAlong Gives known pieces
+  pub gathers : IsGathered gathered pieces
 
--- a site that has accepted the piece of a further file has taken one file more
+-- where nothing was gathered, no files were taken
+pub files_none : (gathered : Gathered) → IsGathered gathered [] → HasTakenFiles gathered []
+files_none gathered none = record { pieces = []; given = tt; gathers = none }
+
+-- with the piece of a further file one file more was taken
 pub files_more :
-    (known : List (Option (List ℕ))) (next : Option (List ℕ)) (old new : Table) (bytes : List ℕ) → Holds (files known) old → AreAll next bytes
-    → Accepts bytes old new → language.IsValid new → Holds (files (known ++ next ∷ [])) new
-files_more known next old new bytes h all more valid = (
-  h.0 ++ more.0 ∷ [],
-  along_push Gives known h.0 next more.0 h.1 (bytes, all, more.1),
-  of_one_piece_more old new h.0 more.0 h.2 more.2 more.3 valid,
-)
+    (known : List (Option (List ℕ))) (next : Option (List ℕ)) (old new : Gathered) (bytes : List ℕ) (h : HasTakenFiles old known) → AreAll next bytes
+    → ((piece : Piece) × IsFilePiece bytes piece × IsGathered new (h.pieces ++ piece ∷ [])) → HasTakenFiles new (known ++ next ∷ [])
+files_more known next old new bytes h all more = record {
+  pieces = h.pieces ++ more.0 ∷ [];
+  given = along_push Gives known h.pieces next more.0 h.given (bytes, all, more.1);
+  gathers = more.2;
+}
+
+-- all pieces of these files are acceptable
+pub files_fine : (gathered : Gathered) (known : List (Option (List ℕ))) (h : HasTakenFiles gathered known) → AllByRecursion IsAcceptable h.pieces
+files_fine gathered known h = all_acceptable gathered.site gathered.batch h.pieces h.gathers
 
 small : (n number : ℕ) → number ≡ n + 1 → n + 1 ≤ 2 ^ 64 - 1 → number ≡ min (n + 1) (2 ^ 64 - 1)
 small n number is less = omega (arith, is, less)
@@ -79,14 +91,14 @@ files_first_refused IsFine IsReason front back next pieces number bytes stop giv
 
 -- the first file that is refused after those that were taken
 pub files_refused :
-    (front back : List (Option (List ℕ))) (next : Option (List ℕ)) (number : ℕ) (old : Table) (bytes : List ℕ) (stop : Stop)
-    → Holds (files front) old → AreAll next bytes → number ≡ length front + 1 → number ≤ 2 ^ 64 - 1
+    (front back : List (Option (List ℕ))) (next : Option (List ℕ)) (number : ℕ) (old : Gathered) (bytes : List ℕ) (stop : Stop)
+    → HasTakenFiles old front → AreAll next bytes → number ≡ length front + 1 → number ≤ 2 ^ 64 - 1
     → ((piece : Piece) × (why : Refusal) × IsFilePiece bytes piece × IsPieceRefusal piece why × IsRefusedAs why number stop)
     → IsInputRefused (files (front ++ next ∷ back)) stop
 files_refused front back next number old bytes stop h all counted most fault =
-    let long = length-along Gives front h.0 h.1 in
-    files_first_refused IsAcceptable IsPieceRefusal front back next h.0 number bytes stop h.1 h.2.0 all
-    (small (length h.0) number (counted ∙ ap (λ n. n + 1) long) (omega (arith, counted, long, most))) fault
+    let long = length-along Gives front h.pieces h.given in
+    files_first_refused IsAcceptable IsPieceRefusal front back next h.pieces number bytes stop h.given (files_fine old front h) all
+    (small (length h.pieces) number (counted ∙ ap (λ n. n + 1) long) (omega (arith, counted, long, most))) fault
 
 -- the first file that can't be read after those that are fine
 pub files_unread :

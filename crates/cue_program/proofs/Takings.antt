@@ -1,10 +1,11 @@
 -- Texts that a site takes while they are read.
-use Rattle.std.proofs.Common.{◌≡◌, ◌⊎◌, inl, inr, ℕ, ◌+◌, ◌-◌, ◌^◌, ◌<◌, ◌≤◌, min, true, false, Option, Some, None, Result, Ok, Err, OnOk, List, [], ◌∷◌, ◌++◌, length, arith, refl, sym, ap, subst, ◌∙◌}
+use Rattle.std.proofs.Common.{◌≡◌, ◌⊎◌, inl, inr, ℕ, ◌+◌, ◌-◌, ◌^◌, ◌<◌, ◌≤◌, min, true, false, Option, Some, None, Result, Ok, Err, OnOk, List, [], ◌∷◌, ◌++◌, length, map, arith, refl, sym, ap, subst, ◌∙◌}
 use Rattle.std.specs.Prelude.{codes}
 use Rattle.std.specs.Option.{is_some}
 use Rattle.std.proofs.lemmas.Bool.{false≢true}
-use Rattle.std.proofs.lemmas.List.{append_assoc, append-nil, length-append}
-use Rattle.cue_replica.specs.Accepted.{IsOfTexts, text_limit, refusal_at}
+use Rattle.std.proofs.lemmas.List.{append_assoc, append-nil, length-append, map_push}
+use Rattle.cue_lattice.specs.World.{Piece, text}
+use Rattle.cue_replica.specs.Accepted.{IsOfPieces, text_limit, refusal_at}
 use Rattle.cue_replica.specs.Language.{Table, language}
 use Rattle.cue_replica.specs.declared.Kind.{Kind}
 use Rattle.cue_replica.specs.declared.Kind.TheVariants as kinds
@@ -19,7 +20,7 @@ use Rattle.cue_program.specs.declared.stop.Stop.{Stop}
 use Rattle.cue_program.specs.declared.stop.Stop.TheVariants as stops
 use Rattle.cue_program.specs.declared.gathered.Gathered.{Gathered}
 use Rattle.cue_program.specs.declared.taking.Taken.{Taken}
-use Rattle.cue_program.proofs.Batches.{all_legal}
+use Rattle.cue_program.proofs.Batches.{all_legal, of_texts}
 use Rattle.cue_program.proofs.Texts.{counted, next_part, part_refused, so_far_more}
 use Rattle.cue_program.proofs.Unfinished.{end_behind, first_is_long, line_first, no_lines, one_line_more, unbroken_more}
 
@@ -48,7 +49,7 @@ pub line_read :
     → new.line.items ≡ old.line.items ++ piece → HasRead new (bytes ++ piece)
 line_read old new bytes piece h same part line = record {
   done = h.done;
-  texts = subst (λ (t : Gathered). IsGathered t h.done) (sym same.gathered) h.texts;
+  texts = subst (λ (t : Gathered). IsGathered t (map text h.done)) (sym same.gathered) h.texts;
   counted = same.number ∙ h.counted;
   rest = λ more. rw (append_assoc bytes piece more, part, line, append_assoc old.line.items piece more) (h.rest (piece ++ more));
   whole = rw part h.whole;
@@ -60,7 +61,7 @@ pub line_kept :
     → new.part.items ≡ old.part.items ++ old.line.items → new.line.items ≡ [] → HasRead new bytes
 line_kept old new bytes h ended other same part line = record {
   done = h.done;
-  texts = subst (λ (t : Gathered). IsGathered t h.done) (sym same.gathered) h.texts;
+  texts = subst (λ (t : Gathered). IsGathered t (map text h.done)) (sym same.gathered) h.texts;
   counted = same.number ∙ h.counted;
   rest = λ more. rw (part, line, append_assoc old.part.items old.line.items more) (h.rest more);
   whole = rw part (one_line_more old.part.items old.line.items h.whole ended other);
@@ -82,12 +83,12 @@ first_ends taken bytes more h is = (
 -- the part is finished, and was taken
 pub part_taken :
     (old new : Taken) (bytes : List ℕ) (h : HasRead old bytes) → old.line.items ≡ codes "---\n" → new.number ≡ min (old.number + 1) (2 ^ 64 - 1)
-    → IsGathered new.gathered (h.done ++ old.part.items ∷ [])
+    → IsGathered new.gathered (map text h.done ++ text old.part.items ∷ [])
     → new.part.items ≡ [] → new.line.items ≡ [] → HasTaken new bytes
 part_taken old new bytes h is next gathered part line = record {
   read = record {
     done = h.done ++ old.part.items ∷ [];
-    texts = gathered;
+    texts = subst (IsGathered new.gathered) (sym (map_push text h.done old.part.items)) gathered;
     counted = counted h.done old.part.items old.number new.number h.counted next
         ∙ ap (λ n. min n (2 ^ 64 - 1)) (sym (length-append h.done (old.part.items ∷ [])));
     rest = λ more.
@@ -138,11 +139,11 @@ refused_whole bytes stop h = subst (λ (b : List ℕ). IsTextRefused b stop) (ap
 -- at the end the unfinished part is the rest
 pub rest_at_end :
     (taken : Taken) (bytes rest : List ℕ) (site : Table) → HasRead taken bytes
-    → ((texts : List (List ℕ)) → IsGathered taken.gathered texts → IsOfTexts site texts) → rest ≡ taken.part.items ++ taken.line.items
+    → ((pieces : List Piece) → IsGathered taken.gathered pieces → IsOfPieces site pieces) → rest ≡ taken.part.items ++ taken.line.items
     → HasTakenParts bytes site taken.number (Some rest)
 rest_at_end taken bytes rest site h gathered is = (
   h.done,
-  gathered h.done h.texts,
+  of_texts site h.done (gathered (map text h.done) h.texts),
   subst (λ (b : List ℕ). AreFirstParts b h.done (Some rest)) (append-nil bytes)
       (subst (λ (r : List ℕ). AreFirstParts (bytes ++ []) h.done (Some r))
       (ap (λ (l : List ℕ). taken.part.items ++ l) (append-nil taken.line.items) ∙ sym is) (h.rest [])),

@@ -1,8 +1,8 @@
 -- What calls come to where each does what it says: what lies where before and after it.
-use Rattle.std.specs.Prelude.{◌≡◌, ◌⊎◌, ℕ, List, [], ◌++◌, Option, Some, None, Bool, true, false, ⊤}
+use Rattle.std.specs.Prelude.{◌≡◌, ◌⊎◌, ℕ, List, [], ◌++◌, Some, None, Bool, true, false, ⊤}
 use Rattle.cue_program.specs.Calls.{Call, looked_at, looked_behind, followed, created, opened}
 use Rattle.cue_program.specs.Calls.{asked_mode, set_mode, wrote, synced, renamed, removed, Puts}
-use Rattle.cue_program.specs.Files.{Holdings, IsElsewhereSame, IsSameAt, IsSameTree, IsPut}
+use Rattle.cue_program.specs.Files.{Holdings, IsElsewhereSame, IsPut}
 use Rattle.cue_program.specs.Files.{IsUnharmed}
 use Rattle.cue_program.specs.Stopped.{StopsPutting}
 use Rattle.cue_program.specs.declared.shelf.Form.{Form}

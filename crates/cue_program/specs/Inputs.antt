@@ -31,7 +31,7 @@ inputs_of held (name ∷ names) known = files (map (known_at held) (name ∷ nam
 -- An input with these bytes was read: where the first is FE (hexadecimal), a reader of states has
 -- taken them in; and otherwise so much of them is kept.
 abbrev pub IsRead : {K : Type 0} → (K → List ℕ → Type 0) → Input K → List ℕ → Type 0
-IsRead IsKept (read.State reader) bytes = (slice_get bytes 0 ≡ Some 254) × IsIntake bytes reader
+IsRead IsKept (read.State reader len) bytes = (slice_get bytes 0 ≡ Some 254) × IsIntake bytes reader
 IsRead IsKept (read.Text kept) bytes = (slice_get bytes 0 ≢ Some 254) × IsKept kept bytes
 
 -- What is kept of these bytes tells what they are refused for, or is all of them: of a state all

@@ -1,33 +1,35 @@
-//! Texts that are taken in batches.
+//! Pieces that are taken in batches.
 ghost use Rattle.std.specs.Prelude.{◌≡◌, ◌⊎◌, ℕ, List, [], ◌∷◌, ◌++◌};
 ghost use Rattle.std.specs.Prelude.{IfOk, IfErr, OnOk};
-ghost use Rattle.cue_replica.specs.Accepted.{IsOfTexts};
+ghost use Rattle.cue_lattice.specs.World.{Piece, text as text_of};
+ghost use Rattle.cue_replica.specs.Accepted.{IsOfPieces};
 ghost use Rattle.cue_replica.specs.Language.{language};
 ghost use Rattle.cue_replica.specs.declared.Refusal.{Refusal};
-ghost use Rattle.cue_program.specs.Inputs.{IsTextRefusal};
+ghost use Rattle.cue_program.specs.Inputs.{IsFilePiece, IsFileRead, IsPieceRefusal, IsTextRefusal};
 ghost use Rattle.cue_program.specs.Stops.{IsMemory, IsRefusedAs};
 ghost use Rattle.cue_program.specs.inner.Gathered.{IsGathered};
 
-use crate::site::submit;
+use crate::kept::{Enough, Input};
+use crate::site::{submit, take_file};
 use crate::stop::Stop;
 use cue_replica::{Memory, Replica};
 use std::alloc::Global;
 use std::mem;
 
-/// How many bytes the texts of a batch have at least, unless it is the last.
+/// How many bytes the pieces of a batch have at least, unless it is the last.
 const BATCH: usize = 16_384;
 
 /// How many times the bytes of a batch those before it may have.
 const TIMES: usize = 16;
 
-/// A site that has taken texts, with a site of its own for those that came last. Both are unified
-/// when that has taken enough of them: a text alone would move all branches of a list that gets a
+/// A site that has taken pieces, with a site of its own for those that came last. Both are unified
+/// when that has taken enough of them: a piece alone would move all branches of a list that gets a
 /// new one.
 #[derive(Drop)]
 pub struct Gathered {
     pub site: Replica,
     pub batch: Replica,
-    /// How many bytes the texts have that the site has taken.
+    /// How many bytes the pieces have that the site has taken.
     before: usize,
     /// How many bytes those of the batch have.
     size: usize,
@@ -35,7 +37,7 @@ pub struct Gathered {
 }
 
 impl Gathered {
-    /// No texts.
+    /// No pieces.
     pub fn new(alloc: Global) -> Gathered
         ensures { IsGathered result [] }
     {
@@ -54,25 +56,55 @@ impl Gathered {
     ///
     /// `RefusedInput`, and `Memory`: then this is not used any more.
     pub fn take(&mut self, text: &[u8], number: usize) -> Result<(), Stop>
-        ensures taken { (texts : List (List ℕ)) → IsGathered self.old texts
-            → OnOk result (IsGathered self.new (texts ++ text.now ∷ [])) }
+        ensures taken { (pieces : List Piece) → IsGathered self.old pieces
+            → OnOk result (IsGathered self.new (pieces ++ text_of text.now ∷ [])) }
         ensures refused { IfErr result (λ stop. IsMemory stop ⊎ ((why : Refusal) ×
             IsRefusedAs why number stop × IsTextRefusal text.now why)) }
     {
         if let Err(stop) = submit(&mut self.batch, text, number) {
             return Err(stop);
         }
-        self.size = self.size.saturating_add(text.len());
-        if self.size >= BATCH.max(self.before / TIMES) {
-            self.unify()?;
-        }
+        self.grow(text.len())?;
         Ok(())
+    }
+
+    /// Takes the file of this number: a state, or one text.
+    ///
+    /// # Errors
+    ///
+    /// `RefusedInput`, and `Memory`: then this is not used any more.
+    pub fn take_file(&mut self, file: Input<Enough>, number: usize) -> Result<(), Stop>
+        ensures taken { (bytes : List ℕ) (pieces : List Piece) → IsFileRead file bytes
+            → IsGathered self.old pieces → OnOk result ((piece : Piece) ×
+            IsFilePiece bytes piece × IsGathered self.new (pieces ++ piece ∷ [])) }
+        ensures refused { (bytes : List ℕ) → IsFileRead file bytes
+            → IfErr result (λ stop. IsMemory stop ⊎ ((piece : Piece) × (why : Refusal)
+            × IsFilePiece bytes piece × IsPieceRefusal piece why × IsRefusedAs why number stop)) }
+    {
+        let len = file.len();
+        if let Err(stop) = take_file(&mut self.batch, file, number) {
+            return Err(stop);
+        }
+        self.grow(len)?;
+        Ok(())
+    }
+
+    /// Counts a piece of so many bytes, and hands the batch to the site where that makes it enough.
+    fn grow(&mut self, len: usize) -> Result<(), Memory>
+        ensures { (pieces : List Piece) → IsGathered self.old pieces
+            → OnOk result (IsGathered self.new pieces) }
+    {
+        self.size = self.size.saturating_add(len);
+        if self.size < BATCH.max(self.before / TIMES) {
+            return Ok(());
+        }
+        self.unify()
     }
 
     /// Hands the batch to the site.
     fn unify(&mut self) -> Result<(), Memory>
-        ensures { (texts : List (List ℕ)) → IsGathered self.old texts
-            → OnOk result (IsGathered self.new texts) }
+        ensures { (pieces : List Piece) → IsGathered self.old pieces
+            → OnOk result (IsGathered self.new pieces) }
     {
         let batch = mem::replace(&mut self.batch, Replica::new(self.alloc));
         self.site.unify(batch)?;
@@ -81,14 +113,14 @@ impl Gathered {
         Ok(())
     }
 
-    /// A site that has taken all texts.
+    /// A site that has taken all pieces.
     ///
     /// # Errors
     ///
     /// `Memory`.
     pub fn finish(self) -> Result<Replica, Memory>
-        ensures { (texts : List (List ℕ)) → IsGathered self texts
-            → IfOk result (λ site. IsOfTexts site texts) }
+        ensures { (pieces : List Piece) → IsGathered self pieces
+            → IfOk result (λ site. IsOfPieces site pieces) }
     {
         let Gathered {
             mut site,

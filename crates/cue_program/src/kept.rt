@@ -79,12 +79,22 @@ fn keep_enough(bytes: &mut Vec<u8>)
     }
 }
 
-/// An input as it was read: a state was taken in piece by piece, and its bytes are not kept; of any
-/// other this is kept.
+/// An input as it was read: a state of so many bytes was taken in piece by piece, and its bytes are
+/// not kept; of any other this is kept.
 #[derive(Drop)]
 pub enum Input<K> {
-    State(StateReader),
+    State(StateReader, usize),
     Text(K),
+}
+
+impl Input<Enough> {
+    /// How many bytes were taken in of a state, or are kept of a text.
+    pub(crate) fn len(&self) -> usize {
+        match self {
+            Input::State(_, len) => *len,
+            Input::Text(text) => text.bytes.len(),
+        }
+    }
 }
 
 impl<K: Kept> Kept for Input<K> {
@@ -98,12 +108,15 @@ impl<K: Kept> Kept for Input<K> {
         }
         let mut reader = StateReader::new(alloc);
         feed(&mut reader, piece)?;
-        Ok(Input::State(reader))
+        Ok(Input::State(reader, piece.len()))
     }
 
     fn go_on(&mut self, piece: &[u8]) -> Result<(), Stop> {
         match self {
-            Input::State(reader) => feed(reader, piece),
+            Input::State(reader, len) => {
+                *len = len.saturating_add(piece.len());
+                feed(reader, piece)
+            }
             Input::Text(kept) => kept.go_on(piece),
         }
     }

@@ -6,11 +6,12 @@ ghost use Rattle.cue_program.specs.Runs.{IsAnswerOn, IsMergeOn, IsMergeStopOn, I
 ghost use Rattle.cue_program.specs.Stops.{piece_size, IsUnreadable};
 ghost use Rattle.cue_program.specs.inner.Reading.{IsAllRead};
 
+use crate::gathered::Gathered;
 use crate::input::{read_all, room};
 use crate::kept::{Enough, Input, Kept};
 use crate::put::put;
 use crate::shelf::Shelf;
-use crate::site::{site_of, take_file};
+use crate::site::site_of;
 use crate::stop::Stop;
 use cue_answer::{Answer, Question, answer_to, printed};
 use cue_device::Reader;
@@ -104,15 +105,15 @@ fn site_of_files<H: AllocGlobal + Shelf>(rt: &H, names: &[&str]) -> Result<Repli
     ensures stop { IfErr result (IsStopOn
         (files (map (known_at (H.held rt.now)) (texts names.now)))) }
 {
-    let mut site = Replica::new(rt.alloc());
+    let mut gathered = Gathered::new(rt.alloc());
     let mut piece = room(rt.alloc())?;
     let mut number = 0;
     for name in names {
         number += 1;
         let file = read_file(rt, name, &mut piece)?;
-        take_file(&mut site, file, number)?;
+        gathered.take_file(file, number)?;
     }
-    Ok(site)
+    Ok(gathered.finish()?)
 }
 
 /// What is kept of the file of this name that is read to its end, by reads into this room.

@@ -37,7 +37,7 @@ pub fn site_of(alloc: Global, input: Input<Texts>) -> Result<Replica, Stop>
         → IfErr result (λ stop. IsInputRefused (stream (Some bytes)) stop ⊎ IsMemory stop) }
 {
     match input {
-        Input::State(reader) => {
+        Input::State(reader, _) => {
             let mut site = Replica::new(alloc);
             match take_state(&mut site, reader, 1) {
                 Ok(()) => Ok(site),
@@ -64,7 +64,7 @@ pub fn take_file(site: &mut Replica, file: Input<Enough>, number: usize) -> Resu
     ensures unchanged { OnErr result (site.new ≡ site.old) }
 {
     match file {
-        Input::State(reader) => take_state(site, reader, number),
+        Input::State(reader, _) => take_state(site, reader, number),
         Input::Text(text) => submit(site, &text.bytes, number),
     }
 }

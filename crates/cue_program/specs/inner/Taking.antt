@@ -1,7 +1,8 @@
 -- Texts that a site takes while they are read.
 use Rattle.std.specs.Prelude.{◌≡◌, ◌⊎◌, ◌≤◌, ◌<◌, ◌+◌, ◌^◌, ◌==◌, ℕ, List, [], ◌∷◌, ◌++◌, length}
-use Rattle.std.specs.Prelude.{Option, Some, None, false}
+use Rattle.std.specs.Prelude.{Option, Some, None, false, map}
 use Rattle.std.specs.List.{AllByRecursion, concat}
+use Rattle.cue_lattice.specs.World.{text}
 use Rattle.cue_replica.specs.Accepted.{text_limit}
 use Rattle.cue_program.specs.Parts.{lines_of, IsPart}
 use Rattle.cue_program.specs.Inputs.{IsRead}
@@ -31,7 +32,7 @@ pub record AreWholeLines (bytes : List ℕ) : Type 0 where
 -- The finished parts of the bytes were taken, which are so many; what follows them is kept.
 pub record HasRead (taken : Taken) (bytes : List ℕ) : Type 0 where
   pub done : List (List ℕ)
-  pub texts : IsGathered taken.gathered done
+  pub texts : IsGathered taken.gathered (map text done)
   pub counted : Counts taken.number done
   pub rest : (more : List ℕ)
       → AreFirstParts (bytes ++ more) done

@@ -1,4 +1,4 @@
-use Rattle.std.proofs.Common.{◌++◌, ◌∷◌, ℕ, List, Option, rules, sym, subst, ap, inr, ⊎_elim, ◌+◌, ◌-◌, ◌^◌, min, map, take, drop, ◌∙◌, arith, []}
+use Rattle.std.proofs.Common.{◌++◌, ◌∷◌, ℕ, List, Option, rules, sym, subst, ap, inr, ⊎_elim, ◌+◌, ◌-◌, ◌^◌, min, map, take, drop, ◌∙◌, []}
 use Rattle.cue_wire.specs.declared.request.Request as requests
 use Rattle.cue_wire.proofs.Connections.{err_on}
 use Rattle.cue_program.specs.Files.{known_at, texts}

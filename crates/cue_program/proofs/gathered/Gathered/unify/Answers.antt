@@ -5,9 +5,9 @@ use Rattle.cue_program.proofs.Batches.{all_in_front, all_taken}
 use Rattle.cue_program.proofs.gathered.Gathered.unify.Goals as goal
 
 pub returns : goal.returns
-returns c texts h =
-    all_in_front c.unify.new.self _ texts
-    (all_taken c.args.self.now.site c.args.self.now.batch c.unify.new.self texts h
+returns c pieces h =
+    all_in_front c.unify.new.self _ pieces
+    (all_taken c.args.self.now.site c.args.self.now.batch c.unify.new.self pieces h
     (subst (λ (t : Table). Adds c.args.self.now.site (language.table_refuses t) c.unify.new.self) c.replace-batch.ensures.value c.in_ok-unify.ensures.ok)
     c.in_ok-unify.ensures.valid)
     (c.replace-batch.ensures.after ∙ c.new.ensures)

@@ -1,4 +1,5 @@
-use Rattle.std.proofs.Common.{[], ◌∷◌, ◌++◌, List, ℕ, subst}
+use Rattle.std.proofs.Common.{[], ◌∷◌, ◌++◌, List, ℕ, map, subst}
+use Rattle.cue_lattice.specs.World.{text}
 use Rattle.cue_wire.proofs.Connections.{err_on}
 use Rattle.cue_program.specs.inner.Gathered.{IsGathered}
 use Rattle.cue_program.proofs.Takings.{part_stops, part_taken}
@@ -11,5 +12,5 @@ returns-in_err-take-clause-stop c bytes h is =
 pub returns-clause-taken : goal.returns-clause-taken
 returns-clause-taken c bytes h is =
     part_taken c.args.self.now _ bytes h is c.saturating_add-self.ensures
-    (subst (λ (t : List ℕ). IsGathered c.take.new.self (h.done ++ t ∷ [])) c.deref.ensures.value (c.in_ok-take.ensures.taken h.done h.texts))
+    (subst (λ (t : List ℕ). IsGathered c.take.new.self (map text h.done ++ text t ∷ [])) c.deref.ensures.value (c.in_ok-take.ensures.taken (map text h.done) h.texts))
     c.clear.ensures.items c.clear-2.ensures.items
