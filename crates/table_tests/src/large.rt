@@ -1,7 +1,9 @@
 //! Tables with many branches at one place, put in one by one in mixed order, or a few at a time.
-use cue_lattice::{Memory, Narrow};
+use crate::both::{append, is_same, put, take};
+use crate::plain::{Made, add};
+use cue_lattice::Narrow;
 use cue_row::{Path, Step};
-use cue_table::{Draft, Place, Table};
+use cue_table::{Draft, Table};
 use std::alloc::Global;
 
 /// How many branches there are.
@@ -12,51 +14,90 @@ const COUNT: u32 = 3000;
 const STRIDE: u32 = 1009;
 
 /// The place of the branch that is put in when so many were.
-fn place(alloc: Global, turn: u32) -> Result<Path, Memory> {
+fn place(alloc: Global, turn: u32) -> Made<Path> {
     let number = turn as u64 * STRIDE as u64 % COUNT as u64;
     at(alloc, number as u32)
 }
 
 /// The place of a branch.
-fn at(alloc: Global, number: u32) -> Result<Path, Memory> {
+fn at(alloc: Global, number: u32) -> Made<Path> {
     let mut steps = Vec::new(alloc);
-    steps.push(Step::Index(number))?;
+    add(&mut steps, Step::Index(number))?;
     Ok(Path::new(steps).unwrap_or(Path::root(alloc)))
 }
 
-/// The table with the row at every so many-th place, put in from the first to the last.
-fn in_order<R: Narrow>(alloc: Global, row: &R, every: usize) -> Result<Table<R>, Memory> {
-    let mut draft = Draft::new(alloc);
+/// Puts the row at every so many-th place into a draft, from the first to the last.
+fn append_in_order<R: Narrow>(
+    alloc: Global,
+    draft: &mut Draft<R>,
+    row: &R,
+    every: usize,
+) -> Made<()> {
     for number in 0..COUNT {
         if every != 0 && number as usize % every == 0 {
-            let place = Place::of_path(alloc, at(alloc, number)?)?;
-            draft.append(&place, row.copy(alloc)?)?;
+            append(alloc, draft, at(alloc, number), row)?;
         }
     }
+    Ok(())
+}
+
+/// The table with the row at every so many-th place, put in from the first to the last.
+fn in_order<R: Narrow>(alloc: Global, row: &R, every: usize) -> Made<Table<R>> {
+    let mut draft = Draft::new(alloc);
+    append_in_order(alloc, &mut draft, row, every)?;
     Ok(draft.finish().unwrap_or(Table::new(alloc)))
 }
 
-/// Whether rows that are put in one by one in mixed order make the table of those in order.
-pub fn mixes<R: Narrow>(alloc: Global, row: &R) -> Result<bool, Memory> {
-    let mut mixed = Table::new(alloc);
-    for turn in 0..COUNT {
-        mixed.add(&place(alloc, turn)?, row)?;
+/// Puts the row in, in mixed order, from one turn up to another one.
+fn put_turns<R: Narrow>(
+    alloc: Global,
+    table: &mut Table<R>,
+    row: &R,
+    turns: (u32, u32),
+) -> Made<()> {
+    for turn in turns.0..turns.1 {
+        put(table, &place(alloc, turn)?, row)?;
     }
-    Ok(mixed.same(&in_order(alloc, row, 1)?))
+    Ok(())
+}
+
+/// Whether rows that are put in one by one in mixed order make the table of those in order.
+fn is_mixed<R: Narrow>(alloc: Global, mixed: &mut Table<R>, row: &R) -> Made<bool> {
+    put_turns(alloc, mixed, row, (0, COUNT))?;
+    is_same(in_order(alloc, row, 1), mixed)
+}
+
+/// The same of a row that is made.
+pub fn mixes<R: Narrow>(alloc: Global, row: Made<R>) -> Made<bool> {
+    let row = row?;
+    is_mixed(alloc, &mut Table::new(alloc), &row)
+}
+
+/// The table of three rows from a turn on, or of as many as are left.
+fn small<R: Narrow>(alloc: Global, row: &R, turn: u32) -> Made<Table<R>> {
+    let mut table = Table::new(alloc);
+    let end = turn.saturating_add(3).min(COUNT);
+    put_turns(alloc, &mut table, row, (turn, end))?;
+    Ok(table)
+}
+
+/// Unifies small tables into one, until all rows are in, and then one without rows.
+fn take_small_ones<R: Narrow>(alloc: Global, large: &mut Table<R>, row: &R) -> Made<()> {
+    for third in 0..COUNT / 3 + 1 {
+        take(large, small(alloc, row, third.saturating_mul(3))?)?;
+    }
+    Ok(())
 }
 
 /// Whether a table that has every second row, unified with small ones of three rows each, becomes
 /// that of all rows.
-pub fn takes_small_ones<R: Narrow>(alloc: Global, row: &R) -> Result<bool, Memory> {
-    let mut large = in_order(alloc, row, 2)?;
-    let mut small = Table::new(alloc);
-    for turn in 0..COUNT {
-        small.add(&place(alloc, turn)?, row)?;
-        if turn % 3 == 2 {
-            large.meet_with(small)?;
-            small = Table::new(alloc);
-        }
-    }
-    large.meet_with(small)?;
-    Ok(large.same(&in_order(alloc, row, 1)?))
+fn is_all<R: Narrow>(alloc: Global, large: &mut Table<R>, row: &R) -> Made<bool> {
+    take_small_ones(alloc, large, row)?;
+    is_same(in_order(alloc, row, 1), large)
+}
+
+/// The same of a row that is made.
+pub fn takes_small_ones<R: Narrow>(alloc: Global, row: Made<R>) -> Made<bool> {
+    let row = row?;
+    is_all(alloc, &mut in_order(alloc, &row, 2)?, &row)
 }

@@ -6,7 +6,7 @@
 #[cfg(test)]
 mod both;
 #[cfg(test)]
-mod foreign;
+mod bytes;
 #[cfg(test)]
 mod large;
 #[cfg(test)]
@@ -16,14 +16,10 @@ mod pieces;
 #[cfg(test)]
 mod plain;
 #[cfg(test)]
-mod rests;
-#[cfg(test)]
 mod sample;
 #[cfg(test)]
 mod states;
 #[cfg(test)]
 mod tables;
-#[cfg(test)]
-mod valid;
 #[cfg(test)]
 mod written;

@@ -4,8 +4,8 @@ ghost use Rattle.cue_lattice.specs.Limits.{step_limit};
 ghost use Rattle.cue_table.specs.Depth.{tree_depth};
 
 use crate::both::{has_rows, tree};
-use crate::plain::{Entry, Plain};
-use cue_lattice::{Memory, Narrow, STEP_LIMIT};
+use crate::plain::{Entry, Made, Plain, add};
+use cue_lattice::{Narrow, STEP_LIMIT};
 use cue_row::{Path, Step};
 use cue_table::Table;
 use std::alloc::Global;
@@ -17,30 +17,33 @@ pub struct Given<R: Narrow> {
     pub rows: Vec<Entry<R>>,
 }
 
-/// Whether the tables of these lists, unified as a list, have the rows of all.
-pub fn unifies<R: Narrow>(alloc: Global, lists: &[Vec<Entry<R>>]) -> Result<bool, Memory> {
+/// The trees of lists of rows.
+fn trees<R: Narrow>(alloc: Global, lists: &[Vec<Entry<R>>]) -> Made<Vec<Table<R>>> {
     let mut tables = Vec::new(alloc);
-    let mut wanted = Plain::new(alloc);
     for rows in lists {
-        tables.push(tree(alloc, rows)?)?;
-        wanted = wanted.add_all(alloc, rows)?;
+        add(&mut tables, tree(alloc, rows)?)?;
     }
-    has_rows(alloc, &Table::unified(alloc, tables)?, &wanted)
+    Ok(tables)
 }
 
-/// Whether the table of branches that are given so has the rows of each below its step.
-pub fn hangs<R: Narrow>(alloc: Global, branches: &[Given<R>]) -> Result<bool, Memory> {
-    let mut tables = Vec::new(alloc);
+/// Whether a table has the rows of all lists.
+fn has_lists<R: Narrow>(alloc: Global, table: &Table<R>, lists: &[Vec<Entry<R>>]) -> Made<bool> {
     let mut wanted = Plain::new(alloc);
-    for given in branches {
-        tables.push((given.step.copy(alloc)?, shallow(alloc, &given.rows)?))?;
-        wanted = hung(alloc, wanted, given)?;
+    for rows in lists {
+        wanted.add_all(alloc, rows)?;
     }
-    has_rows(alloc, &Table::of_branches(alloc, tables)?, &wanted)
+    has_rows(alloc, table, &wanted)
+}
+
+/// Whether the tables of these lists, unified as a list, have the rows of all.
+pub fn unifies<R: Narrow>(alloc: Global, lists: Made<Vec<Vec<Entry<R>>>>) -> Made<bool> {
+    let lists = lists?;
+    let all = Table::unified(alloc, trees(alloc, &lists)?)?;
+    has_lists(alloc, &all, &lists)
 }
 
 /// The tree of the rows whose paths leave room for one step more.
-fn shallow<R: Narrow>(alloc: Global, rows: &[Entry<R>]) -> Result<Table<R>, Memory>
+fn shallow<R: Narrow>(alloc: Global, rows: &[Entry<R>]) -> Made<Table<R>>
     ensures { IfOk result (λ table. tree_depth table < step_limit) }
 {
     let mut made = Table::new(alloc);
@@ -52,22 +55,46 @@ fn shallow<R: Narrow>(alloc: Global, rows: &[Entry<R>]) -> Result<Table<R>, Memo
     Ok(made)
 }
 
-/// The plain list with the rows that are given for a step, each one step further from the root.
-fn hung<R: Narrow>(alloc: Global, wanted: Plain<R>, given: &Given<R>) -> Result<Plain<R>, Memory> {
-    let mut all = wanted;
-    for entry in &given.rows {
-        let path = below(alloc, &given.step, &entry.path)?;
-        all = all.add(alloc, &path, &entry.row)?;
+/// The table of branches that are given so.
+fn hung<R: Narrow>(alloc: Global, branches: &[Given<R>]) -> Made<Table<R>> {
+    let mut tables = Vec::new(alloc);
+    for given in branches {
+        tables.push((given.step.copy(alloc)?, shallow(alloc, &given.rows)?))?;
     }
-    Ok(all)
+    Table::of_branches(alloc, tables)
 }
 
 /// The path that a step begins.
-fn below(alloc: Global, step: &Step, path: &Path) -> Result<Path, Memory> {
+fn below(alloc: Global, step: &Step, path: &Path) -> Made<Path> {
     let mut steps = Vec::new(alloc);
-    steps.push(step.copy(alloc)?)?;
+    add(&mut steps, step.copy(alloc)?)?;
     for next in path.steps() {
-        steps.push(next.copy(alloc)?)?;
+        add(&mut steps, next.copy(alloc)?)?;
     }
     Ok(Path::new(steps).unwrap_or(Path::root(alloc)))
+}
+
+/// Adds the rows that are given for a step to a plain list, each one step further from the root.
+fn add_below<R: Narrow>(alloc: Global, wanted: &mut Plain<R>, given: &Given<R>) -> Made<()> {
+    for entry in &given.rows {
+        let path = below(alloc, &given.step, &entry.path)?;
+        wanted.add(alloc, &path, &entry.row)?;
+    }
+    Ok(())
+}
+
+/// Whether a table has the rows of each branch below its step.
+fn has_branches<R: Narrow>(alloc: Global, table: &Table<R>, branches: &[Given<R>]) -> Made<bool> {
+    let mut wanted = Plain::new(alloc);
+    for given in branches {
+        add_below(alloc, &mut wanted, given)?;
+    }
+    has_rows(alloc, table, &wanted)
+}
+
+/// Whether the table of branches that are given so has the rows of each below its step.
+pub fn hangs<R: Narrow>(alloc: Global, branches: Made<Vec<Given<R>>>) -> Made<bool> {
+    let branches = branches?;
+    let table = hung(alloc, &branches)?;
+    has_branches(alloc, &table, &branches)
 }

@@ -1,56 +1,83 @@
 //! States read in pieces, as `decode` reads them in one.
-ghost use Rattle.std.specs.Prelude.{◌<◌};
-
-use crate::states::{
-    HEAD, Made, SECOND, after, conflict, copied, empty, extended, integer, list, nested, other,
-    part, port,
-};
+use crate::bytes::Known::Integer;
+use crate::bytes::Part::{Bytes, Letters, Of};
+use crate::bytes::{END, State, between, bytes_of, made, other};
 use cue_codec::{Row, StateReader, decode};
 use cue_lattice::Kind;
 use cue_table::Table;
 use std::alloc::Global;
 use std::test::Fail;
 
-/// Where the length of the first label stands.
-const LABEL_LEN: usize = 19;
+/// Hands a reader a piece of a state.
+fn feed(reader: &mut StateReader, piece: &[u8]) -> Result<(), Kind> {
+    reader.feed(piece)
+}
 
-/// How long a long label is: 0x9c40 bytes.
-const LONG: usize = 40_000;
+/// Hands a reader bytes in pieces of so many.
+fn feed_pieces(reader: &mut StateReader, bytes: &[u8], size: usize) -> Result<(), Kind> {
+    for piece in bytes.chunks(size.max(1)) {
+        feed(reader, piece)?;
+    }
+    Ok(())
+}
+
+/// Hands a reader bytes that are cut there, with an empty piece between the two parts.
+fn feed_cut(reader: &mut StateReader, bytes: &[u8], cut: usize) -> Result<(), Kind> {
+    feed(reader, between(bytes, 0, cut))?;
+    feed(reader, &[])?;
+    feed(reader, between(bytes, cut, END))
+}
+
+/// What a reader tells in the end, where it took in all pieces.
+fn finished(reader: StateReader, fed: Result<(), Kind>) -> Result<Table<Row>, Kind> {
+    fed?;
+    reader.finish()
+}
 
 /// What is read of bytes that come in pieces of so many.
-fn in_pieces(alloc: Global, bytes: &[u8], len: usize) -> Result<Table<Row>, Kind>
-    requires { 0 < len }
-{
+fn in_pieces(alloc: Global, bytes: &[u8], size: usize) -> Result<Table<Row>, Kind> {
     let mut reader = StateReader::new(alloc);
-    for piece in bytes.chunks(len) {
-        reader.feed(piece)?;
-    }
-    reader.finish()
+    let fed = feed_pieces(&mut reader, bytes, size);
+    finished(reader, fed)
 }
 
 /// What is read of bytes that are cut there.
 fn in_two(alloc: Global, bytes: &[u8], cut: usize) -> Result<Table<Row>, Kind> {
     let mut reader = StateReader::new(alloc);
-    reader.feed(part(bytes, 0, cut))?;
-    reader.feed(&[])?;
-    reader.feed(after(bytes, cut))?;
-    reader.finish()
+    let fed = feed_cut(&mut reader, bytes, cut);
+    finished(reader, fed)
+}
+
+/// Whether the bytes are those of the table that was read.
+fn are_of(alloc: Global, bytes: &[u8], read: Result<Table<Row>, Kind>) -> Result<bool, Kind> {
+    let table = read?;
+    Ok(decode(alloc, bytes)?.same(&table))
+}
+
+/// Whether both are the bytes of one table.
+pub fn are_same(alloc: Global, left: &[u8], right: &[u8]) -> Result<bool, Kind> {
+    are_of(alloc, left, decode(alloc, right))
+}
+
+/// Whether the bytes are no state, for this reason. That there is no memory is told as it is.
+pub fn are_refused(alloc: Global, bytes: &[u8], why: Kind) -> Result<bool, Kind> {
+    match decode(alloc, bytes).err() {
+        Some(Kind::Memory) => Err(Kind::Memory),
+        own => Ok(own == Some(why)),
+    }
 }
 
 /// Whether what was read is what `decode` tells of the bytes.
 fn is_decoded(alloc: Global, bytes: &[u8], read: Result<Table<Row>, Kind>) -> Result<bool, Kind> {
-    match (decode(alloc, bytes), read) {
-        (Err(Kind::Memory), _) => Err(Kind::Memory),
-        (_, Err(Kind::Memory)) => Err(Kind::Memory),
-        (Ok(whole), Ok(read)) => Ok(whole.same(&read)),
-        (Err(whole), Err(read)) => Ok(whole == read),
-        (Ok(_), Err(_)) => Ok(false),
-        (Err(_), Ok(_)) => Ok(false),
+    match read {
+        Err(Kind::Memory) => Err(Kind::Memory),
+        Err(why) => are_refused(alloc, bytes, why),
+        read => are_of(alloc, bytes, read),
     }
 }
 
 /// Whether the bytes are read so wherever they are cut in two, and byte by byte.
-fn reads(alloc: Global, bytes: &[u8]) -> Result<bool, Kind> {
+fn are_read(alloc: Global, bytes: &[u8]) -> Result<bool, Kind> {
     for cut in 0..bytes.len() + 1 {
         if !is_decoded(alloc, bytes, in_two(alloc, bytes, cut))? {
             return Ok(false);
@@ -59,106 +86,88 @@ fn reads(alloc: Global, bytes: &[u8]) -> Result<bool, Kind> {
     is_decoded(alloc, bytes, in_pieces(alloc, bytes, 1))
 }
 
-/// Whether the bytes that are made are read so, wherever they are cut.
-fn reads_made(alloc: Global, state: Made<Vec<u8>>) -> Result<bool, Kind> {
-    match state {
-        Ok(bytes) => reads(alloc, &bytes),
-        Err(_) => Err(Kind::Memory),
-    }
+/// Whether a state is read so.
+pub fn is_read_in_pieces(alloc: Global, state: &State) -> Result<bool, Kind> {
+    are_read(alloc, &made(alloc, state)?)
 }
 
-#[test]
-fn states_are_read_wherever_they_are_cut(rt: HostRuntime) -> Result<(), Fail> {
-    let alloc = rt.alloc();
-    assert!(rt; reads(alloc, empty())?);
-    assert!(rt; reads(alloc, integer())?);
-    assert!(rt; reads(alloc, port())?);
-    assert!(rt; reads(alloc, conflict())?);
-    assert!(rt; reads(alloc, list())?);
-    assert!(rt; reads(alloc, nested())?);
-    Ok(())
-}
-
-#[test]
-fn faults_are_told_wherever_they_are_cut(rt: HostRuntime) -> Result<(), Fail> {
-    let alloc = rt.alloc();
-    assert!(rt; reads(alloc, part(integer(), 0, 60))?);
-    assert!(rt; reads_made(alloc, extended(copied(alloc, integer()), &[0, 1, 2]))?);
-    assert!(rt; reads_made(alloc, other(alloc, 12, 1))?);
-    assert!(rt; reads_made(alloc, other(alloc, 12, 3))?);
-    let head = copied(alloc, part(integer(), 0, HEAD));
-    let second = extended(head, after(integer(), SECOND));
-    assert!(rt; reads_made(alloc, extended(second, part(integer(), HEAD, SECOND)))?);
-    let twice = extended(other(alloc, 12, 3), after(integer(), SECOND));
-    assert!(rt; reads_made(alloc, twice)?);
-    Ok(())
-}
+/// What each byte of the state of `a: 1` is altered by.
+const CHANGES: &[u8] = &[1, 2, 0xff];
 
 /// Whether the state of `a: 1` with another byte at a place is read as `decode` reads it.
-fn reads_altered(alloc: Global, at: usize, byte: u8) -> Result<bool, Kind> {
-    match other(alloc, at, byte) {
-        Ok(bytes) => is_decoded(alloc, &bytes, in_pieces(alloc, &bytes, 3)),
-        Err(_) => Err(Kind::Memory),
-    }
+fn other_is_read(alloc: Global, at: usize, byte: u8) -> Result<bool, Kind> {
+    let bytes = other(alloc, at, byte)?;
+    is_decoded(alloc, &bytes, in_pieces(alloc, &bytes, 3))
 }
 
 #[test]
 fn each_altered_byte_is_told(rt: HostRuntime) -> Result<(), Fail> {
-    let alloc = rt.alloc();
-    for (at, byte) in integer().iter().enumerate() {
-        assert!(rt; reads_altered(alloc, at, byte ^ 1)?, "byte {at}");
-        assert!(rt; reads_altered(alloc, at, byte ^ 2)?, "byte {at}");
-        assert!(rt; reads_altered(alloc, at, byte ^ 0xff)?, "byte {at}");
+    for (at, byte) in bytes_of(&Integer).iter().enumerate() {
+        for change in CHANGES {
+            assert!(rt; other_is_read(rt.alloc(), at, byte ^ *change)?, "byte {at}");
+        }
     }
     Ok(())
 }
 
-/// The state of an integer below a long label.
-fn long_label(alloc: Global) -> Made<Vec<u8>> {
-    let mut state = extended(copied(alloc, part(integer(), 0, LABEL_LEN)), &[0x9c, 0x40])?;
-    for _ in 0..LONG {
-        state.push(0x61)?;
-    }
-    extended(Ok(state), after(integer(), LABEL_LEN + 3))
-}
+/// The state of an integer below a label of 40,000 letters, which are 0x9c40 bytes.
+const LONG: State = State(
+    &[
+        Of(Integer, 0, 19),
+        Bytes(&[0x9c, 0x40]),
+        Letters(40_000),
+        Of(Integer, 22, END),
+    ],
+    &[],
+);
+
+/// How large the pieces of a long row are.
+const SIZES: &[usize] = &[1, 1000, 100_000];
 
 /// Whether a state with a long row is read in pieces of so many bytes.
-fn reads_long(alloc: Global, len: usize) -> Result<bool, Kind>
-    requires { 0 < len }
-{
-    match long_label(alloc) {
-        Ok(bytes) => match in_pieces(alloc, &bytes, len) {
-            Ok(table) => Ok(decode(alloc, &bytes)?.same(&table)),
-            Err(kind) => Err(kind),
-        },
-        Err(_) => Err(Kind::Memory),
-    }
+fn long_is_read(alloc: Global, size: usize) -> Result<bool, Kind> {
+    let bytes = made(alloc, &LONG)?;
+    are_of(alloc, &bytes, in_pieces(alloc, &bytes, size))
 }
 
 #[test]
 fn a_long_row_is_read(rt: HostRuntime) -> Result<(), Fail> {
-    let alloc = rt.alloc();
-    assert!(rt; reads_long(alloc, 1)?);
-    assert!(rt; reads_long(alloc, 1000)?);
-    assert!(rt; reads_long(alloc, 100_000)?);
+    for size in SIZES {
+        assert!(rt; long_is_read(rt.alloc(), *size)?, "{size}");
+    }
     Ok(())
 }
 
-/// What is told of bytes, behind which a whole state was handed.
-fn told_behind(alloc: Global, bytes: &[u8]) -> Result<Option<Kind>, Kind> {
+/// Bytes behind which a whole state is handed to a reader, and what it tells then.
+const BEHIND: &[(&[u8], Kind)] = &[
+    (
+        &[0xfe, 0x43, 0x55, 0x45, 9, 0, 0, 0, 0, 0, 0, 0, 0],
+        Kind::Version,
+    ),
+    (
+        &[0xff, 0x43, 0x55, 0x45, 2, 0, 0, 0, 0, 0, 0, 0, 0],
+        Kind::NotState,
+    ),
+];
+
+/// Hands a reader bytes and a whole state behind them.
+fn feed_behind(reader: &mut StateReader, bytes: &[u8]) -> Result<(), Kind> {
+    feed(reader, bytes)?;
+    feed(reader, bytes_of(&Integer))
+}
+
+/// Whether a reader tells this of bytes, behind which a whole state was handed to it.
+fn tells_behind(alloc: Global, bytes: &[u8], why: Kind) -> Result<bool, Kind> {
     let mut reader = StateReader::new(alloc);
-    reader.feed(bytes)?;
-    reader.feed(integer())?;
-    Ok(reader.finish().err())
+    feed_behind(&mut reader, bytes)?;
+    Ok(reader.finish().err() == Some(why))
 }
 
 #[test]
 fn behind_a_fault_pieces_are_dropped(rt: HostRuntime) -> Result<(), Fail> {
-    let alloc = rt.alloc();
-    let version = &[0xfe, 0x43, 0x55, 0x45, 9, 0, 0, 0, 0, 0, 0, 0, 0];
-    assert!(rt; matches!(told_behind(alloc, version)?, Some(Kind::Version)));
-    let mark = &[0xff, 0x43, 0x55, 0x45, 2, 0, 0, 0, 0, 0, 0, 0, 0];
-    assert!(rt; matches!(told_behind(alloc, mark)?, Some(Kind::NotState)));
-    assert!(rt; matches!(told_behind(alloc, integer())?, Some(Kind::NotState)));
+    for (bytes, why) in BEHIND {
+        assert!(rt; tells_behind(rt.alloc(), bytes, *why)?);
+    }
+    assert!(rt; tells_behind(rt.alloc(), bytes_of(&Integer), Kind::NotState)?);
     Ok(())
 }

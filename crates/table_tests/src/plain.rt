@@ -5,6 +5,24 @@ use cue_row::Path;
 use std::alloc::Global;
 use std::cmp::Ordering;
 
+/// What a call has made where memory was there. It goes on to the next call as it is, so that a
+/// test holds no value that is dropped on its ways out.
+pub type Made<T> = Result<T, Memory>;
+
+/// Puts an item at the end of a list.
+pub fn add<T: Drop>(list: &mut Vec<T>, item: T) -> Made<()> {
+    list.push(item)?;
+    Ok(())
+}
+
+/// Puts an item in at a place of a list.
+fn put<T: Drop>(list: &mut Vec<T>, at: usize, item: T) -> Made<()> {
+    if at <= list.len() {
+        list.insert(at, item)?;
+    }
+    Ok(())
+}
+
 /// A row and where it stands.
 #[derive(Drop)]
 pub struct Entry<R: Narrow> {
@@ -12,13 +30,12 @@ pub struct Entry<R: Narrow> {
     pub row: R,
 }
 
-impl<R: Narrow> Entry<R> {
-    fn new(alloc: Global, path: &Path, row: &R) -> Result<Entry<R>, Memory> {
-        Ok(Entry {
-            path: path.copy(alloc)?,
-            row: row.copy(alloc)?,
-        })
-    }
+/// The entry of a path and a row.
+fn copied<R: Narrow>(alloc: Global, path: &Path, row: &R) -> Made<Entry<R>> {
+    Ok(Entry {
+        path: path.copy(alloc)?,
+        row: row.copy(alloc)?,
+    })
 }
 
 /// The rows of a table, in path order.
@@ -44,36 +61,37 @@ impl<R: Narrow> Plain<R> {
         None
     }
 
-    /// Meets the row at the path with another one.
-    pub fn add(&self, alloc: Global, path: &Path, row: &R) -> Result<Plain<R>, Memory> {
-        let mut entries = Vec::new(alloc);
-        let mut left = !row.is_free();
-        for entry in &self.entries {
-            let order = entry.path.compare(path);
-            if left && order == Ordering::Greater {
-                entries.push(Entry::new(alloc, path, row)?)?;
-                left = false;
+    /// How many rows stand before a path.
+    fn place(&self, path: &Path) -> usize {
+        for (at, entry) in self.entries.iter().enumerate() {
+            if entry.path.compare(path) != Ordering::Less {
+                return at;
             }
-            let mut here = Entry::new(alloc, &entry.path, &entry.row)?;
-            if order == Ordering::Equal {
-                here.row = entry.row.meet(alloc, row)?;
-                left = false;
-            }
-            entries.push(here)?;
         }
-        if left {
-            entries.push(Entry::new(alloc, path, row)?)?;
-        }
-        Ok(Plain { entries })
+        self.entries.len()
     }
 
-    /// All rows of a list, added one after the other.
-    pub fn add_all(self, alloc: Global, rows: &[Entry<R>]) -> Result<Plain<R>, Memory> {
-        let mut all = self;
-        for entry in rows {
-            all = all.add(alloc, &entry.path, &entry.row)?;
+    /// Meets the row at the path with another one.
+    pub fn add(&mut self, alloc: Global, path: &Path, row: &R) -> Made<()> {
+        if row.is_free() {
+            return Ok(());
         }
-        Ok(all)
+        let at = self.place(path);
+        if let Some(entry) = self.entries.get_mut(at) {
+            if entry.path.compare(path) == Ordering::Equal {
+                entry.row = entry.row.meet(alloc, row)?;
+                return Ok(());
+            }
+        }
+        put(&mut self.entries, at, copied(alloc, path, row)?)
+    }
+
+    /// Adds all rows of a list, one after the other.
+    pub fn add_all(&mut self, alloc: Global, rows: &[Entry<R>]) -> Made<()> {
+        for entry in rows {
+            self.add(alloc, &entry.path, &entry.row)?;
+        }
+        Ok(())
     }
 
     pub fn same(&self, other: &Plain<R>) -> bool {

@@ -1,34 +1,40 @@
 //! Lists of rows for the tests of tables.
+use crate::both::Two;
 use crate::many::Given;
-use crate::plain::Entry;
-use cue_lattice::{Memory, Narrow, Text};
+use crate::plain::{Entry, Made, add};
+use cue_lattice::{Narrow, Text};
 use cue_row::{Labels, Level, Path, Row, Step};
 use cue_scalars::ScalarSet;
 use cue_sets::{IntSet, TextSet};
 use std::alloc::Global;
 
-/// The step that a letter or a digit names.
-fn step(alloc: Global, name: char) -> Result<Step, Memory> {
-    if let Some(number) = name.to_digit(10) {
-        return Ok(Step::Index(number));
-    }
+/// The label of a letter.
+fn label(alloc: Global, letter: char) -> Made<Text> {
     let mut label = String::new(alloc);
-    label.push(name)?;
-    Ok(Step::Label(Text::new(alloc, label)?))
+    label.push(letter)?;
+    Text::new(alloc, label)
+}
+
+/// The step that a letter or a digit names.
+fn step(alloc: Global, name: char) -> Made<Step> {
+    match name.to_digit(10) {
+        Some(number) => Ok(Step::Index(number)),
+        None => Ok(Step::Label(label(alloc, name)?)),
+    }
 }
 
 /// A path of one-letter labels and one-digit indexes: `a1b` is the label `a`, the index 1 and the
 /// label `b`.
-pub fn path(alloc: Global, word: &str) -> Result<Path, Memory> {
+pub fn path(alloc: Global, word: &str) -> Made<Path> {
     let mut steps = Vec::new(alloc);
     for name in word.chars() {
-        steps.push(step(alloc, name)?)?;
+        add(&mut steps, step(alloc, name)?)?;
     }
     Ok(Path::new(steps).unwrap_or(Path::root(alloc)))
 }
 
 /// The set of some integers, from the first to the last.
-fn between(alloc: Global, first: i64, last: i64) -> Result<ScalarSet, Memory> {
+fn between(alloc: Global, first: i64, last: i64) -> Made<ScalarSet> {
     let low = IntSet::at_least(alloc, first)?;
     let high = IntSet::at_most(alloc, last)?;
     Ok(ScalarSet {
@@ -42,24 +48,22 @@ fn between(alloc: Global, first: i64, last: i64) -> Result<ScalarSet, Memory> {
 
 /// The row of a field that is one of these integers, from the first to the last, of which some are
 /// usual.
-fn integers(alloc: Global, value: (i64, i64), usual: (i64, i64)) -> Result<Row, Memory> {
+fn integers(alloc: Global, value: (i64, i64), usual: (i64, i64)) -> Made<Row> {
     let value = between(alloc, value.0, value.1)?;
     let usual = between(alloc, usual.0, usual.1)?;
     Row::of_scalars(alloc, Level::Given, value, usual)
 }
 
 /// A struct in which all labels may stand.
-fn open_struct(alloc: Global, level: Level) -> Result<Row, Memory> {
+fn open_struct(alloc: Global, level: Level) -> Made<Row> {
     Row::of_struct(alloc, level, Labels::all(alloc)?)
 }
 
 /// A struct in which only these one-letter labels may stand.
-fn closed(alloc: Global, letters: &str) -> Result<Row, Memory> {
+fn closed(alloc: Global, letters: &str) -> Made<Row> {
     let mut labels = Vec::new(alloc);
     for letter in letters.chars() {
-        let mut label = String::new(alloc);
-        label.push(letter)?;
-        labels.push(Text::new(alloc, label)?)?;
+        add(&mut labels, label(alloc, letter)?)?;
     }
     match Labels::listing(labels) {
         Some(labels) => Row::of_struct(alloc, Level::Given, labels),
@@ -68,12 +72,12 @@ fn closed(alloc: Global, letters: &str) -> Result<Row, Memory> {
 }
 
 /// A list of this least and greatest length.
-fn list(alloc: Global, least: u32, most: Option<u32>) -> Result<Row, Memory> {
+fn list(alloc: Global, least: u32, most: Option<u32>) -> Made<Row> {
     Row::of_list(alloc, Level::Given, least, most)
 }
 
 /// A row by its name.
-fn row(alloc: Global, name: &str) -> Result<Row, Memory> {
+pub fn row(alloc: Global, name: &str) -> Made<Row> {
     match name {
         "one" => integers(alloc, (1, 1), (1, 1)),
         "two" => integers(alloc, (2, 2), (2, 2)),
@@ -94,28 +98,64 @@ fn row(alloc: Global, name: &str) -> Result<Row, Memory> {
     }
 }
 
+/// Structs with fields that are optional or not.
+pub const STRUCTS: &str = "=optional b=small a=small c=struct";
+
+/// A field with a default.
+const USUAL: &str = "=optional a=usual b=required ba=one";
+
+/// A closed struct.
+const CLOSED: &str = "=optional b=closed ba=one bb=struct bba=two";
+
+/// Another closed struct at the same place.
+const NARROW: &str = "=optional b=narrow bc=one bb=struct bbb=usual bba=one";
+
+/// A list of any length.
+pub const LIST: &str = "=optional c=list c1=one c0=small c1=small";
+
+/// A list of two elements at the same place.
+const PAIR: &str = "=optional c=pair c0=struct c0d=one";
+
+/// Rows under places without a row.
+pub const DEEP: &str = "e=free fgh=one fg1=two f=optional fga=two";
+
+/// Other rows at these places.
+const DEEPER: &str = "fgh=two fg1=small fga=usual fgb=one fg=closed eab=list";
+
 /// The rows of some tables, each as its path and its name.
-pub const TABLES: [&str; 13] = [
+const TABLES: &[&str] = &[
     "b=free",
     "=optional",
     "=optional a=one",
     "a=two =optional",
-    "=optional b=small a=small c=struct",
-    "=optional a=usual b=required ba=one",
-    "=optional b=closed ba=one bb=struct bba=two",
-    "=optional b=narrow bc=one bb=struct bbb=usual bba=one",
-    "=optional c=list c1=one c0=small c1=small",
-    "=optional c=pair c0=struct c0d=one",
+    STRUCTS,
+    USUAL,
+    CLOSED,
+    NARROW,
+    LIST,
+    PAIR,
     "=optional c=single d=nothing da=one b=free",
-    "e=free fgh=one fg1=two f=optional fga=two",
-    "fgh=two fg1=small fga=usual fgb=one fg=closed eab=list",
+    DEEP,
+    DEEPER,
 ];
 
+/// The rows of these tables.
+pub fn texts() -> &'static [&'static str] {
+    TABLES
+}
+
 /// Pairs of these tables that clash or share places two and three steps down.
-pub const CLASHES: [(usize, usize); 6] = [(6, 7), (7, 6), (5, 7), (8, 9), (11, 12), (12, 11)];
+pub const CLASHES: &[(&str, &str)] = &[
+    (CLOSED, NARROW),
+    (NARROW, CLOSED),
+    (USUAL, NARROW),
+    (LIST, PAIR),
+    (DEEP, DEEPER),
+    (DEEPER, DEEP),
+];
 
 /// Tables that are given for steps, each as its step and the names of its rows.
-pub const BRANCHES: [&str; 7] = [
+pub const BRANCHES: &[&str] = &[
     "a:b=free",
     "b:=struct",
     "c:=one b:=two a:=small",
@@ -125,28 +165,60 @@ pub const BRANCHES: [&str; 7] = [
     "z:fg=one z:fgh=two y:b=free x:=nothing z:fg=two x:=narrow w:=list z:f=required",
 ];
 
+/// The table that a word of one of [`BRANCHES`] names.
+fn one_given(alloc: Global, word: &str) -> Made<Given<Row>> {
+    let (name, entries) = word.split_once(':').unwrap_or(("a", word));
+    Ok(Given {
+        step: step(alloc, name.chars().next().unwrap_or('a'))?,
+        rows: rows_by(alloc, entries, '+')?,
+    })
+}
+
 /// The tables that a text names, as those of [`BRANCHES`].
-pub fn given(alloc: Global, text: &str) -> Result<Vec<Given<Row>>, Memory> {
+pub fn given(alloc: Global, text: &str) -> Made<Vec<Given<Row>>> {
     let mut branches = Vec::new(alloc);
     for word in text.split(' ') {
-        let (name, entries) = word.split_once(':').unwrap_or(("a", word));
-        branches.push(Given {
-            step: step(alloc, name.chars().next().unwrap_or('a'))?,
-            rows: rows(alloc, entries)?,
-        })?;
+        add(&mut branches, one_given(alloc, word)?)?;
     }
     Ok(branches)
 }
 
-/// The rows that a text names, as those of [`TABLES`].
-pub fn rows(alloc: Global, text: &str) -> Result<Vec<Entry<Row>>, Memory> {
+/// The row that a word of one of [`TABLES`] names.
+fn entry(alloc: Global, word: &str) -> Made<Entry<Row>> {
+    let (place, name) = word.split_once('=').unwrap_or((word, "free"));
+    Ok(Entry {
+        path: path(alloc, place)?,
+        row: row(alloc, name)?,
+    })
+}
+
+/// The rows that a text names, with this character between them.
+fn rows_by(alloc: Global, text: &str, by: char) -> Made<Vec<Entry<Row>>> {
     let mut rows = Vec::new(alloc);
-    for word in text.split([' ', '+']) {
-        let (place, name) = word.split_once('=').unwrap_or((word, "free"));
-        rows.push(Entry {
-            path: path(alloc, place)?,
-            row: row(alloc, name)?,
-        })?;
+    for word in text.split(by) {
+        add(&mut rows, entry(alloc, word)?)?;
     }
     Ok(rows)
+}
+
+/// The rows that a text names, as those of [`TABLES`].
+pub fn rows(alloc: Global, text: &str) -> Made<Vec<Entry<Row>>> {
+    rows_by(alloc, text, ' ')
+}
+
+/// The rows of two tables.
+pub fn two(alloc: Global, left: &str, right: &str) -> Made<Two<Row>> {
+    Ok(Two {
+        left: rows(alloc, left)?,
+        right: rows(alloc, right)?,
+    })
+}
+
+/// The rows of the first so many tables.
+pub fn first_tables(alloc: Global, count: usize) -> Made<Vec<Vec<Entry<Row>>>> {
+    let mut lists = Vec::new(alloc);
+    for text in texts().iter().take(count) {
+        add(&mut lists, rows(alloc, text)?)?;
+    }
+    Ok(lists)
 }

@@ -1,7 +1,8 @@
 //! State bytes written in pieces.
-use crate::foreign::nested;
-use crate::rests::integers;
-use crate::states::{Made, copied, empty, integer};
+use crate::bytes::Known::{Bush, Empty, Integer, Integers};
+use crate::bytes::Part::{All, Of, Structs};
+use crate::bytes::{COUNT, SECOND, State, made, told};
+use crate::plain::Made;
 use cue_codec::{Kind, StateWriter, Table, decode, encode};
 use cue_row::Row;
 use std::alloc::Global;
@@ -10,108 +11,124 @@ use std::test::Fail;
 /// How large the rooms are.
 const ROOMS: &[usize] = &[1, 2, 3, 7, 64, 65_536];
 
-/// The state of structs at the root, `a`, `a.b`, `a.c` and `d`.
-fn bush() -> &'static [u8] {
-    &[
-        0xfe, 0x43, 0x55, 0x45, 2, 0, 0, 0, 0, 0, 0, 0, 5, 0, 0, 2, 0, 1, 0, 0, 1, 0x61, 2, 2, 0,
-        2, 0, 0, 1, 0x61, 0, 0, 1, 0x62, 2, 2, 0, 2, 0, 0, 1, 0x61, 0, 0, 1, 0x63, 2, 2, 0, 1, 0,
-        0, 1, 0x64, 2, 2, 0,
-    ]
-}
+/// States that are written in pieces.
+const STATES: &[State] = &[
+    State(&[All(Empty)], &[]),
+    State(&[All(Integer)], &[]),
+    State(&[All(Integers)], &[]),
+    State(&[All(Bush)], &[]),
+    State(&[Of(Integer, 0, SECOND), Structs(64)], &[(COUNT, 65)]),
+];
 
 /// A room of so many bytes.
 fn room(alloc: Global, size: usize) -> Made<Vec<u8>> {
     Ok(vec![in alloc; 0u8; size]?)
 }
 
+/// Fills a room with the bytes that come next.
+fn fill(writer: &mut StateWriter<'_>, room: &mut [u8]) -> Made<usize> {
+    writer.fill(room)
+}
+
 /// Hands out the next piece, once more where memory was refused: that leaves the writer as it was.
 fn next_piece(writer: &mut StateWriter<'_>, room: &mut [u8]) -> Made<usize> {
-    match writer.fill(room) {
+    match fill(writer, room) {
         Ok(count) => Ok(count),
-        Err(_) => writer.fill(room),
+        Err(_) => fill(writer, room),
     }
 }
 
-/// Whether a table is handed out in rooms of one size as it is written in one piece, and no byte
-/// behind that.
-fn fills(alloc: Global, table: &Table<Row>, size: usize) -> Made<bool> {
+/// Puts the first bytes of a room behind others.
+fn put(out: &mut Vec<u8>, room: &[u8], count: usize) -> Made<()> {
+    if let Some(piece) = room.get(..count) {
+        out.extend_from_slice(piece)?;
+    }
+    Ok(())
+}
+
+/// Puts so many pieces one behind the other.
+fn pour(
+    writer: &mut StateWriter<'_>,
+    room: &mut [u8],
+    pieces: usize,
+    out: &mut Vec<u8>,
+) -> Made<()> {
+    for _ in 0..pieces {
+        let count = next_piece(writer, room)?;
+        put(out, room, count)?;
+    }
+    Ok(())
+}
+
+/// Whether no byte is left, when asked twice.
+fn is_done(writer: &mut StateWriter<'_>, room: &mut [u8]) -> Made<bool> {
+    let first = fill(writer, room)?;
+    let second = fill(writer, room)?;
+    Ok(first == 0 && second == 0)
+}
+
+/// Whether an empty room takes nothing, and a writer then hands out these bytes, and no byte behind
+/// them.
+fn hands_out(
+    alloc: Global,
+    writer: &mut StateWriter<'_>,
+    room: &mut [u8],
+    whole: &[u8],
+) -> Made<bool> {
+    let mut pieces = Vec::new(alloc);
+    let none = fill(writer, &mut [])?;
+    pour(writer, room, whole.len(), &mut pieces)?;
+    Ok(none == 0 && is_done(writer, room)? && pieces.as_slice() == whole)
+}
+
+/// The state of a table in one piece. The table is valid, or else there is none.
+fn whole(alloc: Global, table: &Table<Row>) -> Made<Vec<u8>> {
+    if !table.is_valid() {
+        return Ok(Vec::new(alloc));
+    }
+    encode(alloc, table)
+}
+
+/// Whether a valid table is handed out in a room as these bytes.
+fn fills_room(alloc: Global, table: &Table<Row>, room: &mut [u8], whole: &[u8]) -> Made<bool> {
     if !table.is_valid() {
         return Ok(false);
     }
-    let whole = encode(alloc, table)?;
-    let mut room = room(alloc, size)?;
-    let mut pieces = Vec::new(alloc);
     let mut writer = StateWriter::new(alloc, table)?;
-    for _ in 0..whole.len() {
-        let count = next_piece(&mut writer, &mut room)?;
-        if let Some(piece) = room.get(..count) {
-            pieces.extend_from_slice(piece)?;
-        }
-    }
-    let first = writer.fill(&mut room)?;
-    let second = writer.fill(&mut room)?;
-    Ok(pieces.as_slice() == whole.as_slice() && first == 0 && second == 0)
+    hands_out(alloc, &mut writer, room, whole)
 }
 
-/// Whether it is so for rooms of each size, and the bytes are those that the table was read from.
-fn fills_all(alloc: Global, bytes: &[u8]) -> Result<bool, Kind> {
-    let table = decode(alloc, bytes)?;
+/// Whether a table is handed out in rooms of one size as it is written in one piece.
+fn fills(alloc: Global, table: &Table<Row>, size: usize, whole: &[u8]) -> Made<bool> {
+    let mut room = room(alloc, size)?;
+    fills_room(alloc, table, &mut room, whole)
+}
+
+/// Whether it is so for rooms of each size, and for one that has just the room for all.
+fn fills_each(alloc: Global, table: &Table<Row>) -> Made<bool> {
+    let whole = whole(alloc, table)?;
     for size in ROOMS {
-        match fills(alloc, &table, *size) {
-            Ok(true) => {}
-            Ok(false) => return Ok(false),
-            Err(_) => return Err(Kind::Memory),
+        if !fills(alloc, table, *size, &whole)? {
+            return Ok(false);
         }
     }
-    Ok(true)
+    fills(alloc, table, whole.len(), &whole)
 }
 
-/// The same of a state that is made.
-fn fills_made(alloc: Global, state: Made<Vec<u8>>) -> Result<bool, Kind> {
-    match state {
-        Ok(bytes) => fills_all(alloc, &bytes),
-        Err(_) => Err(Kind::Memory),
-    }
+/// The table of a state.
+fn table(alloc: Global, state: &State) -> Result<Table<Row>, Kind> {
+    decode(alloc, &made(alloc, state)?)
+}
+
+/// Whether the table of a state is handed out so.
+fn is_handed_out(alloc: Global, state: &State) -> Result<bool, Kind> {
+    told(fills_each(alloc, &table(alloc, state)?))
 }
 
 #[test]
 fn pieces_of_each_size_are_the_whole(rt: HostRuntime) -> Result<(), Fail> {
-    let alloc = rt.alloc();
-    assert!(rt; fills_all(alloc, empty())?);
-    assert!(rt; fills_all(alloc, integer())?);
-    assert!(rt; fills_all(alloc, integers())?);
-    assert!(rt; fills_all(alloc, bush())?);
-    assert!(rt; fills_made(alloc, nested(alloc, 64))?);
-    Ok(())
-}
-
-/// Whether an empty room takes nothing, and what comes then is the whole.
-fn keeps_all(alloc: Global, table: &Table<Row>) -> Made<bool> {
-    if !table.is_valid() {
-        return Ok(false);
+    for state in STATES {
+        assert!(rt; is_handed_out(rt.alloc(), state)?);
     }
-    let whole = encode(alloc, table)?;
-    let mut writer = StateWriter::new(alloc, table)?;
-    let none = writer.fill(&mut [])?;
-    let mut room = copied(alloc, whole.as_slice())?;
-    room.fill(0);
-    let all = writer.fill(&mut room)?;
-    Ok(none == 0 && all == whole.len() && room.as_slice() == whole.as_slice())
-}
-
-/// The same of the table of these bytes.
-fn keeps_all_of(alloc: Global, bytes: &[u8]) -> Result<bool, Kind> {
-    let table = decode(alloc, bytes)?;
-    match keeps_all(alloc, &table) {
-        Ok(kept) => Ok(kept),
-        Err(_) => Err(Kind::Memory),
-    }
-}
-
-#[test]
-fn an_empty_room_takes_nothing(rt: HostRuntime) -> Result<(), Fail> {
-    let alloc = rt.alloc();
-    assert!(rt; keeps_all_of(alloc, empty())?);
-    assert!(rt; keeps_all_of(alloc, bush())?);
     Ok(())
 }

@@ -2,7 +2,7 @@ use Rattle.std.proofs.Common.{◌<◌}
 use Rattle.std.proofs.lemmas.List.Elements.{All-push}
 use Rattle.cue_lattice.specs.Limits.{step_limit}
 use Rattle.cue_table.specs.Depth.{tree_depth}
-use Rattle.table_tests.proofs.many.hangs.Goals as goal
+use Rattle.table_tests.proofs.many.hung.Goals as goal
 
 pub loop-given-preserved : goal.loop-given-preserved
 loop-given-preserved g c =
