@@ -40,8 +40,8 @@ def rests_that_tell_nothing(k):
     """Nested rests of which a report tells nothing, unified with a definition of some elements."""
     inner = "1"
     for _ in range(min(k, 50)):
-        inner = f"[...{inner} & #A]"
-    return f"#A: [{', '.join('_' * 9)}]\nl: {inner} & #A\n"
+        inner = f"[...{inner}] & #A"
+    return f"#A: [{', '.join('_' * 9)}]\nl: {inner}\n"
 
 
 def disjunctions(k):
