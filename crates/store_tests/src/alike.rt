@@ -1,7 +1,7 @@
 //! Lists of many elements that are alike: they are kept once, so what is done to them costs what is
 //! written, and not what it says.
 use crate::sites::Input::{State, Text};
-use crate::sites::{Input, site, state_size};
+use crate::sites::{Input, report, site, state_size};
 use cue_replica::Refusal;
 use std::alloc::Global;
 use std::test::Fail;
@@ -55,6 +55,11 @@ const LAST_BEGINS: &[u8] = &[
     0, 0, 0, 0, 0, 0, 0, 0, 0,
 ];
 
+/// Fourteen lists, one in the other, each of nine elements at least that are alike.
+const NESTED: &str = "#A: [_, _, _, _, _, _, _, _, _]\n\
+    l: [...[...[...[...[...[...[...[...[...[...[...[...[...[...1]\
+     & #A] & #A] & #A] & #A] & #A] & #A] & #A] & #A] & #A] & #A] & #A] & #A] & #A] & #A\n";
+
 /// How many bytes the state of a site has that has accepted these inputs.
 fn size_of(alloc: Global, inputs: &[Input]) -> Result<u64, Refusal> {
     let site = site(alloc, inputs)?;
@@ -73,5 +78,18 @@ fn elements_that_are_alike(rt: HostRuntime) -> Result<(), Fail> {
         Text("l: [...[...int]]\n"),
     ];
     assert_eq!(rt; size_of(rt.alloc(), &each)?, 365_084_213_375);
+    Ok(())
+}
+
+/// How many bytes the report of a site has that has accepted these inputs.
+fn report_size(alloc: Global, inputs: &[Input]) -> Result<usize, Refusal> {
+    let site = site(alloc, inputs)?;
+    Ok(report(alloc, &site)?.len())
+}
+
+/// 22,876,792,454,961 elements, of none of which anything is told.
+#[test]
+fn alike_elements_of_which_nothing_is_told(rt: HostRuntime) -> Result<(), Fail> {
+    assert_eq!(rt; report_size(rt.alloc(), &[Text(NESTED)])?, 0);
     Ok(())
 }

@@ -39,6 +39,12 @@ pub fn state_size(site: &Replica) -> u64 {
     site.state_size()
 }
 
+/// The lines of a site's report.
+pub fn report(alloc: Global, site: &Replica) -> Result<String, Memory> {
+    let conflicts = site.conflict_lines(alloc, String::new(alloc))?;
+    site.gap_lines(alloc, conflicts)
+}
+
 /// The state bytes of a site.
 fn state(alloc: Global, site: &Replica) -> Result<Vec<u8>, Memory> {
     site.state(alloc)
