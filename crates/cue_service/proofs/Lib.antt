@@ -7,6 +7,7 @@ pub mod Gathered
 pub mod Keeping
 pub mod Listing
 pub mod Opening
+pub mod Pulls
 pub mod Rounds
 pub mod Routes
 pub mod Worlds

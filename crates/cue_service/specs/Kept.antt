@@ -1,6 +1,5 @@
 -- What was told of a table, and is kept as long as it stands.
-use Rattle.std.specs.Prelude.{◌≡◌, ℕ, List, Option, IfSome}
-use Rattle.http_header.specs.FieldValue.{FieldValue}
+use Rattle.std.specs.Prelude.{◌≡◌, IfSome}
 use Rattle.cue_replica.specs.Language.{Table}
 use Rattle.cue_answer.specs.Answers.{Tells}
 use Rattle.cue_answer.specs.declared.question.Question.{Question}

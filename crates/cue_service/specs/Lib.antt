@@ -4,6 +4,7 @@ pub mod Inner
 pub mod Kept
 pub mod Listing
 pub mod Promise
+pub mod Pulls
 pub mod Requests
 pub mod Sites
 pub mod Tags

@@ -1,8 +1,9 @@
-ghost use Rattle.std.specs.Prelude.{◌≡◌, ℕ, List, IfOk, OnOk, OnErr};
+ghost use Rattle.std.specs.Prelude.{◌≡◌, ℕ, List, IfOk, IfErr, OnOk, OnErr};
 ghost use Rattle.cue_lattice.specs.World.{piece_refuses};
 ghost use Rattle.cue_replica.specs.Accepted.{IsAcceptable};
 ghost use Rattle.cue_replica.specs.Language.{language};
 ghost use Rattle.cue_replica.specs.Replica.{Adds};
+ghost use Rattle.cue_service.specs.Pulls.{IsRefusalOf};
 ghost use Rattle.cue_service.specs.Requests.{handed};
 ghost use Rattle.cue_service.specs.Tags.{tag_of};
 
@@ -124,6 +125,7 @@ impl Board {
         ensures adds { OnOk result (Adds self.old (piece_refuses language (handed hand bytes.now))
             self.new) }
         ensures valid { OnOk result (language.IsValid self.new) }
+        ensures refused { IfErr result (IsRefusalOf (handed hand bytes.now)) }
         ensures err { OnErr result (self.new ≡ self.old) }
     {
         hand_over(&mut self.table, hand, bytes)?;

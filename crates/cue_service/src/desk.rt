@@ -1,10 +1,12 @@
-ghost use Rattle.std.specs.Prelude.{◌≡◌, ◌≢◌, ◌⊎◌, ◌<◌, ◌^◌, ◌++◌, [], ◌∷◌, ℕ, List, length, codes, true, false, IsTrue, IfOk, IfErr, IfSome, OnOk, OnErr};
+ghost use Rattle.std.specs.Prelude.{◌≡◌, ◌≢◌, ◌⊎◌, ◌<◌, ◌^◌, ◌++◌, [], ◌∷◌, ℕ, List, length, codes, true, false, IsTrue, IfOk, IfErr, IfSome, IfNone, OnOk, OnErr};
 ghost use Rattle.cue_journal.specs.Blocks.{recovered};
 ghost use Rattle.cue_journal.specs.Settled.{IsBatch};
 ghost use Rattle.cue_journal.specs.Batches.{batch_bytes};
 ghost use Rattle.cue_service.specs.Entries.{entry_of};
 ghost use Rattle.cue_service.specs.Listing.{with_entry};
 ghost use Rattle.http_server.specs.Response.{IsBlank};
+ghost use Rattle.cue_lattice.specs.World.{state};
+ghost use Rattle.cue_service.specs.Pulls.{Covers, IsLeftOut, IsRefusalOf};
 ghost use Rattle.cue_service.specs.Requests.{IsRoute, HasField, handed};
 ghost use Rattle.cue_service.specs.Tags.{tag_of};
 ghost use Rattle.cue_service.specs.Answering.{Answers, AnswersAs, IsAsked, IsHanded, IsTaken, IsSame, Gathers, Brings, status_of};
@@ -67,6 +69,7 @@ fn queue(batch: &mut Batch, pieces: &mut Pieces, hand: Hand, bytes: &[u8]) -> Re
         × (batch_bytes batch.new ≡ batch_bytes batch.old ++ more)) }
     ensures listed { OnOk result (pieces.new ≡ with_entry pieces.old
         (entry_of (handed hand bytes.now))) }
+    ensures left_out { IfErr result (IsLeftOut (handed hand bytes.now)) }
     ensures err { OnErr result (batch_bytes batch.new ≡ batch_bytes batch.old) }
     ensures unlisted { OnErr result (pieces.new ≡ pieces.old) }
 {
@@ -210,6 +213,7 @@ impl Desk {
     /// Those of the site. Nothing changes.
     pub(crate) fn accept(&mut self, hand: Hand, bytes: &[u8]) -> Result<(), Refusal>
         ensures ok { OnOk result (IsTaken (handed hand bytes.now) self.old self.new) }
+        ensures left_out { IfErr result (IsLeftOut (handed hand bytes.now)) }
         ensures err { OnErr result (IsSame self.old self.new) }
     {
         let waiting = self.batch.len();
@@ -229,7 +233,8 @@ impl Desk {
 
     /// Takes the state of another site, unless it brings nothing. Answers whether that went well.
     pub(crate) fn gather(&mut self, bytes: &[u8]) -> bool
-        ensures { Gathers bytes.now self.old self.new }
+        ensures gathers { Gathers bytes.now self.old self.new }
+        ensures brings { IsTrue result → Covers self.new.board (state bytes.now) }
     {
         match self.take_over(bytes) {
             Ok(true) => {
@@ -251,6 +256,8 @@ impl Desk {
     /// Those of the site. Nothing changes.
     pub(crate) fn take_over(&mut self, bytes: &[u8]) -> Result<bool, Refusal>
         ensures ok { IfOk result (λ brings. Gathers bytes.now self.old self.new) }
+        ensures brings { OnOk result (Covers self.new.board (state bytes.now)) }
+        ensures left_out { IfErr result (IsLeftOut (state bytes.now)) }
         ensures err { OnErr result (IsSame self.old self.new) }
     {
         let Some(next) = grown(self.alloc, self.board.table(), bytes)? else {
@@ -304,7 +311,9 @@ fn tell(
 
 /// The site with these state bytes, where they bring something.
 fn grown(alloc: Global, site: &Replica, bytes: &[u8]) -> Result<Option<Replica>, Refusal>
-    ensures { IfOk result (λ found. IfSome found (Brings bytes.now site.now)) }
+    ensures some { IfOk result (λ found. IfSome found (Brings bytes.now site.now)) }
+    ensures none { IfOk result (λ found. IfNone found (Covers site.now (state bytes.now))) }
+    ensures refused { IfErr result (IsRefusalOf (state bytes.now)) }
 {
     let mut next = site.copy(alloc)?;
     next.take(bytes)?;

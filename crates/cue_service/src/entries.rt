@@ -1,9 +1,10 @@
-ghost use Rattle.std.specs.Prelude.{◌≡◌, ℕ, List, [], ◌∷◌, ◌++◌, map, OnOk, OnErr};
+ghost use Rattle.std.specs.Prelude.{◌≡◌, ℕ, List, [], ◌∷◌, ◌++◌, map, IfErr, OnOk, OnErr};
 ghost use Rattle.cue_lattice.specs.World.{Piece, piece_refuses};
 ghost use Rattle.cue_replica.specs.Accepted.{IsAcceptable, IsOfPieces};
 ghost use Rattle.cue_replica.specs.Language.{language};
 ghost use Rattle.cue_replica.specs.Replica.{Adds};
 ghost use Rattle.cue_service.specs.Entries.{piece_of, pieces_of};
+ghost use Rattle.cue_service.specs.Pulls.{IsRefusalOf};
 ghost use Rattle.cue_service.specs.Requests.{handed};
 
 use crate::route::Hand;
@@ -30,14 +31,22 @@ fn add_entry(board: &mut Replica, entry: &[u8]) -> Result<(), Refusal>
     ensures { OnOk result ((pieces : List Piece) → IsOfPieces board.old pieces
         → IsOfPieces board.new (pieces ++ piece_of entry.now ∷ [])) }
 {
+    let (hand, bytes) = parts_of(entry);
+    hand_over(board, hand, bytes)
+}
+
+/// What an entry hands over: what stands behind its first byte. One without any is an empty text.
+pub(crate) fn parts_of(entry: &[u8]) -> (Hand, &[u8])
+    ensures { handed result.0 result.1.now ≡ piece_of entry.now }
+{
     match entry.split_first() {
-        Some((first, rest)) => hand_over(board, hand_of(*first), rest),
-        None => hand_over(board, Hand::Text, &[]),
+        Some((first, rest)) => (hand_of(*first), rest),
+        None => (Hand::Text, &[]),
     }
 }
 
 /// What an entry is that begins with this byte.
-pub(crate) fn hand_of(first: u8) -> Hand
+fn hand_of(first: u8) -> Hand
     ensures { (rest : List ℕ) → handed result rest ≡ piece_of (first ∷ rest) }
 {
     match first {
@@ -52,6 +61,7 @@ pub(crate) fn hand_over(site: &mut Replica, hand: Hand, bytes: &[u8]) -> Result<
     ensures adds { OnOk result (Adds site.old (piece_refuses language (handed hand bytes.now))
         site.new) }
     ensures valid { OnOk result (language.IsValid site.new) }
+    ensures refused { IfErr result (IsRefusalOf (handed hand bytes.now)) }
     ensures err { OnErr result (site.new ≡ site.old) }
 {
     match hand {

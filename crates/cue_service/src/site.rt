@@ -1,11 +1,12 @@
-ghost use Rattle.std.specs.Prelude.{◌≡◌, ◌++◌, [], ℕ, List, map, true, false, IfOk, IfSome};
-ghost use Rattle.cue_lattice.specs.World.{Piece};
+ghost use Rattle.std.specs.Prelude.{◌≡◌, ◌++◌, [], ℕ, List, map, true, false, IfOk, IfSome, IsTrue};
+ghost use Rattle.cue_lattice.specs.World.{Piece, state};
 ghost use Rattle.cue_replica.specs.Accepted.{IsOfPieces};
 ghost use Rattle.cue_journal.specs.Batches.{batch_bytes};
 ghost use Rattle.cue_journal.specs.Blocks.{recovered};
 ghost use Rattle.cue_journal.specs.Pairs.{IsPairReady, entries_of, is_whole, MayLeave};
 ghost use Rattle.cue_service.specs.Entries.{pieces_of};
 ghost use Rattle.cue_service.specs.Answering.{IsSame};
+ghost use Rattle.cue_service.specs.Pulls.{Covers, CoversAll, IsOfListed};
 
 use crate::desk::{Desk, Token};
 use crate::route::seconds_in;
@@ -124,14 +125,19 @@ impl<D: Disk> Gathers for Site<D> {
 
     /// Takes the state of another site, unless it brings nothing.
     fn pulled(&mut self, bytes: &[u8]) -> bool
-        ensures { GathersAt bytes.now self.old self.new }
+        ensures gathers { GathersAt bytes.now self.old self.new }
+        // Where it went well the table refuses all that the state does.
+        ensures brings { IsTrue result → Covers self.new.desk.board (state bytes.now) }
     {
         self.desk.gather(bytes)
     }
 
     /// Takes pieces that another site accepted, in its order.
     fn pulled_pieces(&mut self, bytes: &[u8]) -> bool
-        ensures { GathersPiecesAt (pieces_of (recovered bytes.now)) self.old self.new }
+        ensures gathers { GathersPiecesAt (pieces_of (recovered bytes.now)) self.old self.new }
+        // Where it went well the table refuses all that the pieces do which a site accepts.
+        ensures brings { IsTrue result → IsOfListed self.old.desk
+            → CoversAll self.new.desk.board (pieces_of (recovered bytes.now)) }
     {
         self.desk.gather_pieces(bytes)
     }

@@ -1,4 +1,4 @@
-use Rattle.std.proofs.Common.{ℕ, List, ◌++◌, ap, ◌∙◌, inr, sym, subst}
+use Rattle.std.proofs.Common.{ℕ, List, ◌++◌, ap, ◌∙◌, inr, subst}
 use Rattle.bytes.specs.Filled.{Filled}
 use Rattle.cue_replica.specs.Language.{Table}
 use Rattle.cue_answer.specs.declared.question.Status.{Status}

@@ -1,8 +1,7 @@
-use Rattle.std.proofs.Common.{◌≡◌, ℕ, List, Option, Vec, ◌++◌, inl, inr, refl, sym, ap, ◌∙◌, subst}
+use Rattle.std.proofs.Common.{◌≡◌, ℕ, List, Option, Vec, ◌++◌, inl, inr, refl, ap, ◌∙◌, subst}
 use Rattle.std.specs.Prelude.{IfSome, IfNone}
 use Rattle.std.specs.declared.alloc.Global.{Global}
 use Rattle.bytes.specs.Filled.{Filled}
-use Rattle.http_server.specs.Response.{fields_of}
 use Rattle.cue_journal.specs.Blocks.{recovered}
 use Rattle.cue_pieces.specs.Cursors.{IsCursor}
 use Rattle.cue_pieces.specs.Listed.{Keeps, behind_of}

@@ -1,4 +1,4 @@
-use Rattle.std.proofs.Common.{◌≡◌, Result, IfOk, sym, ap, ◌∙◌, subst, refl}
+use Rattle.std.proofs.Common.{sym, subst}
 use Rattle.cue_replica.specs.Language.{Table}
 use Rattle.cue_service.specs.declared.kept.Told.{Told}
 use Rattle.cue_service.specs.Kept.{IsTold}

@@ -1,4 +1,4 @@
-use Rattle.std.proofs.Common.{◌<◌, ◌^◌, ℕ, List, length, ap, arith, refl, ◌≡◌}
+use Rattle.std.proofs.Common.{ℕ, List, length, ap, arith, refl, ◌≡◌}
 use Rattle.cue_service.specs.declared.route.Hand.{Hand}
 use Rattle.cue_service.specs.declared.route.Hand.TheVariants as hands
 use Rattle.cue_service.specs.Answering.{bytes_in}

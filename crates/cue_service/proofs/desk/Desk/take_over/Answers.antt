@@ -1,7 +1,6 @@
-use Rattle.std.proofs.Common.{◌≡◌, Option, Some, inl, sym, ap, ◌∙◌, subst, arith}
+use Rattle.std.proofs.Common.{inl, sym, subst, arith}
 use Rattle.std.specs.Prelude.{IfSome}
-use Rattle.cue_replica.specs.Language.{Table, language}
-use Rattle.cue_replica.specs.Replica.{Adds}
+use Rattle.cue_replica.specs.Language.{Table}
 use Rattle.cue_lattice.specs.World.{state}
 use Rattle.cue_service.specs.Entries.{entry_of}
 use Rattle.cue_service.proofs.Listing.{listed_more, same_run_more}
@@ -10,7 +9,7 @@ use Rattle.cue_service.proofs.desk.Desk.take_over.Goals as goal
 
 pub returns-clause-ok : goal.returns-clause-ok
 returns-clause-ok c =
-    let found : IfSome c.in_ok-next.field-0 (Brings c.args.bytes.now c.table.result.now) = c.in_ok-next.ensures in
+    let found : IfSome c.in_ok-next.field-0 (Brings c.args.bytes.now c.table.result.now) = c.in_ok-next.ensures.some in
     let next : Brings c.args.bytes.now c.table.result.now c.in-Some.next = subst (λ o. IfSome o (Brings c.args.bytes.now c.table.result.now)) c.in-Some.is found in
     let brings : Brings c.args.bytes.now c.args.self.now.board c.replace.new.self =
     subst (λ (t : Table). Brings c.args.bytes.now c.args.self.now.board t) (sym c.replace.ensures)

@@ -1,4 +1,4 @@
-use Rattle.std.proofs.Common.{Option, sym, subst}
+use Rattle.std.proofs.Common.{sym, subst}
 use Rattle.std.specs.Prelude.{IfSome}
 use Rattle.cue_answer.specs.declared.question.Question.{Question}
 use Rattle.cue_service.specs.Kept.{IsTold}
