@@ -1,5 +1,5 @@
 """Definitions that each use the one before twice, N fields in all, `export`."""
-SIZE = 32768
+SIZE = 16384
 
 
 def work(n, rng, make):
