@@ -5,7 +5,6 @@ pub mod Flooding
 pub mod Numbers
 pub mod Scoping
 pub mod Walking
-pub mod LabelSets
 pub mod TextWalks
 pub mod Followed
 pub mod Measuring
@@ -16,3 +15,4 @@ pub mod Faults
 pub mod Resolving
 pub mod Kept
 pub mod Counting
+mod WordNumbers

@@ -1,8 +1,7 @@
 -- Which names a place sees.
-use Rattle.std.proofs.Common.{◌≡◌, ℕ, Bool, true, false, ◌||◌, List, [], ◌∷◌, refl, sym, ◌∙◌, ap}
+use Rattle.std.proofs.Common.{◌≡◌, ℕ, Bool, true, false, ◌||◌, List, [], ◌∷◌, refl, sym, ◌∙◌}
 use Rattle.cue_syntax.specs.declared.tree.Label.{Label}
-use Rattle.cue_syntax.specs.Syntax.{Entries}
-use Rattle.cue_scope.specs.Names.{Scope, behind, is_unquoted, inside, has_label}
+use Rattle.cue_scope.specs.Names.{Scope, behind, is_unquoted}
 use Rattle.cue_scope.specs.Scopes.{has_chained}
 
 or_swap : (a b c : Bool) → (a || (b || c)) ≡ ((b || a) || c)
@@ -19,10 +18,6 @@ behind_chained (l ∷ ls) scope t = behind_chained ls (λ u. is_unquoted u l.nam
 -- two scopes that see the same labels are one
 pub same_scope : (f g : Scope) → ((t : List ℕ) → f t ≡ g t) → f ≡ g
 same_scope f g h = λ i t. h t i
-
--- a set of the labels of a struct literal tells what stands inside it
-pub inside_labels : (es : Entries) (scope : Scope) (held : List ℕ → Bool) → ((t : List ℕ) → held t ≡ has_label t es) → (λ t. held t || scope t) ≡ inside es scope
-inside_labels es scope held h = same_scope (λ t. held t || scope t) (inside es scope) (λ t. ap (λ b. b || scope t) (h t))
 
 -- behind a chain the labels of the chain are seen too
 pub behind_labels : (ls : List Label) (scope : Scope) → (λ t. has_chained t ls || scope t) ≡ behind ls scope

@@ -1,4 +1,6 @@
 pub mod Named
+pub mod Words
+pub mod Hiding
 pub mod Core
 pub mod Definitions
 pub mod Files

@@ -1,7 +1,5 @@
 -- What a place in a text sees, and what a walk over names leaves.
 use Rattle.std.specs.Prelude.{ℕ, ◌≡◌, ◌⊎◌, Bool, false, List, [], ◌∷◌, ◌++◌, ◌||◌}
-use Rattle.std.specs.HashSet as bag
-use Rattle.std.specs.Str.{bytes_eq}
 use Rattle.cue_lattice.specs.declared.refusal.Refusal.{Refusal}
 use Rattle.cue_lattice.specs.Refusal.{memory}
 use Rattle.cue_scope.specs.declared.scope.Scope as code
@@ -10,7 +8,8 @@ use Rattle.cue_scope.specs.declared.names.Place.{Place}
 use Rattle.cue_scope.specs.Definitions.{Definition}
 use Rattle.cue_scope.specs.First.{IsFirst}
 use Rattle.cue_scope.specs.Kept.{all_of}
-use Rattle.cue_scope.specs.Names.{Scope, is_unquoted}
+use Rattle.cue_scope.specs.Hiding.{labels_in}
+use Rattle.cue_scope.specs.Names.{Scope, inside, is_unquoted}
 use Rattle.cue_syntax.specs.declared.tree.Label.{Label}
 
 -- a label of the chain has this name, unquoted
@@ -21,8 +20,7 @@ has_chained t (l ∷ ls) = is_unquoted t l.name || has_chained t ls
 -- the unquoted labels of the struct literals that enclose a place
 abbrev pub scope_of : code.Scope → Scope
 scope_of Outermost = λ t. false
-scope_of (Literal' labels p outer) =
-    λ t. bag.contains_by (λ k. bytes_eq t k.now) labels.now || scope_of outer t
+scope_of (Literal' labels p outer) = inside (labels_in labels.now) (scope_of outer)
 scope_of (Chain' labels p outer) = λ t. has_chained t labels.now || scope_of outer t
 
 -- a walk over names met no fault, and put the definitions that they use behind those before

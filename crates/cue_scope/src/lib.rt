@@ -12,6 +12,7 @@ mod named;
 mod names;
 mod resolved;
 mod scope;
+mod words;
 
 pub use cue_lattice::Refusal;
 pub use cue_syntax::{Declaration, Expr, File, Label};

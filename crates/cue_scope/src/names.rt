@@ -10,7 +10,8 @@ ghost use Rattle.cue_scope.specs.Scopes.{scope_of, definitions_at, IsWalked, IsS
 use crate::definitions::Definitions;
 use crate::memory::push;
 use crate::named::{Named, is_literal};
-use crate::scope::{Scope, labels_of};
+use crate::scope::Scope;
+use crate::words::Labels;
 use cue_lattice::{Kind, Refusal};
 use cue_syntax::{Declaration, Expr, Identifier, Label, Rest, Term};
 use std::alloc::Global;
@@ -79,7 +80,7 @@ impl<'a, 'f, 't> Place<'a, 'f, 't> {
             (naming.inside (tree.entries declarations.now) (scope_of self.now.scope))
             (tree.entries declarations.now))) }
     {
-        let labels = labels_of(self.alloc, declarations)?;
+        let labels = Labels::of(declarations);
         let inner = Place {
             alloc: self.alloc,
             definitions: self.definitions,
@@ -265,7 +266,7 @@ impl<'a, 'f, 't> Place<'a, 'f, 't> {
             (naming.inside (tree.entries declarations.now) (scope_of self.now.scope))
             (tree.entries declarations.now))) }
     {
-        let labels = labels_of(self.alloc, declarations)?;
+        let labels = Labels::of(declarations);
         let inner = Place {
             alloc: self.alloc,
             definitions: self.definitions,

@@ -1,6 +1,4 @@
 use Rattle.std.proofs.Common.{subst, IfErr, OnOk}
-use Rattle.std.specs.HashSet as bag
-use Rattle.std.specs.Str.{bytes_eq}
 use Rattle.cue_syntax.specs.Syntax as tree
 use Rattle.cue_scope.specs.Names as naming
 use Rattle.cue_scope.specs.Names.{Scope}
@@ -8,22 +6,9 @@ use Rattle.cue_scope.specs.Uses as using
 use Rattle.cue_scope.specs.Scopes.{scope_of, definitions_at, IsWalked, IsStopped}
 use Rattle.cue_scope.proofs.Walking.{walking_more, walking_stops, element_at_hand, term_at_hand, ellipsis_passed, field_at_hand, definition_at_hand}
 use Rattle.std.proofs.lemmas.Result.{err_from_is_err_and}
-use Rattle.cue_scope.proofs.Scoping.{inside_labels, behind_labels}
+use Rattle.cue_scope.proofs.Scoping.{behind_labels}
 use Rattle.cue_scope.proofs.names.Place.+names.Goals as goal
 use Rattle.cue_scope.proofs.names.Place.+names.Goals.{declarations-in-Ellipsis, declarations-in-Field+in_ok-value-in-Field, declarations-in-Definition+in_ok-value-in-Definition}
-
-pub literal-returns-clause-walked : goal.literal-returns-clause-walked
-literal-returns-clause-walked t c =
-    let same = inside_labels (tree.entries c.args.declarations.now) (scope_of c.args.self.now.scope) (λ u. bag.contains_by (λ k. bytes_eq u k.now) c.in_ok-labels.labels) c.in_ok-labels.ensures.labels in
-    let P : Scope → Type 0 = λ s. OnOk c.declarations.result (IsWalked (naming.faults_of_entries (definitions_at c.args.self.now) s (tree.entries c.args.declarations.now))
-    (using.uses_of_entries (definitions_at c.args.self.now) (tree.entries c.args.declarations.now)) c.args.uses.now.items c.declarations.new.uses.items) in
-    subst P same c.declarations.ensures.walked
-
-pub literal-returns-clause-stopped : goal.literal-returns-clause-stopped
-literal-returns-clause-stopped t c =
-    let same = inside_labels (tree.entries c.args.declarations.now) (scope_of c.args.self.now.scope) (λ u. bag.contains_by (λ k. bytes_eq u k.now) c.in_ok-labels.labels) c.in_ok-labels.ensures.labels in
-    let P : Scope → Type 0 = λ s. IfErr c.declarations.result (IsStopped (naming.faults_of_entries (definitions_at c.args.self.now) s (tree.entries c.args.declarations.now))) in
-    subst P same c.declarations.ensures.stopped
 
 pub value-returns-clause-walked : goal.value-returns-clause-walked
 value-returns-clause-walked t c =
