@@ -7,11 +7,13 @@ pub mod Joined
 pub mod Merged
 pub mod Neighbours
 pub mod OnePiece
+pub mod Ordered
 pub mod PieceTests
 pub mod Removed
 pub mod Search
 pub mod Steps
 pub mod Swept
 pub mod TextSearch
+pub mod United
 pub mod Within
 pub mod Zeros

@@ -5,6 +5,7 @@ pub mod Kept
 pub mod Merge
 pub mod PieceLaws
 pub mod Pieces
+pub mod Sorted
 pub mod Sweep
 pub mod Taken
 pub mod TextLaws

@@ -2,13 +2,16 @@ ghost use Rattle.std.specs.Prelude.{◌≡◌, ℤ, ◌≤ℤ◌, ◌↔◌, ◌
 ghost use Rattle.std.specs.Prelude.{true, [], ◌∷◌, IfOk, IfSome, IfNone, Ok, Some, None};
 ghost use Rattle.std.specs.Prelude.{IsTrue};
 ghost use Rattle.std.specs.Ordering.{int_eq};
+ghost use Rattle.std.specs.List.{All, list_any};
 ghost use Rattle.cue_sets.specs.Pieces.{is_member, is_int64, IsCanonical, IsFirstMember};
 ghost use Rattle.cue_sets.specs.Pieces.{IsOnlyMember, least, greatest};
 ghost use Rattle.cue_sets.specs.Combination.{keeps};
+ghost use Rattle.cue_sets.specs.Sorted.{IsPiece};
 
 use crate::combination::Combination;
 use crate::kept::Kept;
 use crate::pieces::{combine, has, is_before, is_canonical, is_within};
+use crate::uniting::unite;
 use cue_lattice::{Memory, Narrow, Narrowed};
 use std::alloc::Global;
 use std::marker::Model;
@@ -152,6 +155,19 @@ impl IntSet {
         self.followed_by(alloc, other)
     }
 
+    /// The members of one or more of these sets, which are taken over. The pieces of all are sorted,
+    /// and then walked once.
+    pub fn union_all(alloc: Global, sets: Vec<IntSet>) -> Result<IntSet, Memory>
+        ensures { IfOk result (λ all. (n : ℤ) →
+            is_member all n ≡ list_any (λ set. is_member set n) sets.items) }
+    {
+        let mut pieces = IntSet::gathered(alloc, sets.as_slice())?;
+        pieces.sort_unstable_by_key(|piece| piece.0);
+        Ok(IntSet {
+            pieces: Kept::of(unite(alloc, pieces.as_slice())?),
+        })
+    }
+
     /// The members of this set that the other lacks.
     pub fn without(&self, alloc: Global, other: &IntSet) -> Result<IntSet, Memory>
         ensures { IfOk result (λ rest. (n : ℤ) →
@@ -214,6 +230,19 @@ impl IntSet {
             return right.0 <= left.0 && left.1 <= right.1;
         }
         is_within(self.pieces.as_slice(), other.pieces.as_slice())
+    }
+
+    /// The pieces of all these sets, those of one set after those of another.
+    fn gathered(alloc: Global, sets: &[IntSet]) -> Result<Vec<(i64, i64)>, Memory>
+        ensures pieces { IfOk result (λ pieces. All IsPiece pieces.items) }
+        ensures members { IfOk result (λ pieces. (n : ℤ) →
+            is_member pieces.items n ≡ list_any (λ set. is_member set n) sets.now) }
+    {
+        let mut pieces = Vec::with_capacity(alloc, sets.len())?;
+        for set in sets {
+            pieces.extend_from_slice(set.pieces())?;
+        }
+        Ok(pieces)
     }
 
     fn combined(&self, alloc: Global, how: Combination, other: &IntSet) -> Result<IntSet, Memory>

@@ -11,9 +11,11 @@ mod kept;
 mod leaving;
 mod moving;
 mod pieces;
+mod sorting;
 mod text_change;
 mod text_set;
 mod texts;
+mod uniting;
 
 pub use cue_lattice::{Memory, Narrow, Narrowed, Text};
 pub use int_set::IntSet;

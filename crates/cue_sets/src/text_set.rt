@@ -1,5 +1,6 @@
 ghost use Rattle.std.specs.Prelude.{◌≡◌, ◌↔◌, ℕ, Bool, List, [], ◌∷◌, true, false, not, ◌&&◌, ◌||◌};
 ghost use Rattle.std.specs.Prelude.{IfOk, IfSome, IfNone, Ok, IsTrue};
+ghost use Rattle.std.specs.List.{list_any};
 ghost use Rattle.cue_sets.specs.Combination.{keeps};
 ghost use Rattle.cue_sets.specs.Changes.{IsChanged, Unifies};
 ghost use Rattle.cue_sets.specs.declared.text_change.TextChange.TheVariants.{Keep, Lack};
@@ -11,6 +12,7 @@ use crate::combination::Combination;
 use crate::joining::{move_to_room, put_each};
 use crate::leaving::remove_each;
 use crate::moving::{merge_beside, merge_moved};
+use crate::sorting::sorted;
 use crate::texts::{
     Lists, are_same, ascends, copies, each_is_listed, has, is_member, merge, zeros, zeros_listed,
 };
@@ -126,6 +128,23 @@ impl TextSet {
             is_text_member all text ≡ (is_text_member self text || is_text_member other text)) }
     {
         self.into_combined(alloc, Combination::Union, other)
+    }
+
+    /// The members of one or more of these sets, which are taken over. The texts of all finite sets
+    /// are sorted, and then walked once.
+    pub fn union_all(alloc: Global, sets: Vec<TextSet>) -> Result<TextSet, Memory>
+        ensures { IfOk result (λ all. (text : List ℕ) →
+            is_text_member all text ≡ list_any (λ set. is_text_member set text) sets.items) }
+    {
+        let (texts, others) = TextSet::gathered(alloc, sets)?;
+        if texts.is_empty() {
+            return Ok(others);
+        }
+        let listed = TextSet {
+            all_but: false,
+            texts: sorted(alloc, texts)?,
+        };
+        listed.into_union(alloc, others)
     }
 
     /// The members of this set that the other lacks.
@@ -295,6 +314,28 @@ impl TextSet {
         }
         move_to_room(&mut self.texts, room, texts.len());
         put_each(&mut self.texts, texts);
+    }
+
+    /// The texts of the finite ones of these sets, and the members of one or more of the others.
+    fn gathered(alloc: Global, sets: Vec<TextSet>) -> Result<(Vec<Text>, TextSet), Memory>
+        ensures { IfOk result (λ gathered. (text : List ℕ) →
+            (is_listed gathered.0.items text || is_text_member gathered.1 text)
+            ≡ list_any (λ set. is_text_member set text) sets.items) }
+    {
+        let mut texts = Vec::new(alloc);
+        let mut others = TextSet::none(alloc)?;
+        for set in sets {
+            if set.all_but {
+                others = others.into_union(alloc, set)?;
+            } else {
+                let TextSet {
+                    texts: mut more,
+                    ..
+                } = set;
+                texts.append(&mut more)?;
+            }
+        }
+        Ok((texts, others))
     }
 
     fn combined(&self, alloc: Global, how: Combination, other: &TextSet) -> Result<TextSet, Memory>
