@@ -1,80 +1,130 @@
--- A disjunction in parts.
-use Rattle.std.proofs.Common.{◌≡◌, Bool, true, false, ◌||◌, List, [], ◌∷◌, ◌++◌, Option, Some, None, refl, sym, ap, ◌∙◌, ℕ, zero, suc, length, ◌+◌, ◌-◌, ◌≤◌, take, take-add, drop, arith}
-use Rattle.std.specs.Prelude.{filter_map}
+-- A disjunction whose terms are split into values and defaults.
+use Rattle.std.proofs.Common.{◌≡◌, Bool, true, false, ◌||◌, List, [], ◌∷◌, ◌++◌, Option, Some, None, refl, sym, ap, ◌∙◌, map, length, append_assoc}
+use Rattle.std.specs.Prelude.{filter_map, option_map}
 use Rattle.std.specs.List.{list_any, cons_option}
-use Rattle.std.proofs.lemmas.List.{append-nil, map-append}
-use Rattle.std.proofs.Math.Seq.{take-length}
-use Rattle.std.proofs.lemmas.List.Elements.{filter_map-append}
+use Rattle.std.proofs.lemmas.Bool.{false≢true, or_right}
+use Rattle.std.proofs.lemmas.List.{map-append}
 use Rattle.std.proofs.lemmas.List.Folds.{list_any-append}
 use mathlib.Core.Path.{fun_ext}
-use Rattle.cue_scalars.specs.Pairs.{Scalars, Pair, default_of, term_of, united, joined_usual, join_of, is_any_marked, sum_of, disjunction}
-use Rattle.cue_scalars.specs.Values.{pair_of, terms_of}
+use Rattle.cue_lattice.specs.declared.scalar.Scalar.{Scalar}
+use Rattle.cue_scalars.specs.Pairs.{Scalars, Pair, default_of, united, union_all, is_any_marked, disjunction}
+use Rattle.cue_scalars.specs.Scalars.{members, IsWithin}
+use Rattle.cue_scalars.specs.Values.{pair_of, terms_of, value_of, AreWithin}
+use Rattle.cue_scalars.specs.declared.scalar_set.ScalarSet.{ScalarSet}
 use Rattle.cue_scalars.specs.declared.valued.Valued.{Valued}
 
-or_false : (a : Bool) → (a || false) ≡ a
-or_false true = refl
-or_false false = refl
+-- ---- the terms one by one
+-- one more value
+pub values_more :
+    (values : List ScalarSet) (value : ScalarSet) (term : Bool × Valued) (terms later all : List (Bool × Valued)) → terms ≡ term ∷ later → members value ≡ value_of term
+    → map members values ++ map value_of terms ≡ map value_of all → map members (values ++ value ∷ []) ++ map value_of later ≡ map value_of all
+values_more values value term terms later all is same before =
+    ap (λ sets. sets ++ map value_of later) (map-append members values (value ∷ []))
+    ∙ append_assoc (map members values) (members value ∷ []) (map value_of later)
+    ∙ ap (λ set. map members values ++ set ∷ map value_of later) same
+    ∙ ap (λ ts. map members values ++ map value_of ts) (sym is)
+    ∙ before
 
-united-append : (xs ys : List Scalars) → united (xs ++ ys) ≡ joined_usual (united xs) (united ys)
-united-append [] ys = refl
-united-append (x ∷ xs) [] = ap united (append-nil (x ∷ xs))
-united-append (x ∷ xs) (y ∷ ys) = ap Some (fun_ext (λ s. list_any-append (λ set. set s) (x ∷ xs) (y ∷ ys)))
+abbrev pub defaults_of : Bool → List (Bool × Valued) → List Scalars
+defaults_of marked terms = filter_map (default_of marked) (terms_of terms)
 
--- the disjunction of two lists of terms in a row joins those of both
-pub sum_of-append : (marked : Bool) (xs ys : List (Bool × Pair)) → sum_of marked (xs ++ ys) ≡ join_of (sum_of marked xs) (sum_of marked ys)
-sum_of-append marked xs ys =
-    let value = fun_ext (λ s. list_any-append (λ (term : Bool × Pair). term.1.value s) xs ys) in
-    let usual = ap united (filter_map-append (default_of marked) xs ys) ∙ united-append (filter_map (default_of marked) xs) (filter_map (default_of marked) ys) in
-    λ i. record { value = value i; usual = usual i }
+-- a term that brings no default
+pub usuals_none :
+    (marked : Bool) (usuals : List ScalarSet) (term : Bool × Valued) (terms later : List (Bool × Valued)) (all : List Scalars) → terms ≡ term ∷ later
+    → None ≡ default_of marked (term.0, pair_of term.1)
+    → map members usuals ++ defaults_of marked terms ≡ all → map members usuals ++ defaults_of marked later ≡ all
+usuals_none marked usuals term terms later all is none before =
+    ap (λ o. map members usuals ++ cons_option o (defaults_of marked later)) none
+    ∙ ap (λ ts. map members usuals ++ defaults_of marked ts) (sym is)
+    ∙ before
 
-united-one : (o : Option Scalars) → united (cons_option o []) ≡ o
-united-one None = refl
-united-one (Some set) = ap Some (fun_ext (λ s. or_false (set s)))
+-- a term that brings one
+pub usuals_more :
+    (marked : Bool) (usuals : List ScalarSet) (usual : ScalarSet) (term : Bool × Valued) (terms later : List (Bool × Valued)) (all : List Scalars) → terms ≡ term ∷ later
+    → Some (members usual) ≡ default_of marked (term.0, pair_of term.1)
+    → map members usuals ++ defaults_of marked terms ≡ all → map members (usuals ++ usual ∷ []) ++ defaults_of marked later ≡ all
+usuals_more marked usuals usual term terms later all is some before =
+    ap (λ sets. sets ++ defaults_of marked later) (map-append members usuals (usual ∷ []))
+    ∙ append_assoc (map members usuals) (members usual ∷ []) (defaults_of marked later)
+    ∙ ap (λ o. map members usuals ++ cons_option o (defaults_of marked later)) some
+    ∙ ap (λ ts. map members usuals ++ defaults_of marked ts) (sym is)
+    ∙ before
 
--- the disjunction of one term is what that term brings
-sum_of-one : (marked : Bool) (term : Bool × Pair) → sum_of marked (term ∷ []) ≡ term_of marked term
-sum_of-one marked term =
-    let value = fun_ext (λ s. or_false (term.1.value s)) in
-    let usual = united-one (default_of marked term) in
-    λ i. record { value = value i; usual = usual i }
+or_cases : (a b : Bool) {P : Type 0} → (a ≡ true → P) → (b ≡ true → P) → (a || b) ≡ true → P
+or_cases true b f g e = f refl
+or_cases false b f g e = g e
 
--- the next term of a list, alone
-pub sum_of-next :
-    (marked : Bool) (count : ℕ) (term : Bool × Valued) (terms rest : List (Bool × Valued)) → count ≡ 1 → terms ≡ term ∷ rest
-    → term_of marked (term.0, pair_of term.1) ≡ sum_of marked (terms_of (take count terms))
-sum_of-next marked count term terms rest one is =
-    sym (ap (λ n. sum_of marked (terms_of (take n terms))) one ∙ ap (λ ts. sum_of marked (terms_of (take 1 ts))) is ∙ sum_of-one marked (term.0, pair_of term.1))
+or_left : (a b : Bool) → a ≡ true → (a || b) ≡ true
+or_left true b e = refl
+or_left false b e = absurd (false≢true e)
 
--- the next terms of a list, in two parts
-pub sum_of-more :
-    (marked : Bool) (half count : ℕ) (terms rest : List (Bool × Valued)) (left right : Pair) → half ≤ count → rest ≡ drop half terms
-    → left ≡ sum_of marked (terms_of (take half terms)) → right ≡ sum_of marked (terms_of (take (count - half) rest))
-    → join_of left right ≡ sum_of marked (terms_of (take count terms))
-sum_of-more marked half count terms rest left right few is l r =
-    let sum : half + (count - half) ≡ count = omega (arith, few) in
-    let whole : take half terms ++ take (count - half) rest ≡ take count terms =
-    ap (λ ts. take half terms ++ take (count - half) ts) is ∙ sym (take-add half (count - half) terms) ∙ ap (λ n. take n terms) sum in
-    ap (λ p. join_of p right) l ∙ ap (λ p. join_of (sum_of marked (terms_of (take half terms))) p) r
-    ∙ sym (sum_of-append marked (terms_of (take half terms)) (terms_of (take (count - half) rest)))
-    ∙ ap (sum_of marked) (sym (map-append (λ (term : Bool × Valued). (term.0, pair_of term.1)) (take half terms) (take (count - half) rest)) ∙ ap terms_of whole)
+-- one more value keeps what is within
+pub AreWithin-more : (usuals values : List ScalarSet) (value : ScalarSet) → AreWithin usuals values → AreWithin usuals (values ++ value ∷ [])
+AreWithin-more usuals values value within scalar m =
+    list_any-append (λ set. members set scalar) values (value ∷ []) ∙ or_left _ _ (within scalar m)
 
--- there are no next terms
-pub sum_of-ended : (marked : Bool) (count : ℕ) (terms : List (Bool × Valued)) → length terms ≡ 0 → sum_of marked [] ≡ sum_of marked (terms_of (take count terms))
-sum_of-ended marked zero [] e = refl
-sum_of-ended marked (suc count) [] e = refl
-sum_of-ended marked count (term ∷ terms) e = absurd (omega arith)
+-- and so does a default that is within it
+pub AreWithin-both : (usuals values : List ScalarSet) (usual value : ScalarSet) → AreWithin usuals values → IsWithin usual value → AreWithin (usuals ++ usual ∷ []) (values ++ value ∷ [])
+AreWithin-both usuals values usual value within one scalar m =
+    or_cases (list_any (λ set. members set scalar) usuals) (members usual scalar || false)
+    (λ h. AreWithin-more usuals values value within scalar h)
+    (λ h. list_any-append (λ set. members set scalar) values (value ∷ [])
+    ∙ or_right _ _ (or_left _ _ (one scalar (or_cases (members usual scalar) false (λ e. e) (λ e. absurd (false≢true e)) h))))
+    (sym (list_any-append (λ set. members set scalar) usuals (usual ∷ [])) ∙ m)
 
--- a disjunction has a marked term just where one of the terms that are kept is marked
-pub is_any_marked-terms : (terms : List (Bool × Valued)) → is_any_marked (terms_of terms) ≡ list_any (λ term. term.0) terms
+-- ---- the union of sets
+list_any-members : (sets : List ScalarSet) (scalar : Scalar) → list_any (λ set. members set scalar) sets ≡ union_all (map members sets) scalar
+list_any-members [] scalar = refl
+list_any-members (set ∷ sets) scalar = ap (λ b. members set scalar || b) (list_any-members sets scalar)
+
+-- a set with the members of one or more sets
+pub union_is : (all : ScalarSet) (sets : List ScalarSet) → ((scalar : Scalar) → members all scalar ≡ list_any (λ set. members set scalar) sets) → members all ≡ union_all (map members sets)
+union_is all sets same = fun_ext (λ scalar. same scalar ∙ list_any-members sets scalar)
+
+-- the union of several defaults
+pub united_some : (all : ScalarSet) (sets : List ScalarSet) → (length sets ≡ 0 → ⊥) → ((scalar : Scalar) → members all scalar ≡ list_any (λ set. members set scalar) sets) → Some (members all) ≡ united (map members sets)
+united_some all [] some same = absurd (some refl)
+united_some all (set ∷ sets) some same = ap Some (union_is all (set ∷ sets) same)
+
+-- ---- the whole disjunction
+is_any_marked-terms : (terms : List (Bool × Valued)) → is_any_marked (terms_of terms) ≡ list_any (λ term. term.0) terms
 is_any_marked-terms [] = refl
 is_any_marked-terms (term ∷ terms) = ap (λ b. term.0 || b) (is_any_marked-terms terms)
 
--- all terms of a list are next
-pub sum_of-all :
-    (marked : Bool) (count : ℕ) (terms rest : List (Bool × Valued)) → rest ≡ terms → count ≡ length terms → marked ≡ list_any (λ term. term.0) terms
-    → sum_of marked (terms_of (take count rest)) ≡ disjunction (terms_of terms)
-sum_of-all marked count terms rest is all any =
-    ap (λ ts. sum_of marked (terms_of (take count ts))) is
-    ∙ ap (λ n. sum_of marked (terms_of (take n terms))) all
-    ∙ ap (λ ts. sum_of marked (terms_of ts)) (take-length terms)
-    ∙ ap (λ m. sum_of m (terms_of terms)) (any ∙ sym (is_any_marked-terms terms))
+values_of-terms : (terms : List (Bool × Valued)) (scalar : Scalar) → union_all (map value_of terms) scalar ≡ list_any (λ (term : Bool × Pair). term.1.value scalar) (terms_of terms)
+values_of-terms [] scalar = refl
+values_of-terms (term ∷ terms) scalar = ap (λ b. value_of term scalar || b) (values_of-terms terms scalar)
+
+abbrev pub pair_with : ScalarSet → Option ScalarSet → Pair
+pair_with value usual = record { value = members value; usual = option_map members usual }
+
+-- the union of the values with that of the defaults is what the terms mean
+pub disjunction_is :
+    (marked : Bool) (terms : List (Bool × Valued)) (values usuals : List ScalarSet) (value : ScalarSet) (usual : Option ScalarSet)
+    → marked ≡ list_any (λ term. term.0) terms → map members values ≡ map value_of terms → map members usuals ≡ defaults_of marked terms
+    → ((scalar : Scalar) → members value scalar ≡ list_any (λ set. members set scalar) values)
+    → option_map members usual ≡ united (map members usuals)
+    → pair_with value usual ≡ disjunction (terms_of terms)
+disjunction_is marked terms values usuals value usual any values_are usuals_are value_is usual_is =
+    let values_same = union_is value values value_is ∙ ap union_all values_are ∙ fun_ext (values_of-terms terms) in
+    let usual_same = usual_is ∙ ap united usuals_are ∙ ap (λ m. united (defaults_of m terms)) (any ∙ sym (is_any_marked-terms terms)) in
+    λ i. record { value = values_same i; usual = usual_same i }
+
+-- the members of a united default
+members_united : (default : ScalarSet) (usuals : List ScalarSet) → Some (members default) ≡ united (map members usuals) → (scalar : Scalar) → members default scalar ≡ list_any (λ set. members set scalar) usuals
+members_united default [] e scalar = absurd (none e) where
+  none : Some (members default) ≡ None → ⊥
+  none f = cc
+members_united default (set ∷ sets) e scalar =
+    ap (λ all. all scalar) (same (members default) (union_all (map members (set ∷ sets))) e) ∙ sym (list_any-members (set ∷ sets) scalar) where
+      same : (a b : Scalars) → Some a ≡ Some b → a ≡ b
+      same a b f = cc
+
+-- a united default is within the united values
+pub united_within :
+    (values usuals : List ScalarSet) (value default : ScalarSet) (usual : Option ScalarSet) → AreWithin usuals values
+    → ((scalar : Scalar) → members value scalar ≡ list_any (λ set. members set scalar) values)
+    → option_map members usual ≡ united (map members usuals) → usual ≡ Some default → IsWithin default value
+united_within values usuals value default usual within value_is usual_is is scalar m =
+    value_is scalar
+    ∙ within scalar (sym (members_united default usuals (ap (option_map members) (sym is) ∙ usual_is) scalar) ∙ m)

@@ -3,4 +3,5 @@ pub mod Conjunctions
 pub mod Disjunctions
 pub mod Narrowed
 pub mod Rest
+pub mod Unions
 pub mod Within

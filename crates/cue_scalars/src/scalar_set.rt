@@ -1,5 +1,6 @@
 ghost use Rattle.std.specs.Prelude.{◌≡◌, ◌↔◌, ◌<◌, [], true, false, not, ◌&&◌, ◌||◌, IfOk, IfSome};
 ghost use Rattle.std.specs.Prelude.{IfNone, IsTrue, Ok, Some, None};
+ghost use Rattle.std.specs.List.{list_any};
 ghost use Rattle.std.specs.Result.{IsOk, IsOkAnd};
 ghost use Rattle.cue_lattice.specs.declared.scalar.Scalar.{Scalar};
 ghost use Rattle.cue_lattice.specs.declared.scalar.Scalar.TheVariants as scalars;
@@ -118,6 +119,30 @@ impl ScalarSet {
             yes: self.yes || other.yes,
             ints: self.ints.into_union(alloc, other.ints)?,
             texts: self.texts.into_union(alloc, other.texts)?,
+        })
+    }
+
+    /// The members of one or more of these sets, which are taken over.
+    pub fn union_all(alloc: Global, sets: Vec<ScalarSet>) -> Result<ScalarSet, Memory>
+        ensures { IfOk result (λ all. (scalar : Scalar) →
+            members all scalar ≡ list_any (λ set. members set scalar) sets.items) }
+    {
+        let mut ints = Vec::with_capacity(alloc, sets.len())?;
+        let mut texts = Vec::with_capacity(alloc, sets.len())?;
+        let (mut null, mut no, mut yes) = (false, false, false);
+        for set in sets {
+            null = null || set.null;
+            no = no || set.no;
+            yes = yes || set.yes;
+            ints.push(set.ints)?;
+            texts.push(set.texts)?;
+        }
+        Ok(ScalarSet {
+            null,
+            no,
+            yes,
+            ints: IntSet::union_all(alloc, ints)?,
+            texts: TextSet::union_all(alloc, texts)?,
         })
     }
 

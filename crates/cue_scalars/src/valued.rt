@@ -1,10 +1,12 @@
-ghost use Rattle.std.specs.Prelude.{◌≡◌, ◌<◌, ◌≤◌, Bool, [], drop, length, map, take, IfOk, OnOk};
+ghost use Rattle.std.specs.Prelude.{◌≡◌, ◌<◌, ◌≤◌, drop, length, map, take, IfOk, OnOk};
 ghost use Rattle.std.specs.Prelude.{◌||◌, true, false, IsSome, is_some, unwrap_or};
+ghost use Rattle.std.specs.Prelude.{filter_map, option_map};
 ghost use Rattle.std.specs.List.{list_any};
 ghost use Rattle.std.specs.Option.{ForSome};
 ghost use Rattle.std.specs.Result.{IsOk};
 ghost use Rattle.std.specs.Vec.Iter.{into_iter_items};
-ghost use Rattle.cue_scalars.specs.Scalars.{IsWithin};
+ghost use Rattle.cue_scalars.specs.Pairs as joining;
+ghost use Rattle.cue_scalars.specs.Scalars.{members, IsWithin};
 
 use crate::ScalarSet;
 use cue_lattice::{Memory, Narrow};
@@ -21,8 +23,8 @@ pub struct Valued {
 }
 
 impl Valued {
-    ghost use Rattle.cue_scalars.specs.Pairs.{all_of, both, disjunction, join_of, sum_of, term_of};
-    ghost use Rattle.cue_scalars.specs.Values.{pair_of, terms_of};
+    ghost use Rattle.cue_scalars.specs.Pairs.{all_of, both, default_of, disjunction, term_of};
+    ghost use Rattle.cue_scalars.specs.Values.{pair_of, terms_of, value_of, AreWithin};
 
     /// The unification `&`: values meet, and so do defaults, where a side without a default brings
     /// its value.
@@ -66,15 +68,16 @@ impl Valued {
     }
 
     /// The disjunction `|` of marked and unmarked terms, which are taken over. Of no terms it is
-    /// the empty value without a default. The terms are united by halves, so that many are united
-    /// in balance.
+    /// the empty value without a default. All terms are united at once.
     pub fn or(alloc: Global, terms: Vec<(bool, Valued)>) -> Result<Valued, Memory>
         ensures { IfOk result (λ all. pair_of all ≡ disjunction (terms_of terms.items)) }
     {
         let any_marked = is_any_marked(&terms);
-        let count = terms.len();
-        let mut rest = terms.into_iter();
-        Valued::next_joined(alloc, any_marked, &mut rest, count)
+        let (values, usuals) = Valued::split(alloc, any_marked, terms)?;
+        Ok(Valued {
+            value: ScalarSet::union_all(alloc, values)?,
+            usual: united(alloc, usuals)?,
+        })
     }
 
     /// The values, and which of them are usual: the default, or all of them where there is none.
@@ -151,44 +154,29 @@ impl Valued {
         met.and(alloc, Valued::next_met(alloc, rest, count - half)?)
     }
 
-    /// The values of the next terms of a disjunction, and the union of the defaults that they
-    /// bring. `any_marked` says whether some term of the disjunction is marked.
-    fn next_joined(
+    /// The values of the terms of a disjunction, and the defaults that they bring. `any_marked` says
+    /// whether some term is marked.
+    fn split(
         alloc: Global,
         any_marked: bool,
-        rest: &mut IntoIter<(bool, Valued), Global>,
-        count: usize,
-    ) -> Result<Valued, Memory>
-        ensures joined { IfOk result (λ all. pair_of all
-            ≡ sum_of any_marked (terms_of (take count (into_iter_items rest.old)))) }
-        ensures rest { OnOk result (into_iter_items rest.new
-            ≡ drop count (into_iter_items rest.old)) }
+        terms: Vec<(bool, Valued)>,
+    ) -> Result<(Vec<ScalarSet>, Vec<ScalarSet>), Memory>
+        ensures values { IfOk result (λ sets.
+            map members sets.0.items ≡ map value_of terms.items) }
+        ensures usuals { IfOk result (λ sets. map members sets.1.items
+            ≡ filter_map (default_of any_marked) (terms_of terms.items)) }
+        ensures within { IfOk result (λ sets. AreWithin sets.1.items sets.0.items) }
     {
-        if count == 0 {
-            return Valued::nothing(alloc);
+        let mut values = Vec::with_capacity(alloc, terms.len())?;
+        let mut usuals = Vec::new(alloc);
+        for (marked, term) in terms {
+            let Valued { value, usual } = term.into_term(alloc, any_marked, marked)?;
+            values.push(value)?;
+            if let Some(usual) = usual {
+                usuals.push(usual)?;
+            }
         }
-        if count == 1 {
-            return match rest.next() {
-                None => Valued::nothing(alloc),
-                Some((marked, term)) => term.into_term(alloc, any_marked, marked),
-            };
-        }
-        let half = count / 2;
-        let joined = Valued::next_joined(alloc, any_marked, rest, half)?;
-        joined.joined(
-            alloc,
-            Valued::next_joined(alloc, any_marked, rest, count - half)?,
-        )
-    }
-
-    /// The empty value without a default.
-    fn nothing(alloc: Global) -> Result<Valued, Memory>
-        ensures { IfOk result (λ none. (any_marked : Bool) → pair_of none ≡ sum_of any_marked []) }
-    {
-        Ok(Valued {
-            value: ScalarSet::empty(alloc)?,
-            usual: None,
-        })
+        Ok((values, usuals))
     }
 
     /// What this value brings to a disjunction as a term, marked or not.
@@ -210,40 +198,17 @@ impl Valued {
             usual: Some(usual),
         })
     }
+}
 
-    /// Two parts of a disjunction as one.
-    fn joined(self, alloc: Global, other: Valued) -> Result<Valued, Memory>
-        ensures { IfOk result (λ all. pair_of all ≡ join_of (pair_of self) (pair_of other)) }
-    {
-        let Valued {
-            value: left,
-            usual: left_usual,
-        } = self;
-        let Valued {
-            value: right,
-            usual: right_usual,
-        } = other;
-        let value = left.into_union(alloc, right)?;
-        match left_usual {
-            None => Ok(Valued {
-                value,
-                usual: right_usual,
-            }),
-            Some(left) => match right_usual {
-                None => Ok(Valued {
-                    value,
-                    usual: Some(left),
-                }),
-                Some(right) => {
-                    let usual = left.into_union(alloc, right)?;
-                    Ok(Valued {
-                        value,
-                        usual: Some(usual),
-                    })
-                }
-            },
-        }
+/// The union of defaults, where there are some.
+fn united(alloc: Global, usuals: Vec<ScalarSet>) -> Result<Option<ScalarSet>, Memory>
+    ensures { IfOk result (λ usual.
+        option_map members usual ≡ joining.united (map members usuals.items)) }
+{
+    if usuals.is_empty() {
+        return Ok(None);
     }
+    Ok(Some(ScalarSet::union_all(alloc, usuals)?))
 }
 
 /// Whether some term is marked.

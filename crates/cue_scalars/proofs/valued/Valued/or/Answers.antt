@@ -1,12 +1,16 @@
 use Rattle.std.proofs.Common.{ap, ◌∙◌}
 use Rattle.std.specs.List.{list_any}
-use Rattle.std.proofs.lemmas.Result.{IfOk-weaker}
-use Rattle.std.specs.Vec.Iter.{into_iter_items}
-use Rattle.cue_scalars.proofs.Disjunctions.{sum_of-all}
+use Rattle.cue_scalars.proofs.Disjunctions.{disjunction_is, united_within}
 use Rattle.cue_scalars.proofs.valued.Valued.or.Goals as goal
+
+pub invariant_of-result : goal.invariant_of-result
+invariant_of-result c =
+    let values = c.in_ok-values.values.items in
+    let usuals = c.in_ok-values.usuals.items in
+    record { within = λ default is. united_within values usuals c.in_ok-union_all.field-0 default c.in_ok-united.field-0 c.in_ok-values.ensures.within c.in_ok-union_all.ensures c.in_ok-united.ensures is }
 
 pub returns : goal.returns
 returns c =
-    let terms = c.args.terms.items in
-    let all = sum_of-all c.is_any_marked-any_marked.result c.len-count.result terms (into_iter_items c.into_iter-rest.result) c.into_iter-rest.ensures.rest (c.len-count.ensures ∙ c.args.terms.ok.0) (c.is_any_marked-any_marked.ensures ∙ ap (λ ts. list_any (λ term. term.0) ts) c.deref.ensures.value) in
-    IfOk-weaker c.next_joined.result _ _ (λ joined h. h ∙ all) c.next_joined.ensures.joined
+    disjunction_is c.is_any_marked-any_marked.result c.args.terms.items c.in_ok-values.values.items c.in_ok-values.usuals.items c.in_ok-union_all.field-0 c.in_ok-united.field-0
+    (c.is_any_marked-any_marked.ensures ∙ ap (λ ts. list_any (λ term. term.0) ts) c.deref.ensures.value)
+    c.in_ok-values.ensures.values c.in_ok-values.ensures.usuals c.in_ok-union_all.ensures c.in_ok-united.ensures
