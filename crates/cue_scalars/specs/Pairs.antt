@@ -17,9 +17,6 @@ pub record Pair : Type 0 where
 abbrev pub meet_of : Scalars → Scalars → Scalars
 meet_of a b scalar = a scalar && b scalar
 
-abbrev pub union_of : Scalars → Scalars → Scalars
-union_of a b scalar = a scalar || b scalar
-
 -- the members of one set of the list
 abbrev pub union_all : List Scalars → Scalars
 union_all sets scalar = list_any (λ set. set scalar) sets
@@ -74,15 +71,6 @@ sum_of marked terms = record {
   value = λ scalar. list_any (λ term. term.1.value scalar) terms;
   usual = united (filter_map (default_of marked) terms);
 }
-
--- two parts of a disjunction
-abbrev pub joined_usual : Option Scalars → Option Scalars → Option Scalars
-joined_usual None usual = usual
-joined_usual (Some a) None = Some a
-joined_usual (Some a) (Some b) = Some (union_of a b)
-
-abbrev pub join_of : Pair → Pair → Pair
-join_of a b = record { value = union_of a.value b.value; usual = joined_usual a.usual b.usual }
 
 -- Disjunction `a | b | ..` of marked and unmarked terms
 abbrev pub disjunction : List (Bool × Pair) → Pair
