@@ -1,12 +1,12 @@
 -- Lists that are met index by index, each stretch that is alike in both once.
-use Rattle.std.proofs.Common.{◌≡◌, ◌+◌, ◌-◌, ◌^◌, ◌<◌, ◌≤◌, min, nat_lt, if◌then◌else◌, ℕ, zero, suc, List, [], ◌∷◌, ◌++◌, Option, Some, None, refl, sym, ap, subst, ◌∙◌, inl, inr, arith}
+use Rattle.std.proofs.Common.{◌≡◌, ◌+◌, ◌-◌, ◌^◌, ◌<◌, ◌≤◌, nat_lt, if◌then◌else◌, ℕ, zero, suc, List, [], ◌∷◌, ◌++◌, Option, Some, None, refl, sym, ap, subst, ◌∙◌, inl, inr, arith}
 use Rattle.std.proofs.lemmas.Bool.{cases_lt}
 use Rattle.cue_lattice.specs.Path as paths
 use Rattle.cue_lattice.specs.Path.{label, index, Path}
 use Rattle.cue_table.specs.Inner.Child.{Child}
 use Rattle.cue_table.specs.declared.node.Onward.{Onward}
 use Rattle.cue_table.specs.declared.node.Run.{Run}
-use Rattle.cue_table.specs.Tree.{Tree, node, Children, none, no_rest, onward, row_of, rest_of, rest_tree, fixed_of, find, find_with, step_into}
+use Rattle.cue_table.specs.Tree.{Tree, node, Children, none, Rest, no_rest, onward, row_of, rest_of, rest_tree, fixed_of, find, find_with, step_into}
 use Rattle.cue_table.specs.Depth.{tree_depth}
 use Rattle.cue_table.specs.Form.{IsRow, IsTaken, IsTree, AreBranches, AreWithin, Differs, IsRestOf, IsKept, IsTable}
 use Rattle.cue_table.specs.Meet.{IsMerge, IsMet, IsUnion}
@@ -35,6 +35,11 @@ module _ {R : Type 0} where
   rest_reached P (node row children no_rest) i h l = none_within i i children (within_last i children l) (omega arith)
   rest_reached P (node row children (onward n tree)) i h l = find_rest n tree children i l
 
+  -- where nothing is the rest, there is none
+  pub no_tree : (rest : Rest R) → rest_tree rest ≡ None → rest ≡ no_rest
+  no_tree no_rest e = refl
+  no_tree (onward n tree) e = cc
+
   -- how deep a branch is that may be there, its step included
   abbrev pub found_depth : Option (Tree R) → ℕ
   found_depth None = 0
@@ -59,6 +64,18 @@ module _ {R : Type 0} where
   rest_branch P (node row children (onward n tree)) (Some found) h e =
       let same : found ≡ tree = cc in subst (λ t. IsTaken t × IsTree P t) (sym same) (h.2.2, h.2.3)
 
+module _ {R : Type 0} where
+  -- what is found is alike further on, where it goes on as it begins
+  pub alike_on : (first next end : ℕ) (found : ℕ → Option (Tree R)) → AreAlike first next found → found first ≡ found next → AreAlike next end found → AreAlike first end found
+  alike_on first next end found a e b = record {
+    behind = omega (arith, a.behind, b.behind);
+    same = λ i low high. elim (cases_lt i next) [ inl under ↦ a.same i low under | inr above ↦ b.same i above high ∙ sym e ];
+  }
+
+  -- up to an index before that it is alike too
+  pub alike_less : (first end to : ℕ) (found : ℕ → Option (Tree R)) → AreAlike first to found → first < end → end ≤ to → AreAlike first end found
+  alike_less first end to found a behind less = record { behind = behind; same = λ i low high. a.same i low (omega (arith, high, less)) }
+
 module _ {R S : Type 0} (refuses : R → S → Type 0) where
   -- both places are alike from an index to another one
   pub record IsStretch (left right : Tree R) (fixed at end : ℕ) (found : Option (Tree R)) : Type 0 where
@@ -68,15 +85,14 @@ module _ {R S : Type 0} (refuses : R → S → Type 0) where
     pub right_same : (i : ℕ) → at ≤ i → i < end → step_into right (index i) ≡ step_into right (index at)
     pub met : AreMetRests refuses (step_into left (index at)) (step_into right (index at)) found
 
-  pub stretch : (left right : Tree R) (fixed at a b end : ℕ) (found x y : Option (Tree R)) → at < fixed → AreAlike at a (λ i. step_into left (index i)) → AreAlike at b (λ i. step_into right (index i))
-      → end ≡ min (min a b) fixed → x ≡ step_into left (index at) → y ≡ step_into right (index at) → AreMetRests refuses x y found → IsStretch left right fixed at end found
-  stretch left right fixed at a b end found x y l h k e f g met = record {
-    behind = omega (arith, e, l, h.behind, k.behind);
-    low = omega (arith, e);
-    left_same = λ i low high. h.same i low (omega (arith, e, high));
-    right_same = λ i low high. k.same i low (omega (arith, e, high));
-    met = subst (λ o. AreMetRests refuses o (step_into right (index at)) found) f (subst (λ o. AreMetRests refuses x o found) g met);
-  }
+  pub stretch : (left right : Tree R) (fixed first at end : ℕ) (found : Option (Tree R)) → first ≡ at → end ≤ fixed → AreAlike first end (λ i. step_into left (index i)) → AreAlike first end (λ i. step_into right (index i))
+      → AreMetRests refuses (step_into left (index first)) (step_into right (index first)) found → IsStretch left right fixed at end found
+  stretch left right fixed first at end found e low h k met =
+      subst (λ n. IsStretch left right fixed n end found) e (record { behind = h.behind; low = low; left_same = h.same; right_same = k.same; met = met })
+
+  -- branches that are the same as others are met as these
+  pub met_as : (a b x y found : Option (Tree R)) → x ≡ a → y ≡ b → AreMetRests refuses x y found → AreMetRests refuses a b found
+  met_as a b x y found e f met path = union_as refuses a b found x y found path (sym e) (sym f) refl (met path)
 
 module _ {R Q S : Type 0} (refuses : R → S → Type 0) (is_value : R → Type 0) where
   -- The elements of both places before an index are met in these runs.

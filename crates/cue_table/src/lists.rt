@@ -1,11 +1,13 @@
 //! Places met where one of both is a list with a rest.
-ghost use Rattle.std.specs.Prelude.{◌≡◌, ◌<◌, ◌^◌, IfOk, None};
+ghost use Rattle.std.specs.Prelude.{◌≡◌, ◌↔◌, ◌<◌, ◌≤◌, ◌^◌, IfOk, IsTrue, None};
 ghost use Rattle.std.specs.Option.{option_map};
+ghost use Rattle.cue_lattice.specs.Path.{index};
 ghost use Rattle.cue_table.specs.Form.{IsKept, IsTable, Rise};
 ghost use Rattle.cue_table.specs.Meet.{IsMet};
 ghost use Rattle.cue_table.specs.Inner.Rests.{AreElementsMet, AreFields, AreMetRests, IsBranch};
+ghost use Rattle.cue_table.specs.Inner.Alike.{AreAlike};
 ghost use Rattle.cue_table.specs.Inner.View.{branches};
-ghost use Rattle.cue_table.specs.Tree.{no_rest, rest_of};
+ghost use Rattle.cue_table.specs.Tree.{no_rest, rest_of, rest_tree, step_into};
 
 use crate::child::Child;
 use crate::meet::{meet_below, node_met, node_or, row_met, row_or};
@@ -62,23 +64,116 @@ fn elements_met<R: Narrow>(
         (AreElementsMet R.refuses (IsKept R.refuses R.is_value) left.now right.now) }
 {
     let fixed = u64::max(fixed(left), fixed(right));
+    let further = found_met(alloc, rest(left), rest(right))?;
     let mut runs = Vec::new(alloc);
     let mut at = 0;
     while at < fixed {
         let first = index_of(at);
-        let end = left.alike_to(first).min(right.alike_to(first)).min(fixed);
+        let end = stretch_end(left, right, first, fixed);
         let last = index_of(end - 1);
-        let element = found_met(alloc, left.element(first), right.element(first))?;
+        let element = element_met(alloc, left, right, first, &further)?;
         if let Some(node) = element {
             let more = last - first;
             runs.push(Run { first, more, node })?;
         }
         at = end;
     }
-    match found_met(alloc, rest(left), rest(right))? {
+    match further {
         Some(node) => Ok(settled(runs, fixed, node)),
         // One of both has a rest.
         None => unreachable!(),
+    }
+}
+
+/// An index behind this one up to which the elements of both places are alike. Neighbours that are
+/// kept by themselves are compared.
+fn stretch_end<R: Narrow>(left: &Node<R>, right: &Node<R>, first: u32, fixed: u64) -> u64
+    requires left { IsTable R.refuses R.is_value left.now }
+    requires right { IsTable R.refuses R.is_value right.now }
+    requires first { first < fixed }
+    requires few { fixed ≤ 2 ^ 32 }
+    ensures low { result ≤ fixed }
+    ensures left { AreAlike first result (λ i. step_into left.now (index i)) }
+    ensures right { AreAlike first result (λ i. step_into right.now (index i)) }
+{
+    let mut end = alike_in_both(left, right, first, fixed);
+    while end < fixed {
+        let next = index_of(end);
+        if !goes_on(left, first, next) || !goes_on(right, first, next) {
+            break;
+        }
+        end = alike_in_both(left, right, next, fixed);
+    }
+    end
+}
+
+/// An index behind this one up to which the elements of both places are kept as one.
+fn alike_in_both<R: Narrow>(left: &Node<R>, right: &Node<R>, first: u32, fixed: u64) -> u64
+    requires left { IsTable R.refuses R.is_value left.now }
+    requires right { IsTable R.refuses R.is_value right.now }
+    requires first { first < fixed }
+    ensures low { result ≤ fixed }
+    ensures left { AreAlike first result (λ i. step_into left.now (index i)) }
+    ensures right { AreAlike first result (λ i. step_into right.now (index i)) }
+{
+    left.alike_to(first).min(right.alike_to(first)).min(fixed)
+}
+
+/// Whether two elements of a place are the same.
+fn goes_on<R: Narrow>(node: &Node<R>, first: u32, next: u32) -> bool
+    requires { IsTable R.refuses R.is_value node.now }
+    ensures { IsTrue result
+        ↔ (step_into node.now (index first) ≡ step_into node.now (index next)) }
+{
+    same_found(node.element(first), node.element(next))
+}
+
+/// The elements of two places with an index met. Where both are as the rests, they are shared with
+/// what these are together.
+#[cycle(meet)]
+fn element_met<R: Narrow>(
+    alloc: Global,
+    left: &Node<R>,
+    right: &Node<R>,
+    first: u32,
+    further: &Option<Node<R>>,
+) -> Result<Option<Node<R>>, Memory>
+    requires left { IsTable R.refuses R.is_value left.now }
+    requires right { IsTable R.refuses R.is_value right.now }
+    requires form { IsBranch (IsKept R.refuses R.is_value) further.now }
+    requires refused { AreMetRests R.refuses (rest_tree (rest_of left.now))
+        (rest_tree (rest_of right.now)) further.now }
+    ensures form { IfOk result (IsBranch (IsKept R.refuses R.is_value)) }
+    ensures refused { IfOk result (AreMetRests R.refuses
+        (step_into left.now (index first)) (step_into right.now (index first))) }
+{
+    let one = left.element(first);
+    let other = right.element(first);
+    if same_found(one, rest(left)) && same_found(other, rest(right)) {
+        return copy_found(alloc, further);
+    }
+    found_met(alloc, one, other)
+}
+
+/// Whether two branches that may be there are the same.
+fn same_found<R: Narrow>(one: Option<&Node<R>>, other: Option<&Node<R>>) -> bool
+    ensures { IsTrue result ↔ (option_map (λ node. node.now) one.entry
+        ≡ option_map (λ node. node.now) other.entry) }
+{
+    match (one, other) {
+        (None, None) => true,
+        (Some(one), Some(other)) => one.same(other),
+        _ => false,
+    }
+}
+
+/// A branch that may be there once more.
+fn copy_found<R: Narrow>(alloc: Global, found: &Option<Node<R>>) -> Result<Option<Node<R>>, Memory>
+    ensures { IfOk result (λ copied. copied ≡ found.now) }
+{
+    match found {
+        None => Ok(None),
+        Some(node) => Ok(Some(node.copy(alloc)?)),
     }
 }
 

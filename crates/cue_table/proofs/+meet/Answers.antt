@@ -1,6 +1,6 @@
 use Rattle.std.proofs.Common.{add-one, arith, take, refl, ap, subst, sym, ◌∙◌, ◌≡◌, [], Some}
 use Rattle.std.proofs.lemmas.List.{nil_from_length}
-use Rattle.std.proofs.lemmas.Result.{on_ok_weaker}
+use Rattle.std.proofs.lemmas.Result.{on_ok_weaker, IfOk-weaker}
 use Rattle.std.specs.Option.{option_map}
 use Rattle.std.specs.Vec.Iter.{into_iter_items}
 use Rattle.cue_lattice.specs.Path.{index, label}
@@ -9,8 +9,7 @@ use Rattle.cue_table.specs.Depth.{tree_depth, children_depth}
 use Rattle.cue_table.specs.Form.{IsKept, IsRow, IsTree, AreBranches, AreWithin, Rise}
 use Rattle.cue_table.specs.Meet.{IsMerge, IsMet, IsUnion}
 use Rattle.cue_table.specs.Refuses.{RowRefuses}
-use Rattle.cue_table.specs.Tree.{find, node, no_rest, rest_of, step_into}
-use Rattle.cue_table.specs.Inner.Alike.{AreAlike}
+use Rattle.cue_table.specs.Tree.{find, node, no_rest, rest_of}
 use Rattle.cue_table.specs.Inner.Changes.{IsChange, IsFound, or_old}
 use Rattle.cue_table.specs.Inner.Place.{IsPlace, IsGap}
 use Rattle.cue_table.specs.Inner.Parts.{or_row}
@@ -25,28 +24,61 @@ use Rattle.cue_table.proofs.MetBranches.{met_nodes, met_still, none_is}
 use Rattle.cue_table.proofs.Nearing.{passed}
 use Rattle.cue_table.proofs.Nodes.{branches_form}
 use Rattle.cue_table.proofs.Owned.{own_only}
-use Rattle.cue_table.proofs.Sweeping.{list_form, list_met, rest_branch, rest_depth, step_branch, step_depth, stretch, sweeps_end, sweeps_gap, sweeps_run}
+use Rattle.cue_table.proofs.Sweeping.{list_form, list_met, rest_branch, rest_depth, step_branch, step_depth, met_as, no_tree, stretch, sweeps_end, sweeps_gap, sweeps_run, sweeps_start}
 use Rattle.cue_table.proofs.+meet.Goals as goal
 use Rattle.cue_table.proofs.+meet.Goals.{meet::meet_own-in-Some+in-Some-1, meet::meet_own-in-Some+in-None-1, meet::meet_own-in_default}
 
 -- ---- the elements of two places
-pub lists::elements_met-alike_to-requires : goal.lists::elements_met-alike_to-requires
-lists::elements_met-alike_to-requires g t c = tree_rises (IsKept g.R.Narrow.refuses g.R.Narrow.is_value) c.args.left.now c.requires.left
-
-pub lists::elements_met-alike_to-requires-in-loop-at : goal.lists::elements_met-alike_to-requires-in-loop-at
-lists::elements_met-alike_to-requires-in-loop-at g t c = tree_rises (IsKept g.R.Narrow.refuses g.R.Narrow.is_value) c.args.right.now c.requires.right
-
-pub lists::elements_met-element-requires : goal.lists::elements_met-element-requires
-lists::elements_met-element-requires g t c = tree_rises (IsKept g.R.Narrow.refuses g.R.Narrow.is_value) c.args.left.now c.requires.left
-
-pub lists::elements_met-element-requires-in-loop-at : goal.lists::elements_met-element-requires-in-loop-at
-lists::elements_met-element-requires-in-loop-at g t c = tree_rises (IsKept g.R.Narrow.refuses g.R.Narrow.is_value) c.args.right.now c.requires.right
-
 pub lists::elements_met-found_met-requires : goal.lists::elements_met-found_met-requires
 lists::elements_met-found_met-requires g t c κs within =
     let P = IsKept g.R.Narrow.refuses g.R.Narrow.is_value in
-    let deep = step_depth c.args.right.now (index c.index_of-first.result) _ c.element-in-loop-at.ensures in
-    (omega (arith, c.decreases, deep), (within.0, (within.1, (step_branch P c.args.left.now (index c.index_of-first.result) _ c.requires.left c.element.ensures, step_branch P c.args.right.now (index c.index_of-first.result) _ c.requires.right c.element-in-loop-at.ensures))))
+    let deep = rest_depth c.args.right.now _ c.rest-2.ensures in
+    (omega (arith, c.decreases, deep), (within.0, (within.1, (rest_branch P c.args.left.now _ c.requires.left c.rest.ensures, rest_branch P c.args.right.now _ c.requires.right c.rest-2.ensures))))
+
+pub lists::elements_met-loop-at-init : goal.lists::elements_met-loop-at-init
+lists::elements_met-loop-at-init g t c = record {
+  sweeps = sweeps_start g.R.Narrow.refuses g.R.Narrow.is_value c.args.left.now c.args.right.now c.max-fixed.result c.new-runs.result.items c.new-runs.ensures.items;
+  further = refl;
+}
+
+pub lists::elements_met-element_met-requires : goal.lists::elements_met-element_met-requires
+lists::elements_met-element_met-requires g t c κs within =
+    let r = g.R.Narrow.refuses in
+    let P = IsKept r g.R.Narrow.is_value in
+    let same = sym c.loop-at.invariant.further in (
+      omega (arith, c.decreases),
+      (
+        within.0,
+        (
+          within.1,
+          (
+            c.requires.left,
+            (
+              c.requires.right,
+              (
+                subst (IsBranch P) same c.in_ok-further.ensures.form,
+                met_as r _ _ _ _ c.loop-at.further-1 c.rest.ensures c.rest-2.ensures (subst (AreMetRests r _ _) same c.in_ok-further.ensures.refused),
+              ),
+            ),
+          ),
+        ),
+      ),
+    )
+
+pub lists::elements_met-settled-requires-clause-taken : goal.lists::elements_met-settled-requires-clause-taken
+lists::elements_met-settled-requires-clause-taken g t c =
+    let branch = subst (IsBranch (IsKept g.R.Narrow.refuses g.R.Narrow.is_value)) (sym c.loop-at.invariant.further ∙ c.in-Some-further.is) c.in_ok-further.ensures.form in
+    branch.0
+
+pub lists::elements_met-settled-requires-clause-rest : goal.lists::elements_met-settled-requires-clause-rest
+lists::elements_met-settled-requires-clause-rest g t c =
+    let branch = subst (IsBranch (IsKept g.R.Narrow.refuses g.R.Narrow.is_value)) (sym c.loop-at.invariant.further ∙ c.in-Some-further.is) c.in_ok-further.ensures.form in
+    branch.1
+
+pub lists::elements_met-unreachable-requires : goal.lists::elements_met-unreachable-requires
+lists::elements_met-unreachable-requires g t c =
+    let none = c.in_ok-further.ensures.there (sym c.loop-at.invariant.further ∙ c.in-None.is) in
+    c.requires.rest (no_tree _ (sym c.rest.ensures ∙ none.0), no_tree _ (sym c.rest-2.ensures ∙ none.1))
 
 pub lists::elements_met-loop-at-preserved-in_ok-push : goal.lists::elements_met-loop-at-preserved-in_ok-push
 lists::elements_met-loop-at-preserved-in_ok-push g t c =
@@ -55,12 +87,13 @@ lists::elements_met-loop-at-preserved-in_ok-push g t c =
     let left = c.args.left.now in
     let right = c.args.right.now in
     let first = c.index_of-first.ensures.same in
-    let alike =
-    stretch r left right c.max-fixed.result c.loop-at.at c.alike_to.result c.alike_to-in-loop-at.result c.min-end.result c.in_ok-element.element _ _ c.loop-at-test.true
-    (subst (λ n. AreAlike n c.alike_to.result (λ i. step_into left (index i))) first c.alike_to.ensures) (subst (λ n. AreAlike n c.alike_to-in-loop-at.result (λ i. step_into right (index i))) first c.alike_to-in-loop-at.ensures)
-    (omega (arith, c.min-end.ensures, c.min.ensures)) (c.element.ensures ∙ ap (λ n. step_into left (index n)) first) (c.element-in-loop-at.ensures ∙ ap (λ n. step_into right (index n)) first) c.in_ok-element.ensures.refused in
-    sweeps_run r v left right c.max-fixed.result c.loop-at.runs.items c.push.new.self.items _ c.loop-at.at c.min-end.result c.in_ok-element.element c.loop-at.invariant alike c.in_ok-element.ensures.form c.in-Some.is
-    c.in_ok-push.ensures.items first (omega (arith, first, c.index_of-last.ensures.same)) (omega (arith, c.index_of-last.ensures.same, c.index_of-last.ensures.word))
+    let alike = stretch r left right c.max-fixed.result c.index_of-first.result c.loop-at.at c.stretch_end-end.result c.in_ok-element.element first
+    c.stretch_end-end.ensures.low c.stretch_end-end.ensures.left c.stretch_end-end.ensures.right c.in_ok-element.ensures.refused in
+    record {
+      sweeps = sweeps_run r v left right c.max-fixed.result c.loop-at.runs.items c.push.new.self.items _ c.loop-at.at c.stretch_end-end.result c.in_ok-element.element c.loop-at.invariant.sweeps alike c.in_ok-element.ensures.form c.in-Some.is
+          c.in_ok-push.ensures.items first (omega (arith, first, c.index_of-last.ensures.same)) (omega (arith, c.index_of-last.ensures.same, c.index_of-last.ensures.word));
+      further = c.loop-at.invariant.further;
+    }
 
 pub lists::elements_met-loop-at-preserved : goal.lists::elements_met-loop-at-preserved
 lists::elements_met-loop-at-preserved g t c =
@@ -68,25 +101,38 @@ lists::elements_met-loop-at-preserved g t c =
     let v = g.R.Narrow.is_value in
     let left = c.args.left.now in
     let right = c.args.right.now in
-    let first = c.index_of-first.ensures.same in
-    let alike =
-    stretch r left right c.max-fixed.result c.loop-at.at c.alike_to.result c.alike_to-in-loop-at.result c.min-end.result c.in_ok-element.element _ _ c.loop-at-test.true
-    (subst (λ n. AreAlike n c.alike_to.result (λ i. step_into left (index i))) first c.alike_to.ensures) (subst (λ n. AreAlike n c.alike_to-in-loop-at.result (λ i. step_into right (index i))) first c.alike_to-in-loop-at.ensures)
-    (omega (arith, c.min-end.ensures, c.min.ensures)) (c.element.ensures ∙ ap (λ n. step_into left (index n)) first) (c.element-in-loop-at.ensures ∙ ap (λ n. step_into right (index n)) first) c.in_ok-element.ensures.refused in
-    sweeps_gap r v left right c.max-fixed.result c.loop-at.runs.items c.loop-at.at c.min-end.result c.in_ok-element.element c.loop-at.invariant alike c.in_default.is
-
-pub lists::elements_met-found_met-requires-2 : goal.lists::elements_met-found_met-requires-2
-lists::elements_met-found_met-requires-2 g t c κs within =
-    let P = IsKept g.R.Narrow.refuses g.R.Narrow.is_value in
-    let deep = rest_depth c.args.right.now _ c.rest-2.ensures in
-    (omega (arith, c.decreases, deep), (within.0, (within.1, (rest_branch P c.args.left.now _ c.requires.left c.rest.ensures, rest_branch P c.args.right.now _ c.requires.right c.rest-2.ensures))))
+    let alike = stretch r left right c.max-fixed.result c.index_of-first.result c.loop-at.at c.stretch_end-end.result c.in_ok-element.element c.index_of-first.ensures.same
+    c.stretch_end-end.ensures.low c.stretch_end-end.ensures.left c.stretch_end-end.ensures.right c.in_ok-element.ensures.refused in
+    record { sweeps = sweeps_gap r v left right c.max-fixed.result c.loop-at.runs.items c.loop-at.at c.stretch_end-end.result c.in_ok-element.element c.loop-at.invariant.sweeps alike c.in_default.is; further = c.loop-at.invariant.further }
 
 pub lists::elements_met-returns : goal.lists::elements_met-returns
 lists::elements_met-returns g t c =
     let r = g.R.Narrow.refuses in
-    sweeps_end r g.R.Narrow.is_value c.args.left.now c.args.right.now c.max-fixed.result c.loop-at.at c.loop-at.runs.items (option_map (λ node. node.now) c.rest.result) (option_map (λ node. node.now) c.rest-2.result) c.in-Some-2.node c.settled.result c.loop-at.invariant c.loop-at-test.false
+    sweeps_end r g.R.Narrow.is_value c.args.left.now c.args.right.now c.max-fixed.result c.loop-at.at c.loop-at.runs.items (option_map (λ node. node.now) c.rest.result) (option_map (λ node. node.now) c.rest-2.result) c.in-Some-further.node c.settled.result c.loop-at.invariant.sweeps c.loop-at-test.false
     c.requires.left c.requires.right (omega (arith, c.fixed.ensures.number, c.max-fixed.ensures)) (omega (arith, c.fixed-2.ensures.number, c.max-fixed.ensures)) c.rest.ensures c.rest-2.ensures
-    (subst (λ o. AreMetRests r (option_map (λ node. node.now) c.rest.result) (option_map (λ node. node.now) c.rest-2.result) o) c.in-Some-2.is c.in_ok-node.ensures.refused) c.settled.ensures
+    (subst (λ o. AreMetRests r (option_map (λ node. node.now) c.rest.result) (option_map (λ node. node.now) c.rest-2.result) o) (sym c.loop-at.invariant.further ∙ c.in-Some-further.is) c.in_ok-further.ensures.refused) c.settled.ensures
+
+-- ---- an element of two places
+pub lists::element_met-element-one-requires : goal.lists::element_met-element-one-requires
+lists::element_met-element-one-requires g t c = tree_rises (IsKept g.R.Narrow.refuses g.R.Narrow.is_value) c.args.left.now c.requires.left
+
+pub lists::element_met-element-other-requires : goal.lists::element_met-element-other-requires
+lists::element_met-element-other-requires g t c = tree_rises (IsKept g.R.Narrow.refuses g.R.Narrow.is_value) c.args.right.now c.requires.right
+
+pub lists::element_met-found_met-requires : goal.lists::element_met-found_met-requires
+lists::element_met-found_met-requires g t c κs within =
+    let P = IsKept g.R.Narrow.refuses g.R.Narrow.is_value in
+    let deep = step_depth c.args.right.now (index c.args.first) _ c.element-other.ensures in
+    (omega (arith, c.decreases, deep), (within.0, (within.1, (step_branch P c.args.left.now (index c.args.first) _ c.requires.left c.element-one.ensures, step_branch P c.args.right.now (index c.args.first) _ c.requires.right c.element-other.ensures))))
+
+pub lists::element_met-returns-then-same_found-2-clause-refused : goal.lists::element_met-returns-then-same_found-2-clause-refused
+lists::element_met-returns-then-same_found-2-clause-refused g t c =
+    let r = g.R.Narrow.refuses in
+    let one = sym c.rest.ensures ∙ sym (c.same_found.ensures.0 c.if-same_found.true) ∙ c.element-one.ensures in
+    let other = sym c.rest-then-same_found.ensures ∙ sym (c.same_found-then-same_found.ensures.0 c.if-same_found-2.true) ∙ c.element-other.ensures in
+    IfOk-weaker c.copy_found.result _ _
+    (λ o here. subst (AreMetRests r _ _) (sym here) (met_as r _ _ _ _ c.args.further.now one other c.requires.refused))
+    c.copy_found.ensures
 
 -- ---- what changes in a list of branches
 pub changes::changed_by-place_from-requires-clause-rise : goal.changes::changed_by-place_from-requires-clause-rise

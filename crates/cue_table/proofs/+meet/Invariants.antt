@@ -1,4 +1,4 @@
-use Rattle.std.proofs.Common.{◌+◌, ◌-◌, ◌*◌}
+use Rattle.std.proofs.Common.{◌≡◌, ◌+◌, ◌-◌, ◌*◌}
 use Rattle.std.specs.Option.{option_map}
 use Rattle.std.specs.Vec.Iter.{into_iter_items, into_iter_len}
 use Rattle.cue_table.specs.Depth.{tree_depth, children_depth}
@@ -37,6 +37,9 @@ decreases-lists::list_met g l = 8 * tree_depth l.right + 5
 abbrev pub decreases-lists::elements_met : goal.decreases-lists::elements_met
 decreases-lists::elements_met g l = 8 * tree_depth l.right.now + 4
 
+abbrev pub decreases-lists::element_met : goal.decreases-lists::element_met
+decreases-lists::element_met g l = 8 * tree_depth l.right.now + 3
+
 abbrev pub decreases-meet::meet_below : goal.decreases-meet::meet_below
 decreases-meet::meet_below g l = 8 * children_depth (branches l.right.items) + 4
 
@@ -57,8 +60,10 @@ abbrev pub decreases-changes::changes-loop-other : goal.decreases-changes::chang
 decreases-changes::changes-loop-other g l = into_iter_len l.others
 
 abbrev pub invariant-lists::elements_met-loop-at : goal.invariant-lists::elements_met-loop-at
-invariant-lists::elements_met-loop-at g l =
-    Sweeps g.R.Narrow.refuses g.R.Narrow.is_value l.left l.right l.fixed l.runs.items l.at
+invariant-lists::elements_met-loop-at g l = record {
+  sweeps : Sweeps g.R.Narrow.refuses g.R.Narrow.is_value l.left l.right l.fixed l.runs.items l.at;
+  further : l.further ≡ l.initial.further;
+}
 
 abbrev pub decreases-lists::elements_met-loop-at : goal.decreases-lists::elements_met-loop-at
 decreases-lists::elements_met-loop-at g l = l.fixed - l.at
