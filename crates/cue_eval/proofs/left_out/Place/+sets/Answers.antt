@@ -1,4 +1,4 @@
-use Rattle.std.proofs.Common.{◌+◌, drop, subst, arith}
+use Rattle.std.proofs.Common.{◌+◌, drop, subst, sym, arith}
 use Rattle.std.proofs.lemmas.List.{drop_all}
 use Rattle.std.proofs.lemmas.Result.{IfOk-weaker}
 use Rattle.cue_lattice.specs.Path.{index}
@@ -8,7 +8,7 @@ use Rattle.cue_row.specs.Steps.{step_of}
 use Rattle.cue_table.specs.Refuses.{TableRefuses}
 use Rattle.std.specs.BinaryHeap.{heap_items}
 use Rattle.cue_eval.proofs.AddedBelow.{empty_refuses}
-use Rattle.cue_eval.proofs.Bounds.{popped_few, underway, underway_on, underway_again, stretch}
+use Rattle.cue_eval.proofs.Bounds.{popped_few, underway, underway_on, underway_again, stretch, adds_alike}
 use Rattle.cue_table.specs.Walks.{found_smaller}
 use Rattle.cue_scope.proofs.Walking.{at_hand}
 use Rattle.cue_eval.proofs.LabelTables.{Adding, adds_into, adds_nowhere, all_added, into_depth, added_depth, adding_all, adding_past, adding_more}
@@ -78,7 +78,7 @@ and_elements-loop-first-init t c =
     let popped = c.in-Some.ensures in
     let heap = c.in_ok-bounds.ensures.heap in (
       underway c.args.self.now c.new-gathered.result c.args.fields.items (heap_items c.in_ok-bounds.bounds) (heap_items c.pop.new.self) c.in-Some.last c.requires.fields made.from made.later made.single
-          (rw made.each c.in_ok-element.ensures.added) c.in_ok-bounds.ensures.alike c.in_ok-bounds.ensures.first popped.permutation (popped.below_top heap),
+          (rw (made.each, c.in_ok-copy.ensures) c.in_ok-further.ensures.added) c.in_ok-bounds.ensures.alike c.in_ok-bounds.ensures.first popped.permutation (popped.below_top heap),
       (popped.heap_order heap).0,
       made.shallow,
       (popped_few c.in-Some.last (heap_items c.in_ok-bounds.bounds) (heap_items c.pop.new.self) c.in_ok-bounds.ensures.few popped.permutation).1,
@@ -94,7 +94,7 @@ and_elements-loop-first-preserved-in_ok-extend t c =
     let left = heap_items c.pop-in-loop-first.new.self in
     let heap = loop.invariant.1 in
     let more = c.in_ok-extend.ensures in
-    let says = stretch place loop.gathered all left first c.in_ok-element-2.field-0 loop.invariant.0 popped.permutation (popped.below_top heap) c.in_ok-element-2.ensures.added in (
+    let says = stretch place loop.gathered all left first c.in_ok-sets.sets loop.invariant.0 popped.permutation (popped.below_top heap) c.in_ok-sets.ensures.added in (
       underway_on place loop.gathered c.extend.new.self all left first loop.invariant.0 popped.permutation (omega (arith, c.if-first-from.true, c.from.ensures)) more.from (more.gathered place loop.invariant.0.gathered says),
       (popped.heap_order heap).0,
       more.shallow,
@@ -116,3 +116,14 @@ element-returns-in_ok-sets-in-Some-clause-added t c path question =
     let says = c.in_ok-sets-in-Some.ensures.added path question in
     let into = adds_into c.args.self.now (index c.args.number) c.in-Some.place c.in-Some.ensures.some path (question_of question) in
     (λ h. into.0 (says.0 h), λ h. says.1 (into.1 h))
+
+pub element_beside-returns-then-are_alike-clause-added : goal.element_beside-returns-then-are_alike-clause-added
+element_beside-returns-then-are_alike-clause-added t c =
+    let same = c.are_alike.ensures in
+    let yes = c.if-are_alike.true in
+    IfOk-weaker c.copy.result _ _
+    (λ all here path question.
+    let given = c.requires.given path question in
+    let alike = adds_alike c.args.self.now c.args.other c.args.number (sym (same.own yes)) (sym (same.dots yes)) (sym (same.rows yes)) path (question_of question) in
+    rw here (λ h. alike.0 (given.0 h), λ h. given.1 (alike.1 h)))
+    c.copy.ensures
