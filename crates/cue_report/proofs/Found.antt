@@ -22,6 +22,7 @@ use Rattle.cue_report.proofs.Empty.{same_truth}
 use Rattle.cue_report.proofs.Elements.{place_of, less_index, each_all, each_one, each_behind, each_below, each_rising}
 use Rattle.cue_report.proofs.Rests.{own, at_rest, IsBefore, into_cases}
 use Rattle.cue_report.proofs.Rows.{NoValueAt, no_value_is, index_allowed, is_below, is_long}
+use Rattle.cue_report.proofs.OneList.{one_list}
 use Rattle.cue_report.proofs.Order.{reverse_cmp, same_step, equal_steps, all_append, all_map, all_from, one_left, one_right, one_map, AreBefore, AreBehind, rising_append, rising_lifted, lifted_before, lifted_behind}
 use Rattle.cue_report.proofs.Texts.{listed}
 use Rattle.cue_report.proofs.Descent.{Told, open_below, row_below, seen, demanded_down, demanded_up, barred_below, first_demanded, at_root}
@@ -384,13 +385,11 @@ pub under_root : (xs : List Conflict) → map (under []) xs ≡ xs
 under_root [] = refl
 under_root (x ∷ xs) = ap (λ ys. x ∷ ys) (under_root xs)
 
--- what a search from the root told is told of the conflicts of the table
-pub told_from_root :
-    {X : Type 0} (piece : Conflict → List X) (tree root : Tree Row) (before after : List X) (path : Path) → root ≡ tree → path ≡ []
-    → after ≡ before ++ told_under piece path (conflicts_in false root) → after ≡ before ++ flat_map piece (conflicts_in false tree)
-told_from_root piece tree root before after path r p e =
-    e ∙ ap (λ t. before ++ told_under piece path (conflicts_in false t)) r ∙ ap (λ q. before ++ told_under piece q (conflicts_in false tree)) p
-    ∙ ap (λ xs. before ++ flat_map piece xs) (under_root (conflicts_in false tree))
+pub root_told : {X : Type 0} (piece : Conflict → List X) (tree root : Tree Row) (path : Path) → root ≡ tree → path ≡ []
+    → told_under piece path (conflicts_in false root) ≡ flat_map piece (conflicts_in false tree)
+root_told piece tree root path r p =
+    ap (λ t. told_under piece path (conflicts_in false t)) r ∙ ap (λ q. told_under piece q (conflicts_in false tree)) p
+    ∙ ap (flat_map piece) (under_root (conflicts_in false tree))
 
 -- a search that began with nothing has listed these
 pub from_nothing :
@@ -398,6 +397,10 @@ pub from_nothing :
     → after ≡ before ++ told_under (λ x. x ∷ []) path (conflicts_in false root) → AreConflicts (Told tree) after
 from_nothing tree root before after path h r b p e =
     let found : after ≡ conflicts_in false tree =
-    told_from_root (λ x. x ∷ []) tree root before after path r p e ∙ ap (λ xs. xs ++ flat_map (λ x. x ∷ []) (conflicts_in false tree)) b
+    e ∙ ap (λ xs. before ++ xs) (root_told (λ x. x ∷ []) tree root path r p) ∙ ap (λ xs. xs ++ flat_map (λ x. x ∷ []) (conflicts_in false tree)) b
     ∙ listed (conflicts_in false tree) in
     subst (AreConflicts (Told tree)) (sym found) (conflicts_found tree h)
+
+-- and there are no others
+pub only_conflicts : (tree : Tree Row) → IsTable Refuses IsRow tree → (found : List Conflict) → AreConflicts (Told tree) found → conflicts_in false tree ≡ found
+only_conflicts tree h found are = one_list place_of (IsConflict (Told tree)) (IsConflict (Told tree)) (conflicts_in false tree) found (λ x p. p) (λ x p. p) (conflicts_found tree h) are

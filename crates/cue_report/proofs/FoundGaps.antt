@@ -1,5 +1,5 @@
 -- The gaps of a tree are those of its own place and those of its branches, step by step.
-use Rattle.std.proofs.Common.{◌≡◌, ◌⊎◌, inl, inr, ⊎_elim, Bool, true, false, List, [], ◌∷◌, ◌++◌, map, Option, refl, sym, ap, subst, ◌∙◌}
+use Rattle.std.proofs.Common.{◌≡◌, ◌⊎◌, inl, inr, ⊎_elim, ℕ, Some, Bool, true, false, List, [], ◌∷◌, ◌++◌, map, Option, refl, sym, ap, subst, ◌∙◌}
 use Rattle.std.specs.Ordering.{ordering_then}
 use Rattle.std.specs.List.{AllByRecursion, flat_map}
 use Rattle.std.proofs.lemmas.Bool.{false≢true}
@@ -16,7 +16,9 @@ use Rattle.cue_report.specs.GapSearch.{Adds, IsGapAt, IsBarred, IsGapIn, IsGapHe
 use Rattle.cue_report.specs.Listing.{Lists}
 use Rattle.cue_report.specs.Search.{is_demanded, is_refused}
 use Rattle.cue_report.specs.declared.gap.Gap.{Gap}
+use Rattle.cue_report.specs.Telling.{Tally, Grows}
 use Rattle.cue_report.proofs.Texts.{listed}
+use Rattle.cue_report.proofs.Telling.{grows_none}
 use Rattle.cue_report.proofs.Empty.{same_truth}
 use Rattle.cue_report.proofs.Order.{all_append, all_map, all_from, one_left, one_right, one_map, rising_append, rising_lifted}
 use Rattle.cue_report.proofs.Descent.{Told, IsSeen, demanded_down, demanded_up, barred_below, first_demanded, at_root}
@@ -65,7 +67,7 @@ IsIn D (step ∷ path) = D step
 abbrev pub UpTo : Bool → Tree Row → (paths.Step → Type 0) → List Gap → Type 0
 UpTo not_allowed tree D = Lists place_of (λ gap. IsGapIn not_allowed tree gap × IsIn D gap.path)
 
-path_cases : (path : Path) → (path ≡ []) ⊎ ((step : paths.Step) × (rest : Path) × (path ≡ step ∷ rest))
+pub path_cases : (path : Path) → (path ≡ []) ⊎ ((step : paths.Step) × (rest : Path) × (path ≡ step ∷ rest))
 path_cases [] = inl refl
 path_cases (step ∷ rest) = inr (step, rest, refl)
 
@@ -129,7 +131,7 @@ none_before : (before after : Path) (step : paths.Step) → [] ≡ before ++ ste
 none_before [] after step e = cc
 none_before (x ∷ before) after step e = cc
 
-here_up : (not_allowed : Bool) (tree : Tree Row) (gap : Gap) → IsGapHere not_allowed (row_of tree) gap → IsGapIn not_allowed tree gap
+pub here_up : (not_allowed : Bool) (tree : Tree Row) (gap : Gap) → IsGapHere not_allowed (row_of tree) gap → IsGapIn not_allowed tree gap
 here_up not_allowed (node row children rest) gap h = record {
   demanded = subst (IsDemanded (Told (node row children rest))) (sym h.here) (λ before after step g. absurd (none_before before after step g));
   allowed = subst (λ p. IsBarred not_allowed (Told (node row children rest)) p → ⊥) (sym h.here) (λ b. false≢true (sym h.allowed ∙ b));
@@ -244,28 +246,50 @@ one_here row missing g = record {
 
 -- what a look at a place adds
 pub looked_none :
-    {X : Type 0} (piece : Gap → List X) (not_allowed : Bool) (row : Option Row) (path : Path) (told : List X)
-    → ((missing : Bool) → not_allowed ≡ false → IsGapAt row missing → ⊥) → Adds piece (IsGapHere not_allowed row) path told told
-looked_none piece not_allowed row path told n = record { found = []; lists = none_here not_allowed row n; is = sym (append-nil told) }
+    {X : Type 0} (piece : Gap → List X) (not_allowed : Bool) (row : Option Row) (path : Path) (tally : Tally X)
+    → ((missing : Bool) → not_allowed ≡ false → IsGapAt row missing → ⊥) → Adds piece (IsGapHere not_allowed row) path tally tally
+looked_none piece not_allowed row path tally n = record { found = []; lists = none_here not_allowed row n; told = grows_none tally }
+
+-- the one gap of a place, and what is told of it
+pub only_here : (not_allowed missing : Bool) (row : Option Row) → not_allowed ≡ false → IsGapAt row missing → Lists place_of (IsGapHere not_allowed row) (record { path = []; missing = missing } ∷ [])
+only_here not_allowed missing row n g = subst (λ b. Lists place_of (IsGapHere b row) (record { path = []; missing = missing } ∷ [])) (sym n) (one_here row missing g)
+
+pub told_here : {X : Type 0} (piece : Gap → List X) (missing : Bool) (path : Path) → piece (record { path = path; missing = missing }) ≡ told_above piece path (record { path = []; missing = missing } ∷ [])
+told_here piece missing path =
+    let one : Path → Gap = λ place. record { path = place; missing = missing } in
+    ap (λ (q : Path). piece (one q)) (sym (append-nil path)) ∙ sym (append-nil (piece (one (path ++ []))))
 
 pub looked_one :
-    {X : Type 0} (piece : Gap → List X) (not_allowed missing : Bool) (row : Option Row) (path : Path) (start after : List X) → not_allowed ≡ false → IsGapAt row missing
-    → after ≡ start ++ piece (record { path = path; missing = missing }) → Adds piece (IsGapHere not_allowed row) path start after
-looked_one piece not_allowed missing row path start after n g a =
-    let one : Path → Gap = λ place. record { path = place; missing = missing } in
-    record {
-      found = record { path = []; missing = missing } ∷ [];
-      lists = subst (λ b. Lists place_of (IsGapHere b row) (record { path = []; missing = missing } ∷ [])) (sym n) (one_here row missing g);
-      is = a ∙ ap (λ (q : Path). start ++ piece (one q)) (sym (append-nil path)) ∙ ap (λ zs. start ++ zs) (sym (append-nil (piece (one (path ++ [])))));
-    }
+    {X : Type 0} (piece : Gap → List X) (not_allowed missing : Bool) (row : Option Row) (path : Path) (start after : Tally X) → not_allowed ≡ false → IsGapAt row missing
+    → Grows start after (piece (record { path = path; missing = missing })) → Adds piece (IsGapHere not_allowed row) path start after
+looked_one piece not_allowed missing row path start after n g a = record {
+  found = record { path = []; missing = missing } ∷ [];
+  lists = only_here not_allowed missing row n g;
+  told = subst (Grows start after) (told_here piece missing path) a;
+}
+
+-- a gap of the root's tree is one of the table
+pub root_gap : (tree : Tree Row) (gap : Gap) → IsGapIn false tree gap → IsGap (Told tree) gap
+root_gap tree gap k = record {
+  demanded = k.demanded;
+  has_value = k.lacking.has_value;
+  allowed = λ b. k.allowed ((at_root (Told tree) gap.path).1 b);
+  missing = k.lacking.missing_is;
+  cause = k.lacking.cause;
+}
+
+pub gap_of_root : (tree : Tree Row) (gap : Gap) → IsGap (Told tree) gap → IsGapIn false tree gap
+gap_of_root tree gap k = record {
+  demanded = k.demanded;
+  allowed = λ b. k.allowed ((at_root (Told tree) gap.path).0 b);
+  lacking = record { has_value = k.has_value; missing_is = k.missing; cause = k.cause };
+}
 
 -- the gaps found from the root on are those of the table
 pub gaps_found : (tree : Tree Row) (xs : List Gap) → Lists place_of (IsGapIn false tree) xs → AreGaps (Told tree) xs
 gaps_found tree xs h = record {
-  sound = all_from (IsGapIn false tree) (IsGap (Told tree)) xs
-      (λ x k. record { demanded = k.demanded; has_value = k.lacking.has_value; allowed = λ b. k.allowed ((at_root (Told tree) x.path).1 b); missing = k.lacking.missing_is; cause = k.lacking.cause })
-      h.sound;
-  complete = λ x k. h.complete x (record { demanded = k.demanded; allowed = λ b. k.allowed ((at_root (Told tree) x.path).0 b); lacking = record { has_value = k.has_value; missing_is = k.missing; cause = k.cause } });
+  sound = all_from (IsGapIn false tree) (IsGap (Told tree)) xs (root_gap tree) h.sound;
+  complete = λ x k. h.complete x (gap_of_root tree x k);
   rising = h.rising;
 }
 
@@ -274,21 +298,24 @@ above_root : (xs : List Gap) → map (above []) xs ≡ xs
 above_root [] = refl
 above_root (x ∷ xs) = ap (λ ys. x ∷ ys) (above_root xs)
 
+pub root_told : {X : Type 0} (piece : Gap → List X) (path : Path) (found : List Gap) → path ≡ [] → told_above piece path found ≡ flat_map piece found
+root_told piece path found p = ap (λ q. told_above piece q found) p ∙ ap (flat_map piece) (above_root found)
+
 -- what a search from the root told is told of the gaps of the table
 pub told_from_root :
-    {X : Type 0} (piece : Gap → List X) (tree root : Tree Row) (before after : List X) (path : Path) → root ≡ tree → path ≡ []
-    → Adds piece (IsGapIn false root) path before after → (found : List Gap) × AreGaps (Told tree) found × (after ≡ before ++ flat_map piece found)
-told_from_root piece tree root before after path r p h = (
+    {X : Type 0} (piece : Gap → List X) (tree root : Tree Row) (old new : Tally X) (path : Path) → root ≡ tree → path ≡ []
+    → Adds piece (IsGapIn false root) path old new → (found : List Gap) × AreGaps (Told tree) found × Grows old new (flat_map piece found)
+told_from_root piece tree root old new path r p h = (
   h.found,
   gaps_found tree h.found (subst (λ t. Lists place_of (IsGapIn false t) h.found) r h.lists),
-  h.is ∙ ap (λ q. before ++ told_above piece q h.found) p ∙ ap (λ xs. before ++ flat_map piece xs) (above_root h.found),
+  subst (Grows old new) (root_told piece path h.found p) h.told,
 )
 
 -- a search that began with nothing has listed these
 pub from_nothing :
-    (tree root : Tree Row) (before after : List Gap) (path : Path) → root ≡ tree → before ≡ [] → path ≡ []
-    → Adds (λ x. x ∷ []) (IsGapIn false root) path before after → AreGaps (Told tree) after
-from_nothing tree root before after path r b p h =
-    let told = told_from_root (λ x. x ∷ []) tree root before after path r p h in
-    let found : after ≡ told.0 = told.2 ∙ ap (λ xs. xs ++ flat_map (λ x. x ∷ []) told.0) b ∙ listed told.0 in
+    (tree root : Tree Row) (before after : List Gap) (n m : ℕ) (path : Path) → root ≡ tree → before ≡ [] → path ≡ []
+    → Adds (λ x. x ∷ []) (IsGapIn false root) path (record { count = n; known = Some before }) (record { count = m; known = Some after }) → AreGaps (Told tree) after
+from_nothing tree root before after n m path r b p h =
+    let told = told_from_root (λ x. x ∷ []) tree root _ _ path r p h in
+    let found : after ≡ told.0 = told.2.known ∙ ap (λ xs. xs ++ flat_map (λ x. x ∷ []) told.0) b ∙ listed told.0 in
     subst (AreGaps (Told tree)) (sym found) told.1

@@ -1,5 +1,5 @@
 -- The gaps at the rest of a list, and the end of a search at a place.
-use Rattle.std.proofs.Common.{◌≡◌, ◌⊎◌, inl, inr, ⊎_elim, ℕ, ◌+◌, ◌-◌, ◌<◌, ◌≤◌, Bool, false, List, [], ◌∷◌, ◌++◌, map, Some, refl, sym, ap, subst, ◌∙◌, arith}
+use Rattle.std.proofs.Common.{◌≡◌, ◌↔◌, ◌⊎◌, inl, inr, ⊎_elim, ℕ, ◌+◌, ◌-◌, ◌<◌, ◌≤◌, Bool, false, List, [], ◌∷◌, ◌++◌, map, Some, refl, sym, ap, subst, ◌∙◌, arith}
 use Rattle.std.proofs.Math.Nat.{eq-or-lt_of_le}
 use Rattle.std.proofs.lemmas.Bool.{cases_lt}
 use Rattle.std.proofs.lemmas.List.{append-nil}
@@ -17,30 +17,31 @@ use Rattle.cue_table.specs.Tree.{Tree, node, none, Rest, no_rest, onward, row_of
 use Rattle.cue_report.specs.GapSearch.{IsGapIn, IsGapAmong, IsGapOnward, Adds, above, told_above, free_elements}
 use Rattle.cue_report.specs.Listing.{Lists}
 use Rattle.cue_report.specs.Search.{least_at, rest_from}
+use Rattle.cue_report.specs.Telling.{Tally, Grows}
 use Rattle.cue_report.specs.declared.gap.Gap.{Gap}
 use Rattle.cue_report.proofs.Descent.{seen}
 use Rattle.cue_report.proofs.Elements.{less_index}
 use Rattle.cue_report.proofs.FoundGaps.{place_of, IsIn, step_demanded, gap_up, gap_down, with_others}
-use Rattle.cue_report.proofs.GapWalk.{IsOver, IsDone, freed, more_found, above_further}
+use Rattle.cue_report.proofs.GapTelling.{found_more, pushed_is}
+use Rattle.cue_report.proofs.GapWalk.{IsOver, IsDone, freed}
 use Rattle.cue_report.proofs.Order.{all_append, all_map, all_from, one_left, one_right, one_map, rising_append, rising_lifted}
 use Rattle.cue_report.proofs.Rests.{at_rest}
+use Rattle.cue_report.proofs.Telling.{grows_none}
 use Rattle.cue_report.proofs.Rows.{longer_is, index_allowed, is_below, is_long}
 
 -- ---- element by element
 -- a path at an element before a number is before the paths at that
-element_before : (number : ℕ) (p q path : Path) (k : ℕ) → p ≡ index k ∷ path → k < number → path_cmp p (index number ∷ q) ≡ Less
+pub element_before : (number : ℕ) (p q path : Path) (k : ℕ) → p ≡ index k ∷ path → k < number → path_cmp p (index number ∷ q) ≡ Less
 element_before number p q path k e l = ap (λ r. path_cmp r (index number ∷ q)) e ∙ ap (λ o. ordering_then o (path_cmp path q)) (less_index k number l)
 
-module _ (first number : ℕ) (tree : Tree Row) (low : first ≤ number) (xs ys : List Gap) (so_far : Lists place_of (IsGapAmong first number tree) xs) (found : Lists place_of (IsGapIn false tree) ys) where
-  lifted : Gap → Gap
-  lifted = above (index number ∷ [])
-
-  among_more : (gap : Gap) → IsGapAmong first number tree gap → IsGapAmong first (number + 1) tree gap
+module _ (first number : ℕ) (tree : Tree Row) (low : first ≤ number) where
+  pub among_more : (gap : Gap) → IsGapAmong first number tree gap → IsGapAmong first (number + 1) tree gap
   among_more gap h = record { number = h.number; within = (h.within.0, omega (arith, h.within.1)); path = h.path; is = h.is; inner = h.inner }
 
-  among_last : (gap : Gap) → IsGapIn false tree gap → IsGapAmong first (number + 1) tree (above (index number ∷ []) gap)
+  pub among_last : (gap : Gap) → IsGapIn false tree gap → IsGapAmong first (number + 1) tree (above (index number ∷ []) gap)
   among_last gap h = record { number = number; within = (low, omega arith); path = gap.path; is = refl; inner = h }
 
+module _ (first number : ℕ) (tree : Tree Row) (low : first ≤ number) (xs ys : List Gap) (so_far : Lists place_of (IsGapAmong first number tree) xs) (found : Lists place_of (IsGapIn false tree) ys) where
   in_last : (x : Gap) (path : Path) → x.path ≡ index number ∷ path → IsGapIn false tree (record x { path = path }) → OneOf (λ y. y ≡ x) (map (above (index number ∷ [])) ys)
   in_last x path e h =
       let inner : Gap = record x { path = path } in
@@ -54,8 +55,8 @@ module _ (first number : ℕ) (tree : Tree Row) (low : first ≤ number) (xs ys 
   pub one_more : Lists place_of (IsGapAmong first (number + 1) tree) (xs ++ map (above (index number ∷ [])) ys)
   one_more = record {
     sound = all_append (IsGapAmong first (number + 1) tree) xs (map (above (index number ∷ [])) ys)
-        (all_from (IsGapAmong first number tree) (IsGapAmong first (number + 1) tree) xs among_more so_far.sound)
-        (all_map (IsGapIn false tree) (IsGapAmong first (number + 1) tree) (above (index number ∷ [])) ys among_last found.sound);
+        (all_from (IsGapAmong first number tree) (IsGapAmong first (number + 1) tree) xs (among_more first number tree low) so_far.sound)
+        (all_map (IsGapIn false tree) (IsGapAmong first (number + 1) tree) (above (index number ∷ [])) ys (among_last first number tree low) found.sound);
     complete = λ x h. ⊎_elim
         (λ e. one_right (λ y. y ≡ x) xs (map (above (index number ∷ [])) ys) (in_last x h.path (h.is ∙ ap (λ k. index k ∷ h.path) e) h.inner))
         (λ l. one_left (λ y. y ≡ x) xs (map (above (index number ∷ [])) ys)
@@ -68,16 +69,16 @@ module _ (first number : ℕ) (tree : Tree Row) (low : first ≤ number) (xs ys 
   }
 
 -- no element was looked at yet
-pub none_among : {X : Type 0} (piece : Gap → List X) (first : ℕ) (tree : Tree Row) (path : Path) (start : List X) → Adds piece (IsGapAmong first first tree) path start start
+pub none_among : {X : Type 0} (piece : Gap → List X) (first : ℕ) (tree : Tree Row) (path : Path) (start : Tally X) → Adds piece (IsGapAmong first first tree) path start start
 none_among piece first tree path start = record {
   found = [];
   lists = record { sound = tt; complete = λ x h. absurd (let least = h.within.0 in let most = h.within.1 in let no : ⊥ = omega arith in no); rising = tt };
-  is = sym (append-nil start);
+  told = grows_none start;
 }
 
 -- one more was looked at
 pub element_added :
-    {X : Type 0} (piece : Gap → List X) (first number : ℕ) (tree : Tree Row) (path pushed : Path) (start now after : List X) → first ≤ number
+    {X : Type 0} (piece : Gap → List X) (first number : ℕ) (tree : Tree Row) (path pushed : Path) (start now after : Tally X) → first ≤ number
     → Adds piece (IsGapAmong first number tree) path start now → pushed ≡ path ++ index number ∷ [] → Adds piece (IsGapIn false tree) pushed now after
     → Adds piece (IsGapAmong first (number + 1) tree) path start after
 element_added piece first number tree path pushed start now after l h p adds =
@@ -85,23 +86,22 @@ element_added piece first number tree path pushed start now after l h p adds =
     record {
       found = h.found ++ last;
       lists = one_more first number tree l h.found adds.found h.lists adds.lists;
-      is = more_found piece start now after h.found last path h.is
-          (adds.is ∙ ap (λ q. now ++ told_above piece q adds.found) p ∙ ap (λ xs. now ++ flat_map piece xs) (above_further path (index number) adds.found));
+      told = found_more piece path start now after h.found last h.told (subst (Grows now after) (pushed_is piece path pushed (index number) adds.found p) adds.told);
     }
 
 -- the same, told otherwise
 pub same_added :
-    {X : Type 0} (piece : Gap → List X) (P Q : Gap → Type 0) (path : Path) (start after : List X) → ((gap : Gap) → P gap → Q gap) → ((gap : Gap) → Q gap → P gap)
+    {X : Type 0} (piece : Gap → List X) (P Q : Gap → Type 0) (path : Path) (start after : Tally X) → ((gap : Gap) → P gap → Q gap) → ((gap : Gap) → Q gap → P gap)
     → Adds piece P path start after → Adds piece Q path start after
 same_added piece P Q path start after f g h = record {
   found = h.found;
   lists = record { sound = all_from P Q h.found f h.lists.sound; complete = λ x q. h.lists.complete x (g x q); rising = h.lists.rising };
-  is = h.is;
+  told = h.told;
 }
 
 -- elements that are as many
 pub same_elements :
-    {X : Type 0} (piece : Gap → List X) (first number end : ℕ) (tree : Tree Row) (path : Path) (start after : List X) → number - first ≡ end - first
+    {X : Type 0} (piece : Gap → List X) (first number end : ℕ) (tree : Tree Row) (path : Path) (start after : Tally X) → number - first ≡ end - first
     → Adds piece (IsGapAmong first number tree) path start after → Adds piece (IsGapAmong first end tree) path start after
 same_elements piece first number end tree path start after e h =
     same_added piece (IsGapAmong first number tree) (IsGapAmong first end tree) path start after
@@ -109,30 +109,37 @@ same_elements piece first number end tree path start after e h =
     (λ gap k. record { number = k.number; within = (k.within.0, omega (arith, k.within, e)); path = k.path; is = k.is; inner = k.inner })
     h
 
+-- the elements that are the rest
+pub among_onward :
+    (tree rest : Tree Row) (first least : ℕ) → Some rest ≡ rest_tree (rest_of tree) → least ≡ least_at (row_of tree) → first ≡ rest_from (rest_of tree) least
+    → (gap : Gap) → IsGapAmong first least rest gap ↔ IsGapOnward (least_at (row_of tree)) (rest_of tree) gap
+among_onward (node row children no_rest) rest first least r m f gap = cc
+among_onward (node row children (onward n inner)) rest first least r m f gap =
+    let same : rest ≡ inner = cc in (
+      λ k. record { number = k.number; within = (omega (arith, k.within, f, m), omega (arith, k.within, m)); path = k.path; is = k.is; inner = subst (λ t. IsGapIn false t (record gap { path = k.path })) same k.inner },
+      λ k. record { number = k.number; within = (omega (arith, k.within, f, m), omega (arith, k.within, m)); path = k.path; is = k.is; inner = subst (λ t. IsGapIn false t (record gap { path = k.path })) (sym same) k.inner },
+    )
+
 -- all were looked at
 pub all_among :
-    {X : Type 0} (piece : Gap → List X) (tree rest : Tree Row) (first least : ℕ) (path : Path) (start after : List X) → Some rest ≡ rest_tree (rest_of tree)
+    {X : Type 0} (piece : Gap → List X) (tree rest : Tree Row) (first least : ℕ) (path : Path) (start after : Tally X) → Some rest ≡ rest_tree (rest_of tree)
     → least ≡ least_at (row_of tree) → first ≡ rest_from (rest_of tree) least
     → Adds piece (IsGapAmong first least rest) path start after → Adds piece (IsGapOnward (least_at (row_of tree)) (rest_of tree)) path start after
-all_among piece (node row children no_rest) rest first least path start after r m f h = cc
-all_among piece (node row children (onward n inner)) rest first least path start after r m f h =
-    let same : rest ≡ inner = cc in
-    same_added piece (IsGapAmong first least rest) (IsGapAmong n (least_at row) inner) path start after
-    (λ gap k. record { number = k.number; within = (omega (arith, k.within, f, m), omega (arith, k.within, m)); path = k.path; is = k.is; inner = subst (λ t. IsGapIn false t (record gap { path = k.path })) same k.inner })
-    (λ gap k. record { number = k.number; within = (omega (arith, k.within, f, m), omega (arith, k.within, m)); path = k.path; is = k.is; inner = subst (λ t. IsGapIn false t (record gap { path = k.path })) (sym same) k.inner })
-    h
+all_among piece tree rest first least path start after r m f h =
+    same_added piece (IsGapAmong first least rest) (IsGapOnward (least_at (row_of tree)) (rest_of tree)) path start after
+    (λ gap. (among_onward tree rest first least r m f gap).0) (λ gap. (among_onward tree rest first least r m f gap).1) h
 
 -- nothing is looked at where there is no rest
-pub nothing_onward : {X : Type 0} (piece : Gap → List X) (tree : Tree Row) (path : Path) (start : List X) → rest_of tree ≡ no_rest → Adds piece (IsGapOnward (least_at (row_of tree)) (rest_of tree)) path start start
+pub nothing_onward : {X : Type 0} (piece : Gap → List X) (tree : Tree Row) (path : Path) (start : Tally X) → rest_of tree ≡ no_rest → Adds piece (IsGapOnward (least_at (row_of tree)) (rest_of tree)) path start start
 nothing_onward piece tree path start e = subst (λ rest. Adds piece (IsGapOnward (least_at (row_of tree)) rest) path start start) (sym e) (record {
   found = [];
   lists = record { sound = tt; complete = λ x h. absurd h; rising = tt };
-  is = sym (append-nil start);
+  told = grows_none start;
 })
 
 -- ---- the end of a search at a place
 -- what is a gap of the rest is one of the place
-onward_up : (not_allowed : Bool) (tree : Tree Row) (rest : Rest Row) (gap : Gap) → rest_of tree ≡ rest → IsGapOnward (least_at (row_of tree)) rest gap → IsGapIn not_allowed tree gap
+pub onward_up : (not_allowed : Bool) (tree : Tree Row) (rest : Rest Row) (gap : Gap) → rest_of tree ≡ rest → IsGapOnward (least_at (row_of tree)) rest gap → IsGapIn not_allowed tree gap
 onward_up not_allowed tree no_rest gap e h = absurd h
 onward_up not_allowed tree (onward n inner) gap e h =
     subst (λ p. IsGapIn not_allowed tree (record gap { path = p })) (sym h.is)
@@ -157,7 +164,7 @@ onward_down not_allowed tree (onward from inner) gap n path e is l m h =
     }
 
 -- a gap of the rest is behind what was looked at before it
-onward_behind :
+pub onward_behind :
     (rest : Rest Row) (least : ℕ) (p : Path) (gap : Gap) → IsIn (IsDone none (rest_from rest least)) p → IsGapOnward least rest gap → path_cmp p gap.path ≡ Less
 onward_behind no_rest least p gap d h = absurd h
 onward_behind (onward n inner) least p gap d h = subst (λ q. path_cmp p q ≡ Less) (sym h.is) (by p d)
@@ -169,34 +176,34 @@ onward_behind (onward n inner) least p gap d h = subst (λ q. path_cmp p q ≡ L
         let low : k < rest_from (onward n inner) least = d in
         ap (λ o. ordering_then o (path_cmp q h.path)) (less_index k h.number (omega (arith, h.within.0, low)))
 
--- all branches, the free elements behind them and the rest were looked at
-pub ended :
-    {X : Type 0} (piece : Gap → List X) (not_allowed : Bool) (tree : Tree Row) (rest : List (Span × Tree Row)) (next least end : ℕ) (start now middle after : List X) (steps held : List StepRef)
-    → IsOver piece not_allowed tree (spread rest) next start now steps held → rest ≡ [] → least ≡ least_at (row_of tree) → end ≡ rest_from (rest_of tree) least
-    → middle ≡ now ++ told_above piece (map step_at held) (free_elements next (end - next))
-    → Adds piece (IsGapOnward (least_at (row_of tree)) (rest_of tree)) (map step_at held) middle after → Adds piece (IsGapIn not_allowed tree) (map step_at steps) start after
-ended {X = X} piece not_allowed tree rest next least end start now middle after steps held w c m e a adds =
+-- all branches and the free elements behind them were looked at
+pub freed_last :
+    (not_allowed : Bool) (tree : Tree Row) (rest : List (Span × Tree Row)) (next least end : ℕ) (found : List Gap)
+    → IsOver not_allowed tree (spread rest) next found → rest ≡ [] → least ≡ least_at (row_of tree) → end ≡ rest_from (rest_of tree) least
+    → IsOver not_allowed tree none (rest_from (rest_of tree) (least_at (row_of tree))) (found ++ free_elements next (end - next))
+freed_last not_allowed tree rest next least end found w c m e =
     let last : ℕ = rest_from (rest_of tree) (least_at (row_of tree)) in
     let is : end ≡ last = e ∙ ap (rest_from (rest_of tree)) m in
-    let over : IsOver piece not_allowed tree none next start now steps held = subst (λ spans. IsOver piece not_allowed tree (spread spans) next start now steps held) c w in
+    let over : IsOver not_allowed tree none next found = subst (λ spans. IsOver not_allowed tree (spread spans) next found) c w in
     let to : next + (end - next) ≡ last = omega (arith, is, over.within) in
-    let free : middle ≡ now ++ told_above piece (map step_at steps) (free_elements next (end - next)) = a ∙ ap (λ s. now ++ told_above piece (map step_at s) (free_elements next (end - next))) w.same in
-    let all : IsOver piece not_allowed tree none last start middle steps held =
-    subst (λ k. IsOver piece not_allowed tree none k start middle steps held) to
-    (freed piece not_allowed tree none next (end - next) start now middle steps held over (λ n l h. (omega (arith, to, h), tt)) free) in
-    record {
-      found = all.found ++ adds.found;
-      lists = with_others not_allowed tree (IsDone none last) (IsGapOnward (least_at (row_of tree)) (rest_of tree)) all.found adds.found all.lists adds.lists
-          (λ gap h. onward_up not_allowed tree (rest_of tree) gap refl h) cover (onward_behind (rest_of tree) (least_at (row_of tree)));
-      is = more_found piece start middle after all.found adds.found (map step_at steps) all.is (adds.is ∙ ap (λ s. middle ++ told_above piece (map step_at s) adds.found) w.same);
-    }
-  where
-    cover :
-        (gap : Gap) (s : paths.Step) (path : Path) → gap.path ≡ s ∷ path → IsGapIn not_allowed tree gap
-        → IsDone none (rest_from (rest_of tree) (least_at (row_of tree))) s ⊎ IsGapOnward (least_at (row_of tree)) (rest_of tree) gap
-    cover gap (label text) path e h = inl tt
-    cover gap (index n) path e h = elim (cases_lt n (rest_from (rest_of tree) (least_at (row_of tree)))) [
-      | inl l ↦ inl l
-      | inr l ↦ inr (onward_down not_allowed tree (rest_of tree) gap n path refl e l
-          (is_below (row_of tree) n ((longer_is (row_of tree) n).1 (step_demanded not_allowed tree gap (index n) path e h))) h)
-    ]
+    subst (λ k. IsOver not_allowed tree none k (found ++ free_elements next (end - next))) to
+    (freed not_allowed tree none next (end - next) found over (λ n l h. (omega (arith, to, h), tt)))
+
+-- a gap is one of those, or one of the rest
+pub onward_cover :
+    (not_allowed : Bool) (tree : Tree Row) (gap : Gap) (s : paths.Step) (path : Path) → gap.path ≡ s ∷ path → IsGapIn not_allowed tree gap
+    → IsDone none (rest_from (rest_of tree) (least_at (row_of tree))) s ⊎ IsGapOnward (least_at (row_of tree)) (rest_of tree) gap
+onward_cover not_allowed tree gap (label text) path e h = inl tt
+onward_cover not_allowed tree gap (index n) path e h = elim (cases_lt n (rest_from (rest_of tree) (least_at (row_of tree)))) [
+  | inl l ↦ inl l
+  | inr l ↦ inr (onward_down not_allowed tree (rest_of tree) gap n path refl e l
+      (is_below (row_of tree) n ((longer_is (row_of tree) n).1 (step_demanded not_allowed tree gap (index n) path e h))) h)
+]
+
+-- and with the rest these are all
+pub ended :
+    (not_allowed : Bool) (tree : Tree Row) (found ys : List Gap) → IsOver not_allowed tree none (rest_from (rest_of tree) (least_at (row_of tree))) found
+    → Lists place_of (IsGapOnward (least_at (row_of tree)) (rest_of tree)) ys → Lists place_of (IsGapIn not_allowed tree) (found ++ ys)
+ended not_allowed tree found ys w adds =
+    with_others not_allowed tree (IsDone none (rest_from (rest_of tree) (least_at (row_of tree)))) (IsGapOnward (least_at (row_of tree)) (rest_of tree)) found ys w.lists adds
+    (λ gap h. onward_up not_allowed tree (rest_of tree) gap refl h) (onward_cover not_allowed tree) (onward_behind (rest_of tree) (least_at (row_of tree)))

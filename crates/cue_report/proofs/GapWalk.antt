@@ -55,10 +55,10 @@ below_further : (low step : paths.Step) (children : Children Row) → step_cmp l
 below_further low step none h b = tt
 below_further low step (child next tree children) h b = (trans low step next h b.0, below_further low step children h b.1)
 
-less_index : (m n : ℕ) → m < n → step_cmp (index m) (index n) ≡ Less
+pub less_index : (m n : ℕ) → m < n → step_cmp (index m) (index n) ≡ Less
 less_index m n h = sym (nat_cmp_is m n Less h)
 
-not_lt : (m n : ℕ) → (m < n → ⊥) → n ≤ m
+pub not_lt : (m n : ℕ) → (m < n → ⊥) → n ≤ m
 not_lt m n h = omega (arith, h)
 
 up_to : (n next : ℕ) → n < next + 1 → (n < next) ⊎ (n ≡ next)
@@ -69,8 +69,7 @@ abbrev pub IsDone : Children Row → ℕ → paths.Step → Type 0
 IsDone rest next (label text) = IsBelowAll (label text) rest
 IsDone rest next (index n) = n < next
 
-pub record IsOver {X : Type 0} (piece : Gap → List X) (not_allowed : Bool) (tree : Tree Row) (rest : Children Row) (next : ℕ) (start now : List X) (steps held : List StepRef) : Type 0 where
-  pub same : held ≡ steps
+pub record IsOver (not_allowed : Bool) (tree : Tree Row) (rest : Children Row) (next : ℕ) (found : List Gap) : Type 0 where
   pub table : IsTable Refuses IsRow tree
   pub within : next ≤ rest_from (rest_of tree) (least_at (row_of tree))
   pub small : children_size rest ≤ children_size (below tree)
@@ -78,55 +77,26 @@ pub record IsOver {X : Type 0} (piece : Gap → List X) (not_allowed : Bool) (tr
   pub among : (s : paths.Step) (inner : Tree Row) → find s rest ≡ Some inner → find s (below tree) ≡ Some inner
   pub left : (s : paths.Step) (inner : Tree Row) → IsStepDemanded (Told tree) [] s → find s (below tree) ≡ Some inner → IsDone rest next s ⊎ (find s rest ≡ Some inner)
   pub behind : (n : ℕ) → n < next → IsBelowAll (index n) rest
-  pub found : List Gap
   pub lists : UpTo not_allowed tree (IsDone rest next) found
-  pub is : now ≡ start ++ told_above piece (map step_at steps) found
 
 -- what stands at a label that is demanded
-demanded_label : (tree : Tree Row) (text : List ℕ) → IsStepDemanded (Told tree) [] (label text) → (inner : Tree Row) × (find (label text) (below tree) ≡ Some inner)
+pub demanded_label : (tree : Tree Row) (text : List ℕ) → IsStepDemanded (Told tree) [] (label text) → (inner : Tree Row) × (find (label text) (below tree) ≡ Some inner)
 demanded_label tree text d = ⊎_elim
     (λ f. absurd (false≢true ((first_demanded tree empty (label text) (seen_empty tree (label text) f)).1 d)))
     (λ (inner, f). (inner, sym (at_label tree text) ∙ f)) (found_cases (step_into tree (label text)))
 
--- what is seen from a place is seen from the place above
-pub above_further : (path : Path) (step : paths.Step) (xs : List Gap) → map (above (path ++ step ∷ [])) xs ≡ map (above path) (map (above (step ∷ [])) xs)
-above_further path step [] = refl
-above_further path step (x ∷ xs) =
-    let e : (path ++ step ∷ []) ++ x.path ≡ path ++ step ∷ x.path = append_assoc path (step ∷ []) x.path in
-    let first : above (path ++ step ∷ []) x ≡ above path (above (step ∷ []) x) = ap (λ (p : Path). record x { path = p }) e in
-    ap (λ y. y ∷ map (above (path ++ step ∷ [])) xs) first ∙ ap (λ ys. above path (above (step ∷ []) x) ∷ ys) (above_further path step xs)
-
--- what is told of some and of others
-told_append : {X : Type 0} (piece : Gap → List X) (path : Path) (xs ys : List Gap) → told_above piece path (xs ++ ys) ≡ told_above piece path xs ++ told_above piece path ys
-told_append piece path xs ys = ap (flat_map piece) (map-append (above path) xs ys) ∙ flat_map-append piece (map (above path) xs) (map (above path) ys)
-
--- more is found
-pub more_found :
-    {X : Type 0} (piece : Gap → List X) (start now after : List X) (xs ys : List Gap) (path : Path) → now ≡ start ++ told_above piece path xs
-    → after ≡ now ++ told_above piece path ys → after ≡ start ++ told_above piece path (xs ++ ys)
-more_found piece start now after xs ys path n a =
-    a ∙ ap (λ zs. zs ++ told_above piece path ys) n ∙ append_assoc start (told_above piece path xs) (told_above piece path ys)
-    ∙ ap (λ zs. start ++ zs) (sym (told_append piece path xs ys))
-
--- and one more free element
-pub one_more_free :
-    {X : Type 0} (piece : Gap → List X) (first number : ℕ) (start now after : List X) (path : Path) → first ≤ number
-    → now ≡ start ++ told_above piece path (free_elements first (number - first)) → after ≡ now ++ piece (above path (free_at (index number ∷ [])))
-    → after ≡ start ++ told_above piece path (free_elements first (number + 1 - first))
-one_more_free piece first number start now after path l n a =
-    let last : first + (number - first) ≡ number = omega arith in
-    let count : suc (number - first) ≡ number + 1 - first = omega arith in
-    let one : ℕ → Gap = λ k. above path (free_at (index k ∷ [])) in
-    more_found piece start now after (free_elements first (number - first)) (free_at (index (first + (number - first)) ∷ []) ∷ []) path n
-    (a ∙ ap (λ k. now ++ piece (one k)) (sym last) ∙ ap (λ zs. now ++ zs) (sym (append-nil (piece (one (first + (number - first)))))))
-    ∙ ap (λ k. start ++ told_above piece path (free_elements first k)) count
+-- what was looked at is before each branch that is left
+pub done_before :
+    (not_allowed : Bool) (tree : Tree Row) (rest : Children Row) (next : ℕ) (found : List Gap) → IsOver not_allowed tree rest next found
+    → (s step : paths.Step) (t : Tree Row) → IsDone rest next s → find step rest ≡ Some t → step_cmp s step ≡ Less
+done_before not_allowed tree rest next found w (label text) step t h f = below_found (label text) step t rest h f
+done_before not_allowed tree rest next found w (index n) step t h f = below_found (index n) step t rest (w.behind n h) f
 
 -- ---- the walk begins
 pub started :
-    {X : Type 0} (piece : Gap → List X) (not_allowed : Bool) (tree : Tree Row) (start now : List X) (steps held : List StepRef) → IsTable Refuses IsRow tree → held ≡ steps
-    → Adds piece (IsGapHere not_allowed (row_of tree)) (map step_at steps) start now → IsOver piece not_allowed tree (below tree) 0 start now steps held
-started piece not_allowed tree start now steps held t e h = record {
-  same = e;
+    (not_allowed : Bool) (tree : Tree Row) (found : List Gap) → IsTable Refuses IsRow tree → Lists place_of (IsGapHere not_allowed (row_of tree)) found
+    → IsOver not_allowed tree (below tree) 0 found
+started not_allowed tree found t h = record {
   table = t;
   within = omega arith;
   small = omega arith;
@@ -134,9 +104,7 @@ started piece not_allowed tree start now steps held t e h = record {
   among = λ s inner f. f;
   left = λ s inner d f. inr f;
   behind = λ n l. let no : ⊥ = omega arith in absurd no;
-  found = h.found;
-  lists = from_here not_allowed tree (IsDone (below tree) 0) h.found h.lists none_done;
-  is = h.is;
+  lists = from_here not_allowed tree (IsDone (below tree) 0) found h none_done;
 } where
   none_done : (s : paths.Step) → IsStepDemanded (Told tree) [] s → IsDone (below tree) 0 s → ⊥
   none_done (label text) d b = let inner = demanded_label tree text d in not_found (label text) (below tree) inner.0 b inner.1
@@ -151,12 +119,10 @@ empty_gaps not_allowed e = here_only not_allowed empty (free_at [] ∷ []) (subs
     none_demanded (index n) d = d
 
 freed_one :
-    {X : Type 0} (piece : Gap → List X) (not_allowed : Bool) (tree : Tree Row) (rest : Children Row) (next : ℕ) (start now after : List X) (steps held : List StepRef)
-    → IsOver piece not_allowed tree rest next start now steps held → step_into tree (index next) ≡ None → IsBelowAll (index next) rest → next < rest_from (rest_of tree) (least_at (row_of tree))
-    → is_demanded (row_of tree) (index next) None ≡ true
-    → after ≡ now ++ told_above piece (map step_at steps) (free_at (index next ∷ []) ∷ []) → IsOver piece not_allowed tree rest (next + 1) start after steps held
-freed_one piece not_allowed tree rest next start now after steps held w f b m d a = record {
-  same = w.same;
+    (not_allowed : Bool) (tree : Tree Row) (rest : Children Row) (next : ℕ) (found : List Gap)
+    → IsOver not_allowed tree rest next found → step_into tree (index next) ≡ None → IsBelowAll (index next) rest → next < rest_from (rest_of tree) (least_at (row_of tree))
+    → is_demanded (row_of tree) (index next) None ≡ true → IsOver not_allowed tree rest (next + 1) (found ++ free_at (index next ∷ []) ∷ [])
+freed_one not_allowed tree rest next found w f b m d = record {
   table = w.table;
   within = omega (arith, m);
   small = w.small;
@@ -164,10 +130,8 @@ freed_one piece not_allowed tree rest next start now after steps held w f b m d 
   among = w.among;
   left = λ s inner d f. ⊎_elim (λ h. inl (kept s h)) (λ h. inr h) (w.left s inner d f);
   behind = behind;
-  found = w.found ++ free_at (index next ∷ []) ∷ [];
-  lists = extended not_allowed tree empty (index next) (IsDone rest next) (IsDone rest (next + 1)) w.found (free_at [] ∷ []) (seen_empty tree (index next) f) d
+  lists = extended not_allowed tree empty (index next) (IsDone rest next) (IsDone rest (next + 1)) found (free_at [] ∷ []) (seen_empty tree (index next) f) d
       (empty_gaps (is_refused (row_of tree) (index next)) (allowed (row_of tree))) w.lists before kept (omega arith) covered;
-  is = more_found piece start now after w.found (free_at (index next ∷ []) ∷ []) (map step_at steps) w.is a;
 } where
   allowed : (row : Option Row) → is_refused row (index next) ≡ false
   allowed None = refl
@@ -190,9 +154,9 @@ freed_one piece not_allowed tree rest next start now after steps held w f b m d 
 
 -- an element that was not looked at, and is below all branches that are left, has none
 no_branch :
-    {X : Type 0} (piece : Gap → List X) (not_allowed : Bool) (tree : Tree Row) (rest : Children Row) (next n : ℕ) (start now : List X) (steps held : List StepRef)
-    → IsOver piece not_allowed tree rest next start now steps held → next ≤ n → n < rest_from (rest_of tree) (least_at (row_of tree)) → IsBelowAll (index n) rest → step_into tree (index n) ≡ None
-no_branch piece not_allowed tree rest next n start now steps held w l m b =
+    (not_allowed : Bool) (tree : Tree Row) (rest : Children Row) (next n : ℕ) (found : List Gap)
+    → IsOver not_allowed tree rest next found → next ≤ n → n < rest_from (rest_of tree) (least_at (row_of tree)) → IsBelowAll (index n) rest → step_into tree (index n) ≡ None
+no_branch not_allowed tree rest next n found w l m b =
     let known = before_end (rest_of tree) (least_at (row_of tree)) n m in
     at_fixed tree n known.1 ∙ ⊎_elim (λ f. f) (λ (inner, f). absurd (none inner f)) (found_cases (find (index n) (below tree)))
   where
@@ -201,48 +165,44 @@ no_branch piece not_allowed tree rest next n start now steps held w l m b =
         (w.left (index n) inner ((longer_is (row_of tree) n).0 (is_long (row_of tree) n (before_end (rest_of tree) (least_at (row_of tree)) n m).0)) f)
 
 pub freed :
-    {X : Type 0} (piece : Gap → List X) (not_allowed : Bool) (tree : Tree Row) (rest : Children Row) (next count : ℕ) (start now after : List X) (steps held : List StepRef)
-    → IsOver piece not_allowed tree rest next start now steps held → ((n : ℕ) → next ≤ n → n < next + count → (n < rest_from (rest_of tree) (least_at (row_of tree))) × IsBelowAll (index n) rest)
-    → after ≡ now ++ told_above piece (map step_at steps) (free_elements next count) → IsOver piece not_allowed tree rest (next + count) start after steps held
-freed {X = X} piece not_allowed tree rest next zero start now after steps held w free a =
+    (not_allowed : Bool) (tree : Tree Row) (rest : Children Row) (next count : ℕ) (found : List Gap)
+    → IsOver not_allowed tree rest next found → ((n : ℕ) → next ≤ n → n < next + count → (n < rest_from (rest_of tree) (least_at (row_of tree))) × IsBelowAll (index n) rest)
+    → IsOver not_allowed tree rest (next + count) (found ++ free_elements next count)
+freed not_allowed tree rest next zero found w free =
     let same : next ≡ next + 0 = omega arith in
-    subst (λ xs. IsOver piece not_allowed tree rest (next + 0) start xs steps held) (sym (a ∙ append-nil now))
-    (subst (λ k. IsOver piece not_allowed tree rest k start now steps held) same w)
-freed {X = X} piece not_allowed tree rest next (suc count) start now after steps held w free a =
-    let path : Path = map step_at steps in
-    let so_far : List X = now ++ told_above piece path (free_elements next count) in
+    subst (λ xs. IsOver not_allowed tree rest (next + 0) xs) (sym (append-nil found)) (subst (λ k. IsOver not_allowed tree rest k found) same w)
+freed not_allowed tree rest next (suc count) found w free =
+    let so_far : List Gap = found ++ free_elements next count in
     let last : next + count + 1 ≡ next + suc count = omega arith in
-    let before = freed piece not_allowed tree rest next count start now so_far steps held w (λ n l m. free n l (omega arith)) refl in
+    let before = freed not_allowed tree rest next count found w (λ n l m. free n l (omega arith)) in
     let this = free (next + count) (omega arith) (omega arith) in
-    subst (λ k. IsOver piece not_allowed tree rest k start after steps held) last
-    (freed_one piece not_allowed tree rest (next + count) start so_far after steps held before
-    (no_branch piece not_allowed tree rest (next + count) (next + count) start so_far steps held before (omega arith) this.0 this.1) this.1 this.0
-    (is_long (row_of tree) (next + count) (before_end (rest_of tree) (least_at (row_of tree)) (next + count) this.0).0)
-    (a ∙ ap (λ xs. now ++ xs) (told_append piece path (free_elements next count) (free_at (index (next + count) ∷ []) ∷ []))
-    ∙ sym (append_assoc now (told_above piece path (free_elements next count)) (told_above piece path (free_at (index (next + count) ∷ []) ∷ [])))))
+    subst (λ xs. IsOver not_allowed tree rest (next + suc count) xs) (append_assoc found (free_elements next count) (free_at (index (next + count) ∷ []) ∷ []))
+    (subst (λ k. IsOver not_allowed tree rest k (so_far ++ free_at (index (next + count) ∷ []) ∷ [])) last
+    (freed_one not_allowed tree rest (next + count) so_far before
+    (no_branch not_allowed tree rest (next + count) (next + count) so_far before (omega arith) this.0 this.1) this.1 this.0
+    (is_long (row_of tree) (next + count) (before_end (rest_of tree) (least_at (row_of tree)) (next + count) this.0).0)))
 
 -- an element of its own is before the rest
 own_end :
-    {X : Type 0} (piece : Gap → List X) (not_allowed : Bool) (tree inner : Tree Row) (rest : Children Row) (next number : ℕ) (start now : List X) (steps held : List StepRef)
-    → IsOver piece not_allowed tree (child (index number) inner rest) next start now steps held → number < least_at (row_of tree)
+    (not_allowed : Bool) (tree inner : Tree Row) (rest : Children Row) (next number : ℕ) (found : List Gap)
+    → IsOver not_allowed tree (child (index number) inner rest) next found → number < least_at (row_of tree)
     → number < rest_from (rest_of tree) (least_at (row_of tree))
-own_end piece not_allowed tree inner rest next number start now steps held w d =
+own_end not_allowed tree inner rest next number found w d =
     up_to_end (rest_of tree) (least_at (row_of tree)) number d (own_before tree inner number w.table (w.among (index number) inner (found_first (index number) inner rest)))
 
 -- the free elements before a branch are found
 reached :
-    {X : Type 0} (piece : Gap → List X) (not_allowed : Bool) (tree inner : Tree Row) (rest : Children Row) (next number : ℕ) (start now after : List X) (steps held : List StepRef)
-    → IsOver piece not_allowed tree (child (index number) inner rest) next start now steps held → number < least_at (row_of tree)
-    → after ≡ now ++ told_above piece (map step_at steps) (free_elements next (number - next))
-    → IsOver piece not_allowed tree (child (index number) inner rest) number start after steps held
-reached piece not_allowed tree inner rest next number start now after steps held w d a =
+    (not_allowed : Bool) (tree inner : Tree Row) (rest : Children Row) (next number : ℕ) (found : List Gap)
+    → IsOver not_allowed tree (child (index number) inner rest) next found → number < least_at (row_of tree)
+    → IsOver not_allowed tree (child (index number) inner rest) number (found ++ free_elements next (number - next))
+reached not_allowed tree inner rest next number found w d =
     let end : ℕ = rest_from (rest_of tree) (least_at (row_of tree)) in
-    let last : number < end = own_end piece not_allowed tree inner rest next number start now steps held w d in
+    let last : number < end = own_end not_allowed tree inner rest next number found w d in
     let low : next ≤ number = not_lt number next no_later in
     let all : next + (number - next) ≡ number = omega arith in
-    subst (λ k. IsOver piece not_allowed tree (child (index number) inner rest) k start after steps held) all
-    (freed piece not_allowed tree (child (index number) inner rest) next (number - next) start now after steps held w
-    (λ n l m. (omega arith, (less_index n number (omega arith), below_further (index n) (index number) rest (less_index n number (omega arith)) w.rise.0))) a)
+    subst (λ k. IsOver not_allowed tree (child (index number) inner rest) k (found ++ free_elements next (number - next))) all
+    (freed not_allowed tree (child (index number) inner rest) next (number - next) found w
+    (λ n l m. (omega arith, (less_index n number (omega arith), below_further (index n) (index number) rest (less_index n number (omega arith)) w.rise.0))))
   where
     no_later : number < next → ⊥
     no_later l = let other = (w.behind number l).0 in let same = same_step (index number) in cc
@@ -250,18 +210,54 @@ reached piece not_allowed tree inner rest next number start now after steps held
 -- ---- branches that are kept as one are looked at, or passed over
 -- a label before the others is before all, or that of one of them
 label_covered :
-    {X : Type 0} (piece : Gap → List X) (not_allowed : Bool) (tree inner : Tree Row) (span : Span) (rest : Children Row) (next : ℕ) (start now : List X) (steps held : List StepRef)
-    → IsOver piece not_allowed tree (spanned span inner rest) next start now steps held → (text : List ℕ) → IsStepDemanded (Told tree) [] (label text) → IsBelowAll (label text) rest
+    (not_allowed : Bool) (tree inner : Tree Row) (span : Span) (rest : Children Row) (next : ℕ) (found : List Gap)
+    → IsOver not_allowed tree (spanned span inner rest) next found → (text : List ℕ) → IsStepDemanded (Told tree) [] (label text) → IsBelowAll (label text) rest
     → IsBelowAll (label text) (spanned span inner rest) ⊎ ((t : Tree Row) × (find (label text) (spanned span inner none) ≡ Some t))
-label_covered piece not_allowed tree inner span rest next start now steps held w text d b =
+label_covered not_allowed tree inner span rest next found w text d b =
     let found = demanded_label tree text d in
     ⊎_elim (λ h. inl h)
     (λ g. ⊎_elim (λ f. inr (found.0, f)) (λ k. absurd (not_found (label text) rest found.0 b k)) (span_either (label text) span inner found.0 rest g)) (w.left (label text) found.0 d found.1)
 
+-- the gaps of a span, and those of its place
 module _
-    {X : Type 0} (piece : Gap → List X) (not_allowed : Bool) (tree inner : Tree Row) (span : Span) (left : List (Span × Tree Row)) (next later : ℕ) (start now after : List X)
-    (steps held popped : List StepRef) (w : IsOver piece not_allowed tree (spanned span inner (spread left)) next start now steps held) (back : popped ≡ held)
-    (adds : Adds piece (IsGapBelow (row_of tree) (spanned span inner none)) (map step_at held) now after)
+    (not_allowed : Bool) (tree inner : Tree Row) (span : Span) (others : Children Row) (next : ℕ) (found : List Gap)
+    (w : IsOver not_allowed tree (spanned span inner others) next found) where
+  stands : (s : paths.Step) (t : Tree Row) → find s (spanned span inner none) ≡ Some t → step_into tree s ≡ Some t
+  stands s t f = own tree t s w.table (w.among s t (span_own s span inner t others f))
+
+  pub span_up : (gap : Gap) → IsGapBelow (row_of tree) (spanned span inner none) gap → IsGapIn not_allowed tree gap
+  span_up gap h =
+      subst (λ p. IsGapIn not_allowed tree (record gap { path = p })) (sym h.is)
+      (gap_up not_allowed tree h.tree h.step (record gap { path = h.path }) (seen tree h.tree h.step (stands h.step h.tree h.found)) h.demanded h.inner)
+
+  pub span_asked : (s : paths.Step) (t : Tree Row) → find s (spanned span inner none) ≡ Some t → IsStepDemanded (Told tree) [] s → is_demanded (row_of tree) s (row_of t) ≡ true
+  span_asked s t f d = (first_demanded tree t s (seen tree t s (stands s t f))).1 d
+
+  pub span_down :
+      (gap : Gap) (s : paths.Step) (path : Path) → gap.path ≡ s ∷ path → IsGapIn not_allowed tree gap → (t : Tree Row) → find s (spanned span inner none) ≡ Some t
+      → IsGapBelow (row_of tree) (spanned span inner none) gap
+  span_down gap s path e h t f = record {
+    step = s;
+    tree = t;
+    path = path;
+    is = e;
+    found = f;
+    demanded = span_asked s t f (step_demanded not_allowed tree gap s path e h);
+    inner = gap_down not_allowed tree t s gap path e (seen tree t s (stands s t f)) h;
+  }
+
+  before : (s step : paths.Step) (t : Tree Row) → IsDone (spanned span inner others) next s → find step (spanned span inner none) ≡ Some t → step_cmp s step ≡ Less
+  before s step t h f = done_before not_allowed tree (spanned span inner others) next found w s step t h (span_own step span inner t others f)
+
+  pub span_order : (p : Path) (gap : Gap) → IsIn (IsDone (spanned span inner others) next) p → IsGapBelow (row_of tree) (spanned span inner none) gap → path_cmp p gap.path ≡ Less
+  span_order p gap d h = subst (λ q. path_cmp p q ≡ Less) (sym h.is) (by p d) where
+    by : (q : Path) → IsIn (IsDone (spanned span inner others) next) q → path_cmp q (h.step ∷ h.path) ≡ Less
+    by [] d = refl
+    by (s ∷ q) d = ap (λ o. ordering_then o (path_cmp q h.path)) (before s h.step h.tree d h.found)
+
+module _
+    (not_allowed : Bool) (tree inner : Tree Row) (span : Span) (left : List (Span × Tree Row)) (next later : ℕ) (found ys : List Gap)
+    (w : IsOver not_allowed tree (spanned span inner (spread left)) next found) (adds : Lists place_of (IsGapBelow (row_of tree) (spanned span inner none)) ys)
     (more : next ≤ later) (within : later ≤ rest_from (rest_of tree) (least_at (row_of tree))) (behind : (n : ℕ) → n < later → IsBelowAll (index n) (spread left))
     (new : (s : paths.Step) (t : Tree Row) → is_demanded (row_of tree) s (row_of t) ≡ true → find s (spanned span inner none) ≡ Some t → IsDone (spread left) later s)
     (covered : (n : ℕ) → n < later → (n < next) ⊎ ((t : Tree Row) × (find (index n) (spanned span inner none) ≡ Some t))) where
@@ -269,126 +265,110 @@ module _
   kept (label text) h = span_below (label text) span inner (spread left) h
   kept (index n) h = let low : n < next = h in omega arith
 
-  stands : (s : paths.Step) (t : Tree Row) → find s (spanned span inner none) ≡ Some t → step_into tree s ≡ Some t
-  stands s t f = own tree t s w.table (w.among s t (span_own s span inner t (spread left) f))
-
   up : (gap : Gap) → IsGapBelow (row_of tree) (spanned span inner none) gap → IsGapIn not_allowed tree gap × IsIn (IsDone (spread left) later) gap.path
   up gap h = (
-    subst (λ p. IsGapIn not_allowed tree (record gap { path = p })) (sym h.is)
-        (gap_up not_allowed tree h.tree h.step (record gap { path = h.path }) (seen tree h.tree h.step (stands h.step h.tree h.found)) h.demanded h.inner),
+    span_up not_allowed tree inner span (spread left) next found w gap h,
     subst (IsIn (IsDone (spread left) later)) (sym h.is) (new h.step h.tree h.demanded h.found),
   )
 
-  asked : (s : paths.Step) (t : Tree Row) → find s (spanned span inner none) ≡ Some t → IsStepDemanded (Told tree) [] s → is_demanded (row_of tree) s (row_of t) ≡ true
-  asked s t f d = (first_demanded tree t s (seen tree t s (stands s t f))).1 d
-
-  down :
-      (gap : Gap) (s : paths.Step) (path : Path) → gap.path ≡ s ∷ path → IsGapIn not_allowed tree gap → (t : Tree Row) → find s (spanned span inner none) ≡ Some t
-      → IsGapBelow (row_of tree) (spanned span inner none) gap
-  down gap s path e h t f = record {
-    step = s;
-    tree = t;
-    path = path;
-    is = e;
-    found = f;
-    demanded = asked s t f (step_demanded not_allowed tree gap s path e h);
-    inner = gap_down not_allowed tree t s gap path e (seen tree t s (stands s t f)) h;
-  }
-
   either : (s : paths.Step) → IsStepDemanded (Told tree) [] s → IsDone (spread left) later s → IsDone (spanned span inner (spread left)) next s ⊎ ((t : Tree Row) × (find s (spanned span inner none) ≡ Some t))
-  either (label text) d h = label_covered piece not_allowed tree inner span (spread left) next start now steps held w text d h
+  either (label text) d h = label_covered not_allowed tree inner span (spread left) next found w text d h
   either (index n) d h = covered n h
 
   cover :
       (gap : Gap) (s : paths.Step) (path : Path) → gap.path ≡ s ∷ path → IsGapIn not_allowed tree gap → IsDone (spread left) later s
       → IsDone (spanned span inner (spread left)) next s ⊎ IsGapBelow (row_of tree) (spanned span inner none) gap
-  cover gap s path e h d = ⊎_elim (λ k. inl k) (λ (t, f). inr (down gap s path e h t f)) (either s (step_demanded not_allowed tree gap s path e h) d)
+  cover gap s path e h d =
+      ⊎_elim (λ k. inl k) (λ (t, f). inr (span_down not_allowed tree inner span (spread left) next found w gap s path e h t f)) (either s (step_demanded not_allowed tree gap s path e h) d)
 
-  before : (s step : paths.Step) (t : Tree Row) → IsDone (spanned span inner (spread left)) next s → find step (spanned span inner none) ≡ Some t → step_cmp s step ≡ Less
-  before (label text) step t h f = below_found (label text) step t (spanned span inner (spread left)) h (span_own step span inner t (spread left) f)
-  before (index n) step t h f = below_found (index n) step t (spanned span inner (spread left)) (w.behind n h) (span_own step span inner t (spread left) f)
-
-  in_order : (p : Path) (gap : Gap) → IsIn (IsDone (spanned span inner (spread left)) next) p → IsGapBelow (row_of tree) (spanned span inner none) gap → path_cmp p gap.path ≡ Less
-  in_order p gap d h = subst (λ q. path_cmp p q ≡ Less) (sym h.is) (by p d) where
-    by : (q : Path) → IsIn (IsDone (spanned span inner (spread left)) next) q → path_cmp q (h.step ∷ h.path) ≡ Less
-    by [] d = refl
-    by (s ∷ q) d = ap (λ o. ordering_then o (path_cmp q h.path)) (before s h.step h.tree d h.found)
-
-  looked_at : IsOver piece not_allowed tree (spread left) later start after steps popped
+  looked_at : IsOver not_allowed tree (spread left) later (found ++ ys)
   looked_at = record {
-    same = back ∙ w.same;
     table = w.table;
     within = within;
     small = let size = left_size span inner ((span, inner) ∷ left) left refl in omega (arith, w.small, size);
     rise = span_rise span inner (spread left) w.rise;
     among = λ s t f. w.among s t (span_later s span inner t (spread left) w.rise f);
-    left = λ s t d f. ⊎_elim (λ h. inl (kept s h)) (λ g. ⊎_elim (λ k. inl (new s t (asked s t k d) k)) (λ k. inr k) (span_either s span inner t (spread left) g)) (w.left s t d f);
+    left = λ s t d f. ⊎_elim (λ h. inl (kept s h))
+        (λ g. ⊎_elim (λ k. inl (new s t (span_asked not_allowed tree inner span (spread left) next found w s t k d) k)) (λ k. inr k) (span_either s span inner t (spread left) g)) (w.left s t d f);
     behind = behind;
-    found = w.found ++ adds.found;
     lists = extended_by not_allowed tree (IsDone (spanned span inner (spread left)) next) (IsDone (spread left) later) (IsGapBelow (row_of tree) (spanned span inner none))
-        w.found adds.found w.lists adds.lists kept up cover in_order;
-    is = more_found piece start now after w.found adds.found (map step_at steps) w.is (adds.is ∙ ap (λ s. now ++ told_above piece (map step_at s) adds.found) w.same);
+        found ys w.lists adds kept up cover (span_order not_allowed tree inner span (spread left) next found w);
   }
 
 -- of elements that are alike the first one is reached
 run_reached :
-    {X : Type 0} (piece : Gap → List X) (not_allowed : Bool) (tree inner : Tree Row) (more : ℕ) (rest : Children Row) (next number : ℕ) (start now after : List X) (steps held : List StepRef)
-    → IsOver piece not_allowed tree (alike number more inner rest) next start now steps held → number < least_at (row_of tree)
-    → after ≡ now ++ told_above piece (map step_at steps) (free_elements next (number - next))
-    → IsOver piece not_allowed tree (alike number more inner rest) number start after steps held
-run_reached piece not_allowed tree inner zero rest next number start now after steps held w d a = reached piece not_allowed tree inner rest next number start now after steps held w d a
-run_reached piece not_allowed tree inner (suc more) rest next number start now after steps held w d a =
-    reached piece not_allowed tree inner (alike (suc number) more inner rest) next number start now after steps held w d a
+    (not_allowed : Bool) (tree inner : Tree Row) (more : ℕ) (rest : Children Row) (next number : ℕ) (found : List Gap)
+    → IsOver not_allowed tree (alike number more inner rest) next found → number < least_at (row_of tree)
+    → IsOver not_allowed tree (alike number more inner rest) number (found ++ free_elements next (number - next))
+run_reached not_allowed tree inner zero rest next number found w d = reached not_allowed tree inner rest next number found w d
+run_reached not_allowed tree inner (suc more) rest next number found w d = reached not_allowed tree inner (alike (suc number) more inner rest) next number found w d
 
 -- elements of their own are before the rest
 run_within :
-    {X : Type 0} (piece : Gap → List X) (not_allowed : Bool) (tree inner : Tree Row) (first more : ℕ) (rest : Children Row) (next number : ℕ) (start now : List X) (steps held : List StepRef)
-    → IsOver piece not_allowed tree (alike first more inner rest) next start now steps held → first ≤ number → number ≤ first + more → number < least_at (row_of tree)
+    (not_allowed : Bool) (tree inner : Tree Row) (first more : ℕ) (rest : Children Row) (next number : ℕ) (found : List Gap)
+    → IsOver not_allowed tree (alike first more inner rest) next found → first ≤ number → number ≤ first + more → number < least_at (row_of tree)
     → number < rest_from (rest_of tree) (least_at (row_of tree))
-run_within piece not_allowed tree inner first more rest next number start now steps held w l m d =
+run_within not_allowed tree inner first more rest next number found w l m d =
     up_to_end (rest_of tree) (least_at (row_of tree)) number d (own_before tree inner number w.table (w.among (index number) inner (alike_at first more number inner rest l m)))
 
-nat_lt_is : (m n : ℕ) → m < n → nat_lt m n ≡ true
+pub nat_lt_is : (m n : ℕ) → m < n → nat_lt m n ≡ true
 nat_lt_is m n h = grind (arith, nat_tests)
 
-nat_lt_not : (m n : ℕ) → n ≤ m → nat_lt m n ≡ false
+pub nat_lt_not : (m n : ℕ) → n ≤ m → nat_lt m n ≡ false
 nat_lt_not m n h = grind (arith, nat_tests)
+
+-- all elements up to the last one of a span are before what stands behind it
+pub up_to_last : (n first more : ℕ) (inner : Tree Row) (others : Children Row) → AreBranches (IsKept Refuses IsRow) (alike first more inner others) → n ≤ first + more → IsBelowAll (index n) others
+up_to_last n first more inner others rise h = ⊎_elim
+    (λ e. subst (λ k. IsBelowAll (index k) others) (sym e) (last_below first more inner others rise))
+    (λ k. below_further (index n) (index (first + more)) others (less_index n (first + more) k) (last_below first more inner others rise))
+    (eq-or-lt_of_le {n = n} {m = first + more} h)
+
+-- where the walk is once the free elements before a span are found
+abbrev pub reach_of : ℕ → ℕ → Span → ℕ
+reach_of next least (field text) = next
+reach_of next least (elements first more) = if nat_lt first least then first else next
+
+pub span_reached :
+    (not_allowed : Bool) (tree inner : Tree Row) (span : Span) (others : Children Row) (next : ℕ) (found : List Gap) → IsOver not_allowed tree (spanned span inner others) next found
+    → IsOver not_allowed tree (spanned span inner others) (reach_of next (least_at (row_of tree)) span) (found ++ free_before next (least_at (row_of tree)) span)
+span_reached not_allowed tree inner (field text) others next found w = subst (λ xs. IsOver not_allowed tree (child (label text) inner others) next xs) (sym (append-nil found)) w
+span_reached not_allowed tree inner (elements first more) others next found w = elim (cases_lt first (least_at (row_of tree))) [
+  | inl low ↦
+      subst (λ b. IsOver not_allowed tree (alike first more inner others) (if b then first else next) (found ++ (if b then free_elements next (first - next) else [])))
+      (sym (nat_lt_is first (least_at (row_of tree)) low)) (run_reached not_allowed tree inner more others next first found w low)
+  | inr high ↦
+      subst (λ b. IsOver not_allowed tree (alike first more inner others) (if b then first else next) (found ++ (if b then free_elements next (first - next) else [])))
+      (sym (nat_lt_not first (least_at (row_of tree)) high)) (subst (λ xs. IsOver not_allowed tree (alike first more inner others) next xs) (sym (append-nil found)) w)
+]
 
 -- the next branches that are kept as one were looked at, and the free elements before them
 span_walked :
-    {X : Type 0} (piece : Gap → List X) (not_allowed : Bool) (tree inner : Tree Row) (span : Span) (left : List (Span × Tree Row)) (next later : ℕ) (start now free after : List X)
-    (steps held popped : List StepRef) → IsOver piece not_allowed tree (spanned span inner (spread left)) next start now steps held
-    → later ≡ next_after next (least_at (row_of tree)) span → free ≡ now ++ told_above piece (map step_at steps) (free_before next (least_at (row_of tree)) span) → popped ≡ held
-    → Adds piece (IsGapBelow (row_of tree) (spanned span inner none)) (map step_at held) free after → IsOver piece not_allowed tree (spread left) later start after steps popped
-span_walked piece not_allowed tree inner (field text) left next later start now free after steps held popped w l f back adds =
-    let none_free : free ≡ now = f ∙ append-nil now in
-    subst (λ k. IsOver piece not_allowed tree (spread left) k start after steps popped) (sym l)
-    (looked_at piece not_allowed tree inner (field text) left next next start now after steps held popped w back
-    (subst (λ xs. Adds piece (IsGapBelow (row_of tree) (spanned (field text) inner none)) (map step_at held) xs after) none_free adds)
-    (omega arith) w.within (λ n h. (w.behind n h).1) new (λ n h. inl h))
+    (not_allowed : Bool) (tree inner : Tree Row) (span : Span) (left : List (Span × Tree Row)) (next later : ℕ) (found ys : List Gap)
+    → IsOver not_allowed tree (spanned span inner (spread left)) (reach_of next (least_at (row_of tree)) span) found
+    → later ≡ next_after next (least_at (row_of tree)) span → Lists place_of (IsGapBelow (row_of tree) (spanned span inner none)) ys
+    → IsOver not_allowed tree (spread left) later (found ++ ys)
+span_walked not_allowed tree inner (field text) left next later found ys w l adds =
+    subst (λ k. IsOver not_allowed tree (spread left) k (found ++ ys)) (sym l)
+    (looked_at not_allowed tree inner (field text) left next next found ys w adds (omega arith) w.within (λ n h. (w.behind n h).1) new (λ n h. inl h))
   where
     new : (s : paths.Step) (t : Tree Row) → is_demanded (row_of tree) s (row_of t) ≡ true → find s (child (label text) inner none) ≡ Some t → IsDone (spread left) next s
     new s t d g = subst (IsDone (spread left) next) (sym (only_branch s (label text) inner t g).0) w.rise.0
-span_walked piece not_allowed tree inner (elements first more) left next later start now free after steps held popped w l f back adds = elim (cases_lt first (least_at (row_of tree))) [
+span_walked not_allowed tree inner (elements first more) left next later found ys w l adds = elim (cases_lt first (least_at (row_of tree))) [
   | inl low ↦ demanded low
   | inr high ↦ passed high
 ] where
   behind : (n : ℕ) → n ≤ first + more → IsBelowAll (index n) (spread left)
-  behind n h = ⊎_elim
-      (λ e. subst (λ k. IsBelowAll (index k) (spread left)) (sym e) (last_below first more inner (spread left) w.rise))
-      (λ k. below_further (index n) (index (first + more)) (spread left) (less_index n (first + more) k) (last_below first more inner (spread left) w.rise))
-      (eq-or-lt_of_le {n = n} {m = first + more} h)
+  behind n h = up_to_last n first more inner (spread left) w.rise h
 
-  demanded : first < least_at (row_of tree) → IsOver piece not_allowed tree (spread left) later start after steps popped
+  demanded : first < least_at (row_of tree) → IsOver not_allowed tree (spread left) later (found ++ ys)
   demanded low =
       let is : nat_lt first (least_at (row_of tree)) ≡ true = nat_lt_is first (least_at (row_of tree)) low in
       let last : later ≡ min (least_at (row_of tree)) (first + more + 1) = l ∙ ap (λ b. if b then min (least_at (row_of tree)) (first + more + 1) else next) is in
-      let told : free ≡ now ++ told_above piece (map step_at steps) (free_elements next (first - next)) =
-      f ∙ ap (λ b. now ++ told_above piece (map step_at steps) (if b then free_elements next (first - next) else [])) is in
-      let here : IsOver piece not_allowed tree (alike first more inner (spread left)) first start free steps held =
-      run_reached piece not_allowed tree inner more (spread left) next first start now free steps held w low told in
-      looked_at piece not_allowed tree inner (elements first more) left first later start free after steps held popped here back adds
-      (omega arith) (let own_end = run_within piece not_allowed tree inner first more (spread left) first (later - 1) start free steps held here (omega arith) (omega arith) (omega arith) in omega (arith, own_end, last, low))
+      let here : IsOver not_allowed tree (alike first more inner (spread left)) first found =
+      subst (λ b. IsOver not_allowed tree (alike first more inner (spread left)) (if b then first else next) found) is w in
+      looked_at not_allowed tree inner (elements first more) left first later found ys here adds
+      (omega arith) (let own_end = run_within not_allowed tree inner first more (spread left) first (later - 1) found here (omega arith) (omega arith) (omega arith) in omega (arith, own_end, last, low))
       (λ n h. behind n (omega (arith, last, h)))
       (λ s t d g. let at = alike_is s first more inner t g in
       subst (IsDone (spread left) later) (sym at.is) (let long = is_below (row_of tree) at.number (subst (λ u. is_demanded (row_of tree) u (row_of t) ≡ true) at.is d) in omega (arith, last, long, at.most)))
@@ -397,25 +377,22 @@ span_walked piece not_allowed tree inner (elements first more) left next later s
         | inr k ↦ inr (inner, alike_at first more n inner none k (omega (arith, last, h)))
       ])
 
-  passed : least_at (row_of tree) ≤ first → IsOver piece not_allowed tree (spread left) later start after steps popped
+  passed : least_at (row_of tree) ≤ first → IsOver not_allowed tree (spread left) later (found ++ ys)
   passed high =
       let is : nat_lt first (least_at (row_of tree)) ≡ false = nat_lt_not first (least_at (row_of tree)) high in
       let last : later ≡ next = l ∙ ap (λ b. if b then min (least_at (row_of tree)) (first + more + 1) else next) is in
-      let none_free : free ≡ now = f ∙ ap (λ b. now ++ told_above piece (map step_at steps) (if b then free_elements next (first - next) else [])) is ∙ append-nil now in
-      subst (λ k. IsOver piece not_allowed tree (spread left) k start after steps popped) (sym last)
-      (looked_at piece not_allowed tree inner (elements first more) left next next start now after steps held popped w back
-      (subst (λ xs. Adds piece (IsGapBelow (row_of tree) (alike first more inner none)) (map step_at held) xs after) none_free adds)
-      (omega arith) w.within (λ n h. span_below (index n) (elements first more) inner (spread left) (w.behind n h))
+      let here : IsOver not_allowed tree (alike first more inner (spread left)) next found =
+      subst (λ b. IsOver not_allowed tree (alike first more inner (spread left)) (if b then first else next) found) is w in
+      subst (λ k. IsOver not_allowed tree (spread left) k (found ++ ys)) (sym last)
+      (looked_at not_allowed tree inner (elements first more) left next next found ys here adds
+      (omega arith) here.within (λ n h. span_below (index n) (elements first more) inner (spread left) (here.behind n h))
       (λ s t d g. let at = alike_is s first more inner t g in
       absurd (let long = is_below (row_of tree) at.number (subst (λ u. is_demanded (row_of tree) u (row_of t) ≡ true) at.is d) in let no : ⊥ = omega (arith, high, long, at.least) in no))
       (λ n h. inl h))
 
 pub walked_span :
-    {X : Type 0} (piece : Gap → List X) (not_allowed : Bool) (tree inner : Tree Row) (span : Span) (rest left : List (Span × Tree Row)) (next least later : ℕ) (start now free after : List X)
-    (steps held popped : List StepRef) → IsOver piece not_allowed tree (spread rest) next start now steps held → rest ≡ (span, inner) ∷ left → least ≡ least_at (row_of tree)
-    → later ≡ next_after next least span → free ≡ now ++ told_above piece (map step_at steps) (free_before next least span) → popped ≡ held
-    → Adds piece (IsGapBelow (row_of tree) (spanned span inner none)) (map step_at held) free after → IsOver piece not_allowed tree (spread left) later start after steps popped
-walked_span piece not_allowed tree inner span rest left next least later start now free after steps held popped w e m l f back adds =
-    span_walked piece not_allowed tree inner span left next later start now free after steps held popped
-    (subst (λ spans. IsOver piece not_allowed tree (spread spans) next start now steps held) e w)
-    (l ∙ ap (λ k. next_after next k span) m) (f ∙ ap (λ k. now ++ told_above piece (map step_at steps) (free_before next k span)) m) back adds
+    (not_allowed : Bool) (tree inner : Tree Row) (span : Span) (left : List (Span × Tree Row)) (next later : ℕ) (found ys : List Gap) → IsOver not_allowed tree (spanned span inner (spread left)) next found
+    → later ≡ next_after next (least_at (row_of tree)) span → Lists place_of (IsGapBelow (row_of tree) (spanned span inner none)) ys
+    → IsOver not_allowed tree (spread left) later ((found ++ free_before next (least_at (row_of tree)) span) ++ ys)
+walked_span not_allowed tree inner span left next later found ys w l adds =
+    span_walked not_allowed tree inner span left next later (found ++ free_before next (least_at (row_of tree)) span) ys (span_reached not_allowed tree inner span (spread left) next found w) l adds

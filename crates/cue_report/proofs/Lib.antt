@@ -7,10 +7,14 @@ pub mod Elements
 pub mod Empty
 pub mod Existing
 pub mod Exact
+pub mod Exported
 pub mod Found
 pub mod FoundGaps
+pub mod GapFronts
 pub mod GapRests
 pub mod GapRuns
+pub mod GapSteps
+pub mod GapTelling
 pub mod GapWalk
 pub mod OneList
 pub mod OneReport
@@ -22,6 +26,7 @@ pub mod Runs
 pub mod Same
 pub mod Settled
 pub mod SpanSteps
+pub mod Telling
 pub mod TextOf
 pub mod Texts
 pub mod Trails

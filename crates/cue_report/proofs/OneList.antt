@@ -1,5 +1,5 @@
 -- A list in the order of its paths is told by its members.
-use Rattle.std.proofs.Common.{◌≡◌, inl, inr, ⊎_elim, List, [], ◌∷◌, refl, sym, ap, subst, ◌∙◌}
+use Rattle.std.proofs.Common.{◌≡◌, ◌⊎◌, inl, inr, ⊎_elim, List, [], ◌∷◌, ◌++◌, refl, sym, ap, subst, ◌∙◌}
 use Rattle.std.specs.Ordering.{ordering_then}
 use Rattle.std.specs.List.{AllByRecursion}
 use Rattle.std.specs.declared.cmp.Ordering.{Ordering}
@@ -23,7 +23,7 @@ asymmetric (x ∷ p) (y ∷ q) h k = by (asymmetric p q) (step_cmp x y) refl h w
   by rest Equal e g = rest g (behind Equal (reverse_cmp x y Equal e))
   by rest Greater e g = let no : Greater ≡ Less = g in cc
 
-has_of : {X : Type 0} (P : X → Type 0) (xs : List X) (x : X) → AllByRecursion P xs → OneOf (λ y. y ≡ x) xs → P x
+pub has_of : {X : Type 0} (P : X → Type 0) (xs : List X) (x : X) → AllByRecursion P xs → OneOf (λ y. y ≡ x) xs → P x
 has_of P [] x h o = absurd o
 has_of P (y ∷ ys) x h (inl e) = subst P e h.0
 has_of P (y ∷ ys) x h (inr o) = has_of P ys x h.1 o
@@ -63,3 +63,28 @@ module _ {X : Type 0} (path : X → Path) where
   pub one_list : (P Q : X → Type 0) (xs ys : List X) → ((x : X) → P x → Q x) → ((x : X) → Q x → P x) → Lists path P xs → Lists path Q ys → xs ≡ ys
   one_list P Q xs ys f g h k =
       same_members xs ys h.rising k.rising (λ x o. k.complete x (f x (listed P xs x h o))) (λ x o. h.complete x (g x (listed Q ys x k o)))
+
+  -- a list in that order begins with another one, where each of its members is one of that or behind all of that
+  pub splits :
+      (xs all : List X) → IsRising path xs → IsRising path all → Within xs all → ((x : X) → OneOf (λ y. y ≡ x) all → OneOf (λ y. y ≡ x) xs ⊎ AllByRecursion (λ y. path_cmp (path y) (path x) ≡ Less) xs)
+      → (more : List X) × (all ≡ xs ++ more)
+  splits [] all h k w v = (all, refl)
+  splits (x ∷ xs) [] h k w v = absurd (w x (inl refl))
+  splits (x ∷ xs) (a ∷ all) h k w v =
+      let e : a ≡ x = first in
+      let rest = splits xs all h.1 k.1 (λ y o. ⊎_elim (λ f. absurd (twice y (sym e ∙ f) o)) (λ l. l) (w y (inr o))) (λ y o. ⊎_elim (λ l. ⊎_elim (λ f. absurd (again y (e ∙ f) o)) (λ m. inl m) l) (λ b. inr b.1) (v y (inr o))) in
+      (rest.0, λ i. e i ∷ rest.1 i)
+    where
+      twice : (y : X) → x ≡ y → OneOf (λ z. z ≡ y) xs → ⊥
+      twice y f o = let low : path_cmp (path x) (path y) ≡ Less = before x y xs h o in let same : path_cmp (path y) (path y) ≡ Less = subst (λ z. path_cmp (path z) (path y) ≡ Less) f low in asymmetric (path y) (path y) same same
+
+      again : (y : X) → a ≡ y → OneOf (λ z. z ≡ y) all → ⊥
+      again y f o = let low : path_cmp (path a) (path y) ≡ Less = before a y all k o in let same : path_cmp (path y) (path y) ≡ Less = subst (λ z. path_cmp (path z) (path y) ≡ Less) f low in asymmetric (path y) (path y) same same
+
+      later : path_cmp (path x) (path a) ≡ Less → OneOf (λ z. z ≡ x) all → ⊥
+      later low o = asymmetric (path x) (path a) low (before a x all k o)
+
+      first : a ≡ x
+      first = ⊎_elim (λ e. e)
+          (λ l. ⊎_elim (λ o. ⊎_elim (λ f. sym f) (λ m. absurd (later (before x a xs h m) l)) o) (λ b. absurd (later b.0 l)) (v a (inl refl)))
+          (w x (inl refl))

@@ -17,11 +17,11 @@ use Rattle.cue_report.proofs.Documents.{same_chosen}
 use Rattle.cue_report.proofs.OneList.{one_list}
 use Rattle.cue_report.proofs.Same.{swapped, same_beyond, step_there, chosen_there, free_there, conflict_there, gap_there}
 
-one_conflicts : (a b : Refusals) (xs ys : List Conflict) → SameAnswers a b → AreConflicts a xs → AreConflicts b ys → xs ≡ ys
+pub one_conflicts : (a b : Refusals) (xs ys : List Conflict) → SameAnswers a b → AreConflicts a xs → AreConflicts b ys → xs ≡ ys
 one_conflicts a b xs ys same =
     one_list (λ conflict. conflict.path) (IsConflict a) (IsConflict b) xs ys (λ x. conflict_there a b x same) (λ x. conflict_there b a x (swapped a b same))
 
-one_gaps : (a b : Refusals) (xs ys : List Gap) → SameAnswers a b → AreGaps a xs → AreGaps b ys → xs ≡ ys
+pub one_gaps : (a b : Refusals) (xs ys : List Gap) → SameAnswers a b → AreGaps a xs → AreGaps b ys → xs ≡ ys
 one_gaps a b xs ys same =
     one_list (λ gap. gap.path) (IsGap a) (IsGap b) xs ys (λ x. gap_there a b x same) (λ x. gap_there b a x (swapped a b same))
 
@@ -70,7 +70,7 @@ scalar_last : (a b : Refusals) (j k : Data) → SameAnswers a b → IsShape IsCh
 scalar_last a b j k same h g = sym (scalar_first b a k j (swapped a b same) g h)
 
 mutual
-  one_document : (a b : Refusals) (j k : Data) → SameAnswers a b → IsShape IsChosen a j → IsShape IsChosen b k → j ≡ k
+  pub one_document : (a b : Refusals) (j k : Data) → SameAnswers a b → IsShape IsChosen a j → IsShape IsChosen b k → j ≡ k
   one_document a b null k same h g = scalar_first a b null k same h g
   one_document a b (boolean t) k same h g = scalar_first a b (boolean t) k same h g
   one_document a b (number n) k same h g = scalar_first a b (number n) k same h g

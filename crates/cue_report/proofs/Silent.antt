@@ -7,6 +7,7 @@ use Rattle.cue_row.specs.declared.parts.RowParts.{RowParts as Row}
 use Rattle.cue_table.specs.Tree.{Tree}
 use Rattle.cue_report.specs.GapSearch.{IsGapIn, IsGapAmong, Adds, above}
 use Rattle.cue_report.specs.Search.{each_index}
+use Rattle.cue_report.specs.Telling.{Tally, Grows}
 use Rattle.cue_report.specs.declared.conflict.Conflict.{Conflict}
 use Rattle.cue_report.specs.declared.gap.Gap.{Gap}
 use Rattle.cue_report.proofs.Order.{all_from}
@@ -19,12 +20,11 @@ module _ {X Y : Type 0} (piece : Y → List X) (some : (y : Y) → 0 < length (p
       omega (arith, here, all)
 
   -- where nothing was told, nothing was found
-  pub silent : (lift : Y → Y) (found : List Y) (now after : List X) → after ≡ now ++ flat_map piece (map lift found) → length after ≡ length now → found ≡ []
+  pub silent : (lift : Y → Y) (found : List Y) (now after : Tally X) → Grows now after (flat_map piece (map lift found)) → after.count ≡ now.count → found ≡ []
   silent lift [] now after a same = refl
   silent lift (y ∷ found) now after a same =
       let more = pieces_some lift y found in
-      let all : length after ≡ length now + length (flat_map piece (map lift (y ∷ found))) = ap length a ∙ length-append now (flat_map piece (map lift (y ∷ found))) in
-      absurd (omega (arith, same, more, all))
+      absurd (omega (arith, same, more, a.count))
 
 no_elements : (first count : ℕ) → each_index first count [] ≡ []
 no_elements first zero = refl
@@ -36,7 +36,7 @@ any_elements first count other found none =
     ap (each_index first count) none ∙ no_elements first count ∙ sym (no_elements first other) ∙ sym (ap (each_index first other) none)
 
 -- and so of gaps
-pub any_among : {X : Type 0} (piece : Gap → List X) → ((gap : Gap) → 0 < length (piece gap)) → (first number least : ℕ) (tree : Tree Row) (path pushed : Path) (start now after : List X) → length after ≡ length now
+pub any_among : {X : Type 0} (piece : Gap → List X) → ((gap : Gap) → 0 < length (piece gap)) → (first number least : ℕ) (tree : Tree Row) (path pushed : Path) (start now after : Tally X) → after.count ≡ now.count
     → Adds piece (IsGapIn false tree) pushed now after → Adds piece (IsGapAmong first number tree) path start after → Adds piece (IsGapAmong first least tree) path start after
 any_among piece some first number least tree path pushed start now after same here all = record {
   found = all.found;
@@ -45,10 +45,10 @@ any_among piece some first number least tree path pushed start now after same he
     complete = λ gap h. absurd (none_least gap h);
     rising = all.lists.rising;
   };
-  is = all.is;
+  told = all.told;
 } where
   found_none : here.found ≡ []
-  found_none = silent piece some (above pushed) here.found now after here.is same
+  found_none = silent piece some (above pushed) here.found now after here.told same
 
   inner_none : (gap : Gap) → ¬ IsGapIn false tree gap
   inner_none gap h = subst (λ xs. (x : Gap) → IsGapIn false tree x → OneOf (λ y. y ≡ x) xs) found_none here.lists.complete gap h

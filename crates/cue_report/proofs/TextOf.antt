@@ -1,12 +1,14 @@
 -- Lines, and the lists that they tell of.
-use Rattle.std.proofs.Common.{◌≡◌, ◌≢◌, ℕ, ◌+◌, ◌^◌, ◌<◌, ◌≤◌, true, false, nat_eq, List, [], ◌∷◌, length, refl, ap, ◌∙◌, arith, le_refl}
+use Rattle.std.proofs.Common.{◌≡◌, ◌≢◌, ℕ, ◌+◌, ◌^◌, ◌<◌, ◌≤◌, Bool, true, false, not, nat_eq, nat_lt, List, [], ◌∷◌, length, refl, ap, ◌∙◌, arith, le_refl}
 use Rattle.std.proofs.lemmas.List.{length-append}
 use Rattle.std.specs.List.{flat_map}
 use Rattle.std.specs.declared.vec.Vec.{Vec}
 use denote.RawPtr.{null_ptr}
+use Rattle.cue_lattice.specs.Bools.{is_nil as no_member}
 use Rattle.cue_report.specs.Lines.{conflict_line, gap_line}
 use Rattle.cue_report.specs.declared.conflict.Conflict.{Conflict}
 use Rattle.cue_report.specs.declared.gap.Gap.{Gap}
+use Rattle.cue_report.proofs.GapWalk.{nat_lt_is}
 
 -- a list as a `Vec`, for a proof that must name one
 abbrev pub held : {X Z : Type 0} → Z → (xs : List X) → length xs < 2 ^ 63 → Vec X Z
@@ -44,3 +46,19 @@ not_nil xs bytes len f b l h n =
     let none : length bytes ≡ 0 = ap length (b ∙ ap (flat_map f) n) in
     let zero : nat_eq len 0 ≡ true = ap (λ k. nat_eq k 0) (l ∙ none) in
     cc
+
+-- something was told exactly where there is something to tell of
+any_told : {X : Type 0} (f : X → List ℕ) → ((x : X) → IsSome (f x)) → (xs : List X) (old new : ℕ) (some : Bool) → old ≡ 0 → new ≡ old + length (flat_map f xs) → some ≡ nat_lt 0 new → some ≡ not (no_member xs)
+any_told f all [] old new some z n s =
+    let none : new ≡ 0 = omega (arith, z, n) in
+    s ∙ ap (nat_lt 0) none
+any_told f all (x ∷ xs) old new some z n s =
+    let few = fewer f all (x ∷ xs) in
+    let more : 0 < new = omega (arith, z, n, few) in
+    s ∙ nat_lt_is 0 new more
+
+pub any_conflict : (found : List Conflict) (old new : ℕ) (some : Bool) → old ≡ 0 → new ≡ old + length (flat_map conflict_line found) → some ≡ nat_lt 0 new → some ≡ not (no_member found)
+any_conflict = any_told conflict_line (λ x. omega arith)
+
+pub any_gap : (found : List Gap) (old new : ℕ) (some : Bool) → old ≡ 0 → new ≡ old + length (flat_map gap_line found) → some ≡ nat_lt 0 new → some ≡ not (no_member found)
+any_gap = any_told gap_line (λ x. omega arith)

@@ -1,5 +1,5 @@
 -- The walk of a search over the branches of a place.
-use Rattle.std.proofs.Common.{◌≡◌, inl, inr, ℕ, suc, min, ◌+◌, ◌-◌, ◌<◌, ◌≤◌, Bool, true, false, List, [], ◌∷◌, ◌++◌, length, take, map, Option, Some, None, refl, sym, ap, ◌∙◌, arith, append_assoc, length-append}
+use Rattle.std.proofs.Common.{◌≡◌, inl, inr, ℕ, zero, suc, min, ◌+◌, ◌-◌, ◌<◌, ◌≤◌, Bool, true, false, List, [], ◌∷◌, ◌++◌, length, take, map, Option, Some, None, refl, sym, ap, subst, ◌∙◌, arith, append_assoc, length-append}
 use Rattle.std.specs.List.{flat_map}
 use Rattle.std.proofs.lemmas.List.{append-nil, map-append, map_push, take_all, take-append-le}
 use Rattle.std.proofs.lemmas.Bool.{cases_lt}
@@ -10,13 +10,15 @@ use Rattle.cue_row.specs.declared.parts.RowParts.{RowParts as Row}
 use Rattle.cue_table.specs.StepsOfCode.{step_at}
 use Rattle.cue_table.specs.declared.step_ref.StepRef.{StepRef}
 use Rattle.cue_table.specs.Spans.{Span, spanned, spread}
-use Rattle.cue_table.specs.Tree.{Tree, node, Children, none, child, no_rest, onward, row_of, below, rest_of, rest_tree, fixed_of, children_of}
+use Rattle.cue_table.specs.Tree.{Tree, node, Children, none, child, Rest, no_rest, onward, row_of, below, rest_of, rest_tree, fixed_of, children_of}
 use Rattle.cue_table.specs.Size.{tree_size, children_size}
 use Rattle.cue_table.specs.Walks.{first_child}
 use Rattle.cue_table.proofs.Spanned.{left_size}
 use Rattle.cue_report.specs.declared.conflict.Conflict.{Conflict}
 use Rattle.cue_report.specs.Search.{under, told_under, only_if, has_no_value, conflict_here, has_level, is_demanded, is_refused, conflicts_in, conflicts_below, conflicts_onward, each_index, least_at, rest_from}
+use Rattle.cue_report.specs.Telling.{Tally, Grows, Starts}
 use Rattle.cue_report.proofs.Runs.{span_first}
+use Rattle.cue_report.proofs.Telling.{grows_then, starts_now, starts_later}
 
 -- what is seen from a place is seen from the place above
 pub under_further : (path : Path) (step : paths.Step) (xs : List Conflict) → map (under (path ++ step ∷ [])) xs ≡ map (under path) (map (under (step ∷ [])) xs)
@@ -30,10 +32,25 @@ under_further path step (x ∷ xs) =
 told_append : {X : Type 0} (piece : Conflict → List X) (path : Path) (xs ys : List Conflict) → told_under piece path (xs ++ ys) ≡ told_under piece path xs ++ told_under piece path ys
 told_append piece path xs ys = ap (flat_map piece) (map-append (under path) xs ys) ∙ flat_map-append piece (map (under path) xs) (map (under path) ys)
 
+-- what is told of some, and then of others
+pub found_more : {X : Type 0} (piece : Conflict → List X) (path : Path) (u v w : Tally X) (xs ys : List Conflict) → Grows u v (told_under piece path xs) → Grows v w (told_under piece path ys)
+    → Grows u w (told_under piece path (xs ++ ys))
+found_more piece path u v w xs ys g h = subst (Grows u w) (sym (told_append piece path xs ys)) (grows_then u v w (told_under piece path xs) (told_under piece path ys) g h)
+
+-- or of some in front of the others
+pub found_later : {X : Type 0} (piece : Conflict → List X) (path : Path) (u v w : Tally X) (xs ys : List Conflict) → Grows u v (told_under piece path xs) → Starts v w (told_under piece path ys)
+    → Starts u w (told_under piece path (xs ++ ys))
+found_later piece path u v w xs ys g h = subst (Starts u w) (sym (told_append piece path xs ys)) (starts_later u v w (told_under piece path xs) (told_under piece path ys) g h)
+
+pub found_now : {X : Type 0} (piece : Conflict → List X) (path : Path) (u v : Tally X) (xs ys : List Conflict) → Starts u v (told_under piece path xs) → Starts u v (told_under piece path (xs ++ ys))
+found_now piece path u v xs ys h = subst (Starts u v) (sym (told_append piece path xs ys)) (starts_now u v (told_under piece path xs) (told_under piece path ys) h)
+
 -- Of the branches of a place, some are left to be looked at.
-pub record IsWalking {X : Type 0} (piece : Conflict → List X) (row : Option Row) (all rest : Children Row) (before after : List X) (steps now : List StepRef) : Type 0 where
+pub record IsWalking {X : Type 0} (piece : Conflict → List X) (row : Option Row) (all rest : Children Row) (before after : Tally X) (steps now : List StepRef) : Type 0 where
   pub same : now ≡ steps
-  pub found : after ++ told_under piece (map step_at steps) (conflicts_below row rest) ≡ before ++ told_under piece (map step_at steps) (conflicts_below row all)
+  pub done : List Conflict
+  pub split : conflicts_below row all ≡ done ++ conflicts_below row rest
+  pub told : Grows before after (told_under piece (map step_at steps) done)
   pub small : children_size rest ≤ children_size all
 
 -- the last step is taken back
@@ -43,50 +60,47 @@ popped xs old new x n e l h =
     let k : n - 1 ≡ length xs = omega arith in
     h ∙ ap (λ m. take m old) k ∙ ap (take (length xs)) e ∙ take-append-le (length xs) xs (x ∷ []) (omega arith) ∙ take_all (length xs) xs (omega arith)
 
-rearranged :
-    {X : Type 0} (piece : Conflict → List X) (before after tail : List X) (found new : List Conflict) (path : Path)
-    → before ≡ after ++ told_under piece path (found ++ new) → tail ≡ after ++ told_under piece path found → tail ++ told_under piece path new ≡ before
-rearranged piece before after tail found new path b t =
-    ap (λ xs. xs ++ told_under piece path new) t ∙ append_assoc after (told_under piece path found) (told_under piece path new)
-    ∙ ap (λ xs. after ++ xs) (sym (told_append piece path found new)) ∙ sym b
-
 -- the path one step further
 pub pushed_on : (held steps pushed : List StepRef) (x : StepRef) → pushed ≡ held ++ x ∷ [] → held ≡ steps → map step_at pushed ≡ map step_at steps ++ step_at x ∷ []
 pushed_on held steps pushed x p h = ap (map step_at) p ∙ map_push step_at held x ∙ ap (λ zs. map step_at zs ++ step_at x ∷ []) h
 
--- the next branches that are kept as one were looked at
+-- the next branches that are kept as one, and those behind them
+next_span : (row : Option Row) (rest left : List (Span × Tree Row)) (span : Span) (tree : Tree Row) → rest ≡ (span, tree) ∷ left
+    → conflicts_below row (spread rest) ≡ conflicts_below row (spanned span tree none) ++ conflicts_below row (spread left)
+next_span row rest left span tree e = ap (λ spans. conflicts_below row (spread spans)) e ∙ span_first row span tree (spread left)
+
+-- they were looked at
 pub walked_span :
-    {X : Type 0} (piece : Conflict → List X) (row : Option Row) (all : Children Row) (rest left : List (Span × Tree Row)) (span : Span) (tree : Tree Row) (before after after' : List X) (steps now now' : List StepRef)
+    {X : Type 0} (piece : Conflict → List X) (row : Option Row) (all : Children Row) (rest left : List (Span × Tree Row)) (span : Span) (tree : Tree Row) (before after after' : Tally X) (steps now now' : List StepRef)
     → IsWalking piece row all (spread rest) before after steps now → rest ≡ (span, tree) ∷ left
-    → after' ≡ after ++ told_under piece (map step_at now) (conflicts_below row (spanned span tree none)) → now' ≡ now
+    → Grows after after' (told_under piece (map step_at now) (conflicts_below row (spanned span tree none))) → now' ≡ now
     → IsWalking piece row all (spread left) before after' steps now'
 walked_span piece row all rest left span tree before after after' steps now now' w e a n =
-    let path : Path = map step_at steps in
     let these : List Conflict = conflicts_below row (spanned span tree none) in
-    let split : conflicts_below row (spread rest) ≡ these ++ conflicts_below row (spread left) =
-    ap (λ spans. conflicts_below row (spread spans)) e ∙ span_first row span tree (spread left) in
-    let found : before ++ told_under piece path (conflicts_below row all) ≡ after ++ told_under piece path (these ++ conflicts_below row (spread left)) =
-    sym w.found ∙ ap (λ xs. after ++ told_under piece path xs) split in
-    let tail : after' ≡ after ++ told_under piece path these = a ∙ ap (λ held. after ++ told_under piece (map step_at held) these) w.same in
     record {
       same = n ∙ w.same;
-      found = rearranged piece _ after after' these (conflicts_below row (spread left)) path found tail;
+      done = w.done ++ these;
+      split = w.split ∙ ap (λ xs. w.done ++ xs) (next_span row rest left span tree e) ∙ sym (append_assoc w.done these (conflicts_below row (spread left)));
+      told = found_more piece (map step_at steps) before after after' w.done these w.told (subst (λ held. Grows after after' (told_under piece (map step_at held) these)) w.same a);
       small = let size = left_size span tree rest left e in omega (arith, w.small, size);
     }
 
--- a field was looked at
-pub field_walked :
-    {X : Type 0} (piece : Conflict → List X) (row : Option Row) (step : paths.Step) (tree : Tree Row) (now after : List X) (steps pushed : List StepRef) (x : StepRef)
+-- what a field tells is told of the branch
+pub field_is :
+    {X : Type 0} (piece : Conflict → List X) (row : Option Row) (step : paths.Step) (tree : Tree Row) (steps pushed : List StepRef) (x : StepRef)
     → is_demanded row step (row_of tree) ≡ true → step_at x ≡ step → pushed ≡ steps ++ x ∷ []
-    → after ≡ now ++ told_under piece (map step_at pushed) (conflicts_in (is_refused row step) tree)
-    → after ≡ now ++ told_under piece (map step_at steps) (conflicts_below row (child step tree none))
-field_walked piece row step tree now after steps pushed x d s p a =
+    → told_under piece (map step_at pushed) (conflicts_in (is_refused row step) tree) ≡ told_under piece (map step_at steps) (conflicts_below row (child step tree none))
+field_is piece row step tree steps pushed x d s p =
     let path : Path = map step_at steps in
     let inner : List Conflict = conflicts_in (is_refused row step) tree in
     let lifted : List Conflict = map (under (step ∷ [])) inner in
-    a ∙ ap (λ q. now ++ told_under piece q inner) (pushed_on steps steps pushed x p refl ∙ ap (λ z. path ++ z ∷ []) s)
-    ∙ ap (λ xs. now ++ flat_map piece xs) (under_further path step inner) ∙ ap (λ xs. now ++ told_under piece path xs) (sym (append-nil lifted))
-    ∙ ap (λ b. now ++ told_under piece path (only_if b lifted ++ [])) (sym d)
+    ap (λ q. told_under piece q inner) (pushed_on steps steps pushed x p refl ∙ ap (λ z. path ++ z ∷ []) s)
+    ∙ ap (flat_map piece) (under_further path step inner) ∙ ap (told_under piece path) (sym (append-nil lifted))
+    ∙ ap (λ b. told_under piece path (only_if b lifted ++ [])) (sym d)
+
+-- nothing is told of a field that is not demanded
+pub unasked_is : (row : Option Row) (step : paths.Step) (tree : Tree Row) → is_demanded row step (row_of tree) ≡ false → conflicts_below row (child step tree none) ≡ []
+unasked_is row step tree d = ap (λ b. only_if b (map (under (step ∷ [])) (conflicts_in (is_refused row step) tree)) ++ []) d
 
 -- each branch that is looked at is smaller than the place
 pub span_smaller :
@@ -107,39 +121,136 @@ none_left none e = refl
 none_left (child step tree rest) e = cc
 
 -- all branches were looked at, and the rest
+module _
+    {X : Type 0} (piece : Conflict → List X) (row : Option Row) (children : Children Row) (others : Rest Row) (not_allowed : Bool) (rest : List (Span × Tree Row)) (start before middle after : Tally X)
+    (steps now : List StepRef) (w : IsWalking piece row children (spread rest) before middle steps now)
+    (here : Grows start before (told_under piece (map step_at steps) (conflict_here (has_no_value row) not_allowed))) where
+  -- from here on, with others in front of them
+  abbrev from_here : List Conflict → List Conflict
+  from_here xs = conflict_here (has_no_value row) not_allowed ++ (xs ++ conflicts_onward row others)
+
+  behind : (xs : List Conflict) → conflicts_below row children ≡ xs → Starts before after (told_under piece (map step_at steps) (xs ++ conflicts_onward row others))
+      → Starts start after (told_under piece (map step_at steps) (conflicts_in not_allowed (node row children others)))
+  behind xs e h =
+      subst (λ ys. Starts start after (told_under piece (map step_at steps) (from_here ys))) (sym e)
+      (found_later piece (map step_at steps) start before after (conflict_here (has_no_value row) not_allowed) (xs ++ conflicts_onward row others) here h)
+
+  all_done : rest ≡ [] → conflicts_below row children ≡ w.done
+  all_done e = w.split ∙ ap (λ spans. w.done ++ conflicts_below row (spread spans)) e ∙ append-nil w.done
+
+  all_walked : rest ≡ [] → Grows middle after (told_under piece (map step_at now) (conflicts_onward row others))
+      → Grows start after (told_under piece (map step_at steps) (conflicts_in not_allowed (node row children others)))
+  all_walked e a =
+      subst (λ ys. Grows start after (told_under piece (map step_at steps) (from_here ys))) (sym (all_done e))
+      (found_more piece (map step_at steps) start before after (conflict_here (has_no_value row) not_allowed) (w.done ++ conflicts_onward row others) here
+      (found_more piece (map step_at steps) before middle after w.done (conflicts_onward row others) w.told
+      (subst (λ held. Grows middle after (told_under piece (map step_at held) (conflicts_onward row others))) w.same a)))
+
+  rest_begun : rest ≡ [] → Starts middle after (told_under piece (map step_at now) (conflicts_onward row others))
+      → Starts start after (told_under piece (map step_at steps) (conflicts_in not_allowed (node row children others)))
+  rest_begun e a =
+      behind w.done (all_done e)
+      (found_later piece (map step_at steps) before middle after w.done (conflicts_onward row others) w.told
+      (subst (λ held. Starts middle after (told_under piece (map step_at held) (conflicts_onward row others))) w.same a))
+
+  span_begun : (left : List (Span × Tree Row)) (span : Span) (inner : Tree Row) → rest ≡ (span, inner) ∷ left
+      → Starts middle after (told_under piece (map step_at now) (conflicts_below row (spanned span inner none)))
+      → Starts start after (told_under piece (map step_at steps) (conflicts_in not_allowed (node row children others)))
+  span_begun left span inner e a =
+      let path : Path = map step_at steps in
+      let these : List Conflict = conflicts_below row (spanned span inner none) in
+      let later : List Conflict = conflicts_below row (spread left) in
+      behind (w.done ++ (these ++ later)) (w.split ∙ ap (λ xs. w.done ++ xs) (next_span row rest left span inner e))
+      (found_now piece path before after (w.done ++ (these ++ later)) (conflicts_onward row others)
+      (found_later piece path before middle after w.done (these ++ later) w.told
+      (found_now piece path middle after these later (subst (λ held. Starts middle after (told_under piece (map step_at held) these)) w.same a))))
+
 pub walked :
-    {X : Type 0} (piece : Conflict → List X) (tree : Tree Row) (rest : List (Span × Tree Row)) (not_allowed : Bool) (start before middle after : List X) (steps now : List StepRef)
+    {X : Type 0} (piece : Conflict → List X) (tree : Tree Row) (rest : List (Span × Tree Row)) (not_allowed : Bool) (start before middle after : Tally X) (steps now : List StepRef)
     → IsWalking piece (row_of tree) (below tree) (spread rest) before middle steps now → rest ≡ []
-    → before ≡ start ++ told_under piece (map step_at steps) (conflict_here (has_no_value (row_of tree)) not_allowed)
-    → after ≡ middle ++ told_under piece (map step_at now) (conflicts_onward (row_of tree) (rest_of tree))
-    → after ≡ start ++ told_under piece (map step_at steps) (conflicts_in not_allowed tree)
-walked {X = X} piece (node row children others) rest not_allowed start before middle after steps now w e b a =
-    let told : List Conflict → List X = told_under piece (map step_at steps) in
-    let here : List Conflict = conflict_here (has_no_value row) not_allowed in
-    let below_it : List Conflict = conflicts_below row children in
-    let further : List Conflict = conflicts_onward row others in
-    let all : middle ≡ before ++ told below_it = sym (append-nil middle) ∙ ap (λ spans. middle ++ told (conflicts_below row (spread spans))) (sym e) ∙ w.found in
-    a ∙ ap (λ held. middle ++ told_under piece (map step_at held) further) w.same ∙ ap (λ xs. xs ++ told further) (all ∙ ap (λ xs. xs ++ told below_it) b)
-    ∙ append_assoc (start ++ told here) (told below_it) (told further) ∙ append_assoc start (told here) (told below_it ++ told further)
-    ∙ ap (λ xs. start ++ (told here ++ xs)) (sym (told_append piece (map step_at steps) below_it further))
-    ∙ ap (λ xs. start ++ xs) (sym (told_append piece (map step_at steps) here (below_it ++ further)))
+    → Grows start before (told_under piece (map step_at steps) (conflict_here (has_no_value (row_of tree)) not_allowed))
+    → Grows middle after (told_under piece (map step_at now) (conflicts_onward (row_of tree) (rest_of tree)))
+    → Grows start after (told_under piece (map step_at steps) (conflicts_in not_allowed tree))
+walked piece (node row children others) rest not_allowed start before middle after steps now w e b a =
+    all_walked piece row children others not_allowed rest start before middle after steps now w b e a
+
+-- the place itself was begun, or one of its branches, or its rest
+pub begun_here :
+    {X : Type 0} (piece : Conflict → List X) (tree : Tree Row) (not_allowed : Bool) (start after : Tally X) (path : Path)
+    → Starts start after (told_under piece path (conflict_here (has_no_value (row_of tree)) not_allowed)) → Starts start after (told_under piece path (conflicts_in not_allowed tree))
+begun_here piece (node row children others) not_allowed start after path h =
+    found_now piece path start after (conflict_here (has_no_value row) not_allowed) (conflicts_below row children ++ conflicts_onward row others) h
+
+pub begun_span :
+    {X : Type 0} (piece : Conflict → List X) (tree : Tree Row) (rest left : List (Span × Tree Row)) (span : Span) (inner : Tree Row) (not_allowed : Bool) (start before middle after : Tally X)
+    (steps now : List StepRef) → IsWalking piece (row_of tree) (below tree) (spread rest) before middle steps now → rest ≡ (span, inner) ∷ left
+    → Grows start before (told_under piece (map step_at steps) (conflict_here (has_no_value (row_of tree)) not_allowed))
+    → Starts middle after (told_under piece (map step_at now) (conflicts_below (row_of tree) (spanned span inner none)))
+    → Starts start after (told_under piece (map step_at steps) (conflicts_in not_allowed tree))
+begun_span piece (node row children others) rest left span inner not_allowed start before middle after steps now w e b a =
+    span_begun piece row children others not_allowed rest start before middle after steps now w b left span inner e a
+
+pub begun_rest :
+    {X : Type 0} (piece : Conflict → List X) (tree : Tree Row) (rest : List (Span × Tree Row)) (not_allowed : Bool) (start before middle after : Tally X) (steps now : List StepRef)
+    → IsWalking piece (row_of tree) (below tree) (spread rest) before middle steps now → rest ≡ []
+    → Grows start before (told_under piece (map step_at steps) (conflict_here (has_no_value (row_of tree)) not_allowed))
+    → Starts middle after (told_under piece (map step_at now) (conflicts_onward (row_of tree) (rest_of tree)))
+    → Starts start after (told_under piece (map step_at steps) (conflicts_in not_allowed tree))
+begun_rest piece (node row children others) rest not_allowed start before middle after steps now w e b a =
+    rest_begun piece row children others not_allowed rest start before middle after steps now w b e a
 
 -- ---- the rest
--- one more element was looked at
-pub walked_element :
-    {X : Type 0} (piece : Conflict → List X) (first number : ℕ) (found : List Conflict) (start now after : List X) (path pushed : Path) → first ≤ number
-    → now ≡ start ++ told_under piece path (each_index first (number - first) found) → pushed ≡ path ++ index number ∷ [] → after ≡ now ++ told_under piece pushed found
-    → after ≡ start ++ told_under piece path (each_index first (number + 1 - first) found)
-walked_element {X = X} piece first number found start now after path pushed l n p a =
+-- one more element
+each_next : (first number : ℕ) (found : List Conflict) → first ≤ number → each_index first (number + 1 - first) found ≡ each_index first (number - first) found ++ map (under (index number ∷ [])) found
+each_next first number found l =
+    let count : number + 1 - first ≡ suc (number - first) = omega arith in
     let last : first + (number - first) ≡ number = omega arith in
-    let count : suc (number - first) ≡ number + 1 - first = omega arith in
-    let before : List Conflict = each_index first (number - first) found in
-    let one : ℕ → List Conflict = λ k. map (under (index k ∷ [])) found in
-    a ∙ ap (λ q. now ++ told_under piece q found) p ∙ ap (λ xs. now ++ flat_map piece xs) (under_further path (index number) found)
-    ∙ ap (λ k. now ++ told_under piece path (one k)) (sym last) ∙ ap (λ xs. xs ++ told_under piece path (one (first + (number - first)))) n
-    ∙ append_assoc start (told_under piece path before) (told_under piece path (one (first + (number - first))))
-    ∙ ap (λ xs. start ++ xs) (sym (told_append piece path before (one (first + (number - first)))))
-    ∙ ap (λ k. start ++ told_under piece path (each_index first k found)) count
+    ap (λ k. each_index first k found) count ∙ ap (λ k. each_index first (number - first) found ++ map (under (index k ∷ [])) found) last
+
+-- and those behind some
+each_split : (first n m : ℕ) (found : List Conflict) → (more : List Conflict) × (each_index first (n + m) found ≡ each_index first n found ++ more)
+each_split first n zero found =
+    let none : n + 0 ≡ n = omega arith in
+    ([], ap (λ k. each_index first k found) none ∙ sym (append-nil (each_index first n found)))
+each_split first n (suc m) found =
+    let before = each_split first n m found in
+    let last : List Conflict = map (under (index (first + (n + m)) ∷ [])) found in
+    let count : n + suc m ≡ suc (n + m) = omega arith in (
+      before.0 ++ last,
+      ap (λ k. each_index first k found) count ∙ ap (λ xs. xs ++ last) before.1 ∙ append_assoc (each_index first n found) before.0 last,
+    )
+
+pub each_begun :
+    {X : Type 0} (piece : Conflict → List X) (first some all : ℕ) (found : List Conflict) (start after : Tally X) (path : Path) → some ≤ all
+    → Starts start after (told_under piece path (each_index first some found)) → Starts start after (told_under piece path (each_index first all found))
+each_begun piece first some all found start after path l h =
+    let split = each_split first some (all - some) found in
+    let count : some + (all - some) ≡ all = omega arith in
+    subst (λ xs. Starts start after (told_under piece path xs)) (sym split.1 ∙ ap (λ k. each_index first k found) count)
+    (found_now piece path start after (each_index first some found) split.0 h)
+
+-- what is told at an element is told of it
+element_is : {X : Type 0} (piece : Conflict → List X) (path pushed : Path) (number : ℕ) (found : List Conflict) → pushed ≡ path ++ index number ∷ []
+    → told_under piece pushed found ≡ told_under piece path (map (under (index number ∷ [])) found)
+element_is piece path pushed number found p = ap (λ q. told_under piece q found) p ∙ ap (flat_map piece) (under_further path (index number) found)
+
+-- one more element was looked at, or was begun
+pub walked_element :
+    {X : Type 0} (piece : Conflict → List X) (first number : ℕ) (found : List Conflict) (start now after : Tally X) (path pushed : Path) → first ≤ number
+    → Grows start now (told_under piece path (each_index first (number - first) found)) → pushed ≡ path ++ index number ∷ [] → Grows now after (told_under piece pushed found)
+    → Grows start after (told_under piece path (each_index first (number + 1 - first) found))
+walked_element piece first number found start now after path pushed l n p a =
+    subst (λ xs. Grows start after (told_under piece path xs)) (sym (each_next first number found l))
+    (found_more piece path start now after (each_index first (number - first) found) (map (under (index number ∷ [])) found) n (subst (Grows now after) (element_is piece path pushed number found p) a))
+
+pub begun_element :
+    {X : Type 0} (piece : Conflict → List X) (first number end : ℕ) (found : List Conflict) (start now after : Tally X) (path pushed : Path) → first ≤ number → number < end
+    → Grows start now (told_under piece path (each_index first (number - first) found)) → pushed ≡ path ++ index number ∷ [] → Starts now after (told_under piece pushed found)
+    → Starts start after (told_under piece path (each_index first (end - first) found))
+begun_element piece first number end found start now after path pushed l m n p a =
+    each_begun piece first (number + 1 - first) (end - first) found start after path (omega arith)
+    (subst (λ xs. Starts start after (told_under piece path xs)) (sym (each_next first number found l))
+    (found_later piece path start now after (each_index first (number - first) found) (map (under (index number ∷ [])) found) n (subst (Starts now after) (element_is piece path pushed number found p) a)))
 
 -- where the elements begin that are looked at
 pub from_least : (n least : ℕ) (found : List Conflict) → each_index (min n least) (least - min n least) found ≡ each_index n (least - n) found
@@ -168,19 +279,16 @@ pub is_ended : (tree : Tree Row) → rest_tree (rest_of tree) ≡ None → rest_
 is_ended (node row children no_rest) e = refl
 is_ended (node row children (onward n inner)) e = cc
 
--- all elements that are the rest were looked at
+-- the elements that are the rest
 pub all_elements :
-    {X : Type 0} (piece : Conflict → List X) (tree rest : Tree Row) (first least : ℕ) (start after : List X) (path : Path) → Some rest ≡ rest_tree (rest_of tree)
-    → least ≡ least_at (row_of tree) → first ≡ rest_from (rest_of tree) least
-    → after ≡ start ++ told_under piece path (each_index first (least - first) (conflicts_in false rest))
-    → after ≡ start ++ told_under piece path (conflicts_onward (row_of tree) (rest_of tree))
-all_elements piece (node row children no_rest) rest first least start after path r m f a = cc
-all_elements {X = X} piece (node row children (onward n inner)) rest first least start after path r m f a =
+    (tree rest : Tree Row) (first least : ℕ) → Some rest ≡ rest_tree (rest_of tree) → least ≡ least_at (row_of tree) → first ≡ rest_from (rest_of tree) least
+    → each_index first (least - first) (conflicts_in false rest) ≡ conflicts_onward (row_of tree) (rest_of tree)
+all_elements (node row children no_rest) rest first least r m f = cc
+all_elements (node row children (onward n inner)) rest first least r m f =
     let same : rest ≡ inner = cc in
-    let told : List Conflict → List X = λ xs. start ++ told_under piece path xs in
-    a ∙ ap (λ t. told (each_index first (least - first) (conflicts_in false t))) same
-    ∙ ap (λ k. told (each_index k (least - k) (conflicts_in false inner))) f ∙ ap told (from_least n least (conflicts_in false inner))
-    ∙ ap (λ k. told (each_index n (k - n) (conflicts_in false inner))) m
+    ap (λ t. each_index first (least - first) (conflicts_in false t)) same
+    ∙ ap (λ k. each_index k (least - k) (conflicts_in false inner)) f ∙ from_least n least (conflicts_in false inner)
+    ∙ ap (λ k. each_index n (k - n) (conflicts_in false inner)) m
 
 -- what the code asks of a step, by the rows that it has
 pub demand_is : (above above' row row' : Option Row) (step : paths.Step) (found wanted : Bool) → found ≡ is_demanded above step row → above ≡ above' → row ≡ row' → found ≡ wanted → is_demanded above' step row' ≡ wanted

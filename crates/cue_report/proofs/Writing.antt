@@ -1,5 +1,5 @@
 -- The tokens of a document, written one part after the other.
-use Rattle.std.proofs.Common.{◌≡◌, ℕ, ◌+◌, ◌<◌, true, false, Some, None, List, [], ◌∷◌, ◌++◌, Result, Ok, Err, OnOk, refl, sym, ap, subst, ◌∙◌, append_assoc, append-nil}
+use Rattle.std.proofs.Common.{◌≡◌, ℕ, ◌+◌, ◌<◌, true, false, Some, None, List, [], ◌∷◌, ◌++◌, Result, Ok, Err, OnOk, OnErr, refl, sym, ap, subst, ◌∙◌, append_assoc, append-nil}
 use Rattle.json.specs.Print.{print}
 use Rattle.json.specs.Token.{Token}
 use Rattle.json.specs.Tree.{json_tokens, items_tokens, members_tokens}
@@ -100,6 +100,10 @@ ends_members old now after members h e b = (
 pub on_ok : {T E A B : Type 0} (r : Result T E) → (A → B) → OnOk r A → OnOk r B
 on_ok (Ok t) f a = f a
 on_ok (Err e) f a = tt
+
+pub on_any : {T E A : Type 0} (r : Result T E) → A → OnErr r A
+on_any (Ok t) a = tt
+on_any (Err e) a = a
 
 pub adds_object : (tree : Tree Row) (row : Row) (old new : Written) → row_of tree ≡ Some row → row.struct_ok ≡ true → (¬ IsFree (AtPlace (Some row)) [])
     → AddsMembers (Told tree) old new → AddsDocument (Told tree) old new

@@ -1,9 +1,11 @@
 -- How the gaps of a table are found, place by place.
 use Rattle.std.specs.Prelude.{◌≡◌, ◌↔◌, ◌⊎◌, ℕ, zero, suc, ◌+◌, ◌-◌, ◌≤◌, ◌<◌, min, nat_lt, if◌then◌else◌}
 use Rattle.std.specs.Prelude.{Bool, true, false, List, [], ◌∷◌, ◌++◌, map, Option, Some, IsTrue}
-use Rattle.std.specs.List.{flat_map}
+use Rattle.std.specs.List.{AllByRecursion, flat_map}
+use Rattle.std.specs.declared.cmp.Ordering.TheVariants.{Less}
+use Rattle.cue_lattice.specs.OneOf.{OneOf}
 use Rattle.cue_lattice.specs.Path as paths
-use Rattle.cue_lattice.specs.Path.{index, Path}
+use Rattle.cue_lattice.specs.Path.{index, Path, path_cmp}
 use Rattle.cue_lattice.specs.Question.{Refusals}
 use Rattle.cue_row.specs.declared.parts.RowParts.{RowParts as Row}
 use Rattle.cue_row.specs.Row as rows
@@ -12,8 +14,9 @@ use Rattle.cue_table.specs.Spans.{Span, field, elements}
 use Rattle.cue_table.specs.Tree.{Tree, Children, Rest, no_rest, onward, row_of, row_at, find}
 use Rattle.cue_report.specs.Answers.{IsDemanded, HasNoValue, IsNotAllowed}
 use Rattle.cue_report.specs.Gaps.{IsMissing, IsFree, HasNoChoice}
-use Rattle.cue_report.specs.Listing.{Lists}
+use Rattle.cue_report.specs.Listing.{IsRising, Lists}
 use Rattle.cue_report.specs.Search.{is_demanded, is_refused}
+use Rattle.cue_report.specs.Telling.{Tally, Grows, Starts}
 use Rattle.cue_report.specs.declared.gap.Gap.{Gap}
 
 -- what is refused at the place of a row, whatever its path
@@ -78,13 +81,28 @@ above path gap = record gap { path = path ++ gap.path }
 abbrev pub told_above : {X : Type 0} → (Gap → List X) → Path → List Gap → List X
 told_above piece path found = flat_map piece (map (above path) found)
 
--- To what was told before, a search at a path adds what is told of exactly those gaps of which P
--- holds, in the order of their paths.
+-- A search at a path tells of exactly those gaps of which P holds, in the order of their paths.
 pub record Adds {X : Type 0} (piece : Gap → List X) (P : Gap → Type 0) (path : Path)
-    (before after : List X) : Type 0 where
+    (old new : Tally X) : Type 0 where
   pub found : List Gap
   pub lists : Lists (λ gap. gap.path) P found
-  pub is : after ≡ before ++ told_above piece path found
+  pub told : Grows old new (told_above piece path found)
+
+-- These are those of which P holds up to some place, in the order of their paths: each other one is
+-- behind them.
+pub record IsFront (P : Gap → Type 0) (found : List Gap) : Type 0 where
+  pub sound : AllByRecursion P found
+  pub rising : IsRising (λ gap. gap.path) found
+  pub next : (gap : Gap) → P gap → OneOf (λ y. y ≡ gap) found
+      ⊎ AllByRecursion (λ y. path_cmp y.path gap.path ≡ Less) found
+
+-- A search at a path tells of some in front of those of which P holds, of the last one maybe not
+-- all.
+pub record Fronts {X : Type 0} (piece : Gap → List X) (P : Gap → Type 0) (path : Path)
+    (old new : Tally X) : Type 0 where
+  pub found : List Gap
+  pub front : IsFront P found
+  pub told : Starts old new (told_above piece path found)
 
 -- a place where anything may stand
 abbrev pub free_at : Path → Gap

@@ -10,5 +10,6 @@ pub mod Listing
 pub mod OneReport
 pub mod Picks
 pub mod Search
+pub mod Telling
 pub mod Trail
 pub mod Writing

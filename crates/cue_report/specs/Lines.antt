@@ -1,6 +1,9 @@
 -- The lines that tell what is in the way of an export.
-use Rattle.std.specs.Prelude.{◌≡◌, ℕ, List, [], ◌∷◌, ◌++◌, Bool, true, false, codes}
+use Rattle.std.specs.Prelude.{◌≡◌, ℕ, List, [], ◌∷◌, ◌++◌, Bool, true, false, not, Option, codes}
+use Rattle.std.specs.Io.KnownBytes.{Appends}
 use Rattle.std.specs.List.{flat_map}
+use Rattle.cue_device.specs.Texts.{Begins}
+use Rattle.cue_lattice.specs.Bools.{is_nil}
 use Rattle.cue_lattice.specs.Path.{Path}
 use Rattle.cue_lattice.specs.Question.{Refusals}
 use Rattle.cue_report.specs.Gaps.{AreGaps}
@@ -53,3 +56,25 @@ AddsConflictLines refuses before after =
 abbrev pub AddsGapLines : Refusals → List ℕ → List ℕ → Type 0
 AddsGapLines refuses before after =
     (found : List Gap) × AreGaps refuses found × (after ≡ before ++ flat_map gap_line found)
+
+-- known bytes grow by a line for each conflict, and whether there is one is told
+abbrev pub TellsConflicts : Refusals → Bool → Option (List ℕ) → Option (List ℕ) → Type 0
+TellsConflicts refuses some old new =
+    (found : List Conflict) × AreConflicts refuses found × (some ≡ not (is_nil found))
+    × Appends old new (flat_map conflict_line found)
+
+-- they grow by the front of those lines
+abbrev pub BeginsConflicts : Refusals → Option (List ℕ) → Option (List ℕ) → Type 0
+BeginsConflicts refuses old new =
+    (found : List Conflict) → AreConflicts refuses found
+    → Begins old new (flat_map conflict_line found)
+
+-- so of gaps
+abbrev pub TellsGaps : Refusals → Bool → Option (List ℕ) → Option (List ℕ) → Type 0
+TellsGaps refuses some old new =
+    (found : List Gap) × AreGaps refuses found × (some ≡ not (is_nil found))
+    × Appends old new (flat_map gap_line found)
+
+abbrev pub BeginsGaps : Refusals → Option (List ℕ) → Option (List ℕ) → Type 0
+BeginsGaps refuses old new =
+    (found : List Gap) → AreGaps refuses found → Begins old new (flat_map gap_line found)

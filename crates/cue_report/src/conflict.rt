@@ -1,4 +1,5 @@
-ghost use Rattle.std.specs.Prelude.{◌≡◌, ◌↔◌, ◌++◌, ◌-◌, false, [], IfOk, IfSome, OnOk};
+ghost use Rattle.std.specs.Prelude.{◌≡◌, ◌↔◌, ◌-◌, false, [], IfOk, IfSome};
+ghost use Rattle.std.specs.Prelude.{OnOk, OnErr, nat_lt};
 ghost use Rattle.std.specs.Prelude.{string_bytes};
 ghost use Rattle.std.specs.Option.{option_map};
 ghost use Rattle.cue_row.specs.Row.{IsRow, RowRefuses};
@@ -8,18 +9,21 @@ ghost use Rattle.cue_table.specs.StepsOfCode.{span_of};
 ghost use Rattle.cue_table.specs.Tree.{none, row_of, rest_of};
 ghost use Rattle.cue_table.specs.Valid.{IsValidTable};
 ghost use Rattle.cue_report.specs.Documents.{SomeMeets};
-ghost use Rattle.cue_report.specs.Lines.{AddsConflictLines};
+ghost use Rattle.cue_report.specs.Lines.{AddsConflictLines, BeginsConflicts, TellsConflicts};
 ghost use Rattle.cue_report.specs.Listing.{AreConflicts};
 ghost use Rattle.cue_report.specs.Search.{has_no_value, conflict_here, conflicts_in};
 ghost use Rattle.cue_report.specs.Search.{conflicts_below, conflicts_onward, each_index};
 ghost use Rattle.cue_report.specs.Search.{told_under};
+ghost use Rattle.cue_report.specs.Telling.{Grows, Starts};
 ghost use Rattle.cue_report.specs.Trail.{shown_steps};
 
 use crate::Place;
 use crate::demand::{demanded_end, is_demanded, is_refused, lacks_value, least_of, rest_from};
 use crate::listed::Listed;
+use crate::place::enter;
 use crate::sink::ConflictSink;
 use crate::written::Written;
+use cue_device::TextSink;
 use cue_lattice::Memory;
 use cue_row::Row;
 use cue_table::{Branch, Span, StepRef, Table};
@@ -45,10 +49,10 @@ pub fn conflicts(alloc: Global, table: &Table<Row>) -> Result<Vec<Conflict>, Mem
     ensures exact { IsValidTable table.now → IfOk result (λ found.
         (found.items ≡ []) ↔ SomeMeets (TableRefuses RowRefuses table.now)) }
 {
-    let mut found = Listed::new(alloc);
-    let mut search = Search::new(alloc);
+    let mut found = Vec::new(alloc);
+    let mut search = Search::new(alloc, Listed::new(alloc));
     search.visit(&mut found, &table.root(), false)?;
-    Ok(found.into_list())
+    Ok(found)
 }
 
 /// The text with a line behind it for each conflict of a table, in the order of their paths, as
@@ -57,148 +61,205 @@ pub fn conflict_lines(alloc: Global, text: String, table: &Table<Row>) -> Result
     ensures lines { IfOk result (λ whole. AddsConflictLines (TableRefuses RowRefuses table.now)
         (string_bytes text) (string_bytes whole)) }
 {
-    let mut written = Written::new(alloc, text);
-    let mut search = Search::new(alloc);
-    search.visit(&mut written, &table.root(), false)?;
-    Ok(written.into_text())
+    let mut whole = text;
+    tell_conflicts(alloc, table, &mut whole)?;
+    Ok(whole)
+}
+
+/// Tells of each conflict of a table by a line, in the order of their paths, as [`crate::lines`]
+/// writes them, and whether there was one. They are told while the table is walked.
+///
+/// # Errors
+///
+/// Where no more is taken; then the front of the lines was.
+pub fn tell_conflicts<S: TextSink>(
+    alloc: Global,
+    table: &Table<Row>,
+    out: &mut S,
+) -> Result<bool, S::Halt>
+    ensures lines { IfOk result (λ some. TellsConflicts (TableRefuses RowRefuses table.now) some
+        (S.taken out.old) (S.taken out.new)) }
+    ensures begun { OnErr result (BeginsConflicts (TableRefuses RowRefuses table.now)
+        (S.taken out.old) (S.taken out.new)) }
+{
+    let mut search = Search::new(alloc, Written::new(alloc));
+    search.visit(out, &table.root(), false)?;
+    Ok(search.has_told(out))
 }
 
 /// A search for conflicts, from the root on.
 #[derive(Drop)]
-struct Search<'a> {
+struct Search<'a, S> {
+    /// How they are told.
+    sink: S,
     /// The steps to the place at hand.
     steps: Vec<StepRef<'a>>,
 }
 
-impl<'a> Search<'a> {
+impl<'a, S: ConflictSink> Search<'a, S> {
     /// A search that stands at the root.
-    fn new(alloc: Global) -> Search<'a>
-        ensures { result.steps.items ≡ [] }
+    fn new(alloc: Global, sink: S) -> Search<'a, S>
+        ensures sink { result.sink ≡ sink }
+        ensures steps { result.steps.items ≡ [] }
     {
         Search {
+            sink,
             steps: Vec::new(alloc),
         }
+    }
+
+    /// Whether anything was told.
+    fn has_told(&self, out: &S::Out) -> bool
+        ensures { result ≡ nat_lt 0 (S.tally self.now.sink out.now).count }
+    {
+        self.sink.len(out) > 0
     }
 
     /// Looks for conflicts at a place, of which the place above refuses the label or not, and below
     /// it.
     #[cycle(walk)]
-    fn visit<S: ConflictSink>(
+    fn visit(
         &mut self,
-        sink: &mut S,
+        out: &mut S::Out,
         branch: &Branch<'a, Row>,
         not_allowed: bool,
-    ) -> Result<(), Memory>
+    ) -> Result<(), S::Halt>
         ensures steps { OnOk result (self.new.steps.items ≡ self.old.steps.items) }
-        ensures found { OnOk result (S.told sink.new ≡ S.told sink.old
-            ++ told_under S.piece (shown_steps self.old.steps.items)
-            (conflicts_in not_allowed branch.now)) }
+        ensures found { OnOk result (Grows (S.tally self.old.sink out.old)
+            (S.tally self.new.sink out.new)
+            (told_under S.piece (shown_steps self.old.steps.items)
+            (conflicts_in not_allowed branch.now))) }
+        ensures begun { OnErr result (Starts (S.tally self.old.sink out.old)
+            (S.tally self.new.sink out.new)
+            (told_under S.piece (shown_steps self.old.steps.items)
+            (conflicts_in not_allowed branch.now))) }
     {
         let row = branch.row();
-        self.look_at(sink, row, not_allowed)?;
+        look_at(&mut self.sink, out, &self.steps, row, not_allowed)?;
         for (span, child) in branch.spans() {
-            self.visit_span(sink, row, span, &child)?;
+            self.visit_span(out, row, span, &child)?;
         }
-        self.visit_rest(sink, branch)
+        self.visit_rest(out, branch)?;
+        Ok(())
     }
 
     /// Looks for conflicts at the branches of a place that are kept as one.
     #[cycle(walk)]
-    fn visit_span<S: ConflictSink>(
+    fn visit_span(
         &mut self,
-        sink: &mut S,
+        out: &mut S::Out,
         above: Option<&Row>,
         span: Span<'a>,
         child: &Branch<'a, Row>,
-    ) -> Result<(), Memory>
+    ) -> Result<(), S::Halt>
         ensures steps { OnOk result (self.new.steps.items ≡ self.old.steps.items) }
-        ensures found { OnOk result (S.told sink.new ≡ S.told sink.old
-            ++ told_under S.piece (shown_steps self.old.steps.items)
+        ensures found { OnOk result (Grows (S.tally self.old.sink out.old)
+            (S.tally self.new.sink out.new)
+            (told_under S.piece (shown_steps self.old.steps.items)
             (conflicts_below (option_map (λ row. row.now) above.entry)
-            (spanned (span_of span.entry) child.now none))) }
+            (spanned (span_of span.entry) child.now none)))) }
+        ensures begun { OnErr result (Starts (S.tally self.old.sink out.old)
+            (S.tally self.new.sink out.new)
+            (told_under S.piece (shown_steps self.old.steps.items)
+            (conflicts_below (option_map (λ row. row.now) above.entry)
+            (spanned (span_of span.entry) child.now none)))) }
     {
         match span {
             Span::Label(label) => {
                 let step = StepRef::Label(label);
                 if is_demanded(above, step, child.row()) {
-                    self.steps.push(step)?;
-                    self.visit(sink, child, is_refused(above, step))?;
+                    enter(&mut self.steps, step)?;
+                    self.visit(out, child, is_refused(above, step))?;
                     self.steps.pop();
                 }
                 Ok(())
             }
             Span::Elements { first, more } => {
                 let end = demanded_end(least_of(above), first, more);
-                self.visit_run(sink, first, end, child)
+                self.visit_run(out, first, end, child)?;
+                Ok(())
             }
         }
     }
 
     /// Looks for conflicts at the elements of a place that each list has and that are its rest.
     #[cycle(walk)]
-    fn visit_rest<S: ConflictSink>(
-        &mut self,
-        sink: &mut S,
-        branch: &Branch<'a, Row>,
-    ) -> Result<(), Memory>
+    fn visit_rest(&mut self, out: &mut S::Out, branch: &Branch<'a, Row>) -> Result<(), S::Halt>
         ensures steps { OnOk result (self.new.steps.items ≡ self.old.steps.items) }
-        ensures found { OnOk result (S.told sink.new ≡ S.told sink.old
-            ++ told_under S.piece (shown_steps self.old.steps.items)
-            (conflicts_onward (row_of branch.now) (rest_of branch.now))) }
+        ensures found { OnOk result (Grows (S.tally self.old.sink out.old)
+            (S.tally self.new.sink out.new)
+            (told_under S.piece (shown_steps self.old.steps.items)
+            (conflicts_onward (row_of branch.now) (rest_of branch.now)))) }
+        ensures begun { OnErr result (Starts (S.tally self.old.sink out.old)
+            (S.tally self.new.sink out.new)
+            (told_under S.piece (shown_steps self.old.steps.items)
+            (conflicts_onward (row_of branch.now) (rest_of branch.now)))) }
     {
         let Some(rest) = branch.rest() else {
             return Ok(());
         };
         let least = least_of(branch.row());
-        self.visit_run(sink, rest_from(branch, least), least, &rest)
+        self.visit_run(out, rest_from(branch, least), least, &rest)?;
+        Ok(())
     }
 
     /// Looks for conflicts at the elements of a place from the first on, before the end, which are
     /// alike. Where nothing is told of one, nothing is of those behind it.
     #[cycle(walk)]
-    fn visit_run<S: ConflictSink>(
+    fn visit_run(
         &mut self,
-        sink: &mut S,
+        out: &mut S::Out,
         first: u32,
         end: u32,
         element: &Branch<'a, Row>,
-    ) -> Result<(), Memory>
+    ) -> Result<(), S::Halt>
         ensures steps { OnOk result (self.new.steps.items ≡ self.old.steps.items) }
-        ensures found { OnOk result (S.told sink.new ≡ S.told sink.old
-            ++ told_under S.piece (shown_steps self.old.steps.items)
-            (each_index first (end - first) (conflicts_in false element.now))) }
+        ensures found { OnOk result (Grows (S.tally self.old.sink out.old)
+            (S.tally self.new.sink out.new)
+            (told_under S.piece (shown_steps self.old.steps.items)
+            (each_index first (end - first) (conflicts_in false element.now)))) }
+        ensures begun { OnErr result (Starts (S.tally self.old.sink out.old)
+            (S.tally self.new.sink out.new)
+            (told_under S.piece (shown_steps self.old.steps.items)
+            (each_index first (end - first) (conflicts_in false element.now)))) }
     {
         for number in first..end {
-            let before = sink.len();
-            self.steps.push(StepRef::Index(number))?;
-            self.visit(sink, element, false)?;
+            let before = self.sink.len(out);
+            enter(&mut self.steps, StepRef::Index(number))?;
+            self.visit(out, element, false)?;
             self.steps.pop();
-            if sink.len() == before {
+            if self.sink.len(out) == before {
                 return Ok(());
             }
         }
         Ok(())
     }
+}
 
-    /// Looks for a conflict at the place at hand, by the row there.
-    fn look_at<S: ConflictSink>(
-        &self,
-        sink: &mut S,
-        row: Option<&Row>,
-        not_allowed: bool,
-    ) -> Result<(), Memory>
-        requires { IfSome row (λ row. IsRow row.now) }
-        ensures found { OnOk result (S.told sink.new ≡ S.told sink.old
-            ++ told_under S.piece (shown_steps self.now.steps.items) (conflict_here
-            (has_no_value (option_map (λ row. row.now) row.entry)) not_allowed)) }
-    {
-        let no_value = match row {
-            None => false,
-            Some(row) => lacks_value(row),
-        };
-        if no_value || not_allowed {
-            sink.conflict(&self.steps, no_value, not_allowed)?;
-        }
-        Ok(())
+/// Looks for a conflict at the place at hand, by the row there.
+fn look_at<S: ConflictSink>(
+    sink: &mut S,
+    out: &mut S::Out,
+    steps: &[StepRef],
+    row: Option<&Row>,
+    not_allowed: bool,
+) -> Result<(), S::Halt>
+    requires { IfSome row (λ row. IsRow row.now) }
+    ensures found { OnOk result (Grows (S.tally sink.old out.old)
+        (S.tally sink.new out.new)
+        (told_under S.piece (shown_steps steps.now) (conflict_here
+        (has_no_value (option_map (λ row. row.now) row.entry)) not_allowed))) }
+    ensures begun { OnErr result (Starts (S.tally sink.old out.old)
+        (S.tally sink.new out.new)
+        (told_under S.piece (shown_steps steps.now) (conflict_here
+        (has_no_value (option_map (λ row. row.now) row.entry)) not_allowed))) }
+{
+    let no_value = match row {
+        None => false,
+        Some(row) => lacks_value(row),
+    };
+    if no_value || not_allowed {
+        sink.conflict(out, steps, no_value, not_allowed)?;
     }
+    Ok(())
 }

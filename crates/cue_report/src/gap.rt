@@ -1,5 +1,6 @@
-ghost use Rattle.std.specs.Prelude.{◌≡◌, ◌↔◌, ◌++◌, ◌-◌, Bool, false, Some, []};
-ghost use Rattle.std.specs.Prelude.{IfOk, IfSome, IfNone, IsTrue, OnOk, string_bytes};
+ghost use Rattle.std.specs.Prelude.{◌≡◌, ◌↔◌, Bool, false, Some, []};
+ghost use Rattle.std.specs.Prelude.{IfOk, IfSome, IfNone, IsTrue, OnOk, OnErr, nat_lt};
+ghost use Rattle.std.specs.Prelude.{string_bytes};
 ghost use Rattle.std.specs.Option.{option_map};
 ghost use Rattle.cue_row.specs.Row.{IsRow, RowRefuses};
 ghost use Rattle.cue_table.specs.Refuses.{TableRefuses};
@@ -7,18 +8,22 @@ ghost use Rattle.cue_table.specs.Spans.{spanned};
 ghost use Rattle.cue_table.specs.StepsOfCode.{span_of};
 ghost use Rattle.cue_table.specs.Tree.{none, row_of, rest_of};
 ghost use Rattle.cue_report.specs.GapSearch.{IsGapAt, IsOpenAt, IsGapHere, IsGapIn, Adds};
+ghost use Rattle.cue_report.specs.GapSearch.{Fronts};
 ghost use Rattle.cue_report.specs.GapSearch.{IsGapBelow, IsGapAmong, IsGapOnward};
 ghost use Rattle.cue_report.specs.GapSearch.{free_before, free_elements, next_after, told_above};
 ghost use Rattle.cue_report.specs.Gaps.{AreGaps};
-ghost use Rattle.cue_report.specs.Lines.{AddsGapLines};
+ghost use Rattle.cue_report.specs.Lines.{AddsGapLines, BeginsGaps, TellsGaps};
 ghost use Rattle.cue_report.specs.Search.{lacks_value, least_at};
+ghost use Rattle.cue_report.specs.Telling.{Grows, Starts};
 ghost use Rattle.cue_report.specs.Trail.{shown_steps};
 
 use crate::demand::{demanded_end, is_demanded, is_refused, least_of, rest_from};
 use crate::listed::Listed;
+use crate::place::enter;
 use crate::sink::GapSink;
 use crate::written::Written;
 use crate::{Place, demand};
+use cue_device::TextSink;
 use cue_lattice::{Memory, Narrow};
 use cue_row::{Level, Row};
 use cue_table::{Branch, Span, StepRef, Table};
@@ -38,10 +43,10 @@ pub struct Gap {
 pub fn incomplete(alloc: Global, table: &Table<Row>) -> Result<Vec<Gap>, Memory>
     ensures { IfOk result (λ gaps. AreGaps (TableRefuses RowRefuses table.now) gaps.items) }
 {
-    let mut found = Listed::new(alloc);
-    let mut search = Search::new(alloc);
+    let mut found = Vec::new(alloc);
+    let mut search = Search::new(alloc, Listed::new(alloc));
     search.visit(&mut found, &table.root(), false)?;
-    Ok(found.into_list())
+    Ok(found)
 }
 
 /// The text with a line behind it for each gap of a table, in the order of their paths, as
@@ -50,178 +55,255 @@ pub fn gap_lines(alloc: Global, text: String, table: &Table<Row>) -> Result<Stri
     ensures lines { IfOk result (λ whole. AddsGapLines (TableRefuses RowRefuses table.now)
         (string_bytes text) (string_bytes whole)) }
 {
-    let mut written = Written::new(alloc, text);
-    let mut search = Search::new(alloc);
-    search.visit(&mut written, &table.root(), false)?;
-    Ok(written.into_text())
+    let mut whole = text;
+    tell_gaps(alloc, table, &mut whole)?;
+    Ok(whole)
+}
+
+/// Tells of each gap of a table by a line, in the order of their paths, as [`crate::lines`] writes
+/// them, and whether there was one. They are told while the table is walked.
+///
+/// # Errors
+///
+/// Where no more is taken; then the front of the lines was.
+pub fn tell_gaps<S: TextSink>(
+    alloc: Global,
+    table: &Table<Row>,
+    out: &mut S,
+) -> Result<bool, S::Halt>
+    ensures lines { IfOk result (λ some. TellsGaps (TableRefuses RowRefuses table.now) some
+        (S.taken out.old) (S.taken out.new)) }
+    ensures begun { OnErr result (BeginsGaps (TableRefuses RowRefuses table.now)
+        (S.taken out.old) (S.taken out.new)) }
+{
+    let mut search = Search::new(alloc, Written::new(alloc));
+    search.visit(out, &table.root(), false)?;
+    Ok(search.has_told(out))
 }
 
 /// A search for gaps, from the root on.
 #[derive(Drop)]
-struct Search<'a> {
+struct Search<'a, S> {
     alloc: Global,
+    /// How they are told.
+    sink: S,
     /// The steps to the place at hand.
     steps: Vec<StepRef<'a>>,
 }
 
-impl<'a> Search<'a> {
+impl<'a, S: GapSink> Search<'a, S> {
     /// A search that stands at the root.
-    fn new(alloc: Global) -> Search<'a>
-        ensures { result.steps.items ≡ [] }
+    fn new(alloc: Global, sink: S) -> Search<'a, S>
+        ensures sink { result.sink ≡ sink }
+        ensures steps { result.steps.items ≡ [] }
     {
         Search {
             alloc,
+            sink,
             steps: Vec::new(alloc),
         }
     }
 
+    /// Whether anything was told.
+    fn has_told(&self, out: &S::Out) -> bool
+        ensures { result ≡ nat_lt 0 (S.tally self.now.sink out.now).count }
+    {
+        self.sink.len(out) > 0
+    }
+
     /// Looks for gaps at a place, of which the place above refuses the label or not, and below it.
     #[cycle(walk)]
-    fn visit<S: GapSink>(
+    fn visit(
         &mut self,
-        sink: &mut S,
+        out: &mut S::Out,
         branch: &Branch<'a, Row>,
         not_allowed: bool,
-    ) -> Result<(), Memory>
+    ) -> Result<(), S::Halt>
         ensures steps { OnOk result (self.new.steps.items ≡ self.old.steps.items) }
-        ensures gaps { OnOk result (Adds S.piece (IsGapIn not_allowed branch.now)
-            (shown_steps self.old.steps.items) (S.told sink.old) (S.told sink.new)) }
+        ensures gaps { OnOk result (Adds S.piece
+            (IsGapIn not_allowed branch.now)
+            (shown_steps self.old.steps.items)
+            (S.tally self.old.sink out.old) (S.tally self.new.sink out.new)) }
+        ensures begun { OnErr result (Fronts S.piece
+            (IsGapIn not_allowed branch.now)
+            (shown_steps self.old.steps.items)
+            (S.tally self.old.sink out.old) (S.tally self.new.sink out.new)) }
     {
         let row = branch.row();
-        self.look_at(sink, row, not_allowed)?;
+        look_at(
+            self.alloc,
+            &mut self.sink,
+            out,
+            &self.steps,
+            row,
+            not_allowed,
+        )?;
         let least = least_of(row);
         // The first element that is not looked at.
         let mut next = 0;
         for (span, child) in branch.spans() {
-            next = self.reach(sink, next, least, span)?;
-            self.visit_span(sink, row, span, &child)?;
+            next = reach(&mut self.sink, out, &self.steps, next, least, span)?;
+            self.visit_span(out, row, span, &child)?;
         }
-        sink.free_elements(&self.steps, next, rest_from(branch, least))?;
-        self.visit_rest(sink, branch)
+        let end = rest_from(branch, least);
+        self.sink.free_elements(out, &self.steps, next, end)?;
+        self.visit_rest(out, branch)?;
+        Ok(())
     }
 
     /// Looks for gaps at the branches of a place that are kept as one.
     #[cycle(walk)]
-    fn visit_span<S: GapSink>(
+    fn visit_span(
         &mut self,
-        sink: &mut S,
+        out: &mut S::Out,
         above: Option<&Row>,
         span: Span<'a>,
         child: &Branch<'a, Row>,
-    ) -> Result<(), Memory>
+    ) -> Result<(), S::Halt>
         ensures steps { OnOk result (self.new.steps.items ≡ self.old.steps.items) }
         ensures gaps { OnOk result (Adds S.piece
             (IsGapBelow (option_map (λ row. row.now) above.entry)
             (spanned (span_of span.entry) child.now none))
-            (shown_steps self.old.steps.items) (S.told sink.old) (S.told sink.new)) }
+            (shown_steps self.old.steps.items)
+            (S.tally self.old.sink out.old) (S.tally self.new.sink out.new)) }
+        ensures begun { OnErr result (Fronts S.piece
+            (IsGapBelow (option_map (λ row. row.now) above.entry)
+            (spanned (span_of span.entry) child.now none))
+            (shown_steps self.old.steps.items)
+            (S.tally self.old.sink out.old) (S.tally self.new.sink out.new)) }
     {
         match span {
             Span::Label(label) => {
                 let step = StepRef::Label(label);
                 if is_demanded(above, step, child.row()) {
-                    self.steps.push(step)?;
-                    self.visit(sink, child, is_refused(above, step))?;
+                    enter(&mut self.steps, step)?;
+                    self.visit(out, child, is_refused(above, step))?;
                     self.steps.pop();
                 }
                 Ok(())
             }
             Span::Elements { first, more } => {
                 let end = demanded_end(least_of(above), first, more);
-                self.visit_run(sink, first, end, child)
+                self.visit_run(out, first, end, child)?;
+                Ok(())
             }
         }
     }
 
     /// Looks for gaps at the elements of a place that each list has and that are its rest.
     #[cycle(walk)]
-    fn visit_rest<S: GapSink>(
-        &mut self,
-        sink: &mut S,
-        branch: &Branch<'a, Row>,
-    ) -> Result<(), Memory>
+    fn visit_rest(&mut self, out: &mut S::Out, branch: &Branch<'a, Row>) -> Result<(), S::Halt>
         ensures steps { OnOk result (self.new.steps.items ≡ self.old.steps.items) }
         ensures gaps { OnOk result (Adds S.piece
             (IsGapOnward (least_at (row_of branch.now)) (rest_of branch.now))
-            (shown_steps self.old.steps.items) (S.told sink.old) (S.told sink.new)) }
+            (shown_steps self.old.steps.items)
+            (S.tally self.old.sink out.old) (S.tally self.new.sink out.new)) }
+        ensures begun { OnErr result (Fronts S.piece
+            (IsGapOnward (least_at (row_of branch.now)) (rest_of branch.now))
+            (shown_steps self.old.steps.items)
+            (S.tally self.old.sink out.old) (S.tally self.new.sink out.new)) }
     {
         let Some(rest) = branch.rest() else {
             return Ok(());
         };
         let least = least_of(branch.row());
-        self.visit_run(sink, rest_from(branch, least), least, &rest)
+        self.visit_run(out, rest_from(branch, least), least, &rest)?;
+        Ok(())
     }
 
     /// Looks for gaps at the elements of a place from the first on, before the end, which are
     /// alike. Where nothing is told of one, nothing is of those behind it.
     #[cycle(walk)]
-    fn visit_run<S: GapSink>(
+    fn visit_run(
         &mut self,
-        sink: &mut S,
+        out: &mut S::Out,
         first: u32,
         end: u32,
         element: &Branch<'a, Row>,
-    ) -> Result<(), Memory>
+    ) -> Result<(), S::Halt>
         ensures steps { OnOk result (self.new.steps.items ≡ self.old.steps.items) }
-        ensures gaps { OnOk result (Adds S.piece (IsGapAmong first end element.now)
-            (shown_steps self.old.steps.items) (S.told sink.old) (S.told sink.new)) }
+        ensures gaps { OnOk result (Adds S.piece
+            (IsGapAmong first end element.now)
+            (shown_steps self.old.steps.items)
+            (S.tally self.old.sink out.old) (S.tally self.new.sink out.new)) }
+        ensures begun { OnErr result (Fronts S.piece
+            (IsGapAmong first end element.now)
+            (shown_steps self.old.steps.items)
+            (S.tally self.old.sink out.old) (S.tally self.new.sink out.new)) }
     {
         for number in first..end {
-            let before = sink.len();
-            self.steps.push(StepRef::Index(number))?;
-            self.visit(sink, element, false)?;
+            let before = self.sink.len(out);
+            enter(&mut self.steps, StepRef::Index(number))?;
+            self.visit(out, element, false)?;
             self.steps.pop();
-            if sink.len() == before {
+            if self.sink.len(out) == before {
                 return Ok(());
             }
         }
         Ok(())
     }
+}
 
-    /// Looks for a gap at the place at hand, by the row there.
-    fn look_at<S: GapSink>(
-        &self,
-        sink: &mut S,
-        row: Option<&Row>,
-        not_allowed: bool,
-    ) -> Result<(), Memory>
-        requires { IfSome row (λ row. IsRow row.now) }
-        ensures gaps { OnOk result
-            (Adds S.piece (IsGapHere not_allowed (option_map (λ row. row.now) row.entry))
-            (shown_steps self.now.steps.items) (S.told sink.old) (S.told sink.new)) }
-    {
-        if not_allowed {
-            return Ok(());
-        }
-        if let Some(missing) = gap_at(self.alloc, row)? {
-            sink.gap(&self.steps, missing)?;
-        }
-        Ok(())
+/// Looks for a gap at the place at hand, by the row there.
+fn look_at<S: GapSink>(
+    alloc: Global,
+    sink: &mut S,
+    out: &mut S::Out,
+    steps: &[StepRef],
+    row: Option<&Row>,
+    not_allowed: bool,
+) -> Result<(), S::Halt>
+    requires { IfSome row (λ row. IsRow row.now) }
+    ensures gaps { OnOk result (Adds S.piece
+        (IsGapHere not_allowed (option_map (λ row. row.now) row.entry))
+        (shown_steps steps.now)
+        (S.tally sink.old out.old) (S.tally sink.new out.new)) }
+    ensures begun { OnErr result (Fronts S.piece
+        (IsGapHere not_allowed (option_map (λ row. row.now) row.entry))
+        (shown_steps steps.now)
+        (S.tally sink.old out.old) (S.tally sink.new out.new)) }
+{
+    if not_allowed {
+        return Ok(());
     }
+    match gap_at(alloc, row)? {
+        None => Ok(()),
+        Some(missing) => {
+            sink.gap(out, steps, missing)?;
+            Ok(())
+        }
+    }
+}
 
-    /// Tells the elements of the place at hand from the next on that are before this span, if so
-    /// many elements are demanded and one of the span is: they are free. Tells the first one behind
-    /// the demanded elements of the span.
-    fn reach<S: GapSink>(
-        &self,
-        sink: &mut S,
-        next: u32,
-        least: u32,
-        span: Span,
-    ) -> Result<u32, Memory>
-        ensures gaps { OnOk result (S.told sink.new ≡ S.told sink.old
-            ++ told_above S.piece (shown_steps self.now.steps.items)
-            (free_before next least (span_of span.entry))) }
-        ensures next { IfOk result (λ found. found ≡ next_after next least (span_of span.entry)) }
-    {
-        match span {
-            Span::Label(_) => Ok(next),
-            Span::Elements { first, more } => {
-                if first >= least {
-                    return Ok(next);
-                }
-                sink.free_elements(&self.steps, next, first)?;
-                Ok(demanded_end(least, first, more))
+/// Tells the elements of the place at hand from the next on that are before this span, if so
+/// many elements are demanded and one of the span is: they are free. Tells the first one behind
+/// the demanded elements of the span.
+fn reach<S: GapSink>(
+    sink: &mut S,
+    out: &mut S::Out,
+    steps: &[StepRef],
+    next: u32,
+    least: u32,
+    span: Span,
+) -> Result<u32, S::Halt>
+    ensures gaps { OnOk result (Grows (S.tally sink.old out.old)
+        (S.tally sink.new out.new)
+        (told_above S.piece (shown_steps steps.now)
+        (free_before next least (span_of span.entry)))) }
+    ensures begun { OnErr result (Starts (S.tally sink.old out.old)
+        (S.tally sink.new out.new)
+        (told_above S.piece (shown_steps steps.now)
+        (free_before next least (span_of span.entry)))) }
+    ensures next { IfOk result (λ found. found ≡ next_after next least (span_of span.entry)) }
+{
+    match span {
+        Span::Label(_) => Ok(next),
+        Span::Elements { first, more } => {
+            if first >= least {
+                return Ok(next);
             }
+            sink.free_elements(out, steps, next, first)?;
+            Ok(demanded_end(least, first, more))
         }
     }
 }

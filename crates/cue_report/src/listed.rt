@@ -1,5 +1,5 @@
-ghost use Rattle.std.specs.Prelude.{◌≡◌, ◌++◌, ◌-◌, [], ◌∷◌, OnOk};
-ghost use Rattle.cue_report.specs.GapSearch.{told_above, free_elements};
+ghost use Rattle.std.specs.Prelude.{◌≡◌, ◌++◌, [], ◌∷◌, Some, false, length, OnOk, OnErr};
+ghost use Rattle.cue_lattice.specs.Path.{index};
 ghost use Rattle.cue_report.specs.Trail.{shown_steps};
 
 use crate::place::copied;
@@ -10,51 +10,58 @@ use cue_row::Step;
 use cue_table::StepRef;
 use std::alloc::Global;
 
-/// What a search finds, as a list.
+/// What a search finds, told as a list.
 #[derive(Drop)]
-pub(crate) struct Listed<T> {
+pub(crate) struct Listed {
     alloc: Global,
-    list: Vec<T>,
 }
 
-impl<T> Listed<T> {
-    /// An empty list.
-    pub fn new(alloc: Global) -> Listed<T>
-        ensures { result.list.items ≡ [] }
-    {
-        Listed {
-            alloc,
-            list: Vec::new(alloc),
-        }
+impl Listed {
+    /// A way to tell in lists.
+    pub fn new(alloc: Global) -> Listed {
+        Listed { alloc }
     }
 
-    /// What was found.
-    pub fn into_list(self) -> Vec<T>
-        ensures { result.items ≡ self.list.items }
+    /// Tells of one free element.
+    fn element(&self, out: &mut Vec<Gap>, steps: &[StepRef], number: u32) -> Result<(), Memory>
+        ensures told { OnOk result (out.new.items ≡ out.old.items
+            ++ record { path = shown_steps steps.now ++ index number ∷ []; missing = false } ∷ []) }
+        ensures kept { OnErr result (out.new.items ≡ out.old.items) }
     {
-        self.list
+        let mut path = copied(self.alloc, steps)?;
+        path.push(Step::Index(number))?;
+        out.push(Gap {
+            path: Place::new(path),
+            missing: false,
+        })?;
+        Ok(())
     }
 }
 
-impl ConflictSink for Listed<Conflict> {
+impl ConflictSink for Listed {
+    type Out = Vec<Conflict>;
+
     type Piece = Conflict;
 
-    ghost told = { λ listed. listed.list.items };
+    type Halt = Memory;
+
+    ghost tally = { λ listed out. record { count = length out.items; known = Some out.items } };
 
     ghost piece = { λ conflict. conflict ∷ [] };
 
-    fn len(&self) -> usize {
-        self.list.len()
+    fn len(&self, out: &Vec<Conflict>) -> u64 {
+        out.len() as u64
     }
 
     fn conflict(
         &mut self,
+        out: &mut Vec<Conflict>,
         steps: &[StepRef],
         no_value: bool,
         not_allowed: bool,
     ) -> Result<(), Memory> {
         let path = Place::new(copied(self.alloc, steps)?);
-        self.list.push(Conflict {
+        out.push(Conflict {
             path,
             no_value,
             not_allowed,
@@ -63,31 +70,36 @@ impl ConflictSink for Listed<Conflict> {
     }
 }
 
-impl GapSink for Listed<Gap> {
+impl GapSink for Listed {
+    type Out = Vec<Gap>;
+
     type Piece = Gap;
 
-    ghost told = { λ listed. listed.list.items };
+    type Halt = Memory;
+
+    ghost tally = { λ listed out. record { count = length out.items; known = Some out.items } };
 
     ghost piece = { λ gap. gap ∷ [] };
 
-    fn len(&self) -> usize {
-        self.list.len()
+    fn len(&self, out: &Vec<Gap>) -> u64 {
+        out.len() as u64
     }
 
-    fn gap(&mut self, steps: &[StepRef], missing: bool) -> Result<(), Memory> {
+    fn gap(&mut self, out: &mut Vec<Gap>, steps: &[StepRef], missing: bool) -> Result<(), Memory> {
         let path = Place::new(copied(self.alloc, steps)?);
-        self.list.push(Gap { path, missing })?;
+        out.push(Gap { path, missing })?;
         Ok(())
     }
 
-    fn free_elements(&mut self, steps: &[StepRef], first: u32, end: u32) -> Result<(), Memory> {
+    fn free_elements(
+        &mut self,
+        out: &mut Vec<Gap>,
+        steps: &[StepRef],
+        first: u32,
+        end: u32,
+    ) -> Result<(), Memory> {
         for number in first..end {
-            let mut path = copied(self.alloc, steps)?;
-            path.push(Step::Index(number))?;
-            self.list.push(Gap {
-                path: Place::new(path),
-                missing: false,
-            })?;
+            self.element(out, steps, number)?;
         }
         Ok(())
     }

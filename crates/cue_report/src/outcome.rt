@@ -22,3 +22,14 @@ pub enum ExportText {
     /// There is no conflict, and a line for each gap.
     Incomplete(String),
 }
+
+/// What an export of a table comes to, where its text is told elsewhere.
+#[derive(Clone, Copy, Debug, PartialEq, Eq)]
+pub enum ExportKind {
+    /// The document as JSON, as [`Export`] has it.
+    Json,
+    /// A line for each conflict, as [`crate::lines`] writes them.
+    Conflicts,
+    /// There is no conflict, and a line for each gap.
+    Incomplete,
+}

@@ -1,4 +1,4 @@
-ghost use Rattle.std.specs.Prelude.{◌≡◌, map, string_bytes, IfOk};
+ghost use Rattle.std.specs.Prelude.{◌≡◌, ◌++◌, [], ◌∷◌, map, string_bytes, IfOk, OnOk};
 ghost use Rattle.cue_row.specs.PathText.{path_text};
 ghost use Rattle.cue_row.specs.Steps.{step_of};
 ghost use Rattle.cue_report.specs.Trail.{shown_steps};
@@ -62,4 +62,12 @@ pub(crate) fn copied(alloc: Global, steps: &[StepRef]) -> Result<Vec<Step>, Memo
         copies.push(step.to_step(alloc)?)?;
     }
     Ok(copies)
+}
+
+/// Takes one step further.
+pub(crate) fn enter<'a>(steps: &mut Vec<StepRef<'a>>, step: StepRef<'a>) -> Result<(), Memory>
+    ensures { OnOk result (steps.new.items ≡ steps.old.items ++ step.entry ∷ []) }
+{
+    steps.push(step)?;
+    Ok(())
 }

@@ -1,4 +1,5 @@
 ghost use Rattle.std.specs.Prelude.{◌≡◌, ◌↔◌, ◌⊎◌, [], false, Some, IfOk, IfSome, IfNone, IsTrue};
+ghost use Rattle.std.specs.Prelude.{OnErr};
 ghost use Rattle.cue_lattice.specs.declared.scalar.Scalar.{Scalar as Scalars};
 ghost use Rattle.cue_row.specs.Row.{IsRow, RowRefuses};
 ghost use Rattle.cue_table.specs.Tree.{row_of};
@@ -14,12 +15,13 @@ ghost use Rattle.cue_report.specs.Export.{AreElements, keys, count, data_of};
 ghost use Rattle.cue_report.specs.GapSearch.{AtPlace};
 ghost use Rattle.cue_report.specs.Search.{least_at};
 ghost use Rattle.cue_report.specs.Gaps.{IsFree};
-ghost use Rattle.cue_report.specs.ExportText.{IsExportText};
+ghost use Rattle.cue_report.specs.ExportText.{BeginsExport, IsExportText, TellsExport};
 ghost use Rattle.cue_report.specs.Picks.{IsPicked};
 
 use crate::demand::{is_demanded, least_of};
 use crate::document_text::document_text;
-use crate::{Export, ExportText, conflict_lines, conflicts, gap_lines, incomplete};
+use crate::{Export, ExportKind, ExportText, conflicts, incomplete, tell_conflicts, tell_gaps};
+use cue_device::TextSink;
 use cue_lattice::{Memory, Narrow};
 use cue_row::{Row, Step};
 use cue_scalars::Scalar;
@@ -54,16 +56,42 @@ pub fn export(alloc: Global, table: &Table<Row>) -> Result<Export, Memory>
 pub fn export_text(alloc: Global, table: &Table<Row>) -> Result<ExportText, Memory>
     ensures export { IfOk result (λ told. IsExportText (TableRefuses RowRefuses table.now) told) }
 {
-    let conflicting = conflict_lines(alloc, String::new(alloc), table)?;
-    if !conflicting.is_empty() {
-        return Ok(ExportText::Conflicts(conflicting));
+    let mut text = String::new(alloc);
+    let kind = tell_export(alloc, table, &mut text)?;
+    match kind {
+        ExportKind::Json => Ok(ExportText::Json(text)),
+        ExportKind::Conflicts => Ok(ExportText::Conflicts(text)),
+        ExportKind::Incomplete => Ok(ExportText::Incomplete(text)),
     }
-    let lacking = gap_lines(alloc, String::new(alloc), table)?;
-    if !lacking.is_empty() {
-        return Ok(ExportText::Incomplete(lacking));
+}
+
+/// Tells the text of the export of a table, as [`export_text`] gives it, and what it comes to.
+/// Lines are told while the table is walked; JSON is told once it is made.
+///
+/// # Errors
+///
+/// Where no more is taken; then the front of the text was.
+pub fn tell_export<S: TextSink>(
+    alloc: Global,
+    table: &Table<Row>,
+    out: &mut S,
+) -> Result<ExportKind, S::Halt>
+    ensures export { IfOk result (λ kind. TellsExport (TableRefuses RowRefuses table.now) kind
+        (S.taken out.old) (S.taken out.new)) }
+    ensures begun { OnErr result (BeginsExport (TableRefuses RowRefuses table.now)
+        (S.taken out.old) (S.taken out.new)) }
+{
+    let conflicting = tell_conflicts(alloc, table, out)?;
+    if conflicting {
+        return Ok(ExportKind::Conflicts);
+    }
+    let lacking = tell_gaps(alloc, table, out)?;
+    if lacking {
+        return Ok(ExportKind::Incomplete);
     }
     let text = document_text(alloc, table)?;
-    Ok(ExportText::Json(text))
+    out.put(text.as_str())?;
+    Ok(ExportKind::Json)
 }
 
 /// A document that meets a table, also where the table is incomplete: an object of the demanded

@@ -1,110 +1,199 @@
-ghost use Rattle.std.specs.Prelude.{◌≡◌, ◌++◌, OnOk, codes, string_bytes};
+ghost use Rattle.std.specs.Prelude.{◌≡◌, ◌+◌, ◌++◌, OnOk, OnErr, IfOk, codes, string_bytes};
 ghost use Rattle.std.specs.List.{flat_map};
 ghost use Rattle.cue_lattice.specs.Path.{index};
 ghost use Rattle.cue_row.specs.PathText.{label_text, path_text, step_text};
 ghost use Rattle.cue_table.specs.StepsOfCode.{step_at};
 ghost use Rattle.cue_report.specs.Lines.{conflict_line, gap_line, line_end};
+ghost use Rattle.cue_report.specs.Telling.{Grows, Starts};
 ghost use Rattle.cue_report.specs.Trail.{dotted_behind, shown_steps};
 
 use crate::report::{cause, end_line, lack};
 use crate::sink::{ConflictSink, GapSink};
+use cue_device::TextSink;
 use cue_lattice::{Memory, Text};
 use cue_row::{Step, is_bare, push_quoted, push_steps};
 use cue_table::StepRef;
 use std::alloc::Global;
+use std::marker::PhantomData;
 use std::slice::from_ref;
 
-/// What a search finds, written as lines behind a text.
+/// What a search finds, told as lines of a text, of which each is put as a whole.
 #[derive(Drop)]
-pub(crate) struct Written {
-    text: String,
+pub(crate) struct Written<S> {
+    /// How many bytes were told.
+    told: u64,
+    /// The line at hand.
+    line: String,
     /// The path of a list of which elements are told, as it stands in front of each.
     list: String,
+    out: PhantomData<S>,
 }
 
-impl Written {
-    /// The text, behind which the lines are written.
-    pub fn new(alloc: Global, text: String) -> Written
-        ensures { string_bytes result.text ≡ string_bytes text }
+impl<S: TextSink> Written<S> {
+    pub fn new(alloc: Global) -> Written<S>
+        ensures { result.told ≡ 0 }
     {
         Written {
-            text,
+            told: 0,
+            line: String::new(alloc),
             list: String::new(alloc),
+            out: PhantomData,
         }
     }
 
-    /// The text and the lines behind it.
-    pub fn into_text(self) -> String
-        ensures { string_bytes result ≡ string_bytes self.text }
-    {
-        self.text
-    }
-
-    /// Writes a line for a free element of the list whose path is at hand.
-    fn element(&mut self, number: u32) -> Result<(), Memory>
-        ensures text { OnOk result (string_bytes self.new.text ≡ string_bytes self.old.text
-            ++ (codes "incomplete " ++ (string_bytes self.old.list ++ (step_text (index number)
-            ++ line_end (codes "not a single value"))))) }
+    /// Puts the line at hand.
+    fn put_line(&mut self, out: &mut S) -> Result<(), S::Halt>
         ensures list { OnOk result (string_bytes self.new.list ≡ string_bytes self.old.list) }
+        ensures told { OnOk result (Grows
+            (record { count = self.old.told; known = S.taken out.old })
+            (record { count = self.new.told; known = S.taken out.new })
+            (string_bytes self.old.line)) }
+        ensures begun { OnErr result (Starts
+            (record { count = self.old.told; known = S.taken out.old })
+            (record { count = self.new.told; known = S.taken out.new })
+            (string_bytes self.old.line)) }
     {
-        self.text.push_str("incomplete ")?;
-        self.text.push_str(self.list.as_str())?;
-        push_index(&mut self.text, number)?;
-        end_line(&mut self.text, lack(false))?;
+        let told = with_more(self.told, self.line.len())?;
+        out.put(self.line.as_str())?;
+        self.told = told;
         Ok(())
     }
-}
 
-impl ConflictSink for Written {
-    type Piece = u8;
-
-    ghost told = { λ written. string_bytes written.text };
-
-    ghost piece = { conflict_line };
-
-    fn len(&self) -> usize {
-        self.text.len()
-    }
-
-    fn conflict(
+    /// The line of a conflict.
+    fn conflict_line(
         &mut self,
         steps: &[StepRef],
         no_value: bool,
         not_allowed: bool,
-    ) -> Result<(), Memory> {
-        self.text.push_str("conflict ")?;
-        push_place(&mut self.text, steps)?;
-        end_line(&mut self.text, cause(no_value, not_allowed))?;
+    ) -> Result<(), Memory>
+        ensures told { self.new.told ≡ self.old.told }
+        ensures line { OnOk result (string_bytes self.new.line ≡ conflict_line (record {
+          path = shown_steps steps.now;
+          no_value = no_value;
+          not_allowed = not_allowed;
+        })) }
+    {
+        self.line.clear();
+        self.line.push_str("conflict ")?;
+        push_place(&mut self.line, steps)?;
+        end_line(&mut self.line, cause(no_value, not_allowed))?;
+        Ok(())
+    }
+
+    /// The line of a gap.
+    fn gap_line(&mut self, steps: &[StepRef], missing: bool) -> Result<(), Memory>
+        ensures told { self.new.told ≡ self.old.told }
+        ensures line { OnOk result (string_bytes self.new.line
+            ≡ gap_line (record { path = shown_steps steps.now; missing = missing })) }
+    {
+        self.line.clear();
+        self.line.push_str("incomplete ")?;
+        push_place(&mut self.line, steps)?;
+        end_line(&mut self.line, lack(missing))?;
+        Ok(())
+    }
+
+    /// The line of a free element of the list whose path is at hand.
+    fn element_line(&mut self, number: u32) -> Result<(), Memory>
+        ensures told { self.new.told ≡ self.old.told }
+        ensures list { OnOk result (string_bytes self.new.list ≡ string_bytes self.old.list) }
+        ensures line { OnOk result (string_bytes self.new.line
+            ≡ codes "incomplete " ++ (string_bytes self.old.list ++ (step_text (index number)
+            ++ line_end (codes "not a single value")))) }
+    {
+        self.line.clear();
+        self.line.push_str("incomplete ")?;
+        self.line.push_str(self.list.as_str())?;
+        push_index(&mut self.line, number)?;
+        end_line(&mut self.line, lack(false))?;
+        Ok(())
+    }
+
+    /// The path of a list.
+    fn list_path(&mut self, steps: &[StepRef]) -> Result<(), Memory>
+        ensures told { self.new.told ≡ self.old.told }
+        ensures list { OnOk result
+            (string_bytes self.new.list ≡ flat_map dotted_behind (shown_steps steps.now)) }
+    {
+        self.list.clear();
+        push_above(&mut self.list, steps)
+    }
+}
+
+/// How many bytes were told, with so many more.
+fn with_more(told: u64, more: usize) -> Result<u64, Memory>
+    ensures { IfOk result (λ all. all ≡ told + more) }
+{
+    let more = more as u64;
+    match told.checked_add(more) {
+        Some(all) => Ok(all),
+        None => Err(Memory::beyond(told, more)),
+    }
+}
+
+impl<S: TextSink> ConflictSink for Written<S> {
+    type Out = S;
+
+    type Piece = u8;
+
+    type Halt = S::Halt;
+
+    ghost tally = { λ written out. record { count = written.told; known = S.taken out } };
+
+    ghost piece = { conflict_line };
+
+    fn len(&self, _out: &S) -> u64 {
+        self.told
+    }
+
+    fn conflict(
+        &mut self,
+        out: &mut S,
+        steps: &[StepRef],
+        no_value: bool,
+        not_allowed: bool,
+    ) -> Result<(), S::Halt> {
+        self.conflict_line(steps, no_value, not_allowed)?;
+        self.put_line(out)?;
         Ok(())
     }
 }
 
-impl GapSink for Written {
+impl<S: TextSink> GapSink for Written<S> {
+    type Out = S;
+
     type Piece = u8;
 
-    ghost told = { λ written. string_bytes written.text };
+    type Halt = S::Halt;
+
+    ghost tally = { λ written out. record { count = written.told; known = S.taken out } };
 
     ghost piece = { gap_line };
 
-    fn len(&self) -> usize {
-        self.text.len()
+    fn len(&self, _out: &S) -> u64 {
+        self.told
     }
 
-    fn gap(&mut self, steps: &[StepRef], missing: bool) -> Result<(), Memory> {
-        self.text.push_str("incomplete ")?;
-        push_place(&mut self.text, steps)?;
-        end_line(&mut self.text, lack(missing))?;
+    fn gap(&mut self, out: &mut S, steps: &[StepRef], missing: bool) -> Result<(), S::Halt> {
+        self.gap_line(steps, missing)?;
+        self.put_line(out)?;
         Ok(())
     }
 
-    fn free_elements(&mut self, steps: &[StepRef], first: u32, end: u32) -> Result<(), Memory> {
+    fn free_elements(
+        &mut self,
+        out: &mut S,
+        steps: &[StepRef],
+        first: u32,
+        end: u32,
+    ) -> Result<(), S::Halt> {
         if first >= end {
             return Ok(());
         }
-        self.list.clear();
-        push_above(&mut self.list, steps)?;
+        self.list_path(steps)?;
         for number in first..end {
-            self.element(number)?;
+            self.element_line(number)?;
+            self.put_line(out)?;
         }
         Ok(())
     }

@@ -1,12 +1,9 @@
-use Rattle.std.proofs.Common.{ap, sym, subst}
-use Rattle.cue_report.specs.Gaps.{AreGaps}
+use Rattle.std.proofs.Common.{ap}
 use Rattle.cue_report.specs.Trail.{shown_steps}
-use Rattle.cue_report.proofs.Descent.{Told}
 use Rattle.cue_report.proofs.FoundGaps.{from_nothing}
 use Rattle.cue_report.proofs.gap.incomplete.Goals as goal
 
 pub returns : goal.returns
 returns c =
-    subst (AreGaps (Told c.args.table.now)) (sym c.into_list.ensures)
-    (from_nothing c.args.table.now c.root.result c.new-found.result.list.items c.visit.new.sink.list.items (shown_steps c.new-search.result.steps.items)
-    c.root.ensures.branch c.new-found.ensures (ap shown_steps c.new-search.ensures) c.in_ok-visit.ensures.gaps)
+    from_nothing c.args.table.now c.root.result c.new-found.result.items c.visit.new.out.items _ _ (shown_steps c.new-search.result.steps.items)
+    c.root.ensures.branch c.new-found.ensures.items (ap shown_steps c.new-search.ensures.steps) c.in_ok-visit.ensures.gaps

@@ -1,9 +1,10 @@
-use Rattle.std.proofs.Common.{◌≡◌, ◌++◌, ◌+◌, ◌*◌, ◌-◌, ◌≤◌, map, false}
+use Rattle.std.proofs.Common.{◌≡◌, ◌+◌, ◌*◌, ◌-◌, ◌≤◌, map, false}
 use Rattle.cue_table.specs.Spans.{spread}
 use Rattle.cue_table.specs.StepsOfCode.{step_at}
 use Rattle.cue_table.specs.Size.{tree_size}
 use Rattle.cue_table.specs.Tree.{row_of, below}
 use Rattle.cue_report.specs.Search.{told_under, each_index, conflicts_in}
+use Rattle.cue_report.specs.Telling.{Grows}
 use Rattle.cue_report.proofs.Walk.{IsWalking}
 use Rattle.cue_report.proofs.conflict.Search.+walk.Given as goal
 
@@ -21,11 +22,12 @@ decreases-visit_run g l = 3 * tree_size l.element.now + 2
 
 abbrev pub invariant-visit-loop-span : goal.invariant-visit-loop-span
 invariant-visit-loop-span g l =
-    let told = g.S.ConflictSink.told in
-    IsWalking g.S.ConflictSink.piece (row_of l.branch) (below l.branch) (spread l.span-iterator) (told l.initial.sink) (told l.sink) l.initial.self.steps.items l.self.steps.items
+    let tally = g.S.ConflictSink.tally in
+    IsWalking g.S.ConflictSink.piece (row_of l.branch) (below l.branch) (spread l.span-iterator) (tally l.initial.self.sink l.initial.out) (tally l.self.sink l.out) l.initial.self.steps.items l.self.steps.items
 
 abbrev pub invariant-visit_run-loop-number : goal.invariant-visit_run-loop-number
 invariant-visit_run-loop-number g l =
-    let told = g.S.ConflictSink.told in
+    let tally = g.S.ConflictSink.tally in
     (l.first ≤ l.number) × (l.number - l.first ≤ l.end - l.first) × (l.self.steps.items ≡ l.fn.self.steps.items)
-    × (told l.sink ≡ told l.fn.sink ++ told_under g.S.ConflictSink.piece (map step_at l.fn.self.steps.items) (each_index l.first (l.number - l.first) (conflicts_in false l.element)))
+    × Grows (tally l.fn.self.sink l.fn.out) (tally l.self.sink l.out)
+    (told_under g.S.ConflictSink.piece (map step_at l.fn.self.steps.items) (each_index l.first (l.number - l.first) (conflicts_in false l.element)))

@@ -3,7 +3,7 @@ use Rattle.cue_table.specs.Spans.{spread}
 use Rattle.cue_table.specs.StepsOfCode.{step_at}
 use Rattle.cue_table.specs.Size.{tree_size}
 use Rattle.cue_report.specs.GapSearch.{Adds, IsGapAmong}
-use Rattle.cue_report.proofs.GapWalk.{IsOver}
+use Rattle.cue_report.proofs.GapSteps.{IsAlong}
 use Rattle.cue_report.proofs.gap.Search.+walk.Given as goal
 
 abbrev pub decreases-visit : goal.decreases-visit
@@ -20,11 +20,11 @@ decreases-visit_run g l = 3 * tree_size l.element.now + 2
 
 abbrev pub invariant-visit-loop-span : goal.invariant-visit-loop-span
 invariant-visit-loop-span g l =
-    let told = g.S.GapSink.told in
-    IsOver g.S.GapSink.piece l.not_allowed l.branch (spread l.span-iterator) l.next (told l.fn.sink) (told l.sink) l.fn.self.steps.items l.self.steps.items
+    let tally = g.S.GapSink.tally in
+    IsAlong g.S.GapSink.piece l.not_allowed l.branch (spread l.span-iterator) l.next (tally l.fn.self.sink l.fn.out) (tally l.self.sink l.out) l.fn.self.steps.items l.self.steps.items
 
 abbrev pub invariant-visit_run-loop-number : goal.invariant-visit_run-loop-number
 invariant-visit_run-loop-number g l =
-    let told = g.S.GapSink.told in
+    let tally = g.S.GapSink.tally in
     (l.first ≤ l.number) × (l.number - l.first ≤ l.end - l.first) × (l.self.steps.items ≡ l.fn.self.steps.items)
-    × Adds g.S.GapSink.piece (IsGapAmong l.first l.number l.element) (map step_at l.fn.self.steps.items) (told l.fn.sink) (told l.sink)
+    × Adds g.S.GapSink.piece (IsGapAmong l.first l.number l.element) (map step_at l.fn.self.steps.items) (tally l.fn.self.sink l.fn.out) (tally l.self.sink l.out)

@@ -1,0 +1,102 @@
+-- The text of an export, told part after part.
+use Rattle.std.proofs.Common.{◌≡◌, ◌≢◌, ℕ, Bool, true, false, not, List, [], ◌∷◌, ◌++◌, Option, refl, sym, ap, subst, ◌∙◌}
+use Rattle.std.specs.Io.KnownBytes.{Appends}
+use Rattle.std.specs.List.{flat_map}
+use Rattle.cue_device.specs.Texts.{Begins}
+use Rattle.cue_device.proofs.Texts.{appends_then, begins_later, begins_none}
+use Rattle.cue_lattice.specs.Bools.{is_nil}
+use Rattle.cue_lattice.specs.Question.{Refusals, SameAnswers}
+use Rattle.serde_json.specs.Written.{compact_text}
+use Rattle.cue_report.specs.ExportText.{IsExportOf, TellsExport, BeginsExport}
+use Rattle.cue_report.specs.Gaps.{AreGaps}
+use Rattle.cue_report.specs.Lines.{conflict_line, gap_line, TellsConflicts, BeginsConflicts, TellsGaps, BeginsGaps}
+use Rattle.cue_report.specs.Listing.{AreConflicts}
+use Rattle.cue_report.specs.declared.outcome.ExportKind.{ExportKind}
+use Rattle.cue_report.specs.declared.outcome.ExportKind.TheVariants.{Json, Conflicts, Incomplete}
+use Rattle.cue_report.proofs.OneReport.{one_conflicts, one_gaps, one_document}
+
+same_answers : (refuses : Refusals) → SameAnswers refuses refuses
+same_answers refuses path question = (λ h. h, λ h. h)
+
+-- an export has one text
+one_text : (refuses : Refusals) (k l : ExportKind) (s t : List ℕ) → IsExportOf refuses k s → IsExportOf refuses l t → s ≡ t
+one_text refuses Conflicts Conflicts s t (f, n, a, e) (g, m, b, d) = e ∙ ap (flat_map conflict_line) (one_conflicts refuses refuses f g (same_answers refuses) a b) ∙ sym d
+one_text refuses Conflicts Incomplete s t (f, n, a, e) (b, h) = absurd (n (one_conflicts refuses refuses f [] (same_answers refuses) a b))
+one_text refuses Conflicts Json s t (f, n, a, e) (b, q, h) = absurd (n (one_conflicts refuses refuses f [] (same_answers refuses) a b))
+one_text refuses Incomplete Conflicts s t (a, h) (g, m, b, d) = absurd (m (one_conflicts refuses refuses g [] (same_answers refuses) b a))
+one_text refuses Incomplete Incomplete s t (a, (f, n, p, e)) (b, (g, m, q, d)) = e ∙ ap (flat_map gap_line) (one_gaps refuses refuses f g (same_answers refuses) p q) ∙ sym d
+one_text refuses Incomplete Json s t (a, (f, n, p, e)) (b, q, h) = absurd (n (one_gaps refuses refuses f [] (same_answers refuses) p q))
+one_text refuses Json Conflicts s t (a, p, h) (g, m, b, d) = absurd (m (one_conflicts refuses refuses g [] (same_answers refuses) b a))
+one_text refuses Json Incomplete s t (a, p, h) (b, (g, m, q, d)) = absurd (m (one_gaps refuses refuses g [] (same_answers refuses) q p))
+one_text refuses Json Json s t (a, p, (j, d, e)) (b, q, (i, c, f)) = e ∙ ap compact_text (one_document refuses refuses j i (same_answers refuses) d c) ∙ sym f
+
+-- what begins the empty text begins each one
+begins_any : (u v : Option (List ℕ)) (text : List ℕ) → Begins u v [] → Begins u v text
+begins_any u v text b = record { front = []; back = text; whole = refl; added = subst (Appends u v) (sym (empty b.front b.back b.whole)) b.added }
+  where
+    empty : (front back : List ℕ) → [] ≡ front ++ back → [] ≡ front
+    empty [] back e = refl
+    empty (x ∷ front) back e = cc
+
+none_told : {X : Type 0} (xs : List X) → false ≡ not (is_nil xs) → xs ≡ []
+none_told [] e = refl
+none_told (x ∷ xs) e = cc
+
+some_told : {X : Type 0} (xs : List X) → true ≡ not (is_nil xs) → xs ≢ []
+some_told [] e n = cc
+some_told (x ∷ xs) e n = cc
+
+-- ---- conflicts
+pub conflicts_told : (refuses : Refusals) (some : Bool) (u v : Option (List ℕ)) → some ≡ true → TellsConflicts refuses some u v → TellsExport refuses Conflicts u v
+conflicts_told refuses some u v s (found, are, is, added) = (flat_map conflict_line found, (found, some_told found (sym s ∙ is), are, refl), added)
+
+pub conflicts_begun : (refuses : Refusals) (u v : Option (List ℕ)) → BeginsConflicts refuses u v → BeginsExport refuses u v
+conflicts_begun refuses u v b Conflicts text (found, some, are, e) = subst (Begins u v) (sym e) (b found are)
+conflicts_begun refuses u v b Incomplete text (none, h) = begins_any u v text (b [] none)
+conflicts_begun refuses u v b Json text (none, full, h) = begins_any u v text (b [] none)
+
+-- nothing conflicts, and nothing was told
+pub record IsClean (refuses : Refusals) (u v : Option (List ℕ)) : Type 0 where
+  pub none : AreConflicts refuses []
+  pub added : Appends u v []
+
+pub no_conflicts : (refuses : Refusals) (some : Bool) (u v : Option (List ℕ)) → some ≡ false → TellsConflicts refuses some u v → IsClean refuses u v
+no_conflicts refuses some u v s (found, are, is, added) =
+    let none = none_told found (sym s ∙ is) in
+    record { none = subst (AreConflicts refuses) none are; added = subst (λ xs. Appends u v (flat_map conflict_line xs)) none added }
+
+-- ---- gaps
+pub gaps_told : (refuses : Refusals) (some : Bool) (u v w : Option (List ℕ)) → IsClean refuses u v → some ≡ true → TellsGaps refuses some v w → TellsExport refuses Incomplete u w
+gaps_told refuses some u v w clean s (gaps, are, is, added) =
+    (flat_map gap_line gaps, (clean.none, (gaps, some_told gaps (sym s ∙ is), are, refl)), appends_then u v w [] (flat_map gap_line gaps) clean.added added)
+
+pub gaps_begun : (refuses : Refusals) (u v w : Option (List ℕ)) → IsClean refuses u v → BeginsGaps refuses v w → BeginsExport refuses u w
+gaps_begun refuses u v w clean b Conflicts text (found, some, are, e) = absurd (some (one_conflicts refuses refuses found [] (same_answers refuses) are clean.none))
+gaps_begun refuses u v w clean b Incomplete text (none, (gaps, some, are, e)) = subst (Begins u w) (sym e) (begins_later u v w [] (flat_map gap_line gaps) clean.added (b gaps are))
+gaps_begun refuses u v w clean b Json text (none, full, h) = begins_any u w text (begins_later u v w [] [] clean.added (b [] full))
+
+-- everything is a single value, and nothing was told
+pub record IsFull (refuses : Refusals) (u v : Option (List ℕ)) : Type 0 where
+  pub none : AreConflicts refuses []
+  pub full : AreGaps refuses []
+  pub added : Appends u v []
+
+pub no_gaps : (refuses : Refusals) (some : Bool) (u v w : Option (List ℕ)) → IsClean refuses u v → some ≡ false → TellsGaps refuses some v w → IsFull refuses u w
+no_gaps refuses some u v w clean s (gaps, are, is, added) =
+    let none = none_told gaps (sym s ∙ is) in
+    record {
+      none = clean.none;
+      full = subst (AreGaps refuses) none are;
+      added = appends_then u v w [] [] clean.added (subst (λ xs. Appends v w (flat_map gap_line xs)) none added);
+    }
+
+-- ---- the document
+pub nothing_begun : (refuses : Refusals) (u v : Option (List ℕ)) → IsFull refuses u v → BeginsExport refuses u v
+nothing_begun refuses u v h kind text is = record { front = []; back = text; whole = refl; added = h.added }
+
+pub json_told : (refuses : Refusals) (u v w : Option (List ℕ)) (text : List ℕ) → IsFull refuses u v → IsExportOf refuses Json text → Appends v w text → TellsExport refuses Json u w
+json_told refuses u v w text h is added = (text, is, appends_then u v w [] text h.added added)
+
+pub json_begun : (refuses : Refusals) (u v w : Option (List ℕ)) (text : List ℕ) → IsFull refuses u v → IsExportOf refuses Json text → Begins v w text → BeginsExport refuses u w
+json_begun refuses u v w text h is b kind other are =
+    subst (Begins u w) (one_text refuses Json kind text other is are) (begins_later u v w [] text h.added b)
