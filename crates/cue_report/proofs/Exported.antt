@@ -3,7 +3,7 @@ use Rattle.std.proofs.Common.{◌≡◌, ◌≢◌, ℕ, Bool, true, false, not,
 use Rattle.std.specs.Io.KnownBytes.{Appends}
 use Rattle.std.specs.List.{flat_map}
 use Rattle.cue_device.specs.Texts.{Begins}
-use Rattle.cue_device.proofs.Texts.{appends_then, begins_later, begins_none}
+use Rattle.cue_device.proofs.Texts.{appends_then, begins_later}
 use Rattle.cue_lattice.specs.Bools.{is_nil}
 use Rattle.cue_lattice.specs.Question.{Refusals, SameAnswers}
 use Rattle.serde_json.specs.Written.{compact_text}

@@ -1,38 +1,33 @@
 -- Searches for gaps that end early.
-use Rattle.std.proofs.Common.{◌≡◌, ◌⊎◌, inl, inr, ⊎_elim, ℕ, ◌+◌, ◌-◌, ◌<◌, ◌≤◌, min, nat_lt, if◌then◌else◌, Bool, true, false, List, [], ◌∷◌, ◌++◌, map, Option, Some, refl, sym, ap, subst, ◌∙◌, arith}
+use Rattle.std.proofs.Common.{◌≡◌, ◌⊎◌, inl, inr, ⊎_elim, ℕ, ◌+◌, ◌<◌, ◌≤◌, if◌then◌else◌, Bool, true, false, List, [], ◌∷◌, ◌++◌, Option, Some, refl, sym, ap, subst, ◌∙◌, arith}
 use Rattle.std.proofs.lemmas.Bool.{cases_lt}
 use Rattle.std.proofs.lemmas.List.{append-nil}
 use Rattle.std.specs.List.{AllByRecursion, flat_map}
 use Rattle.std.specs.Ordering.{ordering_then}
 use Rattle.std.specs.declared.cmp.Ordering.TheVariants.{Less}
-use Rattle.cue_lattice.specs.OneOf.{OneOf}
 use Rattle.cue_lattice.specs.Path as paths
 use Rattle.cue_lattice.specs.Path.{label, index, step_cmp, Path, path_cmp}
 use Rattle.cue_row.specs.declared.parts.RowParts.{RowParts as Row}
-use Rattle.cue_table.specs.Spans.{Span, field, elements, alike, spanned, spread}
-use Rattle.cue_table.specs.StepsOfCode.{step_at}
-use Rattle.cue_table.specs.declared.step_ref.StepRef.{StepRef}
-use Rattle.cue_table.specs.Tree.{Tree, Children, none, child, row_of, rest_of, rest_tree, find}
+use Rattle.cue_table.specs.Spans.{Span, field, elements, alike, spanned}
+use Rattle.cue_table.specs.Tree.{Tree, Children, none, child, row_of, rest_of, find}
 use Rattle.cue_report.specs.Answers.{IsStepDemanded}
 use Rattle.cue_report.specs.Gaps.{IsGap, AreGaps}
-use Rattle.cue_report.specs.GapSearch.{IsGapAt, IsGapIn, IsGapHere, IsGapBelow, IsGapAmong, IsGapOnward, IsFront, Fronts, Adds, above, told_above, free_elements, free_before}
-use Rattle.cue_report.specs.Listing.{Lists, IsRising}
-use Rattle.cue_report.specs.Search.{is_demanded, is_refused, least_at, rest_from}
-use Rattle.cue_report.specs.Telling.{Tally, Grows, Starts}
+use Rattle.cue_report.specs.GapSearch.{IsGapAt, IsGapIn, IsGapHere, IsGapBelow, IsGapOnward, IsFront, Fronts, free_before}
+use Rattle.cue_report.specs.Listing.{Lists}
+use Rattle.cue_report.specs.Search.{is_demanded, least_at, rest_from}
+use Rattle.cue_report.specs.Telling.{Tally, Starts}
 use Rattle.cue_report.specs.declared.gap.Gap.{Gap}
 use Rattle.cue_report.proofs.Descent.{Told}
 use Rattle.cue_report.proofs.FoundGaps.{place_of, UpTo, IsIn, path_cases, step_demanded, here_up, here_down, only_here, told_here, root_told, root_gap, gap_of_root}
-use Rattle.cue_report.proofs.GapRests.{among_onward, onward_up, onward_behind, onward_cover}
-use Rattle.cue_report.proofs.GapRuns.{run_up, run_down}
-use Rattle.cue_report.proofs.GapTelling.{found_later, found_now, pushed_is}
+use Rattle.cue_report.proofs.GapRests.{onward_up, onward_behind, onward_cover}
+use Rattle.cue_report.proofs.GapTelling.{found_now}
 use Rattle.cue_report.proofs.GapWalk.{IsOver, IsDone, demanded_label, done_before, less_index, nat_lt_is, nat_lt_not, reach_of, span_reached, span_up, span_down, span_order, up_to_last}
 use Rattle.cue_report.proofs.OneList.{splits, has_of}
-use Rattle.cue_report.proofs.Order.{all_append, all_map, all_from, one_left, one_right, one_map, rising_append, rising_lifted, same_step}
+use Rattle.cue_report.proofs.Order.{all_append, all_from, one_left, one_right, rising_append}
 use Rattle.cue_report.proofs.Rows.{is_below}
 use Rattle.cue_report.proofs.SpanSteps.{alike_at, alike_is, only_branch, span_either}
 use Rattle.cue_report.proofs.Found.{below_found}
-use Rattle.cue_report.proofs.Telling.{starts_none, starts_whole}
-use Rattle.cue_report.proofs.Walk.{pushed_on}
+use Rattle.cue_report.proofs.Telling.{starts_none}
 
 -- all are before the path
 abbrev AreBefore : List Gap → Path → Type 0

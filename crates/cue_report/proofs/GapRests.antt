@@ -2,8 +2,7 @@
 use Rattle.std.proofs.Common.{◌≡◌, ◌↔◌, ◌⊎◌, inl, inr, ⊎_elim, ℕ, ◌+◌, ◌-◌, ◌<◌, ◌≤◌, Bool, false, List, [], ◌∷◌, ◌++◌, map, Some, refl, sym, ap, subst, ◌∙◌, arith}
 use Rattle.std.proofs.Math.Nat.{eq-or-lt_of_le}
 use Rattle.std.proofs.lemmas.Bool.{cases_lt}
-use Rattle.std.proofs.lemmas.List.{append-nil}
-use Rattle.std.specs.List.{AllByRecursion, flat_map}
+use Rattle.std.specs.List.{AllByRecursion}
 use Rattle.std.specs.Ordering.{ordering_then}
 use Rattle.std.specs.declared.cmp.Ordering.TheVariants.{Less}
 use Rattle.cue_lattice.specs.OneOf.{OneOf}
@@ -11,10 +10,8 @@ use Rattle.cue_lattice.specs.Path as paths
 use Rattle.cue_lattice.specs.Path.{label, index, step_cmp, Path, path_cmp}
 use Rattle.cue_row.specs.declared.parts.RowParts.{RowParts as Row}
 use Rattle.cue_table.specs.Spans.{Span, spread}
-use Rattle.cue_table.specs.StepsOfCode.{step_at}
-use Rattle.cue_table.specs.declared.step_ref.StepRef.{StepRef}
 use Rattle.cue_table.specs.Tree.{Tree, node, none, Rest, no_rest, onward, row_of, rest_of, rest_tree}
-use Rattle.cue_report.specs.GapSearch.{IsGapIn, IsGapAmong, IsGapOnward, Adds, above, told_above, free_elements}
+use Rattle.cue_report.specs.GapSearch.{IsGapIn, IsGapAmong, IsGapOnward, Adds, above, free_elements}
 use Rattle.cue_report.specs.Listing.{Lists}
 use Rattle.cue_report.specs.Search.{least_at, rest_from}
 use Rattle.cue_report.specs.Telling.{Tally, Grows}

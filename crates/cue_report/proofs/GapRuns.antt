@@ -1,8 +1,6 @@
 -- The gaps of branches that are kept as one.
 use Rattle.std.proofs.Common.{◌≡◌, ℕ, min, ◌+◌, true, false, List, [], ◌∷◌, ◌++◌, map, Option, refl, sym, ap, subst, ◌∙◌, arith}
 use Rattle.std.proofs.lemmas.Bool.{false≢true}
-use Rattle.std.proofs.lemmas.List.{append-nil}
-use Rattle.std.specs.List.{flat_map}
 use Rattle.cue_lattice.specs.OneOf.{OneOf}
 use Rattle.cue_lattice.specs.Path as paths
 use Rattle.cue_lattice.specs.Path.{index, Path}
@@ -11,7 +9,7 @@ use Rattle.cue_table.specs.Spans.{alike}
 use Rattle.cue_table.specs.StepsOfCode.{step_at}
 use Rattle.cue_table.specs.declared.step_ref.StepRef.{StepRef}
 use Rattle.cue_table.specs.Tree.{Tree, none, child, row_of}
-use Rattle.cue_report.specs.GapSearch.{IsGapIn, IsGapAmong, IsGapBelow, Adds, above, told_above}
+use Rattle.cue_report.specs.GapSearch.{IsGapIn, IsGapAmong, IsGapBelow, Adds, above}
 use Rattle.cue_report.specs.Search.{is_demanded, is_refused, least_at}
 use Rattle.cue_report.specs.Telling.{Tally, Grows}
 use Rattle.cue_report.specs.declared.gap.Gap.{Gap}

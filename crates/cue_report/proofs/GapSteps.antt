@@ -2,7 +2,7 @@
 use Rattle.std.proofs.Common.{◌≡◌, ◌⊎◌, inl, inr, ⊎_elim, ℕ, ◌+◌, ◌-◌, ◌<◌, ◌≤◌, min, Bool, true, false, List, [], ◌∷◌, ◌++◌, map, Option, Some, refl, sym, ap, subst, ◌∙◌, arith}
 use Rattle.std.proofs.lemmas.Bool.{cases_lt}
 use Rattle.std.proofs.Math.Nat.{eq-or-lt_of_le}
-use Rattle.std.specs.List.{AllByRecursion, flat_map}
+use Rattle.std.specs.List.{AllByRecursion}
 use Rattle.std.specs.Ordering.{ordering_then}
 use Rattle.std.specs.declared.cmp.Ordering.TheVariants.{Less}
 use Rattle.cue_lattice.specs.OneOf.{OneOf}
@@ -21,7 +21,6 @@ use Rattle.cue_report.specs.Search.{is_demanded, is_refused, least_at, rest_from
 use Rattle.cue_report.specs.Telling.{Tally, Grows, Starts}
 use Rattle.cue_report.specs.declared.gap.Gap.{Gap}
 use Rattle.cue_report.proofs.FoundGaps.{place_of}
-use Rattle.cue_report.proofs.Found.{found_first}
 use Rattle.cue_report.proofs.GapFronts.{front_over, front_walked, front_ended, fronts_none, same_fronts}
 use Rattle.cue_report.proofs.GapRests.{among_onward, among_more, among_last, element_before, freed_last, ended}
 use Rattle.cue_report.proofs.GapRuns.{run_up, run_down, field_up, field_is}
@@ -29,7 +28,6 @@ use Rattle.cue_report.proofs.GapTelling.{found_more, found_later, pushed_is}
 use Rattle.cue_report.proofs.GapWalk as walk
 use Rattle.cue_report.proofs.GapWalk.{IsOver, less_index, span_reached}
 use Rattle.cue_report.proofs.Order.{all_append, all_map, all_from, one_left, one_right, one_map, rising_append, rising_lifted, same_step}
-use Rattle.cue_report.proofs.SpanSteps.{only_branch}
 use Rattle.cue_report.proofs.Walk.{pushed_on}
 
 -- ---- at a place

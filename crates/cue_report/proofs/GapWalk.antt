@@ -1,28 +1,24 @@
 -- The walk of a search for gaps over the branches of a place, and over the elements that have none.
-use Rattle.std.proofs.Common.{◌≡◌, ◌⊎◌, inl, inr, ⊎_elim, ℕ, zero, suc, ◌+◌, ◌-◌, ◌<◌, ◌≤◌, min, nat_lt, if◌then◌else◌, Bool, true, false, List, [], ◌∷◌, ◌++◌, map, Option, None, Some, refl, sym, ap, subst, ◌∙◌, arith, append_assoc}
+use Rattle.std.proofs.Common.{◌≡◌, ◌⊎◌, inl, inr, ⊎_elim, ℕ, zero, suc, ◌+◌, ◌-◌, ◌<◌, ◌≤◌, min, nat_lt, if◌then◌else◌, Bool, true, false, List, [], ◌∷◌, ◌++◌, Option, None, Some, refl, sym, ap, subst, ◌∙◌, arith, append_assoc}
 use Rattle.std.proofs.lemmas.Bool.{false≢true, cases_lt}
 use Rattle.std.proofs.lemmas.Bool.Decides.{nat_tests}
 use Rattle.std.proofs.Math.Nat.{eq-or-lt_of_le}
 use Rattle.std.proofs.lemmas.Cmp.{nat_list_cmp_total, nat_cmp_total}
 use Rattle.std.specs.Cmp.{nat_cmp_is}
-use Rattle.std.specs.List.{flat_map}
 use Rattle.std.specs.Ordering.{ordering_then}
-use Rattle.std.proofs.lemmas.List.{append-nil, map-append}
-use Rattle.std.proofs.lemmas.List.Concat.{flat_map-append}
+use Rattle.std.proofs.lemmas.List.{append-nil}
 use Rattle.std.specs.declared.cmp.Ordering.TheVariants.{Less}
 use Rattle.cue_lattice.specs.Path as paths
 use Rattle.cue_lattice.specs.Path.{label, index, step_cmp, Path, path_cmp}
 use Rattle.cue_row.specs.declared.parts.RowParts.{RowParts as Row}
 use Rattle.cue_row.specs.Row.{Refuses, IsRow}
-use Rattle.cue_table.specs.StepsOfCode.{step_at}
-use Rattle.cue_table.specs.declared.step_ref.StepRef.{StepRef}
 use Rattle.cue_table.specs.Form.{AreBranches, IsBelowAll, IsKept, IsTable}
 use Rattle.cue_table.specs.Spans.{Span, field, elements, alike, spanned, spread}
 use Rattle.cue_table.specs.Tree.{Tree, Children, none, child, empty, row_of, below, rest_of, find, step_into, if_equal}
 use Rattle.cue_table.specs.Size.{children_size}
 use Rattle.cue_table.proofs.Spanned.{left_size}
 use Rattle.cue_report.specs.Answers.{IsStepDemanded}
-use Rattle.cue_report.specs.GapSearch.{IsGapIn, IsGapHere, IsGapBelow, Adds, above, told_above, free_at, free_elements, free_before, next_after}
+use Rattle.cue_report.specs.GapSearch.{IsGapIn, IsGapHere, IsGapBelow, free_at, free_elements, free_before, next_after}
 use Rattle.cue_report.specs.Listing.{Lists}
 use Rattle.cue_report.specs.Search.{is_demanded, is_refused, least_at, rest_from}
 use Rattle.cue_report.specs.declared.gap.Gap.{Gap}

@@ -10,3 +10,5 @@ mod prints;
 mod reports;
 #[cfg(test)]
 mod sample;
+#[cfg(test)]
+mod streams;

@@ -1,4 +1,4 @@
-use Rattle.std.proofs.Common.{ap, ◌∙◌}
+use Rattle.std.proofs.Common.{ap}
 use Rattle.cue_report.specs.Trail.{shown_steps}
 use Rattle.cue_report.proofs.Exact.{exact_conflicts}
 use Rattle.cue_report.proofs.Found.{from_nothing}

@@ -1,4 +1,4 @@
-use Rattle.std.proofs.Common.{◌≡◌, ◌<◌, ◌^◌, ◌++◌, [], length, refl, sym, ap, subst, ◌∙◌, arith, string_bytes, Some}
+use Rattle.std.proofs.Common.{◌≡◌, ◌<◌, ◌^◌, ◌++◌, length, refl, ap, subst, ◌∙◌, arith, string_bytes, Some}
 use Rattle.std.specs.List.{flat_map}
 use Rattle.cue_report.specs.ExportText.{TellsExport}
 use Rattle.cue_report.specs.Lines.{conflict_line, gap_line}

@@ -1,6 +1,4 @@
-use Rattle.std.proofs.Common.{ap, refl, sym, subst, ◌∙◌, List, ℕ}
-use Rattle.std.specs.Io.KnownBytes.{Appends}
-use Rattle.cue_device.specs.Texts.{Begins}
+use Rattle.std.proofs.Common.{refl, ◌∙◌}
 use Rattle.cue_report.proofs.Descent.{Told}
 use Rattle.cue_report.proofs.Exact.{export_shape}
 use Rattle.cue_report.proofs.Exported.{conflicts_told, conflicts_begun, no_conflicts, gaps_told, gaps_begun, no_gaps, nothing_begun, json_told, json_begun}

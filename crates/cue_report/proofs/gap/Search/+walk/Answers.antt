@@ -1,11 +1,11 @@
-use Rattle.std.proofs.Common.{◌≡◌, ◌+◌, ◌++◌, ◌-◌, min, map, length, refl, sym, ap, subst, ◌∙◌, arith}
+use Rattle.std.proofs.Common.{◌≡◌, ◌+◌, ◌-◌, min, map, refl, sym, ap, subst, ◌∙◌, arith}
 use Rattle.std.specs.Option.{option_map}
 use Rattle.cue_lattice.specs.Path.{label}
 use Rattle.cue_table.specs.Spans.{spread, spanned}
 use Rattle.cue_table.specs.StepsOfCode.{step_at, span_of}
 use Rattle.cue_table.specs.declared.step_ref.StepRef.TheVariants.{Label, Index}
 use Rattle.cue_table.specs.Tree.{none, row_of}
-use Rattle.cue_report.specs.GapSearch.{Adds, Fronts, IsGapHere, IsGapIn, IsGapBelow, IsGapAmong, told_above, free_before, free_elements}
+use Rattle.cue_report.specs.GapSearch.{Adds, Fronts, IsGapHere, IsGapIn, IsGapBelow, told_above, free_before, free_elements}
 use Rattle.cue_report.specs.Search.{least_at}
 use Rattle.cue_report.specs.Telling.{Grows, Starts}
 use Rattle.cue_report.proofs.GapFronts.{fronts_none, here_begun}

@@ -1,4 +1,4 @@
-use Rattle.std.proofs.Common.{◌≡◌, ◌-◌, ◌≤◌, [], ◌∷◌, Some, length, sym, subst, arith}
+use Rattle.std.proofs.Common.{◌-◌, ◌≤◌, [], ◌∷◌, Some, length, sym, subst, arith}
 use Rattle.cue_report.specs.GapSearch.{told_above, free_elements}
 use Rattle.cue_report.specs.Telling.{Starts}
 use Rattle.cue_report.specs.Trail.{shown_steps}

@@ -1,4 +1,4 @@
-use Rattle.std.proofs.Common.{◌≡◌, ◌+◌, ◌-◌, ◌≤◌, Some, length, [], ◌∷◌}
+use Rattle.std.proofs.Common.{◌+◌, ◌-◌, ◌≤◌, Some, length, [], ◌∷◌}
 use Rattle.cue_report.specs.GapSearch.{told_above, free_elements}
 use Rattle.cue_report.specs.Telling.{Grows}
 use Rattle.cue_report.specs.Trail.{shown_steps}

@@ -1,4 +1,4 @@
-use Rattle.std.proofs.Common.{◌≡◌, ◌∙◌, ◌++◌, ◌-◌, ◌≤◌, ℕ, List, Option, codes, ap, refl, sym, subst, arith, string_bytes}
+use Rattle.std.proofs.Common.{◌≡◌, ◌∙◌, ◌++◌, ◌-◌, ◌≤◌, ℕ, List, Option, codes, ap, refl, subst, arith, string_bytes}
 use Rattle.cue_lattice.specs.Path.{index, Path}
 use Rattle.cue_report.specs.GapSearch.{told_above, free_elements}
 use Rattle.cue_report.specs.Lines.{gap_line}
