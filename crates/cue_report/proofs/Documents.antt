@@ -147,7 +147,7 @@ pub not_free : (tree : Tree Row) (row : Row) → row_of tree ≡ Some row → (�
 not_free tree row e n free = n (subst (λ r. IsFree (AtPlace r) []) e free)
 
 -- ---- one step below
-abbrev Seen : Option (Tree Row) → Refusals
+abbrev pub Seen : Option (Tree Row) → Refusals
 Seen found path question = RefusedAt (option_and_then row_of (option_and_then (λ branch. branch_at branch path) found)) question
 
 document_below :
@@ -161,7 +161,7 @@ below_least : (row : Option Row) (n : ℕ) → n < least_at row → RefusedAt ro
 below_least None n h = let no : n < 0 = h in omega arith
 below_least (Some row) n h = h
 
-index_demanded : (tree : Tree Row) (n : ℕ) → n < least_at (row_of tree) → IsStepDemanded (Told tree) [] (index n)
+pub index_demanded : (tree : Tree Row) (n : ℕ) → n < least_at (row_of tree) → IsStepDemanded (Told tree) [] (index n)
 index_demanded tree n h = below_least (row_of tree) n h
 
 -- an element of which nothing is known
@@ -183,7 +183,7 @@ pub struct_shape :
 struct_shape tree row map e s n ks ms z =
     subst (IsShape IsPicked (Told tree)) (sym (view-Object map)) (object_shape tree row (members_view map.entries) e s n ks ms z)
 
-least_is : (row : Option Row) (n : ℕ) → RefusedAt row (length_at_most n) → n < least_at row
+pub least_is : (row : Option Row) (n : ℕ) → RefusedAt row (length_at_most n) → n < least_at row
 least_is None n h = absurd h
 least_is (Some row) n h = h
 
@@ -205,7 +205,7 @@ pub list_shape :
 list_shape tree row values e s l c es z =
     subst (IsShape IsPicked (Told tree)) (sym (view-Array values)) (array_shape tree row (items_view values.items) e s l c es z)
 
-or_false : (a b : Bool) → a ≡ false → b ≡ false → (a || b) ≡ false
+pub or_false : (a b : Bool) → a ≡ false → b ≡ false → (a || b) ≡ false
 or_false true b p q = p
 or_false false b p q = q
 
@@ -315,7 +315,7 @@ members_float (member first here members) key json h d =
     let both = or_both (has_float here) (members_have_float members) h in
     or_false (has_float here) (members_have_float (with_member members key json)) both.0 (members_float members key json both.1 d)
 
-abbrev key_path : List ℕ → Path
+abbrev pub key_path : List ℕ → Path
 key_path key = label key ∷ []
 
 -- Of the branches of a place, some are left to be looked at.

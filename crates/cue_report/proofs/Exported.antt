@@ -1,5 +1,5 @@
 -- The text of an export, told part after part.
-use Rattle.std.proofs.Common.{◌≡◌, ◌≢◌, ℕ, Bool, true, false, not, List, [], ◌∷◌, ◌++◌, Option, refl, sym, ap, subst, ◌∙◌}
+use Rattle.std.proofs.Common.{◌≡◌, ◌≢◌, ℕ, Bool, true, false, not, List, [], ◌∷◌, ◌++◌, Option, refl, sym, subst, ◌∙◌}
 use Rattle.std.specs.Io.KnownBytes.{Appends}
 use Rattle.std.specs.List.{flat_map}
 use Rattle.cue_device.specs.Texts.{Begins}
@@ -11,24 +11,14 @@ use Rattle.cue_report.specs.ExportText.{IsExportOf, TellsExport, BeginsExport}
 use Rattle.cue_report.specs.Gaps.{AreGaps}
 use Rattle.cue_report.specs.Lines.{conflict_line, gap_line, TellsConflicts, BeginsConflicts, TellsGaps, BeginsGaps}
 use Rattle.cue_report.specs.Listing.{AreConflicts}
-use Rattle.cue_report.specs.declared.outcome.ExportKind.{ExportKind}
 use Rattle.cue_report.specs.declared.outcome.ExportKind.TheVariants.{Json, Conflicts, Incomplete}
-use Rattle.cue_report.proofs.OneReport.{one_conflicts, one_gaps, one_document}
+use Rattle.cue_report.specs.Writing.{BeginsDocument}
+use Rattle.cue_report.proofs.Clear.{clear_from}
+use Rattle.cue_report.proofs.OneReport.{one_conflicts, one_gaps}
+use Rattle.cue_report.proofs.Settled.{settled}
 
-same_answers : (refuses : Refusals) → SameAnswers refuses refuses
+pub same_answers : (refuses : Refusals) → SameAnswers refuses refuses
 same_answers refuses path question = (λ h. h, λ h. h)
-
--- an export has one text
-one_text : (refuses : Refusals) (k l : ExportKind) (s t : List ℕ) → IsExportOf refuses k s → IsExportOf refuses l t → s ≡ t
-one_text refuses Conflicts Conflicts s t (f, n, a, e) (g, m, b, d) = e ∙ ap (flat_map conflict_line) (one_conflicts refuses refuses f g (same_answers refuses) a b) ∙ sym d
-one_text refuses Conflicts Incomplete s t (f, n, a, e) (b, h) = absurd (n (one_conflicts refuses refuses f [] (same_answers refuses) a b))
-one_text refuses Conflicts Json s t (f, n, a, e) (b, q, h) = absurd (n (one_conflicts refuses refuses f [] (same_answers refuses) a b))
-one_text refuses Incomplete Conflicts s t (a, h) (g, m, b, d) = absurd (m (one_conflicts refuses refuses g [] (same_answers refuses) b a))
-one_text refuses Incomplete Incomplete s t (a, (f, n, p, e)) (b, (g, m, q, d)) = e ∙ ap (flat_map gap_line) (one_gaps refuses refuses f g (same_answers refuses) p q) ∙ sym d
-one_text refuses Incomplete Json s t (a, (f, n, p, e)) (b, q, h) = absurd (n (one_gaps refuses refuses f [] (same_answers refuses) p q))
-one_text refuses Json Conflicts s t (a, p, h) (g, m, b, d) = absurd (m (one_conflicts refuses refuses g [] (same_answers refuses) b a))
-one_text refuses Json Incomplete s t (a, p, h) (b, (g, m, q, d)) = absurd (m (one_gaps refuses refuses g [] (same_answers refuses) q p))
-one_text refuses Json Json s t (a, p, (j, d, e)) (b, q, (i, c, f)) = e ∙ ap compact_text (one_document refuses refuses j i (same_answers refuses) d c) ∙ sym f
 
 -- what begins the empty text begins each one
 begins_any : (u v : Option (List ℕ)) (text : List ℕ) → Begins u v [] → Begins u v text
@@ -91,12 +81,11 @@ no_gaps refuses some u v w clean s (gaps, are, is, added) =
     }
 
 -- ---- the document
-pub nothing_begun : (refuses : Refusals) (u v : Option (List ℕ)) → IsFull refuses u v → BeginsExport refuses u v
-nothing_begun refuses u v h kind text is = record { front = []; back = text; whole = refl; added = h.added }
-
 pub json_told : (refuses : Refusals) (u v w : Option (List ℕ)) (text : List ℕ) → IsFull refuses u v → IsExportOf refuses Json text → Appends v w text → TellsExport refuses Json u w
 json_told refuses u v w text h is added = (text, is, appends_then u v w [] text h.added added)
 
-pub json_begun : (refuses : Refusals) (u v w : Option (List ℕ)) (text : List ℕ) → IsFull refuses u v → IsExportOf refuses Json text → Begins v w text → BeginsExport refuses u w
-json_begun refuses u v w text h is b kind other are =
-    subst (Begins u w) (one_text refuses Json kind text other is are) (begins_later u v w [] text h.added b)
+pub json_begun : (refuses : Refusals) (u v w : Option (List ℕ)) → IsFull refuses u v → BeginsDocument refuses v w → BeginsExport refuses u w
+json_begun refuses u v w full b Conflicts text (found, some, are, e) = absurd (some (one_conflicts refuses refuses found [] (same_answers refuses) are full.none))
+json_begun refuses u v w full b Incomplete text (none, (gaps, some, are, e)) = absurd (some (one_gaps refuses refuses gaps [] (same_answers refuses) are full.full))
+json_begun refuses u v w full b Json text (none, all, (json, shape, e)) =
+    subst (Begins u w) (sym e) (begins_later u v w [] (compact_text json) full.added (b (clear_from refuses full.none) (settled refuses full.none full.full) json shape))

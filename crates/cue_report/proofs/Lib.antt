@@ -1,3 +1,4 @@
+pub mod Breaking
 pub mod Built
 pub mod Choice
 pub mod Clear
@@ -8,6 +9,7 @@ pub mod Empty
 pub mod Existing
 pub mod Exact
 pub mod Exported
+pub mod Flows
 pub mod Found
 pub mod FoundGaps
 pub mod GapFronts

@@ -4,21 +4,16 @@ use Rattle.std.specs.List.{AllByRecursion}
 use Rattle.std.proofs.lemmas.Bool.{false≢true}
 use Rattle.cue_lattice.specs.Path as paths
 use Rattle.cue_lattice.specs.Path.{label, index, Path}
-use Rattle.cue_lattice.specs.Question.{Refusals, struct, list}
+use Rattle.cue_lattice.specs.Question.{Refusals}
 use Rattle.cue_lattice.specs.declared.scalar.Scalar.{Scalar}
 use Rattle.serde_json.specs.Data.{Data, null, boolean, number, string, array, object, Items, no_items, item, Members, no_members, member}
-use Rattle.cue_report.specs.Answers.{IsStepDemanded, IsDemanded, HasNoScalar, HasNoValue, IsNotAllowed}
+use Rattle.cue_report.specs.Answers.{IsStepDemanded, HasNoScalar, HasNoValue, IsNotAllowed}
 use Rattle.cue_report.specs.Export.{beyond, data_of, keys, count, IsAtom, IsShape, AreElements, AreMembers}
 use Rattle.cue_report.specs.Gaps.{IsMissing, IsChosen, IsGap, AreGaps}
 use Rattle.cue_report.specs.Listing.{AreConflicts}
 use Rattle.cue_report.specs.Picks.{IsPicked}
+use Rattle.cue_report.specs.Writing.{IsSettled}
 use Rattle.cue_report.proofs.Clear.{either_way, value_there, allowed_there, all_steps, root_demanded}
-
--- at no demanded place may only scalars stand of which none is chosen
-abbrev pub IsSettled : Refusals → Type 0
-IsSettled refuses =
-    (path : Path) → IsDemanded refuses path → refuses path struct → refuses path list
-    → ((scalar : Scalar) → ¬ IsChosen refuses path scalar) → ⊥
 
 no_gap : (refuses : Refusals) (path : Path) (missing : Bool) → AreGaps refuses [] → IsGap refuses (record { path = path; missing = missing }) → ⊥
 no_gap refuses path missing h g = h.complete (record { path = path; missing = missing }) g
@@ -37,7 +32,7 @@ settled refuses h g path d s l n = either_way (IsMissing refuses path)
     scalar : HasNoScalar refuses path → ⊥
     scalar none = value (inl (none, s, l))
 
-settled_beyond : (refuses : Refusals) (step : paths.Step) → IsStepDemanded refuses [] step → IsSettled refuses → IsSettled (beyond refuses step)
+pub settled_beyond : (refuses : Refusals) (step : paths.Step) → IsStepDemanded refuses [] step → IsSettled refuses → IsSettled (beyond refuses step)
 settled_beyond refuses step first z path d s l n = z (step ∷ path) (all_steps refuses step path first d) s l n
 
 -- ---- what is picked is chosen then
@@ -58,7 +53,7 @@ mutual
       (h.0, h.1, h.2, chosen_elements items refuses 0 z (λ i l. (h.2 (0 + i)).1 (let e : 0 + i ≡ i = omega arith in omega (arith, e, l))) h.3)
   chosen_shape (object members) refuses z h = (h.0, h.1, h.2, chosen_members members refuses z h.2.sound h.3)
 
-  chosen_elements : (items : Items) (refuses : Refusals) (first : ℕ) → IsSettled refuses → ((i : ℕ) → i < count items → IsStepDemanded refuses [] (index (first + i))) → AreElements IsPicked refuses first items → AreElements IsChosen refuses first items
+  pub chosen_elements : (items : Items) (refuses : Refusals) (first : ℕ) → IsSettled refuses → ((i : ℕ) → i < count items → IsStepDemanded refuses [] (index (first + i))) → AreElements IsPicked refuses first items → AreElements IsChosen refuses first items
   chosen_elements no_items refuses first z d h = tt
   chosen_elements (item json items) refuses first z d h =
       let here : IsStepDemanded refuses [] (index first) = (let e : first + 0 ≡ first = omega arith in subst (λ n. IsStepDemanded refuses [] (index n)) e (d 0 (omega arith))) in (
@@ -67,7 +62,7 @@ mutual
             (λ i l. let e : first + suc i ≡ suc first + i = omega arith in subst (λ n. IsStepDemanded refuses [] (index n)) e (d (suc i) (omega (arith, l)))) h.1,
       )
 
-  chosen_members : (members : Members) (refuses : Refusals) → IsSettled refuses → AllByRecursion (λ key. IsStepDemanded refuses [] (label key)) (keys members) → AreMembers IsPicked refuses members → AreMembers IsChosen refuses members
+  pub chosen_members : (members : Members) (refuses : Refusals) → IsSettled refuses → AllByRecursion (λ key. IsStepDemanded refuses [] (label key)) (keys members) → AreMembers IsPicked refuses members → AreMembers IsChosen refuses members
   chosen_members no_members refuses z d h = tt
   chosen_members (member key json members) refuses z d h =
       (chosen_shape json (beyond refuses (label key)) (settled_beyond refuses (label key) d.0 z) h.0, chosen_members members refuses z d.1 h.1)

@@ -10,6 +10,7 @@ pub mod Listing
 pub mod OneReport
 pub mod Picks
 pub mod Search
+pub mod Stream
 pub mod Telling
 pub mod Trail
 pub mod Writing

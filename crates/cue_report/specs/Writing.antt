@@ -1,32 +1,36 @@
 -- What is written while the places of a table are walked.
-use Rattle.std.specs.Prelude.{◌≡◌, ◌⊎◌, ◌++◌, ℕ, [], false}
+use Rattle.std.specs.Prelude.{◌≡◌, ◌⊎◌, ℕ, List, [], false, Option}
+use Rattle.std.specs.Io.KnownBytes.{Appends}
 use Rattle.json.specs.Tree.{json_tokens}
-use Rattle.json.specs.Written.{Written}
 use Rattle.serde_json.specs.Data.{Data, array, object, Items, Members}
-use Rattle.serde_json.specs.Written.{has_float, items_have_float, members_have_float, outline}
-use Rattle.cue_lattice.specs.Question.{Refusals}
+use Rattle.serde_json.specs.Written.{compact_text, has_float, items_have_float, members_have_float}
+use Rattle.serde_json.specs.Written.{outline}
+use Rattle.cue_device.specs.Texts.{Begins}
+use Rattle.cue_lattice.specs.Path.{Path}
+use Rattle.cue_lattice.specs.Question.{Refusals, struct, list}
 use Rattle.cue_lattice.specs.declared.scalar.Scalar.{Scalar}
-use Rattle.cue_report.specs.Answers.{HasNoScalar}
+use Rattle.cue_report.specs.Answers.{HasNoScalar, IsDemanded}
 use Rattle.cue_report.specs.Clear.{IsClear}
 use Rattle.cue_report.specs.Export.{IsShape, AreKeys, AreMembers, AreElements, keys, count, data_of}
+use Rattle.cue_report.specs.Gaps.{IsChosen}
 use Rattle.cue_report.specs.Picks.{IsPicked}
+use Rattle.cue_report.specs.Stream.{Flow, Streams, Breaks}
 
--- behind what stands there, this JSON is written
-abbrev pub Adds : Written → Written → Data → Type 0
-Adds old new json =
-    (new.tokens ≡ old.tokens ++ json_tokens (outline json)) × (new.before ≡ old.before)
+-- this JSON is told
+abbrev pub Adds : Flow → Flow → Data → Type 0
+Adds old new json = Streams old new (json_tokens (outline json))
 
 -- the document of what is refused so, where nothing conflicts; it has no fractions
 abbrev pub IsDocumentOf : Refusals → Data → Type 0
 IsDocumentOf refuses json =
     (IsClear refuses → IsShape IsPicked refuses json) × (has_float json ≡ false)
 
--- it is written
-abbrev pub AddsDocument : Refusals → Written → Written → Type 0
+-- it is told
+abbrev pub AddsDocument : Refusals → Flow → Flow → Type 0
 AddsDocument refuses old new = (json : Data) × Adds old new json × IsDocumentOf refuses json
 
 -- so is the object of what is demanded below a struct
-pub record AddsMembers (refuses : Refusals) (old new : Written) : Type 0 where
+pub record AddsMembers (refuses : Refusals) (old new : Flow) : Type 0 where
   pub members : Members
   pub adds : Adds old new (object members)
   pub keys_are : AreKeys refuses (keys members)
@@ -34,7 +38,7 @@ pub record AddsMembers (refuses : Refusals) (old new : Written) : Type 0 where
   pub no_float : members_have_float members ≡ false
 
 -- so is the list of so many elements
-pub record AddsElements (refuses : Refusals) (least : ℕ) (old new : Written) : Type 0 where
+pub record AddsElements (refuses : Refusals) (least : ℕ) (old new : Flow) : Type 0 where
   pub items : Items
   pub adds : Adds old new (array items)
   pub length : count items ≡ least
@@ -42,9 +46,45 @@ pub record AddsElements (refuses : Refusals) (least : ℕ) (old new : Written) :
   pub no_float : items_have_float items ≡ false
 
 -- so is the scalar that is picked, or null where there is none
-pub record AddsScalar (refuses : Refusals) (old new : Written) : Type 0 where
+pub record AddsScalar (refuses : Refusals) (old new : Flow) : Type 0 where
   pub json : Data
   pub adds : Adds old new json
   pub picked : ((scalar : Scalar) × IsPicked refuses [] scalar × (json ≡ data_of scalar))
       ⊎ HasNoScalar refuses []
   pub no_float : has_float json ≡ false
+
+-- at no demanded place may only scalars stand of which none is chosen
+abbrev pub IsSettled : Refusals → Type 0
+IsSettled refuses =
+    (path : Path) → IsDemanded refuses path → refuses path struct → refuses path list
+    → ((scalar : Scalar) → ¬ IsChosen refuses path scalar) → ⊥
+
+-- The sink took the front of what was told with the document behind it, where that is an export.
+abbrev pub BreaksDocument : Refusals → Flow → Option (List ℕ) → Type 0
+BreaksDocument refuses old known =
+    IsClear refuses → IsSettled refuses → (json : Data) → IsShape IsChosen refuses json
+    → Breaks old known (json_tokens (outline json))
+
+-- so with an object
+abbrev pub BreaksMembers : Refusals → Flow → Option (List ℕ) → Type 0
+BreaksMembers refuses old known =
+    IsClear refuses → IsSettled refuses → (members : Members) → AreKeys refuses (keys members)
+    → AreMembers IsChosen refuses members
+    → Breaks old known (json_tokens (outline (object members)))
+
+-- and with a list
+abbrev pub BreaksElements : Refusals → ℕ → Flow → Option (List ℕ) → Type 0
+BreaksElements refuses least old known =
+    IsClear refuses → IsSettled refuses → (items : Items) → count items ≡ least
+    → AreElements IsChosen refuses 0 items → Breaks old known (json_tokens (outline (array items)))
+
+-- the text of the document is put behind known bytes
+abbrev pub PutsDocument : Refusals → Option (List ℕ) → Option (List ℕ) → Type 0
+PutsDocument refuses old new =
+    (json : Data) × Appends old new (compact_text json) × IsDocumentOf refuses json
+
+-- its front is, where it is an export
+abbrev pub BeginsDocument : Refusals → Option (List ℕ) → Option (List ℕ) → Type 0
+BeginsDocument refuses old new =
+    IsClear refuses → IsSettled refuses → (json : Data) → IsShape IsChosen refuses json
+    → Begins old new (compact_text json)

@@ -12,6 +12,7 @@ mod place;
 mod report;
 mod shape;
 mod sink;
+mod stream;
 mod written;
 
 pub use conflict::{Conflict, conflict_lines, conflicts, tell_conflicts};

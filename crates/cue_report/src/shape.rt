@@ -19,7 +19,7 @@ ghost use Rattle.cue_report.specs.ExportText.{BeginsExport, IsExportText, TellsE
 ghost use Rattle.cue_report.specs.Picks.{IsPicked};
 
 use crate::demand::{is_demanded, least_of};
-use crate::document_text::document_text;
+use crate::document_text::{document_text, tell_document};
 use crate::{Export, ExportKind, ExportText, conflicts, incomplete, tell_conflicts, tell_gaps};
 use cue_device::TextSink;
 use cue_lattice::{Memory, Narrow};
@@ -66,7 +66,7 @@ pub fn export_text(alloc: Global, table: &Table<Row>) -> Result<ExportText, Memo
 }
 
 /// Tells the text of the export of a table, as [`export_text`] gives it, and what it comes to.
-/// Lines are told while the table is walked; JSON is told once it is made.
+/// It is told while the table is walked, lines one by one and JSON in parts.
 ///
 /// # Errors
 ///
@@ -89,8 +89,7 @@ pub fn tell_export<S: TextSink>(
     if lacking {
         return Ok(ExportKind::Incomplete);
     }
-    let text = document_text(alloc, table)?;
-    out.put(text.as_str())?;
+    tell_document(alloc, table, out)?;
     Ok(ExportKind::Json)
 }
 

@@ -1,12 +1,26 @@
-use Rattle.std.proofs.Common.{refl}
-use Rattle.serde_json.specs.Data.{null}
-use Rattle.cue_report.proofs.Documents.{told_none}
+use Rattle.std.proofs.Common.{Some, sym, subst}
+use Rattle.cue_report.specs.GapSearch.{AtPlace}
+use Rattle.cue_report.specs.Stream.{flow}
+use Rattle.cue_report.specs.Writing.{AddsScalar}
+use Rattle.cue_report.proofs.Breaking.{scalar_told, null_told}
+use Rattle.cue_report.proofs.document_text.write_scalar.Goals.{in-None+in_ok-token-in-None, in-Some+in_ok-write_one-in-Some+in-Text+in-Long-1, in-Some+in_ok-write_one-in-Some+in-Text+in-Short-1, in-Some+in_ok-write_one-in-Some+in-Null-1}
 use Rattle.cue_report.proofs.document_text.write_scalar.Goals as goal
 
-pub returns-in_ok-null-in-None : goal.returns-in_ok-null-in-None
-returns-in_ok-null-in-None c form = record {
-  json = null;
-  adds = (c.in_ok-null-in-None.ensures.ok, c.in_ok-null-in-None.ensures.room.0);
-  picked = told_none c.args.row.now c.in_ok-picked.field-0 null c.in-None.is (c.in_ok-picked.ensures.none form);
-  no_float = refl;
-}
+pub returns-clause-told : goal.returns-clause-told
+returns-clause-told g c form =
+    let row = c.args.row.now in
+    let start = flow (g.S.TextSink.taken c.args.out.now) c.args.stream.now in
+    elim c.match-branch-2.branch [
+      | in-None+in_ok-token-in-None w ↦
+          subst (AddsScalar (AtPlace (Some row)) start) (λ i. flow (g.S.TextSink.taken (sym w.out-is i)) (sym w.stream-is i))
+          (null_told row c.in_ok-picked.field-0 start _ w.in-None.is (c.in_ok-picked.ensures.none form) w.in_ok-token-in-None.ensures.told)
+      | in-Some+in_ok-write_one-in-Some+in-Text+in-Long-1 w ↦
+          subst (AddsScalar (AtPlace (Some row)) start) (λ i. flow (g.S.TextSink.taken (sym w.out-is i)) (sym w.stream-is i))
+          (scalar_told row c.in_ok-picked.field-0 _ start _ w.in-Some.is (c.in_ok-picked.ensures.some form) w.in_ok-write_one-in-Some.ensures.told)
+      | in-Some+in_ok-write_one-in-Some+in-Text+in-Short-1 w ↦
+          subst (AddsScalar (AtPlace (Some row)) start) (λ i. flow (g.S.TextSink.taken (sym w.out-is i)) (sym w.stream-is i))
+          (scalar_told row c.in_ok-picked.field-0 _ start _ w.in-Some.is (c.in_ok-picked.ensures.some form) w.in_ok-write_one-in-Some.ensures.told)
+      | in-Some+in_ok-write_one-in-Some+in-Null-1 w ↦
+          subst (AddsScalar (AtPlace (Some row)) start) (λ i. flow (g.S.TextSink.taken (sym w.out-is i)) (sym w.stream-is i))
+          (scalar_told row c.in_ok-picked.field-0 _ start _ w.in-Some.is (c.in_ok-picked.ensures.some form) w.in_ok-write_one-in-Some.ensures.told)
+    ]

@@ -1,8 +1,9 @@
-use Rattle.std.proofs.Common.{refl, ◌∙◌}
+use Rattle.std.proofs.Common.{refl}
 use Rattle.cue_report.proofs.Descent.{Told}
 use Rattle.cue_report.proofs.Exact.{export_shape}
-use Rattle.cue_report.proofs.Exported.{conflicts_told, conflicts_begun, no_conflicts, gaps_told, gaps_begun, no_gaps, nothing_begun, json_told, json_begun}
+use Rattle.cue_report.proofs.Exported.{conflicts_told, conflicts_begun, no_conflicts, gaps_told, gaps_begun, no_gaps, json_told, json_begun}
 use Rattle.cue_report.proofs.Writing.{on_any}
+use Rattle.serde_json.specs.Written.{compact_text}
 use Rattle.cue_report.proofs.shape.tell_export.Goals as goal
 
 pub returns-in_err-conflicting-clause-begun : goal.returns-in_err-conflicting-clause-begun
@@ -21,23 +22,16 @@ returns-then-lacking-clause-export g c =
     let clean = no_conflicts (Told c.args.table.now) c.in_ok-conflicting.conflicting _ _ c.if-conflicting.false c.in_ok-conflicting.ensures.lines in
     gaps_told (Told c.args.table.now) c.in_ok-lacking.lacking _ _ _ clean c.if-lacking.true c.in_ok-lacking.ensures.lines
 
-pub returns-in_err-text-clause-begun : goal.returns-in_err-text-clause-begun
-returns-in_err-text-clause-begun g c =
-    let clean = no_conflicts (Told c.args.table.now) c.in_ok-conflicting.conflicting _ _ c.if-conflicting.false c.in_ok-conflicting.ensures.lines in
-    on_any _ (nothing_begun (Told c.args.table.now) _ _ (no_gaps (Told c.args.table.now) c.in_ok-lacking.lacking _ _ _ clean c.if-lacking.false c.in_ok-lacking.ensures.lines))
-
-pub returns-in_err-put-clause-begun : goal.returns-in_err-put-clause-begun
-returns-in_err-put-clause-begun g c =
+pub returns-in_err-tell_document-clause-begun : goal.returns-in_err-tell_document-clause-begun
+returns-in_err-tell_document-clause-begun g c =
     let clean = no_conflicts (Told c.args.table.now) c.in_ok-conflicting.conflicting _ _ c.if-conflicting.false c.in_ok-conflicting.ensures.lines in
     let full = no_gaps (Told c.args.table.now) c.in_ok-lacking.lacking _ _ _ clean c.if-lacking.false c.in_ok-lacking.ensures.lines in
-    let written = c.in_ok-text.ensures in
-    let shape = export_shape c.args.table.now c.args.table.now _ _ written.0 refl full.none refl full.full refl written.2.0 in
-    on_any _ (json_begun (Told c.args.table.now) _ _ _ c.as_str.result.now full (shape.0, shape.1, (written.0, shape.2, c.as_str.ensures.value ∙ written.1)) c.in_err-put.ensures.begun)
+    on_any _ (json_begun (Told c.args.table.now) _ _ _ full c.in_err-tell_document.ensures.begun)
 
 pub returns-clause-export : goal.returns-clause-export
 returns-clause-export g c =
     let clean = no_conflicts (Told c.args.table.now) c.in_ok-conflicting.conflicting _ _ c.if-conflicting.false c.in_ok-conflicting.ensures.lines in
     let full = no_gaps (Told c.args.table.now) c.in_ok-lacking.lacking _ _ _ clean c.if-lacking.false c.in_ok-lacking.ensures.lines in
-    let written = c.in_ok-text.ensures in
-    let shape = export_shape c.args.table.now c.args.table.now _ _ written.0 refl full.none refl full.full refl written.2.0 in
-    json_told (Told c.args.table.now) _ _ _ c.as_str.result.now full (shape.0, shape.1, (written.0, shape.2, c.as_str.ensures.value ∙ written.1)) c.in_ok-put.ensures.told
+    let told = c.in_ok-tell_document.ensures.told in
+    let shape = export_shape c.args.table.now c.args.table.now _ _ told.0 refl full.none refl full.full refl told.2.0 in
+    json_told (Told c.args.table.now) _ _ _ (compact_text told.0) full (shape.0, shape.1, (told.0, shape.2, refl)) told.1
