@@ -7,7 +7,7 @@ use Rattle.std.proofs.lemmas.Str.{IsCharBoundary-after_ascii}
 use Rattle.json.specs.Print.{ends, print, print_from, token_text}
 use Rattle.json.specs.Token.{Token}
 use Rattle.json.proofs.Printed.Tokens.{print_from-append}
-use Rattle.cue_device.proofs.Texts.{appends_none, appends_then, begins_none, begins_now, begins_later}
+use Rattle.cue_device.proofs.Texts.{appends_none, appends_then, begins_now, begins_later}
 use Rattle.cue_device.specs.Texts.{Begins}
 use Rattle.cue_report.specs.Stream.{Flow, Streams, Breaks, ends_behind, opener}
 
@@ -78,10 +78,6 @@ breaks_now u known ts us b =
 -- nothing of some tokens was told: so it is with others in their place
 pub breaks_any : (u : Flow) (known : Option (List ℕ)) (ts : List Token) → Breaks u known [] → Breaks u known ts
 breaks_any u known ts b = breaks_now u known [] ts b
-
--- nothing more was put
-pub breaks_none : (u : Flow) (ts : List Token) → Breaks u u.known ts
-breaks_none u ts = begins_none u.known (u.stream.pending ++ print_from u.stream.owes ts)
 
 -- ---- one token, and one part
 pub stays : (u v : Flow) → v.known ≡ u.known → v.stream.pending ≡ u.stream.pending → v.stream.owes ≡ u.stream.owes → Streams u v []
