@@ -1,5 +1,5 @@
 -- The file that a table is printed as.
-use Rattle.std.proofs.Common.{◌≡◌, ℕ, List, [], ◌++◌, Some, None, refl, ap, ◌∙◌}
+use Rattle.std.proofs.Common.{◌≡◌, ℕ, List, Some, None, refl}
 use Rattle.std.specs.Prelude.{codes}
 use Rattle.std.specs.List.{flat_map}
 use Rattle.cue_row.specs.declared.parts.RowParts.{RowParts as Row}
@@ -16,6 +16,3 @@ pub lines_file : (tree : Tree Row) (row : Row) → Some row ≡ row_of tree → 
 unfolding file_text file_of
 lines_file (node None children rest) row e = cc
 lines_file (node (Some here) children rest) row e = refl
-
-pub written : (empty text out : List ℕ) → empty ≡ [] → out ≡ empty ++ text → out ≡ text
-written empty text out e h = h ∙ ap (λ t. t ++ text) e

@@ -1,5 +1,5 @@
 -- Branches that are found at a label or at a number.
-use Rattle.std.proofs.Common.{◌≡◌, ℕ, Bool, true, false, List, [], Option, Some, None, nat_eq, refl, sym, ap, ◌∙◌, arith}
+use Rattle.std.proofs.Common.{◌≡◌, ℕ, Bool, true, false, List, [], ◌∷◌, Option, Some, None, nat_eq, refl, sym, ap, ◌∙◌, arith}
 use Rattle.std.specs.Prelude.{is_some, nat_lt, if◌then◌else◌}
 use Rattle.std.specs.Str.{bytes_eq}
 use Rattle.std.specs.Ordering.{nat_cmp}
@@ -14,9 +14,9 @@ use Rattle.cue_row.specs.declared.level.Level.TheVariants.{Optional}
 use Rattle.cue_row.specs.declared.parts.RowParts.{RowParts as Row}
 use Rattle.cue_table.specs.Tree.{Tree, node, Children, none, child, Rest, no_rest, onward, row_of, below, rest_of, if_equal, find, find_with, step_into, rest_tree}
 use Rattle.cue_print.specs.Expressions.{Value, top, Fields, field}
-use Rattle.cue_print.specs.Printed.{level_at, declared, value_of, fields_below, element_at, element_below, rest_value}
-use Rattle.cue_print.specs.Spelled.{value_text}
-use Rattle.cue_print.specs.Writing.{told_text}
+use Rattle.cue_print.specs.Printed.{level_at, declared, inside, value_of, fields_below, element_at, element_below, rest_value}
+use Rattle.cue_print.specs.Spelled.{value_text, field_texts}
+use Rattle.cue_print.specs.Writing.{told_text, fields_at, found_text, declared_text}
 
 -- ---- labels
 -- the field of a label, by the branch that is found at it
@@ -40,8 +40,25 @@ declared_with : (rest : Rest Row) (children : Children Row) (l : List ℕ) (othe
 declared_with no_rest children l others = declared_found children l others
 declared_with (onward n tree) children l others = declared_found children l others
 
-pub declared_into : (tree : Tree Row) (l : List ℕ) (others : Fields) → declared l (fields_below (below tree)) others ≡ field_for l (step_into tree (label l)) others
+declared_into : (tree : Tree Row) (l : List ℕ) (others : Fields) → declared l (fields_below (below tree)) others ≡ field_for l (step_into tree (label l)) others
 declared_into (node row children rest) l others = declared_with rest children l others
+
+found_left : (l : List ℕ) (found : Option (Tree Row)) (others : Fields) → field_texts (field_for l found others) ≡ found_text l found ∷ field_texts others
+unfolding field_texts value_text
+found_left l None others = refl
+found_left l (Some tree) others = refl
+
+-- the text of the first label, in front of those of the others
+pub first_label :
+    (tree : Tree Row) (labels others : List (List ℕ)) (l : List ℕ) → labels ≡ l ∷ others
+    → field_texts (inside labels (fields_at tree)) ≡ declared_text l tree ∷ field_texts (inside others (fields_at tree))
+first_label tree labels others l e =
+    ap (λ ls. field_texts (inside ls (fields_at tree))) e
+    ∙ ap field_texts (declared_into tree l (inside others (fields_at tree))) ∙ found_left l (step_into tree (label l)) (inside others (fields_at tree))
+
+pub no_label_left : (tree : Tree Row) (labels : List (List ℕ)) → labels ≡ [] → field_texts (inside labels (fields_at tree)) ≡ []
+unfolding field_texts
+no_label_left tree labels e = ap (λ ls. field_texts (inside ls (fields_at tree))) e
 
 -- ---- numbers
 -- the element of a number, by the branch that is found at it

@@ -1,7 +1,11 @@
--- Texts that are put together with separators.
-use Rattle.std.proofs.Common.{◌≡◌, ℕ, zero, suc, ◌+◌, ◌<◌, Bool, false, List, [], ◌∷◌, ◌++◌, length, get_or, take, map, nat_eq, refl, sym, ap, ◌∙◌, arith}
-use Rattle.std.proofs.lemmas.List.{append_assoc, append-nil, flat_map_more, take_more, map_push}
+-- Texts that are written with separators.
+use Rattle.std.proofs.Common.{◌≡◌, ℕ, ◌+◌, ◌<◌, Bool, true, false, List, [], ◌∷◌, ◌++◌, Option, length, get_or, drop, nat_eq, refl, sym, ap, subst, ◌∙◌, arith}
+use Rattle.std.specs.List.{flat_map}
+use Rattle.std.specs.Io.KnownBytes.{Appends}
+use Rattle.std.proofs.lemmas.List.{append_assoc, append-nil, flat_map_more, drop_more, drop_all}
 use Rattle.cue_lattice.specs.Bools.{is_nil}
+use Rattle.cue_device.specs.Texts.{Begins}
+use Rattle.cue_device.proofs.Telling.{IsTelling, tells_next, tells_part}
 use Rattle.cue_print.specs.Spelled.{joined}
 use Rattle.cue_print.specs.Writing.{lead}
 
@@ -10,42 +14,52 @@ pub joined_more : (sep : List ℕ) (xs : List (List ℕ)) (x : List ℕ) → joi
 joined_more sep [] x = append-nil x
 joined_more sep (first ∷ others) x = sym (flat_map_more (λ other. sep ++ other) first others x)
 
-pub next_text :
-    (sep : List ℕ) (xs : List (List ℕ)) (x start before led after : List ℕ) (is_first : Bool) → is_nil xs ≡ is_first
-    → before ≡ start ++ joined sep xs → led ≡ before ++ lead sep is_first → after ≡ led ++ x → after ≡ start ++ joined sep (xs ++ x ∷ [])
-next_text sep xs x start before led after is_first none b l a =
-    a ∙ ap (λ t. t ++ x) (l ∙ ap (λ t. t ++ lead sep is_first) b ∙ ap (λ f. (start ++ joined sep xs) ++ lead sep f) (sym none))
-    ∙ append_assoc (start ++ joined sep xs) (lead sep (is_nil xs)) x
-    ∙ append_assoc start (joined sep xs) (lead sep (is_nil xs) ++ x)
-    ∙ ap (λ t. start ++ t) (sym (joined_more sep xs x))
+-- ---- texts that are left, where others stand before or not
+abbrev pub left_joined : List ℕ → Bool → List (List ℕ) → List ℕ
+left_joined sep true texts = joined sep texts
+left_joined sep false texts = flat_map (λ other. sep ++ other) texts
 
-none_taken : {X : Type 0} (f : X → List ℕ) (xs : List X) (i : ℕ) → i < length xs → is_nil (map f (take i xs)) ≡ nat_eq i 0
-none_taken f [] i h = absurd (omega arith)
-none_taken f (x ∷ xs) zero h = refl
-none_taken f (x ∷ xs) (suc i) h = later i where
-  later : (i : ℕ) → false ≡ nat_eq (suc i) 0
-  later i = grind arith
+first_left : (sep : List ℕ) (is_first : Bool) (x : List ℕ) (xs : List (List ℕ)) → left_joined sep is_first (x ∷ xs) ≡ lead sep is_first ++ (x ++ left_joined sep false xs)
+first_left sep true x xs = refl
+first_left sep false x xs = append_assoc sep x (left_joined sep false xs)
 
--- what is written for each element, with that of the next one
-pub next_joined :
-    {X : Type 0} (sep : List ℕ) (f : X → List ℕ) (xs : List X) (i : ℕ) (x : X) (start before led after : List ℕ) → i < length xs → x ≡ get_or xs i x
-    → before ≡ start ++ joined sep (map f (take i xs)) → led ≡ before ++ lead sep (nat_eq i 0) → after ≡ led ++ f x → after ≡ start ++ joined sep (map f (take (i + 1) xs))
-next_joined sep f xs i x start before led after h is b l a =
-    let more : take (i + 1) xs ≡ take i xs ++ x ∷ [] = take_more xs i x h ∙ ap (λ y. take i xs ++ y ∷ []) (sym is) in
-    next_text sep (map f (take i xs)) (f x) start before led after (nat_eq i 0) (none_taken f xs i h) b l a
-    ∙ ap (λ ts. start ++ joined sep ts) (sym (map_push f (take i xs) x)) ∙ ap (λ ys. start ++ joined sep (map f ys)) (sym more)
+-- no text is left
+pub none_joined : (sep : List ℕ) (is_first : Bool) (texts : List (List ℕ)) → texts ≡ [] → left_joined sep is_first texts ≡ []
+none_joined sep true texts e = ap (joined sep) e
+none_joined sep false texts e = ap (flat_map (λ other. sep ++ other)) e
 
-none_shown : {X Y : Type 0} (g : X → Y) (f : Y → List ℕ) (xs : List X) (i : ℕ) → i < length xs → is_nil (map f (map g (take i xs))) ≡ nat_eq i 0
-none_shown g f [] i h = absurd (omega arith)
-none_shown g f (x ∷ xs) zero h = refl
-none_shown g f (x ∷ xs) (suc i) h = none_taken (λ z. f (g z)) (x ∷ xs) (suc i) h
+-- the separator is written, and maybe not whole
+pub separated :
+    (u v w : Option (List ℕ)) (sep : List ℕ) (is_first : Bool) (x : List ℕ) (xs texts : List (List ℕ)) (whole : List ℕ) → texts ≡ x ∷ xs
+    → IsTelling u v (left_joined sep is_first texts) whole → Appends v w (lead sep is_first) → IsTelling u w (x ++ left_joined sep false xs) whole
+separated u v w sep is_first x xs texts whole e t a =
+    tells_next u v w (lead sep is_first) (x ++ left_joined sep false xs) (left_joined sep is_first texts) whole (ap (left_joined sep is_first) e ∙ first_left sep is_first x xs) t a
 
--- the same for elements that are shown as others
-pub next_shown :
-    {X Y : Type 0} (sep : List ℕ) (g : X → Y) (f : Y → List ℕ) (xs : List X) (i : ℕ) (x : X) (start before led after : List ℕ) → i < length xs → x ≡ get_or xs i x
-    → before ≡ start ++ joined sep (map f (map g (take i xs))) → led ≡ before ++ lead sep (nat_eq i 0) → after ≡ led ++ f (g x) → after ≡ start ++ joined sep (map f (map g (take (i + 1) xs)))
-next_shown sep g f xs i x start before led after h is b l a =
-    let more : take (i + 1) xs ≡ take i xs ++ x ∷ [] = take_more xs i x h ∙ ap (λ y. take i xs ++ y ∷ []) (sym is) in
-    next_text sep (map f (map g (take i xs))) (f (g x)) start before led after (nat_eq i 0) (none_shown g f xs i h) b l a
-    ∙ ap (λ ts. start ++ joined sep ts) (sym (map_push f (map g (take i xs)) (g x)))
-    ∙ ap (λ ys. start ++ joined sep (map f ys)) (sym (map_push g (take i xs) x)) ∙ ap (λ ys. start ++ joined sep (map f (map g ys))) (sym more)
+pub part_separated :
+    (u v w : Option (List ℕ)) (sep : List ℕ) (is_first : Bool) (x : List ℕ) (xs texts : List (List ℕ)) (whole : List ℕ) → texts ≡ x ∷ xs
+    → IsTelling u v (left_joined sep is_first texts) whole → Begins v w (lead sep is_first) → Begins u w whole
+part_separated u v w sep is_first x xs texts whole e t b =
+    tells_part u v w (lead sep is_first) (x ++ left_joined sep false xs) (left_joined sep is_first texts) whole (ap (left_joined sep is_first) e ∙ first_left sep is_first x xs) t b
+
+-- so is the text behind it
+pub text_told :
+    (u v w z : Option (List ℕ)) (sep : List ℕ) (is_first : Bool) (x : List ℕ) (xs texts : List (List ℕ)) (whole : List ℕ) → texts ≡ x ∷ xs
+    → IsTelling u v (left_joined sep is_first texts) whole → Appends v w (lead sep is_first) → Appends w z x → IsTelling u z (left_joined sep false xs) whole
+text_told u v w z sep is_first x xs texts whole e t a b =
+    tells_next u w z x (left_joined sep false xs) (x ++ left_joined sep false xs) whole refl (separated u v w sep is_first x xs texts whole e t a) b
+
+pub part_told :
+    (u v w z : Option (List ℕ)) (sep : List ℕ) (is_first : Bool) (x : List ℕ) (xs texts : List (List ℕ)) (whole : List ℕ) → texts ≡ x ∷ xs
+    → IsTelling u v (left_joined sep is_first texts) whole → Appends v w (lead sep is_first) → Begins w z x → Begins u z whole
+part_told u v w z sep is_first x xs texts whole e t a b =
+    tells_part u w z x (left_joined sep false xs) (x ++ left_joined sep false xs) whole refl (separated u v w sep is_first x xs texts whole e t a) b
+
+-- ---- by the number of an element
+-- no later element is the first
+pub later : (u v : Option (List ℕ)) (sep : List ℕ) (i : ℕ) (texts : List (List ℕ)) (whole : List ℕ) → IsTelling u v (left_joined sep false texts) whole → IsTelling u v (left_joined sep (nat_eq (i + 1) 0) texts) whole
+later u v sep i texts whole t = subst (λ (b : Bool). IsTelling u v (left_joined sep b texts) whole) (sym (not_first i)) t where
+  not_first : (n : ℕ) → nat_eq (n + 1) 0 ≡ false
+  not_first n = grind arith
+
+pub from_here : {X : Type 0} (xs : List X) (i : ℕ) (x : X) → i < length xs → x ≡ get_or xs i x → drop i xs ≡ x ∷ drop (i + 1) xs
+from_here xs i x h is = drop_more xs i x h ∙ ap (λ y. y ∷ drop (i + 1) xs) (sym is)

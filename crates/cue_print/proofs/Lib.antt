@@ -10,4 +10,5 @@ pub mod Parts
 pub mod Places
 pub mod Scalars
 pub mod TextsLeft
+pub mod Turns
 pub mod Walk

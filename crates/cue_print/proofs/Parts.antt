@@ -7,13 +7,13 @@ use Rattle.cue_row.specs.declared.level.Level.{Level}
 use Rattle.cue_row.specs.declared.parts.RowParts.{RowParts as Row}
 use Rattle.cue_row.specs.LabelSets.{allows_label}
 use Rattle.cue_row.specs.Quoted.{quoted}
-use Rattle.cue_table.specs.Tree.{Tree}
+use Rattle.cue_table.specs.Tree.{Tree, Children, row_of, labels_of}
 use Rattle.cue_print.specs.Expressions.{Value, top, all, Parts, no_parts, struct, close, list, bottom, Fields, no_more, field, Ending, ends}
-use Rattle.cue_print.specs.Printed.{inside, outside, struct_if_any, struct_part, elements, dots, list_part, has_field, list_left, nothing_value}
+use Rattle.cue_print.specs.Printed.{inside, outside, struct_if_any, struct_part, elements, dots, list_part, has_field, list_left, nothing_value, level_at, value_of, fields_below}
 use Rattle.cue_print.specs.Spelled.{joined, enclosed, mark_text, struct_text, list_text, value_text, part_texts, field_texts, element_texts, ending_texts}
-use Rattle.cue_print.specs.Writing.{lead, conjoined, opening, beside_text, struct_before, is_exact, told_text, ending_text, longest_text, list_before}
-use Rattle.cue_print.proofs.Fields.{fields_of, left_text}
-use Rattle.cue_print.proofs.Joined.{joined_more}
+use Rattle.cue_print.specs.Writing.{lead, conjoined, opening, beside_text, closing, written_struct, struct_before, is_exact, told_text, ending_text, longest_text, written_list, list_before}
+use Rattle.cue_print.proofs.Fields.{fields_of, fields_are, declaration}
+use Rattle.cue_print.proofs.Joined.{joined_more, left_joined}
 use Rattle.cue_print.proofs.ListTexts.{none_before}
 
 -- the parts behind another one
@@ -37,6 +37,11 @@ closed_struct labels fields =
     let inner : List ℕ = joined (codes ", ") (field_texts (inside labels fields)) in
     let rest : List ℕ = flat_map conjoined (part_texts (struct_if_any (outside labels fields) no_parts)) in
     ap (λ t. codes "close({" ++ t) (sym (append_assoc inner (codes "})") rest) ∙ ap (λ t. t ++ rest) (sym (append_assoc inner (codes "}") (codes ")"))))
+
+-- a struct, as it is written
+pub struct_spelled : (labels : Option (List (List ℕ))) (fields : Fields) → written_struct labels fields ≡ value_text (all (struct_part labels fields no_parts))
+struct_spelled None fields = open_struct fields
+struct_spelled (Some labels) fields = closed_struct labels fields
 
 if_any_then : (fields : Fields) (parts : Parts) → behind (struct_if_any fields parts) ≡ behind (struct_if_any fields no_parts) ++ behind parts
 unfolding part_texts
@@ -105,24 +110,18 @@ list_then least (Some most) value_at further parts = by (is_exact least (Some mo
       let long : List ℕ = conjoined (list_text (element_texts (elements most (λ n. top)) ++ ending_texts ends)) in
       ap (λ t. short ++ t) (ap (λ t. t ++ behind parts) (sym (alone long))) ∙ sym (append_assoc short (long ++ []) (behind parts))
 
--- a list is written
-pub list_written :
-    (least : ℕ) (most : Option ℕ) (value_at : ℕ → Value) (further : Option Value) (exact : Bool) (out opened filled finished closed after : List ℕ)
-    → exact ≡ is_exact least most further → opened ≡ out ++ codes "[" → filled ≡ opened ++ joined (codes ", ") (element_texts (elements least value_at))
-    → finished ≡ filled ++ ending_text least exact further → closed ≡ finished ++ codes "]" → after ≡ closed ++ longest_text most exact
-    → after ≡ out ++ value_text (all (list_part least most value_at further no_parts))
-list_written least most value_at further exact out opened filled finished closed after is o f e c a =
+-- a list, as it is written
+pub list_spelled :
+    (least : ℕ) (most : Option ℕ) (value_at : ℕ → Value) (further : Option Value)
+    → written_list least most value_at further ≡ value_text (all (list_part least most value_at further no_parts))
+list_spelled least most value_at further =
+    let exact : Bool = is_exact least most further in
     let inner : List ℕ = joined (codes ", ") (element_texts (elements least value_at)) in
     let end : List ℕ = ending_text least exact further in
-    let begun : filled ≡ out ++ (codes "[" ++ inner) = f ∙ ap (λ t. t ++ inner) o ∙ append_assoc out (codes "[") inner in
-    let whole : finished ≡ out ++ (codes "[" ++ (inner ++ end)) = e ∙ ap (λ t. t ++ end) begun ∙ append_assoc out (codes "[" ++ inner) end in
-    let bracketed : closed ≡ out ++ (codes "[" ++ ((inner ++ end) ++ codes "]")) = c ∙ ap (λ t. t ++ codes "]") whole ∙ append_assoc out (codes "[" ++ (inner ++ end)) (codes "]") in
-    let shown : List ℕ = list_text (element_texts (elements least value_at) ++ ending_texts (ended exact further)) in
-    let told : closed ≡ out ++ shown = bracketed ∙ ap (λ t. out ++ (codes "[" ++ (t ++ codes "]"))) (sym (list_ended least value_at exact further)) in
-    a ∙ ap (λ t. t ++ longest_text most exact) told
-    ∙ append_assoc out shown (longest_text most exact)
-    ∙ ap (λ b. out ++ (list_text (element_texts (elements least value_at) ++ ending_texts (ended b further)) ++ longest_text most b)) is
-    ∙ ap (λ t. out ++ t) (list_told least most value_at further)
+    let long : List ℕ = longest_text most exact in
+    ap (λ t. codes "[" ++ t) (sym (append_assoc inner end (codes "]" ++ long)) ∙ sym (append_assoc (inner ++ end) (codes "]") long))
+    ∙ ap (λ t. (codes "[" ++ (t ++ codes "]")) ++ long) (sym (list_ended least value_at exact further))
+    ∙ list_told least most value_at further
 
 -- ---- nothing
 -- a value is never told by no part
@@ -132,10 +131,11 @@ list_left_behind row value_at further = by (nat_lt 0 row.least || is_some row.mo
   by :
       (b : Bool)
       → value_text (all (if b then list_part row.least row.most value_at further (bottom no_parts) else bottom no_parts))
-      ≡ (if b then value_text (all (list_part row.least row.most value_at further no_parts)) ++ codes " & " else []) ++ codes "_|_"
+      ≡ (if b then written_list row.least row.most value_at further ++ codes " & " else []) ++ codes "_|_"
   by true =
       list_then row.least row.most value_at further (bottom no_parts)
       ∙ sym (append_assoc (value_text (all (list_part row.least row.most value_at further no_parts))) (codes " & ") (codes "_|_"))
+      ∙ ap (λ t. (t ++ codes " & ") ++ codes "_|_") (sym (list_spelled row.least row.most value_at further))
   by false = refl
 
 -- parts behind others, where there is one
@@ -169,7 +169,7 @@ left_filled row value_at further = by (nat_lt 0 row.least || is_some row.most ||
   by false = refl
   by true = part row.most
 
-nothing_told : (row : Row) (fields : Fields) (value_at : ℕ → Value) (further : Option Value) → struct_before row fields ++ (list_before row value_at further ++ codes "_|_") ≡ value_text (nothing_value row fields value_at further)
+pub nothing_told : (row : Row) (fields : Fields) (value_at : ℕ → Value) (further : Option Value) → struct_before row fields ++ (list_before row value_at further ++ codes "_|_") ≡ value_text (nothing_value row fields value_at further)
 unfolding struct_before
 nothing_told row fields value_at further = ap (λ t. struct_before row fields ++ t) (sym (list_left_behind row value_at further)) ∙ by (is_some row.labels || has_field fields) where
   rest : Parts
@@ -177,22 +177,14 @@ nothing_told row fields value_at further = ap (λ t. struct_before row fields ++
 
   by :
       (b : Bool)
-      → (if b then value_text (all (struct_part row.labels fields no_parts)) ++ codes " & " else []) ++ value_text (all (list_left row value_at further (bottom no_parts)))
+      → (if b then written_struct row.labels fields ++ codes " & " else []) ++ value_text (all (list_left row value_at further (bottom no_parts)))
       ≡ value_text (all (if b then struct_part row.labels fields (list_left row value_at further (bottom no_parts)) else list_left row value_at further (bottom no_parts)))
   by true =
-      append_assoc (value_text (all (struct_part row.labels fields no_parts))) (codes " & ") (value_text (all (list_left row value_at further (bottom no_parts))))
+      ap (λ t. (t ++ codes " & ") ++ value_text (all (list_left row value_at further (bottom no_parts)))) (struct_spelled row.labels fields)
+      ∙ append_assoc (value_text (all (struct_part row.labels fields no_parts))) (codes " & ") (value_text (all (list_left row value_at further (bottom no_parts))))
       ∙ ap (λ t. value_text (all (struct_part row.labels fields no_parts)) ++ t) (sym (behind_filled (list_left row value_at further (bottom no_parts)) (left_filled row value_at further)))
       ∙ sym (struct_then row.labels fields (list_left row value_at further (bottom no_parts)))
   by false = refl
-
-pub nothing_written :
-    (row : Row) (fields : Fields) (value_at : ℕ → Value) (further : Option Value) (out one two after : List ℕ)
-    → one ≡ out ++ struct_before row fields → two ≡ one ++ list_before row value_at further → after ≡ two ++ codes "_|_" → after ≡ out ++ value_text (nothing_value row fields value_at further)
-nothing_written row fields value_at further out one two after a b c =
-    c ∙ ap (λ t. t ++ codes "_|_") (b ∙ ap (λ t. t ++ list_before row value_at further) a)
-    ∙ append_assoc (out ++ struct_before row fields) (list_before row value_at further) (codes "_|_")
-    ∙ append_assoc out (struct_before row fields) (list_before row value_at further ++ codes "_|_")
-    ∙ ap (λ t. out ++ t) (nothing_told row fields value_at further)
 
 -- ---- fields whose labels may not stand
 abbrev pub outside_of : Option (List (List ℕ)) → Fields → Fields
@@ -202,42 +194,37 @@ outside_of (Some labels) fields = outside labels fields
 -- what is left of them, where one was written or not
 abbrev pub outside_text : Bool → Fields → List ℕ
 outside_text true fields = behind (struct_if_any fields no_parts)
-outside_text false fields = left_text false fields ++ codes "}"
+outside_text false fields = left_joined (codes ", ") false (field_texts fields) ++ codes "}"
 
-pub outside_first : (labels : Option (List (List ℕ))) (fields : Fields) → outside_text true (outside_of labels fields) ≡ beside_text labels fields
+outside_first : (labels : Option (List (List ℕ))) (fields : Fields) → outside_text true (outside_of labels fields) ≡ beside_text labels fields
 unfolding beside_text part_texts
 outside_first None fields = refl
 outside_first (Some labels) fields = refl
 
-pub next_outside :
-    (is_first : Bool) (l : List ℕ) (level : Level) (value : Value) (fields : Fields) (before led after whole : List ℕ)
-    → before ++ outside_text is_first (field l level value fields) ≡ whole
-    → led ≡ before ++ opening is_first → after ≡ led ++ (quoted l ++ (mark_text level ++ value_text value))
-    → after ++ outside_text false fields ≡ whole
-unfolding part_texts field_texts
-next_outside true l level value fields before led after whole h e a =
-    let one : List ℕ = quoted l ++ (mark_text level ++ value_text value) in
-    let rest : List ℕ = left_text false fields in
-    ap (λ t. t ++ (rest ++ codes "}")) (a ∙ ap (λ t. t ++ one) e)
-    ∙ append_assoc (before ++ opening true) one (rest ++ codes "}")
-    ∙ append_assoc before (opening true) (one ++ (rest ++ codes "}"))
-    ∙ ap (λ t. before ++ (opening true ++ t)) (sym (append_assoc one rest (codes "}")))
-    ∙ ap (λ t. before ++ t) (sym (alone (opening true ++ ((one ++ rest) ++ codes "}"))))
-    ∙ h
-next_outside false l level value fields before led after whole h e a =
-    let one : List ℕ = quoted l ++ (mark_text level ++ value_text value) in
-    let rest : List ℕ = left_text false fields in
-    ap (λ t. t ++ (rest ++ codes "}")) (a ∙ ap (λ t. t ++ one) e)
-    ∙ append_assoc (before ++ codes ", ") one (rest ++ codes "}")
-    ∙ append_assoc before (codes ", ") (one ++ (rest ++ codes "}"))
-    ∙ ap (λ t. before ++ (codes ", " ++ t)) (sym (append_assoc one rest (codes "}")))
-    ∙ h
+-- all fields are left in front of the walk
+pub all_outside :
+    (labels : Option (List (List ℕ))) (children : Children Row) (items : List (List ℕ × Tree Row)) → items ≡ labels_of children
+    → outside_text true (outside_of labels (fields_of items)) ≡ beside_text labels (fields_below children)
+all_outside labels children items e = ap (λ fs. outside_text true (outside_of labels fs)) (ap fields_of e ∙ sym (fields_are children)) ∙ outside_first labels (fields_below children)
 
-pub outside_more : (labels : Option (List (List ℕ))) (l : List ℕ) (level : Level) (value : Value) (fields : Fields) → allows_label labels l ≡ false → outside_of labels (field l level value fields) ≡ field l level value (outside_of labels fields)
+first_opened :
+    (is_first : Bool) (l : List ℕ) (level : Level) (value : Value) (fields : Fields)
+    → outside_text is_first (field l level value fields) ≡ opening is_first ++ ((quoted l ++ (mark_text level ++ value_text value)) ++ outside_text false fields)
+unfolding part_texts field_texts
+first_opened true l level value fields =
+    let one : List ℕ = quoted l ++ (mark_text level ++ value_text value) in
+    let rest : List ℕ = left_joined (codes ", ") false (field_texts fields) in
+    alone (opening true ++ ((one ++ rest) ++ codes "}")) ∙ ap (λ t. opening true ++ t) (append_assoc one rest (codes "}"))
+first_opened false l level value fields =
+    let one : List ℕ = quoted l ++ (mark_text level ++ value_text value) in
+    let rest : List ℕ = left_joined (codes ", ") false (field_texts fields) in
+    ap (λ t. codes ", " ++ t) (append_assoc one rest (codes "}"))
+
+outside_more : (labels : Option (List (List ℕ))) (l : List ℕ) (level : Level) (value : Value) (fields : Fields) → allows_label labels l ≡ false → outside_of labels (field l level value fields) ≡ field l level value (outside_of labels fields)
 outside_more None l level value fields e = cc
 outside_more (Some labels) l level value fields e = rw e refl
 
-pub outside_past : (labels : Option (List (List ℕ))) (l : List ℕ) (level : Level) (value : Value) (fields : Fields) → allows_label labels l ≡ true → outside_of labels (field l level value fields) ≡ outside_of labels fields
+outside_past : (labels : Option (List (List ℕ))) (l : List ℕ) (level : Level) (value : Value) (fields : Fields) → allows_label labels l ≡ true → outside_of labels (field l level value fields) ≡ outside_of labels fields
 outside_past None l level value fields e = refl
 outside_past (Some labels) l level value fields e = rw e refl
 
@@ -245,19 +232,28 @@ none_outside : (labels : Option (List (List ℕ))) → outside_of labels no_more
 none_outside None = refl
 none_outside (Some labels) = refl
 
--- all are written, and some was
-pub outside_ended :
-    (is_first : Bool) (labels : Option (List (List ℕ))) (items : List (List ℕ × Tree Row)) (now whole : List ℕ) → is_first ≡ false → items ≡ []
-    → now ++ outside_text is_first (outside_of labels (fields_of items)) ≡ whole → now ++ codes "}" ≡ whole
-unfolding field_texts
-outside_ended is_first labels items now whole e n h =
-    ap (λ fs. now ++ outside_text false fs) (sym (ap (λ is. outside_of labels (fields_of is)) n ∙ none_outside labels)) ∙ ap (λ b. now ++ outside_text b (outside_of labels (fields_of items))) (sym e) ∙ h
+-- the next field is one of them
+pub first_outside :
+    (is_first : Bool) (labels : Option (List (List ℕ))) (items others : List (List ℕ × Tree Row)) (item : List ℕ × Tree Row) → items ≡ item ∷ others → allows_label labels item.0 ≡ false
+    → outside_text is_first (outside_of labels (fields_of items)) ≡ opening is_first ++ (declaration item.0 item.1 ++ outside_text false (outside_of labels (fields_of others)))
+first_outside is_first labels items others item e h =
+    ap (λ is. outside_text is_first (outside_of labels (fields_of is))) e
+    ∙ ap (outside_text is_first) (outside_more labels item.0 (level_at (row_of item.1)) (value_of item.1) (fields_of others) h)
+    ∙ first_opened is_first item.0 (level_at (row_of item.1)) (value_of item.1) (outside_of labels (fields_of others))
 
--- there was none
-pub outside_absent :
-    (is_first : Bool) (labels : Option (List (List ℕ))) (items : List (List ℕ × Tree Row)) (now whole : List ℕ) → is_first ≡ true → items ≡ []
-    → now ++ outside_text is_first (outside_of labels (fields_of items)) ≡ whole → now ≡ whole
-unfolding part_texts
-outside_absent is_first labels items now whole e n h =
-    sym (append-nil now) ∙ ap (λ fs. now ++ outside_text true fs) (sym (ap (λ is. outside_of labels (fields_of is)) n ∙ none_outside labels))
-    ∙ ap (λ b. now ++ outside_text b (outside_of labels (fields_of items))) (sym e) ∙ h
+-- the next field is none of them
+pub first_inside :
+    (is_first : Bool) (labels : Option (List (List ℕ))) (items others : List (List ℕ × Tree Row)) (item : List ℕ × Tree Row) → items ≡ item ∷ others → allows_label labels item.0 ≡ true
+    → outside_text is_first (outside_of labels (fields_of items)) ≡ outside_text is_first (outside_of labels (fields_of others))
+first_inside is_first labels items others item e h =
+    ap (λ is. outside_text is_first (outside_of labels (fields_of is))) e
+    ∙ ap (outside_text is_first) (outside_past labels item.0 (level_at (row_of item.1)) (value_of item.1) (fields_of others) h)
+
+no_outside : (labels : Option (List (List ℕ))) (items : List (List ℕ × Tree Row)) → items ≡ [] → outside_of labels (fields_of items) ≡ no_more
+no_outside labels items e = ap (λ is. outside_of labels (fields_of is)) e ∙ none_outside labels
+
+-- all are written
+pub outside_closed : (is_first : Bool) (labels : Option (List (List ℕ))) (items : List (List ℕ × Tree Row)) → items ≡ [] → outside_text is_first (outside_of labels (fields_of items)) ≡ closing is_first ++ []
+unfolding field_texts part_texts
+outside_closed true labels items e = ap (outside_text true) (no_outside labels items e)
+outside_closed false labels items e = ap (outside_text false) (no_outside labels items e)

@@ -17,8 +17,6 @@ use Rattle.cue_print.specs.Expressions.{Value, top, all, no_parts, Term, Fields}
 use Rattle.cue_print.specs.Printed.{inside, struct_part, scalar_value, nothing_value, scalar_or_nothing, value_by, row_value, value_of, fields_below, element_below, element_at, rest_value}
 use Rattle.cue_print.specs.Spelled.{joined, value_text, field_texts}
 use Rattle.cue_print.specs.Terms.{null_terms, truth_terms, piece_term, text_terms, terms_of}
-use Rattle.cue_print.specs.Writing.{beside_text}
-use Rattle.cue_print.proofs.Parts.{open_struct, closed_struct}
 
 -- ---- the kind of a place
 pub no_row : (tree : Tree Row) → row_of tree ≡ None → top ≡ value_of tree
@@ -119,27 +117,3 @@ by_terms (term ∷ terms) row fields value_at further h = refl
 pub without_terms : (terms : List Term) (row : Row) (fields : Fields) (value_at : ℕ → Value) (further : Option Value) → terms ≡ [] → nothing_value row fields value_at further ≡ scalar_or_nothing terms row fields value_at further
 without_terms [] row fields value_at further e = refl
 without_terms (term ∷ terms) row fields value_at further e = cc
-
--- ---- structs are written
-pub open_written :
-    (labels : Option (List (List ℕ))) (fields : Fields) (out opened filled after : List ℕ) → None ≡ labels
-    → opened ≡ out ++ codes "{" → filled ≡ opened ++ joined (codes ", ") (field_texts fields) → after ≡ filled ++ codes "}"
-    → after ≡ out ++ value_text (all (struct_part labels fields no_parts))
-open_written labels fields out opened filled after e o f a =
-    let inner : List ℕ = joined (codes ", ") (field_texts fields) in
-    a ∙ ap (λ t. t ++ codes "}") (f ∙ ap (λ t. t ++ inner) o ∙ append_assoc out (codes "{") inner) ∙ append_assoc out (codes "{" ++ inner) (codes "}")
-    ∙ ap (λ t. out ++ t) (open_struct fields) ∙ ap (λ (ls : Option (List (List ℕ))). out ++ value_text (all (struct_part ls fields no_parts))) e
-
-pub closed_written :
-    (listed : List (List ℕ)) (labels : Option (List (List ℕ))) (fields : Fields) (out opened filled shut after : List ℕ) → Some listed ≡ labels
-    → opened ≡ out ++ codes "close({" → filled ≡ opened ++ joined (codes ", ") (field_texts (inside listed fields)) → shut ≡ filled ++ codes "})" → after ≡ shut ++ beside_text labels fields
-    → after ≡ out ++ value_text (all (struct_part labels fields no_parts))
-closed_written listed labels fields out opened filled shut after e o f s a =
-    let inner : List ℕ = joined (codes ", ") (field_texts (inside listed fields)) in
-    a ∙ ap (λ (ls : Option (List (List ℕ))). shut ++ beside_text ls fields) (sym e)
-    ∙ ap (λ t. t ++ beside_text (Some listed) fields) (s ∙ ap (λ t. t ++ codes "})") (f ∙ ap (λ t. t ++ inner) o))
-    ∙ append_assoc ((out ++ codes "close({") ++ inner) (codes "})") (beside_text (Some listed) fields)
-    ∙ append_assoc (out ++ codes "close({") inner (codes "})" ++ beside_text (Some listed) fields)
-    ∙ append_assoc out (codes "close({") (inner ++ (codes "})" ++ beside_text (Some listed) fields))
-    ∙ ap (λ t. out ++ t) (closed_struct listed fields)
-    ∙ ap (λ (ls : Option (List (List ℕ))). out ++ value_text (all (struct_part ls fields no_parts))) e

@@ -1,15 +1,8 @@
 -- What the scalars of a place are printed as.
-use Rattle.std.proofs.Common.{◌≡◌, ℕ, List, [], ◌∷◌, ◌++◌, Some, length, map, refl, ap, ◌∙◌, append_assoc, arith}
-use Rattle.std.specs.Prelude.{OnOk}
-use Rattle.std.specs.declared.result.Result.{Result}
-use Rattle.std.specs.declared.result.Result.TheVariants.{Ok, Err}
+use Rattle.std.proofs.Common.{◌≡◌, ℕ, List, [], ◌∷◌, ◌++◌, Some, length, map, refl, ap, ◌∙◌, arith}
 use Rattle.cue_print.specs.Expressions.{Term}
 use Rattle.cue_print.specs.Printed.{scalar_value}
 use Rattle.cue_print.specs.Spelled.{default_text, terms_text, value_text}
-
-pub on_ok : {T E A B : Type 0} (r : Result T E) → (A → B) → OnOk r A → OnOk r B
-on_ok (Ok x) f a = f a
-on_ok (Err e) f a = tt
 
 -- all are usual
 pub plain : (shown all usual left : List Term) → shown ≡ all → left ≡ [] → terms_text shown ≡ value_text (scalar_value all usual left)
@@ -22,12 +15,6 @@ pub marked : (marks shown all usual left : List Term) → marks ≡ usual → sh
 unfolding value_text
 marked marks shown all usual [] e f h = absurd (h refl)
 marked marks shown all usual (term ∷ left) e f h = ap (λ ts. default_text (Some ts) ++ terms_text shown) e ∙ ap (λ ts. default_text (Some usual) ++ terms_text ts) f
-
-pub marked_text :
-    (marks shown all usual left : List Term) (out before after : List ℕ) → marks ≡ usual → shown ≡ left → (left ≡ [] → ⊥)
-    → before ≡ out ++ default_text (Some marks) → after ≡ before ++ terms_text shown → after ≡ out ++ value_text (scalar_value all usual left)
-marked_text marks shown all usual left out before after e f h b a =
-    a ∙ ap (λ t. t ++ terms_text shown) b ∙ append_assoc out (default_text (Some marks)) (terms_text shown) ∙ ap (λ t. out ++ t) (marked marks shown all usual left e f h)
 
 -- ---- a list of terms that are shown as others
 pub none_shown : {X Y : Type 0} (g : X → Y) (xs : List X) → length xs ≡ 0 → map g xs ≡ []

@@ -9,8 +9,9 @@ mod terms;
 mod value;
 mod writer;
 
+pub use cue_device::TextSink;
 pub use cue_lattice::Memory;
 pub use cue_row::Row;
 pub use cue_table::Table;
-pub use file::print;
+pub use file::{print, print_to};
 pub use laws::others_are_left;

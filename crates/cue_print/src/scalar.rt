@@ -1,12 +1,16 @@
-ghost use Rattle.std.specs.Prelude.{◌≡◌, ◌++◌, Some, map, IfOk, OnOk, string_bytes};
+ghost use Rattle.std.specs.Prelude.{◌≡◌, ◌++◌, Some, map, IfOk, OnErr, OnOk};
+ghost use Rattle.std.specs.Io.KnownBytes.{Appends};
+ghost use Rattle.cue_device.specs.Texts.{Begins};
 ghost use Rattle.cue_print.specs.Difference.{without};
 ghost use Rattle.cue_print.specs.Printed.{scalar_value};
-ghost use Rattle.cue_print.specs.Spelled.{default_text, value_text};
+ghost use Rattle.cue_print.specs.Spelled.{default_text, terms_text, value_text};
 ghost use Rattle.cue_print.specs.Terms.{terms_of};
 ghost use Rattle.cue_print.specs.TermOf.{term_of};
 
 use crate::term::Term;
 use crate::terms::{push_operand, push_terms, terms_of};
+use crate::writer::Scratch;
+use cue_device::TextSink;
 use cue_lattice::{Memory, Narrow};
 use cue_row::{Row, Scalars};
 use cue_scalars::ScalarSet;
@@ -14,18 +18,26 @@ use std::alloc::Global;
 
 /// Writes the scalars that may stand: those that are usual, marked as a default, in front of the
 /// others, unless all are usual.
-pub(crate) fn push_scalar(alloc: Global, out: &mut String, row: &Row) -> Result<(), Memory>
-    ensures { OnOk result (string_bytes out.new ≡ string_bytes out.old
-        ++ value_text (scalar_value (terms_of row.now.value) (terms_of row.now.usual)
-        (terms_of (without row.now.value row.now.usual)))) }
+pub(crate) fn push_scalar<S: TextSink>(
+    scratch: &mut Scratch,
+    out: &mut S,
+    row: &Row,
+) -> Result<(), S::Halt>
+    ensures told { OnOk result (Appends (S.taken out.old) (S.taken out.new)
+        (value_text (scalar_value (terms_of row.now.value) (terms_of row.now.usual)
+        (terms_of (without row.now.value row.now.usual))))) }
+    ensures begun { OnErr result (Begins (S.taken out.old) (S.taken out.new)
+        (value_text (scalar_value (terms_of row.now.value) (terms_of row.now.usual)
+        (terms_of (without row.now.value row.now.usual))))) }
 {
-    let others = unusual(alloc, row)?;
-    let terms = terms_of(alloc, &Scalars::of(&others))?;
+    let others = unusual(scratch.alloc, row)?;
+    let terms = terms_of(scratch.alloc, &Scalars::of(&others))?;
     if terms.is_empty() {
-        return push_terms(out, &terms_of(alloc, &row.value())?);
+        let all = terms_of(scratch.alloc, &row.value())?;
+        return push_terms(scratch, out, &all);
     }
-    push_default(out, &terms_of(alloc, &row.usual())?)?;
-    push_terms(out, &terms)
+    let usual = terms_of(scratch.alloc, &row.usual())?;
+    push_marked(scratch, out, &usual, &terms)
 }
 
 /// The scalars that may stand and are not usual.
@@ -38,14 +50,38 @@ fn unusual(alloc: Global, row: &Row) -> Result<ScalarSet, Memory>
     Ok(set)
 }
 
-/// Writes what is usual as a default in front of others.
-#[tactic(auto, unfolding(crate::specs::Spelled::default_text))]
-fn push_default(out: &mut String, usual: &[Term]) -> Result<(), Memory>
-    ensures { OnOk result (string_bytes out.new
-        ≡ string_bytes out.old ++ default_text (Some (map term_of usual.now))) }
+/// Writes what is usual as a default, and the others behind it.
+#[tactic(auto, using(crate::proofs::Turns::turns))]
+fn push_marked<S: TextSink>(
+    scratch: &mut Scratch,
+    out: &mut S,
+    usual: &[Term],
+    others: &[Term],
+) -> Result<(), S::Halt>
+    ensures told { OnOk result (Appends (S.taken out.old) (S.taken out.new)
+        (default_text (Some (map term_of usual.now)) ++ terms_text (map term_of others.now))) }
+    ensures begun { OnErr result (Begins (S.taken out.old) (S.taken out.new)
+        (default_text (Some (map term_of usual.now)) ++ terms_text (map term_of others.now))) }
 {
-    out.push('*')?;
-    push_operand(out, usual)?;
-    out.push_str(" | ")?;
+    push_default(scratch, out, usual)?;
+    push_terms(scratch, out, others)?;
+    Ok(())
+}
+
+/// Writes what is usual as a default in front of others.
+#[tactic(auto, unfolding(crate::specs::Spelled::default_text), using(crate::proofs::Turns::turns))]
+fn push_default<S: TextSink>(
+    scratch: &mut Scratch,
+    out: &mut S,
+    usual: &[Term],
+) -> Result<(), S::Halt>
+    ensures told { OnOk result (Appends (S.taken out.old) (S.taken out.new)
+        (default_text (Some (map term_of usual.now)))) }
+    ensures begun { OnErr result (Begins (S.taken out.old) (S.taken out.new)
+        (default_text (Some (map term_of usual.now)))) }
+{
+    out.put("*")?;
+    push_operand(scratch, out, usual)?;
+    out.put(" | ")?;
     Ok(())
 }

@@ -1,11 +1,13 @@
-ghost use Rattle.std.specs.Prelude.{◌≡◌, ◌++◌, map, OnOk, string_bytes, codes};
+ghost use Rattle.std.specs.Prelude.{◌≡◌, ◌++◌, map, OnErr, OnOk, codes};
 ghost use Rattle.std.specs.Fmt.{signed_decimal};
+ghost use Rattle.std.specs.Io.KnownBytes.{Appends};
+ghost use Rattle.cue_device.specs.Texts.{Begins};
 ghost use Rattle.cue_print.specs.Spelled.{joined, unequal, term_text, is_conjunction};
 ghost use Rattle.cue_print.specs.TermOf.{term_of};
 
-use crate::writer::{push_integer, separate};
-use cue_lattice::{Memory, Text};
-use cue_row::push_quoted;
+use crate::writer::{Scratch, push_integer, push_text, separate};
+use cue_device::TextSink;
+use cue_lattice::Text;
 
 /// A term of a disjunction of scalars.
 #[derive(Clone, Copy, Debug)]
@@ -46,56 +48,93 @@ pub(crate) fn is_conjunction(term: &Term) -> bool
 }
 
 /// Writes a term.
-#[tactic(auto, unfolding(crate::specs::Spelled::term_text))]
-pub(crate) fn push_term(out: &mut String, term: &Term) -> Result<(), Memory>
-    ensures { OnOk result (string_bytes out.new
-        ≡ string_bytes out.old ++ term_text (term_of term.now)) }
+#[tactic(auto, unfolding(crate::specs::Spelled::term_text), using(crate::proofs::Turns::turns))]
+pub(crate) fn push_term<S: TextSink>(
+    scratch: &mut Scratch,
+    out: &mut S,
+    term: &Term,
+) -> Result<(), S::Halt>
+    ensures told { OnOk result (Appends (S.taken out.old) (S.taken out.new)
+        (term_text (term_of term.now))) }
+    ensures begun { OnErr result (Begins (S.taken out.old) (S.taken out.new)
+        (term_text (term_of term.now))) }
 {
     match term {
-        Term::Null => out.push_str("null")?,
-        Term::Truths => out.push_str("bool")?,
-        Term::Truth(false) => out.push_str("false")?,
-        Term::Truth(true) => out.push_str("true")?,
-        Term::Integers => out.push_str("int")?,
+        Term::Null => out.put("null")?,
+        Term::Truths => out.put("bool")?,
+        Term::Truth(false) => out.put("false")?,
+        Term::Truth(true) => out.put("true")?,
+        Term::Integers => out.put("int")?,
         Term::Number(number) => push_integer(out, *number)?,
         Term::AtMost(last) => push_bound(out, "<=", *last)?,
         Term::AtLeast(first) => push_bound(out, ">=", *first)?,
-        Term::Between(first, last) => {
-            push_bound(out, ">=", *first)?;
-            push_bound(out, " & <=", *last)?;
-        }
-        Term::Texts => out.push_str("string")?,
-        Term::Text(text) => push_quoted(out, text.as_str())?,
-        Term::OtherTexts(texts) => push_others(out, texts)?,
+        Term::Between(first, last) => push_bounds(out, ">=", *first, " & <=", *last)?,
+        Term::Texts => out.put("string")?,
+        Term::Text(text) => push_text(scratch, out, text.as_str())?,
+        Term::OtherTexts(texts) => push_others(scratch, out, texts)?,
     }
     Ok(())
 }
 
 /// Writes a sign and a number.
-fn push_bound(out: &mut String, sign: &str, number: i64) -> Result<(), Memory>
-    ensures { OnOk result (string_bytes out.new
-        ≡ string_bytes out.old ++ (sign.now ++ signed_decimal number)) }
+#[tactic(auto, using(crate::proofs::Turns::turns))]
+fn push_bound<S: TextSink>(out: &mut S, sign: &str, number: i64) -> Result<(), S::Halt>
+    ensures told { OnOk result (Appends (S.taken out.old) (S.taken out.new)
+        (sign.now ++ signed_decimal number)) }
+    ensures begun { OnErr result (Begins (S.taken out.old) (S.taken out.new)
+        (sign.now ++ signed_decimal number)) }
 {
-    out.push_str(sign)?;
-    push_integer(out, number)
+    out.put(sign)?;
+    push_integer(out, number)?;
+    Ok(())
+}
+
+/// Writes two signs with a number each.
+#[tactic(auto, using(crate::proofs::Turns::turns))]
+fn push_bounds<S: TextSink>(
+    out: &mut S,
+    low: &str,
+    first: i64,
+    high: &str,
+    last: i64,
+) -> Result<(), S::Halt>
+    ensures told { OnOk result (Appends (S.taken out.old) (S.taken out.new)
+        ((low.now ++ signed_decimal first) ++ (high.now ++ signed_decimal last))) }
+    ensures begun { OnErr result (Begins (S.taken out.old) (S.taken out.new)
+        ((low.now ++ signed_decimal first) ++ (high.now ++ signed_decimal last))) }
+{
+    push_bound(out, low, first)?;
+    push_bound(out, high, last)?;
+    Ok(())
 }
 
 /// Writes that none of these texts may stand.
-fn push_others(out: &mut String, texts: &[Text]) -> Result<(), Memory>
-    ensures { OnOk result (string_bytes out.new
-        ≡ string_bytes out.old ++ joined (codes " & ") (map unequal texts.now)) }
+fn push_others<S: TextSink>(
+    scratch: &mut Scratch,
+    out: &mut S,
+    texts: &[Text],
+) -> Result<(), S::Halt>
+    ensures told { OnOk result (Appends (S.taken out.old) (S.taken out.new)
+        (joined (codes " & ") (map unequal texts.now))) }
+    ensures begun { OnErr result (Begins (S.taken out.old) (S.taken out.new)
+        (joined (codes " & ") (map unequal texts.now))) }
 {
     for (i, text) in texts.iter().enumerate() {
         separate(out, " & ", i == 0)?;
-        push_unequal(out, text)?;
+        push_unequal(scratch, out, text)?;
     }
     Ok(())
 }
 
 /// Writes that a text may not stand.
-fn push_unequal(out: &mut String, text: &Text) -> Result<(), Memory>
-    ensures { OnOk result (string_bytes out.new ≡ string_bytes out.old ++ unequal text.now) }
+#[tactic(auto, using(crate::proofs::Turns::turns))]
+fn push_unequal<S: TextSink>(scratch: &mut Scratch, out: &mut S, text: &Text) -> Result<(), S::Halt>
+    ensures told { OnOk result (Appends (S.taken out.old) (S.taken out.new)
+        (unequal text.now)) }
+    ensures begun { OnErr result (Begins (S.taken out.old) (S.taken out.new)
+        (unequal text.now)) }
 {
-    out.push_str("!=")?;
-    push_quoted(out, text.as_str())
+    out.put("!=")?;
+    push_text(scratch, out, text.as_str())?;
+    Ok(())
 }

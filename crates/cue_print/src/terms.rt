@@ -1,12 +1,16 @@
 //! The terms of a set of scalars.
-ghost use Rattle.std.specs.Prelude.{◌≡◌, ◌++◌, [], map, codes, IfOk, OnOk, string_bytes};
+ghost use Rattle.std.specs.Prelude.{◌≡◌, ◌++◌, [], map, codes, IfOk, OnErr, OnOk};
+ghost use Rattle.std.specs.Io.KnownBytes.{Appends};
+ghost use Rattle.cue_device.specs.Texts.{Begins};
 ghost use Rattle.cue_print.specs.Expressions.{text};
-ghost use Rattle.cue_print.specs.Spelled.{joined, term_text, is_compound, terms_text, operand_text};
+ghost use Rattle.cue_print.specs.Spelled.{joined, enclosed, term_text, is_compound};
+ghost use Rattle.cue_print.specs.Spelled.{terms_text, operand_text};
 ghost use Rattle.cue_print.specs.Terms.{truth_terms, piece_term, text_terms, terms_of};
 ghost use Rattle.cue_print.specs.TermOf.{term_of};
 
 use crate::term::{Term, is_conjunction, push_term};
-use crate::writer::separate;
+use crate::writer::{Scratch, separate};
+use cue_device::TextSink;
 use cue_lattice::{Memory, Text};
 use cue_row::Scalars;
 use std::alloc::Global;
@@ -101,41 +105,71 @@ fn add_listed<'a>(terms: &mut Vec<Term<'a>>, texts: &'a [Text]) -> Result<(), Me
 
 /// Writes a disjunction. That of no terms lets nothing stand.
 #[tactic(auto, unfolding(crate::specs::Spelled::terms_text))]
-pub(crate) fn push_terms(out: &mut String, terms: &[Term]) -> Result<(), Memory>
-    ensures { OnOk result (string_bytes out.new
-        ≡ string_bytes out.old ++ terms_text (map term_of terms.now)) }
+pub(crate) fn push_terms<S: TextSink>(
+    scratch: &mut Scratch,
+    out: &mut S,
+    terms: &[Term],
+) -> Result<(), S::Halt>
+    ensures told { OnOk result (Appends (S.taken out.old) (S.taken out.new)
+        (terms_text (map term_of terms.now))) }
+    ensures begun { OnErr result (Begins (S.taken out.old) (S.taken out.new)
+        (terms_text (map term_of terms.now))) }
 {
     if terms.is_empty() {
-        out.push_str("_|_")?;
+        out.put("_|_")?;
         return Ok(());
     }
-    push_each(out, terms)
+    push_each(scratch, out, terms)
 }
 
 /// Writes terms with `|` between them.
-fn push_each(out: &mut String, terms: &[Term]) -> Result<(), Memory>
-    ensures { OnOk result (string_bytes out.new
-        ≡ string_bytes out.old ++ joined (codes " | ") (map term_text (map term_of terms.now))) }
+fn push_each<S: TextSink>(scratch: &mut Scratch, out: &mut S, terms: &[Term]) -> Result<(), S::Halt>
+    ensures told { OnOk result (Appends (S.taken out.old) (S.taken out.new)
+        (joined (codes " | ") (map term_text (map term_of terms.now)))) }
+    ensures begun { OnErr result (Begins (S.taken out.old) (S.taken out.new)
+        (joined (codes " | ") (map term_text (map term_of terms.now)))) }
 {
     for (i, term) in terms.iter().enumerate() {
         separate(out, " | ", i == 0)?;
-        push_term(out, term)?;
+        push_term(scratch, out, term)?;
     }
     Ok(())
 }
 
 /// Writes a disjunction as one operand: in parentheses, where it has several terms or one with `&`.
 #[tactic(auto, unfolding(crate::specs::Spelled::operand_text))]
-pub(crate) fn push_operand(out: &mut String, terms: &[Term]) -> Result<(), Memory>
-    ensures { OnOk result (string_bytes out.new
-        ≡ string_bytes out.old ++ operand_text (map term_of terms.now)) }
+pub(crate) fn push_operand<S: TextSink>(
+    scratch: &mut Scratch,
+    out: &mut S,
+    terms: &[Term],
+) -> Result<(), S::Halt>
+    ensures told { OnOk result (Appends (S.taken out.old) (S.taken out.new)
+        (operand_text (map term_of terms.now))) }
+    ensures begun { OnErr result (Begins (S.taken out.old) (S.taken out.new)
+        (operand_text (map term_of terms.now))) }
 {
-    if !is_compound(terms) {
-        return push_terms(out, terms);
+    if is_compound(terms) {
+        push_enclosed(scratch, out, terms)
+    } else {
+        push_terms(scratch, out, terms)
     }
-    out.push('(')?;
-    push_terms(out, terms)?;
-    out.push(')')?;
+}
+
+/// Writes a disjunction in parentheses.
+#[tactic(auto, using(crate::proofs::Turns::turns))]
+fn push_enclosed<S: TextSink>(
+    scratch: &mut Scratch,
+    out: &mut S,
+    terms: &[Term],
+) -> Result<(), S::Halt>
+    ensures told { OnOk result (Appends (S.taken out.old) (S.taken out.new)
+        (enclosed (codes "(") (terms_text (map term_of terms.now)) (codes ")"))) }
+    ensures begun { OnErr result (Begins (S.taken out.old) (S.taken out.new)
+        (enclosed (codes "(") (terms_text (map term_of terms.now)) (codes ")"))) }
+{
+    out.put("(")?;
+    push_terms(scratch, out, terms)?;
+    out.put(")")?;
     Ok(())
 }
 

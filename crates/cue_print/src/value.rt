@@ -1,92 +1,114 @@
 //! What places are printed as.
-ghost use Rattle.std.specs.Prelude.{◌≡◌, ◌++◌, ◌||◌, is_some, nat_lt, codes, OnOk, string_bytes};
+ghost use Rattle.std.specs.Prelude.{◌≡◌, ◌++◌, ◌||◌, is_some, nat_lt, codes, OnErr, OnOk};
+ghost use Rattle.std.specs.Io.KnownBytes.{Appends};
 ghost use Rattle.std.specs.Option.{option_map};
+ghost use Rattle.cue_device.specs.Texts.{Begins};
 ghost use Rattle.cue_table.specs.Tree.{below, rest_of, row_of};
 ghost use Rattle.cue_row.specs.Quoted.{quoted};
-ghost use Rattle.cue_print.specs.Expressions.{top, all, no_parts};
+ghost use Rattle.cue_print.specs.Expressions.{top};
 ghost use Rattle.cue_print.specs.Spelled.{joined, mark_text, value_text, field_texts};
-ghost use Rattle.cue_print.specs.Spelled.{element_texts};
-ghost use Rattle.cue_print.specs.Printed.{struct_part, list_part, nothing_value, elements, inside};
-ghost use Rattle.cue_print.specs.Printed.{has_field, level_at};
-ghost use Rattle.cue_print.specs.Printed.{value_of, fields_below, element_below, element_at};
-ghost use Rattle.cue_print.specs.Printed.{rest_value};
-ghost use Rattle.cue_print.specs.Writing.{beside_text, struct_before, opening, is_exact};
-ghost use Rattle.cue_print.specs.Writing.{ending_text, longest_text, list_before};
+ghost use Rattle.cue_print.specs.Spelled.{element_texts, struct_text, list_text};
+ghost use Rattle.cue_print.specs.Printed.{elements, inside, has_field, level_at};
+ghost use Rattle.cue_print.specs.Printed.{value_of, fields_below, rest_value};
+ghost use Rattle.cue_print.specs.Writing.{fields_at, element_of, further_at};
+ghost use Rattle.cue_print.specs.Writing.{beside_text, struct_before, opening, closing, is_exact};
+ghost use Rattle.cue_print.specs.Writing.{ending_text, longest_text, list_before, told_text, lead};
+ghost use Rattle.cue_print.specs.Writing.{closed_text, declared_text, written_struct, written_list};
+ghost use Rattle.cue_print.specs.Writing.{written_nothing, conjoined};
 
 use crate::scalar::push_scalar;
-use crate::writer::separate;
-use cue_lattice::{Memory, Narrow, Text};
-use cue_row::{Level, Row, Step, push_quoted};
+use crate::writer::{Scratch, push_text, separate};
+use cue_device::TextSink;
+use cue_lattice::{Narrow, Text};
+use cue_row::{Level, Row, Step};
 use cue_table::Branch;
-use std::alloc::Global;
 
 /// Writes the value of a place.
 #[cycle(walk)]
-pub(crate) fn push_value(
-    alloc: Global,
-    out: &mut String,
+pub(crate) fn push_value<S: TextSink>(
+    scratch: &mut Scratch,
+    out: &mut S,
     branch: &Branch<Row>,
-) -> Result<(), Memory>
-    ensures { OnOk result (string_bytes out.new
-        ≡ string_bytes out.old ++ value_text (value_of branch.now)) }
+) -> Result<(), S::Halt>
+    ensures told { OnOk result (Appends (S.taken out.old) (S.taken out.new)
+        (value_text (value_of branch.now))) }
+    ensures begun { OnErr result (Begins (S.taken out.old) (S.taken out.new)
+        (value_text (value_of branch.now))) }
 {
     let Some(row) = branch.row() else {
-        out.push_str("_")?;
-        return Ok(());
+        return out.put("_");
     };
     match (row.struct_ok(), row.list_ok()) {
-        (true, true) => {
-            out.push_str("_")?;
-            Ok(())
-        }
-        (true, false) => push_struct(alloc, out, row, branch),
-        (false, true) => push_list(alloc, out, row, branch),
+        (true, true) => out.put("_"),
+        (true, false) => push_struct(scratch, out, row, branch),
+        (false, true) => push_list(scratch, out, row, branch),
         (false, false) => {
             row.known();
             if row.has_no_scalar() {
-                return push_nothing(alloc, out, row, branch);
+                return push_nothing(scratch, out, row, branch);
             }
-            push_scalar(alloc, out, row)
+            push_scalar(scratch, out, row)
         }
     }
 }
 
 /// Writes nothing, behind what is left out below it.
 #[cycle(walk)]
-fn push_nothing(
-    alloc: Global,
-    out: &mut String,
+#[tactic(auto, using(crate::proofs::Turns::turns))]
+fn push_nothing<S: TextSink>(
+    scratch: &mut Scratch,
+    out: &mut S,
     row: &Row,
     branch: &Branch<Row>,
-) -> Result<(), Memory>
-    ensures { OnOk result (string_bytes out.new ≡ string_bytes out.old
-        ++ value_text (nothing_value row.now (fields_below (below branch.now))
-        (element_at (rest_of branch.now) (element_below (below branch.now)))
-        (rest_value (rest_of branch.now)))) }
+) -> Result<(), S::Halt>
+    ensures told { OnOk result (Appends (S.taken out.old) (S.taken out.new)
+        (written_nothing row.now branch.now)) }
+    ensures begun { OnErr result (Begins (S.taken out.old) (S.taken out.new)
+        (written_nothing row.now branch.now)) }
 {
-    push_struct_before(alloc, out, row, branch)?;
-    push_list_before(alloc, out, row, branch)?;
-    out.push_str("_|_")?;
+    push_struct_before(scratch, out, row, branch)?;
+    push_list_before(scratch, out, row, branch)?;
+    out.put("_|_")?;
     Ok(())
 }
 
 /// Writes a struct in front of other parts, where labels are left out or a label stands below.
 #[cycle(walk)]
-#[tactic(auto, unfolding(crate::specs::Writing::struct_before))]
-fn push_struct_before(
-    alloc: Global,
-    out: &mut String,
+#[tactic(auto, unfolding(crate::specs::Writing::struct_before), using(crate::proofs::Turns::one_or_none))]
+fn push_struct_before<S: TextSink>(
+    scratch: &mut Scratch,
+    out: &mut S,
     row: &Row,
     branch: &Branch<Row>,
-) -> Result<(), Memory>
-    ensures { OnOk result (string_bytes out.new ≡ string_bytes out.old
-        ++ struct_before row.now (fields_below (below branch.now))) }
+) -> Result<(), S::Halt>
+    ensures told { OnOk result (Appends (S.taken out.old) (S.taken out.new)
+        (struct_before row.now (fields_at branch.now))) }
+    ensures begun { OnErr result (Begins (S.taken out.old) (S.taken out.new)
+        (struct_before row.now (fields_at branch.now))) }
 {
-    if !has_struct_part(row, branch) {
-        return Ok(());
+    if has_struct_part(row, branch) {
+        push_struct_in_front(scratch, out, row, branch)
+    } else {
+        Ok(())
     }
-    push_struct(alloc, out, row, branch)?;
-    out.push_str(" & ")?;
+}
+
+/// Writes a struct in front of another part.
+#[cycle(walk)]
+#[tactic(auto, using(crate::proofs::Turns::turns))]
+fn push_struct_in_front<S: TextSink>(
+    scratch: &mut Scratch,
+    out: &mut S,
+    row: &Row,
+    branch: &Branch<Row>,
+) -> Result<(), S::Halt>
+    ensures told { OnOk result (Appends (S.taken out.old) (S.taken out.new)
+        (written_struct row.now.labels (fields_at branch.now) ++ codes " & ")) }
+    ensures begun { OnErr result (Begins (S.taken out.old) (S.taken out.new)
+        (written_struct row.now.labels (fields_at branch.now) ++ codes " & ")) }
+{
+    push_struct(scratch, out, row, branch)?;
+    out.put(" & ")?;
     Ok(())
 }
 
@@ -102,22 +124,43 @@ fn has_struct_part(row: &Row, branch: &Branch<Row>) -> bool
 
 /// Writes a list in front of other parts, where lengths are left out or further elements are told.
 #[cycle(walk)]
-#[tactic(auto, unfolding(crate::specs::Writing::list_before))]
-fn push_list_before(
-    alloc: Global,
-    out: &mut String,
+#[tactic(auto, unfolding(crate::specs::Writing::list_before), using(crate::proofs::Turns::one_or_none))]
+fn push_list_before<S: TextSink>(
+    scratch: &mut Scratch,
+    out: &mut S,
     row: &Row,
     branch: &Branch<Row>,
-) -> Result<(), Memory>
-    ensures { OnOk result (string_bytes out.new ≡ string_bytes out.old
-        ++ list_before row.now (element_at (rest_of branch.now) (element_below (below branch.now)))
-        (rest_value (rest_of branch.now))) }
+) -> Result<(), S::Halt>
+    ensures told { OnOk result (Appends (S.taken out.old) (S.taken out.new)
+        (list_before row.now (element_of branch.now) (further_at branch.now))) }
+    ensures begun { OnErr result (Begins (S.taken out.old) (S.taken out.new)
+        (list_before row.now (element_of branch.now) (further_at branch.now))) }
 {
-    if !has_list_part(row, branch) {
-        return Ok(());
+    if has_list_part(row, branch) {
+        push_list_in_front(scratch, out, row, branch)
+    } else {
+        Ok(())
     }
-    push_list(alloc, out, row, branch)?;
-    out.push_str(" & ")?;
+}
+
+/// Writes a list in front of another part.
+#[cycle(walk)]
+#[tactic(auto, using(crate::proofs::Turns::turns))]
+fn push_list_in_front<S: TextSink>(
+    scratch: &mut Scratch,
+    out: &mut S,
+    row: &Row,
+    branch: &Branch<Row>,
+) -> Result<(), S::Halt>
+    ensures told { OnOk result (Appends (S.taken out.old) (S.taken out.new)
+        (written_list row.now.least row.now.most (element_of branch.now)
+        (further_at branch.now) ++ codes " & ")) }
+    ensures begun { OnErr result (Begins (S.taken out.old) (S.taken out.new)
+        (written_list row.now.least row.now.most (element_of branch.now)
+        (further_at branch.now) ++ codes " & ")) }
+{
+    push_list(scratch, out, row, branch)?;
+    out.put(" & ")?;
     Ok(())
 }
 
@@ -150,130 +193,215 @@ fn has_field(branch: &Branch<Row>) -> bool
 /// Writes a struct: all fields below, or, where only some labels may stand, a closed struct with a
 /// field for each of them, and the other fields beside it.
 #[cycle(walk)]
-fn push_struct(
-    alloc: Global,
-    out: &mut String,
+fn push_struct<S: TextSink>(
+    scratch: &mut Scratch,
+    out: &mut S,
     row: &Row,
     branch: &Branch<Row>,
-) -> Result<(), Memory>
-    ensures { OnOk result (string_bytes out.new ≡ string_bytes out.old
-        ++ value_text (all (struct_part row.now.labels
-        (fields_below (below branch.now)) no_parts))) }
+) -> Result<(), S::Halt>
+    ensures told { OnOk result (Appends (S.taken out.old) (S.taken out.new)
+        (written_struct row.now.labels (fields_at branch.now))) }
+    ensures begun { OnErr result (Begins (S.taken out.old) (S.taken out.new)
+        (written_struct row.now.labels (fields_at branch.now))) }
 {
     match row.labels() {
-        None => {
-            out.push_str("{")?;
-            push_fields(alloc, out, branch)?;
-            out.push_str("}")?;
-            Ok(())
-        }
-        Some(labels) => {
-            out.push_str("close({")?;
-            push_inside(alloc, out, labels, branch)?;
-            out.push_str("})")?;
-            push_outside(alloc, out, row, branch)
-        }
+        None => push_open_struct(scratch, out, branch),
+        Some(labels) => push_closed_struct(scratch, out, row, labels, branch),
     }
+}
+
+/// Writes a struct of all fields below a place.
+#[cycle(walk)]
+#[tactic(auto, using(crate::proofs::Turns::turns))]
+fn push_open_struct<S: TextSink>(
+    scratch: &mut Scratch,
+    out: &mut S,
+    branch: &Branch<Row>,
+) -> Result<(), S::Halt>
+    ensures told { OnOk result (Appends (S.taken out.old) (S.taken out.new)
+        (struct_text (field_texts (fields_at branch.now)))) }
+    ensures begun { OnErr result (Begins (S.taken out.old) (S.taken out.new)
+        (struct_text (field_texts (fields_at branch.now)))) }
+{
+    out.put("{")?;
+    push_fields(scratch, out, branch)?;
+    out.put("}")?;
+    Ok(())
+}
+
+/// Writes a closed struct of the labels that may stand, and the other fields beside it.
+#[cycle(walk)]
+#[tactic(auto, using(crate::proofs::Turns::turns))]
+fn push_closed_struct<S: TextSink>(
+    scratch: &mut Scratch,
+    out: &mut S,
+    row: &Row,
+    labels: &[Text],
+    branch: &Branch<Row>,
+) -> Result<(), S::Halt>
+    ensures told { OnOk result (Appends (S.taken out.old) (S.taken out.new)
+        (closed_text labels.now row.now.labels (fields_at branch.now))) }
+    ensures begun { OnErr result (Begins (S.taken out.old) (S.taken out.new)
+        (closed_text labels.now row.now.labels (fields_at branch.now))) }
+{
+    out.put("close({")?;
+    push_inside(scratch, out, labels, branch)?;
+    out.put("})")?;
+    push_outside(scratch, out, row, branch)?;
+    Ok(())
 }
 
 /// Writes all fields below a place.
 #[cycle(walk)]
-fn push_fields(alloc: Global, out: &mut String, branch: &Branch<Row>) -> Result<(), Memory>
-    ensures { OnOk result (string_bytes out.new ≡ string_bytes out.old
-        ++ joined (codes ", ") (field_texts (fields_below (below branch.now)))) }
+fn push_fields<S: TextSink>(
+    scratch: &mut Scratch,
+    out: &mut S,
+    branch: &Branch<Row>,
+) -> Result<(), S::Halt>
+    ensures told { OnOk result (Appends (S.taken out.old) (S.taken out.new)
+        (joined (codes ", ") (field_texts (fields_at branch.now)))) }
+    ensures begun { OnErr result (Begins (S.taken out.old) (S.taken out.new)
+        (joined (codes ", ") (field_texts (fields_at branch.now)))) }
 {
     let mut is_first = true;
     for (label, field) in branch.labels() {
         separate(out, ", ", is_first)?;
-        push_field(alloc, out, label, &field)?;
+        push_field(scratch, out, label, &field)?;
         is_first = false;
     }
     Ok(())
 }
 
-/// Writes a field for each label, an optional one of anything where no row has it.
+/// Writes a field for each label.
 #[cycle(walk)]
-fn push_inside(
-    alloc: Global,
-    out: &mut String,
+fn push_inside<S: TextSink>(
+    scratch: &mut Scratch,
+    out: &mut S,
     labels: &[Text],
     branch: &Branch<Row>,
-) -> Result<(), Memory>
-    ensures { OnOk result (string_bytes out.new ≡ string_bytes out.old
-        ++ joined (codes ", ") (field_texts (inside labels.now
-        (fields_below (below branch.now))))) }
+) -> Result<(), S::Halt>
+    ensures told { OnOk result (Appends (S.taken out.old) (S.taken out.new)
+        (joined (codes ", ") (field_texts (inside labels.now (fields_at branch.now))))) }
+    ensures begun { OnErr result (Begins (S.taken out.old) (S.taken out.new)
+        (joined (codes ", ") (field_texts (inside labels.now (fields_at branch.now))))) }
 {
     for (i, label) in labels.iter().enumerate() {
         separate(out, ", ", i == 0)?;
-        match branch.find(&Step::Label(label.copy(alloc)?)) {
-            None => push_free_field(out, label)?,
-            Some(field) => push_field(alloc, out, label.as_str(), &field)?,
-        }
+        push_declared(scratch, out, label, branch)?;
     }
     Ok(())
 }
 
+/// Writes the field of a label, an optional one of anything where no row has it.
+#[cycle(walk)]
+fn push_declared<S: TextSink>(
+    scratch: &mut Scratch,
+    out: &mut S,
+    label: &Text,
+    branch: &Branch<Row>,
+) -> Result<(), S::Halt>
+    ensures told { OnOk result (Appends (S.taken out.old) (S.taken out.new)
+        (declared_text label.now branch.now)) }
+    ensures begun { OnErr result (Begins (S.taken out.old) (S.taken out.new)
+        (declared_text label.now branch.now)) }
+{
+    let step = Step::Label(label.copy(scratch.alloc)?);
+    match branch.find(&step) {
+        None => push_free_field(scratch, out, label),
+        Some(field) => push_field(scratch, out, label.as_str(), &field),
+    }
+}
+
 /// Writes a struct of the fields whose labels may not stand, where there are any.
 #[cycle(walk)]
-fn push_outside(
-    alloc: Global,
-    out: &mut String,
+fn push_outside<S: TextSink>(
+    scratch: &mut Scratch,
+    out: &mut S,
     row: &Row,
     branch: &Branch<Row>,
-) -> Result<(), Memory>
-    ensures { OnOk result (string_bytes out.new ≡ string_bytes out.old
-        ++ beside_text row.now.labels (fields_below (below branch.now))) }
+) -> Result<(), S::Halt>
+    ensures told { OnOk result (Appends (S.taken out.old) (S.taken out.new)
+        (beside_text row.now.labels (fields_at branch.now))) }
+    ensures begun { OnErr result (Begins (S.taken out.old) (S.taken out.new)
+        (beside_text row.now.labels (fields_at branch.now))) }
 {
     let mut is_first = true;
     for (label, field) in branch.labels() {
         if !row.allows(label) {
             push_opening(out, is_first)?;
-            push_field(alloc, out, label, &field)?;
+            push_field(scratch, out, label, &field)?;
             is_first = false;
         }
     }
+    push_closing(out, is_first)?;
+    Ok(())
+}
+
+/// Writes what stands behind the fields whose labels may not stand, where there are any.
+#[tactic(auto, using(crate::proofs::Turns::one_or_none))]
+fn push_closing<S: TextSink>(out: &mut S, is_first: bool) -> Result<(), S::Halt>
+    ensures told { OnOk result (Appends (S.taken out.old) (S.taken out.new)
+        (closing is_first)) }
+    ensures begun { OnErr result (Begins (S.taken out.old) (S.taken out.new)
+        (closing is_first)) }
+{
     if !is_first {
-        out.push_str("}")?;
+        out.put("}")?;
     }
     Ok(())
 }
 
 /// Writes what stands before a field whose label may not stand.
-fn push_opening(out: &mut String, is_first: bool) -> Result<(), Memory>
-    ensures { OnOk result (string_bytes out.new ≡ string_bytes out.old ++ opening is_first) }
+fn push_opening<S: TextSink>(out: &mut S, is_first: bool) -> Result<(), S::Halt>
+    ensures told { OnOk result (Appends (S.taken out.old) (S.taken out.new)
+        (opening is_first)) }
+    ensures begun { OnErr result (Begins (S.taken out.old) (S.taken out.new)
+        (opening is_first)) }
 {
     if is_first {
-        out.push_str(" & {")?;
+        out.put(" & {")?;
     } else {
-        out.push_str(", ")?;
+        out.put(", ")?;
     }
     Ok(())
 }
 
 /// Writes the field of a label.
 #[cycle(walk)]
-pub(crate) fn push_field(
-    alloc: Global,
-    out: &mut String,
+#[tactic(auto, using(crate::proofs::Turns::turns))]
+pub(crate) fn push_field<S: TextSink>(
+    scratch: &mut Scratch,
+    out: &mut S,
     label: &str,
     field: &Branch<Row>,
-) -> Result<(), Memory>
-    ensures { OnOk result (string_bytes out.new ≡ string_bytes out.old
-        ++ (quoted label.now ++
-        (mark_text (level_at (row_of field.now)) ++ value_text (value_of field.now)))) }
+) -> Result<(), S::Halt>
+    ensures told { OnOk result (Appends (S.taken out.old) (S.taken out.new)
+        (quoted label.now
+        ++ (mark_text (level_at (row_of field.now)) ++ value_text (value_of field.now)))) }
+    ensures begun { OnErr result (Begins (S.taken out.old) (S.taken out.new)
+        (quoted label.now
+        ++ (mark_text (level_at (row_of field.now)) ++ value_text (value_of field.now)))) }
 {
-    push_quoted(out, label)?;
+    push_text(scratch, out, label)?;
     push_mark(out, level_of(field.row()))?;
-    push_value(alloc, out, field)
+    push_value(scratch, out, field)?;
+    Ok(())
 }
 
 /// Writes an optional field of anything.
-fn push_free_field(out: &mut String, label: &Text) -> Result<(), Memory>
-    ensures { OnOk result (string_bytes out.new
-        ≡ string_bytes out.old ++ (quoted label.now ++ codes "?: _")) }
+#[tactic(auto, using(crate::proofs::Turns::turns))]
+fn push_free_field<S: TextSink>(
+    scratch: &mut Scratch,
+    out: &mut S,
+    label: &Text,
+) -> Result<(), S::Halt>
+    ensures told { OnOk result (Appends (S.taken out.old) (S.taken out.new)
+        (quoted label.now ++ codes "?: _")) }
+    ensures begun { OnErr result (Begins (S.taken out.old) (S.taken out.new)
+        (quoted label.now ++ codes "?: _")) }
 {
-    push_quoted(out, label.as_str())?;
-    out.push_str("?: _")?;
+    push_text(scratch, out, label.as_str())?;
+    out.put("?: _")?;
     Ok(())
 }
 
@@ -288,10 +416,13 @@ fn level_of(row: Option<&Row>) -> Level
 }
 
 /// Writes what marks the label of a level.
-fn push_mark(out: &mut String, level: Level) -> Result<(), Memory>
-    ensures { OnOk result (string_bytes out.new ≡ string_bytes out.old ++ mark_text level) }
+fn push_mark<S: TextSink>(out: &mut S, level: Level) -> Result<(), S::Halt>
+    ensures told { OnOk result (Appends (S.taken out.old) (S.taken out.new)
+        (mark_text level)) }
+    ensures begun { OnErr result (Begins (S.taken out.old) (S.taken out.new)
+        (mark_text level)) }
 {
-    out.push_str(match level {
+    out.put(match level {
         Level::Optional => "?: ",
         Level::Required => "!: ",
         Level::Given => ": ",
@@ -301,18 +432,27 @@ fn push_mark(out: &mut String, level: Level) -> Result<(), Memory>
 
 /// Writes a list: its elements, and what tells its lengths.
 #[cycle(walk)]
-fn push_list(alloc: Global, out: &mut String, row: &Row, branch: &Branch<Row>) -> Result<(), Memory>
-    ensures { OnOk result (string_bytes out.new ≡ string_bytes out.old
-        ++ value_text (all (list_part row.now.least row.now.most
-        (element_at (rest_of branch.now) (element_below (below branch.now)))
-        (rest_value (rest_of branch.now)) no_parts))) }
+#[tactic(auto, using(crate::proofs::Turns::turns))]
+fn push_list<S: TextSink>(
+    scratch: &mut Scratch,
+    out: &mut S,
+    row: &Row,
+    branch: &Branch<Row>,
+) -> Result<(), S::Halt>
+    ensures told { OnOk result (Appends (S.taken out.old) (S.taken out.new)
+        (written_list row.now.least row.now.most (element_of branch.now)
+        (further_at branch.now))) }
+    ensures begun { OnErr result (Begins (S.taken out.old) (S.taken out.new)
+        (written_list row.now.least row.now.most (element_of branch.now)
+        (further_at branch.now))) }
 {
     let is_exact = is_exact(row, branch);
-    out.push_str("[")?;
-    push_elements(alloc, out, row.least(), branch)?;
-    push_ending(alloc, out, row.least(), is_exact, branch)?;
-    out.push_str("]")?;
-    push_longest(out, row.most(), is_exact)
+    out.put("[")?;
+    push_elements(scratch, out, row.least(), branch)?;
+    push_ending(scratch, out, row.least(), is_exact, branch)?;
+    out.put("]")?;
+    push_longest(out, row.most(), is_exact)?;
+    Ok(())
 }
 
 /// Whether the elements alone tell a list: it has one length, and nothing is said of further
@@ -328,75 +468,141 @@ fn is_exact(row: &Row, branch: &Branch<Row>) -> bool
 
 /// Writes what ends the elements of a list, by their number and whether they alone tell it.
 #[cycle(walk)]
-fn push_ending(
-    alloc: Global,
-    out: &mut String,
+#[tactic(auto, using(crate::proofs::Turns::one_or_none))]
+fn push_ending<S: TextSink>(
+    scratch: &mut Scratch,
+    out: &mut S,
     count: u32,
     is_exact: bool,
     branch: &Branch<Row>,
-) -> Result<(), Memory>
-    ensures { OnOk result (string_bytes out.new ≡ string_bytes out.old
-        ++ ending_text count is_exact (rest_value (rest_of branch.now))) }
+) -> Result<(), S::Halt>
+    ensures told { OnOk result (Appends (S.taken out.old) (S.taken out.new)
+        (ending_text count is_exact (further_at branch.now))) }
+    ensures begun { OnErr result (Begins (S.taken out.old) (S.taken out.new)
+        (ending_text count is_exact (further_at branch.now))) }
 {
     if is_exact {
-        return Ok(());
+        Ok(())
+    } else {
+        push_dots(scratch, out, count == 0, branch)
     }
-    separate(out, ", ", count == 0)?;
-    out.push_str("...")?;
+}
+
+/// Writes `...` and what each further element is, behind elements or first of all.
+#[cycle(walk)]
+#[tactic(auto, using(crate::proofs::Turns::turns))]
+fn push_dots<S: TextSink>(
+    scratch: &mut Scratch,
+    out: &mut S,
+    is_first: bool,
+    branch: &Branch<Row>,
+) -> Result<(), S::Halt>
+    ensures told { OnOk result (Appends (S.taken out.old) (S.taken out.new)
+        (lead (codes ", ") is_first ++ (codes "..." ++ told_text (further_at branch.now)))) }
+    ensures begun { OnErr result (Begins (S.taken out.old) (S.taken out.new)
+        (lead (codes ", ") is_first ++ (codes "..." ++ told_text (further_at branch.now)))) }
+{
+    separate(out, ", ", is_first)?;
+    out.put("...")?;
+    push_told(scratch, out, branch)?;
+    Ok(())
+}
+
+/// Writes what each further element is, where something is said of it.
+#[cycle(walk)]
+fn push_told<S: TextSink>(
+    scratch: &mut Scratch,
+    out: &mut S,
+    branch: &Branch<Row>,
+) -> Result<(), S::Halt>
+    ensures told { OnOk result (Appends (S.taken out.old) (S.taken out.new)
+        (told_text (further_at branch.now))) }
+    ensures begun { OnErr result (Begins (S.taken out.old) (S.taken out.new)
+        (told_text (further_at branch.now))) }
+{
     match branch.rest() {
         None => Ok(()),
-        Some(rest) => push_value(alloc, out, &rest),
+        Some(rest) => push_value(scratch, out, &rest),
     }
 }
 
 /// Writes as many elements of a place.
 #[cycle(walk)]
-fn push_elements(
-    alloc: Global,
-    out: &mut String,
+fn push_elements<S: TextSink>(
+    scratch: &mut Scratch,
+    out: &mut S,
     count: u32,
     branch: &Branch<Row>,
-) -> Result<(), Memory>
-    ensures { OnOk result (string_bytes out.new ≡ string_bytes out.old
-        ++ joined (codes ", ") (element_texts (elements count
-        (element_at (rest_of branch.now) (element_below (below branch.now)))))) }
+) -> Result<(), S::Halt>
+    ensures told { OnOk result (Appends (S.taken out.old) (S.taken out.new)
+        (joined (codes ", ") (element_texts (elements count (element_of branch.now))))) }
+    ensures begun { OnErr result (Begins (S.taken out.old) (S.taken out.new)
+        (joined (codes ", ") (element_texts (elements count (element_of branch.now))))) }
 {
     for number in 0..count {
         separate(out, ", ", number == 0)?;
-        match branch.find(&Step::Index(number)) {
-            None => out.push_str("_")?,
-            Some(element) => push_value(alloc, out, &element)?,
-        }
+        push_element(scratch, out, number, branch)?;
     }
     Ok(())
 }
 
-/// Writes a list of the greatest length behind others, unless the elements alone tell the list.
-#[tactic(auto, unfolding(crate::specs::Writing::longest_text))]
-fn push_longest(out: &mut String, most: Option<u32>, is_exact: bool) -> Result<(), Memory>
-    ensures { OnOk result (string_bytes out.new
-        ≡ string_bytes out.old ++ longest_text most is_exact) }
+/// Writes the element of a number.
+#[cycle(walk)]
+fn push_element<S: TextSink>(
+    scratch: &mut Scratch,
+    out: &mut S,
+    number: u32,
+    branch: &Branch<Row>,
+) -> Result<(), S::Halt>
+    ensures told { OnOk result (Appends (S.taken out.old) (S.taken out.new)
+        (value_text (element_of branch.now number))) }
+    ensures begun { OnErr result (Begins (S.taken out.old) (S.taken out.new)
+        (value_text (element_of branch.now number))) }
 {
-    let Some(most) = most else {
-        return Ok(());
-    };
-    if is_exact {
-        return Ok(());
+    match branch.find(&Step::Index(number)) {
+        None => out.put("_"),
+        Some(element) => push_value(scratch, out, &element),
     }
-    out.push_str(" & [")?;
-    push_free_elements(out, most)?;
-    out.push_str("]")?;
+}
+
+/// Writes a list of the greatest length behind others, unless the elements alone tell the list.
+#[tactic(auto, unfolding(crate::specs::Writing::longest_text), using(crate::proofs::Turns::one_or_none))]
+fn push_longest<S: TextSink>(out: &mut S, most: Option<u32>, is_exact: bool) -> Result<(), S::Halt>
+    ensures told { OnOk result (Appends (S.taken out.old) (S.taken out.new)
+        (longest_text most is_exact)) }
+    ensures begun { OnErr result (Begins (S.taken out.old) (S.taken out.new)
+        (longest_text most is_exact)) }
+{
+    match most {
+        Some(most) if !is_exact => push_free_list(out, most),
+        _ => Ok(()),
+    }
+}
+
+/// Writes a list of as many free elements behind others.
+#[tactic(auto, using(crate::proofs::Turns::turns))]
+fn push_free_list<S: TextSink>(out: &mut S, count: u32) -> Result<(), S::Halt>
+    ensures told { OnOk result (Appends (S.taken out.old) (S.taken out.new)
+        (conjoined (list_text (element_texts (elements count (λ n. top)))))) }
+    ensures begun { OnErr result (Begins (S.taken out.old) (S.taken out.new)
+        (conjoined (list_text (element_texts (elements count (λ n. top)))))) }
+{
+    out.put(" & [")?;
+    push_free_elements(out, count)?;
+    out.put("]")?;
     Ok(())
 }
 
 /// Writes as many free elements.
-fn push_free_elements(out: &mut String, count: u32) -> Result<(), Memory>
-    ensures { OnOk result (string_bytes out.new ≡ string_bytes out.old
-        ++ joined (codes ", ") (element_texts (elements count (λ n. top)))) }
+fn push_free_elements<S: TextSink>(out: &mut S, count: u32) -> Result<(), S::Halt>
+    ensures told { OnOk result (Appends (S.taken out.old) (S.taken out.new)
+        (joined (codes ", ") (element_texts (elements count (λ n. top))))) }
+    ensures begun { OnErr result (Begins (S.taken out.old) (S.taken out.new)
+        (joined (codes ", ") (element_texts (elements count (λ n. top))))) }
 {
     for number in 0..count {
         separate(out, ", ", number == 0)?;
-        out.push_str("_")?;
+        out.put("_")?;
     }
     Ok(())
 }

@@ -1,4 +1,3 @@
-use Rattle.std.proofs.Common.{◌++◌, string_bytes}
 use Rattle.std.specs.List.{flat_map}
 use Rattle.cue_table.specs.Tree.{below}
 use Rattle.cue_print.specs.Printed.{fields_below}
@@ -8,6 +7,6 @@ use Rattle.cue_print.proofs.Walk.{IsWriting}
 use Rattle.cue_print.proofs.file.push_lines.Given as goal
 
 abbrev pub invariant-loop-label : goal.invariant-loop-label
-invariant-loop-label l =
-    IsWriting l.branch l.label-iterator (string_bytes l.out) (flat_map line (field_texts (fields_of l.label-iterator)))
-    (string_bytes l.initial.out ++ flat_map line (field_texts (fields_below (below l.branch))))
+invariant-loop-label g l =
+    IsWriting l.branch l.label-iterator (g.S.TextSink.taken l.initial.out) (g.S.TextSink.taken l.out) (flat_map line (field_texts (fields_of l.label-iterator)))
+    (flat_map line (field_texts (fields_below (below l.branch))))

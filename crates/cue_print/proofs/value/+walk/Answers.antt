@@ -1,218 +1,353 @@
-use Rattle.std.proofs.Common.{◌≡◌, ℕ, ◌+◌, ◌++◌, [], ◌∷◌, List, Bool, drop, sym, ap, ◌∙◌, string_bytes, arith, nat_eq, false, true}
+use Rattle.std.proofs.Common.{◌≡◌, ◌<◌, ◌∙◌, [], true, false, Some, nat_eq, refl, sym, ap, arith}
 use Rattle.std.specs.Prelude.{codes}
 use Rattle.std.specs.Option.{option_map}
 use Rattle.std.proofs.lemmas.Bool.{false≢true}
-use Rattle.std.proofs.lemmas.List.{append-nil, drop_more, drop_all}
+use Rattle.std.proofs.lemmas.List.{drop_all}
+use Rattle.cue_device.proofs.Texts.{appends_none, begins_now, begins_later}
+use Rattle.cue_device.proofs.Telling.{on_err, told_as, begun_as, appends_as, begins_as, tells_first, tells_next, tells_part, tells_all}
 use Rattle.cue_lattice.specs.Path.{label, index}
-use Rattle.cue_row.specs.declared.level.Level.TheVariants.{Optional}
-use Rattle.cue_row.specs.Quoted.{quoted}
 use Rattle.cue_table.specs.Tree.{below, rest_of, row_of, step_into}
 use Rattle.cue_table.specs.Walks.{found_smaller}
-use Rattle.cue_print.specs.Expressions.{top}
-use Rattle.cue_print.specs.Printed.{elements, level_at, value_of, inside, fields_below, element_below, element_at, rest_value}
-use Rattle.cue_print.specs.Spelled.{joined, mark_text, value_text, element_texts, field_texts}
-use Rattle.cue_print.specs.Writing.{ending_text, longest_text}
+use Rattle.cue_print.specs.Printed.{elements, level_at}
 use Rattle.cue_print.specs.Terms.{terms_of}
-use Rattle.cue_print.proofs.Fields.{fields_of, fields_are, left_text, next_left, all_left, none_left_of}
-use Rattle.cue_print.proofs.Found.{field_for, element_for, declared_into, element_into, no_rest_told, rest_told}
-use Rattle.cue_print.proofs.ListTexts.{no_elements_yet, next_element, top_text, ending_written}
-use Rattle.cue_print.proofs.Parts.{list_written, nothing_written, outside_of, outside_text, outside_first, next_outside, outside_more, outside_ended, outside_absent}
-use Rattle.cue_print.proofs.Places.{no_row, by_kind, no_terms, no_members, by_terms, without_terms, open_written, closed_written}
-use Rattle.cue_print.proofs.Scalars.{on_ok}
+use Rattle.cue_print.specs.Spelled.{joined, mark_text, value_text, element_texts}
+use Rattle.cue_print.specs.Writing.{fields_at, element_of, further_at, ending_text, longest_text, found_text, closed_text, written_struct}
+use Rattle.cue_print.proofs.Fields.{first_field, no_field_left, all_fields}
+use Rattle.cue_print.proofs.Found.{first_label, no_label_left, element_for, element_into, no_rest_told, rest_told}
+use Rattle.cue_print.proofs.Joined.{left_joined, none_joined, part_separated, text_told, part_told, later, from_here}
+use Rattle.cue_print.proofs.ListTexts.{first_element, no_element_left, all_elements, top_text}
+use Rattle.cue_print.proofs.Parts.{struct_spelled, list_spelled, nothing_told, outside_of, outside_text, all_outside, first_outside, outside_closed}
+use Rattle.cue_print.proofs.Places.{no_row, by_kind, no_terms, no_members, by_terms, without_terms}
 use Rattle.cue_print.proofs.Walk.{all_small, others_small}
-use Rattle.cue_print.proofs.value.+walk.Goals.{push_elements-in-None+in_ok-push_str-in-None, push_elements-in-Some+in_ok-push_value-in-Some}
-use Rattle.cue_print.proofs.value.+walk.Goals.{push_inside-in-None+in_ok-push_free_field-in-None, push_inside-in-Some+in_ok-push_field-in-Some}
 use Rattle.cue_print.proofs.value.+walk.Goals as goal
 
--- no later item is the first
-later : (P : Bool → List ℕ) (i : ℕ) {whole : List ℕ} → P false ≡ whole → P (nat_eq (i + 1) 0) ≡ whole
-later P i h = ap P (not_first i) ∙ h where
-  not_first : (n : ℕ) → nat_eq (n + 1) 0 ≡ false
-  not_first n = grind arith
-
-pub push_elements-loop-number-init : goal.push_elements-loop-number-init
-push_elements-loop-number-init t c = no_elements_yet (string_bytes c.args.out.now) (element_at (rest_of c.args.branch.now) (element_below (below c.args.branch.now)))
-
-pub push_elements-push_value-requires : goal.push_elements-push_value-requires
-push_elements-push_value-requires t c =
-    (let smaller = found_smaller (index c.loop-number.number) c.args.branch.now c.in-Some.element (sym c.find.ensures.branch ∙ c.in-Some.is) in omega arith, tt)
-
-pub push_elements-loop-number-preserved : goal.push_elements-loop-number-preserved
-push_elements-loop-number-preserved t c =
-    let n = c.loop-number.number in
-    let values = element_at (rest_of c.args.branch.now) (element_below (below c.args.branch.now)) in
-    let found = element_into c.args.branch.now n ∙ ap element_for (sym c.find.ensures.branch) in
-    next_element n values _ _ _ _ c.loop-number.invariant c.in_ok-separate.ensures
-    (elim c.match-find.branch [
-      | push_elements-in-None+in_ok-push_str-in-None w ↦
-          ap string_bytes w.out-is ∙ w.in_ok-push_str-in-None.ensures.bytes ∙ ap (λ t. string_bytes c.separate.new.out ++ t) (top_text ∙ ap value_text (sym (found ∙ ap element_for w.in-None.is)))
-      | push_elements-in-Some+in_ok-push_value-in-Some w ↦
-          ap string_bytes w.out-is ∙ w.in_ok-push_value-in-Some.ensures ∙ ap (λ v. string_bytes c.separate.new.out ++ value_text v) (sym (found ∙ ap element_for w.in-Some.is))
-    ])
-
-pub push_ending-returns-in-None : goal.push_ending-returns-in-None
-push_ending-returns-in-None t c =
-    ending_written c.args.count c.args.is_exact (rest_value (rest_of c.args.branch.now)) [] _ _ _ _ c.if-is_exact.false (no_rest_told c.args.branch.now c.in-None.ensures.rest)
-    c.in_ok-separate.ensures c.in_ok-push_str.ensures.bytes (sym (append-nil _))
-
-pub push_ending-returns-in-Some : goal.push_ending-returns-in-Some
-push_ending-returns-in-Some t c =
-    on_ok c.push_value.result
-    (λ e. ending_written c.args.count c.args.is_exact (rest_value (rest_of c.args.branch.now)) _ _ _ _ _ c.if-is_exact.false (rest_told c.args.branch.now c.in-Some.rest c.in-Some.ensures.rest)
-    c.in_ok-separate.ensures c.in_ok-push_str.ensures.bytes e)
-    c.push_value.ensures
-
+-- ---- fields
 pub push_fields-loop-label-init : goal.push_fields-loop-label-init
-push_fields-loop-label-init t c =
+push_fields-loop-label-init g t c =
     let all = c.into_iter-label-iterator.ensures.into_iter_gives ∙ c.labels-label-items.ensures.list in
     record {
       small = all_small c.args.branch.now _ all;
-      text = ap (λ fs. string_bytes c.args.out.now ++ joined (codes ", ") (field_texts fs)) (ap fields_of all ∙ sym (fields_are (below c.args.branch.now)));
+      telling = tells_first _ _ _ (ap (left_joined (codes ", ") true) (all_fields (below c.args.branch.now) _ all));
     }
 
 pub push_fields-loop-label-preserved : goal.push_fields-loop-label-preserved
-push_fields-loop-label-preserved t c =
-    let tree = c.in-Some.field in
+push_fields-loop-label-preserved g t c =
     record {
       small = others_small _ _ _ _ c.in-Some.ensures.steps c.loop-label.invariant.small;
-      text = next_left c.loop-label.is_first c.in-Some.label.now (level_at (row_of tree)) (value_of tree) (fields_of c.next.new.self) _ _ _ _
-          (ap (λ items. string_bytes c.loop-label.out ++ left_text c.loop-label.is_first (fields_of items)) (sym c.in-Some.ensures.steps) ∙ c.loop-label.invariant.text)
-          c.in_ok-separate.ensures c.in_ok-push_field.ensures;
+      telling = text_told _ _ _ _ (codes ", ") c.loop-label.is_first _ _ _ _ (first_field _ _ _ c.in-Some.ensures.steps) c.loop-label.invariant.telling c.in_ok-separate.ensures.told c.in_ok-push_field.ensures.told;
     }
 
-pub push_fields-returns : goal.push_fields-returns
-push_fields-returns t c =
-    all_left c.loop-label.is_first c.loop-label.label-iterator _ _ c.in-None.ensures.steps.0 c.loop-label.invariant.text
+pub push_fields-returns-in_err-separate-clause-begun : goal.push_fields-returns-in_err-separate-clause-begun
+push_fields-returns-in_err-separate-clause-begun g t c =
+    on_err _ (part_separated _ _ _ (codes ", ") c.loop-label.is_first _ _ _ _ (first_field _ _ _ c.in-Some.ensures.steps) c.loop-label.invariant.telling c.in_err-separate.ensures.begun)
 
-pub push_inside-push_field-requires : goal.push_inside-push_field-requires
-push_inside-push_field-requires t c =
-    (let smaller = found_smaller (label c.in_ok-copy.field-0) c.args.branch.now c.in-Some.field (sym c.find.ensures.branch ∙ c.in-Some.is) in omega arith, tt)
+pub push_fields-returns-in_err-push_field-clause-begun : goal.push_fields-returns-in_err-push_field-clause-begun
+push_fields-returns-in_err-push_field-clause-begun g t c =
+    on_err _ (part_told _ _ _ _ (codes ", ") c.loop-label.is_first _ _ _ _ (first_field _ _ _ c.in-Some.ensures.steps) c.loop-label.invariant.telling c.in_ok-separate.ensures.told c.in_err-push_field.ensures.begun)
+
+pub push_fields-returns-clause-told : goal.push_fields-returns-clause-told
+push_fields-returns-clause-told g t c =
+    tells_all _ _ _ _ (none_joined (codes ", ") c.loop-label.is_first _ (no_field_left _ c.in-None.ensures.steps.0)) c.loop-label.invariant.telling
 
 pub push_inside-loop-i-preserved : goal.push_inside-loop-i-preserved
-push_inside-loop-i-preserved t c =
+push_inside-loop-i-preserved g t c =
     let i = c.loop-i.i in
-    let labels = c.args.labels.now in
-    let children = below c.args.branch.now in
-    let fields = fields_below children in
-    let l = c.index-labels-i.result in
-    let rest = inside (drop (i + 1) labels) fields in
-    let left : drop i labels ≡ l ∷ drop (i + 1) labels = drop_more labels i l c.loop-i-test.true ∙ ap (λ x. x ∷ drop (i + 1) labels) (sym c.index-labels-i.is) in
-    let found = declared_into c.args.branch.now l rest ∙ ap (λ f. field_for l f rest) (ap (λ x. step_into c.args.branch.now (label x)) (sym c.in_ok-copy.ensures.text) ∙ sym c.find.ensures.branch) in
-    let before = ap (λ ls. string_bytes c.loop-i.out ++ left_text (nat_eq i 0) (inside ls fields)) (sym left) ∙ c.loop-i.invariant in
-    later (λ b. string_bytes c.match-find.out ++ left_text b rest) i
-    (elim c.match-find.branch [
-      | push_inside-in-None+in_ok-push_free_field-in-None w ↦
-          next_left (nat_eq i 0) l Optional top rest _ _ _ _
-          (ap (λ fs. string_bytes c.loop-i.out ++ left_text (nat_eq i 0) fs) (sym (found ∙ ap (λ f. field_for l f rest) w.in-None.is)) ∙ before)
-          c.in_ok-separate.ensures (ap string_bytes w.out-is ∙ w.in_ok-push_free_field-in-None.ensures ∙ ap (λ t. string_bytes c.separate.new.out ++ (quoted l ++ (codes "?: " ++ t))) top_text)
-      | push_inside-in-Some+in_ok-push_field-in-Some w ↦
-          next_left (nat_eq i 0) l (level_at (row_of w.in-Some.field)) (value_of w.in-Some.field) rest _ _ _ _
-          (ap (λ fs. string_bytes c.loop-i.out ++ left_text (nat_eq i 0) fs) (sym (found ∙ ap (λ f. field_for l f rest) w.in-Some.is)) ∙ before)
-          c.in_ok-separate.ensures
-          (ap string_bytes w.out-is ∙ w.in_ok-push_field-in-Some.ensures ∙ ap (λ x. string_bytes c.separate.new.out ++ (quoted x ++ (mark_text (level_at (row_of w.in-Some.field)) ++ value_text (value_of w.in-Some.field)))) w.as_str.ensures)
-    ])
+    later _ _ (codes ", ") i _ _
+    (text_told _ _ _ _ (codes ", ") (nat_eq i 0) _ _ _ _ (first_label c.args.branch.now _ _ _ (from_here c.args.labels.now i _ c.loop-i-test.true c.index-labels-i.is)) c.loop-i.invariant c.in_ok-separate.ensures.told c.in_ok-push_declared.ensures.told)
 
-pub push_inside-returns : goal.push_inside-returns
-push_inside-returns t c =
-    none_left_of (nat_eq c.loop-i.i 0) _ _ _ (ap (λ ls. inside ls (fields_below (below c.args.branch.now))) (drop_all c.loop-i.i c.args.labels.now (omega arith))) c.loop-i.invariant
+pub push_inside-returns-in_err-separate-clause-begun : goal.push_inside-returns-in_err-separate-clause-begun
+push_inside-returns-in_err-separate-clause-begun g t c =
+    let i = c.loop-i.i in
+    on_err _ (part_separated _ _ _ (codes ", ") (nat_eq i 0) _ _ _ _ (first_label c.args.branch.now _ _ _ (from_here c.args.labels.now i _ c.loop-i-test.true c.index-labels-i.is)) c.loop-i.invariant c.in_err-separate.ensures.begun)
 
-pub push_list-returns : goal.push_list-returns
-push_list-returns t c =
-    let row = c.args.row.now in
-    on_ok c.push_longest.result
-    (λ e. list_written row.least row.most (element_at (rest_of c.args.branch.now) (element_below (below c.args.branch.now))) (rest_value (rest_of c.args.branch.now)) c.is_exact-is_exact.result _ _ _ _ _ _
-    c.is_exact-is_exact.ensures c.in_ok-push_str.ensures.bytes
-    (c.in_ok-push_elements.ensures ∙ ap (λ n. string_bytes c.push_str.new.self ++ joined (codes ", ") (element_texts (elements n (element_at (rest_of c.args.branch.now) (element_below (below c.args.branch.now)))))) c.least.ensures)
-    (c.in_ok-push_ending.ensures ∙ ap (λ n. string_bytes c.push_elements.new.out ++ ending_text n c.is_exact-is_exact.result (rest_value (rest_of c.args.branch.now))) c.least-2.ensures)
-    c.in_ok-push_str-2.ensures.bytes
-    (e ∙ ap (λ m. string_bytes c.push_str-2.new.self ++ longest_text m c.is_exact-is_exact.result) c.most.ensures))
-    c.push_longest.ensures
+pub push_inside-returns-in_err-push_declared-clause-begun : goal.push_inside-returns-in_err-push_declared-clause-begun
+push_inside-returns-in_err-push_declared-clause-begun g t c =
+    let i = c.loop-i.i in
+    on_err _ (part_told _ _ _ _ (codes ", ") (nat_eq i 0) _ _ _ _ (first_label c.args.branch.now _ _ _ (from_here c.args.labels.now i _ c.loop-i-test.true c.index-labels-i.is)) c.loop-i.invariant c.in_ok-separate.ensures.told c.in_err-push_declared.ensures.begun)
 
-pub push_nothing-returns : goal.push_nothing-returns
-push_nothing-returns t c =
-    nothing_written c.args.row.now (fields_below (below c.args.branch.now)) (element_at (rest_of c.args.branch.now) (element_below (below c.args.branch.now))) (rest_value (rest_of c.args.branch.now)) _ _ _ _ c.in_ok-push_struct_before.ensures c.in_ok-push_list_before.ensures c.in_ok-push_str.ensures.bytes
+pub push_inside-returns-clause-told : goal.push_inside-returns-clause-told
+push_inside-returns-clause-told g t c =
+    tells_all _ _ _ _ (none_joined (codes ", ") (nat_eq c.loop-i.i 0) _ (no_label_left c.args.branch.now _ (drop_all c.loop-i.i c.args.labels.now (omega arith)))) c.loop-i.invariant
 
 pub push_outside-loop-label-init : goal.push_outside-loop-label-init
-push_outside-loop-label-init t c =
+push_outside-loop-label-init g t c =
     let all = c.into_iter-label-iterator.ensures.into_iter_gives ∙ c.labels-label-items.ensures.list in
     let labels = c.args.row.now.labels in
     record {
       small = all_small c.args.branch.now _ all;
-      text = ap (λ fs. string_bytes c.args.out.now ++ outside_text true (outside_of labels fs)) (ap fields_of all ∙ sym (fields_are (below c.args.branch.now)))
-          ∙ ap (λ t. string_bytes c.args.out.now ++ t) (outside_first labels (fields_below (below c.args.branch.now)));
+      telling = tells_first _ _ _ (all_outside labels (below c.args.branch.now) _ all);
     }
 
 pub push_outside-loop-label-preserved-then-not-allows : goal.push_outside-loop-label-preserved-then-not-allows
-push_outside-loop-label-preserved-then-not-allows t c =
-    let tree = c.in-Some.field in
-    let labels = c.args.row.now.labels in
-    let l = c.in-Some.label.now in
-    let more = outside_more labels l (level_at (row_of tree)) (value_of tree) (fields_of c.next.new.self) (sym c.allows.ensures ∙ c.if-not-allows.true) in
+push_outside-loop-label-preserved-then-not-allows g t c =
+    let next = first_outside c.loop-label.is_first c.args.row.now.labels _ _ _ c.in-Some.ensures.steps (sym c.allows.ensures ∙ c.if-not-allows.true) in
     record {
       small = others_small _ _ _ _ c.in-Some.ensures.steps c.loop-label.invariant.small;
-      text = next_outside c.loop-label.is_first l (level_at (row_of tree)) (value_of tree) (outside_of labels (fields_of c.next.new.self)) _ _ _ _
-          (ap (λ fs. string_bytes c.loop-label.out ++ outside_text c.loop-label.is_first fs) (sym more)
-          ∙ ap (λ items. string_bytes c.loop-label.out ++ outside_text c.loop-label.is_first (outside_of labels (fields_of items))) (sym c.in-Some.ensures.steps)
-          ∙ c.loop-label.invariant.text)
-          c.in_ok-push_opening.ensures c.in_ok-push_field.ensures;
+      telling = tells_next _ _ _ _ _ _ _ refl
+          (tells_next _ _ _ _ _ _ _ next c.loop-label.invariant.telling c.in_ok-push_opening.ensures.told) c.in_ok-push_field.ensures.told;
     }
 
-pub push_outside-returns-in_ok-push_str : goal.push_outside-returns-in_ok-push_str
-push_outside-returns-in_ok-push_str t c =
-    c.in_ok-push_str.ensures.bytes
-    ∙ outside_ended c.loop-label.is_first c.args.row.now.labels c.loop-label.label-iterator _ _ c.if-not-is_first.true c.in-None.ensures.steps.0 c.loop-label.invariant.text
+pub push_outside-returns-in_err-push_opening-clause-begun : goal.push_outside-returns-in_err-push_opening-clause-begun
+push_outside-returns-in_err-push_opening-clause-begun g t c =
+    let next = first_outside c.loop-label.is_first c.args.row.now.labels _ _ _ c.in-Some.ensures.steps (sym c.allows.ensures ∙ c.if-not-allows.true) in
+    on_err _ (tells_part _ _ _ _ _ _ _ next c.loop-label.invariant.telling c.in_err-push_opening.ensures.begun)
 
-pub push_outside-returns-else-not-is_first : goal.push_outside-returns-else-not-is_first
-push_outside-returns-else-not-is_first t c =
-    outside_absent c.loop-label.is_first c.args.row.now.labels c.loop-label.label-iterator _ _ c.if-not-is_first.false c.in-None.ensures.steps.0 c.loop-label.invariant.text
+pub push_outside-returns-in_err-push_field-clause-begun : goal.push_outside-returns-in_err-push_field-clause-begun
+push_outside-returns-in_err-push_field-clause-begun g t c =
+    let next = first_outside c.loop-label.is_first c.args.row.now.labels _ _ _ c.in-Some.ensures.steps (sym c.allows.ensures ∙ c.if-not-allows.true) in
+    on_err _ (tells_part _ _ _ _ _ _ _ refl (tells_next _ _ _ _ _ _ _ next c.loop-label.invariant.telling c.in_ok-push_opening.ensures.told) c.in_err-push_field.ensures.begun)
 
-pub push_struct-returns-in_ok-push_str-in-None-2 : goal.push_struct-returns-in_ok-push_str-in-None-2
-push_struct-returns-in_ok-push_str-in-None-2 t c =
-    open_written c.args.row.now.labels (fields_below (below c.args.branch.now)) _ _ _ _ c.in-None.ensures.list
-    c.in_ok-push_str-in-None.ensures.bytes c.in_ok-push_fields-in-None.ensures c.in_ok-push_str-in-None-2.ensures.bytes
+pub push_outside-returns-in_err-push_closing-clause-begun : goal.push_outside-returns-in_err-push_closing-clause-begun
+push_outside-returns-in_err-push_closing-clause-begun g t c =
+    on_err _ (tells_part _ _ _ _ _ _ _ (outside_closed c.loop-label.is_first c.args.row.now.labels _ c.in-None.ensures.steps.0) c.loop-label.invariant.telling c.in_err-push_closing.ensures.begun)
 
-pub push_struct-returns-in_ok-push_str-in-Some-2 : goal.push_struct-returns-in_ok-push_str-in-Some-2
-push_struct-returns-in_ok-push_str-in-Some-2 t c =
-    on_ok c.push_outside.result
-    (λ e. closed_written c.in-Some.labels.now c.args.row.now.labels (fields_below (below c.args.branch.now)) _ _ _ _ _ c.in-Some.ensures.list
-    c.in_ok-push_str-in-Some.ensures.bytes c.in_ok-push_inside-in-Some.ensures c.in_ok-push_str-in-Some-2.ensures.bytes e)
-    c.push_outside.ensures
+pub push_outside-returns-clause-told : goal.push_outside-returns-clause-told
+push_outside-returns-clause-told g t c =
+    tells_all _ _ _ _ refl (tells_next _ _ _ _ _ _ _ (outside_closed c.loop-label.is_first c.args.row.now.labels _ c.in-None.ensures.steps.0) c.loop-label.invariant.telling c.in_ok-push_closing.ensures.told)
 
-pub push_value-returns-in_default : goal.push_value-returns-in_default
-push_value-returns-in_default t c =
-    c.in_ok-push_str.ensures.bytes ∙ ap (λ t. string_bytes c.args.out.now ++ t) (top_text ∙ ap value_text (no_row c.args.branch.now (sym c.row.ensures.row ∙ ap (option_map (λ row. row.now)) c.in_default.is)))
+-- ---- elements
+pub push_elements-loop-number-init : goal.push_elements-loop-number-init
+push_elements-loop-number-init g t c = tells_first _ _ _ (ap (left_joined (codes ", ") true) (all_elements c.args.count (element_of c.args.branch.now)))
 
-pub push_value-returns-then-has_no_scalar : goal.push_value-returns-then-has_no_scalar
-push_value-returns-then-has_no_scalar t c =
+pub push_elements-loop-number-preserved : goal.push_elements-loop-number-preserved
+push_elements-loop-number-preserved g t c =
+    let n = c.loop-number.number in
+    let more : n < c.args.count = omega arith in
+    later _ _ (codes ", ") n _ _
+    (text_told _ _ _ _ (codes ", ") (nat_eq n 0) _ _ _ _ (first_element n c.args.count (element_of c.args.branch.now) more) c.loop-number.invariant c.in_ok-separate.ensures.told c.in_ok-push_element.ensures.told)
+
+pub push_elements-returns-in_err-separate-clause-begun : goal.push_elements-returns-in_err-separate-clause-begun
+push_elements-returns-in_err-separate-clause-begun g t c =
+    let n = c.loop-number.number in
+    let more : n < c.args.count = omega arith in
+    on_err _ (part_separated _ _ _ (codes ", ") (nat_eq n 0) _ _ _ _ (first_element n c.args.count (element_of c.args.branch.now) more) c.loop-number.invariant c.in_err-separate.ensures.begun)
+
+pub push_elements-returns-in_err-push_element-clause-begun : goal.push_elements-returns-in_err-push_element-clause-begun
+push_elements-returns-in_err-push_element-clause-begun g t c =
+    let n = c.loop-number.number in
+    let more : n < c.args.count = omega arith in
+    on_err _ (part_told _ _ _ _ (codes ", ") (nat_eq n 0) _ _ _ _ (first_element n c.args.count (element_of c.args.branch.now) more) c.loop-number.invariant c.in_ok-separate.ensures.told c.in_err-push_element.ensures.begun)
+
+pub push_elements-returns-clause-told : goal.push_elements-returns-clause-told
+push_elements-returns-clause-told g t c =
+    let all : c.loop-number.number ≡ c.args.count = omega arith in
+    tells_all _ _ _ _ (none_joined (codes ", ") (nat_eq c.loop-number.number 0) _ (no_element_left c.loop-number.number c.args.count (element_of c.args.branch.now) all)) c.loop-number.invariant
+
+-- ---- what is found
+pub push_declared-push_field-requires : goal.push_declared-push_field-requires
+push_declared-push_field-requires g t c κs within =
+    (let smaller = found_smaller (label c.in_ok-copy.field-0) c.args.branch.now c.in-Some.field (sym c.find.ensures.branch ∙ c.in-Some.is) in omega arith, (within.0, within.1))
+
+pub push_declared-returns-in-None-clause-told : goal.push_declared-returns-in-None-clause-told
+push_declared-returns-in-None-clause-told g t c =
+    let tree = c.args.branch.now in
+    let l = c.args.label.now in
+    let found = ap (λ x. step_into tree (label x)) (sym c.in_ok-copy.ensures.text) ∙ sym c.find.ensures.branch in
+    told_as c.push_free_field.result _ _ _ _ (ap (found_text l) (sym (found ∙ c.in-None.is))) c.push_free_field.ensures.told
+
+pub push_declared-returns-in-None-clause-begun : goal.push_declared-returns-in-None-clause-begun
+push_declared-returns-in-None-clause-begun g t c =
+    let tree = c.args.branch.now in
+    let l = c.args.label.now in
+    let found = ap (λ x. step_into tree (label x)) (sym c.in_ok-copy.ensures.text) ∙ sym c.find.ensures.branch in
+    begun_as c.push_free_field.result _ _ _ _ (ap (found_text l) (sym (found ∙ c.in-None.is))) c.push_free_field.ensures.begun
+
+pub push_declared-returns-clause-told : goal.push_declared-returns-clause-told
+push_declared-returns-clause-told g t c =
+    let tree = c.args.branch.now in
+    let l = c.args.label.now in
+    let found = ap (λ x. step_into tree (label x)) (sym c.in_ok-copy.ensures.text) ∙ sym c.find.ensures.branch in
+    told_as c.push_field.result _ _ _ _ (ap (λ x. found_text x (Some c.in-Some.field)) c.as_str.ensures ∙ ap (found_text l) (sym (found ∙ c.in-Some.is))) c.push_field.ensures.told
+
+pub push_declared-returns-clause-begun : goal.push_declared-returns-clause-begun
+push_declared-returns-clause-begun g t c =
+    let tree = c.args.branch.now in
+    let l = c.args.label.now in
+    let found = ap (λ x. step_into tree (label x)) (sym c.in_ok-copy.ensures.text) ∙ sym c.find.ensures.branch in
+    begun_as c.push_field.result _ _ _ _ (ap (λ x. found_text x (Some c.in-Some.field)) c.as_str.ensures ∙ ap (found_text l) (sym (found ∙ c.in-Some.is))) c.push_field.ensures.begun
+
+pub push_element-push_value-requires : goal.push_element-push_value-requires
+push_element-push_value-requires g t c κs within =
+    (let smaller = found_smaller (index c.args.number) c.args.branch.now c.in-Some.element (sym c.find.ensures.branch ∙ c.in-Some.is) in omega arith, (within.0, within.1))
+
+pub push_element-returns-in-None-clause-told : goal.push_element-returns-in-None-clause-told
+push_element-returns-in-None-clause-told g t c =
+    let found = element_into c.args.branch.now c.args.number ∙ ap element_for (sym c.find.ensures.branch) in
+    told_as c.put.result _ _ _ _ (top_text ∙ ap value_text (sym (found ∙ ap element_for c.in-None.is))) c.put.ensures.told
+
+pub push_element-returns-in-None-clause-begun : goal.push_element-returns-in-None-clause-begun
+push_element-returns-in-None-clause-begun g t c =
+    let found = element_into c.args.branch.now c.args.number ∙ ap element_for (sym c.find.ensures.branch) in
+    begun_as c.put.result _ _ _ _ (top_text ∙ ap value_text (sym (found ∙ ap element_for c.in-None.is))) c.put.ensures.begun
+
+pub push_element-returns-clause-told : goal.push_element-returns-clause-told
+push_element-returns-clause-told g t c =
+    let found = element_into c.args.branch.now c.args.number ∙ ap element_for (sym c.find.ensures.branch) in
+    told_as c.push_value.result _ _ _ _ (ap value_text (sym (found ∙ ap element_for c.in-Some.is))) c.push_value.ensures.told
+
+pub push_element-returns-clause-begun : goal.push_element-returns-clause-begun
+push_element-returns-clause-begun g t c =
+    let found = element_into c.args.branch.now c.args.number ∙ ap element_for (sym c.find.ensures.branch) in
+    begun_as c.push_value.result _ _ _ _ (ap value_text (sym (found ∙ ap element_for c.in-Some.is))) c.push_value.ensures.begun
+
+pub push_told-returns-in-None-clause-told : goal.push_told-returns-in-None-clause-told
+push_told-returns-in-None-clause-told g t c =
+    appends_as _ _ _ _ (no_rest_told c.args.branch.now c.in-None.ensures.rest) (appends_none _)
+
+pub push_told-returns-in-Some-clause-told : goal.push_told-returns-in-Some-clause-told
+push_told-returns-in-Some-clause-told g t c =
+    told_as c.push_value.result _ _ _ _ (rest_told c.args.branch.now c.in-Some.rest c.in-Some.ensures.rest) c.push_value.ensures.told
+
+pub push_told-returns-in-Some-clause-begun : goal.push_told-returns-in-Some-clause-begun
+push_told-returns-in-Some-clause-begun g t c =
+    begun_as c.push_value.result _ _ _ _ (rest_told c.args.branch.now c.in-Some.rest c.in-Some.ensures.rest) c.push_value.ensures.begun
+
+-- ---- places
+pub push_struct-returns-in-None-clause-told : goal.push_struct-returns-in-None-clause-told
+push_struct-returns-in-None-clause-told g t c =
+    told_as c.push_open_struct.result _ _ _ _ (ap (λ ls. written_struct ls (fields_at c.args.branch.now)) c.in-None.ensures.list) c.push_open_struct.ensures.told
+
+pub push_struct-returns-in-None-clause-begun : goal.push_struct-returns-in-None-clause-begun
+push_struct-returns-in-None-clause-begun g t c =
+    begun_as c.push_open_struct.result _ _ _ _ (ap (λ ls. written_struct ls (fields_at c.args.branch.now)) c.in-None.ensures.list) c.push_open_struct.ensures.begun
+
+pub push_struct-returns-in-Some-clause-told : goal.push_struct-returns-in-Some-clause-told
+push_struct-returns-in-Some-clause-told g t c =
+    told_as c.push_closed_struct.result _ _ _ _ (ap (λ ls. closed_text c.in-Some.labels.now ls (fields_at c.args.branch.now)) (sym c.in-Some.ensures.list) ∙ ap (λ ls. written_struct ls (fields_at c.args.branch.now)) c.in-Some.ensures.list) c.push_closed_struct.ensures.told
+
+pub push_struct-returns-in-Some-clause-begun : goal.push_struct-returns-in-Some-clause-begun
+push_struct-returns-in-Some-clause-begun g t c =
+    begun_as c.push_closed_struct.result _ _ _ _ (ap (λ ls. closed_text c.in-Some.labels.now ls (fields_at c.args.branch.now)) (sym c.in-Some.ensures.list) ∙ ap (λ ls. written_struct ls (fields_at c.args.branch.now)) c.in-Some.ensures.list) c.push_closed_struct.ensures.begun
+
+pub push_value-returns-in_default-clause-told : goal.push_value-returns-in_default-clause-told
+push_value-returns-in_default-clause-told g t c =
+    told_as c.put.result _ _ _ _ (top_text ∙ ap value_text (no_row c.args.branch.now (sym c.row.ensures.row ∙ ap (option_map (λ row. row.now)) c.in_default.is))) c.put.ensures.told
+
+pub push_value-returns-in_default-clause-begun : goal.push_value-returns-in_default-clause-begun
+push_value-returns-in_default-clause-begun g t c =
+    begun_as c.put.result _ _ _ _ (top_text ∙ ap value_text (no_row c.args.branch.now (sym c.row.ensures.row ∙ ap (option_map (λ row. row.now)) c.in_default.is))) c.put.ensures.begun
+
+pub push_value-returns-in-true-true-clause-told : goal.push_value-returns-in-true-true-clause-told
+push_value-returns-in-true-true-clause-told g t c =
+    told_as c.put-in-true-true.result _ _ _ _ (top_text ∙ ap value_text (by_kind c.args.branch.now c.in-Some.row.now true true c.in-Some.ensures.row (sym c.in-true-true.ensures) (sym c.in-true-true.ensures'))) c.put-in-true-true.ensures.told
+
+pub push_value-returns-in-true-true-clause-begun : goal.push_value-returns-in-true-true-clause-begun
+push_value-returns-in-true-true-clause-begun g t c =
+    begun_as c.put-in-true-true.result _ _ _ _ (top_text ∙ ap value_text (by_kind c.args.branch.now c.in-Some.row.now true true c.in-Some.ensures.row (sym c.in-true-true.ensures) (sym c.in-true-true.ensures'))) c.put-in-true-true.ensures.begun
+
+pub push_value-returns-in-true-false-clause-told : goal.push_value-returns-in-true-false-clause-told
+push_value-returns-in-true-false-clause-told g t c =
+    told_as c.push_struct.result _ _ _ _ (struct_spelled c.in-Some.row.now.labels (fields_at c.args.branch.now) ∙ ap value_text (by_kind c.args.branch.now c.in-Some.row.now true false c.in-Some.ensures.row (sym c.in-true-false.ensures) (sym c.in-true-false.ensures'))) c.push_struct.ensures.told
+
+pub push_value-returns-in-true-false-clause-begun : goal.push_value-returns-in-true-false-clause-begun
+push_value-returns-in-true-false-clause-begun g t c =
+    begun_as c.push_struct.result _ _ _ _ (struct_spelled c.in-Some.row.now.labels (fields_at c.args.branch.now) ∙ ap value_text (by_kind c.args.branch.now c.in-Some.row.now true false c.in-Some.ensures.row (sym c.in-true-false.ensures) (sym c.in-true-false.ensures'))) c.push_struct.ensures.begun
+
+pub push_value-returns-in-false-true-clause-told : goal.push_value-returns-in-false-true-clause-told
+push_value-returns-in-false-true-clause-told g t c =
+    told_as c.push_list.result _ _ _ _ (list_spelled c.in-Some.row.now.least c.in-Some.row.now.most (element_of c.args.branch.now) (further_at c.args.branch.now) ∙ ap value_text (by_kind c.args.branch.now c.in-Some.row.now false true c.in-Some.ensures.row (sym c.in-false-true.ensures) (sym c.in-false-true.ensures'))) c.push_list.ensures.told
+
+pub push_value-returns-in-false-true-clause-begun : goal.push_value-returns-in-false-true-clause-begun
+push_value-returns-in-false-true-clause-begun g t c =
+    begun_as c.push_list.result _ _ _ _ (list_spelled c.in-Some.row.now.least c.in-Some.row.now.most (element_of c.args.branch.now) (further_at c.args.branch.now) ∙ ap value_text (by_kind c.args.branch.now c.in-Some.row.now false true c.in-Some.ensures.row (sym c.in-false-true.ensures) (sym c.in-false-true.ensures'))) c.push_list.ensures.begun
+
+pub push_value-returns-then-has_no_scalar-clause-told : goal.push_value-returns-then-has_no_scalar-clause-told
+push_value-returns-then-has_no_scalar-clause-told g t c =
     let row = c.in-Some.row.now in
     let none = no_terms row.value c.known.ensures.value (c.has_no_scalar.ensures.0 c.if-has_no_scalar.true) in
-    on_ok c.push_nothing.result
-    (λ e. e ∙ ap (λ v. string_bytes c.args.out.now ++ value_text v)
-    (without_terms (terms_of row.value) row _ _ _ none ∙ by_kind c.args.branch.now row false false c.in-Some.ensures.row (sym c.in-false-false.ensures) (sym c.in-false-false.ensures')))
-    c.push_nothing.ensures
+    told_as c.push_nothing.result _ _ _ _ (nothing_told row (fields_at c.args.branch.now) (element_of c.args.branch.now) (further_at c.args.branch.now) ∙ ap value_text (without_terms (terms_of row.value) row _ _ _ none ∙ by_kind c.args.branch.now c.in-Some.row.now false false c.in-Some.ensures.row (sym c.in-false-false.ensures) (sym c.in-false-false.ensures'))) c.push_nothing.ensures.told
 
-pub push_value-returns-in_ok-push_str-in-true-true : goal.push_value-returns-in_ok-push_str-in-true-true
-push_value-returns-in_ok-push_str-in-true-true t c =
-    c.in_ok-push_str-in-true-true.ensures.bytes
-    ∙ ap (λ t. string_bytes c.args.out.now ++ t) (top_text ∙ ap value_text (by_kind c.args.branch.now c.in-Some.row.now true true c.in-Some.ensures.row (sym c.in-true-true.ensures) (sym c.in-true-true.ensures')))
+pub push_value-returns-then-has_no_scalar-clause-begun : goal.push_value-returns-then-has_no_scalar-clause-begun
+push_value-returns-then-has_no_scalar-clause-begun g t c =
+    let row = c.in-Some.row.now in
+    let none = no_terms row.value c.known.ensures.value (c.has_no_scalar.ensures.0 c.if-has_no_scalar.true) in
+    begun_as c.push_nothing.result _ _ _ _ (nothing_told row (fields_at c.args.branch.now) (element_of c.args.branch.now) (further_at c.args.branch.now) ∙ ap value_text (without_terms (terms_of row.value) row _ _ _ none ∙ by_kind c.args.branch.now c.in-Some.row.now false false c.in-Some.ensures.row (sym c.in-false-false.ensures) (sym c.in-false-false.ensures'))) c.push_nothing.ensures.begun
 
-pub push_value-returns-in-true-false : goal.push_value-returns-in-true-false
-push_value-returns-in-true-false t c =
-    on_ok c.push_struct.result
-    (λ e. e ∙ ap (λ v. string_bytes c.args.out.now ++ value_text v) (by_kind c.args.branch.now c.in-Some.row.now true false c.in-Some.ensures.row (sym c.in-true-false.ensures) (sym c.in-true-false.ensures')))
-    c.push_struct.ensures
-
-pub push_value-returns-in-false-true : goal.push_value-returns-in-false-true
-push_value-returns-in-false-true t c =
-    on_ok c.push_list.result
-    (λ e. e ∙ ap (λ v. string_bytes c.args.out.now ++ value_text v) (by_kind c.args.branch.now c.in-Some.row.now false true c.in-Some.ensures.row (sym c.in-false-true.ensures) (sym c.in-false-true.ensures')))
-    c.push_list.ensures
-
-pub push_value-returns-else-has_no_scalar : goal.push_value-returns-else-has_no_scalar
-push_value-returns-else-has_no_scalar t c =
+pub push_value-returns-else-has_no_scalar-clause-told : goal.push_value-returns-else-has_no_scalar-clause-told
+push_value-returns-else-has_no_scalar-clause-told g t c =
     let row = c.in-Some.row.now in
     let some : terms_of row.value ≡ [] → ⊥ = λ e. false≢true (sym c.if-has_no_scalar.false ∙ c.has_no_scalar.ensures.1 (no_members row.value e)) in
-    on_ok c.push_scalar.result
-    (λ e. e ∙ ap (λ v. string_bytes c.args.out.now ++ value_text v)
-    (by_terms (terms_of row.value) row _ _ _ some ∙ by_kind c.args.branch.now row false false c.in-Some.ensures.row (sym c.in-false-false.ensures) (sym c.in-false-false.ensures')))
-    c.push_scalar.ensures
+    told_as c.push_scalar.result _ _ _ _ (ap value_text (by_terms (terms_of row.value) row _ _ _ some ∙ by_kind c.args.branch.now c.in-Some.row.now false false c.in-Some.ensures.row (sym c.in-false-false.ensures) (sym c.in-false-false.ensures'))) c.push_scalar.ensures.told
+
+pub push_value-returns-else-has_no_scalar-clause-begun : goal.push_value-returns-else-has_no_scalar-clause-begun
+push_value-returns-else-has_no_scalar-clause-begun g t c =
+    let row = c.in-Some.row.now in
+    let some : terms_of row.value ≡ [] → ⊥ = λ e. false≢true (sym c.if-has_no_scalar.false ∙ c.has_no_scalar.ensures.1 (no_members row.value e)) in
+    begun_as c.push_scalar.result _ _ _ _ (ap value_text (by_terms (terms_of row.value) row _ _ _ some ∙ by_kind c.args.branch.now c.in-Some.row.now false false c.in-Some.ensures.row (sym c.in-false-false.ensures) (sym c.in-false-false.ensures'))) c.push_scalar.ensures.begun
+
+-- ---- what is written one behind the other
+pub push_open_struct-returns-in_err-put-clause-begun : goal.push_open_struct-returns-in_err-put-clause-begun
+push_open_struct-returns-in_err-put-clause-begun g t c =
+    on_err _ (begins_now _ _ _ _ c.in_err-put.ensures.begun)
+
+pub push_open_struct-returns-in_err-push_fields-clause-begun : goal.push_open_struct-returns-in_err-push_fields-clause-begun
+push_open_struct-returns-in_err-push_fields-clause-begun g t c =
+    on_err _ (begins_later _ _ _ _ _ c.in_ok-put.ensures.told (begins_now _ _ _ _ c.in_err-push_fields.ensures.begun))
+
+pub push_open_struct-returns-in_err-put-2-clause-begun : goal.push_open_struct-returns-in_err-put-2-clause-begun
+push_open_struct-returns-in_err-put-2-clause-begun g t c =
+    on_err _ (begins_later _ _ _ _ _ c.in_ok-put.ensures.told (begins_later _ _ _ _ _ c.in_ok-push_fields.ensures.told c.in_err-put-2.ensures.begun))
+
+pub push_closed_struct-returns-in_err-put-clause-begun : goal.push_closed_struct-returns-in_err-put-clause-begun
+push_closed_struct-returns-in_err-put-clause-begun g t c =
+    on_err _ (begins_now _ _ _ _ c.in_err-put.ensures.begun)
+
+pub push_closed_struct-returns-in_err-push_inside-clause-begun : goal.push_closed_struct-returns-in_err-push_inside-clause-begun
+push_closed_struct-returns-in_err-push_inside-clause-begun g t c =
+    on_err _ (begins_later _ _ _ _ _ c.in_ok-put.ensures.told (begins_now _ _ _ _ c.in_err-push_inside.ensures.begun))
+
+pub push_closed_struct-returns-in_err-put-2-clause-begun : goal.push_closed_struct-returns-in_err-put-2-clause-begun
+push_closed_struct-returns-in_err-put-2-clause-begun g t c =
+    on_err _ (begins_later _ _ _ _ _ c.in_ok-put.ensures.told (begins_later _ _ _ _ _ c.in_ok-push_inside.ensures.told (begins_now _ _ _ _ c.in_err-put-2.ensures.begun)))
+
+pub push_closed_struct-returns-in_err-push_outside-clause-begun : goal.push_closed_struct-returns-in_err-push_outside-clause-begun
+push_closed_struct-returns-in_err-push_outside-clause-begun g t c =
+    on_err _ (begins_later _ _ _ _ _ c.in_ok-put.ensures.told (begins_later _ _ _ _ _ c.in_ok-push_inside.ensures.told (begins_later _ _ _ _ _ c.in_ok-put-2.ensures.told c.in_err-push_outside.ensures.begun)))
+
+pub push_field-returns-in_err-push_text-clause-begun : goal.push_field-returns-in_err-push_text-clause-begun
+push_field-returns-in_err-push_text-clause-begun g t c =
+    on_err _ (begins_now _ _ _ _ c.in_err-push_text.ensures.begun)
+
+pub push_field-returns-in_err-push_mark-clause-begun : goal.push_field-returns-in_err-push_mark-clause-begun
+push_field-returns-in_err-push_mark-clause-begun g t c =
+    on_err _ (begins_later _ _ _ _ _ c.in_ok-push_text.ensures.told (begins_now _ _ _ _ (begins_as _ _ _ _ (ap mark_text (c.level_of.ensures ∙ ap level_at c.row.ensures.row)) c.in_err-push_mark.ensures.begun)))
+
+pub push_field-returns-in_err-push_value-clause-begun : goal.push_field-returns-in_err-push_value-clause-begun
+push_field-returns-in_err-push_value-clause-begun g t c =
+    on_err _ (begins_later _ _ _ _ _ c.in_ok-push_text.ensures.told (begins_later _ _ _ _ _ (appends_as _ _ _ _ (ap mark_text (c.level_of.ensures ∙ ap level_at c.row.ensures.row)) c.in_ok-push_mark.ensures.told) c.in_err-push_value.ensures.begun))
+
+pub push_list-returns-in_err-put-clause-begun : goal.push_list-returns-in_err-put-clause-begun
+push_list-returns-in_err-put-clause-begun g t c =
+    on_err _ (begins_now _ _ _ _ c.in_err-put.ensures.begun)
+
+pub push_list-returns-in_err-push_elements-clause-begun : goal.push_list-returns-in_err-push_elements-clause-begun
+push_list-returns-in_err-push_elements-clause-begun g t c =
+    on_err _ (begins_later _ _ _ _ _ c.in_ok-put.ensures.told (begins_now _ _ _ _ (begins_as _ _ _ _ (ap (λ n. joined (codes ", ") (element_texts (elements n (element_of c.args.branch.now)))) c.least.ensures) c.in_err-push_elements.ensures.begun)))
+
+pub push_list-returns-in_err-push_ending-clause-begun : goal.push_list-returns-in_err-push_ending-clause-begun
+push_list-returns-in_err-push_ending-clause-begun g t c =
+    on_err _ (begins_later _ _ _ _ _ c.in_ok-put.ensures.told (begins_later _ _ _ _ _ (appends_as _ _ _ _ (ap (λ n. joined (codes ", ") (element_texts (elements n (element_of c.args.branch.now)))) c.least.ensures) c.in_ok-push_elements.ensures.told) (begins_now _ _ _ _ (begins_as _ _ _ _ (ap (λ n. ending_text n c.is_exact-is_exact.result (further_at c.args.branch.now)) c.least-2.ensures ∙ ap (λ b. ending_text c.args.row.now.least b (further_at c.args.branch.now)) c.is_exact-is_exact.ensures) c.in_err-push_ending.ensures.begun))))
+
+pub push_list-returns-in_err-put-2-clause-begun : goal.push_list-returns-in_err-put-2-clause-begun
+push_list-returns-in_err-put-2-clause-begun g t c =
+    on_err _ (begins_later _ _ _ _ _ c.in_ok-put.ensures.told (begins_later _ _ _ _ _ (appends_as _ _ _ _ (ap (λ n. joined (codes ", ") (element_texts (elements n (element_of c.args.branch.now)))) c.least.ensures) c.in_ok-push_elements.ensures.told) (begins_later _ _ _ _ _ (appends_as _ _ _ _ (ap (λ n. ending_text n c.is_exact-is_exact.result (further_at c.args.branch.now)) c.least-2.ensures ∙ ap (λ b. ending_text c.args.row.now.least b (further_at c.args.branch.now)) c.is_exact-is_exact.ensures) c.in_ok-push_ending.ensures.told) (begins_now _ _ _ _ c.in_err-put-2.ensures.begun))))
+
+pub push_list-returns-in_err-push_longest-clause-begun : goal.push_list-returns-in_err-push_longest-clause-begun
+push_list-returns-in_err-push_longest-clause-begun g t c =
+    on_err _ (begins_later _ _ _ _ _ c.in_ok-put.ensures.told (begins_later _ _ _ _ _ (appends_as _ _ _ _ (ap (λ n. joined (codes ", ") (element_texts (elements n (element_of c.args.branch.now)))) c.least.ensures) c.in_ok-push_elements.ensures.told) (begins_later _ _ _ _ _ (appends_as _ _ _ _ (ap (λ n. ending_text n c.is_exact-is_exact.result (further_at c.args.branch.now)) c.least-2.ensures ∙ ap (λ b. ending_text c.args.row.now.least b (further_at c.args.branch.now)) c.is_exact-is_exact.ensures) c.in_ok-push_ending.ensures.told) (begins_later _ _ _ _ _ c.in_ok-put-2.ensures.told (begins_as _ _ _ _ (ap (λ m. longest_text m c.is_exact-is_exact.result) c.most.ensures ∙ ap (longest_text c.args.row.now.most) c.is_exact-is_exact.ensures) c.in_err-push_longest.ensures.begun)))))
+
+pub push_list_in_front-returns-in_err-push_list-clause-begun : goal.push_list_in_front-returns-in_err-push_list-clause-begun
+push_list_in_front-returns-in_err-push_list-clause-begun g t c =
+    on_err _ (begins_now _ _ _ _ c.in_err-push_list.ensures.begun)
+
+pub push_list_in_front-returns-in_err-put-clause-begun : goal.push_list_in_front-returns-in_err-put-clause-begun
+push_list_in_front-returns-in_err-put-clause-begun g t c =
+    on_err _ (begins_later _ _ _ _ _ c.in_ok-push_list.ensures.told c.in_err-put.ensures.begun)
+
+pub push_dots-returns-in_err-put-clause-begun : goal.push_dots-returns-in_err-put-clause-begun
+push_dots-returns-in_err-put-clause-begun g t c =
+    on_err _ (begins_later _ _ _ _ _ c.in_ok-separate.ensures.told (begins_now _ _ _ _ c.in_err-put.ensures.begun))
+
+pub push_dots-returns-in_err-push_told-clause-begun : goal.push_dots-returns-in_err-push_told-clause-begun
+push_dots-returns-in_err-push_told-clause-begun g t c =
+    on_err _ (begins_later _ _ _ _ _ c.in_ok-separate.ensures.told (begins_later _ _ _ _ _ c.in_ok-put.ensures.told c.in_err-push_told.ensures.begun))

@@ -1,0 +1,19 @@
+use Rattle.cue_device.proofs.Texts.{begins_now, begins_later}
+use Rattle.cue_device.proofs.Telling.{on_err}
+use Rattle.cue_print.specs.Spelled.{default_text}
+use Rattle.cue_print.proofs.scalar.push_default.Goals as goal
+
+pub returns-in_err-put-clause-begun : goal.returns-in_err-put-clause-begun
+unfolding default_text
+returns-in_err-put-clause-begun g c =
+    on_err _ (begins_now _ _ _ _ c.in_err-put.ensures.begun)
+
+pub returns-in_err-push_operand-clause-begun : goal.returns-in_err-push_operand-clause-begun
+unfolding default_text
+returns-in_err-push_operand-clause-begun g c =
+    on_err _ (begins_later _ _ _ _ _ c.in_ok-put.ensures.told (begins_now _ _ _ _ c.in_err-push_operand.ensures.begun))
+
+pub returns-in_err-put-2-clause-begun : goal.returns-in_err-put-2-clause-begun
+unfolding default_text
+returns-in_err-put-2-clause-begun g c =
+    on_err _ (begins_later _ _ _ _ _ c.in_ok-put.ensures.told (begins_later _ _ _ _ _ c.in_ok-push_operand.ensures.told c.in_err-put-2.ensures.begun))
