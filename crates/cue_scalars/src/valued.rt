@@ -154,8 +154,8 @@ impl Valued {
         met.and(alloc, Valued::next_met(alloc, rest, count - half)?)
     }
 
-    /// The values of the terms of a disjunction, and the defaults that they bring. `any_marked` says
-    /// whether some term is marked.
+    /// The values of the terms of a disjunction, and the defaults that they bring. `any_marked`
+    /// says whether some term is marked.
     fn split(
         alloc: Global,
         any_marked: bool,

@@ -155,8 +155,8 @@ impl IntSet {
         self.followed_by(alloc, other)
     }
 
-    /// The members of one or more of these sets, which are taken over. The pieces of all are sorted,
-    /// and then walked once.
+    /// The members of one or more of these sets, which are taken over. The pieces of all are
+    /// sorted, and then walked once.
     pub fn union_all(alloc: Global, sets: Vec<IntSet>) -> Result<IntSet, Memory>
         ensures { IfOk result (λ all. (n : ℤ) →
             is_member all n ≡ list_any (λ set. is_member set n) sets.items) }
