@@ -1,5 +1,5 @@
 -- What is told of a site, by the table that it holds.
-use Rattle.std.specs.Prelude.{◌≡◌, ℕ, List}
+use Rattle.std.specs.Prelude.{◌≡◌, ℕ, List, Bool, Option}
 use Rattle.cue_report.specs.declared.conflict.Conflict.{Conflict}
 use Rattle.cue_report.specs.declared.gap.Gap.{Gap}
 use Rattle.cue_report.specs.declared.outcome.Export.{Export}
@@ -8,8 +8,11 @@ use Rattle.cue_report.specs.Export.{IsExport}
 use Rattle.cue_report.specs.Gaps.{AreGaps}
 use Rattle.cue_report.specs.Listing.{AreConflicts}
 use Rattle.cue_report.specs.OneReport.{HaveOneReport}
-pub use Rattle.cue_report.specs.ExportText.{IsExportText, IsTextOf}
+use Rattle.cue_report.specs.declared.outcome.ExportKind.{ExportKind}
+use Rattle.cue_report.specs.ExportText as report
+pub use Rattle.cue_report.specs.ExportText.{IsExportText, IsTextOf, BeginsExport, TellsExport}
 pub use Rattle.cue_report.specs.Lines.{conflict_line, gap_line, AddsConflictLines, AddsGapLines}
+pub use Rattle.cue_report.specs.Lines.{BeginsConflicts, BeginsGaps, TellsConflicts, TellsGaps}
 use Rattle.cue_print.specs.Printed.{file_of}
 use Rattle.cue_print.specs.Spelled.{file_text}
 use Rattle.cue_replica.specs.Language.{Table, language}
@@ -36,6 +39,31 @@ AddsConflictLinesOf table = AddsConflictLines (language.table_refuses table)
 
 abbrev pub AddsGapLinesOf : Table → List ℕ → List ℕ → Type 0
 AddsGapLinesOf table = AddsGapLines (language.table_refuses table)
+
+-- its export, of this kind, has this text
+abbrev pub IsExportAsText : Table → ExportKind → List ℕ → Type 0
+IsExportAsText table = report.IsExportOf (language.table_refuses table)
+
+-- known bytes grow by the text of its export, by a line for each conflict, or for each place that is
+-- incomplete
+abbrev pub TellsExportOf : Table → ExportKind → Option (List ℕ) → Option (List ℕ) → Type 0
+TellsExportOf table = TellsExport (language.table_refuses table)
+
+abbrev pub TellsConflictsOf : Table → Bool → Option (List ℕ) → Option (List ℕ) → Type 0
+TellsConflictsOf table = TellsConflicts (language.table_refuses table)
+
+abbrev pub TellsGapsOf : Table → Bool → Option (List ℕ) → Option (List ℕ) → Type 0
+TellsGapsOf table = TellsGaps (language.table_refuses table)
+
+-- they grow by the front of these
+abbrev pub BeginsExportOf : Table → Option (List ℕ) → Option (List ℕ) → Type 0
+BeginsExportOf table = BeginsExport (language.table_refuses table)
+
+abbrev pub BeginsConflictsOf : Table → Option (List ℕ) → Option (List ℕ) → Type 0
+BeginsConflictsOf table = BeginsConflicts (language.table_refuses table)
+
+abbrev pub BeginsGapsOf : Table → Option (List ℕ) → Option (List ℕ) → Type 0
+BeginsGapsOf table = BeginsGaps (language.table_refuses table)
 
 -- its canonical text
 abbrev pub printed : Table → List ℕ

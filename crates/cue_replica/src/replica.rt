@@ -1,6 +1,8 @@
 ghost use Rattle.std.specs.Prelude.{◌≡◌, ◌<◌, ◌⊎◌, ◌↔◌, ◌^◌, ℕ, List, [], false, length};
 ghost use Rattle.std.specs.Prelude.{string_bytes, IsTrue};
 ghost use Rattle.std.specs.Prelude.{IfOk, IfErr, IfSome, IfNone, Ok, IsOk, OnOk, OnErr, IsErrOf};
+ghost use Rattle.std.specs.Io.KnownBytes.{Appends};
+ghost use Rattle.cue_device.specs.Texts.{Begins};
 ghost use Rattle.cue_lattice.specs.Limits.{text_limit};
 ghost use Rattle.cue_lattice.specs.Refusal.{memory, refusal_at};
 ghost use Rattle.cue_codec.specs.Decoding.{IsOtherVersion};
@@ -16,11 +18,14 @@ ghost use Rattle.cue_replica.specs.PrintedAgain.{IsReadAgain};
 ghost use Rattle.cue_replica.specs.Reading.{HasTakenIn, StandsAt};
 ghost use Rattle.cue_replica.specs.Reports.{IsExportOf, AreConflictsOf, AreGapsOf, printed};
 ghost use Rattle.cue_replica.specs.Reports.{IsExportTextOf, AddsConflictLinesOf, AddsGapLinesOf};
+ghost use Rattle.cue_replica.specs.Reports.{TellsExportOf, TellsConflictsOf, TellsGapsOf};
+ghost use Rattle.cue_replica.specs.Reports.{BeginsExportOf, BeginsConflictsOf, BeginsGapsOf};
 
 use crate::fragment::read;
 use cue_codec::{StateReader, StateWriter, decode, encode, size};
+use cue_device::TextSink;
 use cue_lattice::{Kind, Memory, Refusal};
-use cue_report::{Conflict, Export, ExportText, Gap, Value};
+use cue_report::{Conflict, Export, ExportKind, ExportText, Gap, Value};
 use cue_row::Row;
 use cue_table::Table;
 use std::alloc::Global;
@@ -238,6 +243,25 @@ impl Replica {
         cue_report::export_text(alloc, &self.table)
     }
 
+    /// Tells the text of the export, as `export_text` gives it, while it is made, and its kind. Memory
+    /// goes with the table, and not with what is told.
+    ///
+    /// # Errors
+    ///
+    /// Where no more is taken; then the front of the text was.
+    pub fn tell_export<S: TextSink>(
+        &self,
+        alloc: Global,
+        out: &mut S,
+    ) -> Result<ExportKind, S::Halt>
+        ensures export { IfOk result (λ kind. TellsExportOf self.now kind
+            (S.taken out.old) (S.taken out.new)) }
+        ensures begun { OnErr result
+            (BeginsExportOf self.now (S.taken out.old) (S.taken out.new)) }
+    {
+        cue_report::tell_export(alloc, &self.table, out)
+    }
+
     /// The conflicts, in the order of their paths.
     ///
     /// There are none exactly where some document meets the table.
@@ -255,6 +279,21 @@ impl Replica {
             (string_bytes text) (string_bytes whole)) }
     {
         cue_report::conflict_lines(alloc, text, &self.table)
+    }
+
+    /// Tells a line for each conflict, in the order of their paths, as `conflict_lines` writes them,
+    /// and whether there is one.
+    ///
+    /// # Errors
+    ///
+    /// As `tell_export`.
+    pub fn tell_conflicts<S: TextSink>(&self, alloc: Global, out: &mut S) -> Result<bool, S::Halt>
+        ensures lines { IfOk result (λ some. TellsConflictsOf self.now some
+            (S.taken out.old) (S.taken out.new)) }
+        ensures begun { OnErr result
+            (BeginsConflictsOf self.now (S.taken out.old) (S.taken out.new)) }
+    {
+        cue_report::tell_conflicts(alloc, &self.table, out)
     }
 
     /// A document that meets the table, also where it is incomplete: where none is chosen, the
@@ -284,6 +323,35 @@ impl Replica {
             (string_bytes text) (string_bytes whole)) }
     {
         cue_report::gap_lines(alloc, text, &self.table)
+    }
+
+    /// Tells a line for each place that is incomplete, in the order of the paths, as `gap_lines`
+    /// writes them, and whether there is one.
+    ///
+    /// # Errors
+    ///
+    /// As `tell_export`.
+    pub fn tell_gaps<S: TextSink>(&self, alloc: Global, out: &mut S) -> Result<bool, S::Halt>
+        ensures lines { IfOk result (λ some. TellsGapsOf self.now some
+            (S.taken out.old) (S.taken out.new)) }
+        ensures begun { OnErr result
+            (BeginsGapsOf self.now (S.taken out.old) (S.taken out.new)) }
+    {
+        cue_report::tell_gaps(alloc, &self.table, out)
+    }
+
+    /// Tells the canonical text of the table, while it is made.
+    ///
+    /// # Errors
+    ///
+    /// As `tell_export`.
+    pub fn tell_printed<S: TextSink>(&self, alloc: Global, out: &mut S) -> Result<(), S::Halt>
+        ensures told { OnOk result
+            (Appends (S.taken out.old) (S.taken out.new) (printed self.now)) }
+        ensures begun { OnErr result
+            (Begins (S.taken out.old) (S.taken out.new) (printed self.now)) }
+    {
+        cue_print::print_to(alloc, &self.table, out)
     }
 
     /// The canonical text of the table.
