@@ -85,7 +85,13 @@ fn was(told: Made<(bool, String)>, whole: bool, text: &str) -> Made<bool> {
 #[test]
 fn conflicts_are_told_to_a_sink(rt: HostRuntime) -> Result<(), Fail> {
     let alloc = rt.alloc();
-    assert!(rt; was(conflicts_told(alloc, LACKING, 100), true, "conflict c no value\n")?);
+    assert!(rt;
+        was(
+            conflicts_told(alloc, LACKING, 100),
+            true,
+            "conflict c no value\n"
+        )?
+    );
     assert!(rt; was(conflicts_told(alloc, LACKING, 10), false, "")?);
     assert!(rt; was(conflicts_told(alloc, WHOLE, 0), true, "")?);
     Ok(())
@@ -94,8 +100,20 @@ fn conflicts_are_told_to_a_sink(rt: HostRuntime) -> Result<(), Fail> {
 #[test]
 fn gaps_are_told_until_a_sink_is_full(rt: HostRuntime) -> Result<(), Fail> {
     let alloc = rt.alloc();
-    assert!(rt; was(gaps_told(alloc, &[], 100), true, "incomplete . not a single value\n")?);
-    assert!(rt; was(gaps_told(alloc, LACKING, 50), false, "incomplete a missing\n")?);
+    assert!(rt;
+        was(
+            gaps_told(alloc, &[], 100),
+            true,
+            "incomplete . not a single value\n"
+        )?
+    );
+    assert!(rt;
+        was(
+            gaps_told(alloc, LACKING, 50),
+            false,
+            "incomplete a missing\n"
+        )?
+    );
     Ok(())
 }
 
@@ -105,6 +123,12 @@ fn exports_are_told_to_a_sink(rt: HostRuntime) -> Result<(), Fail> {
     let json = "{\"a\":{\"c\":-1},\"b\":2,\"l\":[1,[]]}";
     assert!(rt; was(export_told(alloc, WHOLE, 100), true, json)?);
     assert!(rt; was(export_told(alloc, WHOLE, 3), false, "")?);
-    assert!(rt; was(export_told(alloc, LACKING, 100), true, "conflict c no value\n")?);
+    assert!(rt;
+        was(
+            export_told(alloc, LACKING, 100),
+            true,
+            "conflict c no value\n"
+        )?
+    );
     Ok(())
 }
