@@ -128,7 +128,7 @@ module _ {R Q : Type 0} (refuses : R → Q → Type 0) where
   refusing_row (Some r) question h = (r, refl)
 
   -- where a table refuses something, the path is not longer than it is deep
-  refused_depth : (tree : Tree R) (path : Path) (question : Q) → TableRefuses refuses tree path question → length path ≤ tree_depth tree
+  pub refused_depth : (tree : Tree R) (path : Path) (question : Q) → TableRefuses refuses tree path question → length path ≤ tree_depth tree
   refused_depth tree path question h = let row = refusing_row (row_at tree path) question h in row_depth tree path row.0 row.1
 
   -- where nothing is refused at paths longer than n, the table is not deeper

@@ -91,7 +91,7 @@ module _ {R : Type 0} where
   from_less m n (child (index i) tree children) l h = (omega (arith, l, h.0), from_less m n children l h.1)
 
   -- a step before an index is before all elements from it on
-  below_from : (n : ℕ) (step : Step) (b : Children R) → step_cmp step (index n) ≡ Less → AreFrom n b → IsBelowAll step b
+  pub below_from : (n : ℕ) (step : Step) (b : Children R) → step_cmp step (index n) ≡ Less → AreFrom n b → IsBelowAll step b
   below_from n step none l h = tt
   below_from n step (child (label text) tree children) l h = absurd h
   below_from n step (child (index i) tree children) l h = (low step i l h.0, below_from n step children l h.1)

@@ -37,6 +37,7 @@ pub mod RowLists
 pub mod RunPlaces
 pub mod SlotOrder
 pub mod Spanned
+pub mod Stretches
 pub mod ValidWalks
 pub mod Validity
 pub mod Ways

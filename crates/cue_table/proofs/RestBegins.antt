@@ -76,11 +76,11 @@ module _ {R : Type 0} where
       let less = number_less i n after.0 in
       record { last = omega (arith, more.last, less); found = find_past (index n) (index i) here (join a (child (index n) tree none)) (greater_number n i less) ∙ more.found }
 
-  abbrev all_but : ℕ → ℕ → Tree R → Children R
+  abbrev pub all_but : ℕ → ℕ → Tree R → Children R
   all_but i zero tree = none
   all_but i (suc m) tree = child (index i) tree (all_but (suc i) m tree)
 
-  alike_last : (i m : ℕ) (tree : Tree R) → alike i m tree none ≡ join (all_but i m tree) (child (index (i + m)) tree none)
+  pub alike_last : (i m : ℕ) (tree : Tree R) → alike i m tree none ≡ join (all_but i m tree) (child (index (i + m)) tree none)
   alike_last i zero tree = let same : i ≡ i + zero = omega arith in ap (λ n. child (index n) tree none) same
   alike_last i (suc m) tree =
       let same : suc i + m ≡ i + suc m = omega arith in
@@ -101,7 +101,7 @@ module _ {R : Type 0} where
       (ap (λ runs. join own (run_branches runs)) e ∙ ap (join own) (runs_join front (r ∷ []) ∙ ap (join others) (alike_last r.first more r.node) ∙ sym (join_assoc others (all_but r.first more r.node) (child (index (r.first + more)) r.node none)))
       ∙ sym (join_assoc own (join others (all_but r.first more r.node)) (child (index (r.first + more)) r.node none))) h
 
-  branches_end : (front : List (Child R)) (c : Child R) → branches (front ++ c ∷ []) ≡ join (branches front) (child (step_of c.step) c.node none)
+  pub branches_end : (front : List (Child R)) (c : Child R) → branches (front ++ c ∷ []) ≡ join (branches front) (child (step_of c.step) c.node none)
   branches_end [] c = refl
   branches_end (d ∷ front) c = ap (child (step_of d.step) d.node) (branches_end front c)
 

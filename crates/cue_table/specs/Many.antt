@@ -1,8 +1,8 @@
 -- Many tables as one.
-use Rattle.std.specs.Prelude.{◌≡◌, ◌↔◌, List, [], ◌∷◌, Option, Some, None}
+use Rattle.std.specs.Prelude.{◌≡◌, ◌↔◌, ℕ, nat_lt, if◌then◌else◌, List, [], ◌∷◌, Option, Some, None}
 use Rattle.cue_lattice.specs.OneOf.{OneOf}
 use Rattle.cue_lattice.specs.Path as paths
-use Rattle.cue_lattice.specs.Path.{Path}
+use Rattle.cue_lattice.specs.Path.{Path, label, index}
 use Rattle.cue_row.specs.Steps.{step_of}
 use Rattle.cue_row.specs.declared.step.Step.{Step}
 use Rattle.cue_table.specs.Tree.{Tree, node, none, child, no_rest, taken, empty}
@@ -24,6 +24,23 @@ pub record IsOfBranches {R Q : Type 0} (refuses : R → Q → Type 0) (given : L
       (step : paths.Step) (path : Path) (question : Q)
       → TableRefuses refuses table (step ∷ path) question
       ↔ OneOf (λ one. (step_of one.0 ≡ step) × TableRefuses refuses one.1 path question) given
+
+-- the tree of the first stretch that begins at an index or before it; of a list of stretches, this is
+-- what the element with the index is
+abbrev pub element_of : {R : Type 0} → ℕ → List (ℕ × Tree R) → Tree R
+element_of i [] = empty
+element_of i ((start, tree) ∷ stretches) = if nat_lt i start then element_of i stretches else tree
+
+-- The table refuses nothing at the root and at labels; and at an index and then a path exactly what the
+-- element that is given for the index refuses at the path.
+pub record IsOfElements {R Q : Type 0} (refuses : R → Q → Type 0) (given : List (ℕ × Tree R))
+    (table : Tree R) : Type 0 where
+  pub root : (question : Q) → ¬ TableRefuses refuses table [] question
+  pub labels : (text : List ℕ) (path : Path) (question : Q)
+      → ¬ TableRefuses refuses table (label text ∷ path) question
+  pub elements : (i : ℕ) (path : Path) (question : Q)
+      → TableRefuses refuses table (index i ∷ path) question
+      ↔ TableRefuses refuses (element_of i given) path question
 
 -- the tree below a step; nothing, where it has no row
 abbrev pub hung : {R : Type 0} → paths.Step → Option (Tree R) → Tree R

@@ -7,6 +7,7 @@ mod changes;
 mod child;
 mod cursor;
 mod draft;
+mod elements;
 mod fill;
 mod formed;
 mod hang;

@@ -270,4 +270,13 @@ impl<R: Narrow> Table<R> {
     {
         Table { alloc, root }
     }
+
+    /// The root, with all that is below.
+    pub(crate) fn into_root(self) -> Node<R>
+        ensures same { result ≡ self }
+        ensures form { IsTable R.refuses R.is_value result }
+    {
+        let Table { alloc: _, root } = self;
+        root
+    }
 }

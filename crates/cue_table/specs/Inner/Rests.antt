@@ -68,6 +68,15 @@ pub record IsLastRun {R Q : Type 0} (runs : List (Run R Q)) (from : ℕ) (rest :
   pub ends : last_of last.first last.more + 1 ≡ from
   pub repeats : last.node ≡ rest
 
+-- The run is that of all elements from one index to another, each of which is this tree.
+pub record IsRunOf {R Q : Type 0} (P : R → Type 0) (first last : ℕ) (tree : Tree R)
+    (run : Run R Q) : Type 0 where
+  pub begins : run.first ≡ first
+  pub ends : run.more + first ≡ last
+  pub is : run.node ≡ tree
+  pub taken : IsTaken tree
+  pub form : IsTree P tree
+
 -- A list that goes on so is in form, and each element is what it was: that of the list before an
 -- index, and the rest from it on.
 pub record IsSettled {R Q : Type 0} (P : R → Type 0) (fixed : ℕ) (elements : Children R)
@@ -77,6 +86,15 @@ pub record IsSettled {R Q : Type 0} (P : R → Type 0) (fixed : ℕ) (elements :
   pub rest : IsRestOf P (run_branches made.runs.items) (onward made.from made.node)
   pub same : (i : ℕ) → find_with (onward made.from made.node) (index i) (run_branches made.runs.items)
       ≡ found_to fixed (Some tree) (index i) elements
+
+-- The place is a list in form and nothing else. Its elements are those given before an index, and from
+-- it on all are this one, where it is there.
+pub record IsListOf {R : Type 0} (P : R → Type 0) (from : ℕ) (elements : Children R)
+    (further : Option (Tree R)) (made : Tree R) : Type 0 where
+  pub form : IsTree P made
+  pub row : row_of made ≡ None
+  pub labels : (text : List ℕ) → step_into made (label text) ≡ None
+  pub same : (i : ℕ) → step_into made (index i) ≡ found_to from further (index i) elements
 
 -- Lists that go on in form, each element of which refuses exactly what those of two places do.
 pub record AreElementsMet {R Q S : Type 0} (refuses : R → S → Type 0) (P : R → Type 0)
