@@ -1,32 +1,29 @@
 -- The indexes at which other elements begin.
-use Rattle.std.proofs.Common.{◌≡◌, ◌↔◌, ◌⊎◌, inl, inr, ⊎_elim, ℕ, zero, suc, ◌+◌, ◌≤◌, ◌<◌, ◌^◌, true, false, List, [], ◌∷◌, All, Option, Some, None, refl, sym, ap, subst, ◌∙◌, arith}
+use Rattle.std.proofs.Common.{◌≡◌, ◌↔◌, ◌⊎◌, inl, inr, ⊎_elim, ℕ, zero, suc, ◌+◌, ◌≤◌, ◌<◌, ◌^◌, true, false, List, [], ◌∷◌, ◌++◌, All, Option, Some, None, refl, sym, ap, subst, ◌∙◌, arith}
 use Rattle.std.specs.List.{Contains}
 use Rattle.std.specs.List.Sorted.{IsPermutation}
 use Rattle.std.specs.BinaryHeap.{IsUpperBound}
 use Rattle.std.specs.Ordering.{nat_cmp, is_lt}
 use Rattle.std.proofs.lemmas.Bool.{cases_lt}
-use Rattle.std.proofs.lemmas.List.Elements.{All-contains, All-contains_itself, Contains-append_right, All-weaker, All-cons, All-from_recursion}
+use Rattle.std.proofs.lemmas.List.Elements.{All-contains, All-contains_itself, Contains-append_right, All-weaker, All-cons, All-from_recursion, All-push}
 use Rattle.std.proofs.lemmas.List.Sorted.{All-permutation, IsPermutation-sym, Contains-permutation}
-use Rattle.cue_lattice.specs.Path as paths
-use Rattle.cue_lattice.specs.Path.{Path, index, label}
+use Rattle.cue_lattice.specs.Path.{Path, index}
 use Rattle.cue_lattice.specs.Question.{Question}
 use Rattle.cue_row.specs.Questions.{question_of}
 use Rattle.cue_row.specs.Row.{Refuses}
 use Rattle.cue_row.specs.declared.question.Question as program
 use Rattle.cue_row.specs.declared.parts.RowParts.{RowParts as Row}
-use Rattle.cue_row.specs.declared.step.Step.{Step}
 use Rattle.cue_table.specs.Form.{IsTree, AreWithin}
 use Rattle.cue_table.specs.Refuses.{TableRefuses}
 use Rattle.cue_table.specs.Spans.{Span, field, elements, alike, spanned, spread}
-use Rattle.cue_table.specs.Tree.{Tree, node, Children, none, child, no_rest, onward, below, behind_last, find, find_with, step_into, fixed_of, empty}
+use Rattle.cue_table.specs.Tree.{Tree, node, Children, none, child, no_rest, onward, below, behind_last, find, find_with, step_into, fixed_of}
 use Rattle.cue_table.proofs.Branches.{find_before, find_rest, find_fixed}
 use Rattle.cue_table.proofs.Exact.{within_last}
 use Rattle.cue_table.proofs.Joined.{alike_find, alike_past, less_number}
-use Rattle.cue_eval.specs.Adding.{AddsAt, row_below, step_below, IsReached, Gathers, IsGathered, AreFields, NoneBetween, AreBounds, AreBoundsOf, AreBoundsBelow, AreFew, AreKept, HasBoundsOf, IsSpanWithin}
-use Rattle.cue_eval.specs.declared.additions.Additions.{Additions}
+use Rattle.cue_eval.specs.Adding.{AddsAt, AreStretches, row_below, step_below, NoneBetween, AreBounds, AreBoundsOf, AreBoundsBelow, AreFew, AreKept, HasBoundsOf, IsSpanWithin}
 use Rattle.cue_eval.specs.declared.left_out.Place.{Place}
-use Rattle.cue_eval.proofs.AddedBelow.{Below, empty_refuses}
-use Rattle.cue_eval.proofs.LabelTables.{adds_further, adds_nowhere, adds_branch, same_adds}
+use Rattle.cue_eval.proofs.AddedBelow.{last_stretch, next_stretch}
+use Rattle.cue_eval.proofs.LabelTables.{adds_further, adds_nowhere, same_adds}
 
 -- ---- numbers that are kept
 pub all_kept : (P : ℕ → Type 0) (old new : List ℕ) → AreKept old new → All P new → All P old
@@ -43,6 +40,10 @@ pushed_kept bound old new moved n there = Contains-permutation (bound ∷ old) n
 
 pub pushed_there : (bound : ℕ) (old new : List ℕ) → IsPermutation (bound ∷ old) new → Contains new bound
 pushed_there bound old new moved = Contains-permutation (bound ∷ old) new bound moved (0, omega arith, refl)
+
+-- ---- one more behind others
+pub pushed_all : {X : Type 0} (P : X → Type 0) (old new : List X) (one : X) → new ≡ old ++ one ∷ [] → All P old → P one → All P new
+pushed_all P old new one e all here = subst (All P) (sym e) (All-push P old one all here)
 
 -- ---- numbers that are at most 2 ^ 32
 pub pushed_few : (bound : ℕ) (old new : List ℕ) → bound ≤ 2 ^ 32 → AreFew old → IsPermutation (bound ∷ old) new → AreFew new
@@ -144,11 +145,11 @@ pub kept_below : {R : Type 0} (branch : Option (Tree R)) (old new : List ℕ) �
 kept_below branch old new kept are i j le apart = are i j le (all_kept (λ bound. (bound ≤ i) ⊎ (j < bound)) old new kept apart)
 
 -- ---- the way from bound to bound, the greatest first
-pub record IsUnderway (place : Place) (additions : Additions) (bounds : List ℕ) : Type 0 where
-  pub gathered : IsGathered place additions
-  pub alike : (i j : ℕ) → i ≤ j → j < additions.from → NoneBetween i j bounds → (path : Path) (question : Question)
+pub record IsUnderway (place : Place) (from : ℕ) (given : List (ℕ × Tree Row)) (bounds : List ℕ) : Type 0 where
+  pub stretches : AreStretches place from given
+  pub alike : (i j : ℕ) → i ≤ j → j < from → NoneBetween i j bounds → (path : Path) (question : Question)
       → AddsAt place (index i ∷ path) question ↔ AddsAt place (index j ∷ path) question
-  pub end : All (λ bound. 0 < bound) bounds → additions.from ≡ 0
+  pub end : All (λ bound. 0 < bound) bounds → from ≡ 0
 
 -- the greatest bound is below none of the others
 below_greatest : (x : ℕ) (xs : List ℕ) → IsUpperBound nat_cmp x xs → All (λ y. y ≤ x) xs
@@ -160,66 +161,44 @@ back : (P : ℕ → Type 0) (all left : List ℕ) (x : ℕ) → IsPermutation al
 back P all left x moved here others = All-permutation P (x ∷ left) all (IsPermutation-sym all (x ∷ left) moved) (All-cons P x left here others)
 
 -- from the greatest bound on all elements are alike
-pub underway : (place : Place) (additions : Additions) (fields : List (Step × Tree Row)) (all left : List ℕ) (last : ℕ) → AreFields place fields → additions.from ≡ last → additions.later ≡ empty → additions.single.items ≡ fields
-    → ((path : Path) (question : program.Question) → TableRefuses Refuses additions.each path question ↔ AddsAt place (index last ∷ path) (question_of question))
-    → AreBounds place all → Contains all 0 → IsPermutation all (last ∷ left) → IsUpperBound nat_cmp last left → IsUnderway place additions left
-underway place additions fields all left last are from later single says bounds there moved greatest = record {
-  gathered = record {
-    root = λ question h. empty_refuses [] question (subst (λ t. TableRefuses Refuses t [] question) later h);
-    reached = λ step path question far. at step path question (subst (λ n. IsReached n step) from far);
-    others = λ i path question low h. ⊎_elim
-        (⊎_elim (λ g. empty_refuses (index i ∷ path) question (subst (λ t. TableRefuses Refuses t (index i ∷ path) question) later g)) (λ g. let far : additions.from ≤ i = g.0 in absurd (omega (arith, far, low))))
-        (λ g. no_element i path question g) h;
-  };
-  alike = λ i j le low apart. bounds i j le (back (λ bound. (bound ≤ i) ⊎ (j < bound)) all left last moved (inr (subst (λ n. j < n) from low)) apart);
+pub underway : (place : Place) (given : List (ℕ × Tree Row)) (sets : Tree Row) (all left : List ℕ) (last : ℕ) → given ≡ (last, sets) ∷ []
+    → ((path : Path) (question : program.Question) → TableRefuses Refuses sets path question ↔ AddsAt place (index last ∷ path) (question_of question))
+    → AreBounds place all → Contains all 0 → IsPermutation all (last ∷ left) → IsUpperBound nat_cmp last left → IsUnderway place last given left
+underway place given sets all left last e says bounds there moved greatest = record {
+  stretches = last_stretch place last sets given e (λ i path question far.
+      let same = last_alike i far path (question_of question) in
+      (λ h. same.0 ((says path question).0 h), λ h. (says path question).1 (same.1 h)));
+  alike = λ i j le low apart. bounds i j le (back (λ bound. (bound ≤ i) ⊎ (j < bound)) all left last moved (inr low) apart);
   end = λ positive. elim (cases_lt 0 last) [
     | inl more ↦ let no : 0 < 0 = All-contains (λ bound. 0 < bound) all 0 (back (λ bound. 0 < bound) all left last moved more positive) there in absurd (omega (arith, no))
-    | inr least ↦ omega (arith, from, least)
+    | inr least ↦ omega (arith, least)
   ];
 } where
-  no_element : (i : ℕ) (path : Path) (question : program.Question) → ¬ Below additions.single.items (index i) path question
-  no_element i path question h = are.1.labels i ((are.2.refused (index i) path question).0 (subst (λ xs. Below xs (index i) path question) single h)).0
-
   last_alike : (i : ℕ) → last ≤ i → (path : Path) (question : Question) → AddsAt place (index last ∷ path) question ↔ AddsAt place (index i ∷ path) question
   last_alike i far = bounds last i far (back (λ bound. (bound ≤ last) ⊎ (i < bound)) all left last moved (inl (omega arith)) (All-weaker (λ y. y ≤ last) (λ bound. (bound ≤ last) ⊎ (i < bound)) (λ y h. inl h) left (below_greatest last left greatest)))
 
-  at : (step : paths.Step) (path : Path) (question : program.Question) → IsReached last step → Gathers additions step path question ↔ AddsAt place (step ∷ path) (question_of question)
-  at (label text) path question far = (
-    ⊎_elim (⊎_elim (λ g. absurd (empty_refuses (label text ∷ path) question (subst (λ t. TableRefuses Refuses t (label text ∷ path) question) later g))) (λ g. absurd g.0))
-        (λ g. ((are.2.refused (label text) path question).0 (subst (λ xs. Below xs (label text) path question) single g)).1),
-    λ h. let branch = adds_branch place (label text) path (question_of question) h in
-        inr (subst (λ xs. Below xs (label text) path question) (sym single) ((are.2.refused (label text) path question).1 (are.1.all text branch.0 branch.1, h))),
-  )
-  at (index i) path question far =
-      let same = last_alike i far path (question_of question) in (
-        ⊎_elim (⊎_elim (λ g. absurd (empty_refuses (index i ∷ path) question (subst (λ t. TableRefuses Refuses t (index i ∷ path) question) later g))) (λ g. same.0 ((says path question).0 g.1)))
-            (λ g. absurd (no_element i path question g)),
-        λ h. inl (inr (omega (arith, from, far), (says path question).1 (same.1 h))),
-      )
-
 -- a stretch up to the last one: in all its elements the same is added
-pub stretch : (place : Place) (additions : Additions) (all left : List ℕ) (first : ℕ) (sets : Tree Row) → IsUnderway place additions all → IsPermutation all (first ∷ left) → IsUpperBound nat_cmp first left
+pub underway_on : (place : Place) (from first : ℕ) (old new : List (ℕ × Tree Row)) (sets : Tree Row) (all left : List ℕ) → IsUnderway place from old all → IsPermutation all (first ∷ left) → IsUpperBound nat_cmp first left → first < from
     → ((path : Path) (question : program.Question) → TableRefuses Refuses sets path question ↔ AddsAt place (index first ∷ path) (question_of question))
-    → (i : ℕ) (path : Path) (question : program.Question) → first ≤ i → i < additions.from → TableRefuses Refuses sets path question ↔ AddsAt place (index i ∷ path) (question_of question)
-stretch place additions all left first sets is moved greatest says i path question far low =
-    let apart = back (λ bound. (bound ≤ first) ⊎ (i < bound)) all left first moved (inl (omega arith)) (All-weaker (λ y. y ≤ first) (λ bound. (bound ≤ first) ⊎ (i < bound)) (λ y h. inl h) left (below_greatest first left greatest)) in
-    let same = is.alike first i far low apart path (question_of question) in
-    (λ h. same.0 ((says path question).0 h), λ h. (says path question).1 (same.1 h))
-
-pub underway_on : (place : Place) (old new : Additions) (all left : List ℕ) (first : ℕ) → IsUnderway place old all → IsPermutation all (first ∷ left) → first < old.from → new.from ≡ first → IsGathered place new → IsUnderway place new left
-underway_on place old new all left first is moved low from gathered = record {
-  gathered = gathered;
-  alike = λ i j le before apart. is.alike i j le (omega (arith, before, from, low)) (back (λ bound. (bound ≤ i) ⊎ (j < bound)) all left first moved (inr (subst (λ n. j < n) from before)) apart);
+    → new ≡ old ++ (first, sets) ∷ [] → IsUnderway place first new left
+underway_on place from first old new sets all left is moved greatest low says e = record {
+  stretches = next_stretch place from first sets old new e low is.stretches (λ i path question high before.
+      let same = first_alike i high before path (question_of question) in
+      (λ h. same.0 ((says path question).0 h), λ h. (says path question).1 (same.1 h)));
+  alike = λ i j le before apart. is.alike i j le (omega (arith, before, low)) (back (λ bound. (bound ≤ i) ⊎ (j < bound)) all left first moved (inr before) apart);
   end = λ positive. elim (cases_lt 0 first) [
     | inl more ↦ let no = is.end (back (λ bound. 0 < bound) all left first moved more positive) in absurd (omega (arith, no, low))
-    | inr least ↦ omega (arith, from, least)
+    | inr least ↦ omega (arith, least)
   ];
-}
+} where
+  first_alike : (i : ℕ) → first ≤ i → i < from → (path : Path) (question : Question) → AddsAt place (index first ∷ path) question ↔ AddsAt place (index i ∷ path) question
+  first_alike i high before = is.alike first i high before
+      (back (λ bound. (bound ≤ first) ⊎ (i < bound)) all left first moved (inl (omega arith)) (All-weaker (λ y. y ≤ first) (λ bound. (bound ≤ first) ⊎ (i < bound)) (λ y h. inl h) left (below_greatest first left greatest)))
 
 -- a bound that is told twice
-pub underway_again : (place : Place) (additions : Additions) (all left : List ℕ) (first : ℕ) → IsUnderway place additions all → IsPermutation all (first ∷ left) → additions.from ≤ first → IsUnderway place additions left
-underway_again place additions all left first is moved far = record {
-  gathered = is.gathered;
+pub underway_again : (place : Place) (from first : ℕ) (given : List (ℕ × Tree Row)) (all left : List ℕ) → IsUnderway place from given all → IsPermutation all (first ∷ left) → from ≤ first → IsUnderway place from given left
+underway_again place from first given all left is moved far = record {
+  stretches = is.stretches;
   alike = λ i j le before apart. is.alike i j le before (back (λ bound. (bound ≤ i) ⊎ (j < bound)) all left first moved (inr (omega (arith, before, far))) apart);
   end = λ positive. elim (cases_lt 0 first) [
     | inl more ↦ is.end (back (λ bound. 0 < bound) all left first moved more positive)

@@ -1,5 +1,5 @@
 -- What closing adds, place by place.
-use Rattle.std.specs.Prelude.{◌≡◌, ◌↔◌, ◌⊎◌, ◌+◌, ◌≤◌, ◌<◌, ◌^◌, true, List, [], ◌∷◌, ℕ, Option, Some, None, All}
+use Rattle.std.specs.Prelude.{◌≡◌, ◌↔◌, ◌⊎◌, ◌+◌, ◌++◌, ◌≤◌, ◌<◌, ◌^◌, true, List, [], ◌∷◌, ℕ, Option, Some, None, All}
 use Rattle.std.specs.List.{Contains}
 use Rattle.std.specs.Option.{option_and_then}
 use Rattle.cue_lattice.specs.Limits.{step_limit}
@@ -24,10 +24,10 @@ use Rattle.cue_syntax.specs.declared.tree.Label.{Label}
 use Rattle.cue_syntax.specs.Syntax.{Expression}
 use Rattle.cue_table.specs.Depth.{tree_depth}
 use Rattle.cue_table.specs.Form.{IsTable}
+use Rattle.cue_table.specs.Many.{element_of}
 use Rattle.cue_table.specs.Refuses.{RowRefuses, TableRefuses}
 use Rattle.cue_table.specs.Spans.{Span, field, elements}
 use Rattle.cue_table.specs.Tree.{Tree, row_of, row_at, step_into}
-use Rattle.cue_eval.specs.declared.additions.Additions.{Additions}
 use Rattle.cue_eval.specs.declared.body.Closed.{Closed}
 use Rattle.cue_eval.specs.declared.left_out.Place.{Place}
 use Rattle.cue_eval.specs.declared.declared.Declared.{Declared}
@@ -91,11 +91,6 @@ pub record IsStepInto (place : Place) (step : paths.Step) (below : Place) : Type
   pub own : step_into place.own step ≡ Some below.own
   pub dots : below.dots ≡ step_below place.dots step
   pub rows : below.rows ≡ step_below place.rows step
-
--- an element from this index on
-abbrev pub IsFrom : ℕ → paths.Step → Type 0
-IsFrom n (label l) = ⊥
-IsFrom n (index i) = n ≤ i
 
 -- the step is one of these
 abbrev pub IsAmong : List Step → paths.Step → Type 0
@@ -166,49 +161,14 @@ HasBoundsOf (elements i more) bounds = Contains bounds i × Contains bounds (i +
 abbrev pub AreKept : List ℕ → List ℕ → Type 0
 AreKept old new = (n : ℕ) → Contains old n → Contains new n
 
--- what is gathered below a step: in the elements from an index on, or below the step alone
-abbrev pub Gathers : Additions → paths.Step → Path → program.Question → Type 0
-Gathers additions step path question =
-    (TableRefuses Refuses additions.later (step ∷ path) question
-    ⊎ (IsFrom additions.from step × TableRefuses Refuses additions.each path question))
-    ⊎ OneOf (λ one. (step_of one.0 ≡ step) × TableRefuses Refuses one.1 path question)
-    additions.single.items
-
--- the step is to a field or to an element from an index on
-abbrev pub IsReached : ℕ → paths.Step → Type 0
-IsReached n (label l) = Unit
-IsReached n (index i) = n ≤ i
-
--- Below each step that is reached what closing adds is gathered, and elsewhere nothing is.
-pub record IsGathered (place : Place) (additions : Additions) : Type 0 where
-  pub root : (question : program.Question) → ¬ TableRefuses Refuses additions.later [] question
-  pub reached : (step : paths.Step) (path : Path) (question : program.Question)
-      → IsReached additions.from step
-      → Gathers additions step path question ↔ AddsAt place (step ∷ path) (question_of question)
-  pub others : (i : ℕ) (path : Path) (question : program.Question) → i < additions.from
-      → ¬ Gathers additions (index i) path question
-
--- the tables can be hung in: one step below another, and from an index on that is at most the one
--- behind the last of 32 bits
-abbrev pub AreShallow : Additions → Type 0
-AreShallow additions =
-    (tree_depth additions.each < step_limit)
-    × All (λ one. tree_depth one.1 < step_limit) additions.single.items
-    × (additions.from ≤ 2 ^ 32)
-
--- an element from an index on and before another
-abbrev pub IsWithin : ℕ → ℕ → paths.Step → Type 0
-IsWithin first end (label l) = ⊥
-IsWithin first end (index i) = (first ≤ i) × (i < end)
-
--- to the branches one came at each element from an index on and before another
-abbrev pub AreWithElements : ℕ → ℕ → Tree Row → List (Step × Tree Row) → List (Step × Tree Row)
-    → Type 0
-AreWithElements first end sets old new =
-    (step : paths.Step) (path : Path) (question : program.Question)
-    → OneOf (λ one. (step_of one.0 ≡ step) × TableRefuses Refuses one.1 path question) new
-    ↔ (OneOf (λ one. (step_of one.0 ≡ step) × TableRefuses Refuses one.1 path question) old
-    ⊎ (IsWithin first end step × TableRefuses Refuses sets path question))
+-- The stretches are given so far that the elements from an index on have theirs, whatever is given
+-- after them, and no others: those before it are what is given after.
+pub record AreStretches (place : Place) (from : ℕ) (given : List (ℕ × Tree Row)) : Type 0 where
+  pub reached : (i : ℕ) (more : List (ℕ × Tree Row)) (path : Path) (question : program.Question)
+      → from ≤ i → TableRefuses Refuses (element_of i (given ++ more)) path question
+      ↔ AddsAt place (index i ∷ path) (question_of question)
+  pub others : (i : ℕ) (more : List (ℕ × Tree Row)) → i < from
+      → element_of i (given ++ more) ≡ element_of i more
 
 -- of a body it is known what closing asks
 abbrev pub IsBodyKnown : Sight → List Label → Expression → Type 0

@@ -1,6 +1,6 @@
 //! What closing the body of a definition adds, place by place.
 ghost use Rattle.std.specs.Prelude.{◌≡◌, ◌↔◌, ◌≤◌, ◌<◌, ◌^◌, ◌⊎◌, [], ◌∷◌, ℕ, List};
-ghost use Rattle.std.specs.Prelude.{None, IsTrue, IfOk, IfNone, IfSome, OnOk};
+ghost use Rattle.std.specs.Prelude.{All, None, IsTrue, IfOk, IfNone, IfSome, OnOk};
 ghost use Rattle.std.specs.Prelude.{true, false};
 ghost use Rattle.std.specs.BinaryHeap.{IsHeap, heap_items};
 ghost use Rattle.std.specs.List.{Contains};
@@ -23,11 +23,11 @@ ghost use Rattle.cue_table.specs.Tree.{step_into};
 ghost use Rattle.cue_eval.specs.Adding.{OnlyLabels, AllowsAll, AddsAt, AddsHere, IsStepInto};
 ghost use Rattle.cue_eval.specs.Adding.{IsAddedBy, IsAllBelow, AreOwnLabels, AreAddedAt, AreFields};
 ghost use Rattle.cue_eval.specs.Adding.{AreBounds, AreBoundsBelow, AreBoundsOf, AreFew, AreKept};
+ghost use Rattle.cue_eval.specs.Adding.{AreStretches};
 ghost use Rattle.cue_eval.specs.Adding.{HasBoundsOf, IsSpanWithin, root_row, step_below};
 ghost use Rattle.cue_eval.specs.Telling.{Tells};
 ghost use Rattle.cue_eval.specs.declared.declared.Asked.TheVariants.{Stands};
 
-use crate::additions::Additions;
 use crate::declared::Declared;
 use cue_lattice::{Memory, Narrow, Text};
 use cue_row::{Labels, Row, RowParts, Step};
@@ -81,8 +81,7 @@ impl<'a> Place<'a> {
         self.and_here(alloc, sets)
     }
 
-    /// Those of the fields, and those of the elements, of which each stretch that is alike is gone
-    /// into once.
+    /// Those of the fields, and those of the elements.
     #[cycle(sets)]
     fn and_elements(
         &self,
@@ -94,20 +93,39 @@ impl<'a> Place<'a> {
         ensures form { IfOk result (IsTable Refuses IsRow) }
         ensures all { IfOk result (IsAllBelow self.now) }
     {
+        let stretches = self.stretches(alloc)?;
+        let mut all = Table::of_branches(alloc, fields)?;
+        all.meet_with(Table::of_elements(alloc, stretches)?)?;
+        Ok(all)
+    }
+
+    /// Those of the elements, from the last to the first: each stretch that is alike is gone into
+    /// once.
+    #[cycle(sets)]
+    fn stretches(&self, alloc: Global) -> Result<Vec<(u64, Table<Row>)>, Memory>
+        requires { tree_depth self.now.own ≤ step_limit }
+        ensures few { IfOk result (λ stretches. All (λ one. one.0 ≤ 2 ^ 32) stretches.items) }
+        ensures depth { IfOk result (λ stretches.
+            All (λ one. tree_depth one.1 < step_limit) stretches.items) }
+        ensures added { IfOk result (λ stretches. AreStretches self.now 0 stretches.items) }
+    {
         let mut bounds = self.bounds(alloc)?;
+        let mut stretches = Vec::new(alloc);
         let Some(last) = bounds.pop() else {
             // The bounds have 0.
-            return Table::of_branches(alloc, fields);
+            return Ok(stretches);
         };
         let further = self.element(alloc, last)?;
-        let mut gathered = Additions::new(alloc, fields, last, further.copy(alloc)?);
+        stretches.push((last, further.copy(alloc)?))?;
+        let mut from = last;
         while let Some(first) = bounds.pop() {
-            if first < gathered.from() {
+            if first < from {
                 let sets = self.element_beside(alloc, first, last, &further)?;
-                gathered.extend(alloc, first, sets)?;
+                stretches.push((first, sets))?;
+                from = first;
             }
         }
-        gathered.into_table(alloc)
+        Ok(stretches)
     }
 
     /// Those of the element with an index, where those of another element are given. They are shared

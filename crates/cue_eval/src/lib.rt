@@ -1,7 +1,6 @@
 //! Evaluation: what expressions and texts refuse at each place, and the scalars that a text writes.
 #![tactic(auto)]
 
-mod additions;
 mod body;
 mod declared;
 mod evaluation;

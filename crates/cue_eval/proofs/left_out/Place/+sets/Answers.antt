@@ -1,14 +1,17 @@
-use Rattle.std.proofs.Common.{◌+◌, drop, subst, sym, arith}
+use Rattle.std.proofs.Common.{◌≡◌, ◌+◌, ◌≤◌, ◌<◌, ◌^◌, ◌∷◌, ◌++◌, [], drop, ap, subst, sym, arith}
 use Rattle.std.proofs.lemmas.List.{drop_all}
+use Rattle.std.proofs.lemmas.List.Elements.{All-nil}
 use Rattle.std.proofs.lemmas.Result.{IfOk-weaker}
+use Rattle.cue_lattice.specs.Limits.{step_limit}
 use Rattle.cue_lattice.specs.Path.{index}
 use Rattle.cue_row.specs.Questions.{question_of}
 use Rattle.cue_row.specs.Row.{Refuses}
 use Rattle.cue_row.specs.Steps.{step_of}
+use Rattle.cue_table.specs.Depth.{tree_depth}
 use Rattle.cue_table.specs.Refuses.{TableRefuses}
 use Rattle.std.specs.BinaryHeap.{heap_items}
-use Rattle.cue_eval.proofs.AddedBelow.{empty_refuses}
-use Rattle.cue_eval.proofs.Bounds.{popped_few, underway, underway_on, underway_again, stretch, adds_alike}
+use Rattle.cue_eval.proofs.AddedBelow.{all_below, empty_refuses}
+use Rattle.cue_eval.proofs.Bounds.{popped_few, underway, underway_on, underway_again, pushed_all, adds_alike}
 use Rattle.cue_table.specs.Walks.{found_smaller}
 use Rattle.cue_scope.proofs.Walking.{at_hand}
 use Rattle.cue_eval.proofs.LabelTables.{Adding, adds_into, adds_nowhere, all_added, into_depth, added_depth, adding_all, adding_past, adding_more}
@@ -69,48 +72,6 @@ element-returns-in_ok-sets-in-Some-clause-depth t c =
     let shallow = added_depth c.in-Some.place c.in_ok-sets-in-Some.sets c.in_ok-sets-in-Some.ensures.form c.in_ok-sets-in-Some.ensures.added in
     omega (arith, c.requires, flat, shallow)
 
-pub and_elements-new-gathered-requires-clause-few : goal.and_elements-new-gathered-requires-clause-few
-and_elements-new-gathered-requires-clause-few t c = (popped_few c.in-Some.last (heap_items c.in_ok-bounds.bounds) (heap_items c.pop.new.self) c.in_ok-bounds.ensures.few c.in-Some.ensures.permutation).0
-
-pub and_elements-loop-first-init : goal.and_elements-loop-first-init
-and_elements-loop-first-init t c =
-    let made = c.new-gathered.ensures in
-    let popped = c.in-Some.ensures in
-    let heap = c.in_ok-bounds.ensures.heap in (
-      underway c.args.self.now c.new-gathered.result c.args.fields.items (heap_items c.in_ok-bounds.bounds) (heap_items c.pop.new.self) c.in-Some.last c.requires.fields made.from made.later made.single
-          (rw (made.each, c.in_ok-copy.ensures) c.in_ok-further.ensures.added) c.in_ok-bounds.ensures.alike c.in_ok-bounds.ensures.first popped.permutation (popped.below_top heap),
-      (popped.heap_order heap).0,
-      made.shallow,
-      (popped_few c.in-Some.last (heap_items c.in_ok-bounds.bounds) (heap_items c.pop.new.self) c.in_ok-bounds.ensures.few popped.permutation).1,
-    )
-
-pub and_elements-loop-first-preserved-in_ok-extend : goal.and_elements-loop-first-preserved-in_ok-extend
-and_elements-loop-first-preserved-in_ok-extend t c =
-    let loop = c.loop-first in
-    let place = c.args.self.now in
-    let popped = c.in-Some-pop.ensures in
-    let first = c.in-Some-pop.first in
-    let all = heap_items loop.bounds in
-    let left = heap_items c.pop-in-loop-first.new.self in
-    let heap = loop.invariant.1 in
-    let more = c.in_ok-extend.ensures in
-    let says = stretch place loop.gathered all left first c.in_ok-sets.sets loop.invariant.0 popped.permutation (popped.below_top heap) c.in_ok-sets.ensures.added in (
-      underway_on place loop.gathered c.extend.new.self all left first loop.invariant.0 popped.permutation (omega (arith, c.if-first-from.true, c.from.ensures)) more.from (more.gathered place loop.invariant.0.gathered says),
-      (popped.heap_order heap).0,
-      more.shallow,
-      (popped_few first all left loop.invariant.3 popped.permutation).1,
-    )
-
-pub and_elements-loop-first-preserved : goal.and_elements-loop-first-preserved
-and_elements-loop-first-preserved t c =
-    let loop = c.loop-first in
-    let popped = c.in-Some-pop.ensures in (
-      underway_again c.args.self.now loop.gathered (heap_items loop.bounds) (heap_items c.pop-in-loop-first.new.self) c.in-Some-pop.first loop.invariant.0 popped.permutation (omega (arith, c.if-first-from.false, c.from.ensures)),
-      (popped.heap_order loop.invariant.1).0,
-      loop.invariant.2,
-      (popped_few c.in-Some-pop.first (heap_items loop.bounds) (heap_items c.pop-in-loop-first.new.self) loop.invariant.3 popped.permutation).1,
-    )
-
 pub element-returns-in_ok-sets-in-Some-clause-added : goal.element-returns-in_ok-sets-in-Some-clause-added
 element-returns-in_ok-sets-in-Some-clause-added t c path question =
     let says = c.in_ok-sets-in-Some.ensures.added path question in
@@ -127,3 +88,52 @@ element_beside-returns-then-are_alike-clause-added t c =
     let alike = adds_alike c.args.self.now c.args.other c.args.number (sym (same.own yes)) (sym (same.dots yes)) (sym (same.rows yes)) path (question_of question) in
     rw here (λ h. alike.0 (given.0 h), λ h. given.1 (alike.1 h)))
     c.copy.ensures
+
+pub and_elements-returns-clause-all : goal.and_elements-returns-clause-all
+and_elements-returns-clause-all t c =
+    all_below c.args.self.now c.args.fields.items c.in_ok-stretches.stretches.items c.in_ok-all.all c.in_ok-of_elements.field-0 c.meet_with.new.self c.requires.fields c.in_ok-stretches.ensures.added c.in_ok-all.ensures.refused c.in_ok-of_elements.ensures.refused c.in_ok-meet_with.ensures.ok
+
+pub stretches-loop-first-init : goal.stretches-loop-first-init
+stretches-loop-first-init t c =
+    let last = c.in-Some.last in
+    let sets = c.in_ok-copy.field-0 in
+    let popped = c.in-Some.ensures in
+    let heap = c.in_ok-bounds.ensures.heap in
+    let few = popped_few last (heap_items c.in_ok-bounds.bounds) (heap_items c.pop.new.self) c.in_ok-bounds.ensures.few popped.permutation in
+    let one : c.push.new.self.items ≡ (last, sets) ∷ [] = rw c.in_ok-push.ensures.items (ap (λ xs. xs ++ (last, sets) ∷ []) c.new-stretches.ensures.items) in
+    record {
+      underway = underway c.args.self.now c.push.new.self.items sets (heap_items c.in_ok-bounds.bounds) (heap_items c.pop.new.self) last one (rw c.in_ok-copy.ensures c.in_ok-further.ensures.added) c.in_ok-bounds.ensures.alike c.in_ok-bounds.ensures.first popped.permutation (popped.below_top heap);
+      heap = (popped.heap_order heap).0;
+      left = few.1;
+      few = pushed_all (λ one. one.0 ≤ 2 ^ 32) c.new-stretches.result.items c.push.new.self.items (last, sets) c.in_ok-push.ensures.items (rw c.new-stretches.ensures.items (All-nil (λ one. one.0 ≤ 2 ^ 32))) few.0;
+      deep = pushed_all (λ one. tree_depth one.1 < step_limit) c.new-stretches.result.items c.push.new.self.items (last, sets) c.in_ok-push.ensures.items (rw c.new-stretches.ensures.items (All-nil (λ one. tree_depth one.1 < step_limit))) (rw c.in_ok-copy.ensures c.in_ok-further.ensures.depth);
+    }
+
+pub stretches-loop-first-preserved-then-first-from : goal.stretches-loop-first-preserved-then-first-from
+stretches-loop-first-preserved-then-first-from t c =
+    let loop = c.loop-first in
+    let first = c.in-Some-pop.first in
+    let sets = c.in_ok-sets.sets in
+    let popped = c.in-Some-pop.ensures in
+    let heap = loop.invariant.heap in
+    let few = popped_few first (heap_items loop.bounds) (heap_items c.pop-in-loop-first.new.self) loop.invariant.left popped.permutation in
+    let pushed = c.in_ok-push-2.ensures.items in
+    record {
+      underway = underway_on c.args.self.now loop.from first loop.stretches.items c.push-then-first-from.new.self.items sets (heap_items loop.bounds) (heap_items c.pop-in-loop-first.new.self) loop.invariant.underway popped.permutation (popped.below_top heap) c.if-first-from.true c.in_ok-sets.ensures.added pushed;
+      heap = (popped.heap_order heap).0;
+      left = few.1;
+      few = pushed_all (λ one. one.0 ≤ 2 ^ 32) loop.stretches.items c.push-then-first-from.new.self.items (first, sets) pushed loop.invariant.few few.0;
+      deep = pushed_all (λ one. tree_depth one.1 < step_limit) loop.stretches.items c.push-then-first-from.new.self.items (first, sets) pushed loop.invariant.deep c.in_ok-sets.ensures.depth;
+    }
+
+pub stretches-loop-first-preserved : goal.stretches-loop-first-preserved
+stretches-loop-first-preserved t c =
+    let loop = c.loop-first in
+    let popped = c.in-Some-pop.ensures in
+    record {
+      underway = underway_again c.args.self.now loop.from c.in-Some-pop.first loop.stretches.items (heap_items loop.bounds) (heap_items c.pop-in-loop-first.new.self) loop.invariant.underway popped.permutation c.if-first-from.false;
+      heap = (popped.heap_order loop.invariant.heap).0;
+      left = (popped_few c.in-Some-pop.first (heap_items loop.bounds) (heap_items c.pop-in-loop-first.new.self) loop.invariant.left popped.permutation).1;
+      few = loop.invariant.few;
+      deep = loop.invariant.deep;
+    }
