@@ -3,7 +3,7 @@ ghost use Rattle.std.specs.Prelude.{◌<◌, IfOk};
 ghost use Rattle.cue_lattice.specs.Limits.{step_limit};
 ghost use Rattle.cue_table.specs.Depth.{tree_depth};
 
-use crate::both::{has_rows, tree};
+use crate::both::{has_rows, is_same, tree};
 use crate::plain::{Entry, Made, Plain, add};
 use cue_lattice::{Narrow, STEP_LIMIT};
 use cue_row::{Path, Step};
@@ -97,4 +97,71 @@ pub fn hangs<R: Narrow>(alloc: Global, branches: Made<Vec<Given<R>>>) -> Made<bo
     let branches = branches?;
     let table = hung(alloc, &branches)?;
     has_branches(alloc, &table, &branches)
+}
+
+/// Where a stretch of elements begins that is given so.
+fn start<R: Narrow>(given: &Given<R>) -> u32 {
+    match given.step {
+        Step::Label(_) => 0,
+        Step::Index(number) => number,
+    }
+}
+
+/// The table of the list that has these stretches.
+fn listed<R: Narrow>(alloc: Global, stretches: &[Given<R>]) -> Made<Table<R>> {
+    let mut tables = Vec::new(alloc);
+    for given in stretches {
+        tables.push((u64::from(start(given)), shallow(alloc, &given.rows)?))?;
+    }
+    Table::of_elements(alloc, tables)
+}
+
+/// Adds rows to an element.
+fn add_element<R: Narrow>(
+    alloc: Global,
+    list: &mut Table<R>,
+    number: u32,
+    rows: &[Entry<R>],
+) -> Made<()> {
+    let step = Step::Index(number);
+    for entry in rows {
+        list.add(&below(alloc, &step, &entry.path)?, &entry.row)?;
+    }
+    Ok(())
+}
+
+/// Adds the elements of the other stretches to a list, each by itself.
+fn add_elements<R: Narrow>(
+    alloc: Global,
+    list: &mut Table<R>,
+    end: u32,
+    others: &[Given<R>],
+) -> Made<()> {
+    let mut end = end;
+    for given in others {
+        for number in start(given)..end {
+            add_element(alloc, list, number, &given.rows)?;
+        }
+        end = end.min(start(given));
+    }
+    Ok(())
+}
+
+/// The same list, made element by element, and with a rest.
+fn spelled<R: Narrow>(alloc: Global, stretches: &[Given<R>]) -> Made<Table<R>> {
+    let mut list = Table::new(alloc);
+    if let Some((last, others)) = stretches.split_first() {
+        let from = start(last);
+        list.meet_rest(u64::from(from), shallow(alloc, &last.rows)?)?;
+        add_elements(alloc, &mut list, from, others)?;
+    }
+    Ok(list)
+}
+
+/// Whether a list that is given by its stretches, from the last one to the first, is the one that
+/// is made element by element.
+pub fn lists<R: Narrow>(alloc: Global, stretches: Made<Vec<Given<R>>>) -> Made<bool> {
+    let stretches = stretches?;
+    let list = listed(alloc, &stretches)?;
+    is_same(spelled(alloc, &stretches), &list)
 }

@@ -165,6 +165,20 @@ pub const BRANCHES: &[&str] = &[
     "z:fg=one z:fgh=two y:b=free x:=nothing z:fg=two x:=narrow w:=list z:f=required",
 ];
 
+/// Stretches of lists from the last to the first, each as the index where it begins and the names of
+/// its rows: with a rest that stays or begins earlier, without one, with gaps, and some that are
+/// empty, since one that is given before them begins no later.
+pub const STRETCHES: &[&str] = &[
+    "0:=one",
+    "3:=struct+a=one",
+    "3:=struct+a=one 0:=struct+a=one",
+    "7:=one 5:=two 4:b=free 2:=two 0:=one",
+    "9:=pair 8:=pair 5:=one 3:=pair 0:=pair",
+    "4:b=free",
+    "6:b=free 5:a=one 2:a=two+b=free 0:a=one",
+    "6:=small 6:=one 6:=two 3:=one 5:=two 2:b=free 1:=list+0=one",
+];
+
 /// The table that a word of one of [`BRANCHES`] names.
 fn one_given(alloc: Global, word: &str) -> Made<Given<Row>> {
     let (name, entries) = word.split_once(':').unwrap_or(("a", word));
@@ -174,7 +188,7 @@ fn one_given(alloc: Global, word: &str) -> Made<Given<Row>> {
     })
 }
 
-/// The tables that a text names, as those of [`BRANCHES`].
+/// The tables that a text names, as those of [`BRANCHES`] and [`STRETCHES`].
 pub fn given(alloc: Global, text: &str) -> Made<Vec<Given<Row>>> {
     let mut branches = Vec::new(alloc);
     for word in text.split(' ') {

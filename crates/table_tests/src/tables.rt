@@ -1,10 +1,11 @@
 //! Each list of rows through the tree and through the plain list.
 use crate::both::{adds, agrees, has_indexes, has_labels, roots, stays, tree};
 use crate::large::{mixes, takes_small_ones};
-use crate::many::{hangs, unifies};
+use crate::many::{hangs, lists, unifies};
 use crate::plain::Made;
 use crate::sample::{
-    BRANCHES, CLASHES, DEEP, LIST, STRUCTS, first_tables, given, path, row, rows, texts, two,
+    BRANCHES, CLASHES, DEEP, LIST, STRETCHES, STRUCTS, first_tables, given, path, row, rows, texts,
+    two,
 };
 use cue_row::{Path, Row};
 use cue_table::Table;
@@ -64,6 +65,15 @@ fn hangs_tables_in_below_their_steps(rt: HostRuntime) -> Result<(), Fail> {
     let alloc = rt.alloc();
     for text in BRANCHES {
         assert!(rt; hangs(alloc, given(alloc, text))?, "{text}");
+    }
+    Ok(())
+}
+
+#[test]
+fn makes_lists_of_their_stretches(rt: HostRuntime) -> Result<(), Fail> {
+    let alloc = rt.alloc();
+    for text in STRETCHES {
+        assert!(rt; lists(alloc, given(alloc, text))?, "{text}");
     }
     Ok(())
 }
