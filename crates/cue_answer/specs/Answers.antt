@@ -1,11 +1,13 @@
 -- What a site answers to a question, by the table that it holds.
-use Rattle.std.specs.Prelude.{◌≡◌, ℕ, ◌++◌, List, ◌∷◌, [], string_bytes}
+use Rattle.std.specs.Prelude.{◌≡◌, ℕ, ◌++◌, List, ◌∷◌, [], Option}
+use Rattle.std.specs.Io.KnownBytes.{Appends}
 use Rattle.std.specs.List.{flat_map}
+use Rattle.cue_device.specs.Texts.{Begins}
 use Rattle.cue_replica.specs.declared.Conflict.{Conflict}
 use Rattle.cue_replica.specs.declared.Gap.{Gap}
-use Rattle.cue_replica.specs.declared.Export.{Export}
-use Rattle.cue_replica.specs.declared.Export.TheVariants.{Json, Conflicts, Incomplete}
-use Rattle.cue_replica.specs.Reports.{IsExportOf, AreConflictsOf, AreGapsOf, conflict_line}
+use Rattle.cue_replica.specs.declared.ExportKind.{ExportKind}
+use Rattle.cue_replica.specs.declared.ExportKind.TheVariants as kinds
+use Rattle.cue_replica.specs.Reports.{IsExportAsText, AreConflictsOf, AreGapsOf, conflict_line}
 use Rattle.cue_replica.specs.Reports.{gap_line, printed}
 use Rattle.cue_replica.specs.Language.{Table, language}
 use Rattle.cue_answer.specs.declared.question.Status.{Status}
@@ -20,16 +22,11 @@ code_of statuses.Done = 0
 code_of statuses.Conflicts = 2
 code_of statuses.Incomplete = 3
 
--- the answer has these bytes and this status
-abbrev pub Says : Answer → List ℕ → Status → Type 0
-Says answer bytes status = (answer.bytes.items ≡ bytes) × (answer.status ≡ status)
-
--- What is told of an export, and the status that goes with it: the JSON, or lines.
-abbrev pub IsToldOf : Export → Answer → Type 0
-IsToldOf (Json text) answer = Says answer (string_bytes text) statuses.Done
-IsToldOf (Conflicts conflicts) answer =
-    Says answer (flat_map conflict_line conflicts.items) statuses.Conflicts
-IsToldOf (Incomplete gaps) answer = Says answer (flat_map gap_line gaps.items) statuses.Incomplete
+-- the status of an export, by its kind
+abbrev pub status_of : ExportKind → Status
+status_of kinds.Json = statuses.Done
+status_of kinds.Conflicts = statuses.Conflicts
+status_of kinds.Incomplete = statuses.Incomplete
 
 -- the status of a report: by its conflicts, where it has any, and else by its gaps
 abbrev pub report_status : List Conflict → List Gap → Status
@@ -41,18 +38,45 @@ report_status [] [] = statuses.Done
 abbrev pub report_lines : List Conflict → List Gap → List ℕ
 report_lines conflicts gaps = flat_map conflict_line conflicts ++ flat_map gap_line gaps
 
--- The answer to a question about the table.
-abbrev pub Tells : Question → Table → Answer → Type 0
-Tells questions.Export table answer =
-    (export : Export) × IsExportOf table export × IsToldOf export answer
-Tells questions.Print table answer = Says answer (printed table) statuses.Done
-Tells questions.Report table answer =
+-- The answer to a question about the table: these bytes, with this status.
+abbrev pub IsAnswer : Question → Table → List ℕ → Status → Type 0
+IsAnswer questions.Export table bytes status =
+    (kind : ExportKind) × IsExportAsText table kind bytes × (status ≡ status_of kind)
+IsAnswer questions.Print table bytes status =
+    (bytes ≡ printed table) × (status ≡ statuses.Done)
+IsAnswer questions.Report table bytes status =
     (conflicts : List Conflict) × (gaps : List Gap) × AreConflictsOf table conflicts
     × AreGapsOf table gaps
-    × Says answer (report_lines conflicts gaps) (report_status conflicts gaps)
-Tells questions.State table answer = Says answer (language.written table) statuses.Done
+    × (bytes ≡ report_lines conflicts gaps) × (status ≡ report_status conflicts gaps)
+IsAnswer questions.State table bytes status =
+    (bytes ≡ language.written table) × (status ≡ statuses.Done)
+
+-- it is held whole
+abbrev pub Tells : Question → Table → Answer → Type 0
+Tells question table answer = IsAnswer question table answer.bytes.items answer.status
+
+-- known bytes grow by it, and it has this status
+abbrev pub TellsAnswer : Question → Table → Status → Option (List ℕ) → Option (List ℕ) → Type 0
+TellsAnswer question table status old new =
+    (bytes : List ℕ) × IsAnswer question table bytes status × Appends old new bytes
+
+-- they grow by the front of it
+abbrev pub BeginsAnswer : Question → Table → Option (List ℕ) → Option (List ℕ) → Type 0
+BeginsAnswer question table old new =
+    (bytes : List ℕ) (status : Status) → IsAnswer question table bytes status
+    → Begins old new bytes
 
 -- what a run prints behind an answer: a line break behind a JSON text, and else nothing
 abbrev pub line_end : Question → Status → List ℕ
 line_end questions.Export statuses.Done = 10 ∷ []
 line_end _ _ = []
+
+-- an answer about a table as a run prints it
+abbrev pub IsShown : Question → Table → List ℕ → Status → Type 0
+IsShown question table shown status =
+    (bytes : List ℕ) × IsAnswer question table bytes status
+    × (shown ≡ bytes ++ line_end question status)
+
+-- the answer has these bytes and this status
+abbrev pub Says : Answer → List ℕ → Status → Type 0
+Says answer bytes status = (answer.bytes.items ≡ bytes) × (answer.status ≡ status)

@@ -3,8 +3,11 @@
 #![tactic(auto)]
 
 mod question;
+mod telling;
 mod told;
 
+pub use cue_device::TextSink;
 pub use cue_replica::{Memory, Replica};
 pub use question::{Question, Status};
+pub use telling::tell_answer;
 pub use told::{Answer, answer_to, printed};

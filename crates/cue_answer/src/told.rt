@@ -1,9 +1,9 @@
-ghost use Rattle.std.specs.Prelude.{◌≡◌, ◌++◌, IfOk};
+ghost use Rattle.std.specs.Prelude.{◌≡◌, ◌≢◌, ◌++◌, IfOk};
 ghost use Rattle.cue_answer.specs.Answers.{line_end, Says, Tells};
-ghost use Rattle.cue_answer.specs.Inner.{text_bytes, text_status, lines_status};
 
 use crate::question::{Question, Status};
-use cue_replica::{ExportText, Memory, Replica};
+use crate::telling::tell_answer;
+use cue_replica::{Memory, Replica};
 use std::alloc::Global;
 
 /// What a site answers: the bytes, and the status of a run that prints them.
@@ -13,7 +13,7 @@ pub struct Answer {
     pub status: Status,
 }
 
-/// What the site answers. Behind a JSON text stands no line break.
+/// What the site answers, made whole. Behind a JSON text stands no line break.
 ///
 /// # Errors
 ///
@@ -22,16 +22,11 @@ pub fn answer_to(alloc: Global, question: Question, site: &Replica) -> Result<An
     ensures tells { IfOk result (Tells question site.now) }
 {
     match question {
-        Question::Export => exported(alloc, site),
-        Question::Print => Ok(Answer {
-            bytes: site.print(alloc)?.into_bytes(),
-            status: Status::Done,
-        }),
-        Question::Report => reported(alloc, site),
         Question::State => Ok(Answer {
             bytes: site.state(alloc)?,
             status: Status::Done,
         }),
+        _ => text_to(alloc, question, site),
     }
 }
 
@@ -50,49 +45,15 @@ pub fn printed(question: Question, mut answer: Answer) -> Result<Answer, Memory>
     Ok(answer)
 }
 
-fn exported(alloc: Global, site: &Replica) -> Result<Answer, Memory>
-    ensures tells { IfOk result (Tells Question.Export site.now) }
+/// What the site answers in a text.
+fn text_to(alloc: Global, question: Question, site: &Replica) -> Result<Answer, Memory>
+    requires text { question ≢ Question.State }
+    ensures tells { IfOk result (Tells question site.now) }
 {
-    Ok(told_of(site.export_text(alloc)?))
-}
-
-/// What is told of an export.
-fn told_of(export: ExportText) -> Answer
-    ensures { Says result (text_bytes export) (text_status export) }
-{
-    let (text, status) = match export {
-        ExportText::Json(json) => (json, Status::Done),
-        ExportText::Conflicts(lines) => (lines, Status::Conflicts),
-        ExportText::Incomplete(lines) => (lines, Status::Incomplete),
-    };
-    Answer {
-        bytes: text.into_bytes(),
-        status,
-    }
-}
-
-fn reported(alloc: Global, site: &Replica) -> Result<Answer, Memory>
-    ensures tells { IfOk result (Tells Question.Report site.now) }
-{
-    let conflicts = site.conflict_lines(alloc, String::new(alloc))?;
-    let end = conflicts.len();
-    let text = site.gap_lines(alloc, conflicts)?;
-    let status = status_of(end > 0, text.len() > end);
+    let mut text = String::new(alloc);
+    let status = tell_answer(alloc, question, site, &mut text)?;
     Ok(Answer {
         bytes: text.into_bytes(),
         status,
     })
-}
-
-/// How a report ends that has lines of conflicts or not, and of gaps or not.
-fn status_of(conflicting: bool, lacking: bool) -> Status
-    ensures { result ≡ lines_status conflicting lacking }
-{
-    if conflicting {
-        Status::Conflicts
-    } else if lacking {
-        Status::Incomplete
-    } else {
-        Status::Done
-    }
 }

@@ -10,7 +10,7 @@ use Rattle.cue_answer.specs.declared.question.Question.TheVariants as questions
 use Rattle.cue_answer.specs.declared.question.Status.{Status}
 use Rattle.cue_answer.specs.declared.question.Status.TheVariants as statuses
 use Rattle.cue_answer.specs.declared.told.Answer.{Answer}
-use Rattle.cue_answer.specs.Answers.{Tells, line_end, code_of}
+use Rattle.cue_answer.specs.Answers.{IsAnswer, line_end, code_of}
 use Rattle.cue_replica.specs.Language.{Table, language}
 use Rattle.cue_wire.specs.declared.request.Request as requests
 use Rattle.cue_wire.specs.declared.request.Request.TheVariants as asked
@@ -98,10 +98,8 @@ answers_framed (text t) before after reply (inl a) = (acceptance [], a.1, omega 
 answers_framed (text t) before after reply (inr a) = (refusal a.0, a.3, omega arith)
 answers_framed (state bytes) before after reply (inl a) = (acceptance [], a.1, omega arith)
 answers_framed (state bytes) before after reply (inr a) = (refusal a.0, a.3, omega arith)
-answers_framed (ask questions.State) before after reply (same, is) = told_framed (language.written before) reply is
-answers_framed (ask questions.Export) before after reply (same, (answer, tells, is)) = told_framed (serving.told questions.Export answer) reply is
-answers_framed (ask questions.Report) before after reply (same, (answer, tells, is)) = told_framed (serving.told questions.Report answer) reply is
-answers_framed (ask questions.Print) before after reply (same, (answer, tells, is)) = told_framed (serving.told questions.Print answer) reply is
+answers_framed (ask question) before after reply (same, inl (bytes, status, tells, is)) = told_framed (serving.told question bytes status) reply is
+answers_framed (ask question) before after reply (same, inr (long, is)) = (refusal (refusal_at kinds.ReplyTooLong 0), is, omega arith)
 
 reply_framed : (body : List ℕ) (before after : Table) (reply : List ℕ) → Serves body before after reply → Framed reply
 unfolding Framed
@@ -162,22 +160,21 @@ fifth bytes = get_or bytes 4 1
 answered_so : (before after : Table) (last : List ℕ) (status : Status) (told : List ℕ) (answer : Answer)
     → Answers (ask questions.Export) before after (framed last) → TellsExport last status told → IsPrinted answer status told → (after ≡ before) × IsPrintedExport after answer
 unfolding fifth
-answered_so before after last status told answer (same, (kept, says, inl fits)) tells shown =
-    let both : acceptance (code_of status ∷ told) ≡ acceptance (code_of kept.status ∷ kept.bytes.items) = sym tells.told ∙ ap (drop 4) fits.1 in
-    let code : status ≡ kept.status = same_status status kept.status (ap (λ l. get_or l 1 0) both) in
-    let bytes : told ≡ kept.bytes.items = ap (drop 2) both in (
+answered_so before after last status told answer (same, inl (bytes, ended, says, inl fits)) tells shown =
+    let both : acceptance (code_of status ∷ told) ≡ acceptance (code_of ended ∷ bytes) = sym tells.told ∙ ap (drop 4) fits.1 in
+    let code : status ≡ ended = same_status status ended (ap (λ l. get_or l 1 0) both) in
+    let kept : told ≡ bytes = ap (drop 2) both in (
       same,
       (
-        kept,
-        subst (λ t. Tells questions.Export t kept) (sym same) says,
-        (
-          shown.0 ∙ ap (λ b. b ++ line_end questions.Export status) bytes ∙ ap (λ x. kept.bytes.items ++ line_end questions.Export x) code,
-          shown.1 ∙ code,
-        ),
+        bytes,
+        subst (λ t. IsAnswer questions.Export t bytes answer.status) (sym same) (subst (IsAnswer questions.Export before bytes) (sym (shown.1 ∙ code)) says),
+        shown.0 ∙ ap (λ b. b ++ line_end questions.Export status) kept ∙ ap (λ x. bytes ++ line_end questions.Export x) (sym shown.1),
       ),
     )
-answered_so before after last status told answer (same, (kept, says, inr long)) tells shown =
+answered_so before after last status told answer (same, inl (bytes, ended, says, inr long)) tells shown =
     absurd (omega (arith, ap fifth (sym (ap framed tells.told) ∙ long.1)))
+answered_so before after last status told answer (same, inr (long, is)) tells shown =
+    absurd (omega (arith, ap fifth (sym (ap framed tells.told) ∙ is)))
 
 -- an export that is told is the site's
 told_export : (before after : Table) (last : List ℕ) (status : Status) (told : List ℕ) (answer : Answer)

@@ -1,8 +1,8 @@
 -- What is printed of a site's export.
-use Rattle.std.specs.Prelude.{◌++◌, ℕ, List, All}
+use Rattle.std.specs.Prelude.{ℕ, List, All}
 use Rattle.cue_answer.specs.declared.question.Question.TheVariants as questions
 use Rattle.cue_answer.specs.declared.told.Answer.{Answer}
-use Rattle.cue_answer.specs.Answers.{Tells, Says, line_end}
+use Rattle.cue_answer.specs.Answers.{IsShown}
 use Rattle.cue_replica.specs.Language.{Table, opening}
 use Rattle.cue_wire.specs.Frames.{IsBody}
 use Rattle.cue_wire.specs.Serving.{ServesAll}
@@ -10,8 +10,7 @@ use Rattle.cue_wire.specs.Serving.{ServesAll}
 -- the export of a site with this table, as it is printed
 abbrev pub IsPrintedExport : Table → Answer → Type 0
 IsPrintedExport table answer =
-    (told : Answer) × Tells questions.Export table told
-    × Says answer (told.bytes.items ++ line_end questions.Export told.status) told.status
+    IsShown questions.Export table answer.bytes.items answer.status
 
 -- Frames of some requests were served, one after the other, and turned the one table into the
 -- other.

@@ -1,6 +1,7 @@
 -- What handing something in comes to, by what the call answered and the reply that was added.
 use Rattle.std.proofs.Common.{◌≡◌, ◌≢◌, ◌⊎◌, inl, inr, ⊎_elim, refl, List, [], ◌∷◌, ◌++◌, ℕ, Result, Ok, Err, OnOk, subst, sym, ap, ◌∙◌}
-use Rattle.std.proofs.Common.{OnErr, IfErr}
+use Rattle.std.proofs.Common.{OnErr, IfErr, Some, length, arith, ◌≤◌}
+use Rattle.std.proofs.lemmas.List.{length-append}
 use Rattle.cue_lattice.specs.declared.refusal.Refusal.{Refusal}
 use Rattle.cue_lattice.specs.Refusal.{memory}
 use Rattle.cue_replica.specs.declared.world.Outcome.{Outcome}
@@ -9,10 +10,12 @@ use Rattle.cue_replica.specs.Language.{Table, language}
 use Rattle.cue_replica.specs.Replica.{Adds}
 use Rattle.cue_replica.specs.World.{Submits, Takes}
 use Rattle.cue_answer.specs.declared.question.Question.{Question}
-use Rattle.cue_answer.specs.declared.told.Answer.{Answer}
 use Rattle.cue_answer.specs.declared.question.Question.TheVariants as questions
-use Rattle.cue_answer.specs.Answers.{Tells, code_of}
-use Rattle.cue_wire.specs.Serving.{accepting, refusing, told, IsHanded, IsReply, IsAnswered}
+use Rattle.cue_answer.specs.declared.question.Status.{Status}
+use Rattle.cue_answer.specs.declared.question.Status.TheVariants as statuses
+use Rattle.cue_answer.specs.Answers.{BeginsAnswer, IsAnswer, TellsAnswer}
+use Rattle.cue_wire.specs.Frames.{frame_limit}
+use Rattle.cue_wire.specs.Serving.{accepting, refusing, too_long, told, IsHanded, IsReply, IsAnswered, IsTooLong}
 
 -- The step happened by what the call answered, where that wasn't want of memory.
 abbrev pub Happened : (Table → Table → Outcome → Type 0) → Table → Table → Result (Unit {0}) Refusal → Type 0
@@ -65,38 +68,44 @@ served Step P before after taken (Ok u) start old new is serves did ok err =
     let reply = handed Step before after taken old new did (added_to old new taken ok err) in
     (reply.0, serves reply.0 reply.1, subst (λ (s : List ℕ). new ≡ s ++ reply.0) is reply.2)
 
--- a reply that tells an answer to another question than the one for the state
-with_answer : (question : Question) (table : Table) (answer : Answer) (reply : List ℕ) → question ≢ questions.State → Tells question table answer
-    → IsReply (told question answer) reply → IsAnswered question table reply
-with_answer questions.State table answer reply other tells is = absurd (other refl)
-with_answer questions.Export table answer reply other tells is = (answer, tells, is)
-with_answer questions.Print table answer reply other tells is = (answer, tells, is)
-with_answer questions.Report table answer reply other tells is = (answer, tells, is)
-
--- The answer to such a question was told as the reply.
-pub answered : {E : Type 0} (question : Question) (table : Table) (answer : Answer) (all old new : List ℕ) (r : Result (Unit {0}) E)
-    → question ≢ questions.State → Tells question table answer → all ≡ told question answer
-    → OnOk r ((reply : List ℕ) × IsReply all reply × (new ≡ old ++ reply))
-    → OnOk r ((reply : List ℕ) × IsAnswered question table reply × (new ≡ old ++ reply))
-answered question table answer all old new (Ok u) other tells e h =
-    (h.0, with_answer question table answer h.0 other tells (subst (λ what. IsReply what h.0) e h.1), h.2)
-answered question table answer all old new (Err x) other tells e h = tt
-
 -- The state of a site was told as the reply.
 pub answered_state : {E : Type 0} (question : Question) (table : Table) (old new : List ℕ) (r : Result (Unit {0}) E) → question ≡ questions.State
     → OnOk r ((reply : List ℕ) × IsReply (language.written table) reply × (new ≡ old ++ reply))
     → OnOk r ((reply : List ℕ) × IsAnswered question table reply × (new ≡ old ++ reply))
 answered_state question table old new (Err x) is h = tt
-answered_state question table old new (Ok u) is h = (h.0, subst (λ q. IsAnswered q table h.0) (sym is) h.1, h.2)
+answered_state question table old new (Ok u) is h =
+    (h.0, subst (λ q. IsAnswered q table h.0) (sym is) (inl (language.written table, statuses.Done, (refl, refl), h.1)), h.2)
 
-pub told_export : (question : Question) (answer : Answer) (code : ℕ) (bytes : List ℕ) → question ≡ questions.Export
-    → code ≡ code_of answer.status → bytes ≡ answer.bytes.items → code ∷ bytes ≡ told question answer
-told_export question answer code bytes is e h =
-    subst (λ q. code ∷ bytes ≡ told q answer) (sym is) (ap (λ n. n ∷ bytes) e ∙ ap (λ xs. code_of answer.status ∷ xs) h)
+-- An answer was told as the reply.
+pub answered : {E : Type 0} (question : Question) (table : Table) (bytes : List ℕ) (status : Status) (old new : List ℕ) (r : Result (Unit {0}) E)
+    → IsAnswer question table bytes status
+    → OnOk r ((reply : List ℕ) × IsReply (told question bytes status) reply × (new ≡ old ++ reply))
+    → OnOk r ((reply : List ℕ) × IsAnswered question table reply × (new ≡ old ++ reply))
+answered question table bytes status old new (Ok u) is h = (h.0, inl (bytes, status, is, h.1), h.2)
+answered question table bytes status old new (Err x) is h = tt
 
-pub told_other : (question : Question) (answer : Answer) (bytes : List ℕ) → (question ≡ questions.Export → ⊥)
-    → bytes ≡ answer.bytes.items → bytes ≡ told question answer
-told_other questions.Export answer bytes other h = absurd (other refl)
-told_other questions.Print answer bytes other h = h
-told_other questions.Report answer bytes other h = h
-told_other questions.State answer bytes other h = h
+-- what is told of an answer is no shorter than it
+told_long : (question : Question) (bytes : List ℕ) (status : Status) → length bytes ≤ length (told question bytes status)
+told_long questions.Export bytes status = omega arith
+told_long questions.Print bytes status = omega arith
+told_long questions.Report bytes status = omega arith
+told_long questions.State bytes status = omega arith
+
+-- a page that is full of the front of each answer
+pub too_long_by : (question : Question) (table : Table) (page : List ℕ) → frame_limit ≤ length page → BeginsAnswer question table (Some []) (Some page) → IsTooLong question table
+too_long_by question table page full begun bytes status is =
+    let b = begun bytes status is in
+    let all = ap length b.whole ∙ length-append b.front b.back in
+    let there : length page ≡ length b.front = ap length b.added in
+    omega (arith, told_long question bytes status)
+
+-- No frame holds an answer, and the reply says so.
+pub answered_long : {E : Type 0} (question : Question) (table : Table) (page old new : List ℕ) (r : Result (Unit {0}) E) → frame_limit ≤ length page
+    → BeginsAnswer question table (Some []) (Some page) → OnOk r (new ≡ old ++ too_long)
+    → OnOk r ((reply : List ℕ) × IsAnswered question table reply × (new ≡ old ++ reply))
+answered_long question table page old new (Ok u) full begun h = (too_long, inr (too_long_by question table page full begun, refl), h)
+answered_long question table page old new (Err x) full begun h = tt
+
+-- an answer on a page
+pub on_page : (question : Question) (table : Table) (status : Status) (page : List ℕ) → TellsAnswer question table status (Some []) (Some page) → IsAnswer question table page status
+on_page question table status page told = subst (λ bytes. IsAnswer question table bytes status) (sym told.2) told.1

@@ -10,8 +10,8 @@ use Rattle.cue_replica.specs.Language.{Table, language}
 use Rattle.cue_replica.specs.World.{Submits, Takes}
 use Rattle.cue_answer.specs.declared.question.Question.{Question}
 use Rattle.cue_answer.specs.declared.question.Question.TheVariants as questions
-use Rattle.cue_answer.specs.declared.told.Answer.{Answer}
-use Rattle.cue_answer.specs.Answers.{Tells, code_of}
+use Rattle.cue_answer.specs.declared.question.Status.{Status}
+use Rattle.cue_answer.specs.Answers.{IsAnswer, code_of}
 use Rattle.cue_wire.specs.Frames.{framed, frame_limit}
 use Rattle.cue_wire.specs.Requests.{Request, text, state, ask, IsRequest, IsNoRequest}
 
@@ -30,24 +30,34 @@ IsHanded Step before after reply =
     × (reply ≡ refusing why))
 
 -- what a reply tells of an answer: its bytes, after the status where it is that of an export
-abbrev pub told : Question → Answer → List ℕ
-told questions.Export answer = code_of answer.status ∷ answer.bytes.items
-told questions.Print answer = answer.bytes.items
-told questions.Report answer = answer.bytes.items
-told questions.State answer = answer.bytes.items
+abbrev pub told : Question → List ℕ → Status → List ℕ
+told questions.Export bytes status = code_of status ∷ bytes
+told questions.Print bytes status = bytes
+told questions.Report bytes status = bytes
+told questions.State bytes status = bytes
+
+-- the reply that a frame can't hold what is asked for
+abbrev pub too_long : List ℕ
+too_long = refusing (refusal_at kinds.ReplyTooLong 0)
 
 -- The reply tells this, or that a frame can't hold it.
 abbrev pub IsReply : List ℕ → List ℕ → Type 0
 IsReply what reply =
     ((length what < frame_limit) × (reply ≡ accepting what))
-    ⊎ ((frame_limit ≤ length what) × (reply ≡ refusing (refusal_at kinds.ReplyTooLong 0)))
+    ⊎ ((frame_limit ≤ length what) × (reply ≡ too_long))
 
--- The reply to a question about the table: to the one for the state its bytes, of whatever number
--- they are, and else what is told of an answer.
+-- no frame holds an answer to the question
+abbrev pub IsTooLong : Question → Table → Type 0
+IsTooLong question table =
+    (bytes : List ℕ) (status : Status) → IsAnswer question table bytes status
+    → frame_limit ≤ length (told question bytes status)
+
+-- The reply to a question about the table: what is told of an answer; or that no frame holds one.
 abbrev pub IsAnswered : Question → Table → List ℕ → Type 0
-IsAnswered questions.State table reply = IsReply (language.written table) reply
 IsAnswered question table reply =
-    (answer : Answer) × Tells question table answer × IsReply (told question answer) reply
+    ((bytes : List ℕ) × (status : Status) × IsAnswer question table bytes status
+    × IsReply (told question bytes status) reply)
+    ⊎ (IsTooLong question table × (reply ≡ too_long))
 
 abbrev pub Answers : Request → Table → Table → List ℕ → Type 0
 Answers (text t) before after reply = IsHanded (Submits t) before after reply

@@ -11,8 +11,9 @@ ghost use Rattle.cue_wire.specs.Serving.{accepting, refusing, IsAnswered, Serves
 use crate::call::Call;
 use crate::reply::{SHORT_REPLY, accept, refuse};
 use crate::state_reply::tell_state;
+use crate::text_reply::tell_text;
 use crate::want::{want, want_of};
-use cue_answer::{Question, answer_to};
+use cue_answer::Question;
 use cue_replica::{Kind, Memory, Refusal, Replica};
 use std::alloc::Global;
 
@@ -102,13 +103,6 @@ fn tell(alloc: Global, question: Question, site: &Replica, out: &mut Vec<u8>) ->
 {
     match question {
         Question::State => tell_state(site, out),
-        Question::Export => {
-            let answer = answer_to(alloc, question, site)?;
-            accept(out, &[answer.status.code()], answer.bytes.as_slice())
-        }
-        _ => {
-            let answer = answer_to(alloc, question, site)?;
-            accept(out, &[], answer.bytes.as_slice())
-        }
+        _ => tell_text(alloc, question, site, out),
     }
 }

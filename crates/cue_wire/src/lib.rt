@@ -12,10 +12,12 @@ mod client;
 mod connection;
 mod frame;
 mod laws;
+mod page;
 mod reply;
 mod request;
 mod session;
 mod state_reply;
+mod text_reply;
 mod want;
 
 pub use client::Client;

@@ -1,4 +1,6 @@
 use Rattle.std.proofs.Common.{Result, Ok, Err, IfOk}
+use Rattle.cue_answer.proofs.OneAnswer.{shown_by}
+use Rattle.cue_answer.specs.declared.question.Question.TheVariants as questions
 use Rattle.cue_net.specs.Printed.{IsPrintedExport}
 use Rattle.cue_net.proofs.serving.exported.Goals as goal
 
@@ -7,4 +9,5 @@ if_ok (Ok x) P Q f p = f x p
 if_ok (Err e) P Q f p = tt
 
 pub returns : goal.returns
-returns c = if_ok c.printed.result _ (IsPrintedExport c.args.site.now) (λ shown says. (c.in_ok-told.told, c.in_ok-told.ensures.tells, says)) c.printed.ensures.prints
+returns c = if_ok c.printed.result _ (IsPrintedExport c.args.site.now)
+    (λ shown says. shown_by c.args.site.now questions.Export c.in_ok-told.told shown c.in_ok-told.ensures.tells says) c.printed.ensures.prints

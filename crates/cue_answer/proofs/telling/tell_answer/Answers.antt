@@ -1,0 +1,9 @@
+use Rattle.std.proofs.Common.{OnErr, subst, sym}
+use Rattle.cue_answer.specs.Answers.{BeginsAnswer}
+use Rattle.cue_answer.proofs.telling.tell_answer.Goals as goal
+
+pub returns-in-Report-clause-begun : goal.returns-in-Report-clause-begun
+returns-in-Report-clause-begun g c =
+    let taken = g.S.TextSink.taken in
+    subst (λ question. OnErr c.tell_report.result (BeginsAnswer question c.args.site.now (taken c.args.out.now) (taken c.tell_report.new.out))) (sym c.in-Report.is)
+    c.tell_report.ensures.begun

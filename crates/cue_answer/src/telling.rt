@@ -1,0 +1,75 @@
+//! Answers that are written while they are made.
+ghost use Rattle.std.specs.Prelude.{◌≡◌, ◌≢◌, IfOk, OnErr};
+ghost use Rattle.cue_answer.specs.Answers.{status_of, BeginsAnswer, TellsAnswer};
+ghost use Rattle.cue_answer.specs.Inner.{lines_status};
+
+use crate::question::{Question, Status};
+use cue_device::TextSink;
+use cue_replica::{ExportKind, Replica};
+use std::alloc::Global;
+
+/// Tells what the site answers in a text, while it is made, and how it ends the run that prints it.
+/// Memory goes with the table, and not with what is told.
+///
+/// # Errors
+///
+/// Where no more is taken, or memory ran out; then the front of the answer was taken.
+pub fn tell_answer<S: TextSink>(
+    alloc: Global,
+    question: Question,
+    site: &Replica,
+    out: &mut S,
+) -> Result<Status, S::Halt>
+    // State bytes are no text.
+    requires text { question ≢ Question.State }
+    ensures told { IfOk result (λ status. TellsAnswer question site.now status
+        (S.taken out.old) (S.taken out.new)) }
+    ensures begun { OnErr result
+        (BeginsAnswer question site.now (S.taken out.old) (S.taken out.new)) }
+{
+    match question {
+        Question::Export => Ok(status_by(site.tell_export(alloc, out)?)),
+        Question::Print => {
+            site.tell_printed(alloc, out)?;
+            Ok(Status::Done)
+        }
+        Question::Report => tell_report(alloc, site, out),
+        Question::State => unreachable!(),
+    }
+}
+
+/// Tells a line for each conflict, and then one for each place that is incomplete.
+fn tell_report<S: TextSink>(alloc: Global, site: &Replica, out: &mut S) -> Result<Status, S::Halt>
+    ensures told { IfOk result (λ status. TellsAnswer Question.Report site.now status
+        (S.taken out.old) (S.taken out.new)) }
+    ensures begun { OnErr result
+        (BeginsAnswer Question.Report site.now (S.taken out.old) (S.taken out.new)) }
+{
+    let conflicting = site.tell_conflicts(alloc, out)?;
+    let lacking = site.tell_gaps(alloc, out)?;
+    Ok(status_of_lines(conflicting, lacking))
+}
+
+/// How an export of this kind ends.
+fn status_by(kind: ExportKind) -> Status
+    ensures { result ≡ status_of kind }
+{
+    match kind {
+        ExportKind::Json => Status::Done,
+        ExportKind::Conflicts => Status::Conflicts,
+        ExportKind::Incomplete => Status::Incomplete,
+    }
+}
+
+/// How a report ends that has lines of conflicts or not, and of gaps or not.
+fn status_of_lines(conflicting: bool, lacking: bool) -> Status
+    ensures { result ≡ lines_status conflicting lacking }
+{
+    if conflicting {
+        Status::Conflicts
+    } else if lacking {
+        Status::Incomplete
+    } else {
+        Status::Done
+    }
+}
