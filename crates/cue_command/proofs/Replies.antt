@@ -1,18 +1,22 @@
 -- How a run ends that prints something.
-use Rattle.std.proofs.Common.{◌≡◌, ◌⊎◌, ⊎_elim, inl, inr, ℕ, List, ◌++◌, Option, Bool, true, false, refl, ap, sym, ◌∙◌, subst}
+use Rattle.std.proofs.Common.{◌≡◌, ◌⊎◌, ⊎_elim, inl, inr, ℕ, List, ◌++◌, Option, Some, Bool, true, false, refl, ap, sym, ◌∙◌, subst}
 use Rattle.std.specs.Prelude.{codes}
 use Rattle.std.specs.Fmt.{digits}
 use Rattle.std.proofs.lemmas.List.{append_assoc}
-use Rattle.cue_program.specs.Outlets.{Adds, Breaks, HasBegun, IsUntold, IsUntouched, Passage, passed}
+use Rattle.cue_replica.specs.Language.{Table}
+use Rattle.cue_program.specs.Outlets.{Adds, Breaks, IsUntouched, Passage, passed}
+use Rattle.cue_program.specs.Runs.{IsAnswerCut}
 use Rattle.cue_program.specs.Stops.{IsDevice, IsMemory}
 use Rattle.cue_program.specs.declared.Outlet.{Outlet}
+use Rattle.cue_program.specs.declared.Question.{Question}
 use Rattle.cue_program.specs.declared.Stop.{Stop}
 use Rattle.cue_program.specs.declared.Stop.TheVariants as stops
 use Rattle.cue_program.specs.declared.Kind.TheVariants as kinds
 use Rattle.cue_program.proofs.Devices.{appends_keeps, appends_more}
 use Rattle.cue_command.specs.Faults.{IsComplaint, IsRefused, IsTold, line_of}
-use Rattle.cue_command.specs.Runs.{Around, IsRun, IsStateTold}
+use Rattle.cue_command.specs.Runs.{Around, IsRun, IsAnswerTold}
 use Rattle.cue_command.specs.inner.Replies.{IsReplyTold, IsReplyToWords}
+use Rattle.cue_command.specs.Words.{asked, asking, merging, serving, pushing, looping}
 use Rattle.cue_command.specs.declared.acting.Reply.{Reply}
 use Rattle.cue_command.specs.declared.acting.Reply.TheVariants as replies
 use Rattle.cue_command.specs.declared.fault.Fault.TheVariants as faults
@@ -57,22 +61,33 @@ module _ {W : Type 0} (contents : W → Option (List ℕ)) (old mid new : Outlet
   breaks_more front line h k =
       ((front ++ k.0.0, k.0.1, ap (λ t. front ++ t) k.0.2 ∙ sym (append_assoc front k.0.0 k.0.1), adds_more front k.0.0 h k.0.3), k.1)
 
-  -- a state that could not be written whole
-  pub state_not_told :
-      (bytes : List ℕ) (stop : Stop) (status : ℕ) (complaints : Passage) → IsUntold (passed contents old mid) bytes stop
-      → IsTold (faults.Stopped stop) status (passed contents mid new) complaints → IsStateTold bytes (passed contents old new) complaints status
-  state_not_told bytes stop status complaints why told =
+  -- an answer that could not be written whole
+  pub answer_not_told :
+      (question : Question) (table : Table) (stop : Stop) (status : ℕ) (complaints : Passage) → IsAnswerCut question table (passed contents old mid) stop
+      → IsTold (faults.Stopped stop) status (passed contents mid new) complaints → IsAnswerTold question table (passed contents old new) complaints status
+  answer_not_told question table stop status complaints (why, begun) told =
       ⊎_elim
       (λ device. let h = device_told stop status (passed contents mid new) complaints device.0 told in
-      inr (inr (h.0, (bytes, inl refl, breaks_kept bytes device.1 h.1), h.2)))
-      (λ memory. behind memory.1 (memory_told stop status (passed contents mid new) complaints memory.0 told))
+      inr (inr (h.0, h.1.1 ∙ device.1, (λ shown ended is. (shown, inl refl, breaks_kept shown (begun shown ended is, device.1) h.1)), h.2)))
+      (λ memory. behind (memory_told stop status (passed contents mid new) complaints memory told))
       why
     where
-      behind : HasBegun (passed contents old mid) bytes → IsRefused (codes "refused 24 Memory\n") status (passed contents mid new) complaints → IsStateTold bytes (passed contents old new) complaints status
-      behind begun (inl h) =
-          inr (inl (h.0, (begun.0 ++ codes "refused 24 Memory\n", (begun.0, begun.1, begun.2, refl), adds_more begun.0 (codes "refused 24 Memory\n") begun.3 h.1), h.2))
-      behind begun (inr h) =
-          inr (inr (h.0, (begun.0 ++ codes "refused 24 Memory\n", inr (begun.0, begun.1, begun.2, refl), breaks_more begun.0 (codes "refused 24 Memory\n") begun.3 h.1), h.2))
+      behind : IsRefused (codes "refused 24 Memory\n") status (passed contents mid new) complaints → IsAnswerTold question table (passed contents old new) complaints status
+      behind (inl h) =
+          inr (inl (
+            h.0,
+            (λ shown ended is. let b = begun shown ended is in
+                (b.0 ++ codes "refused 24 Memory\n", (b.0, b.1, b.2, refl), adds_more b.0 (codes "refused 24 Memory\n") b.3 h.1)),
+            h.2,
+          ))
+      behind (inr h) =
+          inr (inr (
+            h.0,
+            h.1.1,
+            (λ shown ended is. let b = begun shown ended is in
+                (b.0 ++ codes "refused 24 Memory\n", inr (b.0, b.1, b.2, refl), breaks_more b.0 (codes "refused 24 Memory\n") b.3 h.1)),
+            h.2,
+          ))
 
 -- a run that prints what its words ask for
 pub run_of_reply :
@@ -80,4 +95,9 @@ pub run_of_reply :
     → IsReplyTold reply out complaints status → IsRun words around out complaints status
 run_of_reply words around out complaints status (replies.Answer answer) is (inl told) = inl (answer, is, told.0, told.1, told.2)
 run_of_reply words around out complaints status (replies.Answer answer) is (inr failed) = inr (inr (inl (answer, is, failed.0, failed.1, failed.2)))
-run_of_reply words around out complaints status (replies.State table) is told = inr (inr (inr (table, is, told)))
+run_of_reply words around out complaints status (replies.Site question table) (asking of files, asks, is) told =
+    inr (inr (inr (question, table, (files, subst (λ q. asked words ≡ Some (asking q files)) (sym is.0) asks, is.1, is.2), told)))
+run_of_reply words around out complaints status (replies.Site question table) (merging name files, asks, is) told = absurd is
+run_of_reply words around out complaints status (replies.Site question table) (serving port count, asks, is) told = absurd is
+run_of_reply words around out complaints status (replies.Site question table) (pushing port files, asks, is) told = absurd is
+run_of_reply words around out complaints status (replies.Site question table) (looping files, asks, is) told = absurd is

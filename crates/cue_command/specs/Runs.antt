@@ -1,16 +1,17 @@
 -- Whole runs of the program, on devices whose bytes are known or not.
-use Rattle.std.specs.Prelude.{◌≡◌, ◌⊎◌, ℕ, List, [], ◌++◌, Option, Some, None, Ok, Err, codes}
-use Rattle.cue_answer.specs.Answers.{Says, code_of}
-use Rattle.cue_replica.specs.Language.{Table, language}
+use Rattle.std.specs.Prelude.{◌≡◌, ◌⊎◌, ℕ, List, [], ◌++◌, Option, Some, None, Ok, Err, codes, true}
+use Rattle.cue_answer.specs.Answers.{IsShown, Says, code_of}
+use Rattle.cue_replica.specs.Language.{Table}
 use Rattle.cue_program.specs.declared.Answer.{Answer}
-use Rattle.cue_program.specs.declared.Question.TheVariants as questions
+use Rattle.cue_program.specs.declared.Question.{Question}
+use Rattle.cue_program.specs.declared.Status.{Status}
 use Rattle.cue_program.specs.declared.Status.TheVariants as statuses
 use Rattle.cue_program.specs.declared.Stop.{Stop}
 use Rattle.cue_program.specs.Calls.{Call}
 use Rattle.cue_program.specs.Files.{Holdings}
 use Rattle.cue_program.specs.Inputs.{Holds, Inputs, inputs_of}
 use Rattle.cue_program.specs.Outlets.{Adds, Breaks, IsUntouched, Passage}
-use Rattle.cue_program.specs.Runs.{IsAnswerOn, IsMergeOn, IsMergeStopOn, IsStopOn}
+use Rattle.cue_program.specs.Runs.{IsAnswerAdded, IsMergeOn, IsMergeStopOn, IsStopOn}
 use Rattle.cue_command.specs.declared.fault.Fault.{Fault}
 use Rattle.cue_command.specs.declared.fault.Fault.TheVariants as faults
 use Rattle.cue_command.specs.Faults.{IsComplaint, IsMemory, IsTold}
@@ -40,10 +41,10 @@ around held Makes network old new input = record {
   network = network;
 }
 
--- The answer to what is asked for. Asking changes no file, and merging says nothing.
+-- The answer to what is asked for. Merging says nothing; and what a site is asked is told while it is
+-- made (`IsAnswerWritten`).
 abbrev pub IsAnswerTo : Asked → Around → Answer → Type 0
-IsAnswerTo (asking question files) at answer =
-    IsAnswerOn question (inputs_of at.held files at.input) answer × at.OnlyReads
+IsAnswerTo (asking question files) at answer = ⊥
 IsAnswerTo (merging out files) at answer =
     at.Merges out (inputs_of at.held files at.input) × Says answer [] statuses.Done
 IsAnswerTo (serving port count) at answer =
@@ -101,11 +102,11 @@ IsUnwritten words at out faults status =
     (answer : Answer) × IsAnswerToWords words at answer × (status ≡ 4)
     × Breaks out answer.bytes.items × IsComplaint faults
 
--- the words ask for the state of inputs, all of which a site has taken that holds this table; no
--- file changed
-abbrev pub IsStateOfWords : List (List ℕ) → Around → Table → Type 0
-IsStateOfWords words at table =
-    (files : List (List ℕ)) × (asked words ≡ Some (asking questions.State files))
+-- the words ask this about inputs, all of which a site has taken that holds this table; no file
+-- changed
+abbrev pub IsAskedOf : List (List ℕ) → Around → Question → Table → Type 0
+IsAskedOf words at question table =
+    (files : List (List ℕ)) × (asked words ≡ Some (asking question files))
     × Holds (inputs_of at.held files at.input) table
     × at.OnlyReads
 
@@ -115,23 +116,28 @@ IsCutBy bytes said =
     (front back : List ℕ) × (bytes ≡ front ++ back)
     × (said ≡ front ++ codes "refused 24 Memory\n")
 
--- How a run ends that writes these state bytes while it makes them: they were all added to the
--- output; or those in front, which were made before memory ran out, and then the line that tells
--- it; or some of that in front, and then a call of the output failed, which is told where faults go.
-abbrev pub IsStateTold : List ℕ → Passage → Passage → ℕ → Type 0
-IsStateTold bytes out faults status =
-    ((status ≡ 0) × Adds out bytes × IsUntouched faults)
-    ⊎ ((status ≡ 1) × ((said : List ℕ) × IsCutBy bytes said × Adds out said)
+-- How a run ends that writes an answer about a table while it makes it: all of it was added to the
+-- output, and the status is the answer's; or what was made before memory ran out, and then the line
+-- that tells it; or some of that in front, and then a call of the output failed, which is told where
+-- faults go.
+abbrev pub IsAnswerTold : Question → Table → Passage → Passage → ℕ → Type 0
+IsAnswerTold question table out faults status =
+    ((ended : Status) × (status ≡ code_of ended) × IsAnswerAdded question table out ended
     × IsUntouched faults)
-    ⊎ ((status ≡ 4)
-    × ((said : List ℕ) × ((said ≡ bytes) ⊎ IsCutBy bytes said) × Breaks out said)
+    ⊎ ((status ≡ 1)
+    × ((shown : List ℕ) (ended : Status) → IsShown question table shown ended
+    → (said : List ℕ) × IsCutBy shown said × Adds out said)
+    × IsUntouched faults)
+    ⊎ ((status ≡ 4) × (out.has_failed ≡ true)
+    × ((shown : List ℕ) (ended : Status) → IsShown question table shown ended
+    → (said : List ℕ) × ((said ≡ shown) ⊎ IsCutBy shown said) × Breaks out said)
     × IsComplaint faults)
 
--- the run writes the state that the words ask for
-abbrev pub IsStateWritten : List (List ℕ) → Around → Passage → Passage → ℕ → Type 0
-IsStateWritten words at out faults status =
-    (table : Table) × IsStateOfWords words at table
-    × IsStateTold (language.written table) out faults status
+-- the run writes the answer that the words ask for
+abbrev pub IsAnswerWritten : List (List ℕ) → Around → Passage → Passage → ℕ → Type 0
+IsAnswerWritten words at out faults status =
+    (question : Question) × (table : Table) × IsAskedOf words at question table
+    × IsAnswerTold question table out faults status
 
 -- How a run on these words ends, by what became of the output and of where faults go.
 abbrev pub IsRun : List (List ℕ) → Around → Passage → Passage → ℕ → Type 0
@@ -139,4 +145,4 @@ IsRun words at out faults status =
     IsAnswered words at out faults status
     ⊎ IsStopped words at out faults status
     ⊎ IsUnwritten words at out faults status
-    ⊎ IsStateWritten words at out faults status
+    ⊎ IsAnswerWritten words at out faults status

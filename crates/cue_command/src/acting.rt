@@ -2,7 +2,7 @@ ghost use Rattle.std.specs.Prelude.{◌≡◌, ◌⊎◌, ◌++◌, IfOk, IfErr,
 ghost use Rattle.cue_command.specs.Faults.{IsComplaint, IsMemory, IsRefused, IsTold, stop_text};
 ghost use Rattle.cue_command.specs.Networks.{reach};
 ghost use Rattle.cue_command.specs.Runs.{around, IsAnswerTo, IsFaultOfWords, IsRun, IsStopTo};
-ghost use Rattle.cue_command.specs.inner.Replies.{IsReplyTold, IsReplyToWords};
+ghost use Rattle.cue_command.specs.inner.Replies.{IsReplyTo, IsReplyTold, IsReplyToWords};
 ghost use Rattle.cue_command.specs.Words.{asked_by, merging};
 ghost use Rattle.cue_program.specs.Files.{texts};
 ghost use Rattle.cue_program.specs.Outlets.{passed};
@@ -13,8 +13,7 @@ use crate::network::{looped, pushed, served};
 use arrayvec::ArrayString;
 use cue_net::Network;
 use cue_program::{
-    Answer, Outlet, Question, Replica, Shelf, Status, Stop, answer_for, merge_into, site_for,
-    tell_state,
+    Answer, Outlet, Question, Replica, Shelf, Status, Stop, merge_into, site_for, tell,
 };
 use std::alloc::Global;
 use std::env::Env;
@@ -33,9 +32,9 @@ use std::io::{Read, Write};
 /// input ends the run with the line `refused NUMBER NAME at PLACE in K`, which goes to `out` too.
 /// `usage fault` and `device fault` go to `faults`.
 ///
-/// State bytes are read, and made while they are written, in pieces of 65,536 bytes. Where memory
-/// runs out while `state` writes them, the line `refused 24 Memory` stands behind those that were
-/// written.
+/// State bytes are read, and made while they are written, in pieces of 65,536 bytes, and what is told
+/// of a site is written while it is made. Where memory runs out meanwhile, the line
+/// `refused 24 Memory` stands behind what was written.
 ///
 /// `serve` listens on a port of 127.0.0.1, serves so many connections from one new site, one after
 /// the other, and then prints as `export` does. `push` sends the inputs to the site that is served
@@ -95,8 +94,8 @@ where
 enum Reply {
     /// An answer, whole.
     Answer(Answer),
-    /// The state bytes of this site, which are made while they are written.
-    State(Replica),
+    /// What this site answers, which is made while it is written.
+    Site(Question, Replica),
 }
 
 /// What the command that the words ask for prints.
@@ -115,18 +114,9 @@ where
         rt.old rt.new (R.remaining input.old))) }
 {
     let command = command_of(rt.alloc(), words)?;
-    match &command {
-        Command::Ask {
-            question: Question::State,
-            files,
-        } => match site_for(&*rt, files, input) {
-            Ok(site) => Ok(Reply::State(site)),
-            Err(stop) => Err(Fault::Stopped(stop)),
-        },
-        _ => match answer(rt, &command, input) {
-            Ok(answer) => Ok(Reply::Answer(answer)),
-            Err(stop) => Err(Fault::Stopped(stop)),
-        },
+    match reply_for(rt, &command, input) {
+        Ok(reply) => Ok(reply),
+        Err(stop) => Err(Fault::Stopped(stop)),
     }
 }
 
@@ -145,18 +135,18 @@ fn show<W: Write, F: Write>(
             Ok(()) => answer.status.code(),
             Err(_) => report(&Fault::Stopped(Stop::Device), out, faults),
         },
-        Reply::State(site) => match tell_state(alloc, site, out) {
-            Ok(()) => Status::Done.code(),
+        Reply::Site(question, site) => match tell(alloc, *question, site, out) {
+            Ok(status) => status.code(),
             Err(stop) => report(&Fault::Stopped(stop), out, faults),
         },
     }
 }
 
 /// What is printed for a command.
-fn answer<H, R: Read>(rt: &mut H, command: &Command, input: &mut R) -> Result<Answer, Stop>
+fn reply_for<H, R: Read>(rt: &mut H, command: &Command, input: &mut R) -> Result<Reply, Stop>
 where
     H: AllocGlobal + Shelf + Network,
-    ensures answer { IfOk result (IsAnswerTo (asked_by command.now)
+    ensures reply { IfOk result (IsReplyTo (asked_by command.now)
         (around H.held H.makes (reach (H.opens rt.old) (H.lets_in rt.old) (H.reaches rt.old)
         (H.joins rt.old) (H.fails rt.old) H.Input.given H.Input.to_come H.Output.taken
         H.Input.called H.Output.called H.Input.failed H.Output.failed)
@@ -168,11 +158,13 @@ where
         rt.old rt.new (R.remaining input.old))) }
 {
     match command {
-        Command::Ask { question, files } => answer_for(&*rt, *question, files, input),
-        Command::Merge { out, files } => merged(rt, out, files, input),
-        Command::Serve { port, count } => served(&*rt, *port, *count),
-        Command::Push { port, files } => pushed(&*rt, *port, files, input),
-        Command::Loop { files } => looped(&*rt, files, input),
+        Command::Ask { question, files } => {
+            Ok(Reply::Site(*question, site_for(&*rt, files, input)?))
+        }
+        Command::Merge { out, files } => Ok(Reply::Answer(merged(rt, out, files, input)?)),
+        Command::Serve { port, count } => Ok(Reply::Answer(served(&*rt, *port, *count)?)),
+        Command::Push { port, files } => Ok(Reply::Answer(pushed(&*rt, *port, files, input)?)),
+        Command::Loop { files } => Ok(Reply::Answer(looped(&*rt, files, input)?)),
     }
 }
 

@@ -9,5 +9,6 @@ pub mod Pieces
 pub mod Requests
 pub mod Streams
 pub mod Takings
+pub mod Tellings
 pub mod Texts
 pub mod Unfinished

@@ -1,21 +1,35 @@
 -- What a run makes of its inputs.
-use Rattle.std.specs.Prelude.{◌≡◌, ◌⊎◌, ℕ, List, ◌++◌}
-use Rattle.cue_answer.specs.Answers.{Says, Tells, line_end}
+use Rattle.std.specs.Prelude.{◌≡◌, ◌⊎◌, ℕ, List, true}
+use Rattle.cue_answer.specs.Answers.{IsShown}
 use Rattle.cue_answer.specs.declared.Answer.{Answer}
 use Rattle.cue_answer.specs.declared.Question.{Question}
+use Rattle.cue_answer.specs.declared.Status.{Status}
 use Rattle.cue_replica.specs.Language.{Table, language}
 use Rattle.cue_program.specs.Calls.{Call, Puts}
 use Rattle.cue_program.specs.Inputs.{Inputs, Holds, IsInputRefused, IsInputUnread}
+use Rattle.cue_program.specs.Outlets.{Adds, HasBegun, Passage}
 use Rattle.cue_program.specs.Stopped.{StopsPutting}
 use Rattle.cue_program.specs.Stops.{IsDevice, IsMemory}
 use Rattle.cue_program.specs.declared.stop.Stop.{Stop}
 
--- the answer, as it is printed, to the question about a site that has taken all inputs
+-- the answer to the question about a site that has taken all inputs
 abbrev pub IsAnswerOn : Question → Inputs → Answer → Type 0
 IsAnswerOn question inputs shown =
     (table : Table) × Holds inputs table
-    × ((told : Answer) × Tells question table told
-    × Says shown (told.bytes.items ++ line_end question told.status) told.status)
+    × IsShown question table shown.bytes.items shown.status
+
+-- an answer was added to a stream
+abbrev pub IsAnswerAdded : Question → Table → Passage → Status → Type 0
+IsAnswerAdded question table passage status =
+    (shown : List ℕ) × IsShown question table shown status × Adds passage shown
+
+-- Why not all of an answer was added, which is made while it is written: a call of the stream failed;
+-- or memory ran out. What was added is the front of the answer.
+abbrev pub IsAnswerCut : Question → Table → Passage → Stop → Type 0
+IsAnswerCut question table passage stop =
+    ((IsDevice stop × (passage.has_failed ≡ true)) ⊎ IsMemory stop)
+    × ((shown : List ℕ) (status : Status) → IsShown question table shown status
+    → HasBegun passage shown)
 
 -- What ends a run before all inputs were taken: the first that is refused, or can't be read; or
 -- memory ran out.

@@ -20,6 +20,7 @@ mod site;
 mod state_file;
 mod stop;
 mod taking;
+mod telling;
 mod writing;
 
 pub use cue_answer::{Answer, Question, Status, answer_to, printed};
@@ -35,4 +36,5 @@ pub use run::{answer_for, merge_into, site_for};
 pub use shelf::{Form, Shelf, Uncreated};
 pub use site::take_file;
 pub use stop::Stop;
+pub use telling::{Untold, tell};
 pub use writing::tell_state;

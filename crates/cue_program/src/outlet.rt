@@ -85,6 +85,14 @@ impl<W: Write> Outlet<W> {
         }
     }
 
+    /// Keeps that a call of it has failed.
+    pub(crate) fn fail(&mut self)
+        ensures inner { outlet_inner self.new ≡ outlet_inner self.old }
+        ensures failed { outlet_failed self.new ≡ true }
+    {
+        self.failed = true;
+    }
+
     /// Writes bytes from the front of a slice that has some, and answers how many. A call that a
     /// signal interrupts is made again.
     fn write(&mut self, bytes: &[u8]) -> Result<usize, Fault>

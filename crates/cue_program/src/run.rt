@@ -19,8 +19,8 @@ use cue_replica::Replica;
 use std::alloc::Global;
 use std::io::Read;
 
-/// What one new site answers that has taken all inputs, as `site_for` says, as it is printed. A
-/// state is answered whole: `tell_state` writes the one of a site without holding it.
+/// What one new site answers that has taken all inputs, as `site_for` says, as it is printed, made
+/// whole: `tell` writes the answer of a site while it is made.
 ///
 /// # Errors
 ///

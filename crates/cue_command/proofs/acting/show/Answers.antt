@@ -1,16 +1,15 @@
 use Rattle.std.proofs.Common.{subst, sym}
 use Rattle.cue_program.specs.Outlets.{passed}
-use Rattle.cue_replica.specs.Language.{language}
 use Rattle.cue_command.specs.declared.acting.Reply.{Reply}
 use Rattle.cue_command.specs.inner.Replies.{IsReplyTold}
-use Rattle.cue_command.proofs.Replies.{state_not_told}
+use Rattle.cue_command.proofs.Replies.{answer_not_told}
 use Rattle.cue_command.proofs.acting.show.Goals as goal
 
-pub returns-in-Err-tell_state : goal.returns-in-Err-tell_state
-returns-in-Err-tell_state g c =
+pub returns-in-Err-tell : goal.returns-in-Err-tell
+returns-in-Err-tell g c =
     let contents = g.W.Write.contents in
-    let complaints = passed g.F.Write.contents c.args.faults.now c.report-in-Err-tell_state.new.faults in
-    let status = c.report-in-Err-tell_state.result in
-    subst (λ (reply : Reply). IsReplyTold reply (passed contents c.args.out.now c.report-in-Err-tell_state.new.out) complaints status) (sym c.in-State.is)
-    (state_not_told contents c.args.out.now c.tell_state.new.out c.report-in-Err-tell_state.new.out (language.written c.in-State.site) c.in-Err-tell_state.stop status
-    complaints c.in-Err-tell_state.ensures.untold c.report-in-Err-tell_state.ensures)
+    let complaints = passed g.F.Write.contents c.args.faults.now c.report-in-Err-tell.new.faults in
+    let status = c.report-in-Err-tell.result in
+    subst (λ (reply : Reply). IsReplyTold reply (passed contents c.args.out.now c.report-in-Err-tell.new.out) complaints status) (sym c.in-Site.is)
+    (answer_not_told contents c.args.out.now c.tell-in-Site.new.out c.report-in-Err-tell.new.out c.in-Site.question c.in-Site.site c.in-Err-tell.stop status
+    complaints c.in-Err-tell.ensures.cut c.report-in-Err-tell.ensures)

@@ -1,0 +1,11 @@
+use Rattle.std.proofs.Common.{subst, sym}
+use Rattle.cue_answer.specs.declared.Status.TheVariants.{Done}
+use Rattle.cue_program.specs.Outlets.{passed}
+use Rattle.cue_program.specs.Runs.{IsAnswerAdded}
+use Rattle.cue_program.proofs.Tellings.{state_added}
+use Rattle.cue_program.proofs.telling.tell.Goals as goal
+
+pub returns-in-Ok-clause-told : goal.returns-in-Ok-clause-told
+returns-in-Ok-clause-told g c =
+    let passage = passed g.W.Write.contents c.args.out.now c.tell_state.new.out in
+    subst (λ question. IsAnswerAdded question c.args.site.now passage Done) (sym c.in-State.is) (state_added c.args.site.now passage c.in-Ok.ensures.written)
