@@ -2,7 +2,7 @@
 import re
 
 from fragments import tokens_of
-from program import run, stop
+from program import run, said, stop
 
 MARKS = {":": "", "?:": "?", "!:": "!"}
 STEP = re.compile(r'"(?:\\.|[^"\\])*"|\[\d+\.\.\]|[^.]+')
@@ -166,5 +166,5 @@ def printed_of(name, files):
     """The root's place, of what is said by all inputs together."""
     status, out, faults = run(["print", "--", *files])
     if status:
-        stop(name, (out + faults).decode(errors="replace").strip(), status)
+        stop(name, said(out, faults), status)
     return Printed(out.decode()).root

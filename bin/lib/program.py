@@ -1,10 +1,12 @@
 """Finds and runs the program cuestore, and answers --help and --version, for the scripts in bin/. An installation may have
 all files of bin/ and bin/lib/ in one folder."""
 import os
+import re
 import shutil
 import signal
 import subprocess
 import sys
+import tempfile
 
 LIB = os.path.dirname(os.path.realpath(__file__))
 BIN = os.path.dirname(LIB) if os.path.basename(LIB) == "lib" and os.path.exists(f"{os.path.dirname(LIB)}/cuestore") else LIB
@@ -20,6 +22,11 @@ def found_program():
 
 
 CUESTORE = found_program()
+# The line of a refusal: its number and name, and the place and input, where it is of one. It ends the output, and stands
+# behind the front of an answer where memory ran out while that was written.
+REFUSED = re.compile(rb"refused (\d+) (\w+)(?: at (\d+) in (\d+))?\n\Z")
+# The most bytes of an answer that a script holds: it is written while it is made, and may have no end.
+MOST = 1 << 28
 
 
 def version():
@@ -49,14 +56,47 @@ def answer_help(doc, words):
         sys.exit(0)
 
 
-def run(words, data=None):
-    """The program on these words: its exit status, standard output and standard error, as bytes."""
+def started(words, **streams):
+    """A process of the program on these words, whose standard output is read here."""
     try:
-        done = subprocess.run([CUESTORE, *words], input=data, stdin=None if data is not None else subprocess.DEVNULL,
-                              stdout=subprocess.PIPE, stderr=subprocess.PIPE, check=False)
+        return subprocess.Popen([CUESTORE, *words], stdout=subprocess.PIPE, **streams)
     except OSError as error:
-        stop(os.path.basename(sys.argv[0]), f"the program {CUESTORE} can't be run: {error.strerror}", 5)
-    return done.returncode, done.stdout, done.stderr
+        return stop(os.path.basename(sys.argv[0]), f"the program {CUESTORE} can't be run: {error.strerror}", 5)
+
+
+def run(words, data=None, to=None):
+    """The program on these words: its exit status, standard output and standard error, as bytes. With `to` the output goes
+    there as it comes, and of more than is held here the middle is left out; without it, that ends the script."""
+    with tempfile.TemporaryFile() as given, tempfile.TemporaryFile() as told:
+        given.write(data or b"")
+        given.seek(0)
+        with started(words, stdin=given if data is not None else subprocess.DEVNULL, stderr=told) as process:
+            front, end = bytearray(), b""
+            for piece in iter(lambda: process.stdout.read1(1 << 16), b""):
+                if to:
+                    to.write(piece)
+                    to.flush()
+                room = MOST - len(front)
+                front += piece[:room]
+                end = (end + piece[room:])[-200:]
+                if end and not to:
+                    process.stdout.close()  # which ends it
+                    stop(os.path.basename(sys.argv[0]), f"the answer to {words[0]} has more than {MOST} bytes")
+        told.seek(0)
+        return process.returncode, bytes(front) + end, told.read()
+
+
+def front_of(words):
+    """What the program's output on these words begins with."""
+    with started(words, stdin=subprocess.DEVNULL, stderr=subprocess.DEVNULL) as process:
+        return process.stdout.read(200)
+
+
+def said(out, faults):
+    """What the program said in the place of an answer: the line of a refusal, without what stands in front of it, or of a
+    fault."""
+    refused = REFUSED.search(out)
+    return (refused[0] if refused else faults or out[:200]).decode(errors="replace").strip()
 
 
 def stop(name, message, status=1):

@@ -3,16 +3,16 @@ import contextlib
 import fcntl
 import filecmp
 import os
-import re
 import signal
 import subprocess
 import tempfile
 
-from program import CUESTORE
+from program import CUESTORE, REFUSED
 
 SECONDS = 300  # for a run of the program
 MOST_LINES = 1000  # of conflicts that are looked at: what a state says may have far more than it has bytes
-REFUSED = re.compile(rb"refused (\d+ \w+)(?: at (\d+) in (\d+))?\n\Z")
+# How a line of a conflict ends. The last one of a report that memory ran out for is cut, and ends otherwise.
+ENDS = (b" no value\n", b" label not allowed\n")
 
 
 class Fault(Exception):
@@ -97,12 +97,12 @@ def said(refused):
 
 
 def conflicts_of(state):
-    """The conflicts of a state, as lines: the first ones, where there are very many."""
+    """The conflicts of a state, as lines: the first ones, where there are very many, or memory runs out."""
     found = set()
     with started(["report", "--", state], stdout=subprocess.PIPE, stderr=subprocess.DEVNULL) as process:
         for line in process.stdout:
             # Conflicts come first.
-            if not line.startswith(b"conflict ") or len(found) == MOST_LINES:
+            if not (line.startswith(b"conflict ") and line.endswith(ENDS)) or len(found) == MOST_LINES:
                 os.killpg(process.pid, signal.SIGKILL)
                 break
             found.add(line.decode().rstrip("\n"))
@@ -126,7 +126,7 @@ def merge_into(state, inputs):
         target = os.path.realpath(state)
         fresh = stack.enter_context(beside(target))
         while inputs and (refused := written([*known, *(path for _, path in inputs)], fresh)):
-            at = int(refused[3]) - len(known) - 1 if refused[3] else first_refused(known, inputs, fresh)
+            at = int(refused[4]) - len(known) - 1 if refused[4] else first_refused(known, inputs, fresh)
             if at == -1:
                 raise own_fault(state, refused)
             if at is None:
