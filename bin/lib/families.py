@@ -1,13 +1,14 @@
-"""Texts that are small and may cost much: families that grow with a number, each as long as a limit lets it be, and what a
-run of the program on one costs."""
+"""Texts and states that are small and may cost much: families that grow with a number, each as long as a limit lets it be,
+and what a run of the program on one costs."""
 import os
 import resource
 import subprocess
 import tempfile
 import threading
 
+from program import REFUSED
+
 LIMITS = (1 << 10, 64 << 10)  # the most bytes of a text
-EXPRESSIONS = 60000  # and about the most expressions and fields that it may mean
 
 
 def under(rests, value):
@@ -42,6 +43,46 @@ def rests_that_tell_nothing(k):
     for _ in range(min(k, 50)):
         inner = f"[...{inner}] & #A"
     return f"#A: [{', '.join('_' * 9)}]\nl: {inner}\n"
+
+
+def lists_of_lists(k, leaf="_"):
+    """Lists of many lists of many lists of many elements, each of which a report tells."""
+    return f"#A: [{', '.join('_' * k)}]\nl: [...[...[...{leaf}] & #A] & #A] & #A\n"
+
+
+def lists_that_clash(k):
+    """The same, in which each element is a conflict, of one list less."""
+    return lists_of_lists(k, "1") + "l: [...[...2]]\n"
+
+
+def lists_of_numbers(k):
+    """The same, of which a report tells nothing, and an export each element."""
+    return lists_of_lists(k, "1")
+
+
+def lists_that_differ(k):
+    """A list of lists in which each meets another one that is longer by an element, and is like those before it."""
+    return "l: [...[...int]]\n" + "".join(f"l: [{'_, ' * i}[1, ...], ...]\n" for i in range(min(k, 340)))
+
+
+def lists_in_state(k, leaf=bytes(0)):
+    """A state of nested lists of 65,536 elements that are alike: two of them are 50 bytes."""
+    count = min(k, 61) + 1
+    rows = [path(count) + leaf] if leaf else []
+    for steps in range(count - 1, -1, -1):
+        rows.insert(0, path(steps) + bytes([0 if steps else 2, 3]) + bytes.fromhex("00010000 00 00000000"))
+    return b"\xfeCUE\x02" + (len(rows) + 1).to_bytes(8, "big") + bytes.fromhex("00000200") + b"".join(rows)
+
+
+def path(rests):
+    """The path of the rest of so many lists, one in another, at the field `l`."""
+    return bytes([rests + 1]) + b"\x00\x00\x01l" + b"\x02" * rests
+
+
+def numbers_in_state(k):
+    """The same with a number in the innermost, so that a report tells nothing."""
+    one = bytes(1) + (1).to_bytes(8, "big") * 3 + bytes(9)
+    return lists_in_state(k, b"\x00\x01" + one + one)
 
 
 def disjunctions(k):
@@ -100,6 +141,14 @@ def long_lists(k):
     return f"l: [{', '.join('int' for _ in range(k))}, ...]\nl: [...>=0]\nl: [_, _, ...<=9]\nm: [...{{a: l: [...int]}}]\n"
 
 
+def closed_lists(k):
+    """Closed structs in nested lists of some elements, at each level with a label more."""
+    inner = "{a: int}"
+    for level in range(min(k, 25)):
+        inner = f"close({{a{level}?: int, l: [...{inner}] & [{', '.join('_' * 9)}]}})"
+    return f"x: {inner}\n"
+
+
 def grown(k):
     """Lists at each depth of nested rests, all of whose elements differ: the table itself has the power of both."""
     depth, count = 3, min(k, 300)
@@ -108,26 +157,31 @@ def grown(k):
     return "l: " + " & ".join(lists) + "\n"
 
 
-FAMILIES = [elements_far_out, elements_that_clash, definitions_over_them, rests_that_tell_nothing, disjunctions, holes,
-            closed_chains, closed_side_by_side, long_paths, doubled, defaults, default_terms, long_texts, long_labels, long_lists, grown]
-# Of these the table itself is large, and can't be kept in less: want of memory, told soon, is an answer too.
-LARGE = {grown}
+FAMILIES = [elements_far_out, elements_that_clash, definitions_over_them, rests_that_tell_nothing, lists_of_lists, lists_that_clash,
+            lists_of_numbers, lists_that_differ, lists_in_state, numbers_in_state, disjunctions, holes, closed_chains,
+            closed_side_by_side, closed_lists, long_paths, doubled, defaults, default_terms, long_texts, long_labels, long_lists,
+            grown]
+# Of these the table itself is large, and can't be kept in less: want of memory, told soon, is an answer too. The elements
+# of `grown` all differ; and of `elements_far_out` each choice of levels at which the far element is taken leaves other
+# optional fields below it, so that its k levels are 2^k different tables of elements.
+LARGE = {elements_far_out, grown}
 
 
 def longest(family, limit):
-    """The text of a family with the greatest number that leaves it below a limit."""
+    """The text or the state of a family with the greatest number that leaves it below a limit."""
     low, high = 1, 2
     while high < 1 << 16 and len(family(high)) < limit and family(high) != family(high - 1):
         low, high = high, 2 * high
     while high - low > 1:
         middle = (low + high) // 2
         low, high = (middle, high) if len(family(middle)) < limit else (low, middle)
-    return family(low).encode()
+    found = family(low)
+    return found if isinstance(found, bytes) else found.encode()
 
 
 class Cost:
-    """What one run came to: its status, the bytes that it wrote (of which no more than `most` are awaited), the front of
-    them, seconds of the processor and the most bytes of memory."""
+    """What one run came to: its status, the bytes that it wrote (of which no more than `most` are awaited), the end of them,
+    seconds of the processor and the most bytes of memory."""
 
     def __init__(self, words, data, room, seconds, most):
         with tempfile.NamedTemporaryFile() as file:
@@ -137,10 +191,9 @@ class Cost:
                                        stderr=subprocess.DEVNULL, preexec_fn=lambda: limit(room, seconds))
             timer = threading.Timer(20 * seconds, process.kill)
             timer.start()
-            self.front, self.written = process.stdout.read(200), 0
-            self.written = len(self.front)
+            self.end, self.written = b"", 0
             while self.written < most and (piece := process.stdout.read(1 << 16)):
-                self.written += len(piece)
+                self.end, self.written = (self.end + piece)[-200:], self.written + len(piece)
             self.is_whole = self.written < most
             if not self.is_whole:
                 process.kill()
@@ -151,11 +204,12 @@ class Cost:
         self.status, self.seconds, self.memory = process.returncode, used.ru_utime + used.ru_stime, used.ru_maxrss << 10
 
     def is_want_of_memory(self):
-        return self.status == 1 and self.front.startswith(b"refused 24 Memory")
+        refused = REFUSED.search(self.end)
+        return self.status == 1 and bool(refused) and refused[1] == b"24"
 
 
 def limit(room, seconds):
-    """Limits what a run may take: memory, and seconds of the processor."""
+    """Limits what a run may take: memory, and four times the seconds of the processor, since one that writes on is cut."""
     resource.setrlimit(resource.RLIMIT_AS, (room, room))
-    resource.setrlimit(resource.RLIMIT_CPU, (int(seconds) + 1, int(seconds) + 2))
+    resource.setrlimit(resource.RLIMIT_CPU, (4 * seconds, 4 * seconds + 1))
     resource.setrlimit(resource.RLIMIT_CORE, (0, 0))
