@@ -27,6 +27,11 @@ def elements_far_out(k):
     return f"#A: {far_out(k) if k <= 16 else far_out(7, k)}\nx?: #A\n"
 
 
+def elements_alike_far_out(k):
+    """The same with one label at all levels: at each level there are two different tables of elements, and 2^k ways there."""
+    return f"#A: {far_out(min(k, 62), 9, lambda level, below: under(below, '{b?: 1}'))}\nx?: #A\n"
+
+
 def elements_that_clash(k):
     """The same with elements that are no lists, and clash with the rests."""
     return f"#A: {far_out(min(k, 12), 9, lambda level, below: '{b: 1}')}\nx?: #A\n"
@@ -157,10 +162,10 @@ def grown(k):
     return "l: " + " & ".join(lists) + "\n"
 
 
-FAMILIES = [elements_far_out, elements_that_clash, definitions_over_them, rests_that_tell_nothing, lists_of_lists, lists_that_clash,
-            lists_of_numbers, lists_that_differ, lists_in_state, numbers_in_state, disjunctions, holes, closed_chains,
-            closed_side_by_side, closed_lists, long_paths, doubled, defaults, default_terms, long_texts, long_labels, long_lists,
-            grown]
+FAMILIES = [elements_far_out, elements_alike_far_out, elements_that_clash, definitions_over_them, rests_that_tell_nothing,
+            lists_of_lists, lists_that_clash, lists_of_numbers, lists_that_differ, lists_in_state, numbers_in_state, disjunctions,
+            holes, closed_chains, closed_side_by_side, closed_lists, long_paths, doubled, defaults, default_terms, long_texts,
+            long_labels, long_lists, grown]
 # Of these the table itself is large, and can't be kept in less: want of memory, told soon, is an answer too. The elements
 # of `grown` all differ; and of `elements_far_out` each choice of levels at which the far element is taken leaves other
 # optional fields below it, so that its k levels are 2^k different tables of elements.
