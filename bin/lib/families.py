@@ -28,13 +28,13 @@ def elements_far_out(k):
 
 
 def elements_alike_far_out(k):
-    """The same with one label at all levels: at each level there are two different tables of elements, and 2^k ways there."""
+    """The same with one label at all levels: two different tables of elements at each level, and 2^k ways there."""
     return f"#A: {far_out(min(k, 62), 9, lambda level, below: under(below, '{b?: 1}'))}\nx?: #A\n"
 
 
 def elements_that_clash(k):
     """The same with elements that are no lists, and clash with the rests."""
-    return f"#A: {far_out(min(k, 12), 9, lambda level, below: '{b: 1}')}\nx?: #A\n"
+    return f"#A: {far_out(min(k, 62), 9, lambda level, below: '{b: 1}')}\nx?: #A\n"
 
 
 def definitions_over_them(k):
@@ -166,10 +166,10 @@ FAMILIES = [elements_far_out, elements_alike_far_out, elements_that_clash, defin
             lists_of_lists, lists_that_clash, lists_of_numbers, lists_that_differ, lists_in_state, numbers_in_state, disjunctions,
             holes, closed_chains, closed_side_by_side, closed_lists, long_paths, doubled, defaults, default_terms, long_texts,
             long_labels, long_lists, grown]
-# Of these the table itself is large, and can't be kept in less: want of memory, told soon, is an answer too. The elements
-# of `grown` all differ; and of `elements_far_out` each choice of levels at which the far element is taken leaves other
-# optional fields below it, so that its k levels are 2^k different tables of elements.
-LARGE = {elements_far_out, grown}
+# Of these what is known is large, place by place, and each place is kept by itself: want of memory, told soon, is an answer
+# too. The elements of `grown` all differ; and of the others each choice of levels at which the far element is taken is a
+# way to places of its own, which a state tells one by one (of 8 levels it has 38 GB).
+LARGE = {elements_far_out, elements_alike_far_out, elements_that_clash, grown}
 
 
 def longest(family, limit):
