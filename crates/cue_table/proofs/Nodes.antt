@@ -1,5 +1,5 @@
 -- What the fields of a node say of its tree.
-use Rattle.std.proofs.Common.{◌≡◌, ◌<◌, ◌+◌, ◌++◌, rules, ℕ, zero, suc, Bool, true, false, nat_eq, List, [], ◌∷◌, length, get_or, drop, Option, Some, None, refl, sym, ap, subst, ◌∙◌, arith}
+use Rattle.std.proofs.Common.{◌≡◌, ◌<◌, ◌≤◌, ◌+◌, ◌++◌, rules, ℕ, zero, suc, Bool, true, false, nat_eq, List, [], ◌∷◌, length, get_or, drop, Option, Some, None, refl, sym, ap, subst, ◌∙◌, arith}
 use Rattle.std.specs.List.Sorted.{IsPartitionedBy, IsPartitionPoint}
 use Rattle.std.specs.declared.cmp.Ordering.TheVariants.{Less}
 use Rattle.std.specs.Ordering.{nat_cmp}
@@ -14,8 +14,9 @@ use Rattle.std.specs.Prelude.{Box}
 use Rattle.cue_table.specs.declared.node.Onward.{Onward}
 use Rattle.cue_table.specs.Tree.{behind_last}
 use Rattle.cue_table.specs.Form.{IsBelowAll, Rise, StartsAtIndex, IsTree, AreBranches, IsRestOf}
+use Rattle.cue_table.specs.Size.{tree_size, children_size}
 use Rattle.cue_table.specs.Inner.View.{below_in, branches, rest_in, run_branches, tree_of}
-use Rattle.cue_table.specs.Inner.Child.{Child}
+use Rattle.cue_table.specs.Inner.Child.{Child, step_same}
 use Rattle.cue_table.specs.declared.node.Node.TheInside.{Inside}
 use Rattle.cue_table.proofs.Finding.{at_or_below}
 use Rattle.cue_table.proofs.Joined.{join_parts}
@@ -50,6 +51,25 @@ taken_below (Some row) cs rest len e h = refl
 taken_below None (c ∷ cs) None len e h = refl
 taken_below None (c ∷ cs) (Some b) len e h = refl
 taken_below None [] rest len e h = let no : nat_eq 0 0 ≡ false = subst (λ n. nat_eq n 0 ≡ false) e (sym h) in cc
+
+-- branches tell how they are kept
+pub kept_as : {R : Type 0} (cs ds : List (Child R)) → branches cs ≡ branches ds → cs ≡ ds
+kept_as [] [] e = refl
+kept_as [] (d ∷ ds) e = cc
+kept_as (c ∷ cs) [] e = cc
+kept_as (c ∷ cs) (d ∷ ds) e =
+    let at : step_of c.step ≡ step_of d.step = cc in
+    let there : c.node ≡ d.node = cc in
+    let others : branches cs ≡ branches ds = cc in
+    let step = step_same c.step d.step at in
+    let rest = kept_as cs ds others in
+    λ i. record { step = step i; node = there i } ∷ rest i
+
+-- each of them is no larger than all
+pub child_within : {R : Type 0} (n : ℕ) (cs : List (Child R)) (d : Child R) → n < length cs → tree_size (get_or cs n d).node ≤ children_size (branches cs)
+child_within zero (c ∷ cs) d l = omega arith
+child_within (suc n) (c ∷ cs) d l = let less = child_within n cs d (omega (arith, l)) in omega (arith, less)
+child_within n [] d l = absurd (omega (arith, l))
 
 -- no label stands after an index
 no_labels : {R : Type 0} (n : ℕ) (children : Children R) → IsBelowAll (index n) children → labels_of children ≡ []

@@ -49,7 +49,7 @@ free_rest step (node row children no_rest) o e n = refl
 free_rest step (node row children (onward m tree)) o e n = absurd (n (sym e))
 
 module _ {R Q : Type 0} where
-  own_below : (a : Inside R Q) (s : Tree R) → tree_of a ≡ s → rest_in a.rest ≡ no_rest → below s ≡ branches a.children.items
+  pub own_below : (a : Inside R Q) (s : Tree R) → tree_of a ≡ s → rest_in a.rest ≡ no_rest → below s ≡ branches a.children.items
   own_below a s e x = ap below (sym e) ∙ own_only (branches a.children.items) a.rest x
 
   -- a place without a rest is as deep as its own branches

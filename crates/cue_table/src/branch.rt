@@ -1,4 +1,4 @@
-ghost use Rattle.std.specs.Prelude.{◌≡◌, ◌↔◌, ◌≤◌, ◌^◌, IsTrue};
+ghost use Rattle.std.specs.Prelude.{◌≡◌, ◌≤◌, ◌^◌};
 ghost use Rattle.std.specs.Option.{option_map};
 ghost use Rattle.cue_table.specs.Tree.{row_of, below, rest_of, rest_tree, fixed_of, step_into};
 ghost use Rattle.cue_table.specs.Tree.{behind_last, labels_of, items_of};
@@ -63,13 +63,6 @@ impl<'a, R: Narrow> Branch<'a, R> {
             None => None,
             Some(found) => Some(Branch::new(found)),
         }
-    }
-
-    /// Whether both know the same at the place and at each path below it.
-    pub fn same(&self, other: &Branch<R>) -> bool
-        ensures { IsTrue result ↔ (self.now ≡ other.now) }
-    {
-        self.node.same(other.node)
     }
 
     /// The branches below that stand at a step of their own, each with it, in the order of the

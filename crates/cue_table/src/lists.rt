@@ -11,7 +11,7 @@ ghost use Rattle.cue_table.specs.Tree.{no_rest, rest_of, rest_tree, step_into};
 
 use crate::child::Child;
 use crate::meet::{meet_below, node_met, node_or, row_met, row_or};
-use crate::node::{Node, Onward, Run, copy_children};
+use crate::node::{Node, Onward, Run, copy_children, copy_row};
 use crate::rest::{fixed, rest, settled};
 use cue_lattice::{Memory, Narrow};
 use cue_row::Step;
@@ -22,25 +22,21 @@ use std::alloc::Global;
 pub(crate) fn list_met<R: Narrow>(
     alloc: Global,
     left: &Node<R>,
-    right: Node<R>,
+    right: &Node<R>,
 ) -> Result<Node<R>, Memory>
     requires left { IsTable R.refuses R.is_value left.now }
-    requires right { IsTable R.refuses R.is_value right }
-    requires rest { ¬ ((rest_of left.now ≡ no_rest) × (rest_of right ≡ no_rest)) }
+    requires right { IsTable R.refuses R.is_value right.now }
+    requires rest { ¬ ((rest_of left.now ≡ no_rest) × (rest_of right.now ≡ no_rest)) }
     ensures form { IfOk result (IsTable R.refuses R.is_value) }
-    ensures refused { IfOk result (IsMet R.refuses left.now right) }
+    ensures refused { IfOk result (IsMet R.refuses left.now right.now) }
 {
-    let onward = elements_met(alloc, left, &right)?;
-    let Node {
-        row,
-        children: mut others,
-        rest: _,
-    } = right;
-    let row = row_met(alloc, &left.row, row)?;
+    let onward = elements_met(alloc, left, right)?;
+    let row = row_met(alloc, &left.row, copy_row(alloc, &right.row)?)?;
     let row = row_or(alloc, row, &left.row)?;
     let (own, _) = left.children.split_at(field_count(&left.children));
     let mut children = copy_children(alloc, own)?;
-    others.truncate(field_count(&others));
+    let (others, _) = right.children.split_at(field_count(&right.children));
+    let others = copy_children(alloc, others)?;
     meet_below(alloc, &mut children, others)?;
     Ok(Node {
         row,
@@ -119,13 +115,14 @@ fn alike_in_both<R: Narrow>(left: &Node<R>, right: &Node<R>, first: u32, fixed: 
     left.alike_to(first).min(right.alike_to(first)).min(fixed)
 }
 
-/// Whether two elements of a place are the same.
+/// Whether two elements of a place are the same. They are compared where they are not kept as one.
 fn goes_on<R: Narrow>(node: &Node<R>, first: u32, next: u32) -> bool
-    requires { IsTable R.refuses R.is_value node.now }
+    requires form { IsTable R.refuses R.is_value node.now }
+    requires behind { first ≤ next }
     ensures { IsTrue result
-        ↔ (step_into node.now (index first) ≡ step_into node.now (index next)) }
+        → (step_into node.now (index first) ≡ step_into node.now (index next)) }
 {
-    same_found(node.element(first), node.element(next))
+    u64::from(next) < node.alike_to(first) || same_found(node.element(first), node.element(next))
 }
 
 /// The elements of two places with an index met. Where both are as the rests, they are shared with
@@ -147,12 +144,19 @@ fn element_met<R: Narrow>(
     ensures refused { IfOk result (AreMetRests R.refuses
         (step_into left.now (index first)) (step_into right.now (index first))) }
 {
-    let one = left.element(first);
-    let other = right.element(first);
-    if same_found(one, rest(left)) && same_found(other, rest(right)) {
+    if is_as_rest(left, first) && is_as_rest(right, first) {
         return copy_found(alloc, further);
     }
-    found_met(alloc, one, other)
+    found_met(alloc, left.element(first), right.element(first))
+}
+
+/// Whether an element of a place is what all further ones are. It is compared where it is none of these.
+fn is_as_rest<R: Narrow>(node: &Node<R>, number: u32) -> bool
+    requires { IsTable R.refuses R.is_value node.now }
+    ensures { IsTrue result
+        → (step_into node.now (index number) ≡ rest_tree (rest_of node.now)) }
+{
+    u64::from(number) >= fixed(node) || same_found(node.element(number), rest(node))
 }
 
 /// Whether two branches that may be there are the same.
@@ -205,19 +209,22 @@ fn found_met<R: Narrow>(
     match (left, right) {
         (None, None) => Ok(None),
         (Some(node), None) | (None, Some(node)) => Ok(Some(node.copy(alloc)?)),
-        (Some(node), Some(other)) => Ok(Some(whole_met(alloc, node, other.copy(alloc)?)?)),
+        (Some(node), Some(other)) => Ok(Some(whole_met(alloc, node, other)?)),
     }
 }
 
 /// Two places met, shared with the left one where it stays as it is.
 #[cycle(meet)]
-fn whole_met<R: Narrow>(alloc: Global, left: &Node<R>, right: Node<R>) -> Result<Node<R>, Memory>
+fn whole_met<R: Narrow>(alloc: Global, left: &Node<R>, right: &Node<R>) -> Result<Node<R>, Memory>
     requires left { IsTable R.refuses R.is_value left.now }
-    requires right { IsTable R.refuses R.is_value right }
+    requires right { IsTable R.refuses R.is_value right.now }
     ensures form { IfOk result (IsTable R.refuses R.is_value) }
-    ensures refused { IfOk result (IsMet R.refuses left.now right) }
+    ensures refused { IfOk result (IsMet R.refuses left.now right.now) }
 {
-    let met = node_met(alloc, left, right)?;
+    if left.rest.is_some() || right.rest.is_some() {
+        return list_met(alloc, left, right);
+    }
+    let met = node_met(alloc, left, right.copy(alloc)?)?;
     Ok(node_or(alloc, met, left)?)
 }
 

@@ -35,7 +35,7 @@ pub(crate) fn meet_into<R: Narrow>(
     if left.rest.is_none() && right.rest.is_none() {
         return meet_own(alloc, left, right);
     }
-    *left = list_met(alloc, left, right)?;
+    *left = list_met(alloc, left, &right)?;
     Ok(())
 }
 
@@ -171,7 +171,7 @@ pub(crate) fn node_met<R: Narrow>(
     ensures refused { IfOk result (λ met. IsMet R.refuses left.now right (or_old met left.now)) }
 {
     if left.rest.is_some() || right.rest.is_some() {
-        return Ok(Some(list_met(alloc, left, right)?));
+        return Ok(Some(list_met(alloc, left, &right)?));
     }
     let row = row_met(alloc, &left.row, right.row)?;
     let children = below_met(alloc, &left.children, right.children)?;

@@ -1,10 +1,12 @@
 //! Whether two places are the same.
 ghost use Rattle.std.specs.Prelude.{◌≡◌, ◌↔◌, IsTrue};
 ghost use Rattle.cue_table.specs.Spans.{spread};
+ghost use Rattle.cue_table.specs.Tree.{below};
 ghost use Rattle.cue_table.specs.Inner.Cursors.{spans_left};
 ghost use Rattle.cue_table.specs.Inner.View.{rest_in};
 
 use crate::Span;
+use crate::child::Child;
 use crate::cursor::Cursor;
 use crate::node::{Node, Onward};
 use cue_lattice::Narrow;
@@ -17,7 +19,18 @@ impl<R: Narrow> Node<R> {
     {
         same_row(&self.row, &other.row)
             && same_rest(&self.rest, &other.rest)
-            && same_below(self.cursor(), other.cursor())
+            && self.same_branches(other)
+    }
+
+    /// Whether both have the same branches.
+    #[cycle(same)]
+    fn same_branches(&self, other: &Node<R>) -> bool
+        ensures { IsTrue result ↔ (below self.now ≡ below other.now) }
+    {
+        if self.rest.is_none() && other.rest.is_none() {
+            return same_children(&self.children, &other.children);
+        }
+        same_below(self.cursor(), other.cursor())
     }
 }
 
@@ -40,6 +53,23 @@ fn same_rest<R: Narrow>(left: &Option<Box<Onward<R>>>, right: &Option<Box<Onward
         (Some(a), Some(b)) => a.from == b.from && a.node.same(&b.node),
         _ => false,
     }
+}
+
+/// Whether both are the same branches, where each is kept by itself.
+#[cycle(same)]
+fn same_children<R: Narrow>(left: &[Child<R>], right: &[Child<R>]) -> bool
+    ensures { IsTrue result ↔ (left.now ≡ right.now) }
+{
+    if left.len() != right.len() {
+        return false;
+    }
+    for (index, child) in left.iter().enumerate() {
+        let other = &right[index];
+        if !child.step().same(other.step()) || !child.node().same(other.node()) {
+            return false;
+        }
+    }
+    true
 }
 
 /// Whether the same branches are left on both ways. Elements that are alike on both are compared

@@ -113,23 +113,23 @@ lists::elements_met-returns g t c =
     (subst (λ o. AreMetRests r (option_map (λ node. node.now) c.rest.result) (option_map (λ node. node.now) c.rest-2.result) o) (sym c.loop-at.invariant.further ∙ c.in-Some-further.is) c.in_ok-further.ensures.refused) c.settled.ensures
 
 -- ---- an element of two places
-pub lists::element_met-element-one-requires : goal.lists::element_met-element-one-requires
-lists::element_met-element-one-requires g t c = tree_rises (IsKept g.R.Narrow.refuses g.R.Narrow.is_value) c.args.left.now c.requires.left
+pub lists::element_met-element-requires : goal.lists::element_met-element-requires
+lists::element_met-element-requires g t c = tree_rises (IsKept g.R.Narrow.refuses g.R.Narrow.is_value) c.args.left.now c.requires.left
 
-pub lists::element_met-element-other-requires : goal.lists::element_met-element-other-requires
-lists::element_met-element-other-requires g t c = tree_rises (IsKept g.R.Narrow.refuses g.R.Narrow.is_value) c.args.right.now c.requires.right
+pub lists::element_met-element-requires-2 : goal.lists::element_met-element-requires-2
+lists::element_met-element-requires-2 g t c = tree_rises (IsKept g.R.Narrow.refuses g.R.Narrow.is_value) c.args.right.now c.requires.right
 
 pub lists::element_met-found_met-requires : goal.lists::element_met-found_met-requires
 lists::element_met-found_met-requires g t c κs within =
     let P = IsKept g.R.Narrow.refuses g.R.Narrow.is_value in
-    let deep = step_depth c.args.right.now (index c.args.first) _ c.element-other.ensures in
-    (omega (arith, c.decreases, deep), (within.0, (within.1, (step_branch P c.args.left.now (index c.args.first) _ c.requires.left c.element-one.ensures, step_branch P c.args.right.now (index c.args.first) _ c.requires.right c.element-other.ensures))))
+    let deep = step_depth c.args.right.now (index c.args.first) _ c.element-2.ensures in
+    (omega (arith, c.decreases, deep), (within.0, (within.1, (step_branch P c.args.left.now (index c.args.first) _ c.requires.left c.element.ensures, step_branch P c.args.right.now (index c.args.first) _ c.requires.right c.element-2.ensures))))
 
-pub lists::element_met-returns-then-same_found-2-clause-refused : goal.lists::element_met-returns-then-same_found-2-clause-refused
-lists::element_met-returns-then-same_found-2-clause-refused g t c =
+pub lists::element_met-returns-then-is_as_rest-2-clause-refused : goal.lists::element_met-returns-then-is_as_rest-2-clause-refused
+lists::element_met-returns-then-is_as_rest-2-clause-refused g t c =
     let r = g.R.Narrow.refuses in
-    let one = sym c.rest.ensures ∙ sym (c.same_found.ensures.0 c.if-same_found.true) ∙ c.element-one.ensures in
-    let other = sym c.rest-then-same_found.ensures ∙ sym (c.same_found-then-same_found.ensures.0 c.if-same_found-2.true) ∙ c.element-other.ensures in
+    let one = sym (c.is_as_rest.ensures c.if-is_as_rest.true) in
+    let other = sym (c.is_as_rest-then-is_as_rest.ensures c.if-is_as_rest-2.true) in
     IfOk-weaker c.copy_found.result _ _
     (λ o here. subst (AreMetRests r _ _) (sym here) (met_as r _ _ _ _ c.args.further.now one other c.requires.refused))
     c.copy_found.ensures
@@ -219,12 +219,15 @@ pub lists::whole_met-returns-clause-form : goal.lists::whole_met-returns-clause-
 lists::whole_met-returns-clause-form g t c = subst (IsTree (IsKept g.R.Narrow.refuses g.R.Narrow.is_value)) (sym c.in_ok-node_or.ensures) c.in_ok-met.ensures.form
 
 pub lists::whole_met-returns-clause-refused : goal.lists::whole_met-returns-clause-refused
-lists::whole_met-returns-clause-refused g t c = subst (IsMet g.R.Narrow.refuses c.args.left.now c.args.right) (sym c.in_ok-node_or.ensures) c.in_ok-met.ensures.refused
+lists::whole_met-returns-clause-refused g t c =
+    let r = g.R.Narrow.refuses in
+    subst (IsMet r c.args.left.now c.args.right.now) (sym c.in_ok-node_or.ensures)
+    (subst (λ n. IsMet r c.args.left.now n (or_old c.in_ok-met.met c.args.left.now)) c.in_ok-copy.ensures c.in_ok-met.ensures.refused)
 
 pub lists::found_met-returns-in_ok-whole_met-in-Some-Some-clause-form : goal.lists::found_met-returns-in_ok-whole_met-in-Some-Some-clause-form
 lists::found_met-returns-in_ok-whole_met-in-Some-Some-clause-form g t c =
     let left = subst (λ o. IsBranch (IsKept g.R.Narrow.refuses g.R.Narrow.is_value) (option_map (λ node. node.now) o)) c.in-Some-Some.is-0 c.requires.left in
-    (met_taken g.R.Narrow.refuses g.R.Narrow.is_value c.in-Some-Some.node.now c.in_ok-copy-in-Some-Some.field-0 c.in_ok-whole_met-in-Some-Some.field-0 left.0 left.1 c.in_ok-whole_met-in-Some-Some.ensures.refused, c.in_ok-whole_met-in-Some-Some.ensures.form)
+    (met_taken g.R.Narrow.refuses g.R.Narrow.is_value c.in-Some-Some.node.now c.in-Some-Some.other.now c.in_ok-whole_met-in-Some-Some.field-0 left.0 left.1 c.in_ok-whole_met-in-Some-Some.ensures.refused, c.in_ok-whole_met-in-Some-Some.ensures.form)
 
 -- ---- two places of which one has a rest
 pub lists::list_met-field_count-requires : goal.lists::list_met-field_count-requires
@@ -234,15 +237,16 @@ lists::list_met-field_count-requires g t c =
 
 pub lists::list_met-field_count-requires-2 : goal.lists::list_met-field_count-requires-2
 lists::list_met-field_count-requires-2 g t c =
-    subst (λ cs. Rise (branches cs)) (sym c.deref-3.ensures.value)
-    (branches_rise (IsKept g.R.Narrow.refuses g.R.Narrow.is_value) (branches c.right.inside.children.items) (branches_form (IsKept g.R.Narrow.refuses g.R.Narrow.is_value) c.right.inside c.args.right c.right.view_is c.requires.right))
+    subst (λ cs. Rise (branches cs)) (sym c.deref-4.ensures.value)
+    (branches_rise (IsKept g.R.Narrow.refuses g.R.Narrow.is_value) (branches c.right.inside.children.items) (branches_form (IsKept g.R.Narrow.refuses g.R.Narrow.is_value) c.right.inside c.args.right.now c.right.view_is c.requires.right))
 
 pub lists::list_met-meet_below-requires : goal.lists::list_met-meet_below-requires
 lists::list_met-meet_below-requires g t c κs within =
     let P = IsKept g.R.Narrow.refuses g.R.Narrow.is_value in
     let own = c.in_ok-children.ensures ∙ c.split_at.ensures.front ∙ ap (take c.field_count.result) c.deref.ensures.value in
-    let deep = fields_depth c.right.inside c.args.right c.field_count-2.result c.right.view_is in
-    let cut = ap (λ cs. children_depth (branches cs)) c.truncate.ensures.items in (
+    let deep = fields_depth c.right.inside c.args.right.now c.field_count-2.result c.right.view_is in
+    let others = c.in_ok-others.ensures ∙ c.split_at-2.ensures.front ∙ ap (take c.field_count-2.result) c.deref-3.ensures.value in
+    let cut = ap (λ cs. children_depth (branches cs)) others in (
       omega (arith, c.decreases, deep, cut),
       (
         within.0,
@@ -250,7 +254,7 @@ lists::list_met-meet_below-requires g t c κs within =
           within.1,
           (
             subst (λ cs. AreBranches P (branches cs)) (sym own) (form_take P c.left.inside.children.items c.field_count.result (branches_form P c.left.inside c.args.left.now c.left.view_is c.requires.left)),
-            subst (λ cs. AreBranches P (branches cs)) (sym c.truncate.ensures.items) (form_take P c.right.inside.children.items c.field_count-2.result (branches_form P c.right.inside c.args.right c.right.view_is c.requires.right)),
+            subst (λ cs. AreBranches P (branches cs)) (sym others) (form_take P c.right.inside.children.items c.field_count-2.result (branches_form P c.right.inside c.args.right.now c.right.view_is c.requires.right)),
           ),
         ),
       ),
@@ -261,12 +265,12 @@ lists::list_met-returns-clause-form g t c =
     let r = g.R.Narrow.refuses in
     let P = IsKept r g.R.Narrow.is_value in
     let made = c.in_ok-new.field-0.value in
-    let elements = subst (λ o. AreElementsMet r P c.args.left.now c.args.right o) (sym c.in_ok-new.ensures.ok) c.in_ok-onward.ensures in
+    let elements = subst (λ o. AreElementsMet r P c.args.left.now c.args.right.now o) (sym c.in_ok-new.ensures.ok) c.in_ok-onward.ensures in
     let own = c.in_ok-children.ensures ∙ c.split_at.ensures.front ∙ ap (take c.field_count.result) (c.deref.ensures.value ∙ sym c.deref-2.ensures.value) in
-    let others = c.truncate.ensures.items ∙ ap (take c.field_count-2.result) (sym c.deref-3.ensures.value) in
-    let merge : IsMerge r P (branches c.in_ok-children.children.items) (branches c.truncate.new.self.items) (branches c.meet_below.new.left.items) = c.in_ok-meet_below.ensures.ok in
+    let others = c.in_ok-others.ensures ∙ c.split_at-2.ensures.front ∙ ap (take c.field_count-2.result) (c.deref-3.ensures.value ∙ sym c.deref-4.ensures.value) in
+    let merge : IsMerge r P (branches c.in_ok-children.children.items) (branches c.in_ok-others.others.items) (branches c.meet_below.new.left.items) = c.in_ok-meet_below.ensures.ok in
     let within =
-    merged_within r g.R.Narrow.is_value 0 (branches c.in_ok-children.children.items) (branches c.truncate.new.self.items) (branches c.meet_below.new.left.items)
+    merged_within r g.R.Narrow.is_value 0 (branches c.in_ok-children.children.items) (branches c.in_ok-others.others.items) (branches c.meet_below.new.left.items)
     (subst (λ cs. AreWithin 0 (branches cs)) (sym own) c.field_count.ensures.within) (subst (λ cs. AreWithin 0 (branches cs)) (sym others) c.field_count-2.ensures.within) merge in
     list_form P c.in_ok-row-2.row (branches c.meet_below.new.left.items) (run_branches made.runs.items) made.from made.node
     (subst (IsRow P) (sym c.in_ok-row-2.ensures) c.in_ok-row.ensures.form) merge.form within elements.form elements.indexes elements.rest
@@ -276,17 +280,18 @@ lists::list_met-returns-clause-refused g t c =
     let r = g.R.Narrow.refuses in
     let P = IsKept r g.R.Narrow.is_value in
     let made = c.in_ok-new.field-0.value in
-    let elements = subst (λ o. AreElementsMet r P c.args.left.now c.args.right o) (sym c.in_ok-new.ensures.ok) c.in_ok-onward.ensures in
+    let elements = subst (λ o. AreElementsMet r P c.args.left.now c.args.right.now o) (sym c.in_ok-new.ensures.ok) c.in_ok-onward.ensures in
     let own = c.in_ok-children.ensures ∙ c.split_at.ensures.front ∙ ap (take c.field_count.result) (c.deref.ensures.value ∙ sym c.deref-2.ensures.value) in
-    let others = c.truncate.ensures.items ∙ ap (take c.field_count-2.result) (sym c.deref-3.ensures.value) in
-    let merge : IsMerge r P (branches c.in_ok-children.children.items) (branches c.truncate.new.self.items) (branches c.meet_below.new.left.items) = c.in_ok-meet_below.ensures.ok in
+    let others = c.in_ok-others.ensures ∙ c.split_at-2.ensures.front ∙ ap (take c.field_count-2.result) (c.deref-3.ensures.value ∙ sym c.deref-4.ensures.value) in
+    let merge : IsMerge r P (branches c.in_ok-children.children.items) (branches c.in_ok-others.others.items) (branches c.meet_below.new.left.items) = c.in_ok-meet_below.ensures.ok in
     let within =
-    merged_within r g.R.Narrow.is_value 0 (branches c.in_ok-children.children.items) (branches c.truncate.new.self.items) (branches c.meet_below.new.left.items)
+    merged_within r g.R.Narrow.is_value 0 (branches c.in_ok-children.children.items) (branches c.in_ok-others.others.items) (branches c.meet_below.new.left.items)
     (subst (λ cs. AreWithin 0 (branches cs)) (sym own) c.field_count.ensures.within) (subst (λ cs. AreWithin 0 (branches cs)) (sym others) c.field_count-2.ensures.within) merge in
-    list_met r P c.left.inside c.right.inside c.args.left.now c.args.right c.in_ok-children.children.items c.truncate.new.self.items c.in_ok-row-2.row (branches c.meet_below.new.left.items) made c.left.view_is c.right.view_is
+    list_met r P c.left.inside c.right.inside c.args.left.now c.args.right.now c.in_ok-children.children.items c.in_ok-others.others.items c.in_ok-row-2.row (branches c.meet_below.new.left.items) made c.left.view_is c.right.view_is
     (λ text. ap (λ cs. find (label text) (branches cs)) own ∙ c.field_count.ensures.same text ∙ ap (λ cs. find (label text) (branches cs)) c.deref-2.ensures.value)
-    (λ text. ap (λ cs. find (label text) (branches cs)) others ∙ c.field_count-2.ensures.same text ∙ ap (λ cs. find (label text) (branches cs)) c.deref-3.ensures.value)
-    (subst (λ o. IsUnion (RowRefuses r c.left.inside.row) (RowRefuses r c.right.inside.row) (RowRefuses r o)) (sym c.in_ok-row-2.ensures) c.in_ok-row.ensures.refused)
+    (λ text. ap (λ cs. find (label text) (branches cs)) others ∙ c.field_count-2.ensures.same text ∙ ap (λ cs. find (label text) (branches cs)) c.deref-4.ensures.value)
+    (subst (λ o. IsUnion (RowRefuses r c.left.inside.row) (RowRefuses r c.right.inside.row) (RowRefuses r o)) (sym c.in_ok-row-2.ensures)
+    (subst (λ o. IsUnion (RowRefuses r c.left.inside.row) (RowRefuses r o) (RowRefuses r (or_row c.in_ok-row.row c.left.inside.row))) c.in_ok-copy_row.ensures c.in_ok-row.ensures.refused))
     merge within elements
 
 -- ---- a place that takes another one over

@@ -20,7 +20,7 @@ abbrev pub decreases-meet::child_met : goal.decreases-meet::child_met
 decreases-meet::child_met g l = 8 * tree_depth l.right + 7
 
 abbrev pub decreases-lists::whole_met : goal.decreases-lists::whole_met
-decreases-lists::whole_met g l = 8 * tree_depth l.right + 7
+decreases-lists::whole_met g l = 8 * tree_depth l.right.now + 7
 
 abbrev pub decreases-meet::node_met : goal.decreases-meet::node_met
 decreases-meet::node_met g l = 8 * tree_depth l.right + 6
@@ -32,7 +32,7 @@ abbrev pub decreases-meet::meet_own : goal.decreases-meet::meet_own
 decreases-meet::meet_own g l = 8 * tree_depth l.right + 5
 
 abbrev pub decreases-lists::list_met : goal.decreases-lists::list_met
-decreases-lists::list_met g l = 8 * tree_depth l.right + 5
+decreases-lists::list_met g l = 8 * tree_depth l.right.now + 5
 
 abbrev pub decreases-lists::elements_met : goal.decreases-lists::elements_met
 decreases-lists::elements_met g l = 8 * tree_depth l.right.now + 4

@@ -3,7 +3,11 @@ use Rattle.cue_table.specs.Size.{tree_size, children_size}
 use Rattle.cue_table.specs.Spans.{spread}
 use Rattle.cue_table.specs.StepsOfCode.{span_of}
 use Rattle.cue_table.specs.Inner.Cursors.{spans_left}
+use Rattle.cue_table.specs.Inner.View.{branches}
+use Rattle.cue_table.proofs.Aligning.{none_there}
 use Rattle.cue_table.proofs.Listing.{below_size}
+use Rattle.cue_table.proofs.Nodes.{child_within, kept_as}
+use Rattle.cue_table.proofs.Owned.{own_below}
 use Rattle.cue_table.proofs.Spanned.{left_size}
 use Rattle.cue_table.proofs.Ways.{same_behind, same_first, not_none, both_end, behind_smaller}
 use Rattle.cue_table.proofs.+same.Goals.{same::same_below-then-not-same-via-then-not-same, same::same_below-then-not-same-via-else-not-same+then-not-same-2}
@@ -14,10 +18,34 @@ node::Node::same-same_rest-requires g t c κs within =
     let all = ap (λ x. tree_size x) c.self.view_is in
     (omega (arith, c.decreases, all), (within.0, within.1))
 
-pub node::Node::same-same_below-requires : goal.node::Node::same-same_below-requires
-node::Node::same-same_below-requires g t c κs within =
+pub node::Node::same-same_branches-requires : goal.node::Node::same-same_branches-requires
+node::Node::same-same_branches-requires g t c κs within =
+    (omega (arith, c.decreases, below_size c.args.self.now), (within.0, within.1))
+
+pub node::Node::same_branches-same_below-requires : goal.node::Node::same_branches-same_below-requires
+node::Node::same_branches-same_below-requires g t c κs within =
     let all = ap children_size c.cursor.ensures.all in
-    (omega (arith, c.decreases, all, below_size c.args.self.now), (within.0, within.1))
+    (omega (arith, c.decreases, all), (within.0, within.1))
+
+pub node::Node::same_branches-same_children-requires : goal.node::Node::same_branches-same_children-requires
+node::Node::same_branches-same_children-requires g t c κs within =
+    let all = ap children_size (ap branches c.deref.ensures.value ∙ sym (own_below c.self.inside c.args.self.now c.self.view_is (none_there c.self.inside.rest c.is_none.result c.if-is_none.true c.is_none.ensures))) in
+    (omega (arith, c.decreases, all), (within.0, within.1))
+
+pub node::Node::same_branches-returns-then-is_none-2 : goal.node::Node::same_branches-returns-then-is_none-2
+node::Node::same_branches-returns-then-is_none-2 g t c =
+    let left = ap branches c.deref.ensures.value ∙ sym (own_below c.self.inside c.args.self.now c.self.view_is (none_there c.self.inside.rest c.is_none.result c.if-is_none.true c.is_none.ensures)) in
+    let right = ap branches c.deref-then-is_none-2.ensures.value ∙ sym (own_below c.other.inside c.args.other.now c.other.view_is (none_there c.other.inside.rest c.is_none-then-is_none.result c.if-is_none-2.true c.is_none-then-is_none.ensures)) in (
+      λ yes. sym left ∙ ap branches (c.same_children.ensures.0 yes) ∙ right,
+      λ e. c.same_children.ensures.1 (kept_as c.deref.result.now c.deref-then-is_none-2.result.now (left ∙ e ∙ sym right)),
+    )
+
+pub same::same_children-same-requires-else-not-same : goal.same::same_children-same-requires-else-not-same
+same::same_children-same-requires-else-not-same g t c κs within =
+    let less = child_within c.loop-index.index c.args.left.now c.index-left-index.result c.loop-index-test.true in
+    let all = ap (λ d. tree_size d.node) c.index-left-index.is in
+    let one = ap tree_size c.node.ensures in
+    (omega (arith, c.decreases, less, all, one), (within.0, within.1))
 
 pub same::same_below-returns-in_default-next : goal.same::same_below-returns-in_default-next
 same::same_below-returns-in_default-next g t c = (

@@ -16,7 +16,7 @@ pub record Child (R : Type 0) : Type 0 where
   pub node : Tree R
 
 -- each has a code of its own
-step_same : (s t : Step) → step_of s ≡ step_of t → s ≡ t
+pub step_same : (s t : Step) → step_of s ≡ step_of t → s ≡ t
 step_same (Label s) (Label t) e = cc
 step_same (Index m) (Index n) e = cc
 step_same (Label s) (Index n) e = cc
