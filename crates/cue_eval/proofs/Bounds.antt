@@ -20,7 +20,7 @@ use Rattle.cue_table.specs.Tree.{Tree, node, Children, none, child, no_rest, onw
 use Rattle.cue_table.proofs.Branches.{find_before, find_rest, find_fixed}
 use Rattle.cue_table.proofs.Exact.{within_last}
 use Rattle.cue_table.proofs.Joined.{alike_find, alike_past, less_number}
-use Rattle.cue_eval.specs.Adding.{AddsAt, AreStretches, row_below, step_below, NoneBetween, AreBounds, AreBoundsOf, AreBoundsBelow, AreFew, AreKept, HasBoundsOf, IsSpanWithin}
+use Rattle.cue_eval.specs.Adding.{AddsAt, AreStretches, row_below, NoneBetween, AreBounds, AreBoundsOf, AreBoundsBelow, AreFew, AreKept, HasBoundsOf, IsSpanWithin}
 use Rattle.cue_eval.specs.declared.left_out.Place.{Place}
 use Rattle.cue_eval.proofs.AddedBelow.{last_stretch, next_stretch}
 use Rattle.cue_eval.proofs.LabelTables.{adds_further, adds_nowhere, same_adds}
@@ -124,18 +124,12 @@ module _ {R : Type 0} where
       into_same tree i j le (All-contains (λ bound. (bound ≤ i) ⊎ (j < bound)) new (fixed_of tree) apart last) (are i j le (all_kept (λ bound. (bound ≤ i) ⊎ (j < bound)) old new kept apart) refl)
 
 -- ---- what closing adds between bounds
--- where two elements are the same, the same is added there
-pub adds_alike : (place : Place) (i j : ℕ) → step_into place.own (index i) ≡ step_into place.own (index j) → step_below place.dots (index i) ≡ step_below place.dots (index j) → step_below place.rows (index i) ≡ step_below place.rows (index j)
-    → (path : Path) (question : Question) → AddsAt place (index i ∷ path) question ↔ AddsAt place (index j ∷ path) question
-adds_alike place i j own dots rows path question =
-    let one = adds_further place (index i) path question in
-    let other = adds_further place (index j) path question in
-    let same = same_adds _ _ _ _ _ _ (ap (λ t. row_below t path) own) (ap (λ t. row_below t path) dots) (ap (λ t. row_below t path) rows) question in
-    (λ h. other.1 (same.0 (one.0 h)), λ h. one.1 (same.1 (other.0 h)))
-
 pub bounded : (place : Place) (bounds : List ℕ) → AreBoundsBelow (Some place.own) bounds → AreBoundsBelow place.dots bounds → AreBoundsBelow place.rows bounds → AreBounds place bounds
 bounded place bounds own dots rows i j le apart path question =
-    adds_alike place i j (own i j le apart) (dots i j le apart) (rows i j le apart) path question
+    let one = adds_further place (index i) path question in
+    let other = adds_further place (index j) path question in
+    let same = same_adds _ _ _ _ _ _ (ap (λ t. row_below t path) (own i j le apart)) (ap (λ t. row_below t path) (dots i j le apart)) (ap (λ t. row_below t path) (rows i j le apart)) question in
+    (λ h. other.1 (same.0 (one.0 h)), λ h. one.1 (same.1 (other.0 h)))
 
 pub nowhere_bounded : (place : Place) (bounds : List ℕ) → ((i : ℕ) → step_into place.own (index i) ≡ None) → AreBounds place bounds
 nowhere_bounded place bounds free i j le apart path question =

@@ -115,57 +115,15 @@ impl<'a> Place<'a> {
             // The bounds have 0.
             return Ok(stretches);
         };
-        let further = self.element(alloc, last)?;
-        stretches.push((last, further.copy(alloc)?))?;
+        stretches.push((last, self.element(alloc, last)?))?;
         let mut from = last;
         while let Some(first) = bounds.pop() {
             if first < from {
-                let sets = self.element_beside(alloc, first, last, &further)?;
-                stretches.push((first, sets))?;
+                stretches.push((first, self.element(alloc, first)?))?;
                 from = first;
             }
         }
         Ok(stretches)
-    }
-
-    /// Those of the element with an index, where those of another element are given. They are shared
-    /// where both elements are the same.
-    #[cycle(sets)]
-    fn element_beside(
-        &self,
-        alloc: Global,
-        number: u64,
-        other: u64,
-        sets: &Table<Row>,
-    ) -> Result<Table<Row>, Memory>
-        requires depth { tree_depth self.now.own ≤ step_limit }
-        requires shallow { tree_depth sets.now < step_limit }
-        requires given { (path : paths.Path) (question : Questions) →
-            TableRefuses Refuses sets.now path question
-            ↔ AddsAt self.now (index other ∷ path) (question_of question) }
-        ensures depth { IfOk result (λ sets. tree_depth sets < step_limit) }
-        ensures added { IfOk result (λ sets. (path : paths.Path) (question : Questions) →
-            TableRefuses Refuses sets path question
-            ↔ AddsAt self.now (index number ∷ path) (question_of question)) }
-    {
-        if self.are_alike(number, other) {
-            return sets.copy(alloc);
-        }
-        self.element(alloc, number)
-    }
-
-    /// Whether closing asks the same of two elements.
-    fn are_alike(&self, one: u64, other: u64) -> bool
-        ensures own { IsTrue result
-            → step_into self.now.own (index one) ≡ step_into self.now.own (index other) }
-        ensures dots { IsTrue result
-            → step_below self.now.dots (index one) ≡ step_below self.now.dots (index other) }
-        ensures rows { IsTrue result
-            → step_below self.now.rows (index one) ≡ step_below self.now.rows (index other) }
-    {
-        same(item(&self.own, one), item(&self.own, other))
-            && same(find_item(&self.dots, one), find_item(&self.dots, other))
-            && same(find_item(&self.rows, one), find_item(&self.rows, other))
     }
 
     /// Those of the element with an index.
@@ -313,17 +271,6 @@ fn item<'a, R: Narrow>(branch: &Branch<'a, R>, number: u64) -> Option<Branch<'a,
         branch.find(&Step::Index(number as u32))
     } else {
         branch.rest()
-    }
-}
-
-/// Whether two branches that may be there are the same.
-fn same<R: Narrow>(one: Option<Branch<R>>, other: Option<Branch<R>>) -> bool
-    ensures { IsTrue result ↔ (one.entry ≡ other.entry) }
-{
-    match (one, other) {
-        (None, None) => true,
-        (Some(one), Some(other)) => one.same(&other),
-        _ => false,
     }
 }
 

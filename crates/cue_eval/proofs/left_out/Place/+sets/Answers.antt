@@ -1,4 +1,4 @@
-use Rattle.std.proofs.Common.{◌≡◌, ◌+◌, ◌≤◌, ◌<◌, ◌^◌, ◌∷◌, ◌++◌, [], drop, ap, subst, sym, arith}
+use Rattle.std.proofs.Common.{◌≡◌, ◌+◌, ◌≤◌, ◌<◌, ◌^◌, ◌∷◌, ◌++◌, [], drop, ap, subst, arith}
 use Rattle.std.proofs.lemmas.List.{drop_all}
 use Rattle.std.proofs.lemmas.List.Elements.{All-nil}
 use Rattle.std.proofs.lemmas.Result.{IfOk-weaker}
@@ -11,7 +11,7 @@ use Rattle.cue_table.specs.Depth.{tree_depth}
 use Rattle.cue_table.specs.Refuses.{TableRefuses}
 use Rattle.std.specs.BinaryHeap.{heap_items}
 use Rattle.cue_eval.proofs.AddedBelow.{all_below, empty_refuses}
-use Rattle.cue_eval.proofs.Bounds.{popped_few, underway, underway_on, underway_again, pushed_all, adds_alike}
+use Rattle.cue_eval.proofs.Bounds.{popped_few, underway, underway_on, underway_again, pushed_all}
 use Rattle.cue_table.specs.Walks.{found_smaller}
 use Rattle.cue_scope.proofs.Walking.{at_hand}
 use Rattle.cue_eval.proofs.LabelTables.{Adding, adds_into, adds_nowhere, all_added, into_depth, added_depth, adding_all, adding_past, adding_more}
@@ -78,17 +78,6 @@ element-returns-in_ok-sets-in-Some-clause-added t c path question =
     let into = adds_into c.args.self.now (index c.args.number) c.in-Some.place c.in-Some.ensures.some path (question_of question) in
     (λ h. into.0 (says.0 h), λ h. says.1 (into.1 h))
 
-pub element_beside-returns-then-are_alike-clause-added : goal.element_beside-returns-then-are_alike-clause-added
-element_beside-returns-then-are_alike-clause-added t c =
-    let same = c.are_alike.ensures in
-    let yes = c.if-are_alike.true in
-    IfOk-weaker c.copy.result _ _
-    (λ all here path question.
-    let given = c.requires.given path question in
-    let alike = adds_alike c.args.self.now c.args.other c.args.number (sym (same.own yes)) (sym (same.dots yes)) (sym (same.rows yes)) path (question_of question) in
-    rw here (λ h. alike.0 (given.0 h), λ h. given.1 (alike.1 h)))
-    c.copy.ensures
-
 pub and_elements-returns-clause-all : goal.and_elements-returns-clause-all
 and_elements-returns-clause-all t c =
     all_below c.args.self.now c.args.fields.items c.in_ok-stretches.stretches.items c.in_ok-all.all c.in_ok-of_elements.field-0 c.meet_with.new.self c.requires.fields c.in_ok-stretches.ensures.added c.in_ok-all.ensures.refused c.in_ok-of_elements.ensures.refused c.in_ok-meet_with.ensures.ok
@@ -96,34 +85,34 @@ and_elements-returns-clause-all t c =
 pub stretches-loop-first-init : goal.stretches-loop-first-init
 stretches-loop-first-init t c =
     let last = c.in-Some.last in
-    let sets = c.in_ok-copy.field-0 in
+    let sets = c.in_ok-element.field-0 in
     let popped = c.in-Some.ensures in
     let heap = c.in_ok-bounds.ensures.heap in
     let few = popped_few last (heap_items c.in_ok-bounds.bounds) (heap_items c.pop.new.self) c.in_ok-bounds.ensures.few popped.permutation in
     let one : c.push.new.self.items ≡ (last, sets) ∷ [] = rw c.in_ok-push.ensures.items (ap (λ xs. xs ++ (last, sets) ∷ []) c.new-stretches.ensures.items) in
     record {
-      underway = underway c.args.self.now c.push.new.self.items sets (heap_items c.in_ok-bounds.bounds) (heap_items c.pop.new.self) last one (rw c.in_ok-copy.ensures c.in_ok-further.ensures.added) c.in_ok-bounds.ensures.alike c.in_ok-bounds.ensures.first popped.permutation (popped.below_top heap);
+      underway = underway c.args.self.now c.push.new.self.items sets (heap_items c.in_ok-bounds.bounds) (heap_items c.pop.new.self) last one c.in_ok-element.ensures.added c.in_ok-bounds.ensures.alike c.in_ok-bounds.ensures.first popped.permutation (popped.below_top heap);
       heap = (popped.heap_order heap).0;
       left = few.1;
       few = pushed_all (λ one. one.0 ≤ 2 ^ 32) c.new-stretches.result.items c.push.new.self.items (last, sets) c.in_ok-push.ensures.items (rw c.new-stretches.ensures.items (All-nil (λ one. one.0 ≤ 2 ^ 32))) few.0;
-      deep = pushed_all (λ one. tree_depth one.1 < step_limit) c.new-stretches.result.items c.push.new.self.items (last, sets) c.in_ok-push.ensures.items (rw c.new-stretches.ensures.items (All-nil (λ one. tree_depth one.1 < step_limit))) (rw c.in_ok-copy.ensures c.in_ok-further.ensures.depth);
+      deep = pushed_all (λ one. tree_depth one.1 < step_limit) c.new-stretches.result.items c.push.new.self.items (last, sets) c.in_ok-push.ensures.items (rw c.new-stretches.ensures.items (All-nil (λ one. tree_depth one.1 < step_limit))) c.in_ok-element.ensures.depth;
     }
 
 pub stretches-loop-first-preserved-then-first-from : goal.stretches-loop-first-preserved-then-first-from
 stretches-loop-first-preserved-then-first-from t c =
     let loop = c.loop-first in
     let first = c.in-Some-pop.first in
-    let sets = c.in_ok-sets.sets in
+    let sets = c.in_ok-element-2.field-0 in
     let popped = c.in-Some-pop.ensures in
     let heap = loop.invariant.heap in
     let few = popped_few first (heap_items loop.bounds) (heap_items c.pop-in-loop-first.new.self) loop.invariant.left popped.permutation in
     let pushed = c.in_ok-push-2.ensures.items in
     record {
-      underway = underway_on c.args.self.now loop.from first loop.stretches.items c.push-then-first-from.new.self.items sets (heap_items loop.bounds) (heap_items c.pop-in-loop-first.new.self) loop.invariant.underway popped.permutation (popped.below_top heap) c.if-first-from.true c.in_ok-sets.ensures.added pushed;
+      underway = underway_on c.args.self.now loop.from first loop.stretches.items c.push-then-first-from.new.self.items sets (heap_items loop.bounds) (heap_items c.pop-in-loop-first.new.self) loop.invariant.underway popped.permutation (popped.below_top heap) c.if-first-from.true c.in_ok-element-2.ensures.added pushed;
       heap = (popped.heap_order heap).0;
       left = few.1;
       few = pushed_all (λ one. one.0 ≤ 2 ^ 32) loop.stretches.items c.push-then-first-from.new.self.items (first, sets) pushed loop.invariant.few few.0;
-      deep = pushed_all (λ one. tree_depth one.1 < step_limit) loop.stretches.items c.push-then-first-from.new.self.items (first, sets) pushed loop.invariant.deep c.in_ok-sets.ensures.depth;
+      deep = pushed_all (λ one. tree_depth one.1 < step_limit) loop.stretches.items c.push-then-first-from.new.self.items (first, sets) pushed loop.invariant.deep c.in_ok-element-2.ensures.depth;
     }
 
 pub stretches-loop-first-preserved : goal.stretches-loop-first-preserved

@@ -10,22 +10,19 @@ use Rattle.cue_eval.proofs.LabelTables.{Adding}
 use Rattle.cue_eval.proofs.left_out.Place.+sets.Given as goal
 
 abbrev pub decreases-label_sets : goal.decreases-label_sets
-decreases-label_sets l = 5 * tree_size l.self.now.own + 4
+decreases-label_sets l = 4 * tree_size l.self.now.own + 3
 
 abbrev pub decreases-and_elements : goal.decreases-and_elements
-decreases-and_elements l = 5 * tree_size l.self.now.own + 3
+decreases-and_elements l = 4 * tree_size l.self.now.own + 2
 
 abbrev pub decreases-stretches : goal.decreases-stretches
-decreases-stretches l = 5 * tree_size l.self.now.own + 2
-
-abbrev pub decreases-element_beside : goal.decreases-element_beside
-decreases-element_beside l = 5 * tree_size l.self.now.own + 1
+decreases-stretches l = 4 * tree_size l.self.now.own + 1
 
 abbrev pub decreases-element : goal.decreases-element
-decreases-element l = 5 * tree_size l.self.now.own
+decreases-element l = 4 * tree_size l.self.now.own
 
 abbrev pub decreases-fields : goal.decreases-fields
-decreases-fields l = 5 * tree_size l.self.now.own
+decreases-fields l = 4 * tree_size l.self.now.own
 
 abbrev pub invariant-fields-loop-step : goal.invariant-fields-loop-step
 invariant-fields-loop-step l = Adding l.self l.branches.items l.steps (drop l.step-index l.steps)
