@@ -27,7 +27,7 @@ pub use network::{End, Network};
 pub use pushing::{push, push_for};
 pub use reply::{Export, Verdict, export_in, kind_of, read_reply, refusal_in};
 pub use serving::{serve_for, serve_from};
-pub use sockets::Port;
+pub use sockets::{Outward, Port};
 pub use told::told_by;
 
 /// The most reads and writes of one connection, those of both ends together where both are here.

@@ -5,12 +5,15 @@ ghost use Rattle.cue_device.specs.Streams.{reader_calls, writer_calls};
 
 use crate::network::{End, Network};
 use cue_device::{Fault, Reader, Writer};
-use std::io;
+use std::io::{self, Write};
 use std::net::{Ipv4Addr, Net, Shutdown, TcpListener, TcpStream};
 use std::time::Duration;
 
-/// How many seconds a read or a write waits for the peer, while no byte moves, before it fails.
+/// How many seconds a read waits for the peer before it fails, and a write before it takes no more.
 const PATIENCE: u64 = 60;
+
+/// How many seconds a write waits behind one that has waited before.
+const HURRY: u64 = 1;
 
 /// A port of the system that is listened on.
 #[derive(Drop)]
@@ -27,8 +30,44 @@ impl Port {
     }
 }
 
+/// The way out over a socket whose writes wait for the peer for a limited time. The system ends a
+/// write that has waited for so long as one that took a part. From then on a write waits for a second
+/// alone, so that a peer that reads nothing holds nobody up for several such waits.
+#[derive(Drop)]
+pub struct Outward {
+    stream: TcpStream,
+    is_hurried: bool,
+}
+
+impl Outward {
+    /// The way out over this stream.
+    fn new(stream: TcpStream) -> Outward {
+        Outward {
+            stream,
+            is_hurried: false,
+        }
+    }
+}
+
+impl Write for Outward {
+    fn write(&mut self, bytes: &[u8]) -> io::Result<usize> {
+        let count = self.stream.write(bytes)?;
+        if count < bytes.len() && !self.is_hurried {
+            self.is_hurried = true;
+            let _asked = self
+                .stream
+                .set_write_timeout(Some(Duration::from_secs(HURRY)));
+        }
+        Ok(count)
+    }
+
+    fn flush(&mut self) -> io::Result<()> {
+        self.stream.flush()
+    }
+}
+
 /// An end of a connection over a socket, which it has twice, to read and to write.
-type Socket = End<Reader<TcpStream>, Writer<TcpStream>>;
+type Socket = End<Reader<TcpStream>, Writer<Outward>>;
 
 /// The ports of the system. Of what its calls come to the toolchain tells nothing, so that these
 /// few lines are to be read.
@@ -37,7 +76,7 @@ impl<H: Net<Listener = TcpListener, Stream = TcpStream>> Network for H {
 
     type Input = Reader<TcpStream>;
 
-    type Output = Writer<TcpStream>;
+    type Output = Writer<Outward>;
 
     ghost opens = { λ _ _ _. Unit {0} };
 
@@ -101,7 +140,7 @@ fn end_of(stream: TcpStream, patience: Duration) -> Result<Socket, Fault>
     let other = done(stream.try_clone())?;
     Ok(End {
         source: Reader::new(stream),
-        sink: Writer::new(other),
+        sink: Writer::new(Outward::new(other)),
     })
 }
 
