@@ -13,7 +13,7 @@ use Rattle.cue_table.specs.Meet.{IsMet}
 use Rattle.cue_table.specs.Refuses.{TableRefuses}
 use Rattle.cue_table.specs.Tree.{Tree, empty}
 use Rattle.cue_table.proofs.Stretches.{element_before, element_from}
-use Rattle.cue_eval.specs.Adding.{AddsAt, AreFields, AreStretches, IsAllBelow}
+use Rattle.cue_eval.specs.Inner.Adding.{AddsAt, AreFields, AreStretches, IsAllBelow}
 use Rattle.cue_eval.specs.declared.left_out.Place.{Place}
 use Rattle.cue_eval.proofs.LabelTables.{adds_branch}
 

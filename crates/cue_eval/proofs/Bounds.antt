@@ -20,7 +20,7 @@ use Rattle.cue_table.specs.Tree.{Tree, node, Children, none, child, no_rest, onw
 use Rattle.cue_table.proofs.Branches.{find_before, find_rest, find_fixed}
 use Rattle.cue_table.proofs.Exact.{within_last}
 use Rattle.cue_table.proofs.Joined.{alike_find, alike_past, less_number}
-use Rattle.cue_eval.specs.Adding.{AddsAt, AreStretches, row_below, NoneBetween, AreBounds, AreBoundsOf, AreBoundsBelow, AreFew, AreKept, HasBoundsOf, IsSpanWithin}
+use Rattle.cue_eval.specs.Inner.Adding.{AddsAt, AreStretches, row_below, NoneBetween, AreBounds, AreBoundsOf, AreBoundsBelow, AreFew, AreKept, HasBoundsOf, IsSpanWithin}
 use Rattle.cue_eval.specs.declared.left_out.Place.{Place}
 use Rattle.cue_eval.proofs.AddedBelow.{last_stretch, next_stretch}
 use Rattle.cue_eval.proofs.LabelTables.{adds_further, adds_nowhere, same_adds}

@@ -20,9 +20,9 @@ use Rattle.cue_syntax.specs.declared.tree.Label.{Label}
 use Rattle.cue_scope.specs.Core.{Core, struct, member, no_members}
 use Rattle.cue_scope.specs.Meaning.{nested, text_of}
 use Rattle.cue_eval.specs.Evaluated.{HasAnswersOf}
-use Rattle.cue_eval.specs.Gathered.{Answers, GivenRefuse, LabelsRefuse, LiteralAnswers}
+use Rattle.cue_eval.specs.Inner.Gathered.{Answers, GivenRefuse, LabelsRefuse, LiteralAnswers}
 use Rattle.cue_eval.specs.Places.{Here, MarkRefuses, StructRefuses}
-use Rattle.cue_eval.specs.Ready.{IsField, AreGiven, AtLabels}
+use Rattle.cue_eval.specs.Inner.Ready.{IsField, AreGiven, AtLabels}
 use Rattle.cue_eval.proofs.Gathering.{shallow, answer_short}
 use Rattle.cue_eval.proofs.LiteralTables.{struct_table}
 

@@ -13,14 +13,14 @@ use Rattle.cue_table.specs.Meet.{IsMet}
 use Rattle.cue_table.specs.Refuses as tables
 use Rattle.cue_table.specs.Refuses.{TableRefuses}
 use Rattle.cue_table.specs.Tree.{Tree, row_at}
-use Rattle.cue_eval.specs.Adding.{AllowsAll, Adds, IsAddedBy}
+use Rattle.cue_eval.specs.Inner.Adding.{AllowsAll, Adds, IsAddedBy}
 use Rattle.cue_eval.specs.Closing.{LeaveOutOwn}
 use Rattle.cue_eval.specs.Evaluated.{HasAnswersOf}
 use Rattle.cue_eval.specs.Literals.{literals, has_dots}
 use Rattle.cue_eval.specs.Places.{ClosingRefuses}
 use Rattle.cue_eval.specs.Refuses as refusing
 use Rattle.cue_eval.specs.Telling.{Tells}
-use Rattle.cue_eval.specs.Told.{IsTold}
+use Rattle.cue_eval.specs.Inner.Told.{IsTold}
 use Rattle.cue_eval.specs.declared.declared.Declared.{Declared}
 use Rattle.cue_eval.specs.declared.declared.Asked.{Asked}
 use Rattle.cue_eval.specs.declared.declared.Asked.TheVariants.{Stands}

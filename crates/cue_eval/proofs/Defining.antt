@@ -19,14 +19,14 @@ use Rattle.cue_eval.specs.declared.declared.Declared.{Declared}
 use Rattle.cue_eval.specs.declared.found.Found.{Found}
 use Rattle.cue_eval.specs.declared.rows.Tables.{Tables}
 use Rattle.cue_eval.specs.declared.told.Sight.{Sight}
-use Rattle.cue_eval.specs.Adding.{IsBodyKnown}
+use Rattle.cue_eval.specs.Inner.Adding.{IsBodyKnown}
 use Rattle.cue_eval.specs.Evaluated.{HasAnswersOf}
 use Rattle.cue_eval.specs.declared.told.Whose.{Whose}
-use Rattle.cue_eval.specs.Finding.{body_of, AreFound, IsDefinable, IsFindable, IsKept}
-use Rattle.cue_eval.specs.Known.{IsPairOf, IsPairable}
+use Rattle.cue_eval.specs.Inner.Finding.{body_of, AreFound, IsDefinable, IsFindable, IsKept}
+use Rattle.cue_eval.specs.Inner.Known.{IsPairOf, IsPairable}
 use Rattle.cue_eval.specs.Pairs.{pair}
-use Rattle.cue_eval.specs.Ready.{all_definitions, AreKnown, IsTableAt}
-use Rattle.cue_eval.specs.Told.{IsTold}
+use Rattle.cue_eval.specs.Inner.Ready.{all_definitions, AreKnown, IsTableAt}
+use Rattle.cue_eval.specs.Inner.Told.{IsTold}
 use Rattle.cue_eval.proofs.TellingDepth.{told_flat, nested_depth, nested_size}
 use Rattle.cue_eval.proofs.Walks.{within_depth}
 

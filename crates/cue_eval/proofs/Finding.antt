@@ -30,9 +30,9 @@ use Rattle.cue_eval.specs.declared.found.Defined.{Defined}
 use Rattle.cue_eval.specs.declared.found.Found.{Found}
 use Rattle.cue_eval.specs.declared.rows.Tables.{Tables}
 use Rattle.cue_eval.specs.Evaluated.{HasAnswersOf, IsEvaluated}
-use Rattle.cue_eval.specs.Finding.{body_of, later_uses, HasRoom, IsOnce, AreSingle, IsKept, IsDefined, IsDefinable, IsFoundAt, IsFoundSoFar, AreFound}
-use Rattle.cue_eval.specs.Known.{IsPairOf}
-use Rattle.cue_eval.specs.Ready.{all_definitions, members_of, AreReadyFields, IsTableAt}
+use Rattle.cue_eval.specs.Inner.Finding.{body_of, later_uses, HasRoom, IsOnce, AreSingle, IsKept, IsDefined, IsDefinable, IsFoundAt, IsFoundSoFar, AreFound}
+use Rattle.cue_eval.specs.Inner.Known.{IsPairOf}
+use Rattle.cue_eval.specs.Inner.Ready.{all_definitions, members_of, AreReadyFields, IsTableAt}
 use Rattle.cue_eval.proofs.Defining.{known_of}
 use Rattle.cue_eval.proofs.Kept.{times_both, in_times, once_before, room_kept, found_kept}
 use Rattle.cue_eval.proofs.Reaching.{IsLimited, right_at, terms_at, reached_limited}

@@ -25,7 +25,7 @@ use Rattle.cue_table.specs.Tree.{Tree, node, empty, below, rest_of, row_at, row_
 use Rattle.cue_table.proofs.Depth.{depth_rows, kept_at, row_depth}
 use Rattle.cue_eval.specs.Places.{Here, MarkRefuses}
 use Rattle.cue_eval.specs.Evaluated.{HasAnswersOf}
-use Rattle.cue_eval.specs.Gathered.{Answers, GivenRefuse, LiteralAnswers, FurtherRefuse}
+use Rattle.cue_eval.specs.Inner.Gathered.{Answers, GivenRefuse, LiteralAnswers, FurtherRefuse}
 use Rattle.cue_eval.specs.Refuses.{ElementRefuses}
 
 -- each question is asked by one of the program

@@ -20,14 +20,14 @@ use Rattle.cue_scope.specs.Terms.{terms}
 use Rattle.cue_eval.specs.declared.declared.Asked.{Asked}
 use Rattle.cue_eval.specs.declared.rows.Tables.{Tables}
 use Rattle.cue_eval.specs.declared.told.Whose.{Whose}
-use Rattle.cue_eval.specs.Gathered.{Answers}
-use Rattle.cue_eval.specs.Known.{IsPairable}
+use Rattle.cue_eval.specs.Inner.Gathered.{Answers}
+use Rattle.cue_eval.specs.Inner.Known.{IsPairable}
 use Rattle.cue_eval.specs.Pairs.{pair}
-use Rattle.cue_eval.specs.Parts.{IsScalarPart, OneScalarRefuses, AreJoined}
+use Rattle.cue_eval.specs.Inner.Parts.{IsScalarPart, OneScalarRefuses, AreJoined}
 use Rattle.cue_eval.specs.Places.{Here, ScalarRefuses}
-use Rattle.cue_eval.specs.Ready.{all_definitions, IsReady}
+use Rattle.cue_eval.specs.Inner.Ready.{all_definitions, IsReady}
 use Rattle.cue_eval.specs.Refuses.{Refuses}
-use Rattle.cue_eval.specs.Told.{ToldOf}
+use Rattle.cue_eval.specs.Inner.Told.{ToldOf}
 use Rattle.cue_eval.proofs.ByPair.{all_refuse}
 use Rattle.cue_eval.proofs.Leaves.{leaf_scalar, leaf_refuses, word_scalar, word_refuses}
 use Rattle.cue_eval.proofs.TellingNames.{empty_tells, word_told}

@@ -12,9 +12,9 @@ use Rattle.cue_scope.specs.Graph.{IsIn}
 use Rattle.cue_scope.specs.Reached.{times}
 use Rattle.cue_eval.specs.declared.declared.Declared.{Declared}
 use Rattle.cue_eval.specs.declared.found.Found.{Found}
-use Rattle.cue_eval.specs.Finding.{HasRoom, IsFoundAt, AreFound, IsOnce, AreSingle, IsKept}
-use Rattle.cue_eval.specs.Ready.{IsTableAt}
-use Rattle.cue_eval.specs.Known.{IsPairOf}
+use Rattle.cue_eval.specs.Inner.Finding.{HasRoom, IsFoundAt, AreFound, IsOnce, AreSingle, IsKept}
+use Rattle.cue_eval.specs.Inner.Ready.{IsTableAt}
+use Rattle.cue_eval.specs.Inner.Known.{IsPairOf}
 use Rattle.cue_scalars.specs.declared.valued.Valued.{Valued}
 use Rattle.cue_scope.specs.Meaning.{meaning}
 

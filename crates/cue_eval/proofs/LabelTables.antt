@@ -28,7 +28,7 @@ use Rattle.cue_table.proofs.Depth.{refusals_depth, row_depth}
 use Rattle.cue_table.proofs.Finding.{found_here}
 use Rattle.cue_table.proofs.Exact.{none_within, within_last}
 use Rattle.cue_table.proofs.Order.{equal_steps}
-use Rattle.cue_eval.specs.Adding.{OnlyLabels, LeftOut, Adds, AddsHere, AddsAt, row_below, step_below, IsStepInto, IsAmong, AreAddedAt, IsAllBelow}
+use Rattle.cue_eval.specs.Inner.Adding.{OnlyLabels, LeftOut, Adds, AddsHere, AddsAt, row_below, step_below, IsStepInto, IsAmong, AreAddedAt, IsAllBelow}
 use Rattle.cue_eval.specs.declared.left_out.Place.{Place}
 use Rattle.cue_eval.specs.declared.declared.Declared.{Declared}
 

@@ -18,10 +18,10 @@ use Rattle.cue_scope.specs.Meaning.{meant, meant_word, meant_branches}
 use Rattle.cue_scope.specs.Named.{named_of}
 use Rattle.cue_scope.specs.Terms.{terms, terms_of_branches}
 use Rattle.cue_eval.specs.Evaluated.{HasAnswersOf}
-use Rattle.cue_eval.specs.Gathered.{Answers}
+use Rattle.cue_eval.specs.Inner.Gathered.{Answers}
 use Rattle.cue_eval.specs.Pairs.{pair}
 use Rattle.cue_eval.specs.Places.{Here, ScalarRefuses}
-use Rattle.cue_eval.specs.Ready.{IsScalarLeaf, IsTableAt, IsTableOf}
+use Rattle.cue_eval.specs.Inner.Ready.{IsScalarLeaf, IsTableAt, IsTableOf}
 use Rattle.cue_eval.specs.Refuses.{Refuses}
 
 pub nil_both : {A : Type 0} (xs ys : List A) → xs ++ ys ≡ [] → (xs ≡ []) × (ys ≡ [])

@@ -26,9 +26,9 @@ use Rattle.cue_scope.specs.Uses.{uses, uses_of_elements, uses_of_rest}
 use Rattle.cue_eval.specs.declared.pair.Pairs.{Pairs}
 use Rattle.cue_eval.specs.declared.rows.Tables.{Tables}
 use Rattle.cue_eval.specs.Evaluated.{HasAnswersOf}
-use Rattle.cue_eval.specs.Gathered.{Answers, GivenRefuse}
-use Rattle.cue_eval.specs.Known.{core_of, parts_of, rest_of}
-use Rattle.cue_eval.specs.Ready.{all_definitions, IsReady, AreReadyElements, IsReadyRest, AreGiven, AtIndexes}
+use Rattle.cue_eval.specs.Inner.Gathered.{Answers, GivenRefuse}
+use Rattle.cue_eval.specs.Inner.Known.{core_of, parts_of, rest_of}
+use Rattle.cue_eval.specs.Inner.Ready.{all_definitions, IsReady, AreReadyElements, IsReadyRest, AreGiven, AtIndexes}
 use Rattle.cue_eval.specs.Refuses.{count}
 use Rattle.cue_eval.proofs.Leaves.{nil_both}
 use Rattle.cue_eval.proofs.Walks.{known_left, known_right, within_depth, each_of}

@@ -9,10 +9,10 @@ use Rattle.cue_row.specs.declared.step.Step.{Step}
 use Rattle.cue_table.specs.Tree.{Tree}
 use Rattle.cue_scope.specs.Core.{struct, close, list, Cores, Elements, followed_by, Members}
 use Rattle.cue_eval.specs.Evaluated.{HasAnswersOf}
-use Rattle.cue_eval.specs.Gathered.{Answers, LabelsRefuse, LiteralAnswers, FurtherRefuse}
+use Rattle.cue_eval.specs.Inner.Gathered.{Answers, LabelsRefuse, LiteralAnswers, FurtherRefuse}
 use Rattle.cue_eval.specs.Literals.{LeaveOut}
 use Rattle.cue_eval.specs.Places.{StructRefuses, ListRefuses, ClosingRefuses}
-use Rattle.cue_eval.specs.Ready.{AreGiven, AtLabels, AtIndexes}
+use Rattle.cue_eval.specs.Inner.Ready.{AreGiven, AtLabels, AtIndexes}
 use Rattle.cue_eval.specs.Refuses.{ElementsRefuse, ElementRefuses, count, is_open}
 use Rattle.cue_eval.proofs.Rests.{alone, open_followed, count_followed, refuses_followed}
 

@@ -10,7 +10,7 @@ use Rattle.cue_table.specs.Tree.{Tree, row_at}
 use Rattle.cue_eval.specs.Closing.{OneOfOwn}
 use Rattle.cue_eval.specs.Literals.{literals, declares, has_dots}
 use Rattle.cue_eval.specs.Telling.{Tells}
-use Rattle.cue_eval.specs.Told.{ToldOf, IsTold, own_tells, used_tells}
+use Rattle.cue_eval.specs.Inner.Told.{ToldOf, IsTold, own_tells, used_tells}
 use Rattle.cue_eval.specs.declared.declared.Declared.{Declared}
 use Rattle.cue_eval.specs.declared.declared.Asked.{Asked}
 use Rattle.cue_eval.specs.declared.declared.Asked.TheVariants.{Declares}

@@ -13,7 +13,7 @@ use Rattle.cue_scope.specs.Core.{is_scalar, are_scalar, are_scalar_choices}
 use Rattle.cue_scope.specs.Uses.{uses, uses_of_elements, uses_of_branches}
 use Rattle.cue_scope.proofs.Nodes.{in_append_left, in_append_right}
 use Rattle.cue_eval.specs.declared.pair.Pairs.{Pairs}
-use Rattle.cue_eval.specs.Known.{ArePairsKnown, IsPairable, ArePairable, ArePairableTerms, definitions_of, core_of, parts_of, choices_of}
+use Rattle.cue_eval.specs.Inner.Known.{ArePairsKnown, IsPairable, ArePairable, ArePairableTerms, definitions_of, core_of, parts_of, choices_of}
 use Rattle.cue_eval.specs.Pairs.{pair, pairs_of, terms_of}
 use Rattle.cue_eval.proofs.ByPair.{both_true}
 

@@ -23,7 +23,7 @@ use Rattle.cue_row.specs.declared.level.Level.{Level}
 use Rattle.cue_row.specs.declared.level.Level.TheVariants.{Optional}
 use Rattle.cue_syntax.specs.declared.tree.Mark.{Mark}
 use Rattle.cue_eval.specs.Places.{ScalarRefuses, StructRefuses, ListRefuses, MarkRefuses, level_of_mark, IsAboveLength}
-use Rattle.cue_eval.specs.Gathered.{LabelsRefuse}
+use Rattle.cue_eval.specs.Inner.Gathered.{LabelsRefuse}
 use Rattle.cue_eval.specs.Pairs.{plain}
 use Rattle.cue_eval.specs.Sets.{integer_alone, text_alone}
 use Rattle.cue_eval.proofs.Integers.{alone, or_none}

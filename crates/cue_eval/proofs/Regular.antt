@@ -15,7 +15,7 @@ use Rattle.cue_scope.specs.Uses.{uses, uses_of_entries, uses_of_fields}
 use Rattle.cue_scope.proofs.Nodes.{in_append, in_append_left, in_append_right}
 use Rattle.cue_eval.specs.declared.rows.Tables.{Tables}
 use Rattle.cue_eval.specs.Evaluated.{HasAnswersOf}
-use Rattle.cue_eval.specs.Ready.{all_definitions, IsReady, AreReadyEntries, AreReadyFields}
+use Rattle.cue_eval.specs.Inner.Ready.{all_definitions, IsReady, AreReadyEntries, AreReadyFields}
 use Rattle.cue_eval.specs.Refuses.{Refuses, FieldRefuses}
 
 used_by_fields : (ds : List Definition) (es : Entries) (i : ℕ) → IsIn i (uses_of_fields ds es) → IsIn i (uses_of_entries ds es)

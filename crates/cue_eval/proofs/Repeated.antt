@@ -25,8 +25,8 @@ use Rattle.cue_scope.specs.Terms.{terms, terms_of_elements}
 use Rattle.cue_scope.specs.Uses.{uses, uses_of_elements}
 use Rattle.cue_scope.proofs.Nodes.{in_append}
 use Rattle.cue_eval.specs.declared.rows.Tables.{Tables}
-use Rattle.cue_eval.specs.Known.{core_of}
-use Rattle.cue_eval.specs.Ready.{all_definitions, AreKnown, IsReady, AreReadyParts}
+use Rattle.cue_eval.specs.Inner.Known.{core_of}
+use Rattle.cue_eval.specs.Inner.Ready.{all_definitions, AreKnown, IsReady, AreReadyParts}
 use Rattle.cue_scalars.specs.Values.{pair_of}
 use Rattle.cue_scalars.specs.declared.valued.Valued.{Valued}
 use Rattle.cue_eval.proofs.Gathering.{unified_answers}
@@ -36,9 +36,9 @@ use Rattle.cue_eval.proofs.TellingParts.{IsSplit, split_more, split_all, same_si
 use Rattle.cue_eval.proofs.Walks.{known_left, known_right, each_of}
 use Rattle.std.specs.Prelude.{IfOk}
 use Rattle.cue_eval.specs.Evaluated.{HasAnswersOf}
-use Rattle.cue_eval.specs.Gathered.{Answers}
+use Rattle.cue_eval.specs.Inner.Gathered.{Answers}
 use Rattle.cue_eval.specs.Pairs.{pair}
-use Rattle.cue_eval.specs.Parts.{AreAdded, AreJoined, IsScalarPart, IsUseOf, OneScalarRefuses}
+use Rattle.cue_eval.specs.Inner.Parts.{AreAdded, AreJoined, IsScalarPart, IsUseOf, OneScalarRefuses}
 use Rattle.cue_eval.specs.Places.{Here, ScalarRefuses}
 use Rattle.cue_eval.specs.Refuses.{Refuses, PartsRefuse}
 

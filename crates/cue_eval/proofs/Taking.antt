@@ -33,15 +33,15 @@ use Rattle.cue_eval.specs.declared.rows.Tables.{Tables}
 use Rattle.cue_eval.specs.declared.told.Sight.{Sight}
 use Rattle.cue_eval.specs.declared.told.Whose.TheVariants.{Dotted}
 use Rattle.cue_eval.specs.Closing.{OneOfParts}
-use Rattle.cue_eval.specs.Finding.{IsFoundAt, IsKept, IsFindable, AreFindable, IsFoundBody}
-use Rattle.cue_eval.specs.Gathered.{Answers}
+use Rattle.cue_eval.specs.Inner.Finding.{IsFoundAt, IsKept, IsFindable, AreFindable, IsFoundBody}
+use Rattle.cue_eval.specs.Inner.Gathered.{Answers}
 use Rattle.cue_eval.specs.Pairs.{pair}
-use Rattle.cue_eval.specs.Parts.{AreJoined, IsScalarPart, OneScalarRefuses}
+use Rattle.cue_eval.specs.Inner.Parts.{AreJoined, IsScalarPart, OneScalarRefuses}
 use Rattle.cue_eval.specs.Places.{Here, ScalarRefuses}
-use Rattle.cue_eval.specs.Ready.{all_definitions, IsReady, IsTableOf, IsTableAt}
+use Rattle.cue_eval.specs.Inner.Ready.{all_definitions, IsReady, IsTableOf, IsTableAt}
 use Rattle.cue_eval.specs.Refuses.{PartsRefuse}
 use Rattle.cue_eval.specs.Telling.{Tells, IsDeclared}
-use Rattle.cue_eval.specs.Told.{AreDots, IsKnown, own_tells, used_tells}
+use Rattle.cue_eval.specs.Inner.Told.{AreDots, IsKnown, own_tells, used_tells}
 use Rattle.cue_eval.proofs.Defining.{known_of}
 use Rattle.cue_eval.proofs.Gathering.{unified_answers}
 use Rattle.cue_eval.proofs.Kept.{single_left, single_right, single_after, kept_itself, kept_both, room_kept, found_later}

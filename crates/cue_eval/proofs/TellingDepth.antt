@@ -17,7 +17,7 @@ use Rattle.cue_eval.specs.declared.told.Whose.{Whose}
 use Rattle.cue_eval.specs.declared.told.Whose.TheVariants.{Own, Dotted}
 use Rattle.cue_eval.specs.Literals.{literals, has_dots}
 use Rattle.cue_eval.specs.Telling.{Tells, IsDeclared, tells}
-use Rattle.cue_eval.specs.Told.{ToldOf, IsTold}
+use Rattle.cue_eval.specs.Inner.Told.{ToldOf, IsTold}
 use Rattle.cue_eval.proofs.Depth.{paths_within_depth}
 use Rattle.cue_eval.proofs.Origins.{struct_written}
 use Rattle.cue_eval.proofs.Own.{own_or_used}

@@ -25,7 +25,7 @@ use Rattle.cue_eval.specs.declared.told.Whose.{Whose}
 use Rattle.cue_eval.specs.declared.told.Whose.TheVariants.{Dotted}
 use Rattle.cue_eval.specs.Closing.{AtStruct, OneOfFields}
 use Rattle.cue_eval.specs.Telling.{Tells, IsDeclared, tells}
-use Rattle.cue_eval.specs.Told.{IsTold, IsToldBelow, IsRooted, own_tells, used_tells}
+use Rattle.cue_eval.specs.Inner.Told.{IsTold, IsToldBelow, IsRooted, own_tells, used_tells}
 
 -- what is refused stands at a path that is no longer than the table is deep
 refusing_row : (row : Option Declared) (asked : Asked) → RowRefuses Tells row asked → (r : Declared) × (row ≡ Some r)

@@ -18,7 +18,7 @@ use Rattle.cue_eval.specs.declared.told.Whose.{Whose}
 use Rattle.cue_eval.specs.declared.told.Whose.TheVariants.{Own, Dotted}
 use Rattle.cue_eval.specs.Literals.{literals, has_dots}
 use Rattle.cue_eval.specs.Telling.{Tells}
-use Rattle.cue_eval.specs.Told.{ToldOf, IsTold, AreDots}
+use Rattle.cue_eval.specs.Inner.Told.{ToldOf, IsTold, AreDots}
 use Rattle.cue_eval.proofs.EitherDoes.{either_does}
 use Rattle.cue_eval.proofs.Own.{own_or_used, does_more}
 

@@ -31,10 +31,10 @@ use Rattle.cue_scope.proofs.Measuring.{total_nested}
 use Rattle.cue_scope.proofs.Nodes.{in_append_left, in_append_right}
 use Rattle.cue_eval.specs.declared.rows.Tables.{Tables}
 use Rattle.cue_eval.specs.Evaluated.{HasAnswersOf}
-use Rattle.cue_eval.specs.Gathered.{Answers, GivenRefuse}
-use Rattle.cue_eval.specs.Known.{core_of, parts_of}
+use Rattle.cue_eval.specs.Inner.Gathered.{Answers, GivenRefuse}
+use Rattle.cue_eval.specs.Inner.Known.{core_of, parts_of}
 use Rattle.cue_eval.specs.Places.{Here, MarkRefuses}
-use Rattle.cue_eval.specs.Ready.{all_definitions, members_of, AreKnown, IsReady, AreReadyFields, IsField, AreGiven, AtLabels}
+use Rattle.cue_eval.specs.Inner.Ready.{all_definitions, members_of, AreKnown, IsReady, AreReadyFields, IsField, AreGiven, AtLabels}
 use Rattle.cue_eval.proofs.Depth.{paths_within_depth}
 use Rattle.cue_eval.proofs.Gathering.{shallow, marked_depth}
 use Rattle.cue_eval.proofs.Leaves.{nil_both}

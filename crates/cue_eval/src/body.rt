@@ -4,9 +4,9 @@ ghost use Rattle.std.specs.Prelude.{IfOk};
 ghost use Rattle.cue_syntax.specs.Syntax as tree;
 ghost use Rattle.cue_scope.specs.Core.{Core};
 ghost use Rattle.cue_scope.specs.Meaning.{nested};
-ghost use Rattle.cue_eval.specs.Adding.{IsBodyKnown, IsClosedBody};
+ghost use Rattle.cue_eval.specs.Inner.Adding.{IsBodyKnown, IsClosedBody};
 ghost use Rattle.cue_eval.specs.Evaluated.{HasAnswersOf};
-ghost use Rattle.cue_eval.specs.Told.{IsTold, means};
+ghost use Rattle.cue_eval.specs.Inner.Told.{IsTold, means};
 ghost use Rattle.cue_eval.specs.declared.told.Whose.TheVariants as whoses;
 
 use crate::declared::Declared;

@@ -13,9 +13,9 @@ ghost use Rattle.cue_scope.specs.Uses.{uses, uses_of_elements, uses_of_name};
 ghost use Rattle.cue_syntax.specs.Syntax as tree;
 ghost use Rattle.cue_table.specs.Tree.{Tree};
 ghost use Rattle.cue_eval.specs.declared.declared.Declared.{Declared as Declares};
-ghost use Rattle.cue_eval.specs.Adding.{IsClosedBody};
-ghost use Rattle.cue_eval.specs.Finding.{body_of, HasRoom, AreOnce, IsOnce, IsDefinable, IsDefined};
-ghost use Rattle.cue_eval.specs.Finding.{IsFindable, AreFindable, IsFoundBody, IsKept};
+ghost use Rattle.cue_eval.specs.Inner.Adding.{IsClosedBody};
+ghost use Rattle.cue_eval.specs.Inner.Finding.{body_of, HasRoom, AreOnce, IsOnce, IsDefinable, IsDefined};
+ghost use Rattle.cue_eval.specs.Inner.Finding.{IsFindable, AreFindable, IsFoundBody, IsKept};
 
 use crate::body::{Closed, close};
 use crate::declared::Declared;

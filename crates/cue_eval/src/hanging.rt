@@ -9,8 +9,8 @@ ghost use Rattle.cue_scope.specs.Meaning.{nested, text_of};
 ghost use Rattle.cue_table.specs.Depth.{tree_depth};
 ghost use Rattle.cue_table.specs.Form.{IsTable};
 ghost use Rattle.cue_eval.specs.Evaluated.{HasAnswersOf};
-ghost use Rattle.cue_eval.specs.Gathered.{Answers, LabelsRefuse, LiteralAnswers};
-ghost use Rattle.cue_eval.specs.Parts.{AreJoined};
+ghost use Rattle.cue_eval.specs.Inner.Gathered.{Answers, LabelsRefuse, LiteralAnswers};
+ghost use Rattle.cue_eval.specs.Inner.Parts.{AreJoined};
 ghost use Rattle.cue_eval.specs.Places.{Here, ScalarRefuses, StructRefuses, ListRefuses};
 ghost use Rattle.cue_eval.specs.Places.{MarkRefuses};
 

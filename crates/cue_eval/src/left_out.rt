@@ -20,11 +20,11 @@ ghost use Rattle.cue_table.specs.Form.{IsTable};
 ghost use Rattle.cue_table.specs.Refuses.{TableRefuses, RowRefuses};
 ghost use Rattle.cue_table.specs.StepsOfCode.{span_of};
 ghost use Rattle.cue_table.specs.Tree.{step_into};
-ghost use Rattle.cue_eval.specs.Adding.{OnlyLabels, AllowsAll, AddsAt, AddsHere, IsStepInto};
-ghost use Rattle.cue_eval.specs.Adding.{IsAddedBy, IsAllBelow, AreOwnLabels, AreAddedAt, AreFields};
-ghost use Rattle.cue_eval.specs.Adding.{AreBounds, AreBoundsBelow, AreBoundsOf, AreFew, AreKept};
-ghost use Rattle.cue_eval.specs.Adding.{AreStretches};
-ghost use Rattle.cue_eval.specs.Adding.{HasBoundsOf, IsSpanWithin, root_row, step_below};
+ghost use Rattle.cue_eval.specs.Inner.Adding.{OnlyLabels, AllowsAll, AddsAt, AddsHere, IsStepInto};
+ghost use Rattle.cue_eval.specs.Inner.Adding.{IsAddedBy, IsAllBelow, AreOwnLabels, AreAddedAt, AreFields};
+ghost use Rattle.cue_eval.specs.Inner.Adding.{AreBounds, AreBoundsBelow, AreBoundsOf, AreFew, AreKept};
+ghost use Rattle.cue_eval.specs.Inner.Adding.{AreStretches};
+ghost use Rattle.cue_eval.specs.Inner.Adding.{HasBoundsOf, IsSpanWithin, root_row, step_below};
 ghost use Rattle.cue_eval.specs.Telling.{Tells};
 ghost use Rattle.cue_eval.specs.declared.declared.Asked.TheVariants.{Stands};
 

@@ -4,8 +4,8 @@ ghost use Rattle.cue_scalars.specs.Pairs as joining;
 ghost use Rattle.cue_scalars.specs.Values.{pair_of};
 ghost use Rattle.cue_syntax.specs.Syntax as tree;
 ghost use Rattle.cue_scope.specs.Meaning.{meant_word};
-ghost use Rattle.cue_eval.specs.Known.{named_core, core_of, parts_of, choices_of, IsPairable};
-ghost use Rattle.cue_eval.specs.Known.{ArePairable, ArePairableTerms, IsPairableName};
+ghost use Rattle.cue_eval.specs.Inner.Known.{named_core, core_of, parts_of, choices_of, IsPairable};
+ghost use Rattle.cue_eval.specs.Inner.Known.{ArePairable, ArePairableTerms, IsPairableName};
 ghost use Rattle.cue_eval.specs.Pairs.{pair, pairs_of, terms_of};
 
 use crate::scalars::{

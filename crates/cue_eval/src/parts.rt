@@ -3,7 +3,7 @@ ghost use Rattle.std.specs.Prelude.{◌↔◌, ℕ, IfSome, IsTrue};
 ghost use Rattle.cue_scope.specs.Graph.{IsIn};
 ghost use Rattle.cue_scope.specs.Kept.{all_of};
 ghost use Rattle.cue_syntax.specs.Syntax.{expression};
-ghost use Rattle.cue_eval.specs.Parts.{IsScalarPart, IsUseOf};
+ghost use Rattle.cue_eval.specs.Inner.Parts.{IsScalarPart, IsUseOf};
 
 use cue_scope::Definitions;
 use cue_syntax::{Expr, Identifier};

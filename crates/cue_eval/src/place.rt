@@ -7,7 +7,7 @@ ghost use Rattle.cue_scalars.specs.Values.{pair_of};
 ghost use Rattle.cue_row.specs.Row.{RowRefuses};
 ghost use Rattle.cue_eval.specs.Places.{ScalarRefuses, StructRefuses, ListRefuses, MarkRefuses};
 ghost use Rattle.cue_eval.specs.Places.{level_of_mark};
-ghost use Rattle.cue_eval.specs.Gathered.{LabelsRefuse};
+ghost use Rattle.cue_eval.specs.Inner.Gathered.{LabelsRefuse};
 ghost use Rattle.cue_eval.specs.Pairs.{plain};
 ghost use Rattle.cue_eval.specs.Sets.{integer_alone, text_alone};
 

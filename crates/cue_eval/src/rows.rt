@@ -13,13 +13,13 @@ ghost use Rattle.cue_scope.specs.Uses.{uses_of_name};
 ghost use Rattle.cue_syntax.specs.Syntax as tree;
 ghost use Rattle.cue_table.specs.Form.{IsTable};
 ghost use Rattle.cue_eval.specs.Evaluated.{HasAnswersOf};
-ghost use Rattle.cue_eval.specs.Known.{core_of, named_core, parts_of, rest_of};
-ghost use Rattle.cue_eval.specs.Gathered.{Answers, FurtherRefuse};
+ghost use Rattle.cue_eval.specs.Inner.Known.{core_of, named_core, parts_of, rest_of};
+ghost use Rattle.cue_eval.specs.Inner.Gathered.{Answers, FurtherRefuse};
 ghost use Rattle.cue_eval.specs.Places.{ListRefuses};
-ghost use Rattle.cue_eval.specs.Parts.{AreAdded};
-ghost use Rattle.cue_eval.specs.Ready.{all_definitions, members_of, AreKnown, IsReady, IsTableAt};
-ghost use Rattle.cue_eval.specs.Ready.{AreReadyParts, AreReadyElements, IsReadyRest};
-ghost use Rattle.cue_eval.specs.Ready.{AreReadyEntries, AreReadyFields, IsField, AreGiven, AtLabels, IsScalarLeaf};
+ghost use Rattle.cue_eval.specs.Inner.Parts.{AreAdded};
+ghost use Rattle.cue_eval.specs.Inner.Ready.{all_definitions, members_of, AreKnown, IsReady, IsTableAt};
+ghost use Rattle.cue_eval.specs.Inner.Ready.{AreReadyParts, AreReadyElements, IsReadyRest};
+ghost use Rattle.cue_eval.specs.Inner.Ready.{AreReadyEntries, AreReadyFields, IsField, AreGiven, AtLabels, IsScalarLeaf};
 ghost use Rattle.cue_eval.specs.Refuses.{ElementsRefuse, ElementRefuses, is_open};
 
 use crate::hanging::{

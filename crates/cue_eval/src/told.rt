@@ -14,10 +14,10 @@ ghost use Rattle.cue_scope.specs.Meaning.{meaning, meant_name, meant_members, ne
 ghost use Rattle.cue_scope.specs.Meaning.{text_of};
 ghost use Rattle.cue_table.specs.Depth.{tree_depth};
 ghost use Rattle.cue_eval.specs.Telling.{Tells, tells};
-ghost use Rattle.cue_eval.specs.Told.{IsTold, IsToldBelow, IsKnown, ArePartsKnown};
-ghost use Rattle.cue_eval.specs.Told.{AreElementsKnown, AreMembersKnown, IsNameKnown, IsRooted};
-ghost use Rattle.cue_eval.specs.Told.{means, mean_elements, mean_rest, mean_members, IsRestKnown};
-ghost use Rattle.cue_eval.specs.Told.{AreFurtherTold, own_tells};
+ghost use Rattle.cue_eval.specs.Inner.Told.{IsTold, IsToldBelow, IsKnown, ArePartsKnown};
+ghost use Rattle.cue_eval.specs.Inner.Told.{AreElementsKnown, AreMembersKnown, IsNameKnown, IsRooted};
+ghost use Rattle.cue_eval.specs.Inner.Told.{means, mean_elements, mean_rest, mean_members, IsRestKnown};
+ghost use Rattle.cue_eval.specs.Inner.Told.{AreFurtherTold, own_tells};
 ghost use Rattle.cue_eval.specs.declared.told.Whose.TheVariants as whoses;
 
 use crate::declared::{Asked, Declared};

@@ -16,7 +16,7 @@ use Rattle.cue_table.specs.Tree.{Tree, node, Children, none, child, Rest, no_res
 use Rattle.cue_print.specs.Expressions.{Value, top, Fields, field}
 use Rattle.cue_print.specs.Printed.{level_at, declared, inside, value_of, fields_below, element_at, element_below, rest_value}
 use Rattle.cue_print.specs.Spelled.{value_text, field_texts}
-use Rattle.cue_print.specs.Writing.{told_text, fields_at, found_text, declared_text}
+use Rattle.cue_print.specs.Inner.Writing.{told_text, fields_at, found_text, declared_text}
 
 -- ---- labels
 -- the field of a label, by the branch that is found at it

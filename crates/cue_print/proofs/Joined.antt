@@ -7,7 +7,7 @@ use Rattle.cue_lattice.specs.Bools.{is_nil}
 use Rattle.cue_device.specs.Texts.{Begins}
 use Rattle.cue_device.proofs.Telling.{IsTelling, tells_next, tells_part}
 use Rattle.cue_print.specs.Spelled.{joined}
-use Rattle.cue_print.specs.Writing.{lead}
+use Rattle.cue_print.specs.Inner.Writing.{lead}
 
 -- one text more
 pub joined_more : (sep : List ℕ) (xs : List (List ℕ)) (x : List ℕ) → joined sep (xs ++ x ∷ []) ≡ joined sep xs ++ (lead sep (is_nil xs) ++ x)

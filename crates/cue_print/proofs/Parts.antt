@@ -11,7 +11,7 @@ use Rattle.cue_table.specs.Tree.{Tree, Children, row_of, labels_of}
 use Rattle.cue_print.specs.Expressions.{Value, top, all, Parts, no_parts, struct, close, list, bottom, Fields, no_more, field, Ending, ends}
 use Rattle.cue_print.specs.Printed.{inside, outside, struct_if_any, struct_part, elements, dots, list_part, has_field, list_left, nothing_value, level_at, value_of, fields_below}
 use Rattle.cue_print.specs.Spelled.{joined, enclosed, mark_text, struct_text, list_text, value_text, part_texts, field_texts, element_texts, ending_texts}
-use Rattle.cue_print.specs.Writing.{lead, conjoined, opening, beside_text, closing, written_struct, struct_before, is_exact, told_text, ending_text, longest_text, written_list, list_before}
+use Rattle.cue_print.specs.Inner.Writing.{lead, conjoined, opening, beside_text, closing, written_struct, struct_before, is_exact, told_text, ending_text, longest_text, written_list, list_before}
 use Rattle.cue_print.proofs.Fields.{fields_of, fields_are, declaration}
 use Rattle.cue_print.proofs.Joined.{joined_more, left_joined}
 use Rattle.cue_print.proofs.ListTexts.{none_before}

@@ -5,7 +5,7 @@ ghost use Rattle.cue_print.specs.Difference.{without};
 ghost use Rattle.cue_print.specs.Printed.{scalar_value};
 ghost use Rattle.cue_print.specs.Spelled.{default_text, terms_text, value_text};
 ghost use Rattle.cue_print.specs.Terms.{terms_of};
-ghost use Rattle.cue_print.specs.TermOf.{term_of};
+ghost use Rattle.cue_print.specs.Inner.TermOf.{term_of};
 
 use crate::term::Term;
 use crate::terms::{push_operand, push_terms, terms_of};

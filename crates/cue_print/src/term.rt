@@ -3,7 +3,7 @@ ghost use Rattle.std.specs.Fmt.{signed_decimal};
 ghost use Rattle.std.specs.Io.KnownBytes.{Appends};
 ghost use Rattle.cue_device.specs.Texts.{Begins};
 ghost use Rattle.cue_print.specs.Spelled.{joined, unequal, term_text, is_conjunction};
-ghost use Rattle.cue_print.specs.TermOf.{term_of};
+ghost use Rattle.cue_print.specs.Inner.TermOf.{term_of};
 
 use crate::writer::{Scratch, push_integer, push_text, separate};
 use cue_device::TextSink;

@@ -6,7 +6,7 @@ ghost use Rattle.cue_print.specs.Expressions.{text};
 ghost use Rattle.cue_print.specs.Spelled.{joined, enclosed, term_text, is_compound};
 ghost use Rattle.cue_print.specs.Spelled.{terms_text, operand_text};
 ghost use Rattle.cue_print.specs.Terms.{truth_terms, piece_term, text_terms, terms_of};
-ghost use Rattle.cue_print.specs.TermOf.{term_of};
+ghost use Rattle.cue_print.specs.Inner.TermOf.{term_of};
 
 use crate::term::{Term, is_conjunction, push_term};
 use crate::writer::{Scratch, separate};

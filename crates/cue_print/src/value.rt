@@ -10,11 +10,11 @@ ghost use Rattle.cue_print.specs.Spelled.{joined, mark_text, value_text, field_t
 ghost use Rattle.cue_print.specs.Spelled.{element_texts, struct_text, list_text};
 ghost use Rattle.cue_print.specs.Printed.{elements, inside, has_field, level_at};
 ghost use Rattle.cue_print.specs.Printed.{value_of, fields_below, rest_value};
-ghost use Rattle.cue_print.specs.Writing.{fields_at, element_of, further_at};
-ghost use Rattle.cue_print.specs.Writing.{beside_text, struct_before, opening, closing, is_exact};
-ghost use Rattle.cue_print.specs.Writing.{ending_text, longest_text, list_before, told_text, lead};
-ghost use Rattle.cue_print.specs.Writing.{closed_text, declared_text, written_struct, written_list};
-ghost use Rattle.cue_print.specs.Writing.{written_nothing, conjoined};
+ghost use Rattle.cue_print.specs.Inner.Writing.{fields_at, element_of, further_at};
+ghost use Rattle.cue_print.specs.Inner.Writing.{beside_text, struct_before, opening, closing, is_exact};
+ghost use Rattle.cue_print.specs.Inner.Writing.{ending_text, longest_text, list_before, told_text, lead};
+ghost use Rattle.cue_print.specs.Inner.Writing.{closed_text, declared_text, written_struct, written_list};
+ghost use Rattle.cue_print.specs.Inner.Writing.{written_nothing, conjoined};
 
 use crate::scalar::push_scalar;
 use crate::writer::{Scratch, push_text, separate};
@@ -74,7 +74,7 @@ fn push_nothing<S: TextSink>(
 
 /// Writes a struct in front of other parts, where labels are left out or a label stands below.
 #[cycle(walk)]
-#[tactic(auto, unfolding(crate::specs::Writing::struct_before), using(crate::proofs::Turns::one_or_none))]
+#[tactic(auto, unfolding(crate::specs::Inner::Writing::struct_before), using(crate::proofs::Turns::one_or_none))]
 fn push_struct_before<S: TextSink>(
     scratch: &mut Scratch,
     out: &mut S,
@@ -124,7 +124,7 @@ fn has_struct_part(row: &Row, branch: &Branch<Row>) -> bool
 
 /// Writes a list in front of other parts, where lengths are left out or further elements are told.
 #[cycle(walk)]
-#[tactic(auto, unfolding(crate::specs::Writing::list_before), using(crate::proofs::Turns::one_or_none))]
+#[tactic(auto, unfolding(crate::specs::Inner::Writing::list_before), using(crate::proofs::Turns::one_or_none))]
 fn push_list_before<S: TextSink>(
     scratch: &mut Scratch,
     out: &mut S,
@@ -566,7 +566,7 @@ fn push_element<S: TextSink>(
 }
 
 /// Writes a list of the greatest length behind others, unless the elements alone tell the list.
-#[tactic(auto, unfolding(crate::specs::Writing::longest_text), using(crate::proofs::Turns::one_or_none))]
+#[tactic(auto, unfolding(crate::specs::Inner::Writing::longest_text), using(crate::proofs::Turns::one_or_none))]
 fn push_longest<S: TextSink>(out: &mut S, most: Option<u32>, is_exact: bool) -> Result<(), S::Halt>
     ensures told { OnOk result (Appends (S.taken out.old) (S.taken out.new)
         (longest_text most is_exact)) }

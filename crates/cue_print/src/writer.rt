@@ -3,7 +3,7 @@ ghost use Rattle.std.specs.Fmt.{signed_decimal};
 ghost use Rattle.std.specs.Io.KnownBytes.{Appends};
 ghost use Rattle.cue_device.specs.Texts.{Begins};
 ghost use Rattle.cue_row.specs.Quoted.{quoted};
-ghost use Rattle.cue_print.specs.Writing.{lead};
+ghost use Rattle.cue_print.specs.Inner.Writing.{lead};
 
 use cue_device::TextSink;
 use cue_row::push_quoted;

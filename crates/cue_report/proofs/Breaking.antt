@@ -19,14 +19,14 @@ use Rattle.cue_row.specs.declared.parts.RowParts.{RowParts as Row}
 use Rattle.cue_table.specs.Form.{IsBelowAll}
 use Rattle.cue_table.specs.Tree.{Tree, Children, child, row_of, find, step_into, children_of}
 use Rattle.cue_report.specs.Answers.{IsStepDemanded, HasNoScalar}
-use Rattle.cue_report.specs.Clear.{IsClear}
+use Rattle.cue_report.specs.Inner.Clear.{IsClear}
 use Rattle.cue_report.specs.Export.{beyond, data_of, keys, count, AreKeys, IsLeast, IsAtom, IsShape, AreElements, AreMembers}
-use Rattle.cue_report.specs.GapSearch.{AtPlace}
+use Rattle.cue_report.specs.Inner.GapSearch.{AtPlace}
 use Rattle.cue_report.specs.Gaps.{IsChosen, IsFree}
 use Rattle.cue_report.specs.Picks.{IsPicked}
-use Rattle.cue_report.specs.Search.{is_demanded, least_at}
+use Rattle.cue_report.specs.Inner.Search.{is_demanded, least_at}
 use Rattle.cue_report.specs.Stream.{Flow, Streams, Breaks}
-use Rattle.cue_report.specs.Writing.{Adds, AddsDocument, AddsScalar, IsSettled, BreaksDocument, BreaksMembers, BreaksElements}
+use Rattle.cue_report.specs.Inner.Writing.{Adds, AddsDocument, AddsScalar, IsSettled, BreaksDocument, BreaksMembers, BreaksElements}
 use Rattle.cue_report.proofs.Clear.{clear_below}
 use Rattle.cue_report.proofs.Descent.{Told, seen, first_demanded}
 use Rattle.cue_report.proofs.Documents.{Seen, IsGathered, key_path, with_member, index_demanded, least_is, put_behind, taken_label, or_false, some_struct, not_free, told_one, told_none}

@@ -39,7 +39,7 @@ use Rattle.cue_table.specs.Valid.{IsValidTable}
 use Rattle.serde_json.specs.Data as json
 use Rattle.serde_json.specs.Data.{Data, null, boolean, number, string, array, object}
 use Rattle.cue_report.specs.Answers.{IsStepDemanded}
-use Rattle.cue_report.specs.Clear.{IsClear}
+use Rattle.cue_report.specs.Inner.Clear.{IsClear}
 use Rattle.cue_report.specs.Documents.{json_of, items_json, members_json, Tells}
 use Rattle.cue_report.specs.Export.{beyond, data_of, keys, count, AreKeys, IsAtom, IsShape, AreElements}
 use Rattle.cue_report.specs.Export as shapes

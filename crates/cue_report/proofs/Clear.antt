@@ -9,7 +9,7 @@ use Rattle.cue_lattice.specs.Document as documents
 use Rattle.cue_lattice.specs.Document.{Document, Items, Members, IsDocument, AreItems, AreMembers, length_of, Has}
 use Rattle.cue_lattice.specs.Meets.{Meets, ItemsMeet, MembersMeet, at_label, at_index}
 use Rattle.cue_report.specs.Answers.{further, IsStepDemanded, IsDemanded, HasNoScalar, HasNoValue, IsNotAllowed}
-use Rattle.cue_report.specs.Clear.{IsClear, IsClearAt}
+use Rattle.cue_report.specs.Inner.Clear.{IsClear, IsClearAt}
 use Rattle.cue_report.specs.Export.{beyond}
 use Rattle.cue_report.specs.Listing.{IsConflict, AreConflicts}
 

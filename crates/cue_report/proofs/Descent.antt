@@ -11,8 +11,8 @@ use Rattle.cue_row.specs.Row as rows
 use Rattle.cue_table.specs.Refuses.{TableRefuses}
 use Rattle.cue_table.specs.Tree.{Tree, empty, row_of, step_into, branch_at, row_at}
 use Rattle.cue_report.specs.Answers.{further, IsStepDemanded, IsDemanded, IsNotAllowed}
-use Rattle.cue_report.specs.GapSearch.{IsBarred}
-use Rattle.cue_report.specs.Search.{is_demanded, is_refused}
+use Rattle.cue_report.specs.Inner.GapSearch.{IsBarred}
+use Rattle.cue_report.specs.Inner.Search.{is_demanded, is_refused}
 use Rattle.cue_report.proofs.Rows.{RefusedAt, level_is, longer_is, refused_is, index_allowed}
 
 -- what a tree refuses

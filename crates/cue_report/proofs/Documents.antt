@@ -29,11 +29,11 @@ use Rattle.serde_json.specs.declared.value.Value.{Value, Null, Array, Object, th
 use Rattle.serde_json.proofs.Views.{view-Array, view-Object}
 use Rattle.cue_report.specs.Answers.{IsStepDemanded, HasNoScalar}
 use Rattle.cue_report.specs.Export.{beyond, data_of, keys, count, AreKeys, IsAtom, IsShape, AreElements, AreMembers}
-use Rattle.cue_report.specs.GapSearch.{AtPlace}
+use Rattle.cue_report.specs.Inner.GapSearch.{AtPlace}
 use Rattle.cue_report.specs.Gaps.{IsChosen, IsFree}
 use Rattle.cue_report.specs.Listing.{IsRising}
-use Rattle.cue_report.specs.Search.{is_demanded, least_at}
-use Rattle.cue_report.specs.Clear.{IsClear}
+use Rattle.cue_report.specs.Inner.Search.{is_demanded, least_at}
+use Rattle.cue_report.specs.Inner.Clear.{IsClear}
 use Rattle.cue_report.specs.Picks.{IsFirst, IsPicked}
 use Rattle.cue_report.proofs.Choice.{member_is, chosen_is}
 use Rattle.cue_report.proofs.Empty.{refused}

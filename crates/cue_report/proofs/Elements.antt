@@ -8,7 +8,7 @@ use Rattle.cue_lattice.specs.OneOf.{OneOf}
 use Rattle.cue_lattice.specs.Path as paths
 use Rattle.cue_lattice.specs.Path.{index, step_cmp, Path, path_cmp}
 use Rattle.cue_report.specs.Listing.{IsRising}
-use Rattle.cue_report.specs.Search.{under, each_index}
+use Rattle.cue_report.specs.Inner.Search.{under, each_index}
 use Rattle.cue_report.specs.declared.conflict.Conflict.{Conflict}
 use Rattle.cue_report.proofs.Order.{all_append, all_map, one_left, one_right, one_map, AreBefore, AreBehind, rising_append, rising_lifted, lifted_before, lifted_behind}
 

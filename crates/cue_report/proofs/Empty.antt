@@ -15,7 +15,7 @@ use Rattle.cue_scalars.specs.Scalars.{IsScalarSet, RefusesScalar}
 use Rattle.cue_scalars.specs.declared.scalar_set.ScalarSet.{ScalarSet}
 use Rattle.cue_row.specs.Kinds.{IsEmptySet}
 use Rattle.cue_row.specs.declared.parts.RowParts.{RowParts as Row}
-use Rattle.cue_report.specs.Search.{is_empty_set, lacks_value}
+use Rattle.cue_report.specs.Inner.Search.{is_empty_set, lacks_value}
 
 no_piece : (pieces : List (ℤ × ℤ)) → IsCanonical pieces → ((n : ℤ) → IsInteger n → is_member pieces n ≡ false) → pieces ≡ []
 no_piece [] a h = refl

@@ -5,7 +5,7 @@ use Rattle.cue_row.specs.declared.parts.RowParts.{RowParts as Row}
 use Rattle.cue_table.specs.Tree.{Tree}
 use Rattle.cue_table.specs.Valid.{IsValidTable}
 use Rattle.serde_json.specs.Data.{Data}
-use Rattle.cue_report.specs.Clear.{IsClear}
+use Rattle.cue_report.specs.Inner.Clear.{IsClear}
 use Rattle.cue_report.specs.Documents.{SomeMeets, Tells}
 use Rattle.cue_report.specs.Export.{IsShape}
 use Rattle.cue_report.specs.Gaps.{IsChosen, AreGaps}

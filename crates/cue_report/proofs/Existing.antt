@@ -34,11 +34,11 @@ use Rattle.cue_table.specs.Form.{IsBelowAll, AreBranches, IsKept, IsTable}
 use Rattle.cue_table.specs.Tree.{Tree, node, Children, none, child, Rest, no_rest, onward, row_of, below, if_equal, find, step_into, branch_at, row_at}
 use Rattle.cue_table.specs.Valid.{IsValidTable}
 use Rattle.cue_report.specs.Answers.{further, IsStepDemanded, HasNoScalar}
-use Rattle.cue_report.specs.Clear.{IsClear}
+use Rattle.cue_report.specs.Inner.Clear.{IsClear}
 use Rattle.cue_report.specs.Documents.{SomeMeets}
 use Rattle.cue_report.specs.Export.{beyond}
 use Rattle.cue_report.specs.Listing.{AreConflicts}
-use Rattle.cue_report.specs.Search.{is_empty_set, is_demanded}
+use Rattle.cue_report.specs.Inner.Search.{is_empty_set, is_demanded}
 use Rattle.cue_report.proofs.Choice.{member_is}
 use Rattle.cue_report.proofs.Clear.{clear_here, clear_below, clear_from, IsPlaced, OfLabels, OfLengths, no_conflicts}
 use Rattle.cue_report.proofs.Descent.{Told, open_below, seen, first_demanded}

@@ -12,7 +12,7 @@ use Rattle.cue_report.specs.Gaps.{AreGaps}
 use Rattle.cue_report.specs.Lines.{conflict_line, gap_line, TellsConflicts, BeginsConflicts, TellsGaps, BeginsGaps}
 use Rattle.cue_report.specs.Listing.{AreConflicts}
 use Rattle.cue_report.specs.declared.outcome.ExportKind.TheVariants.{Json, Conflicts, Incomplete}
-use Rattle.cue_report.specs.Writing.{BeginsDocument}
+use Rattle.cue_report.specs.Inner.Writing.{BeginsDocument}
 use Rattle.cue_report.proofs.Clear.{clear_from}
 use Rattle.cue_report.proofs.OneReport.{one_conflicts, one_gaps}
 use Rattle.cue_report.proofs.Settled.{settled}

@@ -14,9 +14,9 @@ use Rattle.cue_table.specs.Form as form
 use Rattle.cue_table.specs.Form.{AreBranches, AreWithin, IsBelowAll, IsKept, IsRestOf, IsTable}
 use Rattle.cue_table.specs.Tree.{Tree, node, Children, none, child, Rest, no_rest, onward, row_of, rest_of, if_equal, find, step_into}
 use Rattle.cue_report.specs.Answers.{IsDemanded, HasNoValue, IsNotAllowed}
-use Rattle.cue_report.specs.GapSearch.{IsBarred}
+use Rattle.cue_report.specs.Inner.GapSearch.{IsBarred}
 use Rattle.cue_report.specs.Listing.{IsConflict, AreConflicts, IsRising}
-use Rattle.cue_report.specs.Search.{under, told_under, only_if, has_no_value, is_demanded, is_refused, conflict_here, conflicts_in, conflicts_below, conflicts_onward, each_index, least_at}
+use Rattle.cue_report.specs.Inner.Search.{under, told_under, only_if, has_no_value, is_demanded, is_refused, conflict_here, conflicts_in, conflicts_below, conflicts_onward, each_index, least_at}
 use Rattle.cue_report.specs.declared.conflict.Conflict.{Conflict}
 use Rattle.cue_report.proofs.Empty.{same_truth}
 use Rattle.cue_report.proofs.Elements.{place_of, less_index, each_all, each_one, each_behind, each_below, each_rising}

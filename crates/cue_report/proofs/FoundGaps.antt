@@ -12,9 +12,9 @@ use Rattle.cue_row.specs.declared.parts.RowParts.{RowParts as Row}
 use Rattle.cue_table.specs.Tree.{Tree, node, row_of, row_at}
 use Rattle.cue_report.specs.Answers.{IsDemanded, IsStepDemanded, IsNotAllowed}
 use Rattle.cue_report.specs.Gaps.{IsGap, AreGaps}
-use Rattle.cue_report.specs.GapSearch.{Adds, IsGapAt, IsBarred, IsGapIn, IsGapHere, above, told_above}
+use Rattle.cue_report.specs.Inner.GapSearch.{Adds, IsGapAt, IsBarred, IsGapIn, IsGapHere, above, told_above}
 use Rattle.cue_report.specs.Listing.{Lists}
-use Rattle.cue_report.specs.Search.{is_demanded, is_refused}
+use Rattle.cue_report.specs.Inner.Search.{is_demanded, is_refused}
 use Rattle.cue_report.specs.declared.gap.Gap.{Gap}
 use Rattle.cue_report.specs.Telling.{Tally, Grows}
 use Rattle.cue_report.proofs.Texts.{listed}

@@ -12,9 +12,9 @@ use Rattle.cue_table.specs.Spans.{Span, field, elements, alike, spanned}
 use Rattle.cue_table.specs.Tree.{Tree, Children, none, child, row_of, rest_of, find}
 use Rattle.cue_report.specs.Answers.{IsStepDemanded}
 use Rattle.cue_report.specs.Gaps.{IsGap, AreGaps}
-use Rattle.cue_report.specs.GapSearch.{IsGapAt, IsGapIn, IsGapHere, IsGapBelow, IsGapOnward, IsFront, Fronts, free_before}
+use Rattle.cue_report.specs.Inner.GapSearch.{IsGapAt, IsGapIn, IsGapHere, IsGapBelow, IsGapOnward, IsFront, Fronts, free_before}
 use Rattle.cue_report.specs.Listing.{Lists}
-use Rattle.cue_report.specs.Search.{is_demanded, least_at, rest_from}
+use Rattle.cue_report.specs.Inner.Search.{is_demanded, least_at, rest_from}
 use Rattle.cue_report.specs.Telling.{Tally, Starts}
 use Rattle.cue_report.specs.declared.gap.Gap.{Gap}
 use Rattle.cue_report.proofs.Descent.{Told}

@@ -11,9 +11,9 @@ use Rattle.cue_lattice.specs.Path.{label, index, step_cmp, Path, path_cmp}
 use Rattle.cue_row.specs.declared.parts.RowParts.{RowParts as Row}
 use Rattle.cue_table.specs.Spans.{Span, spread}
 use Rattle.cue_table.specs.Tree.{Tree, node, none, Rest, no_rest, onward, row_of, rest_of, rest_tree}
-use Rattle.cue_report.specs.GapSearch.{IsGapIn, IsGapAmong, IsGapOnward, Adds, above, free_elements}
+use Rattle.cue_report.specs.Inner.GapSearch.{IsGapIn, IsGapAmong, IsGapOnward, Adds, above, free_elements}
 use Rattle.cue_report.specs.Listing.{Lists}
-use Rattle.cue_report.specs.Search.{least_at, rest_from}
+use Rattle.cue_report.specs.Inner.Search.{least_at, rest_from}
 use Rattle.cue_report.specs.Telling.{Tally, Grows}
 use Rattle.cue_report.specs.declared.gap.Gap.{Gap}
 use Rattle.cue_report.proofs.Descent.{seen}

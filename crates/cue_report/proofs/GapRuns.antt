@@ -9,8 +9,8 @@ use Rattle.cue_table.specs.Spans.{alike}
 use Rattle.cue_table.specs.StepsOfCode.{step_at}
 use Rattle.cue_table.specs.declared.step_ref.StepRef.{StepRef}
 use Rattle.cue_table.specs.Tree.{Tree, none, child, row_of}
-use Rattle.cue_report.specs.GapSearch.{IsGapIn, IsGapAmong, IsGapBelow, Adds, above}
-use Rattle.cue_report.specs.Search.{is_demanded, is_refused, least_at}
+use Rattle.cue_report.specs.Inner.GapSearch.{IsGapIn, IsGapAmong, IsGapBelow, Adds, above}
+use Rattle.cue_report.specs.Inner.Search.{is_demanded, is_refused, least_at}
 use Rattle.cue_report.specs.Telling.{Tally, Grows}
 use Rattle.cue_report.specs.declared.gap.Gap.{Gap}
 use Rattle.cue_report.proofs.Found.{found_first}

@@ -15,9 +15,9 @@ use Rattle.cue_table.specs.Spans.{Span, alike, spanned, spread}
 use Rattle.cue_table.specs.StepsOfCode.{step_at}
 use Rattle.cue_table.specs.declared.step_ref.StepRef.{StepRef}
 use Rattle.cue_table.specs.Tree.{Tree, Children, none, child, row_of, rest_of, rest_tree, below}
-use Rattle.cue_report.specs.GapSearch.{IsGapIn, IsGapHere, IsGapBelow, IsGapAmong, IsGapOnward, IsFront, Fronts, Adds, above, told_above, free_elements, free_before, next_after}
+use Rattle.cue_report.specs.Inner.GapSearch.{IsGapIn, IsGapHere, IsGapBelow, IsGapAmong, IsGapOnward, IsFront, Fronts, Adds, above, told_above, free_elements, free_before, next_after}
 use Rattle.cue_report.specs.Listing.{Lists}
-use Rattle.cue_report.specs.Search.{is_demanded, is_refused, least_at, rest_from}
+use Rattle.cue_report.specs.Inner.Search.{is_demanded, is_refused, least_at, rest_from}
 use Rattle.cue_report.specs.Telling.{Tally, Grows, Starts}
 use Rattle.cue_report.specs.declared.gap.Gap.{Gap}
 use Rattle.cue_report.proofs.FoundGaps.{place_of}

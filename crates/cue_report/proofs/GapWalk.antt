@@ -18,9 +18,9 @@ use Rattle.cue_table.specs.Tree.{Tree, Children, none, child, empty, row_of, bel
 use Rattle.cue_table.specs.Size.{children_size}
 use Rattle.cue_table.proofs.Spanned.{left_size}
 use Rattle.cue_report.specs.Answers.{IsStepDemanded}
-use Rattle.cue_report.specs.GapSearch.{IsGapIn, IsGapHere, IsGapBelow, free_at, free_elements, free_before, next_after}
+use Rattle.cue_report.specs.Inner.GapSearch.{IsGapIn, IsGapHere, IsGapBelow, free_at, free_elements, free_before, next_after}
 use Rattle.cue_report.specs.Listing.{Lists}
-use Rattle.cue_report.specs.Search.{is_demanded, is_refused, least_at, rest_from}
+use Rattle.cue_report.specs.Inner.Search.{is_demanded, is_refused, least_at, rest_from}
 use Rattle.cue_report.specs.declared.gap.Gap.{Gap}
 use Rattle.cue_report.proofs.Order.{same_step}
 use Rattle.cue_report.proofs.Rests.{own, at_label, at_fixed, own_before, before_end, up_to_end, branches}

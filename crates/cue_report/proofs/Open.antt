@@ -10,8 +10,8 @@ use Rattle.cue_row.specs.declared.level.Level.{Level}
 use Rattle.cue_row.specs.declared.level.Level.TheVariants.{Optional, Required, Given}
 use Rattle.cue_row.specs.Row.{IsRow}
 use Rattle.cue_row.specs.declared.parts.RowParts.{RowParts as Row}
-use Rattle.cue_report.specs.GapSearch.{IsOpenAt, IsGapAt}
-use Rattle.cue_report.specs.Search.{lacks_value}
+use Rattle.cue_report.specs.Inner.GapSearch.{IsOpenAt, IsGapAt}
+use Rattle.cue_report.specs.Inner.Search.{lacks_value}
 use Rattle.cue_report.proofs.Choice.{chosen_is}
 use Rattle.cue_report.proofs.Rows.{NoValueAt, no_value_is, some_value}
 

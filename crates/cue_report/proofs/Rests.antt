@@ -9,7 +9,7 @@ use Rattle.cue_row.specs.declared.parts.RowParts.{RowParts as Row}
 use Rattle.cue_row.specs.Row.{Refuses, IsRow}
 use Rattle.cue_table.specs.Form.{AreBranches, AreWithin, IsKept, IsRestOf, IsTable}
 use Rattle.cue_table.specs.Tree.{Tree, node, Children, none, child, Rest, no_rest, onward, below, rest_of, if_equal, find, find_with, step_into}
-use Rattle.cue_report.specs.Search.{rest_from}
+use Rattle.cue_report.specs.Inner.Search.{rest_from}
 use Rattle.cue_report.proofs.Order.{equal_steps}
 use Rattle.cue_table.proofs.Branches.{find_own, find_rest, find_fixed}
 use Rattle.cue_table.proofs.Finding.{found_form}

@@ -16,7 +16,7 @@ use Rattle.cue_row.specs.Row.{IsRow}
 use Rattle.cue_table.specs.Form as form
 use Rattle.cue_table.specs.Refuses.{RowRefuses}
 use Rattle.cue_report.specs.Answers.{HasNoValue}
-use Rattle.cue_report.specs.Search.{is_empty_set, is_above, has_no_value, is_wanted, has_level, is_longer, is_refused, least_at}
+use Rattle.cue_report.specs.Inner.Search.{is_empty_set, is_above, has_no_value, is_wanted, has_level, is_longer, is_refused, least_at}
 use Rattle.cue_report.proofs.Empty.{refused_empty, empty_refused}
 
 -- what the row at a place refuses, where there is one

@@ -8,7 +8,7 @@ use Rattle.cue_row.specs.declared.parts.RowParts.{RowParts as Row}
 use Rattle.cue_table.specs.Spans.{Span, field, elements, alike, spanned}
 use Rattle.cue_table.specs.Tree.{Tree, Children, none, row_of}
 use Rattle.cue_report.specs.declared.conflict.Conflict.{Conflict}
-use Rattle.cue_report.specs.Search.{under, only_if, is_demanded, is_refused, conflicts_in, conflicts_below, each_index, least_at}
+use Rattle.cue_report.specs.Inner.Search.{under, only_if, is_demanded, is_refused, conflicts_in, conflicts_below, each_index, least_at}
 use Rattle.cue_report.proofs.Rows.{index_allowed, is_long, not_long}
 
 -- those of one branch, where it is demanded

@@ -12,7 +12,7 @@ use Rattle.cue_report.specs.Export.{beyond, data_of, keys, count, IsAtom, IsShap
 use Rattle.cue_report.specs.Gaps.{IsMissing, IsChosen, IsGap, AreGaps}
 use Rattle.cue_report.specs.Listing.{AreConflicts}
 use Rattle.cue_report.specs.Picks.{IsPicked}
-use Rattle.cue_report.specs.Writing.{IsSettled}
+use Rattle.cue_report.specs.Inner.Writing.{IsSettled}
 use Rattle.cue_report.proofs.Clear.{either_way, value_there, allowed_there, all_steps, root_demanded}
 
 no_gap : (refuses : Refusals) (path : Path) (missing : Bool) → AreGaps refuses [] → IsGap refuses (record { path = path; missing = missing }) → ⊥

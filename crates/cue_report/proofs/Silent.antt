@@ -5,8 +5,8 @@ use Rattle.cue_lattice.specs.OneOf.{OneOf}
 use Rattle.cue_lattice.specs.Path.{Path}
 use Rattle.cue_row.specs.declared.parts.RowParts.{RowParts as Row}
 use Rattle.cue_table.specs.Tree.{Tree}
-use Rattle.cue_report.specs.GapSearch.{IsGapIn, IsGapAmong, Adds, above}
-use Rattle.cue_report.specs.Search.{each_index}
+use Rattle.cue_report.specs.Inner.GapSearch.{IsGapIn, IsGapAmong, Adds, above}
+use Rattle.cue_report.specs.Inner.Search.{each_index}
 use Rattle.cue_report.specs.Telling.{Tally, Grows}
 use Rattle.cue_report.specs.declared.conflict.Conflict.{Conflict}
 use Rattle.cue_report.specs.declared.gap.Gap.{Gap}

@@ -14,10 +14,10 @@ use Rattle.cue_table.specs.Tree.{Tree, Children, row_of, step_into, children_of}
 use Rattle.serde_json.specs.Data.{put}
 use Rattle.serde_json.specs.Written.{compact_text}
 use Rattle.serde_json.proofs.Texts.{print-outline}
-use Rattle.cue_report.specs.GapSearch.{AtPlace}
+use Rattle.cue_report.specs.Inner.GapSearch.{AtPlace}
 use Rattle.cue_report.specs.Gaps.{IsFree}
-use Rattle.cue_report.specs.Search.{is_demanded, least_at}
-use Rattle.cue_report.specs.Writing.{Adds, AddsDocument, AddsElements, AddsMembers, AddsScalar}
+use Rattle.cue_report.specs.Inner.Search.{is_demanded, least_at}
+use Rattle.cue_report.specs.Inner.Writing.{Adds, AddsDocument, AddsElements, AddsMembers, AddsScalar}
 use Rattle.cue_report.specs.Stream.{Flow, Streams, Breaks}
 use Rattle.cue_report.proofs.Descent.{Told}
 use Rattle.cue_report.proofs.Documents.{with_item, with_member, IsCounted, IsGathered, counted_next, counted_null, taken_label, put_behind, object_shape, array_shape, only_scalars}

@@ -1,16 +1,13 @@
+pub mod Inner
 pub mod Answers
-pub mod Clear
 pub mod Documents
 pub mod Export
 pub mod ExportText
-pub mod GapSearch
 pub mod Gaps
 pub mod Lines
 pub mod Listing
 pub mod OneReport
 pub mod Picks
-pub mod Search
 pub mod Stream
 pub mod Telling
 pub mod Trail
-pub mod Writing

@@ -11,9 +11,9 @@ ghost use Rattle.cue_table.specs.Valid.{IsValidTable};
 ghost use Rattle.cue_report.specs.Documents.{SomeMeets};
 ghost use Rattle.cue_report.specs.Lines.{AddsConflictLines, BeginsConflicts, TellsConflicts};
 ghost use Rattle.cue_report.specs.Listing.{AreConflicts};
-ghost use Rattle.cue_report.specs.Search.{has_no_value, conflict_here, conflicts_in};
-ghost use Rattle.cue_report.specs.Search.{conflicts_below, conflicts_onward, each_index};
-ghost use Rattle.cue_report.specs.Search.{told_under};
+ghost use Rattle.cue_report.specs.Inner.Search.{has_no_value, conflict_here, conflicts_in};
+ghost use Rattle.cue_report.specs.Inner.Search.{conflicts_below, conflicts_onward, each_index};
+ghost use Rattle.cue_report.specs.Inner.Search.{told_under};
 ghost use Rattle.cue_report.specs.Telling.{Grows, Starts};
 ghost use Rattle.cue_report.specs.Trail.{shown_steps};
 

@@ -3,8 +3,8 @@ ghost use Rattle.std.specs.Option.{option_map};
 ghost use Rattle.cue_row.specs.Row.{IsRow};
 ghost use Rattle.cue_table.specs.StepsOfCode.{step_at};
 ghost use Rattle.cue_table.specs.Tree.{rest_of};
-ghost use Rattle.cue_report.specs.Search as search;
-ghost use Rattle.cue_report.specs.Search.{least_at, rest_from};
+ghost use Rattle.cue_report.specs.Inner.Search as search;
+ghost use Rattle.cue_report.specs.Inner.Search.{least_at, rest_from};
 
 use cue_row::{Level, Row};
 use cue_table::{Branch, StepRef};

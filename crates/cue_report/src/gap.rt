@@ -7,13 +7,13 @@ ghost use Rattle.cue_table.specs.Refuses.{TableRefuses};
 ghost use Rattle.cue_table.specs.Spans.{spanned};
 ghost use Rattle.cue_table.specs.StepsOfCode.{span_of};
 ghost use Rattle.cue_table.specs.Tree.{none, row_of, rest_of};
-ghost use Rattle.cue_report.specs.GapSearch.{IsGapAt, IsOpenAt, IsGapHere, IsGapIn, Adds};
-ghost use Rattle.cue_report.specs.GapSearch.{Fronts};
-ghost use Rattle.cue_report.specs.GapSearch.{IsGapBelow, IsGapAmong, IsGapOnward};
-ghost use Rattle.cue_report.specs.GapSearch.{free_before, free_elements, next_after, told_above};
+ghost use Rattle.cue_report.specs.Inner.GapSearch.{IsGapAt, IsOpenAt, IsGapHere, IsGapIn, Adds};
+ghost use Rattle.cue_report.specs.Inner.GapSearch.{Fronts};
+ghost use Rattle.cue_report.specs.Inner.GapSearch.{IsGapBelow, IsGapAmong, IsGapOnward};
+ghost use Rattle.cue_report.specs.Inner.GapSearch.{free_before, free_elements, next_after, told_above};
 ghost use Rattle.cue_report.specs.Gaps.{AreGaps};
 ghost use Rattle.cue_report.specs.Lines.{AddsGapLines, BeginsGaps, TellsGaps};
-ghost use Rattle.cue_report.specs.Search.{lacks_value, least_at};
+ghost use Rattle.cue_report.specs.Inner.Search.{lacks_value, least_at};
 ghost use Rattle.cue_report.specs.Telling.{Grows, Starts};
 ghost use Rattle.cue_report.specs.Trail.{shown_steps};
 

@@ -1,5 +1,5 @@
 ghost use Rattle.std.specs.Prelude.{◌≡◌, ◌<◌, ◌-◌, List, length, OnOk, OnErr};
-ghost use Rattle.cue_report.specs.GapSearch.{told_above, free_elements};
+ghost use Rattle.cue_report.specs.Inner.GapSearch.{told_above, free_elements};
 ghost use Rattle.cue_report.specs.Telling.{Tally, Grows, Starts};
 ghost use Rattle.cue_report.specs.Trail.{shown_steps};
 ghost use Rattle.cue_report.specs.declared.conflict.Conflict.{Conflict as Conflicts};

@@ -9,8 +9,8 @@ use Rattle.cue_scope.specs.Listed.{definition_of}
 use Rattle.cue_scope.specs.Uses.{uses, uses_of_fields}
 use Rattle.cue_scope.proofs.Numbers.{listed_at, length_listed}
 use Rattle.cue_eval.specs.Evaluated.{HasAnswersOf}
-use Rattle.cue_eval.specs.Finding.{body_of, IsDefinable, IsDefined, IsKept}
-use Rattle.cue_eval.specs.Ready.{AreReadyFields, members_of}
+use Rattle.cue_eval.specs.Inner.Finding.{body_of, IsDefinable, IsDefined, IsKept}
+use Rattle.cue_eval.specs.Inner.Ready.{AreReadyFields, members_of}
 use Rattle.cue_eval.proofs.Finding.{next_below, next_means, next_definable, found_more, text_ready, evaluated_result}
 use Rattle.cue_eval.proofs.evaluation.evaluate.Goals as goal
 

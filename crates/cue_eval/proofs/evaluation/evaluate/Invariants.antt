@@ -1,7 +1,7 @@
 use Rattle.cue_scope.specs.Definitions.{definitions}
 use Rattle.cue_scope.specs.Files.{entries_of}
 use Rattle.cue_scope.specs.Uses.{uses_of_fields}
-use Rattle.cue_eval.specs.Finding.{IsFoundSoFar}
+use Rattle.cue_eval.specs.Inner.Finding.{IsFoundSoFar}
 use Rattle.cue_eval.proofs.evaluation.evaluate.Given as goal
 
 abbrev pub invariant-loop-number : goal.invariant-loop-number

@@ -1,6 +1,6 @@
 use Rattle.std.proofs.Common.{◌≡◌, length}
 use Rattle.cue_scope.specs.Files.{entries_of}
-use Rattle.cue_eval.specs.Finding.{AreOnce}
+use Rattle.cue_eval.specs.Inner.Finding.{AreOnce}
 use Rattle.cue_eval.proofs.found.used_once.Given as goal
 
 abbrev pub invariant-loop-number : goal.invariant-loop-number

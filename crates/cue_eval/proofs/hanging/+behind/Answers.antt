@@ -1,7 +1,7 @@
 use Rattle.std.proofs.Common.{◌≡◌, ◌≤◌, ◌<◌, ◌+◌, ◌⊎◌, ◌∷◌, ◌++◌, [], None, length, take, drop, ◌-◌, ap, ◌∙◌, arith}
 use Rattle.cue_lattice.specs.Limits.{step_limit}
 use Rattle.cue_table.specs.Depth.{tree_depth}
-use Rattle.cue_eval.specs.Gathered.{LabelsRefuse}
+use Rattle.cue_eval.specs.Inner.Gathered.{LabelsRefuse}
 use Rattle.cue_eval.specs.Places.{StructRefuses}
 use Rattle.cue_eval.proofs.Gathering.{marked_depth}
 use Rattle.cue_eval.proofs.Chains.{one_deep, first_rest, behind_depth, behind_result}

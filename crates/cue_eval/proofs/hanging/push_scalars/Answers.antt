@@ -1,5 +1,5 @@
 use Rattle.std.proofs.Common.{sym, subst, ◌∙◌}
-use Rattle.cue_eval.specs.Parts.{AreJoined}
+use Rattle.cue_eval.specs.Inner.Parts.{AreJoined}
 use Rattle.cue_eval.proofs.Joined.{some_there, joined_all}
 use Rattle.cue_eval.proofs.hanging.push_scalars.Goals as goal
 

@@ -1,5 +1,5 @@
 use Rattle.std.proofs.Common.{◌⊎◌}
-use Rattle.cue_eval.specs.Gathered.{LabelsRefuse}
+use Rattle.cue_eval.specs.Inner.Gathered.{LabelsRefuse}
 use Rattle.cue_eval.specs.Places.{StructRefuses}
 use Rattle.cue_eval.proofs.Gathering.{literal_result}
 use Rattle.cue_eval.proofs.hanging.struct_of.Goals as goal

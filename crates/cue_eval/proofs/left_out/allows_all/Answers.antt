@@ -3,7 +3,7 @@ use Rattle.std.specs.Option.{is_none, option_map}
 use Rattle.std.proofs.lemmas.Bool.{false≢true}
 use Rattle.cue_row.specs.LabelSets.{AreLabels, RefusesLabel}
 use Rattle.cue_row.specs.LabelLaws.{same_labels}
-use Rattle.cue_eval.specs.Adding.{AllowsAll, root_row}
+use Rattle.cue_eval.specs.Inner.Adding.{AllowsAll, root_row}
 use Rattle.cue_eval.proofs.left_out.allows_all.Goals as goal
 
 no_label : (l : List ℕ) → ¬ RefusesLabel None l

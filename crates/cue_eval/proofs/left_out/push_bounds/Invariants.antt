@@ -3,7 +3,7 @@ use Rattle.std.specs.Ordering.{nat_cmp}
 use Rattle.cue_table.specs.Form.{AreWithin}
 use Rattle.cue_table.specs.Spans.{spread}
 use Rattle.cue_table.specs.Tree.{below}
-use Rattle.cue_eval.specs.Adding.{AreFew, AreKept}
+use Rattle.cue_eval.specs.Inner.Adding.{AreFew, AreKept}
 use Rattle.cue_eval.proofs.Bounds.{AreLeft}
 use Rattle.cue_eval.proofs.left_out.push_bounds.Given as goal
 

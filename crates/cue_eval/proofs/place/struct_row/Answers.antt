@@ -2,7 +2,7 @@ use Rattle.std.proofs.Common.{◌↔◌, ◌⊎◌, sym, subst}
 use Rattle.std.proofs.lemmas.Result.{IfOk-weaker}
 use Rattle.cue_row.specs.Row.{RowRefuses}
 use Rattle.cue_row.specs.declared.parts.RowParts.{RowParts as Row}
-use Rattle.cue_eval.specs.Gathered.{LabelsRefuse}
+use Rattle.cue_eval.specs.Inner.Gathered.{LabelsRefuse}
 use Rattle.cue_eval.specs.Places.{StructRefuses}
 use Rattle.cue_eval.proofs.PlaceRows.{struct_refuses}
 use Rattle.cue_eval.proofs.place.struct_row.Goals as goal

@@ -1,7 +1,7 @@
 use Rattle.std.proofs.Common.{sym, subst}
 use Rattle.std.proofs.lemmas.Result.{IfOk-weaker}
 use Rattle.cue_scope.specs.Meaning.{nested}
-use Rattle.cue_eval.specs.Told.{IsTold}
+use Rattle.cue_eval.specs.Inner.Told.{IsTold}
 use Rattle.cue_eval.proofs.told.+behind.Goals as goal
 
 pub returns-in_ok-below-in-Some-clause-told : goal.returns-in_ok-below-in-Some-clause-told

@@ -8,7 +8,7 @@ use Rattle.cue_table.specs.Many.{IsOfBranches}
 use Rattle.cue_eval.specs.declared.declared.Declared.{Declared}
 use Rattle.cue_eval.specs.declared.told.Whose.TheVariants.{Own, Dotted}
 use Rattle.cue_eval.specs.Telling.{Tells}
-use Rattle.cue_eval.specs.Told.{IsTold, IsRooted}
+use Rattle.cue_eval.specs.Inner.Told.{IsTold, IsRooted}
 use Rattle.cue_eval.proofs.TellingFields.{one_field_told, untold, one_dotless, own_told, one_declared, one_depth, rooted_depth}
 use Rattle.cue_eval.proofs.told.one_field.Goals as goal
 

@@ -2,7 +2,7 @@ use Rattle.std.proofs.Common.{◌≡◌, ◌∙◌, [], map, ap, sym, arith}
 use Rattle.cue_device.proofs.Telling.{told_as, begun_as}
 use Rattle.cue_print.specs.Difference.{without}
 use Rattle.cue_print.specs.Terms.{terms_of}
-use Rattle.cue_print.specs.TermOf.{term_of}
+use Rattle.cue_print.specs.Inner.TermOf.{term_of}
 use Rattle.cue_print.proofs.Scalars.{plain, marked, none_shown, some_shown}
 use Rattle.cue_print.proofs.scalar.push_scalar.Goals as goal
 

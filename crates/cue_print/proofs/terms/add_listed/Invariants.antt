@@ -1,6 +1,6 @@
 use Rattle.std.proofs.Common.{◌≡◌, ◌++◌, map, take}
 use Rattle.cue_print.specs.Expressions.{text}
-use Rattle.cue_print.specs.TermOf.{term_of}
+use Rattle.cue_print.specs.Inner.TermOf.{term_of}
 use Rattle.cue_print.proofs.terms.add_listed.Given as goal
 
 abbrev pub invariant-loop-text : goal.invariant-loop-text

@@ -1,6 +1,6 @@
 use Rattle.std.proofs.Common.{◌≡◌, ◌++◌, map, take}
 use Rattle.cue_print.specs.Terms.{piece_term}
-use Rattle.cue_print.specs.TermOf.{term_of}
+use Rattle.cue_print.specs.Inner.TermOf.{term_of}
 use Rattle.cue_print.proofs.terms.add_pieces.Given as goal
 
 abbrev pub invariant-loop-piece : goal.invariant-loop-piece

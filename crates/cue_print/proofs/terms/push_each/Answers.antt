@@ -3,7 +3,7 @@ use Rattle.std.specs.Prelude.{codes}
 use Rattle.std.proofs.lemmas.List.{drop_all}
 use Rattle.cue_device.proofs.Telling.{on_err, tells_all}
 use Rattle.cue_print.specs.Spelled.{term_text}
-use Rattle.cue_print.specs.TermOf.{term_of}
+use Rattle.cue_print.specs.Inner.TermOf.{term_of}
 use Rattle.cue_print.proofs.Joined.{none_joined, part_separated, text_told, part_told, later, from_here}
 use Rattle.cue_print.proofs.terms.push_each.Goals as goal
 

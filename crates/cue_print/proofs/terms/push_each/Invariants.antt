@@ -2,7 +2,7 @@ use Rattle.std.proofs.Common.{drop, map, nat_eq}
 use Rattle.std.specs.Prelude.{codes}
 use Rattle.cue_device.proofs.Telling.{IsTelling}
 use Rattle.cue_print.specs.Spelled.{joined, term_text}
-use Rattle.cue_print.specs.TermOf.{term_of}
+use Rattle.cue_print.specs.Inner.TermOf.{term_of}
 use Rattle.cue_print.proofs.Joined.{left_joined}
 use Rattle.cue_print.proofs.terms.push_each.Given as goal
 

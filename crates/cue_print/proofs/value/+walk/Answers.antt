@@ -11,7 +11,7 @@ use Rattle.cue_table.specs.Walks.{found_smaller}
 use Rattle.cue_print.specs.Printed.{elements, level_at}
 use Rattle.cue_print.specs.Terms.{terms_of}
 use Rattle.cue_print.specs.Spelled.{joined, mark_text, value_text, element_texts}
-use Rattle.cue_print.specs.Writing.{fields_at, element_of, further_at, ending_text, longest_text, found_text, closed_text, written_struct}
+use Rattle.cue_print.specs.Inner.Writing.{fields_at, element_of, further_at, ending_text, longest_text, found_text, closed_text, written_struct}
 use Rattle.cue_print.proofs.Fields.{first_field, no_field_left, all_fields}
 use Rattle.cue_print.proofs.Found.{first_label, no_label_left, element_for, element_into, no_rest_told, rest_told}
 use Rattle.cue_print.proofs.Joined.{left_joined, none_joined, part_separated, text_told, part_told, later, from_here}

@@ -4,7 +4,7 @@ use Rattle.cue_device.proofs.Telling.{IsTelling}
 use Rattle.cue_table.specs.Size.{tree_size}
 use Rattle.cue_print.specs.Printed.{elements, inside}
 use Rattle.cue_print.specs.Spelled.{joined, field_texts, element_texts}
-use Rattle.cue_print.specs.Writing.{fields_at, element_of, beside_text}
+use Rattle.cue_print.specs.Inner.Writing.{fields_at, element_of, beside_text}
 use Rattle.cue_print.proofs.Fields.{fields_of}
 use Rattle.cue_print.proofs.Joined.{left_joined}
 use Rattle.cue_print.proofs.ListTexts.{elements_left}

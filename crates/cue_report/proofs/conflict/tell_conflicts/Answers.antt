@@ -1,7 +1,7 @@
 use Rattle.std.proofs.Common.{ap, subst, ◌∙◌, false, ℕ, List, Option}
 use Rattle.std.specs.List.{flat_map}
 use Rattle.cue_report.specs.Lines.{conflict_line, BeginsConflicts}
-use Rattle.cue_report.specs.Search.{conflicts_in}
+use Rattle.cue_report.specs.Inner.Search.{conflicts_in}
 use Rattle.cue_report.specs.Telling.{Tally, Grows, Starts}
 use Rattle.cue_report.specs.Trail.{shown_steps}
 use Rattle.cue_report.specs.declared.conflict.Conflict.{Conflict}

@@ -5,7 +5,7 @@ use Rattle.cue_table.specs.StepsOfCode.{step_at}
 use Rattle.cue_table.specs.Tree.{row_of}
 use Rattle.cue_table.specs.Walks.{found_smaller}
 use Rattle.serde_json.specs.Data.{null, no_items, no_members}
-use Rattle.cue_report.specs.Search.{least_at}
+use Rattle.cue_report.specs.Inner.Search.{least_at}
 use Rattle.cue_report.specs.Stream.{flow}
 use Rattle.cue_report.proofs.Breaking.{array_begun, item_begun, items_begun, member_begun, members_begun, no_items_begun, no_members_begun, none_begun, object_begun}
 use Rattle.cue_report.proofs.Descent.{Told}

@@ -2,7 +2,7 @@ use Rattle.std.proofs.Common.{[], subst, append-nil}
 use Rattle.json.specs.Tree.{json_tokens}
 use Rattle.serde_json.specs.Written.{outline}
 use Rattle.cue_report.specs.Stream.{Streams, flow}
-use Rattle.cue_report.specs.Writing.{AddsDocument, BeginsDocument, BreaksDocument}
+use Rattle.cue_report.specs.Inner.Writing.{AddsDocument, BeginsDocument, BreaksDocument}
 use Rattle.cue_report.proofs.Breaking.{end_begun}
 use Rattle.cue_report.proofs.Descent.{Told}
 use Rattle.cue_report.proofs.Flows.{streams_then}

@@ -1,7 +1,7 @@
 use Rattle.std.proofs.Common.{Some, sym, subst}
-use Rattle.cue_report.specs.GapSearch.{AtPlace}
+use Rattle.cue_report.specs.Inner.GapSearch.{AtPlace}
 use Rattle.cue_report.specs.Stream.{flow}
-use Rattle.cue_report.specs.Writing.{AddsScalar}
+use Rattle.cue_report.specs.Inner.Writing.{AddsScalar}
 use Rattle.cue_report.proofs.Breaking.{scalar_told, null_told}
 use Rattle.cue_report.proofs.document_text.write_scalar.Goals.{in-None+in_ok-token-in-None, in-Some+in_ok-write_one-in-Some+in-Text+in-Long-1, in-Some+in_ok-write_one-in-Some+in-Text+in-Short-1, in-Some+in_ok-write_one-in-Some+in-Null-1}
 use Rattle.cue_report.proofs.document_text.write_scalar.Goals as goal

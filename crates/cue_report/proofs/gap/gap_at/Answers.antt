@@ -4,7 +4,7 @@ use Rattle.std.specs.Option.{option_map}
 use Rattle.std.proofs.lemmas.Bool.{false≢true}
 use Rattle.cue_row.specs.Row.{IsRow}
 use Rattle.cue_row.specs.declared.parts.RowParts.{RowParts as Row}
-use Rattle.cue_report.specs.GapSearch.{IsGapAt}
+use Rattle.cue_report.specs.Inner.GapSearch.{IsGapAt}
 use Rattle.cue_report.proofs.Open.{free_gap, missing_gap, open_gap, no_gap}
 use Rattle.cue_report.proofs.gap.gap_at.Goals as goal
 

@@ -8,7 +8,7 @@ use Rattle.cue_scope.specs.Kept.{all_of}
 use Rattle.cue_scope.specs.Meaning.{meaning, meant}
 use Rattle.cue_scope.specs.Uses.{uses}
 use Rattle.cue_scalars.specs.Values.{pair_of}
-use Rattle.cue_eval.specs.Finding.{IsFindable}
+use Rattle.cue_eval.specs.Inner.Finding.{IsFindable}
 use Rattle.cue_eval.specs.Pairs.{pair}
 use Rattle.cue_eval.proofs.Joined.{part_pairable}
 use Rattle.cue_eval.proofs.Taking.{Taking, taking_next, taking_part, taking_more, taking_scalar, all_taken, taken_body, findable_ready}

@@ -2,9 +2,9 @@ use Rattle.std.proofs.Common.{sym, ap, subst}
 use Rattle.cue_scope.specs.Kept.{all_of}
 use Rattle.cue_scope.specs.Listed.{definition_of}
 use Rattle.cue_scope.specs.Meaning.{meaning, meant, nested}
-use Rattle.cue_eval.specs.Adding.{IsClosedBody}
-use Rattle.cue_eval.specs.Finding.{IsDefinable}
-use Rattle.cue_eval.specs.Told.{IsTold}
+use Rattle.cue_eval.specs.Inner.Adding.{IsClosedBody}
+use Rattle.cue_eval.specs.Inner.Finding.{IsDefinable}
+use Rattle.cue_eval.specs.Inner.Told.{IsTold}
 use Rattle.cue_eval.specs.declared.told.Whose.TheVariants as whoses
 use Rattle.std.proofs.lemmas.Result.{IfOk-weaker}
 use Rattle.cue_eval.proofs.Defining.{findable_of, chain_within, chain_flat, body_known}

@@ -3,8 +3,8 @@ use Rattle.cue_scope.specs.Kept.{all_of}
 use Rattle.cue_scope.specs.Meaning.{meaning, meant}
 use Rattle.cue_syntax.specs.Syntax as tree
 use Rattle.cue_eval.specs.Evaluated.{HasAnswersOf}
-use Rattle.cue_eval.specs.Finding.{IsFindable}
-use Rattle.cue_eval.specs.Told.{IsTold}
+use Rattle.cue_eval.specs.Inner.Finding.{IsFindable}
+use Rattle.cue_eval.specs.Inner.Told.{IsTold}
 use Rattle.cue_eval.specs.declared.told.Whose.TheVariants.{Dotted}
 use Rattle.cue_eval.proofs.Taking.{findable_ready, findable_known}
 use Rattle.cue_eval.proofs.found.Found.copied.Goals as goal

@@ -5,8 +5,8 @@ use Rattle.cue_scope.specs.Kept.{all_of}
 use Rattle.cue_scope.specs.Listed.{definition_of}
 use Rattle.cue_scope.specs.Meaning.{meaning, meant}
 use Rattle.cue_scope.specs.Uses.{uses}
-use Rattle.cue_eval.specs.Finding.{body_of, IsDefinable, IsKept}
-use Rattle.cue_eval.specs.Known.{IsPairOf}
+use Rattle.cue_eval.specs.Inner.Finding.{body_of, IsDefinable, IsKept}
+use Rattle.cue_eval.specs.Inner.Known.{IsPairOf}
 use Rattle.cue_eval.specs.Pairs.{pair}
 use Rattle.cue_eval.proofs.Defining.{pairable_of, pair_of_body}
 use Rattle.cue_eval.proofs.found.Found.define.Goals as goal

@@ -4,7 +4,7 @@ use Rattle.std.specs.Ordering.{nat_cmp}
 use Rattle.cue_lattice.specs.Limits.{step_limit}
 use Rattle.cue_table.specs.Depth.{tree_depth}
 use Rattle.cue_table.specs.Size.{tree_size}
-use Rattle.cue_eval.specs.Adding.{AreFew}
+use Rattle.cue_eval.specs.Inner.Adding.{AreFew}
 use Rattle.cue_eval.proofs.Bounds.{IsUnderway}
 use Rattle.cue_eval.proofs.LabelTables.{Adding}
 use Rattle.cue_eval.proofs.left_out.Place.+sets.Given as goal

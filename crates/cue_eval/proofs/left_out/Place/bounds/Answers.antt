@@ -1,7 +1,7 @@
 use Rattle.std.proofs.Common.{◌≤◌, ◌^◌, Some, sym, subst, arith}
 use Rattle.std.proofs.lemmas.List.Elements.{All-nil}
 use Rattle.std.specs.BinaryHeap.{heap_items}
-use Rattle.cue_eval.specs.Adding.{AreFew}
+use Rattle.cue_eval.specs.Inner.Adding.{AreFew}
 use Rattle.cue_eval.proofs.Bounds.{bounded, kept_below, kept_on, nowhere_bounded, pushed_few, pushed_there}
 use Rattle.cue_eval.proofs.left_out.Place.bounds.Goals as goal
 

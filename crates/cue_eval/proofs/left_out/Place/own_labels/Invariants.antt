@@ -2,7 +2,7 @@ use Rattle.std.proofs.Common.{ℕ, ◌⊎◌}
 use Rattle.cue_lattice.specs.Path as paths
 use Rattle.cue_lattice.specs.Path.{index}
 use Rattle.cue_table.specs.Tree.{below, labels_of}
-use Rattle.cue_eval.specs.Adding.{IsAmong}
+use Rattle.cue_eval.specs.Inner.Adding.{IsAmong}
 use Rattle.cue_eval.proofs.LabelTables.{IsLabelOf}
 use Rattle.cue_eval.proofs.left_out.Place.own_labels.Given as goal
 

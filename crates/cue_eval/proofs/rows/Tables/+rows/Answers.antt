@@ -12,17 +12,17 @@ use Rattle.cue_eval.specs.Evaluated.{HasAnswersOf}
 use Rattle.cue_scope.specs.Core.{list, followed_by}
 use Rattle.cue_scope.specs.Meaning.{meaning, nested}
 use Rattle.cue_scope.proofs.Walking.{at_hand}
-use Rattle.cue_eval.specs.Known.{core_of, parts_of, rest_of}
-use Rattle.cue_eval.specs.Parts.{AreAdded}
+use Rattle.cue_eval.specs.Inner.Known.{core_of, parts_of, rest_of}
+use Rattle.cue_eval.specs.Inner.Parts.{AreAdded}
 use Rattle.cue_eval.specs.Refuses.{count}
 use Rattle.cue_eval.proofs.Rests.{alone}
-use Rattle.cue_eval.specs.Ready.{all_definitions, members_of, AreKnown, IsReady, IsReadyRest, AreReadyElements, AreReadyFields, IsField}
+use Rattle.cue_eval.specs.Inner.Ready.{all_definitions, members_of, AreKnown, IsReady, IsReadyRest, AreReadyElements, AreReadyFields, IsField}
 use Rattle.cue_eval.proofs.LiteralTables.{struct_result, close_result, ElementsAnswer, elements_table, list_answers}
 use Rattle.cue_eval.proofs.Walks.{entry_first, definition_first, field_first, Gathering, gathering_none, ellipsis_passed, definition_passed, field_ready, field_within, field_gathered, fields_gathered, field_made, nested_depth, within_depth, none_behind}
 use Rattle.cue_eval.proofs.Joined.{part_pairable}
 use Rattle.cue_eval.proofs.Repeated.{Joining, joining_none, joined_ready, table_joined, scalar_joined, name_joined, named_same, joined_result}
 use Rattle.cue_lattice.specs.Question.{SameAnswers}
-use Rattle.cue_eval.specs.Gathered.{Answers, FurtherRefuse}
+use Rattle.cue_eval.specs.Inner.Gathered.{Answers, FurtherRefuse}
 use Rattle.cue_eval.proofs.Gathering.{further_answers}
 use Rattle.cue_eval.proofs.Listings.{none_counted, count_of, Listing, listing_none, element_ready, element_listed, elements_listed, all_listed, elements_few, rest_ready, elements_ready}
 use Rattle.cue_eval.proofs.Regular.{fields_ready, struct_ready}

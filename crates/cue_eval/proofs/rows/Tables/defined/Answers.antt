@@ -3,7 +3,7 @@ use Rattle.std.proofs.lemmas.List.{get_or_read}
 use borrow.Author.Tests.{ltb-true}
 use Rattle.std.specs.Prelude.{slice_index_or}
 use Rattle.cue_scope.specs.Meaning.{meaning}
-use Rattle.cue_eval.specs.Ready.{all_definitions}
+use Rattle.cue_eval.specs.Inner.Ready.{all_definitions}
 use Rattle.cue_eval.proofs.Leaves.{used_result}
 use Rattle.cue_eval.proofs.rows.Tables.defined.Goals as goal
 

@@ -4,7 +4,7 @@ use Rattle.cue_scalars.specs.Values.{pair_of}
 use Rattle.cue_scope.specs.Meaning.{meaning, meant_name}
 use Rattle.cue_eval.specs.Evaluated.{HasAnswersOf}
 use Rattle.cue_eval.specs.Pairs.{pair}
-use Rattle.cue_eval.specs.Ready.{all_definitions}
+use Rattle.cue_eval.specs.Inner.Ready.{all_definitions}
 use Rattle.cue_eval.proofs.Leaves.{word_result}
 use Rattle.cue_eval.proofs.rows.Tables.name.Goals as goal
 

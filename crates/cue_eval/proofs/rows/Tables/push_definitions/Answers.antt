@@ -1,7 +1,7 @@
 use Rattle.std.proofs.Common.{◌+◌, take, sym, subst}
 use Rattle.cue_scope.proofs.Nodes.{in_at}
-use Rattle.cue_eval.specs.Parts.{AreAdded}
-use Rattle.cue_eval.specs.Ready.{all_definitions}
+use Rattle.cue_eval.specs.Inner.Parts.{AreAdded}
+use Rattle.cue_eval.specs.Inner.Ready.{all_definitions}
 use Rattle.cue_eval.proofs.Repeated.{added_more, added_all}
 use Rattle.cue_eval.proofs.rows.Tables.push_definitions.Goals as goal
 

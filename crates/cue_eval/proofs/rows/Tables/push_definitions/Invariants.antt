@@ -1,6 +1,6 @@
 use Rattle.std.proofs.Common.{take}
-use Rattle.cue_eval.specs.Ready.{all_definitions}
-use Rattle.cue_eval.specs.Parts.{AreAdded}
+use Rattle.cue_eval.specs.Inner.Ready.{all_definitions}
+use Rattle.cue_eval.specs.Inner.Parts.{AreAdded}
 use Rattle.cue_eval.proofs.rows.Tables.push_definitions.Given as goal
 
 abbrev pub invariant-loop-number : goal.invariant-loop-number

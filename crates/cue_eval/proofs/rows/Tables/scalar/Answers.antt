@@ -8,7 +8,7 @@ use Rattle.cue_syntax.proofs.Views.{view-Integer, view-Text}
 use Rattle.cue_scope.specs.Meaning.{meaning, meant}
 use Rattle.cue_eval.specs.Pairs.{pair, plain}
 use Rattle.cue_eval.specs.Places.{ScalarRefuses}
-use Rattle.cue_eval.specs.Ready.{all_definitions}
+use Rattle.cue_eval.specs.Inner.Ready.{all_definitions}
 use Rattle.cue_eval.specs.Sets.{integer_alone, text_alone}
 use Rattle.cue_eval.proofs.Gathering.{row_alone}
 use Rattle.cue_eval.proofs.Leaves.{leaf_scalar, leaf_result, scalar_result}

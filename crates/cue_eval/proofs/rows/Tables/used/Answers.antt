@@ -6,7 +6,7 @@ use Rattle.cue_scope.specs.Definitions.{number_of}
 use Rattle.cue_scope.specs.Meaning.{meaning}
 use Rattle.cue_scope.proofs.Measuring.{use_listed}
 use Rattle.cue_eval.specs.Evaluated.{HasAnswersOf}
-use Rattle.cue_eval.specs.Ready.{all_definitions}
+use Rattle.cue_eval.specs.Inner.Ready.{all_definitions}
 use Rattle.cue_eval.proofs.Leaves.{unknown_result}
 use Rattle.cue_eval.proofs.rows.Tables.used.Goals as goal
 

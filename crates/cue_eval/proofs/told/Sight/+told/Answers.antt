@@ -13,7 +13,7 @@ use Rattle.cue_scope.specs.Core.{struct, list, followed_by}
 use Rattle.cue_scope.specs.Kept.{all_of}
 use Rattle.cue_scope.specs.Meaning.{meaning, nested}
 use Rattle.cue_table.specs.Depth.{tree_depth}
-use Rattle.cue_eval.specs.Told.{AreFurtherTold, IsTold, IsKnown, AreElementsKnown, IsRooted, IsRestKnown, means, mean_members, mean_elements, mean_rest}
+use Rattle.cue_eval.specs.Inner.Told.{AreFurtherTold, IsTold, IsKnown, AreElementsKnown, IsRooted, IsRestKnown, means, mean_members, mean_elements, mean_rest}
 use Rattle.cue_eval.proofs.TellingNames.{nothing_told}
 use Rattle.cue_eval.proofs.TellingDepth.{told_flat}
 use Rattle.std.proofs.lemmas.Bool.{false≢true}

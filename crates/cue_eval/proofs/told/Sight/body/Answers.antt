@@ -1,7 +1,7 @@
 use Rattle.std.proofs.Common.{arith}
 use Rattle.std.proofs.lemmas.Result.{IfOk-weaker}
 use Rattle.cue_syntax.specs.Syntax as tree
-use Rattle.cue_eval.specs.Told.{means}
+use Rattle.cue_eval.specs.Inner.Told.{means}
 use Rattle.cue_eval.proofs.TellingDepth.{told_flat, nested_depth}
 use Rattle.cue_eval.proofs.TellingParts.{known_same}
 use Rattle.cue_eval.proofs.told.Sight.body.Goals as goal

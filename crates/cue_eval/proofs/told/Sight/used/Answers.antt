@@ -3,7 +3,7 @@ use Rattle.std.proofs.lemmas.Result.{IfOk-weaker}
 use Rattle.cue_scope.specs.Kept.{all_of}
 use Rattle.cue_scope.specs.Meaning.{meaning}
 use Rattle.cue_scope.proofs.Measuring.{use_listed}
-use Rattle.cue_eval.specs.Told.{AreDots}
+use Rattle.cue_eval.specs.Inner.Told.{AreDots}
 use Rattle.cue_eval.proofs.TellingNames.{use_told, unknown_told}
 use Rattle.cue_eval.proofs.told.Sight.used.Goals as goal
 

@@ -3,7 +3,7 @@ use Rattle.cue_table.specs.Spans.{spread}
 use Rattle.cue_table.specs.StepsOfCode.{step_at}
 use Rattle.cue_table.specs.Size.{tree_size}
 use Rattle.cue_table.specs.Tree.{row_of, below}
-use Rattle.cue_report.specs.Search.{told_under, each_index, conflicts_in}
+use Rattle.cue_report.specs.Inner.Search.{told_under, each_index, conflicts_in}
 use Rattle.cue_report.specs.Telling.{Grows}
 use Rattle.cue_report.proofs.Walk.{IsWalking}
 use Rattle.cue_report.proofs.conflict.Search.+walk.Given as goal

@@ -2,7 +2,7 @@ use Rattle.std.proofs.Common.{◌≡◌, ◌+◌, ◌*◌, ◌-◌, ◌≤◌, m
 use Rattle.cue_table.specs.Spans.{spread}
 use Rattle.cue_table.specs.StepsOfCode.{step_at}
 use Rattle.cue_table.specs.Size.{tree_size}
-use Rattle.cue_report.specs.GapSearch.{Adds, IsGapAmong}
+use Rattle.cue_report.specs.Inner.GapSearch.{Adds, IsGapAmong}
 use Rattle.cue_report.proofs.GapSteps.{IsAlong}
 use Rattle.cue_report.proofs.gap.Search.+walk.Given as goal
 

@@ -1,5 +1,5 @@
 use Rattle.std.proofs.Common.{◌-◌, ◌≤◌, [], ◌∷◌, Some, length, sym, subst, arith}
-use Rattle.cue_report.specs.GapSearch.{told_above, free_elements}
+use Rattle.cue_report.specs.Inner.GapSearch.{told_above, free_elements}
 use Rattle.cue_report.specs.Telling.{Starts}
 use Rattle.cue_report.specs.Trail.{shown_steps}
 use Rattle.cue_report.proofs.GapTelling.{one_more_free, free_begun}

@@ -1,6 +1,6 @@
 use Rattle.std.proofs.Common.{◌≡◌, ◌∙◌, ◌++◌, ◌-◌, ◌≤◌, ℕ, List, Option, codes, ap, refl, subst, arith, string_bytes}
 use Rattle.cue_lattice.specs.Path.{index, Path}
-use Rattle.cue_report.specs.GapSearch.{told_above, free_elements}
+use Rattle.cue_report.specs.Inner.GapSearch.{told_above, free_elements}
 use Rattle.cue_report.specs.Lines.{gap_line}
 use Rattle.cue_report.specs.Telling.{Tally, Grows, Starts}
 use Rattle.cue_report.specs.Trail.{shown_steps}

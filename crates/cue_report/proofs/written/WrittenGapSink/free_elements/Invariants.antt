@@ -1,6 +1,6 @@
 use Rattle.std.proofs.Common.{◌≡◌, ◌+◌, ◌-◌, ◌≤◌, string_bytes}
 use Rattle.std.specs.List.{flat_map}
-use Rattle.cue_report.specs.GapSearch.{told_above, free_elements}
+use Rattle.cue_report.specs.Inner.GapSearch.{told_above, free_elements}
 use Rattle.cue_report.specs.Lines.{gap_line}
 use Rattle.cue_report.specs.Telling.{Grows}
 use Rattle.cue_report.specs.Trail.{dotted_behind, shown_steps}

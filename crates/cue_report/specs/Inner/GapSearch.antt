@@ -15,7 +15,7 @@ use Rattle.cue_table.specs.Tree.{Tree, Children, Rest, no_rest, onward, row_of, 
 use Rattle.cue_report.specs.Answers.{IsDemanded, HasNoValue, IsNotAllowed}
 use Rattle.cue_report.specs.Gaps.{IsMissing, IsFree, HasNoChoice}
 use Rattle.cue_report.specs.Listing.{IsRising, Lists}
-use Rattle.cue_report.specs.Search.{is_demanded, is_refused}
+use Rattle.cue_report.specs.Inner.Search.{is_demanded, is_refused}
 use Rattle.cue_report.specs.Telling.{Tally, Grows, Starts}
 use Rattle.cue_report.specs.declared.gap.Gap.{Gap}
 

@@ -35,7 +35,7 @@ use Rattle.cue_eval.specs.declared.declared.Asked.TheVariants.{Stands}
 use Rattle.cue_eval.specs.declared.told.Sight.{Sight}
 use Rattle.cue_eval.specs.Evaluated.{HasAnswersOf}
 use Rattle.cue_eval.specs.Telling.{Tells}
-use Rattle.cue_eval.specs.Told.{AreKnown, AreDots, means}
+use Rattle.cue_eval.specs.Inner.Told.{AreKnown, AreDots, means}
 
 -- a finite set of labels may stand, and no other
 abbrev pub OnlyLabels : Option (List (List ℕ)) → Question → Type 0

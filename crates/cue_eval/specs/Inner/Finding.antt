@@ -23,9 +23,9 @@ use Rattle.cue_eval.specs.declared.found.Defined.{Defined}
 use Rattle.cue_eval.specs.declared.found.Found.{Found}
 use Rattle.cue_eval.specs.declared.told.Whose.TheVariants.{Dotted}
 use Rattle.cue_eval.specs.Evaluated.{HasAnswersOf}
-use Rattle.cue_eval.specs.Known.{IsPairOf}
-use Rattle.cue_eval.specs.Ready.{IsTableOf, IsTableAt}
-use Rattle.cue_eval.specs.Told.{AreDots, IsTold}
+use Rattle.cue_eval.specs.Inner.Known.{IsPairOf}
+use Rattle.cue_eval.specs.Inner.Ready.{IsTableOf, IsTableAt}
+use Rattle.cue_eval.specs.Inner.Told.{AreDots, IsTold}
 
 -- what a use of the definition means: its body, closed
 abbrev pub body_of : List Definition → Definition → Core

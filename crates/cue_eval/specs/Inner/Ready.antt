@@ -29,8 +29,8 @@ use Rattle.cue_scope.specs.Uses.{uses, uses_of_elements, uses_of_rest, uses_of_e
 use Rattle.cue_scope.specs.Uses.{uses_of_fields}
 use Rattle.cue_eval.specs.declared.rows.Tables.{Tables}
 use Rattle.cue_eval.specs.Evaluated.{HasAnswersOf}
-use Rattle.cue_eval.specs.Known.{ArePairsKnown, definitions_of, core_of, parts_of, rest_of}
-use Rattle.cue_eval.specs.Gathered.{Answers, GivenRefuse}
+use Rattle.cue_eval.specs.Inner.Known.{ArePairsKnown, definitions_of, core_of, parts_of, rest_of}
+use Rattle.cue_eval.specs.Inner.Gathered.{Answers, GivenRefuse}
 use Rattle.cue_eval.specs.Places.{Here, MarkRefuses}
 use Rattle.cue_eval.specs.Refuses as refusing
 use Rattle.cue_eval.specs.Refuses.{FieldRefuses, ElementRefuses}

@@ -14,9 +14,9 @@ use Rattle.cue_scope.specs.Core.{Core}
 use Rattle.cue_scope.specs.Definitions.{Definition}
 use Rattle.cue_scope.specs.Meaning.{meaning, meant}
 use Rattle.cue_scope.specs.Uses.{uses}
-use Rattle.cue_eval.specs.Gathered.{Answers}
+use Rattle.cue_eval.specs.Inner.Gathered.{Answers}
 use Rattle.cue_eval.specs.Places.{Here, ScalarRefuses}
-use Rattle.cue_eval.specs.Ready.{IsScalarLeaf}
+use Rattle.cue_eval.specs.Inner.Ready.{IsScalarLeaf}
 use Rattle.cue_eval.specs.Refuses.{Refuses}
 
 -- the part is a use of the definition of this number, and nothing else

@@ -10,7 +10,7 @@ use Rattle.cue_lattice.specs.Path.{Path}
 use Rattle.cue_lattice.specs.Question.{Refusals, struct, list}
 use Rattle.cue_lattice.specs.declared.scalar.Scalar.{Scalar}
 use Rattle.cue_report.specs.Answers.{HasNoScalar, IsDemanded}
-use Rattle.cue_report.specs.Clear.{IsClear}
+use Rattle.cue_report.specs.Inner.Clear.{IsClear}
 use Rattle.cue_report.specs.Export.{IsShape, AreKeys, AreMembers, AreElements, keys, count, data_of}
 use Rattle.cue_report.specs.Gaps.{IsChosen}
 use Rattle.cue_report.specs.Picks.{IsPicked}

@@ -1,0 +1,8 @@
+-- What the prover needs and no reader has to believe: only private clauses and proofs cite it.
+pub mod Adding
+pub mod Finding
+pub mod Gathered
+pub mod Known
+pub mod Parts
+pub mod Ready
+pub mod Told
