@@ -5,13 +5,12 @@ ghost use Rattle.cue_net.specs.Inner.Hearing.{Hears, Balks};
 ghost use Rattle.cue_net.specs.Inner.Looping.{IsCarryHalt, ServesOnto, Faults, Brought};
 ghost use Rattle.cue_net.specs.Inner.Turns.{Moves};
 
-use crate::PIECE;
 use crate::halt::Halt;
 use crate::pushing::hear;
 use crate::turns::{read_some, write_some};
 use cue_device::{Sink, Source};
 use cue_replica::{Kind, Replica};
-use cue_wire::{Client, Session};
+use cue_wire::{Client, PIECE, Session};
 
 /// The serving end: a site and its session, and the replies that are still to be written.
 #[derive(Drop)]

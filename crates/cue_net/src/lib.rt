@@ -32,9 +32,3 @@ pub use told::told_by;
 
 /// The most reads and writes of one connection, those of both ends together where both are here.
 pub const MAX_TURNS: u64 = 100_000;
-
-/// The most bytes that one read or write moves.
-const PIECE: usize = 4096;
-
-/// The most bytes that a frame has after its length.
-const FRAME_LIMIT: usize = 16_777_216;

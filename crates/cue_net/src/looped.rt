@@ -10,17 +10,17 @@ ghost use Rattle.cue_net.specs.Loops.{IsAnswerBetween};
 ghost use Rattle.cue_net.specs.Sockets.{IsTalkAnswer};
 ghost use Rattle.cue_net.specs.Talks.{Talk, IsTalk};
 
+use crate::MAX_TURNS;
 use crate::carrying::{Serving, bring_back, serve_so_many};
 use crate::halt::Halt;
 use crate::network::{End, Network};
 use crate::pushing::{all_fit, client_of};
 use crate::told::told_by;
 use crate::turns::write_some;
-use crate::{MAX_TURNS, PIECE};
 use cue_answer::Answer;
 use cue_device::{Sink, Source};
 use cue_replica::{Kind, Replica};
-use cue_wire::{Client, Request, Session};
+use cue_wire::{Client, PIECE, Request, Session};
 use std::alloc::Global;
 
 /// Does as `push_for` with both ends in this process, over a new connection between them, in turns: the client's end writes at most 4,096 bytes, the site's end reads them and

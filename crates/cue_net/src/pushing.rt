@@ -9,15 +9,15 @@ ghost use Rattle.cue_net.specs.Sockets.{IsTalkAnswer};
 ghost use Rattle.cue_net.specs.Talks.{Talk, IsTalk, IsAnswerOf};
 ghost use Rattle.cue_net.specs.Inner.Turns.{IsWriteHalt, Moves};
 
+use crate::MAX_TURNS;
 use crate::halt::Halt;
 use crate::network::Network;
 use crate::told::told_by;
 use crate::turns::{read_some, write_some};
-use crate::{FRAME_LIMIT, MAX_TURNS, PIECE};
 use cue_answer::Answer;
 use cue_device::{Sink, Source};
 use cue_replica::Kind;
-use cue_wire::{Client, Request};
+use cue_wire::{Client, FRAME_LIMIT, PIECE, Request};
 use std::alloc::Global;
 
 /// How many requests are sent before their replies are read. These replies are short, so that a

@@ -6,13 +6,11 @@ ghost use Rattle.cue_wire.specs.Frames.{IsUnfinished};
 ghost use Rattle.cue_wire.specs.Inner.Parts.{Replied, IsWriteFault, IsPartServed, GoesOn, Moves};
 ghost use Rattle.cue_wire.specs.Sessions.{reading};
 
+use crate::frame::PIECE;
 use crate::session::Session;
 use cue_device::{Fault, Sink, Source};
 use cue_replica::{Kind, Replica};
 use std::alloc::Global;
-
-/// The most bytes that one read asks for.
-const PIECE: usize = 4096;
 
 /// From how many bytes on replies are written before the rest of a piece is served.
 const MANY: usize = 65_536;

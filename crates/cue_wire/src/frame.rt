@@ -15,6 +15,9 @@ use tokio_util::codec::{Decoder, LengthDelimitedCodec};
 /// The most bytes that a frame has after its length.
 pub const FRAME_LIMIT: usize = 16_777_216;
 
+/// The most bytes that one read asks for, and that are made ready at a time.
+pub const PIECE: usize = 4096;
+
 /// The length that the first four bytes name, where they are there.
 #[tactic(auto, unfolding(crate::specs::Frames::named_length))]
 pub fn length_at(bytes: &[u8]) -> Option<usize>

@@ -24,6 +24,7 @@ pub use client::Client;
 pub use connection::{Ended, serve};
 pub use cue_device::{Bytes, Fault, Reader, Sink, Source, Writer};
 pub use cue_replica::{Kind, Memory, Replica};
+pub use frame::{FRAME_LIMIT, PIECE};
 pub use laws::{sessions_are_events, streams_are_read_once};
 pub use request::Request;
 pub use session::Session;

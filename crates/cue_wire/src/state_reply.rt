@@ -6,12 +6,9 @@ ghost use Rattle.cue_wire.specs.Frames.{frame_limit};
 ghost use Rattle.cue_wire.specs.Serving.{accepting, IsReply};
 ghost use Rattle.cue_wire.specs.Inner.Pieces.{Extends};
 
-use crate::frame::FRAME_LIMIT;
+use crate::frame::{FRAME_LIMIT, PIECE};
 use crate::reply::{begin, refuse};
 use cue_replica::{Kind, Memory, Refusal, Replica, StateWriter};
-
-/// How many bytes of a state are made ready at a time.
-const PIECE: usize = 4096;
 
 /// Adds the reply to the question for the state of a site. That it is too long is told by its size
 /// alone; else its bytes are written straight behind its length, without a copy of them all.
