@@ -7,7 +7,8 @@ use Rattle.std.proofs.lemmas.List.{take_at, drop_at, length-append, append-nil}
 use Rattle.std.proofs.lemmas.List.Concat.{flat_map-append, flat_map-cons}
 use Rattle.std.proofs.lemmas.Nat.{from_be_bytes-to_be_bytes_2, from_be_bytes-to_be_bytes_4, from_be_bytes-to_be_bytes_8}
 use Rattle.cue_codec.specs.Parts.{counted_bytes}
-use Rattle.cue_codec.specs.Reading.{Begins, BeginsNone, IsRefused, AreSo, AreCounted}
+use Rattle.cue_codec.specs.Reading.{Begins, BeginsNone, IsRefused, AreCounted}
+use Rattle.cue_codec.specs.Inner.Reading.{AreSo}
 use Rattle.cue_lattice.specs.declared.refusal.Kind.{Kind}
 
 -- the bytes in front tell the item and the rest

@@ -12,7 +12,8 @@ use Rattle.cue_table.specs.RowList.{AppendsKept}
 use Rattle.cue_codec.specs.declared.version.Version.{Version}
 use Rattle.cue_codec.specs.Decoding.{NoRows}
 use Rattle.cue_codec.specs.Entry.{Entry, entry_at}
-use Rattle.cue_codec.specs.Known.{known_with, rows_with, IsKnown, unknown, AreRead, AreDrafted}
+use Rattle.cue_codec.specs.Known.{known_with, rows_with, IsKnown, unknown, AreRead}
+use Rattle.cue_codec.specs.Inner.Known.{AreDrafted}
 use Rattle.cue_codec.specs.Reading.{Begins, BeginsNone, IsRefused}
 use Rattle.cue_codec.specs.Parts.{path_bytes}
 use Rattle.cue_codec.specs.RowBytes.{row_bytes, parts_bytes, parts_of, IsStateRow}

@@ -22,7 +22,8 @@ use Rattle.cue_table.proofs.RowLists.{same_lists}
 use Rattle.cue_codec.specs.declared.version.Version.{Version}
 use Rattle.cue_codec.specs.declared.version.Version.TheVariants as versions
 use Rattle.cue_codec.specs.Entry.{StateStep, at, to_rest, Entry, entry_at, entries_of, indexes_of, IsToldStep, IsToldIn, told, told_place, told_row}
-use Rattle.cue_codec.specs.Known.{place_with, known_with, known_after, rows_with, IsKnown, unknown, AreRead, AreDrafted}
+use Rattle.cue_codec.specs.Known.{place_with, known_with, known_after, rows_with, IsKnown, unknown, AreRead}
+use Rattle.cue_codec.specs.Inner.Known.{AreDrafted}
 use Rattle.cue_codec.specs.Reading.{Begins, BeginsNone, IsRefused, number_at}
 use Rattle.cue_codec.specs.RowBytes.{row_bytes, IsStateRow}
 use Rattle.cue_codec.specs.StateRow.{IsStateStep}

@@ -7,7 +7,8 @@ use Rattle.std.proofs.lemmas.List.Concat.{flat_map-cons}
 use Rattle.std.proofs.lemmas.Int.{ints}
 use Rattle.cue_sets.specs.Pieces.{least, AscendsFrom, IsCanonical}
 use Rattle.cue_codec.specs.Parts.{counted_bytes, piece_bytes}
-use Rattle.cue_codec.specs.Reading.{Begins, BeginsNone, IsPiece, AreSo, AreCounted}
+use Rattle.cue_codec.specs.Reading.{Begins, BeginsNone, IsPiece, AreCounted}
+use Rattle.cue_codec.specs.Inner.Reading.{AreSo}
 use Rattle.cue_codec.specs.StateRow.{IsStateIntegers}
 use Rattle.cue_codec.proofs.Codes.{OneItem, one_counted, other_none, counted_found}
 use Rattle.cue_codec.proofs.Numbers.{one_piece, same_integer}

@@ -11,7 +11,8 @@ use Rattle.cue_codec.specs.declared.version.Version.{Version}
 use Rattle.cue_codec.specs.declared.version.Version.TheVariants as versions
 use Rattle.cue_codec.specs.Entry.{StateStep, at, to_rest, StatePath, told, told_place}
 use Rattle.cue_codec.specs.Parts.{text_bytes, step_bytes, path_bytes}
-use Rattle.cue_codec.specs.Reading.{Begins, BeginsNone, number_at, IsWord, AreSo}
+use Rattle.cue_codec.specs.Reading.{Begins, BeginsNone, number_at, IsWord}
+use Rattle.cue_codec.specs.Inner.Reading.{AreSo}
 use Rattle.cue_codec.specs.StateRow.{IsStateStep, IsStatePath}
 use Rattle.cue_codec.proofs.Codes.{OneItem, wide32, one_number, one_list, items_more}
 use Rattle.cue_codec.proofs.Numbers.{IsBytes, number_missing, number_takes, read32, one_text}

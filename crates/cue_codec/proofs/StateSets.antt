@@ -9,7 +9,8 @@ use Rattle.cue_sets.specs.Texts.{IsAscending}
 use Rattle.cue_scalars.specs.declared.scalar_set.ScalarSet.{ScalarSet}
 use Rattle.cue_row.specs.Kept.{text_set}
 use Rattle.cue_codec.specs.Parts.{bit, flags, counted_bytes, piece_bytes, text_bytes, text_set_bytes, set_bytes, labels_bytes}
-use Rattle.cue_codec.specs.Reading.{Begins, BeginsNone, IsPiece, IsWord, AreSo, AreCounted}
+use Rattle.cue_codec.specs.Reading.{Begins, BeginsNone, IsPiece, IsWord, AreCounted}
+use Rattle.cue_codec.specs.Inner.Reading.{AreSo}
 use Rattle.cue_codec.specs.StateRow.{IsStateIntegers, AreStateTexts, IsStateTexts, IsStateSet, AreStateLabels}
 use Rattle.cue_codec.proofs.Codes.{OneItem, one_counted, counted_found}
 use Rattle.cue_codec.proofs.Numbers.{one_text}

@@ -1,8 +1,10 @@
 -- What the prover needs and no reader has to believe: only private clauses and proofs cite it.
+pub mod Drafting
 pub mod Intakes
-pub mod Walks
-pub mod Ways
+pub mod Known
+pub mod Pieces
+pub mod Reading
 pub mod Scans
 pub mod Spans
-pub mod Drafting
-pub mod Pieces
+pub mod Walks
+pub mod Ways

@@ -58,8 +58,3 @@ pub record AreRead (version : Version) (bytes left : List ℕ) (count missing : 
   pub places : rows ≡ rows_with unknown entries
   pub told : indexes ≡ map (λ entry. entry.fixed) entries
   pub after : known ≡ known_after unknown entries
-
--- all rows were read, and no byte is left
-abbrev pub AreDrafted : Version → List ℕ → ℕ → List (slots.Place × Row) → List ℕ → Type 0
-AreDrafted version bytes count rows indexes =
-    (known : List ℕ) × AreRead version bytes [] count 0 rows indexes known

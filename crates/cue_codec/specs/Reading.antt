@@ -65,10 +65,6 @@ abbrev pub AreWideLengths : Version → Lengths → Type 0
 AreWideLengths version lengths =
     (lengths.0 < 2 ^ 32) × IsMost lengths.1 × IsIndex version lengths.2
 
--- so many items
-abbrev pub AreSo : {X : Type 0} → (X → Type 0) → ℕ → List X → Type 0
-AreSo is_item count items = (length items ≡ count) × AllByRecursion is_item items
-
 -- items that a count of 8 bytes can tell
 abbrev pub AreCounted : {X : Type 0} → (X → Type 0) → List X → Type 0
 AreCounted is_item items = AllByRecursion is_item items × (length items < 2 ^ 64)

@@ -4,7 +4,8 @@
 ghost use Rattle.std.specs.Prelude.{IfOk, IfErr};
 ghost use Rattle.std.specs.List.{flat_map};
 ghost use Rattle.cue_codec.specs.Parts.{counted_bytes, piece_bytes, text_bytes};
-ghost use Rattle.cue_codec.specs.Reading.{Begins, BeginsNone, IsRefused, AreSo, AreCounted};
+ghost use Rattle.cue_codec.specs.Reading.{Begins, BeginsNone, IsRefused, AreCounted};
+ghost use Rattle.cue_codec.specs.Inner.Reading.{AreSo};
 ghost use Rattle.cue_codec.specs.Reading.{IsPiece, IsWord};
 
 use crate::reading::{piece_at, text_at, u64_at};

@@ -11,7 +11,8 @@ ghost use Rattle.cue_codec.specs.declared.version.Version.{Version as Versions};
 ghost use Rattle.cue_codec.specs.Entry.{at, told, told_place};
 ghost use Rattle.cue_codec.specs.Known.{slot_with, IsKnown};
 ghost use Rattle.cue_codec.specs.Parts.{text_bytes, step_bytes, path_bytes};
-ghost use Rattle.cue_codec.specs.Reading.{Begins, BeginsNone, IsRefused, AreSo};
+ghost use Rattle.cue_codec.specs.Reading.{Begins, BeginsNone, IsRefused};
+ghost use Rattle.cue_codec.specs.Inner.Reading.{AreSo};
 ghost use Rattle.cue_codec.specs.StateRow.{IsStateStep, IsStatePath};
 
 use crate::lists::one_text;

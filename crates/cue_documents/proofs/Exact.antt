@@ -4,7 +4,8 @@ use Rattle.std.specs.Str.{bytes_eq}
 use Rattle.std.proofs.lemmas.Slice.Eq.{bytes_eq-Decides}
 use Rattle.std.proofs.lemmas.Bool.{cases_Bool, true_from_ne_false, false≢true}
 use Rattle.cue_lattice.specs.Path.{Path, label, index}
-use Rattle.cue_lattice.specs.Question.{Refusals, Question, Open, level_at_most}
+use Rattle.cue_lattice.specs.Question.{Refusals, Question, level_at_most}
+use Rattle.cue_lattice.specs.Inner.Question.{Open}
 use Rattle.cue_lattice.specs.Document as documents
 use Rattle.cue_lattice.specs.Document.{Document, IsDocument, AreItems, AreMembers, length_of, Has}
 use Rattle.cue_lattice.specs.Meets.{Meets, ItemsMeet, MembersMeet}

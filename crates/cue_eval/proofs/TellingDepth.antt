@@ -16,7 +16,8 @@ use Rattle.cue_eval.specs.declared.declared.Asked.{Asked}
 use Rattle.cue_eval.specs.declared.told.Whose.{Whose}
 use Rattle.cue_eval.specs.declared.told.Whose.TheVariants.{Own, Dotted}
 use Rattle.cue_eval.specs.Literals.{literals, has_dots}
-use Rattle.cue_eval.specs.Telling.{Tells, IsDeclared, tells}
+use Rattle.cue_eval.specs.Telling.{Tells, IsDeclared}
+use Rattle.cue_eval.specs.Inner.Telling.{tells}
 use Rattle.cue_eval.specs.Inner.Told.{ToldOf, IsTold}
 use Rattle.cue_eval.proofs.Depth.{paths_within_depth}
 use Rattle.cue_eval.proofs.Origins.{struct_written}

@@ -35,7 +35,8 @@ use Rattle.cue_eval.specs.declared.told.Whose.{Whose}
 use Rattle.cue_eval.specs.declared.told.Sight.{Sight}
 use Rattle.cue_eval.specs.Closing.{AtStruct, OneOfFields}
 use Rattle.cue_eval.specs.Literals.{has_dots, declares}
-use Rattle.cue_eval.specs.Telling.{Tells, IsDeclared, tells}
+use Rattle.cue_eval.specs.Telling.{Tells, IsDeclared}
+use Rattle.cue_eval.specs.Inner.Telling.{tells}
 use Rattle.cue_eval.specs.Inner.Told.{IsTold, IsToldBelow, IsKnown, AreMembersKnown, means, mean_members, own_tells, used_tells}
 use Rattle.cue_eval.proofs.TellingDepth.{told_flat, nested_depth, nested_size}
 use Rattle.cue_eval.proofs.TellingFields.{fields_told}

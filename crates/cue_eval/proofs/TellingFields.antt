@@ -24,7 +24,8 @@ use Rattle.cue_eval.specs.declared.declared.Asked.TheVariants.{Stands, Declares}
 use Rattle.cue_eval.specs.declared.told.Whose.{Whose}
 use Rattle.cue_eval.specs.declared.told.Whose.TheVariants.{Dotted}
 use Rattle.cue_eval.specs.Closing.{AtStruct, OneOfFields}
-use Rattle.cue_eval.specs.Telling.{Tells, IsDeclared, tells}
+use Rattle.cue_eval.specs.Telling.{Tells, IsDeclared}
+use Rattle.cue_eval.specs.Inner.Telling.{tells}
 use Rattle.cue_eval.specs.Inner.Told.{IsTold, IsToldBelow, IsRooted, own_tells, used_tells}
 
 -- what is refused stands at a path that is no longer than the table is deep

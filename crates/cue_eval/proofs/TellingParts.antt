@@ -37,7 +37,8 @@ use Rattle.cue_eval.specs.declared.told.Whose.{Whose}
 use Rattle.cue_eval.specs.declared.told.Sight.{Sight}
 use Rattle.cue_eval.specs.Closing.{AtStruct, AtList, OneOfParts, OneOfFields, OneOfElements}
 use Rattle.cue_eval.specs.Refuses.{count}
-use Rattle.cue_eval.specs.Telling.{Tells, IsDeclared, tells}
+use Rattle.cue_eval.specs.Telling.{Tells, IsDeclared}
+use Rattle.cue_eval.specs.Inner.Telling.{tells}
 use Rattle.cue_eval.specs.Inner.Told.{IsTold, FurtherTold, AreFurtherTold, AreKnown, IsKnown, means, ArePartsKnown, AreElementsKnown, IsRestKnown, AreMembersKnown, mean_elements, mean_rest, mean_members, own_tells, used_tells}
 use Rattle.cue_eval.proofs.Rests.{does_followed}
 use Rattle.cue_eval.proofs.TellingDepth.{told_flat, some_size}

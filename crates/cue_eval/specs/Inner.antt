@@ -5,4 +5,6 @@ pub mod Gathered
 pub mod Known
 pub mod Parts
 pub mod Ready
+pub mod Telling
+pub mod TellingLaws
 pub mod Told

@@ -3,7 +3,8 @@ use Rattle.std.proofs.Common.{◌↔◌, ◌⊎◌, inl, inr, ⊎_elim, ℕ, suc
 use Rattle.std.specs.List.{AllByRecursion}
 use Rattle.cue_lattice.specs.Path.{Path, label, index}
 use Rattle.cue_lattice.specs.Question as questions
-use Rattle.cue_lattice.specs.Question.{Refusals, Question, Open, OneRefuses, SameAnswers, may_be, struct, allows, level_at_most, length_at_most, length_at_least}
+use Rattle.cue_lattice.specs.Question.{Refusals, Question, OneRefuses, SameAnswers, may_be, struct, allows, level_at_most, length_at_most, length_at_least}
+use Rattle.cue_lattice.specs.Inner.Question.{Open}
 use Rattle.cue_lattice.specs.Document.{Document, scalar, list, map, Items, no_items, item, Members, no_members, member, length_of, IsDocument}
 use Rattle.cue_lattice.specs.Meets.{Meets, ItemsMeet, MembersMeet, at_label, at_index}
 use Rattle.cue_lattice.specs.World.{Meaning, Piece, IsExactOnDocuments, IsAdmitted, piece_admits, piece_refuses, pieces_refuse}

@@ -1,3 +1,4 @@
+pub mod Inner
 pub mod Bools
 pub mod Kept
 pub mod OneOf

@@ -27,11 +27,3 @@ pair_exact left right is_left is_right exact_left exact_right a b va vb same =
     let lefts : a.left ≡ b.left = exact_left a.left b.left va.0 vb.0 (λ q. same (Left q)) in
     let rights : a.right ≡ b.right = exact_right a.right b.right va.1 vb.1 (λ q. same (Right q)) in
     λ i. record { left = lefts i; right = rights i }
-
--- a pair is free where its sides are
-pub sides_free :
-    {A B P Q : Type 0} (left : A → P → Type 0) (right : B → Q → Type 0) (pair : Pair A B)
-    → ((question : P) → ¬ left pair.left question) → ((question : Q) → ¬ right pair.right question)
-    → (question : Side P Q) → ¬ pair_refuses left right pair question
-sides_free left right pair l r (Left question) = l question
-sides_free left right pair l r (Right question) = r question

@@ -19,10 +19,6 @@ pub data Question : Type 0 where
 abbrev pub Refusals : Type 1
 Refusals = Path → Question → Type 0
 
--- nothing is refused
-abbrev pub Open : Refusals
-Open path question = ⊥
-
 -- Unification: a set refuses what one of its members refuses. The empty set refuses nothing.
 abbrev pub OneRefuses : {X : Type 0} → (X → Refusals) → List X → Refusals
 OneRefuses refuses members path question = OneOf (λ member. refuses member path question) members

@@ -12,7 +12,8 @@ use Rattle.cue_lex.specs.declared.token.TokenKind.TheVariants as kinds
 use Rattle.cue_lex.specs.Lexemes.{lexeme, len_of, string, kept, refused, integer, number, is_in_range, name, name_kind, literal_len}
 use Rattle.cue_lex.specs.Strings.{string_text}
 use Rattle.cue_lex.specs.Integers.{literal_number}
-use Rattle.cue_lex.specs.First.{is_first, begins_from, begins_some, IsBlank}
+use Rattle.cue_lex.specs.First.{is_first, begins_from, begins_some}
+use Rattle.cue_lex.specs.Inner.First.{IsBlank}
 
 -- a fault that is told of a place is no want of memory
 abbrev TellsNoMemory : Type 0 → Result Lexeme Refusal → Type 0

@@ -8,7 +8,8 @@ use Rattle.cue_lex.specs.declared.token.Token.{Token}
 use Rattle.cue_lex.specs.declared.lexeme.Lexeme.{Lexeme}
 use Rattle.cue_lex.specs.Lexemes.{lexeme, len_of}
 use Rattle.cue_lattice.specs.Limits.{text_limit}
-use Rattle.cue_lex.specs.Tokens.{Piece, pieces, at_place, commas, prepended, tokens}
+use Rattle.cue_lex.specs.Tokens.{Piece, pieces, at_place, commas, tokens}
+use Rattle.cue_lex.specs.Inner.Tokens.{prepended}
 
 -- bytes that still belong to a lexeme are passed
 pub pieces-inside : (minus : Bool) (inside place : ℕ) (bytes : List ℕ) → inside ≤ length bytes → pieces minus inside place bytes ≡ pieces minus 0 (place + inside) (drop inside bytes)

@@ -7,7 +7,8 @@ use Rattle.std.proofs.lemmas.Bool.{and_parts, eq-eqb}
 use Rattle.std.proofs.lemmas.List.{append-nil, take-append-drop}
 use Rattle.std.proofs.lemmas.List.Sums.{prefix_len_passes}
 use Rattle.std.proofs.lemmas.Str.{IsCharBoundary-before_ascii}
-use Rattle.cue_lex.specs.Strings.{body, with_front, is_plain}
+use Rattle.cue_lex.specs.Strings.{body, with_front}
+use Rattle.cue_lex.specs.Inner.Strings.{is_plain}
 use Rattle.cue_lex.specs.Lexemes.{EndsAscii}
 use Rattle.cue_lex.proofs.Bodies.{IsRaw, body-raws, body-close}
 

@@ -26,8 +26,3 @@ begins_from zero place (b ∷ bytes) =
 -- whether a text begins, after white space and comments, with a token or a quote
 unfoldable pub begins_some : List ℕ → Bool
 begins_some text = begins_from 0 0 text
-
--- white space or a comment
-abbrev pub IsBlank : Lexeme → Type 0
-IsBlank (Word kind len) = ⊥
-IsBlank _ = Unit {0}

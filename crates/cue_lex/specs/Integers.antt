@@ -9,10 +9,6 @@ use Rattle.std.specs.Char.{digit_value, is_ascii_alphanumeric}
 abbrev pub is_literal_byte : ℕ → Bool
 is_literal_byte b = is_ascii_alphanumeric b || ((b == 95) || (b == 46))
 
--- what a digit of a base stands for, letters in either case
-abbrev pub digit : ℕ → ℕ → Option ℕ
-digit base b = if nat_lt (digit_value b) base then Some (digit_value b) else None
-
 -- the digits of a base, with single _ between them; after_digit says that a digit stands before the
 -- bytes
 abbrev pub are_digits : ℕ → Bool → List ℕ → Bool

@@ -1,8 +1,6 @@
 -- What the kind of a token says of its text, and of what follows it.
-use Rattle.std.specs.Prelude.{Bool, true, false, List}
-use Rattle.std.specs.List.{AllByRecursion}
+use Rattle.std.specs.Prelude.{Bool, true, false}
 use Rattle.cue_lattice.specs.Word.{IsWord}
-use Rattle.cue_lex.specs.declared.token.Token.{Token}
 use Rattle.cue_lex.specs.declared.token.TokenKind.{TokenKind}
 use Rattle.cue_lex.specs.declared.token.TokenKind.TheVariants as kinds
 use Rattle.cue_lex.specs.declared.punctuation.Punctuation.TheVariants as points
@@ -34,6 +32,3 @@ HasWord (kinds.Definition name) = IsWord name
 HasWord (kinds.Hidden name) = IsWord name
 HasWord (kinds.Text text) = IsWord text
 HasWord _ = Unit {0}
-
-abbrev pub EachHasWord : List Token → Type 0
-EachHasWord = AllByRecursion (λ token. HasWord token.kind)

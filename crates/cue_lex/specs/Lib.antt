@@ -1,3 +1,4 @@
+pub mod Inner
 pub mod Characters
 pub mod Names
 pub mod Integers

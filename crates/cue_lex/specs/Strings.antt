@@ -1,6 +1,6 @@
 -- Strings and their escapes.
 use Rattle.std.specs.Prelude.{ℕ, zero, suc, Bool, List, [], ◌∷◌, ◌++◌, Option, Some, None, Result}
-use Rattle.std.specs.Prelude.{Ok, Err, ◌+◌, ◌-◌, ◌*◌, ◌==◌, ◌&&◌, ◌||◌, not, codes, drop}
+use Rattle.std.specs.Prelude.{Ok, Err, ◌+◌, ◌-◌, ◌*◌, ◌==◌, ◌&&◌, ◌||◌, codes, drop}
 use Rattle.std.specs.Prelude.{encode_utf8, option_and_then, nat_eq, nat_lt, nat_le, if◌then◌else◌}
 use Rattle.std.specs.List.{starts_with}
 use Rattle.std.specs.Option.{option_map}
@@ -91,10 +91,6 @@ escape (b ∷ bytes) =
 
 abbrev pub bad_string : ℕ → Refusal
 bad_string place = refusal_at refusals.BadString place
-
--- a byte that stands for itself in a string: no quote, backslash or line break
-abbrev pub is_plain : ℕ → Bool
-is_plain b = (not (b == 34) && not (b == 92)) && not (b == 10)
 
 -- more text in front of a string's
 abbrev pub with_front : List ℕ → Result (List ℕ × ℕ) Refusal → Result (List ℕ × ℕ) Refusal

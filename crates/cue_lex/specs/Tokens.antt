@@ -1,5 +1,5 @@
 -- The tokens of a text, or its first fault.
-use Rattle.std.specs.Prelude.{ℕ, zero, suc, Bool, false, List, [], ◌∷◌, ◌++◌, Option, Some, None}
+use Rattle.std.specs.Prelude.{ℕ, zero, suc, Bool, false, List, [], ◌∷◌, Option, Some, None}
 use Rattle.std.specs.Prelude.{Result, Ok, Err, ◌+◌, ◌-◌, length, nat_le, if◌then◌else◌}
 use Rattle.cue_lattice.specs.declared.refusal.Kind.TheVariants as refusals
 use Rattle.cue_lattice.specs.declared.refusal.Refusal.{Refusal}
@@ -63,11 +63,6 @@ with_commas (Some end) (Break ∷ rest) = inserted end ∷ with_commas None rest
 abbrev pub commas : Option ℕ → Result (List Piece) Refusal → Result (List Token) Refusal
 commas last (Ok found) = Ok (with_commas last found)
 commas last (Err refusal) = Err refusal
-
--- tokens in front of the others
-abbrev pub prepended : List Token → Result (List Token) Refusal → Result (List Token) Refusal
-prepended front (Ok found) = Ok (front ++ found)
-prepended front (Err refusal) = Err refusal
 
 -- why a text of more bytes than the limit is refused
 abbrev pub too_long : Refusal

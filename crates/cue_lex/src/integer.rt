@@ -2,7 +2,8 @@ ghost use Rattle.std.specs.Prelude.{◌≡◌, ◌≤◌, ◌<◌, ◌+◌, leng
 ghost use Rattle.std.specs.Prelude.{Some, None, if◌then◌else◌, IfOk};
 ghost use Rattle.std.specs.List.{prefix_len};
 ghost use Rattle.std.specs.Option.{option_map};
-ghost use Rattle.cue_lex.specs.Integers.{is_literal_byte, digits_number, literal_number, digit};
+ghost use Rattle.cue_lex.specs.Integers.{is_literal_byte, digits_number, literal_number};
+ghost use Rattle.cue_lex.specs.Inner.Integers.{digit};
 ghost use Rattle.cue_lex.specs.Lexemes.{integer, EndsAscii, len_of};
 
 use crate::TokenKind;

@@ -2,8 +2,10 @@ ghost use Rattle.std.specs.Prelude.{◌≡◌, ◌≢◌, ◌≤◌, ◌<◌, �
 ghost use Rattle.std.specs.Prelude.{length, IfOk, IfErr, Ok, Err, None};
 ghost use Rattle.cue_lattice.specs.Limits.{text_limit};
 ghost use Rattle.cue_lattice.specs.Refusal.{memory};
-ghost use Rattle.cue_lex.specs.Tokens.{tokens, too_long, Piece, at_place, commas, prepended};
-ghost use Rattle.cue_lex.specs.First.{begins_some, IsBlank};
+ghost use Rattle.cue_lex.specs.Tokens.{tokens, too_long, Piece, at_place, commas};
+ghost use Rattle.cue_lex.specs.Inner.Tokens.{prepended};
+ghost use Rattle.cue_lex.specs.First.{begins_some};
+ghost use Rattle.cue_lex.specs.Inner.First.{IsBlank};
 ghost use Rattle.cue_lex.specs.Lexemes.{len_of};
 
 use crate::lexeme::{Lexeme, lexeme_at};

@@ -7,7 +7,7 @@ ghost use Rattle.cue_lattice.specs.Limits.{word_limit};
 ghost use Rattle.cue_lattice.specs.Refusal.{memory};
 ghost use Rattle.cue_lex.specs.Strings.{bad_string, body, with_front, escape, short_escape, pair};
 ghost use Rattle.cue_lex.specs.Strings.{simple_escape, eight_digits, four_digits, hexadecimal};
-ghost use Rattle.cue_lex.specs.Strings.{is_plain};
+ghost use Rattle.cue_lex.specs.Inner.Strings.{is_plain};
 ghost use Rattle.cue_lex.specs.Lexemes.{Gives, string, kept, EndsAscii, len_of};
 
 use crate::lexeme::Lexeme;

@@ -8,7 +8,8 @@ use Rattle.cue_wire.specs.Clients.{all_items}
 use Rattle.cue_net.specs.declared.halt.Halt.{Halt}
 use Rattle.cue_net.specs.declared.halt.Halt.TheVariants as halts
 use Rattle.cue_net.specs.Replies.{acceptance, refusal, SaysOfInput}
-use Rattle.cue_net.specs.Told.{AreTold, IsFound, first_of}
+use Rattle.cue_net.specs.Told.{AreTold}
+use Rattle.cue_net.specs.Inner.Told.{IsFound, first_of}
 
 pub found_more : (replies : List (List ℕ)) (reply : List ℕ) (first : Option (Refusal × ℕ)) (found : Option Refusal) (number : ℕ)
     → IsFound replies first → SaysOfInput reply found → number ≡ length replies + 1 → IsFound (replies ++ reply ∷ []) (first_of first found number)

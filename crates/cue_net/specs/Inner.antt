@@ -1,4 +1,5 @@
 -- What the prover needs and no reader has to believe: only private clauses and proofs cite it.
 pub mod Hearing
 pub mod Looping
+pub mod Told
 pub mod Turns

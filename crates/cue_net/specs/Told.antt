@@ -1,6 +1,5 @@
 -- What replies tell.
 use Rattle.std.specs.Prelude.{◌≡◌, ◌⊎◌, ℕ, ◌+◌, List, [], ◌∷◌, ◌++◌, length, All, Any, Result, Ok, Err}
-use Rattle.std.specs.Prelude.{Option, Some, None}
 use Rattle.cue_lattice.specs.Refusal.{refusal_at}
 use Rattle.cue_lattice.specs.declared.refusal.Refusal.{Refusal}
 use Rattle.cue_answer.specs.declared.question.Question.TheVariants as questions
@@ -25,17 +24,6 @@ pub record IsFirstRefusal (replies : List (List ℕ)) (why : Refusal) (number : 
   pub told : IsUntold why.kind → ⊥
   pub accepted : AllAccept before
   pub counted : number ≡ length before + 1
-
--- what the first refusal is, where there is one
-abbrev pub IsFound : List (List ℕ) → Option (Refusal × ℕ) → Type 0
-IsFound replies None = AllAccept replies
-IsFound replies (Some found) = IsFirstRefusal replies found.0 found.1
-
--- the first of what was found before and what is found at this number
-abbrev pub first_of : Option (Refusal × ℕ) → Option Refusal → ℕ → Option (Refusal × ℕ)
-first_of (Some first) found number = Some first
-first_of None (Some why) number = Some (why, number)
-first_of None None number = None
 
 -- the answer is that of this status and text, as it is printed
 abbrev pub IsPrinted : Answer → Status → List ℕ → Type 0

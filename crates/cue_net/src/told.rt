@@ -3,7 +3,8 @@ ghost use Rattle.std.specs.Prelude.{Any, length};
 ghost use Rattle.cue_answer.specs.Answers.{code_of};
 ghost use Rattle.cue_wire.specs.Clients.{all_items};
 ghost use Rattle.cue_net.specs.Replies.{IsNoInputReply};
-ghost use Rattle.cue_net.specs.Told.{AreTold, IsFound, IsPrinted, first_of};
+ghost use Rattle.cue_net.specs.Told.{AreTold, IsPrinted};
+ghost use Rattle.cue_net.specs.Inner.Told.{IsFound, first_of};
 
 use crate::halt::Halt;
 use crate::reply::{Export, export_in, refusal_in};

@@ -12,7 +12,8 @@ use Rattle.cue_table.specs.Refuses.{RowRefuses as RowsRefuse}
 use Rattle.cue_table.proofs.ValidWalks.{empty_valid, nothing_at}
 use Rattle.cue_replica.specs.Language.{Table, language, opening}
 use Rattle.cue_replica.specs.Replica.{Adds}
-use Rattle.cue_replica.specs.Accepted.{IsOfTexts, IsOfState, IsAcceptable, IsOfPieces}
+use Rattle.cue_replica.specs.Accepted.{IsOfTexts, IsAcceptable, IsOfPieces}
+use Rattle.cue_replica.specs.Inner.Accepted.{IsOfState}
 use Rattle.cue_replica.proofs.Adding.{unified_more, one_piece}
 
 open_row : (path : Path) (question : Question) (row : Option Row) → row_at empty path ≡ row → RowsRefuse RowRefuses (row_at empty path) question → ⊥

@@ -1,5 +1,5 @@
 -- A site, by what it has accepted.
-use Rattle.std.specs.Prelude.{ℕ, List, [], ◌∷◌, map}
+use Rattle.std.specs.Prelude.{ℕ, List, map}
 use Rattle.std.specs.List.{AllByRecursion}
 use Rattle.cue_lattice.specs.World.{Piece, IsUnified, text, state}
 pub use Rattle.cue_lattice.specs.Limits.{text_limit}
@@ -10,10 +10,6 @@ use Rattle.cue_replica.specs.Language.{Table, language}
 abbrev pub IsOfTexts : Table → List (List ℕ) → Type 0
 IsOfTexts table texts =
     AllByRecursion language.IsLegal texts × IsUnified language table (map text texts)
-
--- The bytes are those of a state, and the table is valid, and has the answers of these bytes.
-abbrev pub IsOfState : Table → List ℕ → Type 0
-IsOfState table bytes = language.IsState bytes × IsUnified language table (state bytes ∷ [])
 
 -- a piece that a site accepts, memory aside
 abbrev pub IsAcceptable : Piece → Type 0

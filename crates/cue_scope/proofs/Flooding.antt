@@ -5,7 +5,7 @@ use Rattle.std.proofs.lemmas.List.{length_push}
 use Rattle.std.proofs.lemmas.List.Sums.{sum_by-set}
 use Rattle.std.proofs.Math.ListN.{replicate}
 use Rattle.cue_scope.specs.Graph.{IsIn, targets, PointsTo, IsReached, start, go_on}
-use Rattle.cue_scope.specs.Ordering.{Spread}
+use Rattle.cue_scope.specs.Inner.Ordering.{Spread}
 use Rattle.cue_scope.proofs.Nodes.{in_append, in_append_left, in_append_right}
 
 -- The nodes but the rest were reached, and those that weren't before were opened.

@@ -3,7 +3,8 @@ use Rattle.std.proofs.Common.{◌≡◌, ◌≢◌, ℕ, zero, suc, ◌<◌, ◌
 use Rattle.std.proofs.lemmas.Bool.Decides.{eqb_tells}
 use Rattle.std.proofs.Math.Dec.{eqb}
 use Rattle.cue_scope.specs.Graph.{IsIn, targets, PointsTo, IsReached, start, go_on, Reaches, IsClosed}
-use Rattle.cue_scope.specs.Ordering.{graph_of, first_open}
+use Rattle.cue_scope.specs.Ordering.{graph_of}
+use Rattle.cue_scope.specs.Inner.Ordering.{first_open}
 
 -- the element at an index is in the list
 pub in_at : (xs : List ℕ) (k : ℕ) → k < length xs → IsIn (get_or xs k 0) xs

@@ -9,7 +9,7 @@ use Rattle.std.proofs.lemmas.List.Sums.{sum_by-set}
 use Rattle.std.proofs.lemmas.Bool.Decides.{eqb_tells}
 use Rattle.std.proofs.Math.ListN.{replicate}
 use Rattle.cue_scope.specs.Graph.{IsIn, targets, PointsTo, IsReached, start, go_on, Reaches, IsAcyclic, IsOrder}
-use Rattle.cue_scope.specs.Ordering.{first_open, is_ready, IsPlaced}
+use Rattle.cue_scope.specs.Inner.Ordering.{first_open, is_ready, IsPlaced}
 use Rattle.cue_scope.proofs.Nodes.{in_at, in_index, reaches_inside, first_open_None}
 
 and-parts : (a b : Bool) → (a && b) ≡ true → (a ≡ true) × (b ≡ true)

@@ -1,3 +1,4 @@
+pub mod Inner
 pub mod Named
 pub mod Words
 pub mod Hiding

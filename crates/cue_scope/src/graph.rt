@@ -7,8 +7,10 @@ ghost use Rattle.std.specs.Bool.{OnTrue};
 ghost use Rattle.cue_lattice.specs.Refusal.{memory};
 ghost use Rattle.cue_scope.specs.Graph.{IsIn, targets, PointsTo, IsReached, Reaches, IsClosed};
 ghost use Rattle.cue_scope.specs.Graph.{IsFirstCycle};
-ghost use Rattle.cue_scope.specs.Ordering.{graph_of, first_open, is_ready, IsStuck, IsPlaced};
-ghost use Rattle.cue_scope.specs.Ordering.{IsOrderOf, Spread};
+ghost use Rattle.cue_scope.specs.Ordering.{graph_of};
+ghost use Rattle.cue_scope.specs.Inner.Ordering.{first_open, is_ready, IsStuck, IsPlaced};
+ghost use Rattle.cue_scope.specs.Ordering.{IsOrderOf};
+ghost use Rattle.cue_scope.specs.Inner.Ordering.{Spread};
 
 use crate::components::Components;
 use crate::memory::{flags, push, room, zeros};

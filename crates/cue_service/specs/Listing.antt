@@ -17,11 +17,6 @@ use Rattle.cue_service.specs.Requests.{AsksBehind}
 abbrev pub AreListed : List Piece → Listed → Type 0
 AreListed pieces listed = IsListOf (map entry_of pieces) listed
 
--- one more
-abbrev pub with_entry : Listed → List ℕ → Listed
-with_entry pieces entry =
-    record { run = pieces.run; given_up = pieces.given_up; kept = pieces.kept ++ entry ∷ [] }
-
 -- the response names the place behind all pieces
 abbrev pub NamesNext : Listed → Response → Type 0
 NamesNext pieces response =

@@ -5,7 +5,8 @@ ghost use Rattle.cue_replica.specs.Accepted.{IsAcceptable};
 ghost use Rattle.cue_journal.specs.Blocks.{recovered};
 ghost use Rattle.cue_service.specs.Answering.{IsSame, GathersPiece, GathersPieces};
 ghost use Rattle.cue_service.specs.Entries.{piece_of, pieces_of};
-ghost use Rattle.cue_service.specs.Pulls.{Covers, CoversAll, IsLeftOut, IsOfListed};
+ghost use Rattle.cue_service.specs.Pulls.{Covers, CoversAll, IsOfListed};
+ghost use Rattle.cue_service.specs.Inner.Pulls.{IsLeftOut};
 
 use crate::desk::Desk;
 use crate::entries::{hand_over, parts_of};

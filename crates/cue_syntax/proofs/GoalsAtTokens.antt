@@ -9,7 +9,8 @@ use Rattle.cue_lex.specs.declared.punctuation.Punctuation.TheVariants as points
 use Rattle.cue_syntax.specs.declared.tree.Sign.{Sign}
 use Rattle.cue_syntax.specs.declared.tree.Sign.TheVariants as signs
 use Rattle.cue_syntax.specs.Grammar.{greatest}
-use Rattle.cue_syntax.specs.Viability.{BeginsInteger, IsComparison, Opens}
+use Rattle.cue_syntax.specs.Viability.{BeginsInteger, Opens}
+use Rattle.cue_syntax.specs.Inner.Viability.{IsComparison}
 use Rattle.cue_syntax.specs.Recogniser.{Stack, step, magnitude, signed, signed_or_text, unary, behind_close}
 
 -- the goal of a magnitude takes nothing but an integer

@@ -10,7 +10,8 @@ use Rattle.cue_syntax.specs.declared.stop.Stop.{Stop}
 use Rattle.cue_syntax.specs.declared.tree.Label.{Label}
 use Rattle.cue_syntax.specs.Spelling.{Reads, one, one_at, comma_if, spell_label}
 use Rattle.cue_syntax.specs.Stops.{at_hand}
-use Rattle.cue_syntax.specs.Viability.{Stands, StandsSign, IsMark, IsLabelName, IsKeywordName, BeginsLabel, BeginsDefinition, IsDefinition, EndsHere, can_begin, behind_begun}
+use Rattle.cue_syntax.specs.Viability.{Stands, StandsSign, IsMark, IsLabelName, IsKeywordName, BeginsLabel, BeginsDefinition, IsDefinition, EndsHere}
+use Rattle.cue_syntax.specs.Inner.Viability.{can_begin, behind_begun}
 use Rattle.cue_syntax.specs.Recogniser.{Goal, Stack, levels_of, depth, step, Closes, Moves, IsOperandHere, Refused, chains, row_goal, value, mark, colon, entries, more_entries, unary, expression, elements, more_elements, dots, bracket, bracket_end}
 use Rattle.cue_syntax.proofs.MovesAndStops.{takes, takes_read, moves_none, moves_then, moves_more, moves_under, alike_moves, Halts, HaltsAt, halts_at, follows_behind, stopped, stops_there, refused_behind, refused_under, refused_end}
 use Rattle.cue_syntax.proofs.OpensLevels.{end_read, follows_mark, follows_label}

@@ -16,7 +16,8 @@ use Rattle.cue_syntax.specs.Stops.{IsWant, IsMemory}
 use Rattle.cue_syntax.specs.Files.{file_tree}
 use Rattle.cue_syntax.specs.Syntax.{FileTree}
 use Rattle.cue_syntax.specs.Grammar.{Limit, unlimited, at_most, Within, IsFile}
-use Rattle.cue_syntax.specs.Viability.{Begins, Leaves, HasNoTree, Stands, StandsSign, IsMark, IsKeywordName, IsCallOfClose}
+use Rattle.cue_syntax.specs.Viability.{Begins, Leaves, Stands, StandsSign, IsMark, IsKeywordName, IsCallOfClose}
+use Rattle.cue_syntax.specs.Inner.Viability.{HasNoTree}
 use Rattle.cue_syntax.specs.Refusals.{IsCallBehind, OwesLevel, BeginsWithin, NestsAt, LeavesAt, FitsAt, Fits, TellsAt, Tells}
 use Rattle.cue_syntax.specs.Recogniser.{Stack, depth, stuck, Closes, IsEnd, Sticks, GoesOn, IsCallHere, Owes, StaysWithin, FollowsMark, OpensAlone, OpensItself, OpensNear, SticksBy, Stops, Refused, text}
 use Rattle.cue_syntax.proofs.NoTextWhereStuck.{stuck_inside, stuck_at_end, stuck_begins_none}

@@ -11,7 +11,7 @@ use Rattle.cue_syntax.specs.declared.spot.Back.{Back}
 use Rattle.cue_syntax.specs.declared.spot.Spot.{Spot}
 use Rattle.cue_syntax.specs.declared.spot.Spot.TheVariants as spots
 use Rattle.cue_syntax.specs.Spots.{innermost, open_after, spot_after, spot_from, spot_of, after_comma, after_dots, after_parenthesis}
-use Rattle.cue_syntax.specs.Backwards.{open_from, seen, IsCloseName}
+use Rattle.cue_syntax.specs.Inner.Backwards.{open_from, seen, IsCloseName}
 
 -- What tokens open, by the last of them.
 pub open_last : (opened : List Inside) (ts : List Token) (t : Token) → open_from opened (ts ++ t ∷ []) ≡ open_after (open_from opened ts) t.kind

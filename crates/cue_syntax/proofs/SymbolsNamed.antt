@@ -6,7 +6,8 @@ use Rattle.cue_lex.specs.declared.token.Token.{Token}
 use Rattle.cue_syntax.specs.declared.spot.Spot.{Spot}
 use Rattle.cue_syntax.specs.Viability.{place_of}
 use Rattle.cue_syntax.specs.Spots.{spot_of}
-use Rattle.cue_syntax.specs.Forms.{IsAt, HasNoForm}
+use Rattle.cue_syntax.specs.Forms.{IsAt}
+use Rattle.cue_syntax.specs.Inner.Forms.{HasNoForm}
 use Rattle.cue_syntax.specs.Refusals.{BeginsPackage, StandsAfter, IsNamedEarly, IsKindAfter, TellsOf}
 
 -- no clause of a package begins after the first token

@@ -5,7 +5,8 @@ use Rattle.cue_lex.specs.declared.token.Token.{Token}
 use Rattle.cue_lex.specs.declared.token.TokenKind.{TokenKind}
 use Rattle.cue_lex.specs.declared.token.TokenKind.TheVariants as kinds
 use Rattle.cue_lex.specs.declared.punctuation.Punctuation.TheVariants as points
-use Rattle.cue_lex.specs.Kinds.{HasWord, EachHasWord}
+use Rattle.cue_lex.specs.Kinds.{HasWord}
+use Rattle.cue_lex.specs.Inner.Kinds.{EachHasWord}
 use Rattle.cue_syntax.specs.declared.tree.Label.{Label}
 use Rattle.cue_syntax.specs.Spelling.{Piece, Follows, one, placed, comma_if, star_if, spell, spell_label, spell_dots, spell_rest, spell_elements, spell_more_elements, spell_branch, spell_branches, spell_more_branches, spell_entry, spell_entries, spell_more_entries}
 use Rattle.cue_syntax.specs.Syntax.{Expression, name, integer, text, bottom, bound, other_integer, other_text, parenthesis, struct, close, list, conjunction, disjunction, Elements, no_elements, element, Rest, no_rest, any_rest, each_rest, Branch, branch, Branches, no_branches, next_branch, Entry, ellipsis, field, definition, Entries, no_entries, entry}

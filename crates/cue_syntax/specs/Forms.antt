@@ -90,7 +90,3 @@ IsAt forms.Call spot ts =
 IsAt forms.CloseArgument spot ts =
     (spot ≡ spots.CloseArgument) × Stands BeginsExpression ts
     × ¬ StandsSign (kinds.Mark points.OpenBrace) ts
-
--- no form stands there
-abbrev pub HasNoForm : Spot → List Token → Type 0
-HasNoForm spot ts = (form : Form) → ¬ IsAt form spot ts

@@ -212,12 +212,6 @@ pub record AreEntries (room : ℕ) (tokens : List Token) (es : Entries) (comma :
   pub ends : EndsEntries comma es
   pub levels : levels_of_entries es ≤ room
 
--- what stands between the `...` of a list and the rest: an expression, or nothing
-abbrev pub IsRestOf : ℕ → List Token → Rest → List Token → Type 0
-IsRestOf room tokens no_rest rest = ⊥
-IsRestOf room tokens any_rest rest = tokens ≡ rest
-IsRestOf room tokens (each_rest e) rest = IsExpression room tokens e rest
-
 -- declarations, and the brace that closes them
 pub record AreBraced (room : ℕ) (tokens : List Token) (es : Entries) (comma : Bool)
     (rest : List Token) : Type 0 where

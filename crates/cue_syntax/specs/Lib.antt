@@ -1,3 +1,4 @@
+pub mod Inner
 pub mod Syntax
 pub mod Spelling
 pub mod Words
@@ -11,8 +12,6 @@ pub mod Recogniser
 pub mod OneTree
 pub mod Stops
 pub mod Spots
-pub mod Backwards
 pub mod Forms
 pub mod Refusals
 pub mod Parsed
-pub mod WellFormed

@@ -1,17 +1,10 @@
 -- With which tokens the rules of operands and literals begin.
-use Rattle.std.specs.Prelude.{◌≡◌, ◌≢◌, List}
+use Rattle.std.specs.Prelude.{List}
 use Rattle.cue_lex.specs.declared.token.Token.{Token}
-use Rattle.cue_lex.specs.declared.token.TokenKind.{TokenKind}
 use Rattle.cue_lex.specs.declared.token.TokenKind.TheVariants as kinds
-use Rattle.cue_lex.specs.declared.punctuation.Punctuation.{Punctuation}
 use Rattle.cue_lex.specs.declared.punctuation.Punctuation.TheVariants as points
 use Rattle.cue_syntax.specs.declared.cursor.Operand.{Operand}
 use Rattle.cue_syntax.specs.declared.cursor.Operand.TheVariants as operands
-use Rattle.cue_syntax.specs.declared.literal.Beginning.{Beginning}
-use Rattle.cue_syntax.specs.declared.literal.Beginning.TheVariants as beginnings
-use Rattle.cue_syntax.specs.declared.tree.Sign.{Sign}
-use Rattle.cue_syntax.specs.declared.tree.Sign.TheVariants as signs
-use Rattle.cue_syntax.specs.Viability.{BeginsInteger, IsComparison}
 use Rattle.cue_syntax.specs.Viability.{Stands, StandsSign, Opens, IsCallOfClose}
 
 -- what the rule of an operand begins with
@@ -21,20 +14,6 @@ IsOperandAt operands.Struct ts = StandsSign (kinds.Mark points.OpenBrace) ts
 IsOperandAt operands.List ts = StandsSign (kinds.Mark points.OpenBracket) ts
 IsOperandAt operands.Close ts = IsCallOfClose ts
 IsOperandAt operands.Literal ts = ¬ Stands Opens ts × ¬ IsCallOfClose ts
-
--- which literal a mark begins
-abbrev pub IsBeginning : Beginning → Punctuation → Type 0
-IsBeginning beginnings.Integer mark = BeginsInteger (kinds.Mark mark)
-IsBeginning beginnings.Bound mark = IsComparison (kinds.Mark mark)
-IsBeginning beginnings.NotEqual mark = mark ≡ points.NotEqual
-IsBeginning beginnings.Nothing mark =
-    ¬ BeginsInteger (kinds.Mark mark) × ¬ IsComparison (kinds.Mark mark) × (mark ≢ points.NotEqual)
-
--- the sign that a token is
-abbrev pub IsSign : Sign → TokenKind → Type 0
-IsSign signs.Minus kind = kind ≡ kinds.Mark points.Minus
-IsSign signs.Plus kind = kind ≡ kinds.Mark points.Plus
-IsSign signs.Absent kind = (kind ≢ kinds.Mark points.Minus) × (kind ≢ kinds.Mark points.Plus)
 
 -- neither `&` nor `|` follows an operand, and no parenthesis, which would make it a call
 abbrev pub EndsOperand : List Token → Type 0

@@ -1,6 +1,6 @@
 -- Where tokens leave the grammar, and what a refusal of the parser says of that place.
 use Rattle.std.specs.Prelude.{◌≡◌, ◌≢◌, ◌≤◌, ◌⊎◌, ℕ, suc, Bool, true, false, List, [], ◌∷◌, take}
-use Rattle.std.specs.Prelude.{drop, length, codes, ⊤, if◌then◌else◌}
+use Rattle.std.specs.Prelude.{drop, length, codes, ⊤}
 use Rattle.cue_lex.specs.declared.token.Token.{Token}
 use Rattle.cue_lex.specs.declared.token.TokenKind.{TokenKind}
 use Rattle.cue_lex.specs.declared.token.TokenKind.TheVariants as kinds
@@ -29,37 +29,16 @@ pub record Leaves (limit : Limit) (tokens : List Token) (k : ℕ) : Type 0 where
   pub before : Begins limit k tokens
   pub behind : ¬ Begins limit (suc k) tokens
 
--- no tree of the grammar within the limit is spelled by these tokens
-abbrev pub HasNoTree : Limit → List Token → Type 0
-HasNoTree limit tokens = (tree : FileTree) → ¬ IsFile limit tokens tree
-
 -- where a symbol stands: a token, or the end of the text
 abbrev pub place_of : ℕ → List Token → ℕ
 place_of end [] = end
 place_of end (token ∷ tokens) = token.from
-
-abbrev pub IsName : TokenKind → Type 0
-IsName (kinds.Name t) = ⊤
-IsName _ = ⊥
 
 abbrev pub IsMark : TokenKind → Type 0
 IsMark (kinds.Mark points.Colon) = ⊤
 IsMark (kinds.Mark points.Question) = ⊤
 IsMark (kinds.Mark points.Exclamation) = ⊤
 IsMark _ = ⊥
-
-abbrev pub IsIdentifier : TokenKind → Type 0
-IsIdentifier (kinds.Name t) = ⊤
-IsIdentifier (kinds.Definition t) = ⊤
-IsIdentifier (kinds.Hidden t) = ⊤
-IsIdentifier _ = ⊥
-
-abbrev pub IsComparison : TokenKind → Type 0
-IsComparison (kinds.Mark points.Less) = ⊤
-IsComparison (kinds.Mark points.AtMost) = ⊤
-IsComparison (kinds.Mark points.Greater) = ⊤
-IsComparison (kinds.Mark points.AtLeast) = ⊤
-IsComparison _ = ⊥
 
 -- an integer with its sign begins so
 abbrev pub BeginsInteger : TokenKind → Type 0
@@ -167,18 +146,6 @@ pub record MissesColon (end : ℕ) (tokens : List Token) (stop : Stop) : Type 0 
 -- a definition as a label
 abbrev pub BeginsDefinition : List Token → Type 0
 BeginsDefinition ts = Stands IsDefinition ts × NextSign (kinds.Mark points.Colon) ts
-
--- a declaration can begin with such a token
-abbrev pub can_begin : Bool → TokenKind → Bool
-can_begin top (kinds.Name t) = true
-can_begin top (kinds.Text t) = true
-can_begin top (kinds.Definition t) = top
-can_begin top _ = false
-
--- what is left after the first token, if a declaration can begin with it
-abbrev pub behind_begun : Bool → List Token → List Token
-behind_begun top [] = []
-behind_begun top (token ∷ tokens) = if can_begin top token.kind then tokens else token ∷ tokens
 
 -- declarations end here: at the top at the end of the text, else at a brace
 abbrev pub EndsHere : Bool → List Token → Type 0

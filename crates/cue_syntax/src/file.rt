@@ -2,7 +2,7 @@ ghost use Rattle.std.specs.Prelude.{◌≡◌, ◌⊎◌, ◌∷◌, [], IfOk, I
 ghost use Rattle.std.specs.Prelude.{MatchResult, IsTrue, ◌↔◌, true, false};
 ghost use Rattle.cue_lattice.specs.Limits.{level_limit};
 ghost use Rattle.cue_lattice.specs.Refusal.{memory};
-ghost use Rattle.cue_lex.specs.Kinds.{EachHasWord};
+ghost use Rattle.cue_lex.specs.Inner.Kinds.{EachHasWord};
 ghost use Rattle.cue_syntax.specs.Spelling.{Reads, one, identifier_kind, spell_package};
 ghost use Rattle.cue_syntax.specs.Grammar.{at_most, IsFile, IsPackageName, HidesDefinition};
 ghost use Rattle.cue_syntax.specs.Files.{file_tree};

@@ -2,7 +2,8 @@ ghost use Rattle.std.specs.Prelude.{◌≡◌, ◌≤◌, MatchOption, IsTrue, �
 ghost use Rattle.cue_syntax.specs.Viability.{Stands, StandsSign, NextSign, Next, IsMark, IsHidden};
 ghost use Rattle.cue_syntax.specs.Viability.{IsKeywordName, place_of};
 ghost use Rattle.cue_syntax.specs.Viability.{IsDefinition, IsCallable, BeginsClause, BeginsInteger};
-ghost use Rattle.cue_syntax.specs.Forms.{IsAt, HasNoForm, IsOfDeclaration, IsText, SeesLabel};
+ghost use Rattle.cue_syntax.specs.Forms.{IsAt, IsOfDeclaration, IsText, SeesLabel};
+ghost use Rattle.cue_syntax.specs.Inner.Forms.{HasNoForm};
 ghost use Rattle.cue_syntax.specs.Forms.{SeesDynamicLabel, NextMark};
 ghost use Rattle.cue_syntax.specs.Refusals.{Tells, TellsOf, IsNamedEarly, IsKindAfter};
 ghost use Rattle.cue_syntax.specs.Refusals.{StandsAfter, IsValueKeyword};

@@ -5,8 +5,10 @@ ghost use Rattle.cue_syntax.specs.Grammar as Grammar;
 ghost use Rattle.cue_syntax.specs.Grammar.{IsInRange, IsOperand};
 ghost use Rattle.cue_syntax.specs.Grammar.{IsClause, IsKeyword};
 ghost use Rattle.cue_syntax.specs.Viability.{Stands, StandsSign, Opens, IsCallOfClose};
-ghost use Rattle.cue_syntax.specs.Viability.{IsIdentifier, IsComparison, BeginsInteger};
-ghost use Rattle.cue_syntax.specs.Operands.{IsBeginning, IsSign, EndsOperand};
+ghost use Rattle.cue_syntax.specs.Viability.{BeginsInteger};
+ghost use Rattle.cue_syntax.specs.Inner.Viability.{IsIdentifier, IsComparison};
+ghost use Rattle.cue_syntax.specs.Operands.{EndsOperand};
+ghost use Rattle.cue_syntax.specs.Inner.Operands.{IsBeginning, IsSign};
 ghost use Rattle.cue_syntax.specs.Recogniser.{unary, signed, magnitude};
 ghost use Rattle.cue_syntax.specs.Parsed.{IsFurther, ReadsLiteral, MovesBetween, RefusesAlways};
 

@@ -1,7 +1,7 @@
 ghost use Rattle.std.specs.Prelude.{◌≡◌, ◌↔◌, ◌<◌, ◌^◌, List, [], ◌∷◌};
 ghost use Rattle.cue_syntax.specs.Spots as spots;
 ghost use Rattle.cue_syntax.specs.Spots.{spot_of, open_after};
-ghost use Rattle.cue_syntax.specs.Backwards.{open_from, seen, Tells, ClosesFew, IsCloseName};
+ghost use Rattle.cue_syntax.specs.Inner.Backwards.{open_from, seen, Tells, ClosesFew, IsCloseName};
 
 use cue_lex::{Punctuation, Token, TokenKind};
 

@@ -1,6 +1,6 @@
 ghost use Rattle.cue_syntax.specs.Syntax.{entries};
 ghost use Rattle.cue_syntax.specs.Grammar.{IsFragment};
-ghost use Rattle.cue_syntax.specs.WellFormed.{prop};
+ghost use Rattle.cue_syntax.specs.Inner.WellFormed.{prop};
 
 use cue_lex::Word;
 

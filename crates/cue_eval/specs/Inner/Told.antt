@@ -28,7 +28,8 @@ use Rattle.cue_eval.specs.declared.told.Whose.TheVariants.{Own, Dotted}
 use Rattle.cue_eval.specs.declared.told.Sight.{Sight}
 use Rattle.cue_eval.specs.Literals.{literals, has_dots}
 use Rattle.cue_eval.specs.Closing.{OneDoes, OneOfFields, OneOfElements, AtStruct}
-use Rattle.cue_eval.specs.Telling.{Tells, IsDeclared, tells}
+use Rattle.cue_eval.specs.Telling.{Tells, IsDeclared}
+use Rattle.cue_eval.specs.Inner.Telling.{tells}
 
 -- what is asked of the struct literals that an expression writes itself: what they declare, or
 -- whether one has a `...`

@@ -3,7 +3,8 @@ use Rattle.std.specs.Int.{w64}
 use Rattle.std.specs.List.{flat_map}
 use Rattle.std.proofs.lemmas.Result.{IfOk-weaker, IfErr-weaker}
 use Rattle.cue_codec.specs.Parts.{counted_bytes, piece_bytes}
-use Rattle.cue_codec.specs.Reading.{Begins, BeginsNone, IsRefused, AreSo, AreCounted, IsPiece}
+use Rattle.cue_codec.specs.Reading.{Begins, BeginsNone, IsRefused, AreCounted, IsPiece}
+use Rattle.cue_codec.specs.Inner.Reading.{AreSo}
 use Rattle.cue_codec.proofs.Codes.{counted_found, counted_none, counted_short, refused_so}
 use Rattle.cue_codec.proofs.Numbers.{number_missing, number_takes, read64}
 use Rattle.cue_codec.proofs.lists.pieces_at.Goals as goal

@@ -1,7 +1,7 @@
 use Rattle.std.proofs.Common.{◌≡◌, ◌<◌, length, take, sym, ap, subst, ◌∙◌, arith, get_or}
 use Rattle.std.specs.List.{prefix_len}
 use Rattle.std.proofs.lemmas.Grind.{common_steps}
-use Rattle.cue_lex.specs.Strings.{is_plain}
+use Rattle.cue_lex.specs.Inner.Strings.{is_plain}
 use Rattle.cue_lex.proofs.PlainStrings.{plain_body}
 use Rattle.cue_lex.proofs.string.plain.Goals as goal
 

@@ -1,7 +1,7 @@
 use Rattle.std.proofs.Common.{◌≡◌, ℕ, ◌+◌, [], ◌∷◌, ◌++◌, take, ap, sym, ◌∙◌, subst, arith, Vec, Global}
 use Rattle.std.proofs.lemmas.List.{take_more, take_all, map-append, length-map, length-take-le}
 use Rattle.cue_wire.specs.Clients.{all_items}
-use Rattle.cue_net.specs.Told.{IsFound, first_of}
+use Rattle.cue_net.specs.Inner.Told.{IsFound, first_of}
 use Rattle.cue_net.proofs.Findings.{found_more}
 use Rattle.cue_net.proofs.told.first_refusal.Goals as goal
 

@@ -1,6 +1,6 @@
 use Rattle.std.proofs.Common.{◌≡◌, take}
 use Rattle.cue_wire.specs.Clients.{all_items}
-use Rattle.cue_net.specs.Told.{IsFound}
+use Rattle.cue_net.specs.Inner.Told.{IsFound}
 use Rattle.cue_net.proofs.told.first_refusal.Given as goal
 
 -- the first refusal among the replies so far

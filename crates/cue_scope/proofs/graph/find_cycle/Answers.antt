@@ -1,6 +1,7 @@
 use Rattle.std.proofs.Common.{arith, ◌≡◌, ◌<◌, ⊎_elim, Some, length, sym, subst, refl, ◌∙◌}
 use Rattle.cue_scope.specs.Graph.{targets, PointsTo, Reaches, start, go_on}
-use Rattle.cue_scope.specs.Ordering.{graph_of, first_open}
+use Rattle.cue_scope.specs.Ordering.{graph_of}
+use Rattle.cue_scope.specs.Inner.Ordering.{first_open}
 use Rattle.cue_scope.proofs.Nodes.{target_inside, first_open_Some}
 use Rattle.cue_scope.proofs.Flooding.{flag_at, length_flags}
 use Rattle.cue_scope.proofs.graph.find_cycle.Goals as goal

@@ -1,5 +1,5 @@
 use Rattle.std.proofs.Common.{◌≡◌, drop}
-use Rattle.cue_scope.specs.Ordering.{first_open}
+use Rattle.cue_scope.specs.Inner.Ordering.{first_open}
 use Rattle.cue_scope.proofs.graph.first_open.Given as goal
 
 abbrev pub invariant-loop-node : goal.invariant-loop-node

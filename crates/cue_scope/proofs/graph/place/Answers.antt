@@ -1,5 +1,6 @@
 use Rattle.std.proofs.Common.{◌≡◌, true, get_or, sym, ◌∙◌}
-use Rattle.cue_scope.specs.Ordering.{graph_of, is_ready}
+use Rattle.cue_scope.specs.Ordering.{graph_of}
+use Rattle.cue_scope.specs.Inner.Ordering.{is_ready}
 use Rattle.cue_scope.proofs.Placing.{placed_add}
 use Rattle.cue_scope.proofs.graph.place.Goals as goal
 use Rattle.cue_scope.proofs.graph.place.Goals.{then-is_ready+in_ok-add, else-is_ready}

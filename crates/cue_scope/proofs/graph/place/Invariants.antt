@@ -1,6 +1,7 @@
 use Rattle.std.proofs.Common.{eqb}
 use Rattle.std.specs.List.{count_by}
-use Rattle.cue_scope.specs.Ordering.{graph_of, IsPlaced}
+use Rattle.cue_scope.specs.Ordering.{graph_of}
+use Rattle.cue_scope.specs.Inner.Ordering.{IsPlaced}
 use Rattle.cue_scope.proofs.graph.place.Given as goal
 
 abbrev pub invariant-loop-node : goal.invariant-loop-node

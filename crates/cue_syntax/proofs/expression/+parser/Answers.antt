@@ -11,7 +11,8 @@ use Rattle.cue_syntax.proofs.ReadingsJoin.{reads_one_at, reads_none}
 use Rattle.cue_syntax.proofs.RowsGrow.{nested_pushed}
 use Rattle.cue_syntax.proofs.Views.{view-term, view-Parenthesis, view-Struct, view-Close, view-Conjunction, view-Disjunction, view-Field, view-Definition, view-List, view-Ends}
 use Rattle.cue_syntax.proofs.PartsMakeTrees.{term_is, AreTerms, AreParts, Between, terms_first, terms_next, terms_more, between_pushed, disjunction_is, parts_first, parts_next, parts_more, conjunction_is, elements_next, entries_next, braced_is, struct_is, close_is, parenthesis_is, list_is, open_list_is, field_is, definition_is}
-use Rattle.cue_syntax.specs.Viability.{StandsSign, BeginsLabel, behind_begun}
+use Rattle.cue_syntax.specs.Viability.{StandsSign, BeginsLabel}
+use Rattle.cue_syntax.specs.Inner.Viability.{behind_begun}
 use Rattle.cue_syntax.specs.Begun.{BeginsEntry}
 use Rattle.cue_syntax.proofs.TextsBeginSo.{begun, begins_always, no_memory, read_stands}
 use Rattle.cue_syntax.specs.Recogniser as goals

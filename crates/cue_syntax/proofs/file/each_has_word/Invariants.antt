@@ -1,5 +1,5 @@
 use Rattle.std.proofs.Common.{take}
-use Rattle.cue_lex.specs.Kinds.{EachHasWord}
+use Rattle.cue_lex.specs.Inner.Kinds.{EachHasWord}
 use Rattle.cue_syntax.proofs.file.each_has_word.Given as goal
 
 abbrev pub invariant-loop-token : goal.invariant-loop-token

@@ -1,5 +1,5 @@
 use Rattle.std.proofs.Common.{◌∙◌, ◌-◌, [], take, sym, arith}
-use Rattle.cue_syntax.specs.Backwards.{open_from}
+use Rattle.cue_syntax.specs.Inner.Backwards.{open_from}
 use Rattle.cue_syntax.proofs.SpotByTheLastToken.{seen_last}
 use Rattle.cue_syntax.proofs.spot.innermost.Goals as goal
 

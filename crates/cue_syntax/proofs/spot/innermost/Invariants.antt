@@ -1,6 +1,6 @@
 use Rattle.std.proofs.Common.{◌≡◌, ◌+◌, ◌≤◌, [], length, take}
 use Rattle.cue_syntax.specs.Spots.{innermost}
-use Rattle.cue_syntax.specs.Backwards.{open_from, seen}
+use Rattle.cue_syntax.specs.Inner.Backwards.{open_from, seen}
 use Rattle.cue_syntax.proofs.spot.innermost.Given as goal
 
 -- what is open at the symbol, as it is seen from the tokens that are left

@@ -1,5 +1,5 @@
 use Rattle.cue_eval.specs.declared.declared.Asked.TheVariants.{Stands, Declares}
-use Rattle.cue_eval.specs.TellingLaws.{free_told, none_stands}
+use Rattle.cue_eval.specs.Inner.TellingLaws.{free_told, none_stands}
 use Rattle.cue_eval.proofs.declared.DeclaredNarrow.is_free.Goals as goal
 
 pub returns-then-not-self : goal.returns-then-not-self

@@ -1,5 +1,5 @@
 use Rattle.cue_lattice.specs.declared.pair.Side.TheVariants.{Left, Right}
-use Rattle.cue_lattice.specs.Pair.{sides_free}
+use Rattle.cue_lattice.specs.Inner.Pair.{sides_free}
 use Rattle.cue_lattice.proofs.pair.PairNarrow.is_free.Goals as goal
 
 pub returns-then-is_free : goal.returns-then-is_free
