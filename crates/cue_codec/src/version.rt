@@ -27,7 +27,7 @@ impl Version {
     }
 
     /// The version that a byte stands for, where there is one.
-    pub fn from_byte(byte: u8) -> Option<Version>
+    pub(crate) fn from_byte(byte: u8) -> Option<Version>
         ensures some { IfSome result (λ version. version_byte version ≡ byte) }
         ensures none { IfNone result (IsNoVersion byte) }
     {

@@ -8,9 +8,8 @@ ghost use Rattle.cue_lattice.specs.Refusal.{memory};
 ghost use Rattle.cue_scope.specs.Graph.{IsIn, targets, PointsTo, IsReached, Reaches, IsClosed};
 ghost use Rattle.cue_scope.specs.Graph.{IsFirstCycle};
 ghost use Rattle.cue_scope.specs.Ordering.{graph_of};
-ghost use Rattle.cue_scope.specs.Inner.Ordering.{first_open, is_ready, IsStuck, IsPlaced};
-ghost use Rattle.cue_scope.specs.Ordering.{IsOrderOf};
-ghost use Rattle.cue_scope.specs.Inner.Ordering.{Spread};
+ghost use Rattle.cue_scope.specs.Inner.Ordering.{first_open, is_ready};
+ghost use Rattle.cue_scope.specs.Inner.Ordering.{IsOrderOf, IsPlaced, IsStuck, Spread};
 
 use crate::components::Components;
 use crate::memory::{flags, push, room, zeros};
@@ -19,7 +18,7 @@ use std::alloc::Global;
 
 /// The nodes of a graph in an order, or why they have none.
 #[derive(Drop)]
-pub enum Order {
+pub(crate) enum Order {
     /// Each node comes after those that it points to.
     Ordered(Vec<usize>),
     /// The first node that reaches itself.
@@ -39,7 +38,7 @@ struct Placed {
 /// # Errors
 ///
 /// `Memory`.
-pub fn order_of(alloc: Global, graph: &[Vec<usize>]) -> Result<Order, Refusal>
+pub(crate) fn order_of(alloc: Global, graph: &[Vec<usize>]) -> Result<Order, Refusal>
     requires { IsClosed (graph_of graph.now) }
     ensures ordered { IfOk result (IsOrderOf (graph_of graph.now)) }
     ensures memory { IfErr result (λ r. r ≡ memory) }
@@ -235,7 +234,11 @@ fn is_cyclic(
 }
 
 /// The nodes that are reached from those in a list, which are reached too.
-pub fn reached(alloc: Global, graph: &[Vec<usize>], from: &[usize]) -> Result<Vec<bool>, Refusal>
+pub(crate) fn reached(
+    alloc: Global,
+    graph: &[Vec<usize>],
+    from: &[usize],
+) -> Result<Vec<bool>, Refusal>
     requires closed { IsClosed (graph_of graph.now) }
     requires inside { (i : ℕ) → IsIn i from.now → i < length graph.now }
     ensures length { IfOk result (λ v. length v.items ≡ length graph.now) }

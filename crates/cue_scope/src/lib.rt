@@ -17,6 +17,5 @@ mod words;
 pub use cue_lattice::Refusal;
 pub use cue_syntax::{Declaration, Expr, File, Label};
 pub use definitions::{Definition, Definitions};
-pub use graph::{Order, order_of, reached};
-pub use named::{Named, is_literal};
+pub use named::Named;
 pub use resolved::{Resolved, resolve};

@@ -51,7 +51,7 @@ impl Named {
 }
 
 /// Whether the name is that of a scalar: `true`, `false` or `null`.
-pub fn is_literal(name: &str) -> bool
+pub(crate) fn is_literal(name: &str) -> bool
     ensures { result ≡ is_literal name.now }
 {
     name == "true" || name == "false" || name == "null"

@@ -1,9 +1,15 @@
--- Beside `specs/Ordering.antt`: what private clauses and proofs alone cite.
+-- What the program keeps while it orders a graph: what private clauses and proofs alone cite.
 use Rattle.std.specs.Prelude.{ℕ, ◌≡◌, ◌<◌, ◌≤◌, ◌+◌, ◌-◌, ◌⊎◌, ◌&&◌, Bool, true, false, cond, not}
 use Rattle.std.specs.Prelude.{eqb, nat_lt, List, [], ◌∷◌, length, slice_index, slice_index_or}
 use Rattle.std.specs.Prelude.{Option, None, Some, is_some}
 use Rattle.std.specs.List.{count_by}
-use Rattle.cue_scope.specs.Graph.{IsIn, targets, PointsTo}
+use Rattle.cue_scope.specs.Graph.{IsIn, targets, PointsTo, IsAcyclic, IsOrder, IsFirstCycle}
+use Rattle.cue_scope.specs.declared.graph.Order.{Order}
+use Rattle.cue_scope.specs.declared.graph.Order.TheVariants.{Ordered, Cycle}
+
+abbrev pub IsOrderOf : List (List ℕ) → Order → Type 0
+IsOrderOf g (Ordered order) = IsAcyclic g × IsOrder g order.items
+IsOrderOf g (Cycle i) = IsFirstCycle g i × (i < length g)
 
 -- the first of the nodes that has no rank
 abbrev pub first_open : List ℕ → List ℕ → Option ℕ

@@ -1,7 +1,8 @@
 use Rattle.std.proofs.Common.{arith, ◌≡◌, ◌<◌, length, inr, refl, sym, ap, ◌∙◌, subst}
 use Rattle.cue_scope.specs.Graph.{IsClosed, IsFirstCycle}
 use Rattle.cue_scope.specs.Kept.{all_of}
-use Rattle.cue_scope.specs.Ordering.{graph_of, IsOrderOf}
+use Rattle.cue_scope.specs.Ordering.{graph_of}
+use Rattle.cue_scope.specs.Inner.Ordering.{IsOrderOf}
 use Rattle.cue_scope.specs.Refusing.{IsCycleAt}
 use Rattle.cue_scope.specs.Uses.{graph}
 use Rattle.cue_scope.proofs.Inside.{closed_graph}
