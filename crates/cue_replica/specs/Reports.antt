@@ -3,15 +3,14 @@ use Rattle.std.specs.Prelude.{◌≡◌, ℕ, List, Bool, Option}
 use Rattle.cue_report.specs.declared.conflict.Conflict.{Conflict}
 use Rattle.cue_report.specs.declared.gap.Gap.{Gap}
 use Rattle.cue_report.specs.declared.outcome.Export.{Export}
-use Rattle.cue_report.specs.declared.outcome.ExportText.{ExportText}
 use Rattle.cue_report.specs.Export.{IsExport}
 use Rattle.cue_report.specs.Gaps.{AreGaps}
 use Rattle.cue_report.specs.Listing.{AreConflicts}
 use Rattle.cue_report.specs.OneReport.{HaveOneReport}
 use Rattle.cue_report.specs.declared.outcome.ExportKind.{ExportKind}
 use Rattle.cue_report.specs.ExportText as report
-pub use Rattle.cue_report.specs.ExportText.{IsExportText, IsTextOf, BeginsExport, TellsExport}
-pub use Rattle.cue_report.specs.Lines.{conflict_line, gap_line, AddsConflictLines, AddsGapLines}
+pub use Rattle.cue_report.specs.ExportText.{BeginsExport, TellsExport}
+pub use Rattle.cue_report.specs.Lines.{conflict_line, gap_line}
 pub use Rattle.cue_report.specs.Lines.{BeginsConflicts, BeginsGaps, TellsConflicts, TellsGaps}
 use Rattle.cue_print.specs.Printed.{file_of}
 use Rattle.cue_print.specs.Spelled.{file_text}
@@ -28,17 +27,6 @@ AreConflictsOf table = AreConflicts (language.table_refuses table)
 -- all that is incomplete, in the order of the paths
 abbrev pub AreGapsOf : Table → List Gap → Type 0
 AreGapsOf table = AreGaps (language.table_refuses table)
-
--- its export as text
-abbrev pub IsExportTextOf : Table → ExportText → Type 0
-IsExportTextOf table = IsExportText (language.table_refuses table)
-
--- behind the text stands a line for each conflict, or for each place that is incomplete
-abbrev pub AddsConflictLinesOf : Table → List ℕ → List ℕ → Type 0
-AddsConflictLinesOf table = AddsConflictLines (language.table_refuses table)
-
-abbrev pub AddsGapLinesOf : Table → List ℕ → List ℕ → Type 0
-AddsGapLinesOf table = AddsGapLines (language.table_refuses table)
 
 -- its export, of this kind, has this text
 abbrev pub IsExportAsText : Table → ExportKind → List ℕ → Type 0

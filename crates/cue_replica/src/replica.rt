@@ -17,7 +17,6 @@ ghost use Rattle.cue_replica.specs.Language.{language, opening};
 ghost use Rattle.cue_replica.specs.PrintedAgain.{IsReadAgain};
 ghost use Rattle.cue_replica.specs.Reading.{HasTakenIn, StandsAt};
 ghost use Rattle.cue_replica.specs.Reports.{IsExportOf, AreConflictsOf, AreGapsOf, printed};
-ghost use Rattle.cue_replica.specs.Reports.{IsExportTextOf, AddsConflictLinesOf, AddsGapLinesOf};
 ghost use Rattle.cue_replica.specs.Reports.{TellsExportOf, TellsConflictsOf, TellsGapsOf};
 ghost use Rattle.cue_replica.specs.Reports.{BeginsExportOf, BeginsConflictsOf, BeginsGapsOf};
 
@@ -25,7 +24,7 @@ use crate::fragment::read;
 use cue_codec::{StateReader, StateWriter, decode, encode, size};
 use cue_device::TextSink;
 use cue_lattice::{Kind, Memory, Refusal};
-use cue_report::{Conflict, Export, ExportKind, ExportText, Gap, Value};
+use cue_report::{Conflict, Export, ExportKind, Gap, Value};
 use cue_row::Row;
 use cue_table::Table;
 use std::alloc::Global;
@@ -235,16 +234,9 @@ impl Replica {
         cue_report::export(alloc, &self.table)
     }
 
-    /// The export as text: the JSON; or, where there are any, a line for each conflict; or else
-    /// one for each place that is incomplete. No list of paths is made.
-    pub fn export_text(&self, alloc: Global) -> Result<ExportText, Memory>
-        ensures export { IfOk result (IsExportTextOf self.now) }
-    {
-        cue_report::export_text(alloc, &self.table)
-    }
-
-    /// Tells the text of the export, as `export_text` gives it, while it is made, and its kind. Memory
-    /// goes with the table, and not with what is told.
+    /// Tells the text of the export while it is made, and its kind: the JSON; or, where there are any, a
+    /// line for each conflict; or else one for each place that is incomplete. Memory goes with the
+    /// table, and not with what is told.
     ///
     /// # Errors
     ///
@@ -273,16 +265,8 @@ impl Replica {
         cue_report::conflicts(alloc, &self.table)
     }
 
-    /// The text with a line behind it for each conflict, in the order of their paths.
-    pub fn conflict_lines(&self, alloc: Global, text: String) -> Result<String, Memory>
-        ensures lines { IfOk result (λ whole. AddsConflictLinesOf self.now
-            (string_bytes text) (string_bytes whole)) }
-    {
-        cue_report::conflict_lines(alloc, text, &self.table)
-    }
-
-    /// Tells a line for each conflict, in the order of their paths, as `conflict_lines` writes them,
-    /// and whether there is one.
+    /// Tells a line for each conflict, in the order of their paths, as `lines` writes them, and whether
+    /// there is one.
     ///
     /// # Errors
     ///
@@ -317,16 +301,8 @@ impl Replica {
         cue_report::incomplete(alloc, &self.table)
     }
 
-    /// The text with a line behind it for each place that is incomplete, in the order of the paths.
-    pub fn gap_lines(&self, alloc: Global, text: String) -> Result<String, Memory>
-        ensures lines { IfOk result (λ whole. AddsGapLinesOf self.now
-            (string_bytes text) (string_bytes whole)) }
-    {
-        cue_report::gap_lines(alloc, text, &self.table)
-    }
-
-    /// Tells a line for each place that is incomplete, in the order of the paths, as `gap_lines`
-    /// writes them, and whether there is one.
+    /// Tells a line for each place that is incomplete, in the order of the paths, as `lines` writes
+    /// them, and whether there is one.
     ///
     /// # Errors
     ///

@@ -46,18 +46,8 @@ conflict_line conflict =
 abbrev pub gap_line : Gap → List ℕ
 gap_line gap = line (codes "incomplete ") gap.path (lack_text gap.missing)
 
--- behind the text stands a line for each conflict, in the order of their paths
-abbrev pub AddsConflictLines : Refusals → List ℕ → List ℕ → Type 0
-AddsConflictLines refuses before after =
-    (found : List Conflict) × AreConflicts refuses found
-    × (after ≡ before ++ flat_map conflict_line found)
-
--- behind the text stands a line for each gap, in the order of their paths
-abbrev pub AddsGapLines : Refusals → List ℕ → List ℕ → Type 0
-AddsGapLines refuses before after =
-    (found : List Gap) × AreGaps refuses found × (after ≡ before ++ flat_map gap_line found)
-
--- known bytes grow by a line for each conflict, and whether there is one is told
+-- known bytes grow by a line for each conflict, in the order of their paths, and whether there is one
+-- is told
 abbrev pub TellsConflicts : Refusals → Bool → Option (List ℕ) → Option (List ℕ) → Type 0
 TellsConflicts refuses some old new =
     (found : List Conflict) × AreConflicts refuses found × (some ≡ not (is_nil found))

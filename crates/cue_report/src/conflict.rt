@@ -1,6 +1,5 @@
 ghost use Rattle.std.specs.Prelude.{◌≡◌, ◌↔◌, ◌-◌, false, [], IfOk, IfSome};
 ghost use Rattle.std.specs.Prelude.{OnOk, OnErr, nat_lt};
-ghost use Rattle.std.specs.Prelude.{string_bytes};
 ghost use Rattle.std.specs.Option.{option_map};
 ghost use Rattle.cue_row.specs.Row.{IsRow, RowRefuses};
 ghost use Rattle.cue_table.specs.Refuses.{TableRefuses};
@@ -9,7 +8,7 @@ ghost use Rattle.cue_table.specs.StepsOfCode.{span_of};
 ghost use Rattle.cue_table.specs.Tree.{none, row_of, rest_of};
 ghost use Rattle.cue_table.specs.Valid.{IsValidTable};
 ghost use Rattle.cue_report.specs.Documents.{SomeMeets};
-ghost use Rattle.cue_report.specs.Lines.{AddsConflictLines, BeginsConflicts, TellsConflicts};
+ghost use Rattle.cue_report.specs.Lines.{BeginsConflicts, TellsConflicts};
 ghost use Rattle.cue_report.specs.Listing.{AreConflicts};
 ghost use Rattle.cue_report.specs.Inner.Search.{has_no_value, conflict_here, conflicts_in};
 ghost use Rattle.cue_report.specs.Inner.Search.{conflicts_below, conflicts_onward, each_index};
@@ -53,17 +52,6 @@ pub fn conflicts(alloc: Global, table: &Table<Row>) -> Result<Vec<Conflict>, Mem
     let mut search = Search::new(alloc, Listed::new(alloc));
     search.visit(&mut found, &table.root(), false)?;
     Ok(found)
-}
-
-/// The text with a line behind it for each conflict of a table, in the order of their paths, as
-/// [`crate::lines`] writes them. No list of the conflicts is made.
-pub fn conflict_lines(alloc: Global, text: String, table: &Table<Row>) -> Result<String, Memory>
-    ensures lines { IfOk result (λ whole. AddsConflictLines (TableRefuses RowRefuses table.now)
-        (string_bytes text) (string_bytes whole)) }
-{
-    let mut whole = text;
-    tell_conflicts(alloc, table, &mut whole)?;
-    Ok(whole)
 }
 
 /// Tells of each conflict of a table by a line, in the order of their paths, as [`crate::lines`]

@@ -1,6 +1,5 @@
 ghost use Rattle.std.specs.Prelude.{◌≡◌, ◌↔◌, Bool, false, Some, []};
 ghost use Rattle.std.specs.Prelude.{IfOk, IfSome, IfNone, IsTrue, OnOk, OnErr, nat_lt};
-ghost use Rattle.std.specs.Prelude.{string_bytes};
 ghost use Rattle.std.specs.Option.{option_map};
 ghost use Rattle.cue_row.specs.Row.{IsRow, RowRefuses};
 ghost use Rattle.cue_table.specs.Refuses.{TableRefuses};
@@ -12,7 +11,7 @@ ghost use Rattle.cue_report.specs.Inner.GapSearch.{Fronts};
 ghost use Rattle.cue_report.specs.Inner.GapSearch.{IsGapBelow, IsGapAmong, IsGapOnward};
 ghost use Rattle.cue_report.specs.Inner.GapSearch.{free_before, free_elements, next_after, told_above};
 ghost use Rattle.cue_report.specs.Gaps.{AreGaps};
-ghost use Rattle.cue_report.specs.Lines.{AddsGapLines, BeginsGaps, TellsGaps};
+ghost use Rattle.cue_report.specs.Lines.{BeginsGaps, TellsGaps};
 ghost use Rattle.cue_report.specs.Inner.Search.{lacks_value, least_at};
 ghost use Rattle.cue_report.specs.Telling.{Grows, Starts};
 ghost use Rattle.cue_report.specs.Trail.{shown_steps};
@@ -47,17 +46,6 @@ pub fn incomplete(alloc: Global, table: &Table<Row>) -> Result<Vec<Gap>, Memory>
     let mut search = Search::new(alloc, Listed::new(alloc));
     search.visit(&mut found, &table.root(), false)?;
     Ok(found)
-}
-
-/// The text with a line behind it for each gap of a table, in the order of their paths, as
-/// [`crate::lines`] writes them. No list of the gaps is made.
-pub fn gap_lines(alloc: Global, text: String, table: &Table<Row>) -> Result<String, Memory>
-    ensures lines { IfOk result (λ whole. AddsGapLines (TableRefuses RowRefuses table.now)
-        (string_bytes text) (string_bytes whole)) }
-{
-    let mut whole = text;
-    tell_gaps(alloc, table, &mut whole)?;
-    Ok(whole)
 }
 
 /// Tells of each gap of a table by a line, in the order of their paths, as [`crate::lines`] writes

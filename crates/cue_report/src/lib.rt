@@ -15,14 +15,14 @@ mod sink;
 mod stream;
 mod written;
 
-pub use conflict::{Conflict, conflict_lines, conflicts, tell_conflicts};
+pub use conflict::{Conflict, conflicts, tell_conflicts};
 pub use cue_lattice::Memory;
 pub use cue_row::{Row, Step, path_text};
 pub use cue_table::Table;
-pub use gap::{Gap, gap_lines, incomplete, tell_gaps};
+pub use gap::{Gap, incomplete, tell_gaps};
 pub use law::one_report;
-pub use outcome::{Export, ExportKind, ExportText};
+pub use outcome::{Export, ExportKind};
 pub use place::Place;
 pub use report::lines;
 pub use serde_json::Value;
-pub use shape::{document, export, export_text, tell_export};
+pub use shape::{document, export, tell_export};

@@ -12,17 +12,6 @@ pub enum Export {
     Incomplete(Vec<Gap>),
 }
 
-/// What an export of a table comes to, as text.
-#[derive(Debug, Drop)]
-pub enum ExportText {
-    /// The document as JSON, as [`Export`] has it.
-    Json(String),
-    /// A line for each conflict, as [`crate::lines`] writes them.
-    Conflicts(String),
-    /// There is no conflict, and a line for each gap.
-    Incomplete(String),
-}
-
 /// What an export of a table comes to, where its text is told elsewhere.
 #[derive(Clone, Copy, Debug, PartialEq, Eq)]
 pub enum ExportKind {

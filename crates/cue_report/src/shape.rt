@@ -15,12 +15,12 @@ ghost use Rattle.cue_report.specs.Export.{AreElements, keys, count, data_of};
 ghost use Rattle.cue_report.specs.Inner.GapSearch.{AtPlace};
 ghost use Rattle.cue_report.specs.Inner.Search.{least_at};
 ghost use Rattle.cue_report.specs.Gaps.{IsFree};
-ghost use Rattle.cue_report.specs.ExportText.{BeginsExport, IsExportText, TellsExport};
+ghost use Rattle.cue_report.specs.ExportText.{BeginsExport, TellsExport};
 ghost use Rattle.cue_report.specs.Picks.{IsPicked};
 
 use crate::demand::{is_demanded, least_of};
 use crate::document_text::{document_text, tell_document};
-use crate::{Export, ExportKind, ExportText, conflicts, incomplete, tell_conflicts, tell_gaps};
+use crate::{Export, ExportKind, conflicts, incomplete, tell_conflicts, tell_gaps};
 use cue_device::TextSink;
 use cue_lattice::{Memory, Narrow};
 use cue_row::{Row, Step};
@@ -51,22 +51,8 @@ pub fn export(alloc: Global, table: &Table<Row>) -> Result<Export, Memory>
     Ok(Export::Json(text))
 }
 
-/// The export of a table as text: what [`export`] tells, with the lines of conflicts or gaps in
-/// place of their lists, which are not made.
-pub fn export_text(alloc: Global, table: &Table<Row>) -> Result<ExportText, Memory>
-    ensures export { IfOk result (λ told. IsExportText (TableRefuses RowRefuses table.now) told) }
-{
-    let mut text = String::new(alloc);
-    let kind = tell_export(alloc, table, &mut text)?;
-    match kind {
-        ExportKind::Json => Ok(ExportText::Json(text)),
-        ExportKind::Conflicts => Ok(ExportText::Conflicts(text)),
-        ExportKind::Incomplete => Ok(ExportText::Incomplete(text)),
-    }
-}
-
-/// Tells the text of the export of a table, as [`export_text`] gives it, and what it comes to.
-/// It is told while the table is walked, lines one by one and JSON in parts.
+/// Tells the export of a table as text, and what it comes to: what [`export`] tells, with a line for
+/// each conflict or gap. It is told while the table is walked, lines one by one and JSON in parts.
 ///
 /// # Errors
 ///

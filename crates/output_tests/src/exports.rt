@@ -1,6 +1,6 @@
 //! What an export comes to.
 use crate::sample::{Known, LACKING, Made, WHOLE, is, table};
-use cue_report::{Export, ExportText, export, export_text, lines};
+use cue_report::{Export, export, lines, tell_export};
 use cue_row::Row;
 use cue_table::Table;
 use std::alloc::Global;
@@ -20,13 +20,11 @@ fn export_listed(alloc: Global, table: &Table<Row>) -> Made<String> {
     }
 }
 
-/// The export of a table, made as text.
+/// The export of a table, told as text.
 fn export_written(alloc: Global, table: &Table<Row>) -> Made<String> {
-    match export_text(alloc, table)? {
-        ExportText::Json(text) => Ok(text),
-        ExportText::Conflicts(lines) => Ok(lines),
-        ExportText::Incomplete(lines) => Ok(lines),
-    }
+    let mut text = String::new(alloc);
+    tell_export(alloc, table, &mut text)?;
+    Ok(text)
 }
 
 /// Whether the table with these places is exported so, by lists and as text.

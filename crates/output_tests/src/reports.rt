@@ -1,7 +1,7 @@
 //! What stands in the way of an export, as lines.
 use crate::sample::{Known, LACKING, Made, WHOLE, is, path, steps, table};
 use cue_report::{
-    Conflict, Gap, Place, conflict_lines, conflicts, gap_lines, incomplete, lines, path_text,
+    Conflict, Gap, Place, conflicts, incomplete, lines, path_text, tell_conflicts, tell_gaps,
 };
 use cue_row::Row;
 use cue_table::Table;
@@ -23,21 +23,19 @@ fn told(alloc: Global, conflicts: Made<Vec<Conflict>>, gaps: Made<Vec<Gap>>) -> 
     lines(alloc, &conflicts?, &gaps?)
 }
 
-/// The lines of the conflicts of a table.
-fn conflicts_written(alloc: Global, table: &Table<Row>) -> Made<String> {
-    conflict_lines(alloc, String::new(alloc), table)
-}
-
-/// A text and behind it the lines of the gaps of a table.
-fn with_gaps(alloc: Global, text: Made<String>, table: &Table<Row>) -> Made<String> {
-    gap_lines(alloc, text?, table)
+/// The lines of the conflicts of a table, and behind them those of its gaps.
+fn report_written(alloc: Global, table: &Table<Row>) -> Made<String> {
+    let mut text = String::new(alloc);
+    tell_conflicts(alloc, table, &mut text)?;
+    tell_gaps(alloc, table, &mut text)?;
+    Ok(text)
 }
 
 /// Whether these lines are told of the table with these places, by lists and as text.
 fn reports(alloc: Global, places: &[Known], wanted: &str) -> Made<bool> {
     let table = table(alloc, places)?;
     let listed = told(alloc, found(alloc, &table), gaps(alloc, &table));
-    let written = with_gaps(alloc, conflicts_written(alloc, &table), &table);
+    let written = report_written(alloc, &table);
     Ok(is(listed, wanted)? && is(written, wanted)?)
 }
 

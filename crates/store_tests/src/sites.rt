@@ -41,8 +41,10 @@ pub fn state_size(site: &Replica) -> u64 {
 
 /// The lines of a site's report.
 pub fn report(alloc: Global, site: &Replica) -> Result<String, Memory> {
-    let conflicts = site.conflict_lines(alloc, String::new(alloc))?;
-    site.gap_lines(alloc, conflicts)
+    let mut lines = String::new(alloc);
+    site.tell_conflicts(alloc, &mut lines)?;
+    site.tell_gaps(alloc, &mut lines)?;
+    Ok(lines)
 }
 
 /// The state bytes of a site.

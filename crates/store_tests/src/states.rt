@@ -84,7 +84,9 @@ fn sites_are_unified(rt: HostRuntime) -> Result<(), Fail> {
 
 /// The lines of the gaps of a site.
 fn gaps_told(alloc: Global, site: &Replica) -> Result<String, Memory> {
-    site.gap_lines(alloc, String::new(alloc))
+    let mut lines = String::new(alloc);
+    site.tell_gaps(alloc, &mut lines)?;
+    Ok(lines)
 }
 
 /// Whether the gaps of a site that has accepted an input have so many bytes as lines, and end so.
