@@ -2,6 +2,7 @@
 #![tactic(auto)]
 
 mod file;
+mod free;
 mod laws;
 mod scalar;
 mod term;

@@ -5,17 +5,17 @@ ghost use Rattle.std.specs.Option.{option_map};
 ghost use Rattle.cue_device.specs.Texts.{Begins};
 ghost use Rattle.cue_table.specs.Tree.{below, rest_of, row_of};
 ghost use Rattle.cue_row.specs.Quoted.{quoted};
-ghost use Rattle.cue_print.specs.Expressions.{top};
 ghost use Rattle.cue_print.specs.Spelled.{joined, mark_text, value_text, field_texts};
-ghost use Rattle.cue_print.specs.Spelled.{element_texts, struct_text, list_text};
+ghost use Rattle.cue_print.specs.Spelled.{element_texts, struct_text};
 ghost use Rattle.cue_print.specs.Printed.{elements, inside, has_field, level_at};
 ghost use Rattle.cue_print.specs.Printed.{value_of, fields_below, rest_value};
 ghost use Rattle.cue_print.specs.Inner.Writing.{fields_at, element_of, further_at};
 ghost use Rattle.cue_print.specs.Inner.Writing.{beside_text, struct_before, opening, closing, is_exact};
-ghost use Rattle.cue_print.specs.Inner.Writing.{ending_text, longest_text, list_before, told_text, lead};
+ghost use Rattle.cue_print.specs.Inner.Writing.{ending_text, list_before, told_text, lead};
 ghost use Rattle.cue_print.specs.Inner.Writing.{closed_text, declared_text, written_struct, written_list};
-ghost use Rattle.cue_print.specs.Inner.Writing.{written_nothing, conjoined};
+ghost use Rattle.cue_print.specs.Inner.Writing.{written_nothing};
 
+use crate::free::{push_free_field, push_longest};
 use crate::scalar::push_scalar;
 use crate::writer::{Scratch, push_text, separate};
 use cue_device::TextSink;
@@ -388,23 +388,6 @@ pub(crate) fn push_field<S: TextSink>(
     Ok(())
 }
 
-/// Writes an optional field of anything.
-#[tactic(auto, using(crate::proofs::Turns::turns))]
-fn push_free_field<S: TextSink>(
-    scratch: &mut Scratch,
-    out: &mut S,
-    label: &Text,
-) -> Result<(), S::Halt>
-    ensures told { OnOk result (Appends (S.taken out.old) (S.taken out.new)
-        (quoted label.now ++ codes "?: _")) }
-    ensures begun { OnErr result (Begins (S.taken out.old) (S.taken out.new)
-        (quoted label.now ++ codes "?: _")) }
-{
-    push_text(scratch, out, label.as_str())?;
-    out.put("?: _")?;
-    Ok(())
-}
-
 /// The level of a place.
 fn level_of(row: Option<&Row>) -> Level
     ensures { result ≡ level_at (option_map (λ row. row.now) row.entry) }
@@ -563,46 +546,4 @@ fn push_element<S: TextSink>(
         None => out.put("_"),
         Some(element) => push_value(scratch, out, &element),
     }
-}
-
-/// Writes a list of the greatest length behind others, unless the elements alone tell the list.
-#[tactic(auto, unfolding(crate::specs::Inner::Writing::longest_text), using(crate::proofs::Turns::one_or_none))]
-fn push_longest<S: TextSink>(out: &mut S, most: Option<u32>, is_exact: bool) -> Result<(), S::Halt>
-    ensures told { OnOk result (Appends (S.taken out.old) (S.taken out.new)
-        (longest_text most is_exact)) }
-    ensures begun { OnErr result (Begins (S.taken out.old) (S.taken out.new)
-        (longest_text most is_exact)) }
-{
-    match most {
-        Some(most) if !is_exact => push_free_list(out, most),
-        _ => Ok(()),
-    }
-}
-
-/// Writes a list of as many free elements behind others.
-#[tactic(auto, using(crate::proofs::Turns::turns))]
-fn push_free_list<S: TextSink>(out: &mut S, count: u32) -> Result<(), S::Halt>
-    ensures told { OnOk result (Appends (S.taken out.old) (S.taken out.new)
-        (conjoined (list_text (element_texts (elements count (λ n. top)))))) }
-    ensures begun { OnErr result (Begins (S.taken out.old) (S.taken out.new)
-        (conjoined (list_text (element_texts (elements count (λ n. top)))))) }
-{
-    out.put(" & [")?;
-    push_free_elements(out, count)?;
-    out.put("]")?;
-    Ok(())
-}
-
-/// Writes as many free elements.
-fn push_free_elements<S: TextSink>(out: &mut S, count: u32) -> Result<(), S::Halt>
-    ensures told { OnOk result (Appends (S.taken out.old) (S.taken out.new)
-        (joined (codes ", ") (element_texts (elements count (λ n. top))))) }
-    ensures begun { OnErr result (Begins (S.taken out.old) (S.taken out.new)
-        (joined (codes ", ") (element_texts (elements count (λ n. top))))) }
-{
-    for number in 0..count {
-        separate(out, ", ", number == 0)?;
-        out.put("_")?;
-    }
-    Ok(())
 }

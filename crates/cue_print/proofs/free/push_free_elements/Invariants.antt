@@ -6,7 +6,7 @@ use Rattle.cue_print.specs.Printed.{elements}
 use Rattle.cue_print.specs.Spelled.{joined, element_texts}
 use Rattle.cue_print.proofs.Joined.{left_joined}
 use Rattle.cue_print.proofs.ListTexts.{elements_left}
-use Rattle.cue_print.proofs.value.push_free_elements.Given as goal
+use Rattle.cue_print.proofs.free.push_free_elements.Given as goal
 
 abbrev pub invariant-loop-number : goal.invariant-loop-number
 invariant-loop-number g l =

@@ -4,7 +4,7 @@ use Rattle.cue_device.proofs.Telling.{on_err, tells_all}
 use Rattle.cue_print.specs.Expressions.{top}
 use Rattle.cue_print.proofs.Joined.{none_joined, part_separated, text_told, part_told, later}
 use Rattle.cue_print.proofs.ListTexts.{first_free, no_element_left}
-use Rattle.cue_print.proofs.value.push_free_elements.Goals as goal
+use Rattle.cue_print.proofs.free.push_free_elements.Goals as goal
 
 pub loop-number-preserved : goal.loop-number-preserved
 loop-number-preserved g c =

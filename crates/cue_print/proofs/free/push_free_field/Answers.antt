@@ -2,7 +2,7 @@ use Rattle.std.proofs.Common.{ap}
 use Rattle.cue_device.proofs.Texts.{begins_now, begins_later}
 use Rattle.cue_device.proofs.Telling.{on_err, begins_as, appends_as}
 use Rattle.cue_row.specs.Quoted.{quoted}
-use Rattle.cue_print.proofs.value.push_free_field.Goals as goal
+use Rattle.cue_print.proofs.free.push_free_field.Goals as goal
 
 pub returns-in_err-push_text-clause-begun : goal.returns-in_err-push_text-clause-begun
 returns-in_err-push_text-clause-begun g c =

@@ -1,6 +1,6 @@
 use Rattle.cue_device.proofs.Texts.{begins_now, begins_later}
 use Rattle.cue_device.proofs.Telling.{on_err}
-use Rattle.cue_print.proofs.value.push_free_list.Goals as goal
+use Rattle.cue_print.proofs.free.push_free_list.Goals as goal
 
 pub returns-in_err-put-clause-begun : goal.returns-in_err-put-clause-begun
 returns-in_err-put-clause-begun g c =
