@@ -1,50 +1,41 @@
 #!/usr/bin/env python3
 """Writes the table of instructions beside another program (bench/RESULTS.md), and draws it (docs/speed.svg).
 
-usage: bench/speed.py COUNTS MEMORY [PICTURE]
+usage: bench/speed.py [--before FILE] [PICTURE]
 
-COUNTS and MEMORY are JSON: a list of records, one for each run of a workload at a size by one of two programs, the other
-one first, with `workload`, `n`, `program`, `median` (instructions), `rss_mib` (peak memory) and `same` (whether output and
-status were those of the other program). Only COUNTS is asked for instructions, and only MEMORY for memory. The workload
-`empty` is an empty run, whose cost is taken off before growth is told. The table goes to standard output. What each
-workload is, and its ratio when it was counted before, stands in bench/speed.tsv.
+What is told stands in bench/results.tsv and, of the other program, in bench/other.tsv, which `bench/compare --write` makes of
+the kinds of work in bench/kinds. What a kind is, is said by the first line of its file. With --before, a file as
+bench/results.tsv was at another time, a ring stands in the picture where the ratio was then. The table goes to standard output.
 """
-import json
+import argparse
+import ast
 import math
 import os
 import sys
 
 HERE = os.path.dirname(os.path.realpath(__file__))
 # Of the picture, in its units: the width of the names, of the plot and of the values, and the height of a row.
-NAMES, PLOT, VALUES, ROW, TOP = 500, 430, 60, 20, 78
+NAMES, PLOT, VALUES, ROW, TOP = 560, 430, 60, 20, 78
 
 
 class Work:
-    """A workload that both programs ran: what it is, its size, and what it cost each."""
+    """A kind of work that both programs did: what it is, its size, and what it cost each."""
 
-    def __init__(self, name, before, words, runs, memory, empty):
-        self.name, self.words = name, words
-        self.before = None if before == "-" else float(before)
-        self.n = runs[-1][0]
-        self.theirs, self.ours = runs[-1][1]
-        self.ratio = self.ours / self.theirs
-        self.growth = [growth(runs[0][0], runs[0][1][k] - empty[k], self.n, runs[-1][1][k] - empty[k]) for k in (0, 1)]
-        self.memory = memory
+    def __init__(self, name, ours, theirs, before):
+        with open(os.path.join(HERE, "kinds", f"{name}.py"), encoding="utf-8") as file:
+            tree = ast.parse(file.read())
+        self.words = ast.get_docstring(tree).rstrip(".")
+        self.size = next(node.value.value for node in tree.body if isinstance(node, ast.Assign))
+        self.theirs, self.ours = theirs[2], ours[2]
+        self.ratio, self.before = ours[2] / theirs[2], before and before[2] / theirs[2]
+        self.growth = [math.log(costs[2] / costs[0], 4) for costs in (theirs, ours)]
+        self.memory = ours[3] / theirs[3]
 
     def row(self):
         """Its row of the table."""
-        cells = [self.words.replace("|", "\\|"), f"{self.n:,}", f"{self.theirs / 1e6:,.1f}", f"{self.ours / 1e6:,.1f}",
-                 shown(self.ratio), "-" if self.before is None else shown(self.before),
-                 ", ".join("-" if g is None else f"{g:.2f}" for g in self.growth),
-                 "-" if self.memory is None else shown(self.memory)]
-        return "| " + " | ".join(cells) + " |"
-
-
-def growth(small, cost, large, more):
-    """The exponent with which the cost grows, where it is more than noise."""
-    if small == large or cost <= 0 or more <= 0:
-        return None
-    return math.log(more / cost) / math.log(large / small)
+        cells = [self.words, f"{self.size:,}", f"{self.theirs / 1e6:,.1f}", f"{self.ours / 1e6:,.1f}", shown(self.ratio),
+                 ", ".join(f"{growth:.2f}" for growth in self.growth), shown(self.memory)]
+        return "| " + " | ".join(cell.replace("|", "\\|") for cell in cells) + " |"
 
 
 def shown(ratio):
@@ -57,49 +48,32 @@ def mean(ratios):
     return math.exp(sum(map(math.log, ratios)) / len(ratios))
 
 
-def runs_of(records, key):
-    """By workload the sizes, each with what the two programs cost, the other one's first."""
-    programs = []
-    for record in records:
-        if "n" in record and record["program"] not in programs:
-            programs.append(record["program"])
-    runs = {}
-    for record in records:
-        if "n" in record and record[key] is not None:
-            costs = runs.setdefault(record["workload"], {}).setdefault(record["n"], [None, None])
-            costs[programs.index(record["program"])] = record[key]
-    return {name: sorted((n, costs) for n, costs in sizes.items() if None not in costs) for name, sizes in runs.items()}
+def counted(path):
+    """By kind, the counts of a file of results."""
+    with open(path, encoding="utf-8") as file:
+        rows = [line.split() for line in file if line.strip() and not line.startswith("#")]
+    return {row[0]: list(map(int, row[1:])) for row in rows}
 
 
-def works_of(counts, memory):
-    """The workloads that were counted, in the order of bench/speed.tsv."""
-    runs, peaks = runs_of(counts, "median"), runs_of(memory, "rss_mib")
-    empty = runs["empty"][0][1]
-    works = []
-    with open(os.path.join(HERE, "speed.tsv")) as file:
-        for line in file:
-            name, before, words = line.rstrip("\n").split("\t")
-            if runs.get(name):
-                peak = peaks[name][-1][1] if peaks.get(name) else None
-                works.append(Work(name, before, words, runs[name], peak and peak[1] / peak[0], empty))
-    return works
+def works_of(before):
+    """The kinds of work that both programs did, in the order of their ratios."""
+    ours, theirs = (counted(os.path.join(HERE, name)) for name in ("results.tsv", "other.tsv"))
+    earlier = counted(before) if before else {}
+    works = [Work(name, ours[name], theirs[name], earlier.get(name)) for name in ours if name in theirs]
+    return sorted(works, key=lambda work: work.ratio)
 
 
 def table(works):
     """The lines of the table, and those that sum it up."""
-    yield "| Work | n | Other program | `cuestore` | Ratio | Before | Growth | Memory |"
-    yield "|---|---|---|---|---|---|---|---|"
+    yield "| Work | N | Other program | `cuestore` | Ratio | Growth | Memory |"
+    yield "|---|---|---|---|---|---|---|"
     yield from (work.row() for work in works)
-    again = [work for work in works if work.before is not None]
-    known = [work.memory for work in works if work.memory is not None]
+    ratios, memory = [work.ratio for work in works], [work.memory for work in works]
     yield ""
-    yield (f"Ratio: mean {mean([w.ratio for w in works]):.2f}, worst {max(w.ratio for w in works):.2f}, "
-           f"{sum(w.ratio <= 1 for w in works)} of {len(works)} at most 1.0, {sum(w.ratio <= 2 for w in works)} at most 2.0")
-    yield (f"Counted before, {len(again)}: mean {mean([w.before for w in again]):.2f} then, "
-           f"{mean([w.ratio for w in again]):.2f} now; worst {max(w.before for w in again):.2f} then, "
-           f"{max(w.ratio for w in again):.2f} now")
-    if known:
-        yield f"Memory: mean {mean(known):.2f}, worst {max(known):.2f}"
+    yield (f"Ratio: mean {mean(ratios):.2f}, worst {max(ratios):.2f}, {sum(ratio <= 1 for ratio in ratios)} of {len(ratios)} "
+           f"at most 1.0, {sum(ratio <= 2 for ratio in ratios)} at most 2.0")
+    yield f"Growth: {max(work.growth[1] for work in works):.2f} at most"
+    yield f"Memory: mean {mean(memory):.2f}, worst {max(memory):.2f}"
 
 
 class Axis:
@@ -130,10 +104,10 @@ def text(x, y, words, rest=""):
 
 
 def bar(axis, work, y):
-    """A workload's name, its bar from 1.0 on, its ratio, and a ring where the ratio was before."""
+    """A kind's name, its bar from 1.0 on, its ratio, and a ring where the ratio was before."""
     start, end = axis.across(1.0), axis.across(work.ratio)
     colour = "#3a8f4d" if work.ratio <= 1 else "#3b78b5" if work.ratio <= 2 else "#c8641b"
-    yield text(NAMES - 26, y + 13, work.words, 'text-anchor="end" fill="#222"')
+    yield text(NAMES - 26, y + 13, work.words, 'text-anchor="end" fill="#222" font-size="11"')
     yield (f'<rect x="{min(start, end):.1f}" y="{y + 3}" width="{max(abs(end - start), 1):.1f}" height="{ROW - 6}" '
            f'fill="{colour}"/>')
     if work.before is not None:
@@ -143,7 +117,7 @@ def bar(axis, work, y):
 
 
 def picture(works):
-    """The lines of the picture, with the workloads in the order of their ratios."""
+    """The lines of the picture."""
     axis = Axis([work.ratio for work in works] + [work.before for work in works if work.before is not None])
     bottom = TOP + ROW * len(works)
     width, height = NAMES + PLOT + VALUES, bottom + 16
@@ -155,7 +129,7 @@ def picture(works):
                'font-size="15" font-weight="bold" fill="#222"')
     yield from legend(20, 45)
     yield from axis.lines(bottom)
-    for k, work in enumerate(sorted(works, key=lambda work: work.ratio)):
+    for k, work in enumerate(works):
         yield from bar(axis, work, TOP + ROW * k)
     yield "</svg>"
 
@@ -170,21 +144,18 @@ def legend(x, y):
     yield text(x + 18, y, "when it was counted before", 'fill="#444"')
 
 
-def main(words):
-    if len(words) not in (2, 3):
-        print(__doc__, file=sys.stderr)
-        return 1
-    counts, memory = (json.load(open(name)) for name in words[:2])
-    works = works_of(counts, memory)
+def main():
+    parser = argparse.ArgumentParser(description=__doc__, formatter_class=argparse.RawDescriptionHelpFormatter)
+    parser.add_argument("--before", metavar="FILE")
+    parser.add_argument("picture", nargs="?", metavar="PICTURE")
+    asked = parser.parse_args()
+    works = works_of(asked.before)
     print("\n".join(table(works)))
-    if len(words) == 3:
-        with open(words[2], "w") as file:
+    if asked.picture:
+        with open(asked.picture, "w", encoding="utf-8") as file:
             file.write("\n".join(picture(works)) + "\n")
-    differing = sorted({record["workload"] for record in counts + memory if not record.get("same", True)})
-    for name in differing:
-        print(f"{name}: output or status differs", file=sys.stderr)
-    return 1 if differing else 0
+    return 0
 
 
 if __name__ == "__main__":
-    sys.exit(main(sys.argv[1:]))
+    sys.exit(main())
