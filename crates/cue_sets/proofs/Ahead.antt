@@ -3,7 +3,7 @@ use Rattle.std.proofs.Common.{◌≡◌, ◌≤◌, ◌-◌, ◌||◌, List, [],
 use Rattle.std.proofs.lemmas.List.{take_all}
 use Rattle.std.proofs.lemmas.Int.{ints}
 use Rattle.cue_sets.specs.Pieces.{is_member, least, IsCanonical, AscendsFrom}
-use Rattle.cue_sets.specs.Sweep.{EndsFrom}
+use Rattle.cue_sets.specs.Inner.Sweep.{EndsFrom}
 use Rattle.cue_sets.specs.PieceLaws.{is_within-above, AscendsFrom-lower}
 
 ends_later : (from last : ℤ) (pieces : List (ℤ × ℤ)) → (from -ℤ pos 1) ≤ℤ last → AscendsFrom (last +ℤ pos 2) pieces → EndsFrom from pieces

@@ -2,8 +2,8 @@
 use Rattle.std.proofs.Common.{◌≡◌, ℕ, zero, suc, ◌+◌, ◌-◌, ◌<◌, Bool, true, false, List, [], ◌∷◌, ◌++◌, length, get_or, refl, ap, subst, arith}
 use Rattle.std.proofs.lemmas.Cmp.{nat_list_cmp_total}
 use Rattle.std.specs.declared.cmp.Ordering.TheVariants.{Less}
-use Rattle.cue_sets.specs.Apart.{AreBelow, AreApart}
-use Rattle.cue_sets.specs.Merge.{right_merged, merged}
+use Rattle.cue_sets.specs.Inner.Apart.{AreBelow, AreApart}
+use Rattle.cue_sets.specs.Inner.Merge.{right_merged, merged}
 use Rattle.cue_sets.specs.Texts.{text_cmp, IsAscending}
 
 -- an ascending list whose last text is below another text

@@ -4,7 +4,7 @@ use Rattle.std.proofs.lemmas.List.{take_all}
 use Rattle.std.specs.declared.cmp.Ordering.TheVariants.{Equal}
 use Rattle.cue_sets.specs.Texts.{text_cmp}
 use Rattle.cue_sets.specs.TextLaws.{same_from_equal}
-use Rattle.cue_sets.specs.Merge.{prepended_if, merged_at, merged_from, merged}
+use Rattle.cue_sets.specs.Inner.Merge.{prepended_if, merged_at, merged_from, merged}
 
 -- a list by its first element and the others
 pub first_and_others : {X : Type 0} (xs : List X) (x : X) → 1 ≤ length xs → x ≡ get_or xs 0 x → xs ≡ x ∷ take (length xs - 1) (drop 1 xs)

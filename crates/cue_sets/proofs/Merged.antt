@@ -7,7 +7,7 @@ use Rattle.std.proofs.lemmas.Slice.Eq.{bytes_eq-Decides}
 use Rattle.cue_sets.specs.Combination.{keeps}
 use Rattle.cue_sets.specs.Texts.{is_listed, flipped, is_text_member, text_cmp, IsBelowAll, IsAscending}
 use Rattle.cue_sets.specs.TextLaws.{reverse_cmp, same_from_equal, bytes_eq-itself, is_listed-below, IsBelowAll-lower, is_listed-before_first}
-use Rattle.cue_sets.specs.Merge.{prepended_if, right_merged, merged_at, merged_from, merged, lists}
+use Rattle.cue_sets.specs.Inner.Merge.{prepended_if, right_merged, merged_at, merged_from, merged, lists}
 use Rattle.cue_sets.specs.declared.combination.Combination.{Combination}
 
 -- ---- the texts of a merge ascend

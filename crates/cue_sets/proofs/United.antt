@@ -9,7 +9,7 @@ use Rattle.std.proofs.lemmas.List.Folds.{list_any_more}
 use Rattle.std.proofs.lemmas.List.Sorted.{list_any-IsPermutation}
 use Rattle.cue_sets.specs.Pieces.{is_within, is_member, least, greatest, AscendsFrom, IsCanonical}
 use Rattle.cue_sets.specs.PieceLaws.{is_within-above, is_within-below, is_within-inside, is_member-append, AscendsFrom-lower}
-use Rattle.cue_sets.specs.Sorted.{IsPiece}
+use Rattle.cue_sets.specs.Inner.Sorted.{IsPiece}
 
 -- the pieces begin at `start` or later, and none begins before the one before it
 abbrev pub RisesFrom : ℤ → List (ℤ × ℤ) → Type 0

@@ -5,7 +5,7 @@ use Rattle.std.specs.Str.{bytes_eq}
 use Rattle.std.proofs.lemmas.Bool.{false≢true}
 use Rattle.std.proofs.lemmas.Slice.Eq.{bytes_eq-Decides}
 use Rattle.cue_sets.specs.Texts.{is_listed, flipped, is_text_member, IsAscending}
-use Rattle.cue_sets.specs.Merge.{merged}
+use Rattle.cue_sets.specs.Inner.Merge.{merged}
 use Rattle.cue_sets.specs.TextLaws.{greatest_length, zeros, is_listed-zeros, first_is_listed}
 use Rattle.cue_sets.proofs.Merged.{is_listed-merged}
 use Rattle.cue_sets.proofs.TextSearch.{listed_at}

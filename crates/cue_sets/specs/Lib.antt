@@ -1,12 +1,8 @@
-pub mod Apart
 pub mod Changes
 pub mod Combination
+pub mod Inner
 pub mod Kept
-pub mod Merge
 pub mod PieceLaws
 pub mod Pieces
-pub mod Sorted
-pub mod Sweep
-pub mod Taken
 pub mod TextLaws
 pub mod Texts

@@ -6,7 +6,7 @@ ghost use Rattle.std.specs.List.{All, list_any};
 ghost use Rattle.cue_sets.specs.Pieces.{is_member, is_int64, IsCanonical, IsFirstMember};
 ghost use Rattle.cue_sets.specs.Pieces.{IsOnlyMember, least, greatest};
 ghost use Rattle.cue_sets.specs.Combination.{keeps};
-ghost use Rattle.cue_sets.specs.Sorted.{IsPiece};
+ghost use Rattle.cue_sets.specs.Inner.Sorted.{IsPiece};
 
 use crate::combination::Combination;
 use crate::kept::Kept;

@@ -1,8 +1,8 @@
 //! Two lists of texts as one, whose texts are moved.
 ghost use Rattle.std.specs.Prelude.{◌≡◌, ◌+◌, ◌<◌, Bool, [], length, IfOk, IfSome, IfNone, IsTrue};
-ghost use Rattle.cue_sets.specs.Apart.{AreApart};
-ghost use Rattle.cue_sets.specs.Merge.{lists, merged, prepended_if};
-ghost use Rattle.cue_sets.specs.Taken.{IsLeast, left_of};
+ghost use Rattle.cue_sets.specs.Inner.Apart.{AreApart};
+ghost use Rattle.cue_sets.specs.Inner.Merge.{lists, merged, prepended_if};
+ghost use Rattle.cue_sets.specs.Inner.Taken.{IsLeast, left_of};
 ghost use Rattle.cue_sets.specs.Texts.{IsAscending};
 
 use crate::texts::Lists;

@@ -2,7 +2,7 @@ ghost use Rattle.std.specs.Prelude.{◌≡◌, ℤ, pos, ◌-ℤ◌, ◌≤ℤ�
 ghost use Rattle.std.specs.Prelude.{true, ◌↔◌, IsTrue};
 ghost use Rattle.cue_sets.specs.Combination.{keeps};
 ghost use Rattle.cue_sets.specs.Pieces.{is_member, IsCanonical};
-ghost use Rattle.cue_sets.specs.Sweep.{EndsFrom, closed, opened};
+ghost use Rattle.cue_sets.specs.Inner.Sweep.{EndsFrom, closed, opened};
 
 use crate::combination::Combination;
 use cue_lattice::Memory;

@@ -4,7 +4,7 @@ ghost use Rattle.std.specs.List.{All};
 ghost use Rattle.std.specs.List.Sorted.{IsSortedByKey};
 ghost use Rattle.std.specs.Ordering.{int_cmp};
 ghost use Rattle.cue_sets.specs.Pieces.{is_member, IsCanonical};
-ghost use Rattle.cue_sets.specs.Sorted.{IsPiece};
+ghost use Rattle.cue_sets.specs.Inner.Sorted.{IsPiece};
 
 use cue_lattice::Memory;
 use std::alloc::Global;

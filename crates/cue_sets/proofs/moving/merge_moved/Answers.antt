@@ -1,6 +1,6 @@
 use Rattle.std.proofs.Common.{sym, ◌∙◌, subst}
-use Rattle.cue_sets.specs.Apart.{AreApart}
-use Rattle.cue_sets.specs.Merge.{lists}
+use Rattle.cue_sets.specs.Inner.Apart.{AreApart}
+use Rattle.cue_sets.specs.Inner.Merge.{lists}
 use Rattle.cue_sets.proofs.Apart.{merged_apart}
 use Rattle.cue_sets.proofs.moving.merge_moved.Goals as goal
 

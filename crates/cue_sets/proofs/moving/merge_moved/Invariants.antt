@@ -1,5 +1,5 @@
 use Rattle.std.proofs.Common.{◌≡◌, ◌+◌, ◌++◌, length}
-use Rattle.cue_sets.specs.Merge.{lists, merged}
+use Rattle.cue_sets.specs.Inner.Merge.{lists, merged}
 use Rattle.cue_sets.proofs.moving.merge_moved.Given as goal
 
 abbrev pub invariant-loop-least : goal.invariant-loop-least

@@ -1,5 +1,5 @@
 use Rattle.std.proofs.Common.{rules, ◌≡◌, length, ◌-◌, ◌∷◌, ap, ◌∙◌, take, drop}
-use Rattle.cue_sets.specs.Merge.{merged}
+use Rattle.cue_sets.specs.Inner.Merge.{merged}
 use Rattle.cue_sets.specs.Texts.{text_cmp}
 use Rattle.std.specs.declared.cmp.Ordering.TheVariants.{Equal}
 use Rattle.cue_sets.proofs.Beside.{first_and_others, shared_first}

@@ -1,6 +1,6 @@
 use Rattle.std.proofs.Common.{◌≡◌, true, [], refl, sym, ap, ◌∙◌}
 use Rattle.std.proofs.lemmas.Bool.{false≢true}
-use Rattle.cue_sets.specs.Merge.{merged, prepended_if}
+use Rattle.cue_sets.specs.Inner.Merge.{merged, prepended_if}
 use Rattle.cue_sets.proofs.Within.{is_amiss, none_amiss, some_amiss}
 use Rattle.cue_sets.proofs.texts.each_is_met.Goals as goal
 

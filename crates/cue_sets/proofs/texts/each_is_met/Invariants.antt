@@ -1,5 +1,5 @@
 use Rattle.std.proofs.Common.{◌≡◌, ◌+◌, length}
-use Rattle.cue_sets.specs.Merge.{merged}
+use Rattle.cue_sets.specs.Inner.Merge.{merged}
 use Rattle.cue_sets.proofs.Within.{is_amiss}
 use Rattle.cue_sets.proofs.texts.each_is_met.Given as goal
 

@@ -1,7 +1,7 @@
 use Rattle.std.proofs.Common.{◌++◌, ◌≡◌, ap, ◌∙◌, rules}
 use Rattle.std.proofs.lemmas.List.Elements.{All-append}
 use Rattle.cue_sets.specs.Pieces.{least, IsCanonical}
-use Rattle.cue_sets.specs.Sorted.{IsPiece}
+use Rattle.cue_sets.specs.Inner.Sorted.{IsPiece}
 use Rattle.cue_sets.proofs.United.{pieces_of_set, members_more}
 use Rattle.cue_sets.proofs.int_set.IntSet.gathered.Goals as goal
 

@@ -1,7 +1,7 @@
 use Rattle.std.proofs.Common.{◌≡◌, ℤ, take, All}
 use Rattle.std.specs.List.{list_any}
 use Rattle.cue_sets.specs.Pieces.{is_member}
-use Rattle.cue_sets.specs.Sorted.{IsPiece}
+use Rattle.cue_sets.specs.Inner.Sorted.{IsPiece}
 use Rattle.cue_sets.proofs.int_set.IntSet.gathered.Given as goal
 
 -- the pieces of the sets before this one

@@ -5,7 +5,7 @@ use Rattle.std.specs.Ordering.{int_cmp}
 use Rattle.std.proofs.lemmas.Fn.{always_returns_same}
 use Rattle.std.proofs.lemmas.List.Sorted.{All-permutation}
 use Rattle.cue_sets.specs.Pieces.{is_member}
-use Rattle.cue_sets.specs.Sorted.{IsPiece}
+use Rattle.cue_sets.specs.Inner.Sorted.{IsPiece}
 use Rattle.cue_sets.proofs.United.{is_member-permutation}
 use Rattle.cue_sets.proofs.int_set.IntSet.union_all.Goals as goal
 

@@ -1,4 +1,4 @@
-use Rattle.cue_sets.specs.Merge.{lists}
+use Rattle.cue_sets.specs.Inner.Merge.{lists}
 use Rattle.cue_sets.proofs.Merged.{IsAscending-merged, is_text_member-merged}
 use Rattle.cue_sets.proofs.text_set.TextSet.combined.Goals as goal
 

@@ -1,4 +1,4 @@
-use Rattle.cue_sets.specs.Merge.{lists}
+use Rattle.cue_sets.specs.Inner.Merge.{lists}
 use Rattle.cue_sets.specs.declared.combination.Combination.TheVariants.{Meet}
 use Rattle.cue_sets.proofs.Merged.{IsAscending-merged, is_text_member-merged}
 use Rattle.cue_sets.proofs.text_set.TextSet.meet_moving.Goals as goal

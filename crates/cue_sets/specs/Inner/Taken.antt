@@ -1,6 +1,6 @@
 -- A text that is taken from two lists, of which only the right one is taken over.
 use Rattle.std.specs.Prelude.{◌≡◌, ℕ, Bool, true, false, List}
-use Rattle.cue_sets.specs.Merge.{merged, prepended_if}
+use Rattle.cue_sets.specs.Inner.Merge.{merged, prepended_if}
 use Rattle.cue_sets.specs.declared.moving.Taken.{Taken}
 use Rattle.cue_sets.specs.declared.moving.Taken.TheVariants.{Stays, Moves}
 
