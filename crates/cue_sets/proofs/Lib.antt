@@ -4,6 +4,7 @@ pub mod Beside
 pub mod Following
 pub mod Inside
 pub mod Joined
+pub mod LeftOut
 pub mod Merged
 pub mod Neighbours
 pub mod OnePiece

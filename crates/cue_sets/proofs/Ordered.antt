@@ -1,5 +1,5 @@
 -- Texts in any order as an ascending list.
-use Rattle.std.proofs.Common.{◌≡◌, ℕ, suc, ◌+◌, Bool, true, false, ◌||◌, List, [], ◌∷◌, ◌++◌, length, get_or, refl, sym, ap, ◌∙◌, subst, arith, append_assoc}
+use Rattle.std.proofs.Common.{◌≡◌, ℕ, suc, ◌+◌, Bool, true, false, not, ◌&&◌, ◌||◌, List, [], ◌∷◌, ◌++◌, length, get_or, refl, sym, ap, ◌∙◌, subst, arith, append_assoc}
 use Rattle.std.specs.Str.{bytes_eq}
 use Rattle.std.specs.List.Sorted.{IsSortedBy, IsPermutation}
 use Rattle.std.specs.List.{list_any}
@@ -119,6 +119,15 @@ is_listed-permutation xs ys t moved = is_listed-any ys t ∙ sym (list_any-IsPer
 pub gathered_more : (texts more : List (List ℕ)) (others later : Bool) (t : List ℕ) → ((is_listed (texts ++ more) t || others) || later) ≡ ((is_listed texts t || others) || (is_listed more t || later))
 gathered_more texts more others later t = ap (λ b. (b || others) || later) (is_listed-append texts more t) ∙ moved (is_listed texts t) (is_listed more t) others where
   moved : (a b others : Bool) → (((a || b) || others) || later) ≡ ((a || others) || (b || later))
+  moved true b others = refl
+  moved false true true = refl
+  moved false true false = refl
+  moved false false others = refl
+
+-- the texts that one more set of all texts but some lacks
+pub lacked_more : (texts more : List (List ℕ)) (others later : Bool) (t : List ℕ) → ((not (is_listed (texts ++ more) t) && others) && later) ≡ ((not (is_listed texts t) && others) && (not (is_listed more t) && later))
+lacked_more texts more others later t = ap (λ b. (not b && others) && later) (is_listed-append texts more t) ∙ moved (is_listed texts t) (is_listed more t) others where
+  moved : (a b others : Bool) → ((not (a || b) && others) && later) ≡ ((not a && others) && (not b && later))
   moved true b others = refl
   moved false true true = refl
   moved false true false = refl

@@ -1,14 +1,16 @@
 ghost use Rattle.std.specs.Prelude.{◌≡◌, ℤ, ◌≤ℤ◌, ◌↔◌, ◌++◌, ◌&&◌, ◌||◌, not};
 ghost use Rattle.std.specs.Prelude.{true, [], ◌∷◌, IfOk, IfSome, IfNone, Ok, Some, None};
-ghost use Rattle.std.specs.Prelude.{IsTrue};
+ghost use Rattle.std.specs.Prelude.{IsTrue, ◌<◌, length};
 ghost use Rattle.std.specs.Ordering.{int_eq};
-ghost use Rattle.std.specs.List.{All, list_any};
+ghost use Rattle.std.specs.List.{All, list_all, list_any};
 ghost use Rattle.cue_sets.specs.Pieces.{is_member, is_int64, IsCanonical, IsFirstMember};
 ghost use Rattle.cue_sets.specs.Pieces.{IsOnlyMember, least, greatest};
 ghost use Rattle.cue_sets.specs.Combination.{keeps};
+ghost use Rattle.cue_sets.specs.Inner.Gaps.{lacks};
 ghost use Rattle.cue_sets.specs.Inner.Sorted.{IsPiece};
 
 use crate::combination::Combination;
+use crate::gaps::put_gaps;
 use crate::kept::Kept;
 use crate::pieces::{combine, has, is_before, is_canonical, is_within};
 use crate::uniting::unite;
@@ -161,11 +163,22 @@ impl IntSet {
         ensures { IfOk result (λ all. (n : ℤ) →
             is_member all n ≡ list_any (λ set. is_member set n) sets.items) }
     {
-        let mut pieces = IntSet::gathered(alloc, sets.as_slice())?;
-        pieces.sort_unstable_by_key(|piece| piece.0);
-        Ok(IntSet {
-            pieces: Kept::of(unite(alloc, pieces.as_slice())?),
-        })
+        IntSet::united(alloc, IntSet::gathered(alloc, sets.as_slice())?)
+    }
+
+    /// The members of all of these sets, which are taken over. What each set but the first one
+    /// leaves out is sorted, and walked once beside the first one.
+    pub fn meet_all(alloc: Global, sets: Vec<IntSet>) -> Result<IntSet, Memory>
+        requires { 0 < length sets.items }
+        ensures { IfOk result (λ met. (n : ℤ) →
+            is_member met n ≡ list_all (λ set. is_member set n) sets.items) }
+    {
+        let Some((first, others)) = sets.as_slice().split_first() else {
+            unreachable!()
+        };
+        first.known();
+        let left_out = IntSet::united(alloc, IntSet::gaps(alloc, others)?)?;
+        first.without(alloc, &left_out)
     }
 
     /// The members of this set that the other lacks.
@@ -243,6 +256,30 @@ impl IntSet {
             pieces.extend_from_slice(set.pieces())?;
         }
         Ok(pieces)
+    }
+
+    /// The integers of 64 bits that one or more of these sets leave out, as pieces.
+    fn gaps(alloc: Global, sets: &[IntSet]) -> Result<Vec<(i64, i64)>, Memory>
+        ensures pieces { IfOk result (λ gaps. All IsPiece gaps.items) }
+        ensures members { IfOk result (λ gaps. (n : ℤ) →
+            is_member gaps.items n ≡ list_any (λ set. lacks set n) sets.now) }
+    {
+        let mut gaps = Vec::with_capacity(alloc, sets.len())?;
+        for set in sets {
+            put_gaps(&mut gaps, set.pieces())?;
+        }
+        Ok(gaps)
+    }
+
+    /// The numbers that these pieces have. They are sorted, and then walked once.
+    fn united(alloc: Global, mut pieces: Vec<(i64, i64)>) -> Result<IntSet, Memory>
+        requires { All IsPiece pieces.items }
+        ensures { IfOk result (λ set. (n : ℤ) → is_member set n ≡ is_member pieces.items n) }
+    {
+        pieces.sort_unstable_by_key(|piece| piece.0);
+        Ok(IntSet {
+            pieces: Kept::of(unite(alloc, pieces.as_slice())?),
+        })
     }
 
     fn combined(&self, alloc: Global, how: Combination, other: &IntSet) -> Result<IntSet, Memory>

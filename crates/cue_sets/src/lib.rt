@@ -5,6 +5,7 @@
 #![tactic(auto)]
 
 mod combination;
+mod gaps;
 mod int_set;
 mod joining;
 mod kept;

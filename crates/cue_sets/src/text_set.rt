@@ -1,6 +1,6 @@
 ghost use Rattle.std.specs.Prelude.{◌≡◌, ◌↔◌, ℕ, Bool, List, [], ◌∷◌, true, false, not, ◌&&◌, ◌||◌};
 ghost use Rattle.std.specs.Prelude.{IfOk, IfSome, IfNone, Ok, IsTrue};
-ghost use Rattle.std.specs.List.{list_any};
+ghost use Rattle.std.specs.List.{list_all, list_any};
 ghost use Rattle.cue_sets.specs.Combination.{keeps};
 ghost use Rattle.cue_sets.specs.Changes.{IsChanged, Unifies};
 ghost use Rattle.cue_sets.specs.declared.text_change.TextChange.TheVariants.{Keep, Lack};
@@ -145,6 +145,23 @@ impl TextSet {
             texts: sorted(alloc, texts)?,
         };
         listed.into_union(alloc, others)
+    }
+
+    /// The members of all of these sets, which are taken over. The texts that sets of all texts but
+    /// some lack are sorted, and then walked once.
+    pub fn meet_all(alloc: Global, sets: Vec<TextSet>) -> Result<TextSet, Memory>
+        ensures { IfOk result (λ met. (text : List ℕ) →
+            is_text_member met text ≡ list_all (λ set. is_text_member set text) sets.items) }
+    {
+        let (texts, others) = TextSet::lacked(alloc, sets)?;
+        if texts.is_empty() {
+            return Ok(others);
+        }
+        let lacking = TextSet {
+            all_but: true,
+            texts: sorted(alloc, texts)?,
+        };
+        lacking.into_meet(alloc, others)
     }
 
     /// The members of this set that the other lacks.
@@ -333,6 +350,29 @@ impl TextSet {
                     ..
                 } = set;
                 texts.append(&mut more)?;
+            }
+        }
+        Ok((texts, others))
+    }
+
+    /// The texts that one or more of these sets of all texts but some lack, and the members of all
+    /// of the finite ones.
+    fn lacked(alloc: Global, sets: Vec<TextSet>) -> Result<(Vec<Text>, TextSet), Memory>
+        ensures { IfOk result (λ found. (text : List ℕ) →
+            (not (is_listed found.0.items text) && is_text_member found.1 text)
+            ≡ list_all (λ set. is_text_member set text) sets.items) }
+    {
+        let mut texts = Vec::new(alloc);
+        let mut others = TextSet::all(alloc)?;
+        for set in sets {
+            if set.all_but {
+                let TextSet {
+                    texts: mut more,
+                    ..
+                } = set;
+                texts.append(&mut more)?;
+            } else {
+                others = others.into_meet(alloc, set)?;
             }
         }
         Ok((texts, others))
