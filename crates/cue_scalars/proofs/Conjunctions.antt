@@ -1,11 +1,10 @@
--- A unification of many in parts.
-use Rattle.std.proofs.Common.{◌≡◌, Bool, true, false, ◌&&◌, ◌||◌, List, [], ◌∷◌, ◌++◌, Option, Some, None, refl, sym, ap, ◌∙◌, ℕ, ◌+◌, ◌-◌, ◌≤◌, take, take-add, drop, map, arith}
+-- The unification of several values.
+use Rattle.std.proofs.Common.{◌≡◌, Bool, true, false, ◌&&◌, ◌||◌, List, [], ◌∷◌, ◌++◌, Option, Some, None, refl, sym, ap, ◌∙◌, ◌≤◌, length, map, arith}
 use Rattle.std.specs.Prelude.{if◌then◌else◌, is_some, option_map, unwrap_or}
 use Rattle.std.specs.Option.{ForSome}
 use Rattle.std.specs.List.{list_any, list_all}
 use Rattle.std.proofs.lemmas.Bool.{false≢true}
-use Rattle.std.proofs.lemmas.List.{map-append}
-use Rattle.std.proofs.lemmas.List.Folds.{list_any-append, list_all-append}
+use Rattle.std.proofs.lemmas.List.Folds.{list_any-append, list_all-append, list_all-map}
 use mathlib.Core.Path.{fun_ext}
 use Rattle.cue_lattice.specs.declared.scalar.Scalar.{Scalar}
 use Rattle.cue_scalars.specs.Pairs.{Scalars, Pair, brought, meet_of, both, all_of}
@@ -89,23 +88,14 @@ all_of-one pair =
     let usual = one_default pair.usual pair.value in
     λ i. record { value = value i; usual = usual i }
 
--- the next value of a list, alone
-pub all_of-next : (count : ℕ) (value : Valued) (values rest : List Valued) → count ≡ 1 → values ≡ value ∷ rest → pair_of value ≡ all_of (map pair_of (take count values))
-all_of-next count value values rest one is =
-    sym (ap (λ n. all_of (map pair_of (take n values))) one ∙ ap (λ vs. all_of (map pair_of (take 1 vs))) is ∙ all_of-one (pair_of value))
-
--- the next values of a list, in two parts
-pub all_of-more :
-    (half count : ℕ) (values rest : List Valued) (left right : Pair) → half ≤ count → rest ≡ drop half values
-    → left ≡ all_of (map pair_of (take half values)) → right ≡ all_of (map pair_of (take (count - half) rest))
-    → both left right ≡ all_of (map pair_of (take count values))
-all_of-more half count values rest left right few is l r =
-    let sum : half + (count - half) ≡ count = omega (arith, few) in
-    let whole : take half values ++ take (count - half) rest ≡ take count values =
-    ap (λ vs. take half values ++ take (count - half) vs) is ∙ sym (take-add half (count - half) values) ∙ ap (λ n. take n values) sum in
-    ap (λ p. both p right) l ∙ ap (λ p. both (all_of (map pair_of (take half values))) p) r
-    ∙ sym (all_of-append (map pair_of (take half values)) (map pair_of (take (count - half) rest)))
-    ∙ ap all_of (sym (map-append pair_of (take half values) (take (count - half) rest)) ∙ ap (map pair_of) whole)
+-- two values
+pub all_of-two : (first second : Valued) (rest values : List Valued) → length values ≤ 2 → values ≡ first ∷ second ∷ rest → both (pair_of first) (pair_of second) ≡ all_of (map pair_of values)
+all_of-two first second (third ∷ rest) values few is = absurd (let e = ap length is in omega (arith, few, e))
+all_of-two first second [] values few is =
+    sym (ap (λ vs. all_of (map pair_of vs)) is
+    ∙ all_of-append (pair_of first ∷ []) (pair_of second ∷ [])
+    ∙ ap (λ pair. both pair (all_of (pair_of second ∷ []))) (all_of-one (pair_of first))
+    ∙ ap (λ pair. both (pair_of first) pair) (all_of-one (pair_of second)))
 
 -- ---- two values, of which one has a default
 is_some_members : (usual : Option ScalarSet) → is_some (option_map members usual) ≡ is_some usual
@@ -158,3 +148,75 @@ both_brought a b value usual met some =
     let value_is = fun_ext met.value_is in
     let usual_is : Some (members usual) ≡ (both (pair_of a) (pair_of b)).usual = ap Some bring ∙ ap (λ g. default g both_bring) (sym given) in
     λ i. record { value = value_is i; usual = usual_is i }
+
+-- ---- many values at once
+-- what a value lets stand, and what it brings
+abbrev pub lets : Valued → Scalars
+lets valued = members valued.value
+
+abbrev pub brings : Valued → Scalars
+brings valued = members (unwrap_or valued.usual valued.value)
+
+-- one of the values has a default
+abbrev pub is_any_given : List Valued → Bool
+is_any_given values = list_any (λ valued. is_some valued.usual) values
+
+given_pairs : (values : List Valued) → any_given (map pair_of values) ≡ is_any_given values
+given_pairs [] = refl
+given_pairs (valued ∷ values) = ap (λ b. b || any_given (map pair_of values)) (is_some_members valued.usual) ∙ ap (λ b. is_some valued.usual || b) (given_pairs values)
+
+all_members : (sets : List ScalarSet) (x : Scalar) → list_all (λ set. members set x) sets ≡ list_all (λ (set : Scalars). set x) (map members sets)
+all_members sets x = sym (list_all-map (λ (set : Scalars). set x) members sets)
+
+-- sets that have the members of others, met
+all_moved :
+    (members_of : Valued → Scalars) (values : List Valued) (sets : List ScalarSet) (set : ScalarSet) → map members sets ≡ map members_of values
+    → ((x : Scalar) → members set x ≡ list_all (λ set. members set x) sets) → (x : Scalar) → members set x ≡ list_all (λ valued. members_of valued x) values
+all_moved members_of values sets set same met x =
+    met x ∙ all_members sets x ∙ ap (list_all (λ (set : Scalars). set x)) same ∙ list_all-map (λ (set : Scalars). set x) members_of values
+
+all_let_pairs : (values : List Valued) (x : Scalar) → list_all (λ valued. lets valued x) values ≡ all_let (map pair_of values) x
+all_let_pairs [] x = refl
+all_let_pairs (valued ∷ values) x = ap (λ b. lets valued x && b) (all_let_pairs values x)
+
+all_bring_pairs : (values : List Valued) (x : Scalar) → list_all (λ valued. brings valued x) values ≡ all_bring (map pair_of values) x
+all_bring_pairs [] x = refl
+all_bring_pairs (valued ∷ values) x =
+    ap (λ b. b && list_all (λ valued. brings valued x) values) (λ i. sym (brought_members valued.usual valued.value) i x)
+    ∙ ap (λ b. brought (pair_of valued) x && b) (all_bring_pairs values x)
+
+-- the meet of the values, where none has a default
+pub all_plain :
+    (values : List Valued) (sets : List ScalarSet) (value : ScalarSet) → is_any_given values ≡ false → map members sets ≡ map lets values
+    → ((x : Scalar) → members value x ≡ list_all (λ set. members set x) sets) → record { value = members value; usual = None } ≡ all_of (map pair_of values)
+all_plain values sets value none same met =
+    let value_is = fun_ext (λ x. all_moved lets values sets value same met x ∙ all_let_pairs values x) in
+    let usual_is : None ≡ (all_of (map pair_of values)).usual = ap (λ given. default given (all_bring (map pair_of values))) (sym (given_pairs values ∙ none)) in
+    λ i. record { value = value_is i; usual = usual_is i }
+
+-- the meet of the values and that of what they bring, where one has a default
+pub all_usual :
+    (values : List Valued) (sets usuals : List ScalarSet) (value usual : ScalarSet) → is_any_given values ≡ true → map members sets ≡ map lets values → map members usuals ≡ map brings values
+    → ((x : Scalar) → members value x ≡ list_all (λ set. members set x) sets) → ((x : Scalar) → members usual x ≡ list_all (λ set. members set x) usuals)
+    → record { value = members value; usual = Some (members usual) } ≡ all_of (map pair_of values)
+all_usual values sets usuals value usual some same usual_same met usual_met =
+    let value_is = fun_ext (λ x. all_moved lets values sets value same met x ∙ all_let_pairs values x) in
+    let bring : members usual ≡ all_bring (map pair_of values) = fun_ext (λ x. all_moved brings values usuals usual usual_same usual_met x ∙ all_bring_pairs values x) in
+    let usual_is : Some (members usual) ≡ (all_of (map pair_of values)).usual = ap Some bring ∙ ap (λ given. default given (all_bring (map pair_of values))) (sym (given_pairs values ∙ some)) in
+    λ i. record { value = value_is i; usual = usual_is i }
+
+-- what all bring lies within what all let stand
+all_within : (values : List Valued) (x : Scalar) → list_all (λ valued. brings valued x) values ≡ true → list_all (λ valued. lets valued x) values ≡ true
+all_within [] x h = refl
+all_within (valued ∷ values) x h =
+    let parts = both_true (brings valued x) (list_all (λ valued. brings valued x) values) h in
+    rw (brought_within valued.usual valued.value valued.within x parts.0, all_within values x parts.1) refl
+
+pub all_usual_within :
+    (values : List Valued) (sets usuals : List ScalarSet) (value usual : ScalarSet) → map members sets ≡ map lets values → map members usuals ≡ map brings values
+    → ((x : Scalar) → members value x ≡ list_all (λ set. members set x) sets) → ((x : Scalar) → members usual x ≡ list_all (λ set. members set x) usuals)
+    → ForSome (Some usual) (λ default. IsWithin default value)
+all_usual_within values sets usuals value usual same usual_same met usual_met set is x m =
+    let member : members usual x ≡ true = ap (λ o. members (unwrap_or o set) x) is ∙ m in
+    all_moved lets values sets value same met x
+    ∙ all_within values x (sym (all_moved brings values usuals usual usual_same usual_met x) ∙ member)

@@ -9,22 +9,12 @@ use mathlib.Core.Path.{fun_ext}
 use Rattle.cue_lattice.specs.declared.scalar.Scalar.{Scalar}
 use Rattle.cue_scalars.specs.Pairs.{Scalars, Pair, default_of, united, union_all, is_any_marked, disjunction}
 use Rattle.cue_scalars.specs.Scalars.{members, IsWithin}
-use Rattle.cue_scalars.specs.Values.{pair_of, terms_of, value_of, AreWithin}
+use Rattle.cue_scalars.specs.Inner.Lists.{value_of, AreWithin}
+use Rattle.cue_scalars.specs.Values.{pair_of, terms_of}
 use Rattle.cue_scalars.specs.declared.scalar_set.ScalarSet.{ScalarSet}
 use Rattle.cue_scalars.specs.declared.valued.Valued.{Valued}
 
 -- ---- the terms one by one
--- one more value
-pub values_more :
-    (values : List ScalarSet) (value : ScalarSet) (term : Bool × Valued) (terms later all : List (Bool × Valued)) → terms ≡ term ∷ later → members value ≡ value_of term
-    → map members values ++ map value_of terms ≡ map value_of all → map members (values ++ value ∷ []) ++ map value_of later ≡ map value_of all
-values_more values value term terms later all is same before =
-    ap (λ sets. sets ++ map value_of later) (map-append members values (value ∷ []))
-    ∙ append_assoc (map members values) (members value ∷ []) (map value_of later)
-    ∙ ap (λ set. map members values ++ set ∷ map value_of later) same
-    ∙ ap (λ ts. map members values ++ map value_of ts) (sym is)
-    ∙ before
-
 abbrev pub defaults_of : Bool → List (Bool × Valued) → List Scalars
 defaults_of marked terms = filter_map (default_of marked) (terms_of terms)
 

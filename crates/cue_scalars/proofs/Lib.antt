@@ -1,7 +1,8 @@
 pub mod ByKind
 pub mod Conjunctions
 pub mod Disjunctions
+pub mod Meets
+pub mod Moved
 pub mod Narrowed
-pub mod Rest
 pub mod Unions
 pub mod Within

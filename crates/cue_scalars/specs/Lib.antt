@@ -1,4 +1,5 @@
 pub mod Changes
+pub mod Inner
 pub mod Pairs
 pub mod ScalarLaws
 pub mod Scalars

@@ -1,10 +1,7 @@
 -- What is kept, as a pair of plain sets of scalars.
-use Rattle.std.specs.Prelude.{◌≡◌, Bool, true, List, map, option_map}
-use Rattle.std.specs.List.{list_any}
-use Rattle.cue_lattice.specs.declared.scalar.Scalar.{Scalar}
+use Rattle.std.specs.Prelude.{Bool, List, map, option_map}
 use Rattle.cue_scalars.specs.Scalars.{members}
-use Rattle.cue_scalars.specs.Pairs.{Pair, Scalars}
-use Rattle.cue_scalars.specs.declared.scalar_set.ScalarSet.{ScalarSet}
+use Rattle.cue_scalars.specs.Pairs.{Pair}
 use Rattle.cue_scalars.specs.declared.valued.Valued.{Valued}
 
 abbrev pub pair_of : Valued → Pair
@@ -12,13 +9,3 @@ pair_of valued = record { value = members valued.value; usual = option_map membe
 
 abbrev pub terms_of : List (Bool × Valued) → List (Bool × Pair)
 terms_of terms = map (λ term. (term.0, pair_of term.1)) terms
-
--- the value of a term
-abbrev pub value_of : Bool × Valued → Scalars
-value_of term = members term.1.value
-
--- each member of one of the small sets is a member of one of the large sets
-abbrev pub AreWithin : List ScalarSet → List ScalarSet → Type 0
-AreWithin small large =
-    (scalar : Scalar) → list_any (λ set. members set scalar) small ≡ true
-    → list_any (λ set. members set scalar) large ≡ true

@@ -1,6 +1,6 @@
 ghost use Rattle.std.specs.Prelude.{◌≡◌, ◌↔◌, ◌<◌, [], true, false, not, ◌&&◌, ◌||◌, IfOk, IfSome};
-ghost use Rattle.std.specs.Prelude.{IfNone, IsTrue, Ok, Some, None};
-ghost use Rattle.std.specs.List.{list_any};
+ghost use Rattle.std.specs.Prelude.{IfNone, IsTrue, Ok, Some, None, length};
+ghost use Rattle.std.specs.List.{list_all, list_any};
 ghost use Rattle.std.specs.Result.{IsOk, IsOkAnd};
 ghost use Rattle.cue_lattice.specs.declared.scalar.Scalar.{Scalar};
 ghost use Rattle.cue_lattice.specs.declared.scalar.Scalar.TheVariants as scalars;
@@ -143,6 +143,31 @@ impl ScalarSet {
             yes,
             ints: IntSet::union_all(alloc, ints)?,
             texts: TextSet::union_all(alloc, texts)?,
+        })
+    }
+
+    /// The members of all of these sets, which are taken over.
+    pub fn meet_all(alloc: Global, sets: Vec<ScalarSet>) -> Result<ScalarSet, Memory>
+        requires { 0 < length sets.items }
+        ensures { IfOk result (λ met. (scalar : Scalar) →
+            members met scalar ≡ list_all (λ set. members set scalar) sets.items) }
+    {
+        let mut ints = Vec::with_capacity(alloc, sets.len())?;
+        let mut texts = Vec::with_capacity(alloc, sets.len())?;
+        let (mut null, mut no, mut yes) = (true, true, true);
+        for set in sets {
+            null = null && set.null;
+            no = no && set.no;
+            yes = yes && set.yes;
+            ints.push(set.ints)?;
+            texts.push(set.texts)?;
+        }
+        Ok(ScalarSet {
+            null,
+            no,
+            yes,
+            ints: IntSet::meet_all(alloc, ints)?,
+            texts: TextSet::meet_all(alloc, texts)?,
         })
     }
 

@@ -1,17 +1,15 @@
-ghost use Rattle.std.specs.Prelude.{◌≡◌, ◌<◌, ◌≤◌, drop, length, map, take, IfOk, OnOk};
+ghost use Rattle.std.specs.Prelude.{◌≡◌, ◌<◌, ◌≤◌, length, map, IfOk};
 ghost use Rattle.std.specs.Prelude.{◌||◌, true, false, IsSome, is_some, unwrap_or};
 ghost use Rattle.std.specs.Prelude.{filter_map, option_map};
 ghost use Rattle.std.specs.List.{list_any};
 ghost use Rattle.std.specs.Option.{ForSome};
 ghost use Rattle.std.specs.Result.{IsOk};
-ghost use Rattle.std.specs.Vec.Iter.{into_iter_items};
 ghost use Rattle.cue_scalars.specs.Pairs as joining;
 ghost use Rattle.cue_scalars.specs.Scalars.{members, IsWithin};
 
 use crate::ScalarSet;
 use cue_lattice::{Memory, Narrow};
 use std::alloc::Global;
-use std::vec::IntoIter;
 
 /// The scalars that may stand, and the default where there is one: those among them that are meant
 /// where nothing is said. A default may be empty, which is not the same as none.
@@ -24,7 +22,8 @@ pub struct Valued {
 
 impl Valued {
     ghost use Rattle.cue_scalars.specs.Pairs.{all_of, both, default_of, disjunction, term_of};
-    ghost use Rattle.cue_scalars.specs.Values.{pair_of, terms_of, value_of, AreWithin};
+    ghost use Rattle.cue_scalars.specs.Values.{pair_of, terms_of};
+    ghost use Rattle.cue_scalars.specs.Inner.Lists.{value_of, AreWithin};
 
     /// The unification `&`: values meet, and so do defaults, where a side without a default brings
     /// its value.
@@ -37,15 +36,18 @@ impl Valued {
         self.and_usual(alloc, other)
     }
 
-    /// The unification of one or more. They are taken over, and unified by halves, so that many are
-    /// unified in balance.
+    /// The unification of one or more, which are taken over. More than two are unified at once.
     pub fn and_all(alloc: Global, values: Vec<Valued>) -> Result<Valued, Memory>
         requires { 0 < length values.items }
         ensures { IfOk result (λ met. pair_of met ≡ all_of (map pair_of values.items)) }
     {
-        let count = values.len();
-        let mut rest = values.into_iter();
-        Valued::next_met(alloc, &mut rest, count)
+        if values.len() <= 2 {
+            return Valued::and_few(alloc, values);
+        }
+        if is_any_given(&values) {
+            return Valued::and_all_usual(alloc, values);
+        }
+        Valued::and_all_plain(alloc, values)
     }
 
     /// An equal value with an equal default.
@@ -130,28 +132,57 @@ impl Valued {
         })
     }
 
-    /// The unification of the next values of a list.
-    fn next_met(
-        alloc: Global,
-        rest: &mut IntoIter<Valued, Global>,
-        count: usize,
-    ) -> Result<Valued, Memory>
-        requires some { 0 < count }
-        requires there { count ≤ length (into_iter_items rest.old) }
-        ensures met { IfOk result (λ met. pair_of met
-            ≡ all_of (map pair_of (take count (into_iter_items rest.old)))) }
-        ensures rest { OnOk result (into_iter_items rest.new
-            ≡ drop count (into_iter_items rest.old)) }
+    /// The unification of one or two.
+    fn and_few(alloc: Global, values: Vec<Valued>) -> Result<Valued, Memory>
+        requires some { 0 < length values.items }
+        requires few { length values.items ≤ 2 }
+        ensures { IfOk result (λ met. pair_of met ≡ all_of (map pair_of values.items)) }
     {
-        if count == 1 {
-            return match rest.next() {
-                None => unreachable!(),
-                Some(value) => Ok(value),
-            };
+        let mut rest = values.into_iter();
+        let Some(first) = rest.next() else {
+            unreachable!()
+        };
+        match rest.next() {
+            None => Ok(first),
+            Some(second) => first.and(alloc, second),
         }
-        let half = count / 2;
-        let met = Valued::next_met(alloc, rest, half)?;
-        met.and(alloc, Valued::next_met(alloc, rest, count - half)?)
+    }
+
+    /// The unification of one or more where none has a default.
+    fn and_all_plain(alloc: Global, values: Vec<Valued>) -> Result<Valued, Memory>
+        requires some { 0 < length values.items }
+        requires plain { list_any (λ valued. is_some valued.usual) values.items ≡ false }
+        ensures { IfOk result (λ met. pair_of met ≡ all_of (map pair_of values.items)) }
+    {
+        let mut sets = Vec::with_capacity(alloc, values.len())?;
+        for valued in values {
+            sets.push(valued.value)?;
+        }
+        Ok(Valued {
+            value: ScalarSet::meet_all(alloc, sets)?,
+            usual: None,
+        })
+    }
+
+    /// The unification of one or more where one has a default.
+    fn and_all_usual(alloc: Global, values: Vec<Valued>) -> Result<Valued, Memory>
+        requires some { 0 < length values.items }
+        requires given { list_any (λ valued. is_some valued.usual) values.items ≡ true }
+        ensures { IfOk result (λ met. pair_of met ≡ all_of (map pair_of values.items)) }
+    {
+        let mut sets = Vec::with_capacity(alloc, values.len())?;
+        let mut usuals = Vec::with_capacity(alloc, values.len())?;
+        for valued in values {
+            let (value, usual) = valued.settle(alloc)?;
+            sets.push(value)?;
+            usuals.push(usual)?;
+        }
+        let value = ScalarSet::meet_all(alloc, sets)?;
+        let usual = ScalarSet::meet_all(alloc, usuals)?;
+        Ok(Valued {
+            value,
+            usual: Some(usual),
+        })
     }
 
     /// The values of the terms of a disjunction, and the defaults that they bring. `any_marked`
@@ -209,6 +240,13 @@ fn united(alloc: Global, usuals: Vec<ScalarSet>) -> Result<Option<ScalarSet>, Me
         return Ok(None);
     }
     Ok(Some(ScalarSet::union_all(alloc, usuals)?))
+}
+
+/// Whether some value has a default.
+fn is_any_given(values: &[Valued]) -> bool
+    ensures { result ≡ list_any (λ valued. is_some valued.usual) values.now }
+{
+    values.iter().any(|valued| valued.has_default())
 }
 
 /// Whether some term is marked.

@@ -1,7 +1,7 @@
 use Rattle.std.proofs.Common.{◌≡◌, ◌++◌, map}
 use Rattle.std.specs.Vec.Iter.{into_iter_items}
 use Rattle.cue_scalars.specs.Scalars.{members}
-use Rattle.cue_scalars.specs.Values.{value_of, AreWithin}
+use Rattle.cue_scalars.specs.Inner.Lists.{value_of, AreWithin}
 use Rattle.cue_scalars.proofs.Disjunctions.{defaults_of}
 use Rattle.cue_scalars.proofs.valued.Valued.split.Given as goal
 
