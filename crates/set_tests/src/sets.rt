@@ -50,6 +50,35 @@ fn sets_of_integers(rt: HostRuntime) -> Result<(), Fail> {
     Ok(())
 }
 
+/// The pieces of a set of integers.
+type Pieces<'a> = &'a [(i64, i64)];
+
+/// Three sets of integers and what all have: some that two cut, all but a few, and no number.
+const INTEGERS_MET: [(Pieces, Pieces, Pieces, Pieces); 3] = [
+    (
+        &[(1, 9)],
+        &[(LEAST, 4), (6, GREATEST)],
+        &[(3, 7), (9, 9)],
+        &[(3, 4), (6, 7), (9, 9)],
+    ),
+    (
+        &[(LEAST, 4), (6, GREATEST)],
+        &[(LEAST, 5), (7, GREATEST)],
+        &[(LEAST, 8), (10, GREATEST)],
+        &[(LEAST, 4), (7, 8), (10, GREATEST)],
+    ),
+    (&[(1, 4)], &[(3, 9)], &[(5, 9)], &[]),
+];
+
+/// Whether the first three sets of integers meet in the fourth.
+fn integers_meet(alloc: Global, sets: (Pieces, Pieces, Pieces, Pieces)) -> Made<bool> {
+    let mut list = Vec::new(alloc);
+    list.push(pieces(alloc, sets.0)?)?;
+    list.push(pieces(alloc, sets.1)?)?;
+    list.push(pieces(alloc, sets.2)?)?;
+    are_same(IntSet::meet_all(alloc, list), pieces(alloc, sets.3))
+}
+
 /// Texts, with spaces between them. `true` says that all other texts are meant.
 type Texts<'a> = (bool, &'a str);
 
@@ -147,6 +176,39 @@ const UNIFIED: [(Texts, Texts, Texts); 5] = [
 fn texts_unify(alloc: Global, sets: (Texts, Texts, Texts)) -> Made<bool> {
     let left = texts(alloc, sets.0);
     unify_to(alloc, left, texts(alloc, sets.1), texts(alloc, sets.2))
+}
+
+/// Three sets of texts and what all have: all but some, few of many, and one that two lack.
+const TEXTS_MET: [(Texts, Texts, Texts, Texts); 3] = [
+    ((true, "b d"), (true, "c"), (true, "a d"), (true, "a b c d")),
+    (
+        (false, "a b c"),
+        (true, "b"),
+        (false, "b c d"),
+        (false, "c"),
+    ),
+    ((true, "x"), (false, "w x y"), (true, "y"), (false, "w")),
+];
+
+/// Whether the first three sets of texts meet in the fourth.
+fn texts_meet(alloc: Global, sets: (Texts, Texts, Texts, Texts)) -> Made<bool> {
+    let mut list = Vec::new(alloc);
+    list.push(texts(alloc, sets.0)?)?;
+    list.push(texts(alloc, sets.1)?)?;
+    list.push(texts(alloc, sets.2)?)?;
+    are_same(TextSet::meet_all(alloc, list), texts(alloc, sets.3))
+}
+
+#[test]
+fn many_sets_that_meet(rt: HostRuntime) -> Result<(), Fail> {
+    let alloc = rt.alloc();
+    for sets in INTEGERS_MET {
+        assert!(rt; integers_meet(alloc, sets)?);
+    }
+    for sets in TEXTS_MET {
+        assert!(rt; texts_meet(alloc, sets)?, "{}", (sets.3).1);
+    }
+    Ok(())
 }
 
 #[test]

@@ -65,6 +65,15 @@ fn all_met(alloc: Global, first: Made<Valued>, last: Made<Valued>) -> Made<Value
     Valued::and_all(alloc, list)
 }
 
+/// The unification of a list of these three.
+fn three_met(alloc: Global, terms: [&[Term]; 3]) -> Made<Valued> {
+    let mut list = Vec::new(alloc);
+    list.push(one_of(alloc, terms[0])?)?;
+    list.push(one_of(alloc, terms[1])?)?;
+    list.push(one_of(alloc, terms[2])?)?;
+    Valued::and_all(alloc, list)
+}
+
 /// Whether the set is the integers of a range.
 fn is_range(set: &ScalarSet, range: Range) -> bool {
     if range == NOTHING {
@@ -103,5 +112,12 @@ fn unifications(rt: HostRuntime) -> Result<(), Fail> {
     let one = copied(alloc, one_of(alloc, ONE));
     let all = all_met(alloc, one, one_of(alloc, &[(false, (0, 2))]));
     assert!(rt; settles(alloc, all, (1, 2), (1, 1))?);
+    let plain = three_met(
+        alloc,
+        [&[(false, (0, 5))], &[(false, (2, 9))], &[(false, (1, 4))]],
+    );
+    assert!(rt; settles(alloc, plain, (2, 4), (2, 4))?);
+    let given = three_met(alloc, [HIGH, &[(false, (1, 9))], LOW]);
+    assert!(rt; settles(alloc, given, (1, 9), (5, 5))?);
     Ok(())
 }
