@@ -53,10 +53,6 @@ default_of false term = term.1.usual
 default_of true (true, pair) = Some (brought pair)
 default_of true (false, pair) = None
 
--- a term, with what it brings as default
-abbrev pub term_of : Bool → Bool × Pair → Pair
-term_of any_marked term = record { value = term.1.value; usual = default_of any_marked term }
-
 -- the union of the defaults, where there is one
 abbrev pub united : List Scalars → Option Scalars
 united [] = None

@@ -21,7 +21,8 @@ pub struct Valued {
 }
 
 impl Valued {
-    ghost use Rattle.cue_scalars.specs.Pairs.{all_of, both, default_of, disjunction, term_of};
+    ghost use Rattle.cue_scalars.specs.Pairs.{all_of, both, default_of, disjunction};
+    ghost use Rattle.cue_scalars.specs.Inner.Pairs.{term_of};
     ghost use Rattle.cue_scalars.specs.Values.{pair_of, terms_of};
     ghost use Rattle.cue_scalars.specs.Inner.Lists.{value_of, AreWithin};
 
