@@ -1,6 +1,7 @@
 //! State bytes as tables.
 
-ghost use Rattle.std.specs.Prelude.{◌≡◌, ◌↔◌, ◌<◌, ◌^◌, [], ◌∷◌, ◌++◌, ℕ, List, IfOk, IfErr, IsOk, IfSome};
+ghost use Rattle.std.specs.Prelude.{◌≡◌, ◌↔◌, ◌<◌, ◌^◌, [], ◌∷◌, ◌++◌, ℕ, List, IfOk, IfErr, IsOk};
+ghost use Rattle.std.specs.Prelude.{IfSome};
 ghost use Rattle.std.specs.Prelude.{IfNone, IsTrue};
 ghost use Rattle.std.specs.Int.{w64, to_be_bytes};
 ghost use Rattle.cue_table.specs.Valid.{IsValidTable};

@@ -27,8 +27,8 @@ pub fn is_empty(set: &Scalars) -> bool
     !has_plain && set.pieces().is_empty() && !all_but && texts.is_empty()
 }
 
-/// What stands behind bytes that stand once more, where these are those in front of them. So where a
-/// set ends there, the same set stands behind it.
+/// What stands behind bytes that stand once more, where these are those in front of them. So where
+/// a set ends there, the same set stands behind it.
 fn after_again<'a>(bytes: &[u8], behind: &'a [u8]) -> Option<&'a [u8]>
     ensures { IfSome result (λ rest. (set : Set) →
         Begins IsStateSet set_bytes set bytes.now behind.now →

@@ -79,8 +79,8 @@ fn after_count(count: u64, bytes: &[u8]) -> Option<&[u8]>
     Some(rest)
 }
 
-/// The set of the integers of one piece and nothing else, where its bytes stand in front. This takes
-/// no memory.
+/// The set of the integers of one piece and nothing else, where its bytes stand in front. This
+/// takes no memory.
 fn piece_set_at(alloc: Global, bytes: &[u8]) -> Option<(ScalarSet, &[u8])>
     ensures { IfSome result (λ x. Begins IsStateSet set_bytes x.0 bytes.now x.1.now) }
 {

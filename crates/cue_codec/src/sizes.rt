@@ -94,8 +94,8 @@ fn step_size(step: StepRef) -> u64
     }
 }
 
-/// How many bytes the rows of a branch take, where the bytes of the steps to it are so many. What is
-/// kept as one is walked once, as each index takes as many bytes.
+/// How many bytes the rows of a branch take, where the bytes of the steps to it are so many. What
+/// is kept as one is walked once, as each index takes as many bytes.
 fn rows_size(steps: u64, branch: &Branch<Row>) -> u64
     ensures { (depth : ℕ) (bytes : List ℕ) → steps ≡ size_of bytes
         → result ≡ size_of (flat_map (row_bytes_from written depth bytes)

@@ -1,6 +1,7 @@
 //! State bytes read in pieces.
 
-ghost use Rattle.std.specs.Prelude.{◌≡◌, ◌+◌, ◌<◌, ◌≤◌, ◌^◌, ◌++◌, ℕ, List, [], length, take, IfOk, IfErr};
+ghost use Rattle.std.specs.Prelude.{◌≡◌, ◌+◌, ◌<◌, ◌≤◌, ◌^◌, ◌++◌, ℕ, List, [], length, take, IfOk};
+ghost use Rattle.std.specs.Prelude.{IfErr};
 ghost use Rattle.std.specs.Prelude.{IsOk, OnOk};
 ghost use Rattle.cue_codec.specs.Pieces.{so_far, IsTakenIn, IsNotTakenIn, IsReadTable, IsUnread};
 ghost use Rattle.cue_codec.specs.Pieces.{failed};
@@ -37,9 +38,9 @@ pub(crate) enum Taken {
     Failed,
 }
 
-/// A reader that is handed state bytes piece by piece, cut wherever they are cut. It keeps the head,
-/// the rows that were read, and the bytes of one row that is unfinished. Contracts see what it has
-/// taken in.
+/// A reader that is handed state bytes piece by piece, cut wherever they are cut. It keeps the
+/// head, the rows that were read, and the bytes of one row that is unfinished. Contracts see what
+/// it has taken in.
 #[derive(Drop)]
 pub struct StateReader {
     alloc: Global,
@@ -164,8 +165,8 @@ impl StateReader {
         Ok(())
     }
 
-    /// The valid table whose state bytes were taken in, in whichever version. The state without rows
-    /// takes no memory.
+    /// The valid table whose state bytes were taken in, in whichever version. The state without
+    /// rows takes no memory.
     ///
     /// # Errors
     ///

@@ -68,9 +68,9 @@ IsRefused line status out faults =
     ((status ≡ 1) × Adds out line × IsUntouched faults)
     ⊎ ((status ≡ 4) × Breaks out line × IsComplaint faults)
 
--- How a run ends that was stopped by a fault, by what became of the output and of where faults go: a
--- refusal is told by its line. A usage fault and a failed device leave the output as it is, and are
--- told where faults go.
+-- How a run ends that was stopped by a fault, by what became of the output and of where faults go:
+-- a refusal is told by its line. A usage fault and a failed device leave the output as it is, and
+-- are told where faults go.
 abbrev pub IsTold : Fault → ℕ → Passage → Passage → Type 0
 IsTold fault status out faults =
     ((is_refusal fault ≡ true) × IsRefused (line_of fault) status out faults)

@@ -19,8 +19,8 @@ use Rattle.cue_command.specs.Networks.{IsEndedBy, IsTalkOn, IsTalkStopOn, Reach}
 use Rattle.cue_command.specs.Words.{Asked, asking, merging, serving, pushing, looping, asked}
 
 -- What stands around a run: what lies where, as far as that is known, and what the reader had; and
--- what its calls came to: that none was made but those that only read; that a merge put the state of
--- inputs at a name, or was stopped; and what the calls of a network came to.
+-- what its calls came to: that none was made but those that only read; that a merge put the state
+-- of inputs at a name, or was stopped; and what the calls of a network came to.
 pub record Around : Type 1 where
   pub held : Option Holdings
   pub input : Option (List ℕ)
@@ -41,8 +41,8 @@ around held Makes network old new input = record {
   network = network;
 }
 
--- The answer to what is asked for. Merging says nothing; and what a site is asked is told while it is
--- made (`IsAnswerWritten`).
+-- The answer to what is asked for. Merging says nothing; and what a site is asked is told while it
+-- is made (`IsAnswerWritten`).
 abbrev pub IsAnswerTo : Asked → Around → Answer → Type 0
 IsAnswerTo (asking question files) at answer = ⊥
 IsAnswerTo (merging out files) at answer =
@@ -118,8 +118,8 @@ IsCutBy bytes said =
 
 -- How a run ends that writes an answer about a table while it makes it: all of it was added to the
 -- output, and the status is the answer's; or what was made before memory ran out, and then the line
--- that tells it; or some of that in front, and then a call of the output failed, which is told where
--- faults go.
+-- that tells it; or some of that in front, and then a call of the output failed, which is told
+-- where faults go.
 abbrev pub IsAnswerTold : Question → Table → Passage → Passage → ℕ → Type 0
 IsAnswerTold question table out faults status =
     ((ended : Status) × (status ≡ code_of ended) × IsAnswerAdded question table out ended

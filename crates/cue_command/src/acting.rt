@@ -32,9 +32,9 @@ use std::io::{Read, Write};
 /// input ends the run with the line `refused NUMBER NAME at PLACE in K`, which goes to `out` too.
 /// `usage fault` and `device fault` go to `faults`.
 ///
-/// State bytes are read, and made while they are written, in pieces of 65,536 bytes, and what is told
-/// of a site is written while it is made. Where memory runs out meanwhile, the line
-/// `refused 24 Memory` stands behind what was written.
+/// State bytes are read, and made while they are written, in pieces of 65,536 bytes, and what is
+/// told of a site is written while it is made. Where memory runs out meanwhile, the line `refused
+/// 24 Memory` stands behind what was written.
 ///
 /// `serve` listens on a port of 127.0.0.1, serves so many connections from one new site, one after
 /// the other, and then prints as `export` does. `push` sends the inputs to the site that is served

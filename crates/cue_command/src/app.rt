@@ -1,7 +1,8 @@
 //! The words that the program reads, as `clap` is told of them.
 ghost use Rattle.std.specs.Prelude.{◌≡◌, IfOk, [], codes, false};
 ghost use Rattle.clap.specs.Walk.{rule_of};
-ghost use Rattle.cue_command.specs.inner.Apps.{IsApp, file_rule, of_files, of_first, of_two, store, top};
+ghost use Rattle.cue_command.specs.inner.Apps.{IsApp, file_rule, of_files, of_first, of_two, store};
+ghost use Rattle.cue_command.specs.inner.Apps.{top};
 ghost use Rattle.cue_command.specs.inner.Apps.{taken_rule};
 
 use clap::{Arg, ArgAction, Command};

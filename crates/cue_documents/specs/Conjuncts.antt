@@ -35,8 +35,8 @@ declared no_members l = []
 declared (member k mark c ms) l = cond (bytes_eq k l) (conjuncts c) [] ++ declared ms l
 declared (dots ms) l = declared ms l
 
--- the parts of the value that a list literal writes at an index: that of its own element, or of each
--- further one
+-- the parts of the value that a list literal writes at an index: that of its own element, or of
+-- each further one
 abbrev pub written : Elements → ℕ → List Part
 written ends i = []
 written goes_on i = []

@@ -228,8 +228,8 @@ impl Peers {
         }
     }
 
-    /// Closes those that are over. Answers whether one of the others can go on at once: it is looked
-    /// at in the next round too.
+    /// Closes those that are over. Answers whether one of the others can go on at once: it is
+    /// looked at in the next round too.
     pub(crate) fn close(&mut self) -> bool {
         self.next.clear();
         for place in &self.listed {

@@ -30,15 +30,16 @@ pub enum News {
 
 /// What takes the states of other sites, and tells when its answers are others.
 pub trait Gathers {
-    /// Takes what a state brings, or nothing of it. Answers whether it was taken, or brought nothing.
+    /// Takes what a state brings, or nothing of it. Answers whether it was taken, or brought
+    /// nothing.
     fn pulled(&mut self, bytes: &[u8]) -> bool;
 
-    /// Takes what pieces bring that another site accepted, one after the other, and passes over what
-    /// is refused. Answers whether the bytes were those of pieces, and memory sufficed.
+    /// Takes what pieces bring that another site accepted, one after the other, and passes over
+    /// what is refused. Answers whether the bytes were those of pieces, and memory sufficed.
     fn pulled_pieces(&mut self, bytes: &[u8]) -> bool;
 
-    /// How many seconds the one who asks waits for a change, where this response has nothing new for
-    /// it, and it is to be held back so long.
+    /// How many seconds the one who asks waits for a change, where this response has nothing new
+    /// for it, and it is to be held back so long.
     fn patience(&self, request: &Request<Bytes>, response: &Response) -> Option<u64>;
 
     /// A number that is another one as soon as the answers are others.

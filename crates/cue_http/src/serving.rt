@@ -159,7 +159,8 @@ impl<S: Settle + Gathers> Loop<S> {
         self.peers.tire(now);
         self.peers.receive(&mut self.service, now);
         self.peers.tell(&mut self.service, now);
-        // What does not stand must not be told, nor what follows it: a new start reads the files again.
+        // What does not stand must not be told, nor what follows it: a new start reads the files
+        // again.
         if !self.service.inner.settle() {
             return Err(ErrorKind::Other.into());
         }

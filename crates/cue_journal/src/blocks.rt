@@ -1,4 +1,6 @@
-ghost use Rattle.std.specs.Prelude.{ℕ, List, ◌≡◌, ◌+◌, ◌-◌, ◌<◌, ◌≤◌, ◌^◌, ◌==◌, ◌↔◌, ◌++◌, [], ◌∷◌, length, take, drop, map, None, Some, MatchOption, IfOk, OnOk, OnErr, IsErrOf};
+ghost use Rattle.std.specs.Prelude.{ℕ, List, ◌≡◌, ◌+◌, ◌-◌, ◌<◌, ◌≤◌, ◌^◌, ◌==◌, ◌↔◌, ◌++◌, []};
+ghost use Rattle.std.specs.Prelude.{◌∷◌, length, take, drop, map, None, Some, MatchOption, IfOk};
+ghost use Rattle.std.specs.Prelude.{OnOk, OnErr, IsErrOf};
 ghost use Rattle.cue_journal.specs.Blocks.{next_piece, recovered, IsScanned};
 ghost use Rattle.cue_journal.specs.Settled.{IsBatch};
 
@@ -75,7 +77,8 @@ impl Batch {
     ///
     /// # Errors
     ///
-    /// `TooLong` for an entry of 4 GiB and no other, and `OutOfMemory`. The batch is then as before.
+    /// `TooLong` for an entry of 4 GiB and no other, and `OutOfMemory`. The batch is then as
+    /// before.
     pub fn push(&mut self, first: u8, rest: &[u8]) -> Result<(), Unfit>
         ensures ok { OnOk result (IsBatch (batch_bytes self.old) → IsBatch (batch_bytes self.new)
             × (recovered (batch_bytes self.new)

@@ -1,7 +1,9 @@
-ghost use Rattle.std.specs.Prelude.{◌≡◌, ◌≢◌, ◌⊎◌, ◌+◌, ◌<◌, ◌≤◌, ◌^◌, ◌++◌, [], ◌∷◌, ℕ, List, length, map, true, false, IsTrue, IfOk, OnOk, OnErr};
+ghost use Rattle.std.specs.Prelude.{◌≡◌, ◌≢◌, ◌⊎◌, ◌+◌, ◌<◌, ◌≤◌, ◌^◌, ◌++◌, [], ◌∷◌, ℕ, List};
+ghost use Rattle.std.specs.Prelude.{length, map, true, false, IsTrue, IfOk, OnOk, OnErr};
 ghost use Rattle.sqlite_disk.specs.Disk.{Only};
 ghost use Rattle.cue_journal.specs.Blocks.{recovered, IsScanned};
-ghost use Rattle.cue_journal.specs.Settled.{IsSettled, IsBatch, IsBeforeOrAfter, IsKeptOrCleared, IsStaged, CanBeShut};
+ghost use Rattle.cue_journal.specs.Settled.{IsSettled, IsBatch, IsBeforeOrAfter, IsKeptOrCleared};
+ghost use Rattle.cue_journal.specs.Settled.{IsStaged, CanBeShut};
 ghost use Rattle.cue_journal.specs.Batches.{batch_bytes};
 
 use crate::blocks::{Batch, read_pieces};
@@ -71,8 +73,8 @@ impl<D: Disk> Journal<D> {
     ghost use Rattle.cue_journal.specs.Journals.{disk_of, is_open, IsReady};
 
     /// Adds the pieces of a batch, all of them or none. At `Ok` they are acknowledged: from then on
-    /// each crash leaves a file that has them. At `Err` the journal is to be opened again. The batch
-    /// is empty afterwards.
+    /// each crash leaves a file that has them. At `Err` the journal is to be opened again. The
+    /// batch is empty afterwards.
     pub fn commit(&mut self, batch: &mut Batch) -> io::Result<()>
         ensures acknowledged { OnOk result (IsReady D.Disk.seen D.Disk.may_leave self.old → IsBatch (batch_bytes batch.old)
             → IsReady D.Disk.seen D.Disk.may_leave self.new

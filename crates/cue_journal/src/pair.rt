@@ -48,7 +48,8 @@ impl<D: Disk> Pair<D> {
             × (entries_of D.Disk.seen self.new
             ≡ entries_of D.Disk.seen self.old ++ recovered (batch_bytes batch.old))) }
 
-        // A crash at this moment leaves the entries from before, with those of the batch or without.
+        // A crash at this moment leaves the entries from before, with those of the batch or
+        // without.
         ensures crash { IsPairReady D.Disk.seen D.Disk.may_leave self.old
             → IsBatch (batch_bytes batch.old)
             → (left : List (List ℕ)) → MayLeave D.Disk.may_leave self.new left

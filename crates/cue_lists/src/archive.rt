@@ -1,7 +1,8 @@
 //! Archives of cases, in the form in which the language's own repository keeps its tests (`txtar`).
 //! A line `-- CASE/NAME --` begins a file, which goes on to the next such line; what stands before
-//! the first one is a comment. Files whose names end in `.cue` are the inputs of their case, in their
-//! order; `export`, `report`, `print` and `document` are what must be answered; all else is a note.
+//! the first one is a comment. Files whose names end in `.cue` are the inputs of their case, in
+//! their order; `export`, `report`, `print` and `document` are what must be answered; all else is a
+//! note.
 use std::alloc::{AllocError, Global};
 
 /// A file of a case.

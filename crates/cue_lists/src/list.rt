@@ -1,6 +1,6 @@
-//! Lists of cases, each of which is a line: a JSON object. `inputs` is a list of texts and of states
-//! (`{"hex": ".."}`), which are handed on in order as files; `export`, `report`, `print` and `state`
-//! are each a list of the exit status and the output, that of a state in hexadecimal.
+//! Lists of cases, each of which is a line: a JSON object. `inputs` is a list of texts and of
+//! states (`{"hex": ".."}`), which are handed on in order as files; `export`, `report`, `print` and
+//! `state` are each a list of the exit status and the output, that of a state in hexadecimal.
 use crate::site::{Reply, written};
 use anyhow::{Context, anyhow};
 use cue_program::Question;

@@ -1,7 +1,7 @@
-//! Compares what one new site answers that has taken some inputs with what it must answer, and tells
-//! where it answers otherwise. `cue_lists FILE..` reads archives of cases (`.txtar`) and lists, of
-//! which each line is a case. The printed text of each site, also of one that refused an input, is
-//! handed to another site, which must then have equal state bytes.
+//! Compares what one new site answers that has taken some inputs with what it must answer, and
+//! tells where it answers otherwise. `cue_lists FILE..` reads archives of cases (`.txtar`) and
+//! lists, of which each line is a case. The printed text of each site, also of one that refused an
+//! input, is handed to another site, which must then have equal state bytes.
 #![tactic(auto)]
 
 mod again;

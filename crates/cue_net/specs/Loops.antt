@@ -38,8 +38,8 @@ AreUsedUpBetween near far turns calls calls' =
     (calls' ≡ calls + turns) × (turns ≤ bytes_of near far)
 
 -- Why the ends have no answer. Nothing is written where a frame can't hold an input. An end of what
--- is read is a cause where fewer bytes came than were written at the other end. What an end reads may
--- be none of what the other writes.
+-- is read is a cause where fewer bytes came than were written at the other end. What an end reads
+-- may be none of what the other writes.
 abbrev pub IsBroken : Halt → List requests.Request → Talk → Talk → Option (List ℕ) → Option (List ℕ)
     → ℕ → ℕ → ℕ → ℕ → ℕ → Type 0
 IsBroken halt inputs near far near_to_come far_to_come turns calls calls' failed failed' =

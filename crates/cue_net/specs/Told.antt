@@ -1,5 +1,6 @@
 -- What replies tell.
-use Rattle.std.specs.Prelude.{◌≡◌, ◌⊎◌, ℕ, ◌+◌, List, [], ◌∷◌, ◌++◌, length, All, Any, Result, Ok, Err}
+use Rattle.std.specs.Prelude.{◌≡◌, ◌⊎◌, ℕ, ◌+◌, List, [], ◌∷◌, ◌++◌, length, All, Any, Result, Ok}
+use Rattle.std.specs.Prelude.{Err}
 use Rattle.cue_lattice.specs.Refusal.{refusal_at}
 use Rattle.cue_lattice.specs.declared.refusal.Refusal.{Refusal}
 use Rattle.cue_answer.specs.declared.question.Question.TheVariants as questions

@@ -1,8 +1,8 @@
 //! The program's words over a network: it serves connections one after the other, pushes requests
 //! to a site that another process serves, or does both in one process, in turns.
 //!
-//! All is said over any network of doors and connections, whose devices count their calls; one module
-//! alone names sockets. Connections are those of 127.0.0.1 alone.
+//! All is said over any network of doors and connections, whose devices count their calls; one
+//! module alone names sockets. Connections are those of 127.0.0.1 alone.
 #![tactic(auto)]
 
 mod carrying;

@@ -23,9 +23,10 @@ use cue_replica::{Kind, Replica};
 use cue_wire::{Client, PIECE, Request, Session};
 use std::alloc::Global;
 
-/// Does as `push_for` with both ends in this process, over a new connection between them, in turns: the client's end writes at most 4,096 bytes, the site's end reads them and
-/// writes its whole answer, and the client's end reads that. There are at most 100,000 reads and
-/// writes, those of both ends together.
+/// Does as `push_for` with both ends in this process, over a new connection between them, in turns:
+/// the client's end writes at most 4,096 bytes, the site's end reads them and writes its whole
+/// answer, and the client's end reads that. There are at most 100,000 reads and writes, those of
+/// both ends together.
 ///
 /// # Errors
 ///

@@ -57,8 +57,8 @@ fn place_in(bytes: &[u8]) -> Option<u64>
     Some(u64::from_be_bytes(*place))
 }
 
-/// The kind of this number, where a site refuses a frame so. A reply doesn't say the form of what the
-/// language leaves out.
+/// The kind of this number, where a site refuses a frame so. A reply doesn't say the form of what
+/// the language leaves out.
 pub fn kind_of(number: u8) -> Option<Kind>
     ensures some { IfSome result (λ kind. (number_of kind ≡ number) × (IsUntold kind → ⊥)) }
     ensures none { IfNone result ((kind : Kind) → number_of kind ≡ number → IsUntold kind) }

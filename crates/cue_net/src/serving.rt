@@ -12,8 +12,8 @@ use cue_replica::{Memory, Replica};
 use cue_wire::serve;
 use std::alloc::Global;
 
-/// Opens a door at this port of 127.0.0.1, and serves there as `serve_from`. A read or a write waits
-/// for its peer for 60 seconds at most.
+/// Opens a door at this port of 127.0.0.1, and serves there as `serve_from`. A read or a write
+/// waits for its peer for 60 seconds at most.
 ///
 /// # Errors
 ///
@@ -31,10 +31,10 @@ where
     serve_from(rt, &mut door, count)
 }
 
-/// Serves so many connections through this door, one after the other, from one new site, and answers
-/// its export, as it is printed. A connection has at most 100,000 turns, each a read or a write. One
-/// that ends for a frame that is too long, for its turns, for a device that fails or for want of
-/// memory is closed, and the next is served.
+/// Serves so many connections through this door, one after the other, from one new site, and
+/// answers its export, as it is printed. A connection has at most 100,000 turns, each a read or a
+/// write. One that ends for a frame that is too long, for its turns, for a device that fails or for
+/// want of memory is closed, and the next is served.
 ///
 /// # Errors
 ///

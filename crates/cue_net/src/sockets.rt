@@ -31,8 +31,8 @@ impl Port {
 }
 
 /// The way out over a socket whose writes wait for the peer for a limited time. The system ends a
-/// write that has waited for so long as one that took a part. From then on a write waits for a second
-/// alone, so that a peer that reads nothing holds nobody up for several such waits.
+/// write that has waited for so long as one that took a part. From then on a write waits for a
+/// second alone, so that a peer that reads nothing holds nobody up for several such waits.
 #[derive(Drop)]
 pub struct Outward {
     stream: TcpStream,
@@ -125,8 +125,8 @@ fn done<T>(came: io::Result<T>) -> Result<T, Fault> {
     }
 }
 
-/// The end of a connection with this stream. Where the system sets its turns no limit of time, it is
-/// shut, and so at its end.
+/// The end of a connection with this stream. Where the system sets its turns no limit of time, it
+/// is shut, and so at its end.
 ///
 /// # Errors
 ///
@@ -145,10 +145,10 @@ fn end_of(stream: TcpStream, patience: Duration) -> Result<Socket, Fault>
 }
 
 /// Asks the system to send what is written at once, and not to hold small pieces back until earlier
-/// ones are acknowledged (Nagle's algorithm, RFC 9293, section 3.7.4): a site waits for requests and
-/// a client for replies, so that a piece that is held back makes both wait. And to let no read and no
-/// write wait longer than this for its peer, so that one that says nothing, or reads nothing, holds
-/// nobody up for good.
+/// ones are acknowledged (Nagle's algorithm, RFC 9293, section 3.7.4): a site waits for requests
+/// and a client for replies, so that a piece that is held back makes both wait. And to let no read
+/// and no write wait longer than this for its peer, so that one that says nothing, or reads
+/// nothing, holds nobody up for good.
 ///
 /// # Errors
 ///

@@ -1,4 +1,5 @@
-ghost use Rattle.std.specs.Prelude.{◌≡◌, ◌≢◌, ◌⊎◌, ◌+◌, ◌∷◌, ◌++◌, ℕ, List, [], IfOk, IsErr, IsErrOf};
+ghost use Rattle.std.specs.Prelude.{◌≡◌, ◌≢◌, ◌⊎◌, ◌+◌, ◌∷◌, ◌++◌, ℕ, List, [], IfOk, IsErr};
+ghost use Rattle.std.specs.Prelude.{IsErrOf};
 ghost use Rattle.std.specs.Prelude.{Any, length};
 ghost use Rattle.cue_answer.specs.Answers.{code_of};
 ghost use Rattle.cue_wire.specs.Clients.{all_items};
@@ -18,8 +19,8 @@ use std::alloc::Global;
 ///
 /// # Errors
 ///
-/// `RefusedInput` for the first input that is refused, and `RefusedExport`; `Device` where there are
-/// not so many replies, or one is none of a site; and `Memory`.
+/// `RefusedInput` for the first input that is refused, and `RefusedExport`; `Device` where there
+/// are not so many replies, or one is none of a site; and `Memory`.
 pub fn told_by(alloc: Global, replies: &[Vec<u8>], inputs: usize) -> Result<Answer, Halt>
     ensures { ((to_inputs : List (List ℕ)) × (last : List ℕ)
         × (all_items replies.now ≡ to_inputs ++ last ∷ []) × (length to_inputs ≡ inputs)

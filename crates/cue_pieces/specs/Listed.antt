@@ -1,4 +1,5 @@
--- The pieces that a site accepted in one run, as entries. The oldest are given up, and the others kept.
+-- The pieces that a site accepted in one run, as entries. The oldest are given up, and the others
+-- kept.
 use Rattle.std.specs.Prelude.{◌≡◌, ◌⊎◌, ◌+◌, ◌-◌, ◌≤◌, ◌<◌, ℕ, List, length, drop}
 use Rattle.cue_pieces.specs.Lists.{total}
 

@@ -1,7 +1,9 @@
-ghost use Rattle.std.specs.Prelude.{◌≡◌, ◌+◌, ◌-◌, ◌≤◌, ◌++◌, ◌∷◌, [], ◌↔◌, ◌==◌, ℕ, List, length, drop, IfOk, IfSome, IfNone, OnOk, OnErr, IsTrue};
+ghost use Rattle.std.specs.Prelude.{◌≡◌, ◌+◌, ◌-◌, ◌≤◌, ◌++◌, ◌∷◌, [], ◌↔◌, ◌==◌, ℕ, List, length};
+ghost use Rattle.std.specs.Prelude.{drop, IfOk, IfSome, IfNone, OnOk, OnErr, IsTrue};
 ghost use Rattle.std.specs.List.{Contains};
 ghost use Rattle.cue_journal.specs.Blocks.{recovered, block, Fits};
-ghost use Rattle.cue_pieces.specs.Listed.{Listed, next_of, Keeps, behind_of, GivesUp, GivesUpBeyond};
+ghost use Rattle.cue_pieces.specs.Listed.{Listed, next_of, Keeps, behind_of, GivesUp};
+ghost use Rattle.cue_pieces.specs.Listed.{GivesUpBeyond};
 ghost use Rattle.cue_pieces.specs.Lists.{blocks, total};
 
 use crate::cursor::Cursor;
@@ -16,8 +18,8 @@ pub const MOST_BYTES: usize = 16 * 1024 * 1024;
 /// No piece is as long, in bytes.
 const LONGEST: usize = u32::MAX as usize;
 
-/// The pieces that a site accepted since its start, each as an entry of its journals. The oldest are
-/// given up.
+/// The pieces that a site accepted since its start, each as an entry of its journals. The oldest
+/// are given up.
 #[derive(Drop)]
 pub struct Pieces {
     alloc: Global,

@@ -10,9 +10,11 @@ ghost use Rattle.cue_print.specs.Spelled.{element_texts, struct_text};
 ghost use Rattle.cue_print.specs.Printed.{elements, inside, has_field, level_at};
 ghost use Rattle.cue_print.specs.Printed.{value_of, fields_below, rest_value};
 ghost use Rattle.cue_print.specs.Inner.Writing.{fields_at, element_of, further_at};
-ghost use Rattle.cue_print.specs.Inner.Writing.{beside_text, struct_before, opening, closing, is_exact};
+ghost use Rattle.cue_print.specs.Inner.Writing.{beside_text, struct_before, opening, closing};
+ghost use Rattle.cue_print.specs.Inner.Writing.{is_exact};
 ghost use Rattle.cue_print.specs.Inner.Writing.{ending_text, list_before, told_text, lead};
-ghost use Rattle.cue_print.specs.Inner.Writing.{closed_text, declared_text, written_struct, written_list};
+ghost use Rattle.cue_print.specs.Inner.Writing.{closed_text, declared_text, written_struct};
+ghost use Rattle.cue_print.specs.Inner.Writing.{written_list};
 ghost use Rattle.cue_print.specs.Inner.Writing.{written_nothing};
 
 use crate::free::{push_free_field, push_longest};

@@ -1,5 +1,5 @@
--- What lies where, and what is read of a name; and what becomes of the files when bytes are put at a
--- name.
+-- What lies where, and what is read of a name; and what becomes of the files when bytes are put at
+-- a name.
 use Rattle.std.specs.Prelude.{◌≡◌, ◌≢◌, ℕ, List, Option, Some, None, Bool, false}
 use Rattle.std.specs.Prelude.{IfSome, map}
 use Rattle.std.specs.Borrow.{Bor}

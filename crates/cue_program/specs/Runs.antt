@@ -23,8 +23,8 @@ abbrev pub IsAnswerAdded : Question → Table → Passage → Status → Type 0
 IsAnswerAdded question table passage status =
     (shown : List ℕ) × IsShown question table shown status × Adds passage shown
 
--- Why not all of an answer was added, which is made while it is written: a call of the stream failed;
--- or memory ran out. What was added is the front of the answer.
+-- Why not all of an answer was added, which is made while it is written: a call of the stream
+-- failed; or memory ran out. What was added is the front of the answer.
 abbrev pub IsAnswerCut : Question → Table → Passage → Stop → Type 0
 IsAnswerCut question table passage stop =
     ((IsDevice stop × (passage.has_failed ≡ true)) ⊎ IsMemory stop)
@@ -36,8 +36,8 @@ IsAnswerCut question table passage stop =
 abbrev pub IsStopOn : Inputs → Stop → Type 0
 IsStopOn inputs stop = IsInputRefused inputs stop ⊎ IsInputUnread inputs stop ⊎ IsMemory stop
 
--- the state bytes of a site that has taken all inputs were put under the name, by the calls that put
--- them there and no others
+-- the state bytes of a site that has taken all inputs were put under the name, by the calls that
+-- put them there and no others
 abbrev pub IsMergeOn : {S D M : Type 0} → (S → Call D M → S → Type 0) → List ℕ → Inputs
     → S → S → Type 0
 IsMergeOn Makes name inputs old new =

@@ -33,14 +33,14 @@ piece_size = 65536
 abbrev pub IsLong : Option (List ℕ) → Type 0
 IsLong known = IfSome known (λ all. read_limit ≤ length all)
 
--- Why an input could not be read of which these bytes are known: a device failed, it wanted too many
--- reads, or memory ran out.
+-- Why an input could not be read of which these bytes are known: a device failed, it wanted too
+-- many reads, or memory ran out.
 abbrev pub IsUnreadable : Option (List ℕ) → Stop → Type 0
 IsUnreadable known stop = IsDevice stop ⊎ (IsTurnsUsed stop × IsLong known) ⊎ IsMemory stop
 
 -- Why a device could not be read to its end that had these bytes, by its counts of calls and of
--- failures before and after: it failed; or all calls that an input may take were made, and none came
--- to its end; or memory ran out.
+-- failures before and after: it failed; or all calls that an input may take were made, and none
+-- came to its end; or memory ran out.
 abbrev pub IsReadFault : Option (List ℕ) → ℕ → ℕ → ℕ → ℕ → Stop → Type 0
 IsReadFault known calls failures calls' failures' stop =
     (IsDevice stop × (failures < failures'))

@@ -40,8 +40,8 @@ abbrev pub Stops : List ℕ → Type 0
 Stops [] = Unit {0}
 Stops (b ∷ bytes) = IsStop b
 
--- In front of any rest that cannot go on, the text adds tokens of these kinds; the last of them ends
--- a line.
+-- In front of any rest that cannot go on, the text adds tokens of these kinds; the last of them
+-- ends a line.
 pub record IsRead (text : List ℕ) (kinds : List TokenKind) : Type 0 where
   pub reads : (ended : Bool) (rest : List ℕ) (more : List TokenKind) → Stops rest
       → HasKinds false true rest more → HasKinds false ended (text ++ rest) (kinds ++ more)

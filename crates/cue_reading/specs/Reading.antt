@@ -13,8 +13,8 @@ use Rattle.cue_print.specs.Spelled.{file_text}
 use Rattle.cue_print.specs.Expressions.{Fields}
 use Rattle.cue_reading.specs.PrintedTree.{file_tree}
 
--- The text has tokens, and they are a file of the grammar, whatever levels it opens. Its tree is this
--- one but for the places.
+-- The text has tokens, and they are a file of the grammar, whatever levels it opens. Its tree is
+-- this one but for the places.
 pub record IsSpelling (text : List ℕ) (tree : FileTree) : Type 0 where
   pub found : List Token
   pub are : tokens text ≡ Ok found

@@ -11,8 +11,8 @@ use Rattle.cue_replica.specs.Language.{Table, opening, language}
 use Rattle.cue_replica.specs.Reports.{printed}
 use Rattle.cue_replica.specs.World.{Submits}
 
--- the text has too many bytes; or its tokens are a file of the grammar, whose one tree opens too many
--- levels, is too large or has too long a path
+-- the text has too many bytes; or its tokens are a file of the grammar, whose one tree opens too
+-- many levels, is too large or has too long a path
 abbrev pub IsOverLimit : List ℕ → Type 0
 IsOverLimit text = (tokens text ≡ Err too_long) ⊎ ((tree : FileTree) × IsOverLimitAs text tree)
 

@@ -32,8 +32,8 @@ AreGapsOf table = AreGaps (language.table_refuses table)
 abbrev pub IsExportAsText : Table → ExportKind → List ℕ → Type 0
 IsExportAsText table = report.IsExportOf (language.table_refuses table)
 
--- known bytes grow by the text of its export, by a line for each conflict, or for each place that is
--- incomplete
+-- known bytes grow by the text of its export, by a line for each conflict, or for each place that
+-- is incomplete
 abbrev pub TellsExportOf : Table → ExportKind → Option (List ℕ) → Option (List ℕ) → Type 0
 TellsExportOf table = TellsExport (language.table_refuses table)
 

@@ -234,9 +234,9 @@ impl Replica {
         cue_report::export(alloc, &self.table)
     }
 
-    /// Tells the text of the export while it is made, and its kind: the JSON; or, where there are any, a
-    /// line for each conflict; or else one for each place that is incomplete. Memory goes with the
-    /// table, and not with what is told.
+    /// Tells the text of the export while it is made, and its kind: the JSON; or, where there are
+    /// any, a line for each conflict; or else one for each place that is incomplete. Memory goes
+    /// with the table, and not with what is told.
     ///
     /// # Errors
     ///
@@ -265,8 +265,8 @@ impl Replica {
         cue_report::conflicts(alloc, &self.table)
     }
 
-    /// Tells a line for each conflict, in the order of their paths, as `lines` writes them, and whether
-    /// there is one.
+    /// Tells a line for each conflict, in the order of their paths, as `lines` writes them, and
+    /// whether there is one.
     ///
     /// # Errors
     ///

@@ -46,8 +46,8 @@ conflict_line conflict =
 abbrev pub gap_line : Gap → List ℕ
 gap_line gap = line (codes "incomplete ") gap.path (lack_text gap.missing)
 
--- known bytes grow by a line for each conflict, in the order of their paths, and whether there is one
--- is told
+-- known bytes grow by a line for each conflict, in the order of their paths, and whether there is
+-- one is told
 abbrev pub TellsConflicts : Refusals → Bool → Option (List ℕ) → Option (List ℕ) → Type 0
 TellsConflicts refuses some old new =
     (found : List Conflict) × AreConflicts refuses found × (some ≡ not (is_nil found))

@@ -66,8 +66,8 @@ pub(crate) fn least_of(row: Option<&Row>) -> u32
     }
 }
 
-/// Before which index those of an element and so many behind it end that are demanded, where so many
-/// elements of the list are.
+/// Before which index those of an element and so many behind it end that are demanded, where so
+/// many elements of the list are.
 pub(crate) fn demanded_end(least: u32, first: u32, more: u32) -> u32
     ensures { result ≡ min least (first + more + 1) }
 {

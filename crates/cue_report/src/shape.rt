@@ -51,8 +51,9 @@ pub fn export(alloc: Global, table: &Table<Row>) -> Result<Export, Memory>
     Ok(Export::Json(text))
 }
 
-/// Tells the export of a table as text, and what it comes to: what [`export`] tells, with a line for
-/// each conflict or gap. It is told while the table is walked, lines one by one and JSON in parts.
+/// Tells the export of a table as text, and what it comes to: what [`export`] tells, with a line
+/// for each conflict or gap. It is told while the table is walked, lines one by one and JSON in
+/// parts.
 ///
 /// # Errors
 ///

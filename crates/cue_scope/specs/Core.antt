@@ -31,8 +31,8 @@ mutual
     no_cores : Cores
     core : Core → Cores → Cores
 
-  -- the elements of a list literal, which ends with them, or goes on where it has a `...`, and where
-  -- an expression stands behind that, each further element is so
+  -- the elements of a list literal, which ends with them, or goes on where it has a `...`, and
+  -- where an expression stands behind that, each further element is so
   pub data Elements : Type 0 where
     ends : Elements
     goes_on : Elements

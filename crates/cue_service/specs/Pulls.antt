@@ -18,8 +18,8 @@ Covers table piece =
 abbrev pub CoversAll : Table → List Piece → Type 0
 CoversAll table pieces = (piece : Piece) → Has pieces piece → IsAcceptable piece → Covers table piece
 
--- The table is what some pieces make it, and among them are those that were accepted since the start,
--- which are listed.
+-- The table is what some pieces make it, and among them are those that were accepted since the
+-- start, which are listed.
 pub record IsOfListed (desk : Desk) : Type 0 where
   pub pieces : List Piece
   pub accepted : List Piece

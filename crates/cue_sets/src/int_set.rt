@@ -142,8 +142,8 @@ impl IntSet {
         self.combined(alloc, Combination::Union, other)
     }
 
-    /// The members of either set, which are taken over. Where this set ends before the other begins,
-    /// the pieces of the other are put at its end.
+    /// The members of either set, which are taken over. Where this set ends before the other
+    /// begins, the pieces of the other are put at its end.
     pub fn into_union(self, alloc: Global, other: IntSet) -> Result<IntSet, Memory>
         ensures { IfOk result (λ all. (n : ℤ) →
             is_member all n ≡ (is_member self n || is_member other n)) }

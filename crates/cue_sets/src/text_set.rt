@@ -303,8 +303,9 @@ impl TextSet {
         count <= FEW_MORE && count < other.texts.len() / 16
     }
 
-    /// What becomes of this set where it lacks the texts too that the other lacks. The room is twice
-    /// what it takes, so that a set to which this happens again and again is moved but seldom.
+    /// What becomes of this set where it lacks the texts too that the other lacks. The room is
+    /// twice what it takes, so that a set to which this happens again and again is moved but
+    /// seldom.
     fn lacking(&self, alloc: Global, other: TextSet) -> Result<TextChange, Memory>
         requires this { self.now.0 ≡ true }
         requires other { other.0 ≡ true }

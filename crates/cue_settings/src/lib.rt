@@ -1,5 +1,5 @@
-//! The settings of a site that stays up: the words of `cuestored`, what keeps it from its work, where
-//! it may listen, and which of its two journals grows.
+//! The settings of a site that stays up: the words of `cuestored`, what keeps it from its work,
+//! where it may listen, and which of its two journals grows.
 #![tactic(auto)]
 
 mod rules;

@@ -23,8 +23,8 @@ pub record IsCallBehind (n : ℕ) (tokens : List Token) : Type 0 where
   pub next : suc from ≡ n
   pub call : IsCallOfClose (drop from tokens)
 
--- The last of n symbols opens no level too many, but only a symbol that does may follow: the mark of
--- a label after a keyword as a value, or the brace of a `close({` after its parenthesis.
+-- The last of n symbols opens no level too many, but only a symbol that does may follow: the mark
+-- of a label after a keyword as a value, or the brace of a `close({` after its parenthesis.
 pub record OwesLevel (levels n : ℕ) (tokens : List Token) : Type 0 where
   pub earlier : ℕ
   pub next : suc earlier ≡ n

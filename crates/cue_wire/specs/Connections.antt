@@ -44,8 +44,8 @@ IsFault kind read written turns reads reads' writes writes' failed failed' =
     ⊎ ((kind ≡ kinds.Device) × (failed < failed'))
 
 -- How serving ends: at the end of the input, where all that was read is served but a frame that
--- isn't whole, and all replies are written; or before, and then memory ran out only where bytes were
--- read.
+-- isn't whole, and all replies are written; or before, and then memory ran out only where bytes
+-- were read.
 abbrev pub EndsAt : {before after : Table} → Result Ended Kind → Passage before after
     → Option (List ℕ) → ℕ → ℕ → ℕ → ℕ → ℕ → ℕ → ℕ → Type 0
 EndsAt (Ok ended) passage to_come turns reads reads' writes writes' failed failed' =

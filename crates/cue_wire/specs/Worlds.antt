@@ -51,8 +51,8 @@ IsNothing messages events outcomes messages' =
     (events ≡ []) × (outcomes ≡ []) × (messages' ≡ messages)
 
 -- The events that a request is which turns the one table of a site into the other and has this
--- reply, their outcomes, as the reply tells them, and the messages after them. Nothing that is asked
--- is an event, except a state.
+-- reply, their outcomes, as the reply tells them, and the messages after them. Nothing that is
+-- asked is an event, except a state.
 abbrev pub AreEventsOf : ℕ → Request → Table → Table → List ℕ → List (List ℕ) → List Event
     → List Outcome → List (List ℕ) → Type 0
 AreEventsOf site (text t) before after reply messages events outcomes messages' =

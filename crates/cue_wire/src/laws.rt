@@ -10,10 +10,11 @@ pub fn streams_are_read_once()
 {}
 
 /// What sessions are in a world of sites: the frames that a session serves are events there, whose
-/// outcomes are those that their replies tell, and with these the session's site is the site of that
-/// world, the unification of the pieces that it has accepted, and every other site is as it was. A text is a `Submit`, state bytes are a
-/// `Deliver` where they are a message and a `Foreign` elsewhere, a state that is asked for is a
-/// `Send`. Frames that are answered with `BadRequest` or `ReplyTooLong` are no events.
+/// outcomes are those that their replies tell, and with these the session's site is the site of
+/// that world, the unification of the pieces that it has accepted, and every other site is as it
+/// was. A text is a `Submit`, state bytes are a `Deliver` where they are a message and a `Foreign`
+/// elsewhere, a state that is asked for is a `Send`. Frames that are answered with `BadRequest` or
+/// `ReplyTooLong` are no events.
 ///
 /// It computes nothing: it states a law.
 pub fn sessions_are_events()

@@ -1,5 +1,6 @@
 //! The page that a reply is written to while it is made.
-ghost use Rattle.std.specs.Prelude.{◌≡◌, ◌↔◌, ◌≤◌, ◌+◌, ◌++◌, [], IsTrue, OnOk, OnErr, Some, length};
+ghost use Rattle.std.specs.Prelude.{◌≡◌, ◌↔◌, ◌≤◌, ◌+◌, ◌++◌, [], IsTrue, OnOk, OnErr, Some};
+ghost use Rattle.std.specs.Prelude.{length};
 ghost use Rattle.cue_wire.specs.Frames.{frame_limit};
 
 use crate::frame::FRAME_LIMIT;

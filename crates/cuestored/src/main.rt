@@ -1,5 +1,5 @@
-//! The program `cuestored`: a site that stays up, over HTTP, with each piece on the disk before it is
-//! acknowledged.
+//! The program `cuestored`: a site that stays up, over HTTP, with each piece on the disk before it
+//! is acknowledged.
 #![tactic(auto)]
 
 mod files;

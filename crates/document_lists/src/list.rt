@@ -63,8 +63,8 @@ pub fn is_wanted(alloc: Global, found: &Option<Value>, wanted: &Value) -> anyhow
 }
 
 /// Hands the members of an object to the site as a text, and tells whether the site exports this
-/// document then, without a conflict and with nothing missing. Another document than an object is no
-/// text.
+/// document then, without a conflict and with nothing missing. Another document than an object is
+/// no text.
 pub fn reads_back(
     alloc: Global,
     site: &mut Replica,

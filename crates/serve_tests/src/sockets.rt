@@ -88,8 +88,8 @@ fn no_connection(rt: HostRuntime) -> Result<(), Fail> {
     Ok(())
 }
 
-/// One says nothing, and one stops in the middle of a frame: each holds the others up for as long as
-/// a turn may wait, and what was acknowledged stands.
+/// One says nothing, and one stops in the middle of a frame: each holds the others up for as long
+/// as a turn may wait, and what was acknowledged stands.
 #[test]
 fn peers_that_wait_hold_nobody_up(rt: HostRuntime) -> Result<(), Fail> {
     let listener = TcpListener::bind(&rt, (Ipv4Addr::LOCALHOST, 0))?;

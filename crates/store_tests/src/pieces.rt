@@ -46,8 +46,8 @@ fn pass_cut(
     }
 }
 
-/// Whether a site takes bytes that are cut there, with pieces of so many behind the cut, as it takes
-/// them at once.
+/// Whether a site takes bytes that are cut there, with pieces of so many behind the cut, as it
+/// takes them at once.
 fn takes_alike(alloc: Global, bytes: &[u8], cut: usize, size: usize) -> Result<bool, Refusal> {
     let mut whole = site(alloc, &[Text("a: int\nl: [...]\n")])?;
     let mut pieces = site(alloc, &[Text("a: int\nl: [...]\n")])?;

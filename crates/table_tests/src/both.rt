@@ -302,8 +302,8 @@ fn tells_apart<R: Narrow>(alloc: Global, made: &mut Tables<R>, two: &Two<R>) -> 
     Ok(made.first.same(&made.second) == plains_are_same(alloc, two)?)
 }
 
-/// Whether all that is asked of two lists of rows is so: of their unification, of copies of a table,
-/// and of what tells both apart.
+/// Whether all that is asked of two lists of rows is so: of their unification, of copies of a
+/// table, and of what tells both apart.
 fn are_alike<R: Narrow>(alloc: Global, made: &mut Tables<R>, two: &Two<R>) -> Made<bool> {
     Ok(
         meets(alloc, made, two)?

@@ -165,8 +165,8 @@ pub const BRANCHES: &[&str] = &[
     "z:fg=one z:fgh=two y:b=free x:=nothing z:fg=two x:=narrow w:=list z:f=required",
 ];
 
-/// Stretches of lists from the last to the first, each as the index where it begins and the names of
-/// its rows: with a rest that stays or begins earlier, without one, with gaps, and some that are
+/// Stretches of lists from the last to the first, each as the index where it begins and the names
+/// of its rows: with a rest that stays or begins earlier, without one, with gaps, and some that are
 /// empty, since one that is given before them begins no later.
 pub const STRETCHES: &[&str] = &[
     "0:=one",

@@ -290,8 +290,8 @@ const CASES: &[Case] = &[
     ),
 ];
 
-/// What states come to. Nothing is promised of them, so that they stand in the proof of this function
-/// alone.
+/// What states come to. Nothing is promised of them, so that they stand in the proof of this
+/// function alone.
 fn cases() -> &'static [Case] {
     CASES
 }

@@ -95,8 +95,8 @@ ending_text count true further = []
 ending_text count false further =
     lead (codes ", ") (count == 0) ++ (codes "..." ++ told_text further)
 
--- the list of the greatest length, behind others; nothing where the elements alone tell it, or there
--- is none
+-- the list of the greatest length, behind others; nothing where the elements alone tell it, or
+-- there is none
 unfoldable pub longest_text : Option ℕ → Bool → List ℕ
 longest_text None is_exact = []
 longest_text (Some most) true = []

@@ -1,5 +1,6 @@
 -- Reading from a device whose bytes are known or not.
-use Rattle.std.specs.Prelude.{◌≡◌, ◌⊎◌, ◌<◌, ◌≤◌, ◌+◌, ◌-◌, ◌*◌, ℕ, List, ◌++◌, Option, IfSome, length}
+use Rattle.std.specs.Prelude.{◌≡◌, ◌⊎◌, ◌<◌, ◌≤◌, ◌+◌, ◌-◌, ◌*◌, ℕ, List, ◌++◌, Option, IfSome}
+use Rattle.std.specs.Prelude.{length}
 use Rattle.cue_program.specs.Files.{AreAll}
 use Rattle.cue_program.specs.Stops.{piece_size, read_limit, IsDevice, IsMemory, IsTurnsUsed}
 use Rattle.cue_program.specs.declared.stop.Stop.{Stop}
