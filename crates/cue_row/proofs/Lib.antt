@@ -1,4 +1,5 @@
 pub mod Begun
+mod AtLevel
 pub mod Free
 pub mod MetRows
 pub mod Texts

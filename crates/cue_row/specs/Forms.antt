@@ -1,9 +1,12 @@
--- What a row says of anything but scalars and labels.
+-- What a row says of anything but scalars and labels, and whether it fits its kind.
 use Rattle.std.specs.Prelude.{◌≡◌, ◌≤◌, ℕ, true, false, None}
 use Rattle.cue_row.specs.Levels.{level_of}
 use Rattle.cue_row.specs.Lengths.{RefusesLength}
 use Rattle.cue_row.specs.declared.level.Level.TheVariants.{Optional}
+use Rattle.cue_row.specs.declared.kind.RowKind.{RowKind}
 use Rattle.cue_row.specs.declared.parts.RowParts.{RowParts as Row}
+use Rattle.cue_row.specs.Kinds.{IsKind}
+use Rattle.cue_row.specs.ValidRow.{UsualFits, LabelsFit, LengthsFit, AreLengths, HasWords}
 
 -- it refuses no level, struct, list or length
 pub record AllowsAllForms (row : Row) : Type 0 where
@@ -28,3 +31,13 @@ pub record IsFormWithin (a b : Row) : Type 0 where
   pub list_ok : b.list_ok ≡ false → a.list_ok ≡ false
   pub least : b.least ≤ a.least
   pub most : (n : ℕ) → RefusesLength b.most n → RefusesLength a.most n
+
+-- the row is of a kind, fits it, and keeps the limits
+pub record IsFitRow (row : Row) : Type 0 where
+  pub kind : RowKind
+  pub is_kind : IsKind row kind
+  pub usual : UsualFits row kind
+  pub labels : LabelsFit row kind
+  pub row_lengths : LengthsFit row kind
+  pub limits : AreLengths row.least row.most
+  pub texts : HasWords row

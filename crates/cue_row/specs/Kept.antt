@@ -11,7 +11,7 @@ use Rattle.cue_row.specs.declared.small.Small.{Small}
 use Rattle.cue_row.specs.declared.small.Small.TheVariants as small
 use Rattle.cue_row.specs.Levels.{level_of}
 use Rattle.cue_row.specs.Row.{IsMetRow}
-use Rattle.cue_row.specs.Made.{free_row, struct_row, lone_row}
+use Rattle.cue_row.specs.Made.{free_row, struct_row, lone_row, at_level}
 
 -- some of null, false and true, with all texts or none
 abbrev pub few_set : Few → ScalarSet
@@ -54,7 +54,7 @@ small_parts level (small.Text text) = lone_row level (text_set text)
 -- the parts of a row
 abbrev pub parts_of : Form → RowParts
 parts_of (forms.Small level small) = small_parts level small
-parts_of (forms.Whole parts) = parts.value
+parts_of (forms.Whole level parts) = at_level level parts.value
 
 -- a piece has a number
 abbrev pub IsSmall : Small → Type 0
@@ -66,7 +66,7 @@ IsSmall (small.Text text) = Unit {0}
 
 abbrev pub IsKept : Form → Type 0
 IsKept (forms.Small level small) = IsSmall small
-IsKept (forms.Whole parts) = Unit {0}
+IsKept (forms.Whole level parts) = Unit {0}
 
 -- The third is the unification of the two others: at places of any levels it refuses what one of
 -- the two refuses, and its level is the greater one.

@@ -39,7 +39,7 @@ impl Row {
     {
         match &self.form {
             Form::Small(_, small) => Some(small.kind()),
-            Form::Whole(parts) => parts.kind(),
+            Form::Whole(_, parts) => parts.kind(),
         }
     }
 
@@ -56,7 +56,7 @@ impl Row {
             }
             Form::Small(_, Small::Text(text)) => Ok(Some(Scalar::Text(text.copy(alloc)?))),
             Form::Small(level, small) => small.parts(alloc, *level)?.chosen(alloc),
-            Form::Whole(parts) => parts.chosen(alloc),
+            Form::Whole(_, parts) => parts.chosen(alloc),
         }
     }
 
@@ -69,7 +69,7 @@ impl Row {
     {
         match &self.form {
             Form::Small(level, small) => small.parts(alloc, *level)?.value.first(alloc),
-            Form::Whole(parts) => parts.value.first(alloc),
+            Form::Whole(_, parts) => parts.value.first(alloc),
         }
     }
 
@@ -80,7 +80,7 @@ impl Row {
     {
         match &self.form {
             Form::Small(_, _) => ScalarSet::empty(alloc),
-            Form::Whole(parts) => parts.value.without(alloc, &parts.usual),
+            Form::Whole(_, parts) => parts.value.without(alloc, &parts.usual),
         }
     }
 
@@ -90,7 +90,7 @@ impl Row {
     {
         match &self.form {
             Form::Small(_, small) => small.has_no_scalar(),
-            Form::Whole(parts) => parts.value.is_empty(),
+            Form::Whole(_, parts) => parts.value.is_empty(),
         }
     }
 
@@ -100,7 +100,7 @@ impl Row {
     {
         match &self.form {
             Form::Small(_, small) => small.is_anything(),
-            Form::Whole(parts) => parts.value.is_free(),
+            Form::Whole(_, parts) => parts.value.is_free(),
         }
     }
 }

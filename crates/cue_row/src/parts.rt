@@ -55,16 +55,7 @@ impl Narrow for RowParts {
     }
 
     fn is_free(&self) -> bool {
-        if !self.allows_all_forms() {
-            return false;
-        }
-        if !self.value.is_free() {
-            return false;
-        }
-        if !self.usual.is_free() {
-            return false;
-        }
-        self.labels.is_free()
+        self.is_free_at(self.level)
     }
 
     fn meet(&self, alloc: Global, other: &RowParts) -> Result<RowParts, Memory> {
@@ -81,28 +72,7 @@ impl Narrow for RowParts {
     }
 
     fn narrowed_by(&self, alloc: Global, other: RowParts) -> Result<Narrowed<RowParts>, Memory> {
-        let stays = self.is_form_within(&other);
-        let level = self.level.greater(other.level);
-        let struct_ok = both(self.struct_ok, other.struct_ok);
-        let list_ok = both(self.list_ok, other.list_ok);
-        let least = self.least.max(other.least);
-        let most = smaller(self.most, other.most);
-        let value = self.value.narrowed_by(alloc, other.value)?;
-        let usual = self.usual.narrowed_by(alloc, other.usual)?;
-        let labels = self.labels.narrowed_by(alloc, other.labels)?;
-        if stays && value.is_unchanged() && usual.is_unchanged() && labels.is_unchanged() {
-            return Ok(Narrowed::Unchanged);
-        }
-        Ok(Narrowed::To(RowParts {
-            level,
-            value: value.or_copy(alloc, &self.value)?,
-            usual: usual.or_copy(alloc, &self.usual)?,
-            struct_ok,
-            list_ok,
-            labels: labels.or_copy(alloc, &self.labels)?,
-            least,
-            most,
-        }))
+        self.narrowed_at(alloc, self.level, other)
     }
 
     fn narrow(&mut self, alloc: Global, other: RowParts) -> Result<(), Memory> {
@@ -149,7 +119,11 @@ impl Narrow for RowParts {
 
 impl RowParts {
     ghost use Rattle.cue_row.specs.declared.level.Level.{Level as Levels};
+    ghost use Rattle.cue_row.specs.declared.question.Question.{Question as Questions};
     ghost use Rattle.cue_row.specs.Kept.{small_parts, IsSmall};
+    ghost use Rattle.cue_row.specs.Made.{at_level};
+    ghost use Rattle.cue_row.specs.Row.{Refuses};
+    ghost use Rattle.cue_lattice.specs.Narrowed.{IsNarrowedBy};
 
     /// The small row of these parts, beside their level, where there is one.
     pub(crate) fn small(&self, alloc: Global) -> Result<Option<Small>, Memory>
@@ -176,22 +150,81 @@ impl RowParts {
 
     ghost use Rattle.cue_row.specs.Forms.{AllowsAllForms, HaveOneForm, IsFormWithin};
 
-    /// Whether the row refuses nothing but scalars and labels.
-    fn allows_all_forms(&self) -> bool
-        ensures { IsTrue result ↔ AllowsAllForms self.now }
+    /// The same parts, of this level.
+    pub(crate) fn at_level(mut self, level: Level) -> RowParts
+        ensures { result ≡ at_level level self }
     {
-        self.level == Level::Optional
+        self.level = level;
+        self
+    }
+
+    /// Whether they refuse nothing at this level.
+    pub(crate) fn is_free_at(&self, level: Level) -> bool
+        ensures { IsTrue result
+            ↔ ((question : Questions) → ¬ Refuses (at_level level self.now) question) }
+    {
+        if !self.allows_all_forms(level) {
+            return false;
+        }
+        if !self.value.is_free() {
+            return false;
+        }
+        if !self.usual.is_free() {
+            return false;
+        }
+        self.labels.is_free()
+    }
+
+    /// What they become at this level where others are unified into them.
+    pub(crate) fn narrowed_at(
+        &self,
+        alloc: Global,
+        level: Level,
+        other: RowParts,
+    ) -> Result<Narrowed<RowParts>, Memory>
+        ensures { IfOk result (IsNarrowedBy Refuses (at_level level self.now) other) }
+    {
+        let stays = self.is_form_within(level, &other);
+        let level = level.greater(other.level);
+        let struct_ok = both(self.struct_ok, other.struct_ok);
+        let list_ok = both(self.list_ok, other.list_ok);
+        let least = self.least.max(other.least);
+        let most = smaller(self.most, other.most);
+        let value = self.value.narrowed_by(alloc, other.value)?;
+        let usual = self.usual.narrowed_by(alloc, other.usual)?;
+        let labels = self.labels.narrowed_by(alloc, other.labels)?;
+        if stays && value.is_unchanged() && usual.is_unchanged() && labels.is_unchanged() {
+            return Ok(Narrowed::Unchanged);
+        }
+        Ok(Narrowed::To(RowParts {
+            level,
+            value: value.or_copy(alloc, &self.value)?,
+            usual: usual.or_copy(alloc, &self.usual)?,
+            struct_ok,
+            list_ok,
+            labels: labels.or_copy(alloc, &self.labels)?,
+            least,
+            most,
+        }))
+    }
+
+    /// Whether the row refuses nothing but scalars and labels at this level.
+    fn allows_all_forms(&self, level: Level) -> bool
+        ensures { IsTrue result ↔ AllowsAllForms (at_level level self.now) }
+    {
+        level == Level::Optional
             && self.struct_ok
             && self.list_ok
             && self.least == 0
             && self.most.is_none()
     }
 
-    /// Whether this row refuses what the other refuses of levels, structs, lists and lengths.
-    fn is_form_within(&self, other: &RowParts) -> bool
-        ensures { IsTrue result → IsFormWithin self.now other.now }
+    /// Whether this row refuses at this level what the other refuses of levels, structs, lists and
+    /// lengths.
+    fn is_form_within(&self, level: Level, other: &RowParts) -> bool
+        ensures { IsTrue result → IsFormWithin (at_level level self.now) other.now }
     {
-        if other.level.number() > self.level.number() || other.least > self.least {
+        if other.level.number() > level.number() || other.least > self.least {
             return false;
         }
         if self.struct_ok && !other.struct_ok || self.list_ok && !other.list_ok {

@@ -11,14 +11,15 @@ use cue_lattice::{Memory, Narrow, Narrowed, Text};
 use cue_sets::are_same;
 use std::alloc::Global;
 use std::marker::Model;
+use std::rc::Rc;
 
 /// How a row is kept.
 #[derive(Debug, Drop)]
 pub(crate) enum Form {
     /// In the value itself.
     Small(Level, Small),
-    /// Part by part, in a box.
-    Whole(Box<RowParts>),
+    /// Part by part, which copies share. The level of the parts says nothing.
+    Whole(Level, Rc<RowParts>),
 }
 
 /// What is known of one place of a configuration. A row refuses questions, and unification refuses
@@ -26,7 +27,7 @@ pub(crate) enum Form {
 ///
 /// Contracts see its parts, a [`RowParts`]. The rows that most places have lie in its 40 bytes: those
 /// where anything may stand, a struct with any labels, integers of one range, one text, all texts,
-/// or some of null, false and true. Others are kept in a box.
+/// or some of null, false and true. Others are shared by their copies.
 #[derive(Debug, Drop)]
 pub struct Row {
     pub(crate) form: Form,
@@ -57,13 +58,16 @@ impl Row {
         }
     }
 
-    /// The parts of the row, which is taken over.
+    /// The parts of the row, which is taken over. They are copied where another row shares them.
     pub fn into_parts(self, alloc: Global) -> Result<RowParts, Memory>
         ensures { IfOk result (λ parts. parts ≡ self) }
     {
         match self.form {
             Form::Small(level, small) => small.parts(alloc, level),
-            Form::Whole(parts) => Ok(Box::into_inner(parts)),
+            Form::Whole(level, parts) => match Rc::try_unwrap(parts) {
+                Ok(parts) => Ok(parts.at_level(level)),
+                Err(shared) => Ok(shared.copy(alloc)?.at_level(level)),
+            },
         }
     }
 
@@ -72,8 +76,7 @@ impl Row {
         ensures { result ≡ self.now.level }
     {
         match &self.form {
-            Form::Small(level, _) => *level,
-            Form::Whole(parts) => parts.level,
+            Form::Small(level, _) | Form::Whole(level, _) => *level,
         }
     }
 
@@ -83,12 +86,9 @@ impl Row {
     {
         match self.form {
             Form::Small(_, small) => Row::small(level, small),
-            Form::Whole(mut parts) => {
-                parts.level = level;
-                Row {
-                    form: Form::Whole(parts),
-                }
-            }
+            Form::Whole(_, parts) => Row {
+                form: Form::Whole(level, parts),
+            },
         }
     }
 
@@ -98,7 +98,7 @@ impl Row {
     {
         match &self.form {
             Form::Small(_, small) => small.scalars(),
-            Form::Whole(parts) => Scalars::of(&parts.value),
+            Form::Whole(_, parts) => Scalars::of(&parts.value),
         }
     }
 
@@ -108,7 +108,7 @@ impl Row {
     {
         match &self.form {
             Form::Small(_, small) => small.scalars(),
-            Form::Whole(parts) => Scalars::of(&parts.usual),
+            Form::Whole(_, parts) => Scalars::of(&parts.usual),
         }
     }
 
@@ -118,7 +118,7 @@ impl Row {
     {
         match &self.form {
             Form::Small(_, small) => matches!(small, Small::Anything | Small::Struct),
-            Form::Whole(parts) => parts.struct_ok,
+            Form::Whole(_, parts) => parts.struct_ok,
         }
     }
 
@@ -128,7 +128,7 @@ impl Row {
     {
         match &self.form {
             Form::Small(_, small) => matches!(small, Small::Anything),
-            Form::Whole(parts) => parts.list_ok,
+            Form::Whole(_, parts) => parts.list_ok,
         }
     }
 
@@ -139,7 +139,7 @@ impl Row {
     {
         match &self.form {
             Form::Small(_, _) => None,
-            Form::Whole(parts) => parts.labels.listed(),
+            Form::Whole(_, parts) => parts.labels.listed(),
         }
     }
 
@@ -149,7 +149,7 @@ impl Row {
     {
         match &self.form {
             Form::Small(_, _) => true,
-            Form::Whole(parts) => parts.labels.allows(label),
+            Form::Whole(_, parts) => parts.labels.allows(label),
         }
     }
 
@@ -159,7 +159,7 @@ impl Row {
     {
         match &self.form {
             Form::Small(_, _) => 0,
-            Form::Whole(parts) => parts.least,
+            Form::Whole(_, parts) => parts.least,
         }
     }
 
@@ -169,7 +169,7 @@ impl Row {
     {
         match &self.form {
             Form::Small(_, _) => None,
-            Form::Whole(parts) => parts.most,
+            Form::Whole(_, parts) => parts.most,
         }
     }
 
@@ -188,7 +188,7 @@ impl Row {
         ensures { IfOk result (λ row. row ≡ parts) }
     {
         Ok(Row {
-            form: Form::Whole(Box::new(alloc, parts)?),
+            form: Form::Whole(parts.level, Rc::new(alloc, parts)?),
         })
     }
 
@@ -198,7 +198,7 @@ impl Row {
     {
         match &self.form {
             Form::Small(level, small) => small.parts(alloc, *level),
-            Form::Whole(parts) => parts.copy(alloc),
+            Form::Whole(level, parts) => Ok(parts.copy(alloc)?.at_level(*level)),
         }
     }
 
@@ -234,7 +234,7 @@ impl Row {
         let other = other.into_parts(alloc)?;
         match &self.form {
             Form::Small(level, small) => small.parts(alloc, *level)?.narrowed_by(alloc, other),
-            Form::Whole(parts) => parts.narrowed_by(alloc, other),
+            Form::Whole(level, parts) => parts.narrowed_at(alloc, *level, other),
         }
     }
 }
@@ -259,7 +259,7 @@ impl Narrow for Row {
     fn is_free(&self) -> bool {
         match &self.form {
             Form::Small(level, small) => level.same(Level::Optional) && small.is_anything(),
-            Form::Whole(parts) => parts.is_free(),
+            Form::Whole(level, parts) => parts.is_free_at(*level),
         }
     }
 
@@ -288,9 +288,14 @@ impl Narrow for Row {
     }
 
     fn narrow(&mut self, alloc: Global, other: Row) -> Result<(), Memory> {
-        if let Form::Whole(parts) = &mut self.form {
-            let other = other.into_parts(alloc)?;
-            return parts.narrow(alloc, other);
+        if let Form::Whole(level, parts) = &mut self.form {
+            if let Some(parts) = Rc::get_mut(parts) {
+                let other = other.into_parts(alloc)?;
+                parts.level = *level;
+                parts.narrow(alloc, other)?;
+                *level = parts.level;
+                return Ok(());
+            }
         }
         if let Narrowed::To(met) = self.narrowed_by(alloc, other)? {
             *self = met;
@@ -315,14 +320,16 @@ impl Narrow for Row {
     fn copy(&self, alloc: Global) -> Result<Row, Memory> {
         match &self.form {
             Form::Small(level, small) => Ok(Row::small(*level, small.copy(alloc)?)),
-            Form::Whole(parts) => Row::whole(alloc, parts.copy(alloc)?),
+            Form::Whole(level, parts) => Ok(Row {
+                form: Form::Whole(*level, Rc::clone(parts)?),
+            }),
         }
     }
 
     fn known(&self) {
         match &self.form {
             Form::Small(_, _) => {}
-            Form::Whole(parts) => parts.known(),
+            Form::Whole(_, parts) => parts.known(),
         }
     }
 }

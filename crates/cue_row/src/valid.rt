@@ -1,9 +1,11 @@
 ghost use Rattle.std.specs.Prelude.{◌↔◌, IsTrue};
 ghost use Rattle.cue_row.specs.Row.{IsMetRow, IsRow};
 ghost use Rattle.cue_row.specs.Kept.{small_parts, IsSmall};
+ghost use Rattle.cue_row.specs.Made.{at_level};
 ghost use Rattle.cue_row.specs.Steps.{step_of};
 ghost use Rattle.cue_row.specs.declared.parts.RowParts.{RowParts as RowValue};
 ghost use Rattle.cue_row.specs.ValidRow.{IsValidRow, UsualFits, LabelsFit, LengthsFit, AreLengths};
+ghost use Rattle.cue_row.specs.Forms.{IsFitRow};
 ghost use Rattle.cue_row.specs.ValidRow.{IsWord, AreWords, HasWords, IsWordStep};
 
 use crate::row::Form;
@@ -19,7 +21,7 @@ impl Row {
     {
         match &self.form {
             Form::Small(level, small) => small.is_valid(*level),
-            Form::Whole(parts) => parts.is_valid(),
+            Form::Whole(level, parts) => parts.is_valid(*level),
         }
     }
 }
@@ -41,9 +43,19 @@ impl Small {
 }
 
 impl RowParts {
-    /// Whether they may stand in a valid table.
-    fn is_valid(&self) -> bool
-        ensures { IsTrue result ↔ IsValidRow self.now }
+    /// Whether they may stand in a valid table at this level.
+    fn is_valid(&self, level: Level) -> bool
+        ensures { IsTrue result ↔ IsValidRow (at_level level self.now) }
+    {
+        if !self.is_fit() {
+            return false;
+        }
+        !self.is_free_at(level)
+    }
+
+    /// Whether they are of a kind, fit it, and keep the limits.
+    fn is_fit(&self) -> bool
+        ensures { IsTrue result ↔ IsFitRow self.now }
     {
         let Some(kind) = self.kind() else {
             return false;
@@ -60,10 +72,7 @@ impl RowParts {
         if !self.has_lengths() {
             return false;
         }
-        if !self.has_words() {
-            return false;
-        }
-        !self.is_free()
+        self.has_words()
     }
 
     /// Whether the usual scalars fit a kind: all of a free place, some of those that may stand

@@ -1,12 +1,13 @@
 use Rattle.cue_scalars.specs.Scalars.{RefusesScalar}
 use Rattle.cue_scalars.proofs.Narrowed.{after-refuses}
 use Rattle.cue_row.specs.LabelSets.{RefusesLabel}
+use Rattle.cue_row.specs.Made.{at_level}
 use Rattle.cue_row.proofs.MetRows.{met_rows}
-use Rattle.cue_row.proofs.parts.RowPartsNarrow.narrowed_by.Goals as goal
+use Rattle.cue_row.proofs.parts.RowParts.narrowed_at.Goals as goal
 
 pub returns : goal.returns
 returns c =
-    let mine = c.args.self.now in let theirs = c.args.other in
+    let mine = at_level c.args.level c.args.self.now in let theirs = c.args.other in
     met_rows mine theirs _ c.greater-level.ensures
     (λ x. rw c.in_ok-or_copy.ensures (after-refuses RefusesScalar mine.value theirs.value c.in_ok-value.value c.in_ok-value.ensures x))
     (λ x. rw c.in_ok-or_copy-2.ensures (after-refuses RefusesScalar mine.usual theirs.usual c.in_ok-usual.usual c.in_ok-usual.ensures x))
