@@ -1,5 +1,6 @@
 pub mod Begun
 mod AtLevel
+mod CoveredRows
 pub mod Free
 pub mod MetRows
 pub mod Texts

@@ -13,7 +13,7 @@ use Rattle.cue_row.specs.Lengths.{RefusesLength}
 use Rattle.cue_row.specs.Row.{Refuses}
 
 -- below the greater of two numbers
-below_max : (k m n x : ℕ) → x ≡ max m n → (k < x) ↔ ((k < m) ⊎ (k < n))
+pub below_max : (k m n x : ℕ) → x ≡ max m n → (k < x) ↔ ((k < m) ⊎ (k < n))
 below_max k m n x e = (
   λ h. ⊎_elim (λ l. inl l) (λ g. inr (omega arith)) (cases_lt k m),
   λ h. ⊎_elim (λ l. omega arith) (λ l. omega arith) h,

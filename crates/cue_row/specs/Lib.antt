@@ -12,6 +12,7 @@ pub mod Row
 pub mod Seen
 pub mod Made
 pub mod Kept
+pub mod Covers
 pub mod RowLaws
 pub mod Kinds
 pub mod Chosen

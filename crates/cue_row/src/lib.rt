@@ -1,6 +1,7 @@
 //! The row of a configuration table, the paths at which rows stand, and how paths are written.
 #![tactic(auto)]
 
+mod covering;
 mod kind;
 mod labels;
 mod level;

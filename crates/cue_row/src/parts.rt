@@ -221,7 +221,7 @@ impl RowParts {
 
     /// Whether this row refuses at this level what the other refuses of levels, structs, lists and
     /// lengths.
-    fn is_form_within(&self, level: Level, other: &RowParts) -> bool
+    pub(crate) fn is_form_within(&self, level: Level, other: &RowParts) -> bool
         ensures { IsTrue result → IsFormWithin (at_level level self.now) other.now }
     {
         if other.level.number() > level.number() || other.least > self.least {

@@ -1,4 +1,4 @@
-ghost use Rattle.std.specs.Prelude.{◌≡◌, ◌↔◌, IfOk, IfSome, IsTrue};
+ghost use Rattle.std.specs.Prelude.{◌≡◌, ◌↔◌, max, IfOk, IfSome, IsTrue};
 ghost use Rattle.std.specs.Option.{option_map};
 ghost use Rattle.cue_row.specs.LabelSets.{allows_label, AreLabels};
 ghost use Rattle.cue_row.specs.Made.{at_level};
@@ -46,7 +46,9 @@ impl Model for Row {
 
 impl Row {
     ghost use Rattle.cue_row.specs.Kept.{small_parts, IsSmall};
-    ghost use Rattle.cue_row.specs.declared.level.Level.{Level as Levels};
+    ghost use Rattle.cue_row.specs.Covers.{Covers};
+    ghost use Rattle.cue_row.specs.Levels.{level_of};
+    ghost use Rattle.cue_row.specs.declared.parts.RowParts.{RowParts as Parts};
 
     /// The row with these parts.
     pub fn from_parts(alloc: Global, parts: RowParts) -> Result<Row, Memory>
@@ -227,6 +229,28 @@ impl Row {
         }
     }
 
+    /// What the row becomes that changes in its level alone.
+    fn raised(&self, alloc: Global, level: Level) -> Result<Narrowed<Row>, Memory>
+        ensures { (other : Parts) → Covers self.now other
+            → level_of level ≡ max (level_of self.now.level) (level_of other.level)
+            → IfOk result (IsNarrowedBy Refuses self.now other) }
+    {
+        if level.same(self.level()) {
+            return Ok(Narrowed::Unchanged);
+        }
+        Ok(Narrowed::To(self.copy(alloc)?.at_level(level)))
+    }
+
+    /// Changes the level alone.
+    fn set_level(&mut self, level: Level)
+        ensures { self.new ≡ at_level level self.old }
+    {
+        match &mut self.form {
+            Form::Small(old, _) => *old = level,
+            Form::Whole(old, _) => *old = level,
+        }
+    }
+
     /// What the parts become where another row is unified into this one.
     fn narrowed_parts(&self, alloc: Global, other: Row) -> Result<Narrowed<RowParts>, Memory>
         ensures { IfOk result (IsNarrowedBy Refuses self.now other) }
@@ -264,6 +288,13 @@ impl Narrow for Row {
     }
 
     fn meet(&self, alloc: Global, other: &Row) -> Result<Row, Memory> {
+        let level = self.level().greater(other.level());
+        if self.covers(other) {
+            return Ok(self.copy(alloc)?.at_level(level));
+        }
+        if other.covers(self) {
+            return Ok(other.copy(alloc)?.at_level(level));
+        }
         if let Some(met) = self.meet_small(alloc, other)? {
             return Ok(met);
         }
@@ -272,8 +303,12 @@ impl Narrow for Row {
     }
 
     fn narrowed_by(&self, alloc: Global, other: Row) -> Result<Narrowed<Row>, Memory> {
-        if self.is_alike(&other) {
-            return Ok(Narrowed::Unchanged);
+        let level = self.level().greater(other.level());
+        if self.covers(&other) {
+            return self.raised(alloc, level);
+        }
+        if other.covers(self) {
+            return Ok(Narrowed::To(other.at_level(level)));
         }
         if let Some(met) = self.meet_small(alloc, &other)? {
             if met.same(self) {
@@ -288,6 +323,15 @@ impl Narrow for Row {
     }
 
     fn narrow(&mut self, alloc: Global, other: Row) -> Result<(), Memory> {
+        let level = self.level().greater(other.level());
+        if self.covers(&other) {
+            self.set_level(level);
+            return Ok(());
+        }
+        if other.covers(self) {
+            *self = other.at_level(level);
+            return Ok(());
+        }
         if let Form::Whole(level, parts) = &mut self.form {
             if let Some(parts) = Rc::get_mut(parts) {
                 let other = other.into_parts(alloc)?;
