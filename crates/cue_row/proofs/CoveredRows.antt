@@ -10,8 +10,8 @@ use Rattle.cue_row.specs.declared.level.Level.TheVariants.{Given}
 use Rattle.cue_row.specs.declared.parts.RowParts.{RowParts}
 use Rattle.cue_row.specs.declared.question.Question.TheVariants as questions
 use Rattle.cue_row.specs.declared.small.Small.TheVariants as small
-use Rattle.cue_row.specs.Covers.{Covers}
-use Rattle.cue_row.specs.Forms.{IsFormWithin}
+use Rattle.cue_row.specs.Inner.Covers.{Covers}
+use Rattle.cue_row.specs.Inner.Forms.{IsFormWithin}
 use Rattle.cue_row.specs.Kept.{small_parts}
 use Rattle.cue_row.specs.Kinds.{IsEmptySet}
 use Rattle.cue_row.specs.LabelSets.{RefusesLabel}

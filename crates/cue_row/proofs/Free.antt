@@ -10,7 +10,7 @@ use Rattle.cue_row.specs.declared.question.Question.TheVariants as questions
 use Rattle.cue_row.specs.Levels.{level_of}
 use Rattle.cue_row.specs.LabelSets.{RefusesLabel}
 use Rattle.cue_row.specs.Lengths.{RefusesLength}
-use Rattle.cue_row.specs.Forms.{AllowsAllForms}
+use Rattle.cue_row.specs.Inner.Forms.{AllowsAllForms}
 use Rattle.cue_row.specs.Row.{Refuses}
 use Rattle.cue_row.specs.RowLaws.{same_level}
 

@@ -21,7 +21,8 @@ use Rattle.cue_row.specs.declared.question.Question.TheVariants as questions
 use Rattle.cue_row.specs.declared.small.Few.{Few}
 use Rattle.cue_row.specs.declared.small.Small.{Small}
 use Rattle.cue_row.specs.declared.small.Small.TheVariants as small
-use Rattle.cue_row.specs.Kept.{few_set, integers_set, text_set, small_parts, IsMetSmall}
+use Rattle.cue_row.specs.Kept.{few_set, integers_set, text_set, small_parts}
+use Rattle.cue_row.specs.Inner.Kept.{IsMetSmall}
 use Rattle.cue_row.specs.Kinds.{IsEmptySet, IsFullSet, IsKind}
 use Rattle.cue_row.specs.LabelSets.{RefusesLabel}
 use Rattle.cue_row.specs.Lengths.{RefusesLength}

@@ -8,7 +8,8 @@ use Rattle.cue_lattice.specs.Path.{Path}
 use Rattle.cue_row.specs.declared.step.Step.{Step}
 use Rattle.cue_row.specs.Steps.{step_of}
 use Rattle.cue_row.specs.Quoted.{quotation_mark, char_text, quoted}
-use Rattle.cue_row.specs.PathText.{dot, is_word_byte, is_bare, step_text, path_text, dotted}
+use Rattle.cue_row.specs.PathText.{dot, is_word_byte, is_bare, step_text, path_text}
+use Rattle.cue_row.specs.Inner.PathText.{dotted}
 
 -- what is written for each element, with that of the next one
 pub next_piece : {X : Type 0} (f : X → List ℕ) (xs : List X) (i : ℕ) (x : X) (start before after : List ℕ) → i < length xs → x ≡ get_or xs i x → before ≡ start ++ flat_map f (take i xs) → after ≡ before ++ f x → after ≡ start ++ flat_map f (take (i + 1) xs)

@@ -1,5 +1,5 @@
 -- How a row is kept: what a `Row` is read as, and what each has.
-use Rattle.std.specs.Prelude.{◌≡◌, max, false, ℕ, ℤ, List, [], ◌∷◌, None}
+use Rattle.std.specs.Prelude.{false, ℕ, ℤ, List, [], ◌∷◌, None}
 use Rattle.cue_scalars.specs.declared.scalar_set.ScalarSet.{ScalarSet}
 use Rattle.cue_sets.specs.Pieces.{IsCanonical}
 use Rattle.cue_row.specs.declared.level.Level.{Level}
@@ -9,8 +9,6 @@ use Rattle.cue_row.specs.declared.row.Form.TheVariants as forms
 use Rattle.cue_row.specs.declared.small.Few.{Few}
 use Rattle.cue_row.specs.declared.small.Small.{Small}
 use Rattle.cue_row.specs.declared.small.Small.TheVariants as small
-use Rattle.cue_row.specs.Levels.{level_of}
-use Rattle.cue_row.specs.Row.{IsMetRow}
 use Rattle.cue_row.specs.Made.{free_row, struct_row, lone_row, at_level}
 
 -- some of null, false and true, with all texts or none
@@ -67,10 +65,3 @@ IsSmall (small.Text text) = Unit {0}
 abbrev pub IsKept : Form → Type 0
 IsKept (forms.Small level small) = IsSmall small
 IsKept (forms.Whole level parts) = Unit {0}
-
--- The third is the unification of the two others: at places of any levels it refuses what one of
--- the two refuses, and its level is the greater one.
-abbrev pub IsMetSmall : Small → Small → Small → Type 0
-IsMetSmall left right met =
-    (a b c : Level) → level_of c ≡ max (level_of a) (level_of b)
-    → IsMetRow (small_parts a left) (small_parts b right) (small_parts c met)

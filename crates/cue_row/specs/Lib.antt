@@ -1,3 +1,4 @@
+pub mod Inner
 pub mod Steps
 pub mod Begun
 pub mod Quoted
@@ -7,12 +8,10 @@ pub mod LabelSets
 pub mod LabelLaws
 pub mod Questions
 pub mod Lengths
-pub mod Forms
 pub mod Row
 pub mod Seen
 pub mod Made
 pub mod Kept
-pub mod Covers
 pub mod RowLaws
 pub mod Kinds
 pub mod Chosen

@@ -5,7 +5,6 @@ use Rattle.std.specs.Char.{is_ascii_digit, is_ascii_alphanumeric}
 use Rattle.std.specs.List.{list_all, join_with_byte}
 use Rattle.cue_lattice.specs.Path.{Step, Path, label, index}
 use Rattle.cue_row.specs.declared.step.Step as program
-use Rattle.cue_row.specs.Steps.{step_of}
 use Rattle.cue_row.specs.Quoted.{quoted}
 
 abbrev pub dot : ℕ
@@ -39,7 +38,3 @@ step_text (index n) = decimal n
 abbrev pub path_text : Path → List ℕ
 path_text [] = dot ∷ []
 path_text (step ∷ steps) = join_with_byte dot (map step_text (step ∷ steps))
-
--- a dot and the step
-abbrev pub dotted : program.Step → List ℕ
-dotted step = dot ∷ step_text (step_of step)

@@ -1,7 +1,7 @@
 //! Which rows refuse all that others refuse, but for levels, as far as a glance tells.
 ghost use Rattle.std.specs.Prelude.{◌≡◌, false, None, IsTrue};
 ghost use Rattle.cue_row.specs.declared.level.Level.{Level as Levels};
-ghost use Rattle.cue_row.specs.Covers.{Covers, IsOpenBelow, IsPieceWithin};
+ghost use Rattle.cue_row.specs.Inner.Covers.{Covers, IsOpenBelow, IsPieceWithin};
 ghost use Rattle.cue_row.specs.Kept.{small_parts, IsSmall};
 ghost use Rattle.cue_row.specs.Kinds.{IsEmptySet};
 ghost use Rattle.cue_row.specs.Made.{at_level};

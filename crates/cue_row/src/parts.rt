@@ -148,7 +148,7 @@ impl RowParts {
         }
     }
 
-    ghost use Rattle.cue_row.specs.Forms.{AllowsAllForms, HaveOneForm, IsFormWithin};
+    ghost use Rattle.cue_row.specs.Inner.Forms.{AllowsAllForms, HaveOneForm, IsFormWithin};
 
     /// The same parts, of this level.
     pub(crate) fn at_level(mut self, level: Level) -> RowParts

@@ -46,7 +46,7 @@ impl Model for Row {
 
 impl Row {
     ghost use Rattle.cue_row.specs.Kept.{small_parts, IsSmall};
-    ghost use Rattle.cue_row.specs.Covers.{Covers};
+    ghost use Rattle.cue_row.specs.Inner.Covers.{Covers};
     ghost use Rattle.cue_row.specs.Levels.{level_of};
     ghost use Rattle.cue_row.specs.declared.parts.RowParts.{RowParts as Parts};
 

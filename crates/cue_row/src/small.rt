@@ -4,7 +4,8 @@ ghost use Rattle.cue_sets.specs.Pieces.{IsCanonical};
 ghost use Rattle.cue_sets.specs.Texts.{IsAscending};
 ghost use Rattle.cue_row.specs.Seen.{set_of};
 ghost use Rattle.cue_row.specs.declared.level.Level.{Level as Levels};
-ghost use Rattle.cue_row.specs.Kept.{few_set, integers_set, text_set, small_parts, IsMetSmall, IsSmall};
+ghost use Rattle.cue_row.specs.Kept.{few_set, integers_set, text_set, small_parts, IsSmall};
+ghost use Rattle.cue_row.specs.Inner.Kept.{IsMetSmall};
 ghost use Rattle.cue_row.specs.Made.{lone_row};
 
 use crate::{Labels, Level, RowParts, Scalars};

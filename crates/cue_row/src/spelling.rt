@@ -1,7 +1,8 @@
 ghost use Rattle.std.specs.Prelude.{◌≡◌, ◌++◌, map, IfOk, OnErr, OnOk, string_bytes};
 ghost use Rattle.std.specs.List.{flat_map};
 ghost use Rattle.cue_row.specs.Begun.{StillBegins};
-ghost use Rattle.cue_row.specs.PathText.{dotted, is_word_byte, is_bare, step_text, path_text};
+ghost use Rattle.cue_row.specs.PathText.{is_word_byte, is_bare, step_text, path_text};
+ghost use Rattle.cue_row.specs.Inner.PathText.{dotted};
 ghost use Rattle.cue_row.specs.Steps.{step_of};
 
 use crate::quoted::push_quoted;

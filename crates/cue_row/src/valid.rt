@@ -5,7 +5,7 @@ ghost use Rattle.cue_row.specs.Made.{at_level};
 ghost use Rattle.cue_row.specs.Steps.{step_of};
 ghost use Rattle.cue_row.specs.declared.parts.RowParts.{RowParts as RowValue};
 ghost use Rattle.cue_row.specs.ValidRow.{IsValidRow, UsualFits, LabelsFit, LengthsFit, AreLengths};
-ghost use Rattle.cue_row.specs.Forms.{IsFitRow};
+ghost use Rattle.cue_row.specs.Inner.Forms.{IsFitRow};
 ghost use Rattle.cue_row.specs.ValidRow.{IsWord, AreWords, HasWords, IsWordStep};
 
 use crate::row::Form;

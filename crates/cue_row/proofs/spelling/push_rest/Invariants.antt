@@ -1,6 +1,6 @@
 use Rattle.std.proofs.Common.{◌≡◌, ◌++◌, take, string_bytes}
 use Rattle.std.specs.List.{flat_map}
-use Rattle.cue_row.specs.PathText.{dotted}
+use Rattle.cue_row.specs.Inner.PathText.{dotted}
 use Rattle.cue_row.proofs.spelling.push_rest.Given as goal
 
 abbrev pub invariant-loop-step : goal.invariant-loop-step

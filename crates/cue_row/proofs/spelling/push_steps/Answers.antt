@@ -1,7 +1,7 @@
 use Rattle.std.proofs.Common.{◌++◌, map, refl, ap, ◌∙◌, arith, string_bytes}
 use Rattle.std.specs.List.{flat_map}
 use Rattle.std.proofs.lemmas.List.{take_rest}
-use Rattle.cue_row.specs.PathText.{dotted}
+use Rattle.cue_row.specs.Inner.PathText.{dotted}
 use Rattle.cue_row.specs.Steps.{step_of}
 use Rattle.cue_row.proofs.Texts.{path_by_steps}
 use Rattle.cue_row.proofs.spelling.push_steps.Goals as goal

@@ -1,5 +1,5 @@
 use Rattle.std.proofs.Common.{sym, ap, ◌∙◌, subst}
-use Rattle.cue_row.specs.Covers.{Covers}
+use Rattle.cue_row.specs.Inner.Covers.{Covers}
 use Rattle.cue_row.specs.Kept.{parts_of, small_parts}
 use Rattle.cue_row.specs.Made.{at_level}
 use Rattle.cue_row.proofs.row.Row.covers.Goals as goal

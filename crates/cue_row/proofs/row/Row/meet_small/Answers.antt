@@ -1,5 +1,6 @@
 use Rattle.std.proofs.Common.{IfSome, sym, ap, ◌∙◌, subst}
-use Rattle.cue_row.specs.Kept.{parts_of, IsMetSmall}
+use Rattle.cue_row.specs.Kept.{parts_of}
+use Rattle.cue_row.specs.Inner.Kept.{IsMetSmall}
 use Rattle.cue_row.proofs.SmallRows.{rows_met}
 use Rattle.cue_row.proofs.row.Row.meet_small.Goals as goal
 

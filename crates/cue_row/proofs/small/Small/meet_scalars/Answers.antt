@@ -4,7 +4,8 @@ use Rattle.std.proofs.lemmas.Result.{IfOk-weaker}
 use Rattle.cue_scalars.specs.declared.scalar_set.ScalarSet.{ScalarSet}
 use Rattle.cue_row.specs.declared.level.Level.{Level}
 use Rattle.cue_row.specs.declared.small.Small.{Small}
-use Rattle.cue_row.specs.Kept.{small_parts, IsMetSmall}
+use Rattle.cue_row.specs.Kept.{small_parts}
+use Rattle.cue_row.specs.Inner.Kept.{IsMetSmall}
 use Rattle.cue_row.specs.Made.{lone_row}
 use Rattle.cue_row.proofs.SmallRows.{of_lone_rows}
 use Rattle.cue_row.proofs.small.Small.meet_scalars.Goals as goal
