@@ -60,8 +60,8 @@ impl Row {
         }
     }
 
-    /// The first scalar that may stand, where there is one: in the order null, false, true, integers
-    /// upwards, texts by their bytes. This takes memory only for a text.
+    /// The first scalar that may stand, where there is one: in the order null, false, true,
+    /// integers upwards, texts by their bytes. This takes memory only for a text.
     pub fn first_scalar(&self, alloc: Global) -> Result<Option<Scalar>, Memory>
         ensures some { IfOk result (λ found. IfSome found (IsFirstScalar self.now.value)) }
         ensures none { IfOk result (λ found. IfNone found

@@ -62,8 +62,8 @@ impl Row {
         Row::whole(alloc, RowParts::of_scalars(alloc, level, value, usual)?)
     }
 
-    /// The row of a place where these scalars alone may stand, all of them usual. A row that is small
-    /// takes memory for a long text alone.
+    /// The row of a place where these scalars alone may stand, all of them usual. A row that is
+    /// small takes memory for a long text alone.
     pub fn of_all_usual(alloc: Global, level: Level, value: ScalarSet) -> Result<Row, Memory>
         ensures { IfOk result (λ row. row ≡ scalar_row level value value) }
     {

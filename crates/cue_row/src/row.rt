@@ -25,9 +25,9 @@ pub(crate) enum Form {
 /// What is known of one place of a configuration. A row refuses questions, and unification refuses
 /// what one side refuses.
 ///
-/// Contracts see its parts, a [`RowParts`]. The rows that most places have lie in its 40 bytes: those
-/// where anything may stand, a struct with any labels, integers of one range, one text, all texts,
-/// or some of null, false and true. Others are shared by their copies.
+/// Contracts see its parts, a [`RowParts`]. The rows that most places have lie in its 40 bytes:
+/// those where anything may stand, a struct with any labels, integers of one range, one text, all
+/// texts, or some of null, false and true. Others are shared by their copies.
 #[derive(Debug, Drop)]
 pub struct Row {
     pub(crate) form: Form,

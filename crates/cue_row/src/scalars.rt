@@ -70,8 +70,8 @@ impl<'a> Scalars<'a> {
         self.yes
     }
 
-    /// The integers: pieces with a first and a last number, ascending, with at least one number left
-    /// out between neighbours.
+    /// The integers: pieces with a first and a last number, ascending, with at least one number
+    /// left out between neighbours.
     pub fn pieces(&self) -> &'a [(i64, i64)]
         ensures list { result.now ≡ self.now.ints }
         ensures canonical { IsCanonical self.now.ints }
