@@ -15,7 +15,8 @@ use Rattle.cue_report.specs.Gaps.{IsGap, AreGaps}
 use Rattle.cue_report.specs.Inner.GapSearch.{IsGapAt, IsGapIn, IsGapHere, IsGapBelow, IsGapOnward, IsFront, Fronts, free_before}
 use Rattle.cue_report.specs.Listing.{Lists}
 use Rattle.cue_report.specs.Inner.Search.{is_demanded, least_at, rest_from}
-use Rattle.cue_report.specs.Telling.{Tally, Starts}
+use Rattle.cue_report.specs.Telling.{Tally}
+use Rattle.cue_report.specs.Inner.Telling.{Starts}
 use Rattle.cue_report.specs.declared.gap.Gap.{Gap}
 use Rattle.cue_report.proofs.Descent.{Told}
 use Rattle.cue_report.proofs.FoundGaps.{place_of, UpTo, IsIn, path_cases, step_demanded, here_up, here_down, only_here, told_here, root_told, root_gap, gap_of_root}

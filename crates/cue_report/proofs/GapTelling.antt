@@ -6,7 +6,8 @@ use Rattle.std.proofs.lemmas.List.Concat.{flat_map-append}
 use Rattle.cue_lattice.specs.Path as paths
 use Rattle.cue_lattice.specs.Path.{index, Path}
 use Rattle.cue_report.specs.Inner.GapSearch.{above, told_above, free_at, free_elements}
-use Rattle.cue_report.specs.Telling.{Tally, Grows, Starts}
+use Rattle.cue_report.specs.Telling.{Tally, Grows}
+use Rattle.cue_report.specs.Inner.Telling.{Starts}
 use Rattle.cue_report.specs.declared.gap.Gap.{Gap}
 use Rattle.cue_report.proofs.Telling.{grows_then, starts_now, starts_later}
 

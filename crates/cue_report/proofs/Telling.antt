@@ -3,7 +3,8 @@ use Rattle.std.proofs.Common.{◌≡◌, ℕ, ◌+◌, List, [], ◌++◌, lengt
 use Rattle.std.proofs.lemmas.List.{append-nil}
 use Rattle.std.specs.Io.KnownBytes.{Appends}
 use Rattle.cue_device.specs.Texts.{Begins}
-use Rattle.cue_report.specs.Telling.{Tally, Extends, Grows, Starts}
+use Rattle.cue_report.specs.Telling.{Tally, Extends, Grows}
+use Rattle.cue_report.specs.Inner.Telling.{Starts}
 
 extends_none : {X : Type 0} (known : Option (List X)) → Extends known known []
 extends_none None = tt

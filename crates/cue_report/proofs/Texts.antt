@@ -8,7 +8,7 @@ use Rattle.cue_row.specs.PathText.{dot, step_text, path_text}
 use Rattle.cue_table.specs.StepsOfCode.{step_at}
 use Rattle.cue_table.specs.declared.step_ref.StepRef.{StepRef}
 use Rattle.cue_report.specs.Lines.{line_end}
-use Rattle.cue_report.specs.Trail.{dotted_behind, shown_steps}
+use Rattle.cue_report.specs.Inner.Trail.{dotted_behind, shown_steps}
 
 -- what is written for each element, with that of the next one
 pub next_piece : {X : Type 0} (f : X → List ℕ) (xs : List X) (i : ℕ) (x : X) (start before after : List ℕ) → i < length xs → x ≡ get_or xs i x → before ≡ start ++ flat_map f (take i xs) → after ≡ before ++ f x → after ≡ start ++ flat_map f (take (i + 1) xs)

@@ -16,7 +16,8 @@ use Rattle.cue_table.specs.Walks.{first_child}
 use Rattle.cue_table.proofs.Spanned.{left_size}
 use Rattle.cue_report.specs.declared.conflict.Conflict.{Conflict}
 use Rattle.cue_report.specs.Inner.Search.{under, told_under, only_if, has_no_value, conflict_here, has_level, is_demanded, is_refused, conflicts_in, conflicts_below, conflicts_onward, each_index, least_at, rest_from}
-use Rattle.cue_report.specs.Telling.{Tally, Grows, Starts}
+use Rattle.cue_report.specs.Telling.{Tally, Grows}
+use Rattle.cue_report.specs.Inner.Telling.{Starts}
 use Rattle.cue_report.proofs.Runs.{span_first}
 use Rattle.cue_report.proofs.Telling.{grows_then, starts_now, starts_later}
 

@@ -2,4 +2,6 @@
 pub mod Clear
 pub mod GapSearch
 pub mod Search
+pub mod Telling
+pub mod Trail
 pub mod Writing

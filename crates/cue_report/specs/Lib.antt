@@ -10,4 +10,3 @@ pub mod OneReport
 pub mod Picks
 pub mod Stream
 pub mod Telling
-pub mod Trail

@@ -16,10 +16,3 @@ Extends (Some xs) (Some ys) more = ys ≡ xs ++ more
 pub record Grows {X : Type 0} (old new : Tally X) (more : List X) : Type 0 where
   pub count : new.count ≡ old.count + length more
   pub known : Extends old.known new.known more
-
--- some in front of these were told
-pub record Starts {X : Type 0} (old new : Tally X) (more : List X) : Type 0 where
-  pub front : List X
-  pub back : List X
-  pub whole : more ≡ front ++ back
-  pub added : Extends old.known new.known front

@@ -13,8 +13,9 @@ ghost use Rattle.cue_report.specs.Listing.{AreConflicts};
 ghost use Rattle.cue_report.specs.Inner.Search.{has_no_value, conflict_here, conflicts_in};
 ghost use Rattle.cue_report.specs.Inner.Search.{conflicts_below, conflicts_onward, each_index};
 ghost use Rattle.cue_report.specs.Inner.Search.{told_under};
-ghost use Rattle.cue_report.specs.Telling.{Grows, Starts};
-ghost use Rattle.cue_report.specs.Trail.{shown_steps};
+ghost use Rattle.cue_report.specs.Telling.{Grows};
+ghost use Rattle.cue_report.specs.Inner.Telling.{Starts};
+ghost use Rattle.cue_report.specs.Inner.Trail.{shown_steps};
 
 use crate::Place;
 use crate::demand::{demanded_end, is_demanded, is_refused, lacks_value, least_of, rest_from};

@@ -14,8 +14,9 @@ ghost use Rattle.cue_report.specs.Inner.GapSearch.{told_above};
 ghost use Rattle.cue_report.specs.Gaps.{AreGaps};
 ghost use Rattle.cue_report.specs.Lines.{BeginsGaps, TellsGaps};
 ghost use Rattle.cue_report.specs.Inner.Search.{lacks_value, least_at};
-ghost use Rattle.cue_report.specs.Telling.{Grows, Starts};
-ghost use Rattle.cue_report.specs.Trail.{shown_steps};
+ghost use Rattle.cue_report.specs.Telling.{Grows};
+ghost use Rattle.cue_report.specs.Inner.Telling.{Starts};
+ghost use Rattle.cue_report.specs.Inner.Trail.{shown_steps};
 
 use crate::demand::{demanded_end, is_demanded, is_refused, least_of, rest_from};
 use crate::listed::Listed;

@@ -1,6 +1,6 @@
 ghost use Rattle.std.specs.Prelude.{◌≡◌, ◌++◌, [], ◌∷◌, Some, false, length, OnOk, OnErr};
 ghost use Rattle.cue_lattice.specs.Path.{index};
-ghost use Rattle.cue_report.specs.Trail.{shown_steps};
+ghost use Rattle.cue_report.specs.Inner.Trail.{shown_steps};
 
 use crate::place::copied;
 use crate::sink::{ConflictSink, GapSink};

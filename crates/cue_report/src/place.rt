@@ -1,7 +1,7 @@
 ghost use Rattle.std.specs.Prelude.{◌≡◌, ◌++◌, [], ◌∷◌, map, string_bytes, IfOk, OnOk};
 ghost use Rattle.cue_row.specs.PathText.{path_text};
 ghost use Rattle.cue_row.specs.Steps.{step_of};
-ghost use Rattle.cue_report.specs.Trail.{shown_steps};
+ghost use Rattle.cue_report.specs.Inner.Trail.{shown_steps};
 
 use cue_lattice::Memory;
 use cue_row::{Step, push_steps};

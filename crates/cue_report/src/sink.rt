@@ -1,7 +1,8 @@
 ghost use Rattle.std.specs.Prelude.{◌≡◌, ◌<◌, ◌-◌, List, length, OnOk, OnErr};
 ghost use Rattle.cue_report.specs.Inner.GapSearch.{told_above, free_elements};
-ghost use Rattle.cue_report.specs.Telling.{Tally, Grows, Starts};
-ghost use Rattle.cue_report.specs.Trail.{shown_steps};
+ghost use Rattle.cue_report.specs.Telling.{Tally, Grows};
+ghost use Rattle.cue_report.specs.Inner.Telling.{Starts};
+ghost use Rattle.cue_report.specs.Inner.Trail.{shown_steps};
 ghost use Rattle.cue_report.specs.declared.conflict.Conflict.{Conflict as Conflicts};
 ghost use Rattle.cue_report.specs.declared.gap.Gap.{Gap as Gaps};
 

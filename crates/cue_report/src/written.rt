@@ -4,8 +4,9 @@ ghost use Rattle.cue_lattice.specs.Path.{index};
 ghost use Rattle.cue_row.specs.PathText.{label_text, path_text, step_text};
 ghost use Rattle.cue_table.specs.StepsOfCode.{step_at};
 ghost use Rattle.cue_report.specs.Lines.{conflict_line, gap_line, line_end};
-ghost use Rattle.cue_report.specs.Telling.{Grows, Starts};
-ghost use Rattle.cue_report.specs.Trail.{dotted_behind, shown_steps};
+ghost use Rattle.cue_report.specs.Telling.{Grows};
+ghost use Rattle.cue_report.specs.Inner.Telling.{Starts};
+ghost use Rattle.cue_report.specs.Inner.Trail.{dotted_behind, shown_steps};
 
 use crate::report::{cause, end_line, lack};
 use crate::sink::{ConflictSink, GapSink};

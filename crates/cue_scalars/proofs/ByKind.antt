@@ -8,7 +8,8 @@ use Rattle.cue_sets.specs.Pieces.{is_member, IsCanonical, Refuses, IsOnlyMember}
 use Rattle.cue_sets.specs.Texts.{is_text_member, RefusesText, IsOnlyText}
 use Rattle.cue_sets.specs.PieceLaws.{some_member}
 use Rattle.cue_sets.specs.TextLaws.{some_text, first_is_listed, is_listed-zeros, greatest_length, zeros}
-use Rattle.cue_scalars.specs.Scalars.{members, kind, only_of, RefusesScalar, IsOnlyScalar}
+use Rattle.cue_scalars.specs.Scalars.{members, kind, RefusesScalar, IsOnlyScalar}
+use Rattle.cue_scalars.specs.Inner.Scalars.{only_of}
 use Rattle.cue_scalars.specs.declared.scalar_set.ScalarSet.{ScalarSet}
 
 -- whether null or a truth value is a member

@@ -1,5 +1,5 @@
 -- Sets of scalars: null, false, true, integers of 64 bits and texts.
-use Rattle.std.specs.Prelude.{◌≡◌, ℕ, Bool, true, false, Option, Some, None, ◌<◌, ◌<ℤ◌}
+use Rattle.std.specs.Prelude.{◌≡◌, ℕ, Bool, true, false, ◌<◌, ◌<ℤ◌}
 use Rattle.std.specs.declared.cmp.Ordering.TheVariants.{Less}
 use Rattle.cue_lattice.specs.declared.scalar.Scalar.{Scalar}
 use Rattle.cue_lattice.specs.declared.scalar.Scalar.TheVariants as scalars
@@ -55,10 +55,3 @@ pub record IsFirstScalar (set : ScalarSet) (scalar : Scalar) : Type 0 where
 -- each member of the small set is one of the large set
 abbrev pub IsWithin : ScalarSet → ScalarSet → Type 0
 IsWithin small large = (scalar : Scalar) → members small scalar ≡ true → members large scalar ≡ true
-
--- the only one of null, false and true, where it is one
-abbrev pub only_of : Bool → Bool → Bool → Option Scalar
-only_of true false false = Some scalars.Null
-only_of false true false = Some (scalars.Bool false)
-only_of false false true = Some (scalars.Bool true)
-only_of is_null is_no is_yes = None

@@ -4,7 +4,8 @@ ghost use Rattle.std.specs.List.{list_all, list_any};
 ghost use Rattle.std.specs.Result.{IsOk, IsOkAnd};
 ghost use Rattle.cue_lattice.specs.declared.scalar.Scalar.{Scalar};
 ghost use Rattle.cue_lattice.specs.declared.scalar.Scalar.TheVariants as scalars;
-ghost use Rattle.cue_scalars.specs.Scalars.{members, kind, only_of, IsOnlyScalar, IsFirstScalar};
+ghost use Rattle.cue_scalars.specs.Scalars.{members, kind, IsOnlyScalar, IsFirstScalar};
+ghost use Rattle.cue_scalars.specs.Inner.Scalars.{only_of};
 ghost use Rattle.cue_scalars.specs.Scalars.{IsWithin};
 ghost use Rattle.cue_scalars.specs.Changes.{IsChanged, Unifies};
 

@@ -4,7 +4,7 @@ use Rattle.std.specs.Str.{bytes_eq}
 use Rattle.std.specs.declared.cmp.Ordering.{Ordering}
 use Rattle.std.specs.declared.cmp.Ordering.TheVariants.{Less, Equal, Greater}
 use Rattle.std.proofs.lemmas.Slice.Eq.{bytes_eq-Decides}
-use Rattle.cue_sets.specs.Combination.{keeps}
+use Rattle.cue_sets.specs.Inner.Combination.{keeps}
 use Rattle.cue_sets.specs.Texts.{is_listed, flipped, is_text_member, text_cmp, IsBelowAll, IsAscending}
 use Rattle.cue_sets.specs.TextLaws.{reverse_cmp, same_from_equal, bytes_eq-itself, is_listed-below, IsBelowAll-lower, is_listed-before_first}
 use Rattle.cue_sets.specs.Inner.Merge.{prepended_if, right_merged, merged_at, merged_from, merged, lists}

@@ -5,7 +5,7 @@ use Rattle.std.proofs.lemmas.List.{append-nil}
 use Rattle.std.proofs.lemmas.Bool.{and_left, and_right}
 use Rattle.std.proofs.lemmas.Int.{ints, by_lt_z}
 use Rattle.cue_sets.specs.Pieces.{is_member, least, greatest, AscendsFrom, IsCanonical}
-use Rattle.cue_sets.specs.Combination.{keeps}
+use Rattle.cue_sets.specs.Inner.Combination.{keeps}
 use Rattle.cue_sets.specs.Inner.Sweep.{EndsFrom, opened, closed}
 use Rattle.cue_sets.specs.declared.combination.Combination.{Combination}
 use Rattle.cue_sets.specs.declared.combination.Combination.TheVariants.{Meet, Union, Without}

@@ -1,5 +1,4 @@
 pub mod Changes
-pub mod Combination
 pub mod Inner
 pub mod Kept
 pub mod PieceLaws

@@ -1,5 +1,5 @@
 ghost use Rattle.std.specs.Prelude.{◌≡◌};
-ghost use Rattle.cue_sets.specs.Combination.{keeps};
+ghost use Rattle.cue_sets.specs.Inner.Combination.{keeps};
 
 /// How two sets are combined into one.
 #[derive(Clone, Copy, Debug, PartialEq, Eq)]

@@ -5,7 +5,7 @@ ghost use Rattle.std.specs.Ordering.{int_eq};
 ghost use Rattle.std.specs.List.{All, list_all, list_any};
 ghost use Rattle.cue_sets.specs.Pieces.{is_member, is_int64, IsCanonical, IsFirstMember};
 ghost use Rattle.cue_sets.specs.Pieces.{IsOnlyMember, least, greatest};
-ghost use Rattle.cue_sets.specs.Combination.{keeps};
+ghost use Rattle.cue_sets.specs.Inner.Combination.{keeps};
 ghost use Rattle.cue_sets.specs.Inner.Gaps.{lacks};
 ghost use Rattle.cue_sets.specs.Inner.Sorted.{IsPiece};
 

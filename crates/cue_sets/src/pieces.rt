@@ -1,6 +1,6 @@
 ghost use Rattle.std.specs.Prelude.{◌≡◌, ℤ, pos, ◌-ℤ◌, ◌≤ℤ◌, ◌<ℤ◌, ◌++◌, IfOk, IfSome, Some};
 ghost use Rattle.std.specs.Prelude.{true, ◌↔◌, IsTrue};
-ghost use Rattle.cue_sets.specs.Combination.{keeps};
+ghost use Rattle.cue_sets.specs.Inner.Combination.{keeps};
 ghost use Rattle.cue_sets.specs.Pieces.{is_member, IsCanonical};
 ghost use Rattle.cue_sets.specs.Inner.Sweep.{EndsFrom, closed, opened};
 

@@ -1,7 +1,7 @@
 ghost use Rattle.std.specs.Prelude.{◌≡◌, ◌↔◌, ℕ, Bool, List, [], ◌∷◌, true, false, not, ◌&&◌, ◌||◌};
 ghost use Rattle.std.specs.Prelude.{IfOk, IfSome, IfNone, Ok, IsTrue};
 ghost use Rattle.std.specs.List.{list_all, list_any};
-ghost use Rattle.cue_sets.specs.Combination.{keeps};
+ghost use Rattle.cue_sets.specs.Inner.Combination.{keeps};
 ghost use Rattle.cue_sets.specs.Changes.{IsChanged, Unifies};
 ghost use Rattle.cue_sets.specs.declared.text_change.TextChange.TheVariants.{Keep, Lack};
 ghost use Rattle.cue_sets.specs.Texts.{is_listed, is_text_member, IsAscending, IsFirstText};

@@ -1,6 +1,6 @@
 ghost use Rattle.std.specs.Prelude.{◌≡◌, ℕ, ◌+◌, ◌<◌, Bool, ◌↔◌, [], List, length, IfOk, IfSome};
 ghost use Rattle.std.specs.Prelude.{IfNone, IsTrue, true, replicate};
-ghost use Rattle.cue_sets.specs.Combination.{keeps};
+ghost use Rattle.cue_sets.specs.Inner.Combination.{keeps};
 ghost use Rattle.cue_sets.specs.Inner.Merge.{lists, merged, prepended_if};
 ghost use Rattle.cue_sets.specs.Texts.{flipped, is_listed, IsAscending, IsFirstText};
 

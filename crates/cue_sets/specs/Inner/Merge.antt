@@ -2,7 +2,7 @@
 use Rattle.std.specs.Prelude.{ℕ, Bool, true, false, List, [], ◌∷◌}
 use Rattle.std.specs.declared.cmp.Ordering.{Ordering}
 use Rattle.std.specs.declared.cmp.Ordering.TheVariants.{Less, Equal, Greater}
-use Rattle.cue_sets.specs.Combination.{keeps}
+use Rattle.cue_sets.specs.Inner.Combination.{keeps}
 use Rattle.cue_sets.specs.Texts.{text_cmp, flipped}
 use Rattle.cue_sets.specs.declared.combination.Combination.{Combination}
 

@@ -1,5 +1,5 @@
 use Rattle.std.proofs.Common.{ap}
-use Rattle.cue_report.specs.Trail.{shown_steps}
+use Rattle.cue_report.specs.Inner.Trail.{shown_steps}
 use Rattle.cue_report.proofs.Exact.{exact_conflicts}
 use Rattle.cue_report.proofs.Found.{from_nothing}
 use Rattle.cue_report.proofs.conflict.conflicts.Goals as goal

@@ -2,8 +2,9 @@ use Rattle.std.proofs.Common.{ap, subst, ◌∙◌, false, ℕ, List, Option}
 use Rattle.std.specs.List.{flat_map}
 use Rattle.cue_report.specs.Lines.{conflict_line, BeginsConflicts}
 use Rattle.cue_report.specs.Inner.Search.{conflicts_in}
-use Rattle.cue_report.specs.Telling.{Tally, Grows, Starts}
-use Rattle.cue_report.specs.Trail.{shown_steps}
+use Rattle.cue_report.specs.Telling.{Tally, Grows}
+use Rattle.cue_report.specs.Inner.Telling.{Starts}
+use Rattle.cue_report.specs.Inner.Trail.{shown_steps}
 use Rattle.cue_report.specs.declared.conflict.Conflict.{Conflict}
 use Rattle.cue_report.proofs.Descent.{Told}
 use Rattle.cue_report.proofs.Found.{root_told, conflicts_found, only_conflicts}

@@ -1,5 +1,5 @@
 use Rattle.std.proofs.Common.{ap}
-use Rattle.cue_report.specs.Trail.{shown_steps}
+use Rattle.cue_report.specs.Inner.Trail.{shown_steps}
 use Rattle.cue_report.proofs.FoundGaps.{from_nothing}
 use Rattle.cue_report.proofs.gap.incomplete.Goals as goal
 

@@ -2,7 +2,7 @@ use Rattle.std.proofs.Common.{subst, refl, Bool, Option}
 use Rattle.std.specs.Prelude.{IfSome, IfNone}
 use Rattle.std.specs.Option.{option_map}
 use Rattle.cue_report.specs.Inner.GapSearch.{IsGapAt}
-use Rattle.cue_report.specs.Trail.{shown_steps}
+use Rattle.cue_report.specs.Inner.Trail.{shown_steps}
 use Rattle.cue_report.proofs.FoundGaps.{looked_none, looked_one}
 use Rattle.cue_report.proofs.GapFronts.{fronts_none, looked_begun}
 use Rattle.cue_report.proofs.Writing.{on_any}

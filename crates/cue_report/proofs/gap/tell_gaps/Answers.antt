@@ -2,7 +2,7 @@ use Rattle.std.proofs.Common.{ap, ◌∙◌, ℕ}
 use Rattle.std.specs.List.{flat_map}
 use Rattle.cue_report.specs.Lines.{gap_line, BeginsGaps}
 use Rattle.cue_report.specs.Telling.{Tally}
-use Rattle.cue_report.specs.Trail.{shown_steps}
+use Rattle.cue_report.specs.Inner.Trail.{shown_steps}
 use Rattle.cue_report.proofs.Descent.{Told}
 use Rattle.cue_report.proofs.FoundGaps.{told_from_root}
 use Rattle.cue_report.proofs.GapFronts.{front_of_root}

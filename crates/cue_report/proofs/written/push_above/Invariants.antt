@@ -1,6 +1,6 @@
 use Rattle.std.proofs.Common.{◌≡◌, ◌++◌, take, string_bytes}
 use Rattle.std.specs.List.{flat_map}
-use Rattle.cue_report.specs.Trail.{dotted_behind, shown_steps}
+use Rattle.cue_report.specs.Inner.Trail.{dotted_behind, shown_steps}
 use Rattle.cue_report.proofs.written.push_above.Given as goal
 
 abbrev pub invariant-loop-step : goal.invariant-loop-step

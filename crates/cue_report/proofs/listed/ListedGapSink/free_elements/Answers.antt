@@ -1,7 +1,7 @@
 use Rattle.std.proofs.Common.{◌-◌, ◌≤◌, [], ◌∷◌, Some, length, sym, subst, arith}
 use Rattle.cue_report.specs.Inner.GapSearch.{told_above, free_elements}
-use Rattle.cue_report.specs.Telling.{Starts}
-use Rattle.cue_report.specs.Trail.{shown_steps}
+use Rattle.cue_report.specs.Inner.Telling.{Starts}
+use Rattle.cue_report.specs.Inner.Trail.{shown_steps}
 use Rattle.cue_report.proofs.GapTelling.{one_more_free, free_begun}
 use Rattle.cue_report.proofs.Telling.{grows_list, starts_whole}
 use Rattle.cue_report.proofs.Writing.{on_any}

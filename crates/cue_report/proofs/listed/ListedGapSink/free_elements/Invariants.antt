@@ -1,7 +1,7 @@
 use Rattle.std.proofs.Common.{◌+◌, ◌-◌, ◌≤◌, Some, length, [], ◌∷◌}
 use Rattle.cue_report.specs.Inner.GapSearch.{told_above, free_elements}
 use Rattle.cue_report.specs.Telling.{Grows}
-use Rattle.cue_report.specs.Trail.{shown_steps}
+use Rattle.cue_report.specs.Inner.Trail.{shown_steps}
 use Rattle.cue_report.proofs.listed.ListedGapSink.free_elements.Given as goal
 
 abbrev pub invariant-loop-number : goal.invariant-loop-number

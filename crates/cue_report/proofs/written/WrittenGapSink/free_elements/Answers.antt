@@ -2,8 +2,9 @@ use Rattle.std.proofs.Common.{◌≡◌, ◌∙◌, ◌++◌, ◌-◌, ◌≤◌
 use Rattle.cue_lattice.specs.Path.{index, Path}
 use Rattle.cue_report.specs.Inner.GapSearch.{told_above, free_elements}
 use Rattle.cue_report.specs.Lines.{gap_line}
-use Rattle.cue_report.specs.Telling.{Tally, Grows, Starts}
-use Rattle.cue_report.specs.Trail.{shown_steps}
+use Rattle.cue_report.specs.Telling.{Tally, Grows}
+use Rattle.cue_report.specs.Inner.Telling.{Starts}
+use Rattle.cue_report.specs.Inner.Trail.{shown_steps}
 use Rattle.cue_report.proofs.GapTelling.{one_more_free, one_begun_free, free_begun}
 use Rattle.cue_report.proofs.Telling.{grows_none, grows_same, grows_from, starts_none, starts_whole}
 use Rattle.cue_report.proofs.Texts.{element_line}

@@ -3,7 +3,7 @@ use Rattle.std.specs.List.{flat_map}
 use Rattle.cue_report.specs.Inner.GapSearch.{told_above, free_elements}
 use Rattle.cue_report.specs.Lines.{gap_line}
 use Rattle.cue_report.specs.Telling.{Grows}
-use Rattle.cue_report.specs.Trail.{dotted_behind, shown_steps}
+use Rattle.cue_report.specs.Inner.Trail.{dotted_behind, shown_steps}
 use Rattle.cue_report.proofs.written.WrittenGapSink.free_elements.Given as goal
 
 abbrev pub invariant-loop-number : goal.invariant-loop-number
