@@ -13,6 +13,7 @@ mod Nearing
 mod Owned
 mod Resting
 mod Settling
+mod Sides
 mod Sweeping
 pub mod ByHalves
 pub mod Alike

@@ -16,6 +16,8 @@ use Rattle.cue_table.specs.Inner.Alike.{AreAlike}
 use Rattle.cue_table.specs.Inner.Join.{join}
 use Rattle.cue_table.specs.Inner.Rests.{AreElements, AreElementsMet, AreMetRests, IsBranch, IsSettled}
 use Rattle.cue_table.specs.Inner.Runs.{AreFrom}
+use Rattle.cue_table.specs.Inner.Sides.{IsAt}
+use Rattle.cue_table.specs.declared.lists.Side.{Side}
 use Rattle.std.specs.Prelude.{Box}
 use Rattle.std.specs.Global.{Global}
 use Rattle.cue_table.specs.declared.node.Node.TheInside.{Inside}
@@ -89,6 +91,15 @@ module _ {R S : Type 0} (refuses : R → S → Type 0) where
       → AreMetRests refuses (step_into left (index first)) (step_into right (index first)) found → IsStretch left right fixed at end found
   stretch left right fixed first at end found e low h k met =
       subst (λ n. IsStretch left right fixed n end found) e (record { behind = h.behind; low = low; left_same = h.same; right_same = k.same; met = met })
+
+  -- the same from side to side
+  pub stretch_at :
+      {Q : Type 0} (left right : Tree R) (fixed first at end : ℕ) (one other : Side R Q) (found : Option (Tree R)) → IsAt left at one → IsAt right at other → first ≡ at → end ≤ fixed
+      → AreAlike first end (λ i. step_into one.place.now (index i)) → AreAlike first end (λ i. step_into other.place.now (index i))
+      → AreMetRests refuses (step_into one.place.now (index first)) (step_into other.place.now (index first)) found → IsStretch left right fixed at end found
+  stretch_at left right fixed first at end one other found a b e low h k met =
+      stretch left right fixed first at end found e low (subst (λ (t : Tree R). AreAlike first end (λ i. step_into t (index i))) a.place h) (subst (λ (t : Tree R). AreAlike first end (λ i. step_into t (index i))) b.place k)
+      (λ path. union_as refuses _ _ _ _ _ _ path (ap (λ t. step_into t (index first)) (sym a.place)) (ap (λ t. step_into t (index first)) (sym b.place)) refl (met path))
 
   -- branches that are the same as others are met as these
   pub met_as : (a b x y found : Option (Tree R)) → x ≡ a → y ≡ b → AreMetRests refuses x y found → AreMetRests refuses a b found

@@ -13,5 +13,6 @@ pub mod Parts
 pub mod Place
 pub mod Rests
 pub mod Runs
+pub mod Sides
 pub mod ValidWalk
 pub mod View

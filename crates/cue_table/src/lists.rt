@@ -1,11 +1,12 @@
 //! Places met where one of both is a list with a rest.
-ghost use Rattle.std.specs.Prelude.{◌≡◌, ◌↔◌, ◌<◌, ◌≤◌, ◌^◌, IfOk, IsTrue, None};
+ghost use Rattle.std.specs.Prelude.{◌≡◌, ◌↔◌, ◌<◌, ◌≤◌, ◌^◌, ℕ, IfOk, IsTrue, None};
 ghost use Rattle.std.specs.Option.{option_map};
 ghost use Rattle.cue_lattice.specs.Path.{index};
 ghost use Rattle.cue_table.specs.Form.{IsKept, IsTable, Rise};
 ghost use Rattle.cue_table.specs.Meet.{IsMet};
 ghost use Rattle.cue_table.specs.Inner.Rests.{AreElementsMet, AreFields, AreMetRests, IsBranch};
 ghost use Rattle.cue_table.specs.Inner.Alike.{AreAlike};
+ghost use Rattle.cue_table.specs.Inner.Sides.{AreFound, IsAt, found_by};
 ghost use Rattle.cue_table.specs.Inner.View.{branches};
 ghost use Rattle.cue_table.specs.Tree.{no_rest, rest_of, rest_tree, step_into};
 
@@ -13,6 +14,7 @@ use crate::child::Child;
 use crate::meet::{meet_below, node_met, node_or, row_met, row_or};
 use crate::node::{Node, Onward, Run, copy_children, copy_row};
 use crate::rest::{fixed, rest, settled};
+use crate::runs::FoundElement;
 use cue_lattice::{Memory, Narrow};
 use cue_row::Step;
 use std::alloc::Global;
@@ -61,13 +63,15 @@ fn elements_met<R: Narrow>(
 {
     let fixed = u64::max(fixed(left), fixed(right));
     let further = found_met(alloc, rest(left), rest(right))?;
+    let mut on_left = Side::new(left);
+    let mut on_right = Side::new(right);
     let mut runs = Vec::new(alloc);
     let mut at = 0;
     while at < fixed {
         let first = index_of(at);
-        let end = stretch_end(left, right, first, fixed);
+        let element = element_met(alloc, &on_left, &on_right, first, &further)?;
+        let end = alike_end(&mut on_left, &mut on_right, first, fixed);
         let last = index_of(end - 1);
-        let element = element_met(alloc, left, right, first, &further)?;
         if let Some(node) = element {
             let more = last - first;
             runs.push(Run { first, more, node })?;
@@ -81,48 +85,108 @@ fn elements_met<R: Narrow>(
     }
 }
 
-/// An index behind this one up to which the elements of both places are alike. Neighbours that are
-/// kept by themselves are compared.
-fn stretch_end<R: Narrow>(left: &Node<R>, right: &Node<R>, first: u32, fixed: u64) -> u64
-    requires left { IsTable R.refuses R.is_value left.now }
-    requires right { IsTable R.refuses R.is_value right.now }
+/// A place on the way along its elements, with the element that was found last.
+#[derive(Drop)]
+struct Side<'a, R: Narrow> {
+    place: &'a Node<R>,
+    found: FoundElement<'a, R>,
+}
+
+impl<'a, R: Narrow> Side<'a, R> {
+    /// A place at its first element.
+    fn new(place: &'a Node<R>) -> Side<'a, R>
+        requires { IsTable R.refuses R.is_value place.now }
+        ensures { IsAt place.now 0 result }
+    {
+        let found = place.found_at(0);
+        Side { place, found }
+    }
+
+    /// Goes on to an index, and tells whether its element is kept as one with that before. It is
+    /// looked up where it is not.
+    fn go_on(&mut self, number: u32) -> bool
+        requires form { IsTable R.refuses R.is_value self.old.place.now }
+        requires found { AreFound self.old.place.now number self.old }
+        ensures at { IsAt self.old.place.now number self.new }
+        ensures same { IsTrue result → (found_by self.old ≡ found_by self.new) }
+    {
+        if u64::from(number) < self.found.end {
+            return true;
+        }
+        let place = self.place;
+        self.found = place.found_at(number);
+        false
+    }
+
+    /// Whether the element at an index is what all further ones are. It is compared where it is
+    /// none of these.
+    fn is_as_rest(&self, number: u32) -> bool
+        requires form { IsTable R.refuses R.is_value self.now.place.now }
+        requires at { IsAt self.now.place.now number self.now }
+        ensures { IsTrue result
+            → (step_into self.now.place.now (index number)
+            ≡ rest_tree (rest_of self.now.place.now)) }
+    {
+        u64::from(number) >= fixed(self.place) || same_found(self.found.node, rest(self.place))
+    }
+}
+
+/// An index behind this one up to which the elements of both places are alike. Both go on to it.
+fn alike_end<R: Narrow>(left: &mut Side<R>, right: &mut Side<R>, first: u32, fixed: u64) -> u64
+    requires left_form { IsTable R.refuses R.is_value left.old.place.now }
+    requires right_form { IsTable R.refuses R.is_value right.old.place.now }
+    requires left { IsAt left.old.place.now first left.old }
+    requires right { IsAt right.old.place.now first right.old }
     requires first { first < fixed }
     requires few { fixed ≤ 2 ^ 32 }
     ensures low { result ≤ fixed }
-    ensures left { AreAlike first result (λ i. step_into left.now (index i)) }
-    ensures right { AreAlike first result (λ i. step_into right.now (index i)) }
+    ensures left { AreAlike first result (λ i. step_into left.old.place.now (index i)) }
+    ensures right { AreAlike first result (λ i. step_into right.old.place.now (index i)) }
+    ensures left_on { result < fixed → IsAt left.old.place.now result left.new }
+    ensures right_on { result < fixed → IsAt right.old.place.now result right.new }
 {
-    let mut end = alike_in_both(left, right, first, fixed);
-    while end < fixed {
-        let next = index_of(end);
-        if !goes_on(left, first, next) || !goes_on(right, first, next) {
-            break;
-        }
-        end = alike_in_both(left, right, next, fixed);
+    let mut end = u64::from(first) + 1;
+    while both_go_on(left, right, end, fixed) {
+        end = end_of_both(left, right, fixed);
     }
     end
 }
 
-/// An index behind this one up to which the elements of both places are kept as one.
-fn alike_in_both<R: Narrow>(left: &Node<R>, right: &Node<R>, first: u32, fixed: u64) -> u64
-    requires left { IsTable R.refuses R.is_value left.now }
-    requires right { IsTable R.refuses R.is_value right.now }
-    requires first { first < fixed }
+/// Up to which index the elements that were found are kept as one in both places.
+fn end_of_both<R: Narrow>(left: &Side<R>, right: &Side<R>, fixed: u64) -> u64
+    ensures left { result ≤ left.now.found.end }
+    ensures right { result ≤ right.now.found.end }
     ensures low { result ≤ fixed }
-    ensures left { AreAlike first result (λ i. step_into left.now (index i)) }
-    ensures right { AreAlike first result (λ i. step_into right.now (index i)) }
+    ensures behind { (n : ℕ) → n < left.now.found.end → n < right.now.found.end → n < fixed
+        → n < result }
 {
-    left.alike_to(first).min(right.alike_to(first)).min(fixed)
+    left.found.end.min(right.found.end).min(fixed)
 }
 
-/// Whether two elements of a place are the same. They are compared where they are not kept as one.
-fn goes_on<R: Narrow>(node: &Node<R>, first: u32, next: u32) -> bool
-    requires form { IsTable R.refuses R.is_value node.now }
-    requires behind { first ≤ next }
-    ensures { IsTrue result
-        → (step_into node.now (index first) ≡ step_into node.now (index next)) }
+/// Whether the next elements of both places are as those before. Both go on to these, where they
+/// stand before an index. Elements are compared where they are not kept as one.
+fn both_go_on<R: Narrow>(left: &mut Side<R>, right: &mut Side<R>, next: u64, fixed: u64) -> bool
+    requires left_form { IsTable R.refuses R.is_value left.old.place.now }
+    requires right_form { IsTable R.refuses R.is_value right.old.place.now }
+    requires left { AreFound left.old.place.now next left.old }
+    requires right { AreFound right.old.place.now next right.old }
+    requires few { fixed ≤ 2 ^ 32 }
+    ensures low { IsTrue result → next < fixed }
+    ensures left { next < fixed → IsAt left.old.place.now next left.new }
+    ensures right { next < fixed → IsAt right.old.place.now next right.new }
+    ensures left_same { IsTrue result → (found_by left.old ≡ found_by left.new) }
+    ensures right_same { IsTrue result → (found_by right.old ≡ found_by right.new) }
 {
-    u64::from(next) < node.alike_to(first) || same_found(node.element(first), node.element(next))
+    if next >= fixed {
+        return false;
+    }
+    let left_last = left.found.node;
+    let right_last = right.found.node;
+    let number = index_of(next);
+    let left_stays = left.go_on(number);
+    let right_stays = right.go_on(number);
+    (left_stays || same_found(left_last, left.found.node))
+        && (right_stays || same_found(right_last, right.found.node))
 }
 
 /// The elements of two places with an index met. Where both are as the rests, they are shared with
@@ -130,33 +194,27 @@ fn goes_on<R: Narrow>(node: &Node<R>, first: u32, next: u32) -> bool
 #[cycle(meet)]
 fn element_met<R: Narrow>(
     alloc: Global,
-    left: &Node<R>,
-    right: &Node<R>,
+    left: &Side<R>,
+    right: &Side<R>,
     first: u32,
     further: &Option<Node<R>>,
 ) -> Result<Option<Node<R>>, Memory>
-    requires left { IsTable R.refuses R.is_value left.now }
-    requires right { IsTable R.refuses R.is_value right.now }
+    requires left_form { IsTable R.refuses R.is_value left.now.place.now }
+    requires right_form { IsTable R.refuses R.is_value right.now.place.now }
+    requires left { IsAt left.now.place.now first left.now }
+    requires right { IsAt right.now.place.now first right.now }
     requires form { IsBranch (IsKept R.refuses R.is_value) further.now }
-    requires refused { AreMetRests R.refuses (rest_tree (rest_of left.now))
-        (rest_tree (rest_of right.now)) further.now }
+    requires refused { AreMetRests R.refuses (rest_tree (rest_of left.now.place.now))
+        (rest_tree (rest_of right.now.place.now)) further.now }
     ensures form { IfOk result (IsBranch (IsKept R.refuses R.is_value)) }
     ensures refused { IfOk result (AreMetRests R.refuses
-        (step_into left.now (index first)) (step_into right.now (index first))) }
+        (step_into left.now.place.now (index first))
+        (step_into right.now.place.now (index first))) }
 {
-    if is_as_rest(left, first) && is_as_rest(right, first) {
+    if left.is_as_rest(first) && right.is_as_rest(first) {
         return copy_found(alloc, further);
     }
-    found_met(alloc, left.element(first), right.element(first))
-}
-
-/// Whether an element of a place is what all further ones are. It is compared where it is none of these.
-fn is_as_rest<R: Narrow>(node: &Node<R>, number: u32) -> bool
-    requires { IsTable R.refuses R.is_value node.now }
-    ensures { IsTrue result
-        → (step_into node.now (index number) ≡ rest_tree (rest_of node.now)) }
-{
-    u64::from(number) >= fixed(node) || same_found(node.element(number), rest(node))
+    found_met(alloc, left.found.node, right.found.node)
 }
 
 /// Whether two branches that may be there are the same.

@@ -14,6 +14,13 @@ use cue_lattice::Narrow;
 use cue_row::Step;
 use std::cmp::Ordering;
 
+/// An element found at an index, and an index behind it up to which all elements are alike.
+#[derive(Drop)]
+pub(crate) struct FoundElement<'a, R: Narrow> {
+    pub(crate) node: Option<&'a Node<R>>,
+    pub(crate) end: u64,
+}
+
 impl<R: Narrow> Run<R> {
     /// Whether its elements stand before an index, at it, or behind it.
     fn compare(&self, number: u32) -> Ordering
@@ -49,20 +56,26 @@ pub(crate) fn find_run<R: Narrow>(runs: &[Run<R>], number: u32) -> Option<&Node<
     }
 }
 
-/// An index behind this one up to which the elements among runs are alike.
-fn alike_in_runs<R: Narrow>(runs: &[Run<R>], number: u32) -> u64
+/// The element with an index among runs, and up to where these are alike.
+fn found_in_runs<R: Narrow>(runs: &[Run<R>], number: u32) -> FoundElement<R>
     requires { Rise (run_branches runs.now) }
-    ensures { AreAlike number result (λ i. find (index i) (run_branches runs.now)) }
+    ensures node { option_map (λ node. node.now) result.node
+        ≡ find (index number) (run_branches runs.now) }
+    ensures alike { AreAlike number result.end (λ i. find (index i) (run_branches runs.now)) }
 {
     match run_place(runs, number) {
-        Ok(at) => u64::from(runs[at].last()) + 1,
-        Err(at) => {
-            if at < runs.len() {
-                u64::from(runs[at].first)
-            } else {
-                u64::MAX
-            }
-        }
+        Ok(at) => FoundElement {
+            node: Some(&runs[at].node),
+            end: u64::from(runs[at].last()) + 1,
+        },
+        Err(at) if at < runs.len() => FoundElement {
+            node: None,
+            end: u64::from(runs[at].first),
+        },
+        Err(_) => FoundElement {
+            node: None,
+            end: u64::MAX,
+        },
     }
 }
 
@@ -87,14 +100,31 @@ pub(crate) fn find_element<R: Narrow>(children: &[Child<R>], number: u32) -> Opt
     }
 }
 
-/// An index behind this one up to which the elements among branches are alike.
-fn alike_among<R: Narrow>(children: &[Child<R>], number: u32) -> u64
+/// The element with an index among branches, and up to where these are alike.
+fn found_among<R: Narrow>(children: &[Child<R>], number: u32) -> FoundElement<R>
     requires { Rise (branches children.now) }
+    ensures node { option_map (λ node. node.now) result.node
+        ≡ find (index number) (branches children.now) }
+    ensures alike { AreAlike number result.end (λ i. find (index i) (branches children.now)) }
+{
+    match element_place(children, number) {
+        Ok(at) => FoundElement {
+            node: Some(children[at].node()),
+            end: u64::from(number) + 1,
+        },
+        Err(at) => FoundElement {
+            node: None,
+            end: gap_end(children, at, number),
+        },
+    }
+}
+
+/// The index of the next element among branches, where none has this index.
+fn gap_end<R: Narrow>(children: &[Child<R>], at: usize, number: u32) -> u64
+    requires rise { Rise (branches children.now) }
+    requires gap { IsGap children.now (index number) at }
     ensures { AreAlike number result (λ i. find (index i) (branches children.now)) }
 {
-    let Err(at) = element_place(children, number) else {
-        return u64::from(number) + 1;
-    };
     if at >= children.len() {
         return u64::MAX;
     }
@@ -106,19 +136,27 @@ fn alike_among<R: Narrow>(children: &[Child<R>], number: u32) -> u64
 }
 
 impl<R: Narrow> Node<R> {
-    /// An index behind this one up to which all elements are alike.
-    pub(crate) fn alike_to(&self, number: u32) -> u64
+    /// The element with an index, and up to where all are alike.
+    pub(crate) fn found_at(&self, number: u32) -> FoundElement<R>
         requires { Rise (below self.now) }
-        ensures { AreAlike number result (λ i. step_into self.now (index i)) }
+        ensures node { option_map (λ node. node.now) result.node
+            ≡ step_into self.now (index number) }
+        ensures alike { AreAlike number result.end (λ i. step_into self.now (index i)) }
     {
-        let own = alike_among(&self.children, number);
+        let own = found_among(&self.children, number);
         let Some(onward) = &self.rest else {
             return own;
         };
         if u64::from(number) >= onward.from {
-            return u64::MAX;
+            return FoundElement {
+                node: Some(&onward.node),
+                end: u64::MAX,
+            };
         }
-        own.min(alike_in_runs(&onward.runs, number))
-            .min(onward.from)
+        let further = found_in_runs(&onward.runs, number);
+        FoundElement {
+            node: own.node.or(further.node),
+            end: own.end.min(further.end).min(onward.from),
+        }
     }
 }

@@ -9,7 +9,7 @@ use Rattle.cue_table.specs.Depth.{tree_depth, children_depth}
 use Rattle.cue_table.specs.Form.{IsKept, IsRow, IsTree, AreBranches, AreWithin, Rise}
 use Rattle.cue_table.specs.Meet.{IsMerge, IsMet, IsUnion}
 use Rattle.cue_table.specs.Refuses.{RowRefuses}
-use Rattle.cue_table.specs.Tree.{find, node, no_rest, rest_of}
+use Rattle.cue_table.specs.Tree.{find, node, no_rest, rest_of, rest_tree}
 use Rattle.cue_table.specs.Inner.Changes.{IsChange, IsFound, or_old}
 use Rattle.cue_table.specs.Inner.Place.{IsPlace, IsGap}
 use Rattle.cue_table.specs.Inner.Parts.{or_row}
@@ -24,7 +24,8 @@ use Rattle.cue_table.proofs.MetBranches.{met_nodes, met_still, none_is}
 use Rattle.cue_table.proofs.Nearing.{passed}
 use Rattle.cue_table.proofs.Nodes.{branches_form}
 use Rattle.cue_table.proofs.Owned.{own_only}
-use Rattle.cue_table.proofs.Sweeping.{list_form, list_met, rest_branch, rest_depth, step_branch, step_depth, met_as, no_tree, stretch, sweeps_end, sweeps_gap, sweeps_run, sweeps_start}
+use Rattle.cue_table.proofs.Sides.{at_found, at_next, at_own}
+use Rattle.cue_table.proofs.Sweeping.{list_form, list_met, rest_branch, rest_depth, step_branch, step_depth, met_as, no_tree, stretch_at, sweeps_end, sweeps_gap, sweeps_run, sweeps_start}
 use Rattle.cue_table.proofs.+meet.Goals as goal
 use Rattle.cue_table.proofs.+meet.Goals.{meet::meet_own-in-Some+in-Some-1, meet::meet_own-in-Some+in-None-1, meet::meet_own-in_default}
 
@@ -35,29 +36,43 @@ lists::elements_met-found_met-requires g t c κs within =
     let deep = rest_depth c.args.right.now _ c.rest-2.ensures in
     (omega (arith, c.decreases, deep), (within.0, (within.1, (rest_branch P c.args.left.now _ c.requires.left c.rest.ensures, rest_branch P c.args.right.now _ c.requires.right c.rest-2.ensures))))
 
+pub lists::elements_met-new-on_left-requires : goal.lists::elements_met-new-on_left-requires
+lists::elements_met-new-on_left-requires g t c = c.requires.left
+
 pub lists::elements_met-loop-at-init : goal.lists::elements_met-loop-at-init
 lists::elements_met-loop-at-init g t c = record {
   sweeps = sweeps_start g.R.Narrow.refuses g.R.Narrow.is_value c.args.left.now c.args.right.now c.max-fixed.result c.new-runs.result.items c.new-runs.ensures.items;
   further = refl;
+  on_left = λ l. c.new-on_left.ensures;
+  on_right = λ l. c.new-on_right.ensures;
 }
 
 pub lists::elements_met-element_met-requires : goal.lists::elements_met-element_met-requires
 lists::elements_met-element_met-requires g t c κs within =
     let r = g.R.Narrow.refuses in
     let P = IsKept r g.R.Narrow.is_value in
-    let same = sym c.loop-at.invariant.further in (
-      omega (arith, c.decreases),
+    let same = sym c.loop-at.invariant.further in
+    let left = c.loop-at.invariant.on_left c.loop-at-test.true in
+    let right = c.loop-at.invariant.on_right c.loop-at-test.true in
+    let first = c.index_of-first.ensures.same in (
+      omega (arith, c.decreases, ap tree_depth right.place),
       (
         within.0,
         (
           within.1,
           (
-            c.requires.left,
+            subst (IsTree P) (sym left.place) c.requires.left,
             (
-              c.requires.right,
+              subst (IsTree P) (sym right.place) c.requires.right,
               (
-                subst (IsBranch P) same c.in_ok-further.ensures.form,
-                met_as r _ _ _ _ c.loop-at.further-1 c.rest.ensures c.rest-2.ensures (subst (AreMetRests r _ _) same c.in_ok-further.ensures.refused),
+                at_own c.args.left.now c.loop-at.at _ _ left first,
+                (
+                  at_own c.args.right.now c.loop-at.at _ _ right first,
+                  (
+                    subst (IsBranch P) same c.in_ok-further.ensures.form,
+                    met_as r _ _ _ _ c.loop-at.further-1 (c.rest.ensures ∙ ap (λ n. rest_tree (rest_of n)) (sym left.place)) (c.rest-2.ensures ∙ ap (λ n. rest_tree (rest_of n)) (sym right.place)) (subst (AreMetRests r _ _) same c.in_ok-further.ensures.refused),
+                  ),
+                ),
               ),
             ),
           ),
@@ -87,12 +102,16 @@ lists::elements_met-loop-at-preserved-in_ok-push g t c =
     let left = c.args.left.now in
     let right = c.args.right.now in
     let first = c.index_of-first.ensures.same in
-    let alike = stretch r left right c.max-fixed.result c.index_of-first.result c.loop-at.at c.stretch_end-end.result c.in_ok-element.element first
-    c.stretch_end-end.ensures.low c.stretch_end-end.ensures.left c.stretch_end-end.ensures.right c.in_ok-element.ensures.refused in
+    let on_left = c.loop-at.invariant.on_left c.loop-at-test.true in
+    let on_right = c.loop-at.invariant.on_right c.loop-at-test.true in
+    let alike = stretch_at r left right c.max-fixed.result c.index_of-first.result c.loop-at.at c.alike_end-end.result c.loop-at.on_left c.loop-at.on_right c.in_ok-element.element on_left on_right first
+    c.alike_end-end.ensures.low c.alike_end-end.ensures.left c.alike_end-end.ensures.right c.in_ok-element.ensures.refused in
     record {
-      sweeps = sweeps_run r v left right c.max-fixed.result c.loop-at.runs.items c.push.new.self.items _ c.loop-at.at c.stretch_end-end.result c.in_ok-element.element c.loop-at.invariant.sweeps alike c.in_ok-element.ensures.form c.in-Some.is
+      sweeps = sweeps_run r v left right c.max-fixed.result c.loop-at.runs.items c.push.new.self.items _ c.loop-at.at c.alike_end-end.result c.in_ok-element.element c.loop-at.invariant.sweeps alike c.in_ok-element.ensures.form c.in-Some.is
           c.in_ok-push.ensures.items first (omega (arith, first, c.index_of-last.ensures.same)) (omega (arith, c.index_of-last.ensures.same, c.index_of-last.ensures.word));
       further = c.loop-at.invariant.further;
+      on_left = at_next left c.loop-at.at c.alike_end-end.result c.max-fixed.result c.loop-at.on_left _ on_left c.alike_end-end.ensures.left_on;
+      on_right = at_next right c.loop-at.at c.alike_end-end.result c.max-fixed.result c.loop-at.on_right _ on_right c.alike_end-end.ensures.right_on;
     }
 
 pub lists::elements_met-loop-at-preserved : goal.lists::elements_met-loop-at-preserved
@@ -101,9 +120,16 @@ lists::elements_met-loop-at-preserved g t c =
     let v = g.R.Narrow.is_value in
     let left = c.args.left.now in
     let right = c.args.right.now in
-    let alike = stretch r left right c.max-fixed.result c.index_of-first.result c.loop-at.at c.stretch_end-end.result c.in_ok-element.element c.index_of-first.ensures.same
-    c.stretch_end-end.ensures.low c.stretch_end-end.ensures.left c.stretch_end-end.ensures.right c.in_ok-element.ensures.refused in
-    record { sweeps = sweeps_gap r v left right c.max-fixed.result c.loop-at.runs.items c.loop-at.at c.stretch_end-end.result c.in_ok-element.element c.loop-at.invariant.sweeps alike c.in_default.is; further = c.loop-at.invariant.further }
+    let on_left = c.loop-at.invariant.on_left c.loop-at-test.true in
+    let on_right = c.loop-at.invariant.on_right c.loop-at-test.true in
+    let alike = stretch_at r left right c.max-fixed.result c.index_of-first.result c.loop-at.at c.alike_end-end.result c.loop-at.on_left c.loop-at.on_right c.in_ok-element.element on_left on_right c.index_of-first.ensures.same
+    c.alike_end-end.ensures.low c.alike_end-end.ensures.left c.alike_end-end.ensures.right c.in_ok-element.ensures.refused in
+    record {
+      sweeps = sweeps_gap r v left right c.max-fixed.result c.loop-at.runs.items c.loop-at.at c.alike_end-end.result c.in_ok-element.element c.loop-at.invariant.sweeps alike c.in_default.is;
+      further = c.loop-at.invariant.further;
+      on_left = at_next left c.loop-at.at c.alike_end-end.result c.max-fixed.result c.loop-at.on_left _ on_left c.alike_end-end.ensures.left_on;
+      on_right = at_next right c.loop-at.at c.alike_end-end.result c.max-fixed.result c.loop-at.on_right _ on_right c.alike_end-end.ensures.right_on;
+    }
 
 pub lists::elements_met-returns : goal.lists::elements_met-returns
 lists::elements_met-returns g t c =
@@ -113,17 +139,19 @@ lists::elements_met-returns g t c =
     (subst (λ o. AreMetRests r (option_map (λ node. node.now) c.rest.result) (option_map (λ node. node.now) c.rest-2.result) o) (sym c.loop-at.invariant.further ∙ c.in-Some-further.is) c.in_ok-further.ensures.refused) c.settled.ensures
 
 -- ---- an element of two places
-pub lists::element_met-element-requires : goal.lists::element_met-element-requires
-lists::element_met-element-requires g t c = tree_rises (IsKept g.R.Narrow.refuses g.R.Narrow.is_value) c.args.left.now c.requires.left
-
-pub lists::element_met-element-requires-2 : goal.lists::element_met-element-requires-2
-lists::element_met-element-requires-2 g t c = tree_rises (IsKept g.R.Narrow.refuses g.R.Narrow.is_value) c.args.right.now c.requires.right
-
 pub lists::element_met-found_met-requires : goal.lists::element_met-found_met-requires
 lists::element_met-found_met-requires g t c κs within =
     let P = IsKept g.R.Narrow.refuses g.R.Narrow.is_value in
-    let deep = step_depth c.args.right.now (index c.args.first) _ c.element-2.ensures in
-    (omega (arith, c.decreases, deep), (within.0, (within.1, (step_branch P c.args.left.now (index c.args.first) _ c.requires.left c.element.ensures, step_branch P c.args.right.now (index c.args.first) _ c.requires.right c.element-2.ensures))))
+    let left = at_found c.args.left.now.place.now c.args.first c.args.left.now c.requires.left in
+    let right = at_found c.args.right.now.place.now c.args.first c.args.right.now c.requires.right in
+    let deep = step_depth c.args.right.now.place.now (index c.args.first) _ right in
+    (omega (arith, c.decreases, deep), (within.0, (within.1, (step_branch P c.args.left.now.place.now (index c.args.first) _ c.requires.left_form left, step_branch P c.args.right.now.place.now (index c.args.first) _ c.requires.right_form right))))
+
+pub lists::element_met-returns-clause-refused : goal.lists::element_met-returns-clause-refused
+lists::element_met-returns-clause-refused g t c =
+    let left = at_found c.args.left.now.place.now c.args.first c.args.left.now c.requires.left in
+    let right = at_found c.args.right.now.place.now c.args.first c.args.right.now c.requires.right in
+    IfOk-weaker c.found_met.result _ _ (λ o. met_as g.R.Narrow.refuses _ _ _ _ o left right) c.found_met.ensures.refused
 
 pub lists::element_met-returns-then-is_as_rest-2-clause-refused : goal.lists::element_met-returns-then-is_as_rest-2-clause-refused
 lists::element_met-returns-then-is_as_rest-2-clause-refused g t c =
@@ -342,10 +370,10 @@ meet::meet_one-returns-in_ok-node-in-Ok-clause-ok g t c =
     (λ met. met_at r g.R.Narrow.is_value c.args.left.now.items c.args.other c.index_mut.result.now c.meet_child.new.left c.in-Ok.at c.requires.left c.requires.right place c.index_mut.ensures.value
     c.meet_child.ensures.step c.meet_child.ensures.form (subst (λ n. IsMet r c.index_mut.result.now.node n c.meet_child.new.left.node) c.in_ok-node-in-Ok.ensures met)) c.meet_child.ensures.ok
 
-pub meet::meet_one-returns-in_ok-insert-in-Err-clause-ok : goal.meet::meet_one-returns-in_ok-insert-in-Err-clause-ok
-meet::meet_one-returns-in_ok-insert-in-Err-clause-ok g t c =
+pub meet::meet_one-returns-in-Err-clause-ok : goal.meet::meet_one-returns-in-Err-clause-ok
+meet::meet_one-returns-in-Err-clause-ok g t c =
     let gap : IsGap c.args.left.now.items (step_of c.args.other.step) c.in-Err.at = subst (λ s. IsGap c.args.left.now.items (step_of s) c.in-Err.at) c.step.ensures (rw c.deref.ensures.value at c.in-Err.ensures) in
-    put_in g.R.Narrow.refuses g.R.Narrow.is_value c.args.left.now.items c.insert.new.self.items c.args.other c.in-Err.at c.requires.left c.requires.right gap c.in_ok-insert-in-Err.ensures.items
+    on_ok_weaker c.insert.result (put_in g.R.Narrow.refuses g.R.Narrow.is_value c.args.left.now.items c.insert.new.children.items c.args.other c.in-Err.at c.requires.left c.requires.right gap) c.insert.ensures.ok
 
 -- ---- a place that stays as it is, or another one
 pub meet::node_met-returns-then-is_none-2-clause-refused : goal.meet::node_met-returns-then-is_none-2-clause-refused

@@ -1,7 +1,8 @@
-use Rattle.std.proofs.Common.{◌≡◌, ◌+◌, ◌-◌, ◌*◌}
+use Rattle.std.proofs.Common.{◌≡◌, ◌<◌, ◌+◌, ◌-◌, ◌*◌}
 use Rattle.std.specs.Option.{option_map}
 use Rattle.std.specs.Vec.Iter.{into_iter_items, into_iter_len}
 use Rattle.cue_table.specs.Depth.{tree_depth, children_depth}
+use Rattle.cue_table.specs.Inner.Sides.{IsAt}
 use Rattle.cue_table.specs.Inner.View.{branches}
 use Rattle.cue_table.proofs.Changing.{GoesOn}
 use Rattle.cue_table.proofs.Sweeping.{Sweeps, found_depth}
@@ -38,7 +39,7 @@ abbrev pub decreases-lists::elements_met : goal.decreases-lists::elements_met
 decreases-lists::elements_met g l = 8 * tree_depth l.right.now + 4
 
 abbrev pub decreases-lists::element_met : goal.decreases-lists::element_met
-decreases-lists::element_met g l = 8 * tree_depth l.right.now + 3
+decreases-lists::element_met g l = 8 * tree_depth l.right.now.place.now + 3
 
 abbrev pub decreases-meet::meet_below : goal.decreases-meet::meet_below
 decreases-meet::meet_below g l = 8 * children_depth (branches l.right.items) + 4
@@ -63,6 +64,8 @@ abbrev pub invariant-lists::elements_met-loop-at : goal.invariant-lists::element
 invariant-lists::elements_met-loop-at g l = record {
   sweeps : Sweeps g.R.Narrow.refuses g.R.Narrow.is_value l.left l.right l.fixed l.runs.items l.at;
   further : l.further ≡ l.initial.further;
+  on_left : l.at < l.fixed → IsAt l.left l.at l.on_left;
+  on_right : l.at < l.fixed → IsAt l.right l.at l.on_right;
 }
 
 abbrev pub decreases-lists::elements_met-loop-at : goal.decreases-lists::elements_met-loop-at
