@@ -47,8 +47,8 @@ pub(crate) fn list_met<R: Narrow>(
     })
 }
 
-/// The elements of two places met, of which one has a rest: each stretch that is alike in both once,
-/// and the rests.
+/// The elements of two places met, of which one has a rest: each stretch that is alike in both
+/// once, and the rests.
 #[cycle(meet)]
 fn elements_met<R: Narrow>(
     alloc: Global,

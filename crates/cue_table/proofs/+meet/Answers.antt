@@ -18,7 +18,7 @@ use Rattle.cue_table.specs.Inner.View.{branches, rest_in, run_branches}
 use Rattle.cue_table.proofs.Aligning.{merged_within, no_rest_there}
 use Rattle.cue_table.proofs.Changing.{adds, alters, at_form, first_form, first_smaller, goes_end, goes_on, goes_past, met_at, put_in, stays}
 use Rattle.cue_table.proofs.Fields.{fields_depth, form_take}
-use Rattle.cue_table.proofs.Finding.{branches_rise, tree_rises}
+use Rattle.cue_table.proofs.Finding.{branches_rise}
 use Rattle.cue_table.proofs.Merging.{merge_stay, met_taken}
 use Rattle.cue_table.proofs.MetBranches.{met_nodes, met_still, none_is}
 use Rattle.cue_table.proofs.Nearing.{passed}
