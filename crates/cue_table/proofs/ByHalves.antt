@@ -1,26 +1,24 @@
--- Many tables as one: by halves, and below steps.
-use Rattle.std.specs.Prelude.{IfOk}
+-- Many tables as one: by halves, and each at its step.
+use Rattle.std.specs.Prelude.{cond, filter}
 use Rattle.std.specs.Option.{is_some, option_map}
-use Rattle.std.proofs.Common.{◌≡◌, ◌↔◌, ℕ, zero, suc, ◌-◌, ◌+◌, ◌<◌, ◌≤◌, Bool, false, not, Option, Some, None, Result, Ok, Err, refl, take-add, List, [], ◌∷◌, ◌++◌, append_assoc, map, length, take, drop, subst, sym, ap, ◌∙◌, inl, inr, ⊎_elim, arith}
+use Rattle.std.proofs.Common.{◌≡◌, ◌↔◌, ℕ, zero, suc, ◌-◌, ◌+◌, ◌≤◌, Bool, true, false, not, Option, Some, None, refl, take-add, List, [], ◌∷◌, ◌++◌, map, length, take, drop, subst, sym, ap, ◌∙◌, inl, inr, ⊎_elim, arith}
 use Rattle.cue_lattice.proofs.OneOf.{one_of-append}
 use Rattle.std.specs.List.{Contains}
 use Rattle.std.specs.List.Sorted.{IsPermutation}
 use Rattle.std.proofs.lemmas.List.Elements.{Contains-append_right}
 use Rattle.std.proofs.lemmas.List.Sorted.{IsPermutation-sym, Contains-permutation}
-use Rattle.std.proofs.lemmas.List.{append-nil}
 use Rattle.std.specs.declared.cmp.Ordering.{Ordering}
 use Rattle.std.specs.declared.cmp.Ordering.TheVariants.{Less, Equal, Greater}
-use Rattle.cue_lattice.specs.Limits.{step_limit}
 use Rattle.cue_lattice.specs.OneOf.{OneOf}
 use Rattle.cue_lattice.specs.Path.{Step, step_cmp, Path}
 use Rattle.cue_row.specs.Steps.{step_of}
 use Rattle.cue_row.specs.declared.step.Step as program
 use Rattle.cue_table.specs.Tree.{Tree, node, none, child, no_rest, onward, empty, taken, find}
-use Rattle.cue_table.specs.Depth.{tree_depth}
-use Rattle.cue_table.specs.Form.{IsTaken, IsTree}
+use Rattle.cue_table.specs.Inner.Child.{Child}
+use Rattle.cue_table.specs.Inner.Given.{given_of, has_rows, hung}
 use Rattle.cue_table.specs.Refuses.{TableRefuses}
 use Rattle.cue_table.specs.Meet.{IsMet}
-use Rattle.cue_table.specs.Many.{IsOfBranches, IsUnified, under}
+use Rattle.cue_table.specs.Many.{IsOfBranches, IsUnified}
 use Rattle.cue_table.proofs.Order.{equal_steps}
 use Rattle.cue_table.proofs.Finding.{same_step}
 use Rattle.cue_table.proofs.Branches.{find_first, find_before, find_past, found_refuses}
@@ -29,38 +27,6 @@ use Rattle.cue_table.proofs.Branches.{find_first, find_before, find_past, found_
 pub is_there : {T U : Type 0} (f : T → U) (seen : Option T) (tree : Option U) (is_none : Bool) → is_none ≡ false → is_some seen ≡ not is_none → option_map f seen ≡ tree → tree ≡ None → ⊥
 is_there f None tree is_none e h k n = cc
 is_there f (Some x) tree is_none e h k n = cc
-
-module _ {R : Type 0} where
-  -- a table that is given for a step, below it
-  abbrev pub hung : program.Step × Tree R → Tree R
-  hung one = under (step_of one.0) one.1
-
-  -- a tree with a row stands below the step
-  pub under_taken : (step : Step) (tree : Tree R) → (taken tree ≡ None → ⊥) → (node None (child step tree none) no_rest ≡ under step tree) × IsTaken tree
-  under_taken step (node (Some row) children rest) h = (refl, tt)
-  under_taken step (node None none no_rest) h = absurd (h refl)
-  under_taken step (node None none (onward n tree)) h = (refl, tt)
-  under_taken step (node None (child next tree children) rest) h = (refl, tt)
-
-  -- what is left to hang in
-  pub hung_more :
-      (now next all : List (Tree R)) (rest left : List (program.Step × Tree R)) (one : program.Step × Tree R) (below : Tree R) → rest ≡ one ∷ left
-      → below ≡ hung one → next ≡ now ++ below ∷ [] → now ++ map hung rest ≡ all → next ++ map hung left ≡ all
-  hung_more now next all rest left one below e h k so_far =
-      ap (λ ts. ts ++ map hung left) k ∙ append_assoc now (below ∷ []) (map hung left)
-      ∙ (λ i. now ++ h i ∷ map hung left) ∙ ap (λ ts. now ++ map hung ts) (sym e) ∙ so_far
-
-  pub hung_end : (now all : List (Tree R)) (rest : List (program.Step × Tree R)) → length rest ≡ 0 → now ++ map hung rest ≡ all → now ≡ all
-  hung_end now all [] e h = sym (append-nil now) ∙ h
-  hung_end now all (one ∷ rest) e h = cc
-
-  -- one branch alone is in form, and one step deeper
-  pub under_form :
-      (P : R → Type 0) (step : Step) (tree above : Tree R) → above ≡ node None (child step tree none) no_rest → (taken tree ≡ None → ⊥)
-      → IsTree P tree → tree_depth tree < step_limit → IsTree P above × (tree_depth above ≤ step_limit)
-  under_form P step tree above e h form low =
-      let deep : tree_depth (node None (child step tree none) no_rest) ≤ step_limit = omega arith in
-      subst (λ t. IsTree P t × (tree_depth t ≤ step_limit)) (sym e) ((tt, (tt, (under_taken step tree h).1, form, tt), tt), deep)
 
 module _ {R Q : Type 0} (refuses : R → Q → Type 0) where
   -- the table without rows refuses nothing
@@ -119,55 +85,60 @@ module _ {R Q : Type 0} (refuses : R → Q → Type 0) where
         λ h. found_refuses refuses (Some tree) (find at (child step tree none)) (sym found) path question h.1,
       )
 
-  pub under_root : (step : Step) (tree : Tree R) (question : Q) → ¬ TableRefuses refuses (under step tree) [] question
-  under_root step (node None none no_rest) question h = h
-  under_root step (node None none (onward n tree)) question h = h
-  under_root step (node None (child next tree children) rest) question h = h
-  under_root step (node (Some row) children rest) question h = h
-
-  pub under_step :
-      (step : Step) (tree : Tree R) (at : Step) (path : Path) (question : Q)
-      → TableRefuses refuses (under step tree) (at ∷ path) question ↔ ((step ≡ at) × TableRefuses refuses tree path question)
-  under_step step (node None none no_rest) at path question = (λ h. absurd h, λ h. absurd (free path question h.1))
-  under_step step (node None none (onward n tree)) at path question =
-      one_branch step (node None none (onward n tree)) at path question (step_cmp at step) refl
-  under_step step (node None (child next tree children) rest) at path question =
-      one_branch step (node None (child next tree children) rest) at path question (step_cmp at step) refl
-  under_step step (node (Some row) children rest) at path question = one_branch step (node (Some row) children rest) at path question (step_cmp at step) refl
-
-  none_at_root : (given : List (program.Step × Tree R)) (question : Q) → ¬ OneOf (λ table. TableRefuses refuses table [] question) (map hung given)
+  none_at_root : (given : List (Child R)) (question : Q) → ¬ OneOf (λ table. TableRefuses refuses table [] question) (map hung given)
   none_at_root [] question h = h
-  none_at_root (one ∷ given) question h = ⊎_elim (under_root (step_of one.0) one.1 question) (none_at_root given question) h
+  none_at_root (c ∷ given) question h = ⊎_elim (λ r. r) (none_at_root given question) h
 
   one_below :
-      (given : List (program.Step × Tree R)) (at : Step) (path : Path) (question : Q)
+      (given : List (Child R)) (at : Step) (path : Path) (question : Q)
       → OneOf (λ table. TableRefuses refuses table (at ∷ path) question) (map hung given)
-      ↔ OneOf (λ one. (step_of one.0 ≡ at) × TableRefuses refuses one.1 path question) given
+      ↔ OneOf (λ one. (step_of one.0 ≡ at) × TableRefuses refuses one.1 path question) (map given_of given)
   one_below [] at path question = (λ h. h, λ h. h)
-  one_below (one ∷ given) at path question =
-      let here = under_step (step_of one.0) one.1 at path question in
+  one_below (c ∷ given) at path question =
+      let here = one_branch (step_of c.step) c.node at path question (step_cmp at (step_of c.step)) refl in
       let rest = one_below given at path question in (
         ⊎_elim (λ h. inl (here.0 h)) (λ h. inr (rest.0 h)),
         ⊎_elim (λ h. inl (here.1 h)) (λ h. inr (rest.1 h)),
       )
 
   -- what is given, each below its step and then unified
-  pub branches_given : (given : List (program.Step × Tree R)) (tables : List (Tree R)) (met : Tree R) → tables ≡ map hung given → IsUnified refuses tables met → IsOfBranches refuses given met
-  branches_given given tables met e h =
-      let all : IsUnified refuses (map hung given) met = subst (λ ts. IsUnified refuses ts met) e h in
-      record {
-        root = λ question r. none_at_root given question ((all [] question).0 r);
-        below = λ at path question.
-            let one = one_below given at path question in
-            (λ r. one.0 ((all (at ∷ path) question).0 r), λ r. (all (at ∷ path) question).1 (one.1 r));
-      }
+  pub branches_given : (given : List (Child R)) (met : Tree R) → IsUnified refuses (map hung given) met → IsOfBranches refuses (map given_of given) met
+  branches_given given met all = record {
+    root = λ question r. none_at_root given question ((all [] question).0 r);
+    below = λ at path question.
+        let one = one_below given at path question in
+        (λ r. one.0 ((all (at ∷ path) question).0 r), λ r. (all (at ∷ path) question).1 (one.1 r));
+  }
 
--- the same, where the call succeeds
-pub branches_ok :
-    {R Q E : Type 0} (refuses : R → Q → Type 0) (r : Result (Tree R) E) (given : List (program.Step × Tree R)) (tables : List (Tree R)) → tables ≡ map hung given
-    → IfOk r (IsUnified refuses tables) → IfOk r (IsOfBranches refuses given)
-branches_ok refuses (Ok met) given tables e h = branches_given refuses given tables met e h
-branches_ok refuses (Err x) given tables e h = tt
+  -- a table without rows refuses nothing
+  rowless : (tree : Tree R) (path : Path) (question : Q) → is_some (taken tree) ≡ false → ¬ TableRefuses refuses tree path question
+  rowless (node (Some row) children rest) path question e = absurd (cc)
+  rowless (node None (child next tree children) rest) path question e = absurd (cc)
+  rowless (node None none (onward n tree)) path question e = absurd (cc)
+  rowless (node None none no_rest) path question e = free path question
+
+  -- what is given for a step refuses it
+  abbrev pub At : Step → Path → Q → program.Step × Tree R → Type 0
+  At at path question one = (step_of one.0 ≡ at) × TableRefuses refuses one.1 path question
+
+  one_more :
+      (one : program.Step × Tree R) (given : List (program.Step × Tree R)) (at : Step) (path : Path) (question : Q) → OneOf (At at path question) (filter has_rows given) ↔ OneOf (At at path question) given
+      → (b : Bool) → has_rows one ≡ b → OneOf (At at path question) (cond b (one ∷ filter has_rows given) (filter has_rows given)) ↔ OneOf (At at path question) (one ∷ given)
+  one_more one given at path question rest true e = (⊎_elim (λ h. inl h) (λ h. inr (rest.0 h)), ⊎_elim (λ h. inl h) (λ h. inr (rest.1 h)))
+  one_more one given at path question rest false e = (λ h. inr (rest.0 h), ⊎_elim (λ h. absurd (rowless one.1 path question e h.1)) (λ h. rest.1 h))
+
+  with_rows : (given : List (program.Step × Tree R)) (at : Step) (path : Path) (question : Q) → OneOf (At at path question) (filter has_rows given) ↔ OneOf (At at path question) given
+  with_rows [] at path question = (λ h. h, λ h. h)
+  with_rows (one ∷ given) at path question = one_more one given at path question (with_rows given at path question) (has_rows one) refl
+
+  -- the tables without rows add nothing
+  pub rows_given : (given : List (program.Step × Tree R)) (table : Tree R) → IsOfBranches refuses (filter has_rows given) table → IsOfBranches refuses given table
+  rows_given given table h = record {
+    root = h.root;
+    below = λ at path question.
+        let same = with_rows given at path question in
+        (λ r. same.0 ((h.below at path question).0 r), λ r. (h.below at path question).1 (same.1 r));
+  }
 
 -- ---- in another order
 -- an element of which P holds
@@ -189,16 +160,12 @@ one_of_permutation P xs ys moved h =
 
 -- branches in another order give the same table
 pub branches_permuted :
-    {R Q E : Type 0} (refuses : R → Q → Type 0) (r : Result (Tree R) E) (given sorted : List (program.Step × Tree R)) → IsPermutation given sorted
-    → IfOk r (IsOfBranches refuses sorted) → IfOk r (IsOfBranches refuses given)
-branches_permuted refuses (Err x) given sorted moved h = tt
-branches_permuted {R} {Q} {E} refuses (Ok table) given sorted moved h = record {
+    {R Q : Type 0} (refuses : R → Q → Type 0) (table : Tree R) (given sorted : List (program.Step × Tree R)) → IsPermutation given sorted
+    → IsOfBranches refuses sorted table → IsOfBranches refuses given table
+branches_permuted refuses table given sorted moved h = record {
   root = h.root;
   below = λ step path question. (
-    λ refused. one_of_permutation (At step path question) sorted given (IsPermutation-sym given sorted moved) ((h.below step path question).0 refused),
-    λ one. (h.below step path question).1 (one_of_permutation (At step path question) given sorted moved one),
+    λ refused. one_of_permutation (At refuses step path question) sorted given (IsPermutation-sym given sorted moved) ((h.below step path question).0 refused),
+    λ one. (h.below step path question).1 (one_of_permutation (At refuses step path question) given sorted moved one),
   );
 }
-  where
-    At : Step → Path → Q → program.Step × Tree R → Type 0
-    At step path question one = (step_of one.0 ≡ step) × TableRefuses refuses one.1 path question

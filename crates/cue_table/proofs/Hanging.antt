@@ -1,25 +1,21 @@
 -- Branches that are hung in behind all others.
-use Rattle.std.proofs.Common.{◌≡◌, ◌↔◌, ◌⊎◌, Option, Some, None, Bool, true, not, List, [], ◌∷◌, ◌++◌, append_assoc, append-nil, map, length, refl, sym, ap, subst, ◌∙◌, inl, inr, ⊎_elim, ◌<◌, ◌≤◌, arith}
+use Rattle.std.proofs.Common.{◌≡◌, ◌↔◌, ◌⊎◌, Option, Some, None, Bool, true, not, List, [], ◌∷◌, ◌++◌, append_assoc, append-nil, map, length, refl, sym, ap, subst, ◌∙◌, inl, inr, ⊎_elim, arith}
 use Rattle.std.specs.Option.{is_some, option_map}
 use Rattle.std.specs.declared.cmp.Ordering.{Ordering}
 use Rattle.std.specs.declared.cmp.Ordering.TheVariants.{Less, Equal, Greater}
 use Rattle.cue_lattice.proofs.OneOf.{one_of-append}
-use Rattle.cue_lattice.specs.Limits.{step_limit}
 use Rattle.cue_lattice.specs.OneOf.{OneOf}
 use Rattle.cue_lattice.specs.Path.{Step, step_cmp, Path}
 use Rattle.cue_row.specs.Steps.{step_of}
-use Rattle.cue_row.specs.declared.step.Step as program
 use Rattle.cue_table.specs.Inner.Child.{Child}
-use Rattle.cue_table.specs.Tree.{Tree, node, Children, none, child, Rest, no_rest, onward, empty, taken, find}
-use Rattle.cue_table.specs.Depth.{tree_depth, children_depth}
-use Rattle.cue_table.specs.Form.{IsBelowAll, IsTaken, IsTree, AreBranches, IsRestOf}
-use Rattle.cue_table.specs.Many.{IsOfBranches, IsUnified, under}
+use Rattle.cue_table.specs.Inner.Given.{given_of, hung}
+use Rattle.cue_table.specs.Tree.{Tree, node, Children, Rest, no_rest, empty, find}
+use Rattle.cue_table.specs.Form.{IsBelowAll, AreBranches}
+use Rattle.cue_table.specs.Many.{IsOfBranches, IsUnified}
 use Rattle.cue_table.specs.Meet.{IsMet, IsAdded}
 use Rattle.cue_table.specs.Refuses.{RowRefuses, TableRefuses}
-use Rattle.cue_table.specs.RowList.{last_cmp}
 use Rattle.cue_table.specs.Inner.View.{branches}
-use Rattle.cue_table.proofs.Last.{form_more, depth_last}
-use Rattle.cue_table.proofs.ByHalves.{hung, free, one_branch, under_root, under_step, branches_given}
+use Rattle.cue_table.proofs.ByHalves.{free, one_branch, branches_given}
 use Rattle.cue_table.proofs.Branches.{FoundRefuses, find_first, find_before, find_past, found_refuses}
 use Rattle.cue_table.proofs.Finding.{same_step}
 use Rattle.cue_table.proofs.Order.{equal_steps}
@@ -29,19 +25,6 @@ module _ {R : Type 0} where
   before_last : (step : Step) (cs : List (Child R)) (c : Child R) → IsBelowAll step (branches (cs ++ c ∷ [])) → step_cmp step (step_of c.step) ≡ Less
   before_last step [] c h = h.0
   before_last step (x ∷ cs) c h = before_last step cs c h.1
-
-  -- one more behind all others is in form
-  pub hung_form :
-      (P : R → Type 0) (row : Option R) (rest : Rest R) (cs all : List (Child R)) (c : Child R) → rest ≡ no_rest → all ≡ cs ++ c ∷ [] → last_cmp (step_of c.step) (branches cs) ≡ Less → IsTree P (node row (branches cs) rest)
-      → IsTaken c.node → IsTree P c.node → IsTree P (node row (branches all) rest)
-  hung_form P row rest cs all c ends e last h t k = (h.0, subst (λ xs. AreBranches P (branches xs)) (sym e) (form_more P cs c last h.1 t k), subst (IsRestOf P (branches all)) (sym ends) tt)
-
-  pub hung_depth :
-      (row : Option R) (rest : Rest R) (cs all : List (Child R)) (c : Child R) → all ≡ cs ++ c ∷ [] → tree_depth (node row (branches cs) rest) ≤ step_limit → tree_depth c.node < step_limit
-      → tree_depth (node row (branches all) rest) ≤ step_limit
-  hung_depth row rest cs all c e h k =
-      let after = ap (λ xs. children_depth (branches xs)) e ∙ depth_last cs c in
-      omega (arith, after)
 
 module _ {R S : Type 0} (refuses : R → S → Type 0) where
   -- the branch at a step of the list with one more, by how the step compares with the first one's
@@ -82,61 +65,31 @@ module _ {R S : Type 0} (refuses : R → S → Type 0) where
   found_more P (x ∷ cs) c at path question h =
       found_behind x cs c at path question (before_last (step_of x.step) cs c h.0) (found_more P cs c at path question h.3) (step_cmp at (step_of x.step)) refl
 
-  -- a tree with one branch more behind is met with that branch
-  pub hung_met :
-      (P : R → Type 0) (row : Option R) (cs all : List (Child R)) (c : Child R) → all ≡ cs ++ c ∷ [] → AreBranches P (branches all)
-      → IsMet refuses (node row (branches cs) no_rest) (under (step_of c.step) c.node) (node row (branches all) no_rest)
-  hung_met P row cs all c e h [] question =
-      (λ g. inl g, ⊎_elim (λ g. g) (λ g. absurd (under_root refuses (step_of c.step) c.node question g)))
-  hung_met P row cs all c e h (at ∷ path) question =
+  -- branches with one more behind are met with that one
+  pub hung_met : (P : R → Type 0) (cs all : List (Child R)) (c : Child R) → all ≡ cs ++ c ∷ [] → AreBranches P (branches all) → IsMet refuses (node None (branches cs) no_rest) (hung c) (node None (branches all) no_rest)
+  hung_met P cs all c e h [] question = (λ g. inl g, ⊎_elim (λ g. g) (λ g. g))
+  hung_met P cs all c e h (at ∷ path) question =
       let more = found_more P cs c at path question (subst (λ xs. AreBranches P (branches xs)) e h) in
-      let here = under_step refuses (step_of c.step) c.node at path question in
+      let here = one_branch refuses (step_of c.step) c.node at path question (step_cmp at (step_of c.step)) refl in
       let same = ap (λ xs. find at (branches xs)) e in (
         λ g. ⊎_elim (λ k. inl k) (λ k. inr (here.1 k)) (more.0 (found_refuses refuses _ _ same path question g)),
         λ g. found_refuses refuses _ _ (sym same) path question (more.1 (⊎_elim (λ k. inl k) (λ k. inr (here.0 k)) g)),
       )
-
--- the table without rows is in form
-pub empty_form : {R : Type 0} (P : R → Type 0) (table : Tree R) → table ≡ empty → IsTree P table
-empty_form P table e = subst (IsTree P) (sym e) (tt, tt, tt)
 
 -- nothing is seen of what isn't there
 pub is_absent : {T U : Type 0} (f : T → U) (seen : Option T) (tree : Option U) (is_none : Bool) → is_none ≡ true → is_some seen ≡ not is_none → option_map f seen ≡ tree → tree ≡ None
 is_absent f None tree is_none e h k = sym k
 is_absent f (Some x) tree is_none e h k = cc
 
-module _ {R Q : Type 0} (refuses : R → Q → Type 0) where
-  -- a table without rows adds nothing below a step
-  hung_empty : (step : Step) (old table : Tree R) → taken table ≡ None → IsMet refuses old (under step table) old
-  hung_empty step old (node (Some row) children rest) e = absurd (cc)
-  hung_empty step old (node None (child next tree children) rest) e = absurd (cc)
-  hung_empty step old (node None none (onward n tree)) e = absurd (cc)
-  hung_empty step old (node None none no_rest) e = λ path question. (λ h. inl h, ⊎_elim (λ h. h) (λ h. absurd (free refuses path question h)))
-
-  pub hung_none : (step : Step) (old now table given : Tree R) → now ≡ old → table ≡ given → taken table ≡ None → IsMet refuses old (under step given) now
-  hung_none step old now table given e f gone =
-      subst (λ t. IsMet refuses old (under step t) now) f (subst (λ t. IsMet refuses old (under step table) t) (sym e) (hung_empty step old table gone))
-
-module _ {R S : Type 0} (refuses : R → S → Type 0) where
-  -- the same of what a call was given
-  pub hung_ok :
-      (P : R → Type 0) (row : Option R) (rest : Rest R) (cs all : List (Child R)) (c : Child R) (step : Step) (old table : Tree R) → rest ≡ no_rest → node row (branches cs) rest ≡ old → step_of c.step ≡ step → c.node ≡ table
-      → all ≡ cs ++ c ∷ [] → AreBranches P (branches all) → IsMet refuses old (under step table) (node row (branches all) rest)
-  hung_ok P row rest cs all c step old table ends is at below e h =
-      subst (λ t. IsMet refuses t (under step table) (node row (branches all) rest)) is
-      (subst (λ m. IsMet refuses (node row (branches cs) m) (under step table) (node row (branches all) m)) (sym ends)
-      (subst (λ t. IsMet refuses (node row (branches cs) no_rest) (under step t) (node row (branches all) no_rest)) below
-      (subst (λ s. IsMet refuses (node row (branches cs) no_rest) (under s c.node) (node row (branches all) no_rest)) at (hung_met refuses P row cs all c e h))))
-
 -- ---- a list of branches, of which some hang already
 module _ {R Q : Type 0} (refuses : R → Q → Type 0) where
   -- what hangs already, what is kept beside, and what is left refuse together what all do
-  abbrev pub Hangs : Tree R → List (Tree R) → List (program.Step × Tree R) → List (program.Step × Tree R) → Type 0
+  abbrev pub Hangs : Tree R → List (Tree R) → List (Child R) → List (Child R) → Type 0
   Hangs front others rest all =
       (path : Path) (question : Q) → (TableRefuses refuses front path question ⊎ OneOf (λ table. TableRefuses refuses table path question) (others ++ map hung rest))
       ↔ OneOf (λ table. TableRefuses refuses table path question) (map hung all)
 
-  pub hangs_none : (front : Tree R) (others : List (Tree R)) (rest all : List (program.Step × Tree R)) → front ≡ empty → others ≡ [] → rest ≡ all → Hangs front others rest all
+  pub hangs_none : (front : Tree R) (others : List (Tree R)) (rest all : List (Child R)) → front ≡ empty → others ≡ [] → rest ≡ all → Hangs front others rest all
   hangs_none front others rest all e f g path question =
       let P : Tree R → Type 0 = λ table. TableRefuses refuses table path question in
       let same : others ++ map hung rest ≡ map hung all = ap (λ ts. ts ++ map hung rest) f ∙ ap (map hung) g in (
@@ -146,7 +99,7 @@ module _ {R Q : Type 0} (refuses : R → Q → Type 0) where
 
   -- one more hangs
   pub hangs_last :
-      (front next : Tree R) (others : List (Tree R)) (rest left all : List (program.Step × Tree R)) (one : program.Step × Tree R) → rest ≡ one ∷ left
+      (front next : Tree R) (others : List (Tree R)) (rest left all : List (Child R)) (one : Child R) → rest ≡ one ∷ left
       → IsMet refuses front (hung one) next → Hangs front others rest all → Hangs next others left all
   hangs_last front next others rest left all one e met so_far path question =
       let P : Tree R → Type 0 = λ table. TableRefuses refuses table path question in
@@ -167,7 +120,7 @@ module _ {R Q : Type 0} (refuses : R → Q → Type 0) where
 
   -- one more is kept beside
   pub hangs_beside :
-      (front below : Tree R) (others more : List (Tree R)) (rest left all : List (program.Step × Tree R)) (one : program.Step × Tree R) → rest ≡ one ∷ left
+      (front below : Tree R) (others more : List (Tree R)) (rest left all : List (Child R)) (one : Child R) → rest ≡ one ∷ left
       → below ≡ hung one → more ≡ others ++ below ∷ [] → Hangs front others rest all → Hangs front more left all
   hangs_beside front below others more rest left all one e f g so_far =
       let same : others ++ map hung rest ≡ more ++ map hung left =
@@ -176,11 +129,11 @@ module _ {R Q : Type 0} (refuses : R → Q → Type 0) where
 
   -- where nothing is left, what hangs is met with what is kept beside
   pub hangs_all :
-      (front beside met : Tree R) (others : List (Tree R)) (rest all : List (program.Step × Tree R)) → length rest ≡ 0 → IsUnified refuses others beside → IsMet refuses front beside met
-      → Hangs front others rest all → IsOfBranches refuses all met
+      (front beside met : Tree R) (others : List (Tree R)) (rest all : List (Child R)) → length rest ≡ 0 → IsUnified refuses others beside → IsMet refuses front beside met
+      → Hangs front others rest all → IsOfBranches refuses (map given_of all) met
   hangs_all front beside met others (one ∷ rest) all ended unified both so_far = absurd (omega (arith, ended))
   hangs_all front beside met others [] all ended unified both so_far =
-      branches_given refuses all (map hung all) met refl (λ path question.
+      branches_given refuses all met (λ path question.
       let P : Tree R → Type 0 = λ table. TableRefuses refuses table path question in
       let was = so_far path question in
       let one = unified path question in
@@ -189,17 +142,6 @@ module _ {R Q : Type 0} (refuses : R → Q → Type 0) where
         λ h. was.0 (⊎_elim (λ g. inl g) (λ g. inr (subst (OneOf P) (sym same) (one.0 g))) (two.0 h)),
         λ h. two.1 (⊎_elim (λ g. inl g) (λ g. inr (one.1 (subst (OneOf P) same g))) (was.1 h)),
       ))
-
-  -- and where nothing is kept beside, it is all
-  pub hangs_alone :
-      (front : Tree R) (others : List (Tree R)) (rest all : List (program.Step × Tree R)) → length rest ≡ 0 → length others ≡ 0
-      → Hangs front others rest all → IsOfBranches refuses all front
-  hangs_alone front (table ∷ others) rest all ended few so_far = absurd (omega (arith, few))
-  hangs_alone front [] (one ∷ rest) all ended few so_far = absurd (omega (arith, ended))
-  hangs_alone front [] [] all ended few so_far =
-      branches_given refuses all (map hung all) front refl (λ path question.
-      let was = so_far path question in
-      (λ h. was.0 (inl h), λ h. ⊎_elim (λ g. g) (λ g. absurd g) (was.1 h)))
 
 -- ---- a row at the root
 module _ {R Q : Type 0} (refuses : R → Q → Type 0) where

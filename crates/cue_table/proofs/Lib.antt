@@ -12,6 +12,7 @@ mod MetBranches
 mod Nearing
 mod Owned
 mod Resting
+mod Rising
 mod Settling
 mod Sides
 mod Sweeping

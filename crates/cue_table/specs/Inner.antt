@@ -5,6 +5,7 @@ pub mod Child
 pub mod Cursors
 pub mod Drafts
 pub mod Falls
+pub mod Given
 pub mod Join
 pub mod Lending
 pub mod Loose

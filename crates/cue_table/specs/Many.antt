@@ -1,11 +1,11 @@
 -- Many tables as one.
-use Rattle.std.specs.Prelude.{◌≡◌, ◌↔◌, ℕ, nat_lt, if◌then◌else◌, List, [], ◌∷◌, Option, Some, None}
+use Rattle.std.specs.Prelude.{◌≡◌, ◌↔◌, ℕ, nat_lt, if◌then◌else◌, List, [], ◌∷◌}
 use Rattle.cue_lattice.specs.OneOf.{OneOf}
 use Rattle.cue_lattice.specs.Path as paths
 use Rattle.cue_lattice.specs.Path.{Path, label, index}
 use Rattle.cue_row.specs.Steps.{step_of}
 use Rattle.cue_row.specs.declared.step.Step.{Step}
-use Rattle.cue_table.specs.Tree.{Tree, node, none, child, no_rest, taken, empty}
+use Rattle.cue_table.specs.Tree.{Tree, empty}
 use Rattle.cue_table.specs.Refuses.{TableRefuses}
 
 -- the table refuses at each path exactly what one of the tables refuses there
@@ -41,11 +41,3 @@ pub record IsOfElements {R Q : Type 0} (refuses : R → Q → Type 0) (given : L
   pub elements : (i : ℕ) (path : Path) (question : Q)
       → TableRefuses refuses table (index i ∷ path) question
       ↔ TableRefuses refuses (element_of i given) path question
-
--- the tree below a step; nothing, where it has no row
-abbrev pub hung : {R : Type 0} → paths.Step → Option (Tree R) → Tree R
-hung step None = empty
-hung step (Some tree) = node None (child step tree none) no_rest
-
-abbrev pub under : {R : Type 0} → paths.Step → Tree R → Tree R
-under step tree = hung step (taken tree)

@@ -1,17 +1,22 @@
 //! Many tables as one.
-ghost use Rattle.std.specs.Prelude.{◌≡◌, ◌<◌, drop, map, take, All, IfOk, OnOk};
-ghost use Rattle.std.specs.List.Sorted.{IsPermutation};
+ghost use Rattle.std.specs.Prelude.{◌≡◌, ◌↔◌, ◌<◌, drop, filter, map, take, None, All};
+ghost use Rattle.std.specs.Prelude.{IfOk, IsTrue, OnOk};
 ghost use Rattle.std.specs.Vec.Iter.{into_iter_items};
 ghost use Rattle.cue_lattice.specs.Limits.{step_limit};
 ghost use Rattle.cue_table.specs.Depth.{tree_depth};
-ghost use Rattle.cue_table.specs.Form.{IsTable};
+ghost use Rattle.cue_table.specs.Form.{IsTable, Rise};
+ghost use Rattle.cue_table.specs.Inner.Given.{given_of, has_rows, hung, IsBranch};
+ghost use Rattle.cue_table.specs.Inner.View.{branches};
 ghost use Rattle.cue_table.specs.Many.{IsOfBranches, IsUnified};
+ghost use Rattle.cue_table.specs.Tree.{node, no_rest};
 
 use crate::Table;
+use crate::chain::last_against;
+use crate::child::Child;
+use crate::node::Node;
 use cue_lattice::{Memory, Narrow};
 use cue_row::Step;
 use std::alloc::Global;
-use std::cmp::Ordering;
 use std::vec::IntoIter;
 
 impl<R: Narrow> Table<R> {
@@ -29,80 +34,106 @@ impl<R: Narrow> Table<R> {
 
     /// The table of branches that are given in any order, each less than 64 steps deep, as
     /// [`Table::depth`] tells: it knows nothing at the root, and below a step what the tables given
-    /// for this step know together. The tables are taken over and not copied. They are put in the
-    /// order of their steps, and each is hung in behind the last one; those at a step that is there
-    /// already are unified by halves.
+    /// for this step know together. The tables are taken over and not copied. In the order of their
+    /// steps they are the branches of the table; those at a step that is there already are unified
+    /// by halves.
     pub fn of_branches(alloc: Global, branches: Vec<(Step, Table<R>)>) -> Result<Table<R>, Memory>
         requires { All (λ one. tree_depth one.1 < step_limit) branches.items }
         ensures form { IfOk result (IsTable R.refuses R.is_value) }
         ensures refused { IfOk result (IsOfBranches R.refuses branches.items) }
     {
-        hung_together(alloc, by_step(alloc, branches)?)
+        let children = children_of(alloc, branches)?;
+        if rise(&children) {
+            return Ok(of_rising(alloc, children));
+        }
+        of_any(alloc, children)
     }
 }
 
-/// The branches in the order of their steps. Where they stand so already, none is moved; else they
-/// are sorted in boxes, so that few bytes are moved at each step of the sort.
-fn by_step<R: Narrow>(
+/// The tables that have rows, each as a branch at its step, in the order in which they are given.
+fn children_of<R: Narrow>(
     alloc: Global,
-    branches: Vec<(Step, Table<R>)>,
-) -> Result<Vec<(Step, Table<R>)>, Memory>
-    ensures { IfOk result (λ sorted. IsPermutation branches.items sorted.items) }
+    given: Vec<(Step, Table<R>)>,
+) -> Result<Vec<Child<R>>, Memory>
+    requires { All (λ one. tree_depth one.1 < step_limit) given.items }
+    ensures same { IfOk result (λ children.
+        map given_of children.items ≡ filter has_rows given.items) }
+    ensures branches { IfOk result (λ children.
+        All (IsBranch R.refuses R.is_value) children.items) }
 {
-    if branches.is_sorted_by(|one, other| one.0.compare(&other.0) != Ordering::Greater) {
-        return Ok(branches);
-    }
-    let mut boxes = boxed(alloc, branches)?;
-    boxes.sort_by(|one, other| one.0.compare(&other.0))?;
-    unboxed(alloc, boxes)
-}
-
-/// The items, each in a box.
-fn boxed<T: Drop>(alloc: Global, items: Vec<T>) -> Result<Vec<Box<T>>, Memory>
-    ensures { IfOk result (λ boxes. map (λ one. one.value) boxes.items ≡ items.items) }
-{
-    let mut boxes = Vec::with_capacity(alloc, items.len())?;
-    for item in items {
-        boxes.push(Box::new(alloc, item)?)?;
-    }
-    Ok(boxes)
-}
-
-/// What is in the boxes.
-fn unboxed<T: Drop>(alloc: Global, boxes: Vec<Box<T>>) -> Result<Vec<T>, Memory>
-    ensures { IfOk result (λ items. items.items ≡ map (λ one. one.value) boxes.items) }
-{
-    let mut items = Vec::with_capacity(alloc, boxes.len())?;
-    for one in boxes {
-        items.push(Box::into_inner(one))?;
-    }
-    Ok(items)
-}
-
-/// The table of these branches. A branch at a step behind all others is hung in behind them; those
-/// that are left, where a step is given again, are unified by halves.
-fn hung_together<R: Narrow>(
-    alloc: Global,
-    branches: Vec<(Step, Table<R>)>,
-) -> Result<Table<R>, Memory>
-    requires { All (λ one. tree_depth one.1 < step_limit) branches.items }
-    ensures form { IfOk result (IsTable R.refuses R.is_value) }
-    ensures refused { IfOk result (IsOfBranches R.refuses branches.items) }
-{
-    let mut front = Table::new(alloc);
-    let mut others = Vec::new(alloc);
-    for (step, table) in branches {
-        if front.ends_before(&step) {
-            front.hang_last(step, table)?;
-        } else {
-            others.push(table.under(alloc, step)?)?;
+    let mut children = Vec::with_capacity(alloc, given.len())?;
+    for (step, table) in given {
+        if table.has_rows() {
+            children.push(Child::new(alloc, step, table.into_root())?)?;
         }
     }
-    if others.is_empty() {
-        return Ok(front);
+    Ok(children)
+}
+
+/// Whether each branch stands at a step behind that of the one before it.
+fn rise<R: Narrow>(children: &[Child<R>]) -> bool
+    ensures { IsTrue result ↔ Rise (branches children.now) }
+{
+    children.is_sorted_by(|one, other| one.step().compare(other.step()).is_lt())
+}
+
+/// The table that has these branches below its root.
+fn of_rising<R: Narrow>(alloc: Global, children: Vec<Child<R>>) -> Table<R>
+    requires branches { All (IsBranch R.refuses R.is_value) children.items }
+    requires rise { Rise (branches children.items) }
+    ensures same { result ≡ node None (branches children.items) no_rest }
+    ensures form { IsTable R.refuses R.is_value result }
+{
+    let root = Node {
+        row: None,
+        children,
+        rest: None,
+    };
+    Table::of_root(alloc, root)
+}
+
+/// The table of branches in any order, which are put in that of their steps.
+fn of_any<R: Narrow>(alloc: Global, mut children: Vec<Child<R>>) -> Result<Table<R>, Memory>
+    requires { All (IsBranch R.refuses R.is_value) children.items }
+    ensures form { IfOk result (IsTable R.refuses R.is_value) }
+    ensures refused { IfOk result (IsOfBranches R.refuses (map given_of children.items)) }
+{
+    children.sort_by(|one, other| one.step().compare(other.step()))?;
+    if rise(&children) {
+        return Ok(of_rising(alloc, children));
     }
-    front.meet_with(Table::unified(alloc, others)?)?;
-    Ok(front)
+    met_together(alloc, children)
+}
+
+/// The table of branches of which some stand at one step. A branch behind all before it is one of
+/// the table; the others are unified by halves, and then with these.
+fn met_together<R: Narrow>(alloc: Global, children: Vec<Child<R>>) -> Result<Table<R>, Memory>
+    requires { All (IsBranch R.refuses R.is_value) children.items }
+    ensures form { IfOk result (IsTable R.refuses R.is_value) }
+    ensures refused { IfOk result (IsOfBranches R.refuses (map given_of children.items)) }
+{
+    let mut front = Vec::with_capacity(alloc, children.len())?;
+    let mut others = Vec::new(alloc);
+    for child in children {
+        if last_against(&front, child.step()).is_lt() {
+            front.push(child)?;
+        } else {
+            others.push(alone(alloc, child)?)?;
+        }
+    }
+    let mut table = of_rising(alloc, front);
+    table.meet_with(Table::unified(alloc, others)?)?;
+    Ok(table)
+}
+
+/// The table of one branch.
+fn alone<R: Narrow>(alloc: Global, child: Child<R>) -> Result<Table<R>, Memory>
+    requires { IsBranch R.refuses R.is_value child }
+    ensures { IfOk result (λ table. table ≡ hung child) }
+{
+    let mut children = Vec::with_capacity(alloc, 1)?;
+    children.push(child)?;
+    Ok(of_rising(alloc, children))
 }
 
 /// What the next tables of a list know together.

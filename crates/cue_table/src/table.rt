@@ -1,26 +1,20 @@
 ghost use Rattle.std.specs.Prelude.{◌≡◌, ◌↔◌, ◌⊎◌, ◌+◌, ◌<◌, ◌≤◌, ◌^◌, [], None, length, IfOk};
 ghost use Rattle.std.specs.Prelude.{IsOk, IsTrue, OnErr, OnOk};
-ghost use Rattle.std.specs.Option.{option_map, option_and_then};
-ghost use Rattle.std.specs.declared.cmp.Ordering.TheVariants.{Less};
+ghost use Rattle.std.specs.Option.{is_some, option_map, option_and_then};
 ghost use Rattle.cue_lattice.specs.Limits.{step_limit};
-ghost use Rattle.cue_row.specs.Steps.{step_of};
 ghost use Rattle.cue_table.specs.Tree.{empty, node, below, rest_of, taken, branch_at, row_at};
-ghost use Rattle.cue_table.specs.Tree.{no_rest, row_of};
+ghost use Rattle.cue_table.specs.Tree.{row_of};
 ghost use Rattle.cue_table.specs.Depth.{tree_depth};
 ghost use Rattle.cue_table.specs.Form.{IsTable};
-ghost use Rattle.cue_table.specs.Many.{under};
 ghost use Rattle.cue_table.specs.Meet.{IsAdded, IsMet, IsRestAdded};
-ghost use Rattle.cue_table.specs.RowList.{last_cmp};
 
 use crate::Branch;
-use crate::chain::{hung_along, last_against, one_branch, rest_alone, single};
-use crate::child::Child;
+use crate::chain::{hung_along, rest_alone, single};
 use crate::meet::{meet_into, narrow_row};
 use crate::node::Node;
 use cue_lattice::{Memory, Narrow};
-use cue_row::{Path, Step};
+use cue_row::Path;
 use std::alloc::Global;
-use std::cmp::Ordering;
 use std::marker::Model;
 
 /// What is known at each path of a configuration. Contracts see it as a tree of rows, in the one
@@ -214,51 +208,6 @@ impl<R: Narrow> Table<R> {
     {
         self.root.row.take()
     }
-
-    /// Whether the step stands behind those of all branches at the root, and behind no rest.
-    pub(crate) fn ends_before(&self, step: &Step) -> bool
-        ensures { IsTrue result ↔ ((rest_of self.now ≡ no_rest)
-            × (last_cmp (step_of step.now) (below self.now) ≡ Less)) }
-    {
-        self.root.rest.is_none() && last_against(&self.root.children, step) == Ordering::Less
-    }
-
-    /// Hangs a table in at a step behind those of all branches at the root. One without rows adds
-    /// nothing.
-    pub(crate) fn hang_last(&mut self, step: Step, table: Table<R>) -> Result<(), Memory>
-        requires depth { tree_depth table < step_limit }
-        requires rest { rest_of self.old ≡ no_rest }
-        requires last { last_cmp (step_of step) (below self.old) ≡ Less }
-        ensures form { IsTable R.refuses R.is_value self.new }
-        ensures ok { OnOk result (IsMet R.refuses self.old (under (step_of step) table) self.new) }
-        ensures err { OnErr result (self.new ≡ self.old) }
-    {
-        let alloc = self.alloc;
-        let root = &mut self.root;
-        let Table {
-            alloc: _,
-            root: node,
-        } = table;
-        if node.taken().is_none() {
-            return Ok(());
-        }
-        let child = Child::new(alloc, step, node)?;
-        root.children.push(child)?;
-        Ok(())
-    }
-
-    /// The table one step further from the root.
-    pub(crate) fn under(self, alloc: Global, step: Step) -> Result<Table<R>, Memory>
-        requires { tree_depth self < step_limit }
-        ensures { IfOk result (λ table. table ≡ under (step_of step) self) }
-    {
-        let Table { alloc: _, root } = self;
-        if root.taken().is_none() {
-            return Ok(Table::new(alloc));
-        }
-        let root = one_branch(alloc, step, root)?;
-        Ok(Table { alloc, root })
-    }
 }
 
 impl<R: Narrow> Table<R> {
@@ -269,6 +218,13 @@ impl<R: Narrow> Table<R> {
         ensures { result ≡ root }
     {
         Table { alloc, root }
+    }
+
+    /// Whether a row stands at the root or below.
+    pub(crate) fn has_rows(&self) -> bool
+        ensures { result ≡ is_some (taken self.now) }
+    {
+        self.root.taken().is_some()
     }
 
     /// The root, with all that is below.

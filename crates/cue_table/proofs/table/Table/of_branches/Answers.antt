@@ -1,14 +1,18 @@
-use Rattle.std.proofs.Common.{◌<◌}
-use Rattle.std.proofs.lemmas.List.Sorted.{All-permutation}
-use Rattle.cue_lattice.specs.Limits.{step_limit}
-use Rattle.cue_table.specs.Depth.{tree_depth}
-use Rattle.cue_table.proofs.ByHalves.{branches_permuted}
+use Rattle.std.proofs.Common.{rules, subst}
+use Rattle.std.proofs.lemmas.Result.{IfOk-weaker}
+use Rattle.cue_table.specs.Form.{Rise}
+use Rattle.cue_table.specs.Inner.View.{branches}
+use Rattle.cue_table.specs.Many.{IsOfBranches}
+use Rattle.cue_table.proofs.ByHalves.{rows_given}
+use Rattle.cue_table.proofs.Rising.{rising_given}
 use Rattle.cue_table.proofs.table.Table.of_branches.Goals as goal
 
-pub hung_together-requires : goal.hung_together-requires
-hung_together-requires g c =
-    All-permutation (λ one. tree_depth one.1 < step_limit) c.args.branches.items c.in_ok-by_step.field-0.items c.in_ok-by_step.ensures c.requires
+pub returns-then-rise-clause-refused : goal.returns-then-rise-clause-refused
+returns-then-rise-clause-refused g c =
+    let rises = subst (λ xs. Rise (branches xs)) c.deref.ensures.value (c.if-rise.ensures.0 (search rules)) in
+    rows_given g.R.Narrow.refuses c.args.branches.items c.of_rising.result (subst (λ xs. IsOfBranches g.R.Narrow.refuses xs c.of_rising.result) c.in_ok-children.ensures.same
+    (rising_given g.R.Narrow.refuses c.in_ok-children.children.items c.of_rising.result rises c.of_rising.ensures.same))
 
 pub returns-clause-refused : goal.returns-clause-refused
 returns-clause-refused g c =
-    branches_permuted g.R.Narrow.refuses c.hung_together.result c.args.branches.items c.in_ok-by_step.field-0.items c.in_ok-by_step.ensures c.hung_together.ensures.refused
+    IfOk-weaker c.of_any.result _ _ (λ table h. rows_given g.R.Narrow.refuses c.args.branches.items table (subst (λ xs. IsOfBranches g.R.Narrow.refuses xs table) c.in_ok-children.ensures.same h)) c.of_any.ensures.refused
