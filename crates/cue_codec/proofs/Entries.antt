@@ -3,7 +3,7 @@ use Rattle.std.proofs.Common.{◌≡◌, List, [], ◌∷◌, ◌++◌, append_a
 use Rattle.cue_lattice.specs.Path.{Step}
 use Rattle.cue_row.specs.declared.parts.RowParts.{RowParts as Row}
 use Rattle.cue_table.specs.Tree.{Tree, node, Children, none, child, no_rest, onward, row_of, below, rest_of, rest_tree, children_of}
-use Rattle.cue_table.specs.Walks.{first_child}
+use Rattle.cue_table.specs.Inner.Walks.{first_child}
 use Rattle.cue_codec.specs.declared.version.Version.{Version}
 use Rattle.cue_codec.specs.Entry.{at, to_rest, Entry, behind, fixed_in, entries_of, entries_below, entries_onward}
 

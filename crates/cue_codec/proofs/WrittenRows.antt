@@ -10,7 +10,7 @@ use Rattle.cue_row.specs.ValidRow.{IsWord, IsWordStep, AreLabelWords, AreLengths
 use Rattle.cue_table.specs.Spans.{Span, field, elements, alike, spanned, spread}
 use Rattle.cue_table.specs.Tree.{Tree, node, Children, child, row_of, below, rest_of, rest_tree, fixed_of, children_of}
 use Rattle.cue_table.specs.Inner.ValidWalk.{IsSound, AreSound, HasChild}
-use Rattle.cue_table.specs.Walks.{first_child}
+use Rattle.cue_table.specs.Inner.Walks.{first_child}
 use Rattle.cue_table.proofs.ValidWalks.{sound_parts, rest_sound}
 use Rattle.cue_codec.specs.Entry.{StateStep, at, to_rest, Entry, behind, entries_of, entries_below, entries_onward}
 use Rattle.cue_codec.specs.Inner.Spans.{branch_count}

@@ -4,7 +4,7 @@ use Rattle.cue_device.proofs.Telling.{IsTelling}
 use Rattle.cue_row.specs.declared.parts.RowParts.{RowParts as Row}
 use Rattle.cue_table.specs.Tree.{Tree, below, labels_of}
 use Rattle.cue_table.specs.Size.{tree_size}
-use Rattle.cue_table.specs.Walks.{AreSmaller, labels_smaller}
+use Rattle.cue_table.specs.Inner.Walks.{AreSmaller, labels_smaller}
 
 -- What is written, with the text of what is left, is the whole; and what is left is smaller than the place.
 pub record IsWriting (tree : Tree Row) (items : List (List ℕ × Tree Row)) (old now : Option (List ℕ)) (left whole : List ℕ) : Type 0 where

@@ -39,7 +39,7 @@ use Rattle.cue_report.proofs.Order.{all_from}
 use Rattle.cue_report.proofs.Rows.{RefusedAt}
 use Rattle.cue_report.proofs.Settled.{settled_beyond, chosen_shape, chosen_elements, chosen_members, picked_shape}
 use Rattle.cue_report.proofs.Writing.{open_items, open_members, closed_items, closed_members, more_members, AreItemsSoFar, AreMembersSoFar}
-use Rattle.cue_table.specs.Walks.{first_child}
+use Rattle.cue_table.specs.Inner.Walks.{first_child}
 
 -- ---- an export has no fractions
 pub scalar_plain : (scalar : Scalar) → has_float (data_of scalar) ≡ false

@@ -20,7 +20,7 @@ use Rattle.cue_row.specs.Row.{Refuses, IsRow}
 use Rattle.cue_row.specs.Chosen as chosen
 use Rattle.cue_table.specs.Form.{IsBelowAll, AreBranches, IsKept, IsTable}
 use Rattle.cue_table.specs.Tree.{Tree, node, Children, none, child, row_of, below, if_equal, find, step_into, branch_at, children_of}
-use Rattle.cue_table.specs.Walks.{first_child}
+use Rattle.cue_table.specs.Inner.Walks.{first_child}
 use Rattle.cue_table.specs.Size.{tree_size, children_size}
 use Rattle.serde_json.specs.Data.{Data, null, array, object, Items, no_items, item, Members, no_members, member, put}
 use Rattle.serde_json.specs.View.{view, items_view, members_view}

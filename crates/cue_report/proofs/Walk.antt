@@ -12,7 +12,7 @@ use Rattle.cue_table.specs.declared.step_ref.StepRef.{StepRef}
 use Rattle.cue_table.specs.Spans.{Span, spanned, spread}
 use Rattle.cue_table.specs.Tree.{Tree, node, Children, none, child, Rest, no_rest, onward, row_of, below, rest_of, rest_tree, fixed_of, children_of}
 use Rattle.cue_table.specs.Size.{tree_size, children_size}
-use Rattle.cue_table.specs.Walks.{first_child}
+use Rattle.cue_table.specs.Inner.Walks.{first_child}
 use Rattle.cue_table.proofs.Spanned.{left_size}
 use Rattle.cue_report.specs.declared.conflict.Conflict.{Conflict}
 use Rattle.cue_report.specs.Inner.Search.{under, told_under, only_if, has_no_value, conflict_here, has_level, is_demanded, is_refused, conflicts_in, conflicts_below, conflicts_onward, each_index, least_at, rest_from}

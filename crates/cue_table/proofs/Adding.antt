@@ -7,7 +7,8 @@ use Rattle.cue_lattice.specs.Path.{Step, step_cmp, Path}
 use Rattle.cue_table.specs.Tree.{Tree, none, child, find}
 use Rattle.cue_table.specs.Refuses.{TableRefuses}
 use Rattle.cue_table.specs.Form.{IsTaken, IsTree}
-use Rattle.cue_table.specs.Meet.{IsMet, IsAdded, chain}
+use Rattle.cue_table.specs.Meet.{IsMet, IsAdded}
+use Rattle.cue_table.specs.Inner.Meet.{chain}
 use Rattle.cue_table.proofs.Order.{equal_steps}
 use Rattle.cue_table.proofs.Finding.{same_step}
 use Rattle.cue_table.proofs.Branches.{find_first, find_before, find_past, found_refuses}

@@ -10,7 +10,8 @@ use Rattle.cue_table.specs.declared.node.Node.TheInside.{Inside}
 use Rattle.cue_table.specs.Tree.{Tree, Children, none, child, Rest, no_rest, onward, find, rest_tree}
 use Rattle.cue_table.specs.Depth.{tree_depth, rest_depth}
 use Rattle.cue_table.specs.Form.{IsRow, IsTree, AreBranches, AreWithin, IsRestOf, IsKept}
-use Rattle.cue_table.specs.Meet.{IsMerge, IsMet, IsUnion}
+use Rattle.cue_table.specs.Meet.{IsMet, IsUnion}
+use Rattle.cue_table.specs.Inner.Meet.{IsMerge}
 use Rattle.cue_table.specs.Inner.Rests.{AreMetRests, BranchRefuses, IsBranch}
 use Rattle.cue_table.specs.Inner.View.{below_in, branches, rest_in, tree_of}
 use Rattle.cue_table.proofs.Behind.{none_from}

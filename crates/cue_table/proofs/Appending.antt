@@ -16,8 +16,10 @@ use Rattle.cue_table.specs.Inner.Child.{Child}
 use Rattle.cue_table.specs.Tree.{Tree, node, Children, none, child, Rest, no_rest, onward, find, taken}
 use Rattle.cue_table.specs.Slots.{Slot, at, from, slot_cmp, Place, place_cmp, behind, rows_of, rows_below, rows_onward}
 use Rattle.cue_table.specs.Depth.{tree_depth, children_depth}
-use Rattle.cue_table.specs.Form.{IsBelowAll, Rise, IsTaken}
-use Rattle.cue_table.specs.RowList.{AreBefore, last_cmp}
+use Rattle.cue_table.specs.Form.{IsBelowAll, IsTaken}
+use Rattle.cue_table.specs.Inner.Form.{Rise}
+use Rattle.cue_table.specs.RowList.{AreBefore}
+use Rattle.cue_table.specs.Inner.RowList.{last_cmp}
 use Rattle.cue_table.specs.Inner.Drafts.{alone, against_step, IsApart, Hangs}
 use Rattle.cue_table.specs.Inner.Loose.{IsLoose, AreLoose, IsLooseRest}
 use Rattle.cue_table.specs.Inner.View.{below_in, branches, rest_in}

@@ -8,7 +8,7 @@ use Rattle.cue_row.specs.Steps.{step_of}
 use Rattle.cue_table.specs.Inner.Child.{Child}
 use Rattle.cue_table.specs.Tree.{Tree, Children, none, child, if_equal, find, behind_last}
 use Rattle.cue_table.specs.Form.{IsBelowAll, IsTaken, IsTree, AreBranches, AreWithin}
-use Rattle.cue_table.specs.RowList.{last_cmp}
+use Rattle.cue_table.specs.Inner.RowList.{last_cmp}
 use Rattle.cue_table.specs.Inner.View.{branches}
 use Rattle.cue_table.proofs.Branches.{find_first, find_past, own_below}
 use Rattle.cue_table.proofs.Finding.{reverse_cmp}

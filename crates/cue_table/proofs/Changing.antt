@@ -6,7 +6,8 @@ use Rattle.cue_row.specs.Steps.{step_of}
 use Rattle.cue_table.specs.Tree.{none, child}
 use Rattle.cue_table.specs.Depth.{tree_depth, children_depth}
 use Rattle.cue_table.specs.Form.{AreBranches, IsBelowAll, IsKept, IsTable}
-use Rattle.cue_table.specs.Meet.{IsMerge, IsMet}
+use Rattle.cue_table.specs.Meet.{IsMet}
+use Rattle.cue_table.specs.Inner.Meet.{IsMerge}
 use Rattle.cue_table.specs.Inner.Changes.{Fit, IsChange, IsFound, behind, behind_found, merged}
 use Rattle.cue_table.specs.Inner.Child.{Child}
 use Rattle.cue_table.specs.Inner.Join.{join}

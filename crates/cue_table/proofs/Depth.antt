@@ -9,7 +9,8 @@ use Rattle.cue_table.specs.Tree.{Tree, node, Children, none, child, Rest, no_res
 use Rattle.cue_table.specs.Depth.{tree_depth, children_depth, rest_depth}
 use Rattle.cue_table.specs.Form.{IsBelowAll, IsTaken, IsTree, AreBranches, IsRestOf, IsKept}
 use Rattle.cue_table.specs.Refuses.{RowRefuses, TableRefuses}
-use Rattle.cue_table.specs.Meet.{IsMet, chain}
+use Rattle.cue_table.specs.Meet.{IsMet}
+use Rattle.cue_table.specs.Inner.Meet.{chain}
 use Rattle.cue_table.proofs.Finding.{found_here, found_form}
 use Rattle.cue_table.proofs.Order.{equal_steps}
 use Rattle.cue_table.proofs.Branches.{find_first, find_before, find_past, find_below, find_own, find_rest}

@@ -7,7 +7,8 @@ use Rattle.cue_lattice.specs.Path.{Step, label, index, step_cmp, Path}
 use Rattle.cue_lattice.specs.Pair.{IsExact}
 use Rattle.cue_table.specs.Tree.{Tree, node, Children, none, child, Rest, no_rest, onward, if_equal, find, find_with, behind_last}
 use Rattle.cue_table.specs.Refuses.{RowRefuses, TableRefuses}
-use Rattle.cue_table.specs.Form.{IsBelowAll, Rise, IsTaken, IsRow, IsTree, AreBranches, AreWithin, Differs, IsRestOf, IsKept}
+use Rattle.cue_table.specs.Form.{IsBelowAll, IsTaken, IsRow, IsTree, AreBranches, AreWithin, Differs, IsRestOf, IsKept}
+use Rattle.cue_table.specs.Inner.Form.{Rise}
 use Rattle.cue_table.proofs.Order.{equal_steps}
 use Rattle.cue_table.proofs.Finding.{reverse_cmp, branches_rise}
 use Rattle.cue_table.proofs.Branches.{find_first, find_before, find_past, find_below, below_all, find_rest, find_fixed, FoundRefuses, not_silent}

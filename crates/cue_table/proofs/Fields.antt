@@ -8,7 +8,8 @@ use Rattle.cue_row.specs.declared.step.Step.TheVariants.{Label, Index}
 use Rattle.cue_row.specs.Steps.{step_of}
 use Rattle.cue_table.specs.Inner.Child.{Child}
 use Rattle.cue_table.specs.Tree.{Tree, Children, none, child, if_equal, find}
-use Rattle.cue_table.specs.Form.{IsBelowAll, Rise, AreBranches, AreWithin}
+use Rattle.cue_table.specs.Form.{IsBelowAll, AreBranches, AreWithin}
+use Rattle.cue_table.specs.Inner.Form.{Rise}
 use Rattle.std.specs.Prelude.{Box}
 use Rattle.std.specs.Global.{Global}
 use Rattle.cue_table.specs.declared.node.Onward.{Onward}

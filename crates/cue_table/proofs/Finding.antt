@@ -11,7 +11,8 @@ use Rattle.cue_lattice.specs.Path.{Step, label, index, step_cmp}
 use Rattle.cue_row.specs.Steps.{step_of}
 use Rattle.cue_row.specs.declared.step.Step as steps
 use Rattle.cue_table.specs.Tree.{Tree, node, Children, none, child, Rest, no_rest, onward, below, find, find_with, step_into, if_equal, branch_at}
-use Rattle.cue_table.specs.Form.{IsBelowAll, Rise, IsTaken, IsTree, AreBranches, IsRestOf}
+use Rattle.cue_table.specs.Form.{IsBelowAll, IsTaken, IsTree, AreBranches, IsRestOf}
+use Rattle.cue_table.specs.Inner.Form.{Rise}
 use Rattle.cue_table.specs.Inner.Place.{AreBefore, IsPlace, IsGap}
 use Rattle.cue_table.specs.Inner.Parts.{past}
 use Rattle.cue_table.specs.Inner.View.{branches}

@@ -10,7 +10,8 @@ use Rattle.cue_table.specs.declared.node.Onward.{Onward}
 use Rattle.cue_table.specs.declared.node.Node.TheInside.{Inside}
 use Rattle.cue_table.specs.Tree.{Tree, node, Children, none, child, find, step_into}
 use Rattle.cue_table.specs.Inner.Join.{join}
-use Rattle.cue_table.specs.Form.{IsBelowAll, Rise}
+use Rattle.cue_table.specs.Form.{IsBelowAll}
+use Rattle.cue_table.specs.Inner.Form.{Rise}
 use Rattle.cue_table.specs.Inner.Alike.{AreAlike}
 use Rattle.cue_table.specs.Inner.Place.{AreBefore, IsGap}
 use Rattle.cue_table.specs.Inner.Parts.{past}

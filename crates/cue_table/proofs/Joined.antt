@@ -5,7 +5,8 @@ use Rattle.std.specs.declared.cmp.Ordering.{Ordering}
 use Rattle.std.specs.declared.cmp.Ordering.TheVariants.{Less, Equal, Greater}
 use Rattle.cue_lattice.specs.Path.{Step, label, index, step_cmp}
 use Rattle.cue_table.specs.Tree.{Tree, Children, none, child, if_equal, find}
-use Rattle.cue_table.specs.Form.{IsBelowAll, Rise, IsTaken, IsTree, AreBranches, AreWithin}
+use Rattle.cue_table.specs.Form.{IsBelowAll, IsTaken, IsTree, AreBranches, AreWithin}
+use Rattle.cue_table.specs.Inner.Form.{Rise}
 use Rattle.cue_table.specs.Spans.{alike}
 use Rattle.cue_table.specs.Inner.Join.{join}
 use Rattle.cue_table.specs.Inner.Runs.{AreFrom}

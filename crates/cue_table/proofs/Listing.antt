@@ -5,8 +5,8 @@ use Rattle.cue_table.specs.Tree.{Tree, node, Children, none, child, no_rest, onw
 use Rattle.cue_table.specs.Slots.{Place}
 use Rattle.cue_table.specs.Size.{tree_size, children_size}
 use Rattle.cue_table.specs.Depth.{tree_depth, children_depth, rest_depth}
-use Rattle.cue_table.specs.Rows.{beyond}
-use Rattle.cue_table.specs.Walks.{first_child}
+use Rattle.cue_table.specs.Inner.Rows.{beyond}
+use Rattle.cue_table.specs.Inner.Walks.{first_child}
 
 module _ {R : Type 0} where
   -- what is left is no larger and no deeper

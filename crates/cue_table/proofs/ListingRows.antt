@@ -4,8 +4,8 @@ use Rattle.std.proofs.lemmas.List.{append-nil, map-append}
 use Rattle.cue_lattice.specs.Path.{Step}
 use Rattle.cue_table.specs.Tree.{Tree, node, Children, none, child, no_rest, onward, row_of, below, rest_of, rest_tree, fixed_of, children_of}
 use Rattle.cue_table.specs.Slots.{Slot, at, from, Place, behind, rows_of, rows_below, rows_onward}
-use Rattle.cue_table.specs.Rows.{beyond}
-use Rattle.cue_table.specs.Walks.{first_child}
+use Rattle.cue_table.specs.Inner.Rows.{beyond}
+use Rattle.cue_table.specs.Inner.Walks.{first_child}
 
 module _ {R : Type 0} where
   -- rows beyond a place and a slot

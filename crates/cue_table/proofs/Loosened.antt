@@ -1,6 +1,7 @@
 -- Each tree in form is in the form that its rows give it.
 use Rattle.cue_table.specs.Tree.{Tree, node, Children, none, child, Rest, no_rest, onward}
-use Rattle.cue_table.specs.Form.{Rise, IsTree, AreBranches, IsRestOf}
+use Rattle.cue_table.specs.Form.{IsTree, AreBranches, IsRestOf}
+use Rattle.cue_table.specs.Inner.Form.{Rise}
 use Rattle.cue_table.specs.Inner.Loose.{IsLoose, AreLoose, IsLooseRest}
 
 module _ {R : Type 0} (P : R → Type 0) where

@@ -6,7 +6,8 @@ use Rattle.cue_lattice.specs.Path.{Step, step_cmp, Path}
 use Rattle.cue_table.specs.Tree.{Tree, node, Children, none, child, no_rest, onward, if_equal, find}
 use Rattle.cue_table.specs.Refuses.{TableRefuses}
 use Rattle.cue_table.specs.Form.{IsBelowAll, IsTaken, IsTree, AreBranches, IsKept, IsTable}
-use Rattle.cue_table.specs.Meet.{BranchesRefuse, IsMerge, IsMet, IsUnion}
+use Rattle.cue_table.specs.Meet.{IsMet, IsUnion}
+use Rattle.cue_table.specs.Inner.Meet.{BranchesRefuse, IsMerge}
 use Rattle.cue_table.specs.Inner.Place.{AreBefore}
 use Rattle.cue_table.specs.Inner.Join.{join}
 use Rattle.cue_table.specs.Inner.Parts.{front, past}

@@ -4,7 +4,8 @@ use Rattle.std.specs.Option.{is_some}
 use Rattle.cue_table.specs.declared.node.Node.TheInside.{Inside}
 use Rattle.cue_table.specs.Tree.{Tree, Children, node, no_rest, onward, below, rest_of, row_of}
 use Rattle.cue_table.specs.Refuses.{RowRefuses}
-use Rattle.cue_table.specs.Meet.{IsMerge, IsMet, IsUnion}
+use Rattle.cue_table.specs.Meet.{IsMet, IsUnion}
+use Rattle.cue_table.specs.Inner.Meet.{IsMerge}
 use Rattle.cue_table.specs.Inner.View.{branches, rest_in, tree_of}
 use Rattle.cue_table.specs.Inner.Parts.{or_row}
 use Rattle.cue_table.proofs.Owned.{own_only, own_view}

@@ -6,7 +6,8 @@ use Rattle.std.proofs.lemmas.Bool.{cases_lt}
 use Rattle.cue_lattice.specs.Path.{Step, step_cmp}
 use Rattle.cue_row.specs.Steps.{step_of}
 use Rattle.cue_table.specs.Tree.{Children, none, child, find}
-use Rattle.cue_table.specs.Form.{IsBelowAll, Rise}
+use Rattle.cue_table.specs.Form.{IsBelowAll}
+use Rattle.cue_table.specs.Inner.Form.{Rise}
 use Rattle.cue_table.specs.Inner.Child.{Child}
 use Rattle.cue_table.specs.Inner.Near.{Reaches}
 use Rattle.cue_table.specs.Inner.Place.{AreBefore, ArePassed, IsPlace, IsGap}

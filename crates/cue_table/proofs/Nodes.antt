@@ -13,7 +13,8 @@ use Rattle.std.specs.Global.{Global}
 use Rattle.std.specs.Prelude.{Box}
 use Rattle.cue_table.specs.declared.node.Onward.{Onward}
 use Rattle.cue_table.specs.Tree.{behind_last}
-use Rattle.cue_table.specs.Form.{IsBelowAll, Rise, StartsAtIndex, IsTree, AreBranches, IsRestOf}
+use Rattle.cue_table.specs.Form.{IsBelowAll, StartsAtIndex, IsTree, AreBranches, IsRestOf}
+use Rattle.cue_table.specs.Inner.Form.{Rise}
 use Rattle.cue_table.specs.Size.{tree_size, children_size}
 use Rattle.cue_table.specs.Inner.View.{below_in, branches, rest_in, run_branches, tree_of}
 use Rattle.cue_table.specs.Inner.Child.{Child, step_same}

@@ -9,7 +9,8 @@ use Rattle.cue_table.specs.declared.node.Node.TheInside.{Inside}
 use Rattle.cue_table.specs.declared.node.Onward.{Onward}
 use Rattle.cue_table.specs.declared.node.Run.{Run}
 use Rattle.cue_table.specs.Size.{tree_size}
-use Rattle.cue_table.specs.Form.{Rise, IsTree, AreBranches, AreWithin, Differs}
+use Rattle.cue_table.specs.Form.{IsTree, AreBranches, AreWithin, Differs}
+use Rattle.cue_table.specs.Inner.Form.{Rise}
 use Rattle.cue_table.specs.Spans.{alike}
 use Rattle.cue_table.specs.Tree.{Tree, node, Children, none, child, below, find, behind_last}
 use Rattle.cue_table.specs.Inner.Join.{join}

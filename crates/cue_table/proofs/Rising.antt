@@ -14,7 +14,8 @@ use Rattle.cue_lattice.specs.Path.{Step, step_cmp, Path}
 use Rattle.cue_row.specs.Steps.{step_of}
 use Rattle.cue_row.specs.declared.step.Step as program
 use Rattle.cue_table.specs.Depth.{tree_depth, children_depth}
-use Rattle.cue_table.specs.Form.{IsBelowAll, Rise, IsKept, IsTable, IsTaken, AreBranches}
+use Rattle.cue_table.specs.Form.{IsBelowAll, IsKept, IsTable, IsTaken, AreBranches}
+use Rattle.cue_table.specs.Inner.Form.{Rise}
 use Rattle.cue_table.specs.Inner.Child.{Child}
 use Rattle.cue_table.specs.Inner.Given.{given_of, has_rows, IsBranch}
 use Rattle.cue_table.specs.Inner.View.{branches}

@@ -10,7 +10,8 @@ use Rattle.std.specs.Ordering.{nat_cmp}
 use Rattle.cue_lattice.specs.Path.{index}
 use Rattle.cue_table.specs.declared.node.Run.{Run}
 use Rattle.cue_table.specs.Tree.{Tree, Children, find}
-use Rattle.cue_table.specs.Form.{IsBelowAll, Rise}
+use Rattle.cue_table.specs.Form.{IsBelowAll}
+use Rattle.cue_table.specs.Inner.Form.{Rise}
 use Rattle.cue_table.specs.Spans.{alike}
 use Rattle.cue_table.specs.Inner.Alike.{AreAlike, IsRun, IsBetween, run_cmp}
 use Rattle.cue_table.specs.Inner.Join.{join}

@@ -9,7 +9,8 @@ use Rattle.cue_table.specs.declared.node.Run.{Run}
 use Rattle.cue_table.specs.Tree.{Tree, node, Children, none, Rest, no_rest, onward, row_of, rest_of, rest_tree, fixed_of, find, find_with, step_into}
 use Rattle.cue_table.specs.Depth.{tree_depth}
 use Rattle.cue_table.specs.Form.{IsRow, IsTaken, IsTree, AreBranches, AreWithin, Differs, IsRestOf, IsKept, IsTable}
-use Rattle.cue_table.specs.Meet.{IsMerge, IsMet, IsUnion}
+use Rattle.cue_table.specs.Meet.{IsMet, IsUnion}
+use Rattle.cue_table.specs.Inner.Meet.{IsMerge}
 use Rattle.cue_table.specs.Refuses.{RowRefuses}
 use Rattle.cue_table.specs.Spans.{alike}
 use Rattle.cue_table.specs.Inner.Alike.{AreAlike}

@@ -14,7 +14,8 @@ use Rattle.cue_table.specs.declared.node.Onward.{Onward}
 use Rattle.cue_table.specs.Size.{tree_size, children_size}
 use Rattle.cue_table.specs.Spans.{Span, field, elements, first_of, more_in, alike, spanned, spread}
 use Rattle.cue_table.specs.Tree.{Tree, node, Children, none, child, below, find, step_into, labels_of, items_of}
-use Rattle.cue_table.specs.Form.{IsBelowAll, Rise, StartsAtIndex, IsTaken, IsTree, AreBranches}
+use Rattle.cue_table.specs.Form.{IsBelowAll, StartsAtIndex, IsTaken, IsTree, AreBranches}
+use Rattle.cue_table.specs.Inner.Form.{Rise}
 use Rattle.cue_table.specs.Inner.Cursors.{behind, begun_spans, spans_left}
 use Rattle.cue_table.specs.Inner.Join.{join}
 use Rattle.cue_table.specs.Inner.Loose.{IsLoose, AreLoose}

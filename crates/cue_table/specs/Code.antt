@@ -31,9 +31,6 @@ step_inj (index m) (index n) e = ap (λ g. index (num (tail g))) e
 step_inj (label s) (index n) e = cc
 step_inj (index m) (label t) e = cc
 
-abbrev pub coded_step : Coded Step
-coded_step = record { code = step_gv; inj = step_inj }
-
 pub row_gv : {R : Type 0} → (R → Gv) → Option R → Gv
 row_gv c None = gnil
 row_gv c (Some row) = gcons gnil (c row)

@@ -10,11 +10,6 @@ abbrev pub IsBelowAll : {R : Type 0} → Step → Children R → Type 0
 IsBelowAll step none = Unit {0}
 IsBelowAll step (child next tree children) = (step_cmp step next ≡ Less) × IsBelowAll step children
 
--- the steps rise
-abbrev pub Rise : {R : Type 0} → Children R → Type 0
-Rise none = Unit {0}
-Rise (child step tree children) = IsBelowAll step children × Rise children
-
 -- the first step is no label
 abbrev pub StartsAtIndex : {R : Type 0} → Children R → Type 0
 StartsAtIndex none = Unit {0}

@@ -15,4 +15,3 @@ pub mod Spans
 pub mod StepsOfCode
 pub mod Tree
 pub mod Valid
-pub mod Walks

@@ -25,14 +25,14 @@ pub record IsOfBranches {R Q : Type 0} (refuses : R → Q → Type 0) (given : L
       → TableRefuses refuses table (step ∷ path) question
       ↔ OneOf (λ one. (step_of one.0 ≡ step) × TableRefuses refuses one.1 path question) given
 
--- the tree of the first stretch that begins at an index or before it; of a list of stretches, this is
--- what the element with the index is
+-- the tree of the first stretch that begins at an index or before it; of a list of stretches, this
+-- is what the element with the index is
 abbrev pub element_of : {R : Type 0} → ℕ → List (ℕ × Tree R) → Tree R
 element_of i [] = empty
 element_of i ((start, tree) ∷ stretches) = if nat_lt i start then element_of i stretches else tree
 
--- The table refuses nothing at the root and at labels; and at an index and then a path exactly what the
--- element that is given for the index refuses at the path.
+-- The table refuses nothing at the root and at labels; and at an index and then a path exactly what
+-- the element that is given for the index refuses at the path.
 pub record IsOfElements {R Q : Type 0} (refuses : R → Q → Type 0) (given : List (ℕ × Tree R))
     (table : Tree R) : Type 0 where
   pub root : (question : Q) → ¬ TableRefuses refuses table [] question

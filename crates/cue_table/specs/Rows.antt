@@ -1,15 +1,11 @@
 -- The rows of a table as a list.
-use Rattle.std.specs.Prelude.{◌≡◌, ◌↔◌, ◌++◌, [], ◌∷◌, Option, Some, None, nat_eq, if◌then◌else◌, ℕ}
+use Rattle.std.specs.Prelude.{◌≡◌, ◌↔◌, [], ◌∷◌, Option, Some, None, nat_eq, if◌then◌else◌, ℕ}
 use Rattle.std.specs.Option.{option_and_then}
 use Rattle.std.specs.declared.cmp.Ordering.{Ordering}
 use Rattle.std.specs.List.Sorted.{IsStrictlySortedBy}
 use Rattle.cue_lattice.specs.OneOf.{OneOf}
 use Rattle.cue_table.specs.Slots.{Slot, at, from, Place, place_cmp, rows_of}
 use Rattle.cue_table.specs.Tree.{Tree, Rest, no_rest, onward, row_of, below, rest_of, find}
-
--- a row, its place as it is beyond another place
-abbrev pub beyond : {R : Type 0} → Place → Place × R → Place × R
-beyond place row = (place ++ row.0, row.1)
 
 -- rows in the order of their places
 abbrev pub by_place : {R : Type 0} → Place × R → Place × R → Ordering

@@ -75,8 +75,8 @@ impl<'a, R: Narrow> Branch<'a, R> {
         Children::new(node.cursor())
     }
 
-    /// The branches below that stand at a step of their own. Those of neighbouring elements that are
-    /// kept as one come together, so that a walk costs what the table holds.
+    /// The branches below that stand at a step of their own. Those of neighbouring elements that
+    /// are kept as one come together, so that a walk costs what the table holds.
     pub fn spans(&self) -> Spans<'a, R>
         ensures list { spread result ≡ below self.now }
         ensures form { IsTable R.refuses R.is_value self.now }

@@ -3,8 +3,8 @@ ghost use Rattle.std.specs.Prelude.{◌≡◌, map, IfOk, None};
 ghost use Rattle.cue_row.specs.Steps.{step_of};
 ghost use Rattle.cue_table.specs.Inner.Rests.{along};
 ghost use Rattle.cue_table.specs.Inner.View.{branches};
-ghost use Rattle.cue_table.specs.Meet.{chain};
-ghost use Rattle.cue_table.specs.RowList.{last_cmp};
+ghost use Rattle.cue_table.specs.Inner.Meet.{chain};
+ghost use Rattle.cue_table.specs.Inner.RowList.{last_cmp};
 ghost use Rattle.cue_table.specs.Tree.{node, none, child, no_rest, onward};
 
 use crate::child::Child;

@@ -3,7 +3,7 @@
 ghost use Rattle.std.specs.Prelude.{◌≡◌, ◌≤◌, ◌<◌, ◌+◌, length, slice_index_or, IfOk};
 ghost use Rattle.cue_row.specs.Steps.{step_of};
 ghost use Rattle.cue_table.specs.Form.{AreBranches, IsKept, IsTable};
-ghost use Rattle.cue_table.specs.Meet.{IsMerge};
+ghost use Rattle.cue_table.specs.Inner.Meet.{IsMerge};
 ghost use Rattle.cue_table.specs.Inner.Changes.{Fit, IsFound, behind, merged, over};
 ghost use Rattle.cue_table.specs.Inner.Place.{AreBefore};
 ghost use Rattle.cue_table.specs.Inner.View.{branches};

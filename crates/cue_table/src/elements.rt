@@ -24,9 +24,9 @@ use std::vec::IntoIter;
 impl<R: Narrow> Table<R> {
     /// The table of a list that is given by its stretches, from the last one to the first: each
     /// begins at its index and goes up to where the one given before it begins, and the first one
-    /// given goes on for all further elements. So an element is that of the first stretch given that
-    /// begins at its index or before it. Each is less than 64 steps deep, as [`Table::depth`] tells.
-    /// The tables are taken over; where the list has a rest, each is kept once.
+    /// given goes on for all further elements. So an element is that of the first stretch given
+    /// that begins at its index or before it. Each is less than 64 steps deep, as [`Table::depth`]
+    /// tells. The tables are taken over; where the list has a rest, each is kept once.
     pub fn of_elements(alloc: Global, stretches: Vec<(u64, Table<R>)>) -> Result<Table<R>, Memory>
         requires few { All (λ one. one.0 ≤ 2 ^ 32) stretches.items }
         requires depth { All (λ one. tree_depth one.1 < step_limit) stretches.items }

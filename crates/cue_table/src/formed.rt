@@ -1,6 +1,7 @@
 //! Whether the rests of a tree begin where they do in the form of a table.
 ghost use Rattle.std.specs.Prelude.{◌↔◌, IfNone, IfSome, IsTrue, ◌≡◌};
-ghost use Rattle.cue_table.specs.Form.{IsKept, IsTree, Rise};
+ghost use Rattle.cue_table.specs.Form.{IsKept, IsTree};
+ghost use Rattle.cue_table.specs.Inner.Form.{Rise};
 ghost use Rattle.cue_table.specs.Inner.Join.{join};
 ghost use Rattle.cue_table.specs.Inner.Loose.{IsBehind, IsLastElement, IsLoose};
 ghost use Rattle.cue_table.specs.Inner.View.{branches, run_branches};

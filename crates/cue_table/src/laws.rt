@@ -17,8 +17,8 @@ pub fn equal_answers<R: Narrow>()
         → SameAnswers (TableRefuses R.refuses a) (TableRefuses R.refuses b) → a ≡ b }
 {}
 
-/// The list of a table's rows is in the strict order of their places, and has just the rows that are
-/// kept at places.
+/// The list of a table's rows is in the strict order of their places, and has just the rows that
+/// are kept at places.
 pub fn rows_in_order<R: Narrow>()
     ensures order { (table : Tree R) → IsTable R.refuses R.is_value table → InPlaceOrder table }
     ensures rows { (table : Tree R) → IsTable R.refuses R.is_value table → AreRows table }

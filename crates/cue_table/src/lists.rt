@@ -2,7 +2,8 @@
 ghost use Rattle.std.specs.Prelude.{◌≡◌, ◌↔◌, ◌<◌, ◌≤◌, ◌^◌, ℕ, IfOk, IsTrue, None};
 ghost use Rattle.std.specs.Option.{option_map};
 ghost use Rattle.cue_lattice.specs.Path.{index};
-ghost use Rattle.cue_table.specs.Form.{IsKept, IsTable, Rise};
+ghost use Rattle.cue_table.specs.Form.{IsKept, IsTable};
+ghost use Rattle.cue_table.specs.Inner.Form.{Rise};
 ghost use Rattle.cue_table.specs.Meet.{IsMet};
 ghost use Rattle.cue_table.specs.Inner.Rests.{AreElementsMet, AreFields, AreMetRests, IsBranch};
 ghost use Rattle.cue_table.specs.Inner.Alike.{AreAlike};

@@ -1,7 +1,7 @@
 //! Where a branch is among others, searched for from the front on, or from behind the first ones.
 ghost use Rattle.std.specs.Prelude.{MatchResult};
 ghost use Rattle.cue_row.specs.Steps.{step_of};
-ghost use Rattle.cue_table.specs.Form.{Rise};
+ghost use Rattle.cue_table.specs.Inner.Form.{Rise};
 ghost use Rattle.cue_table.specs.Inner.Near.{Reaches};
 ghost use Rattle.cue_table.specs.Inner.Place.{AreBefore, IsGap, IsPlace};
 ghost use Rattle.cue_table.specs.Inner.View.{branches};

@@ -3,7 +3,7 @@ ghost use Rattle.std.specs.Prelude.{◌≡◌, ◌+◌, ◌≤◌, ◌++◌, len
 ghost use Rattle.cue_lattice.specs.Limits.{step_limit};
 ghost use Rattle.cue_table.specs.Depth.{tree_depth};
 ghost use Rattle.cue_table.specs.Form.{IsTable};
-ghost use Rattle.cue_table.specs.Rows.{beyond};
+ghost use Rattle.cue_table.specs.Inner.Rows.{beyond};
 ghost use Rattle.cue_table.specs.Slots.{rows_of};
 
 use crate::{Branch, Place, Slot, Table};

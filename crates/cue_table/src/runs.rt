@@ -2,7 +2,7 @@
 ghost use Rattle.std.specs.Prelude.{◌≡◌, MatchResult};
 ghost use Rattle.std.specs.Option.{option_map};
 ghost use Rattle.cue_lattice.specs.Path.{index};
-ghost use Rattle.cue_table.specs.Form.{Rise};
+ghost use Rattle.cue_table.specs.Inner.Form.{Rise};
 ghost use Rattle.cue_table.specs.Inner.Alike.{AreAlike, IsRun, IsBetween, run_cmp};
 ghost use Rattle.cue_table.specs.Inner.Place.{IsGap, IsPlace};
 ghost use Rattle.cue_table.specs.Inner.View.{branches, run_branches};

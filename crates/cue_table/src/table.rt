@@ -110,8 +110,8 @@ impl<R: Narrow> Table<R> {
     }
 
     /// Unifies the other table into this one, which then refuses exactly what one of both did.
-    /// After want of memory it is as it was. Where one of both has no rows, the other one is kept or
-    /// moved, which takes no memory.
+    /// After want of memory it is as it was. Where one of both has no rows, the other one is kept
+    /// or moved, which takes no memory.
     pub fn meet_with(&mut self, other: Table<R>) -> Result<(), Memory>
         ensures form { IsTable R.refuses R.is_value self.new }
         ensures ok { OnOk result (IsMet R.refuses self.old other self.new) }

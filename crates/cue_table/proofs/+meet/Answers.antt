@@ -6,8 +6,10 @@ use Rattle.std.specs.Vec.Iter.{into_iter_items}
 use Rattle.cue_lattice.specs.Path.{index, label}
 use Rattle.cue_row.specs.Steps.{step_of}
 use Rattle.cue_table.specs.Depth.{tree_depth, children_depth}
-use Rattle.cue_table.specs.Form.{IsKept, IsRow, IsTree, AreBranches, AreWithin, Rise}
-use Rattle.cue_table.specs.Meet.{IsMerge, IsMet, IsUnion}
+use Rattle.cue_table.specs.Form.{IsKept, IsRow, IsTree, AreBranches, AreWithin}
+use Rattle.cue_table.specs.Inner.Form.{Rise}
+use Rattle.cue_table.specs.Meet.{IsMet, IsUnion}
+use Rattle.cue_table.specs.Inner.Meet.{IsMerge}
 use Rattle.cue_table.specs.Refuses.{RowRefuses}
 use Rattle.cue_table.specs.Tree.{find, node, no_rest, rest_of, rest_tree}
 use Rattle.cue_table.specs.Inner.Changes.{IsChange, IsFound, or_old}

@@ -1,10 +1,11 @@
 -- Changes of a list of branches that takes others over.
-use Rattle.std.specs.Prelude.{◌≤◌, ◌+◌, ◌++◌, ℕ, Bool, true, false, List, [], ◌∷◌, Option, Some, None}
+use Rattle.std.specs.Prelude.{◌≤◌, ◌+◌, ◌++◌, ℕ, Bool, true, false, List, [], ◌∷◌, Option, Some}
+use Rattle.std.specs.Prelude.{None}
 use Rattle.std.specs.Prelude.{length, take, drop}
 use Rattle.std.specs.Option.{option_to_list}
 use Rattle.cue_row.specs.Steps.{step_of}
 use Rattle.cue_table.specs.Form.{AreBranches}
-use Rattle.cue_table.specs.Meet.{IsMerge}
+use Rattle.cue_table.specs.Inner.Meet.{IsMerge}
 use Rattle.cue_table.specs.Tree.{Children, child}
 use Rattle.cue_table.specs.Inner.Child.{Child}
 use Rattle.cue_table.specs.Inner.Place.{ArePassed}

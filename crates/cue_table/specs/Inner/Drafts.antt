@@ -8,7 +8,8 @@ use Rattle.cue_lattice.specs.Path.{Step}
 use Rattle.cue_table.specs.Tree.{Tree, node, none, child, no_rest, onward}
 use Rattle.cue_table.specs.Slots.{at, from, Place, rows_of}
 use Rattle.cue_table.specs.Rows.{kept_row}
-use Rattle.cue_table.specs.RowList.{AreBefore, last_cmp}
+use Rattle.cue_table.specs.RowList.{AreBefore}
+use Rattle.cue_table.specs.Inner.RowList.{last_cmp}
 use Rattle.cue_table.specs.Inner.Loose.{IsLoose}
 use Rattle.cue_table.specs.declared.hang.Hung.{Hung}
 use Rattle.cue_table.specs.declared.hang.Hung.TheVariants.{Behind, Within, Apart}
@@ -36,8 +37,8 @@ pub record IsApart {R : Type 0} (tree : Tree R) (place : Place) : Type 0 where
   pub is_kept : kept_row tree (shared ++ from other_number ∷ other_left) ≡ Some other
   pub differ : number ≢ other_number
 
--- the row stands behind all others then; or another one is at its place or behind it; or no tree can
--- have it beside them
+-- the row stands behind all others then; or another one is at its place or behind it; or no tree
+-- can have it beside them
 abbrev pub Hangs : {R : Type 0} → Tree R → Place → R → Tree R → Hung R → Type 0
 Hangs old place row new Behind = rows_of new ≡ rows_of old ++ (place, row) ∷ []
 Hangs old place row new Within = (new ≡ old) × ¬ AreBefore place (rows_of old)

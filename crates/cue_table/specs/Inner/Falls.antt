@@ -1,5 +1,6 @@
 -- Each branch of a node is smaller than the node.
-use Rattle.std.specs.Prelude.{◌≡◌, ℕ, zero, suc, ◌+◌, ◌*◌, ◌≤◌, max, List, [], ◌∷◌, Option, Some, None}
+use Rattle.std.specs.Prelude.{◌≡◌, ℕ, zero, suc, ◌+◌, ◌*◌, ◌≤◌, max, List, [], ◌∷◌, Option, Some}
+use Rattle.std.specs.Prelude.{None}
 use Rattle.std.specs.Prelude.{Box, Vec}
 use Rattle.std.specs.Global.{Global}
 use Rattle.std.proofs.Common.{arith}

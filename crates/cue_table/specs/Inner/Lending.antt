@@ -11,6 +11,7 @@ module _ (R Q : RattleType) (narrow : Ghosts R.Denot Q.Denot) where
   abbrev with_held : Held R.Denot Q.Denot → Child R.Denot
   with_held w = record { step = w.step; node = w.node }
 
-  -- once the borrow ends, the branch has what was written last, and where it is not lent it stays as it is
+  -- once the borrow ends, the branch has what was written last, and where it is not lent it stays
+  -- as it is
   abbrev pub lends_held : MutBor (Child R.Denot) → Option (MutBor (Held R.Denot Q.Denot)) → Fml
   lends_held child r = LendsIf (the_row R Q narrow) (held.the_row R Q narrow) child r with_held child.now

@@ -1,5 +1,6 @@
 -- Lists with a rest that are met: what answers at each step, and how the rest begins.
-use Rattle.std.specs.Prelude.{◌≡◌, ℕ, zero, suc, ◌+◌, ◌≤◌, nat_lt, if◌then◌else◌, List, [], ◌∷◌, ◌++◌}
+use Rattle.std.specs.Prelude.{◌≡◌, ℕ, zero, suc, ◌+◌, ◌≤◌, nat_lt, if◌then◌else◌, List, [], ◌∷◌}
+use Rattle.std.specs.Prelude.{◌++◌}
 use Rattle.std.specs.Prelude.{length, take, Option, Some, None}
 use Rattle.std.specs.Option.{option_and_then}
 use Rattle.cue_lattice.specs.Path as paths
@@ -87,8 +88,8 @@ pub record IsSettled {R Q : Type 0} (P : R → Type 0) (fixed : ℕ) (elements :
   pub same : (i : ℕ) → find_with (onward made.from made.node) (index i) (run_branches made.runs.items)
       ≡ found_to fixed (Some tree) (index i) elements
 
--- The place is a list in form and nothing else. Its elements are those given before an index, and from
--- it on all are this one, where it is there.
+-- The place is a list in form and nothing else. Its elements are those given before an index, and
+-- from it on all are this one, where it is there.
 pub record IsListOf {R : Type 0} (P : R → Type 0) (from : ℕ) (elements : Children R)
     (further : Option (Tree R)) (made : Tree R) : Type 0 where
   pub form : IsTree P made

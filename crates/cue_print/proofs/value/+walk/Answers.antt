@@ -7,7 +7,7 @@ use Rattle.cue_device.proofs.Texts.{appends_none, begins_now, begins_later}
 use Rattle.cue_device.proofs.Telling.{on_err, told_as, begun_as, appends_as, begins_as, tells_first, tells_next, tells_part, tells_all}
 use Rattle.cue_lattice.specs.Path.{label, index}
 use Rattle.cue_table.specs.Tree.{below, rest_of, row_of, step_into}
-use Rattle.cue_table.specs.Walks.{found_smaller}
+use Rattle.cue_table.specs.Inner.Walks.{found_smaller}
 use Rattle.cue_print.specs.Printed.{elements, level_at}
 use Rattle.cue_print.specs.Terms.{terms_of}
 use Rattle.cue_print.specs.Spelled.{joined, mark_text, value_text, element_texts}

@@ -3,7 +3,7 @@ use Rattle.std.proofs.lemmas.Bool.{false≢true}
 use Rattle.cue_lattice.specs.Path.{label, index}
 use Rattle.cue_table.specs.StepsOfCode.{step_at}
 use Rattle.cue_table.specs.Tree.{row_of}
-use Rattle.cue_table.specs.Walks.{found_smaller}
+use Rattle.cue_table.specs.Inner.Walks.{found_smaller}
 use Rattle.serde_json.specs.Data.{null, no_items, no_members}
 use Rattle.cue_report.specs.Inner.Search.{least_at}
 use Rattle.cue_report.specs.Stream.{flow}

@@ -3,7 +3,7 @@ use Rattle.std.proofs.lemmas.Bool.{false≢true}
 use Rattle.cue_lattice.specs.Path.{index}
 use Rattle.cue_table.specs.StepsOfCode.{step_at}
 use Rattle.cue_table.specs.Tree.{row_of}
-use Rattle.cue_table.specs.Walks.{found_smaller}
+use Rattle.cue_table.specs.Inner.Walks.{found_smaller}
 use Rattle.serde_json.specs.View.{view, members_view}
 use Rattle.serde_json.specs.declared.value.Value.{Null}
 use Rattle.cue_report.specs.Inner.Search.{least_at}

@@ -1,6 +1,7 @@
 use Rattle.std.proofs.Common.{◌+◌, sym, ap, subst, ◌∙◌}
 use Rattle.cue_row.specs.Steps.{step_of}
-use Rattle.cue_table.specs.Form.{IsKept, Rise}
+use Rattle.cue_table.specs.Form.{IsKept}
+use Rattle.cue_table.specs.Inner.Form.{Rise}
 use Rattle.cue_table.specs.Tree.{behind_last}
 use Rattle.cue_table.specs.Inner.View.{branches}
 use Rattle.cue_table.proofs.Finding.{branches_rise}

@@ -1,7 +1,7 @@
 use Rattle.std.proofs.Common.{sym, ap, ◌∙◌}
 use Rattle.cue_lattice.specs.Path.{step_cmp}
 use Rattle.cue_row.specs.Steps.{step_of}
-use Rattle.cue_table.specs.RowList.{last_cmp}
+use Rattle.cue_table.specs.Inner.RowList.{last_cmp}
 use Rattle.cue_table.specs.Inner.View.{branches}
 use Rattle.cue_table.proofs.Last.{last_is}
 use Rattle.cue_table.proofs.chain.last_against.Goals as goal

@@ -1,6 +1,7 @@
 use Rattle.std.proofs.Common.{◌≤◌, ◌^◌, refl, sym, ap, subst, ◌∙◌, arith}
 use Rattle.cue_table.specs.declared.node.Onward.{Onward}
-use Rattle.cue_table.specs.Form.{Rise, IsKept, IsTree}
+use Rattle.cue_table.specs.Form.{IsKept, IsTree}
+use Rattle.cue_table.specs.Inner.Form.{Rise}
 use Rattle.cue_table.specs.StepsOfCode.{span_of}
 use Rattle.cue_table.specs.Size.{tree_size}
 use Rattle.cue_table.specs.Tree.{below}

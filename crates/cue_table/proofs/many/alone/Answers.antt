@@ -1,6 +1,6 @@
 use Rattle.std.proofs.Common.{◌∷◌, ◌++◌, ◌∙◌, [], None, ap, sym, subst, refl}
 use Rattle.std.proofs.lemmas.List.Elements.{All-nil, All-cons, All-same}
-use Rattle.cue_table.specs.Form.{Rise}
+use Rattle.cue_table.specs.Inner.Form.{Rise}
 use Rattle.cue_table.specs.Inner.Given.{IsBranch}
 use Rattle.cue_table.specs.Inner.View.{branches}
 use Rattle.cue_table.specs.Tree.{node, no_rest}

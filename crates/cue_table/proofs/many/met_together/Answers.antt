@@ -2,10 +2,11 @@ use Rattle.std.proofs.Common.{◌∷◌, ◌++◌, ◌∙◌, [], None, ap, sym,
 use Rattle.std.specs.Vec.Iter.{into_iter_items}
 use Rattle.std.proofs.lemmas.List.Elements.{All-nil, All-rest, All-same, All-push}
 use Rattle.cue_row.specs.Steps.{step_of}
-use Rattle.cue_table.specs.Form.{AreBranches, IsKept, Rise}
+use Rattle.cue_table.specs.Form.{AreBranches, IsKept}
+use Rattle.cue_table.specs.Inner.Form.{Rise}
 use Rattle.cue_table.specs.Inner.Given.{IsBranch}
 use Rattle.cue_table.specs.Inner.View.{branches}
-use Rattle.cue_table.specs.RowList.{last_cmp}
+use Rattle.cue_table.specs.Inner.RowList.{last_cmp}
 use Rattle.cue_table.specs.Tree.{node, no_rest}
 use Rattle.cue_table.proofs.Finding.{branches_rise}
 use Rattle.cue_table.proofs.Hanging.{Hangs, hangs_none, hangs_last, hangs_beside, hangs_all, hung_met}

@@ -1,6 +1,6 @@
 use Rattle.std.proofs.Common.{All, None}
 use Rattle.std.specs.Vec.Iter.{into_iter_items}
-use Rattle.cue_table.specs.Form.{Rise}
+use Rattle.cue_table.specs.Inner.Form.{Rise}
 use Rattle.cue_table.specs.Inner.Given.{IsBranch}
 use Rattle.cue_table.specs.Inner.View.{branches}
 use Rattle.cue_table.specs.Tree.{node, no_rest}

@@ -1,7 +1,7 @@
 use Rattle.std.proofs.Common.{map, rules, subst}
 use Rattle.std.proofs.lemmas.List.Sorted.{All-permutation, IsPermutation-map}
 use Rattle.std.proofs.lemmas.Result.{IfOk-weaker}
-use Rattle.cue_table.specs.Form.{Rise}
+use Rattle.cue_table.specs.Inner.Form.{Rise}
 use Rattle.cue_table.specs.Inner.Given.{given_of, IsBranch}
 use Rattle.cue_table.specs.Inner.View.{branches}
 use Rattle.cue_table.proofs.ByHalves.{branches_permuted}

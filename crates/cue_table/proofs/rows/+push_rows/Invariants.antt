@@ -3,7 +3,7 @@ use Rattle.cue_table.specs.Tree.{below}
 use Rattle.cue_table.specs.Slots.{rows_of}
 use Rattle.cue_table.specs.Size.{tree_size, children_size}
 use Rattle.cue_table.specs.Depth.{children_depth}
-use Rattle.cue_table.specs.Rows.{beyond}
+use Rattle.cue_table.specs.Inner.Rows.{beyond}
 use Rattle.cue_table.proofs.ListingRows.{left_rows}
 use Rattle.cue_table.proofs.rows.+push_rows.Given as goal
 

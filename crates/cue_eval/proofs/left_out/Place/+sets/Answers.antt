@@ -12,7 +12,7 @@ use Rattle.cue_table.specs.Refuses.{TableRefuses}
 use Rattle.std.specs.BinaryHeap.{heap_items}
 use Rattle.cue_eval.proofs.AddedBelow.{all_below, empty_refuses}
 use Rattle.cue_eval.proofs.Bounds.{popped_few, underway, underway_on, underway_again, pushed_all}
-use Rattle.cue_table.specs.Walks.{found_smaller}
+use Rattle.cue_table.specs.Inner.Walks.{found_smaller}
 use Rattle.cue_scope.proofs.Walking.{at_hand}
 use Rattle.cue_eval.proofs.LabelTables.{Adding, adds_into, adds_nowhere, all_added, into_depth, added_depth, adding_all, adding_past, adding_more}
 use Rattle.cue_eval.proofs.left_out.Place.+sets.Goals as goal

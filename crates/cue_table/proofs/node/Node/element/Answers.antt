@@ -2,7 +2,7 @@ use Rattle.std.proofs.Common.{sym, ap, subst, ◌∙◌, arith}
 use Rattle.std.specs.Option.{option_map, option_or}
 use Rattle.cue_lattice.specs.Path.{index}
 use Rattle.cue_table.specs.declared.node.Onward.{Onward}
-use Rattle.cue_table.specs.Form.{Rise}
+use Rattle.cue_table.specs.Inner.Form.{Rise}
 use Rattle.cue_table.specs.Inner.View.{branches, run_branches}
 use Rattle.cue_table.specs.Tree.{below, find}
 use Rattle.cue_table.proofs.Gaps.{own_rise, runs_rise}

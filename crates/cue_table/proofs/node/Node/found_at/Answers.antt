@@ -1,6 +1,6 @@
 use Rattle.std.proofs.Common.{◌∙◌, min, ap, sym, subst, arith}
 use Rattle.std.specs.Option.{option_map, option_or}
-use Rattle.cue_table.specs.Form.{Rise}
+use Rattle.cue_table.specs.Inner.Form.{Rise}
 use Rattle.cue_table.specs.Inner.View.{branches, run_branches}
 use Rattle.cue_table.specs.Tree.{below, find}
 use Rattle.cue_lattice.specs.Path.{index}

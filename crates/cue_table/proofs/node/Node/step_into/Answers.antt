@@ -1,7 +1,7 @@
 use Rattle.std.proofs.Common.{sym, ap, subst, ◌∙◌}
 use Rattle.cue_lattice.specs.Path.{label}
 use Rattle.cue_row.specs.Steps.{step_of}
-use Rattle.cue_table.specs.Form.{Rise}
+use Rattle.cue_table.specs.Inner.Form.{Rise}
 use Rattle.cue_table.specs.Inner.View.{branches}
 use Rattle.cue_table.specs.Tree.{below, find, step_into}
 use Rattle.cue_table.proofs.Gaps.{own_rise}

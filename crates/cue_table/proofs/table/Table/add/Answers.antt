@@ -2,7 +2,7 @@ use Rattle.std.proofs.Common.{◌≡◌, ◌≤◌, map, refl, arith}
 use Rattle.cue_lattice.specs.Limits.{step_limit}
 use Rattle.cue_row.specs.Steps.{step_of}
 use Rattle.cue_table.specs.Form.{IsKept, IsTable}
-use Rattle.cue_table.specs.Meet.{chain}
+use Rattle.cue_table.specs.Inner.Meet.{chain}
 use Rattle.cue_table.specs.Depth.{tree_depth}
 use Rattle.cue_table.proofs.Depth.{chain_depth}
 use Rattle.cue_table.proofs.Adding.{chain_form, added_ok}

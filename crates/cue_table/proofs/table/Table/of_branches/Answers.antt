@@ -1,6 +1,6 @@
 use Rattle.std.proofs.Common.{rules, subst}
 use Rattle.std.proofs.lemmas.Result.{IfOk-weaker}
-use Rattle.cue_table.specs.Form.{Rise}
+use Rattle.cue_table.specs.Inner.Form.{Rise}
 use Rattle.cue_table.specs.Inner.View.{branches}
 use Rattle.cue_table.specs.Many.{IsOfBranches}
 use Rattle.cue_table.proofs.ByHalves.{rows_given}
