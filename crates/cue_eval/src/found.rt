@@ -14,7 +14,8 @@ ghost use Rattle.cue_syntax.specs.Syntax as tree;
 ghost use Rattle.cue_table.specs.Tree.{Tree};
 ghost use Rattle.cue_eval.specs.declared.declared.Declared.{Declared as Declares};
 ghost use Rattle.cue_eval.specs.Inner.Adding.{IsClosedBody};
-ghost use Rattle.cue_eval.specs.Inner.Finding.{body_of, HasRoom, AreOnce, IsOnce, IsDefinable, IsDefined};
+ghost use Rattle.cue_eval.specs.Inner.Finding.{body_of, HasRoom, AreOnce, IsOnce, IsDefinable};
+ghost use Rattle.cue_eval.specs.Inner.Finding.{IsDefined};
 ghost use Rattle.cue_eval.specs.Inner.Finding.{IsFindable, AreFindable, IsFoundBody, IsKept};
 
 use crate::body::{Closed, close};

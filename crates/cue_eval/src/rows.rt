@@ -17,9 +17,11 @@ ghost use Rattle.cue_eval.specs.Inner.Known.{core_of, named_core, parts_of, rest
 ghost use Rattle.cue_eval.specs.Inner.Gathered.{Answers, FurtherRefuse};
 ghost use Rattle.cue_eval.specs.Places.{ListRefuses};
 ghost use Rattle.cue_eval.specs.Inner.Parts.{AreAdded};
-ghost use Rattle.cue_eval.specs.Inner.Ready.{all_definitions, members_of, AreKnown, IsReady, IsTableAt};
+ghost use Rattle.cue_eval.specs.Inner.Ready.{all_definitions, members_of, AreKnown, IsReady};
+ghost use Rattle.cue_eval.specs.Inner.Ready.{IsTableAt};
 ghost use Rattle.cue_eval.specs.Inner.Ready.{AreReadyParts, AreReadyElements, IsReadyRest};
-ghost use Rattle.cue_eval.specs.Inner.Ready.{AreReadyEntries, AreReadyFields, IsField, AreGiven, AtLabels, IsScalarLeaf};
+ghost use Rattle.cue_eval.specs.Inner.Ready.{AreReadyEntries, AreReadyFields, IsField, AreGiven};
+ghost use Rattle.cue_eval.specs.Inner.Ready.{AtLabels, IsScalarLeaf};
 ghost use Rattle.cue_eval.specs.Refuses.{ElementsRefuse, ElementRefuses, is_open};
 
 use crate::hanging::{

@@ -16,8 +16,10 @@ ghost use Rattle.cue_table.specs.Depth.{tree_depth};
 ghost use Rattle.cue_eval.specs.Telling.{Tells};
 ghost use Rattle.cue_eval.specs.Inner.Telling.{tells};
 ghost use Rattle.cue_eval.specs.Inner.Told.{IsTold, IsToldBelow, IsKnown, ArePartsKnown};
-ghost use Rattle.cue_eval.specs.Inner.Told.{AreElementsKnown, AreMembersKnown, IsNameKnown, IsRooted};
-ghost use Rattle.cue_eval.specs.Inner.Told.{means, mean_elements, mean_rest, mean_members, IsRestKnown};
+ghost use Rattle.cue_eval.specs.Inner.Told.{AreElementsKnown, AreMembersKnown, IsNameKnown};
+ghost use Rattle.cue_eval.specs.Inner.Told.{IsRooted};
+ghost use Rattle.cue_eval.specs.Inner.Told.{means, mean_elements, mean_rest, mean_members};
+ghost use Rattle.cue_eval.specs.Inner.Told.{IsRestKnown};
 ghost use Rattle.cue_eval.specs.Inner.Told.{AreFurtherTold, own_tells};
 ghost use Rattle.cue_eval.specs.declared.told.Whose.TheVariants as whoses;
 

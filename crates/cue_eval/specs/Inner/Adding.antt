@@ -1,5 +1,6 @@
 -- What closing adds, place by place.
-use Rattle.std.specs.Prelude.{◌≡◌, ◌↔◌, ◌⊎◌, ◌+◌, ◌++◌, ◌≤◌, ◌<◌, ◌^◌, true, List, [], ◌∷◌, ℕ, Option, Some, None, All}
+use Rattle.std.specs.Prelude.{◌≡◌, ◌↔◌, ◌⊎◌, ◌+◌, ◌++◌, ◌≤◌, ◌<◌, ◌^◌, true, List, [], ◌∷◌, ℕ}
+use Rattle.std.specs.Prelude.{Option, Some, None, All}
 use Rattle.std.specs.List.{Contains}
 use Rattle.std.specs.Option.{option_and_then}
 use Rattle.cue_lattice.specs.Limits.{step_limit}
@@ -54,8 +55,8 @@ AllowsAll row =
     (l : List ℕ) → ¬ RowRefuses (λ (r : Row) (k : List ℕ). RefusesLabel r.labels k) row l
 
 -- what closing adds at a place, where this row tells of the literals that the body writes itself,
--- this one where a literal has a `...`, and this is refused: the labels that aren't declared, where no
--- literal has a `...` and no label is left out yet
+-- this one where a literal has a `...`, and this is refused: the labels that aren't declared, where
+-- no literal has a `...` and no label is left out yet
 abbrev pub Adds : Option Declared → Option Declared → Option Row → Question → Type 0
 Adds None dots row question = ⊥
 Adds (Some here) dots row question =
