@@ -1,6 +1,5 @@
 -- Tables behind chains of labels, each of which is in a struct of its own.
-use Rattle.std.proofs.Common.{◌≡◌, ◌↔◌, ◌⊎◌, ◌≤◌, ◌<◌, inl, inr, ⊎_elim, ℕ, List, [], ◌∷◌, All, length, sym, ap, subst, ◌∙◌, length-drop, take, drop, ◌-◌, get_or, arith, Option, None, Result, Ok, Err}
-use Rattle.std.specs.Prelude.{IfOk}
+use Rattle.std.proofs.Common.{◌≡◌, ◌↔◌, ◌⊎◌, ◌≤◌, ◌<◌, inl, inr, ⊎_elim, ℕ, List, [], ◌∷◌, All, length, sym, ap, subst, ◌∙◌, length-drop, take, drop, ◌-◌, get_or, arith, Option, None}
 use Rattle.std.proofs.lemmas.List.{take_all}
 use Rattle.std.proofs.lemmas.List.Elements.{All-push}
 use Rattle.cue_lattice.specs.Limits.{step_limit}
@@ -63,27 +62,26 @@ behind_more l c step inner hung_in after labels is deep marked same free hung =
     } in
     struct_table (member (text_of l.name) l.mark c no_members) ((step, hung_in) ∷ []) labels after free hung (one_given l c (step, hung_in) made)
 
-pub behind_result : {E : Type 0} (r : Result (Tree Row) E) (chain rest : List Label) (first : Label) (step : Step) (before inner hung_in : Tree Row) (given : List (Step × Tree Row)) (labels : Option (List (List ℕ)))
+-- the same of a chain that begins with that label
+pub behind_first : (after : Tree Row) (chain rest : List Label) (first : Label) (step : Step) (before inner hung_in : Tree Row) (given : List (Step × Tree Row)) (labels : Option (List (List ℕ)))
     → chain ≡ first ∷ rest → step ≡ steps.Label (text_of first.name) → tree_depth hung_in < step_limit
     → SameAnswers (Answers hung_in) (λ path question. Here (MarkRefuses first.mark) path question ⊎ Answers inner path question)
     → ((c : Core) → HasAnswersOf c before → HasAnswersOf (nested rest c) inner) → labels ≡ None → given ≡ (step, hung_in) ∷ []
-    → IfOk r (λ after. SameAnswers (Answers after) (LiteralAnswers (λ question. StructRefuses question ⊎ LabelsRefuse labels question) given))
-    → IfOk r (λ after. (c : Core) → HasAnswersOf c before → HasAnswersOf (nested chain c) after)
-behind_result (Ok after) chain rest first step before inner hung_in given labels whole is deep marked same free alone hung = λ c known.
+    → SameAnswers (Answers after) (LiteralAnswers (λ question. StructRefuses question ⊎ LabelsRefuse labels question) given)
+    → (c : Core) → HasAnswersOf c before → HasAnswersOf (nested chain c) after
+behind_first after chain rest first step before inner hung_in given labels whole is deep marked same free alone hung c known =
     subst (λ ls. HasAnswersOf (nested ls c) after) (sym whole) (behind_more first (nested rest c) step inner hung_in after labels is deep marked (same c known) free
     (subst (λ (xs : List (Step × Tree Row)). SameAnswers (Answers after) (LiteralAnswers (λ question. StructRefuses question ⊎ LabelsRefuse labels question) xs)) alone hung))
-behind_result (Err e) chain rest first step before inner hung_in given labels whole is deep marked same free alone hung = hung
 
 literal_short : (own : Question → Type 0) (step : Step) (hung_in : Tree Row) (n : ℕ) → tree_depth hung_in < n → (path : Path) (question : Question) → LiteralAnswers own ((step, hung_in) ∷ []) path question → length path ≤ n
 literal_short own step hung_in n less [] question h = omega arith
 literal_short own step hung_in n less (at ∷ path) question (inl h) = let d = answer_short hung_in path question h.1 in omega arith
 literal_short own step hung_in n less (at ∷ path) question (inr h) = absurd h
 
-pub behind_depth : {E : Type 0} (r : Result (Tree Row) E) (own : Question → Type 0) (step : Step) (hung_in : Tree Row) (given : List (Step × Tree Row)) (n : ℕ) → given ≡ (step, hung_in) ∷ [] → tree_depth hung_in < n → IfOk r (IsTable Refuses IsRow)
-    → IfOk r (λ after. SameAnswers (Answers after) (LiteralAnswers own given)) → IfOk r (λ after. tree_depth after ≤ n)
-behind_depth (Ok after) own step hung_in given n alone less form same = shallow after n form (λ path question h.
+pub behind_depth : (after : Tree Row) (own : Question → Type 0) (step : Step) (hung_in : Tree Row) (given : List (Step × Tree Row)) (n : ℕ) → given ≡ (step, hung_in) ∷ [] → tree_depth hung_in < n → IsTable Refuses IsRow after
+    → SameAnswers (Answers after) (LiteralAnswers own given) → tree_depth after ≤ n
+behind_depth after own step hung_in given n alone less form same = shallow after n form (λ path question h.
     literal_short own step hung_in n less path question (subst (λ (xs : List (Step × Tree Row)). LiteralAnswers own xs path question) alone ((same path question).0 h)))
-behind_depth (Err e) own step hung_in given n alone less form same = form
 
 -- one field alone that can be hung in
 pub one_deep : (given : List (Step × Tree Row)) (step : Step) (table : Tree Row) → given ≡ (step, table) ∷ [] → tree_depth table < step_limit → All (λ one. tree_depth one.1 < step_limit) given

@@ -150,14 +150,6 @@ unified_answers given met path question unified =
     let g = each_asked given path question in
     (λ h. g.1 (e.0 (t.0 h)), λ h. t.1 (e.1 (g.0 h)))
 
--- ---- the same of what calls return
-pub literal_result : {E : Type 0} (r : Result (Tree Row) E) (given : List (Step × Tree Row)) (below : Tree Row) (row : Row) (own : Question → Type 0) → IsOfBranches Refuses given below
-    → IfOk r (λ table. SameAnswers (Answers table) (λ path question. Answers below path question ⊎ Here (RowRefuses row) path question))
-    → ((question : Question) → RowRefuses row question ↔ own question)
-    → IfOk r (λ table. SameAnswers (Answers table) (LiteralAnswers own given))
-literal_result (Ok table) given below row own branches rooted is = literal_answers given below table row own branches rooted is
-literal_result (Err e) given below row own branches rooted is = rooted
-
 -- ---- the row at the root is taken off, and one with a mark put there
 -- what a row refuses, where there is one, and what a mark does
 abbrev pub IsMarked : Mark → Option Row → Row → Type 0
@@ -170,7 +162,7 @@ marked_none mark (Some old) row e is question = absurd (cc)
 pub marked_some : (mark : Mark) (before : Option Row) (old row : Row) → before ≡ Some old → ((question : Question) → RowRefuses row question ↔ (RowRefuses old question ⊎ MarkRefuses mark question)) → IsMarked mark before row
 marked_some mark before old row e is = subst (λ r. IsMarked mark r row) (sym e) is
 
-marked_answers : (before rest after : Tree Row) (mark : Mark) (row : Row) → rest ≡ node None (below before) (rest_of before)
+pub marked_answers : (before rest after : Tree Row) (mark : Mark) (row : Row) → rest ≡ node None (below before) (rest_of before)
     → SameAnswers (Answers after) (λ path question. Answers rest path question ⊎ Here (RowRefuses row) path question) → IsMarked mark (row_of before) row
     → SameAnswers (Answers after) (λ path question. Here (MarkRefuses mark) path question ⊎ Answers before path question)
 marked_answers (node old children more) rest after mark row e rooted is [] question =
@@ -186,17 +178,11 @@ marked_answers (node old children more) rest after mark row e rooted is (step �
       λ h. ⊎_elim (λ g. absurd g) (λ g. all.1 (inl (subst (λ (t : Tree Row). Answers t (step ∷ path) question) (sym e) g))) h,
     )
 
-pub marked_result : {E : Type 0} (r : Result (Tree Row) E) (before rest : Tree Row) (mark : Mark) (row : Row) → rest ≡ node None (below before) (rest_of before)
-    → IfOk r (λ after. SameAnswers (Answers after) (λ path question. Answers rest path question ⊎ Here (RowRefuses row) path question)) → IsMarked mark (row_of before) row
-    → IfOk r (λ after. SameAnswers (Answers after) (λ path question. Here (MarkRefuses mark) path question ⊎ Answers before path question))
-marked_result (Ok after) before rest mark row e rooted is = marked_answers before rest after mark row e rooted is
-marked_result (Err x) before rest mark row e rooted is = rooted
-
 nothing_refused : (path : Path) (question : Question) → Answers empty path question → ⊥
 nothing_refused [] question h = h
 nothing_refused (step ∷ path) question h = h
 
-alone : (before after : Tree Row) (row : Row) (own : Question → Type 0) → before ≡ empty
+pub alone : (before after : Tree Row) (row : Row) (own : Question → Type 0) → before ≡ empty
     → SameAnswers (Answers after) (λ path question. Answers before path question ⊎ Here (RowRefuses row) path question)
     → ((question : Question) → RowRefuses row question ↔ own question) → SameAnswers (Answers after) (Here own)
 alone before after row own none rooted is path question =
@@ -204,12 +190,6 @@ alone before after row own none rooted is path question =
       λ h. ⊎_elim (λ g. g) (λ g. absurd (nothing_refused path question (subst (λ (t : Tree Row). Answers t path question) none g))) (e.0 h),
       λ h. e.1 (inl h),
     )
-
-pub alone_result : {E : Type 0} (r : Result (Tree Row) E) (before : Tree Row) (row : Row) (own : Question → Type 0) → before ≡ empty
-    → IfOk r (λ after. SameAnswers (Answers after) (λ path question. Answers before path question ⊎ Here (RowRefuses row) path question))
-    → ((question : Question) → RowRefuses row question ↔ own question) → IfOk r (λ after. SameAnswers (Answers after) (Here own))
-alone_result (Ok after) before row own none rooted is = alone before after row own none rooted is
-alone_result (Err e) before row own none rooted is = rooted
 
 here_same : (p q : Question → Type 0) → ((question : Question) → p question ↔ q question) → SameAnswers (Here p) (Here q)
 here_same p q same [] question = same question

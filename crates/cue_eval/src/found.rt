@@ -126,8 +126,8 @@ impl Found {
     {
         let sight = self.sight(alloc, &*definitions);
         let own = sight.body(Whose::Own, definition.chain, definition.value)?;
-        let Body { rows, dots } = self.body(alloc, definitions, definition.value)?;
-        let rows = hanging::behind(alloc, definition.chain, rows)?;
+        let Body { mut rows, dots } = self.body(alloc, definitions, definition.value)?;
+        hanging::put_behind(alloc, definition.chain, &mut rows)?;
         let dots = told::behind(alloc, Whose::Dotted, definition.chain, dots)?;
         close(alloc, &own, dots, rows)
     }

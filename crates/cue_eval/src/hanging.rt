@@ -21,15 +21,15 @@ use cue_scalars::Valued;
 use cue_syntax::{Label, LabelName, Mark};
 use cue_table::Table;
 use std::alloc::Global;
+use std::mem;
 
-/// A table, and what a row says at its root.
-pub(crate) fn rooted(mut table: Table<Row>, row: Row) -> Result<Table<Row>, Memory>
-    ensures form { IfOk result (IsTable Refuses IsRow) }
-    ensures answers { IfOk result (λ after. SameAnswers (Answers after)
-        (λ path question. Answers table path question ⊎ Here (RowRefuses row) path question)) }
+/// Adds what a row says to the root of a table.
+fn add_row(table: &mut Table<Row>, row: Row) -> Result<(), Memory>
+    ensures form { IsTable Refuses IsRow table.new }
+    ensures answers { OnOk result (SameAnswers (Answers table.new)
+        (λ path question. Answers table.old path question ⊎ Here (RowRefuses row) path question)) }
 {
-    table.meet_row(row)?;
-    Ok(table)
+    table.meet_row(row)
 }
 
 /// What is known where a row stands alone.
@@ -38,7 +38,9 @@ pub(crate) fn table_of(alloc: Global, row: Row) -> Result<Table<Row>, Memory>
     ensures answers { IfOk result (λ table. SameAnswers (Answers table)
         (Here (RowRefuses row))) }
 {
-    rooted(Table::new(alloc), row)
+    let mut table = Table::new(alloc);
+    add_row(&mut table, row)?;
+    Ok(table)
 }
 
 /// What is known where these scalars stand.
@@ -79,8 +81,9 @@ pub(crate) fn struct_of(
         (LiteralAnswers (λ question. StructRefuses question ⊎ LabelsRefuse labels question)
         fields.items)) }
 {
-    let below = Table::of_branches(alloc, fields)?;
-    rooted(below, struct_row(alloc, labels)?)
+    let mut table = Table::of_branches(alloc, fields)?;
+    add_row(&mut table, struct_row(alloc, labels)?)?;
+    Ok(table)
 }
 
 /// A list of these elements, and whether it ends in `...`.
@@ -96,21 +99,23 @@ pub(crate) fn list_of(
         (LiteralAnswers (ListRefuses (length elements.items) goes_on) elements.items)) }
 {
     let count = elements.len();
-    let below = Table::of_branches(alloc, elements)?;
-    rooted(below, list_row(alloc, count, goes_on)?)
+    let mut table = Table::of_branches(alloc, elements)?;
+    add_row(&mut table, list_row(alloc, count, goes_on)?)?;
+    Ok(table)
 }
 
-/// A field with its mark, of what is known of its value.
-pub(crate) fn marked(mut table: Table<Row>, mark: Mark) -> Result<Table<Row>, Memory>
-    ensures form { IfOk result (IsTable Refuses IsRow) }
-    ensures answers { IfOk result (λ after. SameAnswers (Answers after)
-        (λ path question. Here (MarkRefuses mark) path question ⊎ Answers table path question)) }
+/// Adds the mark of a field to what is known of its value.
+pub(crate) fn mark(table: &mut Table<Row>, mark: Mark) -> Result<(), Memory>
+    ensures form { IsTable Refuses IsRow table.new }
+    ensures answers { OnOk result (SameAnswers (Answers table.new)
+        (λ path question. Here (MarkRefuses mark) path question
+        ⊎ Answers table.old path question)) }
 {
     let row = match table.take_row() {
         None => mark_row(mark),
         Some(row) => raised(row, mark),
     };
-    rooted(table, row)
+    add_row(table, row)
 }
 
 /// The step to the field of a label.
@@ -123,26 +128,30 @@ pub(crate) fn step_to(alloc: Global, label: &Label) -> Result<Step, Memory>
     }
 }
 
-/// What stands behind a chain of labels, each of which is in a struct of its own.
-pub(crate) fn behind(
+/// Puts a table behind a chain of labels, each of which is in a struct of its own. After want of
+/// memory it is some table.
+pub(crate) fn put_behind(
     alloc: Global,
     chain: &[Label],
-    table: Table<Row>,
-) -> Result<Table<Row>, Memory>
-    requires { tree_depth table + length chain.now ≤ step_limit }
-    ensures form { IfOk result (IsTable Refuses IsRow) }
-    ensures depth { IfOk result (λ after. tree_depth after ≤ tree_depth table + length chain.now) }
-    ensures answers { IfOk result (λ after. (c : Core) → HasAnswersOf c table →
-        HasAnswersOf (nested chain.now c) after) }
+    table: &mut Table<Row>,
+) -> Result<(), Memory>
+    requires form { IsTable Refuses IsRow table.old }
+    requires depth { tree_depth table.old + length chain.now ≤ step_limit }
+    ensures form { OnOk result (IsTable Refuses IsRow table.new) }
+    ensures depth { OnOk result (tree_depth table.new ≤ tree_depth table.old + length chain.now) }
+    ensures answers { OnOk result ((c : Core) → HasAnswersOf c table.old →
+        HasAnswersOf (nested chain.now c) table.new) }
 {
     match chain {
-        [] => Ok(table),
+        [] => Ok(()),
         [first, rest @ ..] => {
-            let inner = behind(alloc, rest, table)?;
-            let field = marked(inner, first.mark)?;
+            put_behind(alloc, rest, table)?;
+            mark(table, first.mark)?;
+            let inner = mem::replace(table, Table::new(alloc));
             let mut fields = Vec::with_capacity(alloc, 1)?;
-            fields.push((step_to(alloc, first)?, field))?;
-            struct_of(alloc, fields, Labels::all(alloc)?)
+            fields.push((step_to(alloc, first)?, inner))?;
+            *table = struct_of(alloc, fields, Labels::all(alloc)?)?;
+            Ok(())
         }
     }
 }

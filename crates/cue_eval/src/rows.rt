@@ -25,7 +25,7 @@ ghost use Rattle.cue_eval.specs.Inner.Ready.{AtLabels, IsScalarLeaf};
 ghost use Rattle.cue_eval.specs.Refuses.{ElementsRefuse, ElementRefuses, is_open};
 
 use crate::hanging::{
-    behind, list_of, marked, push_scalars, scalar_table, step_to, struct_of, table_of,
+    list_of, mark, push_scalars, put_behind, scalar_table, step_to, struct_of, table_of,
 };
 use crate::labels::labels_of;
 use crate::pair::Pairs;
@@ -260,9 +260,10 @@ impl<'a, 'f, 't> Tables<'a, 'f, 't> {
             (nested chain.now (core_of self.now.pairs (tree.expression value.now)))) }
     {
         let step = step_to(self.pairs.alloc, label)?;
-        let inner = self.rows(value)?;
-        let table = behind(self.pairs.alloc, chain, inner)?;
-        Ok((step, marked(table, label.mark)?))
+        let mut table = self.rows(value)?;
+        put_behind(self.pairs.alloc, chain, &mut table)?;
+        mark(&mut table, label.mark)?;
+        Ok((step, table))
     }
 
     /// A list of these elements, and whether it goes on.

@@ -19,12 +19,15 @@ body-requires c =
 pub body-requires-2 : goal.body-requires-2
 body-requires-2 c = findable_of (all_of c.args.definitions.now) (definition_of c.args.definition.now) c.args.self.now c.requires
 
-pub behind-requires : goal.behind-requires
-behind-requires c =
+pub put_behind-requires-clause-form : goal.put_behind-requires-clause-form
+put_behind-requires-clause-form c = c.in_ok-rows.ensures.body.form
+
+pub put_behind-requires-clause-depth : goal.put_behind-requires-clause-depth
+put_behind-requires-clause-depth c =
     chain_within (all_of c.args.definitions.now) (definition_of c.args.definition.now) c.args.self.now c.in_ok-rows.field-0.rows c.requires c.in_ok-rows.ensures.body.form c.in_ok-rows.ensures.body.answers
 
-pub behind-requires-2 : goal.behind-requires-2
-behind-requires-2 c =
+pub behind-requires : goal.behind-requires
+behind-requires c =
     chain_flat (all_of c.args.definitions.now) (definition_of c.args.definition.now) c.args.self.now whoses.Dotted c.in_ok-rows.field-0.dots c.requires c.in_ok-rows.ensures.body.dots
 
 pub returns-clause-closed : goal.returns-clause-closed
@@ -34,4 +37,4 @@ returns-clause-closed c =
     let e = meant ds (meaning ds) d.value in
     let own = subst (λ zs. IsTold whoses.Own (nested d.chain (meant zs (meaning zs) d.value)) c.in_ok-own.own) (ap all_of c.sight-sight.ensures.definitions) c.in_ok-own.ensures in
     IfOk-weaker c.close.result _ (IsClosedBody (nested d.chain e))
-    (λ closed h. h (nested d.chain e) own (c.in_ok-dots.ensures.told e c.in_ok-rows.ensures.body.dots) (c.in_ok-rows-2.ensures.answers e c.in_ok-rows.ensures.body.answers)) c.close.ensures
+    (λ closed h. h (nested d.chain e) own (c.in_ok-dots.ensures.told e c.in_ok-rows.ensures.body.dots) (c.in_ok-put_behind.ensures.answers e c.in_ok-rows.ensures.body.answers)) c.close.ensures

@@ -109,10 +109,10 @@ conjunction-returns-clause-answers t c =
     joined_result c.unified.result known c.loop-part.tables.items with_scalars tables c.loop-part.scalars.items c.loop-part.numbers.items c.distinct.result.items c.args.parts.now _ c.loop-part.invariant
     (none_behind c.args.parts.now c.loop-part.part-index (let end = c.loop-part-test.false in omega arith)) c.in_ok-push_scalars.ensures c.distinct.ensures added c.unified.ensures.refused
 
-pub field-behind-requires : goal.field-behind-requires
-field-behind-requires t c =
+pub field-put_behind-requires-clause-depth : goal.field-put_behind-requires-clause-depth
+field-put_behind-requires-clause-depth t c =
     let e = core_of c.args.self.now.pairs (tree.expression c.args.value.now) in
-    let at = within_depth e c.in_ok-inner.inner c.in_ok-inner.ensures.form c.in_ok-inner.ensures.answers in
+    let at = within_depth e c.in_ok-table.table c.in_ok-table.ensures.form c.in_ok-table.ensures.answers in
     let deeper = nested_depth c.args.chain.now e in
     let less = c.requires.depth in
     omega arith
@@ -120,8 +120,8 @@ field-behind-requires t c =
 pub field-returns : goal.field-returns
 field-returns t c =
     let e = core_of c.args.self.now.pairs (tree.expression c.args.value.now) in
-    field_made c.args.label.now (nested c.args.chain.now e) c.in_ok-step.step c.in_ok-table.table c.in_ok-marked.field-0 c.in_ok-step.ensures c.requires.depth
-    c.in_ok-table.ensures.form (c.in_ok-table.ensures.answers e c.in_ok-inner.ensures.answers) c.in_ok-marked.ensures.form c.in_ok-marked.ensures.answers
+    field_made c.args.label.now (nested c.args.chain.now e) c.in_ok-step.step c.put_behind.new.table c.mark.new.table c.in_ok-step.ensures c.requires.depth
+    c.in_ok-put_behind.ensures.form (c.in_ok-put_behind.ensures.answers e c.in_ok-table.ensures.answers) c.mark.ensures.form c.in_ok-mark.ensures.answers
 
 pub fields-loop-declaration-init : goal.fields-loop-declaration-init
 fields-loop-declaration-init t c =
