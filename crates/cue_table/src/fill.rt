@@ -1,6 +1,5 @@
 //! Changes of a list of branches carried out. What stays is moved.
 ghost use Rattle.std.specs.Prelude.{◌≡◌, ◌+◌, ◌≤◌, ◌++◌, ◌∷◌, take, drop, OnErr, OnOk};
-ghost use Rattle.std.specs.List.{insert as inserted};
 ghost use Rattle.std.specs.Vec.{vec_len, vec_capacity};
 ghost use Rattle.std.specs.Vec.Iter.{into_iter_items};
 ghost use Rattle.cue_table.specs.Inner.Changes.{Fit, added, merged, more, over};
@@ -14,9 +13,6 @@ use std::vec::IntoIter;
 
 /// The most new branches that are put in where they stand, by one move of memory for each.
 const FEW: usize = 16;
-
-/// The most branches behind a new one that are moved one by one, and not as a block.
-const FEW_BEHIND: usize = 32;
 
 /// Changes a list of branches. After want of memory it is as it was.
 pub(crate) fn carry_out<R: Narrow>(
@@ -37,28 +33,6 @@ pub(crate) fn carry_out<R: Narrow>(
     let room = Vec::with_capacity(alloc, children.len() + changes.len())?;
     let old = mem::replace(children, Vec::new(alloc));
     *children = merge(old, changes, room);
-    Ok(())
-}
-
-/// Puts a branch in at a place of a list. After want of memory the list is as it was.
-pub(crate) fn insert<R: Narrow>(
-    children: &mut Vec<Child<R>>,
-    at: usize,
-    child: Child<R>,
-) -> Result<(), Memory>
-    requires { at ≤ vec_len children.old }
-    ensures ok { OnOk result (children.new.items ≡ inserted children.old.items at child) }
-    ensures err { OnErr result (children.new.items ≡ children.old.items) }
-{
-    if children.len() - at <= FEW_BEHIND {
-        children.insert(at, child)?;
-        return Ok(());
-    }
-    children.reserve(1)?;
-    let mut behind = children.split_off(at)?;
-    children.push_reserved(child);
-    // There is room, so that none is taken.
-    children.append(&mut behind).ok();
     Ok(())
 }
 
