@@ -21,14 +21,16 @@ use Rattle.cue_sets.specs.Texts.{is_text_member}
 use Rattle.cue_table.specs.Depth.{tree_depth, children_depth}
 use Rattle.cue_table.specs.Form.{IsTable}
 use Rattle.cue_table.specs.Meet.{IsAdded}
-use Rattle.cue_table.specs.Refuses.{TableRefuses}
+use Rattle.cue_table.specs.Refuses.{RowRefuses, TableRefuses}
 use Rattle.cue_table.specs.Tree.{Tree, node, Children, none, child, no_rest, onward, row_of, row_at, branch_at, step_into, below, rest_of, rest_tree, find, if_equal, fixed_of, labels_of}
 use Rattle.cue_table.proofs.Branches.{find_rest}
 use Rattle.cue_table.proofs.Depth.{refusals_depth, row_depth}
 use Rattle.cue_table.proofs.Finding.{found_here}
 use Rattle.cue_table.proofs.Exact.{none_within, within_last}
 use Rattle.cue_table.proofs.Order.{equal_steps}
-use Rattle.cue_eval.specs.Inner.Adding.{OnlyLabels, LeftOut, Adds, AddsHere, AddsAt, row_below, step_below, IsStepInto, IsAmong, AreAddedAt, IsAllBelow}
+use Rattle.cue_eval.specs.Inner.Adding.{OnlyLabels, LeftOut, Adds, AddsHere, AddsAt, AllowsAll, root_row, row_below, step_below, IsStepInto, IsAmong, AreAddedAt, IsAllBelow}
+use Rattle.cue_eval.specs.Telling.{Tells}
+use Rattle.cue_eval.specs.declared.declared.Asked.TheVariants.{Stands}
 use Rattle.cue_eval.specs.declared.left_out.Place.{Place}
 use Rattle.cue_eval.specs.declared.declared.Declared.{Declared}
 
@@ -46,6 +48,14 @@ only_left_out here labels stands but same list = itself _
 only_left_out here labels stands but same (level_at_most k) = itself _
 only_left_out here labels stands but same (length_at_most n) = itself _
 only_left_out here labels stands but same (length_at_least n) = itself _
+
+pub only_added : (place : Place) (here : Declared) (labels : Option (List (List ℕ))) → row_of place.own ≡ Some here → here.stands ≡ true → ¬ RowRefuses Tells (root_row place.dots) Stands
+    → AllowsAll (root_row place.rows) → here.undeclared.0 ≡ true → ((l : List ℕ) → RefusesLabel labels l ↔ (is_text_member here.undeclared l ≡ true))
+    → (question : Question) → OnlyLabels labels question ↔ AddsHere place question
+only_added place here labels own stands no_dots all but same question =
+    let left = only_left_out here labels stands but same question in
+    subst (λ row. OnlyLabels labels question ↔ Adds row (root_row place.dots) (root_row place.rows) question) (sym own)
+    (λ h. (no_dots, all, left.0 h), λ h. left.1 h.2)
 
 pub none_left_out : (here : Declared) → (here.stands ≡ true → here.undeclared.0 ≡ true → ⊥) → (question : Question) → ¬ LeftOut here question
 none_left_out here never (allows l) h = never h.0 h.1
