@@ -72,12 +72,28 @@ fn takes(alloc: Global, words: &[&str], status: u8, out: &str) -> Result<bool, F
 /// Words that name files, how a run over these ends, and what it prints.
 const TAKEN: &[(&[&str], u8, &str)] = &[
     (&["export", "a", "state"], 0, "{\"a\":1}\n"),
-    (&["export", "a", "b"], 3, "incomplete b not a single value\n"),
-    (&["report", "b", "clash"], 3, "incomplete b not a single value\n"),
+    (
+        &["export", "a", "b"],
+        3,
+        "incomplete b not a single value\n",
+    ),
+    (
+        &["report", "b", "clash"],
+        3,
+        "incomplete b not a single value\n",
+    ),
     (&["report", "state", "clash"], 2, "conflict a no value\n"),
     (&["report", "a", "--"], 0, ""),
-    (&["export", "a", "lines"], 1, "refused 9 LeftOut at 5 in 2\n"),
-    (&["export", "wrong", "none"], 1, "refused 7 Syntax at 3 in 1\n"),
+    (
+        &["export", "a", "lines"],
+        1,
+        "refused 9 LeftOut at 5 in 2\n",
+    ),
+    (
+        &["export", "wrong", "none"],
+        1,
+        "refused 7 Syntax at 3 in 1\n",
+    ),
     (
         &["report", "--", "clash", "b", "state"],
         2,

@@ -45,7 +45,11 @@ const LOOPS: &[(&[u8], u8, &str)] = &[
     (ONE, 0, "{\"a\":1}\n"),
     (b"", 0, "{}\n"),
     (b"a: *1", 1, "refused 7 Syntax at 5 in 1\n"),
-    (b"a: 1\n---\na: ]\n---\na 2\n", 1, "refused 7 Syntax at 3 in 2\n"),
+    (
+        b"a: 1\n---\na: ]\n---\na 2\n",
+        1,
+        "refused 7 Syntax at 3 in 2\n",
+    ),
 ];
 
 #[test]

@@ -10,8 +10,8 @@ pub returns-in_ok-only-in-Some-2 : goal.returns-in_ok-only-in-Some-2
 returns-in_ok-only-in-Some-2 c question =
     let here = c.in-Some.own.now in
     let declared = subst (λ found. IfSome found (λ labels. (here.undeclared.0 ≡ true) × ((l : List ℕ) → RefusesLabel labels l ↔ (is_text_member here.undeclared l ≡ true))))
-          c.in-Some-2.is c.in_ok-declared_labels.ensures.some in
+    c.in-Some-2.is c.in_ok-declared_labels.ensures.some in
     let added = only_added c.args.self.now here c.in-Some-2.labels (sym c.in-Some.ensures.row) c.if-not-own.false (λ h. false≢true (c.if-stands.ensures.1 h)) (c.if-not-allows_all.ensures.0 refl)
-          declared.0 declared.1 (question_of question) in
+    declared.0 declared.1 (question_of question) in
     let told = c.in_ok-only-in-Some-2.ensures question in
     (λ h. added.0 (told.0 h), λ h. told.1 (added.1 h))
