@@ -15,7 +15,7 @@ import sys
 
 HERE = os.path.dirname(os.path.realpath(__file__))
 # Of the picture, in its units: the width of the names, of the plot and of the values, and the height of a row.
-NAMES, PLOT, VALUES, ROW, TOP = 560, 430, 60, 20, 78
+NAMES, PLOT, VALUES, ROW, TOP = 600, 430, 60, 20, 78
 
 
 class Work:
@@ -29,12 +29,12 @@ class Work:
         self.theirs, self.ours = theirs[2], ours[2]
         self.ratio, self.before = ours[2] / theirs[2], before and before[2] / theirs[2]
         self.growth = [math.log(costs[2] / costs[0], 4) for costs in (theirs, ours)]
-        self.memory = ours[3] / theirs[3]
+        self.memory = ours[3] / theirs[3] if len(ours) > 3 and len(theirs) > 3 else None
 
     def row(self):
         """Its row of the table."""
         cells = [self.words, f"{self.size:,}", f"{self.theirs / 1e6:,.1f}", f"{self.ours / 1e6:,.1f}", shown(self.ratio),
-                 ", ".join(f"{growth:.2f}" for growth in self.growth), shown(self.memory)]
+                 ", ".join(f"{growth:.2f}" for growth in self.growth), "-" if self.memory is None else shown(self.memory)]
         return "| " + " | ".join(cell.replace("|", "\\|") for cell in cells) + " |"
 
 
@@ -68,12 +68,13 @@ def table(works):
     yield "| Work | N | Other program | `cuestore` | Ratio | Growth | Memory |"
     yield "|---|---|---|---|---|---|---|"
     yield from (work.row() for work in works)
-    ratios, memory = [work.ratio for work in works], [work.memory for work in works]
+    ratios, memory = [work.ratio for work in works], [work.memory for work in works if work.memory is not None]
     yield ""
     yield (f"Ratio: mean {mean(ratios):.2f}, worst {max(ratios):.2f}, {sum(ratio <= 1 for ratio in ratios)} of {len(ratios)} "
            f"at most 1.0, {sum(ratio <= 2 for ratio in ratios)} at most 2.0")
     yield f"Growth: {max(work.growth[1] for work in works):.2f} at most"
-    yield f"Memory: mean {mean(memory):.2f}, worst {max(memory):.2f}"
+    if memory:
+        yield f"Memory: mean {mean(memory):.2f}, worst {max(memory):.2f}"
 
 
 class Axis:
