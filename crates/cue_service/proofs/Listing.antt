@@ -6,8 +6,7 @@ use Rattle.cue_pieces.specs.Listed.{Listed, GivesUp, Keeps, behind_of}
 use Rattle.cue_pieces.specs.Lists.{blocks}
 use Rattle.cue_journal.specs.Blocks.{recovered}
 use Rattle.cue_service.specs.Entries.{entry_of}
-use Rattle.cue_service.specs.Listing.{AreListed}
-use Rattle.cue_service.specs.Inner.Listing.{with_entry}
+use Rattle.cue_service.specs.Listing.{AreListed, with_entry}
 
 none_dropped : {X : Type 0} (k : ℕ) → drop {A = X} k [] ≡ []
 none_dropped zero = refl

@@ -16,8 +16,7 @@ use Rattle.cue_service.specs.declared.desk.Desk.{Desk}
 use Rattle.cue_service.specs.Answering.{GathersPiece, GathersPieces}
 use Rattle.cue_service.specs.Entries.{entry_of, piece_of}
 use Rattle.cue_service.specs.Listing.{AreListed}
-use Rattle.cue_service.specs.Pulls.{Covers, CoversAll, IsOfListed}
-use Rattle.cue_service.specs.Inner.Pulls.{IsRefusalOf}
+use Rattle.cue_service.specs.Pulls.{Covers, CoversAll, IsOfListed, IsRefusalOf}
 use Rattle.cue_service.proofs.Alike.{read_back}
 
 -- a table that adds something refuses what it refused, and what was added

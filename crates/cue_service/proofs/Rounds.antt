@@ -19,8 +19,7 @@ use Rattle.cue_service.specs.Requests.{IsRoute, handed, piece_in}
 use Rattle.cue_service.specs.Answering.{Answers, AnswersAs, IsAsked, IsSame, IsTaken, GathersPieces, status_of}
 use Rattle.cue_service.specs.Listing.{AreListed, IsToldPieces}
 use Rattle.cue_service.specs.Sites.{AnswersAt, IsConsistent, Settles, Leaves}
-use Rattle.cue_service.specs.Promise.{acknowledged_by}
-use Rattle.cue_service.specs.Inner.Promise.{acknowledged, AreSomeOf}
+use Rattle.cue_service.specs.Promise.{acknowledged_by, acknowledged, AreSomeOf}
 use Rattle.cue_answer.specs.declared.question.Question.{Question}
 use Rattle.cue_answer.specs.declared.question.Question.TheVariants as questions
 use Rattle.cue_answer.specs.declared.question.Status.{Status}

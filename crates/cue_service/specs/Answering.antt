@@ -19,8 +19,7 @@ use Rattle.cue_journal.specs.Batches.{batch_bytes}
 use Rattle.cue_service.specs.declared.desk.Desk.{Desk}
 use Rattle.cue_service.specs.declared.route.Hand.{Hand}
 use Rattle.cue_service.specs.declared.route.Route.{Route}
-use Rattle.cue_service.specs.declared.route.Route.TheVariants.{Ask, Pieces, Take, Health, Metrics}
-use Rattle.cue_service.specs.declared.route.Route.TheVariants.{Page, OtherMethod, Unknown}
+use Rattle.cue_service.specs.declared.route.Route.TheVariants.{Ask, Pieces, Take, Health, Metrics, Page, OtherMethod, Unknown}
 use Rattle.cue_service.specs.Entries.{entry_of}
 use Rattle.cue_service.specs.Listing.{AreListed, IsNamed, IsToldPieces}
 use Rattle.cue_service.specs.Requests.{IsRoute, HasField, handed}

@@ -1,6 +1,5 @@
 -- The pieces that a site accepted since its start, and what it answers to those who ask for them.
-use Rattle.std.specs.Prelude.{◌≡◌, ◌⊎◌, ◌<◌, ◌≤◌, ◌^◌, ℕ, List, [], ◌∷◌, ◌++◌, length, drop, map}
-use Rattle.std.specs.Prelude.{codes}
+use Rattle.std.specs.Prelude.{◌≡◌, ◌⊎◌, ◌<◌, ◌≤◌, ◌^◌, ℕ, List, [], ◌∷◌, ◌++◌, length, drop, map, codes}
 use Rattle.cue_lattice.specs.World.{Piece}
 use Rattle.cue_answer.specs.declared.question.Question.{Question}
 use Rattle.cue_answer.specs.declared.question.Question.TheVariants as questions
@@ -18,6 +17,11 @@ use Rattle.cue_service.specs.Requests.{AsksBehind}
 abbrev pub AreListed : List Piece → Listed → Type 0
 AreListed pieces listed = IsListOf (map entry_of pieces) listed
 
+-- one more
+abbrev pub with_entry : Listed → List ℕ → Listed
+with_entry pieces entry =
+    record { run = pieces.run; given_up = pieces.given_up; kept = pieces.kept ++ entry ∷ [] }
+
 -- the response names the place behind all pieces
 abbrev pub NamesNext : Listed → Response → Type 0
 NamesNext pieces response =
@@ -29,8 +33,8 @@ abbrev pub IsNamed : Question → Listed → Response → Type 0
 IsNamed questions.State pieces response = NamesNext pieces response
 IsNamed question pieces response = Unit {0}
 
--- The answer is the blocks of all pieces behind the first so many, in order, all of which are kept;
--- and these are what is read of it.
+-- The answer is the blocks of all pieces behind the first so many, in order, all of which are kept; and
+-- these are what is read of it.
 pub record IsTold (pieces : Listed) (request : Request (List ℕ)) (response : Response) : Type 0 where
   pub text : List ℕ
   pub count : ℕ

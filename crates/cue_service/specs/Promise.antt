@@ -1,5 +1,5 @@
 -- What a site promises of each round of calls.
-use Rattle.std.specs.Prelude.{◌==◌, ℕ, Bool, true, List, [], ◌∷◌, ◌++◌, if◌then◌else◌}
+use Rattle.std.specs.Prelude.{◌==◌, ◌≡◌, ◌⊎◌, ℕ, Bool, true, List, [], ◌∷◌, ◌++◌, if◌then◌else◌}
 use Rattle.cue_lattice.specs.World.{Piece}
 use Rattle.http_server.specs.Exchange.{Call, Chain}
 use Rattle.cue_service.specs.declared.site.Site.{Site}
@@ -10,6 +10,17 @@ use Rattle.cue_service.specs.Sites.{AnswersAt, GathersPiecesAt, IsConsistent, Le
 -- the piece of a call that was answered with 204
 abbrev pub acknowledged_by : Call → List Piece
 acknowledged_by call = if call.1.status == 204 then piece_in call.0 ∷ [] else []
+
+-- these are some of the others, in their order
+abbrev pub AreSomeOf : List Piece → List Piece → Type 0
+AreSomeOf some [] = some ≡ []
+AreSomeOf some (piece ∷ pieces) =
+    ((others : List Piece) × (some ≡ piece ∷ others) × AreSomeOf others pieces) ⊎ AreSomeOf some pieces
+
+-- the pieces that calls acknowledged, in order
+abbrev pub acknowledged : List Call → List Piece
+acknowledged [] = []
+acknowledged (call ∷ calls) = acknowledged_by call ++ acknowledged calls
 
 module _ {D : Type 0} (seen : D → List ℕ) (may_leave : D → List ℕ → Type 0) where
   -- after any calls the site has accepted just the pieces from before and those acknowledged

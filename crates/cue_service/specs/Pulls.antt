@@ -1,11 +1,14 @@
 -- What a pull that went well brings: all that the pieces of the other site say.
-use Rattle.std.specs.Prelude.{List}
+use Rattle.std.specs.Prelude.{◌≡◌, ◌⊎◌, ◌≤◌, ◌+◌, ◌^◌, List, length}
 use Rattle.cue_lattice.specs.Path.{Path}
 use Rattle.cue_lattice.specs.Question.{Question}
 use Rattle.cue_lattice.specs.World.{Piece, Has, IsUnified, piece_refuses}
+use Rattle.cue_lattice.specs.declared.refusal.Kind.TheVariants as kinds
+use Rattle.cue_lattice.specs.declared.refusal.Refusal.{Refusal}
 use Rattle.cue_replica.specs.Accepted.{IsAcceptable}
 use Rattle.cue_replica.specs.Language.{Table, language}
 use Rattle.cue_service.specs.declared.desk.Desk.{Desk}
+use Rattle.cue_service.specs.Answering.{bytes_in}
 use Rattle.cue_service.specs.Listing.{AreListed}
 
 -- the table refuses all that the piece does
@@ -18,11 +21,19 @@ Covers table piece =
 abbrev pub CoversAll : Table → List Piece → Type 0
 CoversAll table pieces = (piece : Piece) → Has pieces piece → IsAcceptable piece → Covers table piece
 
--- The table is what some pieces make it, and among them are those that were accepted since the
--- start, which are listed.
+-- The table is what some pieces make it, and among them are those that were accepted since the start,
+-- which are listed.
 pub record IsOfListed (desk : Desk) : Type 0 where
   pub pieces : List Piece
   pub accepted : List Piece
   pub held : IsUnified language desk.board pieces
   pub among : (piece : Piece) → Has accepted piece → Has pieces piece
   pub listed : AreListed accepted desk.pieces
+
+-- memory ran out, or no site accepts the piece
+abbrev pub IsRefusalOf : Piece → Refusal → Type 0
+IsRefusalOf piece why = (why.kind ≡ kinds.Memory) ⊎ (IsAcceptable piece → ⊥)
+
+-- or it is too long for a journal
+abbrev pub IsLeftOut : Piece → Refusal → Type 0
+IsLeftOut piece why = IsRefusalOf piece why ⊎ (2 ^ 32 ≤ length (bytes_in piece) + 1)

@@ -9,8 +9,7 @@ use Rattle.http_header.specs.FieldValue.{FieldValue}
 use Rattle.http_header.specs.HeaderMap.{get}
 use Rattle.http_uri.specs.Uri.{uri_path, uri_query}
 use Rattle.cue_service.specs.declared.route.Route.{Route}
-use Rattle.cue_service.specs.declared.route.Route.TheVariants.{Ask, Pieces, Take, Health, Metrics}
-use Rattle.cue_service.specs.declared.route.Route.TheVariants.{Page, OtherMethod, Unknown}
+use Rattle.cue_service.specs.declared.route.Route.TheVariants.{Ask, Pieces, Take, Health, Metrics, Page, OtherMethod, Unknown}
 use Rattle.cue_service.specs.declared.route.Hand.{Hand}
 use Rattle.cue_service.specs.declared.route.Hand.TheVariants as hands
 

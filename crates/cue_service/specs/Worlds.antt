@@ -1,8 +1,7 @@
 -- What the calls of a site are in a world of sites: the events there.
 use Rattle.std.specs.Prelude.{◌≡◌, ◌≢◌, ◌⊎◌, ℕ, List, [], ◌∷◌, ◌++◌, codes, Some}
 use Rattle.std.specs.Prelude.{slice_get, slice_set}
-use Rattle.cue_lattice.specs.World.{Piece, text, state, Event, submit, send, deliver, foreign}
-use Rattle.cue_lattice.specs.World.{Outcome, Sets}
+use Rattle.cue_lattice.specs.World.{Piece, text, state, Event, submit, send, deliver, foreign, Outcome, Sets}
 use Rattle.cue_lattice.specs.World.{AllAlong, IsUnified, IsMessageOf, AreOutcomes, reach}
 use Rattle.cue_replica.specs.Language.{Table, language}
 use Rattle.http_server.specs.Exchange.{Call, Chain}
@@ -11,8 +10,8 @@ use Rattle.cue_service.specs.Promise.{acknowledged_by}
 use Rattle.cue_service.specs.Requests.{Reads}
 use Rattle.cue_service.specs.Sites.{AnswersAt, GathersAt, GathersPiecesAt}
 
--- Each site of a world holds what its set of pieces makes it, and each message has the bytes that
--- its set makes.
+-- Each site of a world holds what its set of pieces makes it, and each message has the bytes that its
+-- set makes.
 pub record IsWorld (tables : List Table) (messages : List (List ℕ)) (sets : Sets) : Type 0 where
   pub sites : AllAlong (IsUnified language) tables sets.sites
   pub sent : AllAlong (IsMessageOf language) messages sets.messages
@@ -32,8 +31,8 @@ IsPieceIn site (state bytes) messages events = IsHandedOver site bytes messages 
 abbrev pub IsStateAnswer : Call → Type 0
 IsStateAnswer call = Reads (codes "/state") call.0 × (call.1.status ≡ 200)
 
--- The events that a call is, and the messages after it: the piece that it acknowledged; or the
--- state that it was answered with, which is the next message; or none.
+-- The events that a call is, and the messages after it: the piece that it acknowledged; or the state that
+-- it was answered with, which is the next message; or none.
 abbrev pub AreEventsOf : ℕ → Call → List (List ℕ) → List Event → List (List ℕ) → Type 0
 AreEventsOf site call messages events messages' =
     ((piece : Piece) × (acknowledged_by call ≡ piece ∷ []) × IsPieceIn site piece messages events
@@ -49,15 +48,15 @@ AreAllEventsOf site (call ∷ calls) messages events messages' =
     (now later : List Event) × (between : List (List ℕ)) × AreEventsOf site call messages now between
     × AreAllEventsOf site calls between later messages' × (events ≡ now ++ later)
 
--- The events have outcomes that the definition of a world allows at their moments, and leave it
--- with these sites and messages.
+-- The events have outcomes that the definition of a world allows at their moments, and leave it with
+-- these sites and messages.
 abbrev pub ComesTo : Sets → List Event → List Table → List (List ℕ) → Type 0
 ComesTo sets events tables messages =
     (outcomes : List Outcome) × AreOutcomes language sets events outcomes
     × IsWorld tables messages (reach sets events outcomes)
 
--- With some events, which these calls are, a world has this table at its site, and each other site
--- is as it was.
+-- With some events, which these calls are, a world has this table at its site, and each other site is as
+-- it was.
 pub record Happened (site : ℕ) (calls : List Call) (messages : List (List ℕ)) (tables : List Table) (sets : Sets) (after : Table) : Type 0 where
   pub events : List Event
   pub messages' : List (List ℕ)

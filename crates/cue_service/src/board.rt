@@ -3,7 +3,7 @@ ghost use Rattle.cue_lattice.specs.World.{piece_refuses};
 ghost use Rattle.cue_replica.specs.Accepted.{IsAcceptable};
 ghost use Rattle.cue_replica.specs.Language.{language};
 ghost use Rattle.cue_replica.specs.Replica.{Adds};
-ghost use Rattle.cue_service.specs.Inner.Pulls.{IsRefusalOf};
+ghost use Rattle.cue_service.specs.Pulls.{IsRefusalOf};
 ghost use Rattle.cue_service.specs.Requests.{handed};
 ghost use Rattle.cue_service.specs.Tags.{tag_of};
 

@@ -1,18 +1,15 @@
-ghost use Rattle.std.specs.Prelude.{◌≡◌, ◌≢◌, ◌⊎◌, ◌<◌, ◌^◌, ◌++◌, [], ◌∷◌, ℕ, List, length, codes};
-ghost use Rattle.std.specs.Prelude.{true, false, IsTrue, IfOk, IfErr, IfSome, IfNone, OnOk, OnErr};
+ghost use Rattle.std.specs.Prelude.{◌≡◌, ◌≢◌, ◌⊎◌, ◌<◌, ◌^◌, ◌++◌, [], ◌∷◌, ℕ, List, length, codes, true, false, IsTrue, IfOk, IfErr, IfSome, IfNone, OnOk, OnErr};
 ghost use Rattle.cue_journal.specs.Blocks.{recovered};
 ghost use Rattle.cue_journal.specs.Settled.{IsBatch};
 ghost use Rattle.cue_journal.specs.Batches.{batch_bytes};
 ghost use Rattle.cue_service.specs.Entries.{entry_of};
-ghost use Rattle.cue_service.specs.Inner.Listing.{with_entry};
+ghost use Rattle.cue_service.specs.Listing.{with_entry};
 ghost use Rattle.http_server.specs.Response.{IsBlank};
 ghost use Rattle.cue_lattice.specs.World.{state};
-ghost use Rattle.cue_service.specs.Pulls.{Covers};
-ghost use Rattle.cue_service.specs.Inner.Pulls.{IsLeftOut, IsRefusalOf};
+ghost use Rattle.cue_service.specs.Pulls.{Covers, IsLeftOut, IsRefusalOf};
 ghost use Rattle.cue_service.specs.Requests.{IsRoute, HasField, handed};
 ghost use Rattle.cue_service.specs.Tags.{tag_of};
-ghost use Rattle.cue_service.specs.Answering.{Answers, AnswersAs, IsAsked, IsHanded, IsTaken};
-ghost use Rattle.cue_service.specs.Answering.{IsSame, Gathers, Brings, status_of};
+ghost use Rattle.cue_service.specs.Answering.{Answers, AnswersAs, IsAsked, IsHanded, IsTaken, IsSame, Gathers, Brings, status_of};
 
 use crate::board::Board;
 use crate::listed::{name_with_state, tell_pieces};

@@ -4,7 +4,7 @@ ghost use Rattle.cue_replica.specs.Accepted.{IsAcceptable, IsOfPieces};
 ghost use Rattle.cue_replica.specs.Language.{language};
 ghost use Rattle.cue_replica.specs.Replica.{Adds};
 ghost use Rattle.cue_service.specs.Entries.{piece_of, pieces_of};
-ghost use Rattle.cue_service.specs.Inner.Pulls.{IsRefusalOf};
+ghost use Rattle.cue_service.specs.Pulls.{IsRefusalOf};
 ghost use Rattle.cue_service.specs.Requests.{handed};
 
 use crate::route::Hand;

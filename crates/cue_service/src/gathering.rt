@@ -1,13 +1,11 @@
-ghost use Rattle.std.specs.Prelude.{◌≡◌, [], ◌∷◌, ℕ, List, map, false, IfOk, IfErr, IsTrue, OnOk};
-ghost use Rattle.std.specs.Prelude.{OnErr};
+ghost use Rattle.std.specs.Prelude.{◌≡◌, [], ◌∷◌, ℕ, List, map, false, IfOk, IfErr, IsTrue, OnOk, OnErr};
 ghost use Rattle.std.specs.List.{Contains};
 ghost use Rattle.cue_lattice.specs.World.{Piece};
 ghost use Rattle.cue_replica.specs.Accepted.{IsAcceptable};
 ghost use Rattle.cue_journal.specs.Blocks.{recovered};
 ghost use Rattle.cue_service.specs.Answering.{IsSame, GathersPiece, GathersPieces};
 ghost use Rattle.cue_service.specs.Entries.{piece_of, pieces_of};
-ghost use Rattle.cue_service.specs.Pulls.{Covers, CoversAll, IsOfListed};
-ghost use Rattle.cue_service.specs.Inner.Pulls.{IsLeftOut};
+ghost use Rattle.cue_service.specs.Pulls.{Covers, CoversAll, IsLeftOut, IsOfListed};
 
 use crate::desk::Desk;
 use crate::entries::{hand_over, parts_of};

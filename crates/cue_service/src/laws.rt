@@ -4,8 +4,7 @@ ghost use Rattle.http_server.specs.Exchange.{Call, Chain};
 ghost use Rattle.cue_service.specs.declared.site.Site.{Site};
 ghost use Rattle.cue_service.specs.Sites.{AnswersAt, Settles};
 ghost use Rattle.cue_service.specs.Promise.{AreHeld, AreListedStill, AreGathered, Stands, Survives};
-ghost use Rattle.cue_service.specs.Worlds.{AreCallsEvents, AreGathersEvents};
-ghost use Rattle.cue_service.specs.Worlds.{AreGatheredPiecesEvents};
+ghost use Rattle.cue_service.specs.Worlds.{AreCallsEvents, AreGathersEvents, AreGatheredPiecesEvents};
 
 use sqlite_disk::Disk;
 
@@ -31,9 +30,9 @@ pub fn a_round_keeps_its_promise<D: Disk>()
 {}
 
 /// What requests do to a site are events of any world that it is a site of: a piece that is
-/// acknowledged is a `Submit`, or a `Deliver` where it is a message and else a `Foreign`, a state
-/// that is answered is a `Send`, and all else is none. So is what it takes of another site's
-/// answer, its state or its pieces.
+/// acknowledged is a `Submit`, or a `Deliver` where it is a message and else a `Foreign`, a state that
+/// is answered is a `Send`, and all else is none. So is what it takes of another site's answer, its state or its
+/// pieces.
 ///
 /// It computes nothing: it states a law.
 pub fn calls_are_events<D: Disk>()

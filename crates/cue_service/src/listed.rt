@@ -1,5 +1,4 @@
-ghost use Rattle.std.specs.Prelude.{◌≡◌, ◌≢◌, ◌<◌, ◌^◌, ◌++◌, [], ◌∷◌, ℕ, List, codes, IfSome};
-ghost use Rattle.std.specs.Prelude.{IfNone, OnOk};
+ghost use Rattle.std.specs.Prelude.{◌≡◌, ◌≢◌, ◌<◌, ◌^◌, ◌++◌, [], ◌∷◌, ℕ, List, codes, IfSome, IfNone, OnOk};
 ghost use Rattle.cue_pieces.specs.Cursors.{IsCursor, cursor_text};
 ghost use Rattle.cue_pieces.specs.Listed.{next_of};
 ghost use Rattle.http_server.specs.Response.{IsBlank, fields_of};

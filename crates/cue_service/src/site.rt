@@ -40,8 +40,8 @@ impl<D: Disk> Site<D> {
     ghost use Rattle.cue_service.specs.Sites.{IsConsistent};
     ghost use Rattle.cue_service.specs.Inner.Rounds.{IsCommittedBy, IsCondensedBy};
 
-    /// A site over journals that were recovered, with the table of their entries, and a number that
-    /// no other run has.
+    /// A site over journals that were recovered, with the table of their entries, and a number that no
+    /// other run has.
     pub fn new(
         alloc: Global,
         files: Pair<D>,

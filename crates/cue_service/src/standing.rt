@@ -54,8 +54,7 @@ pub struct Standing {
     pub(crate) gathered: u64,
     /// Pieces of other sites that were accepted.
     pub(crate) gathered_pieces: u64,
-    /// Questions for pieces that were answered with them, and that were not, since not all are
-    /// kept.
+    /// Questions for pieces that were answered with them, and that were not, since not all are kept.
     pub(crate) told_pieces: u64,
     pub(crate) gone_pieces: u64,
     pub(crate) refused: [u64; MOST_KIND + 1],

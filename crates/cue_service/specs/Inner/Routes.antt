@@ -2,8 +2,7 @@
 use Rattle.std.specs.Prelude.{◌≡◌, ℕ, List, codes}
 use Rattle.cue_answer.specs.declared.question.Question.TheVariants as questions
 use Rattle.cue_service.specs.declared.route.Route.{Route}
-use Rattle.cue_service.specs.declared.route.Route.TheVariants.{Ask, Pieces, Take, Health, Metrics}
-use Rattle.cue_service.specs.declared.route.Route.TheVariants.{Page, OtherMethod, Unknown}
+use Rattle.cue_service.specs.declared.route.Route.TheVariants.{Ask, Pieces, Take, Health, Metrics, Page, OtherMethod, Unknown}
 use Rattle.cue_service.specs.declared.route.Hand.TheVariants as hands
 
 abbrev pub IsReadAt : Route → List ℕ → Type 0

@@ -3,7 +3,7 @@ use Rattle.cue_lattice.specs.World.{piece_refuses, text}
 use Rattle.cue_replica.specs.Language.{language}
 use Rattle.cue_replica.specs.Replica.{Adds}
 use Rattle.cue_service.specs.declared.route.Hand.{Hand}
-use Rattle.cue_service.specs.Inner.Pulls.{IsRefusalOf}
+use Rattle.cue_service.specs.Pulls.{IsRefusalOf}
 use Rattle.cue_service.specs.Requests.{handed}
 use Rattle.cue_service.proofs.Pulls.{state_refusal, text_refusal}
 use Rattle.cue_service.proofs.entries.hand_over.Goals as goal
