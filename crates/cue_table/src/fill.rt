@@ -1,5 +1,6 @@
 //! Changes of a list of branches carried out. What stays is moved.
-ghost use Rattle.std.specs.Prelude.{◌≡◌, ◌+◌, ◌≤◌, ◌++◌, ◌∷◌, take, drop, OnErr, OnOk};
+ghost use Rattle.std.specs.Prelude.{◌≡◌, ◌+◌, ◌<◌, ◌≤◌, ◌++◌, ◌∷◌, take, drop, OnErr, OnOk};
+ghost use Rattle.std.specs.List.{insert as inserted};
 ghost use Rattle.std.specs.Vec.{vec_len, vec_capacity};
 ghost use Rattle.std.specs.Vec.Iter.{into_iter_items};
 ghost use Rattle.cue_table.specs.Inner.Changes.{Fit, added, merged, more, over};
@@ -78,8 +79,36 @@ fn put_at<R: Narrow>(children: &mut Vec<Child<R>>, at: usize, replaces: bool, ch
         children[at] = child;
         return;
     }
-    // There is room, so that none is taken.
-    children.insert(at, child).ok();
+    put_in_place(children, at, child);
+}
+
+/// Puts a branch in at a place of a list. After want of memory the list is as it was.
+pub(crate) fn insert<R: Narrow>(
+    children: &mut Vec<Child<R>>,
+    at: usize,
+    child: Child<R>,
+) -> Result<(), Memory>
+    requires { at ≤ vec_len children.old }
+    ensures ok { OnOk result (children.new.items ≡ inserted children.old.items at child) }
+    ensures err { OnErr result (children.new.items ≡ children.old.items) }
+{
+    children.reserve(1)?;
+    put_in_place(children, at, child);
+    Ok(())
+}
+
+/// Puts an item in at a place of a list that has room for it: behind the others first, and from
+/// there by one turn of those behind the place. `Vec::insert` says the same, but its loop does not
+/// become one move of memory where it stands in a program of this size.
+fn put_in_place<T>(items: &mut Vec<T>, at: usize, item: T)
+    requires place { at ≤ vec_len items.old }
+    requires room { vec_len items.old < vec_capacity items.old }
+    ensures items { items.new.items ≡ inserted items.old.items at item }
+    ensures len { vec_len items.new ≡ vec_len items.old + 1 }
+    ensures capacity { vec_capacity items.new ≡ vec_capacity items.old }
+{
+    items.push_reserved(item);
+    items[at..].rotate_right(1);
 }
 
 /// The branches of a list after changes. The room is for all of them.

@@ -14,7 +14,7 @@ ghost use Rattle.cue_table.specs.Inner.View.{branches};
 
 use crate::changes::changes;
 use crate::child::Child;
-use crate::fill::carry_out;
+use crate::fill::{carry_out, insert};
 use crate::lists::list_met;
 use crate::node::{Node, copy_children, copy_row, place};
 use cue_lattice::{Memory, Narrow, Narrowed};
@@ -113,10 +113,7 @@ fn meet_one<R: Narrow>(
             let node = other.into_node(alloc)?;
             meet_child(alloc, &mut left[at], node)
         }
-        Err(at) => {
-            left.insert(at, other)?;
-            Ok(())
-        }
+        Err(at) => insert(left, at, other),
     }
 }
 

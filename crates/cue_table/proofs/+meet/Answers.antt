@@ -372,10 +372,10 @@ meet::meet_one-returns-in_ok-node-in-Ok-clause-ok g t c =
     (λ met. met_at r g.R.Narrow.is_value c.args.left.now.items c.args.other c.index_mut.result.now c.meet_child.new.left c.in-Ok.at c.requires.left c.requires.right place c.index_mut.ensures.value
     c.meet_child.ensures.step c.meet_child.ensures.form (subst (λ n. IsMet r c.index_mut.result.now.node n c.meet_child.new.left.node) c.in_ok-node-in-Ok.ensures met)) c.meet_child.ensures.ok
 
-pub meet::meet_one-returns-in_ok-insert-in-Err-clause-ok : goal.meet::meet_one-returns-in_ok-insert-in-Err-clause-ok
-meet::meet_one-returns-in_ok-insert-in-Err-clause-ok g t c =
+pub meet::meet_one-returns-in-Err-clause-ok : goal.meet::meet_one-returns-in-Err-clause-ok
+meet::meet_one-returns-in-Err-clause-ok g t c =
     let gap : IsGap c.args.left.now.items (step_of c.args.other.step) c.in-Err.at = subst (λ s. IsGap c.args.left.now.items (step_of s) c.in-Err.at) c.step.ensures (rw c.deref.ensures.value at c.in-Err.ensures) in
-    put_in g.R.Narrow.refuses g.R.Narrow.is_value c.args.left.now.items c.insert.new.self.items c.args.other c.in-Err.at c.requires.left c.requires.right gap c.in_ok-insert-in-Err.ensures.items
+    on_ok_weaker c.insert.result (put_in g.R.Narrow.refuses g.R.Narrow.is_value c.args.left.now.items c.insert.new.children.items c.args.other c.in-Err.at c.requires.left c.requires.right gap) c.insert.ensures.ok
 
 -- ---- a place that stays as it is, or another one
 pub meet::node_met-returns-then-is_none-2-clause-refused : goal.meet::node_met-returns-then-is_none-2-clause-refused
