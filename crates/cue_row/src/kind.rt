@@ -79,7 +79,7 @@ impl Row {
             ≡ (members self.now.value scalar && not (members self.now.usual scalar))) }
     {
         match &self.form {
-            Form::Small(_, _) => ScalarSet::empty(alloc),
+            Form::Small(_, _) => Ok(ScalarSet::empty(alloc)),
             Form::Whole(_, parts) => parts.value.without(alloc, &parts.usual),
         }
     }

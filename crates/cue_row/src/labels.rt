@@ -1,4 +1,4 @@
-ghost use Rattle.std.specs.Prelude.{◌≡◌, ◌↔◌, ℕ, List, None, Some, Ok, IfSome};
+ghost use Rattle.std.specs.Prelude.{◌≡◌, ◌↔◌, ℕ, List, None, Some, IfSome};
 ghost use Rattle.std.specs.Prelude.{IfNone};
 ghost use Rattle.std.specs.Option.{option_map};
 ghost use Rattle.cue_sets.specs.Texts.{IsAscending};
@@ -29,12 +29,12 @@ impl Model for Labels {
 
 impl Labels {
     /// All labels. This takes no memory.
-    pub fn all(alloc: Global) -> Result<Labels, Memory>
-        ensures { result ≡ Ok None }
+    pub fn all(alloc: Global) -> Labels
+        ensures { result ≡ None }
     {
-        Ok(Labels {
-            set: TextSet::all(alloc)?,
-        })
+        Labels {
+            set: TextSet::all(alloc),
+        }
     }
 
     /// These labels alone, where they ascend strictly by their bytes. This takes no memory.
@@ -88,7 +88,7 @@ impl Narrow for Labels {
     ghost exact = { same_labels };
 
     fn free(alloc: Global) -> Result<Labels, Memory> {
-        Labels::all(alloc)
+        Ok(Labels::all(alloc))
     }
 
     fn is_free(&self) -> bool {

@@ -1,6 +1,6 @@
 //! Rows by what may stand at their place.
 
-ghost use Rattle.std.specs.Prelude.{◌≡◌, IfOk, Ok};
+ghost use Rattle.std.specs.Prelude.{◌≡◌, IfOk};
 ghost use Rattle.cue_row.specs.Made.{empty_set, full_set};
 
 use crate::small::Small;
@@ -10,28 +10,28 @@ use cue_scalars::ScalarSet;
 use cue_sets::{IntSet, TextSet};
 use std::alloc::Global;
 
-fn no_scalar(alloc: Global) -> Result<ScalarSet, Memory>
-    ensures { result ≡ Ok empty_set }
+fn no_scalar(alloc: Global) -> ScalarSet
+    ensures { result ≡ empty_set }
 {
-    Ok(ScalarSet {
+    ScalarSet {
         null: false,
         no: false,
         yes: false,
-        ints: IntSet::empty(alloc)?,
-        texts: TextSet::none(alloc)?,
-    })
+        ints: IntSet::empty(alloc),
+        texts: TextSet::none(alloc),
+    }
 }
 
-fn all_scalars(alloc: Global) -> Result<ScalarSet, Memory>
-    ensures { result ≡ Ok full_set }
+fn all_scalars(alloc: Global) -> ScalarSet
+    ensures { result ≡ full_set }
 {
-    Ok(ScalarSet {
+    ScalarSet {
         null: true,
         no: true,
         yes: true,
-        ints: IntSet::full(alloc)?,
-        texts: TextSet::all(alloc)?,
-    })
+        ints: IntSet::full(),
+        texts: TextSet::all(alloc),
+    }
 }
 
 /// Rows by what may stand. Those of which most places have one take no memory.
@@ -59,7 +59,7 @@ impl Row {
         if value.same(&usual) {
             return Row::of_all_usual(alloc, level, value);
         }
-        Row::whole(alloc, RowParts::of_scalars(alloc, level, value, usual)?)
+        Row::whole(alloc, RowParts::of_scalars(alloc, level, value, usual))
     }
 
     /// The row of a place where these scalars alone may stand, all of them usual. A row that is
@@ -71,7 +71,7 @@ impl Row {
             Some(small) => Ok(Row::small(level, small)),
             None => {
                 let usual = value.copy(alloc)?;
-                Row::whole(alloc, RowParts::of_scalars(alloc, level, value, usual)?)
+                Row::whole(alloc, RowParts::of_scalars(alloc, level, value, usual))
             }
         }
     }
@@ -98,7 +98,7 @@ impl Row {
         if labels.listed().is_none() {
             return Ok(Row::small(level, Small::Struct));
         }
-        Row::whole(alloc, RowParts::of_struct(alloc, level, labels)?)
+        Row::whole(alloc, RowParts::of_struct(alloc, level, labels))
     }
 
     /// The row of a place where a list alone may stand, of these lengths.
@@ -110,7 +110,7 @@ impl Row {
     ) -> Result<Row, Memory>
         ensures { IfOk result (λ row. row ≡ list_row level least most) }
     {
-        Row::whole(alloc, RowParts::of_list(alloc, level, least, most)?)
+        Row::whole(alloc, RowParts::of_list(alloc, level, least, most))
     }
 
     /// The row of a place where nothing may stand, and which labels and lengths are left out.
@@ -125,7 +125,7 @@ impl Row {
     {
         Row::from_parts(
             alloc,
-            RowParts::of_nothing(alloc, level, labels, least, most)?,
+            RowParts::of_nothing(alloc, level, labels, least, most),
         )
     }
 }
@@ -135,19 +135,19 @@ impl RowParts {
     ghost use Rattle.cue_row.specs.Made.{free_row, scalar_row, struct_row, list_row, nothing_row};
 
     /// The parts of a place of this level where anything may stand.
-    pub(crate) fn of_anything(alloc: Global, level: Level) -> Result<RowParts, Memory>
-        ensures { result ≡ Ok (free_row level) }
+    pub(crate) fn of_anything(alloc: Global, level: Level) -> RowParts
+        ensures { result ≡ free_row level }
     {
-        Ok(RowParts {
+        RowParts {
             level,
-            value: all_scalars(alloc)?,
-            usual: all_scalars(alloc)?,
+            value: all_scalars(alloc),
+            usual: all_scalars(alloc),
             struct_ok: true,
             list_ok: true,
-            labels: Labels::all(alloc)?,
+            labels: Labels::all(alloc),
             least: 0,
             most: None,
-        })
+        }
     }
 
     /// The parts of a place where these scalars alone may stand, and these are the usual ones.
@@ -156,56 +156,51 @@ impl RowParts {
         level: Level,
         value: ScalarSet,
         usual: ScalarSet,
-    ) -> Result<RowParts, Memory>
-        ensures { result ≡ Ok (scalar_row level value usual) }
+    ) -> RowParts
+        ensures { result ≡ scalar_row level value usual }
     {
-        Ok(RowParts {
+        RowParts {
             level,
             value,
             usual,
             struct_ok: false,
             list_ok: false,
-            labels: Labels::all(alloc)?,
+            labels: Labels::all(alloc),
             least: 0,
             most: None,
-        })
+        }
     }
 
     /// The parts of a place where a struct alone may stand, with these labels.
-    pub(crate) fn of_struct(alloc: Global, level: Level, labels: Labels) -> Result<RowParts, Memory>
-        ensures { result ≡ Ok (struct_row level labels) }
+    pub(crate) fn of_struct(alloc: Global, level: Level, labels: Labels) -> RowParts
+        ensures { result ≡ struct_row level labels }
     {
-        Ok(RowParts {
+        RowParts {
             level,
-            value: no_scalar(alloc)?,
-            usual: no_scalar(alloc)?,
+            value: no_scalar(alloc),
+            usual: no_scalar(alloc),
             struct_ok: true,
             list_ok: false,
             labels,
             least: 0,
             most: None,
-        })
+        }
     }
 
     /// The parts of a place where a list alone may stand, of these lengths.
-    pub(crate) fn of_list(
-        alloc: Global,
-        level: Level,
-        least: u32,
-        most: Option<u32>,
-    ) -> Result<RowParts, Memory>
-        ensures { result ≡ Ok (list_row level least most) }
+    pub(crate) fn of_list(alloc: Global, level: Level, least: u32, most: Option<u32>) -> RowParts
+        ensures { result ≡ list_row level least most }
     {
-        Ok(RowParts {
+        RowParts {
             level,
-            value: no_scalar(alloc)?,
-            usual: no_scalar(alloc)?,
+            value: no_scalar(alloc),
+            usual: no_scalar(alloc),
             struct_ok: false,
             list_ok: true,
-            labels: Labels::all(alloc)?,
+            labels: Labels::all(alloc),
             least,
             most,
-        })
+        }
     }
 
     /// The parts of a place where nothing may stand, and which labels and lengths are left out.
@@ -215,18 +210,18 @@ impl RowParts {
         labels: Labels,
         least: u32,
         most: Option<u32>,
-    ) -> Result<RowParts, Memory>
-        ensures { result ≡ Ok (nothing_row level labels least most) }
+    ) -> RowParts
+        ensures { result ≡ nothing_row level labels least most }
     {
-        Ok(RowParts {
+        RowParts {
             level,
-            value: no_scalar(alloc)?,
-            usual: no_scalar(alloc)?,
+            value: no_scalar(alloc),
+            usual: no_scalar(alloc),
             struct_ok: false,
             list_ok: false,
             labels,
             least,
             most,
-        })
+        }
     }
 }

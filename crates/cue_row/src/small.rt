@@ -109,8 +109,8 @@ impl Small {
     {
         match self {
             Small::Anything | Small::Struct => Ok(None),
-            Small::Few(few) => Ok(Some(few.set(alloc)?)),
-            Small::Integers(piece) => Ok(Some(of_piece(alloc, *piece)?)),
+            Small::Few(few) => Ok(Some(few.set(alloc))),
+            Small::Integers(piece) => Ok(Some(of_piece(alloc, *piece))),
             Small::Text(text) => Ok(Some(of_text(alloc, text)?)),
         }
     }
@@ -178,22 +178,22 @@ impl Small {
         ensures { IfOk result (λ parts. parts ≡ small_parts level self.now) }
     {
         match self {
-            Small::Anything => RowParts::of_anything(alloc, level),
+            Small::Anything => Ok(RowParts::of_anything(alloc, level)),
             Small::Struct => {
-                let labels = Labels::all(alloc)?;
-                RowParts::of_struct(alloc, level, labels)
+                let labels = Labels::all(alloc);
+                Ok(RowParts::of_struct(alloc, level, labels))
             }
             Small::Few(few) => {
-                let (value, usual) = (few.set(alloc)?, few.set(alloc)?);
-                RowParts::of_scalars(alloc, level, value, usual)
+                let (value, usual) = (few.set(alloc), few.set(alloc));
+                Ok(RowParts::of_scalars(alloc, level, value, usual))
             }
             Small::Integers(piece) => {
-                let (value, usual) = (of_piece(alloc, *piece)?, of_piece(alloc, *piece)?);
-                RowParts::of_scalars(alloc, level, value, usual)
+                let (value, usual) = (of_piece(alloc, *piece), of_piece(alloc, *piece));
+                Ok(RowParts::of_scalars(alloc, level, value, usual))
             }
             Small::Text(text) => {
                 let (value, usual) = (of_text(alloc, text)?, of_text(alloc, text)?);
-                RowParts::of_scalars(alloc, level, value, usual)
+                Ok(RowParts::of_scalars(alloc, level, value, usual))
             }
         }
     }
@@ -201,20 +201,20 @@ impl Small {
 
 impl Few {
     /// The set of these scalars. This takes no memory.
-    fn set(self, alloc: Global) -> Result<ScalarSet, Memory>
-        ensures { IfOk result (λ set. set ≡ few_set self) }
+    fn set(self, alloc: Global) -> ScalarSet
+        ensures { result ≡ few_set self }
     {
-        Ok(ScalarSet {
+        ScalarSet {
             null: self.null,
             no: self.no,
             yes: self.yes,
-            ints: IntSet::empty(alloc)?,
+            ints: IntSet::empty(alloc),
             texts: if self.texts {
-                TextSet::all(alloc)?
+                TextSet::all(alloc)
             } else {
-                TextSet::none(alloc)?
+                TextSet::none(alloc)
             },
-        })
+        }
     }
 }
 
@@ -242,17 +242,17 @@ fn has_plain(set: &ScalarSet) -> bool
 }
 
 /// The set of the integers of a piece. This takes no memory.
-fn of_piece(alloc: Global, piece: (i64, i64)) -> Result<ScalarSet, Memory>
+fn of_piece(alloc: Global, piece: (i64, i64)) -> ScalarSet
     requires { IsCanonical (piece ∷ []) }
-    ensures { IfOk result (λ set. set ≡ integers_set piece) }
+    ensures { result ≡ integers_set piece }
 {
-    Ok(ScalarSet {
+    ScalarSet {
         null: false,
         no: false,
         yes: false,
         ints: IntSet::between(piece.0, piece.1),
-        texts: TextSet::none(alloc)?,
-    })
+        texts: TextSet::none(alloc),
+    }
 }
 
 /// The set of one text.
@@ -263,7 +263,7 @@ fn of_text(alloc: Global, text: &Text) -> Result<ScalarSet, Memory>
         null: false,
         no: false,
         yes: false,
-        ints: IntSet::empty(alloc)?,
+        ints: IntSet::empty(alloc),
         texts: TextSet::one(alloc, text.as_str())?,
     })
 }

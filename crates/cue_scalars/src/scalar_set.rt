@@ -1,7 +1,7 @@
 ghost use Rattle.std.specs.Prelude.{◌≡◌, ◌↔◌, ◌<◌, [], true, false, not, ◌&&◌, ◌||◌, IfOk, IfSome};
 ghost use Rattle.std.specs.Prelude.{IfNone, IsTrue, Ok, Some, None, length};
 ghost use Rattle.std.specs.List.{list_all, list_any};
-ghost use Rattle.std.specs.Result.{IsOk, IsOkAnd};
+ghost use Rattle.std.specs.Result.{IsOk};
 ghost use Rattle.cue_lattice.specs.declared.scalar.Scalar.{Scalar};
 ghost use Rattle.cue_lattice.specs.declared.scalar.Scalar.TheVariants as scalars;
 ghost use Rattle.cue_scalars.specs.Scalars.{members, kind, IsOnlyScalar, IsFirstScalar};
@@ -28,16 +28,16 @@ pub struct ScalarSet {
 
 impl ScalarSet {
     /// No scalar. This takes no memory.
-    pub fn empty(alloc: Global) -> Result<ScalarSet, Memory>
-        ensures { IsOkAnd result (λ set. (scalar : Scalar) → members set scalar ≡ false) }
+    pub fn empty(alloc: Global) -> ScalarSet
+        ensures { (scalar : Scalar) → members result scalar ≡ false }
     {
-        Ok(ScalarSet {
+        ScalarSet {
             null: false,
             no: false,
             yes: false,
-            ints: IntSet::empty(alloc)?,
-            texts: TextSet::none(alloc)?,
-        })
+            ints: IntSet::empty(alloc),
+            texts: TextSet::none(alloc),
+        }
     }
 
     /// Whether a scalar is a member.
@@ -358,8 +358,8 @@ impl Narrow for ScalarSet {
             null: true,
             no: true,
             yes: true,
-            ints: IntSet::full(alloc)?,
-            texts: TextSet::all(alloc)?,
+            ints: IntSet::full(),
+            texts: TextSet::all(alloc),
         })
     }
 

@@ -1,5 +1,5 @@
 ghost use Rattle.std.specs.Prelude.{◌≡◌, ℤ, ◌≤ℤ◌, ◌↔◌, ◌++◌, ◌&&◌, ◌||◌, not};
-ghost use Rattle.std.specs.Prelude.{true, [], ◌∷◌, IfOk, IfSome, IfNone, Ok, Some, None};
+ghost use Rattle.std.specs.Prelude.{true, [], ◌∷◌, IfOk, IfSome, IfNone, Some, None};
 ghost use Rattle.std.specs.Prelude.{IsTrue, ◌<◌, length};
 ghost use Rattle.std.specs.Ordering.{int_eq};
 ghost use Rattle.std.specs.List.{All, list_all, list_any};
@@ -42,40 +42,40 @@ impl Model for IntSet {
 
 impl IntSet {
     /// All integers of 64 bits. This takes no memory.
-    pub fn full(_alloc: Global) -> Result<IntSet, Memory>
-        ensures { result ≡ Ok ((least, greatest) ∷ []) }
+    pub fn full() -> IntSet
+        ensures { result ≡ (least, greatest) ∷ [] }
     {
-        Ok(IntSet::between(i64::MIN, i64::MAX))
+        IntSet::between(i64::MIN, i64::MAX)
     }
 
     /// No integer. This takes no memory.
-    pub fn empty(alloc: Global) -> Result<IntSet, Memory>
-        ensures { result ≡ Ok [] }
+    pub fn empty(alloc: Global) -> IntSet
+        ensures { result ≡ [] }
     {
-        Ok(IntSet {
+        IntSet {
             pieces: Kept::none(alloc),
-        })
+        }
     }
 
     /// One integer. This takes no memory.
-    pub fn one(_alloc: Global, number: i64) -> Result<IntSet, Memory>
-        ensures { result ≡ Ok ((number, number) ∷ []) }
+    pub fn one(number: i64) -> IntSet
+        ensures { result ≡ (number, number) ∷ [] }
     {
-        Ok(IntSet::between(number, number))
+        IntSet::between(number, number)
     }
 
     /// The integers from a number upwards, with that number. This takes no memory.
-    pub fn at_least(_alloc: Global, number: i64) -> Result<IntSet, Memory>
-        ensures { result ≡ Ok ((number, greatest) ∷ []) }
+    pub fn at_least(number: i64) -> IntSet
+        ensures { result ≡ (number, greatest) ∷ [] }
     {
-        Ok(IntSet::between(number, i64::MAX))
+        IntSet::between(number, i64::MAX)
     }
 
     /// The integers up to a number, with that number. This takes no memory.
-    pub fn at_most(_alloc: Global, number: i64) -> Result<IntSet, Memory>
-        ensures { result ≡ Ok ((least, number) ∷ []) }
+    pub fn at_most(number: i64) -> IntSet
+        ensures { result ≡ (least, number) ∷ [] }
     {
-        Ok(IntSet::between(i64::MIN, number))
+        IntSet::between(i64::MIN, number)
     }
 
     /// The integers from `first` to `last`, with both. This takes no memory.
@@ -94,8 +94,8 @@ impl IntSet {
             is_member set n ≡ (is_int64 n && not (int_eq n number))) }
     {
         match number {
-            i64::MIN => IntSet::at_least(alloc, i64::MIN + 1),
-            i64::MAX => IntSet::at_most(alloc, i64::MAX - 1),
+            i64::MIN => Ok(IntSet::at_least(i64::MIN + 1)),
+            i64::MAX => Ok(IntSet::at_most(i64::MAX - 1)),
             _ => {
                 let mut pieces = Vec::with_capacity(alloc, 2)?;
                 pieces.push((i64::MIN, number - 1))?;
@@ -327,8 +327,8 @@ impl Narrow for IntSet {
 
     ghost exact = { same_pieces };
 
-    fn free(alloc: Global) -> Result<IntSet, Memory> {
-        IntSet::full(alloc)
+    fn free(_alloc: Global) -> Result<IntSet, Memory> {
+        Ok(IntSet::full())
     }
 
     fn is_free(&self) -> bool {

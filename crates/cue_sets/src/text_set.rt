@@ -1,5 +1,5 @@
 ghost use Rattle.std.specs.Prelude.{◌≡◌, ◌↔◌, ℕ, Bool, List, [], ◌∷◌, true, false, not, ◌&&◌, ◌||◌};
-ghost use Rattle.std.specs.Prelude.{IfOk, IfSome, IfNone, Ok, IsTrue};
+ghost use Rattle.std.specs.Prelude.{IfOk, IfSome, IfNone, IsTrue};
 ghost use Rattle.std.specs.List.{list_all, list_any};
 ghost use Rattle.cue_sets.specs.Inner.Combination.{keeps};
 ghost use Rattle.cue_sets.specs.Changes.{IsChanged, Unifies};
@@ -49,23 +49,23 @@ impl Model for TextSet {
 
 impl TextSet {
     /// No text. This takes no memory.
-    pub fn none(alloc: Global) -> Result<TextSet, Memory>
-        ensures { result ≡ Ok (false, []) }
+    pub fn none(alloc: Global) -> TextSet
+        ensures { result ≡ (false, []) }
     {
-        Ok(TextSet {
+        TextSet {
             all_but: false,
             texts: Vec::new(alloc),
-        })
+        }
     }
 
     /// All texts. This takes no memory.
-    pub fn all(alloc: Global) -> Result<TextSet, Memory>
-        ensures { result ≡ Ok (true, []) }
+    pub fn all(alloc: Global) -> TextSet
+        ensures { result ≡ (true, []) }
     {
-        Ok(TextSet {
+        TextSet {
             all_but: true,
             texts: Vec::new(alloc),
-        })
+        }
     }
 
     /// One text.
@@ -341,7 +341,7 @@ impl TextSet {
             ≡ list_any (λ set. is_text_member set text) sets.items) }
     {
         let mut texts = Vec::new(alloc);
-        let mut others = TextSet::none(alloc)?;
+        let mut others = TextSet::none(alloc);
         for set in sets {
             if set.all_but {
                 others = others.into_union(alloc, set)?;
@@ -364,7 +364,7 @@ impl TextSet {
             ≡ list_all (λ set. is_text_member set text) sets.items) }
     {
         let mut texts = Vec::new(alloc);
-        let mut others = TextSet::all(alloc)?;
+        let mut others = TextSet::all(alloc);
         for set in sets {
             if set.all_but {
                 let TextSet {
@@ -465,7 +465,7 @@ impl Narrow for TextSet {
     ghost exact = { same_texts };
 
     fn free(alloc: Global) -> Result<TextSet, Memory> {
-        TextSet::all(alloc)
+        Ok(TextSet::all(alloc))
     }
 
     fn is_free(&self) -> bool {

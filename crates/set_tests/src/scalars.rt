@@ -14,9 +14,9 @@ pub type Range = (i64, i64);
 pub const NOTHING: Range = (1, 0);
 
 /// The integers of a range.
-fn between(alloc: Global, range: Range) -> Made<IntSet> {
+fn between(alloc: Global, range: Range) -> IntSet {
     if range.0 <= range.1 {
-        return Ok(IntSet::between(range.0, range.1));
+        return IntSet::between(range.0, range.1);
     }
     IntSet::empty(alloc)
 }
@@ -27,14 +27,14 @@ fn mixed(alloc: Global, yes: bool, ints: Range, texts: Made<TextSet>) -> Made<Sc
         null: false,
         no: false,
         yes,
-        ints: between(alloc, ints)?,
+        ints: between(alloc, ints),
         texts: texts?,
     })
 }
 
 /// The integers of a range alone.
 pub fn integers(alloc: Global, ints: Range) -> Made<ScalarSet> {
-    mixed(alloc, false, ints, TextSet::none(alloc))
+    mixed(alloc, false, ints, Ok(TextSet::none(alloc)))
 }
 
 /// True or not, the integers of a range, and the text `x`.
@@ -73,8 +73,7 @@ fn is_only_x(alloc: Global, set: Made<ScalarSet>) -> Made<bool> {
 }
 
 /// Whether a set has no member, and lies within another one.
-fn is_nothing(set: Made<ScalarSet>, other: Made<ScalarSet>) -> Made<bool> {
-    let set = set?;
+fn is_nothing(set: &ScalarSet, other: Made<ScalarSet>) -> Made<bool> {
     Ok(set.is_empty() && set.is_within(&other?))
 }
 
@@ -84,7 +83,7 @@ fn sets_of_scalars(rt: HostRuntime) -> Result<(), Fail> {
     let (low, high) = (with_x(alloc, true, (1, 5)), integers(alloc, (3, 9)));
     assert!(rt; are_same(combined(alloc, low, high), with_x(alloc, true, (1, 2)))?);
     assert!(rt; is_only_x(alloc, moved(alloc))?);
-    assert!(rt; is_nothing(ScalarSet::empty(alloc), moved(alloc))?);
+    assert!(rt; is_nothing(&ScalarSet::empty(alloc), moved(alloc))?);
     Ok(())
 }
 

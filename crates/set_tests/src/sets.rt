@@ -12,7 +12,7 @@ const GREATEST: i64 = i64::MAX;
 /// The set of these pieces.
 fn pieces(alloc: Global, pieces: &[(i64, i64)]) -> Made<IntSet> {
     match IntSet::from_pieces(Vec::from_slice(alloc, pieces)?) {
-        None => IntSet::empty(alloc),
+        None => Ok(IntSet::empty(alloc)),
         Some(set) => Ok(set),
     }
 }
@@ -45,7 +45,7 @@ fn sets_of_integers(rt: HostRuntime) -> Result<(), Fail> {
     assert!(rt; is_but_five(IntSet::but(alloc, 5))?);
     let but_five = pieces(alloc, &[(LEAST, 4), (6, GREATEST)]);
     assert!(rt; are_same(IntSet::but(alloc, 5), but_five)?);
-    assert!(rt; are_same(IntSet::full(alloc), pieces(alloc, &[(LEAST, GREATEST)]))?);
+    assert!(rt; are_same(Ok(IntSet::full()), pieces(alloc, &[(LEAST, GREATEST)]))?);
     assert!(rt; are_same(combined(alloc), pieces(alloc, &[(1, 2), (6, 8)]))?);
     Ok(())
 }
@@ -89,7 +89,7 @@ pub fn texts(alloc: Global, words: Texts) -> Made<TextSet> {
         texts.push(Text::from_str(alloc, word)?)?;
     }
     match TextSet::from_texts(words.0, texts) {
-        None => TextSet::none(alloc),
+        None => Ok(TextSet::none(alloc)),
         Some(set) => Ok(set),
     }
 }
@@ -135,7 +135,7 @@ fn sets_of_texts(rt: HostRuntime) -> Result<(), Fail> {
     assert!(rt; are_same(rest, texts(alloc, (false, "a c")))?);
     assert!(rt; is_only_b(moved(alloc))?);
     assert!(rt; has_first(alloc, TextSet::one(alloc, "x"), "x")?);
-    assert!(rt; has_first(alloc, TextSet::all(alloc), "")?);
+    assert!(rt; has_first(alloc, Ok(TextSet::all(alloc)), "")?);
     assert!(rt; has_first(alloc, TextSet::but(alloc, ""), "\0")?);
     Ok(())
 }
@@ -217,11 +217,11 @@ fn sets_that_unify(rt: HostRuntime) -> Result<(), Fail> {
     for sets in UNIFIED {
         assert!(rt; texts_unify(alloc, sets)?, "{}", (sets.2).1);
     }
-    let (low, high) = (IntSet::at_most(alloc, 7), IntSet::at_least(alloc, 3));
-    assert!(rt; unify_to(alloc, low, high, Ok(IntSet::between(3, 7)))?);
-    let left = pair(IntSet::at_least(alloc, 3), TextSet::all(alloc));
-    let right = pair(IntSet::at_most(alloc, 3), TextSet::one(alloc, "x"));
-    let met = pair(IntSet::one(alloc, 3), TextSet::one(alloc, "x"));
+    let (low, high) = (IntSet::at_most(7), IntSet::at_least(3));
+    assert!(rt; unify_to(alloc, Ok(low), Ok(high), Ok(IntSet::between(3, 7)))?);
+    let left = pair(Ok(IntSet::at_least(3)), Ok(TextSet::all(alloc)));
+    let right = pair(Ok(IntSet::at_most(3)), TextSet::one(alloc, "x"));
+    let met = pair(Ok(IntSet::one(3)), TextSet::one(alloc, "x"));
     assert!(rt; unify_to(alloc, left, right, met)?);
     Ok(())
 }
