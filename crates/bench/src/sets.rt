@@ -14,12 +14,12 @@ use std::alloc::Global;
 /// balance.
 fn spaced(alloc: Global, from: u32, to: u32, first: u8, last: u8) -> Result<IntSet, Memory> {
     if to <= from {
-        return IntSet::empty(alloc);
+        return Ok(IntSet::empty(alloc));
     }
     if to - from == 1 {
         let start = i64::from(from) * 8;
-        let low = IntSet::at_least(alloc, start + i64::from(first))?;
-        return low.meet(alloc, &IntSet::at_most(alloc, start + i64::from(last))?);
+        let low = IntSet::at_least(start + i64::from(first));
+        return low.meet(alloc, &IntSet::at_most(start + i64::from(last)));
     }
     let middle = from + (to - from) / 2;
     let front = spaced(alloc, from, middle, first, last)?;

@@ -162,18 +162,18 @@ fn scalar(alloc: Global, value: ScalarSet) -> Result<Row, Memory> {
 
 /// The row of a field that has an integer as its value.
 pub fn integer_row(alloc: Global) -> Result<Row, Memory> {
-    scalar(alloc, integers(alloc, IntSet::one(alloc, 7)?)?)
+    scalar(alloc, integers(alloc, IntSet::one(7)))
 }
 
 /// The members of a set of integers.
-fn integers(alloc: Global, ints: IntSet) -> Result<ScalarSet, Memory> {
-    Ok(ScalarSet {
+fn integers(alloc: Global, ints: IntSet) -> ScalarSet {
+    ScalarSet {
         null: false,
         no: false,
         yes: false,
         ints,
-        texts: TextSet::none(alloc)?,
-    })
+        texts: TextSet::none(alloc),
+    }
 }
 
 /// The set of so many texts.
@@ -186,10 +186,10 @@ fn texts(alloc: Global, count: u32) -> Result<ScalarSet, Memory> {
         null: false,
         no: false,
         yes: false,
-        ints: IntSet::empty(alloc)?,
+        ints: IntSet::empty(alloc),
         texts: match TextSet::from_texts(false, list) {
             Some(set) => set,
-            None => TextSet::none(alloc)?,
+            None => TextSet::none(alloc),
         },
     })
 }
@@ -202,7 +202,7 @@ fn labels(alloc: Global, fields: u32) -> Result<Labels, Memory> {
     }
     match Labels::listing(list) {
         Some(labels) => Ok(labels),
-        None => Labels::all(alloc),
+        None => Ok(Labels::all(alloc)),
     }
 }
 
@@ -217,9 +217,9 @@ fn fields(shape: Shape, count: u32) -> u32 {
 /// What may stand at each field of the table of this shape.
 fn value(alloc: Global, shape: Shape, count: u32) -> Result<ScalarSet, Memory> {
     match shape {
-        Shape::Wide | Shape::Deep | Shape::Closed => integers(alloc, IntSet::one(alloc, 7)?),
-        Shape::Open => integers(alloc, IntSet::full(alloc)?),
-        Shape::Clashing => ScalarSet::empty(alloc),
+        Shape::Wide | Shape::Deep | Shape::Closed => Ok(integers(alloc, IntSet::one(7))),
+        Shape::Open => Ok(integers(alloc, IntSet::full())),
+        Shape::Clashing => Ok(ScalarSet::empty(alloc)),
         Shape::Texts => texts(alloc, count),
     }
 }
@@ -229,14 +229,14 @@ fn allowed(alloc: Global, shape: Shape, count: u32) -> Result<Labels, Memory> {
     match shape {
         Shape::Closed => labels(alloc, count),
         Shape::Wide | Shape::Deep | Shape::Texts | Shape::Open | Shape::Clashing => {
-            Labels::all(alloc)
+            Ok(Labels::all(alloc))
         }
     }
 }
 
 /// The row at the top.
 fn top(alloc: Global) -> Result<Row, Memory> {
-    Row::of_struct(alloc, Level::Optional, Labels::all(alloc)?)
+    Row::of_struct(alloc, Level::Optional, Labels::all(alloc))
 }
 
 /// The row of the parent of the fields.

@@ -1,6 +1,5 @@
 -- Bytes that tell what they stand for, whatever stands after them.
-use Rattle.std.proofs.Common.{◌≡◌, ℕ, ◌^◌, ◌<◌, List, [], ◌∷◌, ◌++◌, length, take, drop, refl, sym, ap, subst, ◌∙◌, append_assoc, arith, inl, inr, Ok, Err}
-use Rattle.std.specs.Prelude.{Result}
+use Rattle.std.proofs.Common.{◌≡◌, ℕ, ◌^◌, ◌<◌, List, [], ◌∷◌, ◌++◌, length, take, drop, refl, sym, ap, subst, ◌∙◌, append_assoc, arith, inl, inr}
 use Rattle.std.specs.Int.{Width, w16, w32, w64, byte_len, from_be_bytes, to_be_bytes}
 use Rattle.std.specs.List.{flat_map, AllByRecursion}
 use Rattle.std.proofs.lemmas.List.{take_at, drop_at, length-append, append-nil}
@@ -142,11 +141,3 @@ pub items_refused : {X : Type 0} (kind : Kind) (v : X → Type 0) (code : X → 
     → bytes ≡ flat_map code xs ++ rest → IsRefused kind (BeginsNone v code rest) → IsRefused kind (BeginsNone (AreSo v count) (flat_map code) bytes)
 items_refused kind v code one count xs bytes rest p n e refused =
     refused_so kind (BeginsNone v code rest) (BeginsNone (AreSo v count) (flat_map code) bytes) (items_none v code one count xs bytes rest p n e) refused
-
-abbrev ok_or : {A E : Type 0} → A → Result A E → A
-ok_or other (Ok x) = x
-ok_or other (Err e) = other
-
--- equal answers have equal values
-pub same_ok : {A E : Type 0} (x y : A) (r : Result A E) → r ≡ Ok x → r ≡ Ok y → x ≡ y
-same_ok x y r e f = ap (λ r. ok_or x r) (sym e ∙ f)

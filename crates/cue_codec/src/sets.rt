@@ -97,7 +97,7 @@ fn piece_set_at(alloc: Global, bytes: &[u8]) -> Option<(ScalarSet, &[u8])>
         no: false,
         yes: false,
         ints,
-        texts: TextSet::none(alloc).unwrap(),
+        texts: TextSet::none(alloc),
     };
     Some((set, rest))
 }
@@ -152,8 +152,7 @@ pub fn labels_at(alloc: Global, bytes: &[u8]) -> Result<(Labels, &[u8]), Kind>
         return Err(Kind::NotState);
     };
     if !is_listed {
-        let labels = Labels::all(alloc).unwrap();
-        return Ok((labels, rest));
+        return Ok((Labels::all(alloc), rest));
     }
     let (texts, rest) = texts_at(alloc, rest)?;
     let Some(labels) = Labels::listing(texts) else {

@@ -1,5 +1,5 @@
 -- Sets of integers in one piece.
-use Rattle.std.proofs.Common.{◌≡◌, Bool, true, false, ◌&&◌, ◌||◌, List, [], ◌∷◌, ℤ, pos, ◌+ℤ◌, ◌-ℤ◌, ◌≤ℤ◌, ◌<ℤ◌, Result, Ok, Err, refl, sym, ap, ◌∙◌, arith}
+use Rattle.std.proofs.Common.{◌≡◌, Bool, true, false, ◌&&◌, ◌||◌, List, [], ◌∷◌, ℤ, pos, ◌+ℤ◌, ◌-ℤ◌, ◌≤ℤ◌, ◌<ℤ◌, refl, sym, ap, ◌∙◌, arith}
 use Rattle.std.specs.Prelude.{int_le, int_lt}
 use Rattle.std.specs.Ordering.{int_eq}
 use Rattle.std.proofs.lemmas.Bool.{false≢true}
@@ -113,11 +113,3 @@ between_bounds low high n met h k e =
     ∙ ap (λ b. b && is_member ((least, high) ∷ []) n) (from_below low n h)
     ∙ ap (λ b. (is_int64 n && int_le low n) && b) (up_to high n k)
     ∙ both_bounds (is_int64 n) (int_le low n) (int_le n high)
-
-abbrev pub from_ok : {X Y : Type 0} → X → Result X Y → X
-from_ok other (Ok x) = x
-from_ok other (Err e) = other
-
--- what two results have, where they are one
-pub same_ok : {X Y : Type 0} (other : X) (r s : Result X Y) → r ≡ s → from_ok other r ≡ from_ok other s
-same_ok other r s e = ap (λ t. from_ok other t) e

@@ -150,7 +150,7 @@ pub(crate) fn put_behind(
             let inner = mem::replace(table, Table::new(alloc));
             let mut fields = Vec::with_capacity(alloc, 1)?;
             fields.push((step_to(alloc, first)?, inner))?;
-            *table = struct_of(alloc, fields, Labels::all(alloc)?)?;
+            *table = struct_of(alloc, fields, Labels::all(alloc))?;
             Ok(())
         }
     }

@@ -22,7 +22,7 @@ pub(crate) fn labels_of(alloc: Global, declarations: &[Declaration]) -> Result<L
         l) }
 {
     if has_ellipsis(declarations) {
-        return Labels::all(alloc);
+        return Ok(Labels::all(alloc));
     }
     let (_, labels) = declared(alloc, declarations)?.into_texts();
     Ok(Labels::listing(labels).unwrap())
@@ -50,7 +50,7 @@ pub(crate) fn declared(alloc: Global, declarations: &[Declaration]) -> Result<Te
 {
     let count = declarations.len();
     if count == 0 {
-        return TextSet::none(alloc);
+        return Ok(TextSet::none(alloc));
     }
     if count == 1 {
         return declared_by(alloc, &declarations[0]);
@@ -68,8 +68,8 @@ fn declared_by(alloc: Global, declaration: &Declaration) -> Result<TextSet, Memo
         (entry (entry_tree declaration.now) no_entries))) }
 {
     match declaration {
-        Declaration::Ellipsis => TextSet::none(alloc),
-        Declaration::Definition { .. } => TextSet::none(alloc),
+        Declaration::Ellipsis => Ok(TextSet::none(alloc)),
+        Declaration::Definition { .. } => Ok(TextSet::none(alloc)),
         Declaration::Field { label, .. } => match &label.name {
             LabelName::Plain(name) => TextSet::one(alloc, name.as_str()),
             LabelName::Quoted(text) => TextSet::one(alloc, text.as_str()),

@@ -118,7 +118,7 @@ impl<'a, 'f, 't> Tables<'a, 'f, 't> {
         if name == "_" {
             return Ok(Table::new(alloc));
         }
-        scalar_table(alloc, nothing(alloc)?)
+        scalar_table(alloc, nothing(alloc))
     }
 
     /// A use of a definition.
@@ -131,7 +131,7 @@ impl<'a, 'f, 't> Tables<'a, 'f, 't> {
     {
         let alloc = self.pairs.alloc;
         match self.pairs.definitions.number(name) {
-            None => scalar_table(alloc, nothing(alloc)?),
+            None => scalar_table(alloc, nothing(alloc)),
             Some(number) => self.defined(number),
         }
     }
@@ -203,7 +203,7 @@ impl<'a, 'f, 't> Tables<'a, 'f, 't> {
             (core.struct (members_of self.now (tree.entries declarations.now)))) }
     {
         let fields = self.fields(declarations)?;
-        let labels = Labels::all(self.pairs.alloc)?;
+        let labels = Labels::all(self.pairs.alloc);
         struct_of(self.pairs.alloc, fields, labels)
     }
 

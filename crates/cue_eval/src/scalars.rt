@@ -29,75 +29,75 @@ pub fn integer_of(written: Signed) -> i64
 }
 
 /// Nothing: `_|_`.
-pub fn nothing(alloc: Global) -> Result<Valued, Memory>
-    ensures { IfOk result (λ valued. pair_of valued ≡ plain sets.nothing) }
+pub fn nothing(alloc: Global) -> Valued
+    ensures { pair_of result ≡ plain sets.nothing }
 {
-    Ok(Valued {
-        value: ScalarSet::empty(alloc)?,
+    Valued {
+        value: ScalarSet::empty(alloc),
         usual: None,
-    })
+    }
 }
 
 /// Null alone.
-pub fn null_alone(alloc: Global) -> Result<Valued, Memory>
-    ensures { IfOk result (λ valued. pair_of valued ≡ plain sets.null_alone) }
+pub fn null_alone(alloc: Global) -> Valued
+    ensures { pair_of result ≡ plain sets.null_alone }
 {
-    Ok(Valued {
+    Valued {
         value: ScalarSet {
             null: true,
             no: false,
             yes: false,
-            ints: IntSet::empty(alloc)?,
-            texts: TextSet::none(alloc)?,
+            ints: IntSet::empty(alloc),
+            texts: TextSet::none(alloc),
         },
         usual: None,
-    })
+    }
 }
 
 /// One truth value alone.
-pub fn truth_alone(alloc: Global, truth: bool) -> Result<Valued, Memory>
-    ensures { IfOk result (λ valued. pair_of valued ≡ plain (sets.truth_alone truth)) }
+pub fn truth_alone(alloc: Global, truth: bool) -> Valued
+    ensures { pair_of result ≡ plain (sets.truth_alone truth) }
 {
     of_truths(alloc, !truth, truth)
 }
 
 /// One integer alone.
-pub fn integer_alone(alloc: Global, number: i64) -> Result<Valued, Memory>
-    ensures { IfOk result (λ valued. pair_of valued ≡ plain (sets.integer_alone number)) }
+pub fn integer_alone(alloc: Global, number: i64) -> Valued
+    ensures { pair_of result ≡ plain (sets.integer_alone number) }
 {
-    of_integers(alloc, IntSet::one(alloc, number)?)
+    of_integers(alloc, IntSet::one(number))
 }
 
 /// All integers but one.
 pub fn other_integers(alloc: Global, number: i64) -> Result<Valued, Memory>
     ensures { IfOk result (λ valued. pair_of valued ≡ plain (sets.other_integers number)) }
 {
-    of_integers(alloc, IntSet::but(alloc, number)?)
+    Ok(of_integers(alloc, IntSet::but(alloc, number)?))
 }
 
 /// One text alone.
 pub fn text_alone(alloc: Global, text: &str) -> Result<Valued, Memory>
     ensures { IfOk result (λ valued. pair_of valued ≡ plain (sets.text_alone text.now)) }
 {
-    of_texts(alloc, TextSet::one(alloc, text)?)
+    Ok(of_texts(alloc, TextSet::one(alloc, text)?))
 }
 
 /// All texts but one.
 pub fn other_texts(alloc: Global, text: &str) -> Result<Valued, Memory>
     ensures { IfOk result (λ valued. pair_of valued ≡ plain (sets.other_texts text.now)) }
 {
-    of_texts(alloc, TextSet::but(alloc, text)?)
+    Ok(of_texts(alloc, TextSet::but(alloc, text)?))
 }
 
 /// The integers that a bound lets stand.
-pub fn bounded(alloc: Global, comparison: Comparison, number: i64) -> Result<Valued, Memory>
-    ensures { IfOk result (λ valued. pair_of valued ≡ plain (sets.bounded comparison number)) }
+pub fn bounded(alloc: Global, comparison: Comparison, number: i64) -> Valued
+    ensures { pair_of result ≡ plain (sets.bounded comparison number) }
 {
     match comparison {
         Comparison::Less => below(alloc, number),
-        Comparison::AtMost => of_integers(alloc, IntSet::at_most(alloc, number)?),
+        Comparison::AtMost => of_integers(alloc, IntSet::at_most(number)),
         Comparison::Greater => above(alloc, number),
-        Comparison::AtLeast => of_integers(alloc, IntSet::at_least(alloc, number)?),
+        Comparison::AtLeast => of_integers(alloc, IntSet::at_least(number)),
     }
 }
 
@@ -106,17 +106,17 @@ pub fn named_set(alloc: Global, name: Named) -> Result<Valued, Memory>
     ensures { IfOk result (λ valued. pair_of valued ≡ plain (sets.named_set name)) }
 {
     match name {
-        Named::Int => of_integers(alloc, IntSet::full(alloc)?),
-        Named::Text => of_texts(alloc, TextSet::all(alloc)?),
-        Named::Bool => of_truths(alloc, true, true),
+        Named::Int => Ok(of_integers(alloc, IntSet::full())),
+        Named::Text => Ok(of_texts(alloc, TextSet::all(alloc))),
+        Named::Bool => Ok(of_truths(alloc, true, true)),
         Named::Int8 => between(alloc, -128, 127),
         Named::Uint8 => between(alloc, 0, 255),
         Named::Int16 => between(alloc, -32_768, 32_767),
         Named::Uint16 => between(alloc, 0, 65_535),
         Named::Int32 => between(alloc, -2_147_483_648, 2_147_483_647),
         Named::Uint32 => between(alloc, 0, 4_294_967_295),
-        Named::Int64 => of_integers(alloc, IntSet::full(alloc)?),
-        Named::Uint => of_integers(alloc, IntSet::at_least(alloc, 0)?),
+        Named::Int64 => Ok(of_integers(alloc, IntSet::full())),
+        Named::Uint => Ok(of_integers(alloc, IntSet::at_least(0))),
     }
 }
 
@@ -132,83 +132,83 @@ fn negative(magnitude: u64) -> i64
 }
 
 /// The integers below a number.
-fn below(alloc: Global, number: i64) -> Result<Valued, Memory>
-    ensures { IfOk result (λ valued. pair_of valued ≡ plain (sets.bounded Less number)) }
+fn below(alloc: Global, number: i64) -> Valued
+    ensures { pair_of result ≡ plain (sets.bounded Less number) }
 {
     if number == i64::MIN {
-        return of_integers(alloc, IntSet::empty(alloc)?);
+        return of_integers(alloc, IntSet::empty(alloc));
     }
-    of_integers(alloc, IntSet::at_most(alloc, number - 1)?)
+    of_integers(alloc, IntSet::at_most(number - 1))
 }
 
 /// The integers above a number.
-fn above(alloc: Global, number: i64) -> Result<Valued, Memory>
-    ensures { IfOk result (λ valued. pair_of valued ≡ plain (sets.bounded Greater number)) }
+fn above(alloc: Global, number: i64) -> Valued
+    ensures { pair_of result ≡ plain (sets.bounded Greater number) }
 {
     if number == i64::MAX {
-        return of_integers(alloc, IntSet::empty(alloc)?);
+        return of_integers(alloc, IntSet::empty(alloc));
     }
-    of_integers(alloc, IntSet::at_least(alloc, number + 1)?)
+    of_integers(alloc, IntSet::at_least(number + 1))
 }
 
 /// The integers from one number to another, with both.
 fn between(alloc: Global, low: i64, high: i64) -> Result<Valued, Memory>
     ensures { IfOk result (λ valued. pair_of valued ≡ plain (sets.between low high)) }
 {
-    let from_low = IntSet::at_least(alloc, low)?;
-    let to_high = IntSet::at_most(alloc, high)?;
-    of_integers(alloc, from_low.meet(alloc, &to_high)?)
+    let from_low = IntSet::at_least(low);
+    let to_high = IntSet::at_most(high);
+    Ok(of_integers(alloc, from_low.meet(alloc, &to_high)?))
 }
 
 /// The members of a set of integers.
-fn of_integers(alloc: Global, ints: IntSet) -> Result<Valued, Memory>
-    ensures { IfOk result (λ valued. (test : ℤ → Bool) →
+fn of_integers(alloc: Global, ints: IntSet) -> Valued
+    ensures { (test : ℤ → Bool) →
         ((n : ℤ) → is_member ints n ≡ (is_int64 n && test n)) →
-        pair_of valued ≡ plain (sets.integers test)) }
+        pair_of result ≡ plain (sets.integers test) }
 {
-    Ok(Valued {
+    Valued {
         value: ScalarSet {
             null: false,
             no: false,
             yes: false,
             ints,
-            texts: TextSet::none(alloc)?,
+            texts: TextSet::none(alloc),
         },
         usual: None,
-    })
+    }
 }
 
 /// The members of a set of texts.
-fn of_texts(alloc: Global, texts: TextSet) -> Result<Valued, Memory>
-    ensures { IfOk result (λ valued. (test : List ℕ → Bool) →
+fn of_texts(alloc: Global, texts: TextSet) -> Valued
+    ensures { (test : List ℕ → Bool) →
         ((t : List ℕ) → is_text_member texts t ≡ test t) →
-        pair_of valued ≡ plain (sets.texts test)) }
+        pair_of result ≡ plain (sets.texts test) }
 {
-    Ok(Valued {
+    Valued {
         value: ScalarSet {
             null: false,
             no: false,
             yes: false,
-            ints: IntSet::empty(alloc)?,
+            ints: IntSet::empty(alloc),
             texts,
         },
         usual: None,
-    })
+    }
 }
 
 /// False and true, each where it is a member.
-fn of_truths(alloc: Global, no: bool, yes: bool) -> Result<Valued, Memory>
-    ensures { IfOk result (λ valued. (test : Bool → Bool) → no ≡ test false → yes ≡ test true →
-        pair_of valued ≡ plain (sets.truths test)) }
+fn of_truths(alloc: Global, no: bool, yes: bool) -> Valued
+    ensures { (test : Bool → Bool) → no ≡ test false → yes ≡ test true →
+        pair_of result ≡ plain (sets.truths test) }
 {
-    Ok(Valued {
+    Valued {
         value: ScalarSet {
             null: false,
             no,
             yes,
-            ints: IntSet::empty(alloc)?,
-            texts: TextSet::none(alloc)?,
+            ints: IntSet::empty(alloc),
+            texts: TextSet::none(alloc),
         },
         usual: None,
-    })
+    }
 }

@@ -299,7 +299,7 @@ fn declared(alloc: Global, declarations: &[Declaration]) -> Result<Declared, Mem
     let mut sets = Vec::new(alloc);
     for declaration in declarations {
         match declaration {
-            Declaration::Ellipsis => sets.push(TextSet::none(alloc)?)?,
+            Declaration::Ellipsis => sets.push(TextSet::none(alloc))?,
             Declaration::Field { label, .. } => sets.push(TextSet::but(alloc, word(label))?)?,
             Declaration::Definition { .. } => {}
         }

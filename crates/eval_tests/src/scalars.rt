@@ -33,17 +33,17 @@ fn is_true(alloc: Global, valued: &Valued) -> Result<bool, Memory> {
 
 /// Whether null alone may stand where null is written.
 fn null_is_null(alloc: Global) -> Result<bool, Memory> {
-    is_null(alloc, &null_alone(alloc)?)
+    is_null(alloc, &null_alone(alloc))
 }
 
 /// Whether `true` alone may stand where it is written.
 fn true_is_true(alloc: Global) -> Result<bool, Memory> {
-    is_true(alloc, &truth_alone(alloc, true)?)
+    is_true(alloc, &truth_alone(alloc, true))
 }
 
 /// Whether an integer may stand where this one is written.
-fn one_has(alloc: Global, one: i64, number: i64) -> Result<bool, Memory> {
-    Ok(has(&integer_alone(alloc, one)?, number))
+fn one_has(alloc: Global, one: i64, number: i64) -> bool {
+    has(&integer_alone(alloc, one), number)
 }
 
 /// Whether an integer may stand where all but this one are written.
@@ -62,23 +62,18 @@ fn others_have_text(alloc: Global, one: &str, text: &str) -> Result<bool, Memory
 }
 
 /// Whether an integer may stand where a bound is written.
-fn bound_has(
-    alloc: Global,
-    comparison: Comparison,
-    bound: i64,
-    number: i64,
-) -> Result<bool, Memory> {
-    Ok(has(&bounded(alloc, comparison, bound)?, number))
+fn bound_has(alloc: Global, comparison: Comparison, bound: i64, number: i64) -> bool {
+    has(&bounded(alloc, comparison, bound), number)
 }
 
 /// Whether nothing may stand where a bound is written.
-fn bound_is_empty(alloc: Global, comparison: Comparison, bound: i64) -> Result<bool, Memory> {
-    Ok(bounded(alloc, comparison, bound)?.value.is_empty())
+fn bound_is_empty(alloc: Global, comparison: Comparison, bound: i64) -> bool {
+    bounded(alloc, comparison, bound).value.is_empty()
 }
 
 /// Whether nothing may stand where nothing is written.
-fn nothing_is_empty(alloc: Global) -> Result<bool, Memory> {
-    Ok(nothing(alloc)?.value.is_empty())
+fn nothing_is_empty(alloc: Global) -> bool {
+    nothing(alloc).value.is_empty()
 }
 
 /// Whether an integer may stand where `uint8` is written.
@@ -111,8 +106,8 @@ fn null_and_truth_alone(rt: HostRuntime) -> Result<(), Fail> {
 #[test]
 fn one_integer_and_all_others(rt: HostRuntime) -> Result<(), Fail> {
     let alloc = rt.alloc();
-    assert!(rt; one_has(alloc, 7, 7)?);
-    assert!(rt; !one_has(alloc, 7, 8)?);
+    assert!(rt; one_has(alloc, 7, 7));
+    assert!(rt; !one_has(alloc, 7, 8));
     assert!(rt; !others_have(alloc, 7, 7)?);
     assert!(rt; others_have(alloc, 7, 8)?);
     Ok(())
@@ -128,22 +123,20 @@ fn one_text_and_all_others(rt: HostRuntime) -> Result<(), Fail> {
 }
 
 #[test]
-fn bounds_at_their_number(rt: HostRuntime) -> Result<(), Fail> {
+fn bounds_at_their_number(rt: HostRuntime) {
     let alloc = rt.alloc();
-    assert!(rt; !bound_has(alloc, Comparison::Less, 4, 4)?);
-    assert!(rt; bound_has(alloc, Comparison::AtMost, 4, 4)?);
-    assert!(rt; !bound_has(alloc, Comparison::Greater, 4, 4)?);
-    assert!(rt; bound_has(alloc, Comparison::AtLeast, 4, 4)?);
-    Ok(())
+    assert!(rt; !bound_has(alloc, Comparison::Less, 4, 4));
+    assert!(rt; bound_has(alloc, Comparison::AtMost, 4, 4));
+    assert!(rt; !bound_has(alloc, Comparison::Greater, 4, 4));
+    assert!(rt; bound_has(alloc, Comparison::AtLeast, 4, 4));
 }
 
 #[test]
-fn nothing_is_above_the_greatest(rt: HostRuntime) -> Result<(), Fail> {
+fn nothing_is_above_the_greatest(rt: HostRuntime) {
     let alloc = rt.alloc();
-    assert!(rt; bound_is_empty(alloc, Comparison::Greater, i64::MAX)?);
-    assert!(rt; bound_is_empty(alloc, Comparison::Less, i64::MIN)?);
-    assert!(rt; nothing_is_empty(alloc)?);
-    Ok(())
+    assert!(rt; bound_is_empty(alloc, Comparison::Greater, i64::MAX));
+    assert!(rt; bound_is_empty(alloc, Comparison::Less, i64::MIN));
+    assert!(rt; nothing_is_empty(alloc));
 }
 
 #[test]

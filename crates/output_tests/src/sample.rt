@@ -59,7 +59,7 @@ pub fn path(alloc: Global, word: &str) -> Made<Path> {
 fn row(alloc: Global, level: Level, place: Place) -> Made<Row> {
     match place {
         Anything => Ok(Row::of_anything(level)),
-        Struct => Row::of_struct(alloc, level, Labels::all(alloc)?),
+        Struct => Row::of_struct(alloc, level, Labels::all(alloc)),
         List(least) => Row::of_list(alloc, level, least, None),
         Integer(number) => Ok(Row::of_integer(level, number)),
     }

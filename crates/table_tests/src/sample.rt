@@ -35,14 +35,14 @@ pub fn path(alloc: Global, word: &str) -> Made<Path> {
 
 /// The set of some integers, from the first to the last.
 fn between(alloc: Global, first: i64, last: i64) -> Made<ScalarSet> {
-    let low = IntSet::at_least(alloc, first)?;
-    let high = IntSet::at_most(alloc, last)?;
+    let low = IntSet::at_least(first);
+    let high = IntSet::at_most(last);
     Ok(ScalarSet {
         null: false,
         no: false,
         yes: false,
         ints: low.meet(alloc, &high)?,
-        texts: TextSet::none(alloc)?,
+        texts: TextSet::none(alloc),
     })
 }
 
@@ -56,7 +56,7 @@ fn integers(alloc: Global, value: (i64, i64), usual: (i64, i64)) -> Made<Row> {
 
 /// A struct in which all labels may stand.
 fn open_struct(alloc: Global, level: Level) -> Made<Row> {
-    Row::of_struct(alloc, level, Labels::all(alloc)?)
+    Row::of_struct(alloc, level, Labels::all(alloc))
 }
 
 /// A struct in which only these one-letter labels may stand.
@@ -86,7 +86,7 @@ pub fn row(alloc: Global, name: &str) -> Made<Row> {
         "struct" => open_struct(alloc, Level::Given),
         "optional" => open_struct(alloc, Level::Optional),
         "required" => open_struct(alloc, Level::Required),
-        "nothing" => Row::of_nothing(alloc, Level::Given, Labels::all(alloc)?, 0, None),
+        "nothing" => Row::of_nothing(alloc, Level::Given, Labels::all(alloc), 0, None),
         "closed" => closed(alloc, "ab"),
         "narrow" => closed(alloc, "bc"),
         "list" => list(alloc, 2, None),

@@ -1,8 +1,8 @@
-use Rattle.std.proofs.Common.{refl, inr, sym, ap, subst, ◌∙◌, None}
+use Rattle.std.proofs.Common.{refl, inr, sym, ap, subst, ◌∙◌}
 use Rattle.cue_row.specs.LabelSets.{AreLabels}
 use Rattle.std.proofs.lemmas.Result.{err_from_is_err_and}
 use Rattle.cue_codec.specs.Parts.{bit}
-use Rattle.cue_codec.proofs.Codes.{refused_so, same_ok}
+use Rattle.cue_codec.proofs.Codes.{refused_so}
 use Rattle.cue_codec.proofs.StateSets.{labels_empty, labels_tag, labels_rest, labels_other, labels_all, labels_found}
 use Rattle.cue_codec.proofs.sets.labels_at.Goals as goal
 
@@ -15,7 +15,7 @@ returns-in_default-bit_of-clause-refused c =
 
 pub returns-then-not-is_listed-clause-ok : goal.returns-then-not-is_listed-clause-ok
 returns-then-not-is_listed-clause-ok c =
-    labels_all c.args.bytes.now c.in-Some.rest.now c.in-Some.tag.now c.unwrap-labels.result c.in-Some.ensures.cases.0 (sym c.in-Some-bit_of.ensures.some ∙ ap bit c.if-not-is_listed.true) (same_ok c.unwrap-labels.result None c.all.result c.unwrap-labels.ensures c.all.ensures)
+    labels_all c.args.bytes.now c.in-Some.rest.now c.in-Some.tag.now c.all.result c.in-Some.ensures.cases.0 (sym c.in-Some-bit_of.ensures.some ∙ ap bit c.if-not-is_listed.true) c.all.ensures
 
 pub returns-in_err-texts-clause-refused : goal.returns-in_err-texts-clause-refused
 returns-in_err-texts-clause-refused c =

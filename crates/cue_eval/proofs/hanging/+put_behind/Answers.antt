@@ -1,4 +1,4 @@
-use Rattle.std.proofs.Common.{◌≡◌, ◌≤◌, ◌<◌, ◌+◌, ◌⊎◌, ◌∷◌, ◌++◌, [], None, length, take, drop, ◌-◌, ap, ◌∙◌, arith}
+use Rattle.std.proofs.Common.{◌≡◌, ◌≤◌, ◌<◌, ◌+◌, ◌⊎◌, ◌∷◌, ◌++◌, [], length, take, drop, ◌-◌, ap, ◌∙◌, arith}
 use Rattle.cue_lattice.specs.Limits.{step_limit}
 use Rattle.cue_table.specs.Depth.{tree_depth}
 use Rattle.cue_eval.specs.Inner.Gathered.{LabelsRefuse}
@@ -30,7 +30,7 @@ returns-in_ok-table-in-len1-up-clause-depth t c =
     let less : tree_depth made < n = omega arith in
     let given = c.in_ok-push-in-len1-up.ensures.items ∙ ap (λ xs. xs ++ (c.in_ok-step_to-in-len1-up.field-0, c.replace-inner.result) ∷ []) c.in_ok-fields-in-len1-up.ensures.items
     ∙ ap (λ t. (c.in_ok-step_to-in-len1-up.field-0, t) ∷ []) c.replace-inner.ensures.value in
-    behind_depth c.in_ok-table-in-len1-up.field-0 (λ question. StructRefuses question ⊎ LabelsRefuse c.in_ok-all-in-len1-up.field-0 question) c.in_ok-step_to-in-len1-up.field-0 made c.push.new.self.items n given less
+    behind_depth c.in_ok-table-in-len1-up.field-0 (λ question. StructRefuses question ⊎ LabelsRefuse c.all.result question) c.in_ok-step_to-in-len1-up.field-0 made c.push.new.self.items n given less
     c.in_ok-table-in-len1-up.ensures.form c.in_ok-table-in-len1-up.ensures.answers
 
 pub returns-in_ok-table-in-len1-up-clause-answers : goal.returns-in_ok-table-in-len1-up-clause-answers
@@ -45,6 +45,5 @@ returns-in_ok-table-in-len1-up-clause-answers t c =
     let less : tree_depth made < step_limit = omega arith in
     let given = c.in_ok-push-in-len1-up.ensures.items ∙ ap (λ xs. xs ++ (c.in_ok-step_to-in-len1-up.field-0, c.replace-inner.result) ∷ []) c.in_ok-fields-in-len1-up.ensures.items
     ∙ ap (λ t. (c.in_ok-step_to-in-len1-up.field-0, t) ∷ []) c.replace-inner.ensures.value in
-    let free : c.in_ok-all-in-len1-up.field-0 ≡ None = let was = c.in_ok-all-in-len1-up.was in let is = c.in_ok-all-in-len1-up.ensures in cc in
     behind_first c.in_ok-table-in-len1-up.field-0 c.args.chain.now (take (length c.args.chain.now - 1) (drop 1 c.args.chain.now)) c.first-item.result c.in_ok-step_to-in-len1-up.field-0 c.args.table.now inner made c.push.new.self.items
-    c.in_ok-all-in-len1-up.field-0 whole c.in_ok-step_to-in-len1-up.ensures less c.in_ok-mark-in-len1-up.ensures.answers c.in_ok-put_behind-in-len1-up.ensures.answers free given c.in_ok-table-in-len1-up.ensures.answers
+    c.all.result whole c.in_ok-step_to-in-len1-up.ensures less c.in_ok-mark-in-len1-up.ensures.answers c.in_ok-put_behind-in-len1-up.ensures.answers c.all.ensures given c.in_ok-table-in-len1-up.ensures.answers

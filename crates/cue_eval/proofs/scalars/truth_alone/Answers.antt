@@ -1,5 +1,4 @@
 use Rattle.std.proofs.Common.{◌≡◌, Bool, false, true, not, refl}
-use Rattle.std.proofs.lemmas.Result.{IfOk-weaker}
 use Rattle.cue_eval.specs.Sets as sets
 use Rattle.cue_eval.proofs.scalars.truth_alone.Goals as goal
 
@@ -12,4 +11,4 @@ yes_is true = refl
 yes_is false = refl
 
 pub returns : goal.returns
-returns c = IfOk-weaker c.of_truths.result _ _ (λ v h. h (sets.same_truth c.args.truth) (no_is c.args.truth) (yes_is c.args.truth)) c.of_truths.ensures
+returns c = c.of_truths.ensures (sets.same_truth c.args.truth) (no_is c.args.truth) (yes_is c.args.truth)

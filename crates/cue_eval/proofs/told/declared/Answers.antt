@@ -5,14 +5,14 @@ use Rattle.cue_syntax.specs.Syntax.{entry_tree}
 use Rattle.cue_syntax.proofs.Views.{view-Ellipsis, view-Field, view-Definition}
 use Rattle.cue_eval.proofs.TellingEntries.{label_next, dots_declare, field_declares, definition_declares, all_declared}
 use Rattle.cue_eval.proofs.told.declared.Goals as goal
-use Rattle.cue_eval.proofs.told.declared.Goals.{in-Ellipsis+in_ok-none-in-Ellipsis+in_ok-push-in-Ellipsis, in-Field+in_ok-but-in-Field+in_ok-push-in-Field, in-Definition}
+use Rattle.cue_eval.proofs.told.declared.Goals.{in-Ellipsis+in_ok-push-in-Ellipsis, in-Field+in_ok-but-in-Field+in_ok-push-in-Field, in-Definition}
 
 pub loop-declaration-preserved : goal.loop-declaration-preserved
 loop-declaration-preserved c =
     let next = label_next c.loop-declaration.sets.items c.args.declarations.now c.loop-declaration.declaration-index c.declaration-item.result c.loop-declaration.invariant c.loop-declaration-test.true c.declaration-item.is in
     elim c.match-declaration.branch [
-      | in-Ellipsis+in_ok-none-in-Ellipsis+in_ok-push-in-Ellipsis w ↦
-          rw (w.sets-is, w.in_ok-push-in-Ellipsis.ensures.items) (dots_declare _ _ _ _ _ next (ap entry_tree w.in-Ellipsis.is ∙ view-Ellipsis) (cc (w.none.ensures, w.in_ok-none-in-Ellipsis.was)))
+      | in-Ellipsis+in_ok-push-in-Ellipsis w ↦
+          rw (w.sets-is, w.in_ok-push-in-Ellipsis.ensures.items) (dots_declare _ _ _ _ _ next (ap entry_tree w.in-Ellipsis.is ∙ view-Ellipsis) w.none.ensures)
       | in-Field+in_ok-but-in-Field+in_ok-push-in-Field w ↦
           rw (w.sets-is, w.in_ok-push-in-Field.ensures.items) (field_declares _ _ _ _ _ w.in-Field.label w.in-Field.chain w.in-Field.value next (ap entry_tree w.in-Field.is ∙ view-Field w.in-Field.label w.in-Field.chain w.in-Field.value)
           (w.in_ok-but-in-Field.ensures ∙ ap (λ t. (true, t ∷ [])) w.word.ensures))

@@ -1,4 +1,4 @@
-use Rattle.std.proofs.Common.{◌≡◌, length, ◌⊎◌, ◌+◌, ◌≤◌, ◌<◌, drop, None, IfOk, subst, sym, ap, ◌∙◌, arith}
+use Rattle.std.proofs.Common.{◌≡◌, length, ◌⊎◌, ◌+◌, ◌≤◌, ◌<◌, drop, IfOk, subst, sym, ap, ◌∙◌, arith}
 use denote.Param.Weighed.{most, at_most}
 use Rattle.cue_syntax.specs.declared.tree.Expr.{size-Expr}
 use Rattle.cue_syntax.specs.declared.tree.Declaration.{size-Declaration}
@@ -51,9 +51,8 @@ closed_literal-returns-clause-answers t c =
 
 pub literal-returns-clause-answers : goal.literal-returns-clause-answers
 literal-returns-clause-answers t c =
-    let all : c.in_ok-labels.labels ≡ None = let was = c.in_ok-labels.was in let is = c.in_ok-labels.ensures in cc in
-    struct_result c.struct_of.result (members_of c.args.self.now (tree.entries c.args.declarations.now)) c.in_ok-fields.fields.items c.in_ok-labels.labels
-    all c.struct_of.ensures.answers c.in_ok-fields.ensures
+    struct_result c.struct_of.result (members_of c.args.self.now (tree.entries c.args.declarations.now)) c.in_ok-fields.fields.items c.all-labels.result
+    c.all-labels.ensures c.struct_of.ensures.answers c.in_ok-fields.ensures
 
 pub conjunction-loop-part-init : goal.conjunction-loop-part-init
 conjunction-loop-part-init t c = rw (c.new-tables.ensures.items, c.new-scalars.ensures.items, c.new-numbers.ensures.items) (joining_none c.args.self.now c.args.parts.now c.requires)
