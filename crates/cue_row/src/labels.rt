@@ -57,14 +57,6 @@ impl Labels {
         if all { None } else { Some(labels) }
     }
 
-    /// Gives the labels back that may stand, where not all may. This takes no memory.
-    pub fn into_listed(self) -> Option<Vec<Text>>
-        ensures { option_map (λ labels. labels.items) result ≡ self }
-    {
-        let (all, labels) = self.set.into_texts();
-        if all { None } else { Some(labels) }
-    }
-
     /// Whether a label may stand. This is a binary search.
     pub fn allows(&self, label: &str) -> bool
         ensures { result ≡ allows_label self.now label.now }

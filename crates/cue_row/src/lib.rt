@@ -28,6 +28,6 @@ pub use question::{Question, one_question};
 pub use quoted::push_quoted;
 pub use row::Row;
 pub use scalars::Scalars;
-pub use spelling::{is_bare, path_text, push_path, push_steps};
+pub use spelling::{is_bare, path_text, push_steps};
 pub use step::Step;
 pub use valid::valid_rows_meet;

@@ -61,7 +61,7 @@ impl Row {
     }
 
     /// The parts of the row, which is taken over. They are copied where another row shares them.
-    pub fn into_parts(self, alloc: Global) -> Result<RowParts, Memory>
+    fn into_parts(self, alloc: Global) -> Result<RowParts, Memory>
         ensures { IfOk result (λ parts. parts ≡ self) }
     {
         match self.form {

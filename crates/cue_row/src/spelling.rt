@@ -18,17 +18,8 @@ pub fn path_text(alloc: Global, path: &Path) -> Result<String, Memory>
     ensures { IfOk result (λ text. string_bytes text ≡ path_text path.now) }
 {
     let mut out = String::new(alloc);
-    push_path(&mut out, path)?;
+    push_steps(&mut out, path.steps())?;
     Ok(out)
-}
-
-/// Writes a path.
-pub fn push_path(out: &mut String, path: &Path) -> Result<(), Memory>
-    ensures written { OnOk result
-        (string_bytes out.new ≡ string_bytes out.old ++ path_text path.now) }
-    ensures kept { OnErr result (StillBegins (string_bytes out.old) (string_bytes out.new)) }
-{
-    push_steps(out, path.steps())
 }
 
 /// Writes the path of these steps, which may be more than a [`Path`] has.
