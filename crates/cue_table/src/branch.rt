@@ -1,14 +1,14 @@
 ghost use Rattle.std.specs.Prelude.{◌≡◌, ◌≤◌, ◌^◌};
 ghost use Rattle.std.specs.Option.{option_map};
 ghost use Rattle.cue_table.specs.Tree.{row_of, below, rest_of, rest_tree, fixed_of, step_into};
-ghost use Rattle.cue_table.specs.Tree.{behind_last, labels_of, items_of};
+ghost use Rattle.cue_table.specs.Tree.{behind_last, labels_of};
 ghost use Rattle.cue_table.specs.Form.{AreBranches, IsKept, IsTable};
 ghost use Rattle.cue_row.specs.Steps.{step_of};
 ghost use Rattle.cue_table.specs.Spans.{spread};
 ghost use Rattle.cue_table.specs.Inner.View.{branches};
 
 use crate::child::Child;
-use crate::iter::{Children, Items, Labels, Spans};
+use crate::iter::{Children, Labels, Spans};
 use crate::node::Node;
 use cue_lattice::Narrow;
 use cue_row::Step;
@@ -92,15 +92,6 @@ impl<'a, R: Narrow> Branch<'a, R> {
     {
         let node = self.node;
         Labels::new(&node.children)
-    }
-
-    /// The branches at indexes of their own, by number.
-    pub fn items(&self) -> Items<'a, R>
-        ensures list { result ≡ items_of (below self.now) }
-        ensures form { IsTable R.refuses R.is_value self.now }
-    {
-        let node = self.node;
-        Items::new(node.cursor())
     }
 
     /// What each element is from index [`Branch::fixed`] on, unless nothing is known of it.
