@@ -17,7 +17,7 @@ use cue_syntax::{Comparison, Sign, Signed};
 use std::alloc::Global;
 
 /// The integer that is written.
-pub fn integer_of(written: Signed) -> i64
+pub(crate) fn integer_of(written: Signed) -> i64
     requires { IsInRange written }
     ensures { result ≡ sets.integer_of written }
 {
@@ -29,7 +29,7 @@ pub fn integer_of(written: Signed) -> i64
 }
 
 /// Nothing: `_|_`.
-pub fn nothing(alloc: Global) -> Valued
+pub(crate) fn nothing(alloc: Global) -> Valued
     ensures { pair_of result ≡ plain sets.nothing }
 {
     Valued {
@@ -39,7 +39,7 @@ pub fn nothing(alloc: Global) -> Valued
 }
 
 /// Null alone.
-pub fn null_alone(alloc: Global) -> Valued
+pub(crate) fn null_alone(alloc: Global) -> Valued
     ensures { pair_of result ≡ plain sets.null_alone }
 {
     Valued {
@@ -55,42 +55,42 @@ pub fn null_alone(alloc: Global) -> Valued
 }
 
 /// One truth value alone.
-pub fn truth_alone(alloc: Global, truth: bool) -> Valued
+pub(crate) fn truth_alone(alloc: Global, truth: bool) -> Valued
     ensures { pair_of result ≡ plain (sets.truth_alone truth) }
 {
     of_truths(alloc, !truth, truth)
 }
 
 /// One integer alone.
-pub fn integer_alone(alloc: Global, number: i64) -> Valued
+pub(crate) fn integer_alone(alloc: Global, number: i64) -> Valued
     ensures { pair_of result ≡ plain (sets.integer_alone number) }
 {
     of_integers(alloc, IntSet::one(number))
 }
 
 /// All integers but one.
-pub fn other_integers(alloc: Global, number: i64) -> Result<Valued, Memory>
+pub(crate) fn other_integers(alloc: Global, number: i64) -> Result<Valued, Memory>
     ensures { IfOk result (λ valued. pair_of valued ≡ plain (sets.other_integers number)) }
 {
     Ok(of_integers(alloc, IntSet::but(alloc, number)?))
 }
 
 /// One text alone.
-pub fn text_alone(alloc: Global, text: &str) -> Result<Valued, Memory>
+pub(crate) fn text_alone(alloc: Global, text: &str) -> Result<Valued, Memory>
     ensures { IfOk result (λ valued. pair_of valued ≡ plain (sets.text_alone text.now)) }
 {
     Ok(of_texts(alloc, TextSet::one(alloc, text)?))
 }
 
 /// All texts but one.
-pub fn other_texts(alloc: Global, text: &str) -> Result<Valued, Memory>
+pub(crate) fn other_texts(alloc: Global, text: &str) -> Result<Valued, Memory>
     ensures { IfOk result (λ valued. pair_of valued ≡ plain (sets.other_texts text.now)) }
 {
     Ok(of_texts(alloc, TextSet::but(alloc, text)?))
 }
 
 /// The integers that a bound lets stand.
-pub fn bounded(alloc: Global, comparison: Comparison, number: i64) -> Valued
+pub(crate) fn bounded(alloc: Global, comparison: Comparison, number: i64) -> Valued
     ensures { pair_of result ≡ plain (sets.bounded comparison number) }
 {
     match comparison {
@@ -102,7 +102,7 @@ pub fn bounded(alloc: Global, comparison: Comparison, number: i64) -> Valued
 }
 
 /// The set of this name.
-pub fn named_set(alloc: Global, name: Named) -> Result<Valued, Memory>
+pub(crate) fn named_set(alloc: Global, name: Named) -> Result<Valued, Memory>
     ensures { IfOk result (λ valued. pair_of valued ≡ plain (sets.named_set name)) }
 {
     match name {
