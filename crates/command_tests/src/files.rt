@@ -69,28 +69,43 @@ fn takes(alloc: Global, words: &[&str], status: u8, out: &str) -> Result<bool, F
     Ok(run.is(status, out.as_bytes(), b""))
 }
 
+/// Words that name files, how a run over these ends, and what it prints.
+const TAKEN: &[(&[&str], u8, &str)] = &[
+    (&["export", "a", "state"], 0, "{\"a\":1}\n"),
+    (
+        &["export", "a", "b"],
+        3,
+        "incomplete b not a single value\n",
+    ),
+    (
+        &["report", "b", "clash"],
+        3,
+        "incomplete b not a single value\n",
+    ),
+    (&["report", "state", "clash"], 2, "conflict a no value\n"),
+    (&["report", "a", "--"], 0, ""),
+    (
+        &["export", "a", "lines"],
+        1,
+        "refused 9 LeftOut at 5 in 2\n",
+    ),
+    (
+        &["export", "wrong", "none"],
+        1,
+        "refused 7 Syntax at 3 in 1\n",
+    ),
+    (
+        &["report", "--", "clash", "b", "state"],
+        2,
+        "conflict a no value\nincomplete b not a single value\n",
+    ),
+];
+
 #[test]
 fn takes_files_in_their_order(rt: HostRuntime) -> Result<(), Fail> {
-    let alloc = rt.alloc();
-    let open = "incomplete b not a single value\n";
-    assert!(rt; takes(alloc, &["export", "a", "state"], 0, "{\"a\":1}\n")?);
-    assert!(rt; takes(alloc, &["export", "a", "b"], 3, open)?);
-    assert!(rt; takes(alloc, &["report", "b", "clash"], 3, open)?);
-    assert!(rt;
-        takes(
-            alloc,
-            &["report", "state", "clash"],
-            2,
-            "conflict a no value\n"
-        )?
-    );
-    assert!(rt; takes(alloc, &["report", "a", "--"], 0, "")?);
-    let left_out = "refused 9 LeftOut at 5 in 2\n";
-    assert!(rt; takes(alloc, &["export", "a", "lines"], 1, left_out)?);
-    let wrong = "refused 7 Syntax at 3 in 1\n";
-    assert!(rt; takes(alloc, &["export", "wrong", "none"], 1, wrong)?);
-    let lines = "conflict a no value\nincomplete b not a single value\n";
-    assert!(rt; takes(alloc, &["report", "--", "clash", "b", "state"], 2, lines)?);
+    for (words, status, out) in TAKEN {
+        assert!(rt; takes(rt.alloc(), words, *status, out)?);
+    }
     Ok(())
 }
 
@@ -181,17 +196,23 @@ fn spares_a_file(alloc: Global, calls: usize, end: &[u8]) -> Result<bool, Fail> 
     spares(alloc, Out::File, calls, end)
 }
 
+/// How the log of a merge over a file ends whose calls after so many fail.
+const SPARED: &[(usize, &[u8])] = &[
+    (0, b"look at out\n"),
+    (1, b"new out.part\n"),
+    (2, b"look behind out\nremove out.part\n"),
+    (3, b"mode\nremove out.part\n"),
+    (4, b"mode\nwrite\nremove out.part\n"),
+    (5, b"write\nwrite\nremove out.part\n"),
+    (6, b"sync\nremove out.part\n"),
+    (7, b"move out.part\nremove out.part\n"),
+];
+
 #[test]
 fn a_merge_that_fails_spares_the_file(rt: HostRuntime) -> Result<(), Fail> {
-    let alloc = rt.alloc();
-    assert!(rt; spares_a_file(alloc, 0, b"look at out\n")?);
-    assert!(rt; spares_a_file(alloc, 1, b"new out.part\n")?);
-    assert!(rt; spares_a_file(alloc, 2, b"look behind out\nremove out.part\n")?);
-    assert!(rt; spares_a_file(alloc, 3, b"mode\nremove out.part\n")?);
-    assert!(rt; spares_a_file(alloc, 4, b"mode\nwrite\nremove out.part\n")?);
-    assert!(rt; spares_a_file(alloc, 5, b"write\nwrite\nremove out.part\n")?);
-    assert!(rt; spares_a_file(alloc, 6, b"sync\nremove out.part\n")?);
-    assert!(rt; spares_a_file(alloc, 7, b"move out.part\nremove out.part\n")?);
+    for (calls, end) in SPARED {
+        assert!(rt; spares_a_file(rt.alloc(), *calls, end)?);
+    }
     Ok(())
 }
 

@@ -9,19 +9,26 @@ use cue_program::{Request, requests_for};
 use std::alloc::Global;
 use std::test::Fail;
 
+/// Words, the greatest number that is asked for, and the number that they are.
+const NUMBERS: &[(&str, u16, Option<u16>)] = &[
+    ("080", 65_535, Some(80)),
+    ("1", 65_535, Some(1)),
+    ("65535", 65_535, Some(65_535)),
+    ("65536", 65_535, None),
+    ("1000", 1_000, Some(1_000)),
+    ("1001", 1_000, None),
+    ("0", 1_000, None),
+    ("", 1_000, None),
+    ("+80", 65_535, None),
+    ("8 ", 65_535, None),
+    ("99999999999999999999", 65_535, None),
+];
+
 #[test]
 fn ports_and_counts_are_digits(rt: HostRuntime) {
-    assert_eq!(rt; number_in("080", 65_535), Some(80));
-    assert_eq!(rt; number_in("1", 65_535), Some(1));
-    assert_eq!(rt; number_in("65535", 65_535), Some(65_535));
-    assert_eq!(rt; number_in("65536", 65_535), None);
-    assert_eq!(rt; number_in("1000", 1_000), Some(1_000));
-    assert_eq!(rt; number_in("1001", 1_000), None);
-    assert_eq!(rt; number_in("0", 1_000), None);
-    assert_eq!(rt; number_in("", 1_000), None);
-    assert_eq!(rt; number_in("+80", 65_535), None);
-    assert_eq!(rt; number_in("8 ", 65_535), None);
-    assert_eq!(rt; number_in("99999999999999999999", 65_535), None);
+    for (word, most, number) in NUMBERS {
+        assert_eq!(rt; number_in(word, *most), *number);
+    }
 }
 
 /// Whether a run of `loop` on this input ends with this status, and prints this.
@@ -29,28 +36,33 @@ fn loops(rt: &mut HostRuntime, input: &[u8], status: u8, out: &str) -> Result<bo
     answers(rt, &["loop"], input, status, out, "")
 }
 
+/// An input of `loop`, how the run ends, and what it prints: the site's export, its conflicts or its
+/// gaps, or the first refusal.
+const LOOPS: &[(&[u8], u8, &str)] = &[
+    (b"port: int\n---\nport: 443\n", 0, "{\"port\":443}\n"),
+    (b"a: 1\n---\na: 2\n", 2, "conflict a no value\n"),
+    (b"a!: 1", 3, "incomplete a missing\n"),
+    (ONE, 0, "{\"a\":1}\n"),
+    (b"", 0, "{}\n"),
+    (b"a: *1", 1, "refused 7 Syntax at 5 in 1\n"),
+    (
+        b"a: 1\n---\na: ]\n---\na 2\n",
+        1,
+        "refused 7 Syntax at 3 in 2\n",
+    ),
+];
+
 #[test]
 fn both_ends_are_in_this_process(mut rt: HostRuntime) -> Result<(), Fail> {
-    assert!(rt;
-        loops(
-            &mut rt,
-            b"port: int\n---\nport: 443\n",
-            0,
-            "{\"port\":443}\n"
-        )?
-    );
-    assert!(rt; loops(&mut rt, b"a: 1\n---\na: 2\n", 2, "conflict a no value\n")?);
-    assert!(rt; loops(&mut rt, b"a!: 1", 3, "incomplete a missing\n")?);
-    assert!(rt; loops(&mut rt, ONE, 0, "{\"a\":1}\n")?);
-    assert!(rt; loops(&mut rt, b"", 0, "{}\n")?);
+    for (input, status, out) in LOOPS {
+        let told = loops(&mut rt, input, *status, out)?;
+        assert!(rt; told);
+    }
     Ok(())
 }
 
 #[test]
-fn the_first_refusal_of_the_site_is_told(mut rt: HostRuntime) -> Result<(), Fail> {
-    assert!(rt; loops(&mut rt, b"a: *1", 1, "refused 7 Syntax at 5 in 1\n")?);
-    let two = b"a: 1\n---\na: ]\n---\na 2\n".as_slice();
-    assert!(rt; loops(&mut rt, two, 1, "refused 7 Syntax at 3 in 2\n")?);
+fn a_state_that_is_cut_is_refused(mut rt: HostRuntime) -> Result<(), Fail> {
     assert!(rt; loops(&mut rt, &ONE[..91], 1, "refused 18 NotState at 0 in 1\n")?);
     Ok(())
 }
@@ -113,23 +125,26 @@ fn ends(alloc: Global, words: &[&str], status: u8, out: &str, faults: &str) -> R
     Ok(run.is(status, out.as_bytes(), faults.as_bytes()))
 }
 
-#[test]
-fn all_inputs_are_checked_before_any_is_sent(rt: HostRuntime) -> Result<(), Fail> {
-    let alloc = rt.alloc();
-    let wild = "refused 2 BadCharacter at 3 in 2\n";
-    assert!(rt; ends(alloc, &["push", "80", "a", "wild"], 1, wild, "")?);
-    assert!(rt; ends(alloc, &["loop", "a", "wild", "none"], 1, wild, "")?);
-    assert!(rt; ends(alloc, &["loop"], 1, wild, "")?);
-    assert!(rt; ends(alloc, &["push", "80", "a", "cut"], 4, "", "device fault\n")?);
-    assert!(rt; ends(alloc, &["push", "80", "none"], 4, "", "device fault\n")?);
-    Ok(())
-}
+/// What is told of the text that is no UTF-8, where it comes as the second input.
+const WILD: &str = "refused 2 BadCharacter at 3 in 2\n";
+
+/// Words of a network, how a run over these ends, and what it prints and tells: all inputs are
+/// checked before any is sent, and a port that is not to be had is a device fault.
+const ENDS: &[(&[&str], u8, &str, &str)] = &[
+    (&["push", "80", "a", "wild"], 1, WILD, ""),
+    (&["loop", "a", "wild", "none"], 1, WILD, ""),
+    (&["loop"], 1, WILD, ""),
+    (&["push", "80", "a", "cut"], 4, "", "device fault\n"),
+    (&["push", "80", "none"], 4, "", "device fault\n"),
+    (&["serve", "80", "1"], 4, "", "device fault\n"),
+    (&["push", "80", "a"], 4, "", "device fault\n"),
+    (&["loop", "a"], 4, "", "device fault\n"),
+];
 
 #[test]
-fn a_port_that_is_not_to_be_had_is_a_device_fault(rt: HostRuntime) -> Result<(), Fail> {
-    let alloc = rt.alloc();
-    assert!(rt; ends(alloc, &["serve", "80", "1"], 4, "", "device fault\n")?);
-    assert!(rt; ends(alloc, &["push", "80", "a"], 4, "", "device fault\n")?);
-    assert!(rt; ends(alloc, &["loop", "a"], 4, "", "device fault\n")?);
+fn a_network_that_is_not_there_is_a_device_fault(rt: HostRuntime) -> Result<(), Fail> {
+    for (words, status, out, faults) in ENDS {
+        assert!(rt; ends(rt.alloc(), words, *status, out, faults)?);
+    }
     Ok(())
 }

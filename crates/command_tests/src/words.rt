@@ -21,56 +21,46 @@ where
     Ok(())
 }
 
-/// Asserts that each of these words alone is a usage fault.
-fn assert_no_commands<H>(rt: &mut H, words: &[&str]) -> Result<(), Fail>
-where
-    H: AllocGlobal + Shelf + Abort + Net<Listener = TcpListener, Stream = TcpStream>,
-{
-    for word in words {
-        assert_usage(rt, &[word])?;
-    }
-    Ok(())
-}
-
-/// Asserts that each of these words after a command is a usage fault.
-fn assert_no_files<H>(rt: &mut H, words: &[&str]) -> Result<(), Fail>
-where
-    H: AllocGlobal + Shelf + Abort + Net<Listener = TcpListener, Stream = TcpStream>,
-{
-    for word in words {
-        assert_usage(rt, &["export", word])?;
-    }
-    Ok(())
-}
+/// Words that are a usage fault: no command, none that is known, a name that is no file's, no file, a
+/// port or a count that is none.
+const FAULTS: &[&[&str]] = &[
+    &[],
+    &["exp"],
+    &["--help"],
+    &["help"],
+    &["-1"],
+    &["--"],
+    &[""],
+    &["Export"],
+    &["export", "--help"],
+    &["export", "-h"],
+    &["export", "-1"],
+    &["export", "---"],
+    &["export", "--file"],
+    &["merge"],
+    &["merge", "--"],
+    &["report", "-", "-x"],
+    &["--", "export"],
+    &["serve"],
+    &["serve", "80"],
+    &["serve", "80", "1", "2"],
+    &["serve", "+80", "1"],
+    &["serve", "80", "+1"],
+    &["serve", "0", "1"],
+    &["serve", "65536", "1"],
+    &["serve", "80", "1001"],
+    &["push"],
+    &["push", ""],
+    &["push", "x", "80"],
+    &["loop", "-x"],
+];
 
 #[test]
 fn wants_its_words(mut rt: HostRuntime) -> Result<(), Fail> {
-    assert_usage(&mut rt, &[])?;
-    assert_no_commands(
-        &mut rt,
-        &["exp", "--help", "help", "-1", "--", "", "Export"],
-    )?;
-    assert_no_files(&mut rt, &["--help", "-h", "-1", "---", "--file"])?;
-    assert_usage(&mut rt, &["merge"])?;
-    assert_usage(&mut rt, &["merge", "--"])?;
-    assert_usage(&mut rt, &["report", "-", "-x"])?;
-    assert_usage(&mut rt, &["--", "export"])
-}
-
-#[test]
-fn wants_ports_and_counts(mut rt: HostRuntime) -> Result<(), Fail> {
-    assert_usage(&mut rt, &["serve"])?;
-    assert_usage(&mut rt, &["serve", "80"])?;
-    assert_usage(&mut rt, &["serve", "80", "1", "2"])?;
-    assert_usage(&mut rt, &["serve", "+80", "1"])?;
-    assert_usage(&mut rt, &["serve", "80", "+1"])?;
-    assert_usage(&mut rt, &["serve", "0", "1"])?;
-    assert_usage(&mut rt, &["serve", "65536", "1"])?;
-    assert_usage(&mut rt, &["serve", "80", "1001"])?;
-    assert_usage(&mut rt, &["push"])?;
-    assert_usage(&mut rt, &["push", ""])?;
-    assert_usage(&mut rt, &["push", "x", "80"])?;
-    assert_usage(&mut rt, &["loop", "-x"])
+    for words in FAULTS {
+        assert_usage(&mut rt, words)?;
+    }
+    Ok(())
 }
 
 /// A process that was given these words.
