@@ -28,7 +28,7 @@ pub(crate) fn integer_of(written: Signed) -> i64
     }
 }
 
-/// Nothing: `_|_`.
+/// Nothing: `_|_`. This takes no memory.
 pub(crate) fn nothing(alloc: Global) -> Valued
     ensures { pair_of result ≡ plain sets.nothing }
 {
@@ -38,7 +38,7 @@ pub(crate) fn nothing(alloc: Global) -> Valued
     }
 }
 
-/// Null alone.
+/// Null alone. This takes no memory.
 pub(crate) fn null_alone(alloc: Global) -> Valued
     ensures { pair_of result ≡ plain sets.null_alone }
 {
@@ -54,14 +54,14 @@ pub(crate) fn null_alone(alloc: Global) -> Valued
     }
 }
 
-/// One truth value alone.
+/// One truth value alone. This takes no memory.
 pub(crate) fn truth_alone(alloc: Global, truth: bool) -> Valued
     ensures { pair_of result ≡ plain (sets.truth_alone truth) }
 {
     of_truths(alloc, !truth, truth)
 }
 
-/// One integer alone.
+/// One integer alone. This takes no memory.
 pub(crate) fn integer_alone(alloc: Global, number: i64) -> Valued
     ensures { pair_of result ≡ plain (sets.integer_alone number) }
 {
@@ -89,7 +89,7 @@ pub(crate) fn other_texts(alloc: Global, text: &str) -> Result<Valued, Memory>
     Ok(of_texts(alloc, TextSet::but(alloc, text)?))
 }
 
-/// The integers that a bound lets stand.
+/// The integers that a bound lets stand. This takes no memory.
 pub(crate) fn bounded(alloc: Global, comparison: Comparison, number: i64) -> Valued
     ensures { pair_of result ≡ plain (sets.bounded comparison number) }
 {
