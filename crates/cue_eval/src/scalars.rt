@@ -28,21 +28,21 @@ pub(crate) fn integer_of(written: Signed) -> i64
     }
 }
 
-/// Nothing: `_|_`. This takes no memory.
-pub(crate) fn nothing(alloc: Global) -> Valued
-    ensures { pair_of result ≡ plain sets.nothing }
+/// Nothing: `_|_`.
+pub(crate) fn nothing(alloc: Global) -> Result<Valued, Memory>
+    ensures { IfOk result (λ valued. pair_of valued ≡ plain sets.nothing) }
 {
-    Valued {
+    Ok(Valued {
         value: ScalarSet::empty(alloc),
         usual: None,
-    }
+    })
 }
 
-/// Null alone. This takes no memory.
-pub(crate) fn null_alone(alloc: Global) -> Valued
-    ensures { pair_of result ≡ plain sets.null_alone }
+/// Null alone.
+pub(crate) fn null_alone(alloc: Global) -> Result<Valued, Memory>
+    ensures { IfOk result (λ valued. pair_of valued ≡ plain sets.null_alone) }
 {
-    Valued {
+    Ok(Valued {
         value: ScalarSet {
             null: true,
             no: false,
@@ -51,21 +51,21 @@ pub(crate) fn null_alone(alloc: Global) -> Valued
             texts: TextSet::none(alloc),
         },
         usual: None,
-    }
+    })
 }
 
-/// One truth value alone. This takes no memory.
-pub(crate) fn truth_alone(alloc: Global, truth: bool) -> Valued
-    ensures { pair_of result ≡ plain (sets.truth_alone truth) }
+/// One truth value alone.
+pub(crate) fn truth_alone(alloc: Global, truth: bool) -> Result<Valued, Memory>
+    ensures { IfOk result (λ valued. pair_of valued ≡ plain (sets.truth_alone truth)) }
 {
-    of_truths(alloc, !truth, truth)
+    Ok(of_truths(alloc, !truth, truth))
 }
 
-/// One integer alone. This takes no memory.
-pub(crate) fn integer_alone(alloc: Global, number: i64) -> Valued
-    ensures { pair_of result ≡ plain (sets.integer_alone number) }
+/// One integer alone.
+pub(crate) fn integer_alone(alloc: Global, number: i64) -> Result<Valued, Memory>
+    ensures { IfOk result (λ valued. pair_of valued ≡ plain (sets.integer_alone number)) }
 {
-    of_integers(alloc, IntSet::one(number))
+    Ok(of_integers(alloc, IntSet::one(number)))
 }
 
 /// All integers but one.
@@ -89,15 +89,15 @@ pub(crate) fn other_texts(alloc: Global, text: &str) -> Result<Valued, Memory>
     Ok(of_texts(alloc, TextSet::but(alloc, text)?))
 }
 
-/// The integers that a bound lets stand. This takes no memory.
-pub(crate) fn bounded(alloc: Global, comparison: Comparison, number: i64) -> Valued
-    ensures { pair_of result ≡ plain (sets.bounded comparison number) }
+/// The integers that a bound lets stand.
+pub(crate) fn bounded(alloc: Global, comparison: Comparison, number: i64) -> Result<Valued, Memory>
+    ensures { IfOk result (λ valued. pair_of valued ≡ plain (sets.bounded comparison number)) }
 {
     match comparison {
-        Comparison::Less => below(alloc, number),
-        Comparison::AtMost => of_integers(alloc, IntSet::at_most(number)),
-        Comparison::Greater => above(alloc, number),
-        Comparison::AtLeast => of_integers(alloc, IntSet::at_least(number)),
+        Comparison::Less => Ok(below(alloc, number)),
+        Comparison::AtMost => Ok(of_integers(alloc, IntSet::at_most(number))),
+        Comparison::Greater => Ok(above(alloc, number)),
+        Comparison::AtLeast => Ok(of_integers(alloc, IntSet::at_least(number))),
     }
 }
 
