@@ -2,13 +2,16 @@ use Rattle.std.proofs.Common.{◌≡◌, List, ℤ, [], ◌∷◌, sym, ap, ◌�
 use Rattle.std.specs.Prelude.{int_le}
 use Rattle.std.proofs.lemmas.Int.{ints}
 use Rattle.cue_sets.specs.Pieces.{is_member, least, greatest}
+use Rattle.cue_syntax.specs.declared.tree.Comparison.TheVariants.{Less, Greater}
 use Rattle.cue_eval.specs.Sets as sets
 use Rattle.cue_eval.specs.Pairs.{plain}
 use Rattle.cue_eval.proofs.Integers.{from_below, up_to}
 use Rattle.cue_eval.proofs.scalars.bounded.Goals as goal
 
 pub returns-in-Less : goal.returns-in-Less
-returns-in-Less c = c.below.ensures ∙ ap (λ k. plain (sets.bounded k c.args.number)) (sym c.in-Less.is)
+returns-in-Less c =
+    let number : to_z w64 (of_z w64 c.args.number) ≡ c.args.number = omega (arith, ints) in
+    c.below.ensures ∙ ap (λ (m : ℤ). plain (sets.bounded Less m)) number ∙ ap (λ k. plain (sets.bounded k c.args.number)) (sym c.in-Less.is)
 
 pub returns-in-AtMost : goal.returns-in-AtMost
 returns-in-AtMost c =
@@ -18,7 +21,9 @@ returns-in-AtMost c =
     ∙ ap (λ k. plain (sets.bounded k c.args.number)) (sym c.in-AtMost.is)
 
 pub returns-in-Greater : goal.returns-in-Greater
-returns-in-Greater c = c.above.ensures ∙ ap (λ k. plain (sets.bounded k c.args.number)) (sym c.in-Greater.is)
+returns-in-Greater c =
+    let number : to_z w64 (of_z w64 c.args.number) ≡ c.args.number = omega (arith, ints) in
+    c.above.ensures ∙ ap (λ (m : ℤ). plain (sets.bounded Greater m)) number ∙ ap (λ k. plain (sets.bounded k c.args.number)) (sym c.in-Greater.is)
 
 pub returns-in-AtLeast : goal.returns-in-AtLeast
 returns-in-AtLeast c =
