@@ -1,11 +1,10 @@
 -- Rows read one after another, by their bytes.
-use Rattle.std.proofs.Common.{◌≡◌, ℕ, ◌-◌, ◌<◌, ◌≤◌, Bool, true, false, List, [], ◌∷◌, ◌++◌, append_assoc, length, map, take, Some, ⊎_elim, refl, sym, ap, subst, ◌∙◌, arith}
+use Rattle.std.proofs.Common.{◌≡◌, ℕ, ◌-◌, ◌<◌, ◌≤◌, true, false, List, [], ◌∷◌, ◌++◌, append_assoc, length, map, take, drop, Some, ⊎_elim, refl, sym, ap, subst, ◌∙◌, arith}
 use Rattle.std.specs.List.{flat_map}
-use Rattle.std.proofs.lemmas.List.{append-nil, append_cancel_right, length-append, take-append-le, take_all}
+use Rattle.std.proofs.lemmas.List.{append-nil, append_cancel_right, length-append, length-take, nil_from_length, take-append-drop}
 use Rattle.cue_lattice.specs.declared.refusal.Kind.{Kind}
 use Rattle.cue_lattice.specs.declared.refusal.Kind.TheVariants as kinds
 use Rattle.cue_row.specs.declared.parts.RowParts.{RowParts as Row}
-use Rattle.cue_row.specs.Levels.{level_of}
 use Rattle.cue_row.specs.Row.{Refuses}
 use Rattle.cue_table.specs.Slots.{Place}
 use Rattle.cue_table.specs.RowList.{AppendsKept}
@@ -15,11 +14,10 @@ use Rattle.cue_codec.specs.Entry.{Entry, entry_at}
 use Rattle.cue_codec.specs.Known.{known_with, rows_with, IsKnown, unknown, AreRead}
 use Rattle.cue_codec.specs.Inner.Known.{AreDrafted}
 use Rattle.cue_codec.specs.Reading.{Begins, BeginsNone, IsRefused}
-use Rattle.cue_codec.specs.Parts.{path_bytes}
-use Rattle.cue_codec.specs.RowBytes.{row_bytes, parts_bytes, parts_of, IsStateRow}
-use Rattle.cue_codec.specs.Inner.Drafting.{RowsRead, entries_from, rows_bytes, IsDrafting, IsNext, NoneNext, IsMore, BeginsNoRows}
-use Rattle.cue_codec.specs.Inner.Pieces.{IsAdded, HasNext, IsFront}
-use Rattle.cue_codec.specs.Inner.Scans.{IsWholeRow}
+use Rattle.cue_codec.specs.RowBytes.{row_bytes, IsStateRow}
+use Rattle.cue_codec.specs.Inner.Drafting.{RowsRead, entries_from, rows_bytes, IsDrafting, IsNext, NoneNext, BeginsNoRows}
+use Rattle.cue_codec.specs.Inner.Pieces.{HasRows}
+use Rattle.cue_codec.proofs.Codes.{same_fronts}
 use Rattle.cue_codec.proofs.KnownPlaces.{told_with}
 use Rattle.cue_codec.proofs.ReadStates.{known_next, rows_missing, rows_one_more, rows_unordered, rows_trailing}
 
@@ -130,30 +128,6 @@ same_read version count left rows new indexes items old is e f =
 pub all_drafted : (version : Version) (count left : ℕ) (rows : List (Place × Row)) (indexes known : List ℕ) → left ≡ 0 → AreRead version (rows_bytes version rows indexes) [] count left rows indexes known → AreDrafted version (rows_bytes version rows indexes) count rows indexes
 all_drafted version count left rows indexes known none read = (known, subst (λ n. AreRead version (rows_bytes version rows indexes) [] count n rows indexes known) none read)
 
--- ---- one row of which all bytes stand
-
-pub whole_row : (old new : RowsRead) (row rest : List ℕ) → IsWholeRow old.version row → IsNext old row new rest → IsMore old row new
-whole_row old new row rest whole next =
-    let here : List ℕ = row_bytes old.version next.entry in
-    let none : [] ≡ rest = whole next.entry rest [] next.begins.value (append-nil row ∙ next.begins.parts) in
-    let same : here ≡ row = sym (append-nil here) ∙ ap (λ t. here ++ t) none ∙ sym next.begins.parts in
-    record { version = next.version; count = next.count; bytes = next.longer ∙ ap (λ t. old.bytes ++ t) same }
-
-whole_none : (version : Version) (row more : List ℕ) → IsWholeRow version row → BeginsNone (IsStateRow version) (row_bytes version) row → BeginsNone (IsStateRow version) (row_bytes version) (row ++ more)
-whole_none version row more whole none = λ entry rest p e.
-    let here : List ℕ = row_bytes version entry in
-    let same : row ≡ here = append_cancel_right row here rest (ap (λ t. row ++ t) (sym (whole entry rest more p e)) ∙ e) in
-    none entry [] p (same ∙ sym (append-nil here))
-
-pub whole_refused : (old : RowsRead) (row : List ℕ) → IsWholeRow old.version row → NoneNext old row → BeginsNoRows old.version old.count (old.bytes ++ row)
-whole_refused old row whole none = λ more.
-    subst (NoRows old.version old.count) (sym (append_assoc old.bytes row more)) (none more (whole_none old.version row more whole))
-
--- so it is with a row that was looked for there
-pub whole_next : (old new : RowsRead) (row rest : List ℕ) (is_added : Bool) → IsWholeRow old.version row → HasNext old row new rest is_added → IsAdded old row new is_added
-whole_next old new row rest true whole next = whole_row old new row rest whole next
-whole_next old new row rest false whole next = (next.0, whole_refused old row whole next.2)
-
 -- ---- rows that stand for others
 
 -- what holds of the rows so far and the bytes behind them holds of all
@@ -171,45 +145,29 @@ none_on new rest none =
 pub none_begun : (version : Version) (count : ℕ) (bytes : List ℕ) → BeginsNoRows version count bytes → NoRows version count bytes
 none_begun version count bytes none = subst (NoRows version count) (append-nil bytes) (none [])
 
--- ---- a row in front of bytes
-
-row_some : (version : Version) (entry : Entry) → 0 < length (row_bytes version entry)
-unfolding row_bytes
-row_some version entry = omega (arith, length-append (path_bytes version entry.path) (level_of entry.row.level ∷ parts_bytes version (parts_of entry.row entry.fixed)))
-
-pub front_row : (old new : RowsRead) (bytes rest : List ℕ) (len : ℕ) → IsNext old bytes new rest → len ≡ length bytes - length rest → IsFront old bytes new (Some len)
-front_row old new bytes rest len next e =
-    let here : List ℕ = row_bytes old.version next.entry in
-    let long : len ≡ length here = omega (arith, e, ap length next.begins.parts, length-append here rest) in
-    let some = row_some old.version next.entry in
-    let same : take len bytes ≡ here = ap (take len) next.begins.parts ∙ take-append-le len here rest (omega (arith, long)) ∙ take_all len here (omega (arith, long)) in (
-      omega (arith, e),
-      record { version = next.version; count = next.count; bytes = next.longer ∙ ap (λ t. old.bytes ++ t) (sym same) },
-      λ none. absurd (omega (arith, long, some, none)),
-    )
-
-pub front_none : (old new : RowsRead) (bytes : List ℕ) → new ≡ old → IsFront old bytes new (Some 0)
-front_none old new bytes e = (
-  omega arith,
-  record { version = ap (λ (r : RowsRead). r.version) e; count = ap (λ (r : RowsRead). r.count) e; bytes = ap (λ (r : RowsRead). r.bytes) e ∙ sym (append-nil old.bytes) },
-  λ none. e,
-)
-
--- a row was looked for in front of bytes
-pub front_next : (old new : RowsRead) (bytes rest : List ℕ) (len : ℕ) (is_added : Bool) → HasNext old bytes new rest is_added → len ≡ length bytes - length rest → IsFront old bytes new (Some len)
-front_next old new bytes rest len true next e = front_row old new bytes rest len next e
-front_next old new bytes rest len false next e =
-    let none : 0 ≡ len = omega (arith, e, ap length next.1) in
-    subst (λ n. IsFront old bytes new (Some n)) none (front_none old new bytes next.0)
-
-pub next_within : (old new : RowsRead) (bytes rest : List ℕ) (is_added : Bool) → HasNext old bytes new rest is_added → length rest ≤ length bytes
-next_within old new bytes rest true next = omega (arith, ap length next.begins.parts, length-append (row_bytes old.version next.entry) rest)
-next_within old new bytes rest false next = omega (arith, ap length next.1)
-
 -- what was read and what is left are together the same
 pub next_bytes : (old new : RowsRead) (bytes rest : List ℕ) → IsNext old bytes new rest → new.bytes ++ rest ≡ old.bytes ++ bytes
 next_bytes old new bytes rest next =
     ap (λ t. t ++ rest) next.longer ∙ append_assoc old.bytes (row_bytes old.version next.entry) rest ∙ ap (λ t. old.bytes ++ t) (sym next.begins.parts)
+
+-- the rows that were added have the bytes in front of those that are left
+pub rows_added : (old new : RowsRead) (bytes rest : List ℕ) (len : ℕ) → new.version ≡ old.version → new.count ≡ old.count → new.bytes ++ rest ≡ old.bytes ++ bytes → length rest ≤ length bytes → len ≡ length bytes - length rest → HasRows old bytes new (Some len)
+rows_added old new bytes rest len v c e le long =
+    let front : List ℕ = take len bytes in
+    let back : List ℕ = drop len bytes in
+    let split : new.bytes ++ rest ≡ (old.bytes ++ front) ++ back = e ∙ ap (λ t. old.bytes ++ t) (sym (take-append-drop len bytes)) ∙ sym (append_assoc old.bytes front back) in
+    let same_length : length new.bytes ≡ length (old.bytes ++ front) =
+    omega (arith, le, long, ap length e, length-append new.bytes rest, length-append old.bytes bytes, length-append old.bytes front, length-take len bytes) in (
+      omega (arith, long),
+      record { version = v; count = c; bytes = (same_fronts new.bytes (old.bytes ++ front) rest back same_length split).0 },
+    )
+
+-- no rows are these where none is missing and bytes are left
+pub rows_full : (old new : RowsRead) (bytes rest : List ℕ) → new.version ≡ old.version → new.count ≡ old.count → new.bytes ++ rest ≡ old.bytes ++ bytes → (rest ≡ [] → ⊥) → ((more : List ℕ) → (more ≡ [] → ⊥) → NoRows new.version new.count (new.bytes ++ more))
+    → BeginsNoRows old.version old.count (old.bytes ++ bytes)
+rows_full old new bytes rest v c e some trailing =
+    same_rows BeginsNoRows old new bytes rest v c e
+    (λ more. subst (NoRows new.version new.count) (sym (append_assoc new.bytes rest more)) (trailing (rest ++ more) (λ none. some (nil_from_length rest (omega (arith, ap length none, length-append rest more))))))
 
 -- what is refused for another reason than want of memory
 pub not_memory : (kind : Kind) (R : Type 0) → (kind ≡ kinds.Memory → ⊥) → IsRefused kind R → R

@@ -7,12 +7,11 @@ pub mod Drafted
 pub mod Entries
 pub mod Fed
 pub mod Numbers
+pub mod ReadAgain
 pub mod ReadIndexes
 pub mod ReadStates
 pub mod RowParts
-pub mod RowPieces
 pub mod SameEntries
-pub mod Scanned
 pub mod SetLaws
 pub mod KeptRows
 pub mod KnownPlaces

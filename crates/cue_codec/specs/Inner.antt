@@ -4,7 +4,6 @@ pub mod Intakes
 pub mod Known
 pub mod Pieces
 pub mod Reading
-pub mod Scans
 pub mod Spans
 pub mod Walks
 pub mod Ways

@@ -4,8 +4,7 @@ ghost use Rattle.std.specs.Prelude.{◌≡◌, ◌<◌, ◌↔◌, ◌++◌, [],
 ghost use Rattle.cue_lattice.specs.declared.refusal.Kind.TheVariants.{Memory as OutOfMemory};
 ghost use Rattle.cue_codec.specs.Decoding.{AreReadRows, NoRows};
 ghost use Rattle.cue_codec.specs.Inner.Drafting.{BeginsNoRows};
-ghost use Rattle.cue_codec.specs.Inner.Pieces.{HasNext, IsAdded, IsFront};
-ghost use Rattle.cue_codec.specs.Inner.Scans.{IsWholeRow};
+ghost use Rattle.cue_codec.specs.Inner.Pieces.{HasNext, HasRows};
 ghost use Rattle.cue_codec.specs.Reading.{IsRefused};
 
 use crate::row_reader::RowReader;
@@ -69,13 +68,6 @@ impl Drafting {
         }
     }
 
-    /// The version in which the rows are told.
-    pub fn version(&self) -> Version
-        ensures { result ≡ self.now.version }
-    {
-        self.version
-    }
-
     /// Whether all rows are none.
     pub fn is_none(&self) -> bool
         ensures { IsTrue result ↔ (self.now.count ≡ 0) }
@@ -125,42 +117,30 @@ impl Drafting {
         Ok(true)
     }
 
-    /// Adds the row whose bytes these are, and says whether there is one: there is none where no
-    /// rows begin so. All is left as it is then, and after want of memory.
-    pub fn add(&mut self, row: &[u8]) -> Result<bool, Kind>
-        requires whole { IsWholeRow self.old.version row.now }
-        requires missing { 0 < self.old.left }
-        ensures ok { IfOk result (IsAdded self.old row.now self.new) }
+    /// Adds the rows whose bytes stand in front, as far as these are whole, and says how many bytes
+    /// they have. There is no number where no rows begin so. An error says that memory ran out;
+    /// some of the rows may have been added by then.
+    pub fn add_rows(&mut self, bytes: &[u8]) -> Result<Option<usize>, Kind>
+        ensures ok { IfOk result (HasRows self.old bytes.now self.new) }
         ensures memory { IfErr result (λ kind. kind ≡ OutOfMemory) }
-        ensures err { OnErr result (self.new ≡ self.old) }
-    {
-        let mut reader = RowReader::new(row);
-        match self.next(&mut reader) {
-            Ok(is_added) => Ok(is_added),
-            Err(kind) => match kind {
-                Kind::Memory => Err(Kind::Memory),
-                _ => Ok(false),
-            },
-        }
-    }
-
-    /// Adds the row whose bytes stand in front, and says how many these are; there are none where
-    /// no whole row stands there. There is no number where no rows begin so. All is left as it is
-    /// where none is added, and after want of memory.
-    pub fn add_front(&mut self, bytes: &[u8]) -> Result<Option<usize>, Kind>
-        requires { 0 < self.old.left }
-        ensures ok { IfOk result (IsFront self.old bytes.now self.new) }
-        ensures memory { IfErr result (λ kind. kind ≡ OutOfMemory) }
-        ensures err { OnErr result (self.new ≡ self.old) }
     {
         let mut reader = RowReader::new(bytes);
-        match self.next(&mut reader) {
-            Ok(_) => Ok(Some(bytes.len() - reader.len())),
-            Err(kind) => match kind {
-                Kind::Memory => Err(Kind::Memory),
-                _ => Ok(None),
-            },
+        while !reader.is_at_end() {
+            if self.is_full() {
+                return Ok(None);
+            }
+            let is_added = match self.next(&mut reader) {
+                Ok(is_added) => is_added,
+                Err(kind) => match kind {
+                    Kind::Memory => return Err(Kind::Memory),
+                    _ => return Ok(None),
+                },
+            };
+            if !is_added {
+                return Ok(Some(bytes.len() - reader.len()));
+            }
         }
+        Ok(Some(bytes.len()))
     }
 
     /// The table of the rows, where none is missing.

@@ -13,13 +13,13 @@ mod row_reader;
 mod row_walk;
 mod row_writing;
 mod rows;
-mod scan;
 mod sets;
 mod sizes;
 mod spelling;
 mod state_reader;
 mod state_writer;
 mod telling;
+mod unfinished;
 mod version;
 mod writing;
 

@@ -39,8 +39,8 @@ pub(crate) enum Taken {
 }
 
 /// A reader that is handed state bytes piece by piece, cut wherever they are cut. It keeps the
-/// head, the rows that were read, and the bytes of one row that is unfinished. Contracts see what
-/// it has taken in.
+/// head, the rows that were read, and the bytes of one row that is unfinished, with some of those
+/// behind it. Contracts see what it has taken in.
 #[derive(Drop)]
 pub struct StateReader {
     alloc: Global,
@@ -149,7 +149,8 @@ impl StateReader {
     }
 
     /// Takes in the bytes that come next. A fault that stands whatever follows is told by `finish`;
-    /// from then on nothing is kept, and pieces are dropped. The head takes no memory.
+    /// from where it is found on nothing is kept, and pieces are dropped. Bytes that are no row are
+    /// found by `finish` alone, and are kept until then. The head takes no memory.
     ///
     /// # Errors
     ///

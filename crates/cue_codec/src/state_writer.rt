@@ -38,7 +38,7 @@ impl<'a> Model for StateWriter<'a> {
 }
 
 /// Drops the first bytes, so many.
-fn drop_front(bytes: &mut Vec<u8>, count: usize)
+pub fn drop_front(bytes: &mut Vec<u8>, count: usize)
     requires { count ≤ length bytes.old.items }
     ensures { bytes.new.items ≡ drop count bytes.old.items }
 {

@@ -1,7 +1,7 @@
 //! States read in pieces, as `decode` reads them in one.
 use crate::bytes::Known::Integer;
-use crate::bytes::Part::{Bytes, Letters, Of};
-use crate::bytes::{END, State, between, bytes_of, made, other};
+use crate::bytes::Part::{Bytes, Letters, Of, Structs};
+use crate::bytes::{COUNT, END, SECOND, State, between, bytes_of, made, other};
 use cue_codec::{Row, StateReader, decode};
 use cue_lattice::Kind;
 use cue_table::Table;
@@ -121,19 +121,40 @@ const LONG: State = State(
     &[],
 );
 
+/// The state of a struct below a label of 2,100 letters, which are 0x0834 bytes, and of 64 structs
+/// behind it, one in the other: of their rows many stand where the long one is read again.
+const AHEAD: State = State(
+    &[
+        Of(Integer, 0, SECOND),
+        Bytes(&[1, 0, 0x08, 0x34, 0x41]),
+        Letters(2_099),
+        Bytes(&[2, 2, 0]),
+        Structs(64),
+    ],
+    &[(COUNT, 66)],
+);
+
 /// How large the pieces of a long row are.
-const SIZES: &[usize] = &[1, 1000, 100_000];
+const SIZES: &[usize] = &[1, 7, 1000, 3000, 100_000];
 
 /// Whether a state with a long row is read in pieces of so many bytes.
-fn long_is_read(alloc: Global, size: usize) -> Result<bool, Kind> {
-    let bytes = made(alloc, &LONG)?;
+fn long_is_read(alloc: Global, state: &State, size: usize) -> Result<bool, Kind> {
+    let bytes = made(alloc, state)?;
     are_of(alloc, &bytes, in_pieces(alloc, &bytes, size))
 }
 
 #[test]
 fn a_long_row_is_read(rt: HostRuntime) -> Result<(), Fail> {
     for size in SIZES {
-        assert!(rt; long_is_read(rt.alloc(), *size)?, "{size}");
+        assert!(rt; long_is_read(rt.alloc(), &LONG, *size)?, "{size}");
+    }
+    Ok(())
+}
+
+#[test]
+fn a_long_row_before_others_is_read(rt: HostRuntime) -> Result<(), Fail> {
+    for size in SIZES {
+        assert!(rt; long_is_read(rt.alloc(), &AHEAD, *size)?, "{size}");
     }
     Ok(())
 }

@@ -20,6 +20,14 @@ const KIND: usize = 15;
 /// Where the state of `a: 1` has its label.
 const LABEL: usize = 21;
 
+/// Where the state of `a: 1` has the level of its integer.
+const LEVEL_BELOW: usize = 22;
+
+/// The row of a struct in which only `b`, `c`, `dd` and `e` may stand.
+const LABELS: &[u8] = &[
+    2, 2, 1, 0, 0, 0, 0, 0, 0, 0, 4, 0, 1, 0x62, 0, 1, 0x63, 0, 2, 0x64, 0x64, 0, 1, 0x65,
+];
+
 /// Where the state of `a: 1` has the lowest bytes of the least and the greatest of its usual
 /// integers.
 const FIRST: usize = 74;
@@ -73,6 +81,11 @@ const CASES: &[Case] = &[
     ("a list", State(&[All(List)], &[]), Kept),
     ("a text in a struct", State(&[All(Nested)], &[]), Kept),
     ("a rest", State(&[All(Integers)], &[]), Kept),
+    (
+        "listed labels",
+        State(&[Of(Integer, 0, LEVEL_BELOW), Bytes(LABELS)], &[]),
+        Kept,
+    ),
     (
         "another version",
         State(&[All(Integer)], &[(VERSION, 9)]),
