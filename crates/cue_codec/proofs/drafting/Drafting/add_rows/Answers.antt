@@ -1,8 +1,8 @@
 use Rattle.std.proofs.Common.{◌≡◌, ◌-◌, false, length, Some, sym, ap, subst, ◌∙◌, arith}
 use Rattle.std.proofs.lemmas.Bool.{false≢true}
-use Rattle.cue_codec.specs.Inner.Drafting.{RowsRead, BeginsNoRows}
+use Rattle.cue_codec.specs.Inner.Drafting.{RowsRead}
 use Rattle.cue_codec.specs.Inner.Pieces.{HasNext, HasRows}
-use Rattle.cue_codec.proofs.Drafted.{same_rows, not_memory, rows_added, rows_full}
+use Rattle.cue_codec.proofs.Drafted.{rows_added, rows_full}
 use Rattle.cue_codec.proofs.drafting.Drafting.add_rows.Goals as goal
 
 pub returns-then-is_full-clause-ok : goal.returns-then-is_full-clause-ok
@@ -10,11 +10,6 @@ returns-then-is_full-clause-ok c =
     let l = c.loop-reader in
     rows_full c.args.self.now l.self c.args.bytes.now l.reader l.invariant.version l.invariant.count l.invariant.bytes
     (λ none. false≢true (sym c.loop-reader-test.true ∙ c.is_at_end.ensures.1 none)) (c.is_full.ensures.trailing (c.is_full.ensures.full.0 c.if-is_full.true))
-
-pub returns-in_default-clause-ok : goal.returns-in_default-clause-ok
-returns-in_default-clause-ok c =
-    let l = c.loop-reader in
-    same_rows BeginsNoRows c.args.self.now l.self c.args.bytes.now l.reader l.invariant.version l.invariant.count l.invariant.bytes (not_memory c.in-Err.kind _ c.in_default.not-Memory c.in-Err.ensures.refused)
 
 pub returns-then-not-is_added-clause-ok : goal.returns-then-not-is_added-clause-ok
 returns-then-not-is_added-clause-ok c =
