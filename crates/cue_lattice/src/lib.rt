@@ -13,7 +13,7 @@ mod refusal;
 mod scalar;
 mod text;
 
-pub use limits::{LENGTH_LIMIT, LEVEL_LIMIT, SIZE_LIMIT, STEP_LIMIT, TEXT_LIMIT, WORD_LIMIT};
+pub use limits::{LENGTH_LIMIT, LEVEL_LIMIT, STEP_LIMIT, TEXT_LIMIT, WORD_LIMIT};
 pub use memory::Memory;
 pub use narrow::{Narrow, Narrowed, meet_all};
 pub use pair::{Pair, Side};

@@ -11,9 +11,5 @@ pub const LEVEL_LIMIT: usize = 64;
 /// How many steps the path of a declared label or element may have at most.
 pub const STEP_LIMIT: usize = 64;
 
-/// How large a file may be at most, where each use of a definition counts all that the definition
-/// writes.
-pub const SIZE_LIMIT: usize = 65_536;
-
 /// How many elements the lists of a state may have at most.
 pub const LENGTH_LIMIT: usize = 65_536;
