@@ -94,7 +94,3 @@ one_more_joins before more now left after rest text len cap len' cap' j e a join
     assoc : (a b c : Bool) → ((a || b) || c) ≡ (a || (b || c))
     assoc true b c = refl
     assoc false b c = refl
-
--- none is left
-pub none_joins : (before more now left : List (List ℕ)) (len cap : ℕ) → Joins before more now left len cap → left ≡ [] → (t : List ℕ) → is_listed now t ≡ (is_listed before t || is_listed more t)
-none_joins before more now left len cap j e t = or_false (is_listed now t) ∙ ap (λ xs. is_listed now t || is_listed xs t) (sym e) ∙ j.listed t

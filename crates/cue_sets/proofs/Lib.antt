@@ -1,12 +1,12 @@
 pub mod Ahead
 pub mod Apart
-pub mod Beside
 pub mod Following
 pub mod Inside
 pub mod Joined
 pub mod LeftOut
 pub mod Merged
 pub mod Neighbours
+pub mod Next
 pub mod OnePiece
 pub mod Ordered
 pub mod PieceTests

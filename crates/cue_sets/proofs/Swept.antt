@@ -31,10 +31,6 @@ or_true : (a : Bool) → (a || true) ≡ true
 or_true true = refl
 or_true false = refl
 
-or_left_false : (a b : Bool) → (a || b) ≡ false → a ≡ false
-or_left_false true b e = e
-or_left_false false b e = refl
-
 -- n lies below the numbers from `from` to `last`, among them or above them
 pub by_place : (P : Type 0) (from last n : ℤ) → (n <ℤ from → P) → (from ≤ℤ n → n ≤ℤ last → P) → (last <ℤ n → P) → P
 by_place P from last n below among above =

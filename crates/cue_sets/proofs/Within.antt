@@ -1,11 +1,13 @@
 -- When all members of a set of texts are members of another.
-use Rattle.std.proofs.Common.{◌≡◌, ◌↔◌, ℕ, suc, ◌+◌, ◌<◌, Bool, true, false, not, ◌&&◌, ◌||◌, IsTrue, List, [], ◌∷◌, length, get_or, refl, sym, ap, ◌∙◌, subst, arith}
+use Rattle.std.proofs.Common.{◌≡◌, ◌↔◌, ℕ, suc, ◌+◌, ◌<◌, Bool, true, false, not, ◌&&◌, ◌||◌, IsTrue, is_le, is_eq, List, [], ◌∷◌, length, get_or, refl, sym, ap, ◌∙◌, subst, arith}
 use mathlib.Core.Bool.{beq}
 use Rattle.std.specs.Str.{bytes_eq}
+use Rattle.std.specs.declared.cmp.Ordering.{Ordering}
+use Rattle.std.specs.declared.cmp.Ordering.TheVariants.{Less, Equal, Greater}
 use Rattle.std.proofs.lemmas.Bool.{false≢true}
 use Rattle.std.proofs.lemmas.Slice.Eq.{bytes_eq-Decides}
-use Rattle.cue_sets.specs.Texts.{is_listed, flipped, is_text_member, IsAscending}
-use Rattle.cue_sets.specs.Inner.Merge.{merged}
+use Rattle.cue_sets.specs.Texts.{is_listed, flipped, is_text_member, text_cmp, IsAscending}
+use Rattle.cue_sets.specs.Inner.Merge.{prepended_if, merged_at, merged}
 use Rattle.cue_sets.specs.TextLaws.{greatest_length, zeros, is_listed-zeros, first_is_listed}
 use Rattle.cue_sets.proofs.Merged.{is_listed-merged}
 use Rattle.cue_sets.proofs.TextSearch.{listed_at}
@@ -125,11 +127,36 @@ none_amiss texts others wanted a b e text listed =
     ∙ sym (is_listed-merged (is_amiss wanted) texts others text refl a b)
     ∙ ap (λ ts. is_listed ts text) e)
 
+-- no text is amiss where none is left of the first list
+pub none_left : (wanted : Bool) (xs ys : List (List ℕ)) → length xs < 1 → merged (is_amiss wanted) xs ys ≡ []
+none_left wanted [] [] h = refl
+none_left wanted [] (y ∷ ys) h = none_left wanted [] ys h
+none_left wanted (x ∷ xs) ys h = absurd (omega arith)
+
+-- how a text stands to the first one of a list
+abbrev pub Stands : Ordering → List ℕ → List (List ℕ) → Type 0
+Stands order x [] = order ≡ Less
+Stands order x (y ∷ ys) = order ≡ text_cmp x y
+
+-- a text that comes next and is amiss
+pub amiss_next : (wanted : Bool) (x : List ℕ) (xs ys : List (List ℕ)) (order : Ordering) → Stands order x ys → is_le order ≡ true → not (beq (is_eq order) wanted) ≡ true → is_listed (merged (is_amiss wanted) (x ∷ xs) ys) x ≡ true
+amiss_next wanted x xs ys order s l e = from ys s where
+  kept : (b : Bool) (zs : List (List ℕ)) → b ≡ true → is_listed (prepended_if b x zs) x ≡ true
+  kept b zs e = ap (λ b. is_listed (prepended_if b x zs) x) e ∙ first_is_listed x zs
+
+  at : (o : Ordering) (y : List ℕ) (ys later : List (List ℕ)) → is_le o ≡ true → not (beq (is_eq o) wanted) ≡ true → is_listed (merged_at (is_amiss wanted) x (merged (is_amiss wanted) xs) o y ys later) x ≡ true
+  at Less y ys later l e = kept (is_amiss wanted true false) _ e
+  at Equal y ys later l e = kept (is_amiss wanted true true) _ e
+  at Greater y ys later l e = absurd (false≢true l)
+
+  from : (ys : List (List ℕ)) → Stands order x ys → is_listed (merged (is_amiss wanted) (x ∷ xs) ys) x ≡ true
+  from [] s = kept (is_amiss wanted true false) _ (subst (λ o. not (beq (is_eq o) wanted) ≡ true) s e)
+  from (y ∷ ys) s = ap (λ o. is_listed (merged_at (is_amiss wanted) x (merged (is_amiss wanted) xs) o y ys (merged (is_amiss wanted) (x ∷ xs) ys)) x) (sym s) ∙ at order y ys _ l e
+
 -- some text is amiss
-pub some_amiss : (texts others later : List (List ℕ)) (wanted : Bool) (text : List ℕ) → IsAscending texts → IsAscending others → merged (is_amiss wanted) texts others ≡ text ∷ later → EachIsListed texts others wanted → ⊥
-some_amiss texts others later wanted text a b e h =
+pub some_amiss : (texts others : List (List ℕ)) (wanted : Bool) (text : List ℕ) → IsAscending texts → IsAscending others → is_listed (merged (is_amiss wanted) texts others) text ≡ true → EachIsListed texts others wanted → ⊥
+some_amiss texts others wanted text a b e h =
     false≢true
     (sym (is_wanted wanted (is_listed texts text) (is_listed others text) (h text))
     ∙ sym (is_listed-merged (is_amiss wanted) texts others text refl a b)
-    ∙ ap (λ ts. is_listed ts text) e
-    ∙ first_is_listed text later)
+    ∙ e)

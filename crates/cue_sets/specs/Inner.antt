@@ -5,4 +5,4 @@ pub mod Gaps
 pub mod Merge
 pub mod Sorted
 pub mod Sweep
-pub mod Taken
+pub mod Walk

@@ -10,7 +10,7 @@ mod int_set;
 mod joining;
 mod kept;
 mod leaving;
-mod moving;
+mod merging;
 mod pieces;
 mod sorting;
 mod text_change;

@@ -2,6 +2,7 @@ ghost use Rattle.std.specs.Prelude.{◌≡◌, ◌↔◌, ℕ, Bool, List, [], �
 ghost use Rattle.std.specs.Prelude.{IfOk, IfSome, IfNone, IsTrue};
 ghost use Rattle.std.specs.List.{list_all, list_any};
 ghost use Rattle.cue_sets.specs.Inner.Combination.{keeps};
+ghost use Rattle.cue_sets.specs.Inner.Walk.{left_of};
 ghost use Rattle.cue_sets.specs.Changes.{IsChanged, Unifies};
 ghost use Rattle.cue_sets.specs.declared.text_change.TextChange.TheVariants.{Keep, Lack};
 ghost use Rattle.cue_sets.specs.Texts.{is_listed, is_text_member, IsAscending, IsFirstText};
@@ -11,13 +12,14 @@ use crate::TextChange;
 use crate::combination::Combination;
 use crate::joining::{move_to_room, put_each};
 use crate::leaving::remove_each;
-use crate::moving::{merge_beside, merge_moved};
+use crate::merging::{Walk, is_before, merge};
 use crate::sorting::sorted;
 use crate::texts::{
-    Lists, are_same, ascends, copies, each_is_listed, has, is_member, merge, zeros, zeros_listed,
+    Lists, are_same, ascends, copies, each_is_listed, has, is_member, zeros, zeros_listed,
 };
 use cue_lattice::{Memory, Narrow, Narrowed, Text};
 use std::alloc::Global;
+use std::collections::VecDeque;
 use std::marker::Model;
 
 /// How many texts are searched for or taken out of a list one by one, however long that is.
@@ -384,17 +386,13 @@ impl TextSet {
             is_text_member set text ≡ keeps how (is_text_member self.now text)
             (is_text_member other.now text)) }
     {
-        let lists = Lists {
-            how,
-            left_all_but: self.all_but,
-            right_all_but: other.all_but,
-        };
-        Ok(TextSet {
-            all_but: lists.all_but(),
-            texts: merge(alloc, lists, self.texts.as_slice(), other.texts.as_slice())?,
-        })
+        let lists = self.lists(how, other);
+        let (left, right) = (self.texts.as_slice(), other.texts.as_slice());
+        TextSet::merged(alloc, lists, Walk::Stays(left), Walk::Stays(right))
     }
 
+    /// Where the texts of the other set are behind those of this one, and all stay, they are put at
+    /// the end. Otherwise both lists are walked once.
     fn into_combined(
         self,
         alloc: Global,
@@ -405,31 +403,48 @@ impl TextSet {
             is_text_member set text ≡ keeps how (is_text_member self text)
             (is_text_member other text)) }
     {
-        let lists = Lists {
+        let lists = self.lists(how, &other);
+        let (mut left, mut right) = (self.texts, other.texts);
+        if lists.keep_each() && is_before(left.as_slice(), right.as_slice()) {
+            left.append(&mut right)?;
+            return Ok(TextSet {
+                all_but: lists.all_but(),
+                texts: left,
+            });
+        }
+        let (left, right) = (VecDeque::from(left), VecDeque::from(right));
+        TextSet::merged(alloc, lists, Walk::Moves(left), Walk::Moves(right))
+    }
+
+    /// How what this set and the other one list becomes what their combination lists.
+    fn lists(&self, how: Combination, other: &TextSet) -> Lists
+        ensures how { result.how ≡ how }
+        ensures left { result.left_all_but ≡ self.now.0 }
+        ensures right { result.right_all_but ≡ other.now.0 }
+    {
+        Lists {
             how,
             left_all_but: self.all_but,
             right_all_but: other.all_but,
-        };
-        Ok(TextSet {
-            all_but: lists.all_but(),
-            texts: merge_moved(alloc, lists, self.texts, other.texts)?,
-        })
+        }
     }
 
-    /// The members of both sets. This set stays as it is, and the texts of the other are moved and
-    /// not copied.
-    fn meet_moving(&self, alloc: Global, other: TextSet) -> Result<TextSet, Memory>
-        ensures { IfOk result (λ met. (text : List ℕ) →
-            is_text_member met text ≡ (is_text_member self.now text && is_text_member other text)) }
+    /// A combination of two sets, of which these are the lists.
+    fn merged(
+        alloc: Global,
+        lists: Lists,
+        left: Walk<'_>,
+        right: Walk<'_>,
+    ) -> Result<TextSet, Memory>
+        requires left { IsAscending (left_of left) }
+        requires right { IsAscending (left_of right) }
+        ensures { IfOk result (λ set. (text : List ℕ) → is_text_member set text
+            ≡ keeps lists.how (is_text_member (lists.left_all_but, left_of left.entry) text)
+            (is_text_member (lists.right_all_but, left_of right.entry) text)) }
     {
-        let lists = Lists {
-            how: Combination::Meet,
-            left_all_but: self.all_but,
-            right_all_but: other.all_but,
-        };
         Ok(TextSet {
             all_but: lists.all_but(),
-            texts: merge_beside(alloc, lists, self.texts.as_slice(), other.texts)?,
+            texts: merge(alloc, lists, left, right)?,
         })
     }
 
@@ -483,7 +498,11 @@ impl Narrow for TextSet {
         if other.is_within(self) {
             return Ok(Narrowed::To(other));
         }
-        Ok(Narrowed::To(self.meet_moving(alloc, other)?))
+        let lists = self.lists(Combination::Meet, &other);
+        let right = VecDeque::from(other.texts);
+        let left = self.texts.as_slice();
+        let met = TextSet::merged(alloc, lists, Walk::Stays(left), Walk::Moves(right))?;
+        Ok(Narrowed::To(met))
     }
 
     fn narrow(&mut self, alloc: Global, other: TextSet) -> Result<(), Memory> {

@@ -1,7 +1,6 @@
-ghost use Rattle.std.specs.Prelude.{◌≡◌, ℕ, ◌+◌, ◌<◌, Bool, ◌↔◌, [], List, length, IfOk, IfSome};
-ghost use Rattle.std.specs.Prelude.{IfNone, IsTrue, true, replicate};
+ghost use Rattle.std.specs.Prelude.{◌≡◌, ℕ, ◌↔◌, List, IfOk, IsTrue, true, false, replicate};
 ghost use Rattle.cue_sets.specs.Inner.Combination.{keeps};
-ghost use Rattle.cue_sets.specs.Inner.Merge.{lists, merged, prepended_if};
+ghost use Rattle.cue_sets.specs.Inner.Merge.{lists};
 ghost use Rattle.cue_sets.specs.Texts.{flipped, is_listed, IsAscending, IsFirstText};
 
 use crate::combination::Combination;
@@ -35,6 +34,16 @@ impl Lists {
         self.how.keeps(self.left_all_but, self.right_all_but)
     }
 
+    /// Whether the combination lists each text that one set alone lists.
+    pub(crate) fn keep_each(self) -> bool
+        ensures left { IsTrue result →
+            lists self.how self.left_all_but self.right_all_but true false ≡ true }
+        ensures right { IsTrue result →
+            lists self.how self.left_all_but self.right_all_but false true ≡ true }
+    {
+        self.keeps(true, false) && self.keeps(false, true)
+    }
+
     /// Whether the combination lists a text, by which of the two sets list it.
     pub(crate) fn keeps(self, in_left: bool, in_right: bool) -> bool
         ensures { result ≡ lists self.how self.left_all_but self.right_all_but in_left in_right }
@@ -45,95 +54,6 @@ impl Lists {
         );
         is_member(self.all_but(), kept)
     }
-}
-
-/// The least text of two ascending lists, and what comes after it.
-#[derive(Clone, Copy)]
-struct Least<'a> {
-    text: &'a Text,
-    in_left: bool,
-    in_right: bool,
-    left: &'a [Text],
-    right: &'a [Text],
-}
-
-/// The least text of two ascending lists, where one has a text.
-fn least_text<'a>(left: &'a [Text], right: &'a [Text]) -> Option<Least<'a>>
-    ensures some { IfSome result (λ next. (kept : Bool → Bool → Bool) →
-        merged kept left.now right.now
-        ≡ prepended_if (kept next.in_left next.in_right) next.text.now
-        (merged kept next.left.now next.right.now)) }
-    ensures shorter { IfSome result (λ next.
-        length next.left.now + length next.right.now < length left.now + length right.now) }
-    ensures none { IfNone result ((left.now ≡ []) × (right.now ≡ [])) }
-{
-    match left {
-        [] => match right {
-            [] => None,
-            [text, later @ ..] => Some(Least {
-                text,
-                in_left: false,
-                in_right: true,
-                left,
-                right: later,
-            }),
-        },
-        [on_left, left_later @ ..] => match right {
-            [] => Some(Least {
-                text: on_left,
-                in_left: true,
-                in_right: false,
-                left: left_later,
-                right,
-            }),
-            [on_right, right_later @ ..] => Some(match on_left.compare(on_right) {
-                Ordering::Less => Least {
-                    text: on_left,
-                    in_left: true,
-                    in_right: false,
-                    left: left_later,
-                    right,
-                },
-                Ordering::Equal => Least {
-                    text: on_left,
-                    in_left: true,
-                    in_right: true,
-                    left: left_later,
-                    right: right_later,
-                },
-                Ordering::Greater => Least {
-                    text: on_right,
-                    in_left: false,
-                    in_right: true,
-                    left,
-                    right: right_later,
-                },
-            }),
-        },
-    }
-}
-
-/// The list of a combination of two sets. Both lists are walked once.
-pub(crate) fn merge(
-    alloc: Global,
-    how: Lists,
-    left: &[Text],
-    right: &[Text],
-) -> Result<Vec<Text>, Memory>
-    ensures { IfOk result (λ texts.
-        texts.items ≡ merged (lists how.how how.left_all_but how.right_all_but) left.now
-        right.now) }
-{
-    let mut texts = Vec::with_capacity(alloc, left.len() + right.len())?;
-    let (mut on_left, mut on_right) = (left, right);
-    while let Some(next) = least_text(on_left, on_right) {
-        if how.keeps(next.in_left, next.in_right) {
-            texts.push(next.text.copy(alloc)?)?;
-        }
-        on_left = next.left;
-        on_right = next.right;
-    }
-    Ok(texts)
 }
 
 /// Whether a text is listed, by a binary search.
@@ -195,12 +115,20 @@ fn each_is_met(texts: &[Text], others: &[Text], wanted: bool) -> bool
         ((text : List ℕ) → is_listed texts.now text ≡ true → is_listed others.now text ≡ wanted) }
 {
     let (mut left, mut right) = (texts, others);
-    while let Some(next) = least_text(left, right) {
-        if next.in_left && next.in_right != wanted {
-            return false;
+    while let [text, later @ ..] = left {
+        let order = match right {
+            [] => Ordering::Less,
+            [other, ..] => text.compare(other),
+        };
+        if order.is_le() {
+            if order.is_eq() != wanted {
+                return false;
+            }
+            left = later;
         }
-        left = next.left;
-        right = next.right;
+        if order.is_ge() {
+            right = &right[1..];
+        }
     }
     true
 }

@@ -4,7 +4,7 @@ use Rattle.std.specs.declared.cmp.Ordering.TheVariants.{Less, Equal, Greater}
 use Rattle.std.proofs.lemmas.Bool.{false≢true}
 use Rattle.std.proofs.lemmas.Grind.{common_steps}
 use Rattle.cue_sets.proofs.Apart.{apart_by_ends}
-use Rattle.cue_sets.proofs.moving.is_before.Goals as goal
+use Rattle.cue_sets.proofs.merging.is_before.Goals as goal
 
 is_less : (order : Ordering) → is_lt order ≡ true → order ≡ Less
 is_less Less e = refl
