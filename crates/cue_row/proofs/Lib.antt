@@ -1,5 +1,4 @@
 pub mod Begun
-mod AtLevel
 mod CoveredRows
 pub mod Free
 pub mod MetRows

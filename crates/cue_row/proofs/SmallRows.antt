@@ -1,13 +1,13 @@
--- Small rows: what may stand, that they are valid, and how they are met.
-use Rattle.std.proofs.Common.{◌≡◌, ◌↔◌, ◌⊎◌, inl, inr, ⊎_elim, ℕ, ℤ, pos, Bool, true, false, not, ◌&&◌, List, [], ◌∷◌, None, max, refl, sym, ◌∙◌, subst, arith}
+-- Small rows, and how they are met.
+use Rattle.std.proofs.Common.{◌≡◌, ◌↔◌, ◌⊎◌, inl, inr, ⊎_elim, ℕ, ℤ, Bool, true, false, List, [], ◌∷◌, None, max, refl, sym, ◌∙◌, subst, arith}
 use Rattle.std.proofs.lemmas.Bool.{false≢true}
 use Rattle.std.proofs.lemmas.Int.{ints}
 use Rattle.cue_lattice.specs.declared.scalar.Scalar.{Scalar}
 use Rattle.cue_lattice.specs.declared.scalar.Scalar.TheVariants as scalars
-use Rattle.cue_sets.specs.Pieces.{is_member, least, greatest, IsCanonical, Refuses as RefusesInteger}
-use Rattle.cue_sets.specs.PieceLaws.{is_within-inside, free_is_full, some_member}
+use Rattle.cue_sets.specs.Pieces.{is_member, least, greatest, IsCanonical}
+use Rattle.cue_sets.specs.PieceLaws.{free_is_full, some_member}
 use Rattle.cue_sets.specs.Texts.{is_text_member}
-use Rattle.cue_sets.specs.TextLaws.{first_is_listed, free_is_all}
+use Rattle.cue_sets.specs.TextLaws.{free_is_all}
 use Rattle.cue_scalars.specs.declared.scalar_set.ScalarSet.{ScalarSet}
 use Rattle.cue_scalars.specs.Scalars.{RefusesScalar, IsScalarSet}
 use Rattle.cue_scalars.proofs.ByKind.{refuses_none, no_text_at_all}
@@ -16,72 +16,34 @@ use Rattle.cue_row.specs.declared.level.Level.TheVariants.{Optional}
 use Rattle.cue_row.specs.declared.parts.RowParts.{RowParts}
 use Rattle.cue_row.specs.declared.question.Question.{Question}
 use Rattle.cue_row.specs.RowLaws.{same_level}
-use Rattle.cue_row.specs.declared.kind.RowKind.TheVariants as kinds
 use Rattle.cue_row.specs.declared.question.Question.TheVariants as questions
 use Rattle.cue_row.specs.declared.small.Few.{Few}
 use Rattle.cue_row.specs.declared.small.Small.{Small}
 use Rattle.cue_row.specs.declared.small.Small.TheVariants as small
 use Rattle.cue_row.specs.Kept.{few_set, integers_set, text_set, small_parts}
 use Rattle.cue_row.specs.Inner.Kept.{IsMetSmall}
-use Rattle.cue_row.specs.Kinds.{IsEmptySet, IsFullSet, IsKind}
+use Rattle.cue_row.specs.Kinds.{IsEmptySet, IsFullSet}
 use Rattle.cue_row.specs.LabelSets.{RefusesLabel}
 use Rattle.cue_row.specs.Lengths.{RefusesLength}
 use Rattle.cue_row.specs.Levels.{level_of}
 use Rattle.cue_row.specs.Made.{empty_set, full_set, lone_row}
 use Rattle.cue_row.specs.Row.{IsMetRow, Refuses}
-use Rattle.cue_row.specs.ValidRow.{IsValidRow, IsWord}
 use Rattle.cue_row.proofs.Free.{not_false, free_row}
 use Rattle.cue_row.proofs.MetRows.{met_rows}
 
--- ---- sets without a member, and without one that they lack
-pub none_of_few : (a b c d : Bool) → (not a && not b && not c && not d) ≡ true
-    → IsEmptySet (few_set (record { null = a; no = b; yes = c; texts = d }))
-none_of_few true b c d e x = absurd (false≢true e)
-none_of_few false true c d e x = absurd (false≢true e)
-none_of_few false false true d e x = absurd (false≢true e)
-none_of_few false false false true e x = absurd (false≢true e)
-none_of_few false false false false e scalars.Null = refl
-none_of_few false false false false e (scalars.Bool false) = refl
-none_of_few false false false false e (scalars.Bool true) = refl
-none_of_few false false false false e (scalars.Int n) = refl
-none_of_few false false false false e (scalars.Text t) = refl
-
-pub few_of_none : (a b c d : Bool) → IsEmptySet (few_set (record { null = a; no = b; yes = c; texts = d }))
-    → (not a && not b && not c && not d) ≡ true
-few_of_none true b c d h = absurd (false≢true (sym (h scalars.Null)))
-few_of_none false true c d h = absurd (false≢true (sym (h (scalars.Bool false))))
-few_of_none false false true d h = absurd (false≢true (sym (h (scalars.Bool true))))
-few_of_none false false false true h = absurd (false≢true (sym (h (scalars.Text []))))
-few_of_none false false false false h = refl
-
-pub some_integer : (piece : ℤ × ℤ) → IsCanonical (piece ∷ []) → ¬ IsEmptySet (integers_set piece)
-some_integer piece a h =
-    let first : is_member (piece ∷ []) piece.0 ≡ true = rw (is_within-inside piece piece.0 (omega (arith, ints)) a.1) refl in
-    false≢true (sym (h (scalars.Int piece.0)) ∙ first)
-
-pub some_text : (text : List ℕ) → ¬ IsEmptySet (text_set text)
-some_text text h = false≢true (sym (h (scalars.Text text)) ∙ first_is_listed text [])
-
-zero_is_refused : RefusesInteger [] (pos 0)
-zero_is_refused = ((omega (arith, ints), omega (arith, ints)), refl)
-
--- where all scalars may stand, anything may
-pub anything_of_full : (level : Level) (s : Small) → IsFullSet (small_parts level s).value → s ≡ small.Anything
-anything_of_full level small.Anything f = refl
-anything_of_full level small.Struct f = absurd (f (scalars.Int (pos 0)) zero_is_refused)
-anything_of_full level (small.Few few) f = absurd (f (scalars.Int (pos 0)) zero_is_refused)
-anything_of_full level (small.Integers piece) f = absurd (f (scalars.Text []) refl)
-anything_of_full level (small.Text text) f = absurd (f (scalars.Int (pos 0)) zero_is_refused)
-
-pub not_true : (b : Bool) → (b ≡ true → ⊥) → not b ≡ true
-not_true true h = absurd (h refl)
-not_true false h = refl
-
+-- ---- no scalar and all
 pub all_of_anything : IsFullSet full_set
 all_of_anything =
     refuses_none full_set refl
     ((free_is_full ((least, greatest) ∷ []) (omega (arith, ints), omega (arith, ints), omega (arith, ints), tt)).0 refl)
     ((free_is_all (true, []) tt).0 refl)
+
+pub none_in_empty : IsEmptySet empty_set
+none_in_empty scalars.Null = refl
+none_in_empty (scalars.Bool false) = refl
+none_in_empty (scalars.Bool true) = refl
+none_in_empty (scalars.Int n) = refl
+none_in_empty (scalars.Text t) = refl
 
 -- a set that refuses nothing is all scalars
 pub full_of_free : (set : ScalarSet) → IsScalarSet set → IsFullSet set → set ≡ full_set
@@ -107,25 +69,6 @@ empty_of_none set a none =
     let ints = no_pieces set.ints a.ints (λ n. none (scalars.Int n)) in
     let texts = no_text_at_all set none in
     λ i. record { null = null i; no = no i; yes = yes i; ints = ints i; texts = texts i }
-
--- ---- what may stand
-pub kind_of_anything : (level : Level) → IsKind (small_parts level small.Anything) kinds.Free
-kind_of_anything level = (all_of_anything, refl, refl)
-
-pub kind_of_struct : (level : Level) → IsKind (small_parts level small.Struct) kinds.Struct
-kind_of_struct level = (λ x. none_of_few false false false false refl x, refl, refl)
-
-pub kind_of_nothing : (level : Level) (few : Few) → (not few.null && not few.no && not few.yes && not few.texts) ≡ true → IsKind (small_parts level (small.Few few)) kinds.Nothing
-kind_of_nothing level few e = (none_of_few few.null few.no few.yes few.texts e, refl, refl)
-
-pub kind_of_few : (level : Level) (few : Few) → (not few.null && not few.no && not few.yes && not few.texts) ≡ false → IsKind (small_parts level (small.Few few)) kinds.Scalar
-kind_of_few level few e = (λ h. false≢true (sym e ∙ few_of_none few.null few.no few.yes few.texts h), refl, refl)
-
-pub kind_of_integers : (level : Level) (piece : ℤ × ℤ) → IsCanonical (piece ∷ []) → IsKind (small_parts level (small.Integers piece)) kinds.Scalar
-kind_of_integers level piece a = (some_integer piece a, refl, refl)
-
-pub kind_of_text : (level : Level) (text : List ℕ) → IsKind (small_parts level (small.Text text)) kinds.Scalar
-kind_of_text level text = (some_text text, refl, refl)
 
 -- ---- small rows that are met
 twice : {A : Type 0} → A ↔ (A ⊎ A)
@@ -260,79 +203,3 @@ parts_of_struct row v u value usual struct_ok list_ok labels least most =
       least = least i;
       most = most i;
     }
-
--- ---- small rows are valid
-pub valid_struct : (level : Level) → IsValidRow (small_parts level small.Struct)
-valid_struct level = record {
-  kind = kinds.Struct;
-  is_kind = (λ x. none_of_few false false false false refl x, refl, refl);
-  usual = λ x. none_of_few false false false false refl x;
-  labels = tt;
-  row_lengths = (refl, refl);
-  limits = omega arith;
-  texts = record { labels = tt; value = tt; usual = tt };
-  not_free = λ h. h questions.List refl;
-}
-
-lone_is_valid : (level : Level) (set : ScalarSet) → ¬ IsEmptySet set → set.texts.1 ≡ [] → IsValidRow (lone_row level set)
-lone_is_valid level set some texts = record {
-  kind = kinds.Scalar;
-  is_kind = (some, refl, refl);
-  usual = λ x m. m;
-  labels = refl;
-  row_lengths = (refl, refl);
-  limits = omega arith;
-  texts = record { labels = tt; value = rw texts tt; usual = rw texts tt };
-  not_free = λ h. h questions.List refl;
-}
-
-pub valid_integers : (level : Level) (piece : ℤ × ℤ) → IsCanonical (piece ∷ []) → IsValidRow (small_parts level (small.Integers piece))
-valid_integers level piece a = lone_is_valid level (integers_set piece) (some_integer piece a) refl
-
-valid_by : (level : Level) (few : Few) (t : Bool) → (not few.null && not few.no && not few.yes && not few.texts) ≡ t → IsValidRow (small_parts level (small.Few few))
-valid_by level few false e =
-    lone_is_valid level (few_set few) (λ h. false≢true (sym e ∙ few_of_none few.null few.no few.yes few.texts h)) refl
-valid_by level few true e =
-    let none : IsEmptySet (few_set few) = none_of_few few.null few.no few.yes few.texts e in record {
-      kind = kinds.Nothing;
-      is_kind = (none, refl, refl);
-      usual = none;
-      labels = tt;
-      row_lengths = tt;
-      limits = omega arith;
-      texts = record { labels = tt; value = tt; usual = tt };
-      not_free = λ h. h questions.List refl;
-    }
-
-pub valid_few : (level : Level) (few : Few) → IsValidRow (small_parts level (small.Few few))
-valid_few level few = valid_by level few (not few.null && not few.no && not few.yes && not few.texts) refl
-
-pub valid_text : (level : Level) (text : List ℕ) → IsWord text → IsValidRow (small_parts level (small.Text text))
-valid_text level text word = record {
-  kind = kinds.Scalar;
-  is_kind = (some_text text, refl, refl);
-  usual = λ x m. m;
-  labels = refl;
-  row_lengths = (refl, refl);
-  limits = omega arith;
-  texts = record { labels = tt; value = (word, tt); usual = (word, tt) };
-  not_free = λ h. h questions.List refl;
-}
-
-pub valid_anything : (level : Level) → (level ≡ Optional → ⊥) → IsValidRow (small_parts level small.Anything)
-valid_anything level given = record {
-  kind = kinds.Free;
-  is_kind = (all_of_anything, refl, refl);
-  usual = all_of_anything;
-  labels = refl;
-  row_lengths = (refl, refl);
-  limits = omega arith;
-  texts = record { labels = tt; value = tt; usual = tt };
-  not_free = λ h. given (optional_of_free level h);
-}
-
-pub given_of_valid : (level : Level) → IsValidRow (small_parts level small.Anything) → level ≡ Optional → ⊥
-given_of_valid level valid e = valid.not_free (free_when level small.Anything e refl)
-
-pub word_of_valid : (level : Level) (text : List ℕ) → IsValidRow (small_parts level (small.Text text)) → IsWord text
-word_of_valid level text valid = valid.texts.value.0

@@ -3,15 +3,13 @@ ghost use Rattle.cue_lattice.specs.declared.scalar.Scalar.{Scalar as Scalars};
 ghost use Rattle.cue_row.specs.declared.kind.RowKind.{RowKind as Kinds};
 ghost use Rattle.cue_row.specs.Chosen.{IsChosen};
 ghost use Rattle.cue_row.specs.Kinds.{IsEmptySet, IsFullSet, IsKind};
-ghost use Rattle.cue_row.specs.Kept.{small_parts, IsSmall};
 ghost use Rattle.cue_row.specs.declared.small.Small.TheVariants.{Anything};
-ghost use Rattle.cue_row.specs.declared.level.Level.{Level as Levels};
 ghost use Rattle.cue_scalars.specs.Scalars.{members, IsFirstScalar};
 
 use crate::row::Form;
-use crate::small::{Few, Small};
+use crate::small::Small;
 use crate::{Row, RowParts};
-use cue_lattice::{Memory, Narrow, Scalar};
+use cue_lattice::{Memory, Scalar};
 use cue_scalars::ScalarSet;
 use std::alloc::Global;
 
@@ -37,9 +35,31 @@ impl Row {
         ensures some { IfSome result (IsKind self.now) }
         ensures none { IfNone result ((kind : Kinds) → ¬ IsKind self.now kind) }
     {
-        match &self.form {
-            Form::Small(_, small) => Some(small.kind()),
-            Form::Whole(_, parts) => parts.kind(),
+        match (self.struct_ok(), self.list_ok()) {
+            (true, true) => {
+                if self.has_all_scalars() {
+                    return Some(RowKind::Free);
+                }
+                None
+            }
+            (true, false) => {
+                if self.has_no_scalar() {
+                    return Some(RowKind::Struct);
+                }
+                None
+            }
+            (false, true) => {
+                if self.has_no_scalar() {
+                    return Some(RowKind::List);
+                }
+                None
+            }
+            (false, false) => {
+                if self.has_no_scalar() {
+                    return Some(RowKind::Nothing);
+                }
+                Some(RowKind::Scalar)
+            }
         }
     }
 
@@ -88,37 +108,14 @@ impl Row {
     pub fn has_no_scalar(&self) -> bool
         ensures { IsTrue result ↔ IsEmptySet self.now.value }
     {
-        match &self.form {
-            Form::Small(_, small) => small.has_no_scalar(),
-            Form::Whole(_, parts) => parts.value.is_empty(),
-        }
+        self.value().is_empty()
     }
 
     /// Whether each scalar may stand.
     pub fn has_all_scalars(&self) -> bool
         ensures { IsTrue result ↔ IsFullSet self.now.value }
     {
-        match &self.form {
-            Form::Small(_, small) => small.is_anything(),
-            Form::Whole(_, parts) => parts.value.is_free(),
-        }
-    }
-}
-
-impl Small {
-    /// What may stand at the place.
-    fn kind(&self) -> RowKind
-        requires { IsSmall self.now }
-        ensures { (level : Levels) → IsKind (small_parts level self.now) result }
-    {
-        match self {
-            Small::Anything => RowKind::Free,
-            Small::Struct => RowKind::Struct,
-            Small::Few(few) if few.is_none() => RowKind::Nothing,
-            Small::Few(_) => RowKind::Scalar,
-            Small::Integers(_) => RowKind::Scalar,
-            Small::Text(_) => RowKind::Scalar,
-        }
+        self.value().is_full()
     }
 }
 
@@ -129,65 +126,9 @@ impl Small {
     {
         matches!(self, Small::Anything)
     }
-
-    /// Whether no scalar may stand.
-    fn has_no_scalar(&self) -> bool
-        requires { IsSmall self.now }
-        ensures { (level : Levels) → IsTrue result ↔ IsEmptySet (small_parts level self.now).value }
-    {
-        match self {
-            Small::Struct => true,
-            Small::Few(few) => few.is_none(),
-            Small::Anything => false,
-            Small::Integers(_) => false,
-            Small::Text(_) => false,
-        }
-    }
-}
-
-impl Few {
-    /// Whether none of them may stand.
-    fn is_none(self) -> bool
-        ensures { result ≡ (not self.null && not self.no && not self.yes && not self.texts) }
-    {
-        !self.null && !self.no && !self.yes && !self.texts
-    }
 }
 
 impl RowParts {
-    /// What may stand at the place.
-    pub(crate) fn kind(&self) -> Option<RowKind>
-        ensures some { IfSome result (IsKind self.now) }
-        ensures none { IfNone result ((kind : Kinds) → ¬ IsKind self.now kind) }
-    {
-        match (self.struct_ok, self.list_ok) {
-            (true, true) => {
-                if self.value.is_free() {
-                    return Some(RowKind::Free);
-                }
-                None
-            }
-            (true, false) => {
-                if self.value.is_empty() {
-                    return Some(RowKind::Struct);
-                }
-                None
-            }
-            (false, true) => {
-                if self.value.is_empty() {
-                    return Some(RowKind::List);
-                }
-                None
-            }
-            (false, false) => {
-                if self.value.is_empty() {
-                    return Some(RowKind::Nothing);
-                }
-                Some(RowKind::Scalar)
-            }
-        }
-    }
-
     /// The chosen scalar.
     pub(crate) fn chosen(&self, alloc: Global) -> Result<Option<Scalar>, Memory>
         ensures some { IfOk result (λ found. IfSome found (IsChosen self.now)) }

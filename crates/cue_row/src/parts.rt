@@ -1,9 +1,9 @@
-ghost use Rattle.std.specs.Prelude.{◌≡◌, ◌↔◌, ◌⊎◌, ◌&&◌, ℕ, IfOk, IfSome, IsTrue};
+ghost use Rattle.std.specs.Prelude.{◌≡◌, ◌↔◌, ◌⊎◌, ◌&&◌, ℕ, IfOk, IfSome, IsTrue, OnOk, OnErr};
 ghost use Rattle.cue_row.specs.Lengths.{RefusesLength};
 
 use crate::small::Small;
-use crate::{Labels, Level, Question};
-use cue_lattice::{Memory, Narrow, Narrowed};
+use crate::{Labels, Level};
+use cue_lattice::{Memory, Narrow};
 use cue_scalars::ScalarSet;
 use std::alloc::Global;
 
@@ -28,54 +28,23 @@ pub struct RowParts {
     pub most: Option<u32>,
 }
 
-/// What one part refuses is refused.
-impl Narrow for RowParts {
-    ghost use Rattle.cue_row.specs.Row.{Refuses, IsRow};
-    ghost use Rattle.cue_row.specs.RowLaws.{same_rows};
+impl RowParts {
+    ghost use Rattle.cue_row.specs.declared.question.Question.{Question as Questions};
+    ghost use Rattle.cue_row.specs.Row.{Refuses, IsMetRow, IsRow};
 
-    type Question = Question;
-
-    ghost refuses = { Refuses };
-
-    ghost is_value = { IsRow };
-
-    ghost exact = { same_rows };
-
-    fn free(alloc: Global) -> Result<RowParts, Memory> {
-        Ok(RowParts {
-            level: Level::Optional,
-            value: ScalarSet::free(alloc)?,
-            usual: ScalarSet::free(alloc)?,
-            struct_ok: true,
-            list_ok: true,
-            labels: Labels::free(alloc)?,
-            least: 0,
-            most: None,
-        })
+    /// The parts that refuse nothing.
+    pub fn free(alloc: Global) -> Result<RowParts, Memory>
+        ensures { IfOk result (λ parts. (question : Questions) → ¬ Refuses parts question) }
+    {
+        Ok(RowParts::of_anything(alloc, Level::Optional))
     }
 
-    fn is_free(&self) -> bool {
-        self.is_free_at(self.level)
-    }
-
-    fn meet(&self, alloc: Global, other: &RowParts) -> Result<RowParts, Memory> {
-        Ok(RowParts {
-            level: self.level.greater(other.level),
-            value: Narrow::meet(&self.value, alloc, &other.value)?,
-            usual: Narrow::meet(&self.usual, alloc, &other.usual)?,
-            struct_ok: self.struct_ok && other.struct_ok,
-            list_ok: self.list_ok && other.list_ok,
-            labels: self.labels.meet(alloc, &other.labels)?,
-            least: self.least.max(other.least),
-            most: smaller(self.most, other.most),
-        })
-    }
-
-    fn narrowed_by(&self, alloc: Global, other: RowParts) -> Result<Narrowed<RowParts>, Memory> {
-        self.narrowed_at(alloc, self.level, other)
-    }
-
-    fn narrow(&mut self, alloc: Global, other: RowParts) -> Result<(), Memory> {
+    /// Unifies others into these, which then refuse what one of both did. After want of memory they
+    /// are as they were.
+    pub(crate) fn narrow(&mut self, alloc: Global, other: RowParts) -> Result<(), Memory>
+        ensures ok { OnOk result (IsMetRow self.old other self.new) }
+        ensures err { OnErr result (self.new ≡ self.old) }
+    {
         let value = self.value.change_by(alloc, other.value)?;
         let usual = self.usual.change_by(alloc, other.usual)?;
         let labels = self.labels.narrowed_by(alloc, other.labels)?;
@@ -90,14 +59,10 @@ impl Narrow for RowParts {
         Ok(())
     }
 
-    fn same(&self, other: &RowParts) -> bool {
-        self.has_form_of(other)
-            && self.value.same(&other.value)
-            && self.usual.same(&other.usual)
-            && self.labels.same(&other.labels)
-    }
-
-    fn copy(&self, alloc: Global) -> Result<RowParts, Memory> {
+    /// The same parts once more.
+    pub(crate) fn copy(&self, alloc: Global) -> Result<RowParts, Memory>
+        ensures { IfOk result (λ copied. copied ≡ self.now) }
+    {
         Ok(RowParts {
             level: self.level,
             value: self.value.copy(alloc)?,
@@ -110,7 +75,10 @@ impl Narrow for RowParts {
         })
     }
 
-    fn known(&self) {
+    /// Sets and labels are kept in their one form.
+    pub(crate) fn known(&self)
+        ensures { IsRow self.now }
+    {
         self.value.known();
         self.usual.known();
         self.labels.known();
@@ -123,7 +91,6 @@ impl RowParts {
     ghost use Rattle.cue_row.specs.Kept.{small_parts, IsSmall};
     ghost use Rattle.cue_row.specs.Made.{at_level};
     ghost use Rattle.cue_row.specs.Row.{Refuses};
-    ghost use Rattle.cue_lattice.specs.Narrowed.{IsNarrowedBy};
 
     /// The small row of these parts, beside their level, where there is one.
     pub(crate) fn small(&self, alloc: Global) -> Result<Option<Small>, Memory>
@@ -143,12 +110,15 @@ impl RowParts {
             (true, false) if self.value.is_empty() && self.usual.is_empty() => Ok(Some(
                 Small::Struct,
             )),
-            (false, false) if self.value.same(&self.usual) => Small::of_scalars(alloc, &self.value),
+            (false, false) => match Small::of_scalars(alloc, &self.value)? {
+                Some(small) if self.value.same(&self.usual) => Ok(Some(small)),
+                _ => Ok(None),
+            },
             _ => Ok(None),
         }
     }
 
-    ghost use Rattle.cue_row.specs.Inner.Forms.{AllowsAllForms, HaveOneForm, IsFormWithin};
+    ghost use Rattle.cue_row.specs.Inner.Forms.{AllowsAllForms, IsFormWithin};
 
     /// The same parts, of this level.
     pub(crate) fn at_level(mut self, level: Level) -> RowParts
@@ -173,39 +143,6 @@ impl RowParts {
             return false;
         }
         self.labels.is_free()
-    }
-
-    /// What they become at this level where others are unified into them.
-    pub(crate) fn narrowed_at(
-        &self,
-        alloc: Global,
-        level: Level,
-        other: RowParts,
-    ) -> Result<Narrowed<RowParts>, Memory>
-        ensures { IfOk result (IsNarrowedBy Refuses (at_level level self.now) other) }
-    {
-        let stays = self.is_form_within(level, &other);
-        let level = level.greater(other.level);
-        let struct_ok = both(self.struct_ok, other.struct_ok);
-        let list_ok = both(self.list_ok, other.list_ok);
-        let least = self.least.max(other.least);
-        let most = smaller(self.most, other.most);
-        let value = self.value.narrowed_by(alloc, other.value)?;
-        let usual = self.usual.narrowed_by(alloc, other.usual)?;
-        let labels = self.labels.narrowed_by(alloc, other.labels)?;
-        if stays && value.is_unchanged() && usual.is_unchanged() && labels.is_unchanged() {
-            return Ok(Narrowed::Unchanged);
-        }
-        Ok(Narrowed::To(RowParts {
-            level,
-            value: value.or_copy(alloc, &self.value)?,
-            usual: usual.or_copy(alloc, &self.usual)?,
-            struct_ok,
-            list_ok,
-            labels: labels.or_copy(alloc, &self.labels)?,
-            least,
-            most,
-        }))
     }
 
     /// Whether the row refuses nothing but scalars and labels at this level.
@@ -235,17 +172,6 @@ impl RowParts {
             (None, Some(_)) => false,
             (Some(most), Some(other)) => most <= other,
         }
-    }
-
-    /// Whether both rows are equal in all but scalars and labels.
-    fn has_form_of(&self, other: &RowParts) -> bool
-        ensures { IsTrue result ↔ HaveOneForm self.now other.now }
-    {
-        self.level == other.level
-            && self.struct_ok == other.struct_ok
-            && self.list_ok == other.list_ok
-            && self.least == other.least
-            && self.most == other.most
     }
 }
 

@@ -251,14 +251,24 @@ impl Row {
         }
     }
 
-    /// What the parts become where another row is unified into this one.
-    fn narrowed_parts(&self, alloc: Global, other: Row) -> Result<Narrowed<RowParts>, Memory>
-        ensures { IfOk result (IsNarrowedBy Refuses self.now other) }
+    /// The unification with a row that is taken over, part by part.
+    fn meet_parts(&self, alloc: Global, other: Row) -> Result<Row, Memory>
+        ensures { IfOk result (IsMetRow self.now other) }
     {
-        let other = other.into_parts(alloc)?;
-        match &self.form {
-            Form::Small(level, small) => small.parts(alloc, *level)?.narrowed_by(alloc, other),
-            Form::Whole(level, parts) => parts.narrowed_at(alloc, *level, other),
+        let mut parts = self.parts(alloc)?;
+        parts.narrow(alloc, other.into_parts(alloc)?)?;
+        Row::from_parts(alloc, parts)
+    }
+
+    /// Keeps the row in the value itself, where it is small and there is memory for its text.
+    fn shrink(&mut self, alloc: Global)
+        ensures { self.new ≡ self.old }
+    {
+        let Form::Whole(level, parts) = &self.form else {
+            return;
+        };
+        if let Ok(Some(small)) = parts.small(alloc) {
+            *self = Row::small(*level, small);
         }
     }
 }
@@ -288,18 +298,10 @@ impl Narrow for Row {
     }
 
     fn meet(&self, alloc: Global, other: &Row) -> Result<Row, Memory> {
-        let level = self.level().greater(other.level());
-        if self.covers(other) {
-            return Ok(self.copy(alloc)?.at_level(level));
+        match self.narrowed_by(alloc, other.copy(alloc)?)? {
+            Narrowed::Unchanged => self.copy(alloc),
+            Narrowed::To(met) => Ok(met),
         }
-        if other.covers(self) {
-            return Ok(other.copy(alloc)?.at_level(level));
-        }
-        if let Some(met) = self.meet_small(alloc, other)? {
-            return Ok(met);
-        }
-        let met = self.parts(alloc)?.meet(alloc, &other.parts(alloc)?)?;
-        Row::from_parts(alloc, met)
     }
 
     fn narrowed_by(&self, alloc: Global, other: Row) -> Result<Narrowed<Row>, Memory> {
@@ -310,16 +312,14 @@ impl Narrow for Row {
         if other.covers(self) {
             return Ok(Narrowed::To(other.at_level(level)));
         }
-        if let Some(met) = self.meet_small(alloc, &other)? {
-            if met.same(self) {
-                return Ok(Narrowed::Unchanged);
-            }
-            return Ok(Narrowed::To(met));
+        let met = match self.meet_small(alloc, &other)? {
+            Some(met) => met,
+            None => self.meet_parts(alloc, other)?,
+        };
+        if met.same(self) {
+            return Ok(Narrowed::Unchanged);
         }
-        match self.narrowed_parts(alloc, other)? {
-            Narrowed::Unchanged => Ok(Narrowed::Unchanged),
-            Narrowed::To(met) => Ok(Narrowed::To(Row::from_parts(alloc, met)?)),
-        }
+        Ok(Narrowed::To(met))
     }
 
     fn narrow(&mut self, alloc: Global, other: Row) -> Result<(), Memory> {
@@ -338,6 +338,7 @@ impl Narrow for Row {
                 parts.level = *level;
                 parts.narrow(alloc, other)?;
                 *level = parts.level;
+                self.shrink(alloc);
                 return Ok(());
             }
         }

@@ -1,11 +1,16 @@
 ghost use Rattle.std.specs.Prelude.{◌≡◌, ◌↔◌, IsTrue};
 ghost use Rattle.cue_sets.specs.Pieces.{IsCanonical};
 ghost use Rattle.cue_sets.specs.Texts.{IsAscending};
+ghost use Rattle.cue_row.specs.Kinds.{IsEmptySet, IsFullSet};
+ghost use Rattle.cue_row.specs.Made.{empty_set, full_set};
 
 use cue_lattice::{Narrow, Text};
 use cue_scalars::ScalarSet;
 use cue_sets::are_same;
 use std::marker::Model;
+
+/// The piece of all integers of 64 bits.
+const ALL_INTEGERS: [(i64, i64); 1] = [(i64::MIN, i64::MAX)];
 
 /// A set of scalars, read where it is kept. Contracts see it as the set.
 #[derive(Debug, Drop)]
@@ -33,6 +38,34 @@ impl<'a> Model for Scalars<'a> {
 }
 
 impl<'a> Scalars<'a> {
+    /// No scalar.
+    pub(crate) fn none() -> Scalars<'a>
+        ensures { result ≡ empty_set }
+    {
+        Scalars {
+            null: false,
+            no: false,
+            yes: false,
+            pieces: &[],
+            all_but: false,
+            texts: &[],
+        }
+    }
+
+    /// All scalars.
+    pub(crate) fn all() -> Scalars<'a>
+        ensures { result ≡ full_set }
+    {
+        Scalars {
+            null: true,
+            no: true,
+            yes: true,
+            pieces: &ALL_INTEGERS,
+            all_but: true,
+            texts: &[],
+        }
+    }
+
     /// The scalars of a set.
     pub fn of(set: &'a ScalarSet) -> Scalars<'a>
         ensures { result ≡ set.now }
@@ -100,6 +133,22 @@ impl<'a> Scalars<'a> {
             return false;
         }
         self.has_texts_of(other)
+    }
+
+    /// Whether no scalar is a member.
+    pub(crate) fn is_empty(&self) -> bool
+        ensures { IsTrue result ↔ IsEmptySet self.now }
+    {
+        let _ = &self.null;
+        self.same(&Scalars::none())
+    }
+
+    /// Whether each scalar is a member.
+    pub(crate) fn is_full(&self) -> bool
+        ensures { IsTrue result ↔ IsFullSet self.now }
+    {
+        let _ = &self.null;
+        self.same(&Scalars::all())
     }
 
     /// Whether both have the same integers.

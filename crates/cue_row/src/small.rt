@@ -15,9 +15,6 @@ use cue_sets::{IntSet, TextSet};
 use std::alloc::Global;
 use std::slice;
 
-/// The piece of all integers of 64 bits.
-const ALL_INTEGERS: [(i64, i64); 1] = [(i64::MIN, i64::MAX)];
-
 /// Some of null, false and true, with all texts or none.
 #[derive(Clone, Copy, Debug, PartialEq, Eq)]
 pub(crate) struct Few {
@@ -135,15 +132,8 @@ impl Small {
         ensures usual { (level : Levels) → result ≡ (small_parts level self.now).usual }
     {
         match self {
-            Small::Anything => Scalars {
-                null: true,
-                no: true,
-                yes: true,
-                pieces: &ALL_INTEGERS,
-                all_but: true,
-                texts: &[],
-            },
-            Small::Struct => alone(&[], &[]),
+            Small::Anything => Scalars::all(),
+            Small::Struct => Scalars::none(),
             Small::Few(few) => Scalars {
                 null: few.null,
                 no: few.no,

@@ -1,7 +1,6 @@
 ghost use Rattle.std.specs.Prelude.{◌↔◌, IsTrue};
 ghost use Rattle.cue_row.specs.Row.{IsMetRow, IsRow};
-ghost use Rattle.cue_row.specs.Kept.{small_parts, IsSmall};
-ghost use Rattle.cue_row.specs.Made.{at_level};
+ghost use Rattle.cue_scalars.specs.Scalars.{IsWithin};
 ghost use Rattle.cue_row.specs.Steps.{step_of};
 ghost use Rattle.cue_row.specs.declared.parts.RowParts.{RowParts as RowValue};
 ghost use Rattle.cue_row.specs.ValidRow.{IsValidRow, UsualFits, LabelsFit, LengthsFit, AreLengths};
@@ -9,8 +8,7 @@ ghost use Rattle.cue_row.specs.Inner.Forms.{IsFitRow};
 ghost use Rattle.cue_row.specs.ValidRow.{IsWord, AreWords, HasWords, IsWordStep};
 
 use crate::row::Form;
-use crate::small::Small;
-use crate::{Level, Row, RowKind, RowParts, Step};
+use crate::{Row, RowKind, Step};
 use cue_lattice::{LENGTH_LIMIT, Narrow, Text, WORD_LIMIT};
 
 impl Row {
@@ -19,41 +17,13 @@ impl Row {
     pub fn is_valid(&self) -> bool
         ensures { IsTrue result ↔ IsValidRow self.now }
     {
-        match &self.form {
-            Form::Small(level, small) => small.is_valid(*level),
-            Form::Whole(level, parts) => parts.is_valid(*level),
-        }
-    }
-}
-
-impl Small {
-    /// Whether it may stand in a valid table at this level.
-    fn is_valid(&self, level: Level) -> bool
-        requires { IsSmall self.now }
-        ensures { IsTrue result ↔ IsValidRow (small_parts level self.now) }
-    {
-        match self {
-            Small::Anything => !level.same(Level::Optional),
-            Small::Text(text) => is_word(text),
-            Small::Struct => true,
-            Small::Few(_) => true,
-            Small::Integers(_) => true,
-        }
-    }
-}
-
-impl RowParts {
-    /// Whether they may stand in a valid table at this level.
-    fn is_valid(&self, level: Level) -> bool
-        ensures { IsTrue result ↔ IsValidRow (at_level level self.now) }
-    {
         if !self.is_fit() {
             return false;
         }
-        !self.is_free_at(level)
+        !self.is_free()
     }
 
-    /// Whether they are of a kind, fit it, and keep the limits.
+    /// Whether the row is of a kind, fits it, and keeps the limits.
     fn is_fit(&self) -> bool
         ensures { IsTrue result ↔ IsFitRow self.now }
     {
@@ -81,9 +51,19 @@ impl RowParts {
         ensures { IsTrue result ↔ UsualFits self.now kind }
     {
         match kind {
-            RowKind::Free => self.usual.is_free(),
-            RowKind::Scalar => self.usual.is_within(&self.value),
-            RowKind::Struct | RowKind::List | RowKind::Nothing => self.usual.is_empty(),
+            RowKind::Free => self.usual().is_full(),
+            RowKind::Scalar => self.is_usual_within(),
+            RowKind::Struct | RowKind::List | RowKind::Nothing => self.usual().is_empty(),
+        }
+    }
+
+    /// Whether all usual scalars may stand.
+    fn is_usual_within(&self) -> bool
+        ensures { IsTrue result ↔ IsWithin self.now.usual self.now.value }
+    {
+        match &self.form {
+            Form::Small(_, _) => true,
+            Form::Whole(_, parts) => parts.usual.is_within(&parts.value),
         }
     }
 
@@ -93,7 +73,7 @@ impl RowParts {
     {
         match kind {
             RowKind::Struct | RowKind::Nothing => true,
-            RowKind::Free | RowKind::Scalar | RowKind::List => self.labels.listed().is_none(),
+            RowKind::Free | RowKind::Scalar | RowKind::List => self.labels().is_none(),
         }
     }
 
@@ -104,7 +84,7 @@ impl RowParts {
         match kind {
             RowKind::List | RowKind::Nothing => true,
             RowKind::Free | RowKind::Scalar | RowKind::Struct => {
-                self.least == 0 && self.most.is_none()
+                self.least() == 0 && self.most().is_none()
             }
         }
     }
@@ -113,12 +93,12 @@ impl RowParts {
     fn has_lengths(&self) -> bool
         ensures { IsTrue result ↔ AreLengths self.now.least self.now.most }
     {
-        if self.least as usize > LENGTH_LIMIT {
+        if self.least() as usize > LENGTH_LIMIT {
             return false;
         }
-        match self.most {
+        match self.most() {
             None => true,
-            Some(most) => most <= self.least,
+            Some(most) => most <= self.least(),
         }
     }
 
@@ -127,16 +107,16 @@ impl RowParts {
     fn has_words(&self) -> bool
         ensures { IsTrue result ↔ HasWords self.now }
     {
-        if let Some(labels) = self.labels.listed() {
+        if let Some(labels) = self.labels() {
             if !are_words(labels) {
                 return false;
             }
         }
-        let (_, value) = self.value.texts.listed();
+        let (_, value) = self.value().texts();
         if !are_words(value) {
             return false;
         }
-        let (_, usual) = self.usual.texts.listed();
+        let (_, usual) = self.usual().texts();
         are_words(usual)
     }
 }

@@ -16,14 +16,6 @@ pub record AllowsAllForms (row : Row) : Type 0 where
   pub least : row.least ≡ 0
   pub most : row.most ≡ None
 
--- both say the same
-pub record HaveOneForm (a b : Row) : Type 0 where
-  pub level : a.level ≡ b.level
-  pub struct_ok : a.struct_ok ≡ b.struct_ok
-  pub list_ok : a.list_ok ≡ b.list_ok
-  pub least : a.least ≡ b.least
-  pub most : a.most ≡ b.most
-
 -- the first refuses what the second refuses
 pub record IsFormWithin (a b : Row) : Type 0 where
   pub level : level_of b.level ≤ level_of a.level
