@@ -10,6 +10,7 @@ ghost use Rattle.cue_table.specs.Inner.View.{branches};
 use crate::child::Child;
 use crate::iter::{Children, Labels, Spans};
 use crate::node::Node;
+use crate::rest::{fixed, rest};
 use cue_lattice::Narrow;
 use cue_row::Step;
 use std::marker::Model;
@@ -99,10 +100,9 @@ impl<'a, R: Narrow> Branch<'a, R> {
         ensures rest { result ≡ rest_tree (rest_of self.now) }
         ensures form { IsTable R.refuses R.is_value self.now }
     {
-        let node = self.node;
-        match &node.rest {
+        match rest(self.node) {
             None => None,
-            Some(rest) => Some(Branch::new(&rest.node)),
+            Some(found) => Some(Branch::new(found)),
         }
     }
 
@@ -113,11 +113,7 @@ impl<'a, R: Narrow> Branch<'a, R> {
         ensures few { result ≤ 2 ^ 32 }
         ensures form { IsTable R.refuses R.is_value self.now }
     {
-        let node = self.node;
-        match &node.rest {
-            None => behind_last(&node.children),
-            Some(rest) => rest.from,
-        }
+        fixed(self.node)
     }
 }
 

@@ -1,9 +1,8 @@
-//! One row alone, one branch alone and one rest alone, as a tree.
+//! One branch alone and one rest alone, as a tree, and a place further from the root.
 ghost use Rattle.std.specs.Prelude.{◌≡◌, map, IfOk, None};
 ghost use Rattle.cue_row.specs.Steps.{step_of};
 ghost use Rattle.cue_table.specs.Inner.Rests.{along};
 ghost use Rattle.cue_table.specs.Inner.View.{branches};
-ghost use Rattle.cue_table.specs.Inner.Meet.{chain};
 ghost use Rattle.cue_table.specs.Inner.RowList.{last_cmp};
 ghost use Rattle.cue_table.specs.Tree.{node, none, child, no_rest, onward};
 
@@ -13,24 +12,6 @@ use cue_lattice::{Memory, Narrow};
 use cue_row::Step;
 use std::alloc::Global;
 use std::cmp::Ordering;
-
-/// One row alone, at its path.
-pub(crate) fn single<R: Narrow>(alloc: Global, steps: &[Step], row: R) -> Result<Node<R>, Memory>
-    ensures { IfOk result (λ node. node ≡ chain (map step_of steps.now) row) }
-{
-    match steps {
-        [] => Ok(Node {
-            row: Some(row),
-            children: Vec::new(alloc),
-            rest: None,
-        }),
-        [first, rest @ ..] => {
-            let step = first.copy(alloc)?;
-            let below = single(alloc, rest, row)?;
-            one_branch(alloc, step, below)
-        }
-    }
-}
 
 /// One branch alone, at its step.
 pub(crate) fn one_branch<R: Narrow>(

@@ -1,16 +1,17 @@
 //! Rows in the order of their places, each hung in behind all others.
-ghost use Rattle.std.specs.Prelude.{◌≡◌, ◌≤◌, ◌+◌, ◌∷◌, length, map, max, IfOk, OnErr, None};
+ghost use Rattle.std.specs.Prelude.{◌≡◌, ◌≤◌, ◌+◌, ◌∷◌, length, map, max, IfOk, OnErr};
 ghost use Rattle.std.specs.declared.cmp.Ordering.TheVariants.{Less};
 ghost use Rattle.cue_row.specs.Steps.{step_of};
 ghost use Rattle.cue_table.specs.Depth.{tree_depth};
 ghost use Rattle.cue_table.specs.Form.{IsKept};
 ghost use Rattle.cue_table.specs.Slots.{at, from, rows_of};
 ghost use Rattle.cue_table.specs.SlotsOfCode.{slot_of};
-ghost use Rattle.cue_table.specs.Tree.{node, none, child, rest_of, no_rest, onward};
+ghost use Rattle.cue_table.specs.Tree.{rest_of, no_rest};
 ghost use Rattle.cue_table.specs.Inner.Drafts.{alone, against_step, Hangs};
 ghost use Rattle.cue_table.specs.Inner.Loose.{IsLoose};
 
 use crate::Slot;
+use crate::chain::{one_branch, rest_alone};
 use crate::child::Child;
 use crate::node::{Node, Onward};
 use cue_lattice::{Memory, Narrow};
@@ -34,46 +35,17 @@ pub(crate) fn alone<R: Narrow>(alloc: Global, slots: &[Slot], row: R) -> Result<
     ensures { IfOk result (λ node. node ≡ alone (map slot_of slots.now) row) }
 {
     match slots {
-        [] => Ok(Node {
-            row: Some(row),
-            children: Vec::new(alloc),
-            rest: None,
-        }),
+        [] => Ok(Node::of_row(alloc, row)),
         [Slot::At(step), beyond @ ..] => {
             let step = step.copy(alloc)?;
             let below = alone(alloc, beyond, row)?;
-            one_step(alloc, step, below)
+            one_branch(alloc, step, below)
         }
         [Slot::From(number), beyond @ ..] => {
             let below = alone(alloc, beyond, row)?;
-            one_rest(alloc, *number, below)
+            rest_alone(alloc, *number, below)
         }
     }
-}
-
-/// One branch alone, at its step.
-fn one_step<R: Narrow>(alloc: Global, step: Step, below: Node<R>) -> Result<Node<R>, Memory>
-    ensures { IfOk result (λ above. above ≡ node None (child (step_of step) below none) no_rest) }
-{
-    let mut children = Vec::with_capacity(alloc, 1)?;
-    children.push(Child::new(alloc, step, below)?)?;
-    Ok(Node {
-        row: None,
-        children,
-        rest: None,
-    })
-}
-
-/// A rest alone, from its index on.
-fn one_rest<R: Narrow>(alloc: Global, from: u64, below: Node<R>) -> Result<Node<R>, Memory>
-    ensures { IfOk result (λ above. above ≡ node None none (onward from below)) }
-{
-    let rest = Box::new(alloc, Onward::alone(alloc, from, below))?;
-    Ok(Node {
-        row: None,
-        children: Vec::new(alloc),
-        rest: Some(rest),
-    })
 }
 
 /// How the last branch of a place compares with a step; where there is none, it is before.

@@ -1,6 +1,7 @@
-ghost use Rattle.std.specs.Prelude.{◌≡◌, [], None, map, IfOk, IfSome, MatchResult};
+ghost use Rattle.std.specs.Prelude.{◌≡◌, [], Some, map, IfOk, IfSome, MatchResult};
 ghost use Rattle.std.specs.Option.{option_map};
-ghost use Rattle.cue_table.specs.Tree.{empty, below, row_of, taken, find, step_into, branch_at};
+ghost use Rattle.cue_table.specs.Tree.{empty, node, none, no_rest, below, row_of, taken, find};
+ghost use Rattle.cue_table.specs.Tree.{step_into, branch_at};
 ghost use Rattle.cue_table.specs.Form.{IsTable};
 ghost use Rattle.cue_table.specs.Inner.Form.{Rise};
 ghost use Rattle.cue_lattice.specs.Path.{index};
@@ -86,6 +87,17 @@ impl<R: Narrow> Node<R> {
         }
     }
 
+    /// The place where this row stands, and nothing below.
+    pub(crate) fn of_row(alloc: Global, row: R) -> Node<R>
+        ensures { result ≡ node (Some row) none no_rest }
+    {
+        Node {
+            row: Some(row),
+            children: Vec::new(alloc),
+            rest: None,
+        }
+    }
+
     /// The place itself, where a row stands here or below.
     pub(crate) fn taken(&self) -> Option<&Node<R>>
         ensures { option_map (λ node. node.now) result ≡ taken self.now }
@@ -133,7 +145,6 @@ impl<R: Narrow> Node<R> {
     /// The way along the branches.
     pub(crate) fn cursor(&self) -> Cursor<R>
         ensures all { spread (spans_left result) ≡ below self.now }
-        ensures begun { result.begun ≡ None }
     {
         Cursor {
             begun: None,

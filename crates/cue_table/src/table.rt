@@ -9,7 +9,7 @@ ghost use Rattle.cue_table.specs.Form.{IsTable};
 ghost use Rattle.cue_table.specs.Meet.{IsAdded, IsMet, IsRestAdded};
 
 use crate::Branch;
-use crate::chain::{hung_along, rest_alone, single};
+use crate::chain::{hung_along, rest_alone};
 use crate::meet::{meet_into, narrow_row};
 use crate::node::Node;
 use cue_lattice::{Memory, Narrow};
@@ -142,7 +142,8 @@ impl<R: Narrow> Table<R> {
             return Ok(());
         }
         row.known();
-        let root = single(alloc, path.steps(), row.copy(alloc)?)?;
+        let lone = Node::of_row(alloc, row.copy(alloc)?);
+        let root = hung_along(alloc, path.steps(), lone)?;
         self.meet_with(Table { alloc, root })
     }
 

@@ -1,13 +1,14 @@
 -- Beside `specs/Meet.antt`: what private clauses and proofs alone cite.
-use Rattle.std.specs.Prelude.{[], ◌∷◌, Some, None}
+use Rattle.std.specs.Prelude.{Some}
 use Rattle.std.specs.Option.{option_and_then}
 use Rattle.cue_lattice.specs.Path as paths
 use Rattle.cue_lattice.specs.Path.{Path}
-use Rattle.cue_table.specs.Tree.{Tree, node, Children, none, child, no_rest, row_of, find}
+use Rattle.cue_table.specs.Tree.{Tree, node, Children, none, no_rest, row_of, find}
 use Rattle.cue_table.specs.Tree.{branch_at}
 use Rattle.cue_table.specs.Refuses.{RowRefuses}
 use Rattle.cue_table.specs.Form.{IsBelowAll, AreBranches}
 use Rattle.cue_table.specs.Meet.{IsUnion}
+use Rattle.cue_table.specs.Inner.Rests.{along}
 
 -- what the branches refuse at a step and then a path
 abbrev pub BranchesRefuse : {R Q : Type 0} → (R → Q → Type 0) → Children R → paths.Step → Path
@@ -35,5 +36,4 @@ pub record IsMerge {R Q : Type 0} (refuses : R → Q → Type 0) (P : R → Type
 
 -- one row alone, at its path
 abbrev pub chain : {R : Type 0} → Path → R → Tree R
-chain [] row = node (Some row) none no_rest
-chain (step ∷ path) row = node None (child step (chain path row) none) no_rest
+chain path row = along path (node (Some row) none no_rest)

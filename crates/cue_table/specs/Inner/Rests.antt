@@ -15,20 +15,13 @@ use Rattle.cue_table.specs.Inner.Child.{Child}
 use Rattle.cue_table.specs.declared.node.Onward.{Onward}
 use Rattle.cue_table.specs.declared.node.Run.{Run}
 use Rattle.cue_table.specs.Meet.{IsUnion}
-use Rattle.cue_table.specs.Refuses.{RowRefuses, TableRefuses}
+use Rattle.cue_table.specs.Refuses.{RowRefuses}
 
 -- what a branch that may be there refuses at a path
 abbrev pub BranchRefuses : {R Q : Type 0} → (R → Q → Type 0) → Option (Tree R) → Path → Q → Type 0
 BranchRefuses refuses found path =
     RowRefuses refuses
     (option_and_then row_of (option_and_then (λ branch. branch_at branch path) found))
-
--- the third place refuses below itself exactly what one of the others does there
-abbrev pub AreMetBelow : {R Q : Type 0} → (R → Q → Type 0) → Tree R → Tree R → Tree R → Type 0
-AreMetBelow refuses a b met =
-    (step : paths.Step) (path : Path)
-    → IsUnion (TableRefuses refuses a (step ∷ path)) (TableRefuses refuses b (step ∷ path))
-    (TableRefuses refuses met (step ∷ path))
 
 -- the third branch, where there is one, refuses exactly what one of the others does
 abbrev pub AreMetRests : {R Q : Type 0} → (R → Q → Type 0) → Option (Tree R) → Option (Tree R)
