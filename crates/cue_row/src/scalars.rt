@@ -139,6 +139,7 @@ impl<'a> Scalars<'a> {
     pub(crate) fn is_empty(&self) -> bool
         ensures { IsTrue result ↔ IsEmptySet self.now }
     {
+        // A field is looked at, so that the proof has the type's invariant.
         let _ = &self.null;
         self.same(&Scalars::none())
     }
@@ -147,6 +148,7 @@ impl<'a> Scalars<'a> {
     pub(crate) fn is_full(&self) -> bool
         ensures { IsTrue result ↔ IsFullSet self.now }
     {
+        // A field is looked at, so that the proof has the type's invariant.
         let _ = &self.null;
         self.same(&Scalars::all())
     }
