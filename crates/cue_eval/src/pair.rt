@@ -38,22 +38,22 @@ impl<'a, 'f, 't> Pairs<'a, 'f, 't> {
     {
         match expression {
             Expr::Name { name, .. } => self.name(name),
-            Expr::Integer(written) => integer_alone(self.alloc, integer_of(*written)),
+            Expr::Integer(written) => Ok(integer_alone(self.alloc, integer_of(*written))),
             Expr::Text(text) => text_alone(self.alloc, text.as_str()),
-            Expr::Bottom => nothing(self.alloc),
-            Expr::Bound(comparison, written) => bounded(
+            Expr::Bottom => Ok(nothing(self.alloc)),
+            Expr::Bound(comparison, written) => Ok(bounded(
                 self.alloc,
                 *comparison,
                 integer_of(*written),
-            ),
+            )),
             Expr::OtherInteger(written) => other_integers(self.alloc, integer_of(*written)),
             Expr::OtherText(text) => other_texts(self.alloc, text.as_str()),
             Expr::Parenthesis { inner, .. } => self.pair(inner),
             Expr::Conjunction(parts) => self.conjunction(parts),
             Expr::Disjunction(terms) => self.disjunction(terms),
-            Expr::Struct { .. } => nothing(self.alloc),
-            Expr::Close { .. } => nothing(self.alloc),
-            Expr::List { .. } => nothing(self.alloc),
+            Expr::Struct { .. } => Ok(nothing(self.alloc)),
+            Expr::Close { .. } => Ok(nothing(self.alloc)),
+            Expr::List { .. } => Ok(nothing(self.alloc)),
         }
     }
 
@@ -96,7 +96,7 @@ impl<'a, 'f, 't> Pairs<'a, 'f, 't> {
         match name {
             Identifier::Plain(name) => word(self.alloc, name.as_str()),
             Identifier::Definition(name) => self.used(name.as_str()),
-            Identifier::Hidden(_) => nothing(self.alloc),
+            Identifier::Hidden(_) => Ok(nothing(self.alloc)),
         }
     }
 
@@ -107,10 +107,10 @@ impl<'a, 'f, 't> Pairs<'a, 'f, 't> {
             ≡ pair (named_core self.now (Identifier.Definition name.now))) }
     {
         match self.definitions.number(name) {
-            None => nothing(self.alloc),
+            None => Ok(nothing(self.alloc)),
             Some(number) => match self.pairs.get(number) {
-                None => nothing(self.alloc),
-                Some(None) => nothing(self.alloc),
+                None => Ok(nothing(self.alloc)),
+                Some(None) => Ok(nothing(self.alloc)),
                 Some(Some(pair)) => pair.copy(self.alloc),
             },
         }
@@ -122,11 +122,11 @@ fn word(alloc: Global, name: &str) -> Result<Valued, Memory>
     ensures { IfOk result (λ valued. pair_of valued ≡ pair (meant_word name.now)) }
 {
     match name {
-        "true" => truth_alone(alloc, true),
-        "false" => truth_alone(alloc, false),
-        "null" => null_alone(alloc),
+        "true" => Ok(truth_alone(alloc, true)),
+        "false" => Ok(truth_alone(alloc, false)),
+        "null" => Ok(null_alone(alloc)),
         _ => match Named::of(name) {
-            None => nothing(alloc),
+            None => Ok(nothing(alloc)),
             Some(set) => named_set(alloc, set),
         },
     }

@@ -118,7 +118,7 @@ impl<'a, 'f, 't> Tables<'a, 'f, 't> {
         if name == "_" {
             return Ok(Table::new(alloc));
         }
-        scalar_table(alloc, nothing(alloc)?)
+        scalar_table(alloc, nothing(alloc))
     }
 
     /// A use of a definition.
@@ -131,7 +131,7 @@ impl<'a, 'f, 't> Tables<'a, 'f, 't> {
     {
         let alloc = self.pairs.alloc;
         match self.pairs.definitions.number(name) {
-            None => scalar_table(alloc, nothing(alloc)?),
+            None => scalar_table(alloc, nothing(alloc)),
             Some(number) => self.defined(number),
         }
     }

@@ -29,20 +29,20 @@ pub(crate) fn integer_of(written: Signed) -> i64
 }
 
 /// Nothing: `_|_`.
-pub(crate) fn nothing(alloc: Global) -> Result<Valued, Memory>
-    ensures { IfOk result (λ valued. pair_of valued ≡ plain sets.nothing) }
+pub(crate) fn nothing(alloc: Global) -> Valued
+    ensures { pair_of result ≡ plain sets.nothing }
 {
-    Ok(Valued {
+    Valued {
         value: ScalarSet::empty(alloc),
         usual: None,
-    })
+    }
 }
 
 /// Null alone.
-pub(crate) fn null_alone(alloc: Global) -> Result<Valued, Memory>
-    ensures { IfOk result (λ valued. pair_of valued ≡ plain sets.null_alone) }
+pub(crate) fn null_alone(alloc: Global) -> Valued
+    ensures { pair_of result ≡ plain sets.null_alone }
 {
-    Ok(Valued {
+    Valued {
         value: ScalarSet {
             null: true,
             no: false,
@@ -51,21 +51,21 @@ pub(crate) fn null_alone(alloc: Global) -> Result<Valued, Memory>
             texts: TextSet::none(alloc),
         },
         usual: None,
-    })
+    }
 }
 
 /// One truth value alone.
-pub(crate) fn truth_alone(alloc: Global, truth: bool) -> Result<Valued, Memory>
-    ensures { IfOk result (λ valued. pair_of valued ≡ plain (sets.truth_alone truth)) }
+pub(crate) fn truth_alone(alloc: Global, truth: bool) -> Valued
+    ensures { pair_of result ≡ plain (sets.truth_alone truth) }
 {
-    Ok(of_truths(alloc, !truth, truth))
+    of_truths(alloc, !truth, truth)
 }
 
 /// One integer alone.
-pub(crate) fn integer_alone(alloc: Global, number: i64) -> Result<Valued, Memory>
-    ensures { IfOk result (λ valued. pair_of valued ≡ plain (sets.integer_alone number)) }
+pub(crate) fn integer_alone(alloc: Global, number: i64) -> Valued
+    ensures { pair_of result ≡ plain (sets.integer_alone number) }
 {
-    Ok(of_integers(alloc, IntSet::one(number)))
+    of_integers(alloc, IntSet::one(number))
 }
 
 /// All integers but one.
@@ -90,14 +90,14 @@ pub(crate) fn other_texts(alloc: Global, text: &str) -> Result<Valued, Memory>
 }
 
 /// The integers that a bound lets stand.
-pub(crate) fn bounded(alloc: Global, comparison: Comparison, number: i64) -> Result<Valued, Memory>
-    ensures { IfOk result (λ valued. pair_of valued ≡ plain (sets.bounded comparison number)) }
+pub(crate) fn bounded(alloc: Global, comparison: Comparison, number: i64) -> Valued
+    ensures { pair_of result ≡ plain (sets.bounded comparison number) }
 {
     match comparison {
-        Comparison::Less => Ok(below(alloc, number)),
-        Comparison::AtMost => Ok(of_integers(alloc, IntSet::at_most(number))),
-        Comparison::Greater => Ok(above(alloc, number)),
-        Comparison::AtLeast => Ok(of_integers(alloc, IntSet::at_least(number))),
+        Comparison::Less => below(alloc, number),
+        Comparison::AtMost => of_integers(alloc, IntSet::at_most(number)),
+        Comparison::Greater => above(alloc, number),
+        Comparison::AtLeast => of_integers(alloc, IntSet::at_least(number)),
     }
 }
 

@@ -8,4 +8,4 @@ pub returns-then-eq-clause-answers : goal.returns-then-eq-clause-answers
 returns-then-eq-clause-answers c = hidden_top (bytes_eq c.args.name.now (codes "_")) c.new.result (sym c.eq.ensures ∙ c.if-eq.true) c.new.ensures
 
 pub returns-clause-answers : goal.returns-clause-answers
-returns-clause-answers c = hidden_result c.scalar_table.result (bytes_eq c.args.name.now (codes "_")) c.in_ok-nothing.field-0 (sym c.eq.ensures ∙ c.if-eq.false) c.in_ok-nothing.ensures c.scalar_table.ensures.answers
+returns-clause-answers c = hidden_result c.scalar_table.result (bytes_eq c.args.name.now (codes "_")) c.nothing.result (sym c.eq.ensures ∙ c.if-eq.false) c.nothing.ensures c.scalar_table.ensures.answers

@@ -10,10 +10,10 @@ use Rattle.cue_eval.specs.Inner.Ready.{all_definitions}
 use Rattle.cue_eval.proofs.Leaves.{unknown_result}
 use Rattle.cue_eval.proofs.rows.Tables.used.Goals as goal
 
-pub returns-in_ok-nothing-in-None-clause-answers : goal.returns-in_ok-nothing-in-None-clause-answers
-returns-in_ok-nothing-in-None-clause-answers c =
+pub returns-in-None-clause-answers : goal.returns-in-None-clause-answers
+returns-in-None-clause-answers c =
     let ds = all_definitions c.args.self.now in
-    unknown_result c.scalar_table.result (meaning ds) (number_of c.args.name.now ds) c.in_ok-nothing-in-None.field-0 (sym c.in-None.ensures) c.in_ok-nothing-in-None.ensures c.scalar_table.ensures.answers
+    unknown_result c.scalar_table.result (meaning ds) (number_of c.args.name.now ds) c.nothing.result (sym c.in-None.ensures) c.nothing.ensures c.scalar_table.ensures.answers
 
 pub defined-requires : goal.defined-requires
 defined-requires c = c.requires.tables c.in-Some.number (use_listed (number_of c.args.name.now (all_definitions c.args.self.now)) c.in-Some.number c.in-Some.ensures)
