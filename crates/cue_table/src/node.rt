@@ -1,4 +1,4 @@
-ghost use Rattle.std.specs.Prelude.{◌≡◌, [], Some, map, IfOk, IfSome, MatchResult};
+ghost use Rattle.std.specs.Prelude.{◌≡◌, [], None, Some, map, IfOk, IfSome, MatchResult};
 ghost use Rattle.std.specs.Option.{option_map};
 ghost use Rattle.cue_table.specs.Tree.{empty, node, none, no_rest, below, row_of, taken, find};
 ghost use Rattle.cue_table.specs.Tree.{step_into, branch_at};
@@ -145,6 +145,7 @@ impl<R: Narrow> Node<R> {
     /// The way along the branches.
     pub(crate) fn cursor(&self) -> Cursor<R>
         ensures all { spread (spans_left result) ≡ below self.now }
+        ensures begun { result.begun ≡ None }
     {
         Cursor {
             begun: None,
