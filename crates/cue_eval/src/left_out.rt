@@ -385,7 +385,7 @@ fn only(alloc: Global, labels: Labels) -> Result<Row, Memory>
 {
     let parts = RowParts {
         labels,
-        ..RowParts::free(alloc)?
+        ..RowParts::free(alloc)
     };
     Row::from_parts(alloc, parts)
 }

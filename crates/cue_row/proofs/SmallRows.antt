@@ -60,15 +60,19 @@ no_pieces [] a h = refl
 no_pieces (piece ∷ pieces) a h =
     let w = some_member (piece ∷ pieces) a (λ e. grind arith) in absurd (false≢true (sym (h w.0) ∙ w.1))
 
--- a set with no member is the empty set
+-- a set of which each part has no member is the empty set
+pub empty_by_parts : (set : ScalarSet) → (set.null ≡ false) × (set.no ≡ false) × (set.yes ≡ false) → set.ints ≡ [] → set.texts ≡ (false, []) → set ≡ empty_set
+empty_by_parts set plain ints texts =
+    λ i. record { null = plain.0 i; no = plain.1 i; yes = plain.2 i; ints = ints i; texts = texts i }
+
+-- and so is a set with no member
 pub empty_of_none : (set : ScalarSet) → IsScalarSet set → IsEmptySet set → set ≡ empty_set
 empty_of_none set a none =
     let null = none scalars.Null in
     let no = none (scalars.Bool false) in
     let yes = none (scalars.Bool true) in
     let ints = no_pieces set.ints a.ints (λ n. none (scalars.Int n)) in
-    let texts = no_text_at_all set none in
-    λ i. record { null = null i; no = no i; yes = yes i; ints = ints i; texts = texts i }
+    empty_by_parts set (null, no, yes) ints (no_text_at_all set none)
 
 -- ---- small rows that are met
 twice : {A : Type 0} → A ↔ (A ⊎ A)

@@ -4,7 +4,6 @@ use Rattle.std.specs.Prelude.{map, decimal}
 use Rattle.std.specs.Char.{is_ascii_digit, is_ascii_alphanumeric}
 use Rattle.std.specs.List.{list_all, join_with_byte}
 use Rattle.cue_lattice.specs.Path.{Step, Path, label, index}
-use Rattle.cue_row.specs.declared.step.Step as program
 use Rattle.cue_row.specs.Quoted.{quoted}
 
 abbrev pub dot : ℕ

@@ -33,10 +33,10 @@ impl RowParts {
     ghost use Rattle.cue_row.specs.Row.{Refuses, IsMetRow, IsRow};
 
     /// The parts that refuse nothing.
-    pub fn free(alloc: Global) -> Result<RowParts, Memory>
-        ensures { IfOk result (λ parts. (question : Questions) → ¬ Refuses parts question) }
+    pub fn free(alloc: Global) -> RowParts
+        ensures { (question : Questions) → ¬ Refuses result question }
     {
-        Ok(RowParts::of_anything(alloc, Level::Optional))
+        RowParts::of_anything(alloc, Level::Optional)
     }
 
     /// Unifies others into these, which then refuse what one of both did. After want of memory they

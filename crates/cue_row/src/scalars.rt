@@ -1,4 +1,4 @@
-ghost use Rattle.std.specs.Prelude.{◌≡◌, ◌↔◌, IsTrue};
+ghost use Rattle.std.specs.Prelude.{◌≡◌, ◌↔◌, [], false, IsTrue};
 ghost use Rattle.cue_sets.specs.Pieces.{IsCanonical};
 ghost use Rattle.cue_sets.specs.Texts.{IsAscending};
 ghost use Rattle.cue_row.specs.Kinds.{IsEmptySet, IsFullSet};
@@ -141,7 +141,13 @@ impl<'a> Scalars<'a> {
     {
         // A field is looked at, so that the proof has the type's invariant.
         let _ = &self.null;
-        self.same(&Scalars::none())
+        if !self.lacks_plain() {
+            return false;
+        }
+        if !self.lacks_integers() {
+            return false;
+        }
+        self.lacks_texts()
     }
 
     /// Whether each scalar is a member.
@@ -151,6 +157,29 @@ impl<'a> Scalars<'a> {
         // A field is looked at, so that the proof has the type's invariant.
         let _ = &self.null;
         self.same(&Scalars::all())
+    }
+
+    /// Whether neither null nor a truth value is a member.
+    fn lacks_plain(&self) -> bool
+        ensures { IsTrue result
+            ↔ ((self.now.null ≡ false) × (self.now.no ≡ false) × (self.now.yes ≡ false)) }
+    {
+        !self.null() && !self.no() && !self.yes()
+    }
+
+    /// Whether no integer is a member.
+    fn lacks_integers(&self) -> bool
+        ensures { IsTrue result ↔ (self.now.ints ≡ []) }
+    {
+        self.pieces().is_empty()
+    }
+
+    /// Whether no text is a member.
+    fn lacks_texts(&self) -> bool
+        ensures { IsTrue result ↔ (self.now.texts ≡ (false, [])) }
+    {
+        let (all_but, texts) = self.texts();
+        !all_but && texts.is_empty()
     }
 
     /// Whether both have the same integers.
