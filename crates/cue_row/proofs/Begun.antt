@@ -1,12 +1,7 @@
 -- Texts that are written to.
-use Rattle.std.proofs.Common.{◌≡◌, Result, Ok, Err, ℕ, List, [], ◌++◌, append_assoc, sym, ap, ◌∙◌}
+use Rattle.std.proofs.Common.{◌≡◌, Result, Ok, Err, ℕ, List, ◌++◌, append_assoc, ap, ◌∙◌}
 use Rattle.std.specs.Prelude.{OnErr}
-use Rattle.std.proofs.lemmas.List.{append-nil}
 use Rattle.cue_row.specs.Begun.{StillBegins}
-
--- nothing was written
-pub begins_same : (before after : List ℕ) → after ≡ before → StillBegins before after
-begins_same before after e = ([], e ∙ sym (append-nil before))
 
 -- this was written
 pub begins_more : (before after more : List ℕ) → after ≡ before ++ more → StillBegins before after

@@ -6,3 +6,4 @@ pub mod Texts
 pub mod MetSets
 pub mod MetValid
 mod SmallRows
+mod Plain

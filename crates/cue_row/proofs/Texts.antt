@@ -2,12 +2,10 @@
 use Rattle.std.proofs.Common.{◌≡◌, not, ◌&&◌, ℕ, ◌+◌, ◌<◌, Bool, false, List, [], ◌∷◌, ◌++◌, length, get_or, take, drop, map, sym, ap, ◌∙◌, arith}
 use Rattle.std.specs.Char.{is_ascii_digit}
 use Rattle.std.specs.List.{flat_map, list_all, join_with_byte}
-use Rattle.std.specs.Str.{chars}
 use Rattle.std.proofs.lemmas.List.{append_assoc, append-nil, flat_map_more, take_more}
 use Rattle.cue_lattice.specs.Path.{Path}
 use Rattle.cue_row.specs.declared.step.Step.{Step}
 use Rattle.cue_row.specs.Steps.{step_of}
-use Rattle.cue_row.specs.Quoted.{quotation_mark, char_text, quoted}
 use Rattle.cue_row.specs.PathText.{dot, is_word_byte, is_bare, step_text, path_text}
 use Rattle.cue_row.specs.Inner.PathText.{dotted}
 
@@ -16,14 +14,6 @@ pub next_piece : {X : Type 0} (f : X → List ℕ) (xs : List X) (i : ℕ) (x : 
 next_piece f xs i x start before after h is so_far now =
     let more : take (i + 1) xs ≡ take i xs ++ x ∷ [] = take_more xs i x h ∙ ap (λ y. take i xs ++ y ∷ []) (sym is) in
     now ∙ ap (λ t. t ++ f x) so_far ∙ flat_map_more f start (take i xs) x ∙ ap (λ ys. start ++ flat_map f ys) (sym more)
-
--- the text between quotation marks
-pub between_marks : (out opened middle closed cs text : List ℕ) → opened ≡ out ++ quotation_mark ∷ [] → middle ≡ opened ++ flat_map char_text cs → closed ≡ middle ++ quotation_mark ∷ [] → cs ≡ chars text → closed ≡ out ++ quoted text
-between_marks out opened middle closed cs text a b c all =
-    c ∙ ap (λ t. t ++ quotation_mark ∷ []) (b ∙ ap (λ t. t ++ flat_map char_text cs) a)
-    ∙ append_assoc (out ++ quotation_mark ∷ []) (flat_map char_text cs) (quotation_mark ∷ [])
-    ∙ append_assoc out (quotation_mark ∷ []) (flat_map char_text cs ++ quotation_mark ∷ [])
-    ∙ ap (λ x. out ++ (quotation_mark ∷ (flat_map char_text x ++ quotation_mark ∷ []))) all
 
 -- a label that doesn't begin with a digit is bare where each byte may be in one
 pub bare_by_bytes : (bytes : List ℕ) (r : Bool) → 0 < length bytes → is_ascii_digit (get_or bytes 0 0) ≡ false → r ≡ list_all is_word_byte bytes → r ≡ is_bare bytes

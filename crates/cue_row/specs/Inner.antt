@@ -3,3 +3,4 @@ pub mod Covers
 pub mod Forms
 pub mod Kept
 pub mod PathText
+pub mod Quoted

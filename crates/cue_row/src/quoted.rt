@@ -1,6 +1,9 @@
 ghost use Rattle.std.specs.Prelude.{◌≡◌, ◌<◌, ◌++◌, OnErr, OnOk, string_bytes};
 ghost use Rattle.std.specs.Char.{digit_char};
+ghost use Rattle.std.specs.List.{flat_map, list_all};
+ghost use Rattle.std.specs.Str.{chars};
 ghost use Rattle.cue_row.specs.Begun.{StillBegins};
+ghost use Rattle.cue_row.specs.Inner.Quoted.{is_plain_byte};
 ghost use Rattle.cue_row.specs.Quoted.{quoted, char_text};
 
 use cue_lattice::Memory;
@@ -12,11 +15,40 @@ pub fn push_quoted(out: &mut String, text: &str) -> Result<(), Memory>
     ensures kept { OnErr result (StillBegins (string_bytes out.old) (string_bytes out.new)) }
 {
     out.push('"')?;
+    push_escaped(out, text)?;
+    out.push('"')?;
+    Ok(())
+}
+
+/// Writes the characters of a text, each as it stands between quotation marks. Most texts are
+/// written as they are.
+fn push_escaped(out: &mut String, text: &str) -> Result<(), Memory>
+    ensures written { OnOk result (string_bytes out.new
+        ≡ string_bytes out.old ++ flat_map char_text (chars text.now)) }
+    ensures kept { OnErr result (StillBegins (string_bytes out.old) (string_bytes out.new)) }
+{
+    if is_plain(text.as_bytes()) {
+        out.push_str(text)?;
+        return Ok(());
+    }
     for character in text.chars() {
         push_char(out, character)?;
     }
-    out.push('"')?;
     Ok(())
+}
+
+/// Whether each byte is a character that stands for itself between quotation marks.
+fn is_plain(text: &[u8]) -> bool
+    ensures { result ≡ list_all is_plain_byte text.now }
+{
+    text.iter().all(|byte| is_plain_byte(*byte))
+}
+
+/// Whether a byte is a character of ASCII that stands for itself between quotation marks.
+fn is_plain_byte(byte: u8) -> bool
+    ensures { result ≡ is_plain_byte byte }
+{
+    byte >= b' ' && byte < 0x7f && byte != b'"' && byte != b'\\'
 }
 
 /// Writes a character as it stands between quotation marks.
