@@ -29,7 +29,8 @@ use Rattle.cue_report.specs.Stream.{Flow, Streams, Breaks}
 use Rattle.cue_report.specs.Inner.Writing.{Adds, AddsDocument, AddsScalar, IsSettled, BreaksDocument, BreaksMembers, BreaksElements}
 use Rattle.cue_report.proofs.Clear.{clear_below}
 use Rattle.cue_report.proofs.Descent.{Told, seen, first_demanded}
-use Rattle.cue_report.proofs.Documents.{Seen, IsGathered, key_path, with_member, index_demanded, least_is, put_behind, taken_label, or_false, some_struct, not_free, told_one, told_none}
+use Rattle.cue_report.proofs.DocumentMembers.{IsGathered, key_path, with_member, put_behind, taken_label}
+use Rattle.cue_report.proofs.Documents.{Seen, index_demanded, least_is, or_false, some_struct, not_free, told_one, told_none}
 use Rattle.cue_report.proofs.Exported.{same_answers}
 use Rattle.cue_report.proofs.Flows.{breaks_later, breaks_now, breaks_any}
 use Rattle.cue_report.proofs.Found.{below_found, found_first}

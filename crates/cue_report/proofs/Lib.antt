@@ -3,6 +3,7 @@ pub mod Built
 pub mod Choice
 pub mod Clear
 pub mod Descent
+pub mod DocumentMembers
 pub mod Documents
 pub mod Elements
 pub mod Empty

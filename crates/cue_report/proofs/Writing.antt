@@ -20,7 +20,8 @@ use Rattle.cue_report.specs.Inner.Search.{is_demanded, least_at}
 use Rattle.cue_report.specs.Inner.Writing.{Adds, AddsDocument, AddsElements, AddsMembers, AddsScalar}
 use Rattle.cue_report.specs.Stream.{Flow, Streams, Breaks}
 use Rattle.cue_report.proofs.Descent.{Told}
-use Rattle.cue_report.proofs.Documents.{with_item, with_member, IsCounted, IsGathered, counted_next, counted_null, taken_label, put_behind, object_shape, array_shape, only_scalars}
+use Rattle.cue_report.proofs.DocumentMembers.{with_member, IsGathered, taken_label, put_behind}
+use Rattle.cue_report.proofs.Documents.{with_item, IsCounted, counted_next, counted_null, object_shape, array_shape, only_scalars}
 use Rattle.cue_report.proofs.Flows.{streams_then}
 
 -- the tokens without the closing bracket

@@ -1,5 +1,5 @@
 -- Beside `specs/Telling.antt`: what private clauses and proofs alone cite.
-use Rattle.std.specs.Prelude.{◌≡◌, ◌+◌, List, ◌++◌}
+use Rattle.std.specs.Prelude.{◌≡◌, List, ◌++◌}
 use Rattle.cue_report.specs.Telling.{Tally, Extends}
 
 -- some in front of these were told

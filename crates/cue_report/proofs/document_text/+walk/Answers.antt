@@ -9,7 +9,8 @@ use Rattle.cue_report.specs.Inner.Search.{least_at}
 use Rattle.cue_report.specs.Stream.{flow}
 use Rattle.cue_report.proofs.Breaking.{array_begun, item_begun, items_begun, member_begun, members_begun, no_items_begun, no_members_begun, none_begun, object_begun}
 use Rattle.cue_report.proofs.Descent.{Told}
-use Rattle.cue_report.proofs.Documents.{free_null, free_none, row_is, none_counted, none_gathered, passed_index, passed_label, all_gathered}
+use Rattle.cue_report.proofs.DocumentMembers.{none_gathered, passed_index, passed_label, all_gathered}
+use Rattle.cue_report.proofs.Documents.{free_null, free_none, row_is, none_counted}
 use Rattle.cue_report.proofs.Walk.{inner_smaller, none_left, label_demand_is}
 use Rattle.cue_report.proofs.Writing.{AreItemsSoFar, on_ok, on_err, on_any, adds_object, adds_array, adds_scalar, ends_items, ends_members, next_item, next_null, next_member}
 use Rattle.cue_report.proofs.document_text.+walk.Goals.{write_elements-in-None+in_ok-token-in-None, write_elements-in-Some+in_ok-write_document-in-Some}

@@ -7,7 +7,8 @@ use Rattle.cue_table.specs.Inner.Walks.{found_smaller}
 use Rattle.serde_json.specs.View.{view, members_view}
 use Rattle.serde_json.specs.declared.value.Value.{Null}
 use Rattle.cue_report.specs.Inner.Search.{least_at}
-use Rattle.cue_report.proofs.Documents.{free_place, free_none, struct_shape, list_shape, only_scalars, row_is, counted_in, counted_free, none_gathered, passed_index, passed_label, taken_label, all_gathered}
+use Rattle.cue_report.proofs.DocumentMembers.{none_gathered, passed_index, passed_label, taken_label, all_gathered}
+use Rattle.cue_report.proofs.Documents.{free_place, free_none, struct_shape, list_shape, only_scalars, row_is, counted_in, counted_free}
 use Rattle.cue_report.proofs.Walk.{inner_smaller, none_left, label_demand_is}
 use Rattle.cue_report.proofs.shape.+walk.Goals.{elements_of-in-None, elements_of-in-Some+in_ok-document-in-Some}
 use Rattle.cue_report.proofs.shape.+walk.Goals as goal

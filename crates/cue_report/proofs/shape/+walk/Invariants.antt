@@ -1,7 +1,8 @@
 use Rattle.std.proofs.Common.{◌+◌}
 use Rattle.cue_table.specs.Size.{tree_size}
 use Rattle.serde_json.specs.View.{items_view, members_view}
-use Rattle.cue_report.proofs.Documents.{IsCounted, IsGathered}
+use Rattle.cue_report.proofs.DocumentMembers.{IsGathered}
+use Rattle.cue_report.proofs.Documents.{IsCounted}
 use Rattle.cue_report.proofs.shape.+walk.Given as goal
 
 abbrev pub decreases-document_of : goal.decreases-document_of
