@@ -46,10 +46,8 @@ pub fn read_all<S: Source, K: Kept>(
     if count == 0 {
         return Ok(kept);
     }
-    match read_rest(input, piece, &mut kept) {
-        Ok(()) => Ok(kept),
-        Err(stop) => Err(stop),
-    }
+    read_rest(input, piece, &mut kept)?;
+    Ok(kept)
 }
 
 /// Reads an input to its end of which one piece was read.
@@ -84,8 +82,5 @@ fn read_piece<S: Source>(input: &mut S, piece: &mut [u8]) -> Result<usize, Stop>
     ensures fault { IfErr result (λ stop. IsDevice stop
         × (S.failed input.old < S.failed input.new)) }
 {
-    match input.read(piece) {
-        Ok(count) => Ok(count),
-        Err(_) => Err(Stop::Device),
-    }
+    Ok(input.read(piece)?)
 }

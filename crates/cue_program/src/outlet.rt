@@ -41,10 +41,8 @@ impl<W: Write> Outlet<W> {
         ensures told { OnOk result (Adds (passed W.contents self.old self.new) bytes.now) }
         ensures broken { OnErr result (Breaks (passed W.contents self.old self.new) bytes.now) }
     {
-        match self.hand_on(bytes) {
-            Ok(()) => self.flush(),
-            Err(fault) => Err(fault),
-        }
+        self.hand_on(bytes)?;
+        self.flush()
     }
 
     /// Hands bytes on, all of them, which need not get out yet.
@@ -58,10 +56,8 @@ impl<W: Write> Outlet<W> {
     {
         let mut rest = bytes;
         while !rest.is_empty() {
-            match self.write(rest) {
-                Ok(count) => rest = &rest[count..],
-                Err(fault) => return Err(fault),
-            }
+            let count = self.write(rest)?;
+            rest = &rest[count..];
         }
         Ok(())
     }

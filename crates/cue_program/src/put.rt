@@ -27,12 +27,11 @@ pub fn put<S: Shelf>(shelf: &mut S, alloc: Global, name: &str, site: &Replica) -
     ensures stopped { OnErr result (StopsPutting S.makes name.now shelf.old shelf.new) }
     ensures fault { IfErr result (λ stop. IsDevice stop ⊎ IsMemory stop) }
 {
-    match shelf.look_at(name) {
-        Ok(Form::Nothing) => replace(shelf, alloc, name, false, site),
-        Ok(Form::File) => replace(shelf, alloc, name, true, site),
-        Ok(Form::Link) => put_behind(shelf, alloc, name, site),
-        Ok(Form::Special) => overwrite(shelf, alloc, name, site),
-        Err(_) => Err(Stop::Device),
+    match shelf.look_at(name)? {
+        Form::Nothing => replace(shelf, alloc, name, false, site),
+        Form::File => replace(shelf, alloc, name, true, site),
+        Form::Link => put_behind(shelf, alloc, name, site),
+        Form::Special => overwrite(shelf, alloc, name, site),
     }
 }
 
@@ -48,10 +47,9 @@ fn put_behind<S: Shelf>(
     ensures stopped { OnErr result (StopsAt S.makes name.now Form.Link shelf.old shelf.new) }
     ensures fault { IfErr result (λ stop. IsDevice stop ⊎ IsMemory stop) }
 {
-    match shelf.look_behind(name) {
-        Ok(Form::File) => put_at_end(shelf, alloc, name, site),
-        Ok(_) => overwrite(shelf, alloc, name, site),
-        Err(_) => Err(Stop::Device),
+    match shelf.look_behind(name)? {
+        Form::File => put_at_end(shelf, alloc, name, site),
+        _ => overwrite(shelf, alloc, name, site),
     }
 }
 
@@ -67,10 +65,8 @@ fn put_at_end<S: Shelf>(
     ensures stopped { OnErr result (StopsBehind S.makes name.now Form.File shelf.old shelf.new) }
     ensures fault { IfErr result (λ stop. IsDevice stop ⊎ IsMemory stop) }
 {
-    match shelf.follow(alloc, name) {
-        Ok(place) => replace(shelf, alloc, place.as_str(), true, site),
-        Err(stop) => Err(stop),
-    }
+    let place = shelf.follow(alloc, name)?;
+    replace(shelf, alloc, place.as_str(), true, site)
 }
 
 /// Puts the state bytes of a site at a place where a file lies, or nothing.
@@ -104,8 +100,6 @@ fn overwrite<S: Shelf>(shelf: &mut S, alloc: Global, name: &str, site: &Replica)
     ensures stopped { OnErr result (StopsOverwriting S.makes name.now shelf.old shelf.new) }
     ensures fault { IfErr result (λ stop. IsDevice stop ⊎ IsMemory stop) }
 {
-    match shelf.open_to_write(name) {
-        Ok(mut file) => write_state(shelf, alloc, &mut file, site),
-        Err(_) => Err(Stop::Device),
-    }
+    let mut file = shelf.open_to_write(name)?;
+    write_state(shelf, alloc, &mut file, site)
 }
