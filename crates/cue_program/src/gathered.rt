@@ -61,9 +61,7 @@ impl Gathered {
         ensures refused { IfErr result (λ stop. IsMemory stop ⊎ ((why : Refusal) ×
             IsRefusedAs why number stop × IsTextRefusal text.now why)) }
     {
-        if let Err(stop) = submit(&mut self.batch, text, number) {
-            return Err(stop);
-        }
+        submit(&mut self.batch, text, number)?;
         self.grow(text.len())?;
         Ok(())
     }
@@ -82,9 +80,7 @@ impl Gathered {
             × IsFilePiece bytes piece × IsPieceRefusal piece why × IsRefusedAs why number stop)) }
     {
         let len = file.len();
-        if let Err(stop) = take_file(&mut self.batch, file, number) {
-            return Err(stop);
-        }
+        take_file(&mut self.batch, file, number)?;
         self.grow(len)?;
         Ok(())
     }

@@ -40,10 +40,8 @@ pub fn requests_for<H: AllocGlobal + Shelf, R: Read>(
     if !files.is_empty() {
         return requests_of_files(rt, files);
     }
-    match read_input(rt.alloc(), input) {
-        Ok(bytes) => requests_of(rt.alloc(), bytes),
-        Err(stop) => Err(stop),
-    }
+    let bytes = read_input(rt.alloc(), input)?;
+    requests_of(rt.alloc(), bytes)
 }
 
 /// A request for each of these files.

@@ -84,10 +84,8 @@ pub fn site_for<H: AllocGlobal + Shelf, R: Read>(
     if !files.is_empty() {
         return site_of_files(rt, files);
     }
-    match read_input(rt.alloc(), input) {
-        Ok(input) => site_of(rt.alloc(), input),
-        Err(stop) => Err(stop),
-    }
+    let input = read_input(rt.alloc(), input)?;
+    site_of(rt.alloc(), input)
 }
 
 /// What is kept of a reader that is read to its end.

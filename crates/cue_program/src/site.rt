@@ -39,10 +39,8 @@ pub fn site_of(alloc: Global, input: Input<Texts>) -> Result<Replica, Stop>
     match input {
         Input::State(reader, _) => {
             let mut site = Replica::new(alloc);
-            match take_state(&mut site, reader, 1) {
-                Ok(()) => Ok(site),
-                Err(stop) => Err(stop),
-            }
+            take_state(&mut site, reader, 1)?;
+            Ok(site)
         }
         Input::Text(texts) => texts.finish(),
     }
@@ -105,9 +103,7 @@ pub fn take_parts(mut site: Replica, mut number: usize, bytes: &[u8]) -> Result<
     while let Some(bytes) = rest {
         number = number.saturating_add(1);
         let (part, after) = first_part(bytes);
-        if let Err(stop) = submit(&mut site, part, number) {
-            return Err(stop);
-        }
+        submit(&mut site, part, number)?;
         rest = after;
     }
     Ok(site)

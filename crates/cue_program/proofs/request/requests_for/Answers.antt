@@ -2,6 +2,7 @@ use Rattle.std.proofs.Common.{◌≡◌, ◌<◌, List, ℕ, Some, rules, length
 use Rattle.std.specs.Prelude.{Vec}
 use Rattle.std.specs.Global.{Global}
 use Rattle.std.proofs.lemmas.Result.{IfOk-weaker, IfErr-weaker}
+use Rattle.cue_wire.proofs.Connections.{err_on}
 use Rattle.cue_wire.specs.declared.request.Request as requests
 use Rattle.cue_program.specs.Files.{AreAll, texts}
 use Rattle.cue_program.specs.Inputs.{Inputs, inputs_of, stream}
@@ -10,34 +11,35 @@ use Rattle.cue_program.proofs.Requests.{sent_of_known, unsent_of_known}
 use Rattle.cue_program.proofs.Streams.{inputs_none, inputs_some}
 use Rattle.cue_program.proofs.request.requests_for.Goals as goal
 
-pub returns-in-Ok-clause-requests : goal.returns-in-Ok-clause-requests
-returns-in-Ok-clause-requests g c =
+pub returns-clause-requests : goal.returns-clause-requests
+returns-clause-requests g c =
     let held = g.H.Shelf.held c.args.rt.now in
     let known = g.R.Read.remaining c.args.input.now in
     let empty : length c.args.files.now ≡ 0 = search rules in
-    let all : AreAll known c.in-Ok.bytes.items = subst (λ (b : List ℕ). AreAll known b) (sym c.in-Ok.ensures.all.2) c.in-Ok.ensures.all.1 in
-    IfOk-weaker c.requests_of.result (λ (asked : Vec requests.Request Global). AreRequests (stream (Some c.in-Ok.bytes.items)) asked.items)
+    let all : AreAll known c.in_ok-bytes.bytes.items = subst (λ (b : List ℕ). AreAll known b) (sym c.in_ok-bytes.ensures.all.2) c.in_ok-bytes.ensures.all.1 in
+    IfOk-weaker c.requests_of.result (λ (asked : Vec requests.Request Global). AreRequests (stream (Some c.in_ok-bytes.bytes.items)) asked.items)
     (λ (asked : Vec requests.Request Global). AreRequests (inputs_of held (texts c.args.files.now) known) asked.items)
     (λ asked h. subst (λ (i : Inputs). AreRequests i asked.items) (sym (inputs_none held c.args.files.now known empty))
-    (sent_of_known known c.in-Ok.bytes.items asked.items all h))
+    (sent_of_known known c.in_ok-bytes.bytes.items asked.items all h))
     c.requests_of.ensures.requests
 
-pub returns-in-Ok-clause-stop : goal.returns-in-Ok-clause-stop
-returns-in-Ok-clause-stop g c =
+pub returns-clause-stop : goal.returns-clause-stop
+returns-clause-stop g c =
     let held = g.H.Shelf.held c.args.rt.now in
     let known = g.R.Read.remaining c.args.input.now in
     let empty : length c.args.files.now ≡ 0 = search rules in
-    let all : AreAll known c.in-Ok.bytes.items = subst (λ (b : List ℕ). AreAll known b) (sym c.in-Ok.ensures.all.2) c.in-Ok.ensures.all.1 in
-    IfErr-weaker c.requests_of.result (IsUnsentOn (stream (Some c.in-Ok.bytes.items))) (IsUnsentOn (inputs_of held (texts c.args.files.now) known))
-    (λ stop h. subst (λ (i : Inputs). IsUnsentOn i stop) (sym (inputs_none held c.args.files.now known empty)) (unsent_of_known known c.in-Ok.bytes.items stop all h))
+    let all : AreAll known c.in_ok-bytes.bytes.items = subst (λ (b : List ℕ). AreAll known b) (sym c.in_ok-bytes.ensures.all.2) c.in_ok-bytes.ensures.all.1 in
+    IfErr-weaker c.requests_of.result (IsUnsentOn (stream (Some c.in_ok-bytes.bytes.items))) (IsUnsentOn (inputs_of held (texts c.args.files.now) known))
+    (λ stop h. subst (λ (i : Inputs). IsUnsentOn i stop) (sym (inputs_none held c.args.files.now known empty)) (unsent_of_known known c.in_ok-bytes.bytes.items stop all h))
     c.requests_of.ensures.stop
 
-pub returns-in-Err-clause-stop : goal.returns-in-Err-clause-stop
-returns-in-Err-clause-stop g c =
+pub returns-in_err-bytes-clause-stop : goal.returns-in_err-bytes-clause-stop
+returns-in_err-bytes-clause-stop g c =
     let held = g.H.Shelf.held c.args.rt.now in
     let known = g.R.Read.remaining c.args.input.now in
     let empty : length c.args.files.now ≡ 0 = search rules in
-    subst (λ (i : Inputs). IsUnsentOn i c.in-Err.stop) (sym (inputs_none held c.args.files.now known empty)) (inr (inl c.in-Err.ensures.fault))
+    err_on c.from_residual.result c.in_err-bytes.field-0.0 _ c.from_residual.ensures.1
+    (subst (λ (i : Inputs). IsUnsentOn i c.in_err-bytes.field-0.0) (sym (inputs_none held c.args.files.now known empty)) (inr (inl c.in_err-bytes.ensures.fault)))
 
 pub returns-then-not-is_empty-clause-requests : goal.returns-then-not-is_empty-clause-requests
 returns-then-not-is_empty-clause-requests g c =

@@ -2,6 +2,7 @@ use Rattle.std.proofs.Common.{◌⊎◌, ⊎_elim, Some, inl, inr, subst}
 use Rattle.std.proofs.lemmas.Result.{IfOk-weaker, IfErr-weaker}
 use Rattle.cue_replica.specs.Language.{Table, language}
 use Rattle.cue_replica.specs.Replica.{Adds}
+use Rattle.cue_wire.proofs.Connections.{err_on}
 use Rattle.cue_program.specs.Inputs.{Holds, IsInputRefused, stream}
 use Rattle.cue_program.specs.Stops.{IsMemory}
 use Rattle.cue_program.specs.inner.Taking.{IsStreamRead}
@@ -11,18 +12,19 @@ use Rattle.cue_program.specs.declared.taking.Texts.{Texts}
 use Rattle.cue_program.proofs.Streams.{of_one_state, refused_state, texts_held, texts_refused}
 use Rattle.cue_program.proofs.site.site_of.Goals as goal
 
-pub returns-in-Ok-clause-holds : goal.returns-in-Ok-clause-holds
-returns-in-Ok-clause-holds c bytes h =
+pub returns-in_ok-take_state-in-State-clause-holds : goal.returns-in_ok-take_state-in-State-clause-holds
+returns-in_ok-take_state-in-State-clause-holds c bytes h =
     let is = (subst (λ (input : Input Texts). IsStreamRead input bytes) c.in-State.is h) in
-    of_one_state bytes c.take_state.new.site is.0.0 (c.in-Ok.ensures.state bytes (is.0.1, is.1))
-    (subst (λ (old : Table). Adds old (language.state_refuses bytes) c.take_state.new.site) c.new-site.ensures (c.in-Ok.ensures.adds bytes (is.0.1, is.1)))
-    c.in-Ok.ensures.valid
+    of_one_state bytes c.take_state.new.site is.0.0 (c.in_ok-take_state-in-State.ensures.state bytes (is.0.1, is.1))
+    (subst (λ (old : Table). Adds old (language.state_refuses bytes) c.take_state.new.site) c.new-site.ensures (c.in_ok-take_state-in-State.ensures.adds bytes (is.0.1, is.1)))
+    c.in_ok-take_state-in-State.ensures.valid
 
-pub returns-in-Err-clause-stop : goal.returns-in-Err-clause-stop
-returns-in-Err-clause-stop c bytes h =
+pub returns-in_err-take_state-in-State-clause-stop : goal.returns-in_err-take_state-in-State-clause-stop
+returns-in_err-take_state-in-State-clause-stop c bytes h =
     let is = (subst (λ (input : Input Texts). IsStreamRead input bytes) c.in-State.is h) in
-    let fault = c.in-Err.ensures.refused bytes (is.0.1, is.1) in
-    inl (refused_state bytes fault.0 c.in-Err.stop is.0.0 fault.1 fault.2)
+    let fault = c.in_err-take_state-in-State.ensures.refused bytes (is.0.1, is.1) in
+    err_on c.from_residual.result c.in_err-take_state-in-State.field-0.0 _ c.from_residual.ensures.1
+    (inl (refused_state bytes fault.0 c.in_err-take_state-in-State.field-0.0 is.0.0 fault.1 fault.2))
 
 pub returns-in-Text-clause-holds : goal.returns-in-Text-clause-holds
 returns-in-Text-clause-holds c bytes h =
