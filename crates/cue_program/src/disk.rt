@@ -86,10 +86,7 @@ impl<H: Files> Shelf for H {
 
 /// What a call of the system came to.
 fn done<T>(came: io::Result<T>) -> Result<T, Fault> {
-    match came {
-        Ok(value) => Ok(value),
-        Err(_) => Err(Fault),
-    }
+    came.map_err(|_| Fault)
 }
 
 /// What stands where this was found.

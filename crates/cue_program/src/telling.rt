@@ -35,10 +35,7 @@ impl<W: Write> TextSink for Outlet<W> {
     ghost taken = { λ outlet. W.contents (outlet_inner outlet) };
 
     fn put(&mut self, piece: &str) -> Result<(), Untold> {
-        match self.hand_on(piece.as_bytes()) {
-            Ok(()) => Ok(()),
-            Err(_) => Err(Untold::Device),
-        }
+        self.hand_on(piece.as_bytes()).map_err(|_| Untold::Device)
     }
 }
 
@@ -60,10 +57,10 @@ pub fn tell<W: Write>(
         (IsAnswerCut question site.now (passed W.contents out.old out.new)) }
 {
     match question {
-        Question::State => match tell_state(alloc, site, out) {
-            Ok(()) => Ok(Status::Done),
-            Err(stop) => Err(stop),
-        },
+        Question::State => {
+            tell_state(alloc, site, out)?;
+            Ok(Status::Done)
+        }
         _ => tell_text(alloc, question, site, out),
     }
 }
@@ -82,10 +79,10 @@ fn tell_text<W: Write>(
         (IsAnswerCut question site.now (passed W.contents out.old out.new)) }
 {
     match tell_answer(alloc, question, site, out) {
-        Ok(status) => match out.tell(line_end(question, status)) {
-            Ok(()) => Ok(status),
-            Err(_) => Err(Stop::Device),
-        },
+        Ok(status) => {
+            out.tell(line_end(question, status))?;
+            Ok(status)
+        }
         Err(untold) => Err(stopped(untold, out)),
     }
 }

@@ -23,13 +23,9 @@ pub fn tell_state<W: Write>(alloc: Global, site: &Replica, out: &mut Outlet<W>) 
 {
     let mut piece = room(alloc)?;
     let mut state = site.state_writer()?;
-    match tell_rest(&mut state, &mut piece, out) {
-        Ok(()) => match out.flush() {
-            Ok(()) => Ok(()),
-            Err(_) => Err(Stop::Device),
-        },
-        Err(stop) => Err(stop),
-    }
+    tell_rest(&mut state, &mut piece, out)?;
+    out.flush()?;
+    Ok(())
 }
 
 /// Hands on all bytes that a writer of states has left, in pieces that fill this room.
@@ -47,9 +43,6 @@ fn tell_rest<W: Write>(
         if count == 0 {
             return Ok(());
         }
-        match out.hand_on(&piece[..count]) {
-            Ok(()) => {}
-            Err(_) => return Err(Stop::Device),
-        }
+        out.hand_on(&piece[..count])?;
     }
 }
