@@ -1,7 +1,7 @@
 -- Answers that are written while they are made.
-use Rattle.std.proofs.Common.{◌≡◌, ◌⊎◌, ⊎_elim, inl, inr, ◌++◌, ℕ, List, [], Option, true, refl, sym, ap, ◌∙◌, subst, append_assoc, append-nil}
+use Rattle.std.proofs.Common.{◌≡◌, ◌⊎◌, ⊎_elim, inl, inr, ◌++◌, ℕ, List, Option, true, refl, sym, ap, ◌∙◌, subst, append_assoc, append-nil}
 use Rattle.std.specs.Io.KnownBytes.{Appends}
-use Rattle.cue_answer.specs.Answers.{BeginsAnswer, IsShown, TellsAnswer, line_end}
+use Rattle.cue_answer.specs.Answers.{BeginsAnswer, TellsAnswer, line_end}
 use Rattle.cue_answer.specs.declared.Question.{Question}
 use Rattle.cue_answer.specs.declared.Question.TheVariants as questions
 use Rattle.cue_answer.specs.declared.Status.{Status}
