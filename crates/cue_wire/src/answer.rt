@@ -37,7 +37,7 @@ pub fn answer(alloc: Global, site: &mut Replica, body: &[u8], out: &mut Vec<u8>)
         → vec_len out.old + SHORT_REPLY ≤ vec_capacity out.old → IsOk result }
 {
     match Call::of(body) {
-        None => told(refuse(out, Refusal::at(Kind::BadRequest, 0))),
+        None => refuse(out, Refusal::at(Kind::BadRequest, 0)).map_err(want),
         Some(Call::Text(text)) => {
             make_room(out)?;
             reply_to(out, site.submit(text))
@@ -46,7 +46,7 @@ pub fn answer(alloc: Global, site: &mut Replica, body: &[u8], out: &mut Vec<u8>)
             make_room(out)?;
             reply_to(out, site.take(bytes))
         }
-        Some(Call::Ask(question)) => told(tell(alloc, question, site, out)),
+        Some(Call::Ask(question)) => tell(alloc, question, site, out).map_err(want),
     }
 }
 
@@ -65,9 +65,9 @@ fn reply_to(out: &mut Vec<u8>, taken: Result<(), Refusal>) -> Result<(), Kind>
     ensures kind { IfErr result (λ kind. kind ≡ Kind.Memory) }
 {
     match taken {
-        Ok(()) => told(accept(out, &[], &[])),
+        Ok(()) => accept(out, &[], &[]).map_err(want),
         Err(why) if why.kind == Kind::Memory => Err(why.kind),
-        Err(why) => told(refuse(out, why)),
+        Err(why) => refuse(out, why).map_err(want),
     }
 }
 
@@ -78,21 +78,7 @@ fn make_room(out: &mut Vec<u8>) -> Result<(), Kind>
     ensures err { IfErr result (λ kind. kind ≡ Kind.Memory) }
     ensures ok { vec_len out.old + SHORT_REPLY ≤ vec_capacity out.old → IsOk result }
 {
-    match out.try_reserve(SHORT_REPLY) {
-        Ok(()) => Ok(()),
-        Err(refused) => Err(want_of(refused)),
-    }
-}
-
-/// Whether a reply was added, or how it is told that memory ran out.
-fn told(added: Result<(), Memory>) -> Result<(), Kind>
-    ensures ok { IsOk result ↔ IsOk added }
-    ensures err { IfErr result (λ kind. kind ≡ Kind.Memory) }
-{
-    match added {
-        Ok(()) => Ok(()),
-        Err(memory) => Err(want(memory)),
-    }
+    out.try_reserve(SHORT_REPLY).map_err(want_of)
 }
 
 /// The reply to a question.

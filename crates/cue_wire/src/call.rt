@@ -24,10 +24,7 @@ impl<'b> Call<'b> {
     {
         let (first, rest) = body.split_first()?;
         match *first {
-            1 => match str::from_utf8(rest) {
-                Ok(text) => Some(Call::Text(text)),
-                Err(_) => None,
-            },
+            1 => Some(Call::Text(str::from_utf8(rest).ok()?)),
             2 => Some(Call::State(rest)),
             3 => alone(Question::State, rest),
             4 => alone(Question::Export, rest),

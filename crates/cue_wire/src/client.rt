@@ -130,10 +130,7 @@ fn push_body(out: &mut Vec<u8>, first: u8, rest: &[u8]) -> Result<(), Kind>
     if rest.len() >= FRAME_LIMIT {
         return Err(Kind::FrameTooLong);
     }
-    match write_body(out, first, rest) {
-        Ok(()) => Ok(()),
-        Err(memory) => Err(want(memory)),
-    }
+    write_body(out, first, rest).map_err(want)
 }
 
 fn write_body(out: &mut Vec<u8>, first: u8, rest: &[u8]) -> Result<(), Memory>
@@ -159,9 +156,7 @@ fn take_piece(
         × OnErr result (Extends unread.old.items unread.new.items)
         × Gains (unread.old.items ++ piece.now) rest replies.old.items replies.new.items }
 {
-    if let Err(error) = unread.extend_from_slice(piece) {
-        return Err(want_of(error));
-    }
+    unread.extend_from_slice(piece).map_err(want_of)?;
     let used = read_frames(alloc, unread.as_slice(), replies)?;
     unread.advance(used);
     Ok(())
@@ -174,18 +169,11 @@ fn read_frames(alloc: Global, stream: &[u8], replies: &mut Vec<Vec<u8>>) -> Resu
         × Gains stream.now rest replies.old.items replies.new.items }
 {
     let mut rest = stream;
-    loop {
-        match cut_frame(rest) {
-            Ok(Some((body, behind))) => {
-                if let Err(memory) = push_copy(alloc, replies, body) {
-                    return Err(want(memory));
-                }
-                rest = behind;
-            }
-            Ok(None) => return Ok(stream.len() - rest.len()),
-            Err(kind) => return Err(kind),
-        }
+    while let Some((body, behind)) = cut_frame(rest)? {
+        push_copy(alloc, replies, body).map_err(want)?;
+        rest = behind;
     }
+    Ok(stream.len() - rest.len())
 }
 
 /// Adds a copy of a body.

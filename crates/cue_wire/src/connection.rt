@@ -9,7 +9,7 @@ ghost use Rattle.cue_wire.specs.Sessions.{reading};
 
 use crate::frame::PIECE;
 use crate::session::Session;
-use cue_device::{Fault, Sink, Source};
+use cue_device::{Sink, Source};
 use cue_replica::{Kind, Replica};
 use std::alloc::Global;
 
@@ -61,9 +61,8 @@ pub fn serve<S: Source, K: Sink>(
     let mut left = turns;
     while left > 0 {
         left -= 1;
-        let count = match source.read(&mut piece) {
-            Ok(count) => count,
-            Err(Fault) => return Err(Kind::Device),
+        let Ok(count) = source.read(&mut piece) else {
+            return Err(Kind::Device);
         };
         if count == 0 {
             let whole = session.is_between_frames();
@@ -154,10 +153,10 @@ fn write_all<K: Sink>(sink: &mut K, bytes: &[u8], left: &mut u64) -> Result<(), 
             return Err(Kind::TurnsUsed);
         }
         *left -= 1;
-        match sink.write(rest) {
-            Ok(count) => rest = &rest[count..],
-            Err(Fault) => return Err(Kind::Device),
-        }
+        let Ok(count) = sink.write(rest) else {
+            return Err(Kind::Device);
+        };
+        rest = &rest[count..];
     }
     Ok(())
 }

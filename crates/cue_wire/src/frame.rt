@@ -102,14 +102,13 @@ pub fn next_frame(stream: &mut BytesMut) -> Result<Option<BytesMut>, Kind>
     ensures err { IfErr result (λ kind. (kind ≡ Kind.Memory)
         ⊎ ((kind ≡ Kind.FrameTooLong) × NamesTooMany stream.old.items)) }
 {
-    match body_length(stream.as_slice()) {
-        Ok(Some(_)) => match codec().decode(stream) {
-            Ok(body) => Ok(body),
-            Err(error) if error.kind() == ErrorKind::OutOfMemory => Err(Kind::Memory),
-            // The frame stands there whole, so that the codec fails for want of memory alone.
-            Err(_) => unreachable!(),
-        },
-        Ok(None) => Ok(None),
-        Err(kind) => Err(kind),
+    let Some(_) = body_length(stream.as_slice())? else {
+        return Ok(None);
+    };
+    match codec().decode(stream) {
+        Ok(body) => Ok(body),
+        Err(error) if error.kind() == ErrorKind::OutOfMemory => Err(Kind::Memory),
+        // The frame stands there whole, so that the codec fails for want of memory alone.
+        Err(_) => unreachable!(),
     }
 }

@@ -116,9 +116,7 @@ fn serve(
         × Served (unread.old.items ++ piece.now) rest site.old site.new
         out.old.items out.new.items }
 {
-    if let Err(error) = unread.extend_from_slice(piece) {
-        return Err(want_of(error));
-    }
+    unread.extend_from_slice(piece).map_err(want_of)?;
     serve_frames(alloc, unread, site, out)
 }
 
@@ -132,11 +130,8 @@ fn serve_frames(
     ensures { (rest : List ℕ) × StopsAt result rest × OnOk result (unread.new.items ≡ rest)
         × Served unread.old.items rest site.old site.new out.old.items out.new.items }
 {
-    loop {
-        match next_frame(unread) {
-            Ok(Some(body)) => answer(alloc, site, body.as_slice(), out)?,
-            Ok(None) => return Ok(()),
-            Err(kind) => return Err(kind),
-        }
+    while let Some(body) = next_frame(unread)? {
+        answer(alloc, site, body.as_slice(), out)?;
     }
+    Ok(())
 }

@@ -2,7 +2,6 @@ use Rattle.std.proofs.Common.{◌≡◌, ◌≢◌, ◌+◌, ◌-◌, ◌∙◌,
 use Rattle.std.specs.Io.KnownBytes.{IsAtEnd}
 use Rattle.cue_lattice.specs.declared.refusal.Kind.TheVariants as kinds
 use Rattle.cue_wire.specs.Frames.{IsUnfinished}
-use Rattle.cue_wire.specs.Sessions.{reading}
 use Rattle.cue_wire.specs.Connections.{IsStop, IsFault, Passage, PassesBy, EndsAt}
 use Rattle.cue_wire.proofs.Connections.{some_read, begun, went_on, stopped, handed_on, none_read, failed_read, halted, between}
 use Rattle.cue_wire.proofs.connection.serve.Goals as goal
@@ -18,8 +17,8 @@ loop-left-init g c = record {
   room = refl;
 }
 
-pub returns-in-Err-clause-passage : goal.returns-in-Err-clause-passage
-returns-in-Err-clause-passage g c =
+pub returns-in_default-clause-passage : goal.returns-in_default-clause-passage
+returns-in_default-clause-passage g c =
     let source = g.S.Source in
     let sink = g.K.Sink in
     let s = c.loop-left in
@@ -37,11 +36,11 @@ returns-in-Err-clause-passage g c =
     let failed' = source.failed c.read.new.self + sink.failed s.sink in
     halted c.args.site.now s.site s.session given given'' to_come to_come'' taken taken' reads (source.called s.source) writes (sink.called s.sink)
     (failed_read c.args.site.now s.site s.session given given' given'' to_come to_come' to_come'' taken taken' reads (source.called s.source) writes (sink.called s.sink)
-    s.invariant.so_far c.in-Err.ensures.gives c.in-Err.ensures.takes)
+    s.invariant.so_far c.in_default.ensures.gives c.in_default.ensures.takes)
     (λ rest unwritten read written. IsStop kinds.Device rest unwritten
     (IsFault kinds.Device read written c.args.turns reads (source.called c.read.new.self) writes (sink.called s.sink) failed failed')
     × (kinds.Device ≡ kinds.Memory → read ≢ []))
-    (inr (inr (inr (refl, omega (arith, s.invariant.sound, c.in-Err.ensures.counts.1)))), λ other nil. cc)
+    (inr (inr (inr (refl, omega (arith, s.invariant.sound, c.in_default.ensures.counts.1)))), λ other nil. cc)
 
 pub returns-then-count-eq0-clause-passage : goal.returns-then-count-eq0-clause-passage
 returns-then-count-eq0-clause-passage g c =
