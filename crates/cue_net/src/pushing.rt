@@ -195,10 +195,7 @@ pub fn client_of(alloc: Global, requests: &[Request]) -> Result<Client, Halt>
     ensures err { IfErr result (λ halt. IsMemory halt ⊎ (IsTooLong halt
         × (All IsSendable requests.now → ⊥))) }
 {
-    match Client::new(alloc, requests) {
-        Ok(client) => Ok(client),
-        Err(kind) => Err(Halt::Refused(kind)),
-    }
+    Client::new(alloc, requests).map_err(Halt::Refused)
 }
 
 /// Writes bytes, each time all that is left of them, while there are turns.
@@ -215,10 +212,8 @@ fn send<K: Sink>(sink: &mut K, bytes: &[u8], left: &mut u64) -> Result<(), Halt>
 {
     let mut rest = bytes;
     while !rest.is_empty() {
-        match write_some(sink, rest, left) {
-            Ok(count) => rest = &rest[count..],
-            Err(halt) => return Err(halt),
-        }
+        let count = write_some(sink, rest, left)?;
+        rest = &rest[count..];
     }
     Ok(())
 }

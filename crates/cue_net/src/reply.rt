@@ -39,10 +39,8 @@ pub fn read_reply(reply: &[u8]) -> Result<Verdict<'_>, Fault>
     let Some(kind) = kind_of(*number) else {
         return Err(Fault);
     };
-    match place_in(rest) {
-        Some(place) => Ok(Verdict::Refused(Refusal { kind, place })),
-        None => Err(Fault),
-    }
+    let place = place_in(rest).ok_or(Fault)?;
+    Ok(Verdict::Refused(Refusal { kind, place }))
 }
 
 /// The number in eight bytes, from the highest to the lowest, where there are just so many.
@@ -97,11 +95,10 @@ pub fn refusal_in(reply: &[u8]) -> Result<Option<Refusal>, Fault>
     ensures says { IfOk result (SaysOfInput reply.now) }
     ensures fault { IsErr result → IsNoInputReply reply.now }
 {
-    match read_reply(reply) {
-        Ok(Verdict::Accepted(told)) if told.is_empty() => Ok(None),
-        Ok(Verdict::Accepted(_)) => Err(Fault),
-        Ok(Verdict::Refused(why)) => Ok(Some(why)),
-        Err(Fault) => Err(Fault),
+    match read_reply(reply)? {
+        Verdict::Accepted(told) if told.is_empty() => Ok(None),
+        Verdict::Accepted(_) => Err(Fault),
+        Verdict::Refused(why) => Ok(Some(why)),
     }
 }
 
@@ -123,13 +120,12 @@ pub fn export_in(reply: &[u8]) -> Result<Export<'_>, Fault>
     ensures says { IfOk result (SaysOfExport reply.now) }
     ensures fault { IsErr result → IsNoExportReply reply.now }
 {
-    match read_reply(reply) {
-        Ok(Verdict::Accepted(told)) => match told_in(told) {
-            Some((status, text)) => Ok(Export::Told(status, text)),
-            None => Err(Fault),
-        },
-        Ok(Verdict::Refused(why)) => Ok(Export::Refused(why.kind)),
-        Err(Fault) => Err(Fault),
+    match read_reply(reply)? {
+        Verdict::Accepted(told) => {
+            let (status, text) = told_in(told).ok_or(Fault)?;
+            Ok(Export::Told(status, text))
+        }
+        Verdict::Refused(why) => Ok(Export::Refused(why.kind)),
     }
 }
 
@@ -142,10 +138,8 @@ fn told_in(told: &[u8]) -> Option<(Status, &[u8])>
 {
     let (code, text) = told.split_first()?;
     let status = status_of(*code)?;
-    match str::from_utf8(text) {
-        Ok(_) => Some((status, text)),
-        Err(_) => None,
-    }
+    str::from_utf8(text).ok()?;
+    Some((status, text))
 }
 
 /// The status with this number, where one has it.

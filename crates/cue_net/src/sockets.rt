@@ -119,10 +119,7 @@ impl<H: Net<Listener = TcpListener, Stream = TcpStream>> Network for H {
 
 /// What a call of the system came to.
 fn done<T>(came: io::Result<T>) -> Result<T, Fault> {
-    match came {
-        Ok(value) => Ok(value),
-        Err(_) => Err(Fault),
-    }
+    came.map_err(|_| Fault)
 }
 
 /// The end of a connection with this stream. Where the system sets its turns no limit of time, it

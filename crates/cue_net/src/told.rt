@@ -40,21 +40,12 @@ pub fn told_by(alloc: Global, replies: &[Vec<u8>], inputs: usize) -> Result<Answ
 fn told_of(alloc: Global, to_inputs: &[Vec<u8>], last: &[u8]) -> Result<Answer, Halt>
     ensures { AreTold (all_items to_inputs.now) last.now result }
 {
-    let first = match first_refusal(to_inputs) {
-        Ok(first) => first,
-        Err(Fault) => return Err(Halt::Device),
-    };
-    let export = match export_in(last) {
-        Ok(export) => export,
-        Err(Fault) => return Err(Halt::Device),
-    };
+    let first = first_refusal(to_inputs)?;
+    let export = export_in(last)?;
     match (first, export) {
         (Some((why, number)), _) => Err(Halt::RefusedInput(why, number)),
         (None, Export::Refused(kind)) => Err(Halt::RefusedExport(kind)),
-        (None, Export::Told(status, text)) => match shown(alloc, status, text) {
-            Ok(answer) => Ok(answer),
-            Err(memory) => Err(Halt::from(memory)),
-        },
+        (None, Export::Told(status, text)) => Ok(shown(alloc, status, text)?),
     }
 }
 

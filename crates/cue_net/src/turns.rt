@@ -5,7 +5,7 @@ ghost use Rattle.cue_net.specs.Halts.{IsDevice};
 ghost use Rattle.cue_net.specs.Inner.Turns.{IsReadHalt, IsWriteHalt};
 
 use crate::halt::Halt;
-use cue_device::{Fault, Sink, Source};
+use cue_device::{Sink, Source};
 use cue_replica::Kind;
 
 /// Reads some bytes, in one turn.
@@ -32,10 +32,9 @@ pub fn read_some<S: Source>(source: &mut S, into: &mut [u8], left: &mut u64) -> 
         return Err(Halt::Refused(Kind::TurnsUsed));
     }
     *left -= 1;
-    match source.read(into) {
-        Ok(0) => Err(Halt::Device),
-        Ok(count) => Ok(count),
-        Err(Fault) => Err(Halt::Device),
+    match source.read(into)? {
+        0 => Err(Halt::Device),
+        count => Ok(count),
     }
 }
 
@@ -61,8 +60,5 @@ pub fn write_some<K: Sink>(sink: &mut K, bytes: &[u8], left: &mut u64) -> Result
         return Err(Halt::Refused(Kind::TurnsUsed));
     }
     *left -= 1;
-    match sink.write(bytes) {
-        Ok(count) => Ok(count),
-        Err(Fault) => Err(Halt::Device),
-    }
+    Ok(sink.write(bytes)?)
 }
