@@ -1,5 +1,5 @@
 -- What handing something in comes to, by what the call answered and the reply that was added.
-use Rattle.std.proofs.Common.{◌≡◌, ◌≢◌, ◌⊎◌, inl, inr, ⊎_elim, refl, List, [], ◌∷◌, ◌++◌, ℕ, Result, Ok, Err, OnOk, subst, sym, ap, ◌∙◌}
+use Rattle.std.proofs.Common.{◌≡◌, ◌≢◌, ◌⊎◌, inl, inr, ⊎_elim, refl, List, [], ◌++◌, ℕ, Result, Ok, Err, OnOk, subst, sym, ap, ◌∙◌}
 use Rattle.std.proofs.Common.{OnErr, IfErr, Some, length, arith, ◌≤◌}
 use Rattle.std.proofs.lemmas.List.{length-append}
 use Rattle.cue_lattice.specs.declared.refusal.Refusal.{Refusal}

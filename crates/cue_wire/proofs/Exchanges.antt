@@ -1,5 +1,5 @@
 -- Streams of replies that grow by a frame or a piece.
-use Rattle.std.proofs.Common.{◌≡◌, ℕ, ◌+◌, ◌-◌, ◌≤◌, List, [], ◌∷◌, ◌++◌, length, take, drop, flat_map, Vec, Global, ap, sym, ◌∙◌, subst, refl, arith, length-append, append_assoc, append-nil, ◌⊎◌, inl, inr, Result, Ok, Err, IfErr, OnOk, OnErr, is_ok}
+use Rattle.std.proofs.Common.{◌≡◌, ℕ, ◌+◌, ◌-◌, ◌≤◌, List, [], ◌∷◌, ◌++◌, length, take, drop, flat_map, Vec, Global, ap, sym, ◌∙◌, subst, refl, arith, length-append, append_assoc, append-nil, ◌⊎◌, inl, inr, Result, Ok, Err, IfErr, OnOk, is_ok}
 use Rattle.std.proofs.lemmas.Bool.{false≢true}
 use Rattle.cue_lattice.specs.declared.refusal.Kind.{Kind}
 use Rattle.cue_lattice.specs.declared.refusal.Kind.TheVariants as kinds
@@ -16,11 +16,6 @@ use Rattle.cue_wire.proofs.Streams.{one_more}
 pub on_ok : {T E D : Type 0} (was : Result T E) (now : Result T D) (value : T) {P : Type 0} → is_ok now ≡ is_ok was → now ≡ Ok value → OnOk was P → P
 on_ok (Ok other) now value same is fact = fact
 on_ok (Err error) now value same is fact = absurd (false≢true (sym same ∙ ap is_ok is))
-
--- a fact of a failure, where the error alone was changed
-pub on_err : {T E D : Type 0} (was : Result T E) (now : Result T D) (error : D) {P : Type 0} → is_ok now ≡ is_ok was → now ≡ Err error → OnErr was P → P
-on_err (Ok value) now error same is fact = absurd (false≢true (sym (ap is_ok is) ∙ same))
-on_err (Err other) now error same is fact = fact
 
 -- A stream and a piece: the frames of the one, and then those of its rest and the piece.
 pub joined : (stream rest piece rest' : List ℕ) (bodies more : List (List ℕ)) → AreFrames stream bodies rest → AreFrames (rest ++ piece) more rest'

@@ -6,7 +6,7 @@ use Rattle.cue_lattice.specs.declared.refusal.Kind.TheVariants as kinds
 use Rattle.cue_lattice.specs.Refusal.{number_of, refusal_at, memory}
 use Rattle.cue_replica.specs.declared.world.Outcome.{Outcome}
 use Rattle.cue_replica.specs.declared.world.Outcome.TheVariants.{Accepted, Refused}
-use Rattle.cue_replica.specs.Language.{Table, language}
+use Rattle.cue_replica.specs.Language.{Table}
 use Rattle.cue_replica.specs.World.{Submits, Takes}
 use Rattle.cue_answer.specs.declared.question.Question.{Question}
 use Rattle.cue_answer.specs.declared.question.Question.TheVariants as questions

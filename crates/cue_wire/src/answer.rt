@@ -1,6 +1,6 @@
 //! What a frame's body does to a site, and its reply.
 
-ghost use Rattle.std.specs.Prelude.{◌≡◌, ◌≢◌, ◌↔◌, ◌++◌, ◌+◌, ◌<◌, ◌≤◌, [], List, ℕ, length};
+ghost use Rattle.std.specs.Prelude.{◌≡◌, ◌≢◌, ◌++◌, ◌+◌, ◌<◌, ◌≤◌, [], List, ℕ, length};
 ghost use Rattle.std.specs.Prelude.{vec_len, vec_capacity, OnOk, OnErr, IsOk, IfErr, IsErrAnd};
 ghost use Rattle.cue_codec.specs.Decoding.{IsOtherVersion};
 ghost use Rattle.cue_lattice.specs.Limits.{text_limit};

@@ -156,7 +156,9 @@ fn take_piece(
         × OnErr result (Extends unread.old.items unread.new.items)
         × Gains (unread.old.items ++ piece.now) rest replies.old.items replies.new.items }
 {
-    unread.extend_from_slice(piece).map_err(want_of)?;
+    if let Err(error) = unread.extend_from_slice(piece) {
+        return Err(want_of(error));
+    }
     let used = read_frames(alloc, unread.as_slice(), replies)?;
     unread.advance(used);
     Ok(())

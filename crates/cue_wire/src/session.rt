@@ -116,7 +116,9 @@ fn serve(
         × Served (unread.old.items ++ piece.now) rest site.old site.new
         out.old.items out.new.items }
 {
-    unread.extend_from_slice(piece).map_err(want_of)?;
+    if let Err(error) = unread.extend_from_slice(piece) {
+        return Err(want_of(error));
+    }
     serve_frames(alloc, unread, site, out)
 }
 

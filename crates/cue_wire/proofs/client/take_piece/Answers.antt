@@ -1,9 +1,8 @@
-use Rattle.std.proofs.Common.{◌≡◌, ◌++◌, rules}
-use Rattle.cue_wire.proofs.Exchanges.{gains_none, on_err}
+use Rattle.std.proofs.Common.{◌++◌, [], inl, sym, ◌∙◌, append-nil}
+use Rattle.cue_wire.proofs.Exchanges.{gains_none}
 use Rattle.cue_wire.proofs.client.take_piece.Goals as goal
 
-pub returns-in_err-map_err : goal.returns-in_err-map_err
-returns-in_err-map_err c =
+pub returns-in-Err : goal.returns-in-Err
+returns-in-Err c =
     let stream = c.args.unread.now.items ++ c.args.piece.now in
-    let kept : c.extend_from_slice.new.self.items ≡ c.args.unread.now.items = on_err c.extend_from_slice.result c.map_err.result c.in_err-map_err.field-0.0 c.map_err.ensures.variant c.in_err-map_err.was c.extend_from_slice.ensures.err in
-    (stream, search rules, search rules, search rules, gains_none stream c.args.replies.now.items)
+    (stream, inl c.want_of.ensures, tt, ([], c.in-Err.ensures.err ∙ sym (append-nil c.args.unread.now.items)), gains_none stream c.args.replies.now.items)
