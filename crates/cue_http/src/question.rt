@@ -269,6 +269,9 @@ impl Question {
                     let Some(piece) = rest.get(span.start..span.end) else {
                         return Err(ErrorKind::InvalidData.into());
                     };
+                    if piece.len() > MOST_BYTES.saturating_sub(self.body.len()) {
+                        return Err(ErrorKind::InvalidData.into());
+                    }
                     self.body.extend_from_slice(piece)?;
                 }
                 Event::End(_) => {
