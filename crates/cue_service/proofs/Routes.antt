@@ -1,5 +1,5 @@
 -- What a request asks for, by its method and its path.
-use Rattle.std.proofs.Common.{◌≡◌, ◌⊎◌, ℕ, List, codes}
+use Rattle.std.proofs.Common.{◌≡◌, ◌⊎◌, inl, inr, ℕ, List, codes}
 use Rattle.http.specs.declared.request.Request.{Request}
 use Rattle.http.specs.Request.{head_of}
 use Rattle.cue_answer.specs.declared.question.Question.TheVariants as questions
@@ -19,8 +19,8 @@ reads (Take hand) request at method = absurd at
 reads Health request at method = (method, at)
 reads Metrics request at method = (method, at)
 reads Page request at method = (method, at)
-reads OtherMethod request at method = tt
-reads Unknown request at method = tt
+reads OtherMethod request at method = absurd at
+reads Unknown request at method = inl (method, at)
 
 pub writes : (route : Route) (request : Request (List ℕ)) → IsWrittenAt route (path_of request) → (head_of request).method ≡ codes "POST" → IsRoute route request
 writes (Ask question) request at method = absurd at
@@ -30,5 +30,5 @@ writes (Take hands.State) request at method = (method, at)
 writes Health request at method = absurd at
 writes Metrics request at method = absurd at
 writes Page request at method = absurd at
-writes OtherMethod request at method = tt
-writes Unknown request at method = tt
+writes OtherMethod request at method = absurd at
+writes Unknown request at method = inr (method, at)

@@ -1,5 +1,6 @@
 -- What a request asks for.
-use Rattle.std.specs.Prelude.{◌≡◌, ◌⊎◌, ◌++◌, ℕ, List, codes, Option, Some, if◌then◌else◌}
+use Rattle.std.specs.Prelude.{◌≡◌, ◌≢◌, ◌⊎◌, ◌++◌, ℕ, List, [], ◌∷◌, codes, Option, Some, if◌then◌else◌}
+use Rattle.std.specs.List.{AllByRecursion}
 use Rattle.std.specs.Str.{bytes_eq}
 use Rattle.cue_lattice.specs.World.{Piece, text, state}
 use Rattle.cue_answer.specs.declared.question.Question.TheVariants as questions
@@ -16,16 +17,39 @@ use Rattle.cue_service.specs.declared.route.Hand.TheVariants as hands
 abbrev pub path_of : Request (List ℕ) → List ℕ
 path_of request = uri_path (head_of request).uri
 
--- the request asks for what is at a path
+-- the request reads
+abbrev pub IsReading : Request (List ℕ) → Type 0
+IsReading request =
+    ((head_of request).method ≡ codes "GET") ⊎ ((head_of request).method ≡ codes "HEAD")
+
+-- it hands something in
+abbrev pub IsWriting : Request (List ℕ) → Type 0
+IsWriting request = (head_of request).method ≡ codes "POST"
+
+-- it asks for what is at a path
 abbrev pub Reads : List ℕ → Request (List ℕ) → Type 0
-Reads path request =
-    (((head_of request).method ≡ codes "GET") ⊎ ((head_of request).method ≡ codes "HEAD"))
-    × (path_of request ≡ path)
+Reads path request = IsReading request × (path_of request ≡ path)
 
 -- it hands something to a path
 abbrev pub Writes : List ℕ → Request (List ℕ) → Type 0
-Writes path request = ((head_of request).method ≡ codes "POST") × (path_of request ≡ path)
+Writes path request = IsWriting request × (path_of request ≡ path)
 
+-- the paths that can be read
+abbrev pub read_paths : List (List ℕ)
+read_paths =
+    codes "/export" ∷ codes "/print" ∷ codes "/report" ∷ codes "/state" ∷ codes "/pieces"
+    ∷ codes "/healthz" ∷ codes "/metrics" ∷ codes "/" ∷ []
+
+-- the paths to which something can be handed
+abbrev pub written_paths : List (List ℕ)
+written_paths = codes "/fragments" ∷ codes "/state" ∷ []
+
+-- a path is none of these
+abbrev pub IsNoneOf : List (List ℕ) → List ℕ → Type 0
+IsNoneOf paths path = AllByRecursion (λ other. path ≢ other) paths
+
+-- What a request asks for. It asks for nothing by another method, and neither where nothing can
+-- be read at its path, or handed to it.
 abbrev pub IsRoute : Route → Request (List ℕ) → Type 0
 IsRoute (Ask questions.Export) request = Reads (codes "/export") request
 IsRoute (Ask questions.Print) request = Reads (codes "/print") request
@@ -37,8 +61,10 @@ IsRoute (Take hands.State) request = Writes (codes "/state") request
 IsRoute Health request = Reads (codes "/healthz") request
 IsRoute Metrics request = Reads (codes "/metrics") request
 IsRoute Page request = Reads (codes "/") request
-IsRoute OtherMethod request = Unit {0}
-IsRoute Unknown request = Unit {0}
+IsRoute OtherMethod request = (¬ IsReading request) × (¬ IsWriting request)
+IsRoute Unknown request =
+    (IsReading request × IsNoneOf read_paths (path_of request))
+    ⊎ (IsWriting request × IsNoneOf written_paths (path_of request))
 
 -- the piece that bytes are
 abbrev pub handed : Hand → List ℕ → Piece

@@ -4,6 +4,7 @@ use Rattle.cue_answer.specs.declared.question.Question.TheVariants as questions
 use Rattle.cue_service.specs.declared.route.Route.{Route}
 use Rattle.cue_service.specs.declared.route.Route.TheVariants.{Ask, Pieces, Take, Health, Metrics, Page, OtherMethod, Unknown}
 use Rattle.cue_service.specs.declared.route.Hand.TheVariants as hands
+use Rattle.cue_service.specs.Requests.{read_paths, written_paths, IsNoneOf}
 
 abbrev pub IsReadAt : Route → List ℕ → Type 0
 IsReadAt (Ask questions.Export) path = path ≡ codes "/export"
@@ -15,8 +16,8 @@ IsReadAt (Take hand) path = ⊥
 IsReadAt Health path = path ≡ codes "/healthz"
 IsReadAt Metrics path = path ≡ codes "/metrics"
 IsReadAt Page path = path ≡ codes "/"
-IsReadAt OtherMethod path = Unit {0}
-IsReadAt Unknown path = Unit {0}
+IsReadAt OtherMethod path = ⊥
+IsReadAt Unknown path = IsNoneOf read_paths path
 
 abbrev pub IsWrittenAt : Route → List ℕ → Type 0
 IsWrittenAt (Ask question) path = ⊥
@@ -26,5 +27,5 @@ IsWrittenAt (Take hands.State) path = path ≡ codes "/state"
 IsWrittenAt Health path = ⊥
 IsWrittenAt Metrics path = ⊥
 IsWrittenAt Page path = ⊥
-IsWrittenAt OtherMethod path = Unit {0}
-IsWrittenAt Unknown path = Unit {0}
+IsWrittenAt OtherMethod path = ⊥
+IsWrittenAt Unknown path = IsNoneOf written_paths path
