@@ -30,6 +30,7 @@ pub struct RowParts {
 
 impl RowParts {
     ghost use Rattle.cue_row.specs.declared.question.Question.{Question as Questions};
+    ghost use Rattle.cue_row.specs.Made.{at_level};
     ghost use Rattle.cue_row.specs.Row.{Refuses, IsMetRow, IsRow};
 
     /// The parts that refuse nothing.
@@ -57,6 +58,30 @@ impl RowParts {
         self.least = self.least.max(other.least);
         self.most = smaller(self.most, other.most);
         Ok(())
+    }
+
+    /// What these become at this level where others are unified into them. They stay as they are.
+    pub(crate) fn met(
+        &self,
+        alloc: Global,
+        level: Level,
+        other: RowParts,
+    ) -> Result<RowParts, Memory>
+        ensures { IfOk result (IsMetRow (at_level level self.now) other) }
+    {
+        let value = self.value.narrowed_by(alloc, other.value)?;
+        let usual = self.usual.narrowed_by(alloc, other.usual)?;
+        let labels = self.labels.narrowed_by(alloc, other.labels)?;
+        Ok(RowParts {
+            level: level.greater(other.level),
+            value: value.or_copy(alloc, &self.value)?,
+            usual: usual.or_copy(alloc, &self.usual)?,
+            struct_ok: both(self.struct_ok, other.struct_ok),
+            list_ok: both(self.list_ok, other.list_ok),
+            labels: labels.or_copy(alloc, &self.labels)?,
+            least: self.least.max(other.least),
+            most: smaller(self.most, other.most),
+        })
     }
 
     /// The same parts once more.

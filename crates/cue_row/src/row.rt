@@ -194,16 +194,6 @@ impl Row {
         })
     }
 
-    /// The parts of the row.
-    fn parts(&self, alloc: Global) -> Result<RowParts, Memory>
-        ensures { IfOk result (λ parts. parts ≡ self.now) }
-    {
-        match &self.form {
-            Form::Small(level, small) => small.parts(alloc, *level),
-            Form::Whole(level, parts) => Ok(parts.copy(alloc)?.at_level(*level)),
-        }
-    }
-
     /// Whether both are small, and told to be the same at a glance.
     fn is_alike(&self, other: &Row) -> bool
         ensures { IsTrue result → self.now ≡ other.now }
@@ -255,9 +245,12 @@ impl Row {
     fn meet_parts(&self, alloc: Global, other: Row) -> Result<Row, Memory>
         ensures { IfOk result (IsMetRow self.now other) }
     {
-        let mut parts = self.parts(alloc)?;
-        parts.narrow(alloc, other.into_parts(alloc)?)?;
-        Row::from_parts(alloc, parts)
+        let other = other.into_parts(alloc)?;
+        let met = match &self.form {
+            Form::Small(level, small) => small.parts(alloc, *level)?.met(alloc, *level, other)?,
+            Form::Whole(level, parts) => parts.met(alloc, *level, other)?,
+        };
+        Row::from_parts(alloc, met)
     }
 
     /// Keeps the row in the value itself, where it is small and there is memory for its text.

@@ -101,15 +101,16 @@ pub(crate) fn merge(
         (left_of left.entry) (left_of right.entry)) }
 {
     let mut texts = Vec::with_capacity(alloc, left.len().saturating_add(right.len()))?;
+    let (of_left, of_right) = (how.keeps(true, false), how.keeps(false, true));
+    let of_both = how.keeps(true, true);
     while let Some(order) = order(&left, &right) {
-        let kept = how.keeps(order.is_le(), order.is_ge());
         match order {
-            Ordering::Less => left.step(alloc, kept, &mut texts)?,
+            Ordering::Less => left.step(alloc, of_left, &mut texts)?,
             Ordering::Equal => {
                 left.step(alloc, false, &mut texts)?;
-                right.step(alloc, kept, &mut texts)?;
+                right.step(alloc, of_both, &mut texts)?;
             }
-            Ordering::Greater => right.step(alloc, kept, &mut texts)?,
+            Ordering::Greater => right.step(alloc, of_right, &mut texts)?,
         }
     }
     Ok(texts)
