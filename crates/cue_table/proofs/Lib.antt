@@ -18,10 +18,11 @@ mod Sides
 mod Sweeping
 pub mod ByHalves
 pub mod Alike
-pub mod Appending
 pub mod Branches
+pub mod Beyond
+pub mod Closing
+pub mod Drafting
 pub mod Depth
-pub mod Drafts
 pub mod Exact
 pub mod Finding
 pub mod Gaps
@@ -38,6 +39,7 @@ pub mod RestBegins
 pub mod RowLists
 pub mod RunPlaces
 pub mod SlotOrder
+pub mod Under
 pub mod Spanned
 pub mod Stretches
 pub mod ValidWalks

@@ -1,20 +1,15 @@
 -- Parts of lists of branches, and places without a rest.
-use Rattle.std.proofs.Common.{◌≡◌, ℕ, zero, suc, ◌≤◌, ◌<◌, List, [], ◌∷◌, drop, length, get_or, Option, Some, None, refl, sym, ap, subst, ◌∙◌, arith}
+use Rattle.std.proofs.Common.{◌≡◌, ℕ, zero, suc, ◌<◌, List, [], ◌∷◌, drop, length, get_or, Option, Some, None, refl, sym, ap, subst, ◌∙◌, arith}
 use Rattle.cue_row.specs.Steps.{step_of}
 use Rattle.cue_table.specs.Inner.Child.{Child}
 use Rattle.std.specs.Prelude.{Box}
 use Rattle.std.specs.Global.{Global}
 use Rattle.cue_table.specs.declared.node.Onward.{Onward}
-use Rattle.cue_table.specs.Tree.{Tree, Children, node, child, no_rest, onward, below, rest_of}
+use Rattle.cue_table.specs.Tree.{Tree, Children, node, child, no_rest, below}
 use Rattle.cue_table.specs.declared.node.Node.TheInside.{Inside}
-use Rattle.cue_table.specs.Form.{AreBranches, IsRow, IsTree}
-use Rattle.std.specs.declared.cmp.Ordering.{Ordering}
-use Rattle.std.specs.declared.cmp.Ordering.TheVariants.{Greater}
-use Rattle.cue_lattice.specs.Path.{Step}
-use Rattle.cue_table.specs.Inner.Drafts.{against_step}
+use Rattle.cue_table.specs.Form.{AreBranches, IsTree}
 use Rattle.cue_table.specs.Inner.Join.{join}
 use Rattle.cue_table.specs.Inner.Parts.{past}
-use Rattle.cue_table.specs.Depth.{tree_depth, children_depth}
 use Rattle.cue_table.specs.Inner.View.{below_in, branches, rest_in, run_branches, tree_of}
 use Rattle.cue_table.proofs.Joined.{join_none}
 
@@ -43,26 +38,11 @@ no_runs own b e = ap (λ rs. join own (run_branches rs)) e ∙ join_none own
 pub own_view : {R Q : Type 0} (a : Inside R Q) (s : Tree R) → tree_of a ≡ s → rest_in a.rest ≡ no_rest → node a.row (branches a.children.items) (rest_in a.rest) ≡ s
 own_view a s e x = ap (λ cs. node a.row cs (rest_in a.rest)) (sym (own_only (branches a.children.items) a.rest x)) ∙ e
 
--- where a place may go on behind its branches, it has no rest
-pub free_rest : {R : Type 0} (step : Step) (s : Tree R) (o : Ordering) → against_step step s ≡ o → (o ≡ Greater → ⊥) → rest_of s ≡ no_rest
-free_rest step (node row children no_rest) o e n = refl
-free_rest step (node row children (onward m tree)) o e n = absurd (n (sym e))
-
 module _ {R Q : Type 0} where
   pub own_below : (a : Inside R Q) (s : Tree R) → tree_of a ≡ s → rest_in a.rest ≡ no_rest → below s ≡ branches a.children.items
   own_below a s e x = ap below (sym e) ∙ own_only (branches a.children.items) a.rest x
 
-  -- a place without a rest is as deep as its own branches
-  pub own_depth : (a : Inside R Q) (s : Tree R) → tree_of a ≡ s → rest_in a.rest ≡ no_rest → children_depth (branches a.children.items) ≤ tree_depth s
-  own_depth a s e x = below_depth s (branches a.children.items) (own_below a s e x)
-    where
-      below_depth : (s : Tree R) (cs : Children R) → below s ≡ cs → children_depth cs ≤ tree_depth s
-      below_depth (node row children rest) cs e = subst (λ x. children_depth x ≤ tree_depth (node row children rest)) e (omega arith)
-
-  -- the row of a place in form is in form, and so are its branches where it has no rest
-  pub row_form : (P : R → Type 0) (a : Inside R Q) (s : Tree R) → tree_of a ≡ s → IsTree P s → IsRow P a.row
-  row_form P a s e h = let here : IsTree P (tree_of a) = subst (IsTree P) (sym e) h in here.0
-
+  -- the branches of a place in form are in form where it has no rest
   pub own_form : (P : R → Type 0) (a : Inside R Q) (s : Tree R) → tree_of a ≡ s → rest_in a.rest ≡ no_rest → IsTree P s → AreBranches P (branches a.children.items)
   own_form P a s e x h =
       let here : IsTree P (tree_of a) = subst (IsTree P) (sym e) h in

@@ -91,63 +91,13 @@ last_is : {R : Type 0} (a : Children R) (n : ℕ) (tree : Tree R) (all : Childre
 last_is a n tree all e h = subst (IsLastElement n tree) (sym e) (last_joined a n tree (subst Rise e h))
 
 module _ {R : Type 0} where
-  -- that of the last run
-  pub last_run : {Q : Type 0} (cs : List (Child R)) (rs front : List (Run R Q)) (r : Run R Q) → rs ≡ front ++ r ∷ [] → Rise (join (branches cs) (run_branches rs))
-      → IsLastElement (last_of r.first r.more) r.node (join (branches cs) (run_branches rs))
-  last_run cs rs front r e h =
-      let own = branches cs in
-      let others = run_branches front in
-      let more = more_of r.first r.more in
-      last_is (join own (join others (all_but r.first more r.node))) (last_of r.first r.more) r.node (join own (run_branches rs))
-      (ap (λ runs. join own (run_branches runs)) e ∙ ap (join own) (runs_join front (r ∷ []) ∙ ap (join others) (alike_last r.first more r.node) ∙ sym (join_assoc others (all_but r.first more r.node) (child (index (r.first + more)) r.node none)))
-      ∙ sym (join_assoc own (join others (all_but r.first more r.node)) (child (index (r.first + more)) r.node none))) h
-
   pub branches_end : (front : List (Child R)) (c : Child R) → branches (front ++ c ∷ []) ≡ join (branches front) (child (step_of c.step) c.node none)
   branches_end [] c = refl
   branches_end (d ∷ front) c = ap (child (step_of d.step) d.node) (branches_end front c)
 
-  -- or that of the last branch, where there are no runs
-  pub last_branch : {Q : Type 0} (cs front : List (Child R)) (rs : List (Run R Q)) (c : Child R) (n : ℕ) → length rs ≡ 0 → cs ≡ front ++ c ∷ [] → step_of c.step ≡ index n → Rise (join (branches cs) (run_branches rs))
-      → IsLastElement n c.node (join (branches cs) (run_branches rs))
-  last_branch cs front (r ∷ rs) c n l e f h = absurd (omega (arith, l))
-  last_branch cs front [] c n l e f h =
-      last_is (branches front) n c.node (join (branches cs) none)
-      (join_none (branches cs) ∙ ap branches e ∙ branches_end front c ∙ ap (λ s. join (branches front) (child s c.node none)) f) h
+  -- that of the last branch
+  pub last_branch : (cs front : List (Child R)) (c : Child R) (n : ℕ) → cs ≡ front ++ c ∷ [] → step_of c.step ≡ index n → Rise (branches cs) → IsLastElement n c.node (branches cs)
+  last_branch cs front c n e f h = last_is (branches front) n c.node (branches cs) (ap branches e ∙ branches_end front c ∙ ap (λ s. join (branches front) (child s c.node none)) f) h
 
-  pub no_element_last : {Q : Type 0} (cs front : List (Child R)) (rs : List (Run R Q)) (c : Child R) (text : List ℕ) → length rs ≡ 0 → cs ≡ front ++ c ∷ [] → step_of c.step ≡ label text → Rise (join (branches cs) (run_branches rs))
-      → behind_last (join (branches cs) (run_branches rs)) ≡ 0
-  no_element_last cs front (r ∷ rs) c text l e f h = absurd (omega (arith, l))
-  no_element_last cs front [] c text l e f h =
-      let same : join (branches cs) none ≡ branches (front ++ c ∷ []) = join_none (branches cs) ∙ ap branches e in
-      ap behind_last same ∙ behind_label front c text (subst Rise same h) f
-
--- ---- the form of a tree whose rows and branches have theirs
-module _ {R : Type 0} (P : R → Type 0) where
-  abbrev whole : {Q : Type 0} → Inside R Q → Option (Box (Onward R Q) Global) → Tree R
-  whole a rest = node a.row (below_in (branches a.children.items) rest) (rest_in rest)
-
-  -- it is right where there is no rest
-  pub formed_alone : {Q : Type 0} (a : Inside R Q) (tree : Tree R) → tree_of a ≡ tree → a.rest ≡ None → IsLoose P tree → AreBranches P (below tree) → IsTree P tree
-  formed_alone a tree e f = subst (λ t. IsLoose P t → AreBranches P (below t) → IsTree P t) (sym (ap (whole a) f) ∙ e) (λ h k. (h.0, k, tt))
-
-  -- or where its rest is
-  pub formed_rest :
-      {Q : Type 0} (a : Inside R Q) (tree : Tree R) (b : Box (Onward R Q) Global) → tree_of a ≡ tree → a.rest ≡ Some b → IsLoose P tree → AreBranches P (below tree)
-      → IsTree P tree ↔ ((b.value.from ≤ 2 ^ 32) × IsBehind b.value.from b.value.node (join (branches a.children.items) (run_branches b.value.runs.items)) × IsTree P b.value.node)
-  formed_rest a tree b e f =
-      let right : Type 0 = (b.value.from ≤ 2 ^ 32) × IsBehind b.value.from b.value.node (join (branches a.children.items) (run_branches b.value.runs.items)) × IsTree P b.value.node in
-      subst (λ t. IsLoose P t → AreBranches P (below t) → IsTree P t ↔ right) (sym (ap (whole a) f) ∙ e)
-      (λ h k. (λ w. (w.2.4, (w.2.0, w.2.1), w.2.3), λ w. (h.0, k, (w.1.0, w.1.1, h.2.0, w.2, w.0))))
-
-  -- the branches of a place with a rest rise
-  pub rest_rise : {Q : Type 0} (a : Inside R Q) (tree : Tree R) (b : Box (Onward R Q) Global) → tree_of a ≡ tree → a.rest ≡ Some b → IsLoose P tree → Rise (join (branches a.children.items) (run_branches b.value.runs.items))
-  rest_rise a tree b e f h =
-      let here : IsLoose P (whole a (Some b)) = subst (IsLoose P) (sym (sym (ap (whole a) f) ∙ e)) h in
-      loose_rise P (join (branches a.children.items) (run_branches b.value.runs.items)) here.1
-
-  -- its rest has that form too, and is smaller
-  pub rest_loose : {Q : Type 0} (a : Inside R Q) (tree : Tree R) (b : Box (Onward R Q) Global) → tree_of a ≡ tree → a.rest ≡ Some b → IsLoose P tree → IsLoose P b.value.node × (tree_size b.value.node < tree_size tree)
-  rest_loose a tree b e f h =
-      let here : IsLoose P (whole a (Some b)) = subst (IsLoose P) (sym (sym (ap (whole a) f) ∙ e)) h in
-      let size : tree_size (whole a (Some b)) ≡ tree_size tree = ap tree_size (sym (ap (whole a) f) ∙ e) in
-      (here.2.1, omega (arith, size))
+  pub no_element_last : (cs front : List (Child R)) (c : Child R) (text : List ℕ) → cs ≡ front ++ c ∷ [] → step_of c.step ≡ label text → Rise (branches cs) → behind_last (branches cs) ≡ 0
+  no_element_last cs front c text e f h = ap (λ all. behind_last (branches all)) e ∙ behind_label front c text (subst (λ all. Rise (branches all)) e h) f

@@ -111,18 +111,6 @@ module _ {R : Type 0} where
       cc
 
   -- ---- the form of what is left
-  alike_formed : (P : R → Type 0) (i more : ℕ) (tree : Tree R) (others : Children R) → AreLoose P (alike i more tree others)
-      → IsLoose P tree × AreLoose P others × (AreBranches P (alike i more tree others) ↔ (IsTree P tree × AreBranches P others))
-  alike_formed P i zero tree others h = (h.2, h.3, (λ f. (f.2, f.3), λ f. (h.0, h.1, f.0, f.1)))
-  alike_formed P i (suc more) tree others h =
-      let later = alike_formed P (suc i) more tree others h.3 in
-      (h.2, later.1, (λ f. (f.2, (later.2.0 f.3).1), λ f. (h.0, h.1, f.0, later.2.1 f)))
-
-  span_formed : (P : R → Type 0) (span : Span) (tree : Tree R) (others : Children R) → AreLoose P (spanned span tree others)
-      → IsLoose P tree × AreLoose P others × (AreBranches P (spanned span tree others) ↔ (IsTree P tree × AreBranches P others))
-  span_formed P (field text) tree others h = (h.2, h.3, (λ f. (f.2, f.3), λ f. (h.0, h.1, f.0, f.1)))
-  span_formed P (elements i more) tree others h = alike_formed P i more tree others h
-
   alike_form : (P : R → Type 0) (i more : ℕ) (tree : Tree R) (others : Children R) → AreBranches P (alike i more tree others) → IsTree P tree × AreBranches P others
   alike_form P i zero tree others h = (h.2, h.3)
   alike_form P i (suc more) tree others h = (h.2, (alike_form P (suc i) more tree others h.3).1)
@@ -238,9 +226,6 @@ module _ {R : Type 0} where
       let same = ap (λ spans. children_size (spread spans)) f in
       omega (arith, some, is, cut, size, same)
 
-  pub left_smaller : (span : Span) (tree : Tree R) (all left : List (Span × Tree R)) → all ≡ (span, tree) ∷ left → children_size (spread left) < children_size (spread all)
-  left_smaller span tree all left e = omega (arith, some_size tree, left_size span tree all left e)
-
 is_end : (b : Bool) → false ≡ not b → b ≡ true
 is_end true e = refl
 is_end false e = cc
@@ -257,33 +242,3 @@ both_end all others left item (Some x) ends e f over more = (
   λ yes. absurd (no_end ends e yes),
   λ h. absurd (not_none (item x).0 (item x).1 others left more (sym h ∙ ap spread f)),
 )
-
--- ---- whether what is left is in form, as a walk that went one further left it
-module _ {R : Type 0} (P : R → Type 0) where
-  parts : (span : Span) (tree : Tree R) (all left : List (Span × Tree R)) → all ≡ (span, tree) ∷ left → AreLoose P (spread all)
-      → IsLoose P tree × AreLoose P (spread left) × (AreBranches P (spread all) ↔ (IsTree P tree × AreBranches P (spread left)))
-  parts span tree all left e h =
-      let now = span_formed P span tree (spread left) (subst (λ spans. AreLoose P (spread spans)) e h) in (
-        now.0,
-        now.1,
-        (λ f. now.2.0 (subst (λ spans. AreBranches P (spread spans)) e f), λ f. subst (λ spans. AreBranches P (spread spans)) (sym e) (now.2.1 f)),
-      )
-
-  pub node_loose : (span : Span) (tree : Tree R) (all left : List (Span × Tree R)) → all ≡ (span, tree) ∷ left → AreLoose P (spread all) → IsLoose P tree
-  node_loose span tree all left e h = (parts span tree all left e h).0
-
-  pub left_loose : (span : Span) (tree : Tree R) (all left : List (Span × Tree R)) → all ≡ (span, tree) ∷ left → AreLoose P (spread all) → AreLoose P (spread left)
-  left_loose span tree all left e h = (parts span tree all left e h).1
-
-  pub node_formed : (whole : Children R) (span : Span) (tree : Tree R) (all left : List (Span × Tree R)) → all ≡ (span, tree) ∷ left → AreLoose P (spread all)
-      → (AreBranches P whole ↔ AreBranches P (spread all)) → AreBranches P whole → IsTree P tree
-  node_formed whole span tree all left e h same f = let now = (parts span tree all left e h).2.0 (same.0 f) in now.0
-
-  pub left_formed : (whole : Children R) (span : Span) (tree : Tree R) (all left : List (Span × Tree R)) → all ≡ (span, tree) ∷ left → AreLoose P (spread all)
-      → (AreBranches P whole ↔ AreBranches P (spread all)) → IsTree P tree → AreBranches P whole ↔ AreBranches P (spread left)
-  left_formed whole span tree all left e h same t =
-      let now = (parts span tree all left e h).2 in
-      (λ f. let both = now.0 (same.0 f) in both.1, λ f. same.1 (now.1 (t, f)))
-
-  pub all_formed : (whole : Children R) (all : List (Span × Tree R)) → all ≡ [] → (AreBranches P whole ↔ AreBranches P (spread all)) → AreBranches P whole
-  all_formed whole all e same = same.1 (subst (λ spans. AreBranches P (spread spans)) (sym e) tt)

@@ -2,7 +2,6 @@
 pub mod Alike
 pub mod Changes
 pub mod Child
-pub mod Code
 pub mod Cursors
 pub mod Drafts
 pub mod Falls
@@ -13,6 +12,7 @@ pub mod Lending
 pub mod Loose
 pub mod Meet
 pub mod Near
+pub mod Opened
 pub mod Parts
 pub mod Place
 pub mod Rests

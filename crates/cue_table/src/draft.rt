@@ -1,45 +1,43 @@
 //! Rows in the order of their places, of which a table is made.
-ghost use Rattle.std.specs.Prelude.{◌≡◌, [], IfOk, IfSome, IfNone, OnErr};
+ghost use Rattle.std.specs.Prelude.{◌≡◌, ◌∷◌, ◌++◌, [], IfOk, IfSome, IfNone};
 ghost use Rattle.cue_table.specs.Form.{IsTable};
-ghost use Rattle.cue_table.specs.RowList.{AppendsKept};
+ghost use Rattle.cue_table.specs.RowList.{BeginsNoTable};
 ghost use Rattle.cue_table.specs.Slots.{rows_of};
 ghost use Rattle.cue_table.specs.Tree.{Tree};
 
-use crate::formed::is_formed;
-use crate::hang::{Hung, hang};
 use crate::node::Node;
+use crate::open::{Open, close, open_along, staying};
 use crate::{Place, Table};
 use cue_lattice::{Memory, Narrow};
 use std::alloc::Global;
-use std::cmp::Ordering;
 use std::marker::Model;
 
 /// Rows in the order of their places, of which a table is made. Contracts see the list of them.
 #[derive(Drop)]
 pub struct Draft<R: Narrow> {
     alloc: Global,
-    /// The rows that one tree has.
-    root: Node<R>,
-    /// The rows behind these, since the first that no tree has beside them.
-    others: Vec<(Place, R)>,
+    /// The nodes on the way to that of the last row, from the root on.
+    above: Vec<Open<R>>,
+    /// The node of the last row, below which nothing is.
+    last: Node<R>,
 }
 
 impl<R: Narrow> Model for Draft<R> {
-    ghost use Rattle.std.specs.Prelude.{List, []};
+    ghost use Rattle.std.specs.Prelude.{List};
     ghost use Rattle.cue_table.specs.Slots.{Place};
 
     ghost Value = { List (Place × R) };
 
-    ghost use Rattle.std.specs.Prelude.{◌++◌};
     ghost use Rattle.cue_table.specs.Slots.{rows_of};
+    ghost use Rattle.cue_table.specs.Inner.Opened.{closed};
 
-    ghost view = { λ draft. rows_of draft.root ++ draft.others.items };
+    ghost view = { λ draft. rows_of (closed draft.above.items draft.last) };
 
     ghost use Rattle.cue_table.specs.Form.{IsKept};
-    ghost use Rattle.cue_table.specs.Inner.Drafts.{IsDraft};
+    ghost use Rattle.cue_table.specs.Inner.Opened.{IsDraft};
 
-    ghost invariant = { λ draft. IsDraft (IsKept R.refuses R.is_value) draft.root
-        draft.others.items };
+    ghost invariant = { λ draft. IsDraft (IsKept R.refuses R.is_value) draft.above.items
+        draft.last };
 }
 
 impl<R: Narrow> Draft<R> {
@@ -49,57 +47,62 @@ impl<R: Narrow> Draft<R> {
     {
         Draft {
             alloc,
-            root: Node::new(alloc),
-            others: Vec::new(alloc),
+            above: Vec::new(alloc),
+            last: Node::new(alloc),
         }
     }
 
-    /// Adds a row that stands behind all others, and says whether it does: where another row stands
-    /// at the place or behind it, and where the row refuses nothing, all is left as it is. So it is
-    /// after want of memory. This costs what the place costs, however many rows there are.
-    pub fn append(&mut self, place: &Place, row: R) -> Result<bool, Memory>
-        ensures appends { IfOk result (AppendsKept R.refuses self.old place.now row self.new) }
-        ensures err { OnErr result (self.new ≡ self.old) }
+    /// The rows with one more behind all others. There is no draft where no table has rows that
+    /// begin so: where another row stands at the place or behind it, where the row refuses nothing,
+    /// and where a rest that is done with begins otherwise than in a table. However many rows there
+    /// are, this goes over the nodes of the last place and of this one alone, and compares such a
+    /// rest with the element before it.
+    pub fn append(self, place: &Place, row: R) -> Result<Option<Draft<R>>, Memory>
+        ensures some { IfOk result (λ found. IfSome found
+            (λ draft. draft ≡ self ++ (place.now, row) ∷ [])) }
+        ensures none { IfOk result (λ found. IfNone found
+            (BeginsNoTable R.refuses R.is_value (self ++ (place.now, row) ∷ []))) }
     {
         let refuses_nothing = row.is_free();
         if refuses_nothing {
-            return Ok(false);
-        }
-        if let Some((last, _)) = self.others.last() {
-            if last.compare(place) != Ordering::Less {
-                return Ok(false);
-            }
-            self.others.push((place.copy(self.alloc)?, row))?;
-            return Ok(true);
+            return Ok(None);
         }
         row.known();
-        match hang(self.alloc, &mut self.root, place.slots(), row)? {
-            Hung::Behind => Ok(true),
-            Hung::Within => Ok(false),
-            Hung::Apart(row) => {
-                let place = place.copy(self.alloc)?;
-                self.others.push((place, row))?;
-                Ok(true)
-            }
+        let Draft {
+            alloc,
+            mut above,
+            last,
+        } = self;
+        let Some((count, beyond)) = staying(&above, place.slots()) else {
+            return Ok(None);
+        };
+        if beyond.is_empty() && last.taken().is_some() {
+            return Ok(None);
         }
+        let Some(node) = close(alloc, &mut above, last, count)? else {
+            return Ok(None);
+        };
+        open_along(alloc, &mut above, node, beyond)?;
+        let last = Node::of_row(alloc, row);
+        Ok(Some(Draft { alloc, above, last }))
     }
 
     /// The table that has just these rows, if there is one: a rest that begins before an element of
-    /// its own, or whose last such element is as it is, is that of no table. This takes no memory.
-    pub fn finish(self) -> Option<Table<R>>
-        ensures form { IfSome result (IsTable R.refuses R.is_value) }
-        ensures rows { IfSome result (λ table. rows_of table ≡ self) }
-        ensures none { IfNone result ((table : Tree R) → IsTable R.refuses R.is_value table
-            → ¬ (rows_of table ≡ self)) }
+    /// its own, or whose last such element is as it is, is that of no table.
+    pub fn finish(self) -> Result<Option<Table<R>>, Memory>
+        ensures form { IfOk result (λ found. IfSome found (IsTable R.refuses R.is_value)) }
+        ensures rows { IfOk result (λ found. IfSome found (λ table. rows_of table ≡ self)) }
+        ensures none { IfOk result (λ found. IfNone found ((table : Tree R)
+            → IsTable R.refuses R.is_value table → ¬ (rows_of table ≡ self))) }
     {
         let Draft {
             alloc,
-            root,
-            others,
+            mut above,
+            last,
         } = self;
-        if !others.is_empty() || !is_formed(&root) {
-            return None;
-        }
-        Some(Table::of_root(alloc, root))
+        let Some(root) = close(alloc, &mut above, last, 0)? else {
+            return Ok(None);
+        };
+        Ok(Some(Table::of_root(alloc, root)))
     }
 }

@@ -1,6 +1,7 @@
 //! A table as a tree: what is known at each path of a configuration, and the readers of it.
 #![tactic(auto)]
 
+mod begins;
 mod branch;
 mod chain;
 mod changes;
@@ -9,8 +10,6 @@ mod cursor;
 mod draft;
 mod elements;
 mod fill;
-mod formed;
-mod hang;
 mod iter;
 mod laws;
 mod lists;
@@ -19,6 +18,7 @@ mod measure;
 mod meet;
 mod near;
 mod node;
+mod open;
 mod place;
 mod rest;
 mod rows;

@@ -144,8 +144,7 @@ impl<R: Narrow> Node<R> {
 
     /// The way along the branches.
     pub(crate) fn cursor(&self) -> Cursor<R>
-        ensures all { spread (spans_left result) ≡ below self.now }
-        ensures begun { result.begun ≡ None }
+        ensures { spread (spans_left result) ≡ below self.now }
     {
         Cursor {
             begun: None,

@@ -42,12 +42,6 @@ module _ {R : Type 0} where
       let left = same_children cs rest others in
       λ i. child (head i).0 (head i).1 (left i)
 
-  smaller_children : (n : ℕ) (children : Children R) → children_size children < n
-      → AreSmaller n (children_of children)
-  smaller_children n none h = tt
-  smaller_children n (child step tree children) h =
-      (omega arith, smaller_children n children (omega arith))
-
   smaller_labels : (n : ℕ) (children : Children R) → children_size children < n
       → AreSmaller n (labels_of children)
   smaller_labels n none h = tt
@@ -55,12 +49,7 @@ module _ {R : Type 0} where
       (omega arith, smaller_labels n children (omega arith))
   smaller_labels n (child (index number) tree children) h = smaller_labels n children (omega arith)
 
-  -- each branch is smaller than its tree
-  pub children_smaller : (tree : Tree R) → AreSmaller (tree_size tree) (children_of (below tree))
-  children_smaller (node row children rest) =
-      smaller_children (children_size children + rest_size rest + 1) children (omega arith)
-
-  -- so is each branch at a label
+  -- each branch at a label is smaller than its tree
   pub labels_smaller : (tree : Tree R) → AreSmaller (tree_size tree) (labels_of (below tree))
   labels_smaller (node row children rest) =
       smaller_labels (children_size children + rest_size rest + 1) children (omega arith)
