@@ -1,13 +1,13 @@
 -- Rows read one after another, by their bytes.
-use Rattle.std.proofs.Common.{◌≡◌, ℕ, ◌-◌, ◌<◌, ◌≤◌, true, false, List, [], ◌∷◌, ◌++◌, append_assoc, length, map, take, drop, Some, ⊎_elim, refl, sym, ap, subst, ◌∙◌, arith}
+use Rattle.std.proofs.Common.{◌≡◌, ℕ, ◌-◌, ◌<◌, ◌≤◌, List, [], ◌∷◌, ◌++◌, append_assoc, length, map, take, drop, Some, ⊎_elim, refl, sym, ap, subst, ◌∙◌, arith}
 use Rattle.std.specs.List.{flat_map}
 use Rattle.std.proofs.lemmas.List.{append-nil, append_cancel_right, length-append, length-take, nil_from_length, take-append-drop}
 use Rattle.cue_lattice.specs.declared.refusal.Kind.{Kind}
 use Rattle.cue_lattice.specs.declared.refusal.Kind.TheVariants as kinds
 use Rattle.cue_row.specs.declared.parts.RowParts.{RowParts as Row}
-use Rattle.cue_row.specs.Row.{Refuses}
+use Rattle.cue_row.specs.Row.{Refuses, IsRow}
 use Rattle.cue_table.specs.Slots.{Place}
-use Rattle.cue_table.specs.RowList.{AppendsKept}
+use Rattle.cue_table.specs.RowList.{BeginsNoTable}
 use Rattle.cue_codec.specs.declared.version.Version.{Version}
 use Rattle.cue_codec.specs.Decoding.{NoRows}
 use Rattle.cue_codec.specs.Entry.{Entry, entry_at}
@@ -58,7 +58,7 @@ begins_more v code x bytes rest more b = record { value = b.value; parts = ap (�
 
 module _ (version : Version) (count left : ℕ) (rows : List (Place × Row)) (indexes known : List ℕ) (read : AreRead version (rows_bytes version rows indexes) [] count left rows indexes known) where
   -- the row that was read is the next
-  pub next_row : (bytes rest : List ℕ) (new : List (Place × Row)) (place : Place) (fixed : ℕ) (row : Row) → 0 < left → Begins (IsStateRow version) (row_bytes version) (entry_at place fixed row) bytes rest → IsKnown known place → AppendsKept Refuses rows place row new true
+  pub next_row : (bytes rest : List ℕ) (new : List (Place × Row)) (place : Place) (fixed : ℕ) (row : Row) → 0 < left → Begins (IsStateRow version) (row_bytes version) (entry_at place fixed row) bytes rest → IsKnown known place → new ≡ rows ++ (place, row) ∷ []
       → AreRead version (rows_bytes version new (indexes ++ fixed ∷ [])) [] count (left - 1) new (indexes ++ fixed ∷ []) (known_with known (length place) fixed)
       × (rows_bytes version new (indexes ++ fixed ∷ []) ≡ rows_bytes version rows indexes ++ row_bytes version (entry_at place fixed row))
   next_row bytes rest new place fixed row some begins is added =
@@ -70,7 +70,7 @@ module _ (version : Version) (count left : ℕ) (rows : List (Place × Row)) (in
       )
 
   pub next_ok : (bytes rest : List ℕ) (new : List (Place × Row)) (place : Place) (fixed : ℕ) (row : Row) (items : List ℕ) → items ≡ indexes ++ fixed ∷ [] → 0 < left → Begins (IsStateRow version) (row_bytes version) (entry_at place fixed row) bytes rest → IsKnown known place
-      → AppendsKept Refuses rows place row new true
+      → new ≡ rows ++ (place, row) ∷ []
       → IsNext (record { version = version; count = count; left = left; bytes = rows_bytes version rows indexes }) bytes (record { version = version; count = count; left = left - 1; bytes = rows_bytes version new items }) rest
   next_ok bytes rest new place fixed row items listed some begins is added = record {
     version = refl;
@@ -82,7 +82,7 @@ module _ (version : Version) (count left : ℕ) (rows : List (Place × Row)) (in
   }
 
   pub next_drafting : (bytes rest : List ℕ) (new : List (Place × Row)) (place : Place) (fixed : ℕ) (row : Row) (items after : List ℕ) → items ≡ indexes ++ fixed ∷ [] → after ≡ known_with known (length place) fixed → length after ≡ 65 → 0 < left
-      → Begins (IsStateRow version) (row_bytes version) (entry_at place fixed row) bytes rest → IsKnown known place → AppendsKept Refuses rows place row new true → IsDrafting version count (left - 1) new items after place
+      → Begins (IsStateRow version) (row_bytes version) (entry_at place fixed row) bytes rest → IsKnown known place → new ≡ rows ++ (place, row) ∷ [] → IsDrafting version count (left - 1) new items after place
   next_drafting bytes rest new place fixed row items after listed same deep some begins is added = record {
     read = subst (λ t. AreRead version (rows_bytes version new t) [] count (left - 1) new t after) (sym listed)
         (subst (AreRead version (rows_bytes version new (indexes ++ fixed ∷ [])) [] count (left - 1) new (indexes ++ fixed ∷ [])) (sym same) (next_row bytes rest new place fixed row some begins is added).0);
@@ -96,11 +96,11 @@ module _ (version : Version) (count left : ℕ) (rows : List (Place × Row)) (in
   next_missing some bytes none = λ more stays.
       rows_missing version (rows_bytes version rows indexes ++ (bytes ++ more)) (bytes ++ more) count left rows indexes known (read_with (bytes ++ more) read) some (stays none)
 
-  pub next_unordered : (bytes rest : List ℕ) (new : List (Place × Row)) (place : Place) (fixed : ℕ) (row : Row) → 0 < left → Begins (IsStateRow version) (row_bytes version) (entry_at place fixed row) bytes rest → IsKnown known place → AppendsKept Refuses rows place row new false
+  pub next_unordered : (bytes rest : List ℕ) (place : Place) (fixed : ℕ) (row : Row) → 0 < left → Begins (IsStateRow version) (row_bytes version) (entry_at place fixed row) bytes rest → IsKnown known place → BeginsNoTable Refuses IsRow (rows ++ (place, row) ∷ [])
       → BeginsNoRows version count (rows_bytes version rows indexes ++ bytes)
-  next_unordered bytes rest new place fixed row some begins is not = λ more.
+  next_unordered bytes rest place fixed row some begins is none = λ more.
       subst (NoRows version count) (sym (append_assoc (rows_bytes version rows indexes) bytes more))
-      (rows_unordered version (rows_bytes version rows indexes ++ (bytes ++ more)) (bytes ++ more) (rest ++ more) count left rows new indexes known place fixed row (read_with (bytes ++ more) read) some (begins_more (IsStateRow version) (row_bytes version) (entry_at place fixed row) bytes rest more begins) is not)
+      (rows_unordered version (rows_bytes version rows indexes ++ (bytes ++ more)) (bytes ++ more) (rest ++ more) count left rows indexes known place fixed row (read_with (bytes ++ more) read) some (begins_more (IsStateRow version) (row_bytes version) (entry_at place fixed row) bytes rest more begins) is none)
 
   -- where none is missing and bytes follow
   pub next_trailing : left ≡ 0 → (more : List ℕ) → (more ≡ [] → ⊥) → NoRows version count (rows_bytes version rows indexes ++ more)

@@ -13,7 +13,6 @@ pub mod ReadStates
 pub mod RowParts
 pub mod SameEntries
 pub mod SetLaws
-pub mod KeptRows
 pub mod KnownPlaces
 pub mod Lengths
 pub mod EachItem

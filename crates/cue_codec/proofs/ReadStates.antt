@@ -1,8 +1,7 @@
 -- States read from their bytes: what is missing where they are refused.
-use Rattle.std.proofs.Common.{◌≡◌, ℕ, ◌-◌, ◌^◌, ◌<◌, ◌≤◌, true, false, List, [], ◌∷◌, ◌++◌, append_assoc, length, map, get_or, drop, Some, None, ◌⊎◌, inl, inr, ⊎_elim, refl, sym, ap, subst, ◌∙◌, arith}
+use Rattle.std.proofs.Common.{◌≡◌, ℕ, ◌-◌, ◌^◌, ◌<◌, ◌≤◌, List, [], ◌∷◌, ◌++◌, append_assoc, length, map, get_or, drop, Some, None, ◌⊎◌, inl, inr, ⊎_elim, refl, sym, ap, subst, ◌∙◌, arith}
 use Rattle.std.specs.Int.{w64, to_be_bytes}
 use Rattle.std.specs.List.{flat_map, AllByRecursion}
-use Rattle.std.specs.List.Sorted.{IsStrictlySortedBy}
 use Rattle.std.proofs.lemmas.Bool.{cases_eq}
 use Rattle.std.proofs.lemmas.List.{append-nil, length-append, length-map, map-append}
 use Rattle.std.proofs.lemmas.List.Concat.{flat_map-cons}
@@ -13,10 +12,8 @@ use Rattle.cue_row.specs.Row.{Refuses, IsRow}
 use Rattle.cue_table.specs.Tree.{Tree, empty}
 use Rattle.cue_table.specs.Slots.{Place, rows_of}
 use Rattle.cue_table.specs.Form.{IsKept, IsTable}
-use Rattle.cue_table.specs.RowList.{AppendsKept}
-use Rattle.cue_table.specs.Rows.{by_place}
+use Rattle.cue_table.specs.RowList.{BeginsNoTable}
 use Rattle.cue_table.specs.Valid.{IsValidTable}
-use Rattle.cue_table.proofs.Listed.{rows_sorted}
 use Rattle.cue_table.proofs.Loosened.{loosened}
 use Rattle.cue_table.proofs.RowLists.{same_lists}
 use Rattle.cue_codec.specs.declared.version.Version.{Version}
@@ -31,8 +28,7 @@ use Rattle.cue_codec.specs.State.{mark, table_bytes_in, IsTableBytes}
 use Rattle.cue_codec.specs.Version.{version_byte, IsNoVersion}
 use Rattle.cue_codec.specs.Decoding.{IsOtherVersion, IsNoState, IsRejected, BeginsAsState, IsUndecoded, AreReadRows, NoRows}
 use Rattle.cue_codec.proofs.Codes.{OneItem, wide64, one_number, one_list, list_step, items_none, items_more, all_more}
-use Rattle.cue_codec.proofs.EachItem.{all_back, all_weaker}
-use Rattle.cue_codec.proofs.KeptRows.{front_before, rows_kept}
+use Rattle.cue_codec.proofs.EachItem.{all_weaker}
 use Rattle.cue_codec.proofs.KnownPlaces.{entries_placed, place_kept, rows_more, after_more, rows_split}
 use Rattle.cue_codec.proofs.Numbers.{IsBytes, IsBytes-rest, read64, number_takes, number_missing}
 use Rattle.cue_codec.proofs.SameEntries.{same_entries, entries_told}
@@ -189,26 +185,25 @@ rows_next entries more all place fixed row known after is e =
           ∙ append_assoc (rows_with unknown entries) ((place, row) ∷ []) others,
     )
 
--- a row that does not stand behind the others is none of a table
+-- where no table's rows begin with the row behind the others, these are no rows
 pub rows_unordered :
-    (version : Version) (bytes rest after : List ℕ) (count missing : ℕ) (rows new : List (Place × Row)) (indexes known : List ℕ) (place : Place) (fixed : ℕ) (row : Row)
+    (version : Version) (bytes rest after : List ℕ) (count missing : ℕ) (rows : List (Place × Row)) (indexes known : List ℕ) (place : Place) (fixed : ℕ) (row : Row)
     → AreRead version bytes rest count missing rows indexes known → 0 < missing → Begins (IsStateRow version) (row_bytes version) (entry_at place fixed row) rest after → IsKnown known place
-    → AppendsKept Refuses rows place row new false → NoRows version count bytes
-rows_unordered version bytes rest after count missing rows new indexes known place fixed row read some begins is not tree r =
+    → BeginsNoTable Refuses IsRow (rows ++ (place, row) ∷ []) → NoRows version count bytes
+rows_unordered version bytes rest after count missing rows indexes known place fixed row read some begins is none tree r =
     let entry : Entry = entry_at place fixed row in
     let whole = items_more (row_bytes version) read.entries entry bytes rest after read.parts begins.parts in
     let len = length-append read.entries (entry ∷ []) in
     let first = items_first (IsStateRow version) (row_bytes version) (one_row version) (read.entries ++ entry ∷ []) (entries_of version tree) after (all_more (IsStateRow version) read.entries entry read.each begins.value) r.rows (omega (arith, len, some, read.counted, r.counted)) (sym whole ∙ r.parts) in
     let next = rows_next read.entries first.0 (entries_of version tree) place fixed row known read.after is first.1 in
     let listed : rows_of tree ≡ rows ++ (place, row) ∷ next.0 = r.places ∙ next.1 ∙ ap (λ t. t ++ (place, row) ∷ next.0) (sym read.places) in
-    let here = (all_back (λ (x : Place × Row). Kept x.1) rows ((place, row) ∷ next.0) (subst (AllByRecursion (λ (x : Place × Row). Kept x.1)) listed (rows_kept Kept tree r.form))).0 in
-    not.1 (front_before rows place row next.0 (subst (IsStrictlySortedBy by_place) listed (rows_sorted Kept tree (loosened Kept tree r.form))), here.1)
+    none tree next.0 r.form (listed ∙ sym (append_assoc rows ((place, row) ∷ []) next.0))
 
 -- one more row was read
 pub rows_one_more :
     (version : Version) (bytes rest after : List ℕ) (count missing : ℕ) (rows new : List (Place × Row)) (indexes known : List ℕ) (place : Place) (fixed : ℕ) (row : Row)
     → AreRead version bytes rest count missing rows indexes known → 0 < missing → Begins (IsStateRow version) (row_bytes version) (entry_at place fixed row) rest after → IsKnown known place
-    → AppendsKept Refuses rows place row new true → AreRead version bytes after count (missing - 1) new (indexes ++ fixed ∷ []) (known_with known (length place) fixed)
+    → new ≡ rows ++ (place, row) ∷ [] → AreRead version bytes after count (missing - 1) new (indexes ++ fixed ∷ []) (known_with known (length place) fixed)
 rows_one_more version bytes rest after count missing rows new indexes known place fixed row read some begins is added =
     let entry : Entry = entry_at place fixed row in
     record {

@@ -1,7 +1,10 @@
 //! Rows read one after another, of which a table is made.
 
-ghost use Rattle.std.specs.Prelude.{◌≡◌, ◌<◌, ◌↔◌, ◌++◌, [], ℕ, List, IsTrue, IfOk, IfErr, OnErr};
+ghost use Rattle.std.specs.Prelude.{◌≡◌, ◌<◌, ◌↔◌, ◌∷◌, ◌++◌, [], ℕ, List, IsTrue};
+ghost use Rattle.std.specs.Prelude.{IfOk, IfErr, OnErr};
 ghost use Rattle.cue_lattice.specs.declared.refusal.Kind.TheVariants.{Memory as OutOfMemory};
+ghost use Rattle.cue_row.specs.Row.{Refuses, IsRow};
+ghost use Rattle.cue_table.specs.RowList.{BeginsNoTable};
 ghost use Rattle.cue_codec.specs.Decoding.{AreReadRows, NoRows};
 ghost use Rattle.cue_codec.specs.Inner.Drafting.{BeginsNoRows};
 ghost use Rattle.cue_codec.specs.Inner.Pieces.{HasNext, HasRows};
@@ -51,6 +54,24 @@ impl Model for Drafting {
         d.place };
 }
 
+/// Adds a row behind those of a draft, which has none any more where it is refused.
+fn append(alloc: Global, draft: &mut Draft<Row>, place: &Place, row: Row) -> Result<(), Kind>
+    ensures ok { IfOk result (λ none. draft.new ≡ draft.old ++ (place.now, row) ∷ []) }
+    ensures refused { IfErr result (λ kind. IsRefused kind
+        (BeginsNoTable Refuses IsRow (draft.old ++ (place.now, row) ∷ []))) }
+    ensures err { OnErr result (draft.new ≡ []) }
+{
+    let rows = mem::replace(draft, Draft::new(alloc));
+    match rows.append(place, row) {
+        Ok(Some(more)) => {
+            *draft = more;
+            Ok(())
+        }
+        Ok(None) => Err(Kind::NotState),
+        Err(_) => Err(Kind::Memory),
+    }
+}
+
 impl Drafting {
     /// None of so many rows. This takes no memory.
     pub fn new(alloc: Global, version: Version, count: u64) -> Drafting
@@ -85,13 +106,12 @@ impl Drafting {
     }
 
     /// Adds the row that the reader reads next, and says whether one stands there: where none does,
-    /// all is left as it is. So are the rows after a refusal.
+    /// all is left as it is. After a refusal nothing is said of the rows.
     pub fn next(&mut self, reader: &mut RowReader) -> Result<bool, Kind>
         requires { 0 < self.old.left }
         ensures ok { IfOk result (HasNext self.old reader.old self.new reader.new) }
         ensures refused { IfErr result (λ kind. IsRefused kind
             (BeginsNoRows self.old.version self.old.count (self.old.bytes ++ reader.old))) }
-        ensures err { OnErr result (self.new ≡ self.old) }
     {
         let before = mem::replace(&mut self.place, Place::root(self.alloc));
         let (place, fixed, row) = match reader.read(self.alloc, self.version, before, &self.known) {
@@ -104,11 +124,12 @@ impl Drafting {
         let Ok(()) = self.indexes.reserve(1) else {
             return Err(Kind::Memory);
         };
-        let Ok(is_added) = self.draft.append(&place, row) else {
-            return Err(Kind::Memory);
-        };
-        if !is_added {
-            return Err(Kind::NotState);
+        if let Err(kind) = append(self.alloc, &mut self.draft, &place, row) {
+            // The draft is gone, so all rows are missing.
+            self.left = self.count;
+            self.indexes.clear();
+            self.known = [0; 65];
+            return Err(kind);
         }
         self.indexes.push_reserved(fixed);
         self.known[place.slots().len()] = fixed;
@@ -119,7 +140,7 @@ impl Drafting {
 
     /// Adds the rows whose bytes stand in front, as far as these are whole, and says how many bytes
     /// they have. There is no number where no rows begin so. An error says that memory ran out;
-    /// some of the rows may have been added by then.
+    /// nothing is said of the rows then.
     pub fn add_rows(&mut self, bytes: &[u8]) -> Result<Option<usize>, Kind>
         ensures ok { IfOk result (HasRows self.old bytes.now self.new) }
         ensures memory { IfErr result (λ kind. kind ≡ OutOfMemory) }
@@ -156,8 +177,10 @@ impl Drafting {
             indexes,
             ..
         } = self;
-        let Some(table) = draft.finish() else {
-            return Err(Kind::NotState);
+        let table = match draft.finish() {
+            Ok(Some(table)) => table,
+            Ok(None) => return Err(Kind::NotState),
+            Err(_) => return Err(Kind::Memory),
         };
         if !tells(version, &table, indexes.as_slice()) {
             return Err(Kind::NotState);

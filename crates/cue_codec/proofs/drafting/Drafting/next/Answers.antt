@@ -1,11 +1,10 @@
-use Rattle.std.proofs.Common.{◌≡◌, ◌-◌, ◌<◌, [], ◌∷◌, ◌++◌, true, false, length, refl, inr, sym, ap, subst, ◌∙◌, arith}
+use Rattle.std.proofs.Common.{◌≡◌, ◌-◌, ◌<◌, [], ◌∷◌, ◌++◌, length, sym, ap, subst, ◌∙◌, arith}
 use Rattle.std.specs.Prelude.{slice_set}
 use Rattle.std.proofs.lemmas.List.{length-map, length-set}
-use Rattle.cue_row.specs.Row.{Refuses}
-use Rattle.cue_table.specs.RowList.{AppendsKept}
 use Rattle.cue_table.specs.SlotsOfCode.{slot_of}
 use Rattle.cue_codec.specs.Known.{known_with}
 use Rattle.cue_codec.specs.Inner.Drafting.{RowsRead, rows_bytes, IsNext, NoneNext, BeginsNoRows}
+use Rattle.cue_codec.proofs.Codes.{refused_so}
 use Rattle.cue_codec.proofs.Drafted.{not_memory, next_missing, next_unordered, next_ok, next_drafting}
 use Rattle.cue_codec.proofs.KnownPlaces.{known_set}
 use Rattle.cue_codec.proofs.drafting.Drafting.next.Goals as goal
@@ -20,13 +19,15 @@ returns-in_default-clause-ok c =
           (next_missing i.version i.count i.left i.draft i.indexes.items i.known c.self.invariant.read some c.args.reader.now (not_memory c.in-Err.kind _ c.in_default.not-Memory c.in-Err.ensures.refused)),
     )
 
-pub returns-then-not-is_added-clause-refused : goal.returns-then-not-is_added-clause-refused
-returns-then-not-is_added-clause-refused c =
+pub returns-in-Err-append-clause-refused : goal.returns-in-Err-append-clause-refused
+returns-in-Err-append-clause-refused c =
     let i = c.self.inside in
     let x = c.in-Ok.row in
     let some : 0 < i.left = subst (λ (v : RowsRead). 0 < v.left) (sym c.self.view_is) c.requires in
-    let not : AppendsKept Refuses i.draft x.0 x.2 c.append.new.self false = subst (AppendsKept Refuses i.draft x.0 x.2 c.append.new.self) c.if-not-is_added.true c.in-Ok-append.ensures.appends in
-    inr (refl, subst (λ (v : RowsRead). BeginsNoRows v.version v.count (v.bytes ++ c.args.reader.now)) c.self.view_is (next_unordered i.version i.count i.left i.draft i.indexes.items i.known c.self.invariant.read c.args.reader.now c.read.new.self c.append.new.self x.0 x.1 x.2 some c.in-Ok.ensures.ok c.in-Ok.ensures.numbers not))
+    refused_so c.in-Err-append.kind _ _
+    (λ none. subst (λ (v : RowsRead). BeginsNoRows v.version v.count (v.bytes ++ c.args.reader.now)) c.self.view_is
+    (next_unordered i.version i.count i.left i.draft i.indexes.items i.known c.self.invariant.read c.args.reader.now c.read.new.self x.0 x.1 x.2 some c.in-Ok.ensures.ok c.in-Ok.ensures.numbers none))
+    c.in-Err-append.ensures.refused
 
 pub invariant_of-self-2 : goal.invariant_of-self-2
 invariant_of-self-2 c =
@@ -34,11 +35,11 @@ invariant_of-self-2 c =
     let x = c.in-Ok.row in
     let items = c.push_reserved.ensures.items ∙ ap (λ t. t ++ x.1 ∷ []) c.in-Ok-reserve.ensures.items in
     let some : 0 < i.left = subst (λ (v : RowsRead). 0 < v.left) (sym c.self.view_is) c.requires in
-    let is : AppendsKept Refuses i.draft x.0 x.2 c.append.new.self true = subst (AppendsKept Refuses i.draft x.0 x.2 c.append.new.self) c.if-not-is_added.false c.in-Ok-append.ensures.appends in
+    let is = c.in_default-append.ensures.ok in
     let long : length c.slots.result.now ≡ length x.0 = sym (length-map c.slots.result.now slot_of) ∙ ap length c.slots.ensures.list in
     let same : slice_set i.known (length c.slots.result.now) x.1 ≡ known_with i.known (length x.0) x.1 =
     ap (λ n. slice_set i.known n x.1) long ∙ sym (known_set i.known (length x.0) x.1 (omega (arith, c.self.invariant.deep, c.slots.ensures.few, long))) in
-    next_drafting i.version i.count i.left i.draft i.indexes.items i.known c.self.invariant.read c.args.reader.now c.read.new.self c.append.new.self x.0 x.1 x.2 c.push_reserved.new.self.items
+    next_drafting i.version i.count i.left i.draft i.indexes.items i.known c.self.invariant.read c.args.reader.now c.read.new.self c.append.new.draft x.0 x.1 x.2 c.push_reserved.new.self.items
     (slice_set i.known (length c.slots.result.now) x.1) items same (length-set i.known (length c.slots.result.now) x.1 ∙ c.self.invariant.deep) some c.in-Ok.ensures.ok c.in-Ok.ensures.numbers is
 
 pub returns-clause-ok : goal.returns-clause-ok
@@ -47,7 +48,7 @@ returns-clause-ok c =
     let x = c.in-Ok.row in
     let items = c.push_reserved.ensures.items ∙ ap (λ t. t ++ x.1 ∷ []) c.in-Ok-reserve.ensures.items in
     let some : 0 < i.left = subst (λ (v : RowsRead). 0 < v.left) (sym c.self.view_is) c.requires in
-    let is : AppendsKept Refuses i.draft x.0 x.2 c.append.new.self true = subst (AppendsKept Refuses i.draft x.0 x.2 c.append.new.self) c.if-not-is_added.false c.in-Ok-append.ensures.appends in
-    let new : RowsRead = record { version = i.version; count = i.count; left = i.left - 1; bytes = rows_bytes i.version c.append.new.self c.push_reserved.new.self.items } in
+    let is = c.in_default-append.ensures.ok in
+    let new : RowsRead = record { version = i.version; count = i.count; left = i.left - 1; bytes = rows_bytes i.version c.append.new.draft c.push_reserved.new.self.items } in
     subst (λ (v : RowsRead). IsNext v c.args.reader.now new c.read.new.self) c.self.view_is
-    (next_ok i.version i.count i.left i.draft i.indexes.items i.known c.self.invariant.read c.args.reader.now c.read.new.self c.append.new.self x.0 x.1 x.2 c.push_reserved.new.self.items items some c.in-Ok.ensures.ok c.in-Ok.ensures.numbers is)
+    (next_ok i.version i.count i.left i.draft i.indexes.items i.known c.self.invariant.read c.args.reader.now c.read.new.self c.append.new.draft x.0 x.1 x.2 c.push_reserved.new.self.items items some c.in-Ok.ensures.ok c.in-Ok.ensures.numbers is)
